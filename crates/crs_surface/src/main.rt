@@ -4,11 +4,18 @@
 #![tactic(auto)]
 
 mod bounds;
+mod canonical;
+mod catalogues;
 mod decimals;
+mod desk;
 mod feeders;
 mod items;
+mod nodes;
 mod refusals;
+mod runs;
+mod sameness;
 mod shapes;
+mod streams;
 mod tally;
 mod texts;
 mod values;
@@ -22,6 +29,7 @@ fn main(rt: HostRuntime) -> io::Result<()> {
     let lines = fs::read_to_string(&rt, "texts.lines")?;
     let mut tally = Tally::new();
     check(&rt, &mut tally, Texts::new(lines.as_str()))?;
+    check_run(&rt, &mut tally)?;
     tally.print(&rt)
 }
 
@@ -31,5 +39,16 @@ fn check(rt: &HostRuntime, tally: &mut Tally, texts: Texts<'_>) -> io::Result<()
     items::check(rt, tally, texts)?;
     feeders::check(rt, tally, texts)?;
     shapes::check(rt, tally, texts)?;
-    values::check(rt, tally, texts)
+    values::check(rt, tally, texts)?;
+    sameness::check(rt, tally, texts)?;
+    nodes::check(rt, tally, texts)?;
+    canonical::check(rt, tally, texts)?;
+    catalogues::check(rt, tally, texts)?;
+    desk::check(rt, tally, texts)
+}
+
+fn check_run(rt: &HostRuntime, tally: &mut Tally) -> io::Result<()> {
+    let catalogue = fs::read(rt, "catalogue.lines")?;
+    let answer = fs::read(rt, "groups.lines")?;
+    runs::check(rt, tally, &catalogue, &answer)
 }

@@ -1,0 +1,87 @@
+//! Catalogues.
+use crate::refusals::is_refusal_of;
+use crate::tally::Tally;
+use crate::texts::Texts;
+use crs_group::{Catalogue, Placed};
+use crs_text::Refusal;
+use crs_value::Level;
+use std::alloc::{AllocError, Global};
+use std::io;
+
+pub fn check(rt: &HostRuntime, tally: &mut Tally, texts: Texts<'_>) -> io::Result<()> {
+    let mut catalogue: Catalogue = Catalogue::new(rt.alloc(), Level::Full);
+    let is_new = catalogue.groups() == 0 && catalogue.refused().is_empty();
+    tally.count(rt, "crs_group::Catalogue::new", is_new)?;
+    let are_placed = add_lines(&mut catalogue, texts).unwrap_or(false);
+    tally.count(rt, "crs_group::Catalogue::add", are_placed)?;
+    check_groups(rt, tally, texts, &catalogue)
+}
+
+// The lines of two groups, one line that is blank, and one that is refused.
+fn add_lines(catalogue: &mut Catalogue, texts: Texts<'_>) -> Result<bool, AllocError> {
+    let height = texts.named("height");
+    let first = adds(catalogue, 5, height, "group 1")?;
+    let blank = adds(catalogue, 5, b"  ", "blank")?;
+    let second = adds(catalogue, 9, texts.named("geographic"), "group 2")?;
+    let again = adds(catalogue, 2, height, "group 1")?;
+    let refused = adds(catalogue, 7, b"VERTCRS[\"H\"", "refused")?;
+    Ok(first && blank && second && again && refused)
+}
+
+fn adds(
+    catalogue: &mut Catalogue,
+    line: u64,
+    text: &[u8],
+    expected: &str,
+) -> Result<bool, AllocError> {
+    let placed: Placed = catalogue.add(line, text)?;
+    Ok(is_placed(&placed, expected))
+}
+
+fn is_placed(placed: &Placed, expected: &str) -> bool {
+    match placed {
+        Placed::Blank => expected == "blank",
+        Placed::Refused(refusal) => expected == "refused" && is_refusal_of(refusal, 7, 11),
+        Placed::Group(number) => is_group(*number, expected),
+    }
+}
+
+fn is_group(number: usize, expected: &str) -> bool {
+    match number {
+        1 => expected == "group 1",
+        2 => expected == "group 2",
+        _ => false,
+    }
+}
+
+fn check_groups(
+    rt: &HostRuntime,
+    tally: &mut Tally,
+    texts: Texts<'_>,
+    catalogue: &Catalogue,
+) -> io::Result<()> {
+    let groups: usize = catalogue.groups();
+    tally.count(rt, "crs_group::Catalogue::groups", groups == 2)?;
+    tally.count(rt, "crs_group::Catalogue::lines", has_lines(catalogue))?;
+    let has_text = has_text(catalogue, texts.named("height_canonical"));
+    tally.count(rt, "crs_group::Catalogue::text", has_text)?;
+    tally.count(rt, "crs_group::Catalogue::refused", has_refused(catalogue))
+}
+
+fn has_lines(catalogue: &Catalogue) -> bool {
+    let lines: Option<&[u64]> = catalogue.lines(1);
+    lines == Some([5, 2].as_slice()) && catalogue.lines(0).is_none() && catalogue.lines(3).is_none()
+}
+
+fn has_text(catalogue: &Catalogue, expected: &[u8]) -> bool {
+    let text: Option<&[u8]> = catalogue.text(1);
+    text == Some(expected) && catalogue.text(3).is_none()
+}
+
+fn has_refused(catalogue: &Catalogue) -> bool {
+    let refused: &[(u64, Refusal)] = catalogue.refused();
+    match refused {
+        [(line, refusal)] => *line == 7 && is_refusal_of(refusal, 7, 11),
+        _ => false,
+    }
+}

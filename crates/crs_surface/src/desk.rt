@@ -1,0 +1,122 @@
+//! Commands, and the reading of command lines.
+use crate::tally::Tally;
+use crate::texts::Texts;
+use crs_desk::{LineWord, Request, RequestFault, request, run_canon, run_check, run_same};
+use crs_group::{RunFault, Sink, Source};
+use crs_value::Level;
+use std::alloc::Global;
+use std::io;
+
+pub fn check(rt: &HostRuntime, tally: &mut Tally, texts: Texts<'_>) -> io::Result<()> {
+    tally.count(rt, "crs_desk::run_canon", writes_canon(rt.alloc(), texts))?;
+    tally.count(rt, "crs_desk::run_check", writes_kind(rt.alloc(), texts))?;
+    tally.count(rt, "crs_desk::run_same", writes_part(rt.alloc(), texts))?;
+    tally.count(rt, "crs_desk::request", is_refused(rt.alloc()))?;
+    tally.count(rt, "crs_desk::Request::Canon", asks_canon(rt.alloc()))?;
+    tally.count(rt, "crs_desk::Request::Check", asks_check(rt.alloc()))?;
+    tally.count(rt, "crs_desk::Request::Same", asks_same(rt.alloc()))?;
+    tally.count(rt, "crs_desk::Request::Group", asks_group(rt.alloc()))
+}
+
+// With a line feed after the text.
+fn writes_canon(alloc: Global, texts: Texts<'_>) -> bool {
+    let mut written = Vec::new(alloc);
+    let mut sink = Sink::new(&mut written);
+    let mut source = Source::new(texts.named("height"));
+    let run: Result<u8, RunFault> = run_canon(alloc, Level::Full, &mut source, &mut sink);
+    let expected = texts.named("height_canonical");
+    is_status(&run, 0) && written.as_slice().strip_suffix(b"\n".as_slice()) == Some(expected)
+}
+
+fn writes_kind(alloc: Global, texts: Texts<'_>) -> bool {
+    let mut written = Vec::new(alloc);
+    let mut sink = Sink::new(&mut written);
+    let mut source = Source::new(texts.named("height"));
+    let run: Result<u8, RunFault> = run_check(alloc, &mut source, &mut sink);
+    is_status(&run, 0) && written.as_slice() == b"accepted vertical\n".as_slice()
+}
+
+fn writes_part(alloc: Global, texts: Texts<'_>) -> bool {
+    let mut written = Vec::new(alloc);
+    let mut sink = Sink::new(&mut written);
+    let first = texts.named("paris");
+    let second = texts.named("paris_in_grads");
+    let run: Result<u8, RunFault> = run_same(alloc, Level::Full, first, second, &mut sink);
+    is_status(&run, 1) && written.as_slice() == b"different meridian/unit\n".as_slice()
+}
+
+fn is_status(run: &Result<u8, RunFault>, status: u8) -> bool {
+    match run {
+        Ok(own) => *own == status,
+        Err(_fault) => false,
+    }
+}
+
+// No command has this name.
+fn is_refused(alloc: Global) -> bool {
+    let asked: Result<Request, RequestFault> = request(alloc, &["crsdesk", "frob"]);
+    match &asked {
+        Ok(_request) => false,
+        Err(fault) => is_line(fault),
+    }
+}
+
+fn is_line(fault: &RequestFault) -> bool {
+    match fault {
+        RequestFault::Line(_error) => true,
+        RequestFault::Memory(_error) => false,
+    }
+}
+
+fn asks_canon(alloc: Global) -> bool {
+    asks(alloc, &["crsdesk", "canon"], "canon", &["full"])
+}
+
+fn asks_check(alloc: Global) -> bool {
+    asks(alloc, &["crsdesk", "check"], "check", &[])
+}
+
+fn asks_same(alloc: Global) -> bool {
+    let words = ["crsdesk", "same", "a", "b", "--level", "all"];
+    asks(alloc, &words, "same", &["a", "b", "all"])
+}
+
+fn asks_group(alloc: Global) -> bool {
+    let words = ["crsdesk", "group", "--level", "definition"];
+    asks(alloc, &words, "group", &["definition"])
+}
+
+// Whether a command line asks for a command with these words.
+fn asks(alloc: Global, line: &[&str], command: &str, words: &[&str]) -> bool {
+    match &request(alloc, line) {
+        Ok(asked) => is_request(asked, command, words),
+        Err(_fault) => false,
+    }
+}
+
+// The last five variants are additions.
+fn is_request(asked: &Request, command: &str, words: &[&str]) -> bool {
+    match asked {
+        Request::Canon(level) => command == "canon" && are_words(&[level], words),
+        Request::Check => command == "check" && words.is_empty(),
+        Request::Same(first, second, level) => {
+            command == "same" && are_words(&[first, second, level], words)
+        }
+        Request::Group(level) => command == "group" && are_words(&[level], words),
+        Request::CanonLines(_)
+        | Request::CheckLines
+        | Request::Explain(_)
+        | Request::ExplainText(_, _)
+        | Request::ExplainPair(_, _, _) => false,
+    }
+}
+
+fn are_words(found: &[&LineWord], words: &[&str]) -> bool {
+    for (own, word) in found.iter().zip(words) {
+        let text: &str = own.as_str();
+        if text != *word {
+            return false;
+        }
+    }
+    found.len() == words.len()
+}
