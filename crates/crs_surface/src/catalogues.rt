@@ -63,14 +63,16 @@ fn check_groups(
     let groups: usize = catalogue.groups();
     tally.count(rt, "crs_group::Catalogue::groups", groups == 2)?;
     tally.count(rt, "crs_group::Catalogue::lines", has_lines(catalogue))?;
-    let has_text = has_text(catalogue, texts.named("height_canonical"));
-    tally.count(rt, "crs_group::Catalogue::text", has_text)?;
+    let agrees = has_text(catalogue, texts.named("height_canonical"));
+    tally.count(rt, "crs_group::Catalogue::text", agrees)?;
     tally.count(rt, "crs_group::Catalogue::refused", has_refused(catalogue))
 }
 
 fn has_lines(catalogue: &Catalogue) -> bool {
     let lines: Option<&[u64]> = catalogue.lines(1);
-    lines == Some([5, 2].as_slice()) && catalogue.lines(0).is_none() && catalogue.lines(3).is_none()
+    lines == Some([5u64, 2].as_slice())
+        && catalogue.lines(0).is_none()
+        && catalogue.lines(3).is_none()
 }
 
 fn has_text(catalogue: &Catalogue, expected: &[u8]) -> bool {

@@ -67,8 +67,8 @@ fn is_summary(summary: &Summary) -> bool {
 
 fn is_source() -> bool {
     let mut source: Source<&[u8]> = Source::new(b"abc".as_slice());
-    let mut room = [0; 2];
-    let read: io::Result<usize> = source.read(&mut room);
+    let mut room = [0u8; 2];
+    let read: io::Result<usize> = source.read(room.as_mut_slice());
     let reads: u32 = source.reads();
     read.is_ok() && reads == 1 && room.as_slice() == b"ab".as_slice() && !source.failed()
 }
