@@ -4,7 +4,7 @@ use crate::texts::Texts;
 use crs_desk::{LineWord, Request, RequestFault, request, run_canon, run_check, run_same};
 use crs_group::{RunFault, Sink, Source};
 use crs_value::Level;
-use std::alloc::Global;
+use std::alloc::{AllocError, Global};
 use std::io;
 
 pub fn check(rt: &HostRuntime, tally: &mut Tally, texts: Texts<'_>) -> io::Result<()> {
@@ -57,15 +57,19 @@ fn is_refused(alloc: Global) -> bool {
     let asked: Result<Request, RequestFault> = request(alloc, &["crsdesk", "frob"]);
     match &asked {
         Ok(_request) => false,
-        Err(fault) => is_line(fault),
+        Err(fault) => is_line(fault) && !is_line(&RequestFault::Memory(AllocError)),
     }
 }
 
 fn is_line(fault: &RequestFault) -> bool {
     match fault {
-        RequestFault::Line(_error) => true,
+        RequestFault::Line(error) => is_of_clap(error),
         RequestFault::Memory(_error) => false,
     }
+}
+
+fn is_of_clap(_error: &clap::Error) -> bool {
+    true
 }
 
 fn asks_canon(alloc: Global) -> bool {
