@@ -9,11 +9,16 @@
    crs_differences(a, b [, level]) all parts that differ, as JSON: [{"path":..,"first":..,"second":..},..], with null for
                                  what is in one alone; [] where they are the same; NULL where either spells none
    crs_refusal(text)             why a text spells no CRS, as: refused 7 UnexpectedEnd at 11; NULL of one that spells one
+   crs_explain(text)             accepted and the kind, or in some lines why a text spells no CRS
    crs_version()                 the version of crsdesk, as: 0.1.0
+   crs_max_text_length([bytes])  the most bytes that a text may have, 1,048,576 when a connection loads this; it is set
+                                 where a number is given
 
-   A text is a TEXT or a BLOB of bytes; another value is its TEXT. A level is full, the usual one, or definition; another
-   is an error of SQL. NULL for any argument gives NULL. All functions are deterministic, so they may be used in indexes,
-   generated columns and checks. What the functions answer is crsdesk's; this file is tested and not proved. */
+   A text is a TEXT or a BLOB of bytes; another value is its TEXT. One that is longer than the connection's limit is an
+   error of SQL, since reading takes many times its memory. A level is full, the usual one, or definition; another is an
+   error. NULL for any argument gives NULL. All functions but the last are deterministic, so they may be used in indexes,
+   generated columns and checks; the last may not stand in a schema. What the functions answer is crsdesk's; this file is
+   tested and not proved. */
 #include <stddef.h>
 #include <stdint.h>
 #include <string.h>
@@ -28,46 +33,111 @@ SQLITE_EXTENSION_INIT1
 #ifndef SQLITE_INNOCUOUS
 #define SQLITE_INNOCUOUS 0
 #endif
+#ifndef SQLITE_DIRECTONLY
+#define SQLITE_DIRECTONLY 0
+#endif
 
 /* Room for any path, for the line of a refusal and for the version. */
 #define SHORT_ROOM 160
+/* The limit on a text's bytes until it is set: the program's. SQLite has no longer text than MOST_LIMIT. */
+#define FIRST_LIMIT 1048576
+#define MOST_LIMIT 2147483647
+
+/* A connection's limit on a text's bytes. Its functions share it, and the last that goes frees it. */
+struct limit {
+    sqlite3_int64 bytes;
+    int holders;
+};
 
 struct text {
     const char *bytes;
     size_t length;
 };
 
-/* Takes an argument as a text; answers 0, with an error in the context, where SQLite has no memory for it. */
+static void let_go(void *held)
+{
+    struct limit *limit = held;
+
+    limit->holders--;
+    if (limit->holders == 0)
+        sqlite3_free(limit);
+}
+
+/* Answers 0, with an error in the context, for a text that is longer than the connection's limit. */
+static int hold_length(sqlite3_context *context, size_t length)
+{
+    const struct limit *limit = sqlite3_user_data(context);
+    char message[SHORT_ROOM];
+
+    if (length <= (size_t)limit->bytes)
+        return 1;
+    sqlite3_snprintf((int)sizeof message, message, "a text has %llu bytes, and crs_max_text_length() is %lld",
+                     (unsigned long long)length, limit->bytes);
+    sqlite3_result_error(context, message, -1);
+    sqlite3_result_error_code(context, SQLITE_TOOBIG);
+    return 0;
+}
+
+/* Whether the connection was interrupted, which SQLite tells from 3.41 on. Between two rows it ends a statement itself. */
+static int is_interrupted(sqlite3_context *context)
+{
+#if SQLITE_VERSION_NUMBER >= 3041000
+    return sqlite3_libversion_number() >= 3041000 && sqlite3_is_interrupted(sqlite3_context_db_handle(context));
+#else
+    (void)context;
+    return 0;
+#endif
+}
+
+/* Takes an argument as a text; answers 0, with an error in the context, where it is too long, the connection was
+   interrupted, or SQLite has no memory for it. */
 static int take_text(sqlite3_context *context, sqlite3_value *value, struct text *text)
 {
     int is_blob = sqlite3_value_type(value) == SQLITE_BLOB;
 
-    text->bytes = is_blob ? sqlite3_value_blob(value) : (const char *)sqlite3_value_text(value);
+    if (is_interrupted(context)) {
+        sqlite3_result_error_code(context, SQLITE_INTERRUPT);
+        return 0;
+    }
+    /* The length of a blob is known before its zeros are written out. */
+    text->bytes = is_blob ? NULL : (const char *)sqlite3_value_text(value);
     text->length = (size_t)sqlite3_value_bytes(value);
-    if (text->bytes == NULL && text->length == 0 && is_blob)
-        text->bytes = "";
+    if (!hold_length(context, text->length))
+        return 0;
+    if (is_blob)
+        text->bytes = text->length == 0 ? "" : sqlite3_value_blob(value);
     if (text->bytes == NULL)
         sqlite3_result_error_nomem(context);
     return text->bytes != NULL;
+}
+
+/* Whether the bytes are those of a word. */
+static int is_word(const char *bytes, size_t length, const char *word)
+{
+    return length == strlen(word) && memcmp(bytes, word, length) == 0;
 }
 
 /* Takes the level after `texts` arguments, full where there is none; answers 0, with an error, for another. */
 static int take_level(sqlite3_context *context, int count, sqlite3_value **values, int texts, uint32_t *level)
 {
     const char *word;
-    char *message;
+    char *message = NULL;
+    size_t length;
 
     *level = CRSDESK_FULL;
     if (count <= texts)
         return 1;
     word = (const char *)sqlite3_value_text(values[texts]);
-    if (word != NULL && strcmp(word, "full") == 0)
+    length = (size_t)sqlite3_value_bytes(values[texts]);
+    if (word != NULL && is_word(word, length, "full"))
         return 1;
-    if (word != NULL && strcmp(word, "definition") == 0) {
+    if (word != NULL && is_word(word, length, "definition")) {
         *level = CRSDESK_DEFINITION;
         return 1;
     }
-    message = word == NULL ? NULL : sqlite3_mprintf("no such level: %.40Q; there are 'full' and 'definition'", word);
+    if (word != NULL)
+        message = sqlite3_mprintf("no such level: %!.40Q%s; there are 'full' and 'definition'", word,
+                                  memchr(word, '\0', length) == NULL ? "" : " and a NUL byte");
     if (message == NULL)
         sqlite3_result_error_nomem(context);
     else
@@ -125,9 +195,10 @@ static void crs_canon(sqlite3_context *context, int count, sqlite3_value **value
     give_none(context, code);
 }
 
+static const char *const KINDS[] = {"", "geodetic", "geographic", "projected", "vertical", "compound"};
+
 static void crs_kind(sqlite3_context *context, int count, sqlite3_value **values)
 {
-    static const char *const KINDS[] = {"", "geodetic", "geographic", "projected", "vertical", "compound"};
     struct crsdesk_refusal refusal;
     struct text text;
     uint32_t kind, code;
@@ -197,12 +268,13 @@ static void crs_differences(sqlite3_context *context, int count, sqlite3_value *
     struct crsdesk_refusal refusal;
     struct text first, second;
     uint32_t level, code;
-    size_t room, length = 1000;
+    size_t room, length;
     char *lines = NULL;
 
     if (any_null(count, values) || !take_level(context, count, values, 2, &level) ||
         !take_text(context, values[0], &first) || !take_text(context, values[1], &second))
         return;
+    length = room_for_differences(first.length, second.length);
     do {
         room = length;
         sqlite3_free(lines);
@@ -240,6 +312,65 @@ static void crs_refusal(sqlite3_context *context, int count, sqlite3_value **val
     sqlite3_result_text(context, line, -1, SQLITE_TRANSIENT);
 }
 
+/* Gives the lines of an explanation, without the last line feed. */
+static void give_explanation(sqlite3_context *context, struct text text)
+{
+    size_t room, length = 2000;
+    char *lines = NULL;
+    uint32_t code;
+
+    do {
+        room = length;
+        sqlite3_free(lines);
+        lines = sqlite3_malloc64(room);
+        code = lines == NULL ? CRSDESK_NO_MEMORY : crsdesk_explain(text.bytes, text.length, lines, room, &length);
+    } while (code == CRSDESK_NO_ROOM);
+    if (code == CRSDESK_OK && length > 0) {
+        sqlite3_result_text64(context, lines, length - 1, sqlite3_free, SQLITE_UTF8);
+        return;
+    }
+    sqlite3_free(lines);
+    give_none(context, code);
+}
+
+static void crs_explain(sqlite3_context *context, int count, sqlite3_value **values)
+{
+    struct crsdesk_refusal refusal;
+    struct text text;
+    uint32_t kind, code;
+    char line[SHORT_ROOM];
+
+    if (any_null(count, values) || !take_text(context, values[0], &text))
+        return;
+    code = crsdesk_check(text.bytes, text.length, &kind, &refusal);
+    if (code == CRSDESK_OK) {
+        sqlite3_snprintf((int)sizeof line, line, "accepted %s", KINDS[kind]);
+        sqlite3_result_text(context, line, -1, SQLITE_TRANSIENT);
+    } else if (code == CRSDESK_REFUSED) {
+        give_explanation(context, text);
+    } else {
+        give_none(context, code);
+    }
+}
+
+static void crs_max_text_length(sqlite3_context *context, int count, sqlite3_value **values)
+{
+    struct limit *limit = sqlite3_user_data(context);
+    sqlite3_int64 bytes;
+
+    if (any_null(count, values))
+        return;
+    if (count > 0) {
+        bytes = sqlite3_value_type(values[0]) == SQLITE_INTEGER ? sqlite3_value_int64(values[0]) : 0;
+        if (bytes < 1 || bytes > MOST_LIMIT) {
+            sqlite3_result_error(context, "crs_max_text_length takes a number of bytes from 1 to 2147483647", -1);
+            return;
+        }
+        limit->bytes = bytes;
+    }
+    sqlite3_result_int64(context, limit->bytes);
+}
+
 static void crs_version(sqlite3_context *context, int count, sqlite3_value **values)
 {
     char version[SHORT_ROOM];
@@ -258,26 +389,44 @@ int sqlite3_crsdesksqlite_init(sqlite3 *db, char **error, const sqlite3_api_rout
 
 int sqlite3_crsdesksqlite_init(sqlite3 *db, char **error, const sqlite3_api_routines *api)
 {
+    enum { PURE = SQLITE_UTF8 | SQLITE_DETERMINISTIC | SQLITE_INNOCUOUS, SETTING = SQLITE_UTF8 | SQLITE_DIRECTONLY };
     static const struct {
         const char *name;
-        int arguments;
+        int arguments, flags;
         void (*call)(sqlite3_context *, int, sqlite3_value **);
     } FUNCTIONS[] = {
-        {"crs_canon", 1, crs_canon},             {"crs_canon", 2, crs_canon},
-        {"crs_kind", 1, crs_kind},               {"crs_same", 2, crs_same},
-        {"crs_same", 3, crs_same},               {"crs_difference", 2, crs_difference},
-        {"crs_difference", 3, crs_difference},   {"crs_differences", 2, crs_differences},
-        {"crs_differences", 3, crs_differences}, {"crs_refusal", 1, crs_refusal},
-        {"crs_version", 0, crs_version},
+        {"crs_canon", 1, PURE, crs_canon},
+        {"crs_canon", 2, PURE, crs_canon},
+        {"crs_kind", 1, PURE, crs_kind},
+        {"crs_same", 2, PURE, crs_same},
+        {"crs_same", 3, PURE, crs_same},
+        {"crs_difference", 2, PURE, crs_difference},
+        {"crs_difference", 3, PURE, crs_difference},
+        {"crs_differences", 2, PURE, crs_differences},
+        {"crs_differences", 3, PURE, crs_differences},
+        {"crs_refusal", 1, PURE, crs_refusal},
+        {"crs_explain", 1, PURE, crs_explain},
+        {"crs_version", 0, PURE, crs_version},
+        {"crs_max_text_length", 0, SETTING, crs_max_text_length},
+        {"crs_max_text_length", 1, SETTING, crs_max_text_length},
     };
-    const int flags = SQLITE_UTF8 | SQLITE_DETERMINISTIC | SQLITE_INNOCUOUS;
+    struct limit *limit;
     size_t i;
     int code = SQLITE_OK;
 
     SQLITE_EXTENSION_INIT2(api);
     (void)error;
-    for (i = 0; i < sizeof FUNCTIONS / sizeof FUNCTIONS[0] && code == SQLITE_OK; i++)
-        code = sqlite3_create_function_v2(db, FUNCTIONS[i].name, FUNCTIONS[i].arguments, flags, NULL, FUNCTIONS[i].call,
-                                          NULL, NULL, NULL);
+    limit = sqlite3_malloc(sizeof *limit);
+    if (limit == NULL)
+        return SQLITE_NOMEM;
+    limit->bytes = FIRST_LIMIT;
+    limit->holders = 1;
+    /* A function that can't be made lets go by itself. */
+    for (i = 0; i < sizeof FUNCTIONS / sizeof FUNCTIONS[0] && code == SQLITE_OK; i++) {
+        limit->holders++;
+        code = sqlite3_create_function_v2(db, FUNCTIONS[i].name, FUNCTIONS[i].arguments, FUNCTIONS[i].flags, limit,
+                                          FUNCTIONS[i].call, NULL, NULL, let_go);
+    }
+    let_go(limit);
     return code;
 }

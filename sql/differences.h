@@ -6,6 +6,14 @@
 #include <stddef.h>
 #include <string.h>
 
+/* Room for all lines of ordinary texts: each call with too little compares anew. */
+static size_t room_for_differences(size_t first, size_t second)
+{
+    const size_t most = 16 * 1024 * 1024;
+
+    return first < most / 8 && second < most / 8 ? 4 * (first + second) + 1000 : most;
+}
+
 /* What is written, or counted where `out` is null. */
 struct json {
     char *out;

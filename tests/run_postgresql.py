@@ -10,8 +10,8 @@ of the system's is touched. The server runs as nobody where root calls, and is r
 
 The rows of the .rows files beside this one are asked of the functions, as text and as bytea, in databases of three
 encodings; then come what no text is, levels, constraints, indexes, generated columns, a parallel plan over a million
-rows, a cancelled query, dump and restore, an update from each older version, entries of a GeoPackage, the commands that
-docs/SQL.md shows, and each growth of memory refused in turn. What isn't there is named as skipped. Each case that
+rows, a cancelled query, the limit on a text's length, dump and restore, an update from each older version, entries of a
+GeoPackage, the commands that docs/SQL.md shows, and each growth of memory refused in turn. What isn't there is named as skipped. Each case that
 fails has a line; the last line is 'N passed, M failed', and the status is 0 where M is 0.
 """
 from __future__ import annotations
@@ -47,6 +47,8 @@ USER = "tester"
 ENCODINGS: Dict[str, Optional[str]] = {"UTF8": "utf-8", "LATIN1": "latin-1", "SQL_ASCII": None}
 # The variable of the environment by which docs/SQL.md asks for a server: its folder of sockets.
 SERVER = "$CRSDESK_POSTGRESQL"
+# The variable by which it asks for a server that has PostGIS too, and the file by which that is there.
+POSTGIS, POSTGIS_FILE = "$CRSDESK_POSTGIS", "extension/postgis.control"
 # More growths than any call here makes.
 MOST_GROWTHS = 250
 LACKS = "the extension for PostgreSQL"
@@ -60,17 +62,19 @@ OLDEST = "0.1.0"
 def dialect_of(encoding: str) -> sql_rows.Dialect:
     """How a database of an encoding spells what is asked."""
 
+    codec = ENCODINGS[encoding] or "utf-8"
+
     def literal(text: bytes, is_blob: bool) -> Optional[str]:
         blob = f"'\\x{text.hex()}'::bytea"
         if is_blob:
             return blob
-        codec = ENCODINGS[encoding]
+        is_any = ENCODINGS[encoding] is None
         try:
-            if codec is not None:
+            if not is_any:
                 text.decode().encode(codec)
         except UnicodeError:
             return None
-        return None if b"\0" in text else f"convert_from({blob}, '{'UTF8' if codec else encoding}')"
+        return None if b"\0" in text else f"convert_from({blob}, '{encoding if is_any else 'UTF8'}')"
 
     return sql_rows.Dialect(
         literal=literal,
@@ -79,6 +83,9 @@ def dialect_of(encoding: str) -> sql_rows.Dialect:
         zeros=lambda length: f"repeat('0', {length})",
         part=lambda call, key, index: f"({call})->{index}->>'{key}'",
         is_none=lambda call: f"jsonb_array_length({call}) = 0",
+        said=lambda lines: lines.decode().encode(codec, "replace").decode(codec).encode(),
+        limit="crsdesk.max_text_length",
+        set_limit=lambda limit: f"SET crsdesk.max_text_length = {limit};",
     )
 
 
@@ -227,7 +234,7 @@ def try_symbols(counts: Counts, module: pathlib.Path, scripts: str) -> None:
     """It shows the functions that SQL declares, and needs the C library alone."""
     shown = subprocess.run(["nm", "-D", "--defined-only", module], capture_output=True, text=True, check=True).stdout
     declared = re.findall(r"'MODULE_PATHNAME', '(\w+)'", scripts)
-    wanted = {"Pg_magic_func", *declared, *(f"pg_finfo_{name}" for name in declared)}
+    wanted = {"Pg_magic_func", "_PG_init", *declared, *(f"pg_finfo_{name}" for name in declared)}
     counts.compare("its names", set(shown.split()[2::3]), wanted)
     needs = subprocess.run(["readelf", "-d", module], capture_output=True, text=True, check=True).stdout
     found = [line.split("[")[1] for line in needs.split("\n") if "(NEEDED)" in line]
@@ -256,7 +263,7 @@ def promises() -> Iterator[Statement]:
     """What PostgreSQL's functions promise beside what all extensions do."""
     nul = HEIGHT.replace('"H"', '"a\0b"').encode()
     blob = f"'\\x{nul.hex()}'::bytea"
-    yield "functions", f"SELECT count(*) FROM ({DECLARED[:-1]}) AS t WHERE provolatile = 'i' AND proisstrict AND proparallel = 's';", "19"
+    yield "functions", f"SELECT count(*) FROM ({DECLARED[:-1]}) AS t WHERE provolatile = 'i' AND proisstrict AND proparallel = 's';", "21"
     yield "a NUL byte", f"SELECT crs_kind({blob}), crs_same({blob}, {blob}), crs_difference({blob}, '{HEIGHT}');", "vertical|t|name"
     yield "a NUL byte", f"SELECT crs_canon({blob});", "Error: the canonical text has a NUL byte, which a text of PostgreSQL can't have"
     parts = f"crs_differences({blob}, '{HEIGHT}')"
@@ -280,6 +287,7 @@ def promises() -> Iterator[Statement]:
     yield "a NUL argument", f"SELECT crs_same({kinds['bytea']}, NULL) IS NULL, crs_difference(NULL::bytea, 'x') IS NULL;", "t|t"
     yield from of_tables()
     yield from of_long_keys()
+    yield from of_limits()
     yield from sql_rows.of_long_texts(dialect_of("UTF8"))
 
 
@@ -315,11 +323,35 @@ def of_long_keys() -> Iterator[Statement]:
     long = f"'{HEIGHT[:-1]},REMARK[\"' || {remark} || '\"]]'"
     yield "a long key", f"INSERT INTO once SELECT {long};", ""
     yield "a long key again", f"INSERT INTO once SELECT {long} || ' ';", 'Error: conflicting key value violates exclusion constraint "once_crs_canon_excl"'
+    yield "a long key of a hash index", "CREATE TABLE h (n int, wkt text); CREATE INDEX h_by_crs ON h USING hash (crs_canon(wkt));", ""
+    yield "a long key of a hash index", f"INSERT INTO h SELECT 1, {long}; INSERT INTO h SELECT 2, {long} || ' '; INSERT INTO h VALUES (3, '{HEIGHT}');", ""
+    found = f"SELECT string_agg(n::text, ',' ORDER BY n) FROM h WHERE crs_canon(wkt) = crs_canon({long});"
+    yield "a long key of a hash index", f"SET enable_seqscan = off; {found} RESET enable_seqscan;", "1,2"
     yield "a long key of a B-tree", f"INSERT INTO t (wkt) SELECT {long};", "Error: index row requires 32112 bytes, maximum size is 8191"
     yield "a loose collation", LOOSE, ""
     lower = HEIGHT.replace('"H"', '"h"')
     yield "a loose collation", f"CREATE TABLE c (wkt text COLLATE loose); INSERT INTO c VALUES ('{HEIGHT}'), ('{lower}');", ""
     yield "a loose collation", 'SELECT count(DISTINCT crs_canon(wkt)), count(DISTINCT crs_canon(wkt) COLLATE "C") FROM c;', "1|2"
+
+
+def of_limits() -> Iterator[Statement]:
+    """The setting, as PostgreSQL has settings."""
+    limit = sql_rows.LIMIT
+    yield "the limit", "SHOW crsdesk.max_text_length;", "1MB"
+    for given in ("0", "-1", "1073741820"):
+        wanted = (
+            f'Error: {given} B is outside the valid range for parameter "crsdesk.max_text_length" (1 .. 1073741819)'
+        )
+        yield "a wrong limit", f"SET crsdesk.max_text_length = {given};", wanted
+    yield "no other setting", "SET crsdesk.most = 1;", 'Error: invalid configuration parameter name "crsdesk.most"'
+    yield "a long text in a table", "CREATE TABLE longer AS SELECT repeat('0', 100000000) AS wkt;", ""
+    yield "a long text in a table", "SELECT crs_kind(wkt) FROM longer;", sql_rows.too_long(
+        100_000_000, limit, dialect_of("UTF8")
+    )
+    coded = "\\set VERBOSITY sqlstate\nSELECT crs_kind(wkt) FROM longer;\n\\set VERBOSITY terse"
+    yield "the error's code", coded, "Error: 54000"
+    yield "a transaction's limit", "BEGIN; SET LOCAL crsdesk.max_text_length = '96MB'; SELECT crs_refusal(wkt) FROM longer; COMMIT;", "refused 3 NumberRange at 0"
+    yield "after it", "SHOW crsdesk.max_text_length; DROP TABLE longer;", "1MB"
 
 
 def try_statements(counts: Counts, server: Server) -> None:
@@ -386,6 +418,20 @@ def try_parallel(counts: Counts, server: Server) -> None:
     counts.compare("what they count", found[2].split("|")[:3], ["1000000", "800000", "100000"])
     counts.compare("nothing else", [found[0], found[5]], ["", ""])
     print(f"a million rows: {time.monotonic() - begin:.1f} s")
+    # A setting before the first call of a session, and in each worker.
+    padded = "SELECT count(crs_kind(rpad(wkt, 200))) FROM million;"
+    explained = f"EXPLAIN (COSTS OFF) {padded}"
+    *found, rest = server.printed(
+        [
+            ("", f"SET crsdesk.max_text_length = 199; {workers}2; {explained}", ""),
+            ("", padded, ""),
+            ("", f"SET crsdesk.max_text_length = '200B'; {padded}", ""),
+        ],
+        "utf8",
+    )
+    counts.compare("a parallel plan", "Gather" in found[0], True)
+    wanted = [sql_rows.too_long(200, 199, dialect_of("UTF8")), "800000", ""]
+    counts.compare("a limit in workers", [*found[1:], rest], wanted)
 
 
 # Either query takes an hour; a server that doesn't cancel it is given up after SECONDS.
@@ -544,7 +590,15 @@ def try_rights(counts: Counts, server: Server) -> None:
     server.make("owned")
     first = "CREATE ROLE owner LOGIN; GRANT CREATE ON DATABASE owned TO owner; GRANT CREATE ON SCHEMA public TO owner;"
     asked = f"SET ROLE owner; CREATE EXTENSION crsdesk; SELECT crs_kind('{HEIGHT}'), rolsuper FROM pg_roles WHERE rolname = current_user;"
-    server.hold(counts, [("a user", asked, "vertical|f")], "owned", first)
+    setting = "SET ROLE owner; SET crsdesk.max_text_length = '2MB'; SHOW crsdesk.max_text_length;"
+    lasting = "ALTER DATABASE owned SET crsdesk.max_text_length = '3MB'; \\c -\nSHOW crsdesk.max_text_length;"
+    statements = [
+        ("a user", asked, "vertical|f"),
+        ("a user's limit", setting, "2MB"),
+        ("a database's limit", f"RESET ROLE; {lasting}", "3MB"),
+        ("a database's limit", f"SELECT crs_kind({sql_rows.text_of(3_145_728, dialect_of('UTF8'))});", "vertical"),
+    ]
+    server.hold(counts, statements, "owned", first)
 
 
 def try_geopackage(counts: Counts, server: Server, folder: pathlib.Path) -> None:
@@ -588,12 +642,22 @@ def try_geopackage(counts: Counts, server: Server, folder: pathlib.Path) -> None
 
 
 def try_documents(counts: Counts, server: Server) -> None:
-    """The commands of docs/SQL.md that ask for a server, in a database of their own."""
+    """The commands of docs/SQL.md that ask for a server, in a database of their own, and for one that has PostGIS."""
     server.make("documents")
     path, found = ROOT / "docs" / "SQL.md", 0
     environment = {**server.environment, "PGDATABASE": "documents", SERVER[1:]: str(server.folder)}
+    has_postgis = (build_postgresql.folder_of("sharedir") / POSTGIS_FILE).exists()
+    if not has_postgis:
+        print("skipped: PostGIS isn't there: what docs/SQL.md says of it")
     for start, head, lines in run_documents.blocks_of(path):
-        if head.split(" ")[0] != "console" or SERVER not in head:
+        needs = head.partition("needs=")[2].split(",")
+        if head.split(" ")[0] != "console" or not {SERVER, POSTGIS} & set(needs):
+            continue
+        if POSTGIS in needs and not has_postgis:
+            continue
+        tool = next((it for it in needs if it not in (SERVER, POSTGIS) and not run_documents.is_there(it)), None)
+        if tool:
+            print(f"skipped: {tool} isn't there: SQL.md:{start}")
             continue
         for number, command, wanted in run_documents.commands_of(start, lines):
             found += 1
@@ -624,6 +688,7 @@ def try_refused(counts: Counts, server: Server, folder: pathlib.Path) -> None:
         f"crs_difference('{HEIGHT}', '{NOTED}')": "remark",
         f"crs_differences('{HEIGHT}', '{NOTED}')->0->>'path'": "remark",
         f"crs_refusal('{HEIGHT}x')": f"refused 6 Unexpected at {len(HEIGHT)}",
+        f"left(crs_explain('{HEIGHT}x'), 9)": "refused 6",
     }
     with server.running(LD_PRELOAD=str(module)):
         server.printed([], "utf8", "\n".join(declared))

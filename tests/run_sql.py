@@ -52,6 +52,9 @@ SQLITE = sql_rows.Dialect(
     zeros=lambda length: f"hex(zeroblob({length // 2}))",
     part=lambda call, key, index: f"json_extract({call}, '$[{index}].{key}')",
     is_none=lambda call: f"json_array_length({call}) = 0",
+    said=lambda lines: lines,
+    limit="crs_max_text_length()",
+    set_limit=lambda limit: f"SELECT 1 WHERE crs_max_text_length({limit}) <> {limit};",
 )
 
 
@@ -60,6 +63,10 @@ def promises() -> Iterator[Statement]:
     yield from sql_rows.promises(SQLITE)
     yield "a wrong level", "SELECT crs_canon('x', 1);", f"Error: no such level: '1'; {sql_rows.LEVELS}"
     yield "a number", "SELECT crs_kind(4326), crs_refusal(4326), crs_refusal(1.5);", "|refused 6 Unexpected at 0|refused 6 Unexpected at 0"
+    for behind in ("", "x"):
+        level = literal(f"full\0{behind}".encode(), False)
+        yield "a wrong level", f"SELECT crs_canon('x', {level});", f"Error: no such level: 'full' and a NUL byte; {sql_rows.LEVELS}"
+    yield "a long level", f"SELECT crs_canon('x', '{'é' * 50}');", f"Error: no such level: '{'é' * 40}'; {sql_rows.LEVELS}"
     nul = literal(HEIGHT.replace('"H"', '"a\0b"').encode(), False)
     wanted = CANONICAL_HEIGHT.replace('"H"', '"a\0b"').encode().hex().upper()
     yield "a NUL byte", f"SELECT hex(crs_canon({nul}));", wanted
@@ -76,6 +83,7 @@ def promises() -> Iterator[Statement]:
     yield "the parts", asked, "1|datum/kind,system/axis1/direction"
     yield "types", f"SELECT typeof(crs_canon('{HEIGHT}')), typeof(crs_same('{HEIGHT}', '{HEIGHT}'));", "text|integer"
     yield from of_indexes()
+    yield from of_limits()
     yield from sql_rows.of_long_texts(SQLITE)
 
 
@@ -91,6 +99,22 @@ def of_indexes() -> Iterator[Statement]:
     yield "a generated column", "SELECT DISTINCT kind FROM t WHERE kind IS NOT NULL;", "vertical"
     yield "groups", "SELECT count(*) FROM t GROUP BY crs_canon(wkt, 'definition') ORDER BY 1;", "1\n3"
     yield "a view", "CREATE VIEW v AS SELECT n, crs_canon(wkt) AS canon FROM t; SELECT count(DISTINCT canon) FROM v;", "2"
+
+
+def of_limits() -> Iterator[Statement]:
+    limit = sql_rows.LIMIT
+    yield "the limit", "SELECT crs_max_text_length(), typeof(crs_max_text_length());", f"{limit}|integer"
+    wrong = "Error: crs_max_text_length takes a number of bytes from 1 to 2147483647"
+    for given in ("0", "-1", "2147483648", "1.5", "'1000'", "''"):
+        yield "a wrong limit", f"SELECT crs_max_text_length({given});", wrong
+    yield "NULL gives NULL", "SELECT crs_max_text_length(NULL) IS NULL, crs_max_text_length();", f"1|{limit}"
+    yield "another limit", "SELECT crs_max_text_length(2147483647); SELECT crs_max_text_length(5), crs_max_text_length();", "2147483647\n5|5"
+    yield "zeros that aren't written out", "SELECT crs_kind(zeroblob(1000000000));", sql_rows.too_long(
+        1_000_000_000, 5, SQLITE
+    )
+    yield "the usual limit", f"SELECT crs_max_text_length({limit});", f"{limit}"
+    yield "no limit in a schema", "CREATE VIEW limits AS SELECT crs_max_text_length(9); SELECT * FROM limits;", "Error: unsafe use of crs_max_text_length()"
+    yield "no limit in a schema", "DROP VIEW limits;", ""
 
 
 PLAN = "QUERY PLAN\n`--SEARCH t USING INDEX t_by_crs (<expr>=?)"
@@ -130,12 +154,29 @@ def plain_error(text: str) -> str:
 
 def try_statements(counts: Counts, extension: pathlib.Path, preloaded: str = "") -> None:
     asked, promised = list(sql_rows.rows(SQLITE)), list(promises())
-    of_encoding = [it for it in promised if it[0] in ("a level", "a wrong level", "nothing", "types")]
+    names = (
+        "a level",
+        "a wrong level",
+        "a limit",
+        "a small limit",
+        "the usual limit",
+        "a refused text",
+        "nothing",
+        "types",
+    )
+    of_encoding = [it for it in promised if it[0] in names]
     for statements, first in ((asked, ""), (promised, ""), (of_encoding, "PRAGMA encoding='UTF-16';")):
         *answers, rest = printed(extension, statements, first, preloaded)
         for (place, statement, wanted), got in zip(statements, answers):
             counts.compare(f"{place}: {first} {statement[:80]}", plain_error(got), wanted)
         counts.compare("after all statements", rest, "")
+    # A second time in one connection: the limit is the usual one again.
+    twice = f"SELECT crs_max_text_length(5);\n.load {extension}\nSELECT crs_max_text_length();"
+    coded = f"SELECT crs_kind({sql_rows.text_of(sql_rows.LIMIT + 1, SQLITE)});"
+    *answers, rest = printed(extension, [("", twice, ""), ("", coded, "")], "", preloaded)
+    counts.compare("loaded twice", answers[0], f"5\n{sql_rows.LIMIT}")
+    counts.compare("the error is SQLITE_TOOBIG", answers[1].endswith(" (18)"), True)
+    counts.compare("loaded twice", rest, "")
 
 
 def try_sanitized(counts: Counts, prefix: pathlib.Path, folder: pathlib.Path) -> None:

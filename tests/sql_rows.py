@@ -15,6 +15,8 @@ NOTED = HEIGHT[:-1] + ',REMARK["r"]]'
 # The same CRS as that of HEIGHT, spelled otherwise.
 TWIN = HEIGHT.replace("[", "(").replace("]", ")")
 LEVELS = "there are 'full' and 'definition'"
+# The limit on a text's bytes where none is set.
+LIMIT = 1_048_576
 # What is asked, the statement, and what it must print; an error is the line that begins with 'Error: '.
 Statement = Tuple[str, str, str]
 
@@ -25,9 +27,12 @@ class Dialect(NamedTuple):
     ``literal``  a text, as bytes or as a text; None where the database has no such text
     ``hex``      the bytes of a text in capital digits; nothing of NULL
     ``number``   a condition, as 1 or 0; nothing of NULL
-    ``zeros``    a text of so many zeros
+    ``zeros``    a text of so many zeros, an even number
     ``part``     the value of a key in the object at an index of a JSON array, from 0 on, as a text; nothing where there is none
     ``is_none``  whether a JSON array has no members
+    ``said``     an explanation in the characters that the database has
+    ``limit``    the name of the limit on a text's bytes
+    ``set_limit``  the statement that sets it, and prints nothing
     """
 
     literal: Callable[[bytes, bool], Optional[str]]
@@ -36,6 +41,9 @@ class Dialect(NamedTuple):
     zeros: Callable[[int], str]
     part: Callable[[str, str, int], str]
     is_none: Callable[[str], str]
+    said: Callable[[bytes], bytes]
+    limit: str
+    set_limit: Callable[[int], str]
 
 
 class Counts:
@@ -85,6 +93,9 @@ def of_case(case: run_cases.Case, is_blob: bool, dialect: Dialect) -> Iterator[S
     elif words == [b"check"]:
         kind = "" if refusal else wanted.decode().split()[1]
         yield case.place, f"SELECT crs_kind({texts[0]}), crs_refusal({texts[0]});", f"{kind}|{refusal}"
+    elif words == [b"explain"] and not level:
+        said = dialect.said(wanted).hex().upper()
+        yield case.place, f"SELECT {dialect.hex(f'crs_explain({texts[0]})')};", said
     elif len(words) == 3 and words[0] == b"same":
         both = ", ".join([*texts, *level])
         is_same = "" if refusal else str(int(wanted == b"same"))
@@ -127,7 +138,7 @@ def rows(dialect: Dialect) -> Iterator[Statement]:
 def promises(dialect: Dialect) -> Iterator[Statement]:
     """What the rows don't ask, and all extensions promise."""
     height, noted = f"'{HEIGHT}'", f"'{NOTED}'"
-    for call in ("crs_canon(NULL)", "crs_kind(NULL)", "crs_refusal(NULL)", "crs_canon('x', NULL)"):
+    for call in ("crs_canon(NULL)", "crs_kind(NULL)", "crs_refusal(NULL)", "crs_explain(NULL)", "crs_canon('x', NULL)"):
         yield "NULL gives NULL", f"SELECT {dialect.number(f'{call} IS NULL')};", "1"
     for call in ("crs_same", "crs_difference", "crs_differences"):
         for given in ("NULL, 'x'", "'x', NULL", "NULL, NULL", f"{height}, {height}, NULL"):
@@ -147,6 +158,8 @@ def promises(dialect: Dialect) -> Iterator[Statement]:
     parts, parts_by_definition = f"crs_differences({both})", f"crs_differences({by_definition})"
     yield "a level", f"SELECT {dialect.part(parts, 'path', 0)}, {dialect.part(parts_by_definition, 'path', 0)};", "remark|"
     yield from of_values(dialect)
+    yield from of_explanations(dialect)
+    yield from of_limits(dialect)
     nothing = dialect.literal(b"", True)
     asked = f"SELECT crs_kind(''), crs_refusal(''), crs_refusal({nothing});"
     yield "nothing", asked, "|refused 7 UnexpectedEnd at 0|refused 7 UnexpectedEnd at 0"
@@ -155,7 +168,20 @@ def promises(dialect: Dialect) -> Iterator[Statement]:
 
 
 # Characters that separate or escape values in the library's lines or in JSON.
-VALUES = ["", "none", " | ", ": ", '"" | ""', "\\", "\\\\n", "\\x41", "/", "a\nb\tc\rd\x01e\x1ff\x7fg", "\x85\u2028\u202e", "é高\U0001f600"]
+VALUES = [
+    "",
+    "none",
+    " | ",
+    ": ",
+    '"" | ""',
+    "\\",
+    "\\\\n",
+    "\\x41",
+    "/",
+    "a\nb\tc\rd\x01e\x1ff\x7fg",
+    "\x85\u2028\u202e",
+    "é高\U0001f600",
+]
 
 
 def of_values(dialect: Dialect) -> Iterator[Statement]:
@@ -173,11 +199,68 @@ def of_values(dialect: Dialect) -> Iterator[Statement]:
         yield "a value alone", f"SELECT {dialect.part(alone, 'first', 0)}, {dialect.hex(dialect.part(alone, 'second', 0))};", f"|{wanted[1]}"
 
 
+def of_explanations(dialect: Dialect) -> Iterator[Statement]:
+    """Lines without a last line feed, whatever characters the text has."""
+    yield "an accepted text", f"SELECT crs_explain('{HEIGHT}');", "accepted vertical"
+    lines = [
+        "refused 1 BadCharacter at 4, line 1, column 5",
+        "  EPSG:4326",
+        "      ^",
+        "This character begins nothing that a text may have.",
+    ]
+    yield "a refused text", "SELECT crs_explain('EPSG:4326');", "\n".join(lines)
+    # A control character, a blank that isn't U+0020, ill-formed UTF-8, and characters that few encodings have.
+    for shown in ("\x01", "\xa0", "\u20ac\u4e2d\U0001f600"):
+        text = f'VERTCRS["{shown}"'.encode()
+        for is_blob in (False, True):
+            literal = dialect.literal(text, is_blob)
+            if literal is not None:
+                name = dialect.said((shown if shown > "\xff" else "\ufffd").encode())
+                call = dialect.number(f"{dialect.hex(f'crs_explain({literal})')} LIKE '%5B22{name.hex().upper()}22%'")
+                yield "characters of an excerpt", f"SELECT {call};", "1"
+    asked = f"SELECT length(crs_explain({dialect.literal(b'VERTCRS[' + bytes(range(128, 256)), True)})) > 100;"
+    yield "no characters", asked.replace("SELECT ", "SELECT 1 WHERE "), "1"
+
+
+def text_of(length: int, dialect: Dialect) -> str:
+    """A text of so many bytes that spells a CRS, with blanks at its end."""
+    blanks = length - len(HEIGHT)
+    return f"'{HEIGHT}{' ' * (blanks % 2)}' || replace({dialect.zeros(blanks - blanks % 2)}, '0', ' ')"
+
+
+def too_long(length: int, limit: int, dialect: Dialect) -> str:
+    return f"Error: a text has {length} bytes, and {dialect.limit} is {limit}"
+
+
+def of_limits(dialect: Dialect) -> Iterator[Statement]:
+    """A text has as many bytes as the limit, and no more, at each place of each function."""
+    most, over, height = text_of(LIMIT, dialect), text_of(LIMIT + 1, dialect), f"'{HEIGHT}'"
+    is_same = dialect.number(f"crs_same({most}, {most})")
+    yield "a limit", f"SELECT crs_canon({most}), crs_explain({most}), {is_same};", f"{CANONICAL_HEIGHT}|accepted vertical|1"
+    for call in ("crs_canon", "crs_kind", "crs_refusal", "crs_explain"):
+        yield "a limit", f"SELECT {call}({over});", too_long(LIMIT + 1, LIMIT, dialect)
+    for call in ("crs_same", "crs_difference", "crs_differences"):
+        for given in (f"{over}, {height}", f"{height}, {over}", f"'x', {over}"):
+            yield "a limit", f"SELECT {call}({given});", too_long(LIMIT + 1, LIMIT, dialect)
+        yield "a limit", f"SELECT {dialect.number(f'{call}({over}, NULL) IS NULL')};", "1"
+    yield "another limit", dialect.set_limit(LIMIT + 1), ""
+    yield "another limit", f"SELECT crs_kind({over});", "vertical"
+    yield "a small limit", dialect.set_limit(3), ""
+    for is_blob in (False, True):
+        three, four = (dialect.literal(it.encode(), is_blob) for it in ("(\xe9", "\xe9\xe9"))
+        yield "a small limit", f"SELECT crs_refusal({three});", "refused 2 UnexpectedStart at 0"
+        yield "a small limit", f"SELECT crs_refusal({four});", too_long(4, 3, dialect)
+    yield "the usual limit", dialect.set_limit(LIMIT), ""
+
+
 def of_long_texts(dialect: Dialect) -> Iterator[Statement]:
     length = 100_000_000
+    yield "4 MB", f"SELECT crs_same({text_of(4_000_000, dialect)}, 'x');", too_long(4_000_000, LIMIT, dialect)
+    yield "a limit for 100 MB", dialect.set_limit(2 * length), ""
     long = f"'{HEIGHT[:-1]},REMARK[\"' || {dialect.zeros(length)} || '\"]]'"
     yield "100 MB", f"SELECT crs_kind({long}), length(crs_canon({long}));", f"vertical|{len(CANONICAL_HEIGHT) + 11 + length}"
     yield "100 MB", f"SELECT crs_refusal({dialect.zeros(length)});", "refused 3 NumberRange at 0"
+    yield "the usual limit", dialect.set_limit(LIMIT), ""
     many = "".join(f",USAGE[BBOX[1E40,-1E40,1E-40,{n}]]" for n in range(300))
     text = f"'{HEIGHT[:-1]}{many}]'"
     is_longer = dialect.number(f"length(crs_canon({text})) > 2 * length({text})")

@@ -9,15 +9,19 @@
      above the end that the process's limit sets; 256 kB are asked.
    - Handlers of signals: those of a backend set flags, or end it, and call nothing of the library.
    - Memory: a call takes it by malloc, and holds none when it comes back. No error of PostgreSQL is raised inside a
-     call, so none jumps over memory that is to be freed. All else is palloc's.
+     call, so none jumps over memory that is to be freed. All else is palloc's. What a call takes is outside of work_mem,
+     and bounded by crsdesk.max_text_length.
 
    What the functions answer is crsdesk's; this file is tested and not proved. */
 #include "postgres.h"
 
+#include "access/detoast.h"
+#include "catalog/namespace.h"
 #include "fmgr.h"
 #include "mb/pg_wchar.h"
 #include "miscadmin.h"
 #include "utils/builtins.h"
+#include "utils/guc.h"
 #include "utils/jsonb.h"
 #include "utils/memutils.h"
 
@@ -32,6 +36,22 @@ PG_MODULE_MAGIC;
 #define MOST_BYTES ((size_t)(MaxAllocSize - VARHDRSZ))
 /* How many bytes of a wrong level an error shows. */
 #define TOLD_BYTES 40
+/* The limit on a text's bytes where none is set: the program's. */
+#define USUAL_LIMIT (1024 * 1024)
+
+/* The setting crsdesk.max_text_length. */
+static int max_text_length = USUAL_LIMIT;
+
+PGDLLEXPORT void _PG_init(void);
+
+void _PG_init(void)
+{
+    DefineCustomIntVariable(
+        "crsdesk.max_text_length", "The most bytes of a text that the functions of crsdesk read.",
+        "A longer text is an error. Reading takes memory of many times the text, outside of work_mem.",
+        &max_text_length, USUAL_LIMIT, 1, (int)MOST_BYTES, PGC_USERSET, GUC_UNIT_BYTE, NULL, NULL, NULL);
+    MarkGUCPrefixReserved("crsdesk");
+}
 
 /* The bytes that the library judges. */
 struct bytes {
@@ -39,26 +59,41 @@ struct bytes {
     size_t length;
 };
 
-/* A cancelled query ends here, between two calls of the library. */
+/* A cancelled query ends here, before each call of the library. */
 static void begin_call(void)
 {
     CHECK_FOR_INTERRUPTS();
     check_stack_depth();
 }
 
-/* The bytes of an argument, a `text` or a `bytea`. */
+/* Raises an error for a text that is longer than the setting allows. */
+static void hold_length(size_t length)
+{
+    if (length > (size_t)max_text_length)
+        ereport(ERROR, (errcode(ERRCODE_PROGRAM_LIMIT_EXCEEDED),
+                        errmsg("a text has %zu bytes, and crsdesk.max_text_length is %d", length, max_text_length)));
+}
+
+/* The bytes of an argument, a `text` or a `bytea`. A cancelled query ends before each. */
 static struct bytes bytes_of(FunctionCallInfo fcinfo, int argument, bool is_text)
 {
-    struct varlena *value = PG_GETARG_VARLENA_PP(argument);
-    struct bytes found = {VARDATA_ANY(value), VARSIZE_ANY_EXHDR(value)};
+    struct varlena *value;
+    struct bytes found;
     char *converted;
 
+    CHECK_FOR_INTERRUPTS();
+    /* Before a long text is read from its table. */
+    hold_length(toast_raw_datum_size(PG_GETARG_DATUM(argument)) - VARHDRSZ);
+    value = PG_GETARG_VARLENA_PP(argument);
+    found.first = VARDATA_ANY(value);
+    found.length = VARSIZE_ANY_EXHDR(value);
     if (!is_text || GetDatabaseEncoding() == PG_SQL_ASCII)
         return found;
     converted = pg_server_to_any(found.first, (int)found.length, PG_UTF8);
     if (converted != found.first) {
         found.first = converted;
         found.length = strlen(converted);
+        hold_length(found.length);
     }
     return found;
 }
@@ -111,8 +146,8 @@ static Datum canon_of(FunctionCallInfo fcinfo, bool is_text)
     struct crsdesk_refusal refusal;
     text *out = NULL;
 
-    begin_call();
     do {
+        begin_call();
         if (length > MOST_BYTES)
             ereport(ERROR, (errcode(ERRCODE_PROGRAM_LIMIT_EXCEEDED),
                             errmsg("the canonical text has %zu bytes, more than a text of PostgreSQL", length)));
@@ -128,9 +163,10 @@ static Datum canon_of(FunctionCallInfo fcinfo, bool is_text)
     PG_RETURN_TEXT_P(text_of(out, length));
 }
 
+static const char *const KINDS[] = {"", "geodetic", "geographic", "projected", "vertical", "compound"};
+
 static Datum kind_of(FunctionCallInfo fcinfo, bool is_text)
 {
-    static const char *const KINDS[] = {"", "geodetic", "geographic", "projected", "vertical", "compound"};
     struct bytes given = bytes_of(fcinfo, 0, is_text);
     struct crsdesk_refusal refusal;
     uint32 kind, code;
@@ -159,6 +195,64 @@ static Datum refusal_of(FunctionCallInfo fcinfo, bool is_text)
     hold_code(crsdesk_refusal_name(refusal.number, name, sizeof name, &length));
     PG_RETURN_TEXT_P(
         cstring_to_text(psprintf("refused %u %.*s at %zu", refusal.number, (int)length, name, refusal.place)));
+}
+
+/* Lines as a `text` of the server's encoding, with ? for each character that it lacks. */
+static text *told_text(char *lines, size_t length)
+{
+    int server = GetDatabaseEncoding(), from = 0, given = (int)length;
+    Oid conversion = InvalidOid;
+    StringInfoData told;
+
+    if (server != PG_UTF8 && server != PG_SQL_ASCII)
+        conversion = FindDefaultConversionProc(PG_UTF8, server);
+    if (!OidIsValid(conversion))
+        return cstring_to_text_with_len(lines, given);
+    initStringInfo(&told);
+    while (from < given) {
+        enlargeStringInfo(&told, (given - from) * MAX_CONVERSION_GROWTH + 1);
+        from += pg_do_encoding_conversion_buf(conversion, PG_UTF8, server, (unsigned char *)lines + from, given - from,
+                                              (unsigned char *)told.data + told.len, told.maxlen - told.len, true);
+        told.len += strlen(told.data + told.len);
+        if (from < given) {
+            appendStringInfoChar(&told, '?');
+            from += pg_utf_mblen((unsigned char *)lines + from);
+        }
+    }
+    return cstring_to_text_with_len(told.data, told.len);
+}
+
+/* Why a text is refused, in lines, without the last line feed. */
+static text *explanation_of(struct bytes given)
+{
+    size_t length = 2000, room;
+    char *lines = NULL;
+    uint32 code;
+
+    do {
+        begin_call();
+        if (lines != NULL)
+            pfree(lines);
+        room = length;
+        lines = palloc(room);
+        code = crsdesk_explain(given.first, given.length, lines, room, &length);
+    } while (code == CRSDESK_NO_ROOM);
+    hold_code(code);
+    return told_text(lines, length - 1);
+}
+
+static Datum explain_of(FunctionCallInfo fcinfo, bool is_text)
+{
+    struct bytes given = bytes_of(fcinfo, 0, is_text);
+    struct crsdesk_refusal refusal;
+    uint32 kind, code;
+
+    begin_call();
+    code = crsdesk_check(given.first, given.length, &kind, &refusal);
+    hold_code(code);
+    if (code == CRSDESK_OK)
+        PG_RETURN_TEXT_P(cstring_to_text(psprintf("accepted %s", KINDS[kind])));
+    PG_RETURN_TEXT_P(explanation_of(given));
 }
 
 static Datum same_of(FunctionCallInfo fcinfo, bool first_is_text, bool second_is_text)
@@ -232,11 +326,11 @@ static Datum differences_of(FunctionCallInfo fcinfo, bool first_is_text, bool se
     uint32 level = level_of(fcinfo, 2), code;
     struct bytes first = bytes_of(fcinfo, 0, first_is_text), second = bytes_of(fcinfo, 1, second_is_text);
     struct crsdesk_refusal refusal;
-    size_t length = 1000, room;
+    size_t length = room_for_differences(first.length, second.length), room;
     char *lines = NULL;
 
-    begin_call();
     do {
+        begin_call();
         if (length > MOST_BYTES)
             ereport(ERROR, (errcode(ERRCODE_PROGRAM_LIMIT_EXCEEDED),
                             errmsg("the differences have %zu bytes, more than a text of PostgreSQL", length)));
@@ -277,6 +371,8 @@ FUNCTION(crsdesk_pg_kind_text, kind_of(fcinfo, true))
 FUNCTION(crsdesk_pg_kind_bytea, kind_of(fcinfo, false))
 FUNCTION(crsdesk_pg_refusal_text, refusal_of(fcinfo, true))
 FUNCTION(crsdesk_pg_refusal_bytea, refusal_of(fcinfo, false))
+FUNCTION(crsdesk_pg_explain_text, explain_of(fcinfo, true))
+FUNCTION(crsdesk_pg_explain_bytea, explain_of(fcinfo, false))
 FUNCTION(crsdesk_pg_same_text_text, same_of(fcinfo, true, true))
 FUNCTION(crsdesk_pg_same_text_bytea, same_of(fcinfo, true, false))
 FUNCTION(crsdesk_pg_same_bytea_text, same_of(fcinfo, false, true))
