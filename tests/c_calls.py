@@ -5,8 +5,8 @@
 
 FOLDER is what tools/build_library.py made, out/prefix where none is given. The programs of c/ are compiled
 against its header, and linked with the static library and with the shared object: rows.c, which runs the worked rows of
-the crates' folders data/ by one thread and by four, with the caller's side under the address and undefined-behaviour
-sanitizers; growths.c, which refuses each growth of memory in turn; and threads.c, which hands a catalogue from thread to
+the crates' folders data/ by one thread and by four, whole and cut off, each text and buffer between pages that can't be
+touched, with the caller's side under the address and undefined-behaviour sanitizers; growths.c, which refuses each growth of memory in turn; and threads.c, which hands a catalogue from thread to
 thread under the thread sanitizer of the first compiler that has one. The header must do for C99 and for C++ with every
 warning an error, the shared object must need the C library alone, both must show the header's calls and nothing else,
 pkg-config must find them, and both must answer the version that the program crsdesk prints, where that is built. Where

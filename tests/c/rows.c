@@ -3,22 +3,32 @@
        rows FILE.rows ..
 
    The rows that are run are those of the calls `canon`, `same`, `Canon::same`, `Refusal::new`, `Catalogue`, and `run_canon`,
-   `run_check` and `run_same` where they write a line. Each text lies in a block of just its size, and each buffer too:
-   first it has no room, then a byte too few, then the room that was asked for. Behind each call all that it doesn't
-   answer must be as before. All rows are run by one thread, and then by four at once, each in another order, whose
-   stacks have the 256 kB that the header asks for.
+   `run_check` and `run_same` where they write a line. Each text, each buffer and each catalogue is between two pages that
+   can't be touched: it ends at the second, or, in every other thread, begins behind the first; and a text can't be
+   written to. A buffer first has no room, then a byte too few, then the room that was asked for. Behind each call all that
+   it doesn't answer must be as before. All rows are run by one thread, and then by four at once, each in another order,
+   whose stacks have the 256 kB that the header asks for. Each thread also cuts the texts off at some places, other ones
+   than the others; what `canon` answers of what is left must be what `check` does.
 
-   Each row that fails has a line; the last line is 'N passed, M failed', and the status is 0 where M is 0. */
+   Each row that fails has a line, and so has the first touch outside, which ends the program; the last line is
+   'N passed, M failed', and the status is 0 where M is 0. */
+#define _GNU_SOURCE
 #include <pthread.h>
+#include <signal.h>
 #include <stdarg.h>
 #include <stdio.h>
 #include <stdlib.h>
 #include <string.h>
+#include <sys/mman.h>
+#include <sys/wait.h>
+#include <unistd.h>
 
 #include <crsdesk.h>
 
 /* What is at the caller's places before a call. */
 enum { UNTOLD = 0x5a5a5a5a, FILLER = 0xa5, THREADS = 4, STACK = 256 * 1024 };
+/* At how many places a thread cuts a text off, and the longest text that is. */
+enum { CUTS = 5, MOST_CUT = 20000 };
 
 struct bytes {
     char *at;
@@ -54,13 +64,92 @@ static void *grown(void *old, size_t size)
     return new;
 }
 
-/* A block of just these bytes, so that a byte read past its end is seen. */
+/* Whether the blocks of this thread begin behind a page that can't be touched; else they end at one. */
+static __thread int begins_at_page;
+
+/* The row that this thread is at. */
+static __thread const struct row *current;
+
+static size_t page_size(void)
+{
+    return (size_t)sysconf(_SC_PAGESIZE);
+}
+
+/* The bytes of the pages that so many bytes take. */
+static size_t in_pages(size_t length)
+{
+    return (length + page_size() - 1) / page_size() * page_size();
+}
+
+/* A block between two pages that can't be touched, which give_back frees. */
+static char *block(size_t length)
+{
+    size_t page = page_size(), middle = in_pages(length);
+    char *first = mmap(NULL, middle + 2 * page, PROT_NONE, MAP_PRIVATE | MAP_ANONYMOUS, -1, 0);
+    if (first == MAP_FAILED || (middle > 0 && mprotect(first + page, middle, PROT_READ | PROT_WRITE) != 0)) {
+        fputs("out of memory\n", stderr);
+        exit(2);
+    }
+    return first + page + (begins_at_page ? 0 : middle - length);
+}
+
+static void give_back(const void *at, size_t length)
+{
+    size_t page = page_size();
+    if (at)
+        munmap((char *)at - (size_t)at % page - page, in_pages(length) + 2 * page);
+}
+
+/* A block of just these bytes, which are only read. */
 static char *copied(const char *at, size_t length)
 {
-    char *new = grown(NULL, length);
-    if (length)
+    char *new = block(length);
+    if (length) {
         memcpy(new, at, length);
+        mprotect(new - (size_t)new % page_size(), in_pages(length), PROT_READ);
+    }
     return new;
+}
+
+static void on_touch(int number)
+{
+    char line[200];
+    int length = snprintf(line, sizeof line, "%s:%zu: touched outside of a text or a buffer, or wrote to a text\n",
+                          current ? current->file : "no row", current ? current->line : 0);
+    _exit(write(STDERR_FILENO, line, (size_t)length) > 0 ? 1 : number);
+}
+
+/* Whether a touch of this byte ends a program. */
+static int is_fatal(volatile char *at, int is_written)
+{
+    int status = 0;
+    pid_t child = fork();
+    if (child == 0) {
+        signal(SIGSEGV, SIG_DFL);
+        if (is_written)
+            *at = 0;
+        else
+            (void)*at;
+        _exit(0);
+    }
+    return child > 0 && waitpid(child, &status, 0) == child && WIFSIGNALED(status) && WTERMSIG(status) == SIGSEGV;
+}
+
+/* Whether the blocks are what is said of them. */
+static int are_blocks_guarded(void)
+{
+    int is_right = 1;
+    for (begins_at_page = 0; begins_at_page < 2; begins_at_page++) {
+        size_t length = begins_at_page ? 5 : page_size() + 5;
+        char *at = block(length), *text = copied("12345", 5), *none = block(0);
+        is_right &= is_fatal(begins_at_page ? at - 1 : at + length, 0) && is_fatal(none, 1) && is_fatal(none - 1, 1);
+        is_right &= !is_fatal(at, 1) && !is_fatal(at + length - 1, 1) && is_fatal(text, 1) && !is_fatal(text, 0);
+        give_back(at, length);
+        give_back(text, 5);
+        give_back(none, 0);
+    }
+    begins_at_page = 0;
+    return is_right;
 }
 
 static void append(struct answer *answer, const char *at, size_t length)
@@ -106,7 +195,7 @@ static int is_untold(const struct crsdesk_refusal *why)
 static uint32_t with_room(const struct asked *asked, size_t room, char **out, size_t *length,
                           struct crsdesk_refusal *why, struct answer *answer)
 {
-    char *buffer = grown(NULL, room);
+    char *buffer = block(room);
     memset(buffer, FILLER, room);
     *length = UNTOLD;
     why->number = UNTOLD;
@@ -132,7 +221,7 @@ static uint32_t in_each_room(const struct asked *asked, struct bytes *text, stru
     char *out;
     size_t needed, length;
     uint32_t code = with_room(asked, 0, &out, &needed, why, answer);
-    free(out);
+    give_back(out, 0);
     text->at = NULL;
     text->length = 0;
     if (code != CRSDESK_OK && code != CRSDESK_NO_ROOM)
@@ -141,7 +230,7 @@ static uint32_t in_each_room(const struct asked *asked, struct bytes *text, stru
         wrong(answer, "an answer fits no room, or an empty one doesn't");
     if (needed > 0) {
         code = with_room(asked, needed - 1, &out, &length, why, answer);
-        free(out);
+        give_back(out, needed - 1);
         if (code != CRSDESK_NO_ROOM || length != needed)
             wrong(answer, "a byte too few wasn't told");
     }
@@ -151,7 +240,7 @@ static uint32_t in_each_room(const struct asked *asked, struct bytes *text, stru
     code = with_room(asked, needed + 17, &out, &length, why, answer);
     if (code != CRSDESK_OK || length != needed || memcmp(out, text->at, needed) != 0)
         wrong(answer, "another answer in more room");
-    free(out);
+    give_back(out, needed + 17);
     return code;
 }
 
@@ -204,7 +293,7 @@ static void append_refusal(struct answer *answer, const struct crsdesk_refusal *
     appendf(answer, "refused %lu ", (unsigned long)why->number);
     append(answer, name.at, name.length);
     appendf(answer, " at %zu", why->place);
-    free(name.at);
+    give_back(name.at, name.length);
 }
 
 /* A level that isn't one must be reported, with nothing changed. */
@@ -216,7 +305,7 @@ static void without_level(struct asked asked, struct answer *answer)
     asked.level = 2;
     if (with_room(&asked, 5, &out, &length, &why, answer) != CRSDESK_NO_LEVEL)
         wrong(answer, "a level that isn't one was taken");
-    free(out);
+    give_back(out, 5);
 }
 
 /* The explanation of a text begins with the line of its refusal, and has the piece and a caret after it; an accepted
@@ -241,7 +330,7 @@ static void explained(const struct asked *given, int is_refused, const struct cr
             || lines.at[lines.length - 1] != '\n')
             wrong(answer, "the explanation isn't that of the refusal");
     }
-    free(lines.at);
+    give_back(lines.at, lines.length);
     free(line.text.at);
 }
 
@@ -261,8 +350,8 @@ static void answer_canon(const struct bytes *text, uint32_t level, struct answer
     }
     explained(&asked, code == CRSDESK_REFUSED, &why, answer);
     without_level(asked, answer);
-    free(canonical.at);
-    free((char *)asked.first);
+    give_back(canonical.at, canonical.length);
+    give_back(asked.first, asked.first_length);
 }
 
 /* The lines of all parts begin with the first part's path, and each line ends; there are none where the path has no
@@ -283,7 +372,7 @@ static void all_parts(const struct asked *given, uint32_t code, const struct byt
             || memcmp(lines.at + path->length, ": ", 2) != 0 || lines.at[lines.length - 1] != '\n'))
         wrong(answer, "the first of all parts isn't the first part");
     without_level(asked, answer);
-    free(lines.at);
+    give_back(lines.at, lines.length);
 }
 
 /* `same`, or `different` and the path; or the refusal after `first` and `second`. */
@@ -315,9 +404,9 @@ static void answer_same(const struct bytes *first, const struct bytes *second, u
     if (crsdesk_same(asked.first, asked.first_length, asked.second, asked.second_length, 2, &same, &same_why)
         != CRSDESK_NO_LEVEL)
         wrong(answer, "a level that isn't one was taken by same");
-    free(path.at);
-    free((char *)asked.first);
-    free((char *)asked.second);
+    give_back(path.at, path.length);
+    give_back(asked.first, asked.first_length);
+    give_back(asked.second, asked.second_length);
 }
 
 static void answer_check(const struct bytes *text, struct answer *answer)
@@ -333,7 +422,7 @@ static void answer_check(const struct bytes *text, struct answer *answer)
         append_refusal(answer, &why);
     else
         wrong(answer, "a code that check doesn't have here, or something was changed");
-    free(at);
+    give_back(at, text->length);
 }
 
 static void answer_name(const struct bytes *number, struct answer *answer)
@@ -348,7 +437,7 @@ static void answer_name(const struct bytes *number, struct answer *answer)
         appendf(answer, "name %.*s", (int)name.length, name.at);
     else if (code == CRSDESK_NO_NUMBER)
         appendf(answer, "none");
-    free(name.at);
+    give_back(name.at, name.length);
 }
 
 static int is(const struct bytes *bytes, const char *text)
@@ -485,7 +574,7 @@ static void add_to(struct crsdesk_catalogue *catalogue, const struct bytes *rest
     struct bytes text = {rest->at + from, rest->length - from};
     char *at = copied(text.at, text.length);
     struct crsdesk_standing told = crsdesk_catalogue_add(catalogue, number, at, text.length);
-    free(at);
+    give_back(at, text.length);
     if (told.code == CRSDESK_REFUSED) {
         appendf(answer, "%lu at %zu", (unsigned long)told.refusal.number, told.refusal.place);
         appendf(&known->refused, " %lu: %lu at %zu", (unsigned long)number, (unsigned long)told.refusal.number,
@@ -518,13 +607,13 @@ static void compare_lines(struct crsdesk_catalogue *catalogue, size_t group, siz
     }
     if (code != (lines > 1 ? CRSDESK_NO_ROOM : CRSDESK_OK) || count != lines)
         wrong(answer, "lines with too little room");
-    uint64_t *numbers = grown(NULL, lines * sizeof *numbers);
+    uint64_t *numbers = (uint64_t *)block(lines * sizeof *numbers);
     if (crsdesk_catalogue_lines(catalogue, group, numbers, lines, &count) != CRSDESK_OK || count != lines)
         wrong(answer, "lines with just the room");
     for (size_t i = 0; i < lines; i++)
         if (numbers[i] != crsdesk_catalogue_line(catalogue, group, i).number || (i == 0 && numbers[i] != first))
             wrong(answer, "lines at once aren't the lines one by one");
-    free(numbers);
+    give_back(numbers, lines * sizeof *numbers);
 }
 
 static void append_lines(struct crsdesk_catalogue *catalogue, size_t group, struct answer *answer)
@@ -553,7 +642,7 @@ static void append_text(struct crsdesk_catalogue *catalogue, size_t group, struc
         appendf(answer, "none");
         return;
     }
-    char *out = grown(NULL, needed);
+    char *out = block(needed);
     memset(out, FILLER, needed);
     if (code != CRSDESK_NO_ROOM || crsdesk_catalogue_text(catalogue, group, out, needed - 1, &length) != CRSDESK_NO_ROOM
         || length != needed || (unsigned char)out[0] != FILLER || (unsigned char)none[0] != FILLER)
@@ -561,7 +650,7 @@ static void append_text(struct crsdesk_catalogue *catalogue, size_t group, struc
     if (crsdesk_catalogue_text(catalogue, group, out, needed, &length) != CRSDESK_OK || length != needed)
         wrong(answer, "just the room wasn't enough");
     append(answer, out, needed);
-    free(out);
+    give_back(out, needed);
     if (crsdesk_catalogue_piece(catalogue, group, needed).length != 0
         || crsdesk_catalogue_piece(catalogue, group, SIZE_MAX).length != 0
         || crsdesk_catalogue_piece(catalogue, group, needed - 1).length != 1)
@@ -570,15 +659,15 @@ static void append_text(struct crsdesk_catalogue *catalogue, size_t group, struc
 
 static void answer_catalogue(const struct row *row, struct answer *answer)
 {
-    struct crsdesk_catalogue catalogue;
+    struct crsdesk_catalogue *catalogue = (struct crsdesk_catalogue *)block(sizeof *catalogue);
     struct known known = {NULL, 0, {{NULL, 0}, 0, ""}};
     struct bytes rest = row->input;
     uint32_t level = row->is_definition ? CRSDESK_DEFINITION : CRSDESK_FULL;
-    memset(&catalogue, FILLER, sizeof catalogue);
-    if (crsdesk_catalogue_new(&catalogue, 2) != CRSDESK_NO_LEVEL || crsdesk_catalogue_groups(&catalogue) != 0)
+    memset(catalogue, FILLER, sizeof *catalogue);
+    if (crsdesk_catalogue_new(catalogue, 2) != CRSDESK_NO_LEVEL || crsdesk_catalogue_groups(catalogue) != 0)
         wrong(answer, "a level that isn't one was taken by a catalogue");
-    crsdesk_catalogue_free(&catalogue);
-    if (crsdesk_catalogue_new(&catalogue, level) != CRSDESK_OK)
+    crsdesk_catalogue_free(catalogue);
+    if (crsdesk_catalogue_new(catalogue, level) != CRSDESK_OK)
         wrong(answer, "no catalogue was made");
     while (rest.length > 0) {
         struct bytes line = split(&rest, &rest), word = line, operand = {line.at, 0};
@@ -594,23 +683,23 @@ static void answer_catalogue(const struct row *row, struct answer *answer)
         if (answer->text.length)
             appendf(answer, "; ");
         if (is(&word, "add"))
-            add_to(&catalogue, &operand, &known, answer);
+            add_to(catalogue, &operand, &known, answer);
         else if (is(&word, "groups"))
-            appendf(answer, "%zu", crsdesk_catalogue_groups(&catalogue));
+            appendf(answer, "%zu", crsdesk_catalogue_groups(catalogue));
         else if (is(&word, "lines"))
-            append_lines(&catalogue, group, answer);
+            append_lines(catalogue, group, answer);
         else if (is(&word, "text"))
-            append_text(&catalogue, group, answer);
+            append_text(catalogue, group, answer);
         else if (is(&word, "refused")) {
             appendf(answer, "refused");
             append(answer, known.refused.text.at ? known.refused.text.at : "", known.refused.text.length);
         }
     }
-    if (crsdesk_catalogue_groups(&catalogue) != known.groups)
+    if (crsdesk_catalogue_groups(catalogue) != known.groups)
         wrong(answer, "not as many groups as were told");
     for (size_t group = 1; group <= known.groups; group++) {
         struct answer text = {{NULL, 0}, 0, ""}, canonical = text;
-        append_text(&catalogue, group, &text);
+        append_text(catalogue, group, &text);
         answer_canon(&known.firsts[group - 1], level, &canonical, "");
         if (text.text.length != canonical.text.length
             || memcmp(text.text.at, canonical.text.at, text.text.length) != 0 || text.wrong[0] || canonical.wrong[0])
@@ -618,7 +707,8 @@ static void answer_catalogue(const struct row *row, struct answer *answer)
         free(text.text.at);
         free(canonical.text.at);
     }
-    crsdesk_catalogue_free(&catalogue);
+    crsdesk_catalogue_free(catalogue);
+    give_back(catalogue, sizeof *catalogue);
     free(known.firsts);
     free(known.refused.text.at);
 }
@@ -794,20 +884,56 @@ static void read_rows(const char *path, struct rows *rows)
     fclose(file);
 }
 
+/* Whether the front of a row's input, as a text, has one answer by canon and by check. */
+static int is_front_right(const struct row *row, size_t length)
+{
+    struct bytes front = {row->input.at, length};
+    struct answer canonical = {{NULL, 0}, 0, ""}, told = canonical;
+    answer_canon(&front, row->is_definition ? CRSDESK_DEFINITION : CRSDESK_FULL, &canonical, "");
+    answer_check(&front, &told);
+    int is_refused = begins(&told.text, "refused ");
+    int right = !canonical.wrong[0] && !told.wrong[0] && is_refused == begins(&canonical.text, "refused ");
+    if (is_refused && (canonical.text.length != told.text.length
+                       || memcmp(canonical.text.at, told.text.at, told.text.length) != 0))
+        right = 0;
+    if (!right)
+        printf("%s:%zu: its first %zu bytes: %.*s by canon, %.*s by check; %s%s\n", row->file, row->line, length,
+               (int)(canonical.text.length < 300 ? canonical.text.length : 300),
+               canonical.text.at ? canonical.text.at : "", (int)told.text.length, told.text.at ? told.text.at : "",
+               canonical.wrong, told.wrong);
+    free(canonical.text.at);
+    free(told.text.at);
+    return right;
+}
+
+/* A thread's run of all rows; `number` counts the threads, of which 0 tells the rows that fail. */
 struct turn {
     const struct rows *rows;
-    size_t from, passed;
+    size_t number, passed, failed;
 };
+
+static void count(struct turn *turn, int right)
+{
+    turn->passed += (size_t)right;
+    turn->failed += (size_t)!right;
+}
 
 static void *run_all(void *at)
 {
     struct turn *turn = at;
-    for (size_t i = 0; i < turn->rows->count; i++)
-        turn->passed += (size_t)is_right(&turn->rows->at[(turn->from + i) % turn->rows->count], turn->from == 0);
+    size_t rows = turn->rows->count, all_cuts = CUTS * (THREADS + 1);
+    begins_at_page = turn->number % 2 == 1;
+    for (size_t i = 0; i < rows; i++) {
+        const struct row *row = &turn->rows->at[(i + turn->number * rows / (THREADS + 1)) % rows];
+        current = row;
+        count(turn, is_right(row, turn->number == 0));
+        for (size_t cut = turn->number; cut < all_cuts && row->input.length <= MOST_CUT; cut += THREADS + 1)
+            count(turn, is_front_right(row, row->input.length * cut / all_cuts));
+    }
     return NULL;
 }
 
-int main(int count, char **words)
+int main(int word_count, char **words)
 {
     struct rows rows = {NULL, 0, 0};
     struct turn turns[THREADS + 1];
@@ -817,15 +943,22 @@ int main(int count, char **words)
     struct asked asked = {call_version, NULL, NULL, 0, 0, 0, 0};
     struct bytes version;
     struct crsdesk_refusal why;
-    for (int i = 1; i < count; i++)
+    for (int i = 1; i < word_count; i++)
         read_rows(words[i], &rows);
-    size_t passed = 0, all = (THREADS + 1) * rows.count;
+    size_t passed = 0, failed = 0;
+    if (!are_blocks_guarded()) {
+        printf("a touch outside of a block isn't seen\n");
+        return 2;
+    }
+    signal(SIGSEGV, on_touch);
+    signal(SIGBUS, on_touch);
     for (size_t i = 0; i <= THREADS; i++) {
         turns[i].rows = &rows;
-        turns[i].from = i * rows.count / (THREADS + 1);
-        turns[i].passed = 0;
+        turns[i].number = i;
+        turns[i].passed = turns[i].failed = 0;
     }
     run_all(&turns[0]);
+    begins_at_page = 0;
     if (pthread_attr_init(&attributes) != 0 || pthread_attr_setstacksize(&attributes, STACK) != 0)
         return 2;
     for (size_t i = 0; i < THREADS; i++)
@@ -833,19 +966,21 @@ int main(int count, char **words)
             return 2;
     for (size_t i = 0; i < THREADS; i++)
         pthread_join(threads[i], NULL);
-    for (size_t i = 0; i <= THREADS; i++)
+    for (size_t i = 0; i <= THREADS; i++) {
         passed += turns[i].passed;
+        failed += turns[i].failed;
+    }
     if (in_each_room(&asked, &version, &why, &answer) != CRSDESK_OK || answer.wrong[0])
         printf("version: %s\n", answer.wrong);
     else
         printf("version %.*s, %zu rows\n", (int)version.length, version.at, rows.count);
-    free(version.at);
+    give_back(version.at, version.length);
     for (size_t i = 0; i < rows.count; i++) {
         free(rows.at[i].call.at);
         free(rows.at[i].input.at);
         free(rows.at[i].expect.at);
     }
     free(rows.at);
-    printf("%zu passed, %zu failed\n", passed, all - passed);
-    return passed == all && all > 0 ? 0 : 1;
+    printf("%zu passed, %zu failed\n", passed, failed);
+    return failed == 0 && passed > 0 ? 0 : 1;
 }
