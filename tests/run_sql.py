@@ -203,6 +203,21 @@ def try_symbols(counts: Counts, extension: pathlib.Path) -> None:
     counts.compare("what it needs", found, ["libc.so.6]"])
 
 
+def try_room(counts: Counts, extension: pathlib.Path) -> None:
+    """The differences of ordinary texts have the room that is asked for first (room_for_differences), so that they are
+    compared once: their JSON is longer than their lines."""
+    lines = (ROOT / "examples" / "catalogue.txt").read_bytes().split(b"\n")
+    values = ",".join(f"(CAST({literal(line, True)} AS TEXT))" for line in lines)
+    statement = (
+        f"CREATE TABLE ordinary AS SELECT column1 AS wkt FROM (VALUES {values}) WHERE crs_kind(column1) IS NOT NULL; "
+        "SELECT count(*) > 1000, max(length(parts)) > 1000, max(length(parts) - 4 * both) < 1000 FROM (SELECT "
+        "CAST(crs_differences(a.wkt, b.wkt) AS BLOB) AS parts, length(CAST(a.wkt || b.wkt AS BLOB)) AS both "
+        "FROM ordinary AS a CROSS JOIN ordinary AS b);"
+    )
+    found = printed(extension, [("the room", statement, "")], "", "")
+    counts.compare("room for differences", found, ["1|1|1", ""])
+
+
 def try_version(counts: Counts, prefix: pathlib.Path, extension: pathlib.Path) -> None:
     """It answers the version of the library that it holds."""
     told = (prefix / "lib" / "pkgconfig" / "crsdesk.pc").read_text(encoding="utf-8").split("\n")
@@ -353,6 +368,7 @@ def main(words: List[str]) -> int:
         build_sqlite.build(prefix, extension, ["-Werror"])
         try_symbols(counts, extension)
         try_version(counts, prefix, extension)
+        try_room(counts, extension)
         try_statements(counts, extension)
         try_sanitized(counts, prefix, pathlib.Path(folder))
         try_threads(counts, extension)
