@@ -65,7 +65,7 @@ def promises() -> Iterator[Statement]:
     yield "a number", "SELECT crs_kind(4326), crs_refusal(4326), crs_refusal(1.5);", "|refused 6 Unexpected at 0|refused 6 Unexpected at 0"
     for behind in ("", "x"):
         level = literal(f"full\0{behind}".encode(), False)
-        yield "a wrong level", f"SELECT crs_canon('x', {level});", f"Error: no such level: 'full' and a NUL byte; {sql_rows.LEVELS}"
+        yield "a level with a NUL byte", f"SELECT crs_canon('x', {level});", f"Error: no such level: 'full' and a NUL byte; {sql_rows.LEVELS}"
     yield "a long level", f"SELECT crs_canon('x', '{'é' * 50}');", f"Error: no such level: '{'é' * 40}'; {sql_rows.LEVELS}"
     nul = literal(HEIGHT.replace('"H"', '"a\0b"').encode(), False)
     wanted = CANONICAL_HEIGHT.replace('"H"', '"a\0b"').encode().hex().upper()
@@ -154,16 +154,7 @@ def plain_error(text: str) -> str:
 
 def try_statements(counts: Counts, extension: pathlib.Path, preloaded: str = "") -> None:
     asked, promised = list(sql_rows.rows(SQLITE)), list(promises())
-    names = (
-        "a level",
-        "a wrong level",
-        "a limit",
-        "a small limit",
-        "the usual limit",
-        "a refused text",
-        "nothing",
-        "types",
-    )
+    names = ("a level", "a wrong level", "a limit", "the usual limit", "a refused text", "nothing", "types")
     of_encoding = [it for it in promised if it[0] in names]
     for statements, first in ((asked, ""), (promised, ""), (of_encoding, "PRAGMA encoding='UTF-16';")):
         *answers, rest = printed(extension, statements, first, preloaded)

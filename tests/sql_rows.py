@@ -202,13 +202,7 @@ def of_values(dialect: Dialect) -> Iterator[Statement]:
 def of_explanations(dialect: Dialect) -> Iterator[Statement]:
     """Lines without a last line feed, whatever characters the text has."""
     yield "an accepted text", f"SELECT crs_explain('{HEIGHT}');", "accepted vertical"
-    lines = [
-        "refused 1 BadCharacter at 4, line 1, column 5",
-        "  EPSG:4326",
-        "      ^",
-        "This character begins nothing that a text may have.",
-    ]
-    yield "a refused text", "SELECT crs_explain('EPSG:4326');", "\n".join(lines)
+    yield "a refused text", "SELECT substr(crs_explain('EPSG:4326'), 1, 45);", "refused 1 BadCharacter at 4, line 1, column 5"
     # A control character, a blank that isn't U+0020, ill-formed UTF-8, and characters that few encodings have.
     for shown in ("\x01", "\xa0", "\u20ac\u4e2d\U0001f600"):
         text = f'VERTCRS["{shown}"'.encode()
@@ -248,7 +242,7 @@ def of_limits(dialect: Dialect) -> Iterator[Statement]:
     yield "a small limit", dialect.set_limit(3), ""
     for is_blob in (False, True):
         three, four = (dialect.literal(it.encode(), is_blob) for it in ("(\xe9", "\xe9\xe9"))
-        yield "a small limit", f"SELECT crs_refusal({three});", "refused 2 UnexpectedStart at 0"
+        yield "a small limit", f"SELECT crs_refusal({three});", "refused 6 Unexpected at 0"
         yield "a small limit", f"SELECT crs_refusal({four});", too_long(4, 3, dialect)
     yield "the usual limit", dialect.set_limit(LIMIT), ""
 
