@@ -1,12 +1,15 @@
 #!/usr/bin/env python3
-"""Writes hostile texts of a mebibyte to standard output, as a catalogue: hostile_texts.py KIND.
+"""Writes hostile texts of a mebibyte, or of so many bytes, to standard output, as a catalogue:
+hostile_texts.py KIND [BYTES].
 
-Of most kinds it is one text. Those that begin with "pair-" are two texts whose sets are hard to compare. Without a word
-it prints the kinds.
+Of most kinds it is one text. Those that begin with "pair-" are two texts whose sets are hard to compare, and
+"colliding-lines" is as many texts as have room. Without a word it prints the kinds.
 """
+import itertools
+import string
 import sys
 
-SIZE = 1 << 20
+SIZE = int(sys.argv[2]) if len(sys.argv) == 3 else 1 << 20
 
 
 def filled(front, part, back, more=b""):
@@ -69,6 +72,30 @@ def nested_pair(count):
     return first + b"\n" + height(*(usage(0, *reversed(it)) for it in reversed(usages)))
 
 
+# The hasher of the map of groups: its state at first, and what it multiplies by.
+FOLD_STATE, FOLD_MULTIPLIER, WORD = 0x243F6A8885A308D3, 0x9E3779B97F4A7C15, (1 << 64) - 1
+
+
+def folded(first, second):
+    """The state after two words, each of which had its part of the state put in by xor."""
+    product = first * second
+    return (product & WORD) ^ (product >> 64)
+
+
+def colliding_lines():
+    """Canonical texts whose bytes leave the hasher of the map in one state: it multiplies, and a word of the name is
+    what the state is there, so that the product is 0 whatever word comes next."""
+    back = b'",VDATUM["D"],' + b'CS[vertical,1],AXIS["h",up,ORDER[1],LENGTHUNIT["metre",1]]]'
+    length = 9 + 7 + 8 + 8 + len(back)
+    for name in itertools.product(string.ascii_lowercase.encode(), repeat=7):
+        front = b'VERTCRS["' + bytes(name)
+        low, high = (int.from_bytes(front[at : at + 8], "little") for at in (0, 8))
+        word = folded(low ^ FOLD_STATE + length, high ^ FOLD_MULTIPLIER).to_bytes(8, "little")
+        if all(32 <= byte < 127 and byte != ord('"') for byte in word):
+            break
+    return b"\n".join(front + word + b"%08d" % number + back for number in range(SIZE // (length + 1)))
+
+
 KINDS = {
     "doubled-quotes": filled(b'VERTCRS["', b'""', b'"]'),
     "empty-texts": filled(b"VERTCRS[", b'"",', b'""]'),
@@ -93,7 +120,8 @@ KINDS = {
     "twelve-open-nodes": nested(10_000),
     "twelve-open-nodes-of-a-mebibyte": nested(SIZE // 24 - 1),
 }
-PAIRS = {
+MANY = {
+    "colliding-lines": colliding_lines,
     "pair-identifiers": lambda: reversed_pair(identifier),
     "pair-usages": lambda: reversed_pair(usage),
     "pair-repeated-member": lambda: repeated_pair(
@@ -108,10 +136,10 @@ PAIRS = {
 
 
 def main(words):
-    if len(words) != 1:
-        print("\n".join([*KINDS, *PAIRS]))
+    if not words:
+        print("\n".join([*KINDS, *MANY]))
     else:
-        sys.stdout.buffer.write((PAIRS[words[0]]() if words[0] in PAIRS else KINDS[words[0]]) + b"\n")
+        sys.stdout.buffer.write((MANY[words[0]]() if words[0] in MANY else KINDS[words[0]]) + b"\n")
 
 
 if __name__ == "__main__":

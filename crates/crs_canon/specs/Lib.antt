@@ -4,6 +4,7 @@ pub mod Direct
 pub mod CrsText
 pub mod Equality
 pub mod EqualityLaws
+pub mod Examples
 pub mod MainTheorem
 pub mod Members
 pub mod Openings

@@ -1,10 +1,10 @@
 ghost use Rattle.std.specs.Prelude.{◌≡◌, ◌↔◌, IsTrue};
 ghost use Rattle.std.specs.Cmp.{partial_equiv_from_equiv};
-ghost use Rattle.crs_canon.specs.Equality.{canon_writes, canons_equal};
+ghost use Rattle.crs_canon.specs.Equality.{canon_writes, canons_equal, digest_of};
 ghost use Rattle.crs_canon.specs.EqualityLaws.{canons-equivalence, canons-hash};
 
 use crs_value::Level;
-use std::hash::{Hash, Hasher};
+use std::hash::{DefaultHasher, Hash, Hasher};
 use std::marker::Model;
 
 /// A canonical text and the level at which it was written. Profile.
@@ -88,9 +88,17 @@ impl Hash for Canon {
 
     ghost respects_eq = { canons-hash };
 
-    // The bytes in one write, of which a hasher takes many at a time; a slice writes them one by one.
-    // No end is marked, since no canonical text is the front of another.
+    // A hasher that folds words into a state that everybody knows, as that of a map, can be led to one state by many
+    // texts. So it is given a digest of the bytes.
     fn hash<H: Hasher>(&self, state: &mut H) {
-        state.write(self.bytes());
+        state.write_u64(digest(self.bytes()));
     }
+}
+
+fn digest(bytes: &[u8]) -> u64
+    ensures { result ≡ digest_of bytes.now }
+{
+    let mut hasher = DefaultHasher::new();
+    hasher.write(bytes);
+    hasher.finish()
 }

@@ -8,6 +8,7 @@ ghost use Rattle.crs_value.specs.declared.values.level.Level.TheVariants as leve
 ghost use Rattle.crs_same.specs.SameCrs.{SameCrs};
 ghost use Rattle.crs_canon.specs.Canonical.{CanonicalText, IsCanonicalOf, IsCanonicalText};
 ghost use Rattle.crs_canon.specs.Equality.{canon_writes, canons_equal};
+ghost use Rattle.crs_canon.specs.Examples.{DigestsArePublished, DigestsAreRusts};
 ghost use Rattle.crs_canon.specs.MainTheorem.{MainTheorem, SpellSame};
 ghost use Rattle.crs_canon.specs.SetText.{HaveOneTextWhereSame};
 
@@ -75,6 +76,12 @@ pub fn levels_of_canonical_texts()
 pub fn equal_canons_are_one()
     ensures equal { (a b : CanonicalText) → (canons_equal a b ≡ true) ↔ (a ≡ b) }
     ensures hash { (a b : CanonicalText) → canons_equal a b ≡ true → canon_writes a ≡ canon_writes b }
+{}
+
+/// The digest of a canonical text that a hash is given is SipHash-1-3, by examples. Profile.
+pub fn digests_are_siphash()
+    ensures published { DigestsArePublished }
+    ensures rusts { DigestsAreRusts }
 {}
 
 /// No spelling of a node is empty, and none is the front of another of its kind. The node is one of the kind.
