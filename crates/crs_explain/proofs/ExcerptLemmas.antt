@@ -1,7 +1,11 @@
 -- The piece of a line at a place, put together.
-use Rattle.std.proofs.Common.{◌≡◌, ◌≤◌, ℕ, ◌+◌, ◌-◌, ◌==◌, cond, List, [], ◌∷◌, ◌++◌, codes, length, take, drop, refl, sym, ap, ◌∙◌, append_assoc, arith}
+use Rattle.std.proofs.Common.{◌≡◌, ◌≤◌, ℕ, ◌+◌, ◌-◌, ◌==◌, true, cond, List, [], ◌∷◌, ◌++◌, codes, length, take, drop, refl, sym, ap, ◌∙◌, append_assoc, arith}
 use Rattle.std.proofs.lemmas.List.Sums.{sum_by-append}
-use Rattle.std.proofs.lemmas.List.{length-append}
+use Rattle.std.proofs.lemmas.List.{length-append, length-take-le, take-append-drop}
+use Rattle.std.proofs.lemmas.Str.Ascii.{trim_ascii_end_is}
+use Rattle.std.specs.List.{suffix_len}
+use Rattle.std.specs.Char.{is_ascii_whitespace}
+use Rattle.core.specs.Str.{IsTrimAsciiEnd}
 use Rattle.std.proofs.Math.Seq.{take-append_seam, drop-append_seam}
 use Rattle.crs_text.specs.Position.{feeds, IsPosition}
 use Rattle.crs_text.specs.declared.position.Position.{Position}
@@ -17,6 +21,27 @@ piece text before middle after from to parts begin end =
     let n : to - from ≡ length middle = omega (arith, begin, end) in
     let d : drop from text ≡ middle ++ after = ap (λ k. drop k text) begin ∙ ap (drop (length before)) parts ∙ drop-append_seam before (middle ++ after) in
     ap (λ k. take k (drop from text)) n ∙ ap (take (length middle)) d ∙ take-append_seam middle after
+
+-- the end of bytes, and their front
+pub end_of : (bytes end : List ℕ) (n : ℕ) → end ≡ drop n bytes → (front : List ℕ) × (bytes ≡ front ++ end)
+end_of bytes end n is = (take n bytes, sym (take-append-drop n bytes) ∙ ap (λ z. take n bytes ++ z) (sym is))
+
+pub front_of : (bytes middle front : List ℕ) (n m : ℕ) → middle ≡ take n bytes → front ≡ take m middle → (rest : List ℕ) × (bytes ≡ front ++ rest)
+front_of bytes middle front n m is begins = (
+  drop m middle ++ drop n bytes,
+  sym (take-append-drop n bytes)
+      ∙ ap (λ z. z ++ drop n bytes) (sym is ∙ sym (take-append-drop m middle))
+      ∙ append_assoc (take m middle) (drop m middle) (drop n bytes)
+      ∙ ap (λ z. z ++ (drop m middle ++ drop n bytes)) (sym begins),
+)
+
+-- the place of the last byte but white space
+pub trimmed : (text trimmed : List ℕ) (place : ℕ) → (place == length text) ≡ true → IsTrimAsciiEnd text trimmed → length trimmed ≡ shown_place text place
+trimmed text trimmed place end is =
+    let m : ℕ = length text - suffix_len is_ascii_whitespace text in
+    let n : length trimmed ≡ length text - suffix_len is_ascii_whitespace text =
+    ap length (trim_ascii_end_is text trimmed is) ∙ length-take-le m text (omega arith) in
+    rw end n
 
 -- the lines of an excerpt
 pub excerpt_of : (text : List ℕ) (place shown : ℕ) (p : Position) (line_left line_right front left right rest lines : List ℕ) →
@@ -39,7 +64,7 @@ excerpt_of text place shown p line_left line_right front left right rest lines i
     let none : feeds (left ++ right) ≡ 0 = omega (arith, feed_l, feed_r, feed_x, left_x, right_x, feed_both, x.one_line) in
     let tail : x.right ++ x.after ≡ right ++ (rest ++ x.after) = ap (λ z. z ++ x.after) r ∙ append_assoc right rest x.after in
     let middle : x.left ++ (x.right ++ x.after) ≡ front ++ (left ++ (right ++ (rest ++ x.after))) =
-        ap (λ z. z ++ (x.right ++ x.after)) l ∙ append_assoc front left (x.right ++ x.after) ∙ ap (λ z. front ++ (left ++ z)) tail in
+    ap (λ z. z ++ (x.right ++ x.after)) l ∙ append_assoc front left (x.right ++ x.after) ∙ ap (λ z. front ++ (left ++ z)) tail in
     let first : shown ≡ length x.before + length (front ++ left) = x.is_place ∙ ap (λ z. length x.before + length z) l in
     record {
       before = x.before ++ front;

@@ -1,5 +1,5 @@
 -- Bytes of a line.
-use Rattle.std.proofs.Common.{◌≡◌, ◌≤◌, ℕ, ◌+◌, ◌==◌, true, false, Bool, if◌then◌else◌, inl, inr, List, [], ◌∷◌, ◌++◌, length, map, take, refl, sym, ap, ◌∙◌, arith}
+use Rattle.std.proofs.Common.{◌≡◌, ◌≤◌, ℕ, suc, ◌==◌, false, inl, inr, List, [], ◌∷◌, ◌++◌, length, map, refl, ap, arith}
 use Rattle.std.proofs.lemmas.Bool.{cases_Bool}
 use Rattle.crs_text.specs.Position.{feeds}
 use Rattle.crs_explain.specs.Lines.{in_line}
@@ -11,13 +11,16 @@ in_line-not b = elim (cases_Bool (b == 10)) [
   | inr other ↦ rw other other
 ]
 
+cons_feeds : (b : ℕ) (words : List ℕ) → (b == 10) ≡ false → feeds words ≡ 0 → feeds (b ∷ words) ≡ 0
+cons_feeds b words other none = rw (other, none) refl
+
 no_feeds : (words : List ℕ) → feeds (map in_line words) ≡ 0
 no_feeds [] = refl
-no_feeds (b ∷ words) = rw (in_line-not b, no_feeds words) refl
+no_feeds (b ∷ words) = cons_feeds (in_line b) (map in_line words) (in_line-not b) (no_feeds words)
 
 map-length : (words : List ℕ) → length (map in_line words) ≡ length words
 map-length [] = refl
-map-length (b ∷ words) = ap (λ n. 1 + n) (map-length words)
+map-length (b ∷ words) = ap suc (map-length words)
 
 pub line_of : (words line : List ℕ) → length words ≤ 1000 → line ≡ map in_line words ++ 10 ∷ [] → IsLine line
 line_of words line few is = (map in_line words, no_feeds words, omega (arith, map-length words, few), is)

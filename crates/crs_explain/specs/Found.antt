@@ -1,6 +1,6 @@
 -- What begins at a place of a text, and what an item is called by its first bytes.
-use Rattle.std.specs.Prelude.{ℕ, ◌==◌, ◌||◌, nat_le, Bool, false, List, [], ◌∷◌, ◌++◌, map, length, take, drop}
-use Rattle.std.specs.Prelude.{codes, if◌then◌else◌}
+use Rattle.std.specs.Prelude.{ℕ, ◌==◌, ◌||◌, nat_le, Bool, List, ◌++◌, map, length, take, drop, codes}
+use Rattle.std.specs.Prelude.{slice_index_or, if◌then◌else◌}
 use Rattle.std.specs.List.{prefix_len}
 use Rattle.std.specs.Char.{to_ascii_uppercase, is_ascii_alphabetic, is_ascii_alphanumeric, is_ascii_whitespace}
 
@@ -18,22 +18,30 @@ named_by word =
     if nat_le (length word) 40 then map to_ascii_uppercase word
     else map to_ascii_uppercase (take 40 word) ++ codes ".."
 
--- whether bytes begin with an opening delimiter, after white space
-abbrev pub opens : List ℕ → Bool
-opens [] = false
-opens (b ∷ bytes) = b == 91 || b == 40
+-- the first byte, 0 where there is none
+abbrev pub first_byte : List ℕ → ℕ
+first_byte bytes = slice_index_or bytes 0 0
 
+-- whether bytes begin with an opening delimiter
+abbrev pub opens : List ℕ → Bool
+opens bytes = first_byte bytes == 91 || first_byte bytes == 40
+
+-- the same after white space
 abbrev pub opens_after_white : List ℕ → Bool
 opens_after_white bytes = opens (drop (prefix_len is_ascii_whitespace bytes) bytes)
+
+-- the keyword of the node that bytes begin with, or a word
+abbrev pub word_found : List ℕ → List ℕ
+word_found bytes =
+    if opens_after_white (drop (prefix_len is_of_word bytes) bytes) then named_by (word_of bytes)
+    else codes "a word"
 
 -- what bytes begin with: a closing delimiter is itself, a node its keyword, and a text, a word or a
 -- number are called so
 abbrev pub found_in : List ℕ → List ℕ
-found_in [] = codes "a number"
-found_in (b ∷ bytes) =
-    if b == 93 || b == 41 then b ∷ []
-    else if b == 34 then codes "a text in quotes"
-    else if is_ascii_alphabetic b then
-        (if opens_after_white (drop (prefix_len is_of_word (b ∷ bytes)) (b ∷ bytes))
-        then named_by (word_of (b ∷ bytes)) else codes "a word")
+found_in bytes =
+    if first_byte bytes == 93 then codes "]"
+    else if first_byte bytes == 41 then codes ")"
+    else if first_byte bytes == 34 then codes "a text in quotes"
+    else if is_ascii_alphabetic (first_byte bytes) then word_found bytes
     else codes "a number"

@@ -1,7 +1,8 @@
 //! The piece of a line at a place, and below it a caret under the place.
-ghost use Rattle.std.specs.Prelude.{◌≡◌, ◌++◌, ◌≤◌, ℕ, List, IfOk, IfSome, OnOk, codes, length};
+ghost use Rattle.std.specs.Prelude.{◌≡◌, ◌++◌, ◌≤◌, ◌-◌, ℕ, List, IfOk, IfSome, OnOk, codes, length, take, drop};
 ghost use Rattle.crs_explain.specs.Excerpt.{IsExcerpt, blanks, blanks_below, printed_text, shown_place};
 
+use crate::place::rest_of;
 use crate::printed::printed;
 use bstr::{ByteSlice, ByteVec};
 use crs_text::position_of;
@@ -25,9 +26,18 @@ pub(crate) fn excerpt(alloc: Global, text: &[u8], place: usize) -> Result<Vec<u8
 {
     let shown = shown_place(text, place);
     let position = position_of(text, shown);
-    let left = before_place(&text[position.begin..shown]);
-    let right = behind_place(&text[shown..position.end]);
-    lines_of(alloc, left, right)
+    let left = before_place(between(text, position.begin, shown));
+    let right = behind_place(between(text, shown, position.end));
+    let lines = lines_of(alloc, left, right)?;
+    Ok(lines)
+}
+
+fn between(text: &[u8], begin: usize, end: usize) -> &[u8]
+    requires ordered { begin ≤ end }
+    requires within { end ≤ length text.now }
+    ensures { result.now ≡ take (end - begin) (drop begin text.now) }
+{
+    &text[begin..end]
 }
 
 // At the end of the text the end of what it says: the last line may be empty.
@@ -61,11 +71,17 @@ fn lines_of(alloc: Global, left: &[u8], right: &[u8]) -> Result<Vec<u8>, AllocEr
 fn before_place(bytes: &[u8]) -> &[u8]
     ensures { (front : List ℕ) × (bytes.now ≡ front ++ result.now) }
 {
-    let bytes = from(bytes, bytes.len().saturating_sub(BYTES_BEFORE));
+    rest_of(bytes, hidden_before(bytes))
+}
+
+// How many bytes are before the last characters.
+fn hidden_before(bytes: &[u8]) -> usize {
+    let hidden = bytes.len().saturating_sub(BYTES_BEFORE);
+    let bytes = rest_of(bytes, hidden);
     let count = bytes.chars().count();
     match bytes.char_indices().nth(count.saturating_sub(BEFORE)) {
-        Some((begin, _, _)) => from(bytes, begin),
-        None => bytes,
+        Some((begin, _, _)) => hidden.saturating_add(begin),
+        None => hidden,
     }
 }
 
@@ -73,28 +89,17 @@ fn before_place(bytes: &[u8]) -> &[u8]
 fn behind_place(bytes: &[u8]) -> &[u8]
     ensures { (rest : List ℕ) × (bytes.now ≡ result.now ++ rest) }
 {
-    let bytes = front(bytes, BYTES_BEHIND);
-    match bytes.char_indices().nth(BEHIND) {
-        Some((end, _, _)) => front(bytes, end).trim_ascii_end(),
-        None => bytes.trim_ascii_end(),
-    }
+    between(bytes, 0, shown_behind(bytes)).trim_ascii_end()
 }
 
-fn from(bytes: &[u8], begin: usize) -> &[u8]
-    ensures { (front : List ℕ) × (bytes.now ≡ front ++ result.now) }
+// How many bytes the first characters have.
+fn shown_behind(bytes: &[u8]) -> usize
+    ensures { result ≤ length bytes.now }
 {
-    match bytes.split_at_checked(begin) {
-        Some((_, rest)) => rest,
-        None => bytes,
-    }
-}
-
-fn front(bytes: &[u8], count: usize) -> &[u8]
-    ensures { (rest : List ℕ) × (bytes.now ≡ result.now ++ rest) }
-{
-    match bytes.split_at_checked(count) {
-        Some((front, _)) => front,
-        None => bytes,
+    let most = bytes.len().min(BYTES_BEHIND);
+    match between(bytes, 0, most).char_indices().nth(BEHIND) {
+        Some((end, _, _)) => end.min(most),
+        None => most,
     }
 }
 

@@ -165,12 +165,14 @@ fn append_parent(
 ) -> Result<(), AllocError>
     ensures { OnOk result (out.new.items ≡ out.old.items ++ node_named parent there.now) }
 {
-    if parent.is_none() {
-        return Ok(());
+    match parent {
+        None => Ok(()),
+        Some(_) => {
+            out.extend_from_slice(b"in ")?;
+            append_name(alloc, word_at(there), out)?;
+            out.extend_from_slice(b" ")
+        }
     }
-    out.extend_from_slice(b"in ")?;
-    append_name(alloc, word_at(there), out)?;
-    out.extend_from_slice(b" ")
 }
 
 // `: found AXIS, expected `

@@ -1,7 +1,8 @@
 //! What is at a place of a well-formed text.
-ghost use Rattle.std.specs.Prelude.{◌≡◌, ◌++◌, ◌≤◌, OnOk, drop, length, if◌then◌else◌, codes};
+ghost use Rattle.std.specs.Char.{is_ascii_whitespace};
+ghost use Rattle.std.specs.Prelude.{◌≡◌, ◌++◌, ◌≤◌, OnOk, drop, length, take};
 ghost use Rattle.std.specs.List.{prefix_len};
-ghost use Rattle.crs_explain.specs.Found.{found_in, is_of_word, named_by, opens, opens_after_white, word_of};
+ghost use Rattle.crs_explain.specs.Found.{first_byte, found_in, is_of_word, named_by, opens, opens_after_white, word_found, word_of};
 
 use std::alloc::{AllocError, Global};
 
@@ -9,27 +10,31 @@ use std::alloc::{AllocError, Global};
 const SHOWN: usize = 40;
 
 /// Appends what begins at the front of these bytes, or the delimiter that closes there.
-pub(crate) fn append_found(
-    alloc: Global,
-    there: &[u8],
-    out: &mut Vec<u8>,
-) -> Result<(), AllocError>
+pub(crate) fn append_found(alloc: Global, there: &[u8], out: &mut Vec<u8>) -> Result<(), AllocError>
     ensures { OnOk result (out.new.items ≡ out.old.items ++ found_in there.now) }
 {
-    match there {
-        [b']', ..] => out.extend_from_slice(b"]"),
-        [b')', ..] => out.extend_from_slice(b")"),
-        [b'"', ..] => out.extend_from_slice(b"a text in quotes"),
-        [letter, ..] if letter.is_ascii_alphabetic() => append_word(alloc, there, out),
+    match first_byte(there) {
+        b']' => out.extend_from_slice(b"]"),
+        b')' => out.extend_from_slice(b")"),
+        b'"' => out.extend_from_slice(b"a text in quotes"),
+        letter if letter.is_ascii_alphabetic() => append_word(alloc, there, out),
         _ => out.extend_from_slice(b"a number"),
+    }
+}
+
+// The first byte, 0 where there is none.
+fn first_byte(bytes: &[u8]) -> u8
+    ensures { result ≡ first_byte bytes.now }
+{
+    match bytes.first() {
+        Some(byte) => *byte,
+        None => 0,
     }
 }
 
 // The keyword of a node, or a word.
 fn append_word(alloc: Global, there: &[u8], out: &mut Vec<u8>) -> Result<(), AllocError>
-    ensures { OnOk result (out.new.items ≡ out.old.items
-        ++ (if opens_after_white (drop (prefix_len is_of_word there.now) there.now)
-        then named_by (word_of there.now) else codes "a word")) }
+    ensures { OnOk result (out.new.items ≡ out.old.items ++ word_found there.now) }
 {
     if opens_after_white(rest_of(there, word_length(there))) {
         append_name(alloc, word_at(there), out)
@@ -41,30 +46,44 @@ fn append_word(alloc: Global, there: &[u8], out: &mut Vec<u8>) -> Result<(), All
 fn opens_after_white(bytes: &[u8]) -> bool
     ensures { result ≡ opens_after_white bytes.now }
 {
-    let white = bytes.iter().take_while(|it| it.is_ascii_whitespace()).count();
-    opens(rest_of(bytes, white))
+    opens(rest_of(bytes, white_length(bytes)))
+}
+
+fn white_length(bytes: &[u8]) -> usize
+    ensures { result ≡ prefix_len is_ascii_whitespace bytes.now }
+{
+    bytes.iter().take_while(|it| is_white(**it)).count()
+}
+
+fn is_white(byte: u8) -> bool
+    ensures { result ≡ is_ascii_whitespace byte }
+{
+    byte.is_ascii_whitespace()
 }
 
 fn opens(bytes: &[u8]) -> bool
     ensures { result ≡ opens bytes.now }
 {
-    matches!(bytes.first(), Some(b'[' | b'('))
+    matches!(first_byte(bytes), b'[' | b'(')
 }
 
 /// Appends a word in capitals, of a long one its front.
-pub(crate) fn append_name(
-    alloc: Global,
-    word: &[u8],
-    out: &mut Vec<u8>,
-) -> Result<(), AllocError>
+pub(crate) fn append_name(alloc: Global, word: &[u8], out: &mut Vec<u8>) -> Result<(), AllocError>
     ensures { OnOk result (out.new.items ≡ out.old.items ++ named_by word.now) }
 {
     if word.len() <= SHOWN {
         out.extend_from_slice(&word.to_ascii_uppercase(alloc)?)
     } else {
-        out.extend_from_slice(&word[..SHOWN].to_ascii_uppercase(alloc)?)?;
+        out.extend_from_slice(&front_of(word, SHOWN).to_ascii_uppercase(alloc)?)?;
         out.extend_from_slice(b"..")
     }
+}
+
+fn front_of(word: &[u8], count: usize) -> &[u8]
+    requires { count ≤ length word.now }
+    ensures { result.now ≡ take count word.now }
+{
+    &word[..count]
 }
 
 /// The word that the bytes begin with.

@@ -1,5 +1,5 @@
 //! What is open or was meant, what a number means, and hints: a line each.
-ghost use Rattle.std.specs.Prelude.{◌≡◌, ◌++◌, ◌∷◌, [], ℕ, List, IfOk, OnOk, map, take};
+ghost use Rattle.std.specs.Prelude.{◌≡◌, ◌++◌, ◌≤◌, IfOk, OnOk, length, map};
 ghost use Rattle.crs_explain.specs.Explained.{AreSentences, IsLine, IsLineIfAny};
 ghost use Rattle.crs_explain.specs.Lines.{in_line};
 
@@ -59,9 +59,18 @@ fn line(alloc: Global, words: &[u8]) -> Result<Vec<u8>, AllocError>
     ensures { IfOk result (λ line. IsLine line.items) }
 {
     let mut line = Vec::new(alloc);
-    append_in_line(&words[..words.len().min(MOST)], &mut line)?;
+    append_in_line(shortened(words), &mut line)?;
     line.extend_from_slice(b"\n")?;
     Ok(line)
+}
+
+fn shortened(words: &[u8]) -> &[u8]
+    ensures { length result.now ≤ 1000 }
+{
+    match words.get(..MOST) {
+        Some(front) => front,
+        None => words,
+    }
 }
 
 fn append_in_line(words: &[u8], out: &mut Vec<u8>) -> Result<(), AllocError>
