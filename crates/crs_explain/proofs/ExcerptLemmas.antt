@@ -5,7 +5,7 @@ use Rattle.std.proofs.lemmas.List.{length-append, length-take-le, take-append-dr
 use Rattle.std.proofs.lemmas.Str.Ascii.{trim_ascii_end_is}
 use Rattle.std.specs.List.{suffix_len}
 use Rattle.std.specs.Char.{is_ascii_whitespace}
-use Rattle.core.specs.Str.{IsTrimAsciiEnd}
+use Rattle.std.specs.Str.{IsTrimAsciiEnd}
 use Rattle.std.proofs.Math.Seq.{take-append_seam, drop-append_seam}
 use Rattle.crs_text.specs.Position.{feeds, IsPosition}
 use Rattle.crs_text.specs.declared.position.Position.{Position}
