@@ -34,10 +34,11 @@ abbrev pub blanks : Option ℕ → List ℕ
 blanks None = []
 blanks (Some columns) = take columns (codes "   ")
 
--- bytes as they are printed, and blanks as wide as these
+-- bytes as they are printed
 abbrev pub printed_text : List ℕ → List ℕ
 printed_text bytes = flat_map (λ c. encode_utf8 (printed c)) (lossy_chars bytes)
 
+-- blanks as wide as these bytes are printed
 abbrev pub blanks_below : List ℕ → List ℕ
 blanks_below bytes = flat_map (λ c. blanks (char_width false (printed c))) (lossy_chars bytes)
 

@@ -1,5 +1,5 @@
 //! Tokens and items of a well-formed text, or the first fault with its place. Crates above judge a text by its items
-//! and the raw bytes of each; they read the text around a refusal only to explain it.
+//! and the raw bytes of each; they read the text itself only to write pieces of it, and to explain a refusal.
 #![tactic(auto)]
 
 mod fault;
