@@ -34,17 +34,25 @@ fn main(rt: HostRuntime) -> io::Result<()> {
 }
 
 fn check(rt: &HostRuntime, tally: &mut Tally, texts: Texts<'_>) -> io::Result<()> {
+    check_reading(rt, tally, texts)?;
+    check_values(rt, tally, texts)?;
+    catalogues::check(rt, tally, texts)?;
+    desk::check(rt, tally, texts)
+}
+
+fn check_reading(rt: &HostRuntime, tally: &mut Tally, texts: Texts<'_>) -> io::Result<()> {
     decimals::check(rt, tally)?;
     refusals::check(rt, tally)?;
     items::check(rt, tally, texts)?;
     feeders::check(rt, tally, texts)?;
-    shapes::check(rt, tally, texts)?;
+    shapes::check(rt, tally, texts)
+}
+
+fn check_values(rt: &HostRuntime, tally: &mut Tally, texts: Texts<'_>) -> io::Result<()> {
     values::check(rt, tally, texts)?;
     sameness::check(rt, tally, texts)?;
     nodes::check(rt, tally, texts)?;
-    canonical::check(rt, tally, texts)?;
-    catalogues::check(rt, tally, texts)?;
-    desk::check(rt, tally, texts)
+    canonical::check(rt, tally, texts)
 }
 
 fn check_run(rt: &HostRuntime, tally: &mut Tally) -> io::Result<()> {

@@ -28,9 +28,17 @@ pub fn check(rt: &HostRuntime, tally: &mut Tally, texts: Texts<'_>) -> io::Resul
     tally.count(rt, "crs_value::read", is_read(rt.alloc()))?;
     tally.count(rt, "crs_value::value_of", has_value(rt.alloc(), texts))?;
     tally.count(rt, "crs_value::Kind", has_kinds(rt.alloc(), texts))?;
+    check_words(rt, tally)?;
+    check_texts(rt, tally, texts)
+}
+
+fn check_words(rt: &HostRuntime, tally: &mut Tally) -> io::Result<()> {
     tally.count(rt, "crs_value::Level", has_levels())?;
     tally.count(rt, "crs_value::SystemType", has_types())?;
-    tally.count(rt, "crs_value::Direction", has_directions())?;
+    tally.count(rt, "crs_value::Direction", has_directions())
+}
+
+fn check_texts(rt: &HostRuntime, tally: &mut Tally, texts: Texts<'_>) -> io::Result<()> {
     for name in TEXTS {
         let agrees = is_written(rt.alloc(), texts.named(name));
         tally.count(rt, name, agrees)?;
