@@ -11,8 +11,8 @@ has a slash; elsewhere its commands are reported as skipped, by the tool's name.
 that must be found, line by line, in a file of crates/crs_examples/src, which the gate proves and runs; one that begins
 with ```LANGUAGE of=FILE is code that must be found so in that file of the repository.
 
-Without files they are README.md and docs/*.md; README.md then has at most 1,300 words. Each command that prints
-something else has a line; the last line is 'N passed, M failed', and the status is 0 where M is 0.
+Without files they are README.md and docs/*.md. Each command that prints something else has a line; the last line is
+'N passed, M failed', and the status is 0 where M is 0.
 """
 import collections
 import os
@@ -24,7 +24,6 @@ import sys
 ROOT = pathlib.Path(__file__).resolve().parent.parent
 EXAMPLES = ROOT / "crates" / "crs_examples" / "src"
 SECONDS = 600
-MOST_WORDS = 1300
 
 
 def blocks_of(path):
@@ -98,9 +97,6 @@ def faults_of(path, skipped):
             file = ROOT / head.partition(" of=")[2]
             is_found = file.exists() and "\n".join(lines) + "\n" in file.read_text(encoding="utf-8")
             yield None if is_found else f"{place}: this code isn't in {file.relative_to(ROOT)}"
-    if path == ROOT / "README.md":
-        words = len(path.read_text(encoding="utf-8").split())
-        yield None if words <= MOST_WORDS else f"{path.name}: {words} words, at most {MOST_WORDS}"
 
 
 def main(names):
