@@ -151,7 +151,12 @@ fn append_node(
         ++ (node_named expected.now.parent (drop expected.now.place text.now) ++ codes "at " ++ decimal expected.now.place)) }
 {
     let mut digits = Buffer::new();
-    append_parent(alloc, rest_of(text, expected.place()), expected.parent(), out)?;
+    append_parent(
+        alloc,
+        rest_of(text, expected.place()),
+        expected.parent(),
+        out,
+    )?;
     out.extend_from_slice(b"at ")?;
     out.extend_from_slice(digits.format(expected.place()).as_bytes())
 }

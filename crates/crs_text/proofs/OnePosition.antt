@@ -71,9 +71,10 @@ split : (text before left right after : List ℕ) (place : ℕ) → text ≡ bef
     (take place text ≡ before ++ left) × (drop place text ≡ right ++ after)
 split text before left right after place parts is =
     let n : place ≡ length (before ++ left) = is ∙ sym (length-append before left) in
-    let t : text ≡ (before ++ left) ++ (right ++ after) = parts ∙ sym (append_assoc before left (right ++ after)) in
-    (ap (λ k. take k text) n ∙ ap (take (length (before ++ left))) t ∙ take-append_seam (before ++ left) (right ++ after),
-    ap (λ k. drop k text) n ∙ ap (drop (length (before ++ left))) t ∙ drop-append_seam (before ++ left) (right ++ after))
+    let t : text ≡ (before ++ left) ++ (right ++ after) = parts ∙ sym (append_assoc before left (right ++ after)) in (
+      ap (λ k. take k text) n ∙ ap (take (length (before ++ left))) t ∙ take-append_seam (before ++ left) (right ++ after),
+      ap (λ k. drop k text) n ∙ ap (drop (length (before ++ left))) t ∙ drop-append_seam (before ++ left) (right ++ after),
+    )
 
 same_fields : (l c b e m d f g : ℕ) → l ≡ m → c ≡ d → b ≡ f → e ≡ g →
     ◌≡◌ {A = Position} (record { line = l; column = c; begin = b; end = e }) (record { line = m; column = d; begin = f; end = g })
