@@ -1,6 +1,6 @@
 -- What the source of a run over lines has given, and what the two halves of the run say of the
 -- whole.
-use Rattle.std.proofs.Common.{◌≡◌, ◌+◌, ◌<◌, ◌≤◌, ◌*◌, ◌^◌, ◌++◌, [], ℕ, List, Option, Some, None, true, false, ap, subst, sym, refl, ◌∙◌, arith, Result, Ok, Err}
+use Rattle.std.proofs.Common.{◌≡◌, ◌+◌, ◌<◌, ◌≤◌, ◌*◌, ◌^◌, [], ℕ, List, Option, Some, None, true, false, ap, subst, sym, refl, arith, Result, Ok, Err}
 use Rattle.std.specs.Prelude.{IfErr, IfOk, IsErr}
 use Rattle.std.specs.Io.KnownBytes.{Consumes, ReadConsumes}
 use Rattle.crs_streams.specs.Given.{HasGiven}

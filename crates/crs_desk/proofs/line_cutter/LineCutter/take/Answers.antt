@@ -1,10 +1,23 @@
-use Rattle.std.proofs.Common.{◌≡◌, ◌++◌, ◌∷◌, ap, arith, false, length, length-append, rules, subst, sym}
+use Rattle.std.proofs.Common.{◌≡◌, ◌++◌, ◌∷◌, [], ap, append-nil, arith, false, length, length-append, refl, rules, subst, sym}
 use Rattle.std.specs.Prelude.{IfErr}
 use Rattle.std.proofs.lemmas.Result.{IfErr-weaker, IfOk-weaker}
 use Rattle.crs_streams.specs.Lines.{HasNoFeed}
-use Rattle.crs_desk.specs.LineCutting.{IsStopped}
+use Rattle.crs_desk.specs.LineCutting.{IsLinesCut, IsStopped}
 use Rattle.crs_desk.proofs.LineCutLemmas.{piece-end-stopped, piece-kept, piece-step, piece-stopped, split-small}
 use Rattle.crs_desk.proofs.line_cutter.LineCutter.take.Goals as goal
+
+pub loop-line-init : goal.loop-line-init
+loop-line-init g c = record {
+  done = (
+    [],
+    refl,
+    λ before bytes cut. subst
+        (λ b. IsLinesCut (g.C.LineCommand.Output c.args.command.now) before b c.args.self.now c.args.sink.now)
+        (sym (append-nil bytes)) cut,
+  );
+  lines = omega arith;
+  small = omega arith;
+}
 
 pub returns-in_err-end_line-clause-fault : goal.returns-in_err-end_line-clause-fault
 returns-in_err-end_line-clause-fault g c =
