@@ -36,11 +36,10 @@ front_of bytes middle front n m is begins = (
 )
 
 -- the place of the last byte but white space
-pub trimmed : (text trimmed : List ℕ) (place : ℕ) → (place == length text) ≡ true → IsTrimAsciiEnd text trimmed → length trimmed ≡ shown_place text place
-trimmed text trimmed place end is =
-    let m : ℕ = length text - suffix_len is_ascii_whitespace text in
-    let n : length trimmed ≡ length text - suffix_len is_ascii_whitespace text =
-    ap length (trim_ascii_end_is text trimmed is) ∙ length-take-le m text (omega arith) in
+pub trimmed : (text kept : List ℕ) (place : ℕ) → (place == length text) ≡ true → IsTrimAsciiEnd text kept → length kept ≡ shown_place text place
+trimmed text kept place end is =
+    let n : length kept ≡ length text - suffix_len is_ascii_whitespace text =
+        ap length (trim_ascii_end_is text kept is) ∙ length-take-le (length text - suffix_len is_ascii_whitespace text) text (omega arith) in
     rw end n
 
 -- the lines of an excerpt

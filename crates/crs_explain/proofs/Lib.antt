@@ -1,4 +1,5 @@
 pub mod ExcerptLemmas
+pub mod ExpectedLineLemmas
 pub mod LineLemmas
 pub mod ListedLemmas
 pub mod PartLemmas

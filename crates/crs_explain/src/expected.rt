@@ -192,5 +192,6 @@ fn append_found_there(
 {
     out.extend_from_slice(b": found ")?;
     append_found(alloc, rest_of(text, place), out)?;
-    out.extend_from_slice(b", expected ")
+    out.extend_from_slice(b", expected ")?;
+    Ok(())
 }
