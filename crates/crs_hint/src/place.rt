@@ -108,18 +108,24 @@ fn ends_with_thousands(before: &[u8]) -> bool {
 }
 
 fn are_thousands(number: &[u8]) -> bool {
-    let mut behind = number;
-    let mut is_first = true;
-    while let [digit, ..] = behind {
-        let digits = digit_count(behind);
-        let is_group = digits == 3 || is_first && (1..=3).contains(&digits) && *digit != b'0';
-        if !is_group || is_first && *digit == b'0' || rest(behind, digits).first() != Some(&b',') {
+    let mut digits: usize = 0;
+    let mut groups: usize = 0;
+    for byte in number {
+        if *byte != b',' {
+            digits = digits.saturating_add(1);
+        } else if is_group(groups, digits) {
+            groups = groups.saturating_add(1);
+            digits = 0;
+        } else {
             return false;
         }
-        behind = rest(behind, digits.saturating_add(1));
-        is_first = false;
     }
-    !is_first
+    groups > 0 && digits == 0 && !number.starts_with(b"0")
+}
+
+// Whether so many digits are a group after so many others: three, and one to three in the first.
+fn is_group(groups: usize, digits: usize) -> bool {
+    digits == 3 || groups == 0 && digits > 0 && digits < 3
 }
 
 fn begins_number(there: &[u8]) -> bool {
