@@ -1,5 +1,6 @@
 -- The piece of a line at a place, put together.
 use Rattle.std.proofs.Common.{◌≡◌, ◌≤◌, ℕ, ◌+◌, ◌-◌, ◌==◌, true, cond, List, [], ◌∷◌, ◌++◌, codes, length, take, drop, refl, sym, ap, ◌∙◌, append_assoc, arith}
+use Rattle.std.proofs.lemmas.Bool.{eq-eqb}
 use Rattle.std.proofs.lemmas.List.Sums.{sum_by-append}
 use Rattle.std.proofs.lemmas.List.{length-append, length-take-le, take-append-drop}
 use Rattle.std.proofs.lemmas.Str.Ascii.{trim_ascii_end_is}
@@ -36,8 +37,9 @@ front_of bytes middle front n m is begins = (
 )
 
 -- the place of the last byte but white space
-pub trimmed : (text kept : List ℕ) (place : ℕ) → (place == length text) ≡ true → IsTrimAsciiEnd text kept → length kept ≡ shown_place text place
-trimmed text kept place end is =
+pub trimmed : (text kept : List ℕ) (place : ℕ) → place ≡ length text → IsTrimAsciiEnd text kept → length kept ≡ shown_place text place
+trimmed text kept place at is =
+    let end : (place == length text) ≡ true = eq-eqb place (length text) at in
     let n : length kept ≡ length text - suffix_len is_ascii_whitespace text =
         ap length (trim_ascii_end_is text kept is) ∙ length-take-le (length text - suffix_len is_ascii_whitespace text) text (omega arith) in
     rw end n
