@@ -41,7 +41,7 @@ pub trimmed : (text kept : List ℕ) (place : ℕ) → place ≡ length text →
 trimmed text kept place at is =
     let end : (place == length text) ≡ true = eq-eqb place (length text) at in
     let n : length kept ≡ length text - suffix_len is_ascii_whitespace text =
-        ap length (trim_ascii_end_is text kept is) ∙ length-take-le (length text - suffix_len is_ascii_whitespace text) text (omega arith) in
+    ap length (trim_ascii_end_is text kept is) ∙ length-take-le (length text - suffix_len is_ascii_whitespace text) text (omega arith) in
     rw end n
 
 -- the lines of an excerpt

@@ -13,7 +13,7 @@ pub line_of_parts : (node at place found_is found expected_is names end start fi
 line_of_parts node at place found_is found expected_is names end start first second third line s e f g h =
     let one : first ≡ node ++ at ++ place = e ∙ ap (λ z. z ++ (node ++ at ++ place)) s in
     let two : second ≡ node ++ at ++ place ++ found_is ++ found ++ expected_is =
-        f ∙ ap (λ z. z ++ (found_is ++ found ++ expected_is)) one
-        ∙ sym (append_assoc (node ++ at ++ place) (found_is ++ found) expected_is)
-        ∙ ap (λ z. z ++ expected_is) (sym (append_assoc (node ++ at ++ place) found_is found)) in
+    f ∙ ap (λ z. z ++ (found_is ++ found ++ expected_is)) one
+    ∙ sym (append_assoc (node ++ at ++ place) (found_is ++ found) expected_is)
+    ∙ ap (λ z. z ++ expected_is) (sym (append_assoc (node ++ at ++ place) found_is found)) in
     h ∙ ap (λ z. z ++ end) g ∙ ap (λ z. (z ++ names) ++ end) two
