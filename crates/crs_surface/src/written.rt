@@ -31,6 +31,11 @@ fn put_optional<T: Written>(out: &mut Vec<u8>, part: &Option<T>) -> Result<(), A
     }
 }
 
+// A part that is of its own type, and in no box.
+fn put_part<T: Written>(out: &mut Vec<u8>, part: &T) -> Result<(), AllocError> {
+    part.put(out)
+}
+
 // A comma, a keyword, its bracket and a quoted text.
 fn put_named(out: &mut Vec<u8>, keyword: &str, name: &[u8]) -> Result<(), AllocError> {
     put_keyword(out, keyword)?;

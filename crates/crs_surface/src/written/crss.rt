@@ -1,5 +1,5 @@
 //! CRSs.
-use super::{Written, put_each, put_end, put_named, put_optional};
+use super::{Written, put_each, put_end, put_named, put_optional, put_part};
 use crs_value::{Base, Compound, Crs, Geodetic, Horizontal, Projected, SystemType, Vertical};
 use std::alloc::AllocError;
 
@@ -108,7 +108,7 @@ impl Written for Compound<'_> {
             tail,
         } = self;
         put_named(out, "COMPOUNDCRS", name)?;
-        horizontal.put(out)?;
+        put_part(out, horizontal)?;
         vertical.put(out)?;
         tail.put(out)?;
         put_end(out)
