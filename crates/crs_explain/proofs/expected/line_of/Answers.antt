@@ -16,6 +16,6 @@ returns c =
     (listed (names_of classes e.may_end)) (10 ∷ []) c.new-line.result.items _ second _ _
     c.new-line.ensures.items c.in_ok-append_node.ensures c.in_ok-append_found_there.ensures
     (c.in_ok-append_listed.ensures
-    ∙ ap (λ z. second ++ listed (names_of z c.may_end.result)) c.in_ok-may_come.ensures
+    ∙ ap (λ z. second ++ listed (names_of z c.may_end.result)) (c.deref.ensures.value ∙ c.in_ok-may_come.ensures)
     ∙ ap (λ b. second ++ listed (names_of classes b)) c.may_end.ensures)
     c.in_ok-extend_from_slice.ensures.items
