@@ -17,8 +17,8 @@
    A text is a TEXT or a BLOB of bytes; another value is its TEXT. One that is longer than the connection's limit is an
    error of SQL, since reading takes many times its memory. A level is full, the usual one, or definition; another is an
    error. NULL for any argument gives NULL. All functions but the last are deterministic, so they may be used in indexes,
-   generated columns and checks; the last may not stand in a schema. What the functions answer is crsdesk's; this file is
-   tested and not proved. */
+   generated columns and checks; views and triggers can't call the last. What the functions answer is crsdesk's; this
+   file is tested and not proved. */
 #include <stddef.h>
 #include <stdint.h>
 #include <string.h>
