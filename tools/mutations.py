@@ -36,7 +36,7 @@ TOKENS += (
 # What may be repeated; what may be in any order in any node, and in a CRS.
 SETS = b"ID", b"USAGE", b"MEMBER", b"PARAMETER", b"GEOIDMODEL"
 LOOSE: List[Tuple[bytes, ...]] = [*((it,) for it in SETS), (b"ANCHOR", b"ANCHOREPOCH")]
-TAIL = b"ID", b"USAGE", b"SCOPE", b"AREA", b"BBOX", b"VERTICALEXTENT", b"GEOIDMODEL", b"REMARK"
+TAIL: Tuple[bytes, ...] = b"ID", b"USAGE", b"SCOPE", b"AREA", b"BBOX", b"VERTICALEXTENT", b"GEOIDMODEL", b"REMARK"
 
 
 def keyword_classes() -> List[List[bytes]]:
@@ -197,7 +197,8 @@ class Mutator:
     def arranged(self, keyword: bytes, parts: List[Item]) -> List[Item]:
         """The arguments of a node with its sets in another order and with repeats, and its axes as they may stand."""
         parts = parts[:]
-        loose: List[Tuple[bytes, ...]] = [TAIL] if keyword.endswith(b"CRS") and not keyword.startswith(b"BASE") else LOOSE
+        is_crs = keyword.endswith(b"CRS") and not keyword.startswith(b"BASE")
+        loose = [TAIL] if is_crs else LOOSE
         axes = [part for part in parts if part.keyword == b"AXIS"]
         if all(any(it.keyword == b"ORDER" for it in axis.parts) for axis in axes):
             loose = [*loose, (b"AXIS",)]
