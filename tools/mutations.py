@@ -128,7 +128,8 @@ class Mutator:
         front, first, back = text[: one.start], text[one.start : one.end], text[one.end :]
         if one is not other:
             return front + text[other.start : other.end] + text[one.end : other.start] + first + text[other.end :]
-        return front + self.chance.choice([first + b"," + first + back, back.lstrip(b", ")])
+        dropped = front + back[1:] if back.startswith(b",") else front.rstrip(b", ") + back
+        return self.chance.choice([front + first + b"," + first + back, dropped])
 
     def part_replaced(self, text: bytes) -> bytes:
         part = self.part(text)
