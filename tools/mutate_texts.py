@@ -18,8 +18,9 @@ Of two texts: same is symmetric and is the equality of canonical texts, at defin
 none exactly then, begin with first_part, exchange their values with the texts, and at definition are in no id, usage or
 remark; a refusal is that of the first text, else of the second. A catalogue has the groups that canonical texts have.
 
-The seed is printed first; the texts of a job depend on it and on the job's number alone. What doesn't hold, crashes or
-doesn't end is printed with the seed and the texts, as Python writes bytes, and the status is 1. The last line counts.
+The seed is printed first; what a job makes depends on it, on the job's number and on the real texts alone. What doesn't
+hold, crashes or doesn't end is printed with the seed and the texts, as Python writes bytes, and the status is 1. The last
+line counts.
 """
 from __future__ import annotations
 
@@ -277,7 +278,11 @@ def main() -> int:
     parser.add_argument("--seed", type=int, default=random.SystemRandom().randrange(1 << 32))
     given = parser.parse_args()
     print(f"seed {given.seed}", flush=True)
-    asker, texts = Asker(given.prefix), real_texts()
+    try:
+        asker = Asker(given.prefix)
+    except ImportError as error:
+        parser.error(str(error))
+    texts = real_texts()
     # Those that spell a CRS are altered four times as often.
     texts += [it for it in texts if not asker.answer(asker.calls.check, it)[1]] * 3
     jobs = [Job(f"{given.seed} {number}", asker, texts, given.seconds) for number in range(given.jobs)]
