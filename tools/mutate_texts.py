@@ -7,10 +7,10 @@ PREFIX has the shared object in lib/, as build_library.py makes it (out/prefix w
 texts of examples/ and of tests/*.rows for N seconds (60): bytes, tokens, arguments, nodes, keywords and depth
 (mutations.py). Of each text it asks:
 
-- check answers a kind, or a refusal with one of its numbers at a place within the text; canon at both levels answers the
-  same; explain begins with this number, its name, the place and its line, and says nothing of an accepted text;
-- a canonical text is its own canonical text, and spells a CRS of the same kind that is the same as its source's; that at
-  full has the source's canonical text at definition, and that at definition is its own at both levels;
+- check answers a kind, or a refusal with one of its numbers at a place within the text; canon at both levels answers
+  the same; explain begins with this number, its name, the place and its line, and says nothing of an accepted text;
+- a canonical text is its own canonical text, and spells a CRS of the same kind that is the same as its source's; that
+  at full has the source's canonical text at definition, and that at definition is its own at both levels;
 - another spelling of an accepted text has the same canonical texts: white space, delimiters, case, synonyms, numbers,
   quotes of codes, order and repeats of sets, order of axes that have their ORDER.
 
@@ -18,9 +18,9 @@ Of two texts: same is symmetric and is the equality of canonical texts, at defin
 none exactly then, begin with first_part, exchange their values with the texts, and at definition are in no id, usage or
 remark; a refusal is that of the first text, else of the second. A catalogue has the groups that canonical texts have.
 
-The seed is printed first; what a job makes depends on it, on the job's number and on the real texts alone. What doesn't
-hold, crashes or doesn't end is printed with the seed and the texts, as Python writes bytes, and the status is 1. The last
-line counts.
+The seed is printed first; what a job makes depends on it, on the job's number and on the real texts alone. What
+doesn't hold, crashes or doesn't end is printed with the seed and the texts, as Python writes bytes, and the status is
+1. The last line counts.
 """
 from __future__ import annotations
 

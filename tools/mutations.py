@@ -47,7 +47,7 @@ def keyword_classes() -> List[List[bytes]]:
 
 
 class Item:
-    """A number, a quoted text or a word, from a place of a text to another; or a node, whose parts are its arguments."""
+    """A number, a quoted text or a word, from one place of a text to another; or a node, with its arguments."""
 
     def __init__(self, start: int, end: int, token: bytes, is_node: bool = False) -> None:
         self.start, self.end, self.token, self.is_node = start, end, token, is_node
