@@ -536,9 +536,9 @@ static void answer_values(const struct row *row, struct answer *answer)
         appendf(answer, " | ");
         append_value(&other, answer);
     }
-    free(lines.at);
-    free((char *)asked.first);
-    free((char *)asked.second);
+    give_back(lines.at, lines.length);
+    give_back(asked.first, asked.first_length);
+    give_back(asked.second, asked.second_length);
 }
 
 static void answer_canons(const struct row *row, struct answer *answer)
