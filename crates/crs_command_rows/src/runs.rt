@@ -78,18 +78,13 @@ fn put_ended(
     reader: Pieces<'_>,
     page: &mut Page,
 ) -> Result<(), AllocError> {
-    let mut sink = Sink::new(page);
     match command {
-        Command::Canon => put_canon_run(out, alloc, level, reader, &mut sink)?,
-        Command::CanonLines => put_canon_lines_run(out, alloc, level, reader, &mut sink)?,
-        Command::Check => put_check_run(out, alloc, reader, &mut sink)?,
-        Command::CheckLines => put_check_lines_run(out, alloc, reader, &mut sink)?,
-        Command::Group => put_group_run(out, alloc, level, reader, &mut sink)?,
+        Command::Canon => put_canon_run(out, alloc, level, reader, page),
+        Command::CanonLines => put_canon_lines_run(out, alloc, level, reader, page),
+        Command::Check => put_check_run(out, alloc, reader, page),
+        Command::CheckLines => put_check_lines_run(out, alloc, reader, page),
+        Command::Group => put_group_run(out, alloc, level, reader, page),
     }
-    if sink.failed() {
-        out.push_str(", sink failed")?;
-    }
-    Ok(())
 }
 
 fn put_canon_run(
@@ -97,11 +92,13 @@ fn put_canon_run(
     alloc: Global,
     level: Level,
     reader: Pieces<'_>,
-    sink: &mut Sink<&mut Page>,
+    page: &mut Page,
 ) -> Result<(), AllocError> {
     let mut source = Source::new(reader);
-    put_outcome(out, &run_canon(alloc, level, &mut source, sink))?;
-    put_reads(out, u64::from(source.reads()), source.failed())
+    let mut sink = Sink::new(page);
+    put_outcome(out, &run_canon(alloc, level, &mut source, &mut sink))?;
+    put_reads(out, u64::from(source.reads()), source.failed())?;
+    put_sink(out, sink.failed())
 }
 
 fn put_canon_lines_run(
@@ -109,33 +106,39 @@ fn put_canon_lines_run(
     alloc: Global,
     level: Level,
     reader: Pieces<'_>,
-    sink: &mut Sink<&mut Page>,
+    page: &mut Page,
 ) -> Result<(), AllocError> {
     let mut stream = Stream::new(reader);
-    put_outcome(out, &run_canon_lines(alloc, level, &mut stream, sink))?;
-    put_reads(out, stream.reads(), stream.failed())
+    let mut sink = Sink::new(page);
+    put_outcome(out, &run_canon_lines(alloc, level, &mut stream, &mut sink))?;
+    put_reads(out, stream.reads(), stream.failed())?;
+    put_sink(out, sink.failed())
 }
 
 fn put_check_run(
     out: &mut String,
     alloc: Global,
     reader: Pieces<'_>,
-    sink: &mut Sink<&mut Page>,
+    page: &mut Page,
 ) -> Result<(), AllocError> {
     let mut source = Source::new(reader);
-    put_outcome(out, &run_check(alloc, &mut source, sink))?;
-    put_reads(out, u64::from(source.reads()), source.failed())
+    let mut sink = Sink::new(page);
+    put_outcome(out, &run_check(alloc, &mut source, &mut sink))?;
+    put_reads(out, u64::from(source.reads()), source.failed())?;
+    put_sink(out, sink.failed())
 }
 
 fn put_check_lines_run(
     out: &mut String,
     alloc: Global,
     reader: Pieces<'_>,
-    sink: &mut Sink<&mut Page>,
+    page: &mut Page,
 ) -> Result<(), AllocError> {
     let mut stream = Stream::new(reader);
-    put_outcome(out, &run_check_lines(alloc, &mut stream, sink))?;
-    put_reads(out, stream.reads(), stream.failed())
+    let mut sink = Sink::new(page);
+    put_outcome(out, &run_check_lines(alloc, &mut stream, &mut sink))?;
+    put_reads(out, stream.reads(), stream.failed())?;
+    put_sink(out, sink.failed())
 }
 
 fn put_group_run(
@@ -143,11 +146,13 @@ fn put_group_run(
     alloc: Global,
     level: Level,
     reader: Pieces<'_>,
-    sink: &mut Sink<&mut Page>,
+    page: &mut Page,
 ) -> Result<(), AllocError> {
     let mut source = Source::new(reader);
-    put_grouped(out, &run_group(alloc, level, &mut source, sink))?;
-    put_reads(out, u64::from(source.reads()), source.failed())
+    let mut sink = Sink::new(page);
+    put_grouped(out, &run_group(alloc, level, &mut source, &mut sink))?;
+    put_reads(out, u64::from(source.reads()), source.failed())?;
+    put_sink(out, sink.failed())
 }
 
 // The count of reads, and whether one failed.
@@ -155,6 +160,14 @@ fn put_reads(out: &mut String, reads: u64, failed: bool) -> Result<(), AllocErro
     write!(out, ", reads {reads}")?;
     if failed {
         out.push_str(", source failed")?;
+    }
+    Ok(())
+}
+
+// Whether a write failed.
+fn put_sink(out: &mut String, failed: bool) -> Result<(), AllocError> {
+    if failed {
+        out.push_str(", sink failed")?;
     }
     Ok(())
 }
