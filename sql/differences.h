@@ -32,7 +32,36 @@ static void put_word(struct json *json, const char *word)
     put(json, word, strlen(word));
 }
 
-/* A value, as the line has it. Of its escapes JSON has all but \0 and \xHH; its quotes are escaped here. */
+/* The number that four hexadecimal digits in capitals say. */
+static unsigned number_of(const char *digits)
+{
+    unsigned number = 0;
+    int i;
+
+    for (i = 0; i < 4; i++)
+        number = 16 * number + (unsigned)(digits[i] <= '9' ? digits[i] - '0' : digits[i] - 'A' + 10);
+    return number;
+}
+
+/* A character from U+0080 to U+FFFF, in UTF-8: a server's encoding may have no escapes in JSON. */
+static void put_character(struct json *json, unsigned number)
+{
+    char bytes[3];
+
+    if (number < 0x800) {
+        bytes[0] = (char)(0xC0 | number >> 6);
+        bytes[1] = (char)(0x80 | (number & 0x3F));
+        put(json, bytes, 2);
+    } else {
+        bytes[0] = (char)(0xE0 | number >> 12);
+        bytes[1] = (char)(0x80 | (number >> 6 & 0x3F));
+        bytes[2] = (char)(0x80 | (number & 0x3F));
+        put(json, bytes, 3);
+    }
+}
+
+/* A value, as the line has it. Of its escapes JSON has all but \0 and \xHH, and \uHHHH is the character itself; its
+   quotes are escaped here. */
 static void put_value(struct json *json, const char *value, size_t length)
 {
     size_t from = 0, i;
@@ -54,6 +83,9 @@ static void put_value(struct json *json, const char *value, size_t length)
             if (i < length && (value[i] == '0' || value[i] == 'x')) {
                 put_word(json, value[i] == '0' ? "\\u0000" : "\\u00");
                 from = i + 1;
+            } else if (i + 4 < length && value[i] == 'u') {
+                put_character(json, number_of(value + i + 1));
+                from = i + 5;
             }
         }
     }

@@ -109,8 +109,13 @@ def of_case(case: run_cases.Case, is_blob: bool, dialect: Dialect) -> Iterator[S
         if refusal:
             which, _, rest = refusal.partition(" ")
             yield case.place, f"SELECT crs_refusal({texts[which == 'second']});", rest
-    elif len(words) == 3 and words[0] == b"explain" and not refusal:
+    elif len(words) == 3 and words[0] == b"explain" and not refusal and are_said(words[1:], dialect):
         yield from of_parts(case, f"crs_differences({', '.join([*texts, *level])})", dialect)
+
+
+def are_said(texts: List[bytes], dialect: Dialect) -> bool:
+    """Whether the database has the characters of these texts, so that it can say where they differ."""
+    return all(dialect.literal(it, False) is not None for it in texts)
 
 
 def of_parts(case: run_cases.Case, parts: str, dialect: Dialect) -> Iterator[Statement]:
