@@ -17,8 +17,9 @@ use std::io::{Read, Write};
 /// the sink in blocks of at least 65,536 bytes, but for the last, so that memory is bounded by the longest line.
 /// `ReadFailed` and `WriteFailed` where the stream or the sink has failed, `TooLong(n)` where line `n` has more than
 /// 1,048,576 bytes before its line feed, `TooManyReads` where 2^47 reads have not shown the end, `Memory` where
-/// memory ran out. At a fault whole lines were written, the first of all; at `WriteFailed` the sink got a front of
-/// such lines. Profile.
+/// memory ran out. At a fault whole lines were written, the first of all: of those that were read, all but the last with
+/// fewer than 65,536 bytes of output, out of memory any number; at `WriteFailed` the sink got a front of such lines.
+/// Profile.
 pub fn run_canon_lines<R: Read, W: Write>(
     alloc: Global,
     level: Level,
