@@ -11,6 +11,7 @@ pub mod CompoundValues
 pub mod ConversionValues
 pub mod CrsValues
 pub mod DynamicValues
+pub mod EnsembleFrames
 pub mod Filling
 pub mod FirstArguments
 pub mod FirstByte

@@ -20,7 +20,7 @@ pub use values::frame::{Datum, Ensemble, Frame, Member};
 pub use values::geodetic::Geodetic;
 pub use values::ident::Ident;
 pub use values::level::Level;
-pub use values::list::List;
+pub use values::list::{Change, List};
 pub use values::meridian::Meridian;
 pub use values::projected::{Base, Projected};
 pub use values::system::System;

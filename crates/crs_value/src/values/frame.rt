@@ -1,4 +1,6 @@
 //! Reference frames and datum ensembles.
+ghost use Rattle.std.specs.Prelude.{◌≡◌};
+ghost use Rattle.crs_value.specs.EnsembleFrames.{datum_of, frame_of};
 
 use crate::reading::node::{
     Node, many, one_number, optional, optional_number, optional_text, text,
@@ -11,6 +13,7 @@ use crs_shape::{Class, laws};
 use crs_text::{ItemId, Items};
 use std::alloc::{AllocError, Global};
 use std::marker::Model;
+use std::mem;
 
 /// What a CRS's coordinates refer to. ISO 19162:2019, "Datum".
 pub enum Frame<'a> {
@@ -27,6 +30,27 @@ impl Drop for Frame<'_> {
             Frame::Datum(_) => {}
             Frame::Ensemble(_) => {}
         }
+    }
+}
+
+impl<'a> Frame<'a> {
+    // The reference frame, or that of the ensemble.
+    fn into_datum(self) -> Datum<'a>
+        ensures { result ≡ datum_of self.entry }
+    {
+        match self {
+            Frame::Datum(datum) => datum,
+            Frame::Ensemble(ensemble) => ensemble.into_frame(),
+        }
+    }
+
+    /// Turns an ensemble into the reference frame of its name, its ellipsoid and its identifiers. A reference frame
+    /// stays as it is. Profile.
+    pub fn make_datum(&mut self, alloc: Global)
+        ensures { self.new ≡ Frame.Datum (datum_of self.old) }
+    {
+        let frame = mem::replace(self, Frame::Datum(Datum::nameless(alloc)));
+        *self = Frame::Datum(frame.into_datum());
     }
 }
 
@@ -76,6 +100,19 @@ impl Drop for Datum<'_> {
     }
 }
 
+impl Datum<'_> {
+    // A reference frame that says nothing. It takes no memory.
+    fn nameless(alloc: Global) -> Datum<'static> {
+        Datum {
+            name: b"",
+            ellipsoid: None,
+            anchor: None,
+            anchor_epoch: None,
+            identifiers: List::new(alloc),
+        }
+    }
+}
+
 /// A datum ensemble, `ENSEMBLE[name, member.., ellipsoid, accuracy, id..]`; one of vertical frames has
 /// no ellipsoid. ISO 19162:2019, "Datum ensemble".
 pub struct Ensemble<'a> {
@@ -118,6 +155,28 @@ impl Drop for Ensemble<'_> {
             accuracy: _,
             identifiers: _,
         } = self;
+    }
+}
+
+impl<'a> Ensemble<'a> {
+    /// The reference frame of the ensemble's name, its ellipsoid and its identifiers. Profile.
+    pub fn into_frame(self) -> Datum<'a>
+        ensures { result ≡ frame_of self.entry }
+    {
+        let Ensemble {
+            name,
+            members: _,
+            ellipsoid,
+            accuracy: _,
+            identifiers,
+        } = self;
+        Datum {
+            name,
+            ellipsoid,
+            anchor: None,
+            anchor_epoch: None,
+            identifiers,
+        }
     }
 }
 

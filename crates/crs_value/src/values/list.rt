@@ -1,5 +1,6 @@
 //! Lists.
-ghost use Rattle.std.specs.Prelude.{◌≡◌, [], ◌∷◌, ◌++◌, IfOk};
+ghost use Rattle.std.specs.Prelude.{◌≡◌, ◌<◌, [], ◌∷◌, ◌++◌, IfOk, length, map};
+ghost use Rattle.std.specs.List.{swap};
 
 use std::alloc::{AllocError, Global};
 use std::marker::Model;
@@ -24,12 +25,49 @@ impl<T: Drop> Drop for List<T> {
     }
 }
 
+/// A change of values in place, the same for each. Profile.
+pub trait Change<T> {
+    /// What a value becomes.
+    ghost changed: { Self → T → T };
+
+    /// Changes the value.
+    fn change(&self, value: &mut T)
+        ensures { value.new ≡ changed self.now value.old };
+}
+
 impl<T> List<T> {
     /// The members, in order.
     pub fn as_slice(&self) -> &[T]
         ensures { result.now ≡ self.now }
     {
         &self.members
+    }
+
+    /// Changes each member. Profile.
+    pub fn change_each<C: Change<T>>(&mut self, change: &C)
+        ensures { self.new ≡ map (C.changed change.now) self.old }
+    {
+        for member in self.members.iter_mut() {
+            change.change(member);
+        }
+    }
+
+    /// Puts two members in each other's place. Profile.
+    pub fn swap(&mut self, first: usize, second: usize)
+        requires first { first < length self.old }
+        requires second { second < length self.old }
+        ensures { self.new ≡ swap self.old first second }
+    {
+        self.members.swap(first, second);
+    }
+
+    /// Takes all members out. Profile.
+    pub fn clear(&mut self)
+    where
+        T: Drop,
+        ensures { self.new ≡ [] }
+    {
+        self.members.clear();
     }
 
     pub(crate) fn new(alloc: Global) -> List<T>
