@@ -21,7 +21,7 @@ ghost use Rattle.crs_same.specs.SameIdents.{SameIdents};
 ghost use Rattle.crs_same.specs.SameUsages.{SameUsage};
 ghost use Rattle.crs_same.specs.Sets.{SameSet};
 ghost use Rattle.crs_normal.specs.Ascending.{Ascends, IsIn};
-ghost use Rattle.crs_normal.specs.Ordered.{in_order};
+ghost use Rattle.crs_normal.specs.Ordered.{StaysInOrder, in_order};
 ghost use Rattle.crs_normal.specs.SpelledConversions.{item_geoid_model, item_parameter, norm_geoid_model};
 ghost use Rattle.crs_normal.specs.SpelledConversions.{norm_parameter, set_geoid_models, set_parameters};
 ghost use Rattle.crs_normal.specs.SpelledFrames.{item_member, norm_member, set_members};
@@ -150,4 +150,14 @@ pub fn texts_are_in_order()
         IsIn text (in_order (λ text. text) texts) ↔ IsIn text texts }
     ensures one { (xs ys : List (List ℕ)) → Ascends (λ text. text) xs → Ascends (λ text. text) ys →
         ((text : List ℕ) → IsIn text xs ↔ IsIn text ys) → xs ≡ ys }
+{}
+
+/// Identifiers, members of ensembles, parameters, geoid models and usages that are put in order stay so when that is
+/// done again, and a function that leaves each of a list as it is leaves those of the list in order. Profile.
+pub fn ordered_lists_stay()
+    ensures identifiers { StaysInOrder (λ (ident : IdentParts). item_text (item_ident ident)) }
+    ensures members { StaysInOrder (λ (member : MemberParts). item_text (item_member member)) }
+    ensures parameters { StaysInOrder (λ (parameter : ParameterParts). item_text (item_parameter parameter)) }
+    ensures geoid_models { StaysInOrder (λ (model : GeoidModelParts). item_text (item_geoid_model model)) }
+    ensures usages { StaysInOrder (λ (usage : UsageParts). item_text (item_usage usage)) }
 {}
