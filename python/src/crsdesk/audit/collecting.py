@@ -14,6 +14,7 @@ from collections import deque
 from dataclasses import dataclass, field
 from typing import Any, Callable, Deque, Dict, Iterator, List, NamedTuple, Optional, Sequence, Set, Tuple, TypeVar
 
+from .offline import leave_network
 from .reading import FOLDERS, File, Way, suffix_of, way_of
 
 Item = TypeVar("Item")
@@ -94,8 +95,9 @@ def list_folder(top: str, seen: Set[Tuple[int, int]], listing: Listing, by_line:
 
 
 def work(connection: Any) -> None:
-    """What a process does: it answers each item of each batch, until there are no more."""
+    """What a process does: without a network it answers each item of each batch, until there are no more."""
     signal.signal(signal.SIGINT, signal.SIG_IGN)
+    leave_network()
     try:
         while True:
             function, batch = connection.recv()

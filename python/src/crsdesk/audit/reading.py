@@ -9,7 +9,6 @@ from __future__ import annotations
 import contextlib
 import enum
 import errno
-import functools
 import os
 import shutil
 import sqlite3
@@ -21,6 +20,8 @@ import zlib
 from typing import Any, BinaryIO, Dict, Iterator, List, NamedTuple, Optional, Tuple, Union
 
 from .._crs import is_blank
+from .drivers import DRIVERS, DRIVERS_OF_MEMBERS
+from .offline import gdal_of
 
 # The bound of the program `crsdesk` too.
 MOST_BYTES = 1_048_576
@@ -86,36 +87,6 @@ TEXTS = frozenset((".wkt", ".wkt2", ".prj", ".qpj"))
 CATALOGUES = frozenset((".txt",))
 DATABASES = frozenset((".gpkg", ".sqlite", ".sqlite3", ".db"))
 ARCHIVES = frozenset((".zip",))
-# What GDAL reads, by its drivers' names. Files that name others to be read, or to be fetched, aren't among them.
-DRIVERS: Dict[str, Tuple[str, ...]] = {
-    ".tif": ("GTiff",),
-    ".tiff": ("GTiff",),
-    ".shp": ("ESRI Shapefile",),
-    ".nc": ("netCDF", "HDF5"),
-    ".nc4": ("netCDF", "HDF5"),
-    ".fgb": ("FlatGeobuf",),
-    ".gml": ("GML",),
-    ".geojson": ("GeoJSON",),
-    ".kml": ("LIBKML", "KML"),
-    ".jp2": ("JP2OpenJPEG", "JP2KAK", "JP2ECW", "JP2MrSID"),
-    ".img": ("HFA",),
-    ".asc": ("AAIGrid",),
-    ".grb": ("GRIB",),
-    ".grb2": ("GRIB",),
-    ".grib": ("GRIB",),
-    ".h5": ("HDF5", "BAG"),
-    ".hdf5": ("HDF5",),
-    ".bag": ("BAG",),
-    ".hdf": ("HDF4",),
-    ".tab": ("MapInfo File",),
-    ".mif": ("MapInfo File",),
-    ".dgn": ("DGN",),
-    ".dxf": ("DXF",),
-    ".parquet": ("Parquet",),
-    ".gdb": ("OpenFileGDB",),
-}
-# In an archive a database is read by GDAL.
-DRIVERS_OF_MEMBERS: Dict[str, Tuple[str, ...]] = {**DRIVERS, ".gpkg": ("GPKG",)}
 # A folder that is one data set.
 FOLDERS = frozenset((".gdb",))
 OPEN_OPTIONS = {".gml": ["WRITE_GFS=NO", "DOWNLOAD_SCHEMA=NO"]}
@@ -291,20 +262,6 @@ def layer_found(layer: str, number: Any, entry: Any, values: List[Any]) -> Found
 
 
 # What GDAL reads.
-
-
-@functools.lru_cache(maxsize=None)
-def gdal_of() -> Any:
-    """The module osgeo.gdal, quiet and without a network; None where it isn't installed."""
-    os.environ["PROJ_NETWORK"] = "OFF"
-    try:
-        from osgeo import gdal
-    except ImportError:
-        return None
-    gdal.UseExceptions()
-    gdal.PushErrorHandler("CPLQuietErrorHandler")
-    gdal.SetConfigOption("CPL_VSIL_CURL_ALLOWED_EXTENSIONS", ".none")
-    return gdal
 
 
 def read_by_gdal(path: str) -> Iterator[Found]:

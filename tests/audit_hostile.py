@@ -1,0 +1,232 @@
+#!/usr/bin/env python3
+"""Tries `python -m crsdesk audit` on data sets that mean ill: what they name isn't fetched, and what they swell to
+isn't written.
+
+    audit_hostile.py
+
+run_audit.py runs it with a Python that has what the command needs. What isn't there is named as skipped. Each case that
+fails has a line; the last line is 'N passed, M failed', and the status is 0 where M is 0.
+"""
+from __future__ import annotations
+
+import contextlib
+import http.server
+import importlib.util
+import json
+import os
+import pathlib
+import sqlite3
+import subprocess
+import sys
+import threading
+import traceback
+import urllib.request
+import zipfile
+from typing import Any, Callable, Dict, Iterator, List, Tuple
+
+sys.dont_write_bytecode = True
+from audit_cases import HEIGHT, audit, folder
+
+HAS_GDAL = importlib.util.find_spec("osgeo") is not None
+POINT = {"type": "Feature", "properties": {}, "geometry": {"type": "Point", "coordinates": [1, 2]}}
+
+
+# Nothing is fetched.
+
+
+@contextlib.contextmanager
+def server() -> Iterator[Tuple[str, List[str]]]:
+    """The address of a server on this machine, and what it has been asked for."""
+    asked: List[str] = []
+
+    class Handler(http.server.BaseHTTPRequestHandler):
+        def do_GET(self) -> None:
+            asked.append(self.path)
+            self.send_error(404)
+
+        do_HEAD = do_GET
+
+        def log_message(self, *_: object) -> None:
+            pass
+
+    with http.server.ThreadingHTTPServer(("127.0.0.1", 0), Handler) as it:
+        threading.Thread(target=it.serve_forever, daemon=True).start()
+        yield f"http://127.0.0.1:{it.server_port}", asked
+        it.shutdown()
+
+
+def make_geojson(path: pathlib.Path, crs: Dict[str, Any]) -> None:
+    path.write_text(json.dumps({"type": "FeatureCollection", "crs": crs, "features": [POINT]}))
+
+
+def make_linked_texts(place: pathlib.Path, address: str) -> None:
+    """GeoJSON, GML and KML, with each kind of link that they have, and with each kind of address."""
+    links = {
+        "link": ("link", {"href": f"{address}/link"}),
+        "of ogc": ("link", {"href": f"{address}/?http://opengis.net/def/crs/EPSG/0/4326"}),
+        "url": ("url", {"url": f"{address}/url"}),
+        "name": ("name", {"name": f"{address}/name"}),
+        "curl": ("name", {"name": f"/vsicurl/{address}/curl"}),
+        "none": ("name", {"name": f"/vsicurl/{address}/a.none"}),
+        "urn": ("OGC", {"urn": f"{address}/urn"}),
+    }
+    for name, (kind, properties) in links.items():
+        make_geojson(place / f"{name}.geojson", {"type": kind, "properties": properties})
+    (place / "a.gml").write_text(
+        '<o:FeatureCollection xmlns:o="http://ogr.maptools.org/" xmlns:gml="http://www.opengis.net/gml" '
+        'xmlns:xlink="http://www.w3.org/1999/xlink" xmlns:xsi="http://www.w3.org/2001/XMLSchema-instance" '
+        f'xsi:schemaLocation="http://ogr.maptools.org/ {address}/a.xsd">'
+        f'<gml:boundedBy><gml:Envelope srsName="{address}/envelope"><gml:lowerCorner>1 2</gml:lowerCorner>'
+        "<gml:upperCorner>1 2</gml:upperCorner></gml:Envelope></gml:boundedBy>"
+        f'<gml:featureMember><o:one gml:id="one.0"><o:geometryProperty xlink:href="{address}/xlink">'
+        f'<gml:Point srsName="{address}/point"><gml:pos>1 2</gml:pos></gml:Point></o:geometryProperty></o:one>'
+        "</gml:featureMember></o:FeatureCollection>"
+    )
+    (place / "a.kml").write_text(
+        '<?xml version="1.0"?><kml xmlns="http://www.opengis.net/kml/2.2"><Document><NetworkLink><name>n</name><Link>'
+        f"<href>{address}/network.kml</href></Link></NetworkLink><Folder><name>f</name><Placemark><styleUrl>{address}/s#s"
+        f'</styleUrl><ExtendedData><SchemaData schemaUrl="{address}/schema#x"/></ExtendedData><Point><coordinates>1,2'
+        "</coordinates></Point></Placemark></Folder></Document></kml>"
+    )
+
+
+RASTERS = {"tif": "GTiff", "img": "HFA", "nc": "netCDF", "jp2": "JP2OpenJPEG", "asc": "AAIGrid", "grb": "GRIB",
+           "bag": "BAG", "hdf": "HDF4Image"}  # fmt: skip
+VECTORS = {"shp": "ESRI Shapefile", "fgb": "FlatGeobuf", "tab": "MapInfo File", "gpkg": "GPKG", "dxf": "DXF",
+           "parquet": "Parquet"}  # fmt: skip
+
+
+def make_linked_rasters(place: pathlib.Path, address: str) -> int:
+    """A raster of each driver that writes one, with a file beside it that names an address as its CRS; how many."""
+    from osgeo import gdal, osr
+
+    reference = osr.SpatialReference()
+    reference.ImportFromEPSG(32631)
+    made = 0
+    for suffix, name in RASTERS.items():
+        driver = gdal.GetDriverByName(name)
+        if driver is None or not (driver.GetMetadataItem("DCAP_CREATECOPY") or driver.GetMetadataItem("DCAP_CREATE")):
+            continue
+        raster = gdal.GetDriverByName("MEM").Create(
+            "", 20, 20, 1, gdal.GDT_Float32 if suffix in ("bag", "grb", "asc") else gdal.GDT_Byte
+        )
+        raster.SetGeoTransform((0, 1, 0, 0, 0, -1))
+        if suffix in ("bag", "grb"):
+            raster.SetSpatialRef(reference)
+        driver.CreateCopy(str(place / f"raster.{suffix}"), raster)
+        (place / f"raster.{suffix}.aux.xml").write_text(f"<PAMDataset><SRS>{address}/{suffix}</SRS></PAMDataset>")
+        made += 1
+    return made
+
+
+def make_linked_vectors(place: pathlib.Path, address: str) -> None:
+    """Data sets of layers whose text of the CRS is an address, where that can be written."""
+    from osgeo import gdal, ogr, osr
+
+    reference = osr.SpatialReference()
+    reference.ImportFromEPSG(32631)
+    for suffix, name in VECTORS.items():
+        driver = gdal.GetDriverByName(name)
+        if driver is None:
+            continue
+        path = place / f"vector.{suffix}"
+        data_set = driver.Create(str(path), 0, 0, 0, gdal.GDT_Unknown)
+        layer = data_set.CreateLayer("vector", None if suffix == "dxf" else reference, ogr.wkbPoint)
+        if suffix == "tab":
+            layer.CreateField(ogr.FieldDefn("n", ogr.OFTInteger))
+        data_set = layer = None
+        if suffix == "gpkg":
+            with contextlib.closing(sqlite3.connect(path)) as base:
+                base.execute(
+                    "UPDATE gpkg_spatial_ref_sys SET definition = ?, organization = 'NONE' WHERE srs_id = 32631",
+                    (f"{address}/gpkg",),
+                )
+                base.commit()
+        content = path.read_bytes()
+        if suffix == "fgb" and (begin := content.find(b"PROJCS")) >= 0:
+            link = f"{address}/fgb".encode()
+            path.write_bytes(content[:begin] + link + b" " * 40 + content[begin + len(link) + 40 :])
+    (place / "vector.prj").write_text(f"{address}/prj")
+
+
+def nothing_is_fetched() -> None:
+    """By the command, whose processes have no network where the system lets them leave it; and where they couldn't."""
+    place = folder() / "links"
+    place.mkdir()
+    with server() as (address, asked):
+        make_linked_texts(place, address)
+        if HAS_GDAL:
+            assert make_linked_rasters(place, address) >= 3
+            make_linked_vectors(place, address)
+        with zipfile.ZipFile(folder() / "links.zip", "w") as archive:
+            for path in sorted(place.iterdir()):
+                archive.write(path, f"in/{path.name}")
+        (folder() / "links.zip").rename(place / "links.zip")
+        files = sum(1 for _ in place.iterdir())
+        status, output, error = audit("--jobs", "2", place, no_proxy="*", NO_PROXY="*")
+        assert asked == [], asked
+        assert status == 2 and "Traceback" not in error and "reading" not in error, error
+        program = (
+            "import sys; from crsdesk.audit import collecting, judging\n"
+            "for file in collecting.listing_of(sys.argv[1:], False, False).files: judging.told_of(file); print(file.path)"
+        )
+        command = [sys.executable, "-c", program, str(place)]
+        environment = {**os.environ, "no_proxy": "*", "NO_PROXY": "*", "PROJ_NETWORK": "ON"}
+        done = subprocess.run(command, env=environment, capture_output=True, text=True, timeout=300, check=False)
+        assert done.returncode == 0 and 10 < len(done.stdout.splitlines()) < files, done
+        assert asked == [], asked
+        # It is there to be asked.
+        with contextlib.suppress(OSError):
+            urllib.request.urlopen(f"{address}/it")
+        assert asked == ["/it"], asked
+
+
+def a_process_leaves_the_network() -> None:
+    """Where the system lets it; and so that it stays the same user, who may read and write as before."""
+    program = (
+        "import os, socket, sys; from crsdesk.audit import offline\n"
+        "before = os.getuid(), os.getgid(); left = offline.leave_network()\n"
+        "assert before == (os.getuid(), os.getgid())\n"
+        "open(sys.argv[1], 'w').close()\n"
+        "code = socket.socket().connect_ex(('127.0.0.1', int(sys.argv[2]))); print(left, code == 0)"
+    )
+    users: List[Dict[str, Any]] = [{}]
+    if os.geteuid() == 0:
+        users.append({"user": 65534, "group": 65534, "extra_groups": []})
+    with server() as (address, _):
+        for number, user in enumerate(users):
+            place = folder() / f"leaves{number}"
+            place.mkdir(mode=0o777)
+            place.chmod(0o777)
+            folder().chmod(0o755)
+            command = [sys.executable, "-c", program, str(place / "a"), address.rpartition(":")[2]]
+            done = subprocess.run(command, capture_output=True, text=True, check=False, **user)
+            if user and ("ModuleNotFoundError" in done.stderr or "PermissionError" in done.stderr):
+                continue  # another user has no Python here
+            assert done.stdout in ("True False\n", "False True\n"), done
+            assert (place / "a").exists()
+
+
+CASES: List[Callable[[], None]] = [
+    nothing_is_fetched,
+    a_process_leaves_the_network,
+]
+
+
+def main() -> int:
+    passed = failed = 0
+    if not HAS_GDAL:
+        print("skipped: osgeo isn't there: what GDAL would fetch")
+    for case in CASES:
+        try:
+            case()
+            passed += 1
+        except Exception:
+            failed += 1
+            print(f"{case.__name__}: {''.join(traceback.format_exc().splitlines(keepends=True)[-5:]).rstrip()}")
+    print(f"{passed} passed, {failed} failed")
+    return 1 if failed else 0
+
+
+if __name__ == "__main__":
+    sys.exit(main())
