@@ -545,7 +545,7 @@ def what_cant_be_read_is_told() -> None:
         "./no.gpkg": "SQLite: file is not a database",
         "./no database.gpkg": "SQLite: ",
         "./damaged.gpkg": "SQLite: database disk image is malformed",
-        "./endless.sqlite": "SQLite: interrupted",
+        "./endless.sqlite": "SQLite: more than 100,000 layers",
         "./cut.zip": "zip: File is not a zip file",
         "./damaged.zip (a.wkt)": "zip: Bad CRC-32",
         "missing.prj": "No such file or directory",

@@ -207,9 +207,79 @@ def a_process_leaves_the_network() -> None:
             assert (place / "a").exists()
 
 
+# The disk isn't filled.
+
+
+MOST_WRITTEN = 30_000_000
+
+
+def audit_writing_little(*words: object) -> Tuple[int, str, str, Any]:
+    """The command where no file may get more than some bytes, which it has no right to need; and its data."""
+    out = folder() / "little.json"
+    program = (
+        "import resource, sys; from crsdesk.__main__ import main\n"
+        f"resource.setrlimit(resource.RLIMIT_FSIZE, ({MOST_WRITTEN}, {MOST_WRITTEN}))\n"
+        "sys.exit(main(sys.argv[1:]))"
+    )
+    command = [sys.executable, "-c", program, "audit", "--jobs", "1", "--json", str(out), *map(str, words)]
+    done = subprocess.run(command, capture_output=True, text=True, timeout=600, check=False)
+    return done.returncode, done.stdout, done.stderr, json.loads(out.read_text()) if out.exists() else None
+
+
+def make_geopackage(path: pathlib.Path, definition: str, layers: int) -> None:
+    """A GeoPackage whose layers all have one entry."""
+    with contextlib.closing(sqlite3.connect(path)) as base:
+        base.execute("CREATE TABLE gpkg_spatial_ref_sys (srs_id INTEGER PRIMARY KEY, definition TEXT)")
+        base.execute("CREATE TABLE gpkg_contents (table_name TEXT, data_type TEXT, srs_id INTEGER)")
+        base.execute("INSERT INTO gpkg_spatial_ref_sys VALUES (7, ?)", (definition,))
+        rows = ((f"layer {number:05}", "features", 7) for number in range(layers - 1, -1, -1))
+        base.executemany("INSERT INTO gpkg_contents VALUES (?, ?, ?)", rows)
+        base.commit()
+
+
+def a_definition_is_fetched_once() -> None:
+    """30,000 layers of one definition: of one that is too long, and of one that is read. Their order is by name."""
+    layers = 30_000
+    for length, wanted in ((3_000_000, "unread"), (1_000_000, "accepted")):
+        path = folder() / f"{wanted}.gpkg"
+        make_geopackage(path, f'{HEIGHT[:-1]},REMARK["{"r" * length}"]]', layers)
+        assert path.stat().st_size < 5_000_000
+        status, output, error, data = audit_writing_little(path)
+        if wanted == "unread":
+            found = [it["place"]["layer"] for it in data["unread"]]
+            why = "text too long (more than 1,048,576 bytes)"
+            assert status == 2 and {it["why"] for it in data["unread"]} == {why}, (status, error[-300:])
+        else:
+            assert (status, error) == (0, ""), (status, error[-300:])
+            (variant,) = data["definitions"][0]["variants"]
+            found = [it["layer"] for it in variant["places"]]
+        assert found == [f"layer {number:05}" for number in range(layers)], (len(found), found[:3])
+
+
+def what_a_view_sorts_isnt_written() -> None:
+    """A view that sorts gigabytes, and one that takes forever to find nothing."""
+    place = folder() / "views"
+    place.mkdir()
+    numbers = "WITH RECURSIVE n(i) AS (SELECT 1 UNION ALL SELECT i + 1 FROM n LIMIT {}) SELECT "
+    views = {
+        "sorts": numbers.format(100_000) + "i || hex(zeroblob(500000)) AS f_table_name, 1 AS srid FROM n ORDER BY 1",
+        "waits": numbers.format(-1) + "i AS f_table_name, 1 AS srid FROM n WHERE i < 0",
+    }
+    for name, view in views.items():
+        with contextlib.closing(sqlite3.connect(place / f"{name}.sqlite")) as base:
+            base.execute("CREATE TABLE spatial_ref_sys (srid INTEGER PRIMARY KEY, srtext TEXT)")
+            base.execute(f"CREATE VIEW geometry_columns AS {view}")
+            base.commit()
+    status, _, error, data = audit_writing_little(place)
+    told = {pathlib.Path(it["place"]["file"]).stem: it["why"] for it in data["unread"]}
+    assert (status, told) == (2, {"sorts": "out of memory", "waits": "SQLite: interrupted"}), (status, error)
+
+
 CASES: List[Callable[[], None]] = [
     nothing_is_fetched,
     a_process_leaves_the_network,
+    a_definition_is_fetched_once,
+    what_a_view_sorts_isnt_written,
 ]
 
 

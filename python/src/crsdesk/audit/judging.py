@@ -6,10 +6,10 @@ import functools
 import hashlib
 import re
 from dataclasses import dataclass, field
-from typing import Dict, Iterator, List, NamedTuple, Optional, Tuple
+from typing import Dict, Iterator, List, NamedTuple, Optional, Tuple, Union
 
 from .. import Crs, Difference, Level, Refused
-from .reading import File, Skipped, Text, Unread, Without, read
+from .reading import File, Skipped, Text, Unread, Way, Without, read
 
 TOKEN = re.compile(r'"(?:[^"]|"")*"|[\[\],]|[^\[\],"]+')
 
@@ -78,13 +78,19 @@ class Told:
 
 
 def told_of(file: File) -> Told:
-    """What a file states. Each of its CRSs is in the list once."""
+    """What a file states. Each of its CRSs is in the list once. Layers of a database are in the order of their names."""
     told = Told()
     known: Dict[str, int] = {}
+    last: Optional[bytes] = None
     for found in read(file):
         if isinstance(found, Text):
+            if found.text is last:
+                # Layers of one entry, one after the other.
+                told.texts.append(told.texts[-1]._replace(layer=found.layer))
+                continue
             try:
                 told.texts.append(judged(found, told.spelled, known))
+                last = found.text
             except MemoryError:
                 told.unread.append(Unread("out of memory", found.layer, found.line))
         elif isinstance(found, Without):
@@ -93,7 +99,15 @@ def told_of(file: File) -> Told:
             told.unread.append(found)
         else:
             told.skipped.append(found)
+    if file.way not in (Way.GDAL, Way.ZIP):
+        told.texts.sort(key=by_layer)
+        told.without.sort(key=by_layer)
+        told.unread.sort(key=by_layer)
     return told
+
+
+def by_layer(it: Union[Judged, Without, Unread]) -> bytes:
+    return it.layer.encode("utf-8", "surrogateescape")
 
 
 def judged(found: Text, spelled: List[Spelled], known: Dict[str, int]) -> Judged:

@@ -17,7 +17,7 @@ import tempfile
 import urllib.parse
 import zipfile
 import zlib
-from typing import Any, BinaryIO, Dict, Iterator, List, NamedTuple, Optional, Tuple, Union
+from typing import Any, BinaryIO, Dict, Iterable, Iterator, List, NamedTuple, Optional, Tuple, Union
 
 from .._crs import is_blank
 from .drivers import DRIVERS, DRIVERS_OF_MEMBERS
@@ -28,6 +28,10 @@ MOST_BYTES = 1_048_576
 MOST_LAYERS = 10_000
 # The most steps of SQLite's machine for a database, in thousands: a view can be endless.
 MOST_STEPS = 20_000
+# The most bytes of memory that SQLite gets; the most layers of a database, and characters of a layer's name.
+MOST_MEMORY = 1 << 28
+MOST_ROWS = 100_000
+MOST_CHARACTERS = 1000
 # The most bytes of a database with a log that is copied.
 MOST_COPIED = 1 << 30
 DATABASE = b"SQLite format 3\0"
@@ -136,7 +140,7 @@ def opened(path: str) -> BinaryIO:
     raise OSError(errno.EINVAL, "Not a regular file")
 
 
-def text_found(text: bytes, layer: str = "", line: int = 0) -> Found:
+def text_found(text: bytes, layer: str = "", line: int = 0) -> Union[Text, Without, Unread]:
     """A text as it is found: one of white space alone states nothing, and a long one isn't read."""
     if len(text) > MOST_BYTES:
         return Unread(TOO_LONG, layer, line)
@@ -179,6 +183,8 @@ def read_lines(path: str) -> Iterator[Found]:
 
 GEOPACKAGE = ("gpkg_contents", "gpkg_spatial_ref_sys")
 SPATIALITE = ("geometry_columns", "spatial_ref_sys")
+# The numbers of layers that need no entry, as ``decoded`` has them.
+NO_ENTRIES = ("None", "-1", "0")
 
 
 def read_database(path: str) -> Iterator[Found]:
@@ -216,10 +222,13 @@ def unchanged(path: str) -> Iterator[str]:
 
 
 def connection_to(address: str) -> sqlite3.Connection:
-    """A connection on which neither a view nor a trigger does anything but be read, for a bounded time."""
+    """A connection on which neither a view nor a trigger does anything but be read, for a bounded time, and with
+    bounded memory: what SQLite sorts or gathers isn't written to files."""
     connection = sqlite3.connect(address, uri=True, timeout=1)
     connection.text_factory = bytes
     connection.execute("PRAGMA trusted_schema = OFF")
+    connection.execute("PRAGMA temp_store = MEMORY")
+    connection.execute(f"PRAGMA hard_heap_limit = {MOST_MEMORY}")
     steps = iter(range(MOST_STEPS))
     connection.set_progress_handler(lambda: next(steps, None) is None, 1000)
     return connection
@@ -236,29 +245,44 @@ def decoded(value: Any) -> str:
 
 
 def layers_of(connection: sqlite3.Connection, kind: Tuple[str, str]) -> Iterator[Found]:
-    """The text of each layer: of a GeoPackage the text in WKT2, where the entry has one."""
+    """The text of each layer: of a GeoPackage the text in WKT2, where the entry has one. Each entry's texts are fetched
+    once, for all its layers, so that layers come in the order of the entries."""
     layers, entries = kind
     columns = {name.lower() for name in column(connection, f"SELECT name FROM pragma_table_info('{entries}')")}
     texts = [name for name in ("definition_12_063", "definition", "srtext", "srs_wkt") if name in columns]
     identity, name = ("srs_id", "table_name") if kind == GEOPACKAGE else ("srid", "f_table_name")
-    chosen = ", ".join(f"entry.{text}" for text in texts) or "NULL"
-    query = (
-        f"SELECT layer.{name}, layer.{identity}, entry.{identity}, {chosen} FROM {layers} AS layer "
-        f"LEFT JOIN {entries} AS entry ON layer.{identity} = entry.{identity} ORDER BY 1"
+    # More than a text can have isn't fetched.
+    chosen = "".join(f", substr({text}, 1, {MOST_BYTES + 1})" for text in texts)
+    waiting = names_by_number(
+        connection.execute(f"SELECT substr({name}, 1, {MOST_CHARACTERS}), {identity} FROM {layers}")
     )
-    for layer, number, entry, *values in connection.execute(query):
-        yield layer_found(decoded(layer), number, entry, values)
+    query = f"SELECT {identity}{chosen} FROM {entries} WHERE {identity} IN (SELECT {identity} FROM {layers})"
+    for number, *values in connection.execute(query):
+        found = entry_found(values)
+        yield from (found._replace(layer=layer) for layer in waiting.pop(decoded(number), ()))
+    for number, its in waiting.items():
+        is_none = number in NO_ENTRIES
+        for layer in its:
+            yield Without("the layer has no CRS", layer) if is_none else Unread(
+                f"there is no entry {number} for the layer", layer
+            )
 
 
-def layer_found(layer: str, number: Any, entry: Any, values: List[Any]) -> Found:
-    """What a layer states, by the number of its entry and the entry's texts, the best first."""
-    if number is None or number in (-1, 0) and entry is None:
-        return Without("the layer has no CRS", layer)
-    if entry is None:
-        return Unread(f"there is no entry {decoded(number)} for the layer", layer)
+def names_by_number(rows: Iterable[Tuple[Any, Any]]) -> Dict[str, List[str]]:
+    """The names of layers by the number of their entry."""
+    names: Dict[str, List[str]] = {}
+    for count, (name, number) in enumerate(rows):
+        if count == MOST_ROWS:
+            raise sqlite3.DataError(f"more than {MOST_ROWS:,} layers")
+        names.setdefault(decoded(number), []).append(decoded(name))
+    return names
+
+
+def entry_found(values: List[Any]) -> Union[Text, Without, Unread]:
+    """What the layers of an entry state, by the entry's texts, the best first."""
     texts = [value if isinstance(value, bytes) else str(value).encode() for value in values if value is not None]
     texts = [text for text in texts if text.strip().lower() not in (b"", b"undefined")]
-    return text_found(texts[0], layer) if texts else Without("the layer's CRS is undefined", layer)
+    return text_found(texts[0]) if texts else Without("the layer's CRS is undefined")
 
 
 # What GDAL reads.
