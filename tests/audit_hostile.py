@@ -15,6 +15,7 @@ import importlib.util
 import json
 import os
 import pathlib
+import random
 import sqlite3
 import subprocess
 import sys
@@ -207,6 +208,62 @@ def a_process_leaves_the_network() -> None:
             assert (place / "a").exists()
 
 
+# One report whatever the order.
+
+
+def the_order_changes_nothing() -> None:
+    """Data sets of several CRSs that share parts, by several drivers: each text is the one that its file has alone, in
+    any order, and by 1, 2 and 4 processes."""
+    if not HAS_GDAL:
+        return
+    place = folder() / "order"
+    place.mkdir()
+    paths = make_alike(place)
+    reports = []
+    # The rasters come last at first, and then first: they leave the most behind. Then any order.
+    orders = [(paths, 1), (paths[::-1], 1)]
+    for number, jobs in ((1, 1), (2, 2), (3, 4)):
+        orders.append((random.Random(number).sample(paths, len(paths)), jobs))
+    for order, jobs in orders:
+        out = folder() / "order.json"
+        status, _, error = audit("--jobs", jobs, "--json", out, *order)
+        assert status in (0, 1) and error == "", (status, error)
+        data = json.loads(out.read_text())
+        variants = [variant for it in data["definitions"] for variant in it["variants"]]
+        refused = {it["place"]["file"]: it["piece"] for it in data["refused"]}
+        reports.append({**{place["file"]: it["text"] for it in variants for place in it["places"]}, **refused})
+    assert len(reports[0]) > 30, len(reports[0])
+    for report in reports[1:]:
+        odd = sorted(os.path.basename(it) for it in paths if report.get(it) != reports[0].get(it))
+        assert not odd, f"{len(odd)} of {len(paths)} texts differ: {odd[:5]}"
+
+
+def make_alike(place: pathlib.Path) -> List[str]:
+    """Layers, and then rasters, whose CRSs have parts in common."""
+    from osgeo import gdal, ogr, osr
+
+    gdal.UseExceptions()
+    references = {code: osr.SpatialReference() for code in (4326, 4979, 32631, 3857, 28992, 4258, 25832, 3035)}
+    layers, rasters = [], []
+    for code, reference in references.items():
+        reference.ImportFromEPSG(code)
+        for suffix, name in (("gml", "GML"), ("geojson", "GeoJSON"), ("fgb", "FlatGeobuf")):
+            layers.append(place / f"{code}.{suffix}")
+            data_set = gdal.GetDriverByName(name).Create(str(layers[-1]), 0, 0, 0, gdal.GDT_Unknown)
+            layer = data_set.CreateLayer("one", reference, ogr.wkbPoint)
+            feature = ogr.Feature(layer.GetLayerDefn())
+            feature.SetGeometry(ogr.CreateGeometryFromWkt("POINT (1 2)"))
+            layer.CreateFeature(feature)
+            data_set = layer = feature = None
+        for suffix, name in (("img", "HFA"), ("tif", "GTiff")):
+            raster = gdal.GetDriverByName("MEM").Create("", 20, 20, 1, gdal.GDT_Byte)
+            raster.SetSpatialRef(reference)
+            raster.SetGeoTransform((400000, 10, 0, 500000, 0, -10))
+            rasters.append(place / f"{code}.{suffix}")
+            gdal.GetDriverByName(name).CreateCopy(str(rasters[-1]), raster)
+    return list(map(str, layers + rasters))
+
+
 # The disk isn't filled.
 
 
@@ -278,6 +335,7 @@ def what_a_view_sorts_isnt_written() -> None:
 CASES: List[Callable[[], None]] = [
     nothing_is_fetched,
     a_process_leaves_the_network,
+    the_order_changes_nothing,
     a_definition_is_fetched_once,
     what_a_view_sorts_isnt_written,
 ]

@@ -1,4 +1,4 @@
-"""GDAL without a network, and a process without one.
+"""GDAL without a network and without a memory, and a process without a network.
 
 A data set may name an address as its CRS, and GDAL would ask there. So a process that reads files leaves the network,
 where the system lets it; and GDAL has a proxy that can't be there, and no drivers but those that are asked for.
@@ -11,10 +11,12 @@ import ctypes
 import functools
 import os
 import sys
-from typing import Any
+import threading
+from typing import Any, Callable, List, TypeVar
 
 from .drivers import ALL_DRIVERS
 
+Answer = TypeVar("Answer")
 # Of Linux: what a process no longer shares with others.
 NEW_USER = 0x10000000
 NEW_NETWORK = 0x40000000
@@ -58,10 +60,30 @@ def gdal_of() -> Any:
     except ImportError:
         return None
     gdal.UseExceptions()
-    gdal.PushErrorHandler("CPLQuietErrorHandler")
+    gdal.SetErrorHandler("CPLQuietErrorHandler")
     for name, value in OPTIONS.items():
         gdal.SetConfigOption(name, value)
     for driver in [gdal.GetDriver(index) for index in range(gdal.GetDriverCount())]:
         if driver.ShortName not in ALL_DRIVERS:
             driver.Deregister()
     return gdal
+
+
+def in_own_thread(function: Callable[[], Answer]) -> Answer:
+    """What a function answers, or raises, in a thread of its own. GDAL has a context of PROJ for each thread, and PROJ
+    answers by what it has in its context: by the data sets that were read there before."""
+    answers: List[Answer] = []
+    errors: List[BaseException] = []
+
+    def run() -> None:
+        try:
+            answers.append(function())
+        except BaseException as error:
+            errors.append(error)
+
+    thread = threading.Thread(target=run)
+    thread.start()
+    thread.join()
+    if errors:
+        raise errors[0]
+    return answers[0]

@@ -21,7 +21,7 @@ from typing import Any, BinaryIO, Dict, Iterable, Iterator, List, NamedTuple, Op
 
 from .._crs import is_blank
 from .drivers import DRIVERS, DRIVERS_OF_MEMBERS
-from .offline import gdal_of
+from .offline import gdal_of, in_own_thread
 
 # The bound of the program `crsdesk` too.
 MOST_BYTES = 1_048_576
@@ -301,6 +301,10 @@ def read_data_set(path: str, member: str, names: Tuple[str, ...]) -> Iterator[Fo
     if gdal is None:
         yield Skipped("osgeo", member)
         return
+    yield from in_own_thread(lambda: list(found_by_gdal(gdal, path, member, names)))
+
+
+def found_by_gdal(gdal: Any, path: str, member: str, names: Tuple[str, ...]) -> Iterator[Found]:
     drivers = [name for name in names if gdal.GetDriverByName(name) is not None]
     if not drivers:
         yield Skipped(f"GDAL's driver {names[0]}", member)
