@@ -16,6 +16,8 @@ import json
 import os
 import pathlib
 import random
+import re
+import shutil
 import sqlite3
 import subprocess
 import sys
@@ -264,6 +266,92 @@ def make_alike(place: pathlib.Path) -> List[str]:
     return list(map(str, layers + rasters))
 
 
+# Damage isn't repaired.
+
+
+def damage_is_told() -> None:
+    """Shapefiles whose .prj is damaged, and GeoJSON that names what isn't known: none is accepted, in a zip neither."""
+    if not HAS_GDAL:
+        return
+    place = folder() / "damage"
+    place.mkdir()
+    wanted = make_damaged_shapefiles(place) | make_unknown(place)
+    with zipfile.ZipFile(folder() / "damage.zip", "w") as archive:
+        for path in sorted(place.iterdir()):
+            archive.write(path, path.name)
+    (folder() / "damage.zip").rename(place / "all.zip")
+    out = folder() / "damage.json"
+    status, _, error = audit("--json", out, place)
+    data = json.loads(out.read_text())
+    assert status == 2 and "Traceback" not in error, error
+    unread = {}
+    for it in data["unread"]:
+        file, layer = it["place"]["file"], it["place"]["layer"]
+        unread[layer.partition(":")[0] if file.endswith(".zip") else os.path.basename(file)] = it["why"]
+        assert it["why"].startswith("GDAL: "), it
+    assert unread.keys() == wanted.keys(), unread.keys() ^ wanted.keys()
+    for name, why in wanted.items():
+        assert why in unread[name], (name, unread[name])
+    assert len(data["unread"]) == 2 * len(wanted)
+    accepted = {
+        it.get("layer", it["file"]).partition(":")[0]
+        for definition in data["definitions"]
+        for variant in definition["variants"]
+        for it in variant["places"]
+    }
+    assert accepted == {"sound", "sound.shp", "known", "known.geojson", "late", "late.geojson"}, accepted
+
+
+def make_damaged_shapefiles(place: pathlib.Path) -> Dict[str, str]:
+    """A sound shapefile, and copies with a damaged .prj; what is told of these."""
+    from osgeo import gdal, ogr, osr
+
+    reference = osr.SpatialReference()
+    reference.ImportFromEPSG(28992)
+    data_set = gdal.GetDriverByName("ESRI Shapefile").Create(str(place / "sound.shp"), 0, 0, 0, gdal.GDT_Unknown)
+    data_set.CreateLayer("sound", reference, ogr.wkbPoint)
+    data_set = None
+    sound = (place / "sound.prj").read_text()
+    damaged = {
+        "comma": (sound.replace("6377397.155", "6377397,155"), "corrupt data"),
+        "cut": (sound[:-60], "missing"),
+        "open": (sound[:-1], "missing ]"),
+        "closed": (sound + "]", "corrupt data"),
+        "scale": (re.sub(r'PARAMETER\["Scale_Factor",[^]]*\],', "", sound), "unsupported CRS"),
+        "round": (sound.replace("299.1528128", "0"), "another ellipsoid"),
+    }
+    for name, (text, _) in damaged.items():
+        assert text != sound, name
+        for suffix in ("shp", "shx", "dbf"):
+            shutil.copyfile(place / f"sound.{suffix}", place / f"{name}.{suffix}")
+        (place / f"{name}.prj").write_text(text)
+    return {f"{name}.shp": why for name, (_, why) in damaged.items()}
+
+
+def make_unknown(place: pathlib.Path) -> Dict[str, str]:
+    unknown: Dict[str, Dict[str, Any]] = {
+        "code": {"type": "name", "properties": {"name": "EPSG:99999"}},
+        "urn": {"type": "name", "properties": {"name": "urn:ogc:def:crs:EPSG::99999"}},
+        "words": {"type": "name", "properties": {"name": "the old one"}},
+        "number": {"type": "name", "properties": {"name": 28992}},
+        "old": {"type": "EPSG", "properties": {"code": 99999}},
+        "ogc": {"type": "OGC", "properties": {"urn": "urn:ogc:def:crs:EPSG::99999"}},
+        "kind": {"type": "other", "properties": {"name": "EPSG:28992"}},
+        "nothing": {"type": "name"},
+        "link": {"type": "link", "properties": {"href": "http://127.0.0.1:1/"}},
+    }
+    for name, crs in unknown.items():
+        make_geojson(place / f"{name}.geojson", crs)
+    # At the end of a long file too.
+    features = ",".join(2000 * [json.dumps({**POINT, "properties": {"crs": "EPSG:99999", "of": 900 * "x"}})])
+    end = '{{"type": "FeatureCollection", "features": [{}], "crs": {{"type": "name", "properties": {{"name": "EPSG:{}"}}}}}}'
+    (place / "late.geojson").write_text(end.format(features, 28992))
+    (place / "far.geojson").write_text(end.format(features, 99999))
+    make_geojson(place / "known.geojson", {"type": "name", "properties": {"name": "urn:ogc:def:crs:OGC:1.3:CRS84"}})
+    why = {"link": "its CRS is a link, which isn't followed"}
+    return {f"{name}.geojson": why.get(name, "its CRS isn't known: ") for name in (*unknown, "far")}
+
+
 # The disk isn't filled.
 
 
@@ -336,6 +424,7 @@ CASES: List[Callable[[], None]] = [
     nothing_is_fetched,
     a_process_leaves_the_network,
     the_order_changes_nothing,
+    damage_is_told,
     a_definition_is_fetched_once,
     what_a_view_sorts_isnt_written,
 ]

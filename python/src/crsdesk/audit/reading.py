@@ -17,9 +17,10 @@ import tempfile
 import urllib.parse
 import zipfile
 import zlib
-from typing import Any, BinaryIO, Dict, Iterable, Iterator, List, NamedTuple, Optional, Tuple, Union
+from typing import Any, BinaryIO, Callable, Dict, Iterable, Iterator, List, NamedTuple, Optional, Tuple, Union
 
 from .._crs import is_blank
+from .damage import OF_CRS, damage_beside, invalid, unknown_in_geojson, warnings_of
 from .drivers import DRIVERS, DRIVERS_OF_MEMBERS
 from .offline import gdal_of, in_own_thread
 
@@ -311,14 +312,18 @@ def found_by_gdal(gdal: Any, path: str, member: str, names: Tuple[str, ...]) -> 
         return
     options = OPEN_OPTIONS.get(suffix_of(path), [])
     try:
-        data_set = gdal.OpenEx(path, gdal.OF_READONLY, allowed_drivers=drivers, open_options=options)
+        with warnings_of(gdal) as words:
+            data_set = gdal.OpenEx(path, gdal.OF_READONLY, allowed_drivers=drivers, open_options=options)
     except RuntimeError as error:
         yield Unread(f"GDAL: {told_by_gdal(error, path)}", member)
         return
     if data_set is None:
         yield Unread("GDAL: not read", member)
         return
-    yield from layers_of_data_set(gdal, data_set, path, member)
+    doubts = [word for word in words if OF_CRS.search(word)]
+    if suffix_of(path) == ".geojson":
+        doubts = unknown_in_geojson(gdal, path) or doubts
+    yield from layers_of_data_set(gdal, data_set, path, member, doubts)
 
 
 def told_by_gdal(error: RuntimeError, path: str) -> str:
@@ -329,22 +334,30 @@ def told_by_gdal(error: RuntimeError, path: str) -> str:
     return words
 
 
-def layers_of_data_set(gdal: Any, data_set: Any, path: str, member: str) -> Iterator[Found]:
+def layers_of_data_set(gdal: Any, data_set: Any, path: str, member: str, doubts: List[str]) -> Iterator[Found]:
+    """What the layers and rasters state; nothing does where there are doubts."""
+
+    def stated(reference_of: Callable[[], Any], label: str) -> Found:
+        try:
+            with warnings_of(gdal) as words:
+                reference = reference_of()
+            beside = damage_beside(gdal, data_set, reference)
+        except RuntimeError as error:
+            return Unread(f"GDAL: {told_by_gdal(error, path)}", label)
+        return reference_found(reference, label, doubts + beside + words)
+
     is_told = False
     for index in range(min(data_set.GetLayerCount(), MOST_LAYERS)):
         layer = data_set.GetLayer(index)
-        yield reference_found(layer.GetSpatialRef(), joined(member, layer.GetName()))
+        yield stated(layer.GetSpatialRef, joined(member, layer.GetName()))
         is_told = True
     rasters = data_set.GetSubDatasets()[:MOST_LAYERS]
     for name, _ in rasters:
         label = joined(member, name.rpartition(":")[2])
-        try:
-            yield reference_found(raster_reference(gdal.OpenEx(name, gdal.OF_RASTER)), label)
-        except RuntimeError as error:
-            yield Unread(f"GDAL: {told_by_gdal(error, path)}", label)
+        yield stated(lambda name=name: raster_reference(gdal.OpenEx(name, gdal.OF_RASTER)), label)  # type: ignore[misc]
         is_told = True
     if not is_told or data_set.RasterCount and not rasters:
-        yield reference_found(raster_reference(data_set), member)
+        yield stated(lambda: raster_reference(data_set), member)
 
 
 def joined(member: str, layer: str) -> str:
@@ -356,14 +369,17 @@ def raster_reference(data_set: Any) -> Any:
     return data_set.GetSpatialRef() or data_set.GetGCPSpatialRef()
 
 
-def reference_found(reference: Any, layer: str) -> Found:
-    """What GDAL writes of a reference, in WKT2:2019."""
-    if reference is None:
+def reference_found(reference: Any, layer: str, doubts: List[str]) -> Found:
+    """What GDAL writes of a reference, in WKT2:2019, where it has no doubts."""
+    if not doubts and reference is None:
         return Without("no CRS", layer)
     try:
-        text = reference.ExportToWkt(["FORMAT=WKT2_2019", "MULTILINE=NO"])
+        text = reference.ExportToWkt(["FORMAT=WKT2_2019", "MULTILINE=NO"]) if reference else ""
+        doubts = doubts or (invalid(reference) if text else [])
     except RuntimeError as error:
-        return Unread(f"GDAL: {' '.join(str(error).split())}", layer)
+        doubts = [" ".join(str(error).split())]
+    if doubts:
+        return Unread(f"GDAL: {'; '.join(doubts)}", layer)
     return text_found(text.encode("utf-8", "surrogateescape"), layer)
 
 
