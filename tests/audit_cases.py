@@ -737,6 +737,31 @@ def files_are_written_whole() -> None:
     assert sorted(it.name for it in place.iterdir()) == ["a.wkt", "link.json", "new.csv", "real.json"]
 
 
+def outputs_that_are_inputs_are_refused() -> None:
+    """By any name, and before anything is read or written; so are two reports in one file, but on a device."""
+    place = folder() / "clashes"
+    (place / "in").mkdir(parents=True)
+    (place / "in" / "a.wkt").write_text(HEIGHT)
+    (place / "in" / "b.wkt").write_text(HEIGHT)
+    (place / "link").symlink_to("in/a.wkt")
+    os.link(place / "in" / "b.wkt", place / "hard")
+    before = everything_below(place)
+    read = "it is to be written, and to be read (in/{}.wkt)"
+    for words, wanted in (
+        (("--json", "in/a.wkt", "in"), f"in/a.wkt: {read.format('a')}"),
+        (("--csv", "./in/../in/a.wkt", "in/a.wkt"), f"./in/../in/a.wkt: {read.format('a')}"),
+        (("--html", "link", "in"), f"link: {read.format('a')}"),
+        (("--html", "hard", "in"), f"hard: {read.format('b')}"),
+        (("--json", "x", "--html", "x", "in"), "x: two of the reports are to be written to it"),
+        (("--json", "x", "--csv", "./x", "in"), "./x: two of the reports are to be written to it"),
+    ):
+        assert audit(*words, cwd=place) == (2, "", f"crsdesk: {wanted}\n"), words
+        assert everything_below(place) == before
+    assert audit("--json", "/dev/null", "--csv", "/dev/null", "in", cwd=place)[::2] == (0, "")
+    # A report of an earlier run in the folder, of a suffix that isn't read, is none of its files.
+    assert audit("--json", "in/a.json", "in", cwd=place)[0] == audit("--json", "in/a.json", "in", cwd=place)[0] == 0
+
+
 def statuses() -> None:
     place = folder() / "statuses"
     place.mkdir()
@@ -843,6 +868,7 @@ CASES = [
     a_signal_leaves_nothing,
     a_bar_is_shown_on_a_terminal,
     files_are_written_whole,
+    outputs_that_are_inputs_are_refused,
     statuses,
     what_isnt_installed_is_told,
     importing_the_package_imports_nothing_of_it,

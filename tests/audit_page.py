@@ -146,6 +146,36 @@ def filter_hides_and_shows() -> None:
         assert driver.get_log("browser") == []
 
 
+def filter_shows_matches_in_folded_sections() -> None:
+    """A section with a match is opened, and folded again with the filter; one that a reader opened stays."""
+    with browser() as driver:
+        opened(driver, page_of_archive())
+        words = driver.find_element("id", "words")
+        assert not shown(driver, "#refused .item"), "the sections of refused texts are folded at first"
+        name = all_of(driver, "#refused .item p")[0].get_attribute("textContent").partition(", line")[0]
+        words.send_keys(name.rpartition("/")[2])
+        wait(lambda: any(name in it.text for it in shown(driver, "#refused .item")))
+        driver.execute_script("arguments[0].value = ''; arguments[0].dispatchEvent(new Event('input'))", words)
+        wait(lambda: not shown(driver, "#refused .item"))
+
+
+def links_land_below_the_filter() -> None:
+    with browser() as driver:
+        opened(driver, page_of_archive())
+        for target in ("#groups", "#d30", "#refused"):
+            driver.execute_script("location.hash = arguments[0]", target)
+            edges = (
+                "const [filter, it] = ['#filter', arguments[0]].map((name) => document.querySelector(name)"
+                ".getBoundingClientRect()); return [filter.top, filter.bottom, it.top, innerHeight]"
+            )
+
+            def lies_below() -> bool:
+                top, bottom, it, height = driver.execute_script(edges, target)
+                return top <= 0.5 and bottom <= it + 0.5 < height
+
+            wait(lies_below)
+
+
 def sections_fold_by_keyboard_too() -> None:
     from selenium.webdriver.common.keys import Keys
 
@@ -288,6 +318,8 @@ def many_texts_are_filtered() -> None:
 CASES = [
     loads_without_an_error,
     filter_hides_and_shows,
+    filter_shows_matches_in_folded_sections,
+    links_land_below_the_filter,
     sections_fold_by_keyboard_too,
     is_readable_without_scripts,
     markup_stays_text,

@@ -7,13 +7,13 @@ import functools
 import importlib.util
 import os
 import signal
-from typing import TYPE_CHECKING, Iterable, List, Sequence, Tuple, TypeVar
+from typing import TYPE_CHECKING, Dict, Iterable, List, Optional, Sequence, Tuple, TypeVar
 
 from .. import Difference
 from .collecting import Listing, Workers, listing_of
 from .judging import Told, Two, parts_of, told_of
 from .names import place_shown, readable, visible
-from .output import Outputs
+from .output import Outputs, is_special
 from .reading import Unread
 from .report import Report, report_of
 
@@ -64,9 +64,15 @@ def audit(run: Run, asked: argparse.Namespace) -> None:
     from .table import write_csv
     from .terminal import lines_of
 
-    writers = {asked.html: write_html, asked.json: write_json, asked.csv: write_csv}
-    writers.pop(None, None)
+    named = [(asked.html, write_html), (asked.json, write_json), (asked.csv, write_csv)]
+    named = [(name, write) for name, write in named if name is not None]
     listing = listing_of(asked.paths, asked.lines, asked.txt)
+    clash = clash_of([name for name, _ in named], listing)
+    if clash:
+        run.tell(f"crsdesk: {clash}")
+        run.ends(FAULT)
+        return
+    writers = dict(named)
     try:
         with Outputs(list(writers)) as outputs:
             report = report_on(asked.paths, listing, asked.jobs or len(os.sched_getaffinity(0)))
@@ -84,6 +90,39 @@ def audit(run: Run, asked: argparse.Namespace) -> None:
     for untold in report.unread:
         run.tell(f"crsdesk: {place_shown(untold.place)}: {visible(untold.why)}")
     run.ends(report.status)
+
+
+def clash_of(names: Sequence[str], listing: Listing) -> str:
+    """What is wrong with the files to write: two are one, or one is to be read too, or lies in a folder that is one
+    data set. Devices may be named twice."""
+    paths: Dict[str, str] = {}
+    if not names:
+        return ""
+    for name in names:
+        path = os.path.realpath(name)
+        if path in paths and not is_special(name):
+            return f"{readable(name)}: two of the reports are to be written to it"
+        paths[path] = name
+    identities = {identity: name for name in names if (identity := identity_of(name)) is not None}
+    for file in listing.files:
+        path = os.path.realpath(file.path)
+        identity = identity_of(file.path)
+        written = paths.get(path) or (identities.get(identity) if identity else None)
+        if written is not None and not is_special(written):
+            return f"{readable(written)}: it is to be written, and to be read ({readable(file.path)})"
+        for path_to, its in paths.items():
+            if path_to.startswith(path + os.sep):
+                return f"{readable(its)}: it is to be written into what is to be read ({readable(file.path)})"
+    return ""
+
+
+def identity_of(path: str) -> Optional[Tuple[int, int]]:
+    """What a file is whatever its names are; None where there is none."""
+    try:
+        status = os.stat(path)
+    except OSError:
+        return None
+    return status.st_dev, status.st_ino
 
 
 def report_on(paths: Sequence[str], listing: Listing, jobs: int) -> Report:

@@ -4,18 +4,29 @@
   const shown = document.getElementById("shown");
   const chunks = Array.from(document.querySelectorAll(".chunk"), (chunk) => [chunk, Array.from(chunk.querySelectorAll(".item"))]);
   const total = chunks.reduce((sum, [, items]) => sum + items.length, 0);
+  const groups = Array.from(document.querySelectorAll("details.group"));
+  const opened = new Set();
   let texts = null;
   const filter = () => {
     texts = texts || new Map(chunks.flatMap(([, items]) => items.map((item) => [item, item.textContent.toLowerCase()])));
     const asked = words.value.toLowerCase().split(/\s+/).filter(Boolean);
     let count = 0;
+    const folded = new Set();
     for (const [chunk, items] of chunks) {
       const fitting = items.filter((item) => asked.every((word) => texts.get(item).includes(word)));
       chunk.hidden = fitting.length === 0;
       count += fitting.length;
       if (chunk.hidden) continue;
+      if (asked.length && chunk.closest("details.group")) folded.add(chunk.closest("details.group"));
       const fits = new Set(fitting);
       for (const item of items) if (item.hidden === fits.has(item)) item.hidden = !item.hidden;
+    }
+    // A section with a match is opened, and folded again where the filter no longer has one there.
+    for (const group of groups) {
+      if (folded.has(group) && !group.open) {
+        group.open = true;
+        opened.add(group);
+      } else if (!folded.has(group) && opened.delete(group)) group.open = false;
     }
     shown.textContent = asked.length ? `${count} of ${total} shown` : "";
   };
