@@ -147,16 +147,20 @@ def filter_hides_and_shows() -> None:
 
 
 def filter_shows_matches_in_folded_sections() -> None:
-    """A section with a match is opened, and folded again with the filter; one that a reader opened stays."""
+    """A section with a match is opened, and folded again with the filter."""
     with browser() as driver:
         opened(driver, page_of_archive())
-        words = driver.find_element("id", "words")
-        assert not shown(driver, "#refused .item"), "the sections of refused texts are folded at first"
-        name = all_of(driver, "#refused .item p")[0].get_attribute("textContent").partition(", line")[0]
+        words, fit = driver.find_element("id", "words"), all_of(driver, "#refused .item p")[0]
+        name = fit.get_attribute("textContent").partition(", line")[0]
+
+        def unfolded() -> List[Any]:
+            return [it for it in all_of(driver, "#refused details") if it.get_property("open")]
+
+        assert unfolded() == []
         words.send_keys(name.rpartition("/")[2])
-        wait(lambda: any(name in it.text for it in shown(driver, "#refused .item")))
+        wait(lambda: any(name in it.text for it in unfolded()))
         driver.execute_script("arguments[0].value = ''; arguments[0].dispatchEvent(new Event('input'))", words)
-        wait(lambda: not shown(driver, "#refused .item"))
+        wait(lambda: unfolded() == [])
 
 
 def links_land_below_the_filter() -> None:
