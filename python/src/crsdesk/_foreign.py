@@ -1,0 +1,430 @@
+"""Texts in other forms than WKT2, as PROJ reads them: WKT1 of GDAL and Esri, a BOUNDCRS, PROJ strings, PROJJSON, codes and
+URNs. It takes a PROJ that osgeo or pyproj has brought into the process.
+
+The reading is strict: what PROJ warns of, repairs or leaves out is refused. So its library is called by itself: GDAL tells
+warnings in its log, pyproj none. Each text has a context of its own, since a context's answers depend on what it has read
+before; it has no network. ``UNIT["degree",0.01745329252]`` and a key of a PROJ string that is unknown are told by no
+warning, and looked for here. PROJ writes numbers with 15 digits.
+"""
+
+from __future__ import annotations
+
+import ctypes
+import functools
+import importlib
+import json
+import os
+import re
+from typing import Any, Callable, Dict, Iterator, List, NamedTuple, NoReturn, Optional, Sequence, Set, Tuple, Union
+
+# The bound of the program `crsdesk` too.
+MOST_BYTES = 1_048_576
+# Packages that bring PROJ, the better known first: what is asked of each for its data.
+PACKAGES = ("osgeo.osr", "pyproj")
+WKT1, BOUND, STRING, JSON, CODE = "WKT1", "BOUNDCRS", "a PROJ string", "PROJJSON", "a code"
+HEAD = re.compile(r"([A-Za-z_]+)\s*[\[(]")
+WKT1_HEADS = frozenset(("GEOGCS", "PROJCS", "GEOCCS", "VERT_CS", "VERTCS", "COMPD_CS", "LOCAL_CS", "FITTED_CS"))
+BOUND_IN_COMPOUND = re.compile(
+    r'COMPOUNDCRS\s*[\[(]\s*"(?:[^"]|"")*"\s*,.*\bBOUNDCRS\s*[\[(]', re.DOTALL | re.IGNORECASE
+)
+STRING_HEAD = re.compile(r"\+?(?:proj|init|title)=|\+[a-z]")
+# A code with its authority, or several; a URN; an address of the OGC, which nothing is fetched from.
+CODE_FORM = re.compile(
+    r"[A-Za-z][A-Za-z0-9_]*:[A-Za-z0-9_.-]+(?:\+(?:[A-Za-z][A-Za-z0-9_]*:)?[A-Za-z0-9_.-]+)?"
+    r"|urn:ogc:def:crs(?::|,crs:)[A-Za-z0-9_.:,-]+"
+    r"|https?://www\.opengis\.net/def/crs/[A-Za-z0-9_.-]+/[A-Za-z0-9_.-]+/[A-Za-z0-9_.-]+",
+    re.IGNORECASE,
+)
+QUOTED_OR_DELIMITER = re.compile(r'"[^"]*"|[\[\],]')
+QUOTED = re.compile(r'"[^"]*"')
+NUMBER = re.compile(r"(?<![\w.])[+-]?(?:\d+\.?\d*|\.\d+)(?:[eE][+-]?\d+)?(?![\w.])")
+# A unit's factor, and the two numbers of an ellipsoid.
+MEASURES = re.compile(
+    r'\b(?:(?:LENGTH|ANGLE|SCALE)?UNIT|SPHEROID|ELLIPSOID)\s*[\[(]\s*"(?:[^"]|"")*"\s*,\s*([^\s,\])]+)(?:\s*,\s*([-+.\d][^\s,\])]*))?',
+    re.IGNORECASE,
+)
+# The keys of a PROJ string that says a CRS: PROJ passes others over.
+KEYS = frozenset(
+    (
+        "R R_A R_C R_V R_a R_g R_h R_lat_a R_lat_g M W a alpha axis azi b czech datum e ellps es f gamma geoid_crs geoidgrids h "
+        "ip k k_0 lat_0 lat_1 lat_2 lat_3 lat_b lat_t lat_ts lon_0 lon_1 lon_2 lon_3 lonc m n nadgrids no_cut no_defs no_off "
+        "no_rot no_uoff ns o_alpha o_lat_1 o_lat_2 o_lat_c o_lat_p o_lon_1 o_lon_2 o_lon_c o_lon_p o_proj over path pm proj q rf "
+        "s south sweep sym theta tilt title to_meter towgs84 type units vto_meter vunits wktext x_0 y_0 zone approx algo "
+        "lsat plat_0 plon_0 ph0_ nlat rlat lat_c lon_c"
+    ).split()
+)
+UNITS = {"metre": 1.0, "degree": 0.0174532925199433, "unity": 1.0}
+WKT2_2019 = 2
+ERRORS_ALONE = 1
+STRICT = ("STRICT=YES", "UNSET_IDENTIFIERS_IF_INCOMPATIBLE_DEF=NO")
+FRONT = "BOUNDCRS[SOURCECRS["
+
+
+class NotRead(ValueError):
+    """Why PROJ's reading of a text isn't taken, in one line: in its words where it has any."""
+
+
+class Foreign(NamedTuple):
+    """What PROJ read of a text.
+
+    ``form``    the form of the text: ``WKT1``, ``BOUNDCRS``, ``a PROJ string``, ``PROJJSON``, ``a code``
+    ``text``    the CRS in WKT2:2019, of a bound one the source CRS
+    ``bound``   the transformations of what is bound: 0 for the whole or the number of a compound CRS's member, with target
+                and transformation as PROJ writes them
+    ``reader``  which PROJ read it, with which registry: ``PROJ 9.1.1, EPSG v10.076``
+    """
+
+    form: str
+    text: str
+    bound: Tuple[Tuple[int, str], ...]
+    reader: str
+
+
+def form_of(text: str) -> Optional[str]:
+    """The form of a text that PROJ is asked for; None of any other, which nothing guesses at. A text in WKT2 that the
+    library refuses is none: PROJ would repair it."""
+    text = text.strip()
+    match = HEAD.match(text)
+    if match:
+        head = match[1].upper()
+        if head in WKT1_HEADS:
+            return WKT1
+        return BOUND if head == "BOUNDCRS" or BOUND_IN_COMPOUND.match(text) else None
+    if text.startswith("{"):
+        return JSON
+    if STRING_HEAD.match(text):
+        return STRING
+    return CODE if CODE_FORM.fullmatch(text) else None
+
+
+def read(text: Union[str, bytes]) -> Foreign:
+    """What PROJ reads of a text whose form it has. ``NotRead`` where it warns or repairs, or isn't there."""
+    try:
+        text = (text.decode() if isinstance(text, bytes) else text).strip()
+    except UnicodeDecodeError:
+        raise NotRead("the text isn't UTF-8") from None
+    form = form_of(text)
+    if form is None:
+        raise NotRead("PROJ isn't asked for a text of this form")
+    if "\0" in text or len(text) > MOST_BYTES:
+        raise NotRead("a NUL byte is in it" if "\0" in text else f"it has more than {MOST_BYTES:,} characters")
+    proj = loaded()
+    if proj is None:
+        raise NotRead("PROJ isn't there: install osgeo (GDAL's Python) or pyproj")
+    if form == STRING:
+        text = checked_string(text)
+    written, as_json = proj.read(text, form)
+    if form in (WKT1, BOUND):
+        check_measures(text, written)
+    if form == JSON:
+        check_json(text, as_json)
+    plain, bound = unbound(written)
+    return Foreign(form, plain, bound, proj.name)
+
+
+def reader() -> Optional[str]:
+    """Which PROJ reads texts, as ``PROJ 9.1.1, EPSG v10.076``; None where there is none."""
+    proj = loaded()
+    return proj.name if proj else None
+
+
+# A bound CRS: its source CRS, and the rest of it.
+
+
+def unbound(written: str) -> Tuple[str, Tuple[Tuple[int, str], ...]]:
+    """A text of PROJ's without its transformations, and these: of the whole, or of members of a compound CRS."""
+    if written.startswith(FRONT):
+        source, rest = source_and_rest(written)
+        bound: Tuple[Tuple[int, str], ...] = ((0, rest),)
+        plain = source
+    elif written.startswith("COMPOUNDCRS["):
+        parts = arguments_of(written)
+        found = {number: source_and_rest(part) for number, part in enumerate(parts) if part.startswith(FRONT)}
+        plain = joined(written, [found[number][0] if number in found else part for number, part in enumerate(parts)])
+        bound = tuple((number, rest) for number, (_, rest) in found.items())
+    else:
+        return written, ()
+    if any(FRONT in QUOTED.sub('""', part) for part in (plain, *(rest for _, rest in bound))):
+        raise NotRead("one BOUNDCRS is in another")
+    return plain, bound
+
+
+def bound_text(canonical: str, bound: Sequence[Tuple[int, str]]) -> str:
+    """A canonical text with the transformations that ``unbound`` took from it: the text of a BOUNDCRS, or of a compound
+    CRS with such members."""
+    if not bound:
+        return canonical
+    whole = dict(bound)
+    if 0 in whole:
+        return f"{FRONT}{canonical}],{whole[0]}]"
+    parts = arguments_of(canonical)
+    return joined(canonical, [bound_text(part, [(0, whole[n])] if n in whole else []) for n, part in enumerate(parts)])
+
+
+def source_and_rest(text: str) -> Tuple[str, str]:
+    """The source CRS of a BOUNDCRS in PROJ's spelling, and what follows it."""
+    source, *rest = arguments_of(text)
+    return source[len("SOURCECRS[") : -1], ",".join(rest)
+
+
+def arguments_of(text: str) -> List[str]:
+    """The arguments of a node that is spelled with square brackets, without white space between."""
+    begin = at = text.index("[") + 1
+    parts, depth = [], 0
+    for match in QUOTED_OR_DELIMITER.finditer(text, begin):
+        token, at = match[0], match.start()
+        if depth == 0 and token in (",", "]"):
+            parts.append(text[begin:at])
+            begin = at + 1
+        depth += (token == "[") - (token == "]")
+    return parts
+
+
+def joined(node: str, parts: List[str]) -> str:
+    """A node with other arguments."""
+    return f"{node[: node.index('[')]}[{','.join(parts)}]"
+
+
+# What no warning tells.
+
+
+def checked_string(text: str) -> str:
+    """A PROJ string that says a CRS. NotRead where it has a key that PROJ passes over: an unknown one, one again."""
+    keys: Set[str] = set()
+    for word in text.split():
+        key = word.lstrip("+").partition("=")[0]
+        if key not in KEYS:
+            raise NotRead(f"+{key} isn't known: PROJ would pass it over")
+        if key in keys:
+            raise NotRead(f"+{key} is there twice: PROJ would take one of them")
+        keys.add(key)
+    return text if "type" in keys else f"{text} +type=crs"
+
+
+def check_measures(text: str, written: str) -> None:
+    """NotRead where a unit's factor or a number of an ellipsoid isn't in what PROJ wrote, by 15 digits."""
+    known = {rounded(number) for number in NUMBER.findall(QUOTED.sub('""', written))}
+    for match in MEASURES.finditer(text):
+        for number in filter(None, match.groups()):
+            if rounded(number) not in known:
+                raise NotRead(
+                    f"PROJ would read {match[0].split('[')[0].split('(')[0].strip()} with another number than {number}"
+                )
+
+
+def rounded(number: str) -> str:
+    try:
+        return f"{float(number):.15g}"
+    except ValueError:
+        return number
+
+
+def check_json(text: str, written: str) -> None:
+    """NotRead where PROJJSON has what PROJ's own doesn't have, or has it twice."""
+    try:
+        given = json.loads(text, object_pairs_hook=each_once)
+    except ValueError as error:
+        raise NotRead(f"JSON: {error}") from None
+    for path in lost(given, json.loads(written), ""):
+        raise NotRead(f"PROJ would pass {path} over, or change it")
+
+
+def each_once(pairs: List[Tuple[str, Any]]) -> Dict[str, Any]:
+    found = dict(pairs)
+    if len(found) < len(pairs):
+        raise ValueError("a name is there twice in one object")
+    return found
+
+
+def lost(given: Any, kept: Any, path: str) -> Iterator[str]:
+    """The paths of what isn't kept."""
+    if isinstance(given, dict) and isinstance(kept, dict):
+        for name, value in given.items():
+            if name != "$schema":
+                place = f"{path}/{name}" if path else name
+                if name not in kept:
+                    yield place
+                else:
+                    yield from lost(value, kept[name], place)
+    elif isinstance(given, list) and isinstance(kept, list) and len(given) == len(kept):
+        for number, pair in enumerate(zip(given, kept)):
+            yield from lost(*pair, f"{path}/{number}")
+    elif not is_same_value(given, kept):
+        yield path
+
+
+def is_same_value(given: Any, kept: Any) -> bool:
+    if isinstance(given, (int, float)) and isinstance(kept, (int, float)):
+        return isinstance(given, bool) == isinstance(kept, bool) and f"{given:.15g}" == f"{kept:.15g}"
+    if isinstance(given, dict) and isinstance(kept, str) and kept in UNITS:
+        return str(given.get("name")) == kept and is_same_value(given.get("conversion_factor"), UNITS[kept])
+    # A code may be a number or a text.
+    return bool(given == kept) or isinstance(given, (int, str)) and str(given) == str(kept)
+
+
+# PROJ itself.
+
+TEXT, POINTER = ctypes.c_char_p, ctypes.c_void_p
+TEXTS = ctypes.POINTER(TEXT)
+LOG = ctypes.CFUNCTYPE(None, POINTER, ctypes.c_int, TEXT)
+CALLS: Dict[str, Tuple[Any, List[Any]]] = {
+    "proj_context_create": (POINTER, []),
+    "proj_context_destroy": (POINTER, [POINTER]),
+    "proj_context_get_database_metadata": (TEXT, [POINTER, TEXT]),
+    "proj_context_set_enable_network": (ctypes.c_int, [POINTER, ctypes.c_int]),
+    "proj_context_set_search_paths": (None, [POINTER, ctypes.c_int, TEXTS]),
+    "proj_log_func": (None, [POINTER, POINTER, LOG]),
+    "proj_log_level": (ctypes.c_int, [POINTER, ctypes.c_int]),
+    "proj_create": (POINTER, [POINTER, TEXT]),
+    "proj_create_from_wkt": (POINTER, [POINTER, TEXT, TEXTS, ctypes.POINTER(TEXTS), ctypes.POINTER(TEXTS)]),
+    "proj_is_crs": (ctypes.c_int, [POINTER]),
+    "proj_as_wkt": (TEXT, [POINTER, POINTER, ctypes.c_int, TEXTS]),
+    "proj_as_projjson": (TEXT, [POINTER, POINTER, TEXTS]),
+    "proj_destroy": (POINTER, [POINTER]),
+    "proj_string_list_destroy": (None, [TEXTS]),
+}
+
+
+class Info(ctypes.Structure):
+    """The front of PJ_INFO."""
+
+    _fields_ = [
+        ("major", ctypes.c_int),
+        ("minor", ctypes.c_int),
+        ("patch", ctypes.c_int),
+        ("release", TEXT),
+        ("version", TEXT),
+        ("search_path", TEXT),
+        ("paths", POINTER),
+        ("count", ctypes.c_size_t),
+    ]
+
+
+class Context:
+    """A context of PROJ for one text, and what PROJ says in it."""
+
+    def __init__(self, calls: Dict[str, Any], paths: Sequence[str]) -> None:
+        self.calls = calls
+        self.said: List[str] = []
+        self.at: Any = calls["proj_context_create"]()
+        # Kept while the context is there.
+        self.log = LOG(lambda _, level, words: self.said.append(words.decode("utf-8", "replace")))
+        calls["proj_log_func"](self.at, None, self.log)
+        calls["proj_log_level"](self.at, ERRORS_ALONE)
+        calls["proj_context_set_enable_network"](self.at, 0)
+        if paths:
+            calls["proj_context_set_search_paths"](self.at, len(paths), texts_of(paths))
+
+    def __enter__(self) -> Context:
+        return self
+
+    def __exit__(self, *_: object) -> None:
+        self.calls["proj_context_destroy"](self.at)
+
+    def refuse(self) -> NoReturn:
+        # The text around the place is in the words; the caret under it stands below nothing in one line.
+        words = ["PROJ: " + " ".join(it.replace("^", " ").split()) for it in dict.fromkeys(self.said)]
+        raise NotRead("; ".join(words) or "PROJ doesn't read it, and says nothing")
+
+
+class Proj:
+    """The library of PROJ."""
+
+    def __init__(self, library: ctypes.CDLL, paths: Sequence[str]) -> None:
+        self.calls: Dict[str, Any] = {}
+        for name, (result, arguments) in CALLS.items():
+            call = getattr(library, name)
+            call.restype, call.argtypes = result, arguments
+            self.calls[name] = call
+        library.proj_info.restype = Info
+        info = library.proj_info()
+        self.paths = paths
+        with Context(self.calls, paths) as context:
+            registry = self.calls["proj_context_get_database_metadata"](context.at, b"EPSG.VERSION")
+        registry = f", EPSG {registry.decode()}" if registry else ""
+        self.name = f"PROJ {info.major}.{info.minor}.{info.patch}{registry}"
+
+    def read(self, text: str, form: str) -> Tuple[str, str]:
+        """A text's CRS in WKT2:2019, and PROJJSON of a text that is PROJJSON. NotRead where PROJ says anything."""
+        with Context(self.calls, self.paths) as context:
+            crs = self.made(context, text, form in (WKT1, BOUND))
+            if not crs:
+                context.refuse()
+            try:
+                if not self.calls["proj_is_crs"](crs):
+                    raise NotRead("PROJ reads it, but as no CRS")
+                written = self.calls["proj_as_wkt"](context.at, crs, WKT2_2019, texts_of(["MULTILINE=NO"]))
+                as_json = self.calls["proj_as_projjson"](context.at, crs, None) if form == JSON else b""
+            finally:
+                self.calls["proj_destroy"](crs)
+            if context.said or written is None or as_json is None:
+                context.refuse()
+            return written.decode(), as_json.decode()
+
+    def made(self, context: Context, text: str, is_wkt: bool) -> Any:
+        """What PROJ makes of a text; warnings and errors of a grammar are among what it says."""
+        if not is_wkt:
+            return self.calls["proj_create"](context.at, text.encode())
+        warnings, errors = TEXTS(), TEXTS()
+        to_both = ctypes.byref(warnings), ctypes.byref(errors)
+        crs = self.calls["proj_create_from_wkt"](context.at, text.encode(), texts_of(STRICT), *to_both)
+        for given in (warnings, errors):
+            if given:
+                context.said += listed(given)
+                self.calls["proj_string_list_destroy"](given)
+        return crs
+
+
+def texts_of(words: Sequence[str]) -> Any:
+    """A list of texts as C has it, with a null pointer at its end."""
+    return (TEXT * (len(words) + 1))(*(os.fsencode(word) for word in words), None)
+
+
+def listed(given: Any) -> Iterator[str]:
+    number = 0
+    while given[number]:
+        yield given[number].decode("utf-8", "replace")
+        number += 1
+
+
+@functools.lru_cache(maxsize=None)
+def loaded() -> Optional[Proj]:
+    """PROJ as one of the packages has it; None where there is none."""
+    for package in PACKAGES:
+        try:
+            module = importlib.import_module(package)
+            paths = paths_of(module)
+        except Exception:  # a package that is there and can't be used is none
+            continue
+        for path in libraries(package.partition(".")[0]):
+            try:
+                return Proj(ctypes.CDLL(path), paths)
+            except (OSError, AttributeError):
+                continue
+    return None
+
+
+def paths_of(module: Any) -> List[str]:
+    """Where a package has PROJ look for its data; nothing where that is PROJ's own choice."""
+    of_pyproj: Optional[Callable[[], str]] = getattr(getattr(module, "datadir", None), "get_data_dir", None)
+    if of_pyproj:
+        return of_pyproj().split(os.pathsep)
+    return list(module.GetPROJSearchPaths() or [])
+
+
+def libraries(package: str) -> List[str]:
+    """The files of PROJ's library in this process, those that a package brought itself first."""
+    found: Dict[str, None] = {}
+    with open("/proc/self/maps", encoding="utf-8", errors="surrogateescape") as maps:
+        for line in maps:
+            fields = line.rstrip("\n").split(maxsplit=5)
+            if len(fields) == 6 and re.match(r"libproj\b.*\.so|libproj-\w+\.so", os.path.basename(fields[5])):
+                found[fields[5]] = None
+    others = [name for name in ("pyproj", "osgeo", "gdal", "rasterio", "fiona", "pyogrio") if name != package]
+
+    def rank(path: str) -> int:
+        if f"/{package}" in path.lower():
+            return 0
+        return 2 if any(f"/{other}" in path.lower() for other in others) else 1
+
+    return sorted(found, key=rank)
