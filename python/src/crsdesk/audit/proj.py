@@ -20,6 +20,7 @@ CATEGORY_CRS = 3
 PACKAGES = ("pyproj", "osgeo.osr")
 MAPS = "/proc/self/maps"
 MOST_CANDIDATES = 5
+MOST_OF_NAME = 20
 
 
 class Info(ctypes.Structure):
@@ -77,6 +78,10 @@ def typed(found: Any) -> Any:
         "proj_create": (handle, [handle, word]),
         "proj_create_from_wkt": (handle, [handle, word, STRINGS, handle, handle]),
         "proj_create_from_database": (handle, [handle, word, word, number, number, STRINGS]),
+        "proj_create_from_name": (
+            handle,
+            [handle, word, word, handle, ctypes.c_size_t, number, ctypes.c_size_t, STRINGS],
+        ),
         "proj_string_list_destroy": (None, [handle]),
         "proj_as_wkt": (word, [handle, handle, number, STRINGS]),
         "proj_as_projjson": (word, [handle, handle, STRINGS]),
@@ -197,13 +202,31 @@ class Context:
         try:
             for index in range(min(self.proj.proj_list_get_count(found), MOST_CANDIDATES)):
                 it = self.kept(self.proj.proj_list_get(self.handle, found, index))
-                authority, code = self.proj.proj_get_id_auth_name(it, 0), self.proj.proj_get_id_code(it, 0)
-                if authority and code:
-                    yield Candidate(f"{authority.decode()}:{code.decode()}", confidences[index], self.wkt_of(it))
+                identifier = self.identifier_of(it)
+                if identifier:
+                    yield Candidate(identifier, confidences[index], self.wkt_of(it))
         finally:
             self.proj.proj_list_destroy(found)
             if confidences:
                 self.proj.proj_int_list_destroy(confidences)
+
+    def identifier_of(self, made: Any) -> str:
+        authority, code = self.proj.proj_get_id_auth_name(made, 0), self.proj.proj_get_id_code(made, 0)
+        return f"{authority.decode()}:{code.decode()}" if authority and code else ""
+
+    def identifiers_of_name(self, name: str) -> List[str]:
+        """The identifiers of the database's CRSs that have a name, or have it as an alias."""
+        found = self.proj.proj_create_from_name(self.handle, None, name.encode(), None, 0, 0, MOST_OF_NAME, None)
+        if not found:
+            return []
+        try:
+            made = [
+                self.kept(self.proj.proj_list_get(self.handle, found, index))
+                for index in range(self.proj.proj_list_get_count(found))
+            ]
+            return [self.identifier_of(it) for it in made if self.is_crs(it)]
+        finally:
+            self.proj.proj_list_destroy(found)
 
 
 @contextlib.contextmanager

@@ -1,0 +1,190 @@
+"""What kind of difference the parts are in which two CRSs differ: the datum, numbers, the axes, or names and digits.
+
+Differences are the library's. A kind says which to look at first, and is no part of sameness.
+"""
+
+from __future__ import annotations
+
+import enum
+import re
+import unicodedata
+from decimal import Decimal, InvalidOperation
+from typing import Dict, Iterator, List, NamedTuple, Optional, Sequence
+
+from .. import Difference
+from .tree import Node, nodes_in, text_of_node, unquoted
+
+
+class Kind(enum.IntEnum):
+    """The kinds, those first that are looked at first.
+
+    ``DATUM``    another reference frame, epoch, geoid or transformation, or a CRS of another kind
+    ``NUMBERS``  numbers that differ in more than their last digits; another method
+    ``AXES``     directions or order of the axes, or how many there are
+    ``NAMES``    names, identifiers, usages, and numbers in their last digits
+    """
+
+    DATUM = 0
+    NUMBERS = 1
+    AXES = 2
+    NAMES = 3
+
+    @property
+    def label(self) -> str:
+        return LABELS[self]
+
+
+LABELS = {Kind.DATUM: "datum", Kind.NUMBERS: "numbers", Kind.AXES: "axes", Kind.NAMES: "names and digits"}
+# Numbers that differ by less than this part of the larger one differ in digits alone. It is less than the difference of
+# the flattenings of WGS 84 and GRS 1980, which is 5 parts in 10^9.
+NEAR = 1e-9
+NEAR_ZERO = 1e-10
+TRANSFORMATION = "transformation"
+WITHOUT_NUMBERS = frozenset(("usage", "id", "remark", "members", "accuracy", "anchor", "anchorepoch", "model"))
+# Names that tools write where they know none.
+PLACEHOLDERS = frozenset(("", "unknown", "unnamed", "undefined", "unknown crs", "custom", "user defined"))
+
+
+class Row(NamedTuple):
+    """A part that differs, or a parameter or member of one, and its kind."""
+
+    path: str
+    first: Optional[str]
+    second: Optional[str]
+    kind: Kind
+
+
+def kind_of(parts: Sequence[Difference]) -> Kind:
+    """The kind of a pair of CRSs: the first of those of its parts."""
+    return min((row.kind for row in rows_of(parts)), default=Kind.NAMES)
+
+
+def rows_of(parts: Sequence[Difference]) -> List[Row]:
+    """The parts, a row each; of a set of parameters or members a row a member."""
+    by_path = {part.path: part for part in parts}
+    rows: List[Row] = []
+    for part in parts:
+        last = part.path.rpartition("/")[2]
+        if last in ("parameters", "members"):
+            rows += rows_of_set(part, last == "parameters")
+        else:
+            rows.append(Row(part.path, part.first, part.second, kind_of_part(part, by_path)))
+    return rows
+
+
+def kind_of_part(part: Difference, by_path: Dict[str, Difference]) -> Kind:
+    steps = [step for step in part.path.split("/") if step not in ("horizontal", "vertical", "base")]
+    first, last = (steps or [""])[0], (steps or [""])[-1]
+    if last in WITHOUT_NUMBERS:
+        return Kind.NAMES
+    if last == "unit":
+        return kind_of_units(part)
+    if first in ("datum", "meridian"):
+        return kind_of_frame(part, last, by_path)
+    if first == "system":
+        is_name = last == "name" and part.first is not None and part.second is not None
+        return Kind.NAMES if is_name else Kind.AXES
+    if first == "kind":
+        return Kind.AXES if {part.first, part.second} == {"geodetic", "geographic"} else Kind.DATUM
+    if first in ("dynamic", "geoid"):
+        return Kind.DATUM if part.first is not None and part.second is not None else Kind.NAMES
+    if first == TRANSFORMATION:
+        return Kind.DATUM
+    if part.path.endswith("method/name"):
+        return Kind.NAMES if folded(part.first) == folded(part.second) else Kind.NUMBERS
+    return Kind.NAMES
+
+
+def kind_of_frame(part: Difference, last: str, by_path: Dict[str, Difference]) -> Kind:
+    """The kind of a part of a datum or of a prime meridian."""
+    if last in ("semimajor", "flattening", "longitude"):
+        units = by_path.get(f"{part.path.rpartition('/')[0]}/unit")
+        factors = [factor_of(units.first), factor_of(units.second)] if units and last != "flattening" else [None, None]
+        numbers = [number_of(value) for value in (part.first, part.second)]
+        return Kind.NAMES if are_near(*map(product, numbers, factors)) else Kind.NUMBERS
+    if last == "name" and "ellipsoid" not in part.path and "meridian" not in part.path:
+        return Kind.NAMES if datum_folded(part.first) == datum_folded(part.second) else Kind.DATUM
+    return Kind.NAMES
+
+
+def kind_of_units(part: Difference) -> Kind:
+    """Units of one size differ in names; a unit beside none is one that is stated elsewhere."""
+    factors = factor_of(part.first), factor_of(part.second)
+    return Kind.NAMES if None in factors or are_near(*factors) else Kind.NUMBERS
+
+
+# Sets.
+
+
+def rows_of_set(part: Difference, is_of_parameters: bool) -> Iterator[Row]:
+    """A row for each parameter or member that differs, by its name."""
+    sides = [by_name(value) for value in (part.first, part.second)]
+    for key in dict.fromkeys([*sides[0], *sides[1]]):
+        both = [side.get(key) for side in sides]
+        name = next(node.name for node in both if node is not None)
+        texts = [text_of_node(node) if node else None for node in both]
+        kind = kind_of_parameters(*both) if is_of_parameters else Kind.NAMES
+        yield Row(f"{part.path}/{name}", texts[0], texts[1], kind)
+
+
+def by_name(written: Optional[str]) -> Dict[str, Node]:
+    return {folded(node.name): node for node in nodes_in(written or "")}
+
+
+def kind_of_parameters(first: Optional[Node], second: Optional[Node]) -> Kind:
+    """Of two of a name their values count, each in its unit; one that is on one side alone counts unless it does
+    nothing there."""
+    values = [value_of(it) for it in (first, second)]
+    if first is None or second is None:
+        return Kind.NAMES if next(it for it in values if it is not None) in (0, 1) else Kind.NUMBERS
+    return Kind.NAMES if are_near(*values) else Kind.NUMBERS
+
+
+def value_of(parameter: Optional[Node]) -> Optional[Decimal]:
+    if parameter is None:
+        return None
+    number = number_of(parameter.values[1]) if len(parameter.values) > 1 else None
+    units = [node for node in parameter.nodes if node.keyword.endswith("UNIT")]
+    return product(number, number_of(units[0].values[1]) if units and len(units[0].values) > 1 else None)
+
+
+# Values.
+
+
+def factor_of(unit: Optional[str]) -> Optional[Decimal]:
+    """The factor of a unit that is written as a node."""
+    nodes = nodes_in(unit or "")
+    return number_of(nodes[0].values[1]) if nodes and len(nodes[0].values) > 1 else None
+
+
+def number_of(written: Optional[str]) -> Optional[Decimal]:
+    try:
+        return None if written is None else Decimal(written)
+    except InvalidOperation:
+        return None
+
+
+def product(number: Optional[Decimal], factor: Optional[Decimal]) -> Optional[Decimal]:
+    return number if number is None or factor is None else number * factor
+
+
+def are_near(first: Optional[Decimal], second: Optional[Decimal]) -> bool:
+    """Whether two numbers differ in their last digits at most."""
+    if first is None or second is None:
+        return first is second
+    one, other = float(first), float(second)
+    return abs(one - other) <= max(NEAR * max(abs(one), abs(other)), NEAR_ZERO)
+
+
+def folded(name: Optional[str]) -> str:
+    """A name's letters and digits, without case."""
+    return re.sub(r"[\W_]+", "", unicodedata.normalize("NFKC", unquoted(name or "")).casefold())
+
+
+def datum_folded(name: Optional[str]) -> str:
+    """A datum's name, without what tools add to it."""
+    return re.sub(r"ensemble$", "", folded(re.sub(r"^D_", "", unquoted(name or ""))))
+
+
+def is_placeholder(name: str) -> bool:
+    return name.strip().casefold() in PLACEHOLDERS

@@ -1,0 +1,134 @@
+"""What the installed database of PROJ, a registry of CRSs, has of a CRS. It is no part of sameness.
+
+A CRS with an identifier of its own is compared with the registry's of that identifier, another one with those that PROJ
+takes for it; the library says in which parts they differ.
+"""
+
+from __future__ import annotations
+
+import enum
+from dataclasses import dataclass, field
+from typing import List, NamedTuple, Tuple
+
+from .. import Crs, Difference, Refused
+from .kinds import Kind, folded, is_placeholder, kind_of
+from .proj import Context, context
+from .tree import tree_of
+
+
+class Verdict(enum.Enum):
+    """What a comparison with the registry says, those first that are looked at first."""
+
+    OTHER_NAME = "bears another code's name"
+    DATUM = "datum"
+    NUMBERS = "numbers"
+    AXES = "axes"
+    UNKNOWN_CODE = "code isn't in the registry"
+    UNREAD = "the registry's CRS isn't read"
+    NAMES = "names and digits"
+    UNIDENTIFIED = "not identified"
+    SAME = "as registered"
+
+    @property
+    def is_finding(self) -> bool:
+        """Whether it is looked at first."""
+        return self in FINDINGS
+
+
+FINDINGS = (Verdict.OTHER_NAME, Verdict.DATUM, Verdict.NUMBERS, Verdict.AXES, Verdict.UNKNOWN_CODE)
+OF_KIND = {
+    Kind.DATUM: Verdict.DATUM,
+    Kind.NUMBERS: Verdict.NUMBERS,
+    Kind.AXES: Verdict.AXES,
+    Kind.NAMES: Verdict.NAMES,
+}
+
+
+class Asked(NamedTuple):
+    """A CRS to look for: its canonical text, name and own identifiers."""
+
+    text: str
+    name: str
+    identifiers: Tuple[str, ...]
+
+
+class Guess(NamedTuple):
+    """A CRS of the registry that PROJ takes for one, with its confidence in per cent."""
+
+    identifier: str
+    confidence: int
+
+
+@dataclass
+class Registered:
+    """What the registry has of a CRS.
+
+    ``identifier``  that of the registry's CRS with which it is compared, its ``name``, and how confident PROJ is that it
+                    is this one, in per cent; 100 where the text has the identifier
+    ``parts``       in which the two differ by definition; ``first`` is the registry's value
+    ``guesses``     all that PROJ takes for it, where the text has no identifier
+    ``other``       the identifier of another code whose name it bears
+    """
+
+    verdict: Verdict
+    identifier: str = ""
+    name: str = ""
+    confidence: int = 0
+    is_own: bool = False
+    parts: List[Difference] = field(default_factory=list)
+    guesses: List[Guess] = field(default_factory=list)
+    other: str = ""
+
+
+def registered(asked: Asked) -> Registered:
+    """What the registry has of a CRS."""
+    with context() as proj:
+        own = [it for it in asked.identifiers if ":" in it]
+        for identifier in own:
+            made = proj.from_code(identifier)
+            if made:
+                return compared(proj, asked, identifier, proj.wkt_of(made), 100, True)
+        if own:
+            return Registered(Verdict.UNKNOWN_CODE, own[0], is_own=True)
+        return identified(proj, asked)
+
+
+def identified(proj: Context, asked: Asked) -> Registered:
+    """The comparison with the candidate that differs least, of those that differ alike the first."""
+    made = proj.from_wkt(asked.text)
+    candidates = list(proj.candidates_of(made)) if made else []
+    found = [compared(proj, asked, *it[:1], it.text, it.confidence, False) for it in candidates]
+    if not found:
+        return Registered(Verdict.UNIDENTIFIED)
+    best = min(found, key=severity)
+    best.guesses = [Guess(it.identifier, it.confidence) for it in candidates]
+    return best
+
+
+def severity(found: Registered) -> Tuple[int, int]:
+    order = (Verdict.SAME, Verdict.NAMES, Verdict.AXES, Verdict.OTHER_NAME, Verdict.NUMBERS, Verdict.DATUM)
+    return order.index(found.verdict) if found.verdict in order else len(order), -found.confidence
+
+
+def compared(proj: Context, asked: Asked, identifier: str, text: str, confidence: int, is_own: bool) -> Registered:
+    """The comparison with a CRS of the registry."""
+    try:
+        crs = Crs(text)
+    except Refused:
+        return Registered(Verdict.UNREAD, identifier, "", confidence, is_own)
+    name = tree_of(text).name
+    parts = crs.differences(asked.text, "definition")
+    verdict = OF_KIND[kind_of(parts)] if parts else Verdict.SAME
+    found = Registered(verdict, identifier, name, confidence, is_own, parts)
+    found.other = other_of_name(proj, asked.name, identifier, name)
+    if found.other:
+        found.verdict = Verdict.OTHER_NAME
+    return found
+
+
+def other_of_name(proj: Context, name: str, identifier: str, registered_name: str) -> str:
+    """The identifier of another CRS of the registry that has a name; nothing where this one has it, by any alias."""
+    if is_placeholder(name) or folded(name) == folded(registered_name):
+        return ""
+    identifiers = proj.identifiers_of_name(name)
+    return "" if identifier in identifiers else next(iter(identifiers), "")
