@@ -25,6 +25,8 @@ LEVEL_HELP = "what counts: full, or definition, without identifiers, usages and 
 FILE_HELP = "a file with a text; - is standard input"
 LINES_HELP = "a file has a text a line (docs/CATALOGUES.md)"
 LINES_HELP_OF_AUDIT = "it has a text a line, and so has a file of another suffix that is named itself"
+CONVERT_HELP = "has PROJ read the texts that are refused (WKT1, PROJ strings, codes), without repairs"
+REGISTRY_HELP = "compares the CRSs with those of PROJ's database"
 
 
 class Place(NamedTuple):
@@ -245,6 +247,8 @@ def parser() -> argparse.ArgumentParser:
     made.add_argument("paths", nargs="+", metavar="PATH", help="a folder, with all below it, or a file")
     made.add_argument("--txt", action="store_true", help="a .txt file is a text")
     made.add_argument("--lines", action="store_true", help=LINES_HELP_OF_AUDIT)
+    made.add_argument("--convert", action="store_true", help=CONVERT_HELP)
+    made.add_argument("--registry", action="store_true", help=REGISTRY_HELP)
     made.add_argument("--html", metavar="FILE", help="writes the report as a page")
     made.add_argument("--json", metavar="FILE", help="writes it as data (docs/audit.schema.json)")
     made.add_argument("--csv", metavar="FILE", help="writes a row a text")

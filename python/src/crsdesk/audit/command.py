@@ -14,7 +14,9 @@ from .collecting import Listing, Workers, listing_of
 from .judging import Told, Two, parts_of, told_of
 from .names import place_shown, readable, visible
 from .output import Outputs, is_special
+from .proj import library
 from .reading import Unread
+from .registry import Asked, Registered, Verdict, registered
 from .report import Report, report_of
 
 if TYPE_CHECKING:
@@ -39,6 +41,11 @@ def run_audit(run: Run, asked: argparse.Namespace) -> None:
     lacking = [name for name in NEEDED if importlib.util.find_spec(name) is None]
     if lacking:
         run.tell(f"crsdesk: audit needs {' and '.join(lacking)}: pip install {' '.join(lacking)} (or crsdesk[audit])")
+        run.ends(FAULT)
+        return
+    if (asked.convert or asked.registry) and library() is None:
+        option = "--convert" if asked.convert else "--registry"
+        run.tell(f"crsdesk: audit {option} needs PROJ's library: pip install pyproj (or osgeo, or the system's PROJ)")
         run.ends(FAULT)
         return
     for number in SIGNALS:
@@ -75,7 +82,8 @@ def audit(run: Run, asked: argparse.Namespace) -> None:
     writers = dict(named)
     try:
         with Outputs(list(writers)) as outputs:
-            report = report_on(asked.paths, listing, asked.jobs or len(os.sched_getaffinity(0)))
+            jobs = asked.jobs or len(os.sched_getaffinity(0))
+            report = report_on(asked.paths, listing, jobs, asked.convert, asked.registry)
             for name, write in writers.items():
                 outputs.write(name, functools.partial(write, report))
             outputs.finish()
@@ -125,17 +133,30 @@ def identity_of(path: str) -> Optional[Tuple[int, int]]:
     return status.st_dev, status.st_ino
 
 
-def report_on(paths: Sequence[str], listing: Listing, jobs: int) -> Report:
+class Processes:
+    """What a report asks, answered by processes."""
+
+    def __init__(self, workers: Workers, is_registered: bool) -> None:
+        self.workers = workers
+        self.is_registered = is_registered
+
+    def compare(self, pairs: Sequence[Two]) -> List[List[Difference]]:
+        answers = self.workers.answers(parts_of, pairs, lost_comparison)
+        return in_order(followed(answers, len(pairs), "comparing CRSs"))
+
+    def register(self, asked: Sequence[Asked]) -> List[Registered]:
+        if not self.is_registered:
+            return []
+        answers = self.workers.answers(registered, asked, lost_registered)
+        return in_order(followed(answers, len(asked), "asking the registry"))
+
+
+def report_on(paths: Sequence[str], listing: Listing, jobs: int, converts: bool, is_registered: bool) -> Report:
     """The report on the files of a listing, which processes read."""
     with Workers(jobs) as workers:
-
-        def compare(pairs: Sequence[Two]) -> List[List[Difference]]:
-            answers = workers.answers(parts_of, pairs, lost_comparison)
-            return in_order(followed(answers, len(pairs), "comparing CRSs"))
-
-        answers = workers.answers(told_of, listing.files, lost_file)
+        answers = workers.answers(functools.partial(told_of, converts=converts), listing.files, lost_file)
         told = in_order(followed(answers, len(listing.files), "reading files"))
-        return report_of(paths, listing, told, compare)
+        return report_of(paths, listing, told, Processes(workers, is_registered))
 
 
 def in_order(answers: Iterable[Tuple[int, Answer]]) -> List[Answer]:
@@ -159,6 +180,10 @@ def followed(answers: Iterable[Answer], total: int, what: str) -> Iterable[Answe
 
 def lost_file(how: str) -> Told:
     return Told(unread=[Unread(f"the process that read it ended: {how}")])
+
+
+def lost_registered(how: str) -> Registered:
+    return Registered(Verdict.UNREAD, name=f"the process that asked ended: {how}")
 
 
 def lost_comparison(how: str) -> List[Difference]:

@@ -180,8 +180,7 @@ def unbound(node: Node, transformations: List[str]) -> Node:
             raise ValueError("a bound CRS without its parts")
         transformations.append(told_of(target.nodes[0], way))
         return unbound(source.nodes[0], transformations)
-    items = [unbound(it, transformations) if isinstance(it, Node) else it for it in node.items]
-    return Node(node.keyword, items)
+    return Node(node.keyword, [unbound(it, transformations) if isinstance(it, Node) else it for it in node.items])
 
 
 def told_of(target: Node, way: Node) -> str:

@@ -8,10 +8,25 @@ import os
 from typing import Any, Dict, List, TextIO
 
 from .. import Difference, __version__
+from .kinds import rows_of
 from .names import visible
-from .report import Area, Definition, NearMiss, Place, RefusedText, Report, Summary, Untold, Variant
+from .registry import Registered
+from .report import (
+    Area,
+    DataSet,
+    Definition,
+    NearMiss,
+    Pair,
+    Place,
+    RefusedText,
+    Report,
+    Summary,
+    Untold,
+    Variant,
+    cause_of,
+)
 
-FORM = "crsdesk audit 1"
+FORM = "crsdesk audit 2"
 
 
 def write_json(report: Report, file: TextIO) -> None:
@@ -28,6 +43,7 @@ def data_of(report: Report) -> Dict[str, Any]:
         "summary": of_summary(report.summary),
         "definitions": [of_definition(it) for it in report.definitions],
         "near_misses": [of_near_miss(it) for it in report.near_misses],
+        "data_sets": [of_data_set(it) for it in report.data_sets],
         "areas": [of_area(it) for it in report.areas],
         "refused": [of_refused(it) for it in report.refused],
         "without": [of_untold(it) for it in report.without],
@@ -55,6 +71,8 @@ def of_place(place: Place) -> Dict[str, Any]:
         data["layer"] = name_of(place.layer)
     if place.line:
         data["line"] = place.line
+    if place.read_by:
+        data["read_by"] = place.read_by
     return data
 
 
@@ -62,6 +80,7 @@ def of_summary(summary: Summary) -> Dict[str, Any]:
     data = dataclasses.asdict(summary)
     data["others"] = {name_of(suffix): count for suffix, count in summary.others.items()}
     data["refused_by_number"] = [it._asdict() for it in summary.refused_by_number]
+    data["causes"] = [it._asdict() for it in summary.causes]
     return data
 
 
@@ -73,6 +92,7 @@ def of_definition(definition: Definition) -> Dict[str, Any]:
         "identifiers": definition.identifiers,
         "texts": definition.texts,
         "text": definition.text,
+        "transformation": definition.transformation or None,
         "variants": [of_variant(it) for it in definition.variants],
     }
 
@@ -83,7 +103,21 @@ def of_variant(variant: Variant) -> Dict[str, Any]:
         "identifiers": list(variant.crs.identifiers),
         "text": variant.crs.full,
         "parts": of_parts(variant.parts),
+        "registered": of_registered(variant.registered) if variant.registered else None,
         "places": [of_place(it) for it in variant.places],
+    }
+
+
+def of_registered(found: Registered) -> Dict[str, Any]:
+    return {
+        "verdict": found.verdict.value,
+        "identifier": found.identifier or None,
+        "name": found.name or None,
+        "confidence": found.confidence,
+        "is_own": found.is_own,
+        "other": found.other or None,
+        "guesses": [it._asdict() for it in found.guesses],
+        "parts": of_kinds(found.parts),
     }
 
 
@@ -91,12 +125,35 @@ def of_parts(parts: List[Difference]) -> List[Dict[str, Any]]:
     return [{"path": it.path, "first": it.first, "second": it.second} for it in parts]
 
 
+def of_kinds(parts: List[Difference]) -> List[Dict[str, Any]]:
+    """Parts with what kind of difference each is; of a set of parameters a part a parameter."""
+    return [{**row._asdict(), "kind": row.kind.label} for row in rows_of(parts)]
+
+
+def of_pair(pair: Pair) -> Dict[str, Any]:
+    return {
+        "first": pair.first,
+        "second": pair.second,
+        "identifiers": pair.identifiers,
+        "kind": pair.kind.label,
+        "parts": of_kinds(pair.parts),
+    }
+
+
 def of_near_miss(miss: NearMiss) -> Dict[str, Any]:
-    pairs = [
-        {"first": it.first, "second": it.second, "identifiers": it.identifiers, "parts": of_parts(it.parts)}
-        for it in miss.pairs
-    ]
-    return {"by": miss.by, "value": miss.value, "pairs": pairs}
+    return {"by": miss.by, "value": miss.value, "kind": miss.kind.label, "pairs": [of_pair(it) for it in miss.pairs]}
+
+
+def of_data_set(data_set: DataSet) -> Dict[str, Any]:
+    return {
+        "path": name_of(data_set.path),
+        "kind": None if data_set.kind is None else data_set.kind.label,
+        "texts": [
+            {"place": of_place(it.place), "definition": it.definition.number if it.definition else None}
+            for it in data_set.rows
+        ],
+        "pairs": [of_pair(it) for it in data_set.pairs],
+    }
 
 
 def of_area(area: Area) -> Dict[str, Any]:
@@ -116,6 +173,8 @@ def of_refused(refused: RefusedText) -> Dict[str, Any]:
         "expected": list(found.expected),
         "meaning": found.meaning,
         "hint": found.hint or None,
+        "cause": cause_of(found),
+        "doubts": list(found.doubts),
     }
 
 

@@ -2,6 +2,7 @@
 
 from __future__ import annotations
 
+import dataclasses
 import functools
 import hashlib
 import re
@@ -9,6 +10,8 @@ from dataclasses import dataclass, field
 from typing import Dict, Iterator, List, NamedTuple, Optional, Tuple, Union
 
 from .. import Crs, Difference, Level, Refused
+from .converting import converted
+from .kinds import TRANSFORMATION
 from .reading import File, Skipped, Text, Unread, Way, Without, read
 
 TOKEN = re.compile(r'"(?:[^"]|"")*"|[\[\],]|[^\[\],"]+')
@@ -30,6 +33,7 @@ class Spelled:
     ``full``         its canonical text with everything, ``definition`` the one without identifiers, usages and remarks
     ``identifiers``  its own, as ``EPSG:4326``
     ``boxes``        its areas of use, and those of its parts
+    ``transformation``  of a bound CRS, which makes it another one than its source CRS; nothing of any other
     """
 
     full: str
@@ -38,12 +42,14 @@ class Spelled:
     name: str
     identifiers: Tuple[str, ...]
     boxes: Tuple[Box, ...]
+    transformation: str = ""
 
 
 @dataclass(frozen=True)
 class Refusal:
     """Why a text is refused, in the words of ``Refused``: ``place`` is its byte, ``piece`` the line with a caret below,
-    ``expected`` what could come there, ``hint`` what the text most likely is and what to do, or nothing."""
+    ``expected`` what could come there, ``hint`` what the text most likely is and what to do, or nothing, ``doubts`` why
+    what PROJ reads the text as isn't taken, where that was tried."""
 
     number: int
     name: str
@@ -54,16 +60,21 @@ class Refusal:
     expected: Tuple[str, ...]
     meaning: str
     hint: str
+    doubts: Tuple[str, ...] = ()
 
 
 class Judged(NamedTuple):
-    """A text's answer: the CRS by its place in the list of its file, or the refusal; the digest tells equal texts."""
+    """A text's answer: the CRS by its place in the list of its file, or the refusal; the digest tells equal texts.
+    ``read_by`` is the version of PROJ that has read it, where that was asked and the library refuses it; ``states_axes``
+    whether the text itself has the axes, which PROJ fills in where WKT1 has none."""
 
     layer: str
     line: int
     digest: bytes
     crs: int
     refusal: Optional[Refusal]
+    read_by: str = ""
+    states_axes: bool = True
 
 
 @dataclass
@@ -77,10 +88,11 @@ class Told:
     skipped: List[Skipped] = field(default_factory=list)
 
 
-def told_of(file: File) -> Told:
-    """What a file states. Each of its CRSs is in the list once. Layers of a database are in the order of their names."""
+def told_of(file: File, converts: bool = False) -> Told:
+    """What a file states. Each of its CRSs is in the list once. Layers of a database are in the order of their names.
+    Where that is asked PROJ converts what the library refuses."""
     told = Told()
-    known: Dict[str, int] = {}
+    known: Known = {}
     last: Optional[bytes] = None
     for found in read(file):
         if isinstance(found, Text):
@@ -89,7 +101,7 @@ def told_of(file: File) -> Told:
                 told.texts.append(told.texts[-1]._replace(layer=found.layer))
                 continue
             try:
-                told.texts.append(judged(found, told.spelled, known))
+                told.texts.append(judged(found, told.spelled, known, converts))
                 last = found.text
             except MemoryError:
                 told.unread.append(Unread("out of memory", found.layer, found.line))
@@ -110,23 +122,42 @@ def by_layer(it: Union[Judged, Without, Unread]) -> bytes:
     return it.layer.encode("utf-8", "surrogateescape")
 
 
-def judged(found: Text, spelled: List[Spelled], known: Dict[str, int]) -> Judged:
+# The CRSs of a file, by canonical text and transformation, with their places in its list.
+Known = Dict[Tuple[str, str], int]
+
+
+def judged(found: Text, spelled: List[Spelled], known: Known, converts: bool) -> Judged:
     """A text's answer. A CRS that isn't known yet is added."""
     digest = hashlib.blake2b(found.text, digest_size=16).digest()
+    transformation = read_by = ""
     try:
         crs = Crs(found.text)
     except Refused as refused:
-        return Judged(found.layer, found.line, digest, -1, refusal_of(refused, found.line))
-    full = str(crs)
-    if full not in known:
-        known[full] = len(spelled)
-        spelled.append(spelled_by(crs))
-    return Judged(found.layer, found.line, digest, known[full], None)
+        refusal = refusal_of(refused, found.line)
+        conversion = converted(found.text) if converts else None
+        if conversion is None:
+            return Judged(found.layer, found.line, digest, -1, refusal)
+        doubts: Tuple[str, ...] = conversion.warnings
+        if not doubts:
+            transformation, read_by = conversion.transformation, conversion.producer
+            try:
+                crs = Crs(conversion.text)
+            except Refused as its:
+                doubts = (f"{conversion.producer} writes a text that is refused: {its.summary}",)
+        if doubts:
+            return Judged(found.layer, found.line, digest, -1, dataclasses.replace(refusal, doubts=doubts))
+    key = str(crs), transformation
+    if key not in known:
+        known[key] = len(spelled)
+        spelled.append(spelled_by(crs, transformation))
+    return Judged(
+        found.layer, found.line, digest, known[key], None, read_by, not read_by or b"AXIS" in found.text.upper()
+    )
 
 
-def spelled_by(crs: Crs) -> Spelled:
+def spelled_by(crs: Crs, transformation: str) -> Spelled:
     name, identifiers, boxes = facts_of(str(crs))
-    return Spelled(str(crs), crs.canonical("definition"), crs.kind, name, identifiers, boxes)
+    return Spelled(str(crs), crs.canonical("definition"), crs.kind, name, identifiers, boxes, transformation)
 
 
 def refusal_of(refused: Refused, line: int) -> Refusal:
@@ -178,13 +209,18 @@ def nodes_of(canonical: str) -> Iterator[Tuple[int, str, List[str]]]:
 
 
 class Two(NamedTuple):
-    """Two CRSs to compare at a level, by their canonical texts."""
+    """Two CRSs to compare at a level, by their canonical texts and their transformations."""
 
     first: str
     second: str
     level: Level
+    transformations: Tuple[str, str] = ("", "")
 
 
 def parts_of(two: Two) -> List[Difference]:
-    """The parts in which two CRSs differ."""
-    return Crs(two.first).differences(two.second, two.level)
+    """The parts in which two CRSs differ; their transformations are the last one."""
+    parts = Crs(two.first).differences(two.second, two.level)
+    first, second = two.transformations
+    if first != second:
+        parts.append(Difference(TRANSFORMATION, first or None, second or None))
+    return parts

@@ -9,7 +9,7 @@ import enum
 import re
 import unicodedata
 from decimal import Decimal, InvalidOperation
-from typing import Dict, Iterator, List, NamedTuple, Optional, Sequence
+from typing import Dict, Iterator, List, NamedTuple, Optional, Sequence, Tuple
 
 from .. import Difference
 from .tree import Node, nodes_in, text_of_node, unquoted
@@ -65,7 +65,7 @@ def rows_of(parts: Sequence[Difference]) -> List[Row]:
     rows: List[Row] = []
     for part in parts:
         last = part.path.rpartition("/")[2]
-        if last in ("parameters", "members"):
+        if last == "parameters" or last == "members" and part.first and part.second:
             rows += rows_of_set(part, last == "parameters")
         else:
             rows.append(Row(part.path, part.first, part.second, kind_of_part(part, by_path)))
@@ -134,18 +134,20 @@ def by_name(written: Optional[str]) -> Dict[str, Node]:
 def kind_of_parameters(first: Optional[Node], second: Optional[Node]) -> Kind:
     """Of two of a name their values count, each in its unit; one that is on one side alone counts unless it does
     nothing there."""
-    values = [value_of(it) for it in (first, second)]
-    if first is None or second is None:
-        return Kind.NAMES if next(it for it in values if it is not None) in (0, 1) else Kind.NUMBERS
-    return Kind.NAMES if are_near(*values) else Kind.NUMBERS
+    sides = [number_and_factor(it) for it in (first, second) if it is not None]
+    if len(sides) == 1:
+        return Kind.NAMES if sides[0][0] in (0, 1) else Kind.NUMBERS
+    if any(factor is None for _, factor in sides):
+        # The unit of one of them is stated elsewhere in its CRS.
+        return Kind.NAMES if are_near(*(number for number, _ in sides)) else Kind.NUMBERS
+    return Kind.NAMES if are_near(*(product(*it) for it in sides)) else Kind.NUMBERS
 
 
-def value_of(parameter: Optional[Node]) -> Optional[Decimal]:
-    if parameter is None:
-        return None
+def number_and_factor(parameter: Node) -> Tuple[Optional[Decimal], Optional[Decimal]]:
+    """A parameter's number, and the factor of its unit, if it has one."""
     number = number_of(parameter.values[1]) if len(parameter.values) > 1 else None
     units = [node for node in parameter.nodes if node.keyword.endswith("UNIT")]
-    return product(number, number_of(units[0].values[1]) if units and len(units[0].values) > 1 else None)
+    return number, number_of(units[0].values[1]) if units and len(units[0].values) > 1 else None
 
 
 # Values.

@@ -48,21 +48,24 @@ def library() -> Optional[Any]:
     for package in PACKAGES:
         with contextlib.suppress(ImportError):
             importlib.import_module(package)
-    for path in (*loaded(), ctypes.util.find_library("proj")):
-        with contextlib.suppress(OSError, AttributeError):
-            if path:
-                return typed(ctypes.CDLL(path))
+            for path in loaded():
+                with contextlib.suppress(OSError, AttributeError):
+                    return typed(ctypes.CDLL(path))
+    name = ctypes.util.find_library("proj")
+    with contextlib.suppress(OSError, AttributeError):
+        return typed(ctypes.CDLL(name)) if name else None
     return None
 
 
 def loaded() -> List[str]:
-    """The files of PROJ's library that this process has loaded."""
+    """The files of PROJ's library that this process has loaded; that of pyproj is the first."""
     try:
         with open(MAPS, encoding="utf-8", errors="surrogateescape") as file:
             paths = dict.fromkeys(line.split(None, 5)[-1].rstrip("\n") for line in file)
     except OSError:
         return []
-    return [path for path in paths if os.path.basename(path).startswith("libproj")]
+    found = [path for path in paths if os.path.basename(path).startswith("libproj")]
+    return sorted(found, key=lambda path: ("pyproj" not in path, path))
 
 
 def typed(found: Any) -> Any:
@@ -186,12 +189,10 @@ class Context:
 
     def wkt_of(self, made: Any) -> str:
         """The text in WKT2:2019; nothing where PROJ has none."""
-        text = self.proj.proj_as_wkt(self.handle, made, WKT2_2019, strings("MULTILINE=NO"))
-        return text.decode("utf-8", "replace") if text else ""
+        return decoded(self.proj.proj_as_wkt(self.handle, made, WKT2_2019, strings("MULTILINE=NO")))
 
     def json_of(self, made: Any) -> str:
-        text = self.proj.proj_as_projjson(self.handle, made, strings("MULTILINE=NO"))
-        return text.decode("utf-8", "replace") if text else ""
+        return decoded(self.proj.proj_as_projjson(self.handle, made, strings("MULTILINE=NO")))
 
     def candidates_of(self, made: Any) -> Iterator[Candidate]:
         """The CRSs of the database that PROJ takes for this one, those of the most confidence first."""
@@ -254,6 +255,10 @@ def words_at(address: int) -> Iterator[str]:
     while (word := words[index]) is not None:
         yield one_line(word)
         index += 1
+
+
+def decoded(text: Optional[bytes]) -> str:
+    return text.decode("utf-8", "replace") if text else ""
 
 
 def one_line(words: bytes) -> str:

@@ -25,6 +25,7 @@ class Verdict(enum.Enum):
     AXES = "axes"
     UNKNOWN_CODE = "code isn't in the registry"
     UNREAD = "the registry's CRS isn't read"
+    FILLED_IN = "axes that the text doesn't state"
     NAMES = "names and digits"
     UNIDENTIFIED = "not identified"
     SAME = "as registered"

@@ -2,23 +2,30 @@
 
 from __future__ import annotations
 
+import collections
+import re
 from dataclasses import dataclass, field
-from typing import Callable, Dict, Iterable, Iterator, List, NamedTuple, Optional, Sequence, Set, Tuple
+from typing import Dict, Iterable, Iterator, List, NamedTuple, Optional, Protocol, Sequence, Set, Tuple
 
 from .. import Difference
 from .collecting import Listing, Odd
+from .datasets import Belongs, belongs_to
 from .judging import Box, Refusal, Spelled, Told, Two
+from .kinds import Kind, folded, is_placeholder, kind_of
 from .reading import File
+from .registry import Asked, Registered, Verdict
 
 FULL, DEFINITION = "full", "definition"
 
 
 class Place(NamedTuple):
-    """Where a text is: its file, with the layer or member in it, or the line, counted from 1."""
+    """Where a text is: its file, with the layer or member in it, or the line, counted from 1. ``read_by`` is the version
+    of PROJ that has read the text, where it isn't read as it is."""
 
     file: str
     layer: str = ""
     line: int = 0
+    read_by: str = ""
 
 
 @dataclass
@@ -26,20 +33,25 @@ class Variant:
     """A CRS with everything, and where it is; ``number`` counts those of its definition.
 
     ``parts`` are those in which it differs from the first CRS of its definition: identifiers, usages, remarks.
+    ``registered`` is what the registry has of it, where that was asked; ``states_axes`` whether a text of it has its axes.
     """
 
     number: int
     crs: Spelled
     places: List[Place] = field(default_factory=list)
     parts: List[Difference] = field(default_factory=list)
+    registered: Optional[Registered] = None
+    states_axes: bool = False
 
 
 @dataclass
 class Definition:
-    """The CRSs that are the same by definition, those of the most texts first; ``text`` is the canonical text."""
+    """The CRSs that are the same by definition, those of the most texts first; ``text`` is the canonical text. Bound CRSs
+    of one source CRS are the same where their transformations are."""
 
     number: int
     text: str
+    transformation: str = ""
     variants: List[Variant] = field(default_factory=list)
 
     @property
@@ -56,6 +68,11 @@ class Definition:
         return list(dict.fromkeys(it for variant in self.variants for it in variant.crs.identifiers))
 
     @property
+    def states_axes(self) -> bool:
+        """Whether a text of it has its axes."""
+        return any(variant.states_axes for variant in self.variants)
+
+    @property
     def texts(self) -> int:
         """How many texts spell it."""
         return sum(len(variant.places) for variant in self.variants)
@@ -63,22 +80,54 @@ class Definition:
 
 @dataclass
 class Pair:
-    """Two definitions, by their numbers, that differ in parts; ``identifiers`` are those that both have."""
+    """Two definitions, by their numbers, that differ in parts; ``identifiers`` are those that both have, ``states_axes``
+    whether both have texts with axes."""
 
     first: int
     second: int
     identifiers: List[str]
+    states_axes: bool = True
     parts: List[Difference] = field(default_factory=list)
+
+    @property
+    def kind(self) -> Kind:
+        """That of the parts; axes that no text states are no difference of axes."""
+        kind = kind_of(self.parts)
+        return Kind.NAMES if kind is Kind.AXES and not self.states_axes else kind
 
 
 @dataclass
 class NearMiss:
     """Definitions that differ, of one name or of one identifier: ``by`` says which, and ``value`` has it. Each pair is
-    the definition of the most texts, and one of the others."""
+    the definition of the most texts, and one of the others; what is to be looked at first comes first."""
 
     by: str
     value: str
     pairs: List[Pair]
+
+    @property
+    def kind(self) -> Kind:
+        return min(pair.kind for pair in self.pairs)
+
+
+@dataclass
+class DataSet:
+    """Files that belong to one data set, and the pairs of their CRSs that aren't the same by definition: each beside what
+    the data set itself says, or else its first text. ``path`` has no suffix."""
+
+    path: str
+    rows: List[Row]
+    pairs: List[Pair] = field(default_factory=list)
+
+    @property
+    def kind(self) -> Optional[Kind]:
+        """That of its texts, where they disagree."""
+        return min((pair.kind for pair in self.pairs), default=None)
+
+    @property
+    def disagrees(self) -> bool:
+        """Whether its texts disagree in more than names and digits."""
+        return self.kind is not None and self.kind < Kind.NAMES
 
 
 @dataclass
@@ -120,6 +169,14 @@ class Row:
     definition: Optional[Definition] = None
     variant: Optional[Variant] = None
     refusal: Optional[Refusal] = None
+    states_axes: bool = True
+
+
+class Cause(NamedTuple):
+    """How many texts are refused since they are something else, such as WKT1, or by a number."""
+
+    name: str
+    texts: int
 
 
 @dataclass
@@ -134,6 +191,9 @@ class Summary:
     ``respellings``  other texts that spell a CRS that one before spells too: ``accepted`` is ``crss``, ``copies`` and
                      ``respellings`` together
     ``alone``        CRSs that differ from another in identifiers, usages or remarks alone; ``alone_definitions`` theirs
+    ``converted``    of the accepted texts those that PROJ has read, and ``read_by`` its version
+    ``data_sets``    those of several texts, and of them how many disagree in more than names and digits
+    ``registry``     accepted texts by what the registry has of their CRSs, where that was asked
     """
 
     files: int = 0
@@ -148,6 +208,12 @@ class Summary:
     respellings: int = 0
     alone: int = 0
     alone_definitions: int = 0
+    causes: List[Cause] = field(default_factory=list)
+    converted: int = 0
+    read_by: str = ""
+    data_sets: int = 0
+    disagreeing: int = 0
+    registry: Dict[str, int] = field(default_factory=dict)
 
 
 @dataclass
@@ -158,6 +224,7 @@ class Report:
     summary: Summary
     definitions: List[Definition]
     near_misses: List[NearMiss]
+    data_sets: List[DataSet]
     areas: List[Area]
     refused: List[RefusedText]
     without: List[Untold]
@@ -172,13 +239,19 @@ class Report:
         return 2 if self.unread else 1 if self.refused else 0
 
 
-# Compares pairs of CRSs, and answers the parts of each in their order.
-Compare = Callable[[Sequence[Two]], List[List[Difference]]]
+class Asks(Protocol):
+    """What the report asks of the library, in processes: each answer is in the place of what it is of."""
+
+    def compare(self, pairs: Sequence[Two]) -> List[List[Difference]]:
+        """The parts of each pair of CRSs, in their order."""
+
+    def register(self, asked: Sequence[Asked]) -> List[Registered]:
+        """What the registry has of each CRS; nothing at all where that isn't wanted."""
 
 
-def report_of(paths: Sequence[str], listing: Listing, told: Sequence[Told], compare: Compare) -> Report:
+def report_of(paths: Sequence[str], listing: Listing, told: Sequence[Told], asks: Asks) -> Report:
     """The report of what each of the listed files states."""
-    report = Report(list(paths), Summary(files=len(listing.files)), [], [], [], [], [], [], [], [], [])
+    report = Report(list(paths), Summary(files=len(listing.files)), [], [], [], [], [], [], [], [], [], [])
     report.summary.others = dict(sorted(listing.others.items()))
     report.unread += odd_ones(listing.unread)
     report.passed += odd_ones(listing.passed)
@@ -188,8 +261,18 @@ def report_of(paths: Sequence[str], listing: Listing, told: Sequence[Told], comp
         report.skipped += (Untold(Place(file.path, it.layer), it.lacking) for it in its.skipped)
     report.definitions = definitions_of(rows_of(listing.files, told, report), report)
     report.near_misses = near_misses_of(report.definitions)
-    compare_all(report, compare)
+    report.data_sets = data_sets_of(report.rows)
+    compare_all(report, asks)
+    for miss in report.near_misses:
+        miss.pairs.sort(key=lambda it: it.kind)
     report.near_misses.sort(key=rank)
+    report.data_sets.sort(key=lambda it: Kind.NAMES + 1 if it.kind is None else it.kind)
+    variants = [variant for definition in report.definitions for variant in definition.variants]
+    wanted = [Asked(it.crs.full, it.crs.name, it.crs.identifiers) for it in variants]
+    for variant, found in zip(variants, asks.register(wanted)):
+        if found.verdict is Verdict.AXES and not variant.states_axes:
+            found.verdict = Verdict.FILLED_IN
+        variant.registered = found
     report.areas = areas_of(report.definitions)
     count(report)
     return report
@@ -204,7 +287,8 @@ def rows_of(files: Sequence[File], told: Sequence[Told], report: Report) -> Iter
     seen: Set[bytes] = set()
     for file, its in zip(files, told):
         for text in its.texts:
-            row = Row(Place(file.path, text.layer, text.line), refusal=text.refusal)
+            place = Place(file.path, text.layer, text.line, text.read_by)
+            row = Row(place, refusal=text.refusal, states_axes=text.states_axes)
             report.rows.append(row)
             if text.refusal:
                 report.refused.append(RefusedText(row.place, text.refusal))
@@ -218,17 +302,19 @@ def rows_of(files: Sequence[File], told: Sequence[Told], report: Report) -> Iter
 def definitions_of(rows: Iterable[Tuple[Row, Optional[Spelled]]], report: Report) -> List[Definition]:
     """The definitions, and their variants, each in the order of how many texts spell them, and of the first of these.
     Each row gets its own."""
-    found: Dict[str, Definition] = {}
-    variants: Dict[str, Variant] = {}
+    found: Dict[Tuple[str, str], Definition] = {}
+    variants: Dict[Tuple[str, str], Variant] = {}
     for row, crs in rows:
         if crs is None:
             continue
-        row.definition = found.setdefault(crs.definition, Definition(0, crs.definition))
-        if crs.full not in variants:
-            variants[crs.full] = Variant(0, crs)
-            row.definition.variants.append(variants[crs.full])
-        row.variant = variants[crs.full]
+        way = crs.transformation
+        row.definition = found.setdefault((crs.definition, way), Definition(0, crs.definition, way))
+        if (crs.full, way) not in variants:
+            variants[crs.full, way] = Variant(0, crs)
+            row.definition.variants.append(variants[crs.full, way])
+        row.variant = variants[crs.full, way]
         row.variant.places.append(row.place)
+        row.variant.states_axes |= row.states_axes
     definitions = sorted(found.values(), key=lambda it: -it.texts)
     for number, definition in enumerate(definitions, 1):
         definition.number = number
@@ -239,51 +325,104 @@ def definitions_of(rows: Iterable[Tuple[Row, Optional[Spelled]]], report: Report
 
 
 def near_misses_of(definitions: Sequence[Definition]) -> List[NearMiss]:
-    """Definitions of one name; and those of one identifier, where they don't share a name."""
+    """Definitions of one name, whose case and punctuation don't count; and those of one identifier, where they don't
+    share a name. What tools write where they know no name is none."""
     by_name: Dict[str, List[Definition]] = {}
     by_identifier: Dict[str, List[Definition]] = {}
     for definition in definitions:
-        by_name.setdefault(definition.name, []).append(definition)
+        if not is_placeholder(definition.name):
+            by_name.setdefault(folded(definition.name) or definition.name, []).append(definition)
         for identifier in definition.identifiers:
             by_identifier.setdefault(identifier, []).append(definition)
-    misses = [near_miss("name", name, alike) for name, alike in by_name.items() if len(alike) > 1]
+    misses = [near_miss("name", alike[0].name, alike) for alike in by_name.values() if len(alike) > 1]
     for identifier, alike in by_identifier.items():
-        others = [definition for definition in alike[1:] if definition.name != alike[0].name]
+        others = [definition for definition in alike[1:] if folded(definition.name) != folded(alike[0].name)]
         if others:
             misses.append(near_miss("identifier", identifier, [alike[0], *others]))
     return misses
 
 
 def near_miss(by: str, value: str, alike: Sequence[Definition]) -> NearMiss:
-    first = alike[0]
-    return NearMiss(
-        by,
-        value,
-        [Pair(first.number, it.number, [e for e in first.identifiers if e in it.identifiers]) for it in alike[1:]],
-    )
+    return NearMiss(by, value, [pair_of(alike[0], it) for it in alike[1:]])
 
 
-def compare_all(report: Report, compare: Compare) -> None:
-    """Finds the parts that differ: between the variants of each definition, and in near misses."""
+def pair_of(first: Definition, second: Definition) -> Pair:
+    both = [it for it in first.identifiers if it in second.identifiers]
+    return Pair(first.number, second.number, both, first.states_axes and second.states_axes)
+
+
+def data_sets_of(rows: Iterable[Row]) -> List[DataSet]:
+    """The data sets of several texts, and the pairs of their CRSs."""
+    found: Dict[Tuple[str, str], List[Tuple[Belongs, Row]]] = {}
+    for row in rows:
+        belongs = belongs_to(row.place.file, row.place.layer)
+        if belongs:
+            found.setdefault((belongs.archive, belongs.path), []).append((belongs, row))
+    sets = []
+    for (archive, path), its in found.items():
+        if len(its) > 1 and any(belongs.is_beside for belongs, _ in its):
+            # What the data set itself says comes first.
+            its.sort(key=lambda it: it[0].is_beside)
+            data_set = DataSet(f"{archive} ({path})" if archive else path, [row for _, row in its])
+            definitions = list({row.definition.number: row.definition for _, row in its if row.definition}.values())
+            data_set.pairs = [pair_of(definitions[0], it) for it in definitions[1:]]
+            sets.append(data_set)
+    return sets
+
+
+def compare_all(report: Report, asks: Asks) -> None:
+    """Finds the parts that differ: between the variants of each definition, in near misses, and in data sets."""
     pairs: List[Two] = []
-    puts: List[List[Difference]] = []
+    puts: List[List[List[Difference]]] = []
+    places: Dict[Two, int] = {}
+
+    def add(two: Two, put: List[Difference]) -> None:
+        if two not in places:
+            places[two] = len(pairs)
+            pairs.append(two)
+            puts.append([])
+        puts[places[two]].append(put)
+
     for definition in report.definitions:
         first = definition.variants[0].crs.full
         for variant in definition.variants[1:]:
-            pairs.append(Two(first, variant.crs.full, "full"))
-            puts.append(variant.parts)
-    for pair in (pair for miss in report.near_misses for pair in miss.pairs):
-        first, second = (report.definitions[number - 1].text for number in (pair.first, pair.second))
-        pairs.append(Two(first, second, "definition"))
-        puts.append(pair.parts)
-    for parts, found in zip(puts, compare(pairs)):
-        parts += found
+            add(Two(first, variant.crs.full, "full"), variant.parts)
+    of_misses = [pair for miss in report.near_misses for pair in miss.pairs]
+    for pair in of_misses + [pair for data_set in report.data_sets for pair in data_set.pairs]:
+        one, other = (report.definitions[number - 1] for number in (pair.first, pair.second))
+        add(Two(one.text, other.text, "definition", (one.transformation, other.transformation)), pair.parts)
+    for its, found in zip(puts, asks.compare(pairs)):
+        for put in its:
+            put += found
 
 
-def rank(miss: NearMiss) -> Tuple[bool, int, int]:
-    """What is most likely a mistake comes first: where both have an identifier, then where the fewest parts differ."""
-    is_of_two = not any(pair.identifiers for pair in miss.pairs)
-    return is_of_two, min(len(pair.parts) for pair in miss.pairs), miss.pairs[0].first
+def rank(miss: NearMiss) -> Tuple[Kind, bool, int, int]:
+    """What is most likely a mistake comes first: by the kind of the parts that differ, then where both have an identifier,
+    then where the fewest parts differ."""
+    its = [pair for pair in miss.pairs if pair.kind == miss.kind]
+    is_of_two = not any(pair.identifiers for pair in its)
+    return miss.kind, is_of_two, min(len(pair.parts) for pair in its), miss.pairs[0].first
+
+
+def findings_of(report: Report) -> List[Tuple[Definition, Variant, Registered]]:
+    """The CRSs that differ from the registry's in more than names and digits, what is looked at first before the
+    others."""
+    found = [
+        (definition, variant, variant.registered)
+        for definition in report.definitions
+        for variant in definition.variants
+        if variant.registered and variant.registered.verdict.is_finding
+    ]
+    order = list(Verdict)
+    return sorted(found, key=lambda it: order.index(it[2].verdict))
+
+
+def verdict_told(found: Registered) -> str:
+    """What a comparison with the registry says, in words."""
+    if found.verdict is Verdict.OTHER_NAME:
+        return f"bears the name of {found.other}"
+    sure = "" if found.is_own or not found.identifier else f", PROJ's confidence {found.confidence} %"
+    return f"{found.verdict.value}{sure}"
 
 
 def areas_of(definitions: Sequence[Definition]) -> List[Area]:
@@ -313,3 +452,28 @@ def count(report: Report) -> None:
     summary.respellings = summary.accepted - summary.crss - summary.copies
     several = [len(it.variants) for it in report.definitions if len(it.variants) > 1]
     summary.alone, summary.alone_definitions = sum(several), len(several)
+    causes = collections.Counter(cause_of(it.refusal) for it in report.refused)
+    summary.causes = [Cause(name, texts) for name, texts in causes.most_common()]
+    read_by = [row.place.read_by for row in report.rows if row.place.read_by]
+    summary.converted, summary.read_by = len(read_by), next(iter(read_by), "")
+    summary.data_sets = len(report.data_sets)
+    summary.disagreeing = sum(it.disagrees for it in report.data_sets)
+    counts: Dict[Verdict, int] = collections.Counter()
+    for variant in (variant for definition in report.definitions for variant in definition.variants):
+        if variant.registered:
+            counts[variant.registered.verdict] += len(variant.places)
+    summary.registry = {verdict.value: counts[verdict] for verdict in Verdict if counts[verdict]}
+
+
+# What a hint says that a text is, such as "This is WKT1, of a .prj file".
+IS_SOMETHING = re.compile(r"This is (?:an? )?([^,:.;]+)")
+ISNT_READ = re.compile(r"(?:An? )?(\w+) (?:isn't|aren't) read")
+
+
+def cause_of(refusal: Refusal) -> str:
+    """Why a text is refused, in a word or two: what it is instead, or the refusal's name."""
+    match = IS_SOMETHING.match(refusal.hint) or ISNT_READ.match(refusal.hint)
+    name = match[1] if match else refusal.name
+    if refusal.doubts:
+        return f"{name}, damaged or not known to PROJ"
+    return name

@@ -8,20 +8,25 @@ from typing import List, TextIO
 from .names import readable, visible
 from .report import Report, Row
 
-HEAD = ("file", "layer", "line", "definition", "crs", "kind", "name", "refusal")
+HEAD = ("file", "layer", "line", "data_set", "definition", "crs", "kind", "name", "refusal", "read_by", "registry")
 
 
 def write_csv(report: Report, file: TextIO) -> None:
-    """Writes a head, and a row a text. ``crs`` is the definition's number and, after a point, the CRS's in it."""
+    """Writes a head, and a row a text. ``crs`` is the definition's number and, after a point, the CRS's in it; texts of one
+    data set have its path in ``data_set``."""
     table = csv.writer(file, lineterminator="\r\n")
     table.writerow(HEAD)
-    table.writerows(cells_of(row) for row in report.rows)
+    paths = {it.place: data_set.path for data_set in report.data_sets for it in data_set.rows}
+    table.writerows(cells_of(row, paths.get(row.place, "")) for row in report.rows)
 
 
-def cells_of(row: Row) -> List[str]:
-    place = [readable(row.place.file), readable(row.place.layer), str(row.place.line or "")]
+def cells_of(row: Row, data_set: str) -> List[str]:
+    place = [readable(row.place.file), readable(row.place.layer), str(row.place.line or ""), readable(data_set)]
     if row.definition and row.variant:
-        number, crs = row.definition.number, row.variant.crs
-        return [*place, str(number), f"{number}.{row.variant.number}", crs.kind, visible(crs.name), ""]
+        number, crs, found = row.definition.number, row.variant.crs, row.variant.registered
+        numbers = [str(number), f"{number}.{row.variant.number}"]
+        verdict = found.verdict.value if found else ""
+        return [*place, *numbers, crs.kind, visible(crs.name), "", row.place.read_by, verdict]
     refusal = row.refusal
-    return [*place, "", "", "", "", f"{refusal.number} {refusal.name} at {refusal.place}" if refusal else ""]
+    told = f"{refusal.number} {refusal.name} at {refusal.place}" if refusal else ""
+    return [*place, "", "", "", "", told, "", ""]

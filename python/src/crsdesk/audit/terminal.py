@@ -4,11 +4,12 @@ from __future__ import annotations
 
 import collections
 import os
-from typing import Iterable, Iterator, Optional, Tuple
+from typing import Iterable, Iterator, Optional, Sequence, Tuple
 
 from .. import Difference
-from .names import counted, place_shown, visible
-from .report import Definition, NearMiss, Report, Summary
+from .kinds import rows_of
+from .names import counted, place_shown, readable, visible
+from .report import Definition, NearMiss, Pair, Report, Summary, findings_of, verdict_told
 
 # How many near misses are shown, and of each how many parts, and characters of a value.
 MOST_MISSES = 20
@@ -20,6 +21,11 @@ def lines_of(report: Report) -> Iterator[str]:
     """The summary, and the near misses, those that are most likely mistakes first."""
     for label, value in summary_rows(report):
         yield f"{label:<13}{value}"
+    for data_set in [it for it in report.data_sets if it.disagrees][:MOST_MISSES]:
+        yield ""
+        yield f"the texts of {readable(data_set.path)} disagree"
+        yield from pair_lines(report, data_set.pairs, [place_shown(row.place) for row in data_set.rows])
+    yield from registry_lines(report)
     for miss in report.near_misses[:MOST_MISSES]:
         yield ""
         yield from near_miss_lines(report, miss)
@@ -38,9 +44,19 @@ def summary_rows(report: Report) -> Iterator[Tuple[str, str]]:
     if summary.alone:
         definitions = counted(summary.alone_definitions, "definition")
         yield "alone", f"{summary.alone:,} CRSs of {definitions} differ in identifiers, usages or remarks alone"
+    if summary.converted:
+        yield "converted", f"{counted(summary.converted, 'text')} by {summary.read_by}"
+    if summary.causes:
+        yield "causes", "; ".join(f"{visible(it.name)}: {it.texts:,}" for it in summary.causes)
     for refused in summary.refused_by_number:
         yield "refused", f"{refused.number} {refused.name}: {counted(refused.texts, 'text')}"
-    yield "near misses", f"{len(report.near_misses):,}"
+    if summary.data_sets:
+        yield "data sets", f"{summary.data_sets:,} of several texts, of which {summary.disagreeing:,} disagree"
+    if summary.registry:
+        yield "registry", "; ".join(
+            f"{verdict}: {counted(texts, 'text')}" for verdict, texts in summary.registry.items()
+        )
+    yield "near misses", near_misses_told(report)
     if report.without:
         yield "without", f"{counted(len(report.without), 'place')} without a CRS: {whys_of(it.why for it in report.without)}"
     if report.unread:
@@ -63,23 +79,57 @@ def whys_of(whys: Iterable[str]) -> str:
     return ", ".join(f"{visible(why)} {count:,}" for why, count in collections.Counter(whys).most_common())
 
 
+def near_misses_told(report: Report) -> str:
+    """How many there are, by the kind of what differs."""
+    counts = collections.Counter(it.kind for it in report.near_misses)
+    kinds = ", ".join(f"{kind.label} {counts[kind]:,}" for kind in sorted(counts))
+    return f"{len(report.near_misses):,}{f' ({kinds})' if kinds else ''}"
+
+
 def near_miss_lines(report: Report, miss: NearMiss) -> Iterator[str]:
-    numbers = [miss.pairs[0].first, *(pair.second for pair in miss.pairs)]
-    yield f"{counted(len(numbers), 'CRS', 'CRSs')} of the {miss.by} {cut(visible(miss.value))}"
-    yield f"  {told_of(report.definitions[numbers[0] - 1])}"
-    for pair in miss.pairs:
+    head = f"of the {miss.by} {cut(visible(miss.value))}"
+    yield f"{counted(len(miss.pairs) + 1, 'CRS', 'CRSs')} {head}: {miss.kind.label}"
+    yield from pair_lines(report, miss.pairs)
+
+
+def pair_lines(report: Report, pairs: Sequence[Pair], files: Sequence[str] = ()) -> Iterator[str]:
+    """The first definition of pairs, and each other one with the parts in which it differs."""
+    yield f"  {told_of(report.definitions[pairs[0].first - 1])}"
+    for pair in pairs:
         yield f"  {told_of(report.definitions[pair.second - 1])}"
-        for part in pair.parts[:MOST_PARTS]:
-            yield f"    {cut_both(part)}"
-        if len(pair.parts) > MOST_PARTS:
-            yield f"    .. and {counted(len(pair.parts) - MOST_PARTS, 'part')} more"
+        yield from part_lines(pair.parts)
+    yield from (f"  {file}" for file in files)
+
+
+def part_lines(parts: Sequence[Difference]) -> Iterator[str]:
+    rows = sorted(rows_of(parts), key=lambda it: it.kind)
+    for row in rows[:MOST_PARTS]:
+        yield f"    {cut_both(Difference(row.path, row.first, row.second))}"
+    if len(rows) > MOST_PARTS:
+        yield f"    .. and {counted(len(rows) - MOST_PARTS, 'part')} more"
+
+
+def registry_lines(report: Report) -> Iterator[str]:
+    """The CRSs that differ from the registry's, what is looked at first before the others."""
+    found = findings_of(report)
+    for definition, variant, its in found[:MOST_MISSES]:
+        yield ""
+        yield f"not as {its.identifier or 'registered'}: {verdict_told(its)}"
+        identifiers = "".join(f" {visible(it)}" for it in variant.crs.identifiers[:3])
+        places = f"{counted(len(variant.places), 'text')}, first {place_shown(variant.places[0])}"
+        yield f"  {definition.number}.{variant.number}{identifiers} {cut(visible(variant.crs.name))}: {places}"
+        yield from part_lines(its.parts)
+    if len(found) > MOST_MISSES:
+        yield ""
+        yield f"{len(found) - MOST_MISSES:,} more that aren't as registered: --html and --json have all"
 
 
 def told_of(definition: Definition) -> str:
     """A definition in a line: its number, identifiers, and where it is first."""
     identifiers = "".join(f" {visible(it)}" for it in definition.identifiers[:3])
     first = definition.variants[0].places[0]
-    return f"{definition.number}{identifiers}: {counted(definition.texts, 'text')}, first {place_shown(first)}"
+    read_by = f", read by {first.read_by}" if first.read_by else ""
+    return f"{definition.number}{identifiers}: {counted(definition.texts, 'text')}, first {place_shown(first)}{read_by}"
 
 
 def cut_both(part: Difference) -> Difference:
