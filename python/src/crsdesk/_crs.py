@@ -5,13 +5,17 @@ from __future__ import annotations
 import functools
 import os
 import threading
-from typing import Any, Dict, Iterator, List, Literal, NamedTuple, Optional, Tuple, Union
+from typing import TYPE_CHECKING, Any, Dict, Iterator, List, Literal, NamedTuple, Optional, Tuple, Type, Union, cast
 
-from . import _library
+from . import _facts, _library
 from ._difference import Difference, differences_of
 from ._refused import Refused
 
+if TYPE_CHECKING:
+    from typing_extensions import Self
+
 Text = Union[str, bytes, bytearray, memoryview, "Crs"]
+Bound = Tuple[Tuple[int, str], ...]
 Level = Literal["full", "definition"]
 LEVELS: Dict[str, int] = {"full": 0, "definition": 1}
 BLANK = b" \t\r\n"
@@ -22,6 +26,11 @@ TO_WKT = {
     "pyproj": "to_wkt()",
     "rasterio": 'to_wkt(version="WKT2_2019")',
 }
+# The names of the version that a Crs writes, as other packages call it.
+WKT2_2019 = ("WKT2_2019", "WKT2:2019", "WKT2")
+# The parts of a CRS that may be bound by a transformation, by their numbers in ``Foreign.bound``.
+BOUND_PARTS = ("transformation", "horizontal/transformation", "vertical/transformation")
+MOST_SHOWN = 3
 
 
 def bytes_of(text: Text) -> bytes:
@@ -45,12 +54,13 @@ def bytes_of(text: Text) -> bytes:
 def advice_on(found: object) -> str:
     """What to pass instead of what is no text, after a semicolon; nothing where that isn't known."""
     package = type(found).__module__.partition(".")[0]
+    # A table of geometries has a CRS, and a to_wkt that writes those.
+    if hasattr(found, "crs"):
+        return "; hand over its .crs to Crs.from_user"
     if hasattr(found, "to_wkt") or hasattr(found, "ExportToWkt"):
         return f"; hand over its {TO_WKT.get(package, 'to_wkt()')}, in WKT2:2019 (Crs.from_user does)"
     if hasattr(found, "__fspath__") or hasattr(found, "read"):
         return "; read the file, and hand over its bytes (Crs.from_file does)"
-    if hasattr(found, "crs"):
-        return "; hand over its .crs to Crs.from_user"
     return ""
 
 
@@ -59,15 +69,14 @@ def text_of_user(found: object) -> Text:
     asked: Any = found
     if hasattr(found, "ExportToWkt"):
         text = asked.ExportToWkt(["FORMAT=WKT2_2019"])
-    elif hasattr(found, "to_wkt"):
+    elif hasattr(found, "to_wkt") and not hasattr(found, "crs"):
         try:
             text = asked.to_wkt(version="WKT2_2019")
         except TypeError:  # a CRS of a package that writes one version alone
             text = asked.to_wkt()
     else:
         advice = "; Crs.from_file reads a file" if hasattr(found, "__fspath__") else advice_on(found)
-        advice = "; hand a text over to Crs" if isinstance(found, (str, bytes)) else advice
-        raise TypeError(f"a CRS of another package has a method to_wkt, and {type(found).__name__} hasn't{advice}")
+        raise TypeError(f"a CRS is a text or another package's object with to_wkt, not {type(found).__name__}{advice}")
     if not isinstance(text, (str, bytes)):
         raise TypeError(f"the to_wkt of {type(found).__name__} answers {type(text).__name__}, and no text")
     return text
@@ -101,8 +110,11 @@ def canon(text: Text, level: Level = "full") -> str:
     """
     if isinstance(text, Crs):
         return text.canonical(level)
-    number = number_of(level)
-    return _library.canon(bytes_of(text), number).decode()
+    try:
+        number = LEVELS[level]
+    except (KeyError, TypeError):
+        number = number_of(level)
+    return _library.canon(text if type(text) is bytes else bytes_of(text), number)
 
 
 def same(first: Text, second: Text, level: Level = "full") -> bool:
@@ -111,14 +123,18 @@ def same(first: Text, second: Text, level: Level = "full") -> bool:
     ``Refused`` has in ``which`` the text that spells none; where the first does, the second isn't judged.
     """
     number = number_of(level)
-    return _library.same(bytes_of(first), bytes_of(second), number)
+    return _library.same(bytes_of(first), bytes_of(second), number) and not bound_parts(first, second)
 
 
 def difference(first: Text, second: Text, level: Level = "full") -> Optional[str]:
     """The path of the first part in which the CRSs of two texts differ, such as ``datum/ellipsoid/flattening``; None
     where they are the same (docs/SAMENESS.md, "The parts that differ"). Raises as ``same`` does."""
     number = number_of(level)
-    return _library.first_part(bytes_of(first), bytes_of(second), number).decode("ascii") or None
+    path = _library.first_part(bytes_of(first), bytes_of(second), number)
+    if not path:
+        for part in bound_parts(first, second):
+            return part.path
+    return path or None
 
 
 def differences(first: Text, second: Text, level: Level = "full") -> List[Difference]:
@@ -127,7 +143,17 @@ def differences(first: Text, second: Text, level: Level = "full") -> List[Differ
     The first is that of ``difference``. Raises as ``same`` does.
     """
     number = number_of(level)
-    return differences_of(_library.differences(bytes_of(first), bytes_of(second), number).decode())
+    lines = _library.differences(bytes_of(first), bytes_of(second), number)
+    return differences_of(lines) + bound_parts(first, second)
+
+
+def bound_parts(first: Text, second: Text) -> List[Difference]:
+    """The transformations in which two CRSs differ: a text has none, a ``Crs`` may."""
+    bound = [dict(it._bound) if isinstance(it, Crs) else {} for it in (first, second)]
+    pairs = (
+        [(path, bound[0].get(part), bound[1].get(part)) for part, path in enumerate(BOUND_PARTS)] if any(bound) else []
+    )
+    return [Difference(path, one, other) for path, one, other in pairs if one != other]
 
 
 @functools.total_ordering
@@ -140,35 +166,113 @@ class Crs:
     Raises as ``check`` does.
     """
 
-    __slots__ = ("__weakref__", "_definition", "_full", "_kind", "_text")
+    __slots__ = ("__weakref__", "_bound", "_definition", "_full", "_kind", "_read_by", "_text")
 
     def __init__(self, text: Text) -> None:
-        self._text = bytes_of(text)
+        self._definition: Optional[str] = None
+        self._kind: Optional[str] = None
+        self._bound: Bound = text._bound if isinstance(text, Crs) else ()
+        self._read_by: Optional[str] = text._read_by if isinstance(text, Crs) else None
+        self._text: bytes = text if type(text) is bytes else bytes_of(text)
         try:
-            self._full = _library.canon(self._text, 0).decode()
+            self._full: str = text._full if isinstance(text, Crs) else _library.canon(self._text, 0)
         except Refused as refused:
             refused.is_of_crs = True
             raise
-        self._definition: Optional[str] = None
-        self._kind: Optional[str] = None
 
     @classmethod
-    def from_file(cls, path: Union[str, bytes, os.PathLike[str], os.PathLike[bytes]]) -> Crs:
-        """The CRS that a file's bytes spell. ``OSError`` where it can't be read; else raises as ``check`` does."""
-        with open(path, "rb") as file:
+    def from_file(cls, path: Union[str, bytes, os.PathLike[str], os.PathLike[bytes]]) -> Self:
+        """The CRS that a file's bytes spell. ``OSError`` where it can't be read, ``TypeError`` for what is no path, as
+        the number of an open file; else raises as ``check`` does."""
+        with open(os.fspath(path), "rb") as file:
             return cls(file.read())
 
     @classmethod
-    def from_user(cls, found: object) -> Crs:
-        """The CRS of another package's object: of pyproj, rasterio, fiona or osgeo, or what else has ``to_wkt``. It is
-        asked for WKT2:2019, and ``text`` is what it answered. ``TypeError`` for an object that isn't one; else raises
-        as ``check`` does, as of a CRS with a transformation, which is written as a ``BOUNDCRS``."""
-        return found if isinstance(found, cls) else cls(text_of_user(found))
+    def from_user(cls, found: object) -> Self:
+        """The CRS of another package's object, of pyproj, rasterio, fiona or osgeo, or of what else has ``to_wkt``,
+        which is asked for WKT2:2019; or of a text in any form that PROJ reads.
+
+        A text in WKT2 is read as ``Crs(text)`` does. One in another form (WKT1 of GDAL or Esri, a BOUNDCRS, a PROJ
+        string, PROJJSON, ``EPSG:4326``, a URN) is read by PROJ, where osgeo or pyproj is installed: ``read_by`` says
+        which, ``text`` is what PROJ wrote, and ``transformation`` is that of a bound CRS, which counts. What PROJ warns
+        of, repairs or passes over is ``Refused``, with its words in ``proj``. ``TypeError`` for an object that is
+        neither; else raises as ``check`` does.
+        """
+        if isinstance(found, cls):
+            return found
+        if not isinstance(found, (str, bytes, bytearray, memoryview, Crs)):
+            found = text_of_user(found)
+        try:
+            return cls(found)
+        except Refused as refused:
+            refused.is_of_crs = False
+            return cls._read_by_proj(refused)
+
+    @classmethod
+    def _read_by_proj(cls, refused: Refused) -> Self:
+        """The CRS that PROJ reads in a refused text of another form; the refusal where it isn't taken."""
+        from . import _foreign
+
+        text = refused.text or b""
+        if not _foreign.is_foreign(text):
+            raise refused
+        try:
+            found = _foreign.read(text)
+        except _foreign.NotRead as error:
+            refused.proj = f"PROJ doesn't read it either: {error}"
+            raise refused from None
+        try:
+            crs = cls(found.text)
+        except Refused as again:
+            again.is_of_crs, again.proj = False, f"{found.reader} wrote this text of {found.form}"
+            raise again from None
+        crs._bind(found.bound, found.reader)
+        return crs
+
+    def _bind(self, bound: Bound, read_by: Optional[str]) -> None:
+        """Says by what it was read, and adds transformations to what counts."""
+        self._read_by = read_by
+        self._bound = bound
+        self._full = self._with_bound(self._full)
+
+    def _with_bound(self, canonical: str) -> str:
+        if not self._bound:
+            return canonical
+        from . import _foreign
+
+        return _foreign.bound_text(canonical, self._bound)
 
     @property
     def text(self) -> bytes:
-        """The text that it was read from."""
+        """The text that it was read from; of one that PROJ read what that wrote of it, without transformations."""
         return self._text
+
+    @property
+    def name(self) -> str:
+        """Its name."""
+        return _facts.name_of(self._plain)
+
+    @property
+    def identifiers(self) -> Tuple[str, ...]:
+        """Its own identifiers, as ``("EPSG:4326",)``: authority and code of each, in the order of the canonical text."""
+        return _facts.identifiers_of(self._plain)
+
+    @property
+    def read_by(self) -> Optional[str]:
+        """Which PROJ read a text in another form, as ``PROJ 9.1.1, EPSG v10.076`` (``from_user``); None where the library
+        itself read it."""
+        return self._read_by
+
+    @property
+    def transformation(self) -> Optional[str]:
+        """Target and transformation of a bound CRS, and of bound members of a compound CRS, as PROJ writes them; None
+        where there is none. They count at both levels."""
+        return ",".join(text for _, text in self._bound) or None
+
+    @property
+    def _plain(self) -> str:
+        """A canonical text without transformations."""
+        return _library.canon(self._text, 0) if self._bound else self._full
 
     @property
     def kind(self) -> str:
@@ -178,12 +282,22 @@ class Crs:
         return self._kind
 
     def canonical(self, level: Level = "full") -> str:
-        """The canonical text, as ``canon`` writes it. ``ValueError`` for a level that isn't there."""
+        """The canonical text, as ``canon`` writes it; of a bound CRS it is inside the text of a ``BOUNDCRS``.
+        ``ValueError`` for a level that isn't there."""
         if number_of(level) == 0:
             return self._full
         if self._definition is None:
-            self._definition = _library.canon(self._text, 1).decode()
+            self._definition = self._with_bound(_library.canon(self._text, 1))
         return self._definition
+
+    def to_wkt(self, version: str = "WKT2_2019") -> str:
+        """The canonical text, with transformations: what pyproj, geopandas, rasterio and fiona ask a CRS for.
+        ``ValueError`` for another version than WKT2:2019."""
+        if getattr(version, "value", version) not in WKT2_2019:
+            raise ValueError(
+                f"a Crs writes WKT2:2019, not {version!r}; hand it over to pyproj.CRS, which writes others"
+            )
+        return self._full
 
     def same(self, other: Text, level: Level = "full") -> bool:
         """Whether another CRS, or the one that another text spells, is the same at a level, where ``==`` counts
@@ -217,11 +331,35 @@ class Crs:
     def __str__(self) -> str:
         return self._full
 
-    def __repr__(self) -> str:
-        return f"Crs({self._full if len(self._full) <= 60 else self._full[:57] + '...'!r})"
+    def __format__(self, form: str) -> str:
+        """``full`` or ``definition``: the canonical text at that level; else as of that text."""
+        return self.canonical(cast(Level, form)) if form in LEVELS else format(self._full, form)
 
-    def __reduce__(self) -> Tuple[object, ...]:
-        return Crs, (self._text,)
+    def __repr__(self) -> str:
+        identifiers = self.identifiers
+        shown = [repr(self.name), *identifiers[:MOST_SHOWN], *["..."][: len(identifiers) > MOST_SHOWN]]
+        words = [
+            self.kind,
+            *["bound"][: bool(self._bound)],
+            *filter(None, [self._read_by and f"read by {self._read_by}"]),
+        ]
+        return f"<{type(self).__name__} {' '.join(shown)} ({', '.join(words)})>"
+
+    def __reduce_ex__(self, protocol: Any) -> Tuple[Any, ...]:
+        """By its text, which is read again; what a subclass adds goes along."""
+        state: Any = object.__reduce_ex__(self, 2)[2]
+        if getattr(type(self), "__getstate__", None) is getattr(object, "__getstate__", None):
+            added = {name: value for name, value in (state[1] or {}).items() if name not in Crs.__slots__}
+            state = (state[0], added) if state[0] or added else None
+        return restored, (type(self), self._text, self._bound, self._read_by), state
+
+
+def restored(kind: Type[Crs], text: bytes, bound: Bound, read_by: Optional[str]) -> Crs:
+    """A CRS of a class that may have its own ``__init__``."""
+    crs = kind.__new__(kind)
+    Crs.__init__(crs, text)
+    crs._bind(bound, read_by)
+    return crs
 
 
 def crs_of(other: Text) -> Crs:
@@ -296,6 +434,14 @@ class Catalogue:
         """Counts a text, and answers the name under which it is added."""
         self._count += 1
         return self._count if name is None else name
+
+    def __contains__(self, text: Text) -> bool:
+        """Whether a group has the CRS that a text spells. A text that spells none is in no group, a blank one either.
+        ``TypeError`` and ``ValueError`` for what is no text."""
+        try:
+            return not is_blank(text) and canon(text, self._level) in self._numbers
+        except Refused:
+            return False
 
     def __len__(self) -> int:
         """How many groups there are."""

@@ -97,6 +97,14 @@ def form_of(text: str) -> Optional[str]:
     return CODE if CODE_FORM.fullmatch(text) else None
 
 
+def is_foreign(text: bytes) -> bool:
+    """Whether PROJ is asked for a text."""
+    try:
+        return form_of(text.decode()) is not None
+    except UnicodeDecodeError:
+        return False
+
+
 def read(text: Union[str, bytes]) -> Foreign:
     """What PROJ reads of a text whose form it has. ``NotRead`` where it warns or repairs, or isn't there."""
     try:
@@ -110,7 +118,7 @@ def read(text: Union[str, bytes]) -> Foreign:
         raise NotRead("a NUL byte is in it" if "\0" in text else f"it has more than {MOST_BYTES:,} characters")
     proj = loaded()
     if proj is None:
-        raise NotRead("PROJ isn't there: install osgeo (GDAL's Python) or pyproj")
+        raise NotRead("it isn't there; osgeo (GDAL's Python) and pyproj have it")
     if form == STRING:
         text = checked_string(text)
     written, as_json = proj.read(text, form)
@@ -119,6 +127,9 @@ def read(text: Union[str, bytes]) -> Foreign:
     if form == JSON:
         check_json(text, as_json)
     plain, bound = unbound(written)
+    if bound:
+        # PROJ names the axes of a target otherwise once it has read its own text. So one transformation has one text.
+        bound = unbound(proj.read(written, BOUND)[0])[1]
     return Foreign(form, plain, bound, proj.name)
 
 

@@ -2,6 +2,9 @@
 
 The lock of the interpreter is released during each call. A call's answers go to places that are kept for the next one:
 a list of them, since threads call at once, and since a signal's handler may call between a call and its answer.
+
+Of a call's arguments the texts and their lengths alone are converted: the others are objects of ctypes, made once, whose
+types say how they are passed. So the way through ctypes takes less than half of what it took.
 """
 
 from __future__ import annotations
@@ -30,11 +33,11 @@ class RefusalPlace(ctypes.Structure):
 class Places:
     """Where the answers of one call go."""
 
-    __slots__ = ("length", "number", "out", "refusal", "room", "to_length", "to_number", "to_refusal")
+    __slots__ = ("length", "number", "out", "refusal", "to_length", "to_number", "to_out", "to_refusal")
 
     def __init__(self) -> None:
         self.out: Any = ctypes.create_string_buffer(KEPT_ROOM)
-        self.room = KEPT_ROOM
+        self.to_out = ctypes.byref(self.out)
         self.length = ctypes.c_size_t()
         self.number = ctypes.c_uint32()
         self.refusal = RefusalPlace()
@@ -50,24 +53,26 @@ def load() -> ctypes.CDLL:
         library = ctypes.CDLL(path)
     except OSError as error:
         raise ImportError(f"crsdesk needs its shared object, beside it or where {LIBRARY} says: {error}") from None
-    text, size, number, place = ctypes.c_char_p, ctypes.c_size_t, ctypes.c_uint32, ctypes.c_void_p
+    text, size = ctypes.c_char_p, ctypes.c_size_t
+    # What is converted. The rest is handed over as objects of ctypes.
     arguments: Dict[str, List[Any]] = {
-        "check": [text, size, place, place],
-        "canon": [text, size, number, place, size, place, place],
-        "same": [text, size, text, size, number, place, place],
-        "first_part": [text, size, text, size, number, place, size, place, place],
-        "differences": [text, size, text, size, number, place, size, place, place],
-        "explain": [text, size, place, size, place],
-        "refusal_name": [number, place, size, place],
-        "version": [place, size, place],
+        "check": [text, size],
+        "canon": [text, size],
+        "same": [text, size, text, size],
+        "first_part": [text, size, text, size],
+        "differences": [text, size, text, size],
+        "explain": [text, size],
+        "refusal_name": [ctypes.c_uint32],
+        "version": [],
     }
     for name, types in arguments.items():
         try:
             function = getattr(library, f"crsdesk_{name}")
         except AttributeError as error:
             raise ImportError(f"crsdesk needs the shared object of its own version: {error}") from None
-        function.restype = number
-        function.argtypes = types
+        function.restype = ctypes.c_uint32
+        if types:
+            function.argtypes = types
     return library
 
 
@@ -78,6 +83,9 @@ _same = LOADED.crsdesk_same
 _first_part = LOADED.crsdesk_first_part
 _differences = LOADED.crsdesk_differences
 _explain = LOADED.crsdesk_explain
+# A level by its number, and the room of what is kept, as they are passed.
+_LEVELS = ctypes.c_uint32(0), ctypes.c_uint32(1)
+_ROOM = ctypes.c_size_t(KEPT_ROOM)
 _kept: List[Places] = []
 
 
@@ -110,29 +118,39 @@ def check(text: bytes) -> str:
     return kind
 
 
-def canon(text: bytes, level: int) -> bytes:
-    found = places()
+def canon(text: bytes, level: int) -> str:
     length = len(text)
-    out: Any = found.out
-    room = found.room
-    if length > room // 2:
-        room = length + length // 8
-        out = ctypes.create_string_buffer(room)
-    code = _canon(text, length, level, out, room, found.to_length, found.to_refusal)
-    while code == NO_ROOM:
-        room = found.length.value
-        out = ctypes.create_string_buffer(room)
-        code = _canon(text, length, level, out, room, found.to_length, found.to_refusal)
+    if length > KEPT_ROOM // 2:
+        return long_canon(text, level)
+    try:
+        found = _kept.pop()
+    except IndexError:
+        found = Places()
+    code = _canon(text, length, _LEVELS[level], found.to_out, _ROOM, found.to_length, found.to_refusal)
     if code:
+        if code == NO_ROOM:
+            _kept.append(found)
+            return long_canon(text, level)
         raise fault(code, found, text)
-    answer: bytes = out[: found.length.value]
+    answer: str = found.out[: found.length.value].decode()
     _kept.append(found)
     return answer
 
 
+def long_canon(text: bytes, level: int) -> str:
+    """The same of a text whose answer may need more room than is kept."""
+    found = places()
+    given = text, len(text), _LEVELS[level]
+    code, answer = in_room(found, lambda *room: _canon(*given, *room, found.to_refusal), len(text) + len(text) // 8)
+    if code:
+        raise fault(code, found, text)
+    _kept.append(found)
+    return answer.decode()
+
+
 def same(first: bytes, second: bytes, level: int) -> bool:
     found = places()
-    code = _same(first, len(first), second, len(second), level, found.to_number, found.to_refusal)
+    code = _same(first, len(first), second, len(second), _LEVELS[level], found.to_number, found.to_refusal)
     if code:
         raise fault(code, found, first, second)
     answer = found.number.value == 1
@@ -140,42 +158,41 @@ def same(first: bytes, second: bytes, level: int) -> bool:
     return answer
 
 
-def first_part(first: bytes, second: bytes, level: int) -> bytes:
+def first_part(first: bytes, second: bytes, level: int) -> str:
     found = places()
-    code = _first_part(
-        first, len(first), second, len(second), level, found.out, found.room, found.to_length, found.to_refusal
-    )
+    given = first, len(first), second, len(second), _LEVELS[level]
+    code = _first_part(*given, found.to_out, _ROOM, found.to_length, found.to_refusal)
     if code:
         raise fault(code, found, first, second)
-    answer: bytes = found.out[: found.length.value]
+    answer: str = found.out[: found.length.value].decode()
     _kept.append(found)
     return answer
 
 
-def in_room(found: Places, call: Callable[[Any, int], Any]) -> Tuple[int, bytes]:
-    """The code of a call that writes an answer of any length, and the answer; another room is made where it needs it."""
-    out, room = found.out, found.room
-    code = call(out, room)
+def in_room(found: Places, call: Callable[[Any, Any, Any], Any], room: int = KEPT_ROOM) -> Tuple[int, bytes]:
+    """The code of a call that writes an answer of any length, and the answer. It is given a buffer, its room, and where
+    its length goes; another buffer is made where it needs more room."""
+    out = found.out if room <= KEPT_ROOM else ctypes.create_string_buffer(room)
+    code = call(ctypes.byref(out), ctypes.c_size_t(len(out)), found.to_length)
     while code == NO_ROOM:
-        room = found.length.value
-        out = ctypes.create_string_buffer(room)
-        code = call(out, room)
+        out = ctypes.create_string_buffer(found.length.value)
+        code = call(ctypes.byref(out), ctypes.c_size_t(len(out)), found.to_length)
     return code, out[: found.length.value] if code == OK else b""
 
 
-def differences(first: bytes, second: bytes, level: int) -> bytes:
+def differences(first: bytes, second: bytes, level: int) -> str:
     found = places()
-    given = first, len(first), second, len(second), level
-    code, answer = in_room(found, lambda out, room: _differences(*given, out, room, found.to_length, found.to_refusal))
+    given = first, len(first), second, len(second), _LEVELS[level]
+    code, answer = in_room(found, lambda *room: _differences(*given, *room, found.to_refusal))
     if code:
         raise fault(code, found, first, second)
     _kept.append(found)
-    return answer
+    return answer.decode()
 
 
 def explain(text: bytes) -> bytes:
     found = places()
-    code, answer = in_room(found, lambda out, room: _explain(text, len(text), out, room, found.to_length))
+    code, answer = in_room(found, lambda *room: _explain(text, len(text), *room))
     if code:
         raise fault(code, found, text)
     _kept.append(found)
@@ -184,7 +201,7 @@ def explain(text: bytes) -> bytes:
 
 def refusal_name(number: int) -> str:
     found = places()
-    code = LOADED.crsdesk_refusal_name(number, found.out, found.room, found.to_length)
+    code = LOADED.crsdesk_refusal_name(number, found.to_out, _ROOM, found.to_length)
     name: bytes = b"" if code else found.out[: found.length.value]
     _kept.append(found)
     return name.decode("ascii")
@@ -192,7 +209,7 @@ def refusal_name(number: int) -> str:
 
 def version() -> str:
     found = places()
-    LOADED.crsdesk_version(found.out, found.room, found.to_length)
+    LOADED.crsdesk_version(found.to_out, _ROOM, found.to_length)
     name: bytes = found.out[: found.length.value]
     _kept.append(found)
     return name.decode("ascii")

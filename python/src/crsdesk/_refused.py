@@ -10,8 +10,7 @@ EXPECTED = re.compile(r"(?:in \w+ )?at \d+: found .*?, expected (.*)")
 BETWEEN_NAMES = re.compile(r", | or ")
 MEANT = "Did you mean "
 STILL_OPEN = " is still open"
-CODE = "\nThis is a code,"
-FROM_USER = "In Python, call Crs.from_user with the CRS that another package makes of it."
+FROM_USER = "In Python, Crs.from_user has PROJ read it, where osgeo or pyproj is installed."
 
 
 class Told(NamedTuple):
@@ -57,12 +56,13 @@ class Refused(ValueError):
     ``expected``  what could come at the place, such as ``("PRIMEM", "CS")``; of a refusal of shape (11 to 13) alone
     ``text``      the text, as bytes; None where it isn't kept, as by a ``Catalogue``
     ``which``     ``"first"`` or ``"second"`` where two texts were handed over, else None
+    ``proj``      what is said of PROJ's reading, in a line, where it was asked (``Crs.from_user``), else None
 
     The mistake is often before the place. ``str`` of a refusal has the piece of the text with a caret under the place,
     what is expected there, what the number means, and hints where the text shows what it is.
     """
 
-    __slots__ = ("_told", "is_of_crs", "name", "number", "place", "text", "which")
+    __slots__ = ("_told", "is_of_crs", "name", "number", "place", "proj", "text", "which")
 
     def __init__(
         self,
@@ -72,6 +72,7 @@ class Refused(ValueError):
         place: int,
         which: Optional[str] = None,
         told: Optional[str] = None,
+        proj: Optional[str] = None,
     ) -> None:
         # The text isn't an argument of the exception, so that it is freed where it isn't kept.
         super().__init__(number, name, place, which)
@@ -80,6 +81,7 @@ class Refused(ValueError):
         self.name = name
         self.place = place
         self.which = which
+        self.proj = proj
         self._told = told
         # Raised by Crs(text), beside which there is Crs.from_user.
         self.is_of_crs = False
@@ -98,7 +100,7 @@ class Refused(ValueError):
     def kept(self, with_text: bool = False) -> Refused:
         """The same refusal to keep: without the calls that it was raised in, and without the text unless asked."""
         text, told = (self.text, self._told) if with_text else (None, self.told)
-        return Refused(text, self.number, self.name, self.place, self.which, told)
+        return Refused(text, self.number, self.name, self.place, self.which, told, self.proj)
 
     @property
     def line(self) -> int:
@@ -138,17 +140,26 @@ class Refused(ValueError):
 
     def told_of_file(self, line: int = 0) -> str:
         """What ``str`` has, for a command line that names a file with the text, or with the text in a line."""
+        told = f"{self.told}\n{self.proj}" if self.proj else self.told
         if not line:
-            return self.told
-        head, end, rest = self.told.partition("\n")
+            return told
+        head, end, rest = told.partition("\n")
         return head.replace(", line 1,", ",") + end + rest.replace("$(cat FILE)", f"$(sed -n {line}p FILE)")
 
     def __str__(self) -> str:
-        told = f"{self.told}\n{FROM_USER}" if self.is_of_crs and CODE in self.told else self.told
+        told = "\n".join(filter(None, [self.told, self.proj, self._advice()]))
         return f"the {self.which} text: {told}" if self.which else told
+
+    def _advice(self) -> str:
+        """That another call reads the text, where it is in a form that PROJ is asked for."""
+        if not self.is_of_crs or self.text is None:
+            return ""
+        from ._foreign import is_foreign
+
+        return FROM_USER if is_foreign(self.text) else ""
 
     def __repr__(self) -> str:
         return f"Refused(number={self.number}, name={self.name!r}, place={self.place})"
 
     def __reduce__(self) -> Tuple[object, ...]:
-        return Refused, (self.text, self.number, self.name, self.place, self.which, self._told)
+        return Refused, (self.text, self.number, self.name, self.place, self.which, self._told, self.proj)
