@@ -4,6 +4,7 @@ Answers go to standard output, refusals in full and faults to standard error. St
 ``same`` the same one. 1: a text is refused, or the two CRSs differ. 2: a file can't be read, or another fault.
 
 With ``--lines`` a file has a text a line; one line at a time is held, and ``group`` holds each CRS's canonical text.
+With ``--convert`` PROJ reads texts in other forms, and each that it read is marked.
 """
 
 from __future__ import annotations
@@ -12,9 +13,9 @@ import argparse
 import os
 import signal
 import sys
-from typing import BinaryIO, Callable, Iterable, Iterator, List, NamedTuple, Optional, Tuple
+from typing import BinaryIO, Callable, Dict, Iterable, Iterator, List, NamedTuple, Optional, Tuple
 
-from . import Catalogue, Refused, __version__, canon, check, difference, differences
+from . import Catalogue, Crs, Refused, Text, __version__, canon, check, difference, differences
 from ._crs import LEVELS, is_blank
 from ._shown import named, quoted
 
@@ -24,6 +25,7 @@ MOST_JOBS = 256
 LEVEL_HELP = "what counts: full, or definition, without identifiers, usages and remarks (default: full)"
 FILE_HELP = "a file with a text; - is standard input"
 LINES_HELP = "a file has a text a line (docs/CATALOGUES.md)"
+CONVERT_HELP = "WKT1, PROJ strings, PROJJSON and codes are read by PROJ, which osgeo or pyproj has (docs/PYTHON.md)"
 LINES_HELP_OF_AUDIT = "it has a text a line, and so has a file of another suffix that is named itself"
 CONVERT_HELP = "has PROJ read the texts that are refused (WKT1, PROJ strings, codes), without repairs"
 REGISTRY_HELP = "compares the CRSs with those of PROJ's database"
@@ -108,6 +110,22 @@ class Run:
                 yield Place(name, number), line
 
 
+def asked_text(run: Run, asked: argparse.Namespace, place: Place, text: bytes) -> Text:
+    """The text that is judged: with ``--convert`` the CRS that it spells in any form, and it is told where PROJ read
+    it."""
+    if not asked.convert:
+        return text
+    crs = Crs.from_user(text)
+    if crs.read_by:
+        run.tell(f"{named(str(place))}: {read_how(crs)}")
+    return crs
+
+
+def read_how(crs: Crs) -> str:
+    """How a text was read that PROJ read."""
+    return f"{'bound, ' if crs.transformation else ''}read by {crs.read_by}"
+
+
 def opened(name: str) -> BinaryIO:
     """A file to read, which is closed at the end; standard input stays open."""
     return open(sys.stdin.fileno() if name == "-" else name, "rb", closefd=name != "-")
@@ -128,10 +146,18 @@ def run_check(run: Run, asked: argparse.Namespace) -> None:
             continue
         try:
             is_blank_line = asked.lines and is_blank(text)
-            run.write(front + ("blank" if is_blank_line else f"accepted {check(text)}"))
+            run.write(front + ("blank" if is_blank_line else f"accepted {checked(asked, text)}"))
         except Refused as refused:
             run.write(f"{front}{refused.summary}")
             run.tell_refusal(place, refused)
+
+
+def checked(asked: argparse.Namespace, text: bytes) -> str:
+    """A text's kind, and with ``--convert`` how it was read."""
+    if not asked.convert:
+        return check(text)
+    crs = Crs.from_user(text)
+    return f"{crs.kind}, {read_how(crs)}" if crs.read_by else crs.kind
 
 
 def run_canon(run: Run, asked: argparse.Namespace) -> None:
@@ -139,21 +165,29 @@ def run_canon(run: Run, asked: argparse.Namespace) -> None:
         spelling = ""
         try:
             if text is not None and not (asked.lines and is_blank(text)):
-                spelling = canon(text, asked.level)
+                spelling = canon(asked_text(run, asked, place, text), asked.level)
         except Refused as refused:
             run.tell_refusal(place, refused)
         run.write(spelling)
 
 
 def run_same(run: Run, asked: argparse.Namespace) -> None:
-    first, second = (run.text(name) for name in (asked.first, asked.second))
-    if first is None or second is None:
-        return
+    names = {"first": asked.first, "second": asked.second}
+    read = {which: run.text(name) for which, name in names.items()}
+    texts: List[Text] = []
+    for which, text in read.items():
+        if text is None or read["second"] is None:
+            return
+        try:
+            texts.append(asked_text(run, asked, Place(names[which]), text))
+        except Refused as refused:
+            tell_which(run, names, refused, which)
+            return
+    first, second = texts
     try:
         path = difference(first, second, asked.level)
     except Refused as refused:
-        run.write(f"{refused.which} {refused.summary}")
-        run.tell_refusal(Place(asked.first if refused.which == "first" else asked.second), refused)
+        tell_which(run, names, refused, refused.which or "")
         return
     if path is None:
         run.write("same")
@@ -166,6 +200,12 @@ def run_same(run: Run, asked: argparse.Namespace) -> None:
         run.write(str(part))
 
 
+def tell_which(run: Run, names: Dict[str, str], refused: Refused, which: str) -> None:
+    """The refusal of one of two texts."""
+    run.write(f"{which} {refused.summary}")
+    run.tell_refusal(Place(names[which]), refused)
+
+
 def run_group(run: Run, asked: argparse.Namespace) -> None:
     catalogue = Catalogue(asked.level)
     # What is printed after the groups. In a catalogue of one file a line is its number, and blank ones aren't printed.
@@ -176,7 +216,7 @@ def run_group(run: Run, asked: argparse.Namespace) -> None:
         if text is None:
             continue
         try:
-            spelling = "" if is_blank(text) else canon(text, asked.level)
+            spelling = "" if is_blank(text) else canon(asked_text(run, asked, place, text), asked.level)
         except Refused as refused:
             refusals.append(f"{f'line {place.number}' if is_one else quoted(str(place))}: {refused.summary}")
             run.tell_refusal(place, refused)
@@ -194,6 +234,17 @@ def run_audit(run: Run, asked: argparse.Namespace) -> None:
     from .audit.command import run_audit
 
     run_audit(run, asked)
+
+
+# The commands that have ``--convert`` from here; the audit has its own.
+CONVERTING = (run_check, run_canon, run_same, run_group)
+
+
+def has_proj() -> bool:
+    """Whether PROJ is there."""
+    from ._foreign import reader
+
+    return reader() is not None
 
 
 def jobs(word: str) -> int:
@@ -220,6 +271,7 @@ def parser() -> argparse.ArgumentParser:
     def add_files(made: argparse.ArgumentParser) -> None:
         made.add_argument("files", nargs="+", metavar="FILE", help=FILE_HELP)
         made.add_argument("--lines", action="store_true", help=LINES_HELP)
+        made.add_argument("--convert", action="store_true", help=CONVERT_HELP)
 
     def add_level(made: argparse.ArgumentParser) -> None:
         made.add_argument("--level", choices=list(LEVELS), default="full", help=LEVEL_HELP)
@@ -237,6 +289,7 @@ def parser() -> argparse.ArgumentParser:
     made.add_argument("first", metavar="FILE", help=FILE_HELP)
     made.add_argument("second", metavar="FILE", help=FILE_HELP)
     made.add_argument("--all", action="store_true", help="each part that differs, with both values")
+    made.add_argument("--convert", action="store_true", help=CONVERT_HELP)
     add_level(made)
 
     made = command("group", "groups texts by the CRSs that they spell", run_group)
@@ -260,6 +313,9 @@ def main(words: Optional[List[str]] = None) -> int:
     """Runs a command line, that of the process where none is given, and answers the status."""
     asked = parser().parse_args(words)
     run = Run()
+    if asked.run in CONVERTING and asked.convert and not has_proj():
+        run.tell("crsdesk: --convert takes PROJ, which osgeo (GDAL's Python) or pyproj has, and neither is installed")
+        return FAULT
     try:
         asked.run(run, asked)
         sys.stdout.flush()
