@@ -90,9 +90,18 @@ def kind_of_part(part: Difference, by_path: Dict[str, Difference]) -> Kind:
         return Kind.DATUM if part.first is not None and part.second is not None else Kind.NAMES
     if first == TRANSFORMATION:
         return Kind.DATUM
-    if part.path.endswith("method/name"):
-        return Kind.NAMES if folded(part.first) == folded(part.second) else Kind.NUMBERS
-    return Kind.NAMES
+    return kind_of_methods(part, by_path) if part.path.endswith("method/name") else Kind.NAMES
+
+
+def kind_of_methods(part: Difference, by_path: Dict[str, Difference]) -> Kind:
+    """Methods of one name differ in names. So do variants of one, as Mercator's A and B, where no parameter differs but
+    those that do nothing."""
+    if folded(part.first) == folded(part.second):
+        return Kind.NAMES
+    fronts = {folded((name or "").partition("(")[0]) for name in (part.first, part.second)}
+    parameters = by_path.get(part.path.replace("method/name", "parameters"))
+    rows = list(rows_of_set(parameters, True)) if parameters else []
+    return Kind.NAMES if len(fronts) == 1 and all(row.kind is Kind.NAMES for row in rows) else Kind.NUMBERS
 
 
 def kind_of_frame(part: Difference, last: str, by_path: Dict[str, Difference]) -> Kind:

@@ -1,0 +1,438 @@
+#!/usr/bin/env python3
+"""Audits an archive as archives are, and tells how many of its pairs and planted mistakes are found.
+
+    audit_trial.py [--make FOLDER | --list]
+
+The archive has 53 registered CRSs in ten forms: shapefiles with Esri's .prj, some with a .qpj, GeoTIFFs, GeoPackages,
+GeoJSON, NetCDF, texts in WKT2:2019, WKT2:2015 and WKT1, zips; and bound CRSs, damaged texts and planted mistakes, which
+--list prints. Of each text it is known which CRS it is meant to be. --make makes the archive alone. It needs osgeo, and
+names it as skipped where it isn't there. The figures are printed; each that is worse than it was has a line; the last line
+is 'N passed, M failed', and the status is 0 where M is 0.
+"""
+from __future__ import annotations
+
+import collections
+import importlib.util
+import itertools
+import json
+import os
+import pathlib
+import random
+import re
+import subprocess
+import sys
+import tempfile
+import zipfile
+from typing import Any, Callable, Dict, Iterable, Iterator, List, NamedTuple, Tuple
+
+GEOGRAPHIC = (4326, 4258, 4269, 4267, 4289, 4314, 4230, 4283, 4167, 4807)
+PROJECTED = (
+    32631, 32632, 32633, 32718, 32756, 25831, 25832, 25833, 23031, 26910, 26917, 28355, 28992, 28991, 27700, 2154, 27572,
+    31467, 31466, 31370, 3812, 2056, 21781, 3035, 3034, 2193, 27200, 3857, 3395, 5514, 2180, 3006, 3067, 2100, 2326, 3763,
+    31287, 5070, 2263, 3879,
+)  # fmt: skip
+VERTICAL, COMPOUND = (5703, 5773), (7415,)
+CODES = (*GEOGRAPHIC, *PROJECTED, *VERTICAL, *COMPOUND)
+TEXTS = 973
+# The CRSs that GDAL doesn't write to NetCDF, or doesn't read back.
+NOT_IN_NETCDF = (2056, 21781, 5514, 27572)
+FIRST = 22
+Place = Tuple[str, str]
+
+
+class Mistake(NamedTuple):
+    """A planted mistake: the code of the CRS that is meant, the form of its text, and what is changed in that."""
+
+    name: str
+    code: int
+    form: str
+    change: Callable[[str], str]
+
+
+def replaced(old: str, new: str) -> Callable[[str], str]:
+    def change(text: str) -> str:
+        assert old in text, (old, text)
+        return text.replace(old, new)
+
+    return change
+
+
+def swapped(text: str) -> str:
+    """The axes of a text in WKT2 in the other order."""
+    match = re.search(r'(AXIS\["[^"]*",\w+),ORDER\[1\](.*)(AXIS\["[^"]*",\w+),ORDER\[2\]', text)
+    assert match, text
+    return f"{text[: match.start()]}{match[3]},ORDER[1]{match[2]}{match[1]},ORDER[2]{text[match.end() :]}"
+
+
+def without_id(change: Callable[[str], str]) -> Callable[[str], str]:
+    """A change of a text whose own identifier is left out too."""
+    return lambda text: re.sub(r',ID\["EPSG",\d+\]\]$', "]", change(text))
+
+
+MISTAKES = (
+    Mistake("the flattening of GRS 1980", 4326, "WKT2_2019", replaced("298.257223563", "298.257222101")),
+    Mistake("a false easting of one metre more", 28992, "WKT2_2019", replaced("155000", "155001")),
+    Mistake("a false northing without its sign, and no identifier", 27700, "WKT2_2019", without_id(replaced("-100000", "100000"))),
+    Mistake("longitude before latitude", 4258, "WKT2_2019", swapped),
+    Mistake("easting before northing", 31467, "WKT2_2019", swapped),
+    Mistake("zone 31 by the name of zone 32", 32631, "WKT2_2019", without_id(replaced("UTM zone 31N", "UTM zone 32N"))),
+    Mistake("the name of ETRS89 over the datum of ED50", 25832, "WKT2_2015", replaced('DATUM["European Terrestrial Reference System 1989"', 'DATUM["European Datum 1950"')),
+    Mistake("the ellipsoid of WGS 84", 28991, "WKT2_2019", replaced('"Bessel 1841",6377397.155,299.1528128', '"WGS 84",6378137,298.257223563')),
+    Mistake("the international foot for that of US surveys", 2263, "WKT2_2019", replaced("0.304800609601219", "0.3048")),
+    Mistake("a latitude whose minutes are read as a fraction", 31370, "WKT1_ESRI", replaced("51.1666672333333", "51.1000002303333")),
+    Mistake("the code of ETRS89 on WGS 84", 4326, "WKT2_2015", replaced(',ID["EPSG",4326]]', ',ID["EPSG",4258]]')),
+    Mistake("a scale factor of 1", 32633, "WKT1_ESRI", replaced("0.9996", "1.0")),
+    Mistake("Greenwich for Paris", 27572, "WKT2_2019", replaced('PRIMEM["Paris",2.5969213', 'PRIMEM["Greenwich",0')),
+)  # fmt: skip
+
+DAMAGES: Tuple[Tuple[str, int, Callable[[str], str]], ...] = (
+    ("comma", 28992, replaced("6377397.155", "6377397,155")),
+    ("cut", 27700, lambda text: text[:-60]),
+    ("open", 2154, lambda text: text[:-1]),
+    ("closed", 3035, lambda text: text + "]"),
+    ("scale", 28991, lambda text: re.sub(r'PARAMETER\["Scale_Factor",[^]]*\],', "", text)),
+    ("quote", 32632, replaced('"Meter"', '"Meter')),
+)
+
+
+def reference_of(code: int) -> Any:
+    from osgeo import osr
+
+    reference = osr.SpatialReference()
+    reference.ImportFromEPSG(code)
+    return reference
+
+
+def text_of(code: int, form: str) -> str:
+    return str(reference_of(code).ExportToWkt([f"FORMAT={form}", "MULTILINE=NO"]))
+
+
+class Archive:
+    """The archive as it is made, and which CRS each of its texts is meant to be; planted mistakes and damages by name."""
+
+    def __init__(self, folder: pathlib.Path) -> None:
+        self.folder = folder
+        self.chance = random.Random(1990)
+        self.meant: Dict[Place, str] = {}
+        self.planted: Dict[Place, Mistake] = {}
+        self.damaged: List[Place] = []
+        self.files = 0
+
+    def path(self, name: str) -> pathlib.Path:
+        folder = self.folder / f"part {self.files % 9}"
+        folder.mkdir(parents=True, exist_ok=True)
+        self.files += 1
+        return folder / name
+
+    def state(self, path: pathlib.Path, layer: str, meant: str) -> None:
+        self.meant[str(path), layer] = meant
+
+    def add_text(self, code: int, form: str, suffix: str) -> None:
+        path = self.path(f"{code} {self.files}{suffix}")
+        path.write_text(text_of(code, form), encoding="utf-8")
+        self.state(path, "", str(code))
+
+    def add_shapefile(self, code: int, with_qpj: bool) -> pathlib.Path:
+        from osgeo import gdal, ogr
+
+        path = self.path(f"{code}_{self.files}.shp")
+        data_set = gdal.GetDriverByName("ESRI Shapefile").Create(str(path), 0, 0, 0, gdal.GDT_Unknown)
+        data_set.CreateLayer(path.stem, reference_of(code), ogr.wkbPoint)
+        data_set = None
+        self.state(path, path.stem, str(code))
+        path.with_suffix(".prj").write_text(text_of(code, "WKT1_ESRI"))
+        self.state(path.with_suffix(".prj"), "", str(code))
+        if with_qpj:
+            path.with_suffix(".qpj").write_text(text_of(code, "WKT1_GDAL") + "\n")
+            self.state(path.with_suffix(".qpj"), "", str(code))
+        return path
+
+    def add_raster(self, code: int, suffix: str) -> pathlib.Path:
+        from osgeo import gdal
+
+        suffix = "tif" if code in NOT_IN_NETCDF else suffix
+        path = self.path(f"{code} {self.files}.{suffix}")
+        driver = gdal.GetDriverByName({"tif": "GTiff", "nc": "netCDF"}[suffix])
+        data_set = driver.Create(str(path), 2, 2, 1, gdal.GDT_Byte)
+        data_set.SetSpatialRef(reference_of(code))
+        data_set.SetGeoTransform((1, 0.1, 0, 2, 0, -0.1))
+        data_set = None
+        self.state(path, "", str(code))
+        return path
+
+    def add_layer(self, code: int, suffix: str) -> None:
+        from osgeo import gdal, ogr
+
+        path = self.path(f"{code} {self.files}.{suffix}")
+        driver = gdal.GetDriverByName({"gpkg": "GPKG", "geojson": "GeoJSON"}[suffix])
+        data_set = driver.Create(str(path), 0, 0, 0, gdal.GDT_Unknown)
+        layer = data_set.CreateLayer("roads", reference_of(code), ogr.wkbPoint)
+        feature = ogr.Feature(layer.GetLayerDefn())
+        feature.SetGeometry(ogr.CreateGeometryFromWkt("POINT (1 2)"))
+        layer.CreateFeature(feature)
+        data_set = layer = feature = None
+        self.state(path, "roads", str(code))
+
+    def add_zip(self, code: int) -> None:
+        path = self.path(f"{code} {self.files}.zip")
+        raster = self.folder / "raster.tif"
+        with zipfile.ZipFile(path, "w") as archive:
+            archive.writestr("old.prj", text_of(code, "WKT1_ESRI"))
+            self.state(path, "old.prj", str(code))
+            if code not in (*VERTICAL, *COMPOUND):
+                made = self.add_raster(code, "tif")
+                del self.meant[str(made), ""]
+                made.rename(raster)
+                archive.write(raster, "in/raster.tif")
+                raster.unlink()
+                self.state(path, "in/raster.tif", str(code))
+
+    def add_bound(self, code: int, shift: str) -> None:
+        text = text_of(code, "WKT1_GDAL")
+        match = re.search(r"SPHEROID\[[^\[\]]*AUTHORITY\[[^\]]*\]\]", text)
+        assert match, text
+        path = self.path(f"bound {self.files}.wkt")
+        path.write_text(f"{text[: match.end()]},TOWGS84[{shift}]{text[match.end():]}")
+        self.state(path, "", f"{code} by {shift}")
+
+    def add_mistake(self, mistake: Mistake) -> None:
+        text = text_of(mistake.code, mistake.form)
+        changed = mistake.change(text)
+        assert changed != text, mistake.name
+        path = self.path(f"old {self.files}{'.prj' if mistake.form == 'WKT1_ESRI' else '.wkt'}")
+        path.write_text(changed)
+        self.state(path, "", mistake.name)
+        self.planted[str(path), ""] = mistake
+
+    def add_damage(self, name: str, code: int, change: Callable[[str], str]) -> None:
+        """A shapefile with a damaged .prj."""
+        path = self.add_shapefile(code, False)
+        text = path.with_suffix(".prj").read_text()
+        assert change(text) != text, name
+        path.with_suffix(".prj").write_text(change(text))
+        for place in ((str(path), path.stem), (str(path.with_suffix(".prj")), "")):
+            del self.meant[place]
+            self.damaged.append(place)
+
+
+def make(folder: pathlib.Path) -> Archive:
+    """Makes the archive. Equal runs make equal texts."""
+    from osgeo import gdal
+
+    gdal.UseExceptions()
+    gdal.SetConfigOption("CPL_LOG", os.devnull)
+    gdal.PushErrorHandler("CPLQuietErrorHandler")
+    archive = Archive(folder)
+    for code, shift in itertools.product(
+        (31467, 28992), ("598.1,73.7,418.2,0.202,0.045,-2.455,6.7", "612.4,77,440.2,-0.054,0.057,-2.797,2.55")
+    ):
+        for _ in range(2):
+            archive.add_bound(code, shift)
+    for mistake in MISTAKES:
+        archive.add_mistake(mistake)
+    for damage in DAMAGES:
+        archive.add_damage(*damage)
+    forms = list(forms_of(archive))
+    for code in (*VERTICAL, *COMPOUND):
+        for form, suffix in (("WKT2_2019", ".wkt"), ("WKT2_2015", ".wkt2"), ("WKT1_GDAL", ".wkt")):
+            archive.add_text(code, form, suffix)
+            archive.add_text(code, form, suffix)
+    # Each form of each CRS once, then any, the first ones more often.
+    for code in (*GEOGRAPHIC, *PROJECTED):
+        for form in forms:
+            form(code)
+    while len(archive.meant) + len(archive.damaged) < TEXTS:
+        code = (*PROJECTED, *GEOGRAPHIC)[min(int(archive.chance.expovariate(0.07)), 49)]
+        archive.chance.choice(forms)(code)
+    gdal.PopErrorHandler()
+    return archive
+
+
+def forms_of(archive: Archive) -> Iterator[Callable[[int], Any]]:
+    yield lambda code: archive.add_shapefile(code, False)
+    yield lambda code: archive.add_shapefile(code, True)
+    yield lambda code: archive.add_raster(code, "tif")
+    yield lambda code: archive.add_layer(code, "gpkg")
+    yield lambda code: archive.add_layer(code, "geojson")
+    yield lambda code: archive.add_raster(code, "nc")
+    yield lambda code: archive.add_text(code, "WKT2_2019", ".wkt")
+    yield lambda code: archive.add_text(code, "WKT2_2015", ".wkt2")
+    yield lambda code: archive.add_text(code, "WKT1_GDAL", ".wkt")
+    yield archive.add_zip
+
+
+# What an audit finds.
+
+
+def audited(folder: pathlib.Path, *words: str) -> Dict[str, Any]:
+    with tempfile.TemporaryDirectory() as place:
+        out = pathlib.Path(place, "out.json")
+        command = [sys.executable, "-m", "crsdesk", "audit", "--json", str(out), *words, str(folder)]
+        done = subprocess.run(command, capture_output=True, text=True, check=False)
+        assert out.exists(), done.stderr[-2000:]
+        return dict(json.loads(out.read_text(encoding="utf-8")))
+
+
+def key_of(place: Dict[str, Any]) -> Place:
+    return place["file"], place.get("layer", "")
+
+
+def pairs_of(classes: Iterable[Iterable[Any]]) -> int:
+    return sum(count * (count - 1) // 2 for count in map(len, map(list, classes)))
+
+
+class Pairs(NamedTuple):
+    """Pairs of texts that are meant to be one CRS, how many of them an audit has in one group, and how many pairs of
+    others it has there."""
+
+    all: int
+    found: int
+    wrong: int
+
+    def __str__(self) -> str:
+        share, precision = self.found / self.all, self.found / max(1, self.found + self.wrong)
+        return f"{self.found:,} of {self.all:,} pairs ({share:.1%}), precision {precision:.2%}"
+
+
+def pairs_in(groups: Iterable[List[Place]], archive: Archive) -> Pairs:
+    by_meaning: Dict[str, List[Place]] = collections.defaultdict(list)
+    for place, meant in archive.meant.items():
+        by_meaning[meant].append(place)
+    found = wrong = 0
+    for group in groups:
+        counts = collections.Counter(archive.meant.get(place, f"damaged {place}") for place in group)
+        right = sum(count * (count - 1) // 2 for count in counts.values())
+        found += right
+        wrong += pairs_of([group]) - right
+    return Pairs(pairs_of(by_meaning.values()), found, wrong)
+
+
+def groups_of(data: Dict[str, Any]) -> List[List[Place]]:
+    return [[key_of(it) for variant in one["variants"] for it in variant["places"]] for one in data["definitions"]]
+
+
+def registered_groups(data: Dict[str, Any]) -> List[List[Place]]:
+    """The texts that are the registry's CRS of one code but for names and digits; the others by definition."""
+    groups: Dict[object, List[Place]] = collections.defaultdict(list)
+    for definition in data["definitions"]:
+        for variant in definition["variants"]:
+            found = variant["registered"]
+            is_of_code = found["verdict"] in ("as registered", "names and digits", "axes that the text doesn't state")
+            key = (found["identifier"], definition["transformation"]) if is_of_code else definition["number"]
+            groups[key] += map(key_of, variant["places"])
+    return list(groups.values())
+
+
+def found_in_near_misses(data: Dict[str, Any], archive: Archive, most: int) -> List[str]:
+    """The planted mistakes whose definition is in a pair of one of the first near misses, of a kind other than names."""
+    found = set()
+    for miss in data["near_misses"][:most]:
+        for pair in miss["pairs"]:
+            if pair["kind"] != "names and digits":
+                found |= mistakes_in(data, archive, (pair["first"], pair["second"]))
+    return sorted(found)
+
+
+def mistakes_in(data: Dict[str, Any], archive: Archive, numbers: Iterable[int]) -> set[str]:
+    places = (place for number in numbers for place in groups_of(data)[number - 1])
+    return {archive.planted[place].name for place in places if place in archive.planted}
+
+
+FINDINGS = ("bears another code's name", "datum", "numbers", "axes", "code isn't in the registry")
+
+
+def found_in_registry(data: Dict[str, Any], archive: Archive) -> Tuple[List[str], int]:
+    """The planted mistakes that aren't as registered, and how many other texts aren't."""
+    found, others = set(), 0
+    for definition in data["definitions"]:
+        for variant in definition["variants"]:
+            if variant["registered"]["verdict"] in FINDINGS:
+                places = [key_of(it) for it in variant["places"]]
+                found |= {archive.planted[it].name for it in places if it in archive.planted}
+                others += sum(it not in archive.planted for it in places)
+    return sorted(found), others
+
+
+def accepted_damages(data: Dict[str, Any], archive: Archive) -> List[Place]:
+    accepted = {place for group in groups_of(data) for place in group}
+    return [place for place in archive.damaged if place in accepted]
+
+
+def tell(archive: Archive) -> Iterator[Tuple[str, bool]]:
+    """Prints the figures, and answers what is tested of them."""
+    plain = audited(archive.folder)
+    with_all = audited(archive.folder, "--convert", "--registry")
+    summary, converted = plain["summary"], with_all["summary"]
+    print(f"{summary['texts']} texts, of which {summary['refused']} are refused: {causes(summary)}")
+    print(f"with conversion {converted['refused']} are refused: {causes(converted)}")
+    unstated = set(archive.meant) - {place for group in groups_of(with_all) for place in group}
+    print(f"of the sound texts {len(unstated)} have no CRS in the audit with conversion: {sorted(unstated)[:5]}")
+    by_definition, with_conversion = (pairs_in(groups_of(it), archive) for it in (plain, with_all))
+    print(f"by definition: {by_definition}\nwith conversion: {with_conversion}")
+    by_registry = pairs_in(registered_groups(with_all), archive)
+    print(f"with conversion, by the registry but for names and digits: {by_registry}")
+    print("registry: " + "; ".join(f"{name} {texts}" for name, texts in converted["registry"].items()))
+    for name, data in (("near misses", plain), ("near misses with conversion", with_all)):
+        first, all_of_them = (found_in_near_misses(data, archive, most) for most in (FIRST, 10**9))
+        print(
+            f"{name}: {len(data['near_misses'])}, {len(first)} of {len(MISTAKES)} mistakes in the first {FIRST}, {len(all_of_them)} in all"
+        )
+    in_first = found_in_near_misses(with_all, archive, FIRST)
+    print(f"not in the first {FIRST}: {sorted(it.name for it in MISTAKES if it.name not in in_first)}")
+    in_registry, others = found_in_registry(with_all, archive)
+    print(f"registry: {len(in_registry)} of {len(MISTAKES)} mistakes; {others} other texts aren't as registered")
+    print(f"not found there: {sorted(it.name for it in MISTAKES if it.name not in in_registry)}")
+    yield f"{TEXTS} texts are made", TEXTS - 3 <= len(archive.meant) + len(archive.damaged) <= TEXTS + 3
+    yield "no damaged text is accepted", accepted_damages(plain, archive) == accepted_damages(with_all, archive) == []
+    yield "conversion finds more pairs", with_conversion.found > by_definition.found
+    yield "precision with conversion is 99 %", with_conversion.found >= 99 * with_conversion.wrong
+    yield "precision by definition is 99 %", by_definition.found >= 99 * by_definition.wrong
+    yield f"11 mistakes are in the first {FIRST} near misses", len(in_first) >= 11
+    yield "the registry has 11 mistakes", len(in_registry) >= 11
+    yield "texts that PROJ has read say so", has_marks(with_all)
+    yield "bound CRSs of other transformations are others", are_apart(with_all, archive)
+    yield "no sound data set disagrees", converted["disagreeing"] == 0
+
+
+def causes(summary: Dict[str, Any]) -> str:
+    return "; ".join(f"{it['name']} {it['texts']}" for it in summary["causes"])
+
+
+def has_marks(data: Dict[str, Any]) -> bool:
+    places = [it for one in data["definitions"] for variant in one["variants"] for it in variant["places"]]
+    marks = [it["read_by"] for it in places if "read_by" in it]
+    return len(marks) == data["summary"]["converted"] > 300 and all(it.startswith("PROJ ") for it in marks)
+
+
+def are_apart(data: Dict[str, Any], archive: Archive) -> bool:
+    bound = {place: meant for place, meant in archive.meant.items() if " by " in meant}
+    groups = [{bound[place] for place in group if place in bound} for group in groups_of(data)]
+    return [len(it) for it in groups if it] == 4 * [1]
+
+
+def main(words: List[str]) -> int:
+    if words == ["--list"]:
+        for mistake in MISTAKES:
+            print(f"EPSG:{mistake.code} {mistake.form}: {mistake.name}")
+        return 0
+    if words and (words[0] != "--make" or len(words) != 2):
+        sys.exit(__doc__)
+    if importlib.util.find_spec("osgeo") is None:
+        print("skipped: osgeo isn't there: the trial of an archive")
+        print("0 passed, 0 failed")
+        return 0
+    if words:
+        make(pathlib.Path(os.path.abspath(words[1])))
+        return 0
+    passed = failed = 0
+    with tempfile.TemporaryDirectory() as folder:
+        for name, is_so in tell(make(pathlib.Path(folder))):
+            passed, failed = passed + is_so, failed + (not is_so)
+            if not is_so:
+                print(f"audit_trial: not so: {name}")
+    print(f"{passed} passed, {failed} failed")
+    return 1 if failed else 0
+
+
+if __name__ == "__main__":
+    sys.exit(main(sys.argv[1:]))
