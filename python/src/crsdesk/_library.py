@@ -10,6 +10,7 @@ types say how they are passed. So the way through ctypes takes less than half of
 from __future__ import annotations
 
 import ctypes
+import functools
 import os
 import pathlib
 from typing import Any, Callable, Dict, List, Optional, Tuple
@@ -119,6 +120,10 @@ def check(text: bytes) -> str:
 
 
 def canon(text: bytes, level: int) -> str:
+    return canon_bytes(text, level).decode()
+
+
+def canon_bytes(text: bytes, level: int) -> bytes:
     length = len(text)
     if length > KEPT_ROOM // 2:
         return long_canon(text, level)
@@ -132,12 +137,12 @@ def canon(text: bytes, level: int) -> str:
             _kept.append(found)
             return long_canon(text, level)
         raise fault(code, found, text)
-    answer: str = found.out[: found.length.value].decode()
+    answer: bytes = found.out[: found.length.value]
     _kept.append(found)
     return answer
 
 
-def long_canon(text: bytes, level: int) -> str:
+def long_canon(text: bytes, level: int) -> bytes:
     """The same of a text whose answer may need more room than is kept."""
     found = places()
     given = text, len(text), _LEVELS[level]
@@ -145,7 +150,7 @@ def long_canon(text: bytes, level: int) -> str:
     if code:
         raise fault(code, found, text)
     _kept.append(found)
-    return answer.decode()
+    return answer
 
 
 def same(first: bytes, second: bytes, level: int) -> bool:
@@ -199,6 +204,7 @@ def explain(text: bytes) -> bytes:
     return answer
 
 
+@functools.lru_cache(maxsize=None)
 def refusal_name(number: int) -> str:
     found = places()
     code = LOADED.crsdesk_refusal_name(number, found.to_out, _ROOM, found.to_length)

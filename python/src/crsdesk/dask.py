@@ -13,51 +13,52 @@ canonical texts exactly where their CRSs are the same is what the library's proo
 
 from __future__ import annotations
 
-import hashlib
-from typing import Any, Dict, Iterable, List, NamedTuple, Optional, Tuple, Union
+import os
+from typing import Any, Dict, List, Optional, Tuple, Union
 
 import dask.bag
 import dask.dataframe
-import numpy
 import pandas
 from dask import delayed
+from dask.base import tokenize
+from dask.bytes import read_bytes
+from dask.delayed import Delayed
+from dask.highlevelgraph import HighLevelGraph
 
-from ._crs import Catalogue, Level, canon as canonical_text, is_blank, number_of
+from . import _partitions
+from ._crs import Level, canon as canonical_text, number_of
+from ._partitions import Half, Kept, Led, Ranks, Standing, Standings
 from ._refused import Refused
 
-__all__ = ["Standing", "canon", "groups"]
+__all__ = ["Standing", "canon", "groups", "lines"]
 
-# How many partitions send their keys together: 32, so that a shuffle has one step; more above 1,024 partitions.
-TOGETHER = 32
-# What is sent of each group of a partition: the canonical text, and where its first text is in the collection.
-KEYS = {"route": "int64", "text": "object", "partition": "int64", "first": "int64", "local": "int64"}
-# What it gets back: its group by the partition's own number, and where the first text of all that are the same is.
-FOUND = {"partition": "int64", "local": "int64", "first_partition": "int64", "first": "int64"}
+# In how many partitions keys are compared, and how many spans of partitions send them together: eight, more above this
+# many partitions for each.
+MEETINGS = 8
+A_MEETING = 32
 ANSWER = {"group": "Int64", "refusal": "object"}
 
 
-# The canonical text of a group of a partition, and the place of its first text there.
-Key = Tuple[str, int]
+def lines(
+    path: Union[str, "os.PathLike[str]", List[str]], blocksize: Union[int, str] = "16 MiB", **options: Any
+) -> Any:
+    """A bag of the lines of files, as bytes, without their ends: what a catalogue has (docs/CATALOGUES.md). Each block
+    of about ``blocksize`` bytes is a partition. Path and options are those of ``dask.bytes.read_bytes``: a name, a
+    pattern or a list, with ``s3://`` and others where their packages are there."""
+    found = read_bytes(path, delimiter=b"\n", blocksize=blocksize, sample=False, **options)[1]
+    return dask.bag.from_delayed([delayed(lines_of)(block) for blocks in found for block in blocks])
 
 
-class Standing(NamedTuple):
-    """The place of a text.
-
-    ``group``    the number of its group; None where it is in none
-    ``refusal``  why it spells no CRS, as ``refused 7 UnexpectedEnd at 11``; None where it is in a group or is blank
-    """
-
-    group: Optional[int]
-    refusal: Optional[str]
-
-
-class Kept(NamedTuple):
-    """What is kept of a partition: the own group of each text, counted from 1, and 0 of one that is in none; the
-    refusals by place; and the index of a dataframe's column."""
-
-    local: Any
-    refusals: Dict[int, str]
-    index: Any
+def lines_of(block: bytes) -> List[bytes]:
+    """The lines of a block, which ends with an end of a line, or with the file."""
+    found = block.split(b"\n")
+    if not found[-1]:
+        del found[-1]
+    if b"\r\n" in block:
+        last = found.pop() if block and not block.endswith(b"\n") else None
+        found = [line[:-1] if line.endswith(b"\r") else line for line in found]
+        found += [] if last is None else [last]
+    return found
 
 
 def groups(texts: Any, level: Level = "full", *, npartitions: Optional[int] = None) -> Any:
@@ -67,7 +68,7 @@ def groups(texts: Any, level: Level = "full", *, npartitions: Optional[int] = No
     ``Standing``; of a column it is a dataframe with its index, its partitions, and the columns ``group`` (``Int64``, with
     NA) and ``refusal`` (a str or None). A blank text, and NA in a column, has neither. Nothing is computed before the
     answer is asked for. ``npartitions`` is in how many partitions keys are compared; where none is given, as many as the
-    collection has up to 32, then 32, and above 1,024 partitions one for each 32.
+    collection has up to 8, and above 256 partitions one for each 32.
 
     ``TypeError`` for another collection, and while it is computed for what is no text; ``ValueError`` for a level that
     isn't there.
@@ -75,23 +76,71 @@ def groups(texts: Any, level: Level = "full", *, npartitions: Optional[int] = No
     number_of(level)
     is_bag = is_bag_of(texts)
     parts = texts.to_delayed()
-    halves = [delayed(own_groups)(part, level, is_bag) for part in parts]
     count = len(parts)
-    comparing = npartitions or min(count, max(TOGETHER, count // TOGETHER))
-    bounds = [count * number // comparing for number in range(comparing + 1)]
-    spans = [(begin, end) for begin, end in zip(bounds, bounds[1:]) if begin < end]
-    frames = [delayed(keys_frame)(halves[begin:end], begin) for begin, end in spans]
-    sent = dask.dataframe.from_delayed(frames, meta=frame_of(KEYS), verify_meta=False)
-    # The engine brings rows of one route together. Routes choose the partition alone; texts are compared there.
-    met = sent.shuffle("route", npartitions=comparing).map_partitions(firsts, meta=frame_of(FOUND))
-    numbers = delayed(numbered)(met.to_delayed(), spans)
-    answers = []
-    for number, (begin, end) in enumerate(spans):
-        own = numbers[number]
-        answers += [delayed(answer)(delayed(kept_of)(halves[it]), own, it - begin, is_bag) for it in range(begin, end)]
+    meetings = npartitions or min(count, max(MEETINGS, count // A_MEETING))
+    spans_wanted = min(count, max(MEETINGS, count // A_MEETING))
+    bounds = [count * number // spans_wanted for number in range(spans_wanted + 1)]
+    graph = Graph(tokenize([part.key for part in parts], level, is_bag, meetings), parts)
+    answers = [graph.part(key) for key in add_tasks(graph, level, is_bag, list(zip(bounds, bounds[1:])), meetings)]
     if is_bag:
         return dask.bag.from_delayed(answers)
     return dask.dataframe.from_delayed(answers, meta=empty_like(texts), divisions=texts.divisions, verify_meta=False)
+
+
+class Graph:
+    """Tasks over the partitions of a collection: a key and what is computed for it, from keys."""
+
+    def __init__(self, token: str, parts: List[Any]) -> None:
+        self.token = token
+        self.parts = parts
+        self.tasks: Dict[str, Any] = {}
+        self.whole: Any = None
+
+    def add(self, name: str, place: Any, *task: Any) -> str:
+        """A task, a function and its arguments, in which keys stand for what they compute."""
+        key = f"{name}-{self.token}-{place}"
+        self.tasks[key] = task
+        return key
+
+    def part(self, key: str) -> Any:
+        """What a key computes, once all tasks are there."""
+        name = f"groups-{self.token}"
+        if self.whole is None:
+            self.whole = HighLevelGraph.from_collections(name, self.tasks, dependencies=self.parts)
+        return Delayed(key, self.whole, layer=name)
+
+
+def add_tasks(graph: Graph, level: Level, is_bag: bool, spans: List[Tuple[int, int]], meetings: int) -> List[str]:
+    """The tasks by which partitions are grouped, and the keys of their answers. What goes between workers are the arrays
+    of a span and a meeting; texts leave a worker where they are compared."""
+    halves = [graph.add("own_groups", it, own_groups, part.key, level, is_bag) for it, part in enumerate(graph.parts)]
+    kept = [graph.add("kept_of", it, kept_of, half) for it, half in enumerate(halves)]
+    digests = [graph.add("digests_of", it, digests_of, half) for it, half in enumerate(halves)]
+    sent = [
+        graph.add("sent", it, _partitions.sent, digests[begin:end], begin, meetings)
+        for it, (begin, end) in enumerate(spans)
+    ]
+    told = []
+    for it in range(meetings):
+        keys = [graph.add("keys", f"{span}-{it}", item, key, it) for span, key in enumerate(sent)]
+        met = graph.add("met", it, _partitions.met, keys)
+        wanted = graph.add("wanted", it, _partitions.wanted, met)
+        texts = []
+        for span, (begin, end) in enumerate(spans):
+            asked = graph.add("asked", f"{span}-{it}", item, wanted, span)
+            texts.append(graph.add("texts_for", f"{span}-{it}", texts_for, halves[begin:end], begin, asked))
+        told.append(graph.add("judged", it, _partitions.judged, met, texts))
+    led = []
+    for span, (begin, end) in enumerate(spans):
+        parts = [graph.add("told", f"{span}-{it}", item, key, span) for it, key in enumerate(told)]
+        led.append(graph.add("led", span, _partitions.led, parts, begin, end))
+    bits = [graph.add("bits_of", it, bits_of, key) for it, key in enumerate(led)]
+    ranks = graph.add("ranks", 0, _partitions.ranks, bits)
+    return [
+        graph.add("answer", it, answer, kept[it], led[span], it - begin, ranks, is_bag)
+        for span, (begin, end) in enumerate(spans)
+        for it in range(begin, end)
+    ]
 
 
 def canon(texts: Any, level: Level = "full") -> Any:
@@ -113,11 +162,6 @@ def is_bag_of(texts: Any) -> bool:
     raise TypeError(f"a catalogue is a bag of dask or a column of its dataframe, not {type(texts).__name__}{advice}")
 
 
-def frame_of(types: Dict[str, str], **columns: Any) -> Any:
-    """A dataframe with columns of some types; without rows where none are given."""
-    return pandas.DataFrame({name: pandas.Series(columns.get(name, ()), dtype=kind) for name, kind in types.items()})
-
-
 def empty_like(texts: Any) -> Any:
     """The answer of no texts, with the index of a column."""
     index = texts._meta.index[:0]
@@ -129,77 +173,39 @@ def is_missing(text: object) -> bool:
     return text is None or text is pandas.NA or isinstance(text, float) and text != text
 
 
-def route_of(text: str) -> int:
-    """A number of a canonical text, the same in every process. Texts may share one: no answer depends on it."""
-    return int.from_bytes(hashlib.blake2b(text.encode(), digest_size=8).digest(), "little", signed=True)
+def own_groups(texts: Any, level: Level, is_bag: bool) -> Half:
+    """A partition by itself."""
+    return _partitions.own_groups(texts, level, None if is_bag else is_missing)
 
 
-def own_groups(texts: Iterable[Any], level: Level, is_bag: bool) -> Tuple[Kept, List[Key]]:
-    """The groups of a partition by itself, and what it sends of them."""
-    catalogue = Catalogue(level)
-    local: List[int] = []
-    refusals: Dict[int, str] = {}
-    for number, text in enumerate(texts):
-        group = None
-        try:
-            if is_bag or not is_missing(text):
-                group = catalogue._add_canonical("" if is_blank(text) else canonical_text(text, level), number)
-        except Refused as refused:
-            refusals[number] = refused.summary
-        local.append(group or 0)
-    index = None if is_bag else getattr(texts, "index")
-    keys = [(group.text, group.names[0]) for group in catalogue]
-    return Kept(numpy.array(local, dtype="int64"), refusals, index), keys
+def kept_of(half: Half) -> Kept:
+    """What is kept of a partition, once its texts are compared."""
+    return half.kept
 
 
-def kept_of(half: Tuple[Kept, List[Key]]) -> Kept:
-    """What is kept of a partition, once its keys are sent."""
-    return half[0]
+def digests_of(half: Half) -> Any:
+    return half.digests
 
 
-def keys_frame(halves: List[Tuple[Kept, List[Key]]], begin: int) -> Any:
-    """What neighbouring partitions send, of which the first has a number."""
-    rows = [
-        (route_of(text), text, partition, first, local)
-        for partition, (_, own) in enumerate(halves, begin)
-        for local, (text, first) in enumerate(own, 1)
-    ]
-    return frame_of(KEYS, **dict(zip(KEYS, zip(*rows))))
+def item(parts: Any, place: int) -> Any:
+    """What one of several tasks is given."""
+    return parts[place]
 
 
-def firsts(keys: Any) -> Any:
-    """Where the first text of each group is, by whole canonical texts."""
-    least: Dict[str, Tuple[int, int]] = {}
-    rows = list(zip(keys["text"], keys["partition"], keys["first"]))
-    for text, partition, first in rows:
-        least[text] = min(least.get(text, (partition, first)), (partition, first))
-    return frame_of(
-        FOUND,
-        partition=keys["partition"].to_numpy(),
-        local=keys["local"].to_numpy(),
-        first_partition=[least[text][0] for text, _, _ in rows],
-        first=[least[text][1] for text, _, _ in rows],
-    )
+def texts_for(halves: List[Half], begin: int, keys: Any) -> Any:
+    return _partitions.texts_for([half.texts for half in halves], begin, keys)
 
 
-def numbered(frames: List[Any], spans: List[Tuple[int, int]]) -> List[List[Any]]:
-    """For each span of partitions the numbers of the groups of each, by the partition's own numbers from 1."""
-    found = pandas.concat(frames).sort_values(["partition", "local"])
-    places = found[["first_partition", "first"]].to_numpy(dtype="int64")
-    # The places of first texts in their order are those of the groups.
-    _, ranks = numpy.unique(places, axis=0, return_inverse=True)
-    ends: Any = numpy.searchsorted(found["partition"].to_numpy(), numpy.arange(spans[-1][1] + 1))
-    numbers = numpy.asarray(ranks).reshape(-1) + 1
-    # Copies: a part that is sent must not keep the whole in memory.
-    return [[numbers[ends[it] : ends[it + 1]].copy() for it in range(*span)] for span in spans]
+def bits_of(led: List[Led]) -> List[Any]:
+    return [it.bits for it in led]
 
 
-def answer(kept: Kept, numbers: List[Any], place: int, is_bag: bool) -> Any:
-    """The answer of a partition, the one at a place of its span: a list of standings, or a dataframe."""
-    group = numpy.concatenate([numpy.zeros(1, dtype="int64"), numbers[place]])[kept.local]
-    refusals = [kept.refusals.get(number) for number in range(len(group))]
+def answer(kept: Kept, led: List[Led], place: int, ranks: Ranks, is_bag: bool) -> Any:
+    """The answer of a partition, the one at a place of its span: standings, or a dataframe."""
+    group = _partitions.numbers_of(led[place], ranks)[kept.local]
     if is_bag:
-        return [Standing(number or None, refusal) for number, refusal in zip(group.tolist(), refusals)]
+        return Standings(group, kept.refusals)
+    refusals = [kept.refusals.get(number) for number in range(len(group))]
     columns = {
         "group": pandas.arrays.IntegerArray(group, group == 0),
         "refusal": pandas.Series(refusals, dtype="object").to_numpy(),
