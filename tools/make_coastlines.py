@@ -134,7 +134,7 @@ def distance(point: Point, begin: Point, end: Point) -> float:
     length = (along[0] ** 2 + along[1] ** 2) ** 0.5
     if length == 0:
         return float((from_begin[0] ** 2 + from_begin[1] ** 2) ** 0.5)
-    return abs(along[0] * from_begin[1] - along[1] * from_begin[0]) / length
+    return float(abs(along[0] * from_begin[1] - along[1] * from_begin[0]) / length)
 
 
 def path_of(line: List[Point]) -> str:

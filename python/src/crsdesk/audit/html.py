@@ -10,29 +10,48 @@ from __future__ import annotations
 import base64
 import hashlib
 import pathlib
-from typing import Any, Callable, Dict, List, NamedTuple, Sequence, TextIO, Tuple, TypeVar
+from typing import Any, Callable, Dict, Iterator, List, NamedTuple, Optional, Sequence, TextIO, Tuple, TypeVar
 
 import jinja2
-from markupsafe import Markup
+from markupsafe import Markup, escape
 
-from .. import __version__
+from .. import Difference, __version__
+from .datasets import belongs_to
 from .judging import Box
-from .names import counted, place_shown, readable, visible
-from .report import Definition, RefusedText, Report, Untold
+from .kinds import Kind, rows_of
+from .marking import Pieces, pieces_of
+from .names import counted, distinct, place_shown, readable, visible
+from .report import (
+    DataSet,
+    Definition,
+    NearMiss,
+    Place,
+    RefusedText,
+    Report,
+    Untold,
+    cause_of,
+    findings_of,
+    verdict_told,
+)
 from .terminal import summary_rows
 
 TEMPLATES = pathlib.Path(__file__).resolve().parent / "templates"
 # The room of each part of the page, in bytes.
-ROOM_OF_TEXTS = 2_500_000
-ROOM_OF_ROWS = 2_500_000
+ROOM_OF_TEXTS = 1_000_000
+ROOM_OF_ROWS = 1_500_000
 ROOM_OF_MISSES = 500_000
-ROOM_OF_REFUSED = 1_200_000
+ROOM_OF_FINDINGS = 300_000
+ROOM_OF_REFUSED = 500_000
 ROOM_OF_UNTOLD = 300_000
-MOST_PLACES = 500
+MOST_PLACES = 200
 MOST_PAIRS = 50
 MOST_AREAS = 1500
 MOST_BARS = 15
 MOST_CHARACTERS = 20_000
+# Of the values that are compared, and of one beside none; and the least width and height of a box that is faint, since it is most of the world.
+MOST_OF_VALUE = 2000
+MOST_ALONE = 200
+WORLD = 300, 120
 Item = TypeVar("Item")
 
 
@@ -48,6 +67,23 @@ class Bar(NamedTuple):
 
     definition: Definition
     width: float
+
+
+class Line(NamedTuple):
+    """A part that differs, as a row of a table: both values as they are shown, with what differs in them marked."""
+
+    path: str
+    kind: str
+    first: Optional[Markup]
+    second: Optional[Markup]
+
+
+class ToDo(NamedTuple):
+    """What is to be looked at: how many of what, and where they are on the page."""
+
+    number: int
+    what: str
+    link: str
 
 
 class Shape(NamedTuple):
@@ -66,9 +102,14 @@ def write_html(report: Report, file: TextIO) -> None:
     style, script = (Markup((TEMPLATES / name).read_text(encoding="utf-8")) for name in ("page.css", "page.js"))
     page = environment.get_template("page.html.jinja")
     definitions, rows = definitions_of(blocks, report.definitions)
-    drawn = [area for area in report.areas if is_drawn(area.box)]
+    # The largest boxes lie below the others.
+    drawn = sorted(
+        (area for area in report.areas[:MOST_AREAS] if is_drawn(area.box)), key=lambda it: not is_world(it.box)
+    )
+    first_misses = [it for it in report.near_misses if it.kind is not Kind.NAMES]
     stream = page.stream(
         report=report,
+        to_do=list(to_do(report)),
         version=__version__,
         style=style,
         style_hash=hash_of(style),
@@ -82,7 +123,15 @@ def write_html(report: Report, file: TextIO) -> None:
         blocks=blocks,
         definitions=definitions,
         rows=rows,
-        misses=filled(report.near_misses, lambda it: blocks.miss(it, report.definitions, MOST_PAIRS), ROOM_OF_MISSES),
+        data_sets=filled(
+            [it for it in report.data_sets if it.disagrees],
+            lambda it: blocks.data_set(it, report.definitions),
+            ROOM_OF_FINDINGS,
+        ),
+        all_data_sets=filled(report.data_sets, blocks.data_set_row, ROOM_OF_FINDINGS),
+        findings=filled(findings_of(report), lambda it: blocks.finding(*it), ROOM_OF_FINDINGS),
+        misses=misses_of(blocks, report, first_misses),
+        other_misses=misses_of(blocks, report, report.near_misses[len(first_misses) :]),
         refused=refused_of(blocks, report.refused),
         untold={
             "Without a CRS": untold_of(blocks, report.without),
@@ -105,7 +154,17 @@ def environment_of() -> jinja2.Environment:
         lstrip_blocks=True,
     )
     environment.filters.update(
-        counted=counted, place=place_shown, readable=readable, shapes=shapes_of, short=short, visible=visible
+        counted=counted,
+        lines=lines_of,
+        place=place_shown,
+        places=places_shown,
+        readable=readable,
+        shapes=shapes_of,
+        short=short,
+        suffix=suffix_shown,
+        verdict=verdict_told,
+        visible=visible,
+        world=is_world,
     )
     return environment
 
@@ -118,6 +177,65 @@ def hash_of(text: str) -> str:
 def short(text: str, most: int = MOST_CHARACTERS) -> str:
     """A text's front, where it is long."""
     return text if len(text) <= most else f"{text[:most]}.. ({len(text):,} characters; --json has all)"
+
+
+def to_do(report: Report) -> Iterator[ToDo]:
+    """What is to be looked at, in the order of the page; what there is none of is left out."""
+    kinds = [it.kind for it in report.near_misses]
+    found = (
+        ToDo(len(report.unread), "can't be read", "untold"),
+        ToDo(report.summary.disagreeing, "data sets whose texts disagree", "data-sets"),
+        ToDo(len(findings_of(report)), "CRSs that aren't as registered", "registry"),
+        *(ToDo(kinds.count(it), f"near misses in {it.label}", "near-misses") for it in Kind if it is not Kind.NAMES),
+        ToDo(report.summary.refused, "texts that are refused", "refused"),
+    )
+    return (it for it in found if it.number)
+
+
+def misses_of(blocks: Any, report: Report, misses: Sequence[NearMiss]) -> Part:
+    return filled(misses, lambda it: blocks.miss(it, report.definitions, MOST_PAIRS), ROOM_OF_MISSES)
+
+
+def lines_of(parts: Sequence[Difference]) -> List[Line]:
+    """Parts that differ, those of the kinds to look at first before the others."""
+    rows = sorted(rows_of(parts), key=lambda it: it.kind)
+    return [Line(row.path, row.kind.label, *values_of(row.first, row.second)) for row in rows]
+
+
+def values_of(first: Optional[str], second: Optional[str]) -> Tuple[Optional[Markup], Optional[Markup]]:
+    most = MOST_ALONE if first is None or second is None else MOST_OF_VALUE
+    pieces = pieces_of(*(None if it is None else short(it, most) for it in (first, second)))
+    return tuple(None if it is None else written(its) for it, its in zip((first, second), pieces))  # type: ignore[return-value]
+
+
+def written(pieces: Pieces) -> Markup:
+    """A value with what differs in it marked."""
+    return Markup("").join(
+        Markup("<mark>{}</mark>").format(distinct(it.text)) if it.differs else escape(distinct(it.text))
+        for it in pieces
+    )
+
+
+def places_shown(places: Sequence[Place]) -> List[str]:
+    """Places, with the version of PROJ that has read them; those of one data set in one row."""
+    rows: Dict[object, List[Place]] = {}
+    for place in places:
+        belongs = belongs_to(place.file, place.layer)
+        rows.setdefault((belongs.archive, belongs.path, place.read_by) if belongs else place, []).append(place)
+    return [row_shown(row) for row in rows.values()]
+
+
+def row_shown(places: Sequence[Place]) -> str:
+    """The places of a data set: the first, and the suffixes of the others."""
+    suffixes = [belongs.suffix for it in places[1:] if (belongs := belongs_to(it.file, it.layer))]
+    read_by = f" (read by {places[0].read_by})" if places[0].read_by else ""
+    return ", ".join([place_shown(places[0]), *suffixes]) + read_by
+
+
+def suffix_shown(place: Place) -> str:
+    """The suffix of a place's file in its data set."""
+    belongs = belongs_to(place.file, place.layer)
+    return belongs.suffix if belongs else ""
 
 
 def filled(items: Sequence[Item], block_of: Callable[[Item], Any], room: int) -> Part:
@@ -139,35 +257,31 @@ def definitions_of(blocks: Any, definitions: Sequence[Definition]) -> Tuple[Part
 
 
 class Refusals(NamedTuple):
-    """Texts that are refused by one number, by what to do with them, those of the most texts first."""
+    """Texts that are refused for one cause, by what to do with them, those of the most texts first."""
 
-    number: int
-    name: str
-    meaning: str
+    cause: str
     texts: int
-    by_hint: Dict[str, Part]
+    by_hint: Dict[Tuple[str, str], Part]
 
 
 def refused_of(blocks: Any, refused: Sequence[RefusedText]) -> List[Refusals]:
-    by_number: Dict[int, List[RefusedText]] = {}
+    by_cause: Dict[str, List[RefusedText]] = {}
     for text in refused:
-        by_number.setdefault(text.refusal.number, []).append(text)
-    room = ROOM_OF_REFUSED // max(1, len(by_number))
-    found = []
-    for number, texts in sorted(by_number.items(), key=lambda it: (-len(it[1]), it[0])):
-        first = texts[0].refusal
-        found.append(Refusals(number, first.name, first.meaning, len(texts), by_hint_of(blocks, texts, room)))
-    return found
+        by_cause.setdefault(cause_of(text.refusal), []).append(text)
+    room = ROOM_OF_REFUSED // max(1, len(by_cause))
+    its = sorted(by_cause.items(), key=lambda it: (-len(it[1]), it[0]))
+    return [Refusals(cause, len(texts), by_hint_of(blocks, texts, room)) for cause, texts in its]
 
 
-def by_hint_of(blocks: Any, texts: Sequence[RefusedText], room: int) -> Dict[str, Part]:
-    by_hint: Dict[str, List[RefusedText]] = {}
+def by_hint_of(blocks: Any, texts: Sequence[RefusedText], room: int) -> Dict[Tuple[str, str], Part]:
+    """Texts by what their refusal means, and by the hint."""
+    by_hint: Dict[Tuple[str, str], List[RefusedText]] = {}
     for text in texts:
-        by_hint.setdefault(text.refusal.hint, []).append(text)
-    parts: Dict[str, Part] = {}
+        by_hint.setdefault((text.refusal.meaning, text.refusal.hint), []).append(text)
+    parts: Dict[Tuple[str, str], Part] = {}
     for hint, its in sorted(by_hint.items(), key=lambda it: -len(it[1])):
         parts[hint] = filled(its, blocks.refused, room)
-        room -= sum(map(len, parts[hint].blocks)) + len(hint)
+        room -= sum(map(len, parts[hint].blocks)) + sum(map(len, hint))
     return parts
 
 
@@ -184,6 +298,12 @@ def bars_of(definitions: Sequence[Definition]) -> List[Bar]:
 def is_drawn(box: Box) -> bool:
     """Whether a box lies on the globe."""
     return -90 <= box.south <= box.north <= 90 and all(-180 <= it <= 180 for it in (box.west, box.east))
+
+
+def is_world(box: Box) -> bool:
+    """Whether a box is most of the world."""
+    width = box.east - box.west + (360 if box.west > box.east else 0)
+    return width >= WORLD[0] and box.north - box.south >= WORLD[1]
 
 
 def shapes_of(box: Box) -> List[Shape]:

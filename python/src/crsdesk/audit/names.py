@@ -10,6 +10,9 @@ from .report import Place
 # What a name has that isn't shown as it is: control characters, and bytes that aren't UTF-8 as Python has them.
 UNSHOWN = re.compile(f"{CONTROL.pattern[:-1]}\ud800-\udfff]")
 
+# White space that looks like a space, and characters that aren't seen at all.
+UNSEEN = re.compile(f"{UNSHOWN.pattern[:-1]}\u00a0\u00ad\u1680\u2000-\u200d\u202f\u205f\u2060\u3000\ufeff]")
+
 
 def character_shown(match: re.Match[str]) -> str:
     code = ord(match[0])
@@ -27,6 +30,11 @@ def readable(name: str) -> str:
 def visible(text: str) -> str:
     """A text with its control characters escaped."""
     return UNSHOWN.sub(character_shown, text)
+
+
+def distinct(text: str) -> str:
+    """A text in which every character is told from any other: ``visible``, with spaces other than the space escaped."""
+    return UNSEEN.sub(character_shown, text)
 
 
 def place_shown(place: Place) -> str:

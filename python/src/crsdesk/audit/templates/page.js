@@ -4,6 +4,8 @@
   const shown = document.getElementById("shown");
   const chunks = Array.from(document.querySelectorAll(".chunk"), (chunk) => [chunk, Array.from(chunk.querySelectorAll(".item"))]);
   const total = chunks.reduce((sum, [, items]) => sum + items.length, 0);
+  // Each section's heading tells how many of its items are shown.
+  const sections = Array.from(document.querySelectorAll("section"), (it) => [it.querySelector(".count"), it, chunks.filter(([chunk]) => it.contains(chunk))]).filter(([count]) => count);
   const groups = Array.from(document.querySelectorAll("details.group"));
   const opened = new Set();
   let texts = null;
@@ -28,6 +30,11 @@
         opened.add(group);
       } else if (!folded.has(group) && opened.delete(group)) group.open = false;
     }
+    for (const [label, , its] of sections) {
+      const all = its.reduce((sum, [, items]) => sum + items.length, 0);
+      const fit = its.reduce((sum, [chunk, items]) => sum + (chunk.hidden ? 0 : items.filter((item) => !item.hidden).length), 0);
+      label.textContent = asked.length ? `${fit} of ${all}` : "";
+    }
     shown.textContent = asked.length ? `${count} of ${total} shown` : "";
   };
   const open = () => {
@@ -42,6 +49,11 @@
   document.getElementById("filter").addEventListener("submit", (event) => event.preventDefault());
   document.getElementById("filter").hidden = false;
   addEventListener("hashchange", open);
-  addEventListener("beforeprint", () => document.querySelectorAll("details").forEach((it) => { it.open = true; }));
+  const unfold = document.getElementById("unfold");
+  unfold.addEventListener("click", () => {
+    const isOpen = unfold.textContent === "Fold all";
+    document.querySelectorAll("details").forEach((it) => { it.open = !isOpen; });
+    unfold.textContent = isOpen ? "Unfold all" : "Fold all";
+  });
   open();
 })();
