@@ -12,9 +12,12 @@ threads of this process. The blocks of docs/CLUSTER.md are run too. Each case th
 from __future__ import annotations
 
 import doctest
+import io
 import logging
 import os
 import pathlib
+import pickle
+import random
 import signal
 import subprocess
 import sys
@@ -28,8 +31,11 @@ import crsdesk.dask
 import dask
 import dask.bag
 import dask.dataframe
+import numpy
 import pandas
-from crsdesk.dask import Standing, canon, groups
+from crsdesk import _partitions
+from crsdesk.__main__ import lines_of
+from crsdesk.dask import Standing, canon, groups, lines
 
 HERE = pathlib.Path(__file__).resolve().parent
 ROOT = HERE.parent
@@ -139,16 +145,75 @@ def try_small(counts: Counts) -> None:
     )
     empty = dask.bag.from_delayed([dask.delayed(read)(os.devnull, 0, 0) for _ in range(3)])
     counts.compare("no text", groups(empty).compute(scheduler="sync"), [])
-    # Texts are compared whole, whatever routes them.
-    kept = crsdesk.dask.route_of
-    crsdesk.dask.route_of = lambda text: 7
-    try:
-        bag = dask.bag.from_sequence(texts, npartitions=4)
-        counts.compare("one route for all", groups(bag).compute(scheduler="sync"), wanted)
-    finally:
-        crsdesk.dask.route_of = kept
+    try_collisions(counts)
+    try_lines(counts)
     try_frames(counts)
     try_faults(counts)
+
+
+def by_catalogue(texts: List[Any]) -> List[Standing]:
+    """What one catalogue says of each text."""
+    catalogue = crsdesk.Catalogue()
+    found = []
+    for text in texts:
+        try:
+            found.append(Standing(catalogue.add(text), None))
+        except crsdesk.Refused as refused:
+            found.append(Standing(None, refused.summary))
+    return found
+
+
+def try_collisions(counts: Counts) -> None:
+    """Texts are compared whole, whatever their digests: those of this package, one for all, and three. Collections by
+    chance, of texts, bytes and CRSs, in any number of partitions and meetings."""
+    chance = random.Random(58)
+    pool: List[Any] = [HEIGHT.replace('"H"', f'"{number}"') for number in range(40)]
+    pool += ["", " ", "x[", "GEOGCS[", HEIGHT.encode(), crsdesk.Crs(NOTED), bytearray(HEIGHT.encode())]
+    kept = _partitions.digests_of
+    ways = {
+        "its own digests": kept,
+        "one digest for all": lambda texts: numpy.full((len(list(texts)), 2), 7, dtype="<u8"),
+        "three digests": lambda texts: kept(texts) % numpy.uint64(3) * numpy.array([1, 0], dtype="<u8"),
+    }
+    for name, way in ways.items():
+        _partitions.digests_of = way
+        try:
+            for _ in range(20):
+                texts = [chance.choice(pool) for _ in range(chance.randrange(1, 200))]
+                texts = [text + " " * chance.randrange(3) if isinstance(text, str) else text for text in texts]
+                wanted = by_catalogue(texts)
+                for partitions in (1, 2, 7, 50):
+                    bag = dask.bag.from_sequence(texts, npartitions=partitions)
+                    for meetings in (None, 1, 3):
+                        found = groups(bag, npartitions=meetings).compute(scheduler="sync")
+                        counts.compare(f"{name}: {len(texts)} in {partitions}, {meetings}", found, wanted)
+        finally:
+            _partitions.digests_of = kept
+    # A partition is a sequence of standings.
+    part = _partitions.Standings(numpy.array([1, 0, 2]), {1: "refused"})
+    wanted = [Standing(1, None), Standing(None, "refused"), Standing(2, None)]
+    counts.compare(
+        "a partition",
+        (list(part), len(part), part[1], part[-1], part[:2]),
+        (wanted, 3, wanted[1], wanted[2], wanted[:2]),
+    )
+    counts.compare("a partition is sent", list(pickle.loads(pickle.dumps(part))), wanted)
+
+
+def try_lines(counts: Counts) -> None:
+    """The lines of files in blocks of any size are those of a catalogue."""
+    data = b"a\r\nb\n\nc\rd\r\r\n" + b"x" * 50 + b"\n\xff\nlast\r"
+    with tempfile.TemporaryDirectory() as folder:
+        for number, end in enumerate((data, data + b"\n", b"", b"\n", b"\r\n")):
+            path = pathlib.Path(folder, f"{number}.txt")
+            path.write_bytes(end)
+            wanted = list(lines_of(io.BytesIO(end)))
+            for size in (*range(1, 12), 100):
+                if end:
+                    found = lines(str(path), blocksize=size).compute(scheduler="sync")
+                    counts.compare(f"lines {number} in blocks of {size}", found, wanted)
+        found = lines(f"{folder}/[01].txt", blocksize=7).compute(scheduler="sync")
+        counts.compare("lines of two files", found, [*lines_of(io.BytesIO(data)), *lines_of(io.BytesIO(data + b"\n"))])
 
 
 def try_frames(counts: Counts) -> None:
@@ -196,15 +261,15 @@ def try_faults(counts: Counts) -> None:
             counts.compare(f"{call.__name__} of {type(given).__name__}", found, wanted)
 
 
-def try_large(counts: Counts, program: str, lines: int, folder: pathlib.Path) -> None:
+def try_large(counts: Counts, program: str, count: int, folder: pathlib.Path) -> None:
     """A large catalogue by four worker processes; one of them is killed in the middle."""
     from dask.distributed import Client, LocalCluster
 
     path = folder / "catalogue.txt"
-    path.write_bytes(large_catalogue(lines))
+    path.write_bytes(large_catalogue(count))
     wanted = {level: by_command(program, path.read_bytes(), level) for level in ("full", "definition")}
     numbers = [it.group for it in wanted["full"] if it.group]
-    print(f"{lines} lines, {max(numbers)} groups, {sum(it.refusal is not None for it in wanted['full'])} refused")
+    print(f"{count} lines, {max(numbers)} groups, {sum(it.refusal is not None for it in wanted['full'])} refused")
     settings: Dict[str, Any] = {"n_workers": WORKERS, "threads_per_worker": 1, "processes": True}
     # What Dask says of a worker that is killed is no fault.
     settings |= {"silence_logs": logging.CRITICAL, "dashboard_address": None, "local_directory": str(folder)}
@@ -220,6 +285,10 @@ def try_large(counts: Counts, program: str, lines: int, folder: pathlib.Path) ->
         column = column_of(path, 50)
         found = standings(groups(column, "definition").compute())
         try_answer(counts, "a column of 50 partitions by definition", found, wanted["definition"])
+        begin = time.monotonic()
+        found = groups(lines(str(path), blocksize="4 MiB")).compute()
+        try_answer(counts, "lines in blocks of bytes", found, wanted["full"])
+        print(f"lines in blocks of bytes: {time.monotonic() - begin:.1f} s")
         texts = canon(column_of(path, 50)).compute().tolist()
         has_text = [it.group is not None for it in wanted["full"]]
         counts.compare("canonical texts of a column", [it is not None for it in texts], has_text)
@@ -283,10 +352,10 @@ def main(words: List[str]) -> int:
     if not 1 <= len(words) <= 2:
         sys.exit(__doc__)
     counts = Counts()
-    lines = int(words[1]) if len(words) > 1 else 200_000
+    count = int(words[1]) if len(words) > 1 else 200_000
     with tempfile.TemporaryDirectory() as folder:
         try_small(counts)
-        try_large(counts, words[0], lines, pathlib.Path(folder))
+        try_large(counts, words[0], count, pathlib.Path(folder))
         try_documents(counts)
     print(f"{counts.passed} passed, {counts.failed} failed")
     return 1 if counts.failed else 0

@@ -566,16 +566,21 @@ def a_crs_of_another_package() -> None:
     assert Crs.from_user(crs) is crs
     refused = refusal_of(type("CRS", (), {"to_wkt": lambda self: 'BOUNDCRS["A"]'})(), Crs.from_user)
     assert refused.text == b'BOUNDCRS["A"]' and "BOUNDCRS isn't read" in str(refused)
-    wants(TypeError, "hand a text over to Crs", Crs.from_user, HEIGHT)
+    assert Crs.from_user(HEIGHT) == Crs.from_user(HEIGHT.encode()) == crs and Crs.from_user(HEIGHT).read_by is None
     wants(TypeError, "Crs.from_file reads a file", Crs.from_user, EXAMPLES / "wgs84.wkt")
-    wants(TypeError, "has a method to_wkt, and int hasn't", Crs.from_user, 4326)
+    wants(TypeError, "a text or another package's object with to_wkt, not int", Crs.from_user, 4326)
     wants(TypeError, "answers NoneType, and no text", Crs.from_user, type("CRS", (), {"to_wkt": lambda self: None})())
-    frame = type("GeoDataFrame", (), {"crs": crs})()
-    for call in (Crs, Crs.from_user):
-        wants(TypeError, "hand over its .crs to Crs.from_user", call, frame)
+    # A table of geometries has a to_wkt too, which writes those.
+    for more in ({}, {"to_wkt": lambda self, **options: self}):
+        frame = type("GeoDataFrame", (), {"crs": crs, **more})()
+        for call in (Crs, Crs.from_user, Catalogue().add):
+            wants(TypeError, "hand over its .crs to Crs.from_user", call, frame)
     wants(TypeError, "(Crs.from_user does)", Crs, stand_in("pyproj.crs.crs"))
     wants(TypeError, "(Crs.from_file does)", Crs, EXAMPLES / "wgs84.wkt")
-    assert "call Crs.from_user with" in str(refusal_of("EPSG:4326", Crs))
+    for text in ("EPSG:4326", "+proj=longlat", 'GEOGCS["A"]', "{}", 'BOUNDCRS["A"]'):
+        assert "Crs.from_user has PROJ read it" in str(refusal_of(text, Crs)), text
+        assert "Crs.from_user" not in str(refusal_of(text, check)) + str(refusal_of(text, Crs.from_user)), text
+    assert "Crs.from_user" not in str(refusal_of("WGS 84", Crs)) + str(refusal_of(HEIGHT[:-1], Crs))
 
 
 def a_crs_of_a_file() -> None:
@@ -583,6 +588,113 @@ def a_crs_of_a_file() -> None:
         assert Crs.from_file(path) == Crs((EXAMPLES / "wgs84.wkt").read_bytes())
     wants(FileNotFoundError, "none.wkt", Crs.from_file, "none.wkt")
     assert refusal_of(EXAMPLES / "exports" / "wgs84_esri.prj", Crs.from_file).number == 11
+    # An open file isn't a path: open() would read it, and close it.
+    for found in (0, True):
+        wants(TypeError, "expected str, bytes or os.PathLike object", Crs.from_file, found)
+    assert os.fstat(0)
+
+
+def facts_of(canonical: str) -> Tuple[str, List[str], List[List[float]]]:
+    """Name, own identifiers and boxes, by a walk over all tokens."""
+    name, identifiers, boxes = "", [], []
+    nodes: List[Tuple[str, List[str]]] = [("", [])]
+    word = ""
+    for token in re.findall(r'"(?:[^"]|"")*"|[\[\],]|[^\[\],"]+', canonical):
+        if token == "[":
+            nodes[-1][1].pop()
+            nodes.append((word, []))
+        elif token == "]":
+            keyword, values = nodes.pop()
+            if len(nodes) == 1:
+                name = values[0]
+            elif len(nodes) == 2 and keyword == "ID":
+                identifiers.append(":".join(values[:2]))
+            elif keyword == "BBOX":
+                boxes.append([float(value) for value in values])
+        elif token != ",":
+            word = token
+            nodes[-1][1].append(token[1:-1].replace('""', '"') if token[0] == '"' else token)
+    return name, identifiers, boxes
+
+
+def name_and_identifiers() -> None:
+    """They are those of a walk over all tokens, of all examples and of texts that have what delimits them in quotes."""
+    from crsdesk import _facts
+
+    odd = ['a],ID[""X"",1]', '"",""', "]", "[", ',REMARK[""x""]', "BBOX[1,2,3,4]", '""', "é", "ID[", "x" * 100_000]
+    texts = [HEIGHT.replace('"H"', f'"{name}"') for name in odd]
+    ids = [f'ID["{name}","{other}"{more}]' for name in odd for other in odd[:8] for more in ("", ",2", f',"{name}"')]
+    more = [f',CITATION["{name}"]' for name in odd] + [f',URI["{name}"]' for name in odd] + [',CITATION["]"],URI["["]']
+    ids += [f'ID["E",1{it}]' for it in more] + [f'ID["E",{number},"8.1"{more[-1]}]' for number in (1, 7, "007")]
+    texts += [HEIGHT[:-1] + "," + it + "]" for it in ids] + [HEIGHT[:-1] + "," + ",".join(ids) + "]"]
+    texts += [HEIGHT[:-1] + "," + ids[0] + f',REMARK["{name}"]]' for name in odd]
+    texts += [HEIGHT[:-1] + f',USAGE[SCOPE["{name}"],AREA["{name}"],BBOX[1,-2,3.5,4]],BBOX[1,2,3,4]]' for name in odd]
+    texts += RICH
+    data = [text.encode() for text in texts]
+    data += [path.read_bytes() for path in [*EXAMPLES.glob("*.wkt"), *(EXAMPLES / "exports").glob("*.wkt")]]
+    data += (EXAMPLES / "catalogue.txt").read_bytes().split(b"\n")
+    crss = [Crs(text) for text in data if is_accepted(text)]
+    assert len(crss) > 500, len(crss)
+    for crs in crss:
+        name, identifiers, boxes = facts_of(str(crs))
+        assert (crs.name, crs.identifiers) == (name, tuple(identifiers)), crs.text[:500]
+        assert [list(box) for box in _facts.boxes_of(str(crs))] == list(map(list, dict.fromkeys(map(tuple, boxes))))
+    noted = Crs(HEIGHT[:-1] + ',ID["A",1],ID["B","x y"],REMARK["r"]]')
+    assert (noted.name, noted.identifiers) == ("H", ("A:1", "B:x y"))
+    assert repr(noted) == "<Crs 'H' A:1 B:x y (vertical)>"
+    many = Crs(HEIGHT[:-1] + ',ID["A",1],ID["A",2],ID["A",3],ID["A",4]]')
+    assert repr(many) == "<Crs 'H' A:1 A:2 A:3 ... (vertical)>"
+    # They take little time of a long text, and of one that has no end of one.
+    began = time.process_time()
+    for text in (HEIGHT[:-1] + "".join(f',ID["A",{n}]' for n in range(50_000)) + "]", HEIGHT.replace("H", '""' * LONG)):
+        assert Crs(text).name and len(Crs(text).identifiers) in (0, 50_000)
+    assert time.process_time() - began < 60
+
+
+def what_a_crs_writes() -> None:
+    crs = Crs(HEIGHT[:-1] + ',ID["A",1]]')
+    assert crs.to_wkt() == crs.to_wkt("WKT2_2019") == crs.to_wkt(version="WKT2:2019") == str(crs)
+    wants(ValueError, "a Crs writes WKT2:2019, not 'WKT1_GDAL'", crs.to_wkt, "WKT1_GDAL")
+    assert f"{crs}" == f"{crs:full}" == str(crs) and f"{crs:definition}" == CANONICAL_HEIGHT
+    assert f"{crs:.7}" == "VERTCRS" and f"{crs:>400}" == str(crs).rjust(400)
+    wants(ValueError, "nvalid format specifier", format, crs, "full.")
+
+
+class Noted(Crs):
+    """A CRS with a note."""
+
+    def __init__(self, text: crsdesk.Text, note: str) -> None:
+        super().__init__(text)
+        self.note = note
+
+
+class Slotted(Crs):
+    __slots__ = ("note",)
+
+
+class Stated(Crs):
+    """It has its own state."""
+
+    def __getstate__(self) -> Tuple[int, int]:
+        return (1, 2)
+
+    def __setstate__(self, state: Tuple[int, int]) -> None:
+        self.state = state
+
+
+def subclasses_are_pickled_as_themselves() -> None:
+    noted, slotted, empty = Noted(HEIGHT, "n"), Slotted(HEIGHT), Slotted(HEIGHT)
+    slotted.note = "s"
+    for protocol in range(pickle.HIGHEST_PROTOCOL + 1):
+        for crs in (noted, slotted, empty, Stated(HEIGHT), Crs(HEIGHT)):
+            for twin in (pickle.loads(pickle.dumps(crs, protocol)), copy.copy(crs), copy.deepcopy(crs)):
+                assert type(twin) is type(crs) and twin == crs and twin.text == crs.text
+                assert getattr(twin, "note", None) == getattr(crs, "note", None)
+    assert pickle.loads(pickle.dumps(Stated(HEIGHT))).state == (1, 2)
+    assert (
+        type(Slotted.from_user(Crs(HEIGHT))) is Slotted and type(Slotted.from_file(EXAMPLES / "wgs84.wkt")) is Slotted
+    )
+    assert noted == Crs(HEIGHT) and hash(noted) == hash(Crs(HEIGHT)) and repr(noted) == "<Noted 'H' (vertical)>"
 
 
 def a_crs_is_sorted_by_its_canonical_text() -> None:
@@ -626,7 +738,7 @@ def a_crs_is_a_key() -> None:
     assert {crs: 1}[again] == 1 and {crs, again, other} == {again, other}
     assert crs != CANONICAL_HEIGHT and crs != None  # noqa: E711
     assert str(crs) == crs.canonical() == CANONICAL_HEIGHT and crs.kind == "vertical"
-    assert repr(crs) == "Crs(" + repr(CANONICAL_HEIGHT[:57] + "...") + ")"
+    assert repr(crs) == "<Crs 'H' (vertical)>"
     for twin in (pickle.loads(pickle.dumps(crs)), copy.copy(crs), copy.deepcopy(crs)):
         assert twin == crs and twin.text == crs.text
     assert not hasattr(crs, "__dict__")
@@ -642,7 +754,7 @@ def levels() -> None:
     assert first.differences(second, "definition") == []
     catalogue = Catalogue("definition")
     assert [catalogue.add(crs.text) for crs in (first, second)] == [1, 1]
-    assert catalogue.group(1).text == CANONICAL_HEIGHT
+    assert catalogue.group(1).text == CANONICAL_HEIGHT and HEIGHT in catalogue and second in catalogue
 
 
 def all_parts() -> None:
@@ -755,6 +867,10 @@ def catalogue_of_names() -> None:
     refusal_of("x", keeping.add)
     assert [(name, it.text) for name, it in keeping.refused] == [(1, b"x")]
     wants(TypeError, "not NoneType", catalogue.add, None)
+    assert HEIGHT in catalogue and CANONICAL_HEIGHT.encode() in catalogue and Crs(HEIGHT) in catalogue
+    for text in (HEIGHT.replace('"H"', '"L"'), "x", "", " ", HEIGHT[:-1] + ',REMARK["r"]]'):
+        assert text not in catalogue, text
+    wants(TypeError, "not NoneType", lambda: None in catalogue)
     for number in (0, 3, -1):
         wants(IndexError, "no such group", catalogue.group, number)
     long = HEIGHT[:-1] + ',REMARK["' + "r" * 200_000 + '"]]'
@@ -979,6 +1095,282 @@ def what_gdalsrsinfo_does_with_a_hint() -> None:
         assert check(done.stdout) == "projected"
 
 
+# Other forms, as PROJ reads them.
+
+TM = (
+    'PROJECTION["Transverse_Mercator"],PARAMETER["latitude_of_origin",0.5],PARAMETER["central_meridian",9.5],PARAMETER['
+    '"scale_factor",0.9996],PARAMETER["false_easting",500000.5],PARAMETER["false_northing",0.5]'
+)
+BESSEL = (
+    'GEOGCS["G",DATUM["D",SPHEROID["S",6377397.155,299.1528128]{}],PRIMEM["Greenwich",0.5],UNIT["degree",0.0174532925199433'
+    "]]"
+)
+GEOGRAPHIC = BESSEL.format("")
+SHIFTED = BESSEL.format(",TOWGS84[598.1,73.7,418.2,0.202,0.045,-2.455,6.7]")
+PROJECTED = f'PROJCS["P",{GEOGRAPHIC},{TM},UNIT["metre",1.0]]'
+HEIGHTS = 'VERT_CS["H",VERT_DATUM["V",2005],UNIT["metre",1.0],AXIS["Up",UP]]'
+# WKT1 texts, with the kind of each, and whether it is bound.
+OLD = {
+    GEOGRAPHIC: ("geographic", False),
+    SHIFTED: ("geographic", True),
+    PROJECTED: ("projected", False),
+    f'PROJCS["P",{SHIFTED},{TM},UNIT["metre",1.0]]': ("projected", True),
+    HEIGHTS: ("vertical", False),
+    f'COMPD_CS["C",{PROJECTED},{HEIGHTS}]': ("compound", False),
+    f'COMPD_CS["C",PROJCS["P",{SHIFTED},{TM},UNIT["metre",1.0]],{HEIGHTS}]': ("compound", True),
+}
+# Texts in other forms, likewise.
+FOREIGN = {
+    "EPSG:28992": ("projected", False),
+    "epsg:28992": ("projected", False),
+    "EPSG:28992+5709": ("compound", False),
+    " EPSG:4326\n": ("geographic", False),
+    "OGC:CRS84": ("geographic", False),
+    "ESRI:102100": ("projected", False),
+    "urn:ogc:def:crs:EPSG::4978": ("geodetic", False),
+    "urn:ogc:def:crs,crs:EPSG::27700,crs:EPSG::5701": ("compound", False),
+    "http://www.opengis.net/def/crs/EPSG/0/5773": ("vertical", False),
+    "+proj=utm +zone=31": ("projected", False),
+    "proj=utm zone=31 type=crs": ("projected", False),
+    "+proj=longlat +ellps=bessel +towgs84=1,2,3 +no_defs": ("geographic", True),
+    "+proj=longlat +ellps=bessel +nadgrids=a.gsb": ("geographic", True),
+    "+proj=utm +zone=31 +ellps=bessel +towgs84=1,2,3 +geoidgrids=egm96.gtx +vunits=m": ("compound", True),
+}
+# Texts that PROJ reads, or repairs, and a part of why its reading isn't taken.
+NOT_TAKEN = {
+    GEOGRAPHIC.replace("6377397.155", "6377397,155"): "syntax error, unexpected number",
+    GEOGRAPHIC.replace("0.0174532925199433", "0.01745329252"): "with another number than 0.01745329252",
+    GEOGRAPHIC.replace('PRIMEM["Greenwich",0.5],', ""): "PRIMEM",
+    GEOGRAPHIC + "x": "unexpected identifier, expecting end of string",
+    GEOGRAPHIC + GEOGRAPHIC: "expecting end of string",
+    GEOGRAPHIC[:-1]: "PROJ: ",
+    GEOGRAPHIC.replace("SPHEROID", "SPEROID"): "PROJ: ",
+    GEOGRAPHIC.replace("UNIT", "UNT"): "PROJ: ",
+    "GEOGCS[\0]": "a NUL byte is in it",
+    'GEOGCS["' + "x" * 1_048_576: "more than 1,048,576 characters",
+    "+proj=utm +zone=31 +elps=GRS80": "+elps isn't known: PROJ would pass it over",
+    "+proj=utm +zone=31 +zone=32": "+zone is there twice",
+    "+init=epsg:4326": "+init isn't known",
+    "+proj=pipeline +step +proj=utm +zone=31": "+step isn't known",
+    "+proj=utm +zone=99": "Invalid value for zone",
+    "+proj=merc +x_0=1,5": "invalid value for x_0",
+    "+proj=frob": "Unknown projection",
+    "EPSG:0": "crs not found",
+    "EPSG:7030": "crs not found",
+    "FROB:1": "crs not found",
+    "urn:ogc:def:crs:EPSG::0": "crs not found",
+    '{"type":"GeographicCRS"}': "PROJ: ",
+    "{": "PROJ: ",
+}
+# Texts of which PROJ isn't asked: it would look names up, open files, or repair WKT2.
+NOT_ASKED = [
+    "WGS 84",
+    "4326",
+    "",
+    "https://example.org/crs",
+    "/etc/passwd",
+    "@a.wkt",
+    "EPSG: 4326",
+    "EPSG:WGS 84",
+    HEIGHT[:-1],
+    HEIGHT.replace('"metre",1', '"metre",1,0'),
+    'GEOGCRS["A",DATUM["D",ELLIPSOID["E",6377397,155,299]]]',
+]
+
+
+def without_proj() -> None:
+    """Where no package has PROJ, a text in another form is refused as ever, with that; where one has, nothing else."""
+    from crsdesk import _foreign
+
+    if _foreign.reader():
+        print("skipped: PROJ is there: what is said without it")
+        return
+    for text in [*OLD, *FOREIGN]:
+        refused = refusal_of(text, Crs.from_user)
+        told = "PROJ doesn't read it either: it isn't there; osgeo (GDAL's Python) and pyproj have it"
+        assert refused.proj == told and str(refused).endswith(f"\n{told}"), refused
+        again = pickle.loads(pickle.dumps(refused))
+        assert str(again) == str(refused) and str(refused.kept()) == str(refused)
+        assert (refused.number, refused.place) == (refusal_of(text).number, refusal_of(text).place)
+    with tempfile.TemporaryDirectory() as folder:
+        files = Files(folder)
+        for command in (["check"], ["canon"], ["group"], ["same", "height.wkt"]):
+            status, output, error = files.run(*command, "--convert", "old.prj")
+            assert (status, output) == (2, "") and error.startswith("crsdesk: --convert takes PROJ"), error
+
+
+def other_forms() -> None:
+    """With PROJ: what is taken of it, and what isn't, with its words; and what isn't asked of it."""
+    from crsdesk import _foreign
+
+    read_by = _foreign.reader() or ""
+    assert re.fullmatch(r"PROJ \d+\.\d+\.\d+, EPSG v[\d.]+", read_by), read_by
+    for text, (kind, is_bound) in [*OLD.items(), *FOREIGN.items()]:
+        crs = Crs.from_user(text)
+        assert (crs.kind, crs.transformation is not None, crs.read_by) == (kind, is_bound, read_by), text
+        assert crs == Crs.from_user(text.encode()) and check(crs.text) == kind
+        for twin in (pickle.loads(pickle.dumps(crs)), copy.deepcopy(crs), Crs(crs), Crs.from_user(crs)):
+            told = [
+                (it.text, it.read_by, it.transformation, it.canonical("definition"), hash(it)) for it in (twin, crs)
+            ]
+            assert twin == crs and told[0] == told[1], text
+        assert is_accepted(str(crs).encode()) != is_bound and str(crs) == crs.canonical() == crs.to_wkt()
+        assert ("bound" in repr(crs)) == is_bound and f"read by {read_by})>" in repr(crs)
+        # What it writes is read again as the same CRS, with the same transformation.
+        again = Crs.from_user(str(crs))
+        assert again.transformation == crs.transformation and (is_bound or again == crs), text
+    for text, part in NOT_TAKEN.items():
+        refused = refusal_of(text, Crs.from_user)
+        assert part in (refused.proj or "") and refused.proj and str(refused).endswith(refused.proj), (
+            text[:99],
+            refused,
+        )
+        assert "\n" not in refused.proj and (refused.number, refused.place) == (
+            refusal_of(text).number,
+            refusal_of(text).place,
+        )
+    for text in NOT_ASKED:
+        assert refusal_of(text, Crs.from_user).proj is None, text
+    # The library judges what PROJ writes.
+    refused = refusal_of(
+        'LOCAL_CS["L",LOCAL_DATUM["D",0],UNIT["metre",1],AXIS["x",EAST],AXIS["y",NORTH]]', Crs.from_user
+    )
+    assert refused.proj == f"{read_by} wrote this text of WKT1" and refused.text and refused.text.startswith(b"ENGCRS[")
+    assert Crs.from_user("EPSG:28992") == Crs.from_file(EXAMPLES / "exports" / "rd_projinfo_2019.wkt")
+
+
+def damaged_numbers_are_refused() -> None:
+    """A decimal comma for each decimal point of each WKT1 text, and a bracket or a comma left out."""
+    tried = 0
+    for text in OLD:
+        for place, character in enumerate(text):
+            cut = text[:place] + text[place + 1 :]
+            damaged = [text[:place] + "," + text[place + 1 :]] if character == "." else []
+            damaged += [cut] if character in '[],"' else []
+            for it in damaged:
+                tried += 1
+                refusal_of(it, Crs.from_user)
+    assert tried > 500, tried
+
+
+def transformations_count() -> None:
+    one, other = (Crs.from_user(SHIFTED.replace("598.1", number)) for number in ("598.1", "598.2"))
+    plain = Crs.from_user(GEOGRAPHIC)
+    assert len({one, other, plain}) == 3 and one.text == other.text == plain.text and one.name == plain.name == "G"
+    for level in ("full", "definition"):
+        texts = {crs.canonical(level) for crs in (one, other, plain)}
+        assert len(texts) == 3 and one == Crs.from_user(SHIFTED)
+        assert not one.same(other, level) and not same(one, other, level) and not same(plain, one, level)
+        assert same(one, Crs.from_user(SHIFTED), level) and differences(one, one, level) == []
+        assert difference(one, other, level) == one.difference(plain, level) == "transformation"
+        parts = differences(one, plain, level)
+        assert [(it.path, it.first, it.second) for it in parts] == [("transformation", one.transformation, None)]
+        catalogue = Catalogue(level)
+        assert [catalogue.add(it) for it in (one, other, plain, one)] == [1, 2, 3, 1] and one in catalogue
+        assert catalogue.group(1).text == one.canonical(level)
+    renamed = Crs.from_user(SHIFTED.replace('"G"', '"K"').replace("598.1", "598.2"))
+    assert one.difference(renamed) == "name" and [it.path for it in one.differences(renamed)][-1] == "transformation"
+    # Of a compound CRS the members are bound.
+    texts = [text for text, (kind, is_bound) in OLD.items() if kind == "compound" and is_bound]
+    texts += [text for text, (kind, is_bound) in FOREIGN.items() if kind == "compound" and is_bound]
+    paths = []
+    for text in texts:
+        crs, shifted = Crs.from_user(text), Crs.from_user(text.replace("598.1", "598.2").replace("egm96", "egm08"))
+        paths.append(crs.differences(shifted)[-1].path)
+        assert str(crs).startswith("COMPOUNDCRS[") and "BOUNDCRS[SOURCECRS[PROJCRS[" in str(crs)
+    assert paths == ["horizontal/transformation", "vertical/transformation"], paths
+
+
+def readings_depend_on_nothing_else() -> None:
+    """Whatever was read before, in whichever thread, a text is read alike."""
+    texts = [*OLD, *FOREIGN, *(path.read_text("utf-8") for path in (EXAMPLES / "exports").glob("*.prj"))]
+    texts += [f"EPSG:{code}" for code in (2154, 3035, 3857, 4258, 4979, 5514, 7415, 25832, 27700, 31370, 31467, 32631)]
+    texts += [NOT for NOT in NOT_TAKEN if len(NOT) < 1000]
+    chance = random.Random(58)
+
+    def told(text: str) -> str:
+        try:
+            return str(Crs.from_user(text))
+        except Refused as refused:
+            return str(refused)
+
+    wanted = {text: told(text) for text in texts}
+    for _ in range(3):
+        chance.shuffle(texts)
+        assert {text: told(text) for text in texts} == wanted
+    with ThreadPoolExecutor(4) as pool:
+        assert dict(zip(texts * 2, pool.map(told, texts * 2))) == wanted
+
+
+def json_is_read_whole() -> None:
+    """PROJJSON of PROJ's own is read, and refused where a member has another name, or a number more digits."""
+    if lacks("projinfo", "PROJJSON"):
+        return
+    for code in (
+        "EPSG:4326",
+        "EPSG:28992",
+        "EPSG:7415",
+        "EPSG:5773",
+        "+proj=utm +zone=31 +ellps=bessel +towgs84=1,2,3",
+    ):
+        words = ["projinfo", "-q", "-o", "PROJJSON", code + (" +type=crs" if code[0] == "+" else "")]
+        text = subprocess.run(words, capture_output=True, text=True, check=True).stdout
+        crs = Crs.from_user(text)
+        assert crs == Crs.from_user(code) and crs.read_by, code
+        names = [match for match in re.finditer(r'"(\w+)": ', text) if match[1] != "type"]
+        for match in names:
+            changed = f'{text[: match.start()]}"{match[1]}_x": {text[match.end() :]}'
+            assert refusal_of(changed, Crs.from_user).proj, changed
+            doubled = f"{text[: match.start()]}{match[0]}0, {text[match.start() :]}"
+            assert refusal_of(doubled, Crs.from_user).proj, doubled
+    assert len(names) > 30
+
+
+def command_convert() -> None:
+    with tempfile.TemporaryDirectory() as folder:
+        files = Files(folder)
+        files.write("old.prj", GEOGRAPHIC)
+        files.write("bound.prj", SHIFTED)
+        files.write("damaged.prj", GEOGRAPHIC.replace("6377397.155", "6377397,155"))
+        files.write("codes.txt", f"EPSG:28992\n\nWGS 84\n{HEIGHT}\nEPSG:28992 \n")
+        by = Crs.from_user(GEOGRAPHIC).read_by
+        status, output, error = files.run("check", "--convert", "old.prj", "bound.prj", "height.wkt", "damaged.prj")
+        assert output == (
+            f"old.prj: accepted geographic, read by {by}\nbound.prj: accepted geographic, bound, read by {by}\n"
+            "height.wkt: accepted vertical\ndamaged.prj: refused 11 UnknownKeyword at 0\n"
+        )
+        assert status == 1 and "WKT1" in error and "\nPROJ doesn't read it either: PROJ: " in error
+        status, output, error = files.run("canon", "--convert", "old.prj", "bound.prj", "--level=definition")
+        wanted = [Crs.from_user(text).canonical("definition") for text in (GEOGRAPHIC, SHIFTED)]
+        assert (status, output) == (0, "".join(f"{text}\n" for text in wanted))
+        assert error == f"old.prj: read by {by}\nbound.prj: bound, read by {by}\n"
+        assert files.run("same", "--convert", "old.prj", "old.prj")[:2] == (0, "same\n")
+        assert files.run("same", "--convert", "old.prj", "bound.prj")[:2] == (1, "different transformation\n")
+        status, output, _ = files.run("same", "--convert", "--all", "bound.prj", "old.prj")
+        assert status == 1 and output.startswith("transformation: TARGETCRS[") and output.endswith(" | none\n")
+        assert files.run("same", "--convert", "old.prj", "damaged.prj")[:2] == (
+            1,
+            "second refused 11 UnknownKeyword at 0\n",
+        )
+        status, output, error = files.run("group", "--convert", "--lines", "codes.txt")
+        assert (status, output) == (1, "group 1: 1 5\ngroup 2: 4\nline 3: refused 2 NotOneNode at 4\n"), output
+        assert f"codes.txt:1: read by {by}\n" in error
+        assert files.run("group", "--convert", "old.prj", "bound.prj", "height.wkt")[1] == (
+            "group 1: old.prj\ngroup 2: bound.prj\ngroup 3: height.wkt\n"
+        )
+        assert files.run("check", "old.prj")[1] == "refused 11 UnknownKeyword at 0\n"
+
+
+CONVERTED = [
+    other_forms,
+    damaged_numbers_are_refused,
+    transformations_count,
+    readings_depend_on_nothing_else,
+    json_is_read_whole,
+    command_convert,
+]
+
+
 # Beside other packages.
 
 
@@ -1007,7 +1399,12 @@ def with_pyproj() -> None:
     examples_of_the_document("pyproj")
     is_refused_with_the_call(pyproj.CRS.from_epsg(28992), "to_wkt()")
     for crs in (pyproj.CRS.from_epsg(28992), pyproj.CRS.from_epsg(7415)):
-        assert Crs.from_user(crs).text == crs.to_wkt().encode()
+        own = Crs.from_user(crs)
+        assert own.text == crs.to_wkt().encode() and own.read_by is None
+        assert pyproj.CRS(own) == pyproj.CRS.from_user_input(own) == crs
+        assert pyproj.Transformer.from_crs(own, own).source_crs == crs
+    bound = Crs.from_user(SHIFTED)
+    assert pyproj.CRS(bound).is_bound and Crs.from_user(pyproj.CRS(bound)).transformation == bound.transformation
     # PROJ reads each canonical text, as the CRS that it reads in the text itself, where it reads that.
     texts = [path.read_bytes() for path in sorted([*EXAMPLES.glob("*.wkt"), *(EXAMPLES / "exports").glob("*.wkt")])]
     texts += (EXAMPLES / "catalogue.txt").read_bytes().split(b"\n")
@@ -1028,7 +1425,8 @@ def with_rasterio() -> None:
     import rasterio.crs  # type: ignore[import]
 
     is_refused_with_the_call(rasterio.crs.CRS.from_epsg(28992), 'to_wkt(version="WKT2_2019")')
-    assert Crs.from_user(rasterio.crs.CRS.from_epsg(28992)).kind == "projected"
+    own = Crs.from_user(rasterio.crs.CRS.from_epsg(28992))
+    assert own.kind == "projected" and rasterio.crs.CRS.from_user_input(own) == rasterio.crs.CRS.from_epsg(28992)
 
 
 def with_osgeo() -> None:
@@ -1273,6 +1671,10 @@ PROMISES = [
     a_crs_of_a_file,
     a_crs_of_another_package,
     a_crs_is_sorted_by_its_canonical_text,
+    name_and_identifiers,
+    what_a_crs_writes,
+    subclasses_are_pickled_as_themselves,
+    without_proj,
     levels,
     all_parts,
     all_parts_of_all_pairs,
@@ -1299,6 +1701,7 @@ PROMISES = [
 ]
 
 
+OTHER_PROJ = {"pyproj": "osgeo", "osgeo": "pyproj"}
 WITH = {"pandas": with_pandas, "pyproj": with_pyproj, "rasterio": with_rasterio, "osgeo": with_osgeo}
 
 
@@ -1316,6 +1719,10 @@ def main(words: List[str]) -> int:
         if words[0] != "--with" or words[1:] not in ([package] for package in WITH):
             sys.exit(__doc__)
         cases, promises = [], [WITH[words[1]]]
+        if words[1] in OTHER_PROJ:
+            # PROJ is that of this package, and not the other's, which is made one that can't be imported.
+            sys.modules[OTHER_PROJ[words[1]]] = None  # type: ignore[assignment]
+            promises += CONVERTED
     else:
         cases, promises = list(rows()), PROMISES
     cases += [(promise.__name__, functools.partial(promise_fault, promise)) for promise in promises]
