@@ -98,7 +98,7 @@ def crss() -> List[Known]:
 # The near misses that are wanted: what both have, and in which parts the two differ.
 NEAR_MISSES = [
     ("name", "Survey zone 7", ["zone 7", "zone 7 flat"], ["base/datum/ellipsoid/flattening"]),
-    ("name", "Survey zone 9", ["zone 9", "zone 9 origin"], ["conversion/parameters"]),
+    ("name", "Survey zone 9", ["zone 9", "zone 9 origin"], ["conversion/parameters/False easting"]),
     ("name", "Survey", ["survey", "survey axes"], [
         "system/axis1/name", "system/axis1/direction", "system/axis2/name", "system/axis2/direction",
     ]),

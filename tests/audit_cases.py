@@ -38,8 +38,8 @@ import audit_archive
 import big_catalogue
 
 import crsdesk
-from crsdesk import Crs
-from crsdesk.audit import collecting, judging, names, report
+from crsdesk import Crs, Difference
+from crsdesk.audit import collecting, judging, kinds, names, report
 
 HERE = pathlib.Path(__file__).resolve().parent
 ROOT = HERE.parent
@@ -179,9 +179,14 @@ def data_has_the_near_misses() -> None:
         texts = [data["definitions"][pair[which] - 1] for which in ("first", "second")]
         assert texts[0]["texts"] >= texts[1]["texts"]
         wanted = Crs(texts[0]["text"]).differences(texts[1]["text"], "definition")
-        assert [(it["first"], it["second"]) for it in pair["parts"]] == [(it.first, it.second) for it in wanted]
+        parts = [(it["path"], it["first"], it["second"]) for it in pair["parts"]]
+        assert parts == [(it.path, it.first, it.second) for it in kinds.rows_of(wanted)]
+        assert {path.partition("/parameters")[0] for path, _, _ in parts} == {
+            it.path.partition("/parameters")[0] for it in wanted
+        }
     assert sorted(found) == wanted_near_misses()
-    assert [bool(it["pairs"][0]["identifiers"]) for it in data["near_misses"]] == [True, True, False, False]
+    told = [(it["kind"], bool(it["pairs"][0]["identifiers"])) for it in data["near_misses"]]
+    assert told == [("numbers", True), ("numbers", False), ("axes", False), ("names and digits", True)], told
 
 
 def data_has_the_refusals() -> None:
@@ -263,19 +268,24 @@ def terminal_has_the_summary_and_the_near_misses() -> None:
     head, *misses = output.split("\n\n")
     accepted = wanted["texts"] - len(wanted["refused"])
     assert f"texts        {wanted['texts']:,}: {accepted:,} accepted, {len(wanted['refused'])} refused\n" in head
-    assert f"; by definition {len(wanted['spelled'])}\n" in head and "near misses  4\n" in head
+    assert f"; by definition {len(wanted['spelled'])}\n" in head
+    assert "near misses  4 (numbers 2, axes 1, names and digits 1)\n" in head
     for number, count in collections.Counter(it[3] for it in wanted["refused"]).items():
         assert re.search(rf"^refused      {number} \w+: {count} texts?$", head, re.MULTILINE), number
     numbers = {number: name for name, number in numbers_of_definitions().items()}
     found = []
     for miss in misses:
         first, *lines = miss.rstrip("\n").split("\n")
-        match = re.fullmatch(r"2 CRSs of the (name|identifier) (.*)", first)
+        match = re.fullmatch(r"2 CRSs of the (name|identifier) (.*): (numbers|axes|names and digits)", first)
         both = frozenset(numbers[int(it[1])] for it in map(re.compile(r"  (\d+)[ :]").match, lines) if it)
         assert match
         paths = [line.strip().partition(":")[0] for line in lines if line.startswith("    ")]
-        found.append((match[1], match[2], both, paths))
-    assert sorted(found) == wanted_near_misses()
+        found.append((match[1], match[2], both, sorted(paths)))
+    assert sorted(found) == with_sorted_paths(wanted_near_misses())
+
+
+def with_sorted_paths(misses: List[Tuple[str, str, FrozenSet[str], List[str]]]) -> List[Tuple[Any, ...]]:
+    return [(by, value, both, sorted(paths)) for by, value, both, paths in misses]
 
 
 class Element:
@@ -359,18 +369,19 @@ def page_has_the_near_misses_and_refusals() -> None:
         head = next(miss.all("h3"), None)
         if head is None:
             continue
-        match = re.fullmatch(r"2 CRSs of the (name|identifier) “(.*)”", head.text)
+        match = re.fullmatch(r"2 CRSs of the (name|identifier) “(.*)” (numbers|axes|names and digits)", head.text)
         both = frozenset(numbers[int(it.text.split(".")[0])] for it in miss.all("a"))
         paths = [it.text for it in miss.all("th") if it.attributes["scope"] == "row"]
         assert match
-        misses.append((match[1], match[2], both, paths))
-    assert sorted(misses) == wanted_near_misses()
+        misses.append((match[1], match[2], both, sorted(path.partition(f" {match[3]}")[0] for path in paths)))
+    assert sorted(misses) == with_sorted_paths(wanted_near_misses())
     refused = []
     for group in page.all("details", "group"):
-        (summary,) = group.all("summary")
         for refusal in group.all("div", "item"):
+            if next(refusal.all("h3"), None):
+                continue  # a near miss
             (head,), (piece,) = refusal.all("p"), refusal.all("pre")
-            number = int(summary.text.split()[0])
+            number = int(re.search(r", column \d+: (\d+) ", head.text)[1])  # type: ignore[index]
             refused.append((number, head.text.rpartition(", line ")[0]))
             assert ("; expected: " in head.text) == (11 <= number <= 13), head.text
             assert piece.text.split("\n")[1].strip() == "^"
@@ -622,6 +633,16 @@ def names_are_shown_as_text() -> None:
     assert names.visible("a\u202eb\0") == "a\\u202Eb\\0"
 
 
+class Alone:
+    """What a report asks, answered in this process."""
+
+    def compare(self, pairs: Any) -> List[List[Difference]]:
+        return [judging.parts_of(it) for it in pairs]
+
+    def register(self, asked: Any) -> List[Any]:
+        return []
+
+
 def a_file_vanishes() -> None:
     """Between the listing and the reading, and a folder between its listing and that of those in it."""
     path = folder() / "vanishes"
@@ -632,7 +653,7 @@ def a_file_vanishes() -> None:
     for name in ("b.wkt", "c.gpkg", "d.zip"):
         (path / name).unlink()
     told = [judging.told_of(file) for file in listing.files]
-    made = report.report_of([str(path)], listing, told, lambda pairs: [judging.parts_of(it) for it in pairs])
+    made = report.report_of([str(path)], listing, told, Alone())
     assert made.summary.accepted == 1 and [it.why for it in made.unread] == 3 * ["No such file or directory"]
 
 
