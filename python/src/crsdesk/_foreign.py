@@ -119,13 +119,13 @@ def read(text: Union[str, bytes]) -> Foreign:
     proj = loaded()
     if proj is None:
         raise NotRead("it isn't there; osgeo (GDAL's Python) and pyproj have it")
-    if form == STRING:
-        text = checked_string(text)
-    written, as_json = proj.read(text, form)
+    # JSON is parsed here first: how deep it may be is bounded.
+    given = parsed_json(text) if form == JSON else None
+    written, as_json = proj.read(checked_string(text) if form == STRING else text, form)
     if form in (WKT1, BOUND):
         check_measures(text, written)
-    if form == JSON:
-        check_json(text, as_json)
+    for path in lost(given, json.loads(as_json), "") if form == JSON else ():
+        raise NotRead(f"PROJ would pass {path} over, or change it")
     plain, bound = unbound(written)
     if bound:
         # PROJ names the axes of a target otherwise once it has read its own text. So one transformation has one text.
@@ -230,14 +230,12 @@ def rounded(number: str) -> str:
         return number
 
 
-def check_json(text: str, written: str) -> None:
-    """NotRead where PROJJSON has what PROJ's own doesn't have, or has it twice."""
+def parsed_json(text: str) -> Any:
+    """What JSON says. NotRead where it is none, has a name twice in one object, or is too deep."""
     try:
-        given = json.loads(text, object_pairs_hook=each_once)
-    except ValueError as error:
+        return json.loads(text, object_pairs_hook=each_once)
+    except (ValueError, RecursionError) as error:
         raise NotRead(f"JSON: {error}") from None
-    for path in lost(given, json.loads(written), ""):
-        raise NotRead(f"PROJ would pass {path} over, or change it")
 
 
 def each_once(pairs: List[Tuple[str, Any]]) -> Dict[str, Any]:

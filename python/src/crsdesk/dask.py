@@ -14,7 +14,7 @@ canonical texts exactly where their CRSs are the same is what the library's proo
 from __future__ import annotations
 
 import os
-from typing import Any, Dict, List, Optional, Tuple, Union
+from typing import Any, Dict, Iterable, List, Optional, Tuple, Union
 
 import dask.bag
 import dask.dataframe
@@ -46,7 +46,9 @@ def lines(
     of about ``blocksize`` bytes is a partition. Path and options are those of ``dask.bytes.read_bytes``: a name, a
     pattern or a list, with ``s3://`` and others where their packages are there."""
     found = read_bytes(path, delimiter=b"\n", blocksize=blocksize, sample=False, **options)[1]
-    return dask.bag.from_delayed([delayed(lines_of)(block) for blocks in found for block in blocks])
+    # Files without a byte have no block.
+    blocks = [block for blocks in found for block in blocks] or [b""]
+    return dask.bag.from_delayed([delayed(lines_of)(block) for block in blocks])
 
 
 def lines_of(block: bytes) -> List[bytes]:
@@ -148,7 +150,7 @@ def canon(texts: Any, level: Level = "full") -> Any:
     no CRS, and where it is NA. Raises as ``groups`` does."""
     number_of(level)
     if is_bag_of(texts):
-        return texts.map(canonical_or_none, level)
+        return texts.map_partitions(canonical_list, level)
     return texts.map_partitions(canonical_column, level, meta=(texts.name, "object"))
 
 
@@ -219,6 +221,11 @@ def canonical_or_none(text: Any, level: Level) -> Optional[str]:
         return canonical_text(text, level)
     except Refused:
         return None
+
+
+def canonical_list(texts: Iterable[Any], level: Level) -> List[Optional[str]]:
+    """The canonical texts of a partition of a bag."""
+    return [canonical_or_none(text, level) for text in texts]
 
 
 def canonical_column(texts: Any, level: Level) -> Any:
