@@ -27,7 +27,6 @@ FILE_HELP = "a file with a text; - is standard input"
 LINES_HELP = "a file has a text a line (docs/CATALOGUES.md)"
 CONVERT_HELP = "WKT1, PROJ strings, PROJJSON and codes are read by PROJ, which osgeo or pyproj has (docs/PYTHON.md)"
 LINES_HELP_OF_AUDIT = "it has a text a line, and so has a file of another suffix that is named itself"
-CONVERT_HELP = "has PROJ read the texts that are refused (WKT1, PROJ strings, codes), without repairs"
 REGISTRY_HELP = "compares the CRSs with those of PROJ's database"
 
 

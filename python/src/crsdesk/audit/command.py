@@ -45,7 +45,7 @@ def run_audit(run: Run, asked: argparse.Namespace) -> None:
         return
     if (asked.convert or asked.registry) and library() is None:
         option = "--convert" if asked.convert else "--registry"
-        run.tell(f"crsdesk: audit {option} needs PROJ's library: pip install pyproj (or osgeo, or the system's PROJ)")
+        run.tell(f"crsdesk: {option} takes PROJ, which osgeo (GDAL's Python) or pyproj has, and neither is installed")
         run.ends(FAULT)
         return
     for number in SIGNALS:

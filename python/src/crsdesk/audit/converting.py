@@ -1,22 +1,19 @@
-"""Texts in the forms that PROJ reads, as PROJ writes them in WKT2:2019.
+"""Texts in other forms, as PROJ writes them in WKT2:2019: ``Crs.from_user`` of the package, as the audit needs it.
 
-Whatever PROJ warns of, repairs, fills in or leaves out refuses the text, in PROJ's words where it has any. A bound CRS is
-split: its source CRS is the text, and its transformation stands beside it.
+Whatever PROJ warns of, repairs, fills in or passes over refuses the text. A bound CRS is split: its source CRS is the text,
+and its transformation stands beside it.
 """
 
 from __future__ import annotations
 
 import contextlib
-import json
 import re
-from typing import Any, Dict, Iterator, List, NamedTuple, Optional, Tuple
+from typing import Dict, List, NamedTuple, Optional, Tuple
 
-from .proj import Context, context, library, producer
-from .tree import Node, number_shown, text_of_node, tree_of
+from .. import _foreign
+from .proj import context
+from .tree import Node, nodes_in, number_shown, tree_of
 
-CODE = re.compile(r"[A-Za-z][A-Za-z0-9_]*:[A-Za-z0-9_.]+(\+([A-Za-z][A-Za-z0-9_]*:)?[A-Za-z0-9_.]+)?")
-URN = re.compile(r"(urn:(x-)?ogc:def:crs[:,]|https?://www\.opengis\.net/def/crs)\S+", re.I)
-WKT = re.compile(r"[A-Za-z_0-9]+\s*[\[(]")
 PARAMETER = re.compile(r"\+?([A-Za-z_][A-Za-z_0-9]*)(?:=(\S*))?")
 # What a PROJ string may say and that is so without: of such parameters PROJ's answer is the same with and without.
 DEFAULTS = {
@@ -34,8 +31,6 @@ DEFAULTS = {
 }
 ZERO = frozenset(("x_0", "y_0", "z_0", "lat_0", "lon_0", "lat_1", "lat_2", "lat_ts", "lonc", "alpha", "gamma", "h_0"))
 ONE = frozenset(("k", "k_0"))
-# Members of PROJJSON that are no part of a CRS.
-BESIDE = ("$schema",)
 
 
 class Conversion(NamedTuple):
@@ -54,137 +49,62 @@ class Conversion(NamedTuple):
 
 
 def converted(text: bytes) -> Optional[Conversion]:
-    """What PROJ reads a text as. None where the text has no form that PROJ reads, or PROJ isn't installed."""
-    try:
-        words = text.decode().strip()
-    except UnicodeDecodeError:
-        return None
-    if not words or "\0" in words or not has_form(words) or library() is None:
+    """What PROJ reads a text as. None where the text has no form that PROJ is asked for."""
+    if not _foreign.is_foreign(text):
         return None
     try:
-        with context() as proj:
-            found, doubts = read(proj, words)
-            doubts = doubts or list(dict.fromkeys(proj.words))
-            if doubts or not found:
-                return Conversion("", producer(), tuple(doubts) or ("PROJ reads no CRS in it",))
-            return split(found)
-    except MemoryError:
-        raise
-    except Exception as error:  # a form of PROJ's answer that isn't known
-        return Conversion("", producer(), (f"{type(error).__name__}: {error}",))
-
-
-def has_form(words: str) -> bool:
-    return bool(WKT.match(words) or is_json(words) or is_proj(words) or CODE.fullmatch(words) or URN.fullmatch(words))
-
-
-def is_json(words: str) -> bool:
-    return words.startswith("{")
-
-
-def is_proj(words: str) -> bool:
-    return re.match(r"\+?(proj|init|type|datum|ellps|title)=", words) is not None and "proj=" in words
-
-
-def read(proj: Context, words: str) -> Tuple[str, List[str]]:
-    """PROJ's text in WKT2:2019, and what is wrong beside what PROJ logs."""
-    is_wkt = WKT.match(words) is not None
-    asked = with_type(words) if is_proj(words) else words
-    made = proj.from_wkt(words) if is_wkt else proj.from_definition(asked)
-    if not made:
-        return "", []
-    if not proj.is_crs(made):
-        return "", ["it is no CRS"]
-    found = proj.wkt_of(made)
-    if is_json(words):
-        return found, list(lost_of_json(json.loads(words), json.loads(proj.json_of(made)), ""))
-    return found, without_effect(asked, found) if is_proj(words) else []
+        found = _foreign.read(text)
+        doubts = without_effect(text.decode().strip(), found.text) if found.form == _foreign.STRING else []
+        if doubts:
+            return Conversion("", found.reader, tuple(doubts))
+        return Conversion(found.text, found.reader, (), "; ".join(told_of(rest) for _, rest in found.bound))
+    except _foreign.NotRead as error:
+        return Conversion("", _foreign.reader() or "", (str(error),))
 
 
 # PROJ strings.
 
 
-def with_type(words: str) -> str:
-    return words if re.search(r"\btype=crs\b", words) else f"{words} +type=crs"
-
-
 def without_effect(words: str, found: str) -> List[str]:
     """The parameters of a PROJ string without which PROJ's answer is the same, and that aren't defaults: PROJ passes
-    over what it doesn't know."""
+    over those that a projection doesn't have."""
     parameters = words.split()
     doubts = []
     for index, parameter in enumerate(parameters):
         match = PARAMETER.fullmatch(parameter)
-        if match is None:
-            doubts.append(f"{parameter} is no parameter of a PROJ string")
-        elif match[1] != "proj" and not is_default(match[1], match[2] or ""):
+        if match and match[1] != "proj" and not is_default(match[1], match[2] or ""):
+            others = parameters[:index] + parameters[index + 1 :]
             with context() as proj:
-                made = proj.from_definition(" ".join(parameters[:index] + parameters[index + 1 :]))
+                made = proj.from_definition(" ".join([*others, *["+type=crs"][: "type=crs" not in words]]))
                 if made and without_remark(proj.wkt_of(made)) == without_remark(found):
-                    doubts.append(f"{parameter} has no effect")
+                    doubts.append(f"{parameter} has no effect: PROJ would pass it over")
     return doubts
 
 
 def without_remark(text: str) -> Node:
-    """A text without the remark in which PROJ keeps a string that it doesn't read in full."""
+    """A text without the remark in which PROJ keeps a string that it doesn't read in full; of a bound CRS the source."""
     whole = tree_of(text)
+    source = whole.child("SOURCECRS")
+    whole = source.nodes[0] if source else whole
     return Node(whole.keyword, [it for it in whole.items if isinstance(it, str) or it.keyword != "REMARK"])
 
 
 def is_default(name: str, value: str) -> bool:
-    if value in DEFAULTS.get(name, ()):
+    # A transformation is no part of the source CRS, which is compared.
+    if value in DEFAULTS.get(name, ()) or name in ("towgs84", "nadgrids", "geoidgrids"):
         return True
     with contextlib.suppress(ValueError):
         return name in ZERO and float(value) == 0 or name in ONE and float(value) == 1
     return False
 
 
-# PROJJSON.
-
-
-def lost_of_json(given: Any, made: Any, path: str) -> Iterator[str]:
-    """The members of a PROJJSON text that aren't in what PROJ makes of it, or have another value there."""
-    if isinstance(given, dict) and isinstance(made, dict):
-        for name, value in given.items():
-            if name not in made:
-                if name not in BESIDE and not is_default_of_json(name, value):
-                    yield f"{path}{name} isn't read"
-            else:
-                yield from lost_of_json(value, made[name], f"{path}{name}/")
-    elif isinstance(given, list) and isinstance(made, list) and len(given) == len(made):
-        for index, (one, other) in enumerate(zip(given, made)):
-            yield from lost_of_json(one, other, f"{path}{index + 1}/")
-    elif given != made and not (isinstance(given, dict) and given.get("name") == made):
-        yield f"{path.rstrip('/')} is read as another value"
-
-
-def is_default_of_json(name: str, value: Any) -> bool:
-    return name == "prime_meridian" and isinstance(value, dict) and value.get("name") == "Greenwich"
-
-
 # Bound CRSs.
 
 
-def split(found: str) -> Conversion:
-    """PROJ's text, in which each bound CRS is its source CRS."""
-    transformations: List[str] = []
-    whole = unbound(tree_of(found), transformations)
-    text = text_of_node(whole) if transformations else found
-    return Conversion(text, producer(), (), "; ".join(transformations))
-
-
-def unbound(node: Node, transformations: List[str]) -> Node:
-    if node.keyword == "BOUNDCRS":
-        source, target, way = (node.child(it) for it in ("SOURCECRS", "TARGETCRS", "ABRIDGEDTRANSFORMATION"))
-        if source is None or target is None or way is None:
-            raise ValueError("a bound CRS without its parts")
-        transformations.append(told_of(target.nodes[0], way))
-        return unbound(source.nodes[0], transformations)
-    return Node(node.keyword, [unbound(it, transformations) if isinstance(it, Node) else it for it in node.items])
-
-
-def told_of(target: Node, way: Node) -> str:
+def told_of(written: str) -> str:
     """A transformation in a line: its method and parameters, their numbers in one spelling, and where it leads to."""
+    nodes = {node.keyword: node for node in nodes_in(written)}
+    target, way = nodes["TARGETCRS"].nodes[0], nodes["ABRIDGEDTRANSFORMATION"]
     method = way.child("METHOD")
     values: Dict[str, str] = {}
     for it in way.nodes:

@@ -3,18 +3,15 @@
 from __future__ import annotations
 
 import dataclasses
-import functools
 import hashlib
-import re
 from dataclasses import dataclass, field
-from typing import Dict, Iterator, List, NamedTuple, Optional, Tuple, Union
+from typing import Dict, List, NamedTuple, Optional, Tuple, Union
 
 from .. import Crs, Difference, Level, Refused
+from .._facts import boxes_of
 from .converting import converted
 from .kinds import TRANSFORMATION
 from .reading import File, Skipped, Text, Unread, Way, Without, read
-
-TOKEN = re.compile(r'"(?:[^"]|"")*"|[\[\],]|[^\[\],"]+')
 
 
 class Box(NamedTuple):
@@ -156,8 +153,9 @@ def judged(found: Text, spelled: List[Spelled], known: Known, converts: bool) ->
 
 
 def spelled_by(crs: Crs, transformation: str) -> Spelled:
-    name, identifiers, boxes = facts_of(str(crs))
-    return Spelled(str(crs), crs.canonical("definition"), crs.kind, name, identifiers, boxes, transformation)
+    boxes = tuple(Box(*it) for it in boxes_of(str(crs)))
+    definition = crs.canonical("definition")
+    return Spelled(str(crs), definition, crs.kind, crs.name, crs.identifiers, boxes, transformation)
 
 
 def refusal_of(refused: Refused, line: int) -> Refusal:
@@ -176,36 +174,6 @@ def refusal_of(refused: Refused, line: int) -> Refusal:
         refused.meaning,
         hint,
     )
-
-
-@functools.lru_cache(maxsize=4096)
-def facts_of(canonical: str) -> Tuple[str, Tuple[str, ...], Tuple[Box, ...]]:
-    """The name, the own identifiers and all boxes of a canonical text's CRS."""
-    name, identifiers, boxes = "", [], []
-    for depth, keyword, values in nodes_of(canonical):
-        if depth == 0:
-            name = values[0]
-        elif depth == 1 and keyword == "ID":
-            identifiers.append(":".join(values[:2]))
-        elif keyword == "BBOX":
-            boxes.append(Box(*map(float, values)))
-    return name, tuple(identifiers), tuple(dict.fromkeys(boxes))
-
-
-def nodes_of(canonical: str) -> Iterator[Tuple[int, str, List[str]]]:
-    """Each node of a canonical text where it ends: in how many nodes it is, its keyword, and its own values."""
-    open_nodes: List[Tuple[str, List[str]]] = [("", [])]
-    word = ""
-    for token in TOKEN.findall(canonical):
-        if token == "[":
-            open_nodes[-1][1].pop()
-            open_nodes.append((word, []))
-        elif token == "]":
-            keyword, values = open_nodes.pop()
-            yield len(open_nodes) - 1, keyword, values
-        elif token != ",":
-            word = token
-            open_nodes[-1][1].append(token[1:-1].replace('""', '"') if token[0] == '"' else token)
 
 
 class Two(NamedTuple):

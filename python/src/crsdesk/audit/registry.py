@@ -96,8 +96,8 @@ def registered(asked: Asked) -> Registered:
 
 def identified(proj: Context, asked: Asked) -> Registered:
     """The comparison with the candidate that differs least, of those that differ alike the first."""
-    made = proj.from_wkt(asked.text)
-    candidates = list(proj.candidates_of(made)) if made else []
+    made = proj.from_definition(asked.text)
+    candidates = proj.candidates_of(made) if made else []
     found = [compared(proj, asked, *it[:1], it.text, it.confidence, False) for it in candidates]
     if not found:
         return Registered(Verdict.UNIDENTIFIED)
