@@ -37,6 +37,9 @@ CODE_FORM = re.compile(
 )
 QUOTED_OR_DELIMITER = re.compile(r'"[^"]*"|[\[\],]')
 QUOTED = re.compile(r'"[^"]*"')
+# What opens and closes, an open quote, and what is in no text outside quotes.
+DELIMITER = re.compile(r'"[^"]*"|[\[\]()"]|[^\x00-\x7f]')
+CLOSING = {"[": "]", "(": ")"}
 NUMBER = re.compile(r"(?<![\w.])[+-]?(?:\d+\.?\d*|\.\d+)(?:[eE][+-]?\d+)?(?![\w.])")
 # A unit's factor, and the two numbers of an ellipsoid.
 MEASURES = re.compile(
@@ -119,6 +122,8 @@ def read(text: Union[str, bytes]) -> Foreign:
     proj = loaded()
     if proj is None:
         raise NotRead("it isn't there; osgeo (GDAL's Python) and pyproj have it")
+    if form in (WKT1, BOUND):
+        check_delimiters(text)
     # JSON is parsed here first: how deep it may be is bounded.
     given = parsed_json(text) if form == JSON else None
     written, as_json = proj.read(checked_string(text) if form == STRING else text, form)
@@ -179,15 +184,20 @@ def source_and_rest(text: str) -> Tuple[str, str]:
 
 
 def arguments_of(text: str) -> List[str]:
-    """The arguments of a node that is spelled with square brackets, without white space between."""
-    begin = at = text.index("[") + 1
-    parts, depth = [], 0
+    """The arguments of a node that is spelled with square brackets, without white space between. NotRead where the text
+    isn't one node, as where PROJ writes a quote in a name as it is."""
+    begin = text.index("[") + 1
+    parts, depth = [], 1
     for match in QUOTED_OR_DELIMITER.finditer(text, begin):
-        token, at = match[0], match.start()
-        if depth == 0 and token in (",", "]"):
-            parts.append(text[begin:at])
-            begin = at + 1
+        token = match[0]
         depth += (token == "[") - (token == "]")
+        if depth == 0 or depth == 1 and token == ",":
+            parts.append(text[begin : match.start()])
+            begin = match.end()
+            if depth == 0:
+                break
+    if depth or begin != len(text) or text.count('"') % 2:
+        raise NotRead("PROJ writes no well-formed text of it")
     return parts
 
 
@@ -210,6 +220,22 @@ def checked_string(text: str) -> str:
             raise NotRead(f"+{key} is there twice: PROJ would take one of them")
         keys.add(key)
     return text if "type" in keys else f"{text} +type=crs"
+
+
+def check_delimiters(text: str) -> None:
+    """NotRead where a text isn't one node, closed as it is opened: PROJ takes ``)`` for ``]``, and some more after the
+    end."""
+    closing: List[str] = []
+    for match in DELIMITER.finditer(text):
+        token = match[0]
+        if token in CLOSING:
+            closing.append(CLOSING[token])
+        elif token[0] != '"' or token == '"':
+            if token not in closing[-1:]:
+                raise NotRead(f"{token!r} is at character {match.start()}, where nothing closes so")
+            closing.pop()
+            if not closing and match.end() < len(text):
+                raise NotRead(f"more follows at character {match.end()}")
 
 
 def check_measures(text: str, written: str) -> None:
