@@ -6,8 +6,9 @@ workers.
 
 PREFIX has the header and the libraries, as build_library.py makes them (out/prefix where none is given). The catalogue
 has LINES lines (100,000) by tests/big_catalogue.py, four spellings of each CRS. A line is printed for each: the seconds
-and the lines a second of the best of three runs, and the machine's load average before it. By Dask a bag of as many
-partitions as fit eight a worker is grouped, by PostgreSQL crs_canon is called for each row. It judges nothing. It takes a
+and the lines a second of the best of three runs, and the machine's load average before it. By Dask a bag of the file's
+lines in eight blocks a worker is grouped, and the processor time of all workers is told, and how long it takes to gather
+the answers; by PostgreSQL crs_canon is called for each row. It judges nothing. It takes a
 Python that has dask, and a server of PostgreSQL; what isn't there is reported as skipped.
 """
 from __future__ import annotations
@@ -39,10 +40,8 @@ def tell(name: str, lines: int, call: Callable[[], object]) -> None:
 
 
 def time_dask(path: pathlib.Path, lines: int) -> None:
-    import dask_package
-    from crsdesk import Catalogue
-    from crsdesk.dask import groups
-    from dask.distributed import Client, LocalCluster
+    from crsdesk import Catalogue, dask as own
+    from dask.distributed import Client, LocalCluster, wait
 
     def by_one() -> None:
         catalogue = Catalogue()
@@ -51,14 +50,24 @@ def time_dask(path: pathlib.Path, lines: int) -> None:
 
     tell("Catalogue, in one process", lines, by_one)
     for workers in (1, 2, 4):
-        with LocalCluster(n_workers=workers, threads_per_worker=1, dashboard_address=None) as cluster, Client(cluster):
-            # What comes back is a number of partitions: the answers stay with the workers.
-            bag = dask_package.bag_of(path, 8 * workers)
-            tell(f"Dask, {workers} workers", lines, lambda: groups(bag).map_partitions(len_of).compute())
+        with LocalCluster(n_workers=workers, threads_per_worker=1, dashboard_address=None) as cluster:
+            with Client(cluster) as client:
+                client.run(own.lines_of, b"")
+                bag = own.lines(str(path), blocksize=path.stat().st_size // (8 * workers) + 1)
+                before = sum(client.run(time.process_time).values())
+                # What comes back is a number a partition: the answers stay with the workers.
+                tell(f"Dask, {workers} workers", lines, lambda: own.groups(bag).map_partitions(len_of).compute())
+                used = sum(client.run(time.process_time).values()) - before
+                print(f"  {used / RUNS / lines * 1e6:.1f} us of the processor a line, of all workers")
+                answer = own.groups(bag).persist()
+                wait(answer)
+                begin = time.perf_counter()
+                answer.compute()
+                print(f"  gathered in {time.perf_counter() - begin:.2f} s")
 
 
 def len_of(part: List[object]) -> List[int]:
-    return [len(list(part))]
+    return [len(part)]
 
 
 def time_postgresql(prefix: pathlib.Path, path: pathlib.Path, lines: int, folder: pathlib.Path) -> None:

@@ -62,6 +62,7 @@ def main(words: List[str]) -> int:
         "same": lambda: [crsdesk.same(text, text) for text in texts],
         "difference": lambda: [crsdesk.difference(text, text) for text in texts],
         "Crs": lambda: [crsdesk.Crs(text) for text in texts],
+        "name and identifiers": lambda: [(one.name, one.identifiers) for one in crs],
         "Crs ==": lambda: [one == other for one, other in zip(crs, crs[1:] + crs[:1])],
     }
     least = {name: float("inf") for name in calls}
