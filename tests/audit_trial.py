@@ -405,7 +405,7 @@ def has_marks(data: Dict[str, Any]) -> bool:
 
 
 def are_apart(data: Dict[str, Any], archive: Archive) -> bool:
-    bound = {place: meant for place, meant in archive.meant.items() if " by " in meant}
+    bound = {place: meant for place, meant in archive.meant.items() if re.match(r"\d+ by ", meant)}
     groups = [{bound[place] for place in group if place in bound} for group in groups_of(data)]
     return [len(it) for it in groups if it] == 4 * [1]
 

@@ -78,7 +78,10 @@ def kind_of_part(part: Difference, by_path: Dict[str, Difference]) -> Kind:
     if last in WITHOUT_NUMBERS:
         return Kind.NAMES
     if last == "unit":
-        return kind_of_units(part)
+        front = part.path.rpartition("/")[0]
+        # Numbers that differ are compared in their units.
+        is_of_number = any(f"{front}/{name}" in by_path for name in ("longitude", "semimajor"))
+        return Kind.NAMES if is_of_number else kind_of_units(part)
     if first in ("datum", "meridian"):
         return kind_of_frame(part, last, by_path)
     if first == "system":

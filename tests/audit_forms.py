@@ -1,0 +1,368 @@
+#!/usr/bin/env python3
+"""Tries what `python -m crsdesk audit` does with old forms (--convert), with a registry (--registry), and with texts that
+belong to one data set; and of what kind differences are.
+
+    audit_forms.py
+
+run_audit.py runs it with a Python that has what the command needs. What isn't there is named as skipped. Each case that
+fails has a line; the last line is 'N passed, M failed', and the status is 0 where M is 0.
+"""
+from __future__ import annotations
+
+import importlib.util
+import json
+import os
+import pathlib
+import random
+import re
+import sys
+import traceback
+from typing import Any, Callable, Dict, List, Optional, Tuple
+
+sys.dont_write_bytecode = True
+from audit_cases import HEIGHT, audit, folder
+from audit_hostile import server
+
+from crsdesk import Crs, Difference
+from crsdesk.audit import converting, kinds, marking, names, registry
+from crsdesk.audit.datasets import belongs_to
+
+HAS_GDAL = importlib.util.find_spec("osgeo") is not None
+HAS_PROJ = HAS_GDAL or importlib.util.find_spec("pyproj") is not None
+EXAMPLES = pathlib.Path(__file__).resolve().parent.parent / "examples" / "exports"
+SHIFT = "598.1,73.7,418.2,0.202,0.045,-2.455,6.7"
+RD = (
+    "+proj=sterea +lat_0=52.1561605555556 +lon_0=5.38763888888889 +k=0.9999079 +x_0=155000 +y_0=463000 +ellps=bessel "
+    "+units=m +no_defs"
+)
+
+
+def text_of(name: str) -> str:
+    return (EXAMPLES / name).read_text(encoding="utf-8").strip()
+
+
+def data_of(place: pathlib.Path, *words: object) -> Tuple[int, str, Any]:
+    """The status of an audit of a folder, what it writes, and its data."""
+    out = folder() / "forms.json"
+    status, output, error = audit("--json", out, *words, place)
+    assert "Traceback" not in error, error
+    return status, output, json.loads(out.read_text(encoding="utf-8"))
+
+
+def written(name: str, texts: Dict[str, str]) -> pathlib.Path:
+    place = folder() / name
+    place.mkdir()
+    for file, text in texts.items():
+        (place / file).write_text(text, encoding="utf-8")
+    return place
+
+
+def by_file(data: Any) -> Dict[str, Tuple[int, str, Optional[str]]]:
+    """The definition of each file, what read it, and the definition's transformation."""
+    return {
+        os.path.basename(place["file"]): (it["number"], place.get("read_by", ""), it["transformation"])
+        for it in data["definitions"]
+        for variant in it["variants"]
+        for place in variant["places"]
+    }
+
+
+# Old forms.
+
+
+def forms() -> Dict[str, str]:
+    return {
+        "esri.prj": text_of("wgs84_esri.prj"),
+        "bound.prj": text_of("dhdn_towgs84.prj"),
+        "bound.wkt": text_of("dhdn_boundcrs.wkt"),
+        "other.prj": text_of("dhdn_towgs84.prj").replace("598.1", "598.2"),
+        "string.wkt": RD,
+        "spaces.wkt": RD.replace(" +units=m", "\n  +units=m"),
+        "code.wkt": "EPSG:28992\n",
+        "urn.wkt": "urn:ogc:def:crs:EPSG::28992",
+        "address.wkt": "http://www.opengis.net/def/crs/EPSG/0/28992",
+        "itself.wkt": text_of("rd_projinfo_2019.wkt"),
+    }
+
+
+def old_forms_are_read_where_that_is_asked() -> None:
+    place = written("forms", forms())
+    status, _, data = data_of(place)
+    assert status == 1 and [*by_file(data)] == ["itself.wkt"] and len(data["refused"]) == 9
+    assert data["summary"]["converted"] == 0 and {tuple(it["doubts"]) for it in data["refused"]} == {()}
+    status, output, data = data_of(place, "--convert")
+    found = by_file(data)
+    assert status == 0 and found.keys() == forms().keys(), found.keys() ^ forms().keys()
+    marks = {mark for name, (_, mark, _) in found.items() if name != "itself.wkt"}
+    assert len(marks) == 1 and re.fullmatch(r"PROJ \d+\.\d+\.\d+.*", *marks) and found["itself.wkt"][1] == ""
+    assert data["summary"]["converted"] == 9 and f"converted    9 texts by {marks.pop()}\n" in output
+    same = {found[name][0] for name in ("code.wkt", "urn.wkt", "address.wkt", "itself.wkt")}
+    assert len(same) == 1 and found["string.wkt"][0] == found["spaces.wkt"][0] not in same
+    # A bound CRS is another one by another transformation, and other than its source CRS.
+    assert found["bound.prj"][0] == found["bound.wkt"][0] != found["other.prj"][0], found
+    ways = [found[name][2] or "" for name in ("bound.prj", "other.prj")]
+    assert (
+        "X-axis translation 598.1" in ways[0] and "X-axis translation 598.2" in ways[1] and found["esri.prj"][2] is None
+    )
+    (miss,) = [it for it in data["near_misses"] if it["pairs"][0]["parts"][-1]["path"] == "transformation"]
+    assert miss["kind"] == "datum" and [it["path"] for it in miss["pairs"][0]["parts"]] == ["transformation"]
+
+
+def the_order_of_conversions_changes_nothing() -> None:
+    place = written("shuffled", forms())
+    paths = [str(place / name) for name in forms()]
+    reports = []
+    for number, jobs in enumerate((1, 1, 4)):
+        out = folder() / "shuffled.json"
+        order = random.Random(number).sample(paths, len(paths))
+        status, _, error = audit("--convert", "--registry", "--jobs", jobs, "--json", out, *order)
+        assert (status, error) == (0, ""), error
+        data = json.loads(out.read_text())
+        variants = [(one["transformation"], it) for one in data["definitions"] for it in one["variants"]]
+        reports.append({it["file"]: (way, v["text"], v["registered"]) for way, v in variants for it in v["places"]})
+    assert reports[0] == reports[1] == reports[2]
+
+
+def what_is_repaired_is_refused() -> None:
+    """With PROJ's words, or with what it passes over."""
+    esri = text_of("wgs84_esri.prj")
+    wanted = {
+        "comma.prj": (esri.replace("6378137.0", "6378137,0"), "Parsing error"),
+        "cut.prj": (esri[:-20], "missing"),
+        "open.prj": (esri[:-1], "missing ]"),
+        "closed.prj": (esri + "]", "Parsing error"),
+        "unknown.wkt": ("EPSG:99999", "crs not found"),
+        "key.wkt": (RD + " +foo=1", "+foo isn't known"),
+        "twice.wkt": (RD + " +k=0.9", "+k is there twice"),
+        "effect.wkt": ("+proj=utm +zone=31 +lat_0=5", "+lat_0=5 has no effect"),
+        "no.wkt": ("+proj=nothing", ""),
+    }
+    place = written("repaired", {name: text for name, (text, _) in wanted.items()})
+    status, output, data = data_of(place, "--convert")
+    assert status == 1 and data["definitions"] == [], by_file(data)
+    told = {os.path.basename(it["place"]["file"]): "; ".join(it["doubts"]) for it in data["refused"]}
+    assert told.keys() == wanted.keys()
+    for name, (_, words) in wanted.items():
+        assert words in told[name] and told[name], (name, told[name])
+    assert "damaged or not known to PROJ" in output
+    # What has no form that PROJ is asked for stays as it was: a name, a text in WKT2.
+    place = written("left", {"name.wkt": "WGS 84", "wkt2.wkt": HEIGHT[:-1]})
+    status, _, data = data_of(place, "--convert")
+    assert status == 1 and [it["doubts"] for it in data["refused"]] == [[], []]
+
+
+def a_conversion_fetches_nothing() -> None:
+    with server() as (address, asked):
+        texts = [
+            f"{address}/a",
+            f"url={address}/b",
+            f"EPSG:{address}",
+            f"urn:ogc:def:crs:{address}",
+            f"+init={address}/c:1",
+        ]
+        strings = [f"{RD} +nadgrids={address}/grid.tif", f"{RD} +nadgrids=@{address}/grid.tif"]
+        place = written("addresses", {f"{number}.wkt": text for number, text in enumerate(texts + strings)})
+        data_of(place, "--convert", "--registry")
+        # Where a process couldn't leave the network too.
+        for text in texts + strings:
+            converting.converted(text.encode())
+        assert asked == [], asked
+
+
+def what_isnt_there_is_told() -> None:
+    place = folder() / "without"
+    for name in ("osgeo", "pyproj"):
+        (place / name).mkdir(parents=True)
+        (place / name / "__init__.py").write_text("raise ImportError\n")
+    path = f"{place}{os.pathsep}{os.environ.get('PYTHONPATH', '')}"
+    (place / "a.wkt").write_text(HEIGHT)
+    for option in ("--convert", "--registry"):
+        status, output, error = audit(option, "a.wkt", cwd=place, PYTHONPATH=path)
+        assert (status, output) == (2, "") and error.startswith(f"crsdesk: {option} takes PROJ, which "), error
+    assert audit("a.wkt", cwd=place, PYTHONPATH=path)[::2] == (0, "")
+
+
+# Data sets.
+
+
+def texts_of_one_data_set_are_compared() -> None:
+    """A shapefile, its .prj, and a .qpj that says another zone; one that is sound; and texts that stand alone."""
+    if not HAS_GDAL:
+        return
+    from osgeo import gdal, ogr, osr
+
+    gdal.UseExceptions()
+    place = folder() / "sets"
+    place.mkdir()
+    references = {code: osr.SpatialReference() for code in (32631, 32632)}
+    for code, reference in references.items():
+        reference.ImportFromEPSG(code)
+    for name in ("sound", "odd"):
+        data_set = gdal.GetDriverByName("ESRI Shapefile").Create(str(place / f"{name}.shp"), 0, 0, 0, gdal.GDT_Unknown)
+        data_set.CreateLayer(name, references[32631], ogr.wkbPoint)
+        data_set = None
+        code = 32631 if name == "sound" else 32632
+        (place / f"{name}.qpj").write_text(references[code].ExportToWkt(["FORMAT=WKT1_GDAL"]))
+    (place / "alone.prj").write_text(references[32631].ExportToWkt(["FORMAT=WKT1_ESRI"]))
+    status, output, data = data_of(place, "--convert")
+    assert status == 0 and data["summary"]["data_sets"] == 2 and data["summary"]["disagreeing"] == 1
+    odd, sound = data["data_sets"]
+    assert odd["path"].endswith("/odd") and sound["path"].endswith("/sound") and sound["kind"] == "names and digits"
+    assert odd["kind"] == "numbers", odd["kind"]
+    files = [os.path.basename(it["place"]["file"]) for it in odd["texts"]]
+    assert files == ["odd.shp", "odd.prj", "odd.qpj"], files
+    numbers = [part for pair in odd["pairs"] for part in pair["parts"] if part["kind"] == "numbers"]
+    assert [it["path"] for it in numbers] == ["conversion/parameters/Longitude of natural origin"], numbers
+    assert "data sets    2 of several texts, of which 1 disagree\n" in output
+    assert f"the texts of {odd['path']} disagree\n" in output
+    # Without conversion the texts beside are refused, and nothing is there to disagree.
+    _, _, data = data_of(place)
+    assert data["summary"]["disagreeing"] == 0 and [it["kind"] for it in data["data_sets"]] == [None, None]
+
+
+def what_belongs_together() -> None:
+    together = [("a/b.shp", "b"), ("a/b.PRJ", ""), ("a/b.qpj", "")]
+    keys = {(it.archive, it.path) for it in (belongs_to(*place) for place in together) if it}
+    assert keys == {("", "a/b")}
+    zipped = [belongs_to("z.zip", layer) for layer in ("in/b.shp:b", "in/b.prj", "in/b.c:d")]
+    assert zipped[0] and zipped[1] and zipped[0][:2] == zipped[1][:2] == ("z.zip", "in/b") and zipped[2] is None
+    assert belongs_to("a/b.gpkg", "roads") is None and belongs_to("a/b.txt", "") is None
+
+
+# The registry.
+
+
+def verdicts_of_the_registry() -> None:
+    rd = text_of("rd_projinfo_2019.wkt")
+    bare = re.sub(r",USAGE\[.*", "]", rd)
+    zone = re.sub(r",USAGE\[.*", "]", text_of("utm31_projinfo_2019.wkt"))
+    Verdict = registry.Verdict
+    for text, verdict, identifier in (
+        (rd, Verdict.SAME, "EPSG:28992"),
+        (bare, Verdict.SAME, "EPSG:28992"),
+        (rd.replace('"RD New"', '"new"'), Verdict.NAMES, "EPSG:28992"),
+        (rd.replace("0.9999079", "0.99990790000001"), Verdict.NAMES, "EPSG:28992"),
+        (rd.replace("155000", "155001"), Verdict.NUMBERS, "EPSG:28992"),
+        (bare.replace("155000", "155001"), Verdict.NUMBERS, "EPSG:28992"),
+        (rd.replace('DATUM["Amersfoort"', 'DATUM["Potsdam"'), Verdict.DATUM, "EPSG:28992"),
+        (rd.replace('northing (Y)",north', 'northing (Y)",south'), Verdict.AXES, "EPSG:28992"),
+        (rd.replace("RD New", "RD Old"), Verdict.OTHER_NAME, "EPSG:28992"),
+        (zone.replace("zone 31N", "zone 32N"), Verdict.OTHER_NAME, "EPSG:32631"),
+        (rd.replace("28992", "99999"), Verdict.UNKNOWN_CODE, "EPSG:99999"),
+        (HEIGHT, Verdict.UNIDENTIFIED, ""),
+    ):
+        crs = Crs(text)
+        found = registry.registered(registry.Asked(str(crs), crs.name, crs.identifiers))
+        assert (found.verdict, found.identifier) == (verdict, identifier), (found, text)
+        assert found.is_own == bool(crs.identifiers)
+        if not found.is_own and found.identifier:
+            assert found.confidence > 0 and found.identifier in [it.identifier for it in found.guesses]
+        if verdict is Verdict.OTHER_NAME:
+            assert found.other in ("EPSG:28991", "EPSG:32632"), found.other
+
+
+def registry_is_no_part_of_sameness() -> None:
+    """Groups and near misses are those without it."""
+    place = written("sameness", {**forms(), "odd.wkt": text_of("rd_projinfo_2019.wkt").replace("155000", "155001")})
+    status, output, data = data_of(place, "--convert", "--registry")
+    _, _, plain = data_of(place, "--convert")
+    for one in data["definitions"]:
+        for variant in one["variants"]:
+            assert variant["registered"]["verdict"]
+            variant["registered"] = None
+    assert data["definitions"] == plain["definitions"] and data["near_misses"] == plain["near_misses"]
+    assert "not as EPSG:28992: numbers\n" in output and "numbers: 1 text" in output
+    assert sum(data["summary"]["registry"].values()) == data["summary"]["accepted"]
+    assert plain["summary"]["registry"] == {} and "registry" not in audit(place)[1]
+    # What PROJ fills in where WKT1 has no axes is no finding.
+    assert data["summary"]["registry"]["axes that the text doesn't state"] >= 1
+
+
+# Kinds of differences.
+
+
+def kinds_of_differences() -> None:
+    kind = kinds.Kind
+    degree, other = 'ANGLEUNIT["degree",0.0174532925199433]', 'ANGLEUNIT["Degree",0.017453292519943295]'
+    for parts, wanted in (
+        ([("name", '"A"', '"B"')], kind.NAMES),
+        ([("datum/name", '"D_WGS_1984"', '"WGS 1984 ensemble"'), ("datum/kind", "DATUM", "ENSEMBLE")], kind.NAMES),
+        ([("base/datum/name", '"European Datum 1950"', '"Amersfoort"')], kind.DATUM),
+        ([("datum/ellipsoid/flattening", "298.257223563", "298.257222101")], kind.NUMBERS),
+        ([("datum/ellipsoid/flattening", "294.978698213898", "294.9786982")], kind.NAMES),
+        ([("meridian/longitude", "2.5969213", "2.33722917"), ("meridian/unit", 'ANGLEUNIT["grad",0.015707963267949]', degree)], kind.NAMES),
+        ([("meridian/longitude", "2.5969213", "0")], kind.NUMBERS),
+        ([("system/axis1/direction", "north", "east"), ("system/axis1/name", '"a"', '"b"')], kind.AXES),
+        ([("system/axis1/unit", degree, other)], kind.NAMES),
+        ([("system/axis1/unit", 'LENGTHUNIT["metre",1]', 'LENGTHUNIT["foot",0.3048]')], kind.NUMBERS),
+        ([("system/axis3/name", '"h"', None)], kind.AXES),
+        ([("kind", "geographic", "projected")], kind.DATUM),
+        ([("dynamic/epoch", "2010", "2015")], kind.DATUM),
+        ([("dynamic/epoch", "2010", None)], kind.NAMES),
+        ([("transformation", "a", None)], kind.DATUM),
+        ([("conversion/method/name", '"Mercator (variant A)"', '"Mercator (variant B)"')], kind.NAMES),
+        ([("conversion/method/name", '"Mercator (variant A)"', '"Mercator (variant B)"'), ("conversion/parameters", 'PARAMETER["Scale factor at natural origin",0.99]', None)], kind.NUMBERS),
+        ([("conversion/method/name", '"Lambert"', '"Albers"')], kind.NUMBERS),
+        ([("conversion/parameters", f'PARAMETER["a",1,{degree}]', f'PARAMETER["A",1,{other}]')], kind.NAMES),
+        ([("conversion/parameters", f'PARAMETER["a",1,{degree}]', 'PARAMETER["a",1.0]')], kind.NAMES),
+        ([("conversion/parameters", 'PARAMETER["a",1],PARAMETER["b",2]', 'PARAMETER["a",1.0],PARAMETER["b",3]')], kind.NUMBERS),
+        ([("conversion/parameters", 'PARAMETER["a",0]', None)], kind.NAMES),
+        ([("conversion/parameters", 'PARAMETER["a",7]', None)], kind.NUMBERS),
+    ):  # fmt: skip
+        found = kinds.kind_of([Difference(*part) for part in parts])
+        assert found is wanted, (parts, found)
+    rows = kinds.rows_of([Difference("conversion/parameters", 'PARAMETER["a",1],PARAMETER["b",2]', 'PARAMETER["b",3]')])
+    assert [(it.path, it.first, it.second) for it in rows] == [
+        ("conversion/parameters/a", 'PARAMETER["a",1]', None),
+        ("conversion/parameters/b", 'PARAMETER["b",2]', 'PARAMETER["b",3]'),
+    ]
+
+
+def differing_characters_are_marked() -> None:
+    def told(first: Optional[str], second: Optional[str]) -> List[str]:
+        return [
+            "".join(f"<{it.text}>" if it.differs else it.text for it in side)
+            for side in marking.pieces_of(first, second)
+        ]
+
+    assert told('"degree"', '"Degree"') == ['"<d>egree"', '"<D>egree"']
+    assert told("155000", "155001") == ["15500<0>", "15500<1>"]
+    assert told("a b", "a\u00a0b") == ["a< >b", "a<\u00a0>b"] and names.distinct("a\u00a0b\u200b") == "a\\u00A0b\\u200B"
+    assert told("a", None) == ["a", ""] and told("same", "same") == ["same", "same"]
+    assert told("x" * 3000 + " " * 3000 + "a", "x" * 3000 + " " * 3000 + "b")[0].endswith(" <a>")
+    assert told("ab", "") == ["<ab>", ""] and told("aXb aYb", "aZb aYb") == ["a<X>b aYb", "a<Z>b aYb"]
+
+
+CASES: List[Callable[[], None]] = [
+    old_forms_are_read_where_that_is_asked,
+    the_order_of_conversions_changes_nothing,
+    what_is_repaired_is_refused,
+    a_conversion_fetches_nothing,
+    what_isnt_there_is_told,
+    texts_of_one_data_set_are_compared,
+    what_belongs_together,
+    verdicts_of_the_registry,
+    registry_is_no_part_of_sameness,
+    kinds_of_differences,
+    differing_characters_are_marked,
+]
+WITHOUT_PROJ = (what_isnt_there_is_told, what_belongs_together, kinds_of_differences, differing_characters_are_marked)
+
+
+def main() -> int:
+    passed = failed = 0
+    if not HAS_PROJ:
+        print("skipped: neither osgeo nor pyproj is there: an audit of old forms, and with a registry")
+    for case in CASES if HAS_PROJ else WITHOUT_PROJ:
+        try:
+            case()
+            passed += 1
+        except Exception:
+            failed += 1
+            print(f"{case.__name__}: {''.join(traceback.format_exc().splitlines(keepends=True)[-5:]).rstrip()}")
+    print(f"{passed} passed, {failed} failed")
+    return 1 if failed else 0
+
+
+if __name__ == "__main__":
+    sys.exit(main())
