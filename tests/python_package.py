@@ -1134,6 +1134,25 @@ FOREIGN = {
     "proj=utm zone=31 type=crs": ("projected", False),
     "+proj=longlat +ellps=bessel +towgs84=1,2,3 +no_defs": ("geographic", True),
     "+proj=longlat +ellps=bessel +nadgrids=a.gsb": ("geographic", True),
+    "+proj=tmerc +lat_0=52d9'22.17\"N +lon_0=5d23E +k=0.9999079 +x_0=155000 +y_0=463000 +ellps=bessel": (
+        "projected",
+        False,
+    ),
+    "+proj=lcc +lat_1=49 +lat_2=44 +lat_0=46.5 +lon_0=3 +x_0=700000 +y_0=6600000 +ellps=GRS80 +units=m": (
+        "projected",
+        False,
+    ),
+    "+proj=omerc +lat_0=4 +lonc=102.25 +alpha=323.0257 +k=0.99984 +x_0=804671 +y_0=0 +gamma=323.13 +a=6377304.063 "
+    "+b=6356103.03899315 +no_uoff": ("projected", False),
+    "+proj=stere +lat_0=-90 +lat_ts=-71 +lon_0=0 +k=1 +x_0=0 +y_0=0 +datum=WGS84 +units=m": ("projected", False),
+    "+proj=merc +lon_0=0 +k=1 +x_0=0 +y_0=0 +a=6378137 +b=6378137 +nadgrids=@null +wktext +no_defs": (
+        "projected",
+        True,
+    ),
+    "+proj=laea +lat_0=52 +lon_0=10 +x_0=4321000 +y_0=3210000 +ellps=GRS80 +towgs84=0,0,0,0,0,0,0 +units=m +no_defs": (
+        "projected",
+        True,
+    ),
     "+proj=utm +zone=31 +ellps=bessel +towgs84=1,2,3 +geoidgrids=egm96.gtx +vunits=m": ("compound", True),
 }
 # Texts that PROJ reads, or repairs, and a part of why its reading isn't taken.
@@ -1155,6 +1174,9 @@ NOT_TAKEN = {
     'GEOGCS["' + "x" * 1_048_576: "more than 1,048,576 characters",
     "+proj=utm +zone=31 +elps=GRS80": "+elps isn't known: PROJ would pass it over",
     "+proj=utm +zone=31 +zone=32": "+zone is there twice",
+    "+proj=utm +zone=31 +lat_0=5": "the projection doesn't have +lat_0: PROJ would pass it over",
+    "+proj=utm +zone=31 +lat_ts=45": "the projection doesn't have +lat_ts",
+    "+proj=longlat +zone=31 +ellps=bessel": "the projection doesn't have +zone",
     "+init=epsg:4326": "+init isn't known",
     "+proj=pipeline +step +proj=utm +zone=31": "+step isn't known",
     "+proj=utm +zone=99": "Invalid value for zone",

@@ -56,6 +56,11 @@ KEYS = frozenset(
         "lsat plat_0 plon_0 ph0_ nlat rlat lat_c lon_c"
     ).split()
 )
+# Those whose value counts by itself, so that a CRS is another without them, unless the value is the default.
+VALUES = frozenset(
+    "alpha gamma h k k_0 lat_0 lat_1 lat_2 lat_3 lat_ts lon_0 lon_1 lon_2 lon_3 lonc x_0 y_0 zone m n q theta tilt azi".split()
+)
+DEFAULTS = ("0", "1")
 UNITS = {"metre": 1.0, "degree": 0.0174532925199433, "unity": 1.0}
 WKT2_2019 = 2
 ERRORS_ALONE = 1
@@ -129,6 +134,8 @@ def read(text: Union[str, bytes]) -> Foreign:
     written, as_json = proj.read(checked_string(text) if form == STRING else text, form)
     if form in (WKT1, BOUND):
         check_measures(text, written)
+    if form == STRING:
+        check_values(text, written, proj)
     for path in lost(given, json.loads(as_json), "") if form == JSON else ():
         raise NotRead(f"PROJ would pass {path} over, or change it")
     plain, bound = unbound(written)
@@ -220,6 +227,20 @@ def checked_string(text: str) -> str:
             raise NotRead(f"+{key} is there twice: PROJ would take one of them")
         keys.add(key)
     return text if "type" in keys else f"{text} +type=crs"
+
+
+def check_values(text: str, written: str, proj: Proj) -> None:
+    """NotRead where a PROJ string says the same CRS without one of its values: the projection doesn't have it."""
+    words = text.split()
+    for place, word in enumerate(words):
+        key, _, value = word.lstrip("+").partition("=")
+        if key in VALUES and rounded(value) not in DEFAULTS:
+            try:
+                other = proj.read(checked_string(" ".join(words[:place] + words[place + 1 :])), STRING)[0]
+            except NotRead:
+                continue
+            if other == written:
+                raise NotRead(f"the projection doesn't have +{key}: PROJ would pass it over")
 
 
 def check_delimiters(text: str) -> None:
