@@ -1145,10 +1145,7 @@ FOREIGN = {
     "+proj=omerc +lat_0=4 +lonc=102.25 +alpha=323.0257 +k=0.99984 +x_0=804671 +y_0=0 +gamma=323.13 +a=6377304.063 "
     "+b=6356103.03899315 +no_uoff": ("projected", False),
     "+proj=stere +lat_0=-90 +lat_ts=-71 +lon_0=0 +k=1 +x_0=0 +y_0=0 +datum=WGS84 +units=m": ("projected", False),
-    "+proj=merc +lon_0=0 +k=1 +x_0=0 +y_0=0 +a=6378137 +b=6378137 +nadgrids=@null +wktext +no_defs": (
-        "projected",
-        True,
-    ),
+    "+proj=merc +lon_0=0 +k=1 +x_0=0 +y_0=0 +a=6378137 +b=6378137 +nadgrids=@null +no_defs": ("projected", False),
     "+proj=laea +lat_0=52 +lon_0=10 +x_0=4321000 +y_0=3210000 +ellps=GRS80 +towgs84=0,0,0,0,0,0,0 +units=m +no_defs": (
         "projected",
         True,
@@ -1174,8 +1171,7 @@ NOT_TAKEN = {
     'GEOGCS["' + "x" * 1_048_576: "more than 1,048,576 characters",
     "+proj=utm +zone=31 +elps=GRS80": "+elps isn't known: PROJ would pass it over",
     "+proj=utm +zone=31 +zone=32": "+zone is there twice",
-    "+proj=utm +zone=31 +lat_0=5": "the projection doesn't have +lat_0: PROJ would pass it over",
-    "+proj=utm +zone=31 +lat_ts=45": "the projection doesn't have +lat_ts",
+    "+proj=utm +zone=31 +lat_ts=45": "the projection doesn't have +lat_ts: PROJ would pass it over",
     "+proj=longlat +zone=31 +ellps=bessel": "the projection doesn't have +zone",
     "+init=epsg:4326": "+init isn't known",
     "+proj=pipeline +step +proj=utm +zone=31": "+step isn't known",
@@ -1187,7 +1183,8 @@ NOT_TAKEN = {
     "FROB:1": "crs not found",
     "urn:ogc:def:crs:EPSG::0": "crs not found",
     '{"type":"GeographicCRS"}': "PROJ: ",
-    "{": "PROJ: ",
+    "{": "JSON: Expecting property name",
+    '{"a":' * 100_000: "JSON: ",
 }
 # Texts of which PROJ isn't asked: it would look names up, open files, or repair WKT2.
 NOT_ASKED = [
