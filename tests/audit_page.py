@@ -10,11 +10,13 @@ of docs/AUDIT.md. What isn't there is named as skipped. Each case that fails has
 """
 from __future__ import annotations
 
+import base64
 import contextlib
 import functools
 import importlib.util
 import os
 import pathlib
+import re
 import shutil
 import subprocess
 import sys
@@ -195,10 +197,11 @@ def sections_fold_by_keyboard_too() -> None:
         # The page is gone through by the tabulator: the links, the filter, what folds.
         opened(driver, page_of_archive())
         focused = []
-        for _ in range(12):
+        links = len(all_of(driver, "nav a"))
+        for _ in range(links + 4):
             driver.switch_to.active_element.send_keys(Keys.TAB)
             focused.append(driver.switch_to.active_element.tag_name)
-        assert focused[:6] == ["a", "a", "a", "a", "a", "input"], focused
+        assert links > 5 and focused[: links + 3] == links * ["a"] + ["input", "button", "a"], focused
         # A link to a group opens it.
         driver.execute_script("location.hash = '#d2'")
         wait(lambda: driver.find_element("css selector", "#d2 pre").is_displayed())
@@ -227,16 +230,63 @@ def markup_stays_text() -> None:
         assert driver.execute_script("return window.ran") is None
 
 
-def is_whole_on_paper() -> None:
-    """What folds is open where the page is printed, with scripts and without."""
-    for has_scripts in (True, False):
-        with browser(has_scripts=has_scripts) as driver:
-            opened(driver, page_of_archive())
-            driver.execute_cdp_cmd("Emulation.setEmulatedMedia", {"media": "print"})
-            if has_scripts:
-                driver.execute_script("dispatchEvent(new Event('beforeprint'))")
-            text, links = (driver.find_element("css selector", it) for it in ("#d1 pre", "nav"))
-            wait(lambda: text.size["height"] > 10 and not links.is_displayed())
+def is_a_summary_on_paper() -> None:
+    """What is folded stays so where the page is printed, and is printed where it was unfolded."""
+    with browser() as driver:
+        opened(driver, page_of_archive())
+        driver.execute_cdp_cmd("Emulation.setEmulatedMedia", {"media": "print"})
+        wait(lambda: not driver.find_element("css selector", "nav").is_displayed())
+        assert shown(driver, "#groups details") == [] and shown(driver, "#first li") and shown(driver, ".summary")
+        pages = printed_pages(driver)
+        driver.execute_script("document.getElementById('unfold').click()")
+        text = driver.find_element("css selector", "#d1 pre")
+        wait(lambda: text.is_displayed() and text.size["height"] > 10)
+        assert pages <= 10 and printed_pages(driver) > 2 * pages, pages
+        driver.execute_script("document.getElementById('unfold').click()")
+        wait(lambda: shown(driver, "#groups details") == [])
+
+
+def printed_pages(driver: Any) -> int:
+    content = base64.b64decode(
+        driver.execute_cdp_cmd("Page.printToPDF", {"paperWidth": 8.27, "paperHeight": 11.69})["data"]
+    )
+    return len(re.findall(rb"/Type\s*/Page[^s]", content))
+
+
+def sections_count_what_fits() -> None:
+    with browser() as driver:
+        opened(driver, page_of_archive())
+        words = driver.find_element("id", "words")
+
+        def count_of(section: str) -> str:
+            return str(driver.find_element("css selector", f"#{section} .count").text)
+
+        assert count_of("groups") == ""
+        words.send_keys("survey:1040")
+        wait(lambda: count_of("groups").startswith("1 of "))
+        assert count_of("near-misses") == "0 of 4", count_of("near-misses")
+
+
+def what_differs_is_marked() -> None:
+    with browser() as driver:
+        opened(driver, page_of_archive())
+        marked = [it.text for it in all_of(driver, "#near-misses mark")]
+        # Of 298.257222101 and 298.25, and of 500000 and 0.
+        assert "7222101" in marked and any(it.startswith("50000") for it in marked), marked
+        rows = [it.text for it in all_of(driver, "#near-misses tbody th[scope=row]")]
+        assert "conversion/parameters/False easting numbers" in rows, rows
+
+
+def fits_a_phone() -> None:
+    """Nothing but a text of its own width is wider than the window."""
+    with browser() as driver:
+        # A window of the browser has a least width.
+        metrics = {"width": 390, "height": 800, "deviceScaleFactor": 1, "mobile": True}
+        driver.execute_cdp_cmd("Emulation.setDeviceMetricsOverride", metrics)
+        opened(driver, page_of_archive())
+        assert driver.execute_script("return [innerWidth, document.documentElement.scrollWidth]") == [390, 390]
+        (cell,) = all_of(driver, ".parts tbody td")[:1]
+        assert cell.size["width"] > 300
 
 
 def is_dark_where_that_is_asked() -> None:
@@ -327,7 +377,10 @@ CASES = [
     sections_fold_by_keyboard_too,
     is_readable_without_scripts,
     markup_stays_text,
-    is_whole_on_paper,
+    is_a_summary_on_paper,
+    sections_count_what_fits,
+    what_differs_is_marked,
+    fits_a_phone,
     is_dark_where_that_is_asked,
     many_texts_are_filtered,
 ]
