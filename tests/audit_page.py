@@ -264,7 +264,7 @@ def sections_count_what_fits() -> None:
         assert count_of("groups") == ""
         words.send_keys("survey:1040")
         wait(lambda: count_of("groups").startswith("1 of "))
-        assert count_of("near-misses") == "0 of 4", count_of("near-misses")
+        assert re.fullmatch(r"0 of \d+", count_of("near-misses")), count_of("near-misses")
 
 
 def what_differs_is_marked() -> None:
