@@ -6,15 +6,23 @@
 In a block that begins with the line ```console, a line '$ COMMAND' is run by the shell in the repository's folder, with
 the lines '> MORE' directly below it, and the lines up to the next command are what it must print on standard output. A
 block that begins with the line ```console needs=TOOL[,TOOL..] is run where each TOOL is there, a program on the PATH,
-as python3:MODULE a module of that Python, as $NAME a variable of the environment, or a file of the repository, whose path
-has a slash; elsewhere its commands are reported as skipped, by the tool's name. A block that begins with ```rust is code
-that must be found, line by line, in a file of crates/crs_examples/src, which the gate proves and runs; one that begins
-with ```LANGUAGE of=FILE is code that must be found so in that file of the repository.
+as python3:MODULE a module of Python, as $NAME a variable of the environment, or a file of the repository, whose path
+has a slash; elsewhere its commands are reported as skipped, by the tool's name. TOOL=VERSION asks for a version that
+begins so, of a module by its __version__, of a program by what it prints of itself: what other tools answer changes with
+their versions. python3 is that of the PATH, or where that lacks a module the system's, if it has them all. The package
+crsdesk is that of the repository, over out/prefix, where python3 has none.
+
+The blocks of a document that begin with ```pycon are one session of Python, whose answers must be those shown; needs= is
+as above. Other scripts run those of ELSEWHERE. A block that begins with ```rust is code that must be found, line by line,
+in a file of crates/crs_examples/src, which the gate proves and runs; one that begins with ```LANGUAGE of=FILE is code that
+must be found so in that file of the repository.
 
 Without files they are README.md and docs/*.md. Each command that prints something else has a line; the last line is
 'N passed, M failed', and the status is 0 where M is 0.
 """
 import collections
+import functools
+import json
 import os
 import pathlib
 import shutil
@@ -23,7 +31,21 @@ import sys
 
 ROOT = pathlib.Path(__file__).resolve().parent.parent
 EXAMPLES = ROOT / "crates" / "crs_examples" / "src"
+LIBRARY = ROOT / "out" / "prefix" / "lib" / "libcrsdesk.so"
+SYSTEM = "/usr/bin/python3"
 SECONDS = 600
+# The documents whose sessions of Python are run by tests/python_package.py and tests/dask_package.py.
+ELSEWHERE = ("PYTHON.md", "CLUSTER.md")
+# Runs a session, the text of its blocks, and prints how much was tried, how much failed, and what.
+SESSION = """
+import contextlib, doctest, io, json, sys
+told = io.StringIO()
+runner = doctest.DocTestRunner(optionflags=doctest.ELLIPSIS)
+test = doctest.DocTestParser().get_doctest(sys.stdin.read(), {}, sys.argv[1], None, 0)
+with contextlib.redirect_stdout(told):
+    found = runner.run(test, out=told.write)
+print(json.dumps([found.attempted, found.failed, told.getvalue()]))
+"""
 
 
 def blocks_of(path):
@@ -52,28 +74,115 @@ def commands_of(start, lines):
     return [(number, command, "".join(wanted)) for number, command, wanted in commands]
 
 
-def printed(command):
-    done = subprocess.run(["sh", "-c", command], cwd=ROOT, stdout=subprocess.PIPE, timeout=SECONDS, check=False)
+@functools.lru_cache(maxsize=None)
+def has_module(python, tool):
+    """Whether a Python has a module MODULE, or MODULE=VERSION one of that version."""
+    module, _, version = tool.partition("=")
+    code = f"import {module}"
+    if version:
+        code += f"; assert {module}.__version__.startswith({version!r})"
+    return subprocess.run([python, "-c", code], capture_output=True, env=environment_of(), check=False).returncode == 0
+
+
+@functools.lru_cache(maxsize=None)
+def environment_of(python="python3"):
+    """The environment of commands: with the repository's package crsdesk where the PATH's Python has none, and with the
+    folder of another Python first on the PATH."""
+    environment = dict(os.environ)
+    if python != "python3":
+        environment = {**environment_of(), "PATH": f"{os.path.dirname(python)}{os.pathsep}{os.environ['PATH']}"}
+    elif LIBRARY.exists() and shutil.which("python3"):
+        found = subprocess.run(["python3", "-c", "import crsdesk"], capture_output=True, check=False)
+        if found.returncode:
+            environment |= {"PYTHONPATH": str(ROOT / "python" / "src"), "CRSDESK_LIBRARY": str(LIBRARY)}
+            environment["PYTHONDONTWRITEBYTECODE"] = "1"
+    return environment
+
+
+def modules_of(tools):
+    return tuple(tool.partition(":")[2] for tool in tools if tool.startswith("python3:"))
+
+
+def python_of(modules):
+    """The Python that has all of some modules; the one of the PATH where neither has them."""
+    pythons = [python for python in ("python3", SYSTEM) if shutil.which(python)]
+    return next((it for it in pythons if all(has_module(it, module) for module in modules)), "python3")
+
+
+def printed(command, python="python3"):
+    done = subprocess.run(
+        ["sh", "-c", command],
+        cwd=ROOT,
+        env=environment_of(python),
+        stdout=subprocess.PIPE,
+        timeout=SECONDS,
+        check=False,
+    )
     return done.stdout.decode("utf-8", "replace")
 
 
-def is_there(tool):
+def names_itself(program):
+    """What a program prints of itself: projinfo has its version in the first line of its usage."""
+    done = subprocess.run([program, "--version"], capture_output=True, check=False)
+    if done.returncode:
+        done = subprocess.run([program], capture_output=True, check=False)
+    return (done.stdout + done.stderr).decode("utf-8", "replace")
+
+
+@functools.lru_cache(maxsize=None)
+def is_there(tool, python="python3"):
     if tool.startswith("$"):
         return tool[1:] in os.environ
     if "/" in tool:
         return (ROOT / tool).exists()
     program, _, module = tool.partition(":")
+    program, _, version = program.partition("=")
     if shutil.which(program) is None:
         return False
-    if not module:
-        return True
-    return subprocess.run([program, "-c", f"import {module}"], capture_output=True, check=False).returncode == 0
+    if module:
+        return has_module(python, module)
+    return version in names_itself(program) if version else True
 
 
-def lacking(head):
+def needs_of(head):
+    """The tools that a block's fence asks for."""
+    return [tool for tool in head.partition("needs=")[2].split(",") if tool]
+
+
+def lacking(head, python="python3"):
     """The first tool of a block that isn't there, or None."""
-    _, _, needs = head.partition("needs=")
-    return next((tool for tool in needs.split(",") if tool and not is_there(tool)), None)
+    return next((tool for tool in needs_of(head) if not is_there(tool, python)), None)
+
+
+def session_of(path, skipped):
+    """How much of a document's session of Python was tried, and what failed."""
+    blocks = [(head, lines) for _, head, lines in blocks_of(path) if head.split(" ")[0] == "pycon"]
+    if not blocks or path.name in ELSEWHERE:
+        return 0, []
+    asked = [needs_of(head) for head, _ in blocks]
+    found = [python_of(modules_of(["python3:crsdesk", *tools])) for tools in asked]
+    python = next((it for it in found if it != "python3"), "python3")
+    text = ""
+    for head, lines in blocks:
+        tool = lacking(head, python) if is_there("python3:crsdesk", python) else "python3:crsdesk"
+        if tool:
+            skipped[tool] += 1
+        else:
+            text += "\n".join(lines) + "\n\n"
+    done = subprocess.run(
+        [python, "-c", SESSION, path.name],
+        cwd=ROOT,
+        env=environment_of(python),
+        input=text,
+        stdout=subprocess.PIPE,
+        text=True,
+        timeout=SECONDS,
+        check=False,
+    )
+    if done.returncode:
+        return 1, [f"{path.name}: its session of Python ended with status {done.returncode}"]
+    tried, failed, told = json.loads(done.stdout)
+    return tried - failed, [told] if failed else []
 
 
 def faults_of(path, skipped):
@@ -81,12 +190,13 @@ def faults_of(path, skipped):
     for start, head, lines in blocks_of(path):
         place = f"{path.name}:{start}"
         if head.split(" ")[0] == "console":
-            tool = lacking(head)
+            python = python_of(modules_of(needs_of(head)))
+            tool = lacking(head, python)
             for number, command, wanted in commands_of(start, lines):
                 if tool:
                     skipped[tool] += 1
                     continue
-                found = printed(command)
+                found = printed(command, python)
                 place = f"{path.name}:{number}"
                 yield None if found == wanted else f"{place}: {command}: printed {found!r}, wanted {wanted!r}"
         elif head == "rust":
@@ -111,6 +221,10 @@ def main(names):
             else:
                 failed += 1
                 print(fault)
+        tried, faults = session_of(file, skipped)
+        passed += tried
+        failed += len(faults)
+        print("".join(faults), end="")
     for tool, count in skipped.items():
         print(f"skipped: {tool} isn't there: {count} commands")
     print(f"{passed} passed, {failed} failed")
