@@ -1,5 +1,5 @@
 #!/usr/bin/env python3
-"""A key for a cache of transformers, of each text that pyproj reads.
+"""A key for a cache of transformers, of each text that PROJ reads.
 
     bound_key.py FILE ..
 
@@ -9,8 +9,10 @@ canonical text alone. A text that crsdesk doesn't read is kept as pyproj writes 
 CRS and the same transformation; one transformation in two spellings may have two keys. Two lines are printed for each
 file, the parts of its key; the second is empty where there is no transformation.
 
-It takes the packages crsdesk and pyproj. pyproj repairs a damaged text and says nothing: see docs/REFUSALS.md.
+It takes the packages crsdesk and pyproj, and PROJ's program projinfo. PROJ repairs a damaged text: a text of which
+projinfo warns is an error here, since pyproj wouldn't say.
 """
+import subprocess
 import sys
 from typing import List, Tuple
 
@@ -26,12 +28,22 @@ def canonical(text: str) -> str:
         return text
 
 
+def rewritten(text: str) -> str:
+    """What PROJ writes of a text in WKT2. ValueError where it warns, or reads nothing."""
+    words = ["projinfo", "--single-line", "-o", "WKT2:2019", text]
+    done = subprocess.run(words, capture_output=True, text=True, check=False)
+    heading, _, found = done.stdout.partition("\n")
+    if done.returncode or done.stderr or not heading.startswith("WKT2:2019"):
+        raise ValueError(done.stderr.strip() or heading)
+    return found.strip()
+
+
 def key(text: str) -> Tuple[str, str]:
     """The canonical text of the CRS, and the transformation of a BOUNDCRS."""
     try:
         return crsdesk.canon(text), ""
     except crsdesk.Refused:
-        crs = pyproj.CRS(text)
+        crs = pyproj.CRS(rewritten(text))
     source, transformation = crs.source_crs, crs.coordinate_operation
     if crs.is_bound and source is not None and transformation is not None:
         return canonical(source.to_wkt()), transformation.to_wkt()
@@ -39,10 +51,15 @@ def key(text: str) -> Tuple[str, str]:
 
 
 def main(names: List[str]) -> int:
+    status = 0
     for name in names:
-        with open(name, encoding="utf-8") as file:
-            print("\n".join(key(file.read())))
-    return 0
+        try:
+            with open(name, encoding="utf-8") as file:
+                print("\n".join(key(file.read())))
+        except ValueError as error:
+            print(f"{name}: {error}", file=sys.stderr)
+            status = 1
+    return status
 
 
 if __name__ == "__main__":

@@ -155,10 +155,10 @@ def lacking(head, python="python3"):
 
 
 def session_of(path, skipped):
-    """How much of a document's session of Python was tried, and what failed."""
+    """How much of a document's session of Python passed and failed, and what is to be said of it."""
     blocks = [(head, lines) for _, head, lines in blocks_of(path) if head.split(" ")[0] == "pycon"]
     if not blocks or path.name in ELSEWHERE:
-        return 0, []
+        return 0, 0, ""
     asked = [needs_of(head) for head, _ in blocks]
     found = [python_of(modules_of(["python3:crsdesk", *tools])) for tools in asked]
     python = next((it for it in found if it != "python3"), "python3")
@@ -180,9 +180,9 @@ def session_of(path, skipped):
         check=False,
     )
     if done.returncode:
-        return 1, [f"{path.name}: its session of Python ended with status {done.returncode}"]
-    tried, failed, told = json.loads(done.stdout)
-    return tried - failed, [told] if failed else []
+        return 0, 1, f"{path.name}: its session of Python ended with status {done.returncode}\n"
+    tried, wrong, told = json.loads(done.stdout)
+    return tried - wrong, wrong, told
 
 
 def faults_of(path, skipped):
@@ -221,10 +221,10 @@ def main(names):
             else:
                 failed += 1
                 print(fault)
-        tried, faults = session_of(file, skipped)
-        passed += tried
-        failed += len(faults)
-        print("".join(faults), end="")
+        right, wrong, told = session_of(file, skipped)
+        passed += right
+        failed += wrong
+        print(told, end="")
     for tool, count in skipped.items():
         print(f"skipped: {tool} isn't there: {count} commands")
     print(f"{passed} passed, {failed} failed")
