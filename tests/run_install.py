@@ -78,7 +78,12 @@ def is_there(tool: str, what: str) -> bool:
 
 def documents() -> Set[str]:
     """The pages and examples, by the paths that they have below the prefix."""
-    found = [ROOT / "README.md", *ROOT.glob("docs/**/*.md"), *ROOT.glob("docs/audit.*"), *(it for it in EXAMPLES.glob("**/*") if not it.is_dir())]
+    found = [
+        ROOT / "README.md",
+        *ROOT.glob("docs/**/*.md"),
+        *ROOT.glob("docs/audit.*"),
+        *(it for it in EXAMPLES.glob("**/*") if not it.is_dir()),
+    ]
     return {f"{FOLDER_OF_DOCUMENTS}/{it.relative_to(ROOT)}" for it in found}
 
 
@@ -93,7 +98,8 @@ def wanted_files(error: str) -> Set[str]:
     lacks = "skipped: lib/crsdesk_sqlite.so" in error
     if lacks:
         print("skipped: sqlite3ext.h isn't there: lib/crsdesk_sqlite.so")
-    return FILES - ({"lib/crsdesk_sqlite.so"} if lacks else set()) | {"the wheel"} | documents()
+    pages = {f"share/man/man3/{it.name}" for it in (ROOT / "man").glob("*.3")}
+    return FILES - ({"lib/crsdesk_sqlite.so"} if lacks else set()) | {"the wheel"} | pages | documents()
 
 
 def try_install(counts: Counts, prefix: pathlib.Path) -> bool:
@@ -123,8 +129,9 @@ def try_program(counts: Counts, prefix: pathlib.Path) -> None:
         numbers = re.findall(r"^\| (\d+) \| (\w+) \|", (ROOT / "docs/REFUSALS.md").read_text(encoding="utf-8"), re.M)
         listed = re.findall(r"^\.B (\d+) (\w+)$", page.read_text(encoding="utf-8"), re.M)
         counts.compare("its refusals", (listed, len(listed)), (numbers, 20))
-        done = run(["groff", "-man", "-ww", "-z", page])
-        counts.compare("the manual's page", (done.returncode, done.stderr), (0, ""))
+        for found in (page, *sorted((prefix / "share/man/man3").iterdir())):
+            done = run(["groff", "-man", "-ww", "-z", "-I", prefix / "share/man", found])
+            counts.compare(f"the manual's page {found.name}", (done.returncode, done.stderr), (0, ""))
         version = run([prefix / "bin" / "crsdesk", "--version"]).stdout.strip()
         counts.compare("its version", f'"{version}"' in page.read_text(encoding="utf-8"), True)
 
@@ -309,6 +316,26 @@ def try_closed_pipe(counts: Counts, folder: pathlib.Path) -> None:
     counts.compare("what it took away", prefix.exists(), False)
 
 
+def try_without_leave(counts: Counts, folder: pathlib.Path) -> None:
+    """Where a user may not write to the prefix, that is told at once, with what to do."""
+    closed = folder / "closed"
+    closed.mkdir(mode=0o555)
+    folder.chmod(0o755)
+    words = [sys.executable, str(ROOT / "install"), str(closed / "prefix")]
+    # For root each folder may be written to, so the case is that of another user.
+    other = 65534 if os.geteuid() == 0 else None
+    try:
+        done = subprocess.run(words, cwd="/", capture_output=True, text=True, check=False, user=other)
+    except PermissionError:
+        print("skipped: another user may not run this Python: an installation without leave")
+        return
+    if "Permission denied" in done.stderr:
+        print("skipped: another user may not read the repository: an installation without leave")
+        return
+    is_told = f"nothing was installed: {closed} isn't yours to write to; give another folder" in done.stderr
+    counts.compare("a prefix that isn't the user's", (done.returncode, done.stdout, is_told), (2, "", True))
+
+
 def try_faults(counts: Counts, folder: pathlib.Path) -> None:
     usage = "crsdesk: usage: ./install [PREFIX] [--libdir DIR | --uninstall], or ./install --postgresql [--uninstall]\n"
     two_libdirs = ["--libdir", "a", "--libdir=b"]
@@ -359,6 +386,7 @@ def main(words: List[str]) -> int:
             try_libdir(counts, folder)
             try_postgresql(counts, folder)
             try_closed_pipe(counts, folder)
+            try_without_leave(counts, folder)
             try_faults(counts, folder)
     print(f"{counts.passed} passed, {counts.failed} failed")
     return 1 if counts.failed else 0

@@ -58,8 +58,7 @@ def main(words: List[str]) -> int:
     program = str(pathlib.Path(words[0]).resolve()) if words else str(ROOT / "crates" / "crsdesk" / "out" / "crsdesk")
     faults, passed = [], 0
     for name in DOCUMENTS:
-        text = (ROOT / name).read_text(encoding="utf-8").replace("\\|", "|")
-        if RECIPE in text:
+        if RECIPE in (ROOT / name).read_text(encoding="utf-8").replace("\\|", "|"):
             passed += 1
         else:
             faults.append(f"{name}: doesn't have the recipe {RECIPE}")
