@@ -13,7 +13,8 @@ their versions. python3 is that of the PATH, or where that lacks a module the sy
 crsdesk is that of the repository, over out/prefix, where python3 has none.
 
 The blocks of a document that begin with ```pycon are one session of Python, whose answers must be those shown; needs= is
-as above. Other scripts run those of ELSEWHERE. A block that begins with ```rust is code that must be found, line by line,
+as above. Other scripts run those of ELSEWHERE. A link to a file of the repository must lead to one, and to a heading of it
+where it names one. A block that begins with ```rust is code that must be found, line by line,
 in a file of crates/crs_examples/src, which the gate proves and runs; one that begins with ```LANGUAGE of=FILE is code that
 must be found so in that file of the repository.
 
@@ -22,9 +23,11 @@ Without files they are README.md and docs/*.md. Each command that prints somethi
 """
 import collections
 import functools
+import itertools
 import json
 import os
 import pathlib
+import re
 import shutil
 import subprocess
 import sys
@@ -149,6 +152,30 @@ def needs_of(head):
     return [tool for tool in head.partition("needs=")[2].split(",") if tool]
 
 
+def anchor_of(heading):
+    """The name by which a heading is linked: its letters in lower case, with hyphens for spaces."""
+    text = re.sub(r"`|\[([^\]]*)\]\([^)]*\)", r"\1", heading.lstrip("#").strip())
+    return re.sub(r"[^\w\- ]", "", text.lower()).replace(" ", "-")
+
+
+def headings_of(path):
+    """The anchors of a document's headings, which aren't in its blocks."""
+    text = re.sub(r"^```.*?^```$", "", path.read_text(encoding="utf-8"), flags=re.S | re.M)
+    return {anchor_of(line) for line in text.split("\n") if line.startswith("#")}
+
+
+def wrong_links(path):
+    """For each link to a file of the repository why it leads nowhere, or None."""
+    text = re.sub(r"^```.*?^```$", "", path.read_text(encoding="utf-8"), flags=re.S | re.M)
+    for link in re.findall(r"\]\(([^)\s]+)\)", re.sub(r"`[^`\n]*`", "", text)):
+        if link.startswith(("https:", "http:", "mailto:")):
+            continue
+        name, _, anchor = link.partition("#")
+        target = (path.parent / name).resolve() if name else path
+        is_right = target.exists() and (not anchor or target.suffix != ".md" or anchor in headings_of(target))
+        yield None if is_right else f"{path.name}: the link {link} leads nowhere"
+
+
 def lacking(head, python="python3"):
     """The first tool of a block that isn't there, or None."""
     return next((tool for tool in needs_of(head) if not is_there(tool, python)), None)
@@ -215,7 +242,7 @@ def main(names):
     passed = failed = 0
     skipped = collections.Counter()
     for file in files:
-        for fault in faults_of(file, skipped):
+        for fault in itertools.chain(faults_of(file, skipped), wrong_links(file)):
             if fault is None:
                 passed += 1
             else:

@@ -1,6 +1,7 @@
 #!/bin/sh
 # Writes texts of CRSs as tools export them into a folder, a line each, as examples/exports keeps them: PROJ 9.1.1 with
-# EPSG v10.076, GDAL 3.6.2 and pyproj 3.4.1 wrote those. Run by hand, by no test: other versions write other texts.
+# EPSG v10.076, GDAL 3.6.2 and pyproj 3.4.1 wrote those; poland*.wkt, which have more lines, are in examples. Run by hand,
+# by no test: other versions write other texts.
 #
 #     make_exports.sh FOLDER
 #
@@ -21,6 +22,9 @@ for pair in wgs84=4326 utm31=32631 rd=28992 rdnap=7415 navd88=5703 itrf2014=7789
         projinfo -q --single-line -o "WKT2:$layout" "$code" > "$folder/${name}_projinfo_$suffix.wkt"
     done
 done
+projinfo -q -o WKT2:2019 EPSG:3120 > "$folder/poland.wkt"
+projinfo -q -o WKT2:2019 EPSG:2171 > "$folder/poland_2171.wkt"
+gdalsrsinfo -o wkt2_2015 EPSG:3120 | sed '/^$/d' > "$folder/poland_gdal_2015.wkt"
 gdalsrsinfo --single-line -o wkt2_2019 EPSG:4326 | sed '/^$/d' > "$folder/wgs84_gdalsrsinfo_2019.wkt"
 projinfo -q --single-line --boundcrs-to-wgs84 -o WKT1:GDAL EPSG:31467 | sed '/^$/d' > "$folder/dhdn_towgs84.prj"
 projinfo -q --single-line -o WKT2:2019 "$(cat "$folder/dhdn_towgs84.prj")" > "$folder/dhdn_boundcrs.wkt"
