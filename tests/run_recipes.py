@@ -25,6 +25,8 @@ SOUND = {
     "exports/wgs84_esri.prj": 'ELLIPSOID["WGS 84",6378137,298.257223563,',
     "exports/rd_projinfo_2019.wkt": 'PARAMETER["False easting",155000,',
     "poland.wkt": 'PARAMETER["False northing",5467000,',
+    "poland_gdal_2015.wkt": 'PARAMETER["False northing",5467000,',
+    "poland_2171.wkt": 'PARAMETER["False northing",5647000,',
 }
 
 
