@@ -84,21 +84,26 @@ def has_module(python, tool):
     code = f"import {module}"
     if version:
         code += f"; assert {module}.__version__.startswith({version!r})"
-    return subprocess.run([python, "-c", code], capture_output=True, env=environment_of(), check=False).returncode == 0
+    environment = environment_of(python, ("crsdesk",))
+    return subprocess.run([python, "-c", code], capture_output=True, env=environment, check=False).returncode == 0
 
 
 @functools.lru_cache(maxsize=None)
-def environment_of(python="python3"):
-    """The environment of commands: with the repository's package crsdesk where the PATH's Python has none, and with the
-    folder of another Python first on the PATH."""
+def lacks_package(python):
+    """Whether a Python has no package crsdesk of its own, and the repository's can be used."""
+    if not LIBRARY.exists():
+        return False
+    return subprocess.run([python, "-c", "import crsdesk"], capture_output=True, check=False).returncode != 0
+
+
+def environment_of(python, modules):
+    """The environment of commands that need some modules of a Python, whose folder is first on the PATH."""
     environment = dict(os.environ)
     if python != "python3":
-        environment = {**environment_of(), "PATH": f"{os.path.dirname(python)}{os.pathsep}{os.environ['PATH']}"}
-    elif LIBRARY.exists() and shutil.which("python3"):
-        found = subprocess.run(["python3", "-c", "import crsdesk"], capture_output=True, check=False)
-        if found.returncode:
-            environment |= {"PYTHONPATH": str(ROOT / "python" / "src"), "CRSDESK_LIBRARY": str(LIBRARY)}
-            environment["PYTHONDONTWRITEBYTECODE"] = "1"
+        environment["PATH"] = f"{os.path.dirname(python)}{os.pathsep}{environment['PATH']}"
+    if "crsdesk" in modules and lacks_package(python):
+        environment |= {"PYTHONPATH": str(ROOT / "python" / "src"), "CRSDESK_LIBRARY": str(LIBRARY)}
+        environment["PYTHONDONTWRITEBYTECODE"] = "1"
     return environment
 
 
@@ -112,11 +117,11 @@ def python_of(modules):
     return next((it for it in pythons if all(has_module(it, module) for module in modules)), "python3")
 
 
-def printed(command, python="python3"):
+def printed(command, python="python3", modules=()):
     done = subprocess.run(
         ["sh", "-c", command],
         cwd=ROOT,
-        env=environment_of(python),
+        env=environment_of(python, modules),
         stdout=subprocess.PIPE,
         timeout=SECONDS,
         check=False,
@@ -199,7 +204,7 @@ def session_of(path, skipped):
     done = subprocess.run(
         [python, "-c", SESSION, path.name],
         cwd=ROOT,
-        env=environment_of(python),
+        env=environment_of(python, ("crsdesk",)),
         input=text,
         stdout=subprocess.PIPE,
         text=True,
@@ -217,13 +222,14 @@ def faults_of(path, skipped):
     for start, head, lines in blocks_of(path):
         place = f"{path.name}:{start}"
         if head.split(" ")[0] == "console":
-            python = python_of(modules_of(needs_of(head)))
+            modules = modules_of(needs_of(head))
+            python = python_of(modules)
             tool = lacking(head, python)
             for number, command, wanted in commands_of(start, lines):
                 if tool:
                     skipped[tool] += 1
                     continue
-                found = printed(command, python)
+                found = printed(command, python, modules)
                 place = f"{path.name}:{number}"
                 yield None if found == wanted else f"{place}: {command}: printed {found!r}, wanted {wanted!r}"
         elif head == "rust":
