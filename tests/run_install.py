@@ -21,6 +21,7 @@ from typing import Dict, List, Set, Tuple
 ROOT = pathlib.Path(__file__).resolve().parent.parent
 EXAMPLES = ROOT / "examples"
 SECONDS = 3600
+SYSTEM = "/usr/bin/python3"
 FILES = {
     "bin/crsdesk",
     "include/crsdesk.h",
@@ -321,7 +322,9 @@ def try_without_leave(counts: Counts, folder: pathlib.Path) -> None:
     closed = folder / "closed"
     closed.mkdir(mode=0o555)
     folder.chmod(0o755)
-    words = [sys.executable, str(ROOT / "install"), str(closed / "prefix")]
+    # Another user may not reach a Python of this user's.
+    python = SYSTEM if os.access(SYSTEM, os.X_OK) else sys.executable
+    words = [python, str(ROOT / "install"), str(closed / "prefix")]
     # For root each folder may be written to, so the case is that of another user.
     other = 65534 if os.geteuid() == 0 else None
     try:
