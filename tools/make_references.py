@@ -185,6 +185,7 @@ def paragraphs(comment: str) -> Iterator[str]:
             yield ".fi\n.RE"
             is_code = False
         code = re.match(r"(CRSDESK_\w+(?:, CRSDESK_\w+)*)([:.]) ?(.*)", line)
+        field = re.match(r"([a-z]+): (.*)", line)
         heading = re.match(r"([A-Z][A-Z ]+[A-Z])([ :].*)", line)
         if not line:
             if not is_code:
@@ -196,6 +197,8 @@ def paragraphs(comment: str) -> Iterator[str]:
             yield roff(line.strip())
         elif code:
             yield f".TP\n.B {code[1]}" + (f"\n{roff(code[3])}" if code[3] else "")
+        elif field:
+            yield f".TP\n.I {field[1]}\n{roff(field[2])}"
         elif line.startswith("- "):
             yield f".IP \\(bu 2\n{roff(line[2:])}"
         elif heading and is_blank:
