@@ -179,13 +179,13 @@ def roff(text: str) -> str:
 
 def paragraphs(comment: str) -> Iterator[str]:
     """The lines of a page for a comment."""
-    is_blank, is_code = True, False
+    is_blank, is_code, before = True, False, ""
     for line in comment.split("\n"):
         if is_code and not line.startswith("    ") and line:
             yield ".fi\n.RE"
             is_code = False
         code = re.match(r"(CRSDESK_\w+(?:, CRSDESK_\w+)*)([:.]) ?(.*)", line)
-        field = re.match(r"([a-z]+): (.*)", line)
+        field = re.match(r"([a-z]+): (.*)", line) if before.endswith(".") else None
         heading = re.match(r"([A-Z][A-Z ]+[A-Z])([ :].*)", line)
         if not line:
             if not is_code:
@@ -206,7 +206,7 @@ def paragraphs(comment: str) -> Iterator[str]:
             yield f".B {heading[1]}{mark}\n{roff(heading[2].lstrip(': '))}"
         else:
             yield roff(line.strip())
-        is_blank = not line
+        is_blank, before = not line, line
     if is_code:
         yield ".fi\n.RE"
 
