@@ -130,7 +130,7 @@ def what_is_repaired_is_refused() -> None:
         "comma.prj": (esri.replace("6378137.0", "6378137,0"), "Parsing error"),
         "cut.prj": (esri[:-20], "missing"),
         "open.prj": (esri[:-1], "missing ]"),
-        "closed.prj": (esri + "]", "Parsing error"),
+        "closed.prj": (esri + "]", "more follows"),
         "unknown.wkt": ("EPSG:99999", "crs not found"),
         "key.wkt": (RD + " +foo=1", "+foo isn't known"),
         "twice.wkt": (RD + " +k=0.9", "+k is there twice"),
