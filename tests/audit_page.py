@@ -1,11 +1,11 @@
 #!/usr/bin/env python3
 """Opens the page of `python -m crsdesk audit --html` in a browser, and tries what a reader does there.
 
-    audit_page.py [--measure | --picture FILE]
+    audit_page.py [--measure | --pictures PAGE FOLDER]
 
 The browser is Chromium, without a window, as Debian's chromium, chromium-driver and python3-selenium have it. With
---measure it tells how long the page of 13,000 texts takes to open and to filter; with --picture it writes the picture
-of docs/AUDIT.md. What isn't there is named as skipped. Each case that fails has a line; the last line is
+--measure it tells how long the page of 13,000 texts takes to open and to filter; with --pictures it writes the pictures
+of docs/AUDIT.md, of a page, into a folder. What isn't there is named as skipped. Each case that fails has a line; the last line is
 'N passed, M failed', and the status is 0 where M is 0.
 """
 from __future__ import annotations
@@ -391,6 +391,22 @@ def lacking() -> List[str]:
     return programs + [name for name in ("selenium",) if importlib.util.find_spec(name) is None]
 
 
+def take_pictures(page: pathlib.Path, to: pathlib.Path) -> None:
+    """The page's beginning, its map, and a part on a phone."""
+    with browser(size="1000,1500") as driver:
+        opened(driver, page)
+        driver.save_screenshot(str(to / "audit.png"))
+        driver.execute_script("document.getElementById('filter').hidden = true")
+        driver.find_element("css selector", ".map").screenshot(str(to / "audit_map.png"))
+    with browser() as driver:
+        metrics = {"width": 390, "height": 1000, "deviceScaleFactor": 1, "mobile": True}
+        driver.execute_cdp_cmd("Emulation.setDeviceMetricsOverride", metrics)
+        opened(driver, page)
+        driver.execute_script("document.getElementById('registry').scrollIntoView()")
+        time.sleep(1)
+        driver.save_screenshot(str(to / "audit_phone.png"))
+
+
 def main(words: List[str]) -> int:
     if lacking():
         print(f"skipped: {lacking()[0]} isn't there: the audit's page in a browser")
@@ -399,10 +415,8 @@ def main(words: List[str]) -> int:
     if words[:1] == ["--measure"]:
         print(*many_texts(), page_of_many().stat().st_size, os.getloadavg(), sep="\n")
         return 0
-    if words[:1] == ["--picture"]:
-        with browser(size="1000,1750") as driver:
-            opened(driver, pathlib.Path(words[1]).resolve())
-            driver.save_screenshot(words[2])
+    if words[:1] == ["--pictures"]:
+        take_pictures(pathlib.Path(words[1]).resolve(), pathlib.Path(words[2]))
         return 0
     passed = failed = 0
     for case in CASES:
