@@ -82,7 +82,7 @@ def documents() -> Set[str]:
     found = [
         ROOT / "README.md",
         *ROOT.glob("docs/**/*.md"),
-        *ROOT.glob("docs/audit.*"),
+        *ROOT.glob("docs/audit*"),
         *(it for it in EXAMPLES.glob("**/*") if not it.is_dir()),
     ]
     return {f"{FOLDER_OF_DOCUMENTS}/{it.relative_to(ROOT)}" for it in found}
