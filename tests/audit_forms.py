@@ -94,7 +94,7 @@ def old_forms_are_read_where_that_is_asked() -> None:
     found = by_file(data)
     assert status == 0 and found.keys() == forms().keys(), found.keys() ^ forms().keys()
     marks = {mark for name, (_, mark, _) in found.items() if name != "itself.wkt"}
-    assert len(marks) == 1 and re.fullmatch(r"PROJ \d+\.\d+\.\d+.*", *marks) and found["itself.wkt"][1] == ""
+    assert len(marks) == 1 and re.fullmatch(r"PROJ \d+\.\d+\.\d+.*", min(marks)) and found["itself.wkt"][1] == ""
     assert data["summary"]["converted"] == 9 and f"converted    9 texts by {marks.pop()}\n" in output
     same = {found[name][0] for name in ("code.wkt", "urn.wkt", "address.wkt", "itself.wkt")}
     assert len(same) == 1 and found["string.wkt"][0] == found["spaces.wkt"][0] not in same
@@ -284,7 +284,7 @@ def registry_is_no_part_of_sameness() -> None:
 def kinds_of_differences() -> None:
     kind = kinds.Kind
     degree, other = 'ANGLEUNIT["degree",0.0174532925199433]', 'ANGLEUNIT["Degree",0.017453292519943295]'
-    for parts, wanted in (
+    cases: List[Tuple[List[Tuple[str, Optional[str], Optional[str]]], kinds.Kind]] = [
         ([("name", '"A"', '"B"')], kind.NAMES),
         ([("datum/name", '"D_WGS_1984"', '"WGS 1984 ensemble"'), ("datum/kind", "DATUM", "ENSEMBLE")], kind.NAMES),
         ([("base/datum/name", '"European Datum 1950"', '"Amersfoort"')], kind.DATUM),
@@ -308,7 +308,8 @@ def kinds_of_differences() -> None:
         ([("conversion/parameters", 'PARAMETER["a",1],PARAMETER["b",2]', 'PARAMETER["a",1.0],PARAMETER["b",3]')], kind.NUMBERS),
         ([("conversion/parameters", 'PARAMETER["a",0]', None)], kind.NAMES),
         ([("conversion/parameters", 'PARAMETER["a",7]', None)], kind.NUMBERS),
-    ):  # fmt: skip
+    ]  # fmt: skip
+    for parts, wanted in cases:
         found = kinds.kind_of([Difference(*part) for part in parts])
         assert found is wanted, (parts, found)
     rows = kinds.rows_of([Difference("conversion/parameters", 'PARAMETER["a",1],PARAMETER["b",2]', 'PARAMETER["b",3]')])

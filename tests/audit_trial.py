@@ -239,8 +239,8 @@ def make(folder: pathlib.Path) -> Archive:
             archive.add_text(code, form, suffix)
     # Each form of each CRS once, then any, the first ones more often.
     for code in (*GEOGRAPHIC, *PROJECTED):
-        for form in forms:
-            form(code)
+        for add in forms:
+            add(code)
     while len(archive.meant) + len(archive.damaged) < TEXTS:
         code = (*PROJECTED, *GEOGRAPHIC)[min(int(archive.chance.expovariate(0.07)), 49)]
         archive.chance.choice(forms)(code)

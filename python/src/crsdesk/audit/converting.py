@@ -7,6 +7,7 @@ and its transformation stands beside it.
 from __future__ import annotations
 
 import contextlib
+import functools
 import re
 from typing import Dict, List, NamedTuple, Optional, Tuple
 
@@ -48,8 +49,9 @@ class Conversion(NamedTuple):
     transformation: str = ""
 
 
+@functools.lru_cache(maxsize=1024)
 def converted(text: bytes) -> Optional[Conversion]:
-    """What PROJ reads a text as. None where the text has no form that PROJ is asked for."""
+    """What PROJ reads a text as. None where the text has no form that PROJ is asked for. An archive has many copies."""
     if not _foreign.is_foreign(text):
         return None
     try:
