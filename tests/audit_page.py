@@ -362,8 +362,9 @@ def thread_time(driver: Any) -> float:
 
 
 def many_texts_are_filtered() -> None:
-    told = [it.shown for it in many_texts()]
-    assert page_of_many().stat().st_size < 10_000_000
+    taken = many_texts()
+    told = [it.shown for it in taken]
+    assert page_of_many().stat().st_size < 10_000_000 and taken[0].of_a_core < 1, taken[0]
     # The text of this number, and that of this line; what everything has, and nothing.
     counts = ["2 of 13013 shown", "13013 of 13013 shown", "0 of 13013 shown"]
     assert told == ["", *counts, ""], told

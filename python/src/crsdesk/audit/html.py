@@ -38,10 +38,10 @@ from .terminal import summary_rows
 TEMPLATES = pathlib.Path(__file__).resolve().parent / "templates"
 # The room of each part of the page, in bytes.
 ROOM_OF_TEXTS = 1_000_000
-ROOM_OF_ROWS = 1_500_000
+ROOM_OF_ROWS = 2_500_000
 ROOM_OF_MISSES = 500_000
 ROOM_OF_FINDINGS = 300_000
-ROOM_OF_REFUSED = 500_000
+ROOM_OF_REFUSED = 600_000
 ROOM_OF_UNTOLD = 300_000
 MOST_PLACES = 200
 MOST_PAIRS = 50

@@ -3,6 +3,7 @@
 from __future__ import annotations
 
 import collections
+import functools
 import re
 from dataclasses import dataclass, field
 from typing import Dict, Iterable, Iterator, List, NamedTuple, Optional, Protocol, Sequence, Set, Tuple
@@ -89,9 +90,9 @@ class Pair:
     states_axes: bool = True
     parts: List[Difference] = field(default_factory=list)
 
-    @property
+    @functools.cached_property
     def kind(self) -> Kind:
-        """That of the parts; axes that no text states are no difference of axes."""
+        """That of the parts, once they are there; axes that no text states are no difference of axes."""
         kind = kind_of(self.parts)
         return Kind.NAMES if kind is Kind.AXES and not self.states_axes else kind
 
@@ -105,7 +106,7 @@ class NearMiss:
     value: str
     pairs: List[Pair]
 
-    @property
+    @functools.cached_property
     def kind(self) -> Kind:
         return min(pair.kind for pair in self.pairs)
 

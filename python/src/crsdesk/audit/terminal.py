@@ -11,8 +11,9 @@ from .kinds import rows_of
 from .names import counted, place_shown, readable, visible
 from .report import Definition, NearMiss, Pair, Report, Summary, findings_of, verdict_told
 
-# How many near misses are shown, and of each how many parts, and characters of a value.
+# How many near misses are shown, and of each how many pairs, parts, and characters of a value.
 MOST_MISSES = 20
+MOST_PAIRS = 20
 MOST_PARTS = 8
 MOST_CHARACTERS = 60
 
@@ -95,9 +96,11 @@ def near_miss_lines(report: Report, miss: NearMiss) -> Iterator[str]:
 def pair_lines(report: Report, pairs: Sequence[Pair], files: Sequence[str] = ()) -> Iterator[str]:
     """The first definition of pairs, and each other one with the parts in which it differs."""
     yield f"  {told_of(report.definitions[pairs[0].first - 1])}"
-    for pair in pairs:
+    for pair in pairs[:MOST_PAIRS]:
         yield f"  {told_of(report.definitions[pair.second - 1])}"
         yield from part_lines(pair.parts)
+    if len(pairs) > MOST_PAIRS:
+        yield f"  .. and {counted(len(pairs) - MOST_PAIRS, 'CRS', 'CRSs')} more"
     yield from (f"  {file}" for file in files)
 
 
