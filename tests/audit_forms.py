@@ -151,6 +151,30 @@ def what_is_repaired_is_refused() -> None:
     assert status == 1 and [it["doubts"] for it in data["refused"]] == [[], []]
 
 
+def common_strings_are_read() -> None:
+    """Strings as tools write them, whose parameters say some things twice."""
+    for text in (
+        "+proj=utm +zone=33 +ellps=WGS84 +datum=WGS84 +units=m +no_defs",
+        "+proj=longlat +datum=NAD83 +ellps=GRS80 +towgs84=0,0,0 +no_defs",
+        "+proj=laea +lat_0=90 +lon_0=0 +x_0=0 +y_0=0 +a=6371228 +b=6371228 +units=m +no_defs",
+        "+proj=merc +a=6378137 +b=6378137 +lat_ts=0 +lon_0=0 +x_0=0 +y_0=0 +k=1 +units=m +nadgrids=@null +wktext +no_defs",
+        "+proj=lcc +lat_1=49 +lat_2=44 +lat_0=46.5 +lon_0=3 +x_0=700000 +y_0=6600000 +ellps=GRS80 +units=m +no_defs",
+        "+proj=tmerc +lat_0=49 +lon_0=-2 +k=0.9996012717 +x_0=400000 +y_0=-100000 +ellps=airy +units=m +no_defs +type=crs",
+        "+proj=stere +lat_0=90 +lat_ts=70 +lon_0=-45 +k=1 +x_0=0 +y_0=0 +datum=WGS84 +units=m +no_defs",
+        "+proj=longlat +ellps=bessel +pm=paris +no_defs",
+        "proj=utm zone=31 ellps=intl units=m",
+    ):
+        found = converting.converted(text.encode())
+        assert found and found.text and not found.warnings, (text, found)
+    for text in (
+        "+proj=utm +zone=33 +datum=WGS84 +ellps=bessel",
+        "+proj=utm +zone=33 +k=0.5",
+        "+proj=longlat +lat_1=4",
+    ):
+        found = converting.converted(text.encode())
+        assert found and found.warnings and not found.text, (text, found)
+
+
 def a_conversion_fetches_nothing() -> None:
     with server() as (address, asked):
         texts = [
@@ -338,6 +362,7 @@ CASES: List[Callable[[], None]] = [
     old_forms_are_read_where_that_is_asked,
     the_order_of_conversions_changes_nothing,
     what_is_repaired_is_refused,
+    common_strings_are_read,
     a_conversion_fetches_nothing,
     what_isnt_there_is_told,
     texts_of_one_data_set_are_compared,

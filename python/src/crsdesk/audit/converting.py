@@ -28,10 +28,11 @@ DEFAULTS = {
     "vto_meter": ("1",),
     "pm": ("greenwich", "0"),
     "ellps": ("GRS80",),
-    "datum": ("WGS84",),
 }
 ZERO = frozenset(("x_0", "y_0", "z_0", "lat_0", "lon_0", "lat_1", "lat_2", "lat_ts", "lonc", "alpha", "gamma", "h_0"))
 ONE = frozenset(("k", "k_0"))
+# Of an ellipsoid's sizes one may follow from others; a title and a transformation are no part of the source CRS.
+NOT_TRIED = frozenset("proj a b rf f e es R datum title towgs84 nadgrids geoidgrids".split())
 
 
 class Conversion(NamedTuple):
@@ -74,26 +75,40 @@ def without_effect(words: str, found: str) -> List[str]:
     doubts = []
     for index, parameter in enumerate(parameters):
         match = PARAMETER.fullmatch(parameter)
-        if match and match[1] != "proj" and not is_default(match[1], match[2] or ""):
+        if match and match[1] not in NOT_TRIED and not is_default(match[1], match[2] or ""):
             others = parameters[:index] + parameters[index + 1 :]
-            with context() as proj:
-                made = proj.from_definition(" ".join([*others, *["+type=crs"][: "type=crs" not in words]]))
-                if made and without_remark(proj.wkt_of(made)) == without_remark(found):
-                    doubts.append(f"{parameter} has no effect: PROJ would pass it over")
+            if without_remark(text_of_string(others)) == without_remark(found) and not (
+                match[1] == "ellps" and has_ellipsoid(parameters, found)
+            ):
+                doubts.append(f"{parameter} has no effect: PROJ would pass it over")
     return doubts
+
+
+def has_ellipsoid(parameters: List[str], found: str) -> bool:
+    """Whether a CRS has the ellipsoid of its string, which says a datum too, when the datum is left out."""
+    own = text_of_string([it for it in parameters if not it.lstrip("+").startswith("datum=")])
+    sizes = [[it.values[1:] for it in tree_of(text).all() if it.keyword == "ELLIPSOID"] for text in (own, found) if text]
+    return len(sizes) == 2 and sizes[0] == sizes[1]
+
+
+def text_of_string(parameters: List[str]) -> str:
+    """PROJ's text of a PROJ string; nothing where it has none."""
+    words = parameters if any("type=crs" in it for it in parameters) else [*parameters, "+type=crs"]
+    with context() as proj:
+        made = proj.from_definition(" ".join(words))
+        return proj.wkt_of(made) if made else ""
 
 
 def without_remark(text: str) -> Node:
     """A text without the remark in which PROJ keeps a string that it doesn't read in full; of a bound CRS the source."""
-    whole = tree_of(text)
+    whole = tree_of(text) if text else Node("")
     source = whole.child("SOURCECRS")
     whole = source.nodes[0] if source else whole
     return Node(whole.keyword, [it for it in whole.items if isinstance(it, str) or it.keyword != "REMARK"])
 
 
 def is_default(name: str, value: str) -> bool:
-    # A transformation is no part of the source CRS, which is compared.
-    if value in DEFAULTS.get(name, ()) or name in ("towgs84", "nadgrids", "geoidgrids"):
+    if value in DEFAULTS.get(name, ()):
         return True
     with contextlib.suppress(ValueError):
         return name in ZERO and float(value) == 0 or name in ONE and float(value) == 1
