@@ -87,7 +87,9 @@ def without_effect(words: str, found: str) -> List[str]:
 def has_ellipsoid(parameters: List[str], found: str) -> bool:
     """Whether a CRS has the ellipsoid of its string, which says a datum too, when the datum is left out."""
     own = text_of_string([it for it in parameters if not it.lstrip("+").startswith("datum=")])
-    sizes = [[it.values[1:] for it in tree_of(text).all() if it.keyword == "ELLIPSOID"] for text in (own, found) if text]
+    sizes = [
+        [it.values[1:] for it in tree_of(text).all() if it.keyword == "ELLIPSOID"] for text in (own, found) if text
+    ]
     return len(sizes) == 2 and sizes[0] == sizes[1]
 
 
