@@ -9,6 +9,7 @@ from typing import Dict, List, NamedTuple, Optional, Tuple, Union
 
 from .. import Crs, Difference, Level, Refused
 from .._facts import boxes_of
+from .._foreign import form_of
 from .converting import converted
 from .kinds import TRANSFORMATION
 from .reading import File, Skipped, Text, Unread, Way, Without, read
@@ -46,7 +47,8 @@ class Spelled:
 class Refusal:
     """Why a text is refused, in the words of ``Refused``: ``place`` is its byte, ``piece`` the line with a caret below,
     ``expected`` what could come there, ``hint`` what the text most likely is and what to do, or nothing, ``doubts`` why
-    what PROJ reads the text as isn't taken, where that was tried."""
+    what PROJ reads the text as isn't taken, where that was tried. ``form`` is that of a text that PROJ is asked for, as
+    ``WKT1``, damaged or not; nothing of any other."""
 
     number: int
     name: str
@@ -58,6 +60,7 @@ class Refusal:
     meaning: str
     hint: str
     doubts: Tuple[str, ...] = ()
+    form: str = ""
 
 
 class Judged(NamedTuple):
@@ -130,7 +133,7 @@ def judged(found: Text, spelled: List[Spelled], known: Known, converts: bool) ->
     try:
         crs = Crs(found.text)
     except Refused as refused:
-        refusal = refusal_of(refused, found.line)
+        refusal = refusal_of(refused, found.line, form_of(found.text.decode("utf-8", "replace")) or "")
         conversion = converted(found.text) if converts else None
         if conversion is None:
             return Judged(found.layer, found.line, digest, -1, refusal)
@@ -158,7 +161,7 @@ def spelled_by(crs: Crs, transformation: str) -> Spelled:
     return Spelled(str(crs), definition, crs.kind, crs.name, crs.identifiers, boxes, transformation)
 
 
-def refusal_of(refused: Refused, line: int) -> Refusal:
+def refusal_of(refused: Refused, line: int, form: str) -> Refusal:
     """A refusal's words, as they are said of files."""
     # After the head, the piece and what is expected.
     lines = refused.told_of_file(line).split("\n")[4 if refused.expected else 3 :]
@@ -173,6 +176,7 @@ def refusal_of(refused: Refused, line: int) -> Refusal:
         refused.expected,
         refused.meaning,
         hint,
+        form=form,
     )
 
 

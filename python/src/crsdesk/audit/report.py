@@ -474,7 +474,5 @@ ISNT_READ = re.compile(r"(?:An? )?(\w+) (?:isn't|aren't) read")
 def cause_of(refusal: Refusal) -> str:
     """Why a text is refused, in a word or two: what it is instead, or the refusal's name."""
     match = IS_SOMETHING.match(refusal.hint) or ISNT_READ.match(refusal.hint)
-    name = match[1] if match else refusal.name
-    if refusal.doubts:
-        return f"{name}, damaged or not known to PROJ"
-    return name
+    name = refusal.form.replace("a ", "") or (match[1] if match else refusal.name)
+    return f"{name}, damaged or not known to PROJ" if refusal.doubts else name
