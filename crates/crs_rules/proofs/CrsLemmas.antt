@@ -1,0 +1,313 @@
+-- A CRS that is rewritten by rules is sound.
+use Rattle.std.proofs.Common.{Err, Ok, OnErr, OnOk, Result, ◌≡◌, ◌≢◌, ℕ, suc, ◌&&◌, Bool, Option, Some, None, List, [], ◌∷◌, IfSome, IsSomeAnd, refl, sym, subst, ap, ◌∙◌, map, length, arith, inl, inr, true, false, if◌then◌else◌, Ordering, Less, Equal, Greater}
+use Rattle.crs_decimal.specs.Number.{SameNumber, whole_number}
+use Rattle.crs_decimal.specs.Value.{exact}
+use Rattle.crs_shape.specs.declared.class.Class.TheVariants as class
+use Rattle.crs_value.specs.BadOrder.{IsPosition}
+use Rattle.crs_value.specs.BadUnit.{asked_kind}
+use Rattle.crs_value.specs.CrsValues.{BaseParts, GeodeticParts, ProjectedParts, VerticalParts}
+use Rattle.crs_value.specs.Sound.{Each, IsNamed, IsUnitOf, IsAxisUnit, IsAxisMeridian, IsAxis, Suits}
+use Rattle.crs_value.specs.SoundCompound.{IsCompound, IsHorizontal}
+use Rattle.crs_value.specs.SoundCrs.{IsCrs}
+use Rattle.crs_value.specs.SoundFrames.{IsMeridian}
+use Rattle.crs_value.specs.SoundSingle.{IsBase, IsGeodetic, IsProjected, IsVertical}
+use Rattle.crs_value.specs.SoundSystem.{HasOrders, HasUnits, IsSystem, SuitsAxis}
+use Rattle.crs_value.specs.Values.{AxisMeridianParts, AxisParts, SystemParts, UnitParts}
+use Rattle.crs_value.specs.CompoundValues.{CompoundParts}
+use Rattle.crs_value.specs.declared.values.compound.Horizontal.{Horizontal}
+use Rattle.crs_value.specs.declared.values.compound.Horizontal.TheVariants as horizontals
+use Rattle.crs_value.specs.declared.values.crs.Crs.{Crs}
+use Rattle.crs_value.specs.declared.values.crs.Crs.TheVariants as crs
+use Rattle.crs_value.specs.declared.values.system_type.SystemType.{SystemType}
+use Rattle.crs_value.specs.declared.values.unit_kind.UnitKind.TheVariants as kinds
+use Rattle.std.specs.Cmp.Lexicographic.{slice_cmp}
+use Rattle.std.specs.Ordering.{nat_cmp, match_ordering}
+use Rattle.crs_rules.specs.Sinking.{IsOrderless, IsOrderlessAcross, IsOrderlessCrs}
+use Rattle.crs_rules.specs.Rewritten.{across, among, arranged, arranged_across, arranged_compound, arranged_crs, arranged_geodetic, arranged_projected, arranged_vertical, ascending, axis, axis_meridian, counted, renamed, base, compound, geodetic, is_idle, meridian, named, projected, rewritten, system, units, vertical}
+use Rattle.crs_rules.specs.Rules.{Meaning, RulesParts, meaning}
+use Rattle.crs_rules.specs.SoundRules.{AreRules}
+use Rattle.crs_rules.proofs.AliasLemmas.{IsSoundMeaning, axis-unit, choice, counted-name, sound-meaning, unit-of}
+use Rattle.crs_rules.proofs.PartLemmas.{conversion-sound, counted-sound, dynamics-sound, each-map, geodetic-frame-sound, meridian-sound, named-sound, some-map, tail-sound, vertical-frame-sound}
+
+-- ---- systems
+
+pub along-sound : (r : Meaning) → IsSoundMeaning r → (m : AxisMeridianParts) → IsAxisMeridian m → IsAxisMeridian (axis_meridian r m)
+along-sound r h m k = record { longitude = k.longitude; unit = unit-of r kinds.Angle h m.unit k.unit }
+
+pub axis-sound : (r : Meaning) → IsSoundMeaning r → (a : AxisParts) → IsAxis a → IsAxis (axis r a)
+axis-sound r h a k = record {
+  name = counted-name r.uncounted.axis_names _ (h.name class.Axis a.name k.name);
+  meridian = some-map IsAxisMeridian (axis_meridian r) a.meridian (along-sound r h) k.meridian;
+  order = counted-sound _ r.uncounted.axis_order a.order k.order;
+  unit = some-map IsAxisUnit r.unit a.unit (axis-unit r h) k.unit;
+  identifiers = k.identifiers;
+}
+
+map-length : {A B : Type 0} (f : A → B) (xs : List A) → length (map f xs) ≡ length xs
+map-length f [] = refl
+map-length f (x ∷ xs) = ap suc (map-length f xs)
+
+each-to : (P Q : AxisParts → Type 0) (f : AxisParts → AxisParts) (xs : List AxisParts) → ((x : AxisParts) → P x → Q (f x)) →
+    Each P xs → Each Q (map f xs)
+each-to P Q f [] h k = tt
+each-to P Q f (x ∷ xs) h k = (h x k.0, each-to P Q f xs h k.1)
+
+filled : (n m : List AxisParts) → length n ≡ length m → m ≢ [] → n ≢ []
+filled n [] e h k = h refl
+filled n (x ∷ m) e h k = let z : 0 ≡ suc (length m) = sym (ap length k) ∙ e in absurd (omega arith)
+
+pub none-ordered : (r : Meaning) → r.uncounted.axis_order ≡ true → (xs : List AxisParts) →
+    Each (λ a. a.order ≡ None) (map (axis r) xs)
+none-ordered r e [] = tt
+none-ordered r e (x ∷ xs) =
+    (subst (λ b. counted b x.order ≡ None) (sym e) refl, none-ordered r e xs)
+
+same-orders : (r : Meaning) → r.uncounted.axis_order ≡ false → (xs : List AxisParts) →
+    map (λ a. a.order) (map (axis r) xs) ≡ map (λ a. a.order) xs
+same-orders r e [] = refl
+same-orders r e (x ∷ xs) =
+    let h : counted r.uncounted.axis_order x.order ≡ x.order = ap (λ b. counted b x.order) e in
+    let t = same-orders r e xs in λ i. h i ∷ t i
+
+orders-by : (r : Meaning) (xs : List AxisParts) (b : Bool) → r.uncounted.axis_order ≡ b → HasOrders xs → HasOrders (map (axis r) xs)
+orders-by r xs true e h = inl (none-ordered r e xs)
+orders-by r xs false e (inl k) =
+    inl (each-map (λ a. a.order ≡ None) (axis r) xs (λ x q. ap (λ b. counted b x.order) e ∙ q) k)
+orders-by r xs false e (inr k) = inr (
+  k.0,
+  (
+    same-orders r e xs ∙ k.1.0,
+    (subst (λ n. Each (IsPosition n) k.0) (sym (map-length (axis r) xs)) k.1.1.0, k.1.1.1),
+  ),
+)
+
+orders-sound : (r : Meaning) (xs : List AxisParts) → HasOrders xs → HasOrders (map (axis r) xs)
+orders-sound r xs h = orders-by r xs r.uncounted.axis_order refl h
+
+suits-stays : (r : Meaning) (t : SystemType) (a : AxisParts) (u : Option UnitParts) → IsSoundMeaning r → IfSome u IsAxisUnit →
+    IsSomeAnd u (SuitsAxis t a) → IsSomeAnd (units r u) (SuitsAxis t a)
+suits-stays r t a None h s k = k
+suits-stays r t a (Some u) h s k = subst (Suits (asked_kind t a.direction)) (sym (h.unit u s.0).kind) k
+
+both : {A : Type 0} (P Q : A → Type 0) (xs : List A) → Each P xs → Each Q xs → Each (λ a. P a × Q a) xs
+both P Q [] s k = tt
+both P Q (x ∷ xs) s k = ((s.0, k.0), both P Q xs s.1 k.1)
+
+units-sound : (r : Meaning) (t : SystemType) (xs : List AxisParts) (u : Option UnitParts) → IsSoundMeaning r → Each IsAxis xs →
+    IfSome u IsAxisUnit → HasUnits t xs u → HasUnits t (map (axis r) xs) (units r u)
+units-sound r t xs None h s w k =
+    each-to (λ a. IsAxis a × IsSomeAnd a.unit (SuitsAxis t a)) (λ a. IsSomeAnd a.unit (SuitsAxis t a)) (axis r) xs
+    (λ a p. suits-stays r t a a.unit h p.0.unit p.1) (both IsAxis (λ a. IsSomeAnd a.unit (SuitsAxis t a)) xs s k)
+units-sound r t xs (Some u) h s w k = (
+  each-to (λ a. a.unit ≡ None) (λ a. a.unit ≡ None) (axis r) xs (λ a p. ap (units r) p) k.0,
+  (
+    k.1.0,
+    (
+      each-to (λ a. asked_kind t a.direction ≡ k.1.0) (λ a. asked_kind t a.direction ≡ k.1.0) (axis r) xs (λ a p. p) k.1.1.0,
+      subst (Suits k.1.0) (sym (h.unit u w.0).kind) k.1.1.1,
+    ),
+  ),
+)
+
+pub system-sound : (r : Meaning) → IsSoundMeaning r → (s : SystemParts) → IsSystem s → IsSystem (system r s)
+system-sound r h s k = record {
+  dimension = k.dimension;
+  identifiers = k.identifiers;
+  some = filled (map (axis r) s.axes) s.axes (map-length (axis r) s.axes) k.some;
+  axes = each-to IsAxis IsAxis (axis r) s.axes (axis-sound r h) k.axes;
+  count = subst (λ n. SameNumber (exact s.dimension) (whole_number n)) (sym (map-length (axis r) s.axes)) k.count;
+  orders = orders-sound r s.axes k.orders;
+  unit = some-map IsAxisUnit r.unit s.unit (axis-unit r h) k.unit;
+  units = units-sound r s.system_type s.axes s.unit h k.axes k.unit k.units;
+}
+
+-- ---- CRSs
+
+pub geodetic-sound : (r : Meaning) → IsSoundMeaning r → (g : GeodeticParts) → IsGeodetic g → IsGeodetic (geodetic r g)
+geodetic-sound r h g k = record {
+  name = counted-name r.uncounted.crs_names g.name k.name;
+  dynamic = dynamics-sound r class.GeodeticFrame class.GeodeticEnsemble h g.dynamic g.frame k.dynamic;
+  frame = geodetic-frame-sound r class.GeodeticFrame class.GeodeticEnsemble h g.frame k.frame;
+  meridian = some-map IsMeridian (meridian r) g.meridian (meridian-sound r h) k.meridian;
+  system = system-sound r h g.system k.system;
+  dimension = k.dimension;
+  tail = tail-sound r h g.tail k.tail;
+}
+
+pub base-sound : (r : Meaning) (idle : Bool) → IsSoundMeaning r → (b : BaseParts) → IsBase b → IsBase (base r idle b)
+base-sound r idle h b k = record {
+  name = counted-name r.uncounted.base_names b.name k.name;
+  dynamic = dynamics-sound r class.GeodeticFrame class.GeodeticEnsemble h b.dynamic b.frame k.dynamic;
+  frame = geodetic-frame-sound r class.GeodeticFrame class.GeodeticEnsemble h b.frame k.frame;
+  meridian = some-map IsMeridian (meridian r) b.meridian (meridian-sound r h) k.meridian;
+  unit = counted-sound (IsUnitOf kinds.Angle) (r.uncounted.base_units && idle) (units r b.unit)
+      (some-map (IsUnitOf kinds.Angle) r.unit b.unit (unit-of r kinds.Angle h) k.unit);
+  identifiers = k.identifiers;
+}
+
+pub projected-sound : (r : Meaning) → IsSoundMeaning r → (p : ProjectedParts) → IsProjected p → IsProjected (projected r p)
+projected-sound r h p k = record {
+  name = counted-name r.uncounted.crs_names p.name k.name;
+  base = base-sound r (is_idle p.base.meridian p.conversion.parameters) h p.base k.base;
+  conversion = conversion-sound r h p.conversion k.conversion;
+  system = system-sound r h p.system k.system;
+  dimension = k.dimension;
+  tail = tail-sound r h p.tail k.tail;
+}
+
+pub vertical-sound : (r : Meaning) → IsSoundMeaning r → (v : VerticalParts) → IsVertical v → IsVertical (vertical r v)
+vertical-sound r h v k = record {
+  name = counted-name r.uncounted.crs_names v.name k.name;
+  dynamic = dynamics-sound r class.VerticalFrame class.VerticalEnsemble h v.dynamic v.frame k.dynamic;
+  frame = vertical-frame-sound r class.VerticalFrame class.VerticalEnsemble h v.frame k.frame;
+  system = system-sound r h v.system k.system;
+  dimension = k.dimension;
+  geoid_models = choice (Each IsNamed) r.uncounted.geoid_models [] (map (named r class.GeoidModel) v.geoid_models) tt
+      (each-map IsNamed (named r class.GeoidModel) v.geoid_models (named-sound r class.GeoidModel h) k.geoid_models);
+  tail = tail-sound r h v.tail k.tail;
+}
+
+pub across-sound : (r : Meaning) → IsSoundMeaning r → (x : Horizontal) → IsHorizontal x → IsHorizontal (across r x)
+across-sound r h (horizontals.Geodetic g) k = (geodetic-sound r h g k.0, k.1, k.2)
+across-sound r h (horizontals.Projected p) k = (projected-sound r h p k.0, k.1)
+
+pub compound-sound : (r : Meaning) → IsSoundMeaning r → (c : CompoundParts) → IsCompound c → IsCompound (compound r c)
+compound-sound r h c k = record {
+  name = counted-name r.uncounted.crs_names c.name k.name;
+  horizontal = across-sound r h c.horizontal k.horizontal;
+  vertical = vertical-sound r h c.vertical k.vertical;
+  tail = tail-sound r h c.tail k.tail;
+}
+
+pub renamed-sound : (r : Meaning) → IsSoundMeaning r → (x : Crs) → IsCrs x → IsCrs (renamed r x)
+renamed-sound r h (crs.Geodetic g) k = geodetic-sound r h g k
+renamed-sound r h (crs.Projected p) k = projected-sound r h p k
+renamed-sound r h (crs.Vertical v) k = vertical-sound r h v k
+renamed-sound r h (crs.Compound c) k = compound-sound r h c k
+
+-- ---- axes in order of their texts
+
+ordered : {X : Type 0} (P : X → Type 0) (o : Ordering) (x y z : X) → P x → P y → P z → P (match_ordering o x y z)
+ordered P Less x y z a b c = a
+ordered P Equal x y z a b c = b
+ordered P Greater x y z a b c = c
+
+-- what a call that changes something, or out of memory leaves it, has of both
+pub either-way : {A E X : Type 0} (r : Result A E) (P : X → Type 0) (old new other : X) →
+    OnOk r (new ≡ other) → OnErr r (new ≡ old) → P old → P other → P new
+either-way (Ok x) P old new other a b p q = subst P (sym a) q
+either-way (Err x) P old new other a b p q = subst P (sym b) p
+
+module _ (text : AxisParts → List ℕ) where
+  each-among : (P : AxisParts → Type 0) (x : AxisParts) (xs : List AxisParts) → P x → Each P xs → Each P (among text x xs)
+  each-among P x [] h k = (h, tt)
+  each-among P x (y ∷ ys) h k =
+      ordered (Each P) (slice_cmp nat_cmp (text x) (text y))
+      (x ∷ y ∷ ys) (x ∷ y ∷ ys) (y ∷ among text x ys) (h, k) (h, k) (k.0, each-among P x ys h k.1)
+
+  pub each-ascending : (P : AxisParts → Type 0) (xs : List AxisParts) → Each P xs → Each P (ascending text xs)
+  each-ascending P [] k = tt
+  each-ascending P (x ∷ xs) k = each-among P x (ascending text xs) k.0 (each-ascending P xs k.1)
+
+  among-length : (x : AxisParts) (xs : List AxisParts) → length (among text x xs) ≡ suc (length xs)
+  among-length x [] = refl
+  among-length x (y ∷ ys) =
+      ordered (λ zs. length zs ≡ suc (suc (length ys))) (slice_cmp nat_cmp (text x) (text y))
+      (x ∷ y ∷ ys) (x ∷ y ∷ ys) (y ∷ among text x ys) refl refl (ap suc (among-length x ys))
+
+  pub ascending-length : (xs : List AxisParts) → length (ascending text xs) ≡ length xs
+  ascending-length [] = refl
+  ascending-length (x ∷ xs) = among-length x (ascending text xs) ∙ ap suc (ascending-length xs)
+
+  units-arranged : (t : SystemType) (xs : List AxisParts) (u : Option UnitParts) → HasUnits t xs u →
+      HasUnits t (ascending text xs) u
+  units-arranged t xs None k = each-ascending (λ a. IsSomeAnd a.unit (SuitsAxis t a)) xs k
+  units-arranged t xs (Some u) k = (
+    each-ascending (λ a. a.unit ≡ None) xs k.0,
+    (k.1.0, (each-ascending (λ a. asked_kind t a.direction ≡ k.1.0) xs k.1.1.0, k.1.1.1)),
+  )
+
+  pub arranged-sound : (s : SystemParts) → IsOrderless s → IsSystem s → IsSystem (arranged text s)
+  arranged-sound s n k = record {
+    dimension = k.dimension;
+    identifiers = k.identifiers;
+    some = filled (ascending text s.axes) s.axes (ascending-length s.axes) k.some;
+    axes = each-ascending IsAxis s.axes k.axes;
+    count = subst (λ n. SameNumber (exact s.dimension) (whole_number n)) (sym (ascending-length s.axes)) k.count;
+    orders = inl (each-ascending (λ a. a.order ≡ None) s.axes n);
+    unit = k.unit;
+    units = units-arranged s.system_type s.axes s.unit k.units;
+  }
+
+  pub geodetic-arranged : (g : GeodeticParts) → IsOrderless g.system → IsGeodetic g → IsGeodetic (arranged_geodetic text g)
+  geodetic-arranged g n k = record {
+    name = k.name;
+    dynamic = k.dynamic;
+    frame = k.frame;
+    meridian = k.meridian;
+    system = arranged-sound g.system n k.system;
+    dimension = k.dimension;
+    tail = k.tail;
+  }
+
+  pub projected-arranged : (p : ProjectedParts) → IsOrderless p.system → IsProjected p → IsProjected (arranged_projected text p)
+  projected-arranged p n k = record {
+    name = k.name;
+    base = k.base;
+    conversion = k.conversion;
+    system = arranged-sound p.system n k.system;
+    dimension = k.dimension;
+    tail = k.tail;
+  }
+
+  pub vertical-arranged : (v : VerticalParts) → IsOrderless v.system → IsVertical v → IsVertical (arranged_vertical text v)
+  vertical-arranged v n k = record {
+    name = k.name;
+    dynamic = k.dynamic;
+    frame = k.frame;
+    system = arranged-sound v.system n k.system;
+    dimension = k.dimension;
+    geoid_models = k.geoid_models;
+    tail = k.tail;
+  }
+
+  pub across-arranged : (x : Horizontal) → IsOrderlessAcross x → IsHorizontal x → IsHorizontal (arranged_across text x)
+  across-arranged (horizontals.Geodetic g) n k = (geodetic-arranged g n k.0, k.1, k.2)
+  across-arranged (horizontals.Projected p) n k = (projected-arranged p n k.0, k.1)
+
+  pub compound-arranged : (c : CompoundParts) → IsOrderlessAcross c.horizontal → IsOrderless c.vertical.system → IsCompound c →
+      IsCompound (arranged_compound text c)
+  compound-arranged c n o k = record {
+    name = k.name;
+    horizontal = across-arranged c.horizontal n k.horizontal;
+    vertical = vertical-arranged c.vertical o k.vertical;
+    tail = k.tail;
+  }
+
+  crs-arranged : (x : Crs) → IsOrderlessCrs x → IsCrs x → IsCrs (arranged_crs text x)
+  crs-arranged (crs.Geodetic g) n k = geodetic-arranged g n k
+  crs-arranged (crs.Projected p) n k = projected-arranged p n k
+  crs-arranged (crs.Vertical v) n k = vertical-arranged v n k
+  crs-arranged (crs.Compound c) n k = compound-arranged c n.0 n.1 k
+
+across-orderless : (r : Meaning) → r.uncounted.axis_order ≡ true → (x : Horizontal) → IsOrderlessAcross (across r x)
+across-orderless r e (horizontals.Geodetic g) = none-ordered r e g.system.axes
+across-orderless r e (horizontals.Projected p) = none-ordered r e p.system.axes
+
+pub renamed-orderless : (r : Meaning) → r.uncounted.axis_order ≡ true → (x : Crs) → IsOrderlessCrs (renamed r x)
+renamed-orderless r e (crs.Geodetic g) = none-ordered r e g.system.axes
+renamed-orderless r e (crs.Projected p) = none-ordered r e p.system.axes
+renamed-orderless r e (crs.Vertical v) = none-ordered r e v.system.axes
+renamed-orderless r e (crs.Compound c) = (across-orderless r e c.horizontal, none-ordered r e c.vertical.system.axes)
+
+either-sound : (text : AxisParts → List ℕ) (r : Meaning) (x : Crs) (b : Bool) → r.uncounted.axis_order ≡ b →
+    IsCrs (renamed r x) → IsCrs (if b then arranged_crs text (renamed r x) else renamed r x)
+either-sound text r x true e k = crs-arranged text (renamed r x) (renamed-orderless r e x) k
+either-sound text r x false e k = k
+
+meant-sound : (text : AxisParts → List ℕ) (r : Meaning) → IsSoundMeaning r → (x : Crs) → IsCrs x → IsCrs (rewritten text r x)
+meant-sound text r h x k = either-sound text r x r.uncounted.axis_order refl (renamed-sound r h x k)
+
+pub crs-sound : (text : AxisParts → List ℕ) (r : RulesParts) → AreRules r → (x : Crs) → IsCrs x →
+    IsCrs (rewritten text (meaning r) x)
+crs-sound text r h x k = meant-sound text (meaning r) (sound-meaning r h) x k

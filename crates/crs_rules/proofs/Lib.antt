@@ -1,0 +1,16 @@
+pub mod AgainLemmas
+pub mod AliasLemmas
+pub mod ArrangedLemmas
+pub mod CrsLemmas
+pub mod FactorLemmas
+pub mod FormLemmas
+pub mod NoRulesLemmas
+pub mod OrderLemmas
+pub mod OwnFormLemmas
+pub mod PartLemmas
+pub mod ReorderedLemmas
+pub mod SortLemmas
+pub mod SteadyLemmas
+pub mod StemLemmas
+pub mod TextLemmas
+pub mod WholeLemmas

@@ -1,0 +1,154 @@
+-- Steady rules leave what they write as it is, and write one thing for each name and unit.
+use Rattle.std.proofs.Common.{◌≡◌, ℕ, ◌&&◌, Bool, true, false, Option, Some, None, List, [], ◌∷◌, refl, sym, subst, ap, ◌∙◌, inl, inr, if◌then◌else◌, rules}
+use Rattle.std.specs.Str.{bytes_eq}
+use Rattle.std.proofs.lemmas.Slice.Eq.{bytes_eq-Decides}
+use denote.Enum.Bare.{sameb, same_true}
+use Rattle.crs_decimal.specs.Plain.{plain}
+use Rattle.crs_normal.specs.Ascending.{IsIn}
+use Rattle.crs_shape.specs.declared.class.Class.{Class}
+use Rattle.crs_value.proofs.ArgumentLemmas.{same_class}
+use Rattle.crs_value.specs.NamedValues.{IdentParts}
+use Rattle.crs_value.specs.Reading.{is_same}
+use Rattle.crs_value.specs.Sound.{Each}
+use Rattle.crs_value.specs.Values.{UnitParts}
+use Rattle.crs_value.specs.contracts.values.unit_kind.UnitKind.{the_type}
+use Rattle.crs_value.specs.declared.values.unit_kind.UnitKind.{UnitKind}
+use Rattle.crs_rules.specs.Rules.{Meaning, NameAliasParts, RulesParts, UnitAliasParts, first_name, first_that, first_unit, is_name_alias, is_unit_alias, meaning, name_for, unit_for}
+use Rattle.crs_rules.specs.SteadyRules.{AreSteady, NamesAgree, UnitsAgree}
+use Rattle.crs_rules.proofs.OrderLemmas.{AreClear, Sought, each-in, sought, unlike}
+
+-- units keep their kind and their identifiers
+pub record KeepsKinds (m : Meaning) : Type 0 where
+  pub kind : (u : UnitParts) → (m.unit u).kind ≡ u.kind
+  pub identifiers : (u : UnitParts) → (m.unit u).identifiers ≡ u.identifiers
+
+-- names and units stay when they are written again
+pub record IsSteady (m : Meaning) : Type 0 where
+  pub name : (c : Class) (n : List ℕ) → m.name c (m.name c n) ≡ m.name c n
+  pub kind : (u : UnitParts) → (m.unit u).kind ≡ u.kind
+  pub identifiers : (u : UnitParts) → (m.unit u).identifiers ≡ u.identifiers
+  pub unit : (u : UnitParts) (ids : List IdentParts) →
+      m.unit (record (m.unit u) { identifiers = ids }) ≡ record (m.unit u) { identifiers = ids }
+
+each-to : {A : Type 0} (P Q : A → Type 0) (xs : List A) → ((x : A) → P x → Q x) → Each P xs → Each Q xs
+each-to P Q [] f h = tt
+each-to P Q (x ∷ xs) f h = (f x h.0, each-to P Q xs f h.1)
+
+none-first : {A : Type 0} (test : A → Bool) (xs : List A) → Each (λ x. test x ≡ false) xs → first_that test xs ≡ None
+none-first test [] h = refl
+none-first test (x ∷ xs) h =
+    subst (λ b. (if b then Some x else first_that test xs) ≡ None) (sym h.0) (none-first test xs h.1)
+
+pub both : (a b : Bool) → (a && b) ≡ true → (a ≡ true) × (b ≡ true)
+both true b e = (refl, e)
+both false b e = absurd (unlike false e refl)
+
+same-kind : (a b : UnitKind) → sameb the_type a b ≡ true → a ≡ b
+same-kind a b e = same_true the_type (search rules) a b e
+
+-- ---- what an alias and what it is of have in common
+
+record OfName (c : Class) (name : List ℕ) (a : NameAliasParts) : Type 0 where
+  pub class : c ≡ a.class
+  pub alias : name ≡ a.alias
+
+of-name : (c : Class) (name : List ℕ) (a : NameAliasParts) → is_name_alias c name a ≡ true → OfName c name a
+of-name c name a e =
+    let h = both (is_same c a.class) (bytes_eq name a.alias) e in
+    record { class = sym (same_class a.class c h.0); alias = (bytes_eq-Decides name a.alias).0 h.1 }
+
+record OfUnit (u : UnitParts) (a : UnitAliasParts) : Type 0 where
+  pub kind : u.kind ≡ a.kind
+  pub alias : u.name ≡ a.alias
+  pub factor : plain u.factor ≡ plain a.alias_factor
+
+of-unit : (u : UnitParts) (a : UnitAliasParts) → is_unit_alias u a ≡ true → OfUnit u a
+of-unit u a e =
+    let h = both (sameb the_type u.kind a.kind)
+    (bytes_eq u.name a.alias && bytes_eq (plain u.factor) (plain a.alias_factor)) e in
+    let k = both (bytes_eq u.name a.alias) (bytes_eq (plain u.factor) (plain a.alias_factor)) h.1 in
+    record {
+      kind = same-kind u.kind a.kind h.0;
+      alias = (bytes_eq-Decides u.name a.alias).0 k.0;
+      factor = (bytes_eq-Decides (plain u.factor) (plain a.alias_factor)).0 k.1;
+    }
+
+-- ---- one thing is written
+
+names-agree : (r : RulesParts) → AreSteady r → (a b : NameAliasParts) → IsIn a r.names → IsIn b r.names → NamesAgree a b
+names-agree r h a b i j =
+    each-in (NamesAgree a) b r.names (each-in (λ x. Each (NamesAgree x) r.names) a r.names h.names i) j
+
+units-agree : (r : RulesParts) → AreSteady r → (a b : UnitAliasParts) → IsIn a r.units → IsIn b r.units → UnitsAgree a b
+units-agree r h a b i j =
+    each-in (UnitsAgree a) b r.units (each-in (λ x. Each (UnitsAgree x) r.units) a r.units h.units i) j
+
+pub clear : (r : RulesParts) → AreSteady r → AreClear r
+clear r h = record {
+  names = λ c name a b i j p q.
+      let k = of-name c name a p in
+      let e : is_name_alias c name b ≡ is_name_alias a.class a.alias b =
+      λ z. is_same (k.class z) b.class && bytes_eq (k.alias z) b.alias in
+      (names-agree r h a b i j).clear (sym e ∙ q);
+  units = λ u a b i j p q.
+      let k = of-unit u a p in
+      let e : is_unit_alias u b ≡ (sameb the_type a.kind b.kind && (bytes_eq a.alias b.alias && bytes_eq (plain a.alias_factor) (plain b.alias_factor))) =
+      λ z. sameb the_type (k.kind z) b.kind && (bytes_eq (k.alias z) b.alias && bytes_eq (k.factor z) (plain b.alias_factor)) in
+      (units-agree r h a b i j).clear (sym e ∙ q);
+}
+
+-- ---- what is written stays
+
+kind-kept : (u : UnitParts) (o : Option UnitAliasParts) → (unit_for u o).kind ≡ u.kind
+kind-kept u None = refl
+kind-kept u (Some a) = refl
+
+identifiers-kept : (u : UnitParts) (o : Option UnitAliasParts) → (unit_for u o).identifiers ≡ u.identifiers
+identifiers-kept u None = refl
+identifiers-kept u (Some a) = refl
+
+name-by : (r : RulesParts) → AreSteady r → (c : Class) (n : List ℕ) → Sought (is_name_alias c n) r.names →
+    first_name r.names c (first_name r.names c n) ≡ first_name r.names c n
+name-by r h c n (inl k) =
+    let a : NameAliasParts = k.0 in
+    let e : first_name r.names c n ≡ a.name = ap (name_for n) k.3 in
+    let z : Each (λ b. is_name_alias c a.name b ≡ false) r.names =
+    each-to (NamesAgree a) (λ b. is_name_alias c a.name b ≡ false) r.names
+    (λ b g. ap (λ d. is_name_alias d a.name b) (of-name c n a k.2).class ∙ g.steady)
+    (each-in (λ x. Each (NamesAgree x) r.names) a r.names h.names k.1) in
+    subst (λ x. first_name r.names c x ≡ x) (sym e) (ap (name_for a.name) (none-first (is_name_alias c a.name) r.names z))
+name-by r h c n (inr k) =
+    let e : first_name r.names c n ≡ n = ap (name_for n) k.1 in ap (first_name r.names c) e
+
+unit-by : (r : RulesParts) → AreSteady r → (u : UnitParts) (ids : List IdentParts) → Sought (is_unit_alias u) r.units →
+    ◌≡◌ {A = UnitParts} (first_unit r.units (record (first_unit r.units u) { identifiers = ids }))
+    (record (first_unit r.units u) { identifiers = ids })
+unit-by r h u ids (inl k) =
+    let a : UnitAliasParts = k.0 in
+    let w : UnitParts = unit_for u (Some a) in
+    let e : first_unit r.units u ≡ w = ap (unit_for u) k.3 in
+    let z : Each (λ b. is_unit_alias w b ≡ false) r.units =
+    each-to (UnitsAgree a) (λ b. is_unit_alias w b ≡ false) r.units
+    (λ b g. ap (λ d. sameb the_type d b.kind && (bytes_eq a.name b.alias && bytes_eq (plain a.factor) (plain b.alias_factor)))
+    (of-unit u a k.2).kind ∙ g.steady)
+    (each-in (λ x. Each (UnitsAgree x) r.units) a r.units h.units k.1) in
+    subst (λ (x : UnitParts). ◌≡◌ {A = UnitParts} (first_unit r.units (record x { identifiers = ids })) (record x { identifiers = ids }))
+    (sym e) (ap (unit_for (record w { identifiers = ids })) (none-first (is_unit_alias (record w { identifiers = ids })) r.units z))
+unit-by r h u ids (inr k) =
+    let e : first_unit r.units u ≡ u = ap (unit_for u) k.1 in
+    subst (λ (x : UnitParts). ◌≡◌ {A = UnitParts} (first_unit r.units (record x { identifiers = ids })) (record x { identifiers = ids }))
+    (sym e) (ap (unit_for (record u { identifiers = ids })) k.1)
+
+pub steady : (r : RulesParts) → AreSteady r → IsSteady (meaning r)
+steady r h = record {
+  name = λ c n. name-by r h c n (sought (is_name_alias c n) r.names);
+  kind = λ u. kind-kept u (first_that (is_unit_alias u) r.units);
+  identifiers = λ u. identifiers-kept u (first_that (is_unit_alias u) r.units);
+  unit = λ u ids. unit-by r h u ids (sought (is_unit_alias u) r.units);
+}
+
+pub kinds-kept : (r : RulesParts) → KeepsKinds (meaning r)
+kinds-kept r = record {
+  kind = λ u. kind-kept u (first_that (is_unit_alias u) r.units);
+  identifiers = λ u. identifiers-kept u (first_that (is_unit_alias u) r.units);
+}

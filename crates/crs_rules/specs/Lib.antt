@@ -1,0 +1,10 @@
+pub mod LowerLaws
+pub mod NoRules
+pub mod OrderOfRules
+pub mod ReorderedAxes
+pub mod Rewritten
+pub mod Rules
+pub mod Sinking
+pub mod SoundRules
+pub mod SteadyRules
+pub mod Under

@@ -1,0 +1,48 @@
+-- A bridge: what is taken from the crates below for the laws of forms, as one fact.
+use Rattle.std.specs.Prelude.{◌≡◌, ◌↔◌, ℕ, List}
+use Rattle.crs_text.specs.Written.{item_text}
+use Rattle.crs_value.specs.ConversionValues.{ParameterParts}
+use Rattle.crs_value.specs.NamedValues.{IdentParts, NamedParts}
+use Rattle.crs_value.specs.Sound.{IsAxis}
+use Rattle.crs_value.specs.SoundConversion.{IsParameter}
+use Rattle.crs_value.specs.SoundCrs.{IsCrs}
+use Rattle.crs_value.specs.SpellsText.{Spells}
+use Rattle.crs_value.specs.Values.{AxisParts}
+use Rattle.crs_value.specs.declared.values.crs.Crs.{Crs}
+use Rattle.crs_value.specs.declared.values.level.Level.{Level}
+use Rattle.crs_value.specs.declared.values.level.Level.TheVariants as levels
+use Rattle.crs_same.specs.SameCrs.{SameCrs}
+use Rattle.crs_same.specs.Sameness.{IsSamenessOf}
+use Rattle.crs_normal.specs.Normal.{IsNormalText}
+use Rattle.crs_normal.specs.Ordered.{StaysInOrder}
+use Rattle.crs_normal.specs.PartTexts.{axis_text, norm_axis_alone}
+use Rattle.crs_normal.specs.SpelledConversions.{item_geoid_model, item_parameter}
+use Rattle.crs_normal.specs.SpelledCrs.{item_crs, norm_crs}
+use Rattle.crs_normal.specs.SpelledFrames.{item_member}
+use Rattle.crs_normal.specs.SpelledUnits.{item_ident}
+use Rattle.crs_canon.specs.Canonical.{IsCanonicalText}
+
+-- what is known of sets, and of parameters and axes that have one text
+pub record SetLaws : Type 0 where
+  pub identifiers : StaysInOrder (λ (x : IdentParts). item_text (item_ident x))
+  pub members : StaysInOrder (λ (x : NamedParts). item_text (item_member x))
+  pub parameters : StaysInOrder (λ (x : ParameterParts). item_text (item_parameter x))
+  pub geoid_models : StaysInOrder (λ (x : NamedParts). item_text (item_geoid_model x))
+  pub told : (a b : ParameterParts) → IsParameter a → IsParameter b →
+      item_text (item_parameter a) ≡ item_text (item_parameter b) → a ≡ b
+  pub axes_told : (a b : AxisParts) → IsAxis a → IsAxis b →
+      axis_text levels.Full a ≡ axis_text levels.Full b →
+      norm_axis_alone levels.Full a ≡ norm_axis_alone levels.Full b
+
+-- what is known of CRSs in their one form, and of canonical texts
+pub record FormLaws (level : Level) : Type 0 where
+  pub sound : (text : List ℕ) (crs : Crs) → Spells text crs → IsCrs crs
+  pub value : (text : List ℕ) (a b : Crs) → Spells text a → Spells text b → a ≡ b
+  pub same : IsSamenessOf IsCrs (SameCrs level)
+  pub equal : (a b : Crs) (first second : List ℕ) → IsCrs a → IsCrs b →
+      IsCanonicalText level a first → IsCanonicalText level b second →
+      (first ≡ second) ↔ SameCrs level a b
+  pub normal : (crs : Crs) → IsCrs crs → IsNormalText level (item_text (item_crs (norm_crs level crs)))
+  pub accepted : (crs : Crs) → IsCrs crs →
+      Spells (item_text (item_crs (norm_crs level crs))) (norm_crs level crs)
+  pub one_form : (crs : Crs) → IsCrs crs → SameCrs level crs (norm_crs level crs)

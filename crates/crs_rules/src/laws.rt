@@ -1,0 +1,182 @@
+//! Laws of forms: calls that do nothing, and whose contracts are the laws.
+ghost use Rattle.std.specs.Prelude.{◌≡◌, ◌↔◌, ℕ, List, true};
+ghost use Rattle.crs_value.specs.SoundCrs.{IsCrs};
+ghost use Rattle.crs_value.specs.SpellsText.{Spells};
+ghost use Rattle.crs_value.specs.Values.{AxisParts};
+ghost use Rattle.crs_value.specs.declared.values.crs.Crs.{Crs};
+ghost use Rattle.crs_value.specs.declared.values.level.Level.{Level};
+ghost use Rattle.crs_normal.specs.DecimalLaws.{DecimalLaws};
+ghost use Rattle.crs_normal.specs.TextLaws.{TextLaws};
+ghost use Rattle.crs_canon.specs.Canonical.{IsCanonicalOf};
+ghost use Rattle.crs_canon.specs.MainTheorem.{IsAccepted, SpellSame};
+ghost use Rattle.crs_rules.specs.LowerLaws.{FormLaws, SetLaws};
+ghost use Rattle.crs_rules.specs.NoRules.{no_rules};
+ghost use Rattle.crs_rules.specs.OrderOfRules.{DifferInOrder};
+ghost use Rattle.crs_rules.specs.ReorderedAxes.{IsCrsReordered};
+ghost use Rattle.crs_rules.specs.Rewritten.{rewritten};
+ghost use Rattle.crs_rules.specs.Rules.{RulesParts, meaning};
+ghost use Rattle.crs_rules.specs.SoundRules.{AreRules};
+ghost use Rattle.crs_rules.specs.SteadyRules.{AreSteady};
+ghost use Rattle.crs_rules.specs.Under.{IsForm, SameUnder};
+
+use crs_canon::laws::{
+    answers_are_equal_where_same, canonical_texts_are_equal_where_same, main_theorem,
+};
+use crs_decimal::laws::{
+    denotes_one, digits_alone, normal_is_one, plain_is_the_one, same_number_is_equivalence,
+    spelled_as_a_run,
+};
+use crs_normal::laws::parts::axes_are_canonical;
+use crs_normal::laws::sets::ordered_lists_stay;
+use crs_normal::laws::texts::{
+    one_form_is_the_same, spelled_crs_is_sound, written_form_is_accepted, written_form_is_normal,
+};
+use crs_same::laws::same_crs_is_equivalence;
+use crs_text::laws::written_items;
+use crs_value::laws::parts::parts_read_once;
+use crs_value::laws::{members_read_once, one_answer};
+
+/// A CRS under rules is all that is asked of a CRS, whatever the texts of axes. Profile.
+pub fn rewritten_crs_is_sound()
+    ensures { (text : AxisParts → List ℕ) (r : RulesParts) (crs : Crs) → AreRules r → IsCrs crs →
+        IsCrs (rewritten text (meaning r) crs) }
+{}
+
+/// Each accepted text has a form under rules, and just one. Profile.
+pub fn accepted_text_has_one_form()
+    ensures there { (r : RulesParts) (level : Level) (text : List ℕ) → AreRules r → IsAccepted text →
+        (bytes : List ℕ) × IsForm r level text bytes }
+    ensures one { (r : RulesParts) (level : Level) (text a b : List ℕ) → AreRules r →
+        IsForm r level text a → IsForm r level text b → a ≡ b }
+{
+    rewritten_crs_is_sound();
+    main_theorem();
+    one_answer();
+    spelled_crs_is_sound();
+    same_crs_is_equivalence();
+    canonical_texts_are_equal_where_same();
+    axes_are_canonical();
+}
+
+/// Texts that are the same at the level have one form under any rules. Profile.
+pub fn same_texts_have_one_form()
+    ensures form { (r : RulesParts) (level : Level) (first second bytes : List ℕ) → SpellSame level first second →
+        IsForm r level first bytes → IsForm r level second bytes }
+    ensures same { (r : RulesParts) (level : Level) (first second : List ℕ) → AreRules r →
+        SpellSame level first second → SameUnder r level first second }
+{
+    accepted_text_has_one_form();
+    main_theorem();
+    answers_are_equal_where_same();
+}
+
+/// A form is accepted, and is its own canonical text. Profile.
+pub fn forms_are_canonical()
+    ensures { (r : RulesParts) (level : Level) (text bytes : List ℕ) → IsForm r level text bytes →
+        IsCanonicalOf level bytes bytes }
+{
+    spelled_crs_is_sound();
+    same_crs_is_equivalence();
+}
+
+/// Being the same under rules is an equivalence of accepted texts. Profile.
+pub fn same_under_rules_is_equivalence()
+    ensures reflexive { (r : RulesParts) (level : Level) (a : List ℕ) → AreRules r → IsAccepted a →
+        SameUnder r level a a }
+    ensures symmetric { (r : RulesParts) (level : Level) (a b : List ℕ) → SameUnder r level a b →
+        SameUnder r level b a }
+    ensures transitive { (r : RulesParts) (level : Level) (a b c : List ℕ) → AreRules r →
+        SameUnder r level a b → SameUnder r level b c → SameUnder r level a c }
+
+    // Answers are equal exactly where the texts are the same under the rules.
+    ensures equal { (r : RulesParts) (level : Level) (first second a b : List ℕ) → AreRules r →
+        IsForm r level first a → IsForm r level second b → (a ≡ b) ↔ SameUnder r level first second }
+{
+    accepted_text_has_one_form();
+}
+
+/// No rules change nothing: forms are canonical texts. Profile.
+pub fn no_rules_give_canonical_texts()
+    ensures { (level : Level) (text bytes : List ℕ) →
+        IsForm no_rules level text bytes ↔ IsCanonicalOf level text bytes }
+{
+    main_theorem();
+    answers_are_equal_where_same();
+    axes_are_canonical();
+}
+
+/// The order of aliases says nothing, where rules are steady. Profile.
+pub fn order_of_rules_is_nothing()
+    ensures { (r s : RulesParts) → DifferInOrder r s → AreSteady r → (level : Level) (text bytes : List ℕ) →
+        IsForm r level text bytes → IsForm s level text bytes }
+{}
+
+/// A form is its own form, where the rules are steady. Profile.
+pub fn forms_are_their_own()
+    ensures { (r : RulesParts) (level : Level) (text bytes : List ℕ) → AreRules r → AreSteady r →
+        IsForm r level text bytes → IsForm r level bytes bytes }
+{
+    set_laws();
+    form_laws();
+}
+
+/// Canonical texts that differ in the order of their axes alone have one form, where this order doesn't count. Profile.
+pub fn order_of_axes_is_nothing()
+    ensures { (r : RulesParts) (level : Level) (first second bytes : List ℕ) (a b : Crs) → AreRules r →
+        r.uncounted.axis_order ≡ true →
+        IsCanonicalOf level first first → IsCanonicalOf level second second → Spells first a → Spells second b →
+        IsCrsReordered a b → IsForm r level first bytes → IsForm r level second bytes }
+{
+    set_laws();
+    form_laws();
+    axes_are_canonical();
+    main_theorem();
+}
+
+// What is known of CRSs in their one form, and of canonical texts, as one fact.
+fn form_laws()
+    ensures { (level : Level) → FormLaws level }
+{
+    spelled_crs_is_sound();
+    one_answer();
+    same_crs_is_equivalence();
+    canonical_texts_are_equal_where_same();
+    written_form_is_normal();
+    written_form_is_accepted();
+    one_form_is_the_same();
+}
+
+// What is known of sets, and of parameters and axes that have one text, as one fact.
+fn set_laws()
+    ensures { SetLaws }
+{
+    ordered_lists_stay();
+    text_laws();
+    decimal_laws();
+    members_read_once();
+    parts_read_once();
+}
+
+// The laws of decimals and texts, as one fact.
+fn text_laws()
+    ensures { TextLaws }
+{
+    written_items();
+    crs_text::laws::one_answer();
+    normal_is_one();
+    plain_is_the_one();
+    spelled_as_a_run();
+    digits_alone();
+}
+
+// The laws of decimals, as one fact.
+fn decimal_laws()
+    ensures { DecimalLaws }
+{
+    denotes_one();
+    digits_alone();
+    normal_is_one();
+    plain_is_the_one();
+    same_number_is_equivalence();
+    spelled_as_a_run();
+}

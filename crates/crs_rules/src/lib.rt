@@ -1,0 +1,16 @@
+//! Rules that say what counts as the same: the form of a text under rules.
+//!
+//! A text's form is the canonical text of the CRS that its canonical text spells, rewritten by the rules. Two texts are
+//! the same under rules where their forms are equal.
+#![tactic(auto)]
+
+mod aliases;
+mod form;
+pub mod laws;
+mod rewriting;
+mod rules;
+mod uncounted;
+
+pub use form::canon_under;
+pub use rules::Rules;
+pub use uncounted::Uncounted;

@@ -1,0 +1,198 @@
+//! CRSs.
+ghost use Rattle.std.specs.Prelude.{◌≡◌, ◌&&◌, OnOk};
+ghost use Rattle.std.specs.List.{list_all};
+ghost use Rattle.std.specs.Option.{is_some};
+ghost use Rattle.crs_value.specs.declared.values.level.Level.TheVariants as levels;
+ghost use Rattle.crs_normal.specs.PartTexts.{axis_text};
+ghost use Rattle.crs_rules.specs.Rewritten.{across, base, compound, counted, geodetic, geoid_models, has_own_unit, is_idle, named};
+ghost use Rattle.crs_rules.specs.Rewritten.{projected, renamed, rewritten, units, vertical};
+ghost use Rattle.crs_rules.specs.Rules.{meaning};
+
+use crate::aliases::first_name;
+use crate::rewriting::frames::{dynamics, geodetic_frame, optional_meridian, vertical_frame};
+use crate::rewriting::order::arrange_crs;
+use crate::rewriting::parts::{conversion, counted_name, optional_unit};
+use crate::rewriting::systems::system;
+use crate::rewriting::usages::tail;
+use crate::rules::{Rules, rules_are_sound};
+use crs_shape::Class;
+use crs_value::{
+    Base, Change, Compound, Crs, Geodetic, GeoidModel, Horizontal, List, Meridian, Parameter,
+    Projected, Unit, Vertical,
+};
+use std::alloc::{AllocError, Global};
+
+fn geodetic<'a>(alloc: Global, value: &mut Geodetic<'a>, rules: &'a Rules)
+    ensures { value.new ≡ geodetic (meaning rules.now) value.old }
+{
+    rules_are_sound(rules);
+    value.name = counted_name(rules.uncounted.crs_names, value.name);
+    dynamics(&mut value.dynamic, rules);
+    geodetic_frame(alloc, &mut value.frame, rules);
+    optional_meridian(&mut value.meridian, rules);
+    system(&mut value.system, rules);
+    tail(&mut value.tail, rules);
+}
+
+// Whether the longitude of a prime meridian isn't in the unit of the base CRS: it is 0, or has its own.
+fn has_own_unit(meridian: &Option<Meridian<'_>>) -> bool
+    ensures { result ≡ has_own_unit meridian.now }
+{
+    match meridian {
+        None => true,
+        Some(meridian) => meridian.longitude.is_zero() || meridian.unit.is_some(),
+    }
+}
+
+fn have_own_units(parameters: &[Parameter<'_>]) -> bool
+    ensures { result ≡ list_all (λ p. is_some p.unit) parameters.now }
+{
+    for parameter in parameters {
+        if parameter.unit.is_none() {
+            return false;
+        }
+    }
+    true
+}
+
+// Whether the unit of a base CRS says nothing: its prime meridian and these parameters have their own.
+fn is_idle(meridian: &Option<Meridian<'_>>, parameters: &[Parameter<'_>]) -> bool
+    ensures { result ≡ is_idle meridian.now parameters.now }
+{
+    has_own_unit(meridian) && have_own_units(parameters)
+}
+
+// The unit of a base CRS, unless it doesn't count.
+fn base_unit<'a>(unit_or_none: &mut Option<Unit<'a>>, idle: bool, rules: &'a Rules)
+    ensures { unit_or_none.new ≡ counted (rules.now.uncounted.base_units && idle)
+        (units (meaning rules.now) unit_or_none.old) }
+{
+    if rules.uncounted.base_units && idle {
+        *unit_or_none = None;
+    } else {
+        optional_unit(unit_or_none, rules);
+    }
+}
+
+fn base<'a>(alloc: Global, value: &mut Base<'a>, idle: bool, rules: &'a Rules)
+    ensures { value.new ≡ base (meaning rules.now) idle value.old }
+{
+    rules_are_sound(rules);
+    value.name = counted_name(rules.uncounted.base_names, value.name);
+    dynamics(&mut value.dynamic, rules);
+    geodetic_frame(alloc, &mut value.frame, rules);
+    optional_meridian(&mut value.meridian, rules);
+    base_unit(&mut value.unit, idle, rules);
+}
+
+// Whether the unit of the base CRS says nothing.
+fn has_idle_base(value: &Projected<'_>) -> bool
+    ensures { result ≡ is_idle value.now.base.meridian value.now.conversion.parameters }
+{
+    is_idle(&value.base.meridian, value.conversion.parameters.as_slice())
+}
+
+fn projected<'a>(alloc: Global, value: &mut Projected<'a>, rules: &'a Rules)
+    ensures { value.new ≡ projected (meaning rules.now) value.old }
+{
+    rules_are_sound(rules);
+    let idle = has_idle_base(value);
+    value.name = counted_name(rules.uncounted.crs_names, value.name);
+    base(alloc, &mut value.base, idle, rules);
+    conversion(&mut value.conversion, rules);
+    system(&mut value.system, rules);
+    tail(&mut value.tail, rules);
+}
+
+fn geoid_model<'a>(value: &mut GeoidModel<'a>, rules: &'a Rules)
+    ensures { value.new ≡ named (meaning rules.now) Class.GeoidModel value.old }
+{
+    value.name = first_name(rules.names.as_slice(), Class::GeoidModel, value.name);
+}
+
+// The geoid models of a vertical CRS under rules.
+#[derive(Drop)]
+struct GeoidModels<'a> {
+    rules: &'a Rules,
+}
+
+impl<'a> Change<GeoidModel<'a>> for GeoidModels<'a> {
+    ghost use Rattle.crs_shape.specs.declared.class.Class.TheVariants as classes;
+    ghost use Rattle.crs_rules.specs.Rewritten.{named};
+    ghost use Rattle.crs_rules.specs.Rules.{meaning};
+
+    ghost changed = { λ c m. named (meaning c.rules.now) classes.GeoidModel m };
+
+    fn change(&self, value: &mut GeoidModel<'a>) {
+        geoid_model(value, self.rules);
+    }
+}
+
+fn geoid_models<'a>(models: &mut List<GeoidModel<'a>>, rules: &'a Rules)
+    ensures { models.new ≡ geoid_models (meaning rules.now) models.old }
+{
+    if rules.uncounted.geoid_models {
+        models.clear();
+    } else {
+        models.change_each(&GeoidModels { rules });
+    }
+}
+
+fn vertical<'a>(alloc: Global, value: &mut Vertical<'a>, rules: &'a Rules)
+    ensures { value.new ≡ vertical (meaning rules.now) value.old }
+{
+    rules_are_sound(rules);
+    value.name = counted_name(rules.uncounted.crs_names, value.name);
+    dynamics(&mut value.dynamic, rules);
+    vertical_frame(alloc, &mut value.frame, rules);
+    system(&mut value.system, rules);
+    geoid_models(&mut value.geoid_models, rules);
+    tail(&mut value.tail, rules);
+}
+
+// The horizontal part of a compound CRS.
+fn across<'a>(alloc: Global, horizontal: &mut Horizontal<'a>, rules: &'a Rules)
+    ensures { horizontal.new ≡ across (meaning rules.now) horizontal.old }
+{
+    match horizontal {
+        Horizontal::Geodetic(found) => geodetic(alloc, found, rules),
+        Horizontal::Projected(found) => projected(alloc, found, rules),
+    }
+}
+
+fn compound<'a>(alloc: Global, value: &mut Compound<'a>, rules: &'a Rules)
+    ensures { value.new ≡ compound (meaning rules.now) value.old }
+{
+    rules_are_sound(rules);
+    value.name = counted_name(rules.uncounted.crs_names, value.name);
+    across(alloc, &mut value.horizontal, rules);
+    vertical(alloc, &mut value.vertical, rules);
+    tail(&mut value.tail, rules);
+}
+
+// A CRS under rules, but for the order of its axes.
+fn rename<'a>(alloc: Global, crs: &mut Crs<'a>, rules: &'a Rules)
+    ensures { crs.new ≡ renamed (meaning rules.now) crs.old }
+{
+    match crs {
+        Crs::Geodetic(found) => geodetic(alloc, found, rules),
+        Crs::Projected(found) => projected(alloc, found, rules),
+        Crs::Vertical(found) => vertical(alloc, found, rules),
+        Crs::Compound(found) => compound(alloc, found, rules),
+    }
+}
+
+// A CRS under rules. Out of memory nothing is said of it.
+pub(crate) fn rewrite<'a>(
+    alloc: Global,
+    crs: &mut Crs<'a>,
+    rules: &'a Rules,
+) -> Result<(), AllocError>
+    ensures { OnOk result (crs.new ≡ rewritten (axis_text levels.Full) (meaning rules.now) crs.old) }
+{
+    rename(alloc, crs, rules);
+    if rules.uncounted.axis_order {
+        arrange_crs(alloc, crs)?;
+    }
+    Ok(())
+}

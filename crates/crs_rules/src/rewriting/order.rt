@@ -1,0 +1,183 @@
+//! Axes whose order doesn't count: they are put in order of their texts.
+ghost use Rattle.std.specs.Prelude.{◌≡◌, ◌≢◌, ◌<◌, ◌+◌, ◌↔◌, [], IfOk, IsFalse, IsTrue, List, OnErr, OnOk, length, map, ℕ};
+ghost use Rattle.std.specs.Cmp.Lexicographic.{slice_cmp};
+ghost use Rattle.std.specs.List.{slice_index_or, swap};
+ghost use Rattle.std.specs.Ordering.{nat_cmp};
+ghost use Rattle.std.specs.declared.cmp.Ordering.TheVariants.{Greater};
+ghost use Rattle.crs_value.specs.declared.values.level.Level.TheVariants as levels;
+ghost use Rattle.crs_normal.specs.PartTexts.{axis_text};
+ghost use Rattle.crs_rules.specs.Rewritten.{arranged, arranged_across, arranged_compound, arranged_crs};
+ghost use Rattle.crs_rules.specs.Rewritten.{arranged_geodetic, arranged_projected, arranged_vertical, ascending};
+ghost use Rattle.crs_rules.specs.Sinking.{IsOrderless, IsOrderlessAcross, IsOrderlessCrs, sunk_from};
+
+use crs_canon::Canonical;
+use crs_value::{
+    Axis, Compound, Crs, Geodetic, Horizontal, Level, List, Projected, System, Vertical,
+};
+use std::alloc::{AllocError, Global};
+use std::cmp::Ordering;
+use std::marker::Model;
+
+// The text of an axis.
+#[derive(Drop)]
+struct AxisText {
+    bytes: Vec<u8>,
+}
+
+impl Model for AxisText {
+    ghost use Rattle.std.specs.Prelude.{ℕ, List};
+
+    ghost Value = { List ℕ };
+
+    ghost view = { λ text. text.bytes.items };
+}
+
+impl AxisText {
+    fn is_above(&self, other: &AxisText) -> bool
+        ensures { IsTrue result ↔ (slice_cmp nat_cmp self.now other.now ≡ Greater) }
+    {
+        match self.bytes.as_slice().cmp(other.bytes.as_slice()) {
+            Ordering::Greater => true,
+            Ordering::Less | Ordering::Equal => false,
+        }
+    }
+}
+
+fn text_of(alloc: Global, axis: &Axis<'_>) -> Result<AxisText, AllocError>
+    ensures { IfOk result (λ text. text ≡ axis_text levels.Full axis.now) }
+{
+    axis.laws();
+    let mut bytes = Vec::new(alloc);
+    axis.write(alloc, Level::Full, &mut bytes)?;
+    Ok(AxisText { bytes })
+}
+
+fn texts_of(alloc: Global, axes: &[Axis<'_>]) -> Result<Vec<AxisText>, AllocError>
+    ensures { IfOk result (λ texts. texts.items ≡ map (axis_text levels.Full) axes.now) }
+{
+    let mut texts = Vec::new(alloc);
+    for axis in axes {
+        texts.push(text_of(alloc, axis)?)?;
+    }
+    Ok(texts)
+}
+
+// Puts the axes at this place and at the next in each other's place, and their texts.
+fn exchange(axes: &mut List<Axis<'_>>, texts: &mut Vec<AxisText>, at: usize)
+    requires texts { texts.old.items ≡ map (axis_text levels.Full) axes.old }
+    requires at { at + 1 < length axes.old }
+    ensures axes { axes.new ≡ swap axes.old at (at + 1) }
+    ensures texts { texts.new.items ≡ map (axis_text levels.Full) axes.new }
+{
+    axes.swap(at, at + 1);
+    texts.swap(at, at + 1);
+}
+
+// Whether the text at this place is above the next one.
+fn is_above_next(texts: &[AxisText], at: usize) -> bool
+    ensures yes { IsTrue result → (at + 1 < length texts.now) × ((d : List ℕ) →
+        slice_cmp nat_cmp (slice_index_or texts.now at d) (slice_index_or texts.now (at + 1) d) ≡ Greater) }
+    ensures no { IsFalse result → at + 1 < length texts.now → (d : List ℕ) →
+        slice_cmp nat_cmp (slice_index_or texts.now at d) (slice_index_or texts.now (at + 1) d) ≢ Greater }
+{
+    if at < texts.len() && at + 1 < texts.len() {
+        texts[at].is_above(&texts[at + 1])
+    } else {
+        false
+    }
+}
+
+// Puts the axis at this place where it belongs among those behind it, which are in order of their texts.
+fn sink(axes: &mut List<Axis<'_>>, texts: &mut Vec<AxisText>, from: usize)
+    requires texts { texts.old.items ≡ map (axis_text levels.Full) axes.old }
+    requires from { from < length axes.old }
+    ensures axes { axes.new ≡ sunk_from (axis_text levels.Full) from axes.old }
+    ensures texts { texts.new.items ≡ map (axis_text levels.Full) axes.new }
+{
+    let mut at = from;
+    while is_above_next(texts.as_slice(), at) {
+        exchange(axes, texts, at);
+        at += 1;
+    }
+}
+
+// Puts axes in order of their texts.
+fn sort(axes: &mut List<Axis<'_>>, texts: &mut Vec<AxisText>)
+    requires { texts.old.items ≡ map (axis_text levels.Full) axes.old }
+    ensures { axes.new ≡ ascending (axis_text levels.Full) axes.old }
+{
+    let mut from = axes.as_slice().len();
+    while from > 0 {
+        from -= 1;
+        sink(axes, texts, from);
+    }
+}
+
+// Puts the axes of a system that have no orders in order of their texts.
+fn arrange(alloc: Global, system: &mut System<'_>) -> Result<(), AllocError>
+    requires { IsOrderless system.old }
+    ensures ok { OnOk result (system.new ≡ arranged (axis_text levels.Full) system.old) }
+    ensures err { OnErr result (system.new ≡ system.old) }
+{
+    let mut texts = texts_of(alloc, system.axes.as_slice())?;
+    sort(&mut system.axes, &mut texts);
+    Ok(())
+}
+
+fn arrange_geodetic(alloc: Global, value: &mut Geodetic<'_>) -> Result<(), AllocError>
+    requires { IsOrderless value.old.system }
+    ensures ok { OnOk result (value.new ≡ arranged_geodetic (axis_text levels.Full) value.old) }
+    ensures err { OnErr result (value.new ≡ value.old) }
+{
+    arrange(alloc, &mut value.system)
+}
+
+fn arrange_projected(alloc: Global, value: &mut Projected<'_>) -> Result<(), AllocError>
+    requires { IsOrderless value.old.system }
+    ensures ok { OnOk result (value.new ≡ arranged_projected (axis_text levels.Full) value.old) }
+    ensures err { OnErr result (value.new ≡ value.old) }
+{
+    arrange(alloc, &mut value.system)
+}
+
+fn arrange_vertical(alloc: Global, value: &mut Vertical<'_>) -> Result<(), AllocError>
+    requires { IsOrderless value.old.system }
+    ensures ok { OnOk result (value.new ≡ arranged_vertical (axis_text levels.Full) value.old) }
+    ensures err { OnErr result (value.new ≡ value.old) }
+{
+    arrange(alloc, &mut value.system)
+}
+
+// The horizontal part of a compound CRS.
+fn arrange_across(alloc: Global, horizontal: &mut Horizontal<'_>) -> Result<(), AllocError>
+    requires { IsOrderlessAcross horizontal.old }
+    ensures ok { OnOk result (horizontal.new ≡ arranged_across (axis_text levels.Full) horizontal.old) }
+    ensures err { OnErr result (horizontal.new ≡ horizontal.old) }
+{
+    match horizontal {
+        Horizontal::Geodetic(found) => arrange_geodetic(alloc, found),
+        Horizontal::Projected(found) => arrange_projected(alloc, found),
+    }
+}
+
+fn arrange_compound(alloc: Global, value: &mut Compound<'_>) -> Result<(), AllocError>
+    requires across { IsOrderlessAcross value.old.horizontal }
+    requires vertical { IsOrderless value.old.vertical.system }
+    ensures { OnOk result (value.new ≡ arranged_compound (axis_text levels.Full) value.old) }
+{
+    arrange_across(alloc, &mut value.horizontal)?;
+    arrange_vertical(alloc, &mut value.vertical)
+}
+
+// Puts the axes of a CRS that have no orders in order of their texts. Out of memory nothing is said of it.
+pub(super) fn arrange_crs(alloc: Global, crs: &mut Crs<'_>) -> Result<(), AllocError>
+    requires { IsOrderlessCrs crs.old }
+    ensures { OnOk result (crs.new ≡ arranged_crs (axis_text levels.Full) crs.old) }
+{
+    match crs {
+        Crs::Geodetic(found) => arrange_geodetic(alloc, found),
+        Crs::Projected(found) => arrange_projected(alloc, found),
+        Crs::Vertical(found) => arrange_vertical(alloc, found),
+        Crs::Compound(found) => arrange_compound(alloc, found),
+    }
+}

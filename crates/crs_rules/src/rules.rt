@@ -1,0 +1,137 @@
+//! Rules.
+ghost use Rattle.std.specs.Prelude.{◌≡◌, ◌++◌, ◌∷◌, [], IfOk, OnErr, OnOk};
+ghost use Rattle.crs_value.specs.BadValue.{IsAboveZero};
+ghost use Rattle.crs_value.specs.Sound.{IsText};
+ghost use Rattle.crs_rules.specs.NoRules.{no_rules};
+ghost use Rattle.crs_rules.specs.SoundRules.{AreRules};
+
+use crate::aliases::{NameAlias, UnitAlias};
+use crate::uncounted::Uncounted;
+use crs_decimal::Decimal;
+use crs_shape::Class;
+use crs_value::UnitKind;
+use std::alloc::{AllocError, Global};
+use std::marker::Model;
+
+/// Rules: names and units that count as others, and what doesn't count. Profile.
+#[derive(Drop)]
+pub struct Rules {
+    pub(crate) names: Vec<NameAlias>,
+    pub(crate) units: Vec<UnitAlias>,
+    pub(crate) uncounted: Uncounted,
+}
+
+impl Model for Rules {
+    ghost use Rattle.crs_rules.specs.Rules.{RulesParts};
+    ghost use Rattle.crs_rules.specs.SoundRules.{AreRules};
+
+    ghost Value = { RulesParts };
+
+    ghost view = { λ r. record { names = r.names.items; units = r.units.items; uncounted = r.uncounted } };
+
+    ghost invariant = { λ r. AreRules (view r) };
+}
+
+impl Rules {
+    /// No rules: everything counts. They take no memory.
+    pub fn new(alloc: Global) -> Rules
+        ensures { result ≡ no_rules }
+    {
+        Rules {
+            names: Vec::new(alloc),
+            units: Vec::new(alloc),
+            uncounted: Uncounted::nothing(),
+        }
+    }
+
+    /// What doesn't count.
+    pub fn uncounted(&self) -> Uncounted
+        ensures { result ≡ self.now.uncounted }
+    {
+        self.uncounted
+    }
+
+    /// Sets what doesn't count.
+    pub fn set_uncounted(&mut self, uncounted: Uncounted)
+        ensures { self.new ≡ record self.old { uncounted = uncounted } }
+    {
+        self.uncounted = uncounted;
+    }
+
+    /// In nodes of this class the name `alias` counts as `name`, which is written for it. Of two that have one alias the
+    /// first holds.
+    ///
+    /// `AllocError`: there is no memory for it, and the rules are as before.
+    pub fn alias_name(
+        &mut self,
+        alloc: Global,
+        class: Class,
+        alias: &[u8],
+        name: &[u8],
+    ) -> Result<(), AllocError>
+        requires { IsText name.now }
+        ensures ok { OnOk result (self.new ≡ record self.old {
+          names = self.old.names ++ record { class = class; alias = alias.now; name = name.now } ∷ [];
+        }) }
+        ensures err { OnErr result (self.new ≡ self.old) }
+    {
+        let alias = copied(alloc, alias)?;
+        let name = copied(alloc, name)?;
+        self.names.push(NameAlias { class, alias, name })?;
+        Ok(())
+    }
+
+    /// In units of this kind the name `alias` with the factor `alias_factor` counts as the name with the factor, which are
+    /// written for it. Of two that have one alias the first holds.
+    ///
+    /// `AllocError`: there is no memory for it, and the rules are as before.
+    pub fn alias_unit(
+        &mut self,
+        alloc: Global,
+        kind: UnitKind,
+        alias: &[u8],
+        alias_factor: Decimal,
+        name: &[u8],
+        factor: Decimal,
+    ) -> Result<(), AllocError>
+        requires text { IsText name.now }
+        requires above_zero { IsAboveZero factor }
+        ensures ok { OnOk result (self.new ≡ record self.old {
+          units = self.old.units ++ record {
+            kind = kind;
+            alias = alias.now;
+            alias_factor = alias_factor;
+            name = name.now;
+            factor = factor;
+          } ∷ [];
+        }) }
+        ensures err { OnErr result (self.new ≡ self.old) }
+    {
+        let _normal = (alias_factor.is_negative(), factor.is_negative());
+        let alias = copied(alloc, alias)?;
+        let name = copied(alloc, name)?;
+        self.units.push(UnitAlias {
+            kind,
+            alias,
+            alias_factor,
+            name,
+            factor,
+        })?;
+        Ok(())
+    }
+}
+
+// All that is asked of rules. The call does nothing.
+pub(crate) fn rules_are_sound(rules: &Rules)
+    ensures { AreRules rules.now }
+{
+    let _names = &rules.names;
+}
+
+fn copied(alloc: Global, bytes: &[u8]) -> Result<Vec<u8>, AllocError>
+    ensures { IfOk result (λ copy. copy.items ≡ bytes.now) }
+{
+    let mut copy = Vec::new(alloc);
+    copy.extend_from_slice(bytes)?;
+    Ok(copy)
+}

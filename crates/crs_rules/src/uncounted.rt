@@ -1,0 +1,50 @@
+//! What doesn't count.
+ghost use Rattle.std.specs.Prelude.{◌≡◌};
+ghost use Rattle.crs_rules.specs.NoRules.{nothing};
+
+/// What doesn't count, in CRSs that are compared under rules. Profile.
+#[derive(Clone, Copy, Debug)]
+pub struct Uncounted {
+    /// The names of CRSs.
+    pub crs_names: bool,
+    /// The names of base CRSs.
+    pub base_names: bool,
+    /// The names of conversions.
+    pub conversion_names: bool,
+    /// The names of axes.
+    pub axis_names: bool,
+    /// Dynamic parts: the epoch of a frame and its deformation model.
+    pub dynamics: bool,
+    /// Anchors of frames, and their epochs.
+    pub anchors: bool,
+    /// Geoid models.
+    pub geoid_models: bool,
+    /// The unit of a base CRS, where the prime meridian is at 0 or has its own unit and each parameter has its own.
+    /// Elsewhere it says what a longitude or a parameter means, and counts.
+    pub base_units: bool,
+    /// Whether a frame is a datum ensemble: an ensemble counts as the frame of its name, without one ` ensemble` at the
+    /// end, its ellipsoid and its identifiers. Members and accuracy don't count.
+    pub ensembles: bool,
+    /// The order of axes: they are put in order of their texts, without `ORDER`.
+    pub axis_order: bool,
+}
+
+impl Uncounted {
+    /// Everything counts.
+    pub fn nothing() -> Uncounted
+        ensures { result ≡ nothing }
+    {
+        Uncounted {
+            crs_names: false,
+            base_names: false,
+            conversion_names: false,
+            axis_names: false,
+            dynamics: false,
+            anchors: false,
+            geoid_models: false,
+            base_units: false,
+            ensembles: false,
+            axis_order: false,
+        }
+    }
+}
