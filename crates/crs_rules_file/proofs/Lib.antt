@@ -1,0 +1,7 @@
+pub mod FileLemmas
+pub mod MemberLemmas
+pub mod OneLemmas
+pub mod ReaderLemmas
+pub mod SeenLemmas
+pub mod SteadyLemmas
+pub mod WalkLemmas

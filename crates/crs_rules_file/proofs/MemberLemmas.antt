@@ -1,0 +1,63 @@
+-- What nodes say: there is nothing else, and a name is a text.
+use Rattle.std.proofs.Common.{◌≡◌, ◌≢◌, ◌⊎◌, inl, inr, Option, Some, None, ℕ, List, IsTrue, false, subst, ◌∙◌}
+use Rattle.crs_decimal.specs.Bounds.{Denotes}
+use Rattle.crs_decimal.specs.Value.{IsNormal, Value, exact}
+use Rattle.crs_text.specs.Items.{Item, leaf, node, Siblings, End, More, IsNumberOf, first_of, kind_of_item, raw_of, rest_of}
+use Rattle.crs_text.specs.Tokens.{number, text, word}
+use Rattle.crs_text.specs.Written.{AreFormed}
+use Rattle.crs_text.specs.declared.items.ItemKind.{ItemKind}
+use Rattle.crs_text.specs.declared.items.ItemKind.TheVariants as kinds
+use Rattle.crs_shape.specs.declared.class.Class.{Class}
+use Rattle.crs_value.specs.BadValue.{IsAboveZero}
+use Rattle.crs_value.specs.Sound.{IsText}
+use Rattle.crs_value.specs.declared.values.unit_kind.UnitKind.{UnitKind}
+use Rattle.crs_rules_file.specs.Members.{MemberParts, SaysFactor, SaysName, kind_of}
+use Rattle.crs_rules_file.specs.Named.{IsFactor, SaysNamed}
+
+abbrev pub DenotesOne : Type 0
+DenotesOne = (bytes : List ℕ) (a b : Value) → IsNormal a → IsNormal b →
+    Denotes bytes (exact a) → Denotes bytes (exact b) → a ≡ b
+
+-- a number that isn't above zero is no factor
+pub no-factor : DenotesOne → (k : UnitKind) (items : Siblings) (v : Value) → IsNumberOf (first_of items) (Some v)
+    → ¬ (IsAboveZero v) → (f : Value) → ¬ (SaysFactor (Some k) items f)
+no-factor law k End v is low f s = s
+no-factor law k (More item items) v is low f s =
+    low (subst IsAboveZero (law (raw_of item) f v s.1.1 is.1 s.1.2 is.2) s.2)
+
+-- where no factor follows, nothing is said
+pub no-name : (c : Class) (items : Siblings) → ((f : Value) → ¬ (SaysFactor (kind_of c) (rest_of items) f))
+    → (m : MemberParts) → ¬ (SaysNamed c items m)
+no-name c End none m s = s.1
+no-name c (More item items) none m s =
+    none m.factor (subst (λ d. SaysFactor (kind_of d) items m.factor) s.0 s.1.2)
+
+-- no other item is a name
+pub no-text : (items : Siblings) (k : ItemKind) → k ≡ kind_of_item (first_of items) → k ≢ kinds.Text
+    → (m : MemberParts) → ¬ (SaysName items m)
+no-text End k e other m s = s
+no-text (More item items) k e other m s = other (e ∙ s.0)
+
+pub not-text : (k : ItemKind) → ((k ≡ kinds.Number) ⊎ ((k ≡ kinds.Word) ⊎ (k ≡ kinds.Node))) → k ≢ kinds.Text
+not-text kinds.Number h e = cc
+not-text kinds.Text (inl h) e = cc
+not-text kinds.Text (inr (inl h)) e = cc
+not-text kinds.Text (inr (inr h)) e = cc
+not-text kinds.Word h e = cc
+not-text kinds.Node h e = cc
+
+-- what is said after a name is a factor, in a unit
+pub is-factor : (o : Option UnitKind) (items : Siblings) (f : Value) → SaysFactor o items f → IsFactor o f
+is-factor None items f s = tt
+is-factor (Some k) End f s = absurd s
+is-factor (Some k) (More item items) f s = s.2
+
+pub false-true : IsTrue false → ⊥
+false-true h = cc
+
+-- a well-formed text is a text
+pub is-text : (item : Item) → AreFormed item → kind_of_item item ≡ kinds.Text → IsText (raw_of item)
+is-text (leaf number place raw) formed e = cc
+is-text (leaf text place raw) formed e = formed
+is-text (leaf word place raw) formed e = cc
+is-text (node place keyword square first others close) formed e = cc

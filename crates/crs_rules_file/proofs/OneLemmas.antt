@@ -1,0 +1,249 @@
+-- Bytes spell rules in one way at most, or are refused in one way at most, and never both.
+use Rattle.std.proofs.Common.{◌≡◌, ℕ, ◌++◌, ◌∷◌, [], List, Bool, IsTrue, IsFalse, Option, None, Some, inl, inr, sym, subst, ap, ◌∙◌, arith, length}
+use Rattle.std.specs.Prelude.{codes}
+use Rattle.std.specs.Str.{str_eq_ignore_ascii_case, str_to_ascii_lowercase}
+use Rattle.std.proofs.lemmas.Slice.Eq.{bytes_eq-Decides}
+use Rattle.crs_decimal.specs.Bounds.{Denotes}
+use Rattle.crs_decimal.specs.Value.{IsNormal, Value, exact}
+use Rattle.crs_text.specs.Items.{Item, Siblings, End, More, arguments, raw_of}
+use Rattle.crs_text.specs.TextFault.{RefusesText, SpellsNode}
+use Rattle.crs_streams.specs.Lines.{AreLines}
+use Rattle.crs_value.specs.Reading.{OneIs}
+use Rattle.crs_value.specs.declared.values.unit_kind.UnitKind.{UnitKind}
+use Rattle.crs_rules.specs.declared.uncounted.Uncounted.{Uncounted}
+use Rattle.crs_rules_file.specs.declared.fault.RulesRefusal.{RulesRefusal}
+use Rattle.crs_rules_file.specs.Members.{MemberParts, Says, SaysFactor, SaysName, kind_of}
+use Rattle.crs_rules_file.specs.RulesFile.{FaultOfLine, Reads, ReadsFile, RefusesFile, is_idle, next}
+use Rattle.crs_rules_file.specs.Statements.{Adds, AddsSet, Drops, FaultOfNode, FaultOfSet, FaultOfStatement, FaultOfWord, FaultOver, IsOfSet, Joins, Over, Reading, States, joined, listed, with_item}
+
+abbrev pub DenotesOne : Type 0
+DenotesOne = (bytes : List ℕ) (a b : Value) → IsNormal a → IsNormal b →
+    Denotes bytes (exact a) → Denotes bytes (exact b) → a ≡ b
+
+-- steps and faults of which there is one at most, at a reading and what is read there
+record Sharp {A : Type 0} (Step : Reading → A → Reading → Type 0) (Fault : Reading → A → RulesRefusal → Type 0) : Type 0 where
+  one : (r s t : Reading) (x : A) → Step r x s → Step r x t → s ≡ t
+  fault : (r : Reading) (x : A) (f g : RulesRefusal) → Fault r x f → Fault r x g → f ≡ g
+  apart : (r s : Reading) (x : A) (f : RulesRefusal) → Step r x s → ¬ (Fault r x f)
+
+over-one : {A : Type 0} (Step : Reading → A → Reading → Type 0) (Fault : Reading → A → RulesRefusal → Type 0) → Sharp Step Fault →
+    (r s t : Reading) (xs : List A) → Over Step r xs s → Over Step r xs t → s ≡ t
+over-one Step Fault h r s t [] a b = sym a ∙ b
+over-one Step Fault h r s t (x ∷ xs) (q, step, more) (p, other, rest) =
+    over-one Step Fault h p s t xs (subst (λ o. Over Step o xs s) (h.one r q p x step other) more) rest
+
+over-fault : {A : Type 0} (Step : Reading → A → Reading → Type 0) (Fault : Reading → A → RulesRefusal → Type 0) → Sharp Step Fault →
+    (r : Reading) (xs : List A) (f g : RulesRefusal) → FaultOver Step Fault r xs f → FaultOver Step Fault r xs g → f ≡ g
+over-fault Step Fault h r [] f g a b = absurd a
+over-fault Step Fault h r (x ∷ xs) f g (inl a) (inl b) = h.fault r x f g a b
+over-fault Step Fault h r (x ∷ xs) f g (inl a) (inr (p, other, rest)) = absurd (h.apart r p x f other a)
+over-fault Step Fault h r (x ∷ xs) f g (inr (q, step, more)) (inl b) = absurd (h.apart r q x g step b)
+over-fault Step Fault h r (x ∷ xs) f g (inr (q, step, more)) (inr (p, other, rest)) =
+    over-fault Step Fault h p xs f g (subst (λ o. FaultOver Step Fault o xs f) (h.one r q p x step other) more) rest
+
+over-apart : {A : Type 0} (Step : Reading → A → Reading → Type 0) (Fault : Reading → A → RulesRefusal → Type 0) → Sharp Step Fault →
+    (r s : Reading) (xs : List A) (f : RulesRefusal) → Over Step r xs s → ¬ (FaultOver Step Fault r xs f)
+over-apart Step Fault h r s [] f a b = b
+over-apart Step Fault h r s (x ∷ xs) f (q, step, more) (inl b) = h.apart r q x f step b
+over-apart Step Fault h r s (x ∷ xs) f (q, step, more) (inr (p, other, rest)) =
+    over-apart Step Fault h p s xs f (subst (λ o. Over Step o xs s) (h.one r q p x step other) more) rest
+
+-- ---- nodes
+
+some-one : {A : Type 0} (o : Option A) (a b : A) → o ≡ Some a → o ≡ Some b → a ≡ b
+some-one o a b p q = some-is a b (sym p ∙ q)
+  where
+    some-is : {A : Type 0} (a b : A) → Some a ≡ Some b → a ≡ b
+    some-is a b e = cc
+
+factor-one : DenotesOne → (o : Option UnitKind) (items : Siblings) (a b : Value) → SaysFactor o items a → SaysFactor o items b → a ≡ b
+factor-one law None items a b p q = p.1 ∙ sym q.1
+factor-one law (Some k) End a b p q = absurd p
+factor-one law (Some k) (More i is) a b p q = law (raw_of i) a b p.1.1 q.1.1 p.1.2 q.1.2
+
+name-one : DenotesOne → (items : Siblings) (m n : MemberParts) → m.class ≡ n.class → SaysName items m → SaysName items n → m ≡ n
+name-one law End m n e p q = absurd p
+name-one law (More i is) m n e p q =
+    let name : m.name ≡ n.name = p.1 ∙ sym q.1 in
+    let factor : m.factor ≡ n.factor =
+    factor-one law (kind_of n.class) is m.factor n.factor (subst (λ c. SaysFactor (kind_of c) is m.factor) e p.2) q.2 in
+    λ i. record { class = e i; name = name i; factor = factor i }
+
+says-one : DenotesOne → (item : Item) (m n : MemberParts) → Says item m → Says item n → m ≡ n
+says-one law item m n p q = name-one law (arguments item) m n (some-one _ m.class n.class p.0 q.0) p.1 q.1
+
+adds-one : DenotesOne → (first : Option MemberParts) (m n : MemberParts) (r s t : Reading) (item : Item) →
+    Adds first m r item s → Adds first n r item t → (m ≡ n) × (s ≡ t)
+adds-one law first m n r s t item p q =
+    let e = says-one law item m n p.says q.says in
+    (e, p.adds ∙ (ap (λ x. record r { seen = r.seen ++ x ∷ []; rules = joined first x r.rules }) e ∙ sym q.adds))
+
+node-fault : DenotesOne → (first : Option MemberParts) (r : Reading) (item : Item) (f g : RulesRefusal) →
+    FaultOfNode first r item f → FaultOfNode first r item g → f ≡ g
+node-fault law first r item f g (inl a) (inl b) = a.0 ∙ sym b.0
+node-fault law first r item f g (inl a) (inr (n, says, b)) = absurd (a.1 n says)
+node-fault law first r item f g (inr (m, says, a)) (inl b) = absurd (b.1 m says)
+node-fault law first r item f g (inr (m, says, inl a)) (inr (n, other, inl b)) = a.0 ∙ sym b.0
+node-fault law first r item f g (inr (m, says, inr a)) (inr (n, other, inr b)) = a.0 ∙ sym b.0
+node-fault law first r item f g (inr (m, says, inl a)) (inr (n, other, inr b)) =
+    absurd (a.1 (subst (IsOfSet first) (says-one law item n m other says) b.1))
+node-fault law first r item f g (inr (m, says, inr a)) (inr (n, other, inl b)) =
+    absurd (b.1 (subst (IsOfSet first) (says-one law item m n says other) a.1))
+
+node-apart : DenotesOne → (first : Option MemberParts) (m : MemberParts) (r s : Reading) (item : Item) (f : RulesRefusal) →
+    Adds first m r item s → ¬ (FaultOfNode first r item f)
+node-apart law first m r s item f p (inl a) = a.1 m p.says
+node-apart law first m r s item f p (inr (n, says, inl a)) = a.1 (subst (IsOfSet first) (says-one law item m n p.says says) p.class)
+node-apart law first m r s item f p (inr (n, says, inr a)) =
+    p.new (subst (λ x. OneIs (λ k. x ≡ k) r.seen) (says-one law item n m says p.says) a.2)
+
+joins-sharp : DenotesOne → (first : MemberParts) → Sharp (Joins first) (FaultOfNode (Some first))
+joins-sharp law first = record {
+  one = λ r s t x p q. (adds-one law (Some first) p.0 q.0 r s t x p.1 q.1).1;
+  fault = λ r x f g. node-fault law (Some first) r x f g;
+  apart = λ r s x f p. node-apart law (Some first) p.0 r s x f p.1;
+}
+
+set-one : DenotesOne → (r s t : Reading) (items : Siblings) → AddsSet r items s → AddsSet r items t → s ≡ t
+set-one law r s t End a b = absurd a
+set-one law r s t (More x xs) (m, q, adds, over) (n, p, other, rest) =
+    let e = adds-one law None m n r q p x adds other in
+    over-one (Joins n) (FaultOfNode (Some n)) (joins-sharp law n) p s t (listed xs)
+    (subst (λ o. Over (Joins o) p (listed xs) s) e.0 (subst (λ o. Over (Joins m) o (listed xs) s) e.1 over)) rest
+
+set-fault : DenotesOne → (r : Reading) (items : Siblings) (f g : RulesRefusal) → FaultOfSet r items f → FaultOfSet r items g → f ≡ g
+set-fault law r End f g a b = absurd a
+set-fault law r (More x xs) f g (inl a) (inl b) = node-fault law None r x f g a b
+set-fault law r (More x xs) f g (inl a) (inr (n, p, other, rest)) = absurd (node-apart law None n r p x f other a)
+set-fault law r (More x xs) f g (inr (m, q, adds, over)) (inl b) = absurd (node-apart law None m r q x g adds b)
+set-fault law r (More x xs) f g (inr (m, q, adds, over)) (inr (n, p, other, rest)) =
+    let e = adds-one law None m n r q p x adds other in
+    over-fault (Joins n) (FaultOfNode (Some n)) (joins-sharp law n) p (listed xs) f g
+    (subst (λ o. FaultOver (Joins o) (FaultOfNode (Some o)) p (listed xs) f) e.0
+    (subst (λ o. FaultOver (Joins m) (FaultOfNode (Some m)) o (listed xs) f) e.1 over)) rest
+
+set-apart : DenotesOne → (r s : Reading) (items : Siblings) (f : RulesRefusal) → AddsSet r items s → ¬ (FaultOfSet r items f)
+set-apart law r s End f a b = b
+set-apart law r s (More x xs) f (m, q, adds, over) (inl b) = node-apart law None m r q x f adds b
+set-apart law r s (More x xs) f (m, q, adds, over) (inr (n, p, other, rest)) =
+    let e = adds-one law None m n r q p x adds other in
+    over-apart (Joins n) (FaultOfNode (Some n)) (joins-sharp law n) p s (listed xs) f
+    (subst (λ o. Over (Joins o) p (listed xs) s) e.0 (subst (λ o. Over (Joins m) o (listed xs) s) e.1 over)) rest
+
+-- ---- words
+
+drops-sharp : Sharp Drops FaultOfWord
+drops-sharp = record {
+  one = λ r s t x p q.
+      p.2 ∙ (ap (λ u. record r { rules = record r.rules { uncounted = u } })
+      (some-one (with_item x r.rules.uncounted) p.0 q.0 p.1 q.1) ∙ sym q.2);
+  fault = λ r x f g p q. p.0 ∙ sym q.0;
+  apart = λ r s x f p q. none-some (with_item x r.rules.uncounted) p.0 p.1 q.1;
+}
+  where
+    none-some : (o : Option Uncounted) (u : Uncounted) → o ≡ Some u → o ≡ None → ⊥
+    none-some o u p q = cc
+
+-- ---- statements
+
+apart-words : (raw : List ℕ) → IsTrue (str_eq_ignore_ascii_case (codes "SAME") raw) →
+    ¬ (IsTrue (str_eq_ignore_ascii_case (codes "UNCOUNTED") raw))
+apart-words raw p q =
+    let a = (bytes_eq-Decides (str_to_ascii_lowercase (codes "SAME")) (str_to_ascii_lowercase raw)).0 p in
+    let b = (bytes_eq-Decides (str_to_ascii_lowercase (codes "UNCOUNTED")) (str_to_ascii_lowercase raw)).0 q in
+    let k : ◌≡◌ {A = ℕ} 4 9 = ap length (a ∙ sym b) in
+    omega (arith, k)
+
+true-false : (b : Bool) → IsTrue b → IsFalse b → ⊥
+true-false b p q = cc
+
+statements-sharp : DenotesOne → Sharp States FaultOfStatement
+statements-sharp law = record { one = one; fault = fault; apart = apart }
+  where
+    one : (r s t : Reading) (x : Item) → States r x s → States r x t → s ≡ t
+    one r s t x (inl a) (inl b) = set-one law r s t (arguments x) a.1 b.1
+    one r s t x (inl a) (inr b) = absurd (apart-words (raw_of x) a.0 b.0)
+    one r s t x (inr a) (inl b) = absurd (apart-words (raw_of x) b.0 a.0)
+    one r s t x (inr a) (inr b) = over-one Drops FaultOfWord drops-sharp r s t (listed (arguments x)) a.1 b.1
+
+    fault : (r : Reading) (x : Item) (f g : RulesRefusal) → FaultOfStatement r x f → FaultOfStatement r x g → f ≡ g
+    fault r x f g (inl a) (inl b) = set-fault law r (arguments x) f g a.1 b.1
+    fault r x f g (inl a) (inr (inl b)) = absurd (apart-words (raw_of x) a.0 b.0)
+    fault r x f g (inl a) (inr (inr b)) = absurd (true-false _ a.0 b.1)
+    fault r x f g (inr (inl a)) (inl b) = absurd (apart-words (raw_of x) b.0 a.0)
+    fault r x f g (inr (inl a)) (inr (inl b)) =
+        over-fault Drops FaultOfWord drops-sharp r (listed (arguments x)) f g a.1 b.1
+    fault r x f g (inr (inl a)) (inr (inr b)) = absurd (true-false _ a.0 b.2)
+    fault r x f g (inr (inr a)) (inl b) = absurd (true-false _ b.0 a.1)
+    fault r x f g (inr (inr a)) (inr (inl b)) = absurd (true-false _ b.0 a.2)
+    fault r x f g (inr (inr a)) (inr (inr b)) = a.0 ∙ sym b.0
+
+    apart : (r s : Reading) (x : Item) (f : RulesRefusal) → States r x s → ¬ (FaultOfStatement r x f)
+    apart r s x f (inl a) (inl b) = set-apart law r s (arguments x) f a.1 b.1
+    apart r s x f (inl a) (inr (inl b)) = apart-words (raw_of x) a.0 b.0
+    apart r s x f (inl a) (inr (inr b)) = true-false _ a.0 b.1
+    apart r s x f (inr a) (inl b) = apart-words (raw_of x) b.0 a.0
+    apart r s x f (inr a) (inr (inl b)) = over-apart Drops FaultOfWord drops-sharp r s (listed (arguments x)) f a.1 b.1
+    apart r s x f (inr a) (inr (inr b)) = true-false _ a.0 b.2
+
+-- ---- lines
+
+abbrev pub NodeOne : Type 0
+NodeOne = (bytes : List ℕ) (i j : Item) → SpellsNode bytes i → SpellsNode bytes j → i ≡ j
+
+abbrev pub RefusalOne : Type 0
+RefusalOne = (bytes : List ℕ) (n m place other : ℕ) → RefusesText bytes n place → RefusesText bytes m other → (n ≡ m) × (place ≡ other)
+
+abbrev pub TextApart : Type 0
+TextApart = (bytes : List ℕ) (item : Item) (n place : ℕ) → SpellsNode bytes item → ¬ (RefusesText bytes n place)
+
+lines-sharp : DenotesOne → NodeOne → RefusalOne → TextApart → Sharp Reads FaultOfLine
+lines-sharp law node refusal text = record { one = one; fault = fault; apart = apart }
+  where
+    one : (r s t : Reading) (x : List ℕ) → Reads r x s → Reads r x t → s ≡ t
+    one r s t x (inl a) (inl b) = a.1 ∙ sym b.1
+    one r s t x (inl a) (inr b) = absurd (true-false (is_idle x) a.0 b.0)
+    one r s t x (inr a) (inl b) = absurd (true-false (is_idle x) b.0 a.0)
+    one r s t x (inr (busy, i, p, a)) (inr (other, j, q, b)) =
+        (statements-sharp law).one (next r) s t j (subst (λ o. States (next r) o s) (node x i j p q) a) b
+
+    fault : (r : Reading) (x : List ℕ) (f g : RulesRefusal) → FaultOfLine r x f → FaultOfLine r x g → f ≡ g
+    fault r x f g (busy, inl a) (other, inl b) =
+        let line : f.line ≡ g.line = a.0 ∙ sym b.0 in
+        let e = refusal x f.number g.number f.place g.place a.1 b.1 in
+        let number : f.number ≡ g.number = e.0 in
+        let place : f.place ≡ g.place = e.1 in
+        λ i. record { line = line i; number = number i; place = place i }
+    fault r x f g (busy, inl a) (other, inr (j, q, b)) = absurd (text x j f.number f.place q a.1)
+    fault r x f g (busy, inr (i, p, a)) (other, inl b) = absurd (text x i g.number g.place p b.1)
+    fault r x f g (busy, inr (i, p, a)) (other, inr (j, q, b)) =
+        (statements-sharp law).fault (next r) j f g (subst (λ o. FaultOfStatement (next r) o f) (node x i j p q) a) b
+
+    apart : (r s : Reading) (x : List ℕ) (f : RulesRefusal) → Reads r x s → ¬ (FaultOfLine r x f)
+    apart r s x f (inl a) (other, b) = true-false (is_idle x) a.0 other
+    apart r s x f (inr (busy, i, p, a)) (other, inl b) = text x i f.number f.place p b.1
+    apart r s x f (inr (busy, i, p, a)) (other, inr (j, q, b)) =
+        (statements-sharp law).apart (next r) s j f (subst (λ o. States (next r) o s) (node x i j p q) a) b
+
+-- ---- files
+
+abbrev pub LinesOne : Type 0
+LinesOne = (bytes : List ℕ) (a b : List (List ℕ)) → AreLines bytes a → AreLines bytes b → a ≡ b
+
+pub reads-one : DenotesOne → NodeOne → RefusalOne → TextApart → LinesOne → (r s t : Reading) (bytes : List ℕ) →
+    ReadsFile r bytes s → ReadsFile r bytes t → s ≡ t
+reads-one law node refusal text lines r s t bytes (xs, p, over) (ys, q, other) =
+    over-one Reads FaultOfLine (lines-sharp law node refusal text) (record r { line = 0 }) s t ys
+    (subst (λ o. Over Reads (record r { line = 0 }) o s) (lines bytes xs ys p q) over) other
+
+pub refuses-one : DenotesOne → NodeOne → RefusalOne → TextApart → LinesOne → (r : Reading) (bytes : List ℕ) (f g : RulesRefusal) →
+    RefusesFile r bytes f → RefusesFile r bytes g → f ≡ g
+refuses-one law node refusal text lines r bytes f g (xs, p, a) (ys, q, b) =
+    over-fault Reads FaultOfLine (lines-sharp law node refusal text) (record r { line = 0 }) ys f g
+    (subst (λ o. FaultOver Reads FaultOfLine (record r { line = 0 }) o f) (lines bytes xs ys p q) a) b
+
+pub never-both : DenotesOne → NodeOne → RefusalOne → TextApart → LinesOne → (r s : Reading) (bytes : List ℕ) (f : RulesRefusal) →
+    ReadsFile r bytes s → ¬ (RefusesFile r bytes f)
+never-both law node refusal text lines r s bytes f (xs, p, over) (ys, q, b) =
+    over-apart Reads FaultOfLine (lines-sharp law node refusal text) (record r { line = 0 }) s ys f
+    (subst (λ o. Over Reads (record r { line = 0 }) o s) (lines bytes xs ys p q) over) b

@@ -1,0 +1,27 @@
+-- Items as statements have them.
+use Rattle.std.proofs.Common.{◌≡◌, ℕ, List, MatchResult, Result, Ok, Err, false, inr, refl, subst}
+use Rattle.crs_text.specs.Items.{Item, leaf, node, kind_of_item, raw_of}
+use Rattle.crs_text.specs.TextFault.{SpellsNode}
+use Rattle.crs_text.specs.Tokens.{number, text, word}
+use Rattle.crs_text.specs.declared.items.ItemKind.TheVariants as kinds
+use Rattle.crs_rules.specs.declared.uncounted.Uncounted.{Uncounted}
+use Rattle.crs_rules_file.specs.RulesFile.{FaultOfLine, Reads, is_idle, next}
+use Rattle.crs_rules_file.specs.declared.fault.RulesFault.{RulesFault}
+use Rattle.crs_rules_file.specs.declared.fault.RulesFault.TheVariants as faults
+use Rattle.crs_rules_file.specs.Statements.{FaultOfStatement, IsRefusedBy, Reading, States, with_item, with_word}
+
+pub word-item : (item : Item) (u : Uncounted) → kind_of_item item ≡ kinds.Word → with_word (raw_of item) u ≡ with_item item u
+word-item (leaf number place raw) u e = cc
+word-item (leaf text place raw) u e = cc
+word-item (leaf word place raw) u e = refl
+word-item (node place keyword square first others close) u e = cc
+
+-- what a statement answers, its line answers
+pub statement-line : {A : Type 0} (r : Reading) (line : List ℕ) (item : Item) (q s : Reading) (result : Result A RulesFault)
+    → is_idle line ≡ false → SpellsNode line item → q ≡ next r
+    → MatchResult result (λ _. States q item s) (IsRefusedBy (FaultOfStatement q item))
+    → MatchResult result (λ _. Reads r line s) (IsRefusedBy (FaultOfLine r line))
+statement-line r line item q s (Ok a) busy spells e h = inr (busy, item, spells, subst (λ p. States p item s) e h)
+statement-line r line item q s (Err (faults.Memory a)) busy spells e h = tt
+statement-line r line item q s (Err (faults.Refused f)) busy spells e h =
+    (busy, inr (item, spells, subst (λ p. FaultOfStatement p item f) e h))

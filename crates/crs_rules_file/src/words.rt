@@ -1,0 +1,86 @@
+//! The words of what doesn't count.
+ghost use Rattle.std.specs.Prelude.{◌≡◌};
+ghost use Rattle.std.specs.Str.{str_eq_ignore_ascii_case};
+ghost use Rattle.crs_text.specs.Items.{HasId};
+ghost use Rattle.crs_value.specs.Reading.{item_at};
+ghost use Rattle.crs_rules_file.specs.Statements.{with_item, with_word};
+
+use crs_rules::Uncounted;
+use crs_text::{ItemId, ItemKind, Items};
+
+// Whether a word is this one, letter case aside.
+pub(crate) fn is_word(name: &str, raw: &[u8]) -> bool
+    ensures { result ≡ str_eq_ignore_ascii_case name.now raw.now }
+{
+    name.as_bytes().eq_ignore_ascii_case(raw)
+}
+
+// What doesn't count, with what a word names; `None` where it names nothing.
+fn with_word(raw: &[u8], uncounted: Uncounted) -> Option<Uncounted>
+    ensures { result ≡ with_word raw.now uncounted }
+{
+    if is_word("crsName", raw) {
+        Some(Uncounted {
+            crs_names: true,
+            ..uncounted
+        })
+    } else if is_word("baseName", raw) {
+        Some(Uncounted {
+            base_names: true,
+            ..uncounted
+        })
+    } else if is_word("conversionName", raw) {
+        Some(Uncounted {
+            conversion_names: true,
+            ..uncounted
+        })
+    } else if is_word("axisName", raw) {
+        Some(Uncounted {
+            axis_names: true,
+            ..uncounted
+        })
+    } else if is_word("dynamic", raw) {
+        Some(Uncounted {
+            dynamics: true,
+            ..uncounted
+        })
+    } else if is_word("anchor", raw) {
+        Some(Uncounted {
+            anchors: true,
+            ..uncounted
+        })
+    } else if is_word("geoidModel", raw) {
+        Some(Uncounted {
+            geoid_models: true,
+            ..uncounted
+        })
+    } else if is_word("baseUnit", raw) {
+        Some(Uncounted {
+            base_units: true,
+            ..uncounted
+        })
+    } else if is_word("ensemble", raw) {
+        Some(Uncounted {
+            ensembles: true,
+            ..uncounted
+        })
+    } else if is_word("axisOrder", raw) {
+        Some(Uncounted {
+            axis_order: true,
+            ..uncounted
+        })
+    } else {
+        None
+    }
+}
+
+// The same with what an item names, which is a word by itself.
+pub(crate) fn with_item(items: &Items<'_>, id: ItemId, uncounted: Uncounted) -> Option<Uncounted>
+    requires { HasId items.now id }
+    ensures { result ≡ with_item (item_at items.now id) uncounted }
+{
+    match items.kind(id) {
+        ItemKind::Word => with_word(items.raw(id), uncounted),
+        ItemKind::Number | ItemKind::Text | ItemKind::Node => None,
+    }
+}
