@@ -114,7 +114,7 @@ def canon(text: Text, level: Level = "full") -> str:
         number = LEVELS[level]
     except (KeyError, TypeError):
         number = number_of(level)
-    return _library.canon(text if type(text) is bytes else bytes_of(text), number)
+    return _library.canon_bytes(text if type(text) is bytes else bytes_of(text), number).decode()
 
 
 def same(first: Text, second: Text, level: Level = "full") -> bool:
@@ -175,7 +175,7 @@ class Crs:
         self._read_by: Optional[str] = text._read_by if isinstance(text, Crs) else None
         self._text: bytes = text if type(text) is bytes else bytes_of(text)
         try:
-            self._full: str = text._full if isinstance(text, Crs) else _library.canon(self._text, 0)
+            self._full: str = text._full if isinstance(text, Crs) else _library.canon_bytes(self._text, 0).decode()
         except Refused as refused:
             refused.is_of_crs = True
             raise
@@ -272,7 +272,7 @@ class Crs:
     @property
     def _plain(self) -> str:
         """A canonical text without transformations."""
-        return _library.canon(self._text, 0) if self._bound else self._full
+        return _library.canon_bytes(self._text, 0).decode() if self._bound else self._full
 
     @property
     def kind(self) -> str:
@@ -287,7 +287,7 @@ class Crs:
         if number_of(level) == 0:
             return self._full
         if self._definition is None:
-            self._definition = self._with_bound(_library.canon(self._text, 1))
+            self._definition = self._with_bound(_library.canon_bytes(self._text, 1).decode())
         return self._definition
 
     def to_wkt(self, version: str = "WKT2_2019") -> str:
