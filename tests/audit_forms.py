@@ -273,12 +273,13 @@ def verdicts_of_the_registry() -> None:
         (rd.replace("RD New", "RD Old"), Verdict.OTHER_NAME, "EPSG:28992"),
         (zone.replace("zone 31N", "zone 32N"), Verdict.OTHER_NAME, "EPSG:32631"),
         (rd.replace("28992", "99999"), Verdict.UNKNOWN_CODE, "EPSG:99999"),
+        (rd.replace('ID["EPSG",28992]', 'ID["OURS",7]'), Verdict.SAME, "EPSG:28992"),
         (HEIGHT, Verdict.UNIDENTIFIED, ""),
     ):
         crs = Crs(text)
         found = registry.registered(registry.Asked(str(crs), crs.name, crs.identifiers))
         assert (found.verdict, found.identifier) == (verdict, identifier), (found, text)
-        assert found.is_own == bool(crs.identifiers)
+        assert found.is_own == any(it.startswith("EPSG:") for it in crs.identifiers)
         if not found.is_own and found.identifier:
             assert found.confidence > 0 and found.identifier in [it.identifier for it in found.guesses]
         if verdict is Verdict.OTHER_NAME:

@@ -23,6 +23,8 @@ CALLS: Dict[str, Tuple[Any, List[Any]]] = {
     "proj_context_set_enable_network": (NUMBER, [HANDLE, NUMBER]),
     "proj_context_set_search_paths": (None, [HANDLE, NUMBER, STRINGS]),
     "proj_log_level": (NUMBER, [HANDLE, NUMBER]),
+    "proj_get_authorities_from_database": (STRINGS, [HANDLE]),
+    "proj_string_list_destroy": (None, [STRINGS]),
     "proj_create": (HANDLE, [HANDLE, WORD]),
     "proj_create_from_database": (HANDLE, [HANDLE, WORD, WORD, NUMBER, NUMBER, STRINGS]),
     "proj_create_from_name": (HANDLE, [HANDLE, WORD, WORD, HANDLE, SIZE, NUMBER, SIZE, STRINGS]),
@@ -104,6 +106,13 @@ class Context:
     def from_definition(self, text: str) -> Any:
         """The object that a text spells; None where there is none."""
         return self.kept(self.calls["proj_create"](self.handle, text.encode()))
+
+    def authorities(self) -> List[str]:
+        """The authorities of the database: EPSG, ESRI, IGNF .."""
+        found = self.calls["proj_get_authorities_from_database"](self.handle)
+        names = list(_foreign.listed(found)) if found else []
+        self.calls["proj_string_list_destroy"](found)
+        return names
 
     def from_code(self, identifier: str) -> Any:
         """The CRS of the database that has an identifier, such as ``EPSG:4326``; None where there is none."""

@@ -13,7 +13,7 @@ from typing import List, NamedTuple, Tuple
 from .. import Crs, Difference, Refused
 from .kinds import Kind, folded, is_placeholder, kind_of
 from .proj import Context, context
-from .tree import tree_of
+from .tree import Node, text_of_node, tree_of
 
 
 class Verdict(enum.Enum):
@@ -84,7 +84,9 @@ class Registered:
 def registered(asked: Asked) -> Registered:
     """What the registry has of a CRS."""
     with context() as proj:
-        own = [it for it in asked.identifiers if ":" in it]
+        # An identifier of an authority that isn't in the registry says nothing there.
+        known = proj.authorities() if asked.identifiers else []
+        own = [it for it in asked.identifiers if it.partition(":")[0] in known]
         for identifier in own:
             made = proj.from_code(identifier)
             if made:
@@ -96,7 +98,7 @@ def registered(asked: Asked) -> Registered:
 
 def identified(proj: Context, asked: Asked) -> Registered:
     """The comparison with the candidate that differs least, of those that differ alike the first."""
-    made = proj.from_definition(asked.text)
+    made = proj.from_definition(without_identifiers(asked.text))
     candidates = proj.candidates_of(made) if made else []
     found = [compared(proj, asked, *it[:1], it.text, it.confidence, False) for it in candidates]
     if not found:
@@ -104,6 +106,12 @@ def identified(proj: Context, asked: Asked) -> Registered:
     best = min(found, key=severity)
     best.guesses = [Guess(it.identifier, it.confidence) for it in candidates]
     return best
+
+
+def without_identifiers(text: str) -> str:
+    """A text without the CRS's own identifiers, which PROJ would look for alone."""
+    whole = tree_of(text)
+    return text_of_node(Node(whole.keyword, [it for it in whole.items if isinstance(it, str) or it.keyword != "ID"]))
 
 
 def severity(found: Registered) -> Tuple[int, int]:
