@@ -74,6 +74,13 @@ impl RulesReader {
     }
 
     /// The rules of all files that were read.
+    pub fn rules(&self) -> &Rules
+        ensures { result.now ≡ self.now.rules }
+    {
+        &self.rules
+    }
+
+    /// The same rules, without what else is known of the files.
     pub fn into_rules(self) -> Rules
         ensures { result ≡ self.rules }
     {
