@@ -12,8 +12,8 @@
    ANSWERS go to places that the caller gives. A text that is answered goes into a buffer of the caller's, `out`, which
    has room for `room` bytes, and its number of bytes into `*length`; no NUL byte is written after it. Where it has
    more bytes than there is room, the call answers CRSDESK_NO_ROOM, writes nothing into the buffer, and `*length` is the
-   room that is needed: make it and call again. Nothing that a call answers must be freed. A catalogue alone holds memory,
-   until crsdesk_catalogue_free.
+   room that is needed: make it and call again. Nothing that a call answers must be freed. Catalogues and rules alone hold
+   memory, until crsdesk_catalogue_free and crsdesk_rules_free.
 
    CODES: each call that can fail returns CRSDESK_OK, or another code below. A call changes at its pointers only what is
    said of the code that it returns.
@@ -23,24 +23,26 @@
    - each text, and each buffer, has as many bytes as the call is told, at most PTRDIFF_MAX; `numbers` of
      crsdesk_catalogue_lines has room for as many numbers;
    - what a call writes to overlaps nothing else that it was given, and no other thread uses it during the call; a text
-     isn't changed during the call. Each call writes to the catalogue that it is given, even one that only asks;
-     crsdesk_catalogue_lines and crsdesk_catalogue_text, which are inline, call others several times, and no other call
-     has the catalogue in between;
+     isn't changed during the call. Each call writes to the catalogue or the rules that it is given, even one that only
+     asks; crsdesk_catalogue_lines, crsdesk_catalogue_text and crsdesk_canon_under, which are inline, call others several
+     times, and no other call has the catalogue or the rules in between;
    - crsdesk_catalogue_new makes a catalogue, even with CRSDESK_NO_LEVEL, before any other call has it, and after
      crsdesk_catalogue_free no other call has it until it is made anew. In between the calls alone read and write its
-     memory, and it isn't copied or moved; crsdesk_catalogue_new over it would lose the memory that it took;
+     memory, and it isn't copied or moved; crsdesk_catalogue_new over it would lose the memory that it took. The same
+     holds of rules, crsdesk_rules_new and crsdesk_rules_free;
    - each thread that calls has 256 kB of stack left;
    - malloc, realloc and free are the C library's, or those of one allocator that aligns as they do;
    - no call is made by a signal handler, nor by a child that a process of several threads has forked.
 
-   THREADS: there is no state but in catalogues, no lock and nothing to set up, so any number of threads may call at
-   once. A catalogue may go from thread to thread, and any thread may free it: it is in one call at a time, and each call
-   is ordered after the one before by a mutex, by the start or the join of a thread, or by a sequentially consistent
-   atomic. `volatile` and relaxed atomics order nothing.
+   THREADS: there is no state but in catalogues and rules, no lock and nothing to set up, so any number of threads may
+   call at once. A catalogue, and rules, may go from thread to thread, and any thread may free them: they are in one call
+   at a time, and each call is ordered after the one before by a mutex, by the start or the join of a thread, or by a
+   sequentially consistent atomic. `volatile` and relaxed atomics order nothing. Threads that use the same rules at once
+   each make their own.
 
    What each call answers is proved of its code, for all texts; this header and the program around the calls are not.
-   The layout of the structs below is compared with the library's when that is built; that crsdesk_catalogue_free gives
-   back all memory is tested. */
+   The layout of the structs below is compared with the library's when that is built; that crsdesk_catalogue_free and
+   crsdesk_rules_free give back all memory is tested. */
 #ifndef CRSDESK_H
 #define CRSDESK_H
 
@@ -272,6 +274,85 @@ static inline uint32_t crsdesk_catalogue_text(struct crsdesk_catalogue *catalogu
 /* Frees all memory that a catalogue took; the struct holds no catalogue then, and crsdesk_catalogue_new may make another
    there. */
 void crsdesk_catalogue_free(struct crsdesk_catalogue *catalogue);
+
+/* Rules: what counts as the same beyond the level, and what doesn't count, read from rules files. They are in memory of
+   the caller's, which holds rules from crsdesk_rules_new until crsdesk_rules_free. What it has inside is the library's.
+   Profile. */
+struct crsdesk_rules {
+    uint64_t hidden[32];
+};
+
+/* What became of a rules file. All but the code is 0 unless that is CRSDESK_REFUSED. */
+struct crsdesk_rules_standing {
+    size_t line;     /* the file's first refused line, counted from 1 */
+    size_t place;    /* where in the line, in bytes from its first, which is 0 */
+    uint64_t number; /* why: 1 to 8 as of a refused text, 41 to 44 of a statement */
+    uint32_t code;
+};
+
+/* Makes no rules: everything counts. They take no memory. */
+void crsdesk_rules_new(struct crsdesk_rules *rules);
+
+/* Adds the rules of one more file, given by its bytes. Of several files the statements count together. The bytes aren't
+   needed after the call. In what is returned the code is
+
+   CRSDESK_OK: they are added.
+   CRSDESK_REFUSED: a line is refused; line, number and place say which and why. There are no rules then, not even those
+       of files before it, as after crsdesk_rules_new.
+   CRSDESK_NO_MEMORY: there are no rules then. The same files may be added again, from the first on. */
+struct crsdesk_rules_standing crsdesk_rules_add(struct crsdesk_rules *rules, const char *file, size_t file_length);
+
+/* How long the form of a text is. */
+struct crsdesk_form {
+    size_t length;                  /* its number of bytes with CRSDESK_OK; else 0 */
+    struct crsdesk_refusal refusal; /* why the text spells no CRS, with CRSDESK_REFUSED; else zeros */
+    uint32_t code;
+};
+
+/* Makes the form of a text under rules, at a level, and keeps it in the rules until the next is made or a file is added:
+   crsdesk_rules_piece has it. crsdesk_canon_under makes it and has it at once.
+
+   CRSDESK_OK: length is its number of bytes.
+   CRSDESK_REFUSED: the text spells no CRS; refusal says why.
+   CRSDESK_NO_MEMORY, CRSDESK_NO_LEVEL.
+   With another code than CRSDESK_OK the form before is still kept. */
+struct crsdesk_form crsdesk_rules_form(struct crsdesk_rules *rules, uint32_t level, const char *text,
+                                       size_t text_length);
+
+/* A piece of the form that is kept: the bytes from an index on, 240 at most. The code is CRSDESK_OK. */
+struct crsdesk_piece crsdesk_rules_piece(struct crsdesk_rules *rules, size_t from);
+
+/* The form of a text under rules, at a level: the canonical text of the CRS that the text's canonical text spells,
+   rewritten by the rules. The forms of two texts are equal, byte for byte, exactly where their CRSs are the same under
+   the rules at the level; without rules it is the canonical text. It is itself accepted, and its own form.
+
+   CRSDESK_OK: the buffer begins with it; *length is its number of bytes.
+   CRSDESK_REFUSED: the text spells none; *refusal says why.
+   CRSDESK_NO_ROOM: it has more bytes than the buffer; *length is their number.
+   CRSDESK_NO_MEMORY, CRSDESK_NO_LEVEL. */
+static inline uint32_t crsdesk_canon_under(const char *text, size_t text_length, uint32_t level,
+                                           struct crsdesk_rules *rules, char *out, size_t room, size_t *length,
+                                           struct crsdesk_refusal *refusal)
+{
+    size_t from = 0;
+    struct crsdesk_form form = crsdesk_rules_form(rules, level, text, text_length);
+    if (form.code == CRSDESK_REFUSED)
+        *refusal = form.refusal;
+    if (form.code != CRSDESK_OK)
+        return form.code;
+    *length = form.length;
+    if (form.length > room)
+        return CRSDESK_NO_ROOM;
+    while (from < form.length) {
+        struct crsdesk_piece piece = crsdesk_rules_piece(rules, from);
+        memcpy(out + from, piece.bytes, piece.length);
+        from += piece.length;
+    }
+    return CRSDESK_OK;
+}
+
+/* Frees all memory that rules took; the struct holds none then, and crsdesk_rules_new may make others there. */
+void crsdesk_rules_free(struct crsdesk_rules *rules);
 
 #ifdef __cplusplus
 }

@@ -1,5 +1,5 @@
-/* Compares crsdesk.h with what the library says of its own layout (src/layout.rt): that a catalogue fits into its struct
-   and is aligned there, and that the other structs have the size of the library's and each field where the library puts
+/* Compares crsdesk.h with what the library says of its own layout (src/layout.rt): that a catalogue and rules fit into
+   their structs and are aligned there, and that the other structs have the size of the library's and each field where the library puts
    it. tools/build_library.py runs it before it makes the libraries, which don't show these calls.
 
    Each struct that differs has a line; the status is 0 where none does. */
@@ -9,7 +9,7 @@
 
 /* Sizes in bytes, as the library has them. */
 struct sizes {
-    size_t catalogue, alignment, refusal, standing, line, piece;
+    size_t catalogue, alignment, rules, rules_alignment, refusal, standing, line, piece, rules_standing, form;
 };
 
 struct sizes crsdesk_layout_sizes(void);
@@ -17,6 +17,8 @@ struct crsdesk_refusal crsdesk_layout_refusal(void);
 struct crsdesk_standing crsdesk_layout_standing(void);
 struct crsdesk_line crsdesk_layout_line(void);
 struct crsdesk_piece crsdesk_layout_piece(void);
+struct crsdesk_rules_standing crsdesk_layout_rules_standing(void);
+struct crsdesk_form crsdesk_layout_form(void);
 
 static int differing;
 
@@ -61,19 +63,37 @@ static int is_marked_piece(struct crsdesk_piece it)
     return it.length == 8888888888888888888u && it.code == 4000000009u;
 }
 
+static int is_marked_rules_standing(struct crsdesk_rules_standing it)
+{
+    return it.line == 1111111111111111112u && it.place == 2222222222222222223u && it.number == 3333333333333333334u
+           && it.code == 4000000010u;
+}
+
+static int is_marked_form(struct crsdesk_form it)
+{
+    return it.length == 5555555555555555556u && is_marked_refusal(it.refusal) && it.code == 4000000011u;
+}
+
+/* Whether what the library keeps in a struct of the caller's has the room and the alignment that it needs. */
+static void holds(const char *name, size_t room, size_t alignment, size_t needed, size_t needed_alignment)
+{
+    if (room < needed) {
+        printf("struct %s has %zu bytes, and the library needs %zu\n", name, room, needed);
+        differing = 1;
+    }
+    if (alignment % needed_alignment != 0) {
+        printf("struct %s is aligned to %zu bytes, and the library needs %zu\n", name, alignment, needed_alignment);
+        differing = 1;
+    }
+}
+
 int main(void)
 {
     struct sizes sizes = crsdesk_layout_sizes();
-    if (sizeof(struct crsdesk_catalogue) < sizes.catalogue) {
-        printf("struct crsdesk_catalogue has %zu bytes, and a catalogue takes %zu\n", sizeof(struct crsdesk_catalogue),
-               sizes.catalogue);
-        differing = 1;
-    }
-    if (_Alignof(struct crsdesk_catalogue) % sizes.alignment != 0) {
-        printf("struct crsdesk_catalogue is aligned to %zu bytes, and a catalogue to %zu\n",
-               _Alignof(struct crsdesk_catalogue), sizes.alignment);
-        differing = 1;
-    }
+    holds("crsdesk_catalogue", sizeof(struct crsdesk_catalogue), _Alignof(struct crsdesk_catalogue), sizes.catalogue,
+          sizes.alignment);
+    holds("crsdesk_rules", sizeof(struct crsdesk_rules), _Alignof(struct crsdesk_rules), sizes.rules,
+          sizes.rules_alignment);
     if (has_size("crsdesk_refusal", sizeof(struct crsdesk_refusal), sizes.refusal))
         marks("crsdesk_refusal", is_marked_refusal(crsdesk_layout_refusal()));
     if (has_size("crsdesk_standing", sizeof(struct crsdesk_standing), sizes.standing))
@@ -82,5 +102,9 @@ int main(void)
         marks("crsdesk_line", is_marked_line(crsdesk_layout_line()));
     if (has_size("crsdesk_piece", sizeof(struct crsdesk_piece), sizes.piece))
         marks("crsdesk_piece", is_marked_piece(crsdesk_layout_piece()));
+    if (has_size("crsdesk_rules_standing", sizeof(struct crsdesk_rules_standing), sizes.rules_standing))
+        marks("crsdesk_rules_standing", is_marked_rules_standing(crsdesk_layout_rules_standing()));
+    if (has_size("crsdesk_form", sizeof(struct crsdesk_form), sizes.form))
+        marks("crsdesk_form", is_marked_form(crsdesk_layout_form()));
     return differing;
 }

@@ -1,6 +1,6 @@
 -- What the calls of a catalogue answer.
 use Rattle.std.specs.Prelude.{◌≡◌, ◌++◌, ◌∷◌, ◌⊎◌, [], ℕ, List, Option, Some, None, MatchOption}
-use Rattle.std.specs.Prelude.{slice_get, length, take, drop}
+use Rattle.std.specs.Prelude.{slice_get}
 use Rattle.std.specs.Option.{option_map}
 use Rattle.crs_value.specs.declared.values.level.Level.{Level}
 use Rattle.crs_value.specs.declared.values.level.Level.TheVariants as level
@@ -9,12 +9,12 @@ use Rattle.crs_group.specs.GroupTexts.{IsCatalogue, IsCatalogueOf, then_line}
 use Rattle.crs_group.specs.Partition.{PlacedLine}
 use Rattle.crs_group.specs.declared.placed.Placed.{Placed}
 use Rattle.crs_group.specs.declared.placed.Placed.TheVariants as placed
-use Rattle.crs_c.specs.declared.refused.Refused.{Refused}
 use Rattle.crs_c.specs.declared.catalogue_answers.Numbered.{Numbered}
-use Rattle.crs_c.specs.declared.catalogue_answers.Piece.{Piece}
+use Rattle.crs_c.specs.declared.piece.Piece.{Piece}
 use Rattle.crs_c.specs.declared.catalogue_answers.Standing.{Standing}
 use Rattle.crs_c.specs.Codes.{level_numbered}
-use Rattle.crs_c.specs.Refusals.{place_and_number}
+use Rattle.crs_c.specs.Pieces.{IsPiece}
+use Rattle.crs_c.specs.Refusals.{no_refusal, place_and_number}
 
 -- the catalogue of no lines at a level
 abbrev pub empty_at : Level → CatalogueParts
@@ -27,10 +27,6 @@ IsMadeEmpty number made code =
     IsCatalogueOf [] made
     × MatchOption (level_numbered number) ((made ≡ empty_at level.Full) × (code ≡ 4))
     (λ l. (made ≡ empty_at l) × (code ≡ 0))
-
--- no refusal
-abbrev pub no_refusal : Refused
-no_refusal = record { place = 0; number = 0 }
 
 -- where a line was placed, as C sees it; group 0 is none
 abbrev pub standing_of : Placed → Standing
@@ -70,16 +66,6 @@ abbrev pub line_at : CatalogueParts → ℕ → ℕ → Numbered
 line_at catalogue group index =
     number_or_none
     (line_of_some (option_map (λ parts. parts.lines) (nth group catalogue.groups)) index)
-
--- the bytes of a text from an index on, 240 at most
-abbrev pub piece_of : List ℕ → ℕ → List ℕ
-piece_of text from = take 240 (drop from text)
-
--- a piece of this text is answered with code 0: its bytes at the front
-unfoldable pub IsPiece : ℕ → Piece → List ℕ → Type 0
-IsPiece from told text =
-    (rest : List ℕ) × (told.code ≡ 0) × (told.length ≡ length (piece_of text from))
-    × (told.bytes ≡ piece_of text from ++ rest)
 
 -- of a group's canonical text; where there is no such group, code 6
 abbrev pub IsPieceAt : CatalogueParts → ℕ → ℕ → Piece → Type 0

@@ -5,24 +5,33 @@ use Rattle.std.specs.Prelude.{replicate}
 use Rattle.crs_c.specs.declared.layout.Sizes.{Sizes}
 use Rattle.crs_c.specs.declared.refused.Refused.{Refused}
 use Rattle.crs_c.specs.declared.catalogue_answers.Numbered.{Numbered}
-use Rattle.crs_c.specs.declared.catalogue_answers.Piece.{Piece}
+use Rattle.crs_c.specs.declared.piece.Piece.{Piece}
 use Rattle.crs_c.specs.declared.catalogue_answers.Standing.{Standing}
+use Rattle.crs_c.specs.declared.rules_answers.Form.{Form}
+use Rattle.crs_c.specs.declared.rules_answers.RulesStanding.{RulesStanding}
 use Rattle.crs_c.specs.contracts.refused.Refused as refused
 use Rattle.crs_c.specs.contracts.catalogue_answers.Standing as standing
 use Rattle.crs_c.specs.contracts.catalogue_answers.Numbered as numbered
-use Rattle.crs_c.specs.contracts.catalogue_answers.Piece as piece
+use Rattle.crs_c.specs.contracts.piece.Piece as piece
+use Rattle.crs_c.specs.contracts.held_rules.HeldRules as held_rules
+use Rattle.crs_c.specs.contracts.rules_answers.Form as form
+use Rattle.crs_c.specs.contracts.rules_answers.RulesStanding as rules_standing
 use Rattle.crs_group.specs.contracts.catalogue.Catalogue as catalogue
 
--- the bytes that a catalogue and each struct takes, and the alignment of a catalogue
+-- the bytes that a catalogue, rules and each struct take, and the alignment of a catalogue and of rules
 abbrev pub sizes : Sizes
 sizes =
     record {
       catalogue = size (layout catalogue.the_row);
       alignment = align (layout catalogue.the_row);
+      rules = size (layout held_rules.the_row);
+      rules_alignment = align (layout held_rules.the_row);
       refusal = size (layout refused.the_row);
       standing = size (layout standing.the_row);
       line = size (layout numbered.the_row);
       piece = size (layout piece.the_row);
+      rules_standing = size (layout rules_standing.the_row);
+      form = size (layout form.the_row);
     }
 
 -- a refusal with a mark in each field
@@ -42,3 +51,17 @@ marked_line = record { number = 5555555555555555555; code = 4000000006 }
 abbrev pub marked_piece : Piece
 marked_piece =
     record { bytes = replicate 240 7; length = 8888888888888888888; code = 4000000009 }
+
+-- what is answered of a rules file, with a mark in each field
+abbrev pub marked_rules_standing : RulesStanding
+marked_rules_standing = record {
+  line = 1111111111111111112;
+  place = 2222222222222222223;
+  number = 3333333333333333334;
+  code = 4000000010;
+}
+
+-- what is answered of a text under rules, with a mark in each field
+abbrev pub marked_form : Form
+marked_form =
+    record { length = 5555555555555555556; refused = marked_refusal; code = 4000000011 }

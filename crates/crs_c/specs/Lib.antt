@@ -7,9 +7,12 @@ pub mod Codes
 pub mod Comparison
 pub mod Explain
 pub mod FirstPart
+pub mod Held
 pub mod Layout
 pub mod Names
 pub mod Pairs
+pub mod Pieces
 pub mod Places
 pub mod Refusals
+pub mod RulesCalls
 pub mod Same

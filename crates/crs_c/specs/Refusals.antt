@@ -3,6 +3,10 @@ use Rattle.std.specs.Prelude.{◌≡◌, ℕ, Option, Some, None}
 use Rattle.crs_text.specs.Refusal.{RefusedAt}
 use Rattle.crs_c.specs.declared.refused.Refused.{Refused}
 
+-- no refusal
+abbrev pub no_refusal : Refused
+no_refusal = record { place = 0; number = 0 }
+
 -- a refusal as C has it: its place and its number
 abbrev pub place_and_number : RefusedAt → Refused
 place_and_number refusal = record { place = refusal.place; number = refusal.number }

@@ -5,8 +5,9 @@ ghost use Rattle.crs_group.specs.Catalogue.{CatalogueParts};
 ghost use Rattle.crs_c.specs.Catalogues.{IsAdded, IsMadeEmpty, IsPieceAt, line_at};
 ghost use Rattle.crs_c.specs.Places.{catalogue_at, has_room};
 
-use crate::catalogue_answers::{Numbered, Piece, Standing};
+use crate::catalogue_answers::{Numbered, Standing};
 use crate::catalogue_calls::{added, counted, cut, let_go, looked_up, made};
+use crate::piece::Piece;
 use crs_group::Catalogue;
 use std::alloc::Global;
 

@@ -1,10 +1,9 @@
 //! Where a text was placed in a catalogue, and numbers of its lines, as C has them.
 ghost use Rattle.std.specs.Prelude.{◌≡◌};
-ghost use Rattle.crs_c.specs.Catalogues.{no_refusal, standing_of};
-ghost use Rattle.crs_c.specs.Refusals.{place_and_number};
+ghost use Rattle.crs_c.specs.Catalogues.{standing_of};
 
 use crate::codes::{OK, REFUSED};
-use crate::refused::{Refused, place_and_number};
+use crate::refused::{Refused, no_refusal, place_and_number};
 use crs_group::Placed;
 
 /// Where a text was placed in a catalogue: `struct crsdesk_standing` of C. Profile.
@@ -27,27 +26,6 @@ pub struct Numbered {
     pub number: u64,
     /// The code.
     pub code: u32,
-}
-
-/// A piece of a text: `struct crsdesk_piece` of C. Profile.
-#[repr(C)]
-#[derive(Drop)]
-pub struct Piece {
-    /// Its bytes at the front.
-    pub bytes: [u8; 240],
-    /// How many.
-    pub length: usize,
-    /// The code.
-    pub code: u32,
-}
-
-pub(crate) fn no_refusal() -> Refused
-    ensures { result ≡ no_refusal }
-{
-    Refused {
-        place: 0,
-        number: 0,
-    }
 }
 
 // What is answered of a line that was added.

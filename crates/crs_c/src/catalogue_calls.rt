@@ -1,9 +1,12 @@
 //! What each call does to a catalogue, which it takes by value and hands back.
-ghost use Rattle.std.specs.Prelude.{◌≡◌, ◌≤◌, length, take, drop};
-ghost use Rattle.crs_c.specs.Catalogues.{IsAdded, IsMadeEmpty, IsPiece, IsPieceAt, line_at};
+ghost use Rattle.std.specs.Prelude.{◌≡◌, length};
+ghost use Rattle.crs_c.specs.Catalogues.{IsAdded, IsMadeEmpty, IsPieceAt, line_at};
 
-use crate::catalogue_answers::{Numbered, Piece, Standing, no_refusal, standing_of};
+use crate::catalogue_answers::{Numbered, Standing, standing_of};
 use crate::codes::{NO_LEVEL, NO_MEMORY, NO_NUMBER, OK, level_numbered};
+use crate::letting_go::let_go_anywhere;
+use crate::piece::{Piece, piece_of};
+use crate::refused::no_refusal;
 use crs_group::Catalogue;
 use crs_value::Level;
 use std::alloc::Global;
@@ -92,48 +95,7 @@ fn piece_at(catalogue: &Catalogue, group: usize, from: usize) -> Piece
     }
 }
 
-fn piece_of(text: &[u8], from: usize) -> Piece
-    ensures { IsPiece from result text.now }
-{
-    let piece = front_of(rest_of(text, from));
-    let mut bytes = [0; 240];
-    let (front, _) = bytes.split_at_mut(piece.len());
-    front.copy_from_slice(piece);
-    Piece {
-        bytes,
-        length: piece.len(),
-        code: OK,
-    }
-}
-
-#[tactic(auto, using(std::proofs::lemmas::List::drop_all))]
-fn rest_of(text: &[u8], from: usize) -> &[u8]
-    ensures { result.now ≡ drop from text.now }
-{
-    if from >= text.len() {
-        return &[];
-    }
-    let (_, rest) = text.split_at(from);
-    rest
-}
-
-fn front_of(text: &[u8]) -> &[u8]
-    ensures value { result.now ≡ take 240 text.now }
-    ensures at_most { length result.now ≤ 240 }
-{
-    if text.len() <= 240 {
-        return text;
-    }
-    let (front, _) = text.split_at(240);
-    front
-}
-
 // Drops a catalogue.
 pub(crate) fn let_go(held: Catalogue) {
     let_go_anywhere(held);
-}
-
-// By this bound the prover shows that another thread than the one that made a catalogue may use and drop it.
-fn let_go_anywhere<T: Send + Drop>(held: T) {
-    drop(held);
 }

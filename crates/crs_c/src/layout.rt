@@ -1,10 +1,14 @@
 //! How the structs that C shares with the library are laid out in memory. `layout.c` compares it with the header when
 //! the library is built; the finished library doesn't export these calls.
 ghost use Rattle.std.specs.Prelude.{◌≡◌};
-ghost use Rattle.crs_c.specs.Layout.{marked_line, marked_piece, marked_refusal, marked_standing, sizes};
+ghost use Rattle.crs_c.specs.Layout.{marked_form, marked_line, marked_piece, marked_refusal};
+ghost use Rattle.crs_c.specs.Layout.{marked_rules_standing, marked_standing, sizes};
 
-use crate::catalogue_answers::{Numbered, Piece, Standing};
+use crate::catalogue_answers::{Numbered, Standing};
+use crate::held_rules::HeldRules;
+use crate::piece::Piece;
 use crate::refused::Refused;
+use crate::rules_answers::{Form, RulesStanding};
 use crs_group::Catalogue;
 use std::mem::{align_of, size_of};
 
@@ -16,6 +20,10 @@ pub struct Sizes {
     pub catalogue: usize,
     /// The alignment that a catalogue needs.
     pub alignment: usize,
+    /// What rules take of `struct crsdesk_rules`.
+    pub rules: usize,
+    /// The alignment that rules need.
+    pub rules_alignment: usize,
     /// `struct crsdesk_refusal`.
     pub refusal: usize,
     /// `struct crsdesk_standing`.
@@ -24,6 +32,10 @@ pub struct Sizes {
     pub line: usize,
     /// `struct crsdesk_piece`.
     pub piece: usize,
+    /// `struct crsdesk_rules_standing`.
+    pub rules_standing: usize,
+    /// `struct crsdesk_form`.
+    pub form: usize,
 }
 
 /// The sizes.
@@ -34,10 +46,14 @@ pub extern "C" fn crsdesk_layout_sizes() -> Sizes
     Sizes {
         catalogue: size_of::<Catalogue>(),
         alignment: align_of::<Catalogue>(),
+        rules: size_of::<HeldRules>(),
+        rules_alignment: align_of::<HeldRules>(),
         refusal: size_of::<Refused>(),
         standing: size_of::<Standing>(),
         line: size_of::<Numbered>(),
         piece: size_of::<Piece>(),
+        rules_standing: size_of::<RulesStanding>(),
+        form: size_of::<Form>(),
     }
 }
 
@@ -84,5 +100,30 @@ pub extern "C" fn crsdesk_layout_piece() -> Piece
         bytes: [7; 240],
         length: 8_888_888_888_888_888_888,
         code: 4_000_000_009,
+    }
+}
+
+/// What is answered of a rules file, with a mark in each field.
+#[unsafe(no_mangle)]
+pub extern "C" fn crsdesk_layout_rules_standing() -> RulesStanding
+    ensures { result ≡ marked_rules_standing }
+{
+    RulesStanding {
+        line: 1_111_111_111_111_111_112,
+        place: 2_222_222_222_222_222_223,
+        number: 3_333_333_333_333_333_334,
+        code: 4_000_000_010,
+    }
+}
+
+/// What is answered of a text under rules, with a mark in each field.
+#[unsafe(no_mangle)]
+pub extern "C" fn crsdesk_layout_form() -> Form
+    ensures { result ≡ marked_form }
+{
+    Form {
+        length: 5_555_555_555_555_555_556,
+        refused: crsdesk_layout_refusal(),
+        code: 4_000_000_011,
     }
 }

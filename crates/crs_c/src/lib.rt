@@ -13,9 +13,15 @@ mod comparison;
 mod differences;
 mod explain;
 mod first_part;
+mod held_rules;
 mod layout;
+mod letting_go;
 mod names;
+mod piece;
 mod refused;
+mod rules;
+mod rules_answers;
+mod rules_calls;
 mod same;
 
 pub use canon::crsdesk_canon;
@@ -23,15 +29,22 @@ pub use catalogue::{
     Room, crsdesk_catalogue_add, crsdesk_catalogue_free, crsdesk_catalogue_groups,
     crsdesk_catalogue_line, crsdesk_catalogue_new, crsdesk_catalogue_piece,
 };
-pub use catalogue_answers::{Numbered, Piece, Standing};
+pub use catalogue_answers::{Numbered, Standing};
 pub use check::crsdesk_check;
 pub use differences::crsdesk_differences;
 pub use explain::crsdesk_explain;
 pub use first_part::crsdesk_first_part;
+pub use held_rules::HeldRules;
 pub use layout::{
-    Sizes, crsdesk_layout_line, crsdesk_layout_piece, crsdesk_layout_refusal, crsdesk_layout_sizes,
-    crsdesk_layout_standing,
+    Sizes, crsdesk_layout_form, crsdesk_layout_line, crsdesk_layout_piece, crsdesk_layout_refusal,
+    crsdesk_layout_rules_standing, crsdesk_layout_sizes, crsdesk_layout_standing,
 };
 pub use names::{crsdesk_refusal_name, crsdesk_version};
+pub use piece::Piece;
 pub use refused::Refused;
+pub use rules::{
+    RulesRoom, crsdesk_rules_add, crsdesk_rules_form, crsdesk_rules_free, crsdesk_rules_new,
+    crsdesk_rules_piece,
+};
+pub use rules_answers::{Form, RulesStanding};
 pub use same::crsdesk_same;

@@ -1,7 +1,7 @@
 //! Refusals as C has them.
 ghost use Rattle.std.specs.Prelude.{◌≡◌};
 ghost use Rattle.crs_text.specs.Fault.{refusal_of};
-ghost use Rattle.crs_c.specs.Refusals.{IsTold, place_and_number};
+ghost use Rattle.crs_c.specs.Refusals.{IsTold, no_refusal, place_and_number};
 
 use crate::codes::NO_MEMORY;
 use crs_text::{Fault, Refusal};
@@ -15,6 +15,15 @@ pub struct Refused {
     pub place: usize,
     /// The number: 1 to 8 of the text, 11 to 13 of a shape, 21 to 29 of a value.
     pub number: u32,
+}
+
+pub(crate) fn no_refusal() -> Refused
+    ensures { result ≡ no_refusal }
+{
+    Refused {
+        place: 0,
+        number: 0,
+    }
 }
 
 pub(crate) fn place_and_number(refusal: Refusal) -> Refused

@@ -11,9 +11,9 @@ use Rattle.crs_c.specs.contracts.catalogue_calls.cut as g
 use Rattle.crs_c.proofs.catalogue_calls.cut.Met.{met}
 use Rattle.crs_group.proofs.catalogue.Catalogue.TheLaws.{the_row_laws}
 use Rattle.crs_c.specs.Catalogues.{IsPieceAt}
-use Rattle.crs_c.specs.contracts.catalogue_answers.Piece as piece
-use Rattle.crs_c.specs.declared.catalogue_answers.Piece.{Piece}
-use Rattle.crs_c.proofs.catalogue_answers.Piece.TheLaws as piece_laws
+use Rattle.crs_c.specs.contracts.piece.Piece as piece
+use Rattle.crs_c.specs.declared.piece.Piece.{Piece}
+use Rattle.crs_c.proofs.piece.Piece.TheLaws as piece_laws
 
 abbrev stayed : Stays f.ended.signature.params f.ended.kept
 stayed = (stay_dropped _ yes, (stay_dropped _ yes, (stay_dropped _ yes, tt)))

@@ -1,6 +1,6 @@
 use Rattle.std.proofs.Common.{◌≡◌, ◌∙◌, ◌++◌, List, ℕ, length, take, ap, refl}
-use Rattle.crs_c.specs.Catalogues.{IsPiece, piece_of}
-use Rattle.crs_c.proofs.catalogue_calls.piece_of.Goals as goal
+use Rattle.crs_c.specs.Pieces.{IsPiece, piece_of}
+use Rattle.crs_c.proofs.piece.piece_of.Goals as goal
 
 pub returns : goal.returns
 unfolding IsPiece

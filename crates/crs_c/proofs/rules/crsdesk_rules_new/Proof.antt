@@ -1,0 +1,64 @@
+use Rattle.crs_c.proofs.Steps.{◌≡◌, List, [], ◌∷◌, ◌++◌, refl, sym, subst, proved_at, full_share, id⊢, ent, ftrue, froom, Val, fact, tables, ‵, raw, ◌⊛◌, some, later, prop, ◌$◌, ◌∵◌, !, qed, done, move, drop, use1, use2, split, join, fsplit, pick, await, rewrite, regoal, suffices, group, enter, of_opd, init, stop, no_more, and_then, assigns, returns, alloc_all, pass_all, free_all, look_at, get, through, sets, lands_as, unit_lit, vunit, feq_i, Good, yes, shows, Is, layout, Ptr, RawPtr, block_ptr, room_at, lies_at, in_a_block, rawptr_vals, rawptr_Tells, types_at, owns, plain, nothing, heard, peeks, calls_at, lasts, Lasts, triple_of, Stays, walk_of, stay_dropped, Goes-dropped, ends_at, framed, part_in, one, part_at}
+use prog.Wp.{WpFn}
+use Rattle.std.specs.contracts.alloc.Global as global
+use Rattle.std.proofs.alloc.Global.TheLaws as global_laws
+use Rattle.crs_c.specs.Places.{rules_at, has_room_for_rules}
+use Rattle.crs_c.specs.Held.{HeldParts, nothing_held}
+use Rattle.crs_c.specs.contracts.held_rules.HeldRules as held
+use Rattle.crs_c.proofs.held_rules.HeldRules.TheLaws.{the_row_laws}
+use Rattle.crs_c.specs.contracts.rules.crsdesk_rules_new as f
+use Rattle.crs_c.proofs.rules.crsdesk_rules_new.Statement.{statement}
+use Rattle.crs_c.proofs.rules.crsdesk_rules_new.Code as code
+use Rattle.crs_c.specs.contracts.rules_calls.no_rules as g
+use Rattle.crs_c.proofs.rules_calls.no_rules.Met.{met}
+
+abbrev stayed : Stays f.ended.signature.params f.ended.kept
+stayed = (stay_dropped _ yes, (stay_dropped _ yes, tt))
+
+pub crsdesk_rules_new_spec : {M : Type 1} → statement M
+unfolding rules_at has_room_for_rules
+crsdesk_rules_new_spec 𝓤 𝓛 𝓜 𝓡 wired =
+    let c = f.clauses 𝓛 𝓜.mem 𝓡.returns in let W = walk_of 𝓛 f.ended stayed c in let 𝓣 = tables 𝓤 𝓛.H 𝓜 𝓡 𝓡.env in
+    let R = held.the_row in let A = global.the_row in
+    proved_at 𝓛 f.ended stayed c 𝓜 𝓡
+    (Goes-dropped 𝓛 0 (plain (λ _. global.the_row)) yes (λ κs x w. refl), (Goes-dropped 𝓛 0 (plain (λ _. RawPtr)) yes (λ κs x w. refl), tt))
+    f.Key.name code.function (code.unfolded 𝓤 𝓛.H 𝓜 𝓡 wired) (λ x are.
+    let κs = x.0.0 in let qs = x.0.1 in let a = x.0.3.0 in
+    let Y : List Val → List Val → Ptr → W.Ghost = λ us vs p. ((κs, qs, x.0.2, (a, (p, tt)), (us, (vs, tt))), x.1) in
+    let Goes : List Val → List Val → Type 1 = λ us vs. ent 𝓤 (W.pre (Y us vs x.0.3.1.0)) (WpFn 𝓤 𝓛.H 𝓣.C 𝓣.Λ code.function (us ++ (vs ++ [])) (W.post (Y us vs x.0.3.1.0))) in
+    let h = one (layout A) x.0.4.0 ((global_laws.the_row_laws.lawful 𝓛).typed a x.0.4.0 are.0) in
+    let y : Ptr → W.Ghost = λ p. Y (h.0 ∷ []) (rawptr_vals p) p in
+    let G = triple_of 𝓛 g.signature (g.spec 𝓛 𝓜.mem 𝓡.returns) in
+    let walk : Goes (h.0 ∷ []) (rawptr_vals x.0.3.1.0) =
+    qed 𝓛 ((‵ ftrue ⊛ ‵ (owns (types_at f.ended.signature.params κs) x.0.3 (y x.0.3.1.0).0.4)) ∷ ‵ (room_at R x.0.3.1.0) ∷ []) ∵
+    split ! $ drop ! $ fsplit ! $ move ! (1 ∷ []) $ drop ! $ move ! (1 ∷ []) $
+    in_a_block ! x.0.3.1.0 (λ p. room_at R p) (id⊢ 𝓤 _) (λ b o e.
+    regoal ! (λ p. prop (WpFn 𝓤 𝓛.H 𝓣.C 𝓣.Λ code.function (h.0 ∷ (rawptr_vals p ++ [])) (W.post (y p)))) e refl $
+    use1 𝓛 (‵ (froom (layout R) b o)) (id⊢ 𝓤 _) $
+    -- [the room; the allocator; the locals]
+    enter ! _ _ _ _ _ $ alloc_all ! (λ l. pass_all ! refl (h.2, ((tt, tt), tt)) $
+    sets ! (of_opd ! (get ! refl)) refl (tt, tt) $
+    let z : G.Ghost = ((κs, qs, tt, (a, tt), (h.0 ∷ [], tt)), tt) in
+    move ! (1 ∷ []) $ rewrite ! 0 (λ (ws : List Val). ‵ (A.own_val a ws)) refl refl $
+    nothing ! $ move ! (1 ∷ 0 ∷ []) $ join ! $ nothing ! $ join ! $ nothing ! $ move ! (1 ∷ 0 ∷ []) $
+    use2 𝓛 (raw (G.pre z)) (id⊢ 𝓤 _) $
+    calls_at ! (framed 𝓤 𝓛.H 𝓜 (tables 𝓤 𝓛.H 𝓜 𝓡 𝓡.env)) G (met 𝓤 𝓛 𝓜 𝓡 (code.calls-crs_c::rules_calls::no_rules 𝓡.env wired)) z
+    (and_then ! (get ! refl) (no_more !)) (λ u.
+    use1 𝓛 (later (some (λ (r : HeldParts). (‵ ftrue ⊛ ‵ (R.own_val r (u ∷ []))) ⊛
+    some (λ (ws : Lasts g.ended κs (a, tt)). ‵ (lasts g.ended κs (a, tt) ws) ⊛ raw (fact 𝓤 (r ≡ nothing_held)))))) (id⊢ 𝓤 _) $
+    await ! tt $ pick ! (λ r. split ! $ split ! $ drop ! $ move ! (1 ∷ []) $ pick ! (λ ws. split ! $ drop ! $
+    heard ! _ (λ none.
+    peeks ! R (Is R) (shows 𝓛 R) r (u ∷ []) (λ is.
+    let good : Good (layout R) u = ((the_row_laws.lawful 𝓛).typed r (u ∷ []) is).0 in
+    -- [the rules; the room; the locals]
+    lands_as ! refl refl good $
+    sets ! (of_opd ! (get ! refl)) refl good $
+    assigns ! (of_opd ! (get ! refl)) (through ! refl (stop !)) (init ! 1 refl good) $
+    sets ! (of_opd ! (unit_lit !)) refl (tt, tt) $
+    returns ! (look_at ! 0 refl) $ free_all ! refl $
+    move ! (1 ∷ 0 ∷ []) $ use2 𝓛 (‵ (part_at R full_share r b o)) (part_in 𝓛 R refl full_share r b o u) $
+    rewrite ! 0 (λ (x : HeldParts). ‵ (lies_at R full_share (block_ptr b o) x)) none refl $
+    suffices ! _ (ends_at 𝓛 f.ended stayed c (y (block_ptr b o)) vunit tt (tt, (tt, tt)) (tt, (tt, tt))) $
+    feq_i ! _ (vunit ∷ []) _ refl $ nothing ! $ nothing ! $ join ! $ nothing ! $ join ! $ nothing ! $ group ! 3 $ done !))))))) in
+    subst (λ (us : List Val). Goes us x.0.4.1.0) (sym h.1)
+    (subst (λ (vs : List Val). Goes (h.0 ∷ []) vs) (sym (rawptr_Tells x.0.3.1.0 x.0.4.1.0 are.1.0)) walk))
