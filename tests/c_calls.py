@@ -41,14 +41,19 @@ ORDERS = ["lock", "atomic", "join"]
 SECONDS = 1800
 # Edits of the header, and the struct that the comparison must name.
 OTHER_LAYOUTS = [
-    ("uint64_t hidden[32];", "uint64_t hidden[8];", "crsdesk_catalogue"),
-    ("uint64_t hidden[32];", "unsigned char hidden[256];", "crsdesk_catalogue"),
+    ("catalogue {\n    uint64_t hidden[32];", "catalogue {\n    uint64_t hidden[8];", "crsdesk_catalogue"),
+    ("catalogue {\n    uint64_t hidden[32];", "catalogue {\n    unsigned char hidden[256];", "crsdesk_catalogue"),
+    ("rules {\n    uint64_t hidden[32];", "rules {\n    uint64_t hidden[8];", "crsdesk_rules"),
+    ("rules {\n    uint64_t hidden[32];", "rules {\n    unsigned char hidden[256];", "crsdesk_rules"),
     ("    size_t place;\n    uint32_t number;\n", "    uint32_t number;\n    size_t place;\n", "crsdesk_refusal"),
     ("    size_t place;\n    uint32_t number;\n", "    uint32_t place, number;\n", "crsdesk_refusal"),
     ("    size_t group;  ", "    uint64_t first; size_t group;  ", "crsdesk_standing"),
     ("    uint64_t number; /* 0 with", "    uint32_t was; uint32_t number; /* 0 with", "crsdesk_line"),
     ("    char bytes[240];", "    char bytes[232];", "crsdesk_piece"),
     ("    size_t length;   /*", "    uint32_t length, more;   /*", "crsdesk_piece"),
+    ("    size_t line;     /*", "    uint32_t line, more;     /*", "crsdesk_rules_standing"),
+    ("    uint64_t number; /* why", "    uint32_t more, number; /* why", "crsdesk_rules_standing"),
+    ("    size_t length;                  /*", "    uint64_t first; size_t length;  /*", "crsdesk_form"),
 ]
 BARE = "#include <crsdesk.h>\nint main(void) { size_t n; char out[16]; return crsdesk_version(out, 16, &n) == CRSDESK_OK ? 0 : 1; }\n"
 VERSION = """#include <crsdesk.h>

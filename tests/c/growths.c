@@ -171,6 +171,27 @@ static uint32_t catalogue(const struct trial *it, struct places *to)
     return code;
 }
 
+/* The form of the first text under the rules of two files. */
+static uint32_t under(const struct trial *it, struct places *to)
+{
+    static const char one[] = "# units\nSAME[LENGTHUNIT[\"metre\",1],LENGTHUNIT[\"meter\",1.0]]\nUNCOUNTED[anchor]\n";
+    struct crsdesk_rules rules;
+    crsdesk_rules_new(&rules);
+    struct crsdesk_rules_standing told = crsdesk_rules_add(&rules, one, sizeof one - 1);
+    if (told.code == CRSDESK_OK)
+        told = crsdesk_rules_add(&rules, it->second, strlen(it->second));
+    uint32_t code = told.code;
+    if (code == CRSDESK_OK)
+        code = crsdesk_canon_under(it->first, strlen(it->first), CRSDESK_FULL, &rules, to->out, sizeof to->out,
+                                   &to->length, &to->why);
+    else if (code == CRSDESK_REFUSED)
+        to->length = told.line;
+    crsdesk_rules_free(&rules);
+    return code;
+}
+
+#define NAMES "SAME[VDATUM[\"D\"],VDATUM[\"E\"]]"
+
 static const struct trial trials[] = {
     {"check", check, GEOGRAPHIC, ""},
     {"check, refused", check, "VERTCRS[\"H\",VDATUM[\"D\"],CS[vertical,2],AXIS[\"h\",up,LENGTHUNIT[\"metre\",1]]]", ""},
@@ -197,6 +218,10 @@ static const struct trial trials[] = {
     {"explain, accepted", explain, GEOGRAPHIC, ""},
     {"explain without room", explain_without_room, VERTICAL, ""},
     {"a catalogue", catalogue, GEOGRAPHIC, VERTICAL "]"},
+    {"under rules", under, GEOGRAPHIC, "UNCOUNTED[axisOrder,ensemble]"},
+    {"under rules, names", under, VERTICAL "]", NAMES},
+    {"under rules, the text refused", under, VERTICAL, NAMES},
+    {"under rules, a file refused", under, GEOGRAPHIC, NAMES "\n" NAMES},
 };
 
 static struct places fresh(void)

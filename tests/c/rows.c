@@ -3,7 +3,8 @@
        rows FILE.rows ..
 
    The rows that are run are those of the calls `canon`, `same`, `Canon::same`, `Refusal::new`, `Catalogue`, and `run_canon`,
-   `run_check` and `run_same` where they write a line. Each text, each buffer and each catalogue is between two pages that
+   `run_check` and `run_same` where they write a line, and `canon_under`. Each text, each buffer, each catalogue and each
+   struct of rules is between two pages that
    can't be touched: it ends at the second, or, in every other thread, begins behind the first; and a text can't be
    written to. A buffer first has no room, then a byte too few, then the room that was asked for. Behind each call all that
    it doesn't answer must be as before. All rows are run by one thread, and then by four at once, each in another order,
@@ -69,6 +70,9 @@ static __thread int begins_at_page;
 
 /* The row that this thread is at. */
 static __thread const struct row *current;
+
+/* The rules that this thread makes forms under. */
+static __thread struct crsdesk_rules *rules;
 
 static size_t page_size(void)
 {
@@ -249,6 +253,11 @@ static uint32_t call_canon(const struct asked *it, char *out, size_t room, size_
     return crsdesk_canon(it->first, it->first_length, it->level, out, room, length, why);
 }
 
+static uint32_t call_under(const struct asked *it, char *out, size_t room, size_t *length, struct crsdesk_refusal *why)
+{
+    return crsdesk_canon_under(it->first, it->first_length, it->level, rules, out, room, length, why);
+}
+
 static uint32_t call_part(const struct asked *it, char *out, size_t room, size_t *length, struct crsdesk_refusal *why)
 {
     return crsdesk_first_part(it->first, it->first_length, it->second, it->second_length, it->level, out, room, length,
@@ -334,6 +343,36 @@ static void explained(const struct asked *given, int is_refused, const struct cr
     free(line.text.at);
 }
 
+static void make_rules(void)
+{
+    rules = (struct crsdesk_rules *)block(sizeof *rules);
+    memset(rules, FILLER, sizeof *rules);
+    crsdesk_rules_new(rules);
+}
+
+static void free_rules(void)
+{
+    crsdesk_rules_free(rules);
+    give_back(rules, sizeof *rules);
+}
+
+/* Without rules the form is the canonical text, and what has none is refused as by canon. */
+static void without_rules(const struct asked *given, uint32_t code, const struct bytes *canonical,
+                          const struct crsdesk_refusal *told, struct answer *answer)
+{
+    struct asked asked = *given;
+    struct bytes form;
+    struct crsdesk_refusal why;
+    asked.call = call_under;
+    make_rules();
+    if (in_each_room(&asked, &form, &why, answer) != code || why.number != told->number || why.place != told->place
+        || form.length != canonical->length || (form.length && memcmp(form.at, canonical->at, form.length) != 0))
+        wrong(answer, "the form without rules isn't the canonical text");
+    without_level(asked, answer);
+    free_rules();
+    give_back(form.at, form.length);
+}
+
 static void answer_canon(const struct bytes *text, uint32_t level, struct answer *answer, const char *before)
 {
     struct asked asked = {call_canon, copied(text->at, text->length), NULL, text->length, 0, level, 0};
@@ -350,6 +389,7 @@ static void answer_canon(const struct bytes *text, uint32_t level, struct answer
     }
     explained(&asked, code == CRSDESK_REFUSED, &why, answer);
     without_level(asked, answer);
+    without_rules(&asked, code, &canonical, &why, answer);
     give_back(canonical.at, canonical.length);
     give_back(asked.first, asked.first_length);
 }
@@ -451,15 +491,21 @@ static int begins(const struct bytes *bytes, const char *text)
     return bytes->length >= length && memcmp(bytes->at, text, length) == 0;
 }
 
-/* What is before the first line end, and what is after it. */
-static struct bytes split(const struct bytes *input, struct bytes *rest)
+/* What is before the first of these bytes, and what is after it. */
+static struct bytes split_at(const struct bytes *input, char byte, struct bytes *rest)
 {
-    const char *end = memchr(input->at, '\n', input->length);
+    const char *end = memchr(input->at, byte, input->length);
     size_t front = end ? (size_t)(end - input->at) : input->length;
     struct bytes first = {input->at, front};
     rest->at = input->at + front + (end ? 1 : 0);
     rest->length = input->length - front - (end ? 1 : 0);
     return first;
+}
+
+/* What is before the first line end, and what is after it. */
+static struct bytes split(const struct bytes *input, struct bytes *rest)
+{
+    return split_at(input, '\n', rest);
 }
 
 /* A line that a command writes, with its status, which is 1 unless the line begins with what is named. */
@@ -554,6 +600,67 @@ static void answer_canons(const struct row *row, struct answer *answer)
         wrong(answer, one.wrong[0] ? one.wrong : two.wrong);
     free(one.text.at);
     free(two.text.at);
+}
+
+/* Adds a rules file; whether it was read. */
+static int add_file(const struct bytes *file, size_t number, struct answer *answer)
+{
+    char *at = copied(file->at, file->length);
+    struct crsdesk_rules_standing told = crsdesk_rules_add(rules, at, file->length);
+    give_back(at, file->length);
+    if (told.code == CRSDESK_REFUSED)
+        appendf(answer, "file %zu: line %zu, %lu at %zu", number, told.line, (unsigned long)told.number, told.place);
+    else if (told.code != CRSDESK_OK || told.line != 0 || told.number != 0 || told.place != 0)
+        wrong(answer, "a code that a rules file doesn't have here, or a refusal where none is told");
+    return told.code == CRSDESK_OK;
+}
+
+/* The form of what is behind the last form feed, under the rules of the files before it; it is its own form. */
+static void answer_under(const struct row *row, struct answer *answer)
+{
+    struct bytes rest = row->input, again;
+    struct asked asked = {call_under, NULL, NULL, 0, 0, row->is_definition ? CRSDESK_DEFINITION : CRSDESK_FULL, 0};
+    struct bytes form;
+    struct crsdesk_refusal why;
+    int are_read = 1;
+    make_rules();
+    for (size_t number = 1; are_read && memchr(rest.at, '\f', rest.length); number++) {
+        struct bytes file = split_at(&rest, '\f', &rest);
+        are_read = add_file(&file, number, answer);
+    }
+    while (memchr(rest.at, '\f', rest.length))
+        split_at(&rest, '\f', &rest);
+    asked.first = copied(rest.at, rest.length);
+    asked.first_length = rest.length;
+    uint32_t code = in_each_room(&asked, &form, &why, answer);
+    give_back(asked.first, asked.first_length);
+    if (!are_read) {
+        /* There are no rules then. */
+        asked.call = call_canon;
+        asked.first = copied(rest.at, rest.length);
+        if (in_each_room(&asked, &again, &why, answer) != code || again.length != form.length
+            || (form.length && memcmp(again.at, form.at, form.length) != 0))
+            wrong(answer, "rules are there after a refused file");
+        give_back(again.at, again.length);
+        give_back(asked.first, asked.first_length);
+    } else if (code == CRSDESK_OK) {
+        appendf(answer, "text ");
+        append(answer, form.at, form.length);
+        asked.first = form.at;
+        asked.first_length = form.length;
+        if (in_each_room(&asked, &again, &why, answer) != CRSDESK_OK || again.length != form.length
+            || memcmp(again.at, form.at, form.length) != 0)
+            wrong(answer, "a form isn't its own form");
+        give_back(again.at, again.length);
+    } else if (code == CRSDESK_REFUSED) {
+        append_refusal(answer, &why);
+    } else {
+        wrong(answer, "a code that canon_under doesn't have here");
+    }
+    if (crsdesk_rules_piece(rules, SIZE_MAX).length != 0 || crsdesk_rules_piece(rules, SIZE_MAX).code != CRSDESK_OK)
+        wrong(answer, "a piece behind the form's end");
+    free_rules();
+    give_back(form.at, form.length);
 }
 
 /* What the test remembers of a catalogue: the first text of each group, and what was refused. */
@@ -735,7 +842,8 @@ static int is_expected(const struct row *row, const struct answer *answer)
 /* Whether the row is one of the C calls. */
 static int is_taken(const struct row *row)
 {
-    static const char *const calls[] = {"canon", "same", "values", "Canon::same", "Refusal::new", "Catalogue"};
+    static const char *const calls[] = {"canon",         "same",      "values",     "Canon::same",
+                                        "Refusal::new", "Catalogue", "canon_under"};
     static const char *const runs[] = {"run_canon", "run_check", "run_same"};
     for (size_t i = 0; i < sizeof calls / sizeof *calls; i++)
         if (is(&row->call, calls[i]))
@@ -769,6 +877,8 @@ static int is_right(const struct row *row, int tells)
         answer_name(&row->input, &answer);
     } else if (is(&row->call, "Catalogue")) {
         answer_catalogue(row, &answer);
+    } else if (is(&row->call, "canon_under")) {
+        answer_under(row, &answer);
     } else if (is(&row->call, "run_canon")) {
         answer_canon(&row->input, level, &line, "");
         answer_run(&line, written, &answer);

@@ -1,9 +1,9 @@
-/* Hands a catalogue from thread to thread, as crsdesk.h allows it.
+/* Hands a catalogue and rules from thread to thread, as crsdesk.h allows it.
 
        threads lock|atomic|join|unordered
 
-   One thread makes a catalogue, four threads add texts to it and ask it, each in its turn, and another thread than the
-   first gives it back. What orders the turns is named: a mutex, a sequentially consistent atomic, or the end of one
+   One thread makes a catalogue and rules, four threads add texts to it, ask it and make forms under them, each in its
+   turn, and another thread than the first gives both back. What orders the turns is named: a mutex, a sequentially consistent atomic, or the end of one
    thread before the start of the next. In the end the catalogue must be that which one thread makes of the same texts.
 
    Under a thread sanitizer a turn that isn't ordered after the one before is seen where memory of the catalogue, which
@@ -23,6 +23,7 @@
 enum { THREADS = 4, TURNS = 400, DATUMS = 50, LENGTH = 200 };
 
 static struct crsdesk_catalogue catalogue, expected;
+static struct crsdesk_rules rules;
 static unsigned passed;
 
 /* The text of a turn: one of as many CRSs as there are datums, in one of two spellings. */
@@ -44,8 +45,9 @@ static struct crsdesk_standing add(struct crsdesk_catalogue *to, unsigned turn)
 /* Adds the text of a turn, and asks for its group. */
 static void take_turn(unsigned turn)
 {
-    char text[LENGTH];
-    size_t length = 0;
+    char text[LENGTH], form[LENGTH];
+    struct crsdesk_refusal why;
+    size_t length = 0, form_length = 0;
     uint64_t numbers[TURNS];
     size_t count = 0, group = turn % DATUMS + 1;
     struct crsdesk_standing told = add(&catalogue, turn);
@@ -53,7 +55,9 @@ static void take_turn(unsigned turn)
               && crsdesk_catalogue_lines(&catalogue, group, numbers, TURNS, &count) == CRSDESK_OK
               && count == turn / DATUMS + 1 && numbers[count - 1] == turn
               && crsdesk_catalogue_text(&catalogue, group, text, LENGTH, &length) == CRSDESK_OK
-              && length > 0 && length < LENGTH;
+              && length > 0 && length < LENGTH
+              && crsdesk_canon_under(text, length, CRSDESK_FULL, &rules, form, LENGTH, &form_length, &why) == CRSDESK_OK
+              && form_length == length - 1 && memcmp(form, "VERTCRS[\"\"", 10) == 0;
 }
 
 static pthread_mutex_t lock = PTHREAD_MUTEX_INITIALIZER;
@@ -156,11 +160,12 @@ static int are_alike(void)
     return 1;
 }
 
-/* Looks at the catalogue, and gives it back. */
+/* Looks at the catalogue, and gives it and the rules back. */
 static void *give_back(void *at)
 {
     *(int *)at = are_alike();
     crsdesk_catalogue_free(&catalogue);
+    crsdesk_rules_free(&rules);
     return NULL;
 }
 
@@ -170,6 +175,9 @@ int main(int count, char **words)
     int alike = 0;
     if (crsdesk_catalogue_new(&catalogue, CRSDESK_FULL) != CRSDESK_OK
         || crsdesk_catalogue_new(&expected, CRSDESK_FULL) != CRSDESK_OK)
+        return 1;
+    crsdesk_rules_new(&rules);
+    if (crsdesk_rules_add(&rules, "UNCOUNTED[crsName]", 18).code != CRSDESK_OK)
         return 1;
     for (unsigned turn = 0; turn < TURNS; turn++)
         add(&expected, turn);
