@@ -38,7 +38,19 @@ import run_cases
 import run_documents
 
 import crsdesk
-from crsdesk import Catalogue, Crs, Difference, Refused, canon, check, difference, differences, same
+from crsdesk import (
+    Catalogue,
+    Crs,
+    Difference,
+    Refused,
+    Rules,
+    RulesRefused,
+    canon,
+    check,
+    difference,
+    differences,
+    same,
+)
 from crsdesk.__main__ import lines_of
 
 HERE = pathlib.Path(__file__).resolve().parent
@@ -1620,6 +1632,131 @@ with open("/proc/self/status") as file:
 """
 
 
+# Rules.
+
+NAMES = 'SAME[VDATUM["D"],VDATUM["E"]]\n# names\n\nUNCOUNTED[crsName]\n'
+OTHER_HEIGHT = HEIGHT.replace('"H"', '"G"').replace('"D"', '"E"')
+FORM = CANONICAL_HEIGHT.replace('"H"', '""')
+
+
+def raised(kind: Type[Exception], call: Callable[[], object]) -> str:
+    """What is said where a call raises what it must."""
+    try:
+        call()
+    except kind as error:
+        return str(error)
+    raise AssertionError(f"{kind.__name__} wasn't raised")
+
+
+def texts_under_rules() -> None:
+    rules = Rules(NAMES)
+    for text in (HEIGHT, OTHER_HEIGHT, OTHER_HEIGHT.encode(), Crs(OTHER_HEIGHT), FORM):
+        assert canon(text, rules=rules) == FORM and canon(text, "definition", rules) == FORM
+    assert same(HEIGHT, OTHER_HEIGHT, rules=rules) and not same(HEIGHT, OTHER_HEIGHT)
+    assert (
+        difference(HEIGHT, OTHER_HEIGHT, rules=rules) is None and differences(HEIGHT, OTHER_HEIGHT, rules=rules) == []
+    )
+    feet = OTHER_HEIGHT.replace('"metre",1', '"foot",0.3048')
+    assert not same(HEIGHT, feet, rules=rules) and difference(HEIGHT, feet, rules=rules) == "system/axis1/unit"
+    assert [str(it) for it in differences(HEIGHT, feet, rules=rules)] == [
+        'system/axis1/unit: LENGTHUNIT["metre",1] | LENGTHUNIT["foot",0.3048]'
+    ]
+    # Without rules all is as it was.
+    for text in (HEIGHT, OTHER_HEIGHT):
+        assert canon(text, rules=Rules()) == canon(text, rules=Rules("\n", b"# nothing")) == canon(text)
+    long_name = HEIGHT.replace('"H"', '"' + "N" * 100_000 + '"')
+    assert canon(long_name, rules=Rules()) == canon(long_name) and canon(long_name, rules=rules) == FORM
+    with_nul = HEIGHT.replace('"H"', '"H\0"')
+    assert canon(with_nul, rules=Rules()) == canon(with_nul)
+    for call in (lambda: same(HEIGHT, "GEOGCRS[", rules=rules), lambda: differences(HEIGHT, "GEOGCRS[", rules=rules)):
+        assert raised(Refused, call).startswith("the second text: refused 7 UnexpectedEnd at 8")
+    raised(TypeError, lambda: canon(HEIGHT, rules=NAMES))  # type: ignore[arg-type]
+    raised(ValueError, lambda: canon(HEIGHT, "ful", rules))  # type: ignore[arg-type]
+
+
+def rules_of_files() -> None:
+    with tempfile.TemporaryDirectory() as folder:
+        one, two = pathlib.Path(folder, "one.rules"), pathlib.Path(folder, "two.rules")
+        one.write_text(NAMES, encoding="utf-8")
+        two.write_bytes(b'SAME[LENGTHUNIT["metre",1],LENGTHUNIT["meter",1.0]]\r\n')
+        rules = Rules.from_file(one, str(two))
+        assert rules.texts == (NAMES.encode(), two.read_bytes()) and rules == Rules(*rules.texts) != Rules(NAMES)
+        assert hash(rules) == hash(Rules(*rules.texts)) and repr(rules) == "<Rules of 2 files>"
+        assert canon(OTHER_HEIGHT.replace("metre", "meter"), rules=rules) == FORM
+        two.write_text('# again\nSAME[VDATUM["é"],VDATUM["E"]]', encoding="utf-8")
+        said = raised(RulesRefused, lambda: Rules.from_file(one, two))
+        assert said.split("\n") == [
+            f"{two}: line 2: refused 44 at 18: a node that stood in a set before",
+            'SAME[VDATUM["é"],VDATUM["E"]]',
+            " " * 17 + "^",
+        ]
+        raised(OSError, lambda: Rules.from_file(pathlib.Path(folder, "none")))
+
+
+def refused_rules() -> None:
+    for text, line, number, place in (
+        ("UNCOUNTED[anchor]\n\nUNCOUNTED[colour]", 3, 42, 10),
+        ('EQUAL[DATUM["a"]]', 1, 41, 0),
+        ('SAME[DATUM["a"],VDATUM["b"]]', 1, 43, 16),
+        ('SAME[DATUM["a"]', 1, 7, 15),
+    ):
+        try:
+            Rules("UNCOUNTED[dynamic]", text)
+        except RulesRefused as refused:
+            assert (refused.line, refused.number, refused.place, refused.path) == (line, number, place, None)
+            again = pickle.loads(pickle.dumps(refused))
+            assert str(again) == str(refused) and f"line {line}: refused {number} at {place}: " in str(refused)
+        else:
+            raise AssertionError(f"{text} is read")
+    for other in (None, 5, pathlib.Path("x")):
+        raised(TypeError, lambda: Rules(other))  # type: ignore[arg-type]
+
+
+def a_crs_under_rules() -> None:
+    rules = Rules(NAMES)
+    one, other, plain = Crs(HEIGHT, rules=rules), Crs(OTHER_HEIGHT, rules=rules), Crs(HEIGHT)
+    assert one == other and hash(one) == hash(other) and {one: 1}[other] == 1 and one.rules == rules
+    assert one != plain and plain.rules is None and len({one, other, plain}) == 2
+    assert str(one) == one.canonical() == canon(one) == f"{one:definition}" == FORM
+    # What a CRS is called, and what it writes for others, is that of its text.
+    assert (one.name, other.name, one.kind) == ("H", "G", "vertical")
+    assert one.to_wkt() == CANONICAL_HEIGHT and one.text == HEIGHT.encode()
+    assert one.same(OTHER_HEIGHT) and one.difference(other) is None and one.differences(Crs(OTHER_HEIGHT)) == []
+    assert same(one, OTHER_HEIGHT) and same(HEIGHT, other, "definition") and plain.same(other)
+    assert Crs(one) == one and Crs(plain, rules=rules) == one and Crs(one.text) == plain
+    assert Crs.from_user(one) is one and Crs.from_user(plain, rules=rules) == one
+    assert pickle.loads(pickle.dumps(one)) == copy.deepcopy(one) == one
+    assert sorted([other, one]) == [one, other]
+    for call in (
+        lambda: one.same(Crs(HEIGHT, rules=Rules())),
+        lambda: same(one, HEIGHT, rules=Rules()),
+        lambda: canon(one, rules=Rules()),
+        lambda: Crs(one, rules=Rules()),
+    ):
+        assert "under its own rules" in raised(ValueError, call)
+    raised(TypeError, lambda: one < plain)
+
+
+def groups_under_rules() -> None:
+    catalogue = Catalogue(rules=Rules(NAMES))
+    assert [catalogue.add(text) for text in (HEIGHT, OTHER_HEIGHT, "", HEIGHT.replace("metre", "meter"))] == [
+        1,
+        1,
+        None,
+        2,
+    ]
+    assert catalogue.group(1).text == FORM and catalogue.group(1).names == [1, 2] and OTHER_HEIGHT in catalogue
+    raised(Refused, lambda: catalogue.add("GEOGCRS["))
+    assert [name for name, _ in catalogue.refused] == [5]
+
+
+def rules_go_to_threads_and_processes() -> None:
+    rules = pickle.loads(pickle.dumps(Rules(NAMES)))
+    assert rules == Rules(NAMES)
+    with ThreadPoolExecutor(8) as pool:
+        assert set(pool.map(lambda _: canon(OTHER_HEIGHT, rules=rules), range(2000))) == {FORM}
+
+
 def lines_are_read_in_bounded_memory() -> None:
     """A hundred times the lines, accepted, blank and refused, take no more memory."""
     with tempfile.TemporaryDirectory() as folder:
@@ -1715,6 +1852,12 @@ PROMISES = [
     empty_texts,
     long_texts,
     out_of_memory,
+    texts_under_rules,
+    rules_of_files,
+    refused_rules,
+    a_crs_under_rules,
+    groups_under_rules,
+    rules_go_to_threads_and_processes,
     lock_is_released,
     four_threads,
     four_threads_on_one_catalogue,

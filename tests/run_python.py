@@ -199,6 +199,9 @@ TYPES = {
     'crs.same(crs, "Full")': "expected \"Literal['full', 'definition']\"",
     'crsdesk.Catalogue("ful")': "expected \"Literal['full', 'definition']\"",
     "crsdesk.check(4326)": 'incompatible type "int"',
+    'crsdesk.Crs("x", rules=crsdesk.Rules("y", b"z"))': "",
+    'crsdesk.canon("x", rules=crsdesk.Rules.from_file("a.rules"))': "",
+    'crsdesk.same(crs, crs, rules="UNCOUNTED[anchor]")': 'incompatible type "str"',
 }
 
 

@@ -15,6 +15,7 @@ from ._crs import Catalogue, Crs, Group, Level, Text, canon, check, difference, 
 from ._difference import Difference
 from ._library import version
 from ._refused import Refused
+from ._rules import Rules, RulesRefused
 
 __all__ = [
     "Catalogue",
@@ -23,6 +24,8 @@ __all__ = [
     "Group",
     "Level",
     "Refused",
+    "Rules",
+    "RulesRefused",
     "Text",
     "canon",
     "check",

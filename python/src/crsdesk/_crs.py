@@ -5,11 +5,26 @@ from __future__ import annotations
 import functools
 import os
 import threading
-from typing import TYPE_CHECKING, Any, Dict, Iterator, List, Literal, NamedTuple, Optional, Tuple, Type, Union, cast
+from typing import (
+    TYPE_CHECKING,
+    Any,
+    Callable,
+    Dict,
+    Iterator,
+    List,
+    Literal,
+    NamedTuple,
+    Optional,
+    Tuple,
+    Type,
+    Union,
+    cast,
+)
 
 from . import _facts, _library
 from ._difference import Difference, differences_of
 from ._refused import Refused
+from ._rules import Rules
 
 if TYPE_CHECKING:
     from typing_extensions import Self
@@ -102,12 +117,17 @@ def check(text: Text) -> str:
     return _library.check(bytes_of(text))
 
 
-def canon(text: Text, level: Level = "full") -> str:
+def canon(text: Text, level: Level = "full", rules: Optional[Rules] = None) -> str:
     """The canonical text of the CRS that a text spells, at a level (docs/CANONICAL.md).
 
     ``full`` keeps everything that the text says; ``definition`` leaves identifiers, usages and remarks out. Two texts
     have equal canonical texts exactly where their CRSs are the same at the level. ``ValueError`` for another level.
+
+    Under rules it is the form: two texts have equal forms exactly where they are the same under the rules
+    (docs/RULES.md). ``ValueError`` for a ``Crs`` under other rules.
     """
+    if rules is not None:
+        return form_of(text, level, rules)
     if isinstance(text, Crs):
         return text.canonical(level)
     try:
@@ -117,34 +137,87 @@ def canon(text: Text, level: Level = "full") -> str:
     return _library.canon_bytes(text if type(text) is bytes else bytes_of(text), number).decode()
 
 
-def same(first: Text, second: Text, level: Level = "full") -> bool:
-    """Whether two texts spell the same CRS at a level (docs/SAMENESS.md).
+def form_of(text: Text, level: Level, rules: Rules) -> str:
+    """The form of a text under rules that are those of a ``Crs``, if the text is one under rules."""
+    asked = rules_of(rules, text)
+    assert asked is not None
+    if not isinstance(text, Crs):
+        return asked.form(bytes_of(text), number_of(level))
+    if text.rules is not None:
+        return text.canonical(level)
+    return text._with_bound(asked.form(text.text, number_of(level)))
 
-    ``Refused`` has in ``which`` the text that spells none; where the first does, the second isn't judged.
+
+def rules_of(rules: Optional[Rules], *texts: Text) -> Optional[Rules]:
+    """The rules by which texts are compared: those that are asked for, and those of each ``Crs``. ``ValueError`` where
+    they aren't the same ones, ``TypeError`` for what are no rules."""
+    if rules is not None and not isinstance(rules, Rules):
+        raise TypeError(f"rules are crsdesk.Rules, not {type(rules).__name__}")
+    for text in texts:
+        if isinstance(text, Crs) and text.rules is not None:
+            if rules is not None and rules != text.rules:
+                raise ValueError("a Crs is compared under its own rules alone; hand over its text, or Crs(crs.text)")
+            rules = text.rules
+    return rules
+
+
+def each_of(form: Callable[[Text], str], first: Text, second: Text) -> Tuple[str, str]:
+    """The forms of two texts; the refusal of one says which."""
+    forms: List[str] = []
+    for which, text in (("first", first), ("second", second)):
+        try:
+            forms.append(form(text))
+        except Refused as refused:
+            raise Refused(refused.text, refused.number, refused.name, refused.place, which) from None
+    return forms[0], forms[1]
+
+
+def same(first: Text, second: Text, level: Level = "full", rules: Optional[Rules] = None) -> bool:
+    """Whether two texts spell the same CRS at a level (docs/SAMENESS.md), or are the same under rules (docs/RULES.md).
+
+    ``Refused`` has in ``which`` the text that spells none; where the first does, the second isn't judged. Of a ``Crs``
+    under rules these are the rules; ``ValueError`` where others are asked for.
     """
     number = number_of(level)
+    asked = rules_of(rules, first, second)
+    if asked is not None:
+        under = asked
+        one, other = each_of(lambda text: form_of(text, level, under), first, second)
+        return one == other
     return _library.same(bytes_of(first), bytes_of(second), number) and not bound_parts(first, second)
 
 
-def difference(first: Text, second: Text, level: Level = "full") -> Optional[str]:
+def difference(first: Text, second: Text, level: Level = "full", rules: Optional[Rules] = None) -> Optional[str]:
     """The path of the first part in which the CRSs of two texts differ, such as ``datum/ellipsoid/flattening``; None
-    where they are the same (docs/SAMENESS.md, "The parts that differ"). Raises as ``same`` does."""
+    where they are the same (docs/SAMENESS.md, "The parts that differ"). Under rules it is that of their forms. Raises
+    as ``same`` does."""
     number = number_of(level)
-    path = _library.first_part(bytes_of(first), bytes_of(second), number)
+    path = _library.first_part(*compared(first, second, number, rules), number)
     if not path:
         for part in bound_parts(first, second):
             return part.path
     return path or None
 
 
-def differences(first: Text, second: Text, level: Level = "full") -> List[Difference]:
-    """All parts in which the CRSs of two texts differ, in their order; none where they are the same.
+def differences(first: Text, second: Text, level: Level = "full", rules: Optional[Rules] = None) -> List[Difference]:
+    """All parts in which the CRSs of two texts differ, in their order; none where they are the same. Under rules they
+    are those of their forms.
 
     The first is that of ``difference``. Raises as ``same`` does.
     """
     number = number_of(level)
-    lines = _library.differences(bytes_of(first), bytes_of(second), number)
+    lines = _library.differences(*compared(first, second, number, rules), number)
     return differences_of(lines) + bound_parts(first, second)
+
+
+def compared(first: Text, second: Text, level: int, rules: Optional[Rules]) -> Tuple[bytes, bytes]:
+    """The texts whose parts are compared: under rules the forms."""
+    asked = rules_of(rules, first, second)
+    if asked is None:
+        return bytes_of(first), bytes_of(second)
+    under = asked
+    one, other = each_of(lambda text: under.form(bytes_of(text), level), first, second)
+    return one.encode(), other.encode()
 
 
 def bound_parts(first: Text, second: Text) -> List[Difference]:
@@ -163,32 +236,47 @@ class Crs:
     Two are equal, and hash alike, exactly where they are the same with everything that their texts say: so the keys of
     a ``dict`` and the members of a ``set`` are CRSs. ``str`` of it is the canonical text; by that they are sorted.
 
+    With ``rules`` the form under them stands for the canonical text in all this (docs/RULES.md): it is the key. Those of
+    other rules are unequal, aren't sorted, and aren't compared: ``ValueError``.
+
     Raises as ``check`` does.
     """
 
-    __slots__ = ("__weakref__", "_bound", "_definition", "_full", "_kind", "_read_by", "_text")
+    __slots__ = ("__weakref__", "_bound", "_definition", "_full", "_kind", "_read_by", "_rules", "_text")
 
-    def __init__(self, text: Text) -> None:
+    def __init__(self, text: Text, *, rules: Optional[Rules] = None) -> None:
+        is_plain = rules is None and not isinstance(text, Crs)
+        self._rules: Optional[Rules] = None if is_plain else rules_of(rules, text)
         self._definition: Optional[str] = None
         self._kind: Optional[str] = None
         self._bound: Bound = text._bound if isinstance(text, Crs) else ()
         self._read_by: Optional[str] = text._read_by if isinstance(text, Crs) else None
         self._text: bytes = text if type(text) is bytes else bytes_of(text)
         try:
-            self._full: str = text._full if isinstance(text, Crs) else _library.canon_bytes(self._text, 0).decode()
+            if isinstance(text, Crs) and text._rules == self._rules:
+                self._full: str = text._full
+            else:
+                self._full = self._with_bound(self._form_at(0))
         except Refused as refused:
             refused.is_of_crs = True
             raise
 
     @classmethod
-    def from_file(cls, path: Union[str, bytes, os.PathLike[str], os.PathLike[bytes]]) -> Self:
+    def from_file(
+        cls, path: Union[str, bytes, os.PathLike[str], os.PathLike[bytes]], *, rules: Optional[Rules] = None
+    ) -> Self:
         """The CRS that a file's bytes spell. ``OSError`` where it can't be read, ``TypeError`` for what is no path, as
         the number of an open file; else raises as ``check`` does."""
         with open(os.fspath(path), "rb") as file:
-            return cls(file.read())
+            return cls._made(file.read(), rules)
 
     @classmethod
-    def from_user(cls, found: object) -> Self:
+    def _made(cls, text: Text, rules: Optional[Rules]) -> Self:
+        """By the ``__init__`` of a subclass too, which may not take rules."""
+        return cls(text) if rules is None else cls(text, rules=rules)
+
+    @classmethod
+    def from_user(cls, found: object, *, rules: Optional[Rules] = None) -> Self:
         """The CRS of another package's object, of pyproj, rasterio, fiona or osgeo, or of what else has ``to_wkt``,
         which is asked for WKT2:2019; or of a text in any form that PROJ reads.
 
@@ -198,18 +286,18 @@ class Crs:
         of, repairs or passes over is ``Refused``, with its words in ``proj``. ``TypeError`` for an object that is
         neither; else raises as ``check`` does.
         """
-        if isinstance(found, cls):
+        if isinstance(found, cls) and rules_of(rules, found) == found.rules:
             return found
         if not isinstance(found, (str, bytes, bytearray, memoryview, Crs)):
             found = text_of_user(found)
         try:
-            return cls(found)
+            return cls._made(found, rules)
         except Refused as refused:
             refused.is_of_crs = False
-            return cls._read_by_proj(refused)
+            return cls._read_by_proj(refused, rules)
 
     @classmethod
-    def _read_by_proj(cls, refused: Refused) -> Self:
+    def _read_by_proj(cls, refused: Refused, rules: Optional[Rules]) -> Self:
         """The CRS that PROJ reads in a refused text of another form; the refusal where it isn't taken."""
         from . import _foreign
 
@@ -222,7 +310,7 @@ class Crs:
             refused.proj = f"PROJ doesn't read it either: {error}"
             raise refused from None
         try:
-            crs = cls(found.text)
+            crs = cls._made(found.text, rules)
         except Refused as again:
             again.is_of_crs, again.proj = False, f"{found.reader} wrote this text of {found.form}"
             raise again from None
@@ -241,6 +329,17 @@ class Crs:
         from . import _foreign
 
         return _foreign.bound_text(canonical, self._bound)
+
+    def _form_at(self, level: int) -> str:
+        """Its form without rules, or under them, without transformations."""
+        if self._rules is not None:
+            return self._rules.form(self._text, level)
+        return _library.canon_bytes(self._text, level).decode()
+
+    @property
+    def rules(self) -> Optional[Rules]:
+        """The rules under which it is compared; None where everything counts."""
+        return self._rules
 
     @property
     def text(self) -> bytes:
@@ -271,8 +370,9 @@ class Crs:
 
     @property
     def _plain(self) -> str:
-        """A canonical text without transformations."""
-        return _library.canon_bytes(self._text, 0).decode() if self._bound else self._full
+        """The canonical text without transformations and without rules."""
+        plain = self._bound or self._rules is not None
+        return _library.canon_bytes(self._text, 0).decode() if plain else self._full
 
     @property
     def kind(self) -> str:
@@ -282,29 +382,33 @@ class Crs:
         return self._kind
 
     def canonical(self, level: Level = "full") -> str:
-        """The canonical text, as ``canon`` writes it; of a bound CRS it is inside the text of a ``BOUNDCRS``.
-        ``ValueError`` for a level that isn't there."""
+        """The canonical text, or the form under its rules, as ``canon`` writes it; of a bound CRS it is inside the text
+        of a ``BOUNDCRS``. ``ValueError`` for a level that isn't there."""
         if number_of(level) == 0:
             return self._full
         if self._definition is None:
-            self._definition = self._with_bound(_library.canon_bytes(self._text, 1).decode())
+            self._definition = self._with_bound(self._form_at(1))
         return self._definition
 
     def to_wkt(self, version: str = "WKT2_2019") -> str:
-        """The canonical text, with transformations: what pyproj, geopandas, rasterio and fiona ask a CRS for.
-        ``ValueError`` for another version than WKT2:2019."""
+        """The canonical text, with transformations and without rules: what pyproj, geopandas, rasterio and fiona ask a
+        CRS for. ``ValueError`` for another version than WKT2:2019."""
         if getattr(version, "value", version) not in WKT2_2019:
             raise ValueError(
                 f"a Crs writes WKT2:2019, not {version!r}; hand it over to pyproj.CRS, which writes others"
             )
-        return self._full
+        return self._with_bound(self._plain)
 
     def same(self, other: Text, level: Level = "full") -> bool:
         """Whether another CRS, or the one that another text spells, is the same at a level, where ``==`` counts
         everything.
 
-        It compares the canonical texts, which are equal exactly where the CRSs are the same.
+        It compares the canonical texts, or the forms under its rules, which are equal exactly where the CRSs are the
+        same.
         """
+        rules = rules_of(self._rules, crs_of(other))
+        if rules is not None:
+            return form_of(self, level, rules) == form_of(crs_of(other), level, rules)
         return self.canonical(level) == crs_of(other).canonical(level)
 
     def difference(self, other: Text, level: Level = "full") -> Optional[str]:
@@ -318,13 +422,13 @@ class Crs:
     def __eq__(self, other: object) -> bool:
         if not isinstance(other, Crs):
             return NotImplemented
-        return self._full == other._full
+        return self._full == other._full and self._rules == other._rules
 
     def __hash__(self) -> int:
         return hash(self._full)
 
     def __lt__(self, other: Crs) -> bool:
-        if not isinstance(other, Crs):
+        if not isinstance(other, Crs) or self._rules != other._rules:
             return NotImplemented
         return self._full < other._full
 
@@ -342,6 +446,7 @@ class Crs:
             self.kind,
             *["bound"][: bool(self._bound)],
             *filter(None, [self._read_by and f"read by {self._read_by}"]),
+            *["under rules"][: self._rules is not None],
         ]
         return f"<{type(self).__name__} {' '.join(shown)} ({', '.join(words)})>"
 
@@ -351,13 +456,13 @@ class Crs:
         if getattr(type(self), "__getstate__", None) is getattr(object, "__getstate__", None):
             added = {name: value for name, value in (state[1] or {}).items() if name not in Crs.__slots__}
             state = (state[0], added) if state[0] or added else None
-        return restored, (type(self), self._text, self._bound, self._read_by), state
+        return restored, (type(self), self._text, self._bound, self._read_by, self._rules), state
 
 
-def restored(kind: Type[Crs], text: bytes, bound: Bound, read_by: Optional[str]) -> Crs:
+def restored(kind: Type[Crs], text: bytes, bound: Bound, read_by: Optional[str], rules: Optional[Rules] = None) -> Crs:
     """A CRS of a class that may have its own ``__init__``."""
     crs = kind.__new__(kind)
-    Crs.__init__(crs, text)
+    Crs.__init__(crs, text, rules=rules)
     crs._bind(bound, read_by)
     return crs
 
@@ -389,12 +494,14 @@ class Catalogue:
 
     Groups are found by canonical texts, which are equal exactly where the CRSs are the same. A catalogue may be used by
     several threads. Of a text that spells no CRS it keeps what is needed to say why, and with ``keep_texts`` the text.
-    ``ValueError`` for a level that isn't there.
+    ``ValueError`` for a level that isn't there. With ``rules`` texts are in one group where they are the same under them
+    (docs/RULES.md), and a group's text is their form.
     """
 
-    def __init__(self, level: Level = "full", *, keep_texts: bool = False) -> None:
+    def __init__(self, level: Level = "full", *, keep_texts: bool = False, rules: Optional[Rules] = None) -> None:
         number_of(level)
         self._level = level
+        self._rules = rules_of(rules)
         self._keeps_texts = keep_texts
         self._lock = threading.Lock()
         self._count = 0
@@ -410,13 +517,17 @@ class Catalogue:
         listed in ``refused``, and the catalogue goes on. Where memory is refused to the library, it is as before.
         """
         try:
-            spelling = "" if is_blank(text) else canon(text, self._level)
+            spelling = "" if is_blank(text) else self._spelling_of(text)
         except Refused as refused:
             kept = refused.kept(self._keeps_texts)
             with self._lock:
                 self._refused.append((self._name(name), kept))
             raise
         return self._add_canonical(spelling, name)
+
+    def _spelling_of(self, text: Text) -> str:
+        """By what a text is grouped."""
+        return canon(text, self._level, self._rules)
 
     def _add_canonical(self, spelling: str, name: object = None) -> Optional[int]:
         """Adds what ``canon`` wrote of a text at the catalogue's level; nothing, of a blank one."""
@@ -439,7 +550,7 @@ class Catalogue:
         """Whether a group has the CRS that a text spells. A text that spells none is in no group, a blank one either.
         ``TypeError`` and ``ValueError`` for what is no text."""
         try:
-            return not is_blank(text) and canon(text, self._level) in self._numbers
+            return not is_blank(text) and self._spelling_of(text) in self._numbers
         except Refused:
             return False
 

@@ -31,6 +31,35 @@ class RefusalPlace(ctypes.Structure):
     _fields_ = [("place", ctypes.c_size_t), ("number", ctypes.c_uint32)]
 
 
+class RulesRoom(ctypes.Structure):
+    """struct crsdesk_rules."""
+
+    _fields_ = [("hidden", ctypes.c_uint64 * 32)]
+
+
+class RulesStanding(ctypes.Structure):
+    """struct crsdesk_rules_standing."""
+
+    _fields_ = [
+        ("line", ctypes.c_size_t),
+        ("place", ctypes.c_size_t),
+        ("number", ctypes.c_uint64),
+        ("code", ctypes.c_uint32),
+    ]
+
+
+class Form(ctypes.Structure):
+    """struct crsdesk_form."""
+
+    _fields_ = [("length", ctypes.c_size_t), ("refusal", RefusalPlace), ("code", ctypes.c_uint32)]
+
+
+class Piece(ctypes.Structure):
+    """struct crsdesk_piece."""
+
+    _fields_ = [("bytes", ctypes.c_ubyte * 240), ("length", ctypes.c_size_t), ("code", ctypes.c_uint32)]
+
+
 class Places:
     """Where the answers of one call go."""
 
@@ -66,12 +95,24 @@ def load() -> ctypes.CDLL:
         "refusal_name": [ctypes.c_uint32],
         "version": [],
     }
+    room = ctypes.POINTER(RulesRoom)
+    arguments["rules_new"] = arguments["rules_free"] = [room]
+    arguments["rules_add"] = [room, text, size]
+    arguments["rules_form"] = [room, ctypes.c_uint32, text, size]
+    arguments["rules_piece"] = [room, size]
+    answers: Dict[str, Any] = {
+        "rules_new": None,
+        "rules_free": None,
+        "rules_add": RulesStanding,
+        "rules_form": Form,
+        "rules_piece": Piece,
+    }
     for name, types in arguments.items():
         try:
             function = getattr(library, f"crsdesk_{name}")
         except AttributeError as error:
             raise ImportError(f"crsdesk needs the shared object of its own version: {error}") from None
-        function.restype = ctypes.c_uint32
+        function.restype = answers.get(name, ctypes.c_uint32)
         if types:
             function.argtypes = types
     return library
@@ -102,11 +143,52 @@ def fault(code: int, found: Places, first: bytes, second: Optional[bytes] = None
     number, place = found.refusal.number, found.refusal.place
     _kept.append(found)
     if code not in (REFUSED, SECOND_REFUSED):
-        return MemoryError("crsdesk: memory was refused; the same call may be made again")
+        return out_of_memory()
     if second is None:
         return Refused(first, number, refusal_name(number), place)
     which, text = ("first", first) if code == REFUSED else ("second", second)
     return Refused(text, number, refusal_name(number), place, which)
+
+
+def out_of_memory() -> MemoryError:
+    return MemoryError("crsdesk: memory was refused; the same call may be made again")
+
+
+class HeldRules:
+    """Rules in memory of their own, for one call at a time."""
+
+    __slots__ = ("_room",)
+
+    def __init__(self) -> None:
+        self._room = RulesRoom()
+        LOADED.crsdesk_rules_new(self._room)
+
+    def __del__(self, free: Callable[[RulesRoom], None] = LOADED.crsdesk_rules_free) -> None:
+        free(self._room)
+
+    def add(self, file: bytes) -> Optional[Tuple[int, int, int]]:
+        """Adds the rules of a file. The answer is None, or its first refused line, the refusal's number and its place
+        in the line; then there are no rules."""
+        told = LOADED.crsdesk_rules_add(self._room, file, len(file))
+        if told.code not in (OK, REFUSED):
+            raise out_of_memory()
+        return (told.line, told.number, told.place) if told.code else None
+
+    def form(self, text: bytes, level: int) -> bytes:
+        """The form of a text, piece by piece."""
+        told = LOADED.crsdesk_rules_form(self._room, level, text, len(text))
+        if told.code == REFUSED:
+            number, place = told.refusal.number, told.refusal.place
+            raise Refused(text, number, refusal_name(number), place)
+        if told.code:
+            raise out_of_memory()
+        pieces: List[bytes] = []
+        start = 0
+        while start < told.length:
+            piece = LOADED.crsdesk_rules_piece(self._room, start)
+            pieces.append(bytes(piece)[: piece.length])
+            start += piece.length
+        return b"".join(pieces)
 
 
 def check(text: bytes) -> str:
