@@ -149,6 +149,25 @@ def try_small(counts: Counts) -> None:
     try_lines(counts)
     try_frames(counts)
     try_faults(counts)
+    try_rules(counts)
+
+
+def try_rules(counts: Counts) -> None:
+    """Groups and forms under rules, of a bag and of a column."""
+    rules = crsdesk.Rules('SAME[VDATUM["D"],VDATUM["E"]]', "UNCOUNTED[crsName]")
+    other, foot = HEIGHT.replace('"H"', '"G"').replace('"D"', '"E"'), HEIGHT.replace('"metre",1', '"foot",0.3048')
+    texts = [HEIGHT, other, "", foot, "EPSG:4326", crsdesk.Crs(other)]
+    bag = dask.bag.from_sequence(texts, npartitions=3)
+    column = dask.dataframe.from_pandas(pandas.Series(texts, name="wkt"), npartitions=2)
+    answers = groups(bag, rules=rules).compute(scheduler="threads")
+    counts.compare("a bag under rules", [it.group for it in answers], [1, 1, None, 2, None, 1])
+    answers = standings(groups(column, "definition", rules=rules).compute(scheduler="sync"))
+    counts.compare("a column under rules", [it.group for it in answers], [1, 1, None, 2, None, 1])
+    answers = groups(bag).compute(scheduler="sync")
+    counts.compare("the same bag without rules", [it.group for it in answers], [1, 2, None, 3, None, 2])
+    forms = [None if it in ("", "EPSG:4326") else crsdesk.canon(it, rules=rules) for it in texts]
+    counts.compare("forms of a bag", canon(bag, rules=rules).compute(scheduler="sync"), forms)
+    counts.compare("forms of a column", canon(column, "full", rules).compute(scheduler="sync").tolist(), forms)
 
 
 def by_catalogue(texts: List[Any]) -> List[Standing]:

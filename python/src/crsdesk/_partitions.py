@@ -17,6 +17,7 @@ import numpy
 from ._crs import Level, bytes_of, canon, is_blank, number_of
 from ._library import canon_bytes
 from ._refused import Refused
+from ._rules import Rules
 
 # An array of numpy.
 Array = Any
@@ -110,7 +111,7 @@ class Met(NamedTuple):
 # A partition by itself.
 
 
-def own_groups(texts: Iterable[Any], level: Level, missing: Any = None) -> Half:
+def own_groups(texts: Iterable[Any], level: Level, missing: Any = None, rules: Optional[Rules] = None) -> Half:
     """The groups of a partition by itself. ``missing`` says whether a value of a column is none."""
     number = number_of(level)
     numbers: Dict[bytes, int] = {}
@@ -124,10 +125,12 @@ def own_groups(texts: Iterable[Any], level: Level, missing: Any = None) -> Half:
         group = known.get(text) if is_plain else None
         if group is None:
             try:
-                if is_plain:
+                if is_plain and rules is None:
                     spelling = canon_bytes(text if type(text) is bytes else bytes_of(text), number)
+                elif not is_plain and (missing and missing(text) or is_blank(text)):
+                    spelling = b""
                 else:
-                    spelling = b"" if missing and missing(text) or is_blank(text) else canon(text, level).encode()
+                    spelling = canon(text, level, rules).encode()
                 group = numbers.setdefault(spelling, len(numbers) + 1) if spelling else 0
             except Refused as refused:
                 group = 0

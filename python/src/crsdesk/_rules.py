@@ -117,6 +117,10 @@ class Rules:
         """By the bytes of the files, which are read again."""
         return type(self), self._texts
 
+    def __dask_tokenize__(self) -> Tuple[bytes, ...]:
+        """By what Dask names tasks."""
+        return self._texts
+
 
 def file_bytes(text: Union[str, bytes]) -> bytes:
     """The bytes of a rules file: of a str in UTF-8."""

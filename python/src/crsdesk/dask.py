@@ -26,9 +26,10 @@ from dask.delayed import Delayed
 from dask.highlevelgraph import HighLevelGraph
 
 from . import _partitions
-from ._crs import Level, canon as canonical_text, number_of
+from ._crs import Level, canon as canonical_text, number_of, rules_of
 from ._partitions import Half, Kept, Led, Ranks, Standing, Standings
 from ._refused import Refused
+from ._rules import Rules
 
 __all__ = ["Standing", "canon", "groups", "lines"]
 
@@ -63,27 +64,32 @@ def lines_of(block: bytes) -> List[bytes]:
     return found
 
 
-def groups(texts: Any, level: Level = "full", *, npartitions: Optional[int] = None) -> Any:
+def groups(
+    texts: Any, level: Level = "full", *, npartitions: Optional[int] = None, rules: Optional[Rules] = None
+) -> Any:
     """The group or the refusal of each text of a bag or of a dataframe's column, as those of one ``Catalogue``.
 
     Groups are numbered from 1 by their first texts, in the collection's order. Of a bag the answer is a bag of
     ``Standing``; of a column it is a dataframe with its index, its partitions, and the columns ``group`` (``Int64``, with
     NA) and ``refusal`` (a str or None). A blank text, and NA in a column, has neither. Nothing is computed before the
     answer is asked for. ``npartitions`` is in how many partitions keys are compared; where none is given, as many as the
-    collection has up to 8, and above 256 partitions one for each 32.
+    collection has up to 8, and above 256 partitions one for each 32. With ``rules`` texts are in one group where they are
+    the same under them.
 
     ``TypeError`` for another collection, and while it is computed for what is no text; ``ValueError`` for a level that
     isn't there.
     """
     number_of(level)
+    rules_of(rules)
     is_bag = is_bag_of(texts)
     parts = texts.to_delayed()
     count = len(parts)
     meetings = npartitions or min(count, max(MEETINGS, count // A_MEETING))
     spans_wanted = min(count, max(MEETINGS, count // A_MEETING))
     bounds = [count * number // spans_wanted for number in range(spans_wanted + 1)]
-    graph = Graph(tokenize([part.key for part in parts], level, is_bag, meetings), parts)
-    answers = [graph.part(key) for key in add_tasks(graph, level, is_bag, list(zip(bounds, bounds[1:])), meetings)]
+    graph = Graph(tokenize([part.key for part in parts], level, is_bag, meetings, rules), parts)
+    spans = list(zip(bounds, bounds[1:]))
+    answers = [graph.part(key) for key in add_tasks(graph, level, is_bag, spans, meetings, rules)]
     if is_bag:
         return dask.bag.from_delayed(answers)
     return dask.dataframe.from_delayed(answers, meta=empty_like(texts), divisions=texts.divisions, verify_meta=False)
@@ -112,10 +118,16 @@ class Graph:
         return Delayed(key, self.whole, layer=name)
 
 
-def add_tasks(graph: Graph, level: Level, is_bag: bool, spans: List[Tuple[int, int]], meetings: int) -> List[str]:
+def add_tasks(
+    graph: Graph, level: Level, is_bag: bool, spans: List[Tuple[int, int]], meetings: int, rules: Optional[Rules]
+) -> List[str]:
     """The tasks by which partitions are grouped, and the keys of their answers. What goes between workers are the arrays
     of a span and a meeting; texts leave a worker where they are compared."""
-    halves = [graph.add("own_groups", it, own_groups, part.key, level, is_bag) for it, part in enumerate(graph.parts)]
+    # They go to each worker once.
+    under = None if rules is None else graph.add("rules", 0, Rules, *rules.texts)
+    halves = [
+        graph.add("own_groups", it, own_groups, part.key, level, is_bag, under) for it, part in enumerate(graph.parts)
+    ]
     kept = [graph.add("kept_of", it, kept_of, half) for it, half in enumerate(halves)]
     digests = [graph.add("digests_of", it, digests_of, half) for it, half in enumerate(halves)]
     sent = [
@@ -145,13 +157,14 @@ def add_tasks(graph: Graph, level: Level, is_bag: bool, spans: List[Tuple[int, i
     ]
 
 
-def canon(texts: Any, level: Level = "full") -> Any:
-    """The canonical text of each text of a bag or of a dataframe's column, in a collection like it; None where it spells
-    no CRS, and where it is NA. Raises as ``groups`` does."""
+def canon(texts: Any, level: Level = "full", rules: Optional[Rules] = None) -> Any:
+    """The canonical text of each text of a bag or of a dataframe's column, or the form under rules, in a collection like
+    it; None where it spells no CRS, and where it is NA. Raises as ``groups`` does."""
     number_of(level)
+    rules_of(rules)
     if is_bag_of(texts):
-        return texts.map_partitions(canonical_list, level)
-    return texts.map_partitions(canonical_column, level, meta=(texts.name, "object"))
+        return texts.map_partitions(canonical_list, level, rules)
+    return texts.map_partitions(canonical_column, level, rules, meta=(texts.name, "object"))
 
 
 def is_bag_of(texts: Any) -> bool:
@@ -175,9 +188,9 @@ def is_missing(text: object) -> bool:
     return text is None or text is pandas.NA or isinstance(text, float) and text != text
 
 
-def own_groups(texts: Any, level: Level, is_bag: bool) -> Half:
+def own_groups(texts: Any, level: Level, is_bag: bool, rules: Optional[Rules]) -> Half:
     """A partition by itself."""
-    return _partitions.own_groups(texts, level, None if is_bag else is_missing)
+    return _partitions.own_groups(texts, level, None if is_bag else is_missing, rules)
 
 
 def kept_of(half: Half) -> Kept:
@@ -215,20 +228,20 @@ def answer(kept: Kept, led: List[Led], place: int, ranks: Ranks, is_bag: bool) -
     return pandas.DataFrame(columns, index=kept.index)
 
 
-def canonical_or_none(text: Any, level: Level) -> Optional[str]:
-    """The canonical text; None of a text that spells no CRS."""
+def canonical_or_none(text: Any, level: Level, rules: Optional[Rules]) -> Optional[str]:
+    """The canonical text, or the form; None of a text that spells no CRS."""
     try:
-        return canonical_text(text, level)
+        return canonical_text(text, level, rules)
     except Refused:
         return None
 
 
-def canonical_list(texts: Iterable[Any], level: Level) -> List[Optional[str]]:
+def canonical_list(texts: Iterable[Any], level: Level, rules: Optional[Rules]) -> List[Optional[str]]:
     """The canonical texts of a partition of a bag."""
-    return [canonical_or_none(text, level) for text in texts]
+    return [canonical_or_none(text, level, rules) for text in texts]
 
 
-def canonical_column(texts: Any, level: Level) -> Any:
+def canonical_column(texts: Any, level: Level, rules: Optional[Rules]) -> Any:
     """The canonical texts of a partition of a column."""
-    found = [None if is_missing(text) else canonical_or_none(text, level) for text in texts]
+    found = [None if is_missing(text) else canonical_or_none(text, level, rules) for text in texts]
     return pandas.Series(found, index=texts.index, name=texts.name, dtype="object")
