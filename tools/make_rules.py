@@ -1,0 +1,134 @@
+#!/usr/bin/env python3
+"""Writes a rules file with the other names of datums, ellipsoids and prime meridians that your PROJ database has.
+
+    make_rules.py [--database FILE] [--beside FILE].. [--only REGISTRY].. > aliases.rules
+
+The database is proj.db of PROJ (pyproj.datadir.get_data_dir() says where; by default it is looked for in PROJ_DATA,
+/usr/share/proj and /usr/local/share/proj). Its names of geodetic and vertical datums, of ellipsoids and of prime meridians
+come first, each without a trailing ' ensemble', and then their aliases in its table alias_name, and the name as PROJ writes
+it in WKT1, with underscores. With --only the aliases of the registry ESRI (or EPSG, PROJ) alone are taken.
+
+So that nothing chains, an alias of two names is left out, and an alias that is a name itself. So is what stands in the files
+given by --beside, since no name may stand in two sets; they are rules/producers.rules where none is given. How many sets
+there are, and how many aliases were left out, goes to standard error. The file says of two datums that they are one where
+the database says that they have one name: look at it before you rely on it. The status is 0, or 2 with a line on standard
+error.
+"""
+from __future__ import annotations
+
+import argparse
+import os
+import pathlib
+import re
+import sqlite3
+import sys
+import urllib.parse
+from collections import defaultdict
+from typing import Dict, List, Set
+
+ROOT = pathlib.Path(__file__).resolve().parent.parent
+PLACES = ("/usr/share/proj", "/usr/local/share/proj")
+# The table of a kind of node, by the node's keyword.
+TABLES = {
+    "DATUM": "geodetic_datum",
+    "VDATUM": "vertical_datum",
+    "ELLIPSOID": "ellipsoid",
+    "PRIMEM": "prime_meridian",
+}
+NODE = re.compile(r'\b([A-Z]+)\["((?:[^"]|"")*)"')
+
+
+def database_path() -> str:
+    """Where the database is looked for; the first place if it is in none."""
+    folders = [*os.environ.get("PROJ_DATA", os.environ.get("PROJ_LIB", "")).split(os.pathsep), *PLACES]
+    paths = [f"{it}/proj.db" for it in folders if it]
+    return next((it for it in paths if os.path.exists(it)), paths[0])
+
+
+def beside(paths: List[str]) -> Dict[str, Set[str]]:
+    """The names that stand in rules files, by their nodes' keywords."""
+    found: Dict[str, Set[str]] = defaultdict(set)
+    for path in paths:
+        for line in pathlib.Path(path).read_text(encoding="utf-8").split("\n"):
+            if not line.lstrip().startswith("#"):
+                for keyword, name in NODE.findall(line):
+                    found[keyword].add(name.replace('""', '"'))
+    return found
+
+
+def as_in_wkt1(name: str) -> str:
+    """A name as PROJ and GDAL write it in WKT1: what is no letter, digit or sign becomes one underscore."""
+    return re.sub(r"[^A-Za-z0-9+-]+", "_", name).strip("_")
+
+
+def frame_name(name: str) -> str:
+    """The name that an ensemble has where ensembles don't count."""
+    return name[: -len(" ensemble")] if name.endswith(" ensemble") else name
+
+
+def sets_of(database: sqlite3.Connection, table: str, only: List[str]) -> Dict[str, Set[str]]:
+    """The aliases of each name of a table."""
+    found: Dict[str, Set[str]] = defaultdict(set)
+    asked = f"SELECT auth_name, code, name FROM {table}"
+    names = {(registry, str(code)): frame_name(name) for registry, code, name in database.execute(asked)}
+    for first in names.values():
+        found[first].add(as_in_wkt1(first))
+    asked = "SELECT auth_name, code, alt_name, source FROM alias_name WHERE table_name = ?"
+    for registry, code, alias, source in database.execute(asked, (table,)):
+        name = names.get((registry, str(code)))
+        if name is not None and (not only or source in only):
+            found[name].add(frame_name(alias))
+    return found
+
+
+def statement(keyword: str, names: List[str]) -> str:
+    nodes = (f'{keyword}["{name.replace(chr(34), chr(34) * 2)}"]' for name in names)
+    return f"SAME[{','.join(nodes)}]"
+
+
+def main(words: List[str]) -> int:
+    parser = argparse.ArgumentParser(usage="make_rules.py [--database FILE] [--beside FILE].. [--only REGISTRY]..")
+    parser.add_argument("--database", default=database_path())
+    parser.add_argument("--beside", action="append")
+    parser.add_argument("--only", action="append", default=[])
+    asked = parser.parse_args(words)
+    try:
+        taken = beside(asked.beside if asked.beside is not None else [str(ROOT / "rules" / "producers.rules")])
+        address = f"file:{urllib.parse.quote(os.path.abspath(asked.database))}?mode=ro"
+        database = sqlite3.connect(address, uri=True)
+        print(f"# Other names of datums, ellipsoids and prime meridians, by tools/make_rules.py from {asked.database}")
+        for key, value in database.execute("SELECT key, value FROM metadata WHERE key LIKE '%.VERSION' ORDER BY key"):
+            print(f"# {key} {value}")
+        for keyword, table in TABLES.items():
+            found = sets_of(database, table, asked.only)
+            known = defaultdict(set)
+            for name, aliases in found.items():
+                for alias in aliases:
+                    known[alias].add(name)
+            counts = {"of two names": 0, "that are names": 0, "that stand beside": 0}
+            sets = 0
+            for name, aliases in sorted(found.items()):
+                kept = []
+                for alias in sorted(aliases - {name, ""}):
+                    if alias in found:
+                        counts["that are names"] += 1
+                    elif len(known[alias]) > 1:
+                        counts["of two names"] += 1
+                    elif alias in taken[keyword] or name in taken[keyword]:
+                        counts["that stand beside"] += 1
+                    else:
+                        kept.append(alias)
+                if kept:
+                    sets += 1
+                    print(statement(keyword, [name, *kept]))
+            told = ", ".join(f"{count} {why}" for why, count in counts.items())
+            print(f"{keyword}: {sets} sets; left out: aliases {told}", file=sys.stderr)
+        sys.stdout.flush()
+    except (OSError, UnicodeError, sqlite3.Error) as error:
+        print(f"make_rules.py: {asked.database}: {error}", file=sys.stderr)
+        return 2
+    return 0
+
+
+if __name__ == "__main__":
+    sys.exit(main(sys.argv[1:]))
