@@ -1,14 +1,16 @@
 #!/usr/bin/env python3
 """Writes a rules file with the other names of datums, ellipsoids and prime meridians that your PROJ database has.
 
-    make_rules.py [--database FILE] [--beside FILE].. [--only REGISTRY].. > aliases.rules
+    make_rules.py [--database FILE] [--beside FILE].. [--only REGISTRY].. [--join] > aliases.rules
 
 The database is proj.db of PROJ (pyproj.datadir.get_data_dir() says where; by default it is looked for in PROJ_DATA,
 /usr/share/proj and /usr/local/share/proj). Its names of geodetic and vertical datums, of ellipsoids and of prime meridians
 come first, each without a trailing ' ensemble', and then their aliases in its table alias_name, and the name as PROJ writes
 it in WKT1, with underscores. With --only the aliases of the registry ESRI (or EPSG, PROJ) alone are taken.
 
-So that nothing chains, an alias of two names is left out, and an alias that is a name itself. So is what stands in the files
+So that nothing chains, an alias of two names is left out, and an alias that is a name itself. With --join such a name and
+its aliases go to the one name whose alias it is: then two datums of the registries count as one, such as Esri's
+D_Costa_Rica_2005 and EPSG's "Costa Rica 2005", as PROJ takes them where it reads WKT1. Left out too is what stands in the files
 given by --beside, since no name may stand in two sets; they are rules/producers.rules where none is given. How many sets
 there are, and how many aliases were left out, goes to standard error. The file says of two datums that they are one where
 the database says that they have one name: look at it before you rely on it. The status is 0, or 2 with a line on standard
@@ -81,16 +83,32 @@ def sets_of(database: sqlite3.Connection, table: str, only: List[str]) -> Dict[s
     return found
 
 
+def join(found: Dict[str, Set[str]]) -> int:
+    """Puts each name that is an alias of one other name, which is an alias of none, into that one's set; how many."""
+    heads: Dict[str, Set[str]] = defaultdict(set)
+    for name, aliases in found.items():
+        for alias in (aliases & found.keys()) - {name}:
+            heads[alias].add(name)
+    joined = [alias for alias, names in heads.items() if len(names) == 1 and not names & heads.keys()]
+    for alias in joined:
+        (head,) = heads[alias]
+        found[head] |= found.pop(alias)
+    return len(joined)
+
+
 def statement(keyword: str, names: List[str]) -> str:
     nodes = (f'{keyword}["{name.replace(chr(34), chr(34) * 2)}"]' for name in names)
     return f"SAME[{','.join(nodes)}]"
 
 
 def main(words: List[str]) -> int:
-    parser = argparse.ArgumentParser(usage="make_rules.py [--database FILE] [--beside FILE].. [--only REGISTRY]..")
+    parser = argparse.ArgumentParser(
+        usage="make_rules.py [--database FILE] [--beside FILE].. [--only REGISTRY].. [--join]"
+    )
     parser.add_argument("--database", default=database_path())
     parser.add_argument("--beside", action="append")
     parser.add_argument("--only", action="append", default=[])
+    parser.add_argument("--join", action="store_true")
     asked = parser.parse_args(words)
     try:
         taken = beside(asked.beside if asked.beside is not None else [str(ROOT / "rules" / "producers.rules")])
@@ -101,6 +119,7 @@ def main(words: List[str]) -> int:
             print(f"# {key} {value}")
         for keyword, table in TABLES.items():
             found = sets_of(database, table, asked.only)
+            joined = join(found) if asked.join else 0
             known = defaultdict(set)
             for name, aliases in found.items():
                 for alias in aliases:
@@ -122,7 +141,7 @@ def main(words: List[str]) -> int:
                     sets += 1
                     print(statement(keyword, [name, *kept]))
             told = ", ".join(f"{count} {why}" for why, count in counts.items())
-            print(f"{keyword}: {sets} sets; left out: aliases {told}", file=sys.stderr)
+            print(f"{keyword}: {sets} sets, {joined} names joined; left out: aliases {told}", file=sys.stderr)
         sys.stdout.flush()
     except (OSError, UnicodeError, sqlite3.Error) as error:
         print(f"make_rules.py: {asked.database}: {error}", file=sys.stderr)

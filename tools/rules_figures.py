@@ -3,7 +3,7 @@
 
     rules_figures.py [--rules FILE].. [--every N] [--keep FILE | --texts FILE]
 
-pyproj must be there, and the package crsdesk (PYTHONPATH=python/src, over out/prefix or CRSDESK_LIBRARY). Each CRS of EPSG
+pyproj must be there, and the library, in out/prefix or where CRSDESK_LIBRARY says. Each CRS of EPSG
 and of Esri in PROJ's database, deprecated ones too, that is geodetic, geographic, projected, vertical or compound, is
 written by PROJ in the layout WKT2:2019, and in others, which PROJ reads back and writes in that of 2019. Printed are, by
 registry and layout: how many texts there are (of some CRSs PROJ writes none, or reads none), and how many of them are the
@@ -31,6 +31,11 @@ from collections import Counter, defaultdict
 from typing import Dict, Iterator, List, NamedTuple, Optional, TextIO, Tuple
 
 ROOT = pathlib.Path(__file__).resolve().parent.parent
+os.environ.setdefault("CRSDESK_LIBRARY", str(ROOT / "out" / "prefix" / "lib" / "libcrsdesk.so"))
+sys.dont_write_bytecode = True
+sys.path.insert(0, str(ROOT / "python" / "src"))
+import crsdesk  # type: ignore[import]
+
 SHIPPED = [str(ROOT / "rules" / name) for name in ("producers.rules", "any-order.rules")]
 FIRST = "WKT2_2019"
 LAYOUTS = ("WKT2_2015", "WKT2_2019_SIMPLIFIED", "WKT1_GDAL", "WKT1_ESRI")
@@ -87,8 +92,8 @@ def keep(one: Texts, file: Optional[TextIO]) -> None:
 
 
 def numbers(value: Optional[str]) -> List[float]:
-    """The numbers of a part's value, in order; names may have digits, and don't count."""
-    return sorted(map(float, NUMBER.findall(QUOTED.sub('""', value or ""))))
+    """The numbers of a part's value; names may have digits, and don't count."""
+    return list(map(float, NUMBER.findall(QUOTED.sub('""', value or ""))))
 
 
 def is_near(first: List[float], second: List[float]) -> bool:
@@ -97,16 +102,27 @@ def is_near(first: List[float], second: List[float]) -> bool:
     return all(abs(a - b) <= DIGITS * max(abs(a), abs(b)) for a, b in zip(first, second))
 
 
-def mark(path: str, first: Optional[str], second: Optional[str]) -> str:
-    """What a merger's difference is, of those that no rule may take away; '' for another."""
-    if UNCOUNTED.search(path):
-        return ""
-    if path.endswith("method/name"):
-        return "METHOD"
-    if path.endswith("datum/name"):
-        names = [re.sub(' ensemble"$', '"', it or "") for it in (first, second)]
-        return "DATUM" if names[0] != names[1] else ""
-    return "" if is_near(numbers(first), numbers(second)) else "NUMBERS"
+def marked(parts: List[crsdesk.Difference]) -> Dict[str, List[crsdesk.Difference]]:
+    """Those of two CRSs' differences that no rule may take away, by their marks. Axes are compared as sets."""
+    found: Dict[str, List[crsdesk.Difference]] = defaultdict(list)
+    axes: Dict[str, List[crsdesk.Difference]] = defaultdict(list)
+    for part in parts:
+        if UNCOUNTED.search(part.path):
+            continue
+        if part.path.endswith("method/name"):
+            found["METHOD"].append(part)
+        elif part.path.endswith("datum/name"):
+            names = [re.sub(' ensemble"$', '"', it or "") for it in (part.first, part.second)]
+            if names[0] != names[1]:
+                found["DATUM"].append(part)
+        else:
+            axes[re.sub(r"axis\d/", "", part.path)].append(part)
+    for some in axes.values():
+        firsts = sorted(it for part in some for it in numbers(part.first))
+        seconds = sorted(it for part in some for it in numbers(part.second))
+        if not is_near(firsts, seconds):
+            found["NUMBERS"] += some
+    return found
 
 
 def main(words: List[str]) -> int:
@@ -116,11 +132,6 @@ def main(words: List[str]) -> int:
     parser.add_argument("--keep")
     parser.add_argument("--texts")
     asked = parser.parse_args(words)
-    os.environ.setdefault("CRSDESK_LIBRARY", str(ROOT / "out" / "prefix" / "lib" / "libcrsdesk.so"))
-    sys.dont_write_bytecode = True
-    sys.path.insert(0, str(ROOT / "python" / "src"))
-    import crsdesk  # type: ignore[import]
-
     try:
         rules = crsdesk.Rules.from_file(*(asked.rules or SHIPPED))
         kept = open(asked.keep, "w", encoding="utf-8") if asked.keep else None
@@ -165,14 +176,13 @@ def main(words: List[str]) -> int:
         (head, *others) = plains.items()
         for text, codes in others:
             parts = crsdesk.differences(head[0], text, "definition")
-            found = sorted({mark(it.path, it.first, it.second) for it in parts} - {""})
-            marks[" ".join(found)] += 1
+            found = marked(parts)
+            marks[" ".join(sorted(found))] += 1
             paths = ", ".join(it.path for it in parts)
-            told = "".join(f"{it} " for it in found)
+            told = "".join(f"{it} " for it in sorted(found))
             print(f"one: {told}{' '.join(head[1])} | {' '.join(codes)}: {paths}")
-            for it in parts:
-                if mark(it.path, it.first, it.second):
-                    print(f"     {it}")
+            for it in (part for some in found.values() for part in some):
+                print(f"     {it}")
     plain_count = sum(map(len, groups.values()))
     told = ", ".join(f"{marks[it]} {it}" for it in sorted(marks) if it) or "none of them marked"
     print(f"{sum(len(c) for p in groups.values() for c in p.values())} CRSs, {plain_count} without rules, ", end="")
