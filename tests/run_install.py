@@ -31,6 +31,8 @@ FILES = {
     "lib/pkgconfig/crsdesk.pc",
     "lib/crsdesk_sqlite.so",
     "share/crsdesk/installed",
+    "share/crsdesk/rules/any-order.rules",
+    "share/crsdesk/rules/producers.rules",
     "share/bash-completion/completions/crsdesk",
     "share/man/man1/crsdesk.1",
 }
