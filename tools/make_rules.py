@@ -83,6 +83,18 @@ def sets_of(database: sqlite3.Connection, table: str, only: List[str]) -> Dict[s
     return found
 
 
+def add_heights(found: Dict[str, Set[str]], frames: Dict[str, Set[str]]) -> None:
+    """Adds to vertical datums that are named as a geodetic one's alias, for heights above its ellipsoid, that one's name,
+    by which PROJ reads them."""
+    of_alias: Dict[str, Set[str]] = defaultdict(set)
+    for name, aliases in frames.items():
+        for alias in aliases - {name}:
+            of_alias[alias].add(name)
+    for name, names in found.items():
+        if len(of_alias[name]) == 1:
+            names |= of_alias[name]
+
+
 def join(found: Dict[str, Set[str]]) -> int:
     """Puts each name that is an alias of one other name, which is an alias of none, into that one's set; how many."""
     heads: Dict[str, Set[str]] = defaultdict(set)
@@ -119,6 +131,8 @@ def main(words: List[str]) -> int:
             print(f"# {key} {value}")
         for keyword, table in TABLES.items():
             found = sets_of(database, table, asked.only)
+            if keyword == "VDATUM":
+                add_heights(found, sets_of(database, "geodetic_datum", asked.only))
             joined = join(found) if asked.join else 0
             known = defaultdict(set)
             for name, aliases in found.items():
