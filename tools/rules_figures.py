@@ -163,7 +163,7 @@ def main(words: List[str]) -> int:
                     count[registry, layout, "under"] += both[1] == form
         if kept:
             kept.close()
-    except (ImportError, OSError, ValueError) as error:
+    except (ImportError, OSError, ValueError, KeyError) as error:
         print(f"rules_figures.py: {error}", file=sys.stderr)
         return 2
     print(f"{'registry':9}{'layout':22}{'CRSs':>7}{'texts':>7}{'same':>7}{'':8}{'under rules':>11}")
@@ -191,4 +191,9 @@ def main(words: List[str]) -> int:
 
 
 if __name__ == "__main__":
-    sys.exit(main(sys.argv[1:]))
+    try:
+        status = main(sys.argv[1:])
+    except BrokenPipeError:
+        os.dup2(os.open(os.devnull, os.O_WRONLY), sys.stdout.fileno())
+        status = 2
+    sys.exit(status)
