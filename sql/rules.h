@@ -1,0 +1,45 @@
+/* Rules files and the forms of texts under them (docs/RULES.md), for both extensions for SQL. */
+#ifndef CRSDESK_SQL_RULES_H
+#define CRSDESK_SQL_RULES_H
+
+#include <stddef.h>
+#include <stdint.h>
+#include <string.h>
+
+#include "crsdesk.h"
+
+/* Why a line of a rules file is refused, in words; `name` has `room` bytes for those of the numbers of texts. */
+static const char *why_refused(uint64_t number, char *name, size_t room)
+{
+    size_t length;
+
+    switch (number) {
+    case 41:
+        return "neither SAME nor UNCOUNTED";
+    case 42:
+        return "no node or word that may stand here";
+    case 43:
+        return "a node of another kind than the first of its set";
+    case 44:
+        return "a node that stood in a set before";
+    default:
+        if (crsdesk_refusal_name((uint32_t)number, name, room - 1, &length) != CRSDESK_OK)
+            length = 0;
+        name[length] = '\0';
+        return name;
+    }
+}
+
+/* Writes the form that rules keep, of so many bytes. */
+static void copy_form(struct crsdesk_rules *rules, char *out, size_t length)
+{
+    struct crsdesk_piece piece;
+    size_t from;
+
+    for (from = 0; from < length; from += piece.length) {
+        piece = crsdesk_rules_piece(rules, from);
+        memcpy(out + from, piece.bytes, piece.length);
+    }
+}
+
+#endif
