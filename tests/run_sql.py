@@ -22,6 +22,7 @@ import sqlite3
 import subprocess
 import sys
 import tempfile
+import time
 from concurrent.futures import ThreadPoolExecutor
 from typing import Iterator, List
 
@@ -83,6 +84,7 @@ def promises() -> Iterator[Statement]:
     yield "the parts", asked, "1|datum/kind,system/axis1/direction"
     yield "types", f"SELECT typeof(crs_canon('{HEIGHT}')), typeof(crs_same('{HEIGHT}', '{HEIGHT}'));", "text|integer"
     yield from of_indexes()
+    yield from of_rules()
     yield from of_limits()
     yield from sql_rows.of_long_texts(SQLITE)
 
@@ -99,6 +101,21 @@ def of_indexes() -> Iterator[Statement]:
     yield "a generated column", "SELECT DISTINCT kind FROM t WHERE kind IS NOT NULL;", "vertical"
     yield "groups", "SELECT count(*) FROM t GROUP BY crs_canon(wkt, 'definition') ORDER BY 1;", "1\n3"
     yield "a view", "CREATE VIEW v AS SELECT n, crs_canon(wkt) AS canon FROM t; SELECT count(DISTINCT canon) FROM v;", "2"
+
+
+def of_rules() -> Iterator[Statement]:
+    """Rules as bytes, and in a schema."""
+    height, other, rules = sql_rows.HEIGHT, sql_rows.OTHER, sql_rows.RULES
+    blob = literal(rules.encode(), True)
+    yield "rules as bytes", f"SELECT crs_canon('{other}', 'full', {blob}), crs_canon('{height}', 'full', X'');", f"{sql_rows.FORM}|{CANONICAL_HEIGHT}"
+    yield "types", f"SELECT typeof(crs_canon('{height}', 'full', '')), typeof(crs_same('{height}', '{height}', 'full', ''));", "text|integer"
+    yield "a NUL byte", f"SELECT crs_canon('{height}', 'full', {literal(rules.encode() + bytes(1), False)});", "Error: rules: line 5: refused 1 at 0: BadCharacter"
+    yield "a table", "CREATE TABLE r (n INTEGER PRIMARY KEY, wkt TEXT);", ""
+    yield "an index", f"CREATE UNIQUE INDEX r_by_crs ON r (crs_canon(wkt, 'full', '{rules}'));", ""
+    yield "rows", f"INSERT INTO r (wkt) VALUES ('{height}'), ('x'), (NULL);", ""
+    wanted = "Error: UNIQUE constraint failed: index 'r_by_crs'"
+    yield "each CRS once under rules", f"INSERT INTO r (wkt) VALUES ('{other}');", wanted
+    yield "each CRS once under rules", f"INSERT INTO r (wkt) VALUES ('{NOTED}'); SELECT count(*) FROM r;", "4"
 
 
 def of_limits() -> Iterator[Statement]:
@@ -154,7 +171,7 @@ def plain_error(text: str) -> str:
 
 def try_statements(counts: Counts, extension: pathlib.Path, preloaded: str = "") -> None:
     asked, promised = list(sql_rows.rows(SQLITE)), list(promises())
-    names = ("a level", "a wrong level", "a limit", "the usual limit", "a refused text", "nothing", "types")
+    names = ("a level", "a wrong level", "under rules", "rules of rows", "refused rules", "long rules", "a limit", "the usual limit", "a refused text", "nothing", "types")
     of_encoding = [it for it in promised if it[0] in names]
     for statements, first in ((asked, ""), (promised, ""), (of_encoding, "PRAGMA encoding='UTF-16';")):
         *answers, rest = printed(extension, statements, first, preloaded)
@@ -183,6 +200,29 @@ def try_sanitized(counts: Counts, prefix: pathlib.Path, folder: pathlib.Path) ->
     extension = folder / "crsdesk_sqlite.so"
     build_sqlite.build(prefix, extension, ["-g", "-fsanitize=address,undefined", "-fno-sanitize-recover=all"])
     try_statements(counts, extension, " ".join(found))
+
+
+# Rules that take some tens of milliseconds to read, and texts that are compared under them.
+LARGE = "".join(f'SAME[DATUM["a{n}"],DATUM["b{n}"]]\n' for n in range(20_000))
+MANY = "WITH RECURSIVE n (n) AS (SELECT 1 UNION ALL SELECT n + 1 FROM n WHERE n < 5000)"
+
+
+def try_rules_once(counts: Counts, extension: pathlib.Path, folder: pathlib.Path) -> None:
+    """Rules are read once a statement, those of a constant and those that a function answers for each row."""
+    file = folder / "large.rules"
+    file.write_text(LARGE, encoding="utf-8")
+    asked = f"{MANY} SELECT count(crs_canon('{HEIGHT}' || printf('%*s', n, ''), 'full', {{}})) FROM n;"
+    seconds = []
+    for count, given in ((5000, f"'{LARGE}'"), (5000, f"readfile('{file}')"), (1, f"'{LARGE}'")):
+        begin = time.monotonic()
+        statement = asked.format(given).replace("< 5000", f"< {count}")
+        found = printed(extension, [("rules", statement, "")], "", "")
+        seconds.append(time.monotonic() - begin)
+        counts.compare(f"rules over {count} rows", found, [str(count), ""])
+    for many in seconds[:2]:
+        told = "" if many < 100 * seconds[2] else f"{many:.1f} s for 5000 rows, {seconds[2]:.3f} s for one"
+        counts.add("rules are read once a statement", told)
+    print(f"rules of {len(LARGE)} bytes: {seconds[2]:.3f} s for one row; {seconds[0]:.1f} and {seconds[1]:.1f} s for 5000")
 
 
 def try_symbols(counts: Counts, extension: pathlib.Path) -> None:
@@ -361,6 +401,7 @@ def main(words: List[str]) -> int:
         try_version(counts, prefix, extension)
         try_room(counts, extension)
         try_statements(counts, extension)
+        try_rules_once(counts, extension, pathlib.Path(folder))
         try_sanitized(counts, prefix, pathlib.Path(folder))
         try_threads(counts, extension)
         try_geopackage(counts, extension, pathlib.Path(folder))

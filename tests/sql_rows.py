@@ -90,6 +90,8 @@ def of_case(case: run_cases.Case, is_blob: bool, dialect: Dialect) -> Iterator[S
         canonical = "" if refusal else wanted.hex().upper()
         call = dialect.hex(f"crs_canon({', '.join([texts[0], *level])})")
         yield case.place, f"SELECT {call}, crs_refusal({texts[0]});", f"{canonical}|{refusal}"
+        under = ", ".join([texts[0], *(level or ["'full'"]), "''"])
+        yield f"{case.place} under no rules", f"SELECT {dialect.hex(f'crs_canon({under})')};", canonical
     elif words == [b"check"]:
         kind = "" if refusal else wanted.decode().split()[1]
         yield case.place, f"SELECT crs_kind({texts[0]}), crs_refusal({texts[0]});", f"{kind}|{refusal}"
@@ -102,6 +104,9 @@ def of_case(case: run_cases.Case, is_blob: bool, dialect: Dialect) -> Iterator[S
         path = "" if refusal else wanted.decode().split()[-1]
         call = dialect.number(f"crs_same({both})")
         yield case.place, f"SELECT {call}, crs_difference({both});", f"{is_same}|{path}"
+        under = ", ".join([*texts, *(level or ["'full'"]), "''"])
+        asked = f"SELECT {dialect.number(f'crs_same({under})')}, crs_difference({under});"
+        yield f"{case.place} under no rules", asked, f"{is_same}|{path}"
         parts = f"crs_differences({both})"
         first = "" if path == "same" else path
         call = dialect.number(dialect.is_none(parts))
@@ -164,6 +169,8 @@ def promises(dialect: Dialect) -> Iterator[Statement]:
     yield "a level", f"SELECT {dialect.part(parts, 'path', 0)}, {dialect.part(parts_by_definition, 'path', 0)};", "remark|"
     yield from of_values(dialect)
     yield from of_explanations(dialect)
+    yield from of_rules(dialect)
+    yield from of_refused_rules(dialect)
     yield from of_limits(dialect)
     nothing = dialect.literal(b"", True)
     asked = f"SELECT crs_kind(''), crs_refusal(''), crs_refusal({nothing});"
@@ -219,6 +226,81 @@ def of_explanations(dialect: Dialect) -> Iterator[Statement]:
                 yield "characters of an excerpt", f"SELECT {call};", "1"
     asked = f"SELECT length(crs_explain({dialect.literal(b'VERTCRS[' + bytes(range(128, 256)), True)})) > 100;"
     yield "no characters", asked.replace("SELECT ", "SELECT 1 WHERE "), "1"
+
+
+# Rules under which HEIGHT and OTHER are the same, and the form of both.
+RULES = '# of heights\nSAME[VDATUM["D"],VDATUM["E"]]\n\nUNCOUNTED[axisName]\n'
+OTHER = HEIGHT.replace('"D"', '"E"').replace('"h"', '"x"')
+FORM = CANONICAL_HEIGHT.replace('"h"', '""')
+# The calls that take rules, with what they are given before these.
+UNDER = [f"crs_canon('{HEIGHT}', 'full', "] + [
+    f"{call}('{HEIGHT}', '{OTHER}', 'full', " for call in ("crs_same", "crs_difference", "crs_differences")
+]
+
+
+def of_rules(dialect: Dialect) -> Iterator[Statement]:
+    """Under rules forms are answered and compared."""
+    yield "a form", f"SELECT crs_canon('{OTHER}', 'full', '{RULES}'), crs_canon('{FORM}', 'full', '{RULES}');", f"{FORM}|{FORM}"
+    for rules, is_same, path in ((RULES, 1, "same"), (RULES.partition("SAME")[0], 0, "datum/name")):
+        for text, twin in ((HEIGHT, OTHER), (OTHER, HEIGHT)):
+            given = f"'{text}', '{twin}', 'full', '{rules}'"
+            parts = f"crs_differences({given})"
+            call = f"{dialect.number(f'crs_same({given})')}, {dialect.number(dialect.is_none(parts))}"
+            yield "under rules", f"SELECT {call}, crs_difference({given});", f"{is_same}|{is_same}|{path}"
+    for is_blob in (False, True):
+        texts = [dialect.literal(it.encode(), is_blob) for it in (HEIGHT, OTHER)]
+        call = dialect.number(f"crs_same({', '.join(map(str, texts))}, 'full', '{RULES}')")
+        yield "under rules", f"SELECT crs_canon({texts[1]}, 'full', '{RULES}'), {call};", f"{FORM}|1"
+    for level, is_same, path in (("full", 0, "remark"), ("definition", 1, "same")):
+        given = f"'{NOTED}', '{OTHER}', '{level}', '{RULES}'"
+        parts = dialect.part(f"crs_differences({given})", "path", 0)
+        asked = f"SELECT {dialect.number(f'crs_same({given})')}, crs_difference({given}), {parts};"
+        yield "rules at a level", asked, f"{is_same}|{path}|{path if path != 'same' else ''}"
+    only = f"crs_differences('{HEIGHT}', '{OTHER}', 'full', 'UNCOUNTED[axisName]')"
+    asked = f"SELECT {', '.join(dialect.part(only, key, 0) for key in ('path', 'first', 'second'))}, {dialect.part(only, 'path', 1)};"
+    yield "the parts of forms", asked, 'datum/name|"D"|"E"|'
+    # Several rules in one statement, and rules that change from row to row.
+    names = 'SAME[VDATUM["E"],VDATUM["D"]]'
+    canons = [f"crs_canon('{HEIGHT}', 'full', '{it}')" for it in ("UNCOUNTED[axisName]", names, "UNCOUNTED[axisName]")]
+    renamed = CANONICAL_HEIGHT.replace('"D"', '"E"')
+    yield "two rules", f"SELECT {', '.join(canons)};", f"{FORM}|{renamed}|{FORM}"
+    rows_of = " UNION ALL ".join(f"SELECT {n} AS n, '{it}' AS rules" for n, it in enumerate(["", names, "", RULES]))
+    asked = f"SELECT crs_canon('{HEIGHT}', 'full', rules), crs_canon('{HEIGHT}', 'full', '{names}') FROM ({rows_of}) AS t ORDER BY n;"
+    yield "rules of rows", asked, "\n".join(f"{it}|{renamed}" for it in (CANONICAL_HEIGHT, renamed, CANONICAL_HEIGHT, FORM))
+    for name in ("é", "高", "\U0001f600"):
+        text = dialect.literal(HEIGHT.replace('"D"', f'"{name}"').encode(), False)
+        rules = dialect.literal(f'SAME[VDATUM["D"],VDATUM["{name}"]]'.encode(), False)
+        if text is not None and rules is not None:
+            yield "characters of rules", f"SELECT crs_canon({text}, 'full', {rules});", CANONICAL_HEIGHT
+    ended = dialect.literal(RULES.replace("\n", "\r\n").encode(), False)
+    yield "lines that end in CRLF", f"SELECT crs_canon('{OTHER}', 'full', {ended});", FORM
+    for call in UNDER:
+        yield "NULL gives NULL", f"SELECT {dialect.number(f'{call}NULL) IS NULL')};", "1"
+    yield "a wrong level", f"SELECT crs_canon('{HEIGHT}', 'Full', '');", f"Error: no such level: 'Full'; {LEVELS}"
+    for given in ("'x', '{0}'", "'{0}', 'x'", "'x', 'x'"):
+        given = f"{given.format(HEIGHT)}, 'full', '{RULES}'"
+        calls = [f"{it}({given}) IS NULL" for it in ("crs_same", "crs_difference", "crs_differences")]
+        yield "a refused text under rules", f"SELECT {', '.join(map(dialect.number, calls))};", "1|1|1"
+    canon = dialect.number(f"crs_canon('EPSG:4326', 'full', '{RULES}') IS NULL")
+    yield "a refused text under rules", f"SELECT {canon};", "1"
+
+
+def of_refused_rules(dialect: Dialect) -> Iterator[Statement]:
+    """A refused rules file is an error with line, number and place, of each function, and the next is read."""
+    for rules, wanted in (
+        ('EQUAL[DATUM["a"],DATUM["b"]]', "line 1: refused 41 at 0: neither SAME nor UNCOUNTED"),
+        ("# a\n\n UNCOUNTED[anchor,colour]", "line 3: refused 42 at 18: no node or word that may stand here"),
+        ('SAME[DATUM["a"],VDATUM["b"]]', "line 1: refused 43 at 16: a node of another kind than the first of its set"),
+        ('SAME[DATUM["a"],DATUM["b"]]\nSAME[DATUM["c"],TRF["b"]]', "line 2: refused 44 at 16: a node that stood in a set before"),
+        ('SAME[DATUM["a"]', "line 1: refused 7 at 15: UnexpectedEnd"),
+    ):
+        for call in UNDER:
+            yield "refused rules", f"SELECT {call}'{rules}');", f"Error: rules: {wanted}"
+        yield "after refused rules", f"SELECT crs_canon('{OTHER}', 'full', '{RULES}');", FORM
+    padded = f"'{RULES}' || replace({dialect.zeros(LIMIT)}, '0', '#')"
+    yield "long rules", f"SELECT crs_canon('{OTHER}', 'full', {padded});", too_long(LIMIT + len(RULES), LIMIT, dialect)
+    padded = f"'{RULES}{'#' * (len(RULES) % 2)}' || replace({dialect.zeros(LIMIT - len(RULES) - len(RULES) % 2)}, '0', '#')"
+    yield "long rules", f"SELECT crs_canon('{OTHER}', 'full', {padded});", FORM
 
 
 def text_of(length: int, dialect: Dialect) -> str:

@@ -47,7 +47,7 @@ def build(prefix: pathlib.Path, stage: pathlib.Path, flags: str) -> None:
     shutil.rmtree(stage, ignore_errors=True)
     stage.mkdir(parents=True)
     with tempfile.TemporaryDirectory() as scratch:
-        for file in [*SOURCES.iterdir(), SOURCES.parent / "differences.h"]:
+        for file in [*SOURCES.iterdir(), SOURCES.parent / "differences.h", SOURCES.parent / "rules.h"]:
             shutil.copy(file, scratch)
         words = ["make", "-s", "install", f"CRSDESK={prefix.resolve()}", f"DESTDIR={stage.resolve()}", f"COPT={flags}"]
         words.append(f"PG_CONFIG={os.environ.get('PG_CONFIG', 'pg_config')}")

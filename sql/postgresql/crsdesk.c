@@ -10,7 +10,8 @@
    - Handlers of signals: those of a backend set flags, or end it, and call nothing of the library.
    - Memory: a call takes it by malloc, and holds none when it comes back. No error of PostgreSQL is raised inside a
      call, so none jumps over memory that is to be freed. All else is palloc's. What a call takes is outside of work_mem,
-     and bounded by crsdesk.max_text_length.
+     and bounded by crsdesk.max_text_length. Rules alone hold memory: it is freed with the memory of the expression that
+     calls.
 
    What the functions answer is crsdesk's; this file is tested and not proved. */
 #include "postgres.h"
@@ -27,6 +28,7 @@
 
 #include "crsdesk.h"
 #include "differences.h"
+#include "rules.h"
 
 PG_MODULE_MAGIC;
 
@@ -163,6 +165,108 @@ static Datum canon_of(FunctionCallInfo fcinfo, bool is_text)
     PG_RETURN_TEXT_P(text_of(out, length));
 }
 
+/* The rules that an expression uses, with the bytes of their file; `bytes` is null where they are of none. */
+struct kept_rules {
+    MemoryContextCallback callback;
+    struct crsdesk_rules rules;
+    size_t length;
+    char *bytes;
+};
+
+static void free_rules(void *held)
+{
+    struct kept_rules *kept = held;
+
+    crsdesk_rules_free(&kept->rules);
+}
+
+/* What the expression of this call keeps, as long as it lives. */
+static struct kept_rules *kept_rules_of(FunctionCallInfo fcinfo)
+{
+    struct kept_rules *kept = fcinfo->flinfo->fn_extra;
+
+    if (kept != NULL)
+        return kept;
+    kept = MemoryContextAllocZero(fcinfo->flinfo->fn_mcxt, sizeof *kept);
+    crsdesk_rules_new(&kept->rules);
+    kept->callback.func = free_rules;
+    kept->callback.arg = kept;
+    MemoryContextRegisterResetCallback(fcinfo->flinfo->fn_mcxt, &kept->callback);
+    fcinfo->flinfo->fn_extra = kept;
+    return kept;
+}
+
+/* Reads a rules file in the place of what is kept; an error where it is refused. */
+static void read_rules(FunctionCallInfo fcinfo, struct kept_rules *kept, struct bytes file)
+{
+    struct crsdesk_rules_standing standing;
+    char name[SHORT_ROOM], *bytes;
+
+    if (kept->bytes != NULL)
+        pfree(kept->bytes);
+    kept->bytes = NULL;
+    crsdesk_rules_free(&kept->rules);
+    crsdesk_rules_new(&kept->rules);
+    bytes = MemoryContextAlloc(fcinfo->flinfo->fn_mcxt, file.length + 1);
+    memcpy(bytes, file.first, file.length);
+    /* Rules that were refused, or had no memory, are none. */
+    standing = crsdesk_rules_add(&kept->rules, bytes, file.length);
+    if (standing.code != CRSDESK_OK)
+        pfree(bytes);
+    if (standing.code == CRSDESK_REFUSED)
+        ereport(ERROR, (errcode(ERRCODE_INVALID_PARAMETER_VALUE),
+                        errmsg("rules: line %zu: refused %u at %zu: %s", standing.line, (unsigned)standing.number,
+                               standing.place, why_refused(standing.number, name, sizeof name))));
+    hold_code(standing.code);
+    kept->length = file.length;
+    kept->bytes = bytes;
+}
+
+/* The rules that an argument spells. They are read where their bytes aren't those of the call before. */
+static struct crsdesk_rules *rules_of(FunctionCallInfo fcinfo, int argument)
+{
+    struct bytes file = bytes_of(fcinfo, argument, true);
+    struct kept_rules *kept = kept_rules_of(fcinfo);
+
+    if (kept->bytes == NULL || kept->length != file.length || memcmp(kept->bytes, file.first, file.length) != 0) {
+        begin_call();
+        read_rules(fcinfo, kept, file);
+    }
+    return &kept->rules;
+}
+
+/* The form of a text under rules, after a header's room; null where the text is refused. */
+static text *form_of(struct crsdesk_rules *rules, uint32 level, struct bytes given, size_t *length)
+{
+    struct crsdesk_form form;
+    text *out;
+
+    begin_call();
+    form = crsdesk_rules_form(rules, level, given.first, given.length);
+    hold_code(form.code);
+    if (form.code != CRSDESK_OK)
+        return NULL;
+    if (form.length > MOST_BYTES)
+        ereport(ERROR, (errcode(ERRCODE_PROGRAM_LIMIT_EXCEEDED),
+                        errmsg("the form has %zu bytes, more than a text of PostgreSQL", form.length)));
+    out = palloc(VARHDRSZ + form.length);
+    copy_form(rules, VARDATA(out), form.length);
+    *length = form.length;
+    return out;
+}
+
+static Datum canon_under(FunctionCallInfo fcinfo, bool is_text)
+{
+    uint32 level = level_of(fcinfo, 1);
+    struct crsdesk_rules *rules = rules_of(fcinfo, 2);
+    size_t length;
+    text *form = form_of(rules, level, bytes_of(fcinfo, 0, is_text), &length);
+
+    if (form == NULL)
+        PG_RETURN_NULL();
+    PG_RETURN_TEXT_P(text_of(form, length));
+}
+
 static const char *const KINDS[] = {"", "geodetic", "geographic", "projected", "vertical", "compound"};
 
 static Datum kind_of(FunctionCallInfo fcinfo, bool is_text)
@@ -255,37 +359,84 @@ static Datum explain_of(FunctionCallInfo fcinfo, bool is_text)
     PG_RETURN_TEXT_P(explanation_of(given));
 }
 
-static Datum same_of(FunctionCallInfo fcinfo, bool first_is_text, bool second_is_text)
+/* Two texts that are compared at a level. */
+struct pair {
+    struct bytes first, second;
+    uint32 level;
+};
+
+static struct pair pair_of(FunctionCallInfo fcinfo, bool first_is_text, bool second_is_text)
 {
-    uint32 level = level_of(fcinfo, 2), same, code;
-    struct bytes first = bytes_of(fcinfo, 0, first_is_text), second = bytes_of(fcinfo, 1, second_is_text);
+    struct pair pair;
+
+    pair.level = level_of(fcinfo, 2);
+    pair.first = bytes_of(fcinfo, 0, first_is_text);
+    pair.second = bytes_of(fcinfo, 1, second_is_text);
+    return pair;
+}
+
+/* Puts the forms under rules in the place of two texts; false where either is refused. */
+static bool take_forms(FunctionCallInfo fcinfo, struct pair *pair)
+{
+    struct crsdesk_rules *rules = rules_of(fcinfo, 3);
+    struct bytes *texts[] = {&pair->first, &pair->second};
+    text *form;
+    int i;
+
+    for (i = 0; i < 2; i++) {
+        form = form_of(rules, pair->level, *texts[i], &texts[i]->length);
+        if (form == NULL)
+            return false;
+        texts[i]->first = VARDATA(form);
+    }
+    return true;
+}
+
+static Datum same_of(FunctionCallInfo fcinfo, struct pair pair)
+{
     struct crsdesk_refusal refusal;
+    uint32 same, code;
 
     begin_call();
-    code = crsdesk_same(first.first, first.length, second.first, second.length, level, &same, &refusal);
+    code = crsdesk_same(pair.first.first, pair.first.length, pair.second.first, pair.second.length, pair.level, &same,
+                        &refusal);
     hold_code(code);
     if (code != CRSDESK_OK)
         PG_RETURN_NULL();
     PG_RETURN_BOOL(same == 1);
 }
 
-static Datum difference_of(FunctionCallInfo fcinfo, bool first_is_text, bool second_is_text)
+static Datum same_under(FunctionCallInfo fcinfo, struct pair pair)
 {
-    uint32 level = level_of(fcinfo, 2), code;
-    struct bytes first = bytes_of(fcinfo, 0, first_is_text), second = bytes_of(fcinfo, 1, second_is_text);
+    if (!take_forms(fcinfo, &pair))
+        PG_RETURN_NULL();
+    PG_RETURN_BOOL(pair.first.length == pair.second.length &&
+                   memcmp(pair.first.first, pair.second.first, pair.first.length) == 0);
+}
+
+static Datum difference_of(FunctionCallInfo fcinfo, struct pair pair)
+{
     struct crsdesk_refusal refusal;
     char path[SHORT_ROOM];
     size_t length;
+    uint32 code;
 
     begin_call();
-    code = crsdesk_first_part(first.first, first.length, second.first, second.length, level, path, sizeof path, &length,
-                              &refusal);
+    code = crsdesk_first_part(pair.first.first, pair.first.length, pair.second.first, pair.second.length, pair.level,
+                              path, sizeof path, &length, &refusal);
     hold_code(code);
     if (code != CRSDESK_OK)
         PG_RETURN_NULL();
     if (length == 0)
         PG_RETURN_TEXT_P(cstring_to_text("same"));
     PG_RETURN_TEXT_P(cstring_to_text_with_len(path, (int)length));
+}
+
+static Datum difference_under(FunctionCallInfo fcinfo, struct pair pair)
+{
+    if (!take_forms(fcinfo, &pair))
+        PG_RETURN_NULL();
+    return difference_of(fcinfo, pair);
 }
 
 /* Whether a value of the lines of differences has a NUL byte, which is escaped there. */
@@ -321,13 +472,12 @@ static Datum jsonb_of(const char *lines, size_t length)
     return DirectFunctionCall1(jsonb_in, CStringGetDatum(pg_any_to_server(json, (int)room, PG_UTF8)));
 }
 
-static Datum differences_of(FunctionCallInfo fcinfo, bool first_is_text, bool second_is_text)
+static Datum differences_of(FunctionCallInfo fcinfo, struct pair pair)
 {
-    uint32 level = level_of(fcinfo, 2), code;
-    struct bytes first = bytes_of(fcinfo, 0, first_is_text), second = bytes_of(fcinfo, 1, second_is_text);
+    size_t length = room_for_differences(pair.first.length, pair.second.length), room;
     struct crsdesk_refusal refusal;
-    size_t length = room_for_differences(first.length, second.length), room;
     char *lines = NULL;
+    uint32 code;
 
     do {
         begin_call();
@@ -338,13 +488,20 @@ static Datum differences_of(FunctionCallInfo fcinfo, bool first_is_text, bool se
             pfree(lines);
         room = length;
         lines = palloc(room);
-        code = crsdesk_differences(first.first, first.length, second.first, second.length, level, lines, room, &length,
-                                   &refusal);
+        code = crsdesk_differences(pair.first.first, pair.first.length, pair.second.first, pair.second.length,
+                                   pair.level, lines, room, &length, &refusal);
     } while (code == CRSDESK_NO_ROOM);
     hold_code(code);
     if (code != CRSDESK_OK)
         PG_RETURN_NULL();
     return jsonb_of(lines, length);
+}
+
+static Datum differences_under(FunctionCallInfo fcinfo, struct pair pair)
+{
+    if (!take_forms(fcinfo, &pair))
+        PG_RETURN_NULL();
+    return differences_of(fcinfo, pair);
 }
 
 static Datum version_of(void)
@@ -373,16 +530,20 @@ FUNCTION(crsdesk_pg_refusal_text, refusal_of(fcinfo, true))
 FUNCTION(crsdesk_pg_refusal_bytea, refusal_of(fcinfo, false))
 FUNCTION(crsdesk_pg_explain_text, explain_of(fcinfo, true))
 FUNCTION(crsdesk_pg_explain_bytea, explain_of(fcinfo, false))
-FUNCTION(crsdesk_pg_same_text_text, same_of(fcinfo, true, true))
-FUNCTION(crsdesk_pg_same_text_bytea, same_of(fcinfo, true, false))
-FUNCTION(crsdesk_pg_same_bytea_text, same_of(fcinfo, false, true))
-FUNCTION(crsdesk_pg_same_bytea_bytea, same_of(fcinfo, false, false))
-FUNCTION(crsdesk_pg_difference_text_text, difference_of(fcinfo, true, true))
-FUNCTION(crsdesk_pg_difference_text_bytea, difference_of(fcinfo, true, false))
-FUNCTION(crsdesk_pg_difference_bytea_text, difference_of(fcinfo, false, true))
-FUNCTION(crsdesk_pg_difference_bytea_bytea, difference_of(fcinfo, false, false))
-FUNCTION(crsdesk_pg_differences_text_text, differences_of(fcinfo, true, true))
-FUNCTION(crsdesk_pg_differences_text_bytea, differences_of(fcinfo, true, false))
-FUNCTION(crsdesk_pg_differences_bytea_text, differences_of(fcinfo, false, true))
-FUNCTION(crsdesk_pg_differences_bytea_bytea, differences_of(fcinfo, false, false))
+FUNCTION(crsdesk_pg_canon_under_text, canon_under(fcinfo, true))
+FUNCTION(crsdesk_pg_canon_under_bytea, canon_under(fcinfo, false))
+
+/* The four functions that compare a text or bytes with either. */
+#define COMPARING(name, answer)                                                                                        \
+    FUNCTION(crsdesk_pg_##name##_text_text, answer(fcinfo, pair_of(fcinfo, true, true)))                               \
+    FUNCTION(crsdesk_pg_##name##_text_bytea, answer(fcinfo, pair_of(fcinfo, true, false)))                             \
+    FUNCTION(crsdesk_pg_##name##_bytea_text, answer(fcinfo, pair_of(fcinfo, false, true)))                             \
+    FUNCTION(crsdesk_pg_##name##_bytea_bytea, answer(fcinfo, pair_of(fcinfo, false, false)))
+
+COMPARING(same, same_of)
+COMPARING(same_under, same_under)
+COMPARING(difference, difference_of)
+COMPARING(difference_under, difference_under)
+COMPARING(differences, differences_of)
+COMPARING(differences_under, differences_under)
 FUNCTION(crsdesk_pg_version, version_of())
