@@ -263,7 +263,7 @@ def promises() -> Iterator[Statement]:
     """What PostgreSQL's functions promise beside what all extensions do."""
     nul = HEIGHT.replace('"H"', '"a\0b"').encode()
     blob = f"'\\x{nul.hex()}'::bytea"
-    yield "functions", f"SELECT count(*) FROM ({DECLARED[:-1]}) AS t WHERE provolatile = 'i' AND proisstrict AND proparallel = 's';", "21"
+    yield "functions", f"SELECT count(*) FROM ({DECLARED[:-1]}) AS t WHERE provolatile = 'i' AND proisstrict AND proparallel = 's';", "35"
     yield "a NUL byte", f"SELECT crs_kind({blob}), crs_same({blob}, {blob}), crs_difference({blob}, '{HEIGHT}');", "vertical|t|name"
     yield "a NUL byte", f"SELECT crs_canon({blob});", "Error: the canonical text has a NUL byte, which a text of PostgreSQL can't have"
     parts = f"crs_differences({blob}, '{HEIGHT}')"
@@ -285,10 +285,38 @@ def promises() -> Iterator[Statement]:
         for second in [*kinds.values(), f"'{TWIN}'"]:
             yield "two types of text", f"SELECT crs_same({first}, {second}), crs_difference({first}, {second}, 'full'), crs_differences({first}, {second}, level => 'full');", "t|same|[]"
     yield "a NUL argument", f"SELECT crs_same({kinds['bytea']}, NULL) IS NULL, crs_difference(NULL::bytea, 'x') IS NULL;", "t|t"
+    yield from of_rules()
     yield from of_tables()
     yield from of_long_keys()
     yield from of_limits()
     yield from sql_rows.of_long_texts(dialect_of("UTF8"))
+
+
+def of_rules() -> Iterator[Statement]:
+    """Rules beside all types of text, and in indexes."""
+    other, rules, form = sql_rows.OTHER, sql_rows.RULES, sql_rows.FORM
+    nul = f"'\\x{HEIGHT.replace(chr(34) + 'H', chr(34) + chr(0)).encode().hex()}'::bytea"
+    yield "a NUL byte", f"SELECT crs_canon({nul}, 'full', '');", "Error: the canonical text has a NUL byte, which a text of PostgreSQL can't have"
+    yield "a NUL byte", f"SELECT crs_same({nul}, {nul}, 'full', ''), crs_difference({nul}, '{HEIGHT}', 'full', '');", "t|name"
+    kinds = [f"'{HEIGHT}'::text", f"'\\x{other.encode().hex()}'::bytea", f"'{other}'::varchar"]
+    for first in kinds:
+        yield "all types of text", f"SELECT crs_canon({first}, 'full', rules => '{rules}');", form
+        for second in kinds:
+            given = f"{first}, {second}, 'full', '{rules}'"
+            yield "two types of text", f"SELECT crs_same({given}), crs_difference({given}), crs_differences({given});", "t|same|[]"
+    given = f"'{HEIGHT}', '{HEIGHT}', 'full', ''"
+    yield "types", f"SELECT pg_typeof(crs_canon('{HEIGHT}', 'full', '')), pg_typeof(crs_same({given})), pg_typeof(crs_differences({given}));", "text|boolean|jsonb"
+    yield "the error's code", "\\set VERBOSITY sqlstate\nSELECT crs_canon('x', 'full', 'x');\n\\set VERBOSITY terse", "Error: 22023"
+    yield "each CRS once under rules", f"CREATE TABLE ruled (wkt text, EXCLUDE USING hash (crs_canon(wkt, 'full', '{rules}') WITH =));", ""
+    yield "each CRS once under rules", f"INSERT INTO ruled VALUES ('{HEIGHT}'), ('{NOTED}'), ('x'), (NULL);", ""
+    wanted = 'Error: conflicting key value violates exclusion constraint "ruled_crs_canon_excl"'
+    yield "each CRS once under rules", f"INSERT INTO ruled VALUES ('{other}');", wanted
+    kept = f"CREATE FUNCTION ruled(wkt text, rules text) RETURNS text LANGUAGE plpgsql AS $$BEGIN RETURN crs_canon(wkt, 'full', rules); END$$;"
+    yield "rules of a function", kept, ""
+    asked = f"SELECT ruled('{other}', it) FROM unnest(ARRAY['', '{rules}', '', 'x', '{rules}']) AS it;"
+    yield "rules of a function", asked, "Error: rules: line 1: refused 6 at 0: Unexpected"
+    asked = f"SELECT bool_and(ruled('{other}', it) = crs_canon('{other}', 'full', it)) FROM unnest(ARRAY['', '{rules}', '']) AS it;"
+    yield "rules of a function", asked, "t"
 
 
 def of_tables() -> Iterator[Statement]:
@@ -376,6 +404,11 @@ def try_encodings(counts: Counts, server: Server) -> None:
         counts,
         [
             ("bytes of a text", f"SELECT octet_length('{accented}') - char_length('{accented}');", "0"),
+            (
+                "rules",
+                f"SELECT crs_canon('{HEIGHT}', 'full', 'SAME[VDATUM[\"é\"],VDATUM[\"D\"]]');",
+                CANONICAL_HEIGHT.replace('"D"', '"é"'),
+            ),
             ("a text", f"SELECT crs_canon('{accented}');", CANONICAL_HEIGHT.replace('"H"', '"é"')),
             ("a place", f"SELECT crs_refusal('{accented}x');", f"refused 6 Unexpected at {len(HEIGHT) + 1}"),
             ("text and bytes", f"SELECT crs_same('{accented}', '\\x{accented.encode().hex()}'::bytea);", "t"),
@@ -392,7 +425,8 @@ def try_encodings(counts: Counts, server: Server) -> None:
 
 
 PARALLEL = """SELECT count(*), count(crs_canon(wkt)), count(crs_refusal(wkt)),
-sum(hashtextextended(crs_canon(wkt, 'definition'), 0)) FROM million"""
+sum(hashtextextended(crs_canon(wkt, 'definition'), 0)), min(crs_canon(wkt, 'full', 'UNCOUNTED[crsName]')),
+max(crs_canon(wkt, 'full', 'UNCOUNTED[crsName]')) FROM million"""
 MILLION = """CREATE UNLOGGED TABLE million AS SELECT CASE n % 10 WHEN 0 THEN NULL WHEN 1 THEN 'EPSG:' || n
 ELSE format('VERTCRS["H %s",VDATUM["D"],CS[vertical,1],AXIS["h",up,LENGTHUNIT["metre",1]]]', n / 20) END AS wkt
 FROM generate_series(1, 1000000) AS n; ANALYZE million;"""
@@ -416,6 +450,7 @@ def try_parallel(counts: Counts, server: Server) -> None:
     counts.compare("a parallel plan", (is_parallel, "Gather" in found[3]), (True, False))
     counts.compare("its answers", found[2], found[4])
     counts.compare("what they count", found[2].split("|")[:3], ["1000000", "800000", "100000"])
+    counts.compare("what they say under rules", found[2].split("|")[4:], [CANONICAL_HEIGHT.replace('"H"', '""')] * 2)
     counts.compare("nothing else", [found[0], found[5]], ["", ""])
     print(f"a million rows: {time.monotonic() - begin:.1f} s")
     # A setting before the first call of a session, and in each worker.
@@ -455,10 +490,20 @@ def try_cancel(counts: Counts, server: Server) -> None:
                 f"{LIMITED} SELECT count(crs_canon(a.wkt)) FROM million AS a, generate_series(1, 1000);",
                 "Error: canceling statement due to statement timeout",
             ),
+            ("a cancelled query under rules", f"{UNLIMITED} SET max_parallel_workers_per_gather = 0;", ""),
+            (
+                "a cancelled query under rules",
+                f"{LIMITED} SELECT count(crs_canon(a.wkt, 'full', '{sql_rows.RULES}')) FROM million AS a, generate_series(1, 1000);",
+                "Error: canceling statement due to statement timeout",
+            ),
             ("after it", f"{UNLIMITED} SELECT crs_kind('{HEIGHT}');", "vertical"),
         ],
         "utf8",
     )
+
+
+# The bytes of memory that a backend has for itself.
+KEPT = "SELECT (regexp_match(pg_read_file('/proc/' || pg_backend_pid() || '/status'), 'RssAnon:\\s+(\\d+) kB'))[1]::int * 1024;"
 
 
 def try_leaks(counts: Counts, server: Server) -> None:
@@ -482,6 +527,23 @@ def try_leaks(counts: Counts, server: Server) -> None:
         client.wait(SECONDS)
     grown = int(kept[5]) - int(kept[3])
     counts.add("the memory of a backend", "" if grown < 8000 else f"grew by {grown} kB in two million calls")
+
+
+def try_leaks_of_rules(counts: Counts, server: Server) -> None:
+    """Nor does it grow with the rules that were read, or refused."""
+    names = "".join(f'SAME[DATUM["a{n}"],DATUM["b{n}"]]\n' for n in range(100))
+    read = f"DO $$BEGIN FOR n IN 1..2000 LOOP PERFORM crs_canon('{HEIGHT}', 'full', '{names}# ' || n % 2); END LOOP; END$$;"
+    rows = f"SELECT count(crs_canon('{HEIGHT}', 'full', '{names}# ' || n)) FROM generate_series(1, 2000) AS n;"
+    refused = f"DO $$BEGIN FOR n IN 1..2000 LOOP BEGIN PERFORM crs_canon('x', 'full', '{names}x' || n); EXCEPTION WHEN invalid_parameter_value THEN NULL; END; END LOOP; END$$;"
+    before, *found = [
+        int(it)
+        for it in server.printed(
+            [("", f"{it} {KEPT}", "") for it in (f"{read} {refused}", read, refused, f"CREATE TEMP TABLE n AS {rows}")],
+            "utf8",
+        )[:-1]
+    ]
+    grown = max(found) - before
+    counts.add("the memory of rules", "" if grown < 4_000_000 else f"grew by {grown} bytes: {before}, {found}")
 
 
 def try_dump(counts: Counts, server: Server, folder: pathlib.Path) -> None:
@@ -549,6 +611,11 @@ def try_update(counts: Counts, server: Server) -> None:
             ),
             ("an update", f"ALTER EXTENSION crsdesk UPDATE; {made}", VERSION),
             ("a newer function", f"SELECT crs_differences('{HEIGHT}', '{NOTED}')->0->>'path';", "remark"),
+            (
+                "a newer function",
+                f"SELECT crs_canon('{sql_rows.OTHER}', 'full', '{sql_rows.RULES}');",
+                sql_rows.FORM,
+            ),
             (
                 "an index of before",
                 f"SET enable_seqscan = off; SELECT count(*) FROM t WHERE crs_canon(wkt) = crs_canon('{TWIN}');",
@@ -677,7 +744,7 @@ def try_refused(counts: Counts, server: Server, folder: pathlib.Path) -> None:
         return
     declared = [
         f"CREATE FUNCTION {it} RETURNS int AS '{module}' LANGUAGE C;"
-        for it in ("refuse_growth(n int)", "refused_growths()")
+        for it in ("refuse_growth(n int)", "refused_growths()", "counted_growths()")
     ]
     # Long enough that a canonical text has no room at first.
     many = "".join(f",USAGE[BBOX[1E40,-1E40,1E-40,{n}]]" for n in range(30))
@@ -689,6 +756,8 @@ def try_refused(counts: Counts, server: Server, folder: pathlib.Path) -> None:
         f"crs_differences('{HEIGHT}', '{NOTED}')->0->>'path'": "remark",
         f"crs_refusal('{HEIGHT}x')": f"refused 6 Unexpected at {len(HEIGHT)}",
         f"left(crs_explain('{HEIGHT}x'), 9)": "refused 6",
+        f"crs_canon('{sql_rows.OTHER}', 'full', '{sql_rows.RULES}')": sql_rows.FORM,
+        f"crs_same('{HEIGHT}', '{sql_rows.OTHER}', 'full', '{sql_rows.RULES}')": "t",
     }
     with server.running(LD_PRELOAD=str(module)):
         server.printed([], "utf8", "\n".join(declared))
@@ -708,6 +777,23 @@ def try_refused(counts: Counts, server: Server, folder: pathlib.Path) -> None:
             is_front = [count for _, count in trials] == ["1"] * len(refused) + ["0"] * len(answered)
             counts.add(f"each growth of {call[:20]}", "" if is_front else "one that was refused left no trace")
             print(f"{call[:14]}: {len(refused)} growths refused")
+        try_rules_once(counts, server)
+
+
+def try_rules_once(counts: Counts, server: Server) -> None:
+    """Rules are read once a statement: it takes the growths of memory of one reading, where rules that change from row to
+    row take those of one for each row."""
+    names = "".join(f'SAME[DATUM["a{n}"],DATUM["b{n}"]]\n' for n in range(100))
+    statements = []
+    for rules in (f"'{names}'", f"'{names}# ' || n"):
+        asked = f"SELECT count(crs_canon('{HEIGHT}' || repeat(' ', n), 'full', {rules})) FROM generate_series(1, 50) AS n;"
+        statements += [("", f"SELECT refuse_growth({2**30});", ""), ("", asked, ""), ("", "SELECT counted_growths();", "")]
+    found = server.printed(statements, "utf8")
+    constant, changing = int(found[2]), int(found[5])
+    counts.compare("rules over rows", [found[1], found[4]], ["50", "50"])
+    told = "" if 4 * constant < changing else f"{constant} growths, {changing} under rules that change"
+    counts.add("rules are read once", told)
+    print(f"50 rows under rules: {constant} growths, {changing} under rules that change")
 
 
 def main(words: List[str]) -> int:
@@ -737,6 +823,7 @@ def main(words: List[str]) -> int:
             try_parallel(counts, server)
             try_cancel(counts, server)
             try_leaks(counts, server)
+            try_leaks_of_rules(counts, server)
             try_dump(counts, server, folder)
             try_update(counts, server)
             try_rights(counts, server)

@@ -17,12 +17,12 @@ import ctypes
 import ctypes.util
 import os
 import pathlib
+import resource
 import shutil
 import sqlite3
 import subprocess
 import sys
 import tempfile
-import time
 from concurrent.futures import ThreadPoolExecutor
 from typing import Iterator, List
 
@@ -202,27 +202,32 @@ def try_sanitized(counts: Counts, prefix: pathlib.Path, folder: pathlib.Path) ->
     try_statements(counts, extension, " ".join(found))
 
 
-# Rules that take some tens of milliseconds to read, and texts that are compared under them.
-LARGE = "".join(f'SAME[DATUM["a{n}"],DATUM["b{n}"]]\n' for n in range(20_000))
-MANY = "WITH RECURSIVE n (n) AS (SELECT 1 UNION ALL SELECT n + 1 FROM n WHERE n < 5000)"
+# A long rules file, and rows of which each spells the same CRS in another text.
+LARGE = "".join(f'SAME[DATUM["a{n}"],DATUM["b{n}"]]\n' for n in range(2000))
+ROWS = "WITH RECURSIVE n (n) AS (SELECT 1 UNION ALL SELECT n + 1 FROM n WHERE n < 500)"
 
 
 def try_rules_once(counts: Counts, extension: pathlib.Path, folder: pathlib.Path) -> None:
-    """Rules are read once a statement, those of a constant and those that a function answers for each row."""
+    """Rules are read once a statement, those of a constant and those that a function answers for each row: that takes a
+    fraction of the processor's time of rules that change from row to row."""
     file = folder / "large.rules"
     file.write_text(LARGE, encoding="utf-8")
-    asked = f"{MANY} SELECT count(crs_canon('{HEIGHT}' || printf('%*s', n, ''), 'full', {{}})) FROM n;"
-    seconds = []
-    for count, given in ((5000, f"'{LARGE}'"), (5000, f"readfile('{file}')"), (1, f"'{LARGE}'")):
-        begin = time.monotonic()
-        statement = asked.format(given).replace("< 5000", f"< {count}")
-        found = printed(extension, [("rules", statement, "")], "", "")
-        seconds.append(time.monotonic() - begin)
-        counts.compare(f"rules over {count} rows", found, [str(count), ""])
-    for many in seconds[:2]:
-        told = "" if many < 100 * seconds[2] else f"{many:.1f} s for 5000 rows, {seconds[2]:.3f} s for one"
-        counts.add("rules are read once a statement", told)
-    print(f"rules of {len(LARGE)} bytes: {seconds[2]:.3f} s for one row; {seconds[0]:.1f} and {seconds[1]:.1f} s for 5000")
+    seconds = {}
+    for name, rules in {
+        "a constant": f"'{LARGE}'",
+        "a function": f"readfile('{file}')",
+        "changing": f"'{LARGE}#' || n",
+    }.items():
+        asked = f"{ROWS} SELECT count(crs_canon('{HEIGHT}' || printf('%*s', n, ''), 'full', {rules})) FROM n;"
+        begin = resource.getrusage(resource.RUSAGE_CHILDREN)
+        found = printed(extension, [("rules", asked, "")], "", "")
+        end = resource.getrusage(resource.RUSAGE_CHILDREN)
+        seconds[name] = end.ru_utime + end.ru_stime - begin.ru_utime - begin.ru_stime
+        counts.compare(f"rules of {name}", found, ["500", ""])
+    for name in ("a constant", "a function"):
+        told = "" if 4 * seconds[name] < seconds["changing"] else f"took {seconds[name]:.3f} s, changing rules {seconds['changing']:.3f} s"
+        counts.add(f"rules of {name} are read once", told)
+    print("500 rows under a long rules file: " + ", ".join(f"{name} {it:.3f} s" for name, it in seconds.items()))
 
 
 def try_symbols(counts: Counts, extension: pathlib.Path) -> None:

@@ -250,7 +250,7 @@ def of_rules(dialect: Dialect) -> Iterator[Statement]:
     for is_blob in (False, True):
         texts = [dialect.literal(it.encode(), is_blob) for it in (HEIGHT, OTHER)]
         call = dialect.number(f"crs_same({', '.join(map(str, texts))}, 'full', '{RULES}')")
-        yield "under rules", f"SELECT crs_canon({texts[1]}, 'full', '{RULES}'), {call};", f"{FORM}|1"
+        yield "texts and bytes under rules", f"SELECT crs_canon({texts[1]}, 'full', '{RULES}'), {call};", f"{FORM}|1"
     for level, is_same, path in (("full", 0, "remark"), ("definition", 1, "same")):
         given = f"'{NOTED}', '{OTHER}', '{level}', '{RULES}'"
         parts = dialect.part(f"crs_differences({given})", "path", 0)

@@ -2,7 +2,8 @@
 
    It is a module of PostgreSQL too: refuse_growth(N) says that of the calls of malloc, realloc and aligned_alloc that the
    extension makes in this backend, counted from 1 from then on, the Nth is to be refused, it alone; refused_growths()
-   answers how many were since then. Calls of the server itself aren't counted.
+   answers how many were since then, and counted_growths() how many such calls. Calls of the server itself aren't
+   counted.
 
    glibc alone: the real calls are those that it keeps under other names. */
 #define _GNU_SOURCE
@@ -63,4 +64,12 @@ Datum refused_growths(PG_FUNCTION_ARGS)
     (void)fcinfo;
     asked = 0;
     PG_RETURN_INT32((int32)refused);
+}
+
+PG_FUNCTION_INFO_V1(counted_growths);
+Datum counted_growths(PG_FUNCTION_ARGS)
+{
+    (void)fcinfo;
+    asked = 0;
+    PG_RETURN_INT32((int32)growths);
 }
