@@ -269,9 +269,9 @@ def of_rules(dialect: Dialect) -> Iterator[Statement]:
     yield "rules of rows", asked, "\n".join(f"{it}|{renamed}" for it in (CANONICAL_HEIGHT, renamed, CANONICAL_HEIGHT, FORM))
     for name in ("é", "高", "\U0001f600"):
         text = dialect.literal(HEIGHT.replace('"D"', f'"{name}"').encode(), False)
-        rules = dialect.literal(f'SAME[VDATUM["D"],VDATUM["{name}"]]'.encode(), False)
-        if text is not None and rules is not None:
-            yield "characters of rules", f"SELECT crs_canon({text}, 'full', {rules});", CANONICAL_HEIGHT
+        alias = dialect.literal(f'SAME[VDATUM["D"],VDATUM["{name}"]]'.encode(), False)
+        if text is not None and alias is not None:
+            yield "characters of rules", f"SELECT crs_canon({text}, 'full', {alias});", CANONICAL_HEIGHT
     ended = dialect.literal(RULES.replace("\n", "\r\n").encode(), False)
     yield "lines that end in CRLF", f"SELECT crs_canon('{OTHER}', 'full', {ended});", FORM
     for call in UNDER:
