@@ -786,8 +786,14 @@ def try_rules_once(counts: Counts, server: Server) -> None:
     names = "".join(f'SAME[DATUM["a{n}"],DATUM["b{n}"]]\n' for n in range(100))
     statements = []
     for rules in (f"'{names}'", f"'{names}# ' || n"):
-        asked = f"SELECT count(crs_canon('{HEIGHT}' || repeat(' ', n), 'full', {rules})) FROM generate_series(1, 50) AS n;"
-        statements += [("", f"SELECT refuse_growth({2**30});", ""), ("", asked, ""), ("", "SELECT counted_growths();", "")]
+        asked = (
+            f"SELECT count(crs_canon('{HEIGHT}' || repeat(' ', n), 'full', {rules})) FROM generate_series(1, 50) AS n;"
+        )
+        statements += [
+            ("", f"SELECT refuse_growth({2**30});", ""),
+            ("", asked, ""),
+            ("", "SELECT counted_growths();", ""),
+        ]
     found = server.printed(statements, "utf8")
     constant, changing = int(found[2]), int(found[5])
     counts.compare("rules over rows", [found[1], found[4]], ["50", "50"])

@@ -171,7 +171,19 @@ def plain_error(text: str) -> str:
 
 def try_statements(counts: Counts, extension: pathlib.Path, preloaded: str = "") -> None:
     asked, promised = list(sql_rows.rows(SQLITE)), list(promises())
-    names = ("a level", "a wrong level", "under rules", "rules of rows", "refused rules", "long rules", "a limit", "the usual limit", "a refused text", "nothing", "types")
+    names = (
+        "a level",
+        "a wrong level",
+        "under rules",
+        "rules of rows",
+        "refused rules",
+        "long rules",
+        "a limit",
+        "the usual limit",
+        "a refused text",
+        "nothing",
+        "types",
+    )
     of_encoding = [it for it in promised if it[0] in names]
     for statements, first in ((asked, ""), (promised, ""), (of_encoding, "PRAGMA encoding='UTF-16';")):
         *answers, rest = printed(extension, statements, first, preloaded)
@@ -225,7 +237,11 @@ def try_rules_once(counts: Counts, extension: pathlib.Path, folder: pathlib.Path
         seconds[name] = end.ru_utime + end.ru_stime - begin.ru_utime - begin.ru_stime
         counts.compare(f"rules of {name}", found, ["500", ""])
     for name in ("a constant", "a function"):
-        told = "" if 4 * seconds[name] < seconds["changing"] else f"took {seconds[name]:.3f} s, changing rules {seconds['changing']:.3f} s"
+        told = (
+            ""
+            if 4 * seconds[name] < seconds["changing"]
+            else f"took {seconds[name]:.3f} s, changing rules {seconds['changing']:.3f} s"
+        )
         counts.add(f"rules of {name} are read once", told)
     print("500 rows under a long rules file: " + ", ".join(f"{name} {it:.3f} s" for name, it in seconds.items()))
 

@@ -266,7 +266,9 @@ def of_rules(dialect: Dialect) -> Iterator[Statement]:
     yield "two rules", f"SELECT {', '.join(canons)};", f"{FORM}|{renamed}|{FORM}"
     rows_of = " UNION ALL ".join(f"SELECT {n} AS n, '{it}' AS rules" for n, it in enumerate(["", names, "", RULES]))
     asked = f"SELECT crs_canon('{HEIGHT}', 'full', rules), crs_canon('{HEIGHT}', 'full', '{names}') FROM ({rows_of}) AS t ORDER BY n;"
-    yield "rules of rows", asked, "\n".join(f"{it}|{renamed}" for it in (CANONICAL_HEIGHT, renamed, CANONICAL_HEIGHT, FORM))
+    yield "rules of rows", asked, "\n".join(
+        f"{it}|{renamed}" for it in (CANONICAL_HEIGHT, renamed, CANONICAL_HEIGHT, FORM)
+    )
     for name in ("é", "高", "\U0001f600"):
         text = dialect.literal(HEIGHT.replace('"D"', f'"{name}"').encode(), False)
         alias = dialect.literal(f'SAME[VDATUM["D"],VDATUM["{name}"]]'.encode(), False)
@@ -291,7 +293,10 @@ def of_refused_rules(dialect: Dialect) -> Iterator[Statement]:
         ('EQUAL[DATUM["a"],DATUM["b"]]', "line 1: refused 41 at 0: neither SAME nor UNCOUNTED"),
         ("# a\n\n UNCOUNTED[anchor,colour]", "line 3: refused 42 at 18: no node or word that may stand here"),
         ('SAME[DATUM["a"],VDATUM["b"]]', "line 1: refused 43 at 16: a node of another kind than the first of its set"),
-        ('SAME[DATUM["a"],DATUM["b"]]\nSAME[DATUM["c"],TRF["b"]]', "line 2: refused 44 at 16: a node that stood in a set before"),
+        (
+            'SAME[DATUM["a"],DATUM["b"]]\nSAME[DATUM["c"],TRF["b"]]',
+            "line 2: refused 44 at 16: a node that stood in a set before",
+        ),
         ('SAME[DATUM["a"]', "line 1: refused 7 at 15: UnexpectedEnd"),
     ):
         for call in UNDER:
@@ -299,7 +304,9 @@ def of_refused_rules(dialect: Dialect) -> Iterator[Statement]:
         yield "after refused rules", f"SELECT crs_canon('{OTHER}', 'full', '{RULES}');", FORM
     padded = f"'{RULES}' || replace({dialect.zeros(LIMIT)}, '0', '#')"
     yield "long rules", f"SELECT crs_canon('{OTHER}', 'full', {padded});", too_long(LIMIT + len(RULES), LIMIT, dialect)
-    padded = f"'{RULES}{'#' * (len(RULES) % 2)}' || replace({dialect.zeros(LIMIT - len(RULES) - len(RULES) % 2)}, '0', '#')"
+    padded = (
+        f"'{RULES}{'#' * (len(RULES) % 2)}' || replace({dialect.zeros(LIMIT - len(RULES) - len(RULES) % 2)}, '0', '#')"
+    )
     yield "long rules", f"SELECT crs_canon('{OTHER}', 'full', {padded});", FORM
 
 
