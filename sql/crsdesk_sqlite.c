@@ -10,8 +10,8 @@
    crs_differences(a, b [, level [, rules]]) all parts that differ, as JSON: [{"path":..,"first":..,"second":..},..],
                                             with null for what is in one alone; [] where they are the same; NULL where
                                             either spells none
-   crs_refusal(text)                        why a text spells no CRS, as: refused 7 UnexpectedEnd at 11; NULL of one that
-                                            spells one
+   crs_refusal(text)                        why a text spells no CRS, as: refused 7 UnexpectedEnd at 11; NULL of one
+                                            that spells one
    crs_explain(text)                        accepted and the kind, or in some lines why a text spells no CRS
    crs_version()                            the version of crsdesk, as: 0.1.0
    crs_max_text_length([bytes])             the most bytes that a text may have, 1,048,576 when a connection loads this;
@@ -19,10 +19,10 @@
 
    A text is a TEXT or a BLOB of bytes; another value is its TEXT. One that is longer than the connection's limit is an
    error of SQL, since reading takes many times its memory. A level is full, the usual one, or definition; another is an
-   error. Rules are the text of a rules file (docs/RULES.md), under which texts have forms that are answered or compared;
-   a refused file is an error. NULL for any argument gives NULL. All functions but the last are deterministic, so they
-   may be used in indexes, generated columns and checks; views and triggers can't call the last. What the functions
-   answer is crsdesk's; this file is tested and not proved. */
+   error. Rules are the text of a rules file (docs/RULES.md), under which texts have forms that are answered or
+   compared; a refused file is an error. NULL for any argument gives NULL. All functions but the last are deterministic,
+   so they may be used in indexes, generated columns and checks; views and triggers can't call the last. What the
+   functions answer is crsdesk's; this file is tested and not proved. */
 #include <stddef.h>
 #include <stdint.h>
 #include <string.h>
@@ -108,8 +108,8 @@ static int hold_length(sqlite3_context *context, size_t length)
     return 0;
 }
 
-/* Answers 0, with an error in the context, where the connection was interrupted, which SQLite tells from 3.41 on. Between
-   two rows it ends a statement itself. */
+/* Answers 0, with an error in the context, where the connection was interrupted, which SQLite tells from 3.41 on.
+   Between two rows it ends a statement itself. */
 static int hold_interrupt(sqlite3_context *context)
 {
 #if SQLITE_VERSION_NUMBER >= 3041000
@@ -230,9 +230,9 @@ static struct kept_rules *read_rules(sqlite3_context *context, struct text file)
     return NULL;
 }
 
-/* Takes the rules that an argument spells, NULL where there is none; answers 0, with an error in the context, where they
-   can't be read. A statement keeps those of a constant or a parameter, and the connection those that were read last:
-   SQLite drops at once what a statement keeps of another argument, as of one that calls readfile. */
+/* Takes the rules that an argument spells, NULL where there is none; answers 0, with an error in the context, where
+   they can't be read. A statement keeps those of a constant or a parameter, and the connection those that were read
+   last: SQLite drops at once what a statement keeps of another argument, as of one that calls readfile. */
 static int take_rules(sqlite3_context *context, int count, sqlite3_value **values, int argument,
                       struct crsdesk_rules **rules)
 {
