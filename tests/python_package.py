@@ -1812,6 +1812,53 @@ def command_faults(files: Files) -> None:
     assert (done.returncode, done.stderr) == (2, b"crsdesk: write failed: No space left on device\n")
 
 
+# Two texts, whether they are the same by definition, under rules/producers.rules, and under any-order.rules too. A name is
+# that of a file of examples/exports; else a text is the first one, with one piece replaced by another.
+PAIRS: List[Tuple[str, Tuple[str, ...], Tuple[bool, bool, bool]]] = [
+    ("wgs84_projinfo_2019", ("wgs84_projinfo_2015",), (False, True, True)),
+    ("wgs84_projinfo_2019", ("wgs84_gpkg",), (False, True, True)),
+    ("wgs84_projinfo_2019", ("wgs84_shapefile",), (False, True, True)),
+    ("wgs84_projinfo_2019", ("wgs84_prj",), (False, False, True)),
+    ("wgs84_projinfo_2019", ("wgs84_wkt1",), (False, True, True)),
+    ("utm31_projinfo_2019", ("utm31_geotiff",), (False, True, True)),
+    ("utm31_projinfo_2019", ("utm31_proj4",), (False, True, True)),
+    ("rd_projinfo_2019", ("rd_prj",), (False, True, True)),
+    ("rd_projinfo_2019", ("rd_wkt1",), (False, True, True)),
+    ("rd_projinfo_2019", ("rd_projinfo_2019_simplified",), (False, False, False)),
+    ("rdnap_projinfo_2019", ("rdnap_geotiff",), (False, True, True)),
+    ("itrf2014_projinfo_2019", ("itrf2014_projinfo_2015",), (False, True, True)),
+    ("wgs84_projinfo_2015", ("0.0174532925199433", "0.017453292519943295"), (False, True, True)),
+    ("wgs84_projinfo_2015", ("0.0174532925199433", "0.0174532925199434"), (False, False, False)),
+    ("wgs84_projinfo_2015", ('"World Geodetic System 1984"', '"D_WGS_1984"'), (False, True, True)),
+    ("wgs84_projinfo_2015", ('"World Geodetic System 1984"', '"World Geodetic System 1972"'), (False, False, False)),
+    ("wgs84_projinfo_2015", ("298.257223563", "298.257222101"), (False, False, False)),
+    ("wgs84_projinfo_2015", ('"Greenwich",0', '"Greenwich",1'), (False, False, False)),
+    ("rd_projinfo_2019", ("0.9999079", "0.9999078"), (False, False, False)),
+    ("rd_projinfo_2019", ('"Oblique Stereographic"', '"Stereographic"'), (False, False, False)),
+    ("navd88_projinfo_2019", ('"metre",1', '"Meter",1'), (False, True, True)),
+    ("navd88_projinfo_2019", ('"metre",1', '"foot",0.3048'), (False, False, False)),
+]
+
+
+def rules_that_ship() -> None:
+    producers, any_order = (HERE.parent / "rules" / f"{name}.rules" for name in ("producers", "any-order"))
+    some, all_of_them = Rules.from_file(producers), Rules.from_file(producers, any_order)
+    assert Rules.from_file(any_order, producers) != all_of_them
+    for name, how, wanted in PAIRS:
+        first = (EXAMPLES / "exports" / f"{name}.wkt").read_text(encoding="utf-8")
+        if len(how) == 1:
+            second = (EXAMPLES / "exports" / f"{how[0]}.wkt").read_text(encoding="utf-8")
+        else:
+            old, new = how
+            second = first.replace(old, new)
+            assert second != first, (name, how)
+        got = tuple(same(first, second, "definition", rules=rules) for rules in (None, some, all_of_them))
+        assert got == wanted, (name, how, got)
+        for rules in (some, all_of_them):
+            form = canon(second, "definition", rules)
+            assert canon(form, "definition", rules) == form
+
+
 PROMISES = [
     refusal_is_told,
     caret_is_under_the_place,
@@ -1858,6 +1905,7 @@ PROMISES = [
     a_crs_under_rules,
     groups_under_rules,
     rules_go_to_threads_and_processes,
+    rules_that_ship,
     lock_is_released,
     four_threads,
     four_threads_on_one_catalogue,
