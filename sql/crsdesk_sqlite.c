@@ -597,5 +597,13 @@ int sqlite3_crsdesksqlite_init(sqlite3 *db, char **error, const sqlite3_api_rout
                                           FUNCTIONS[i].call, NULL, NULL, let_go);
     }
     let_go(shared);
+    if (code == SQLITE_OK)
+        return code;
+    /* SQLite unloads this after an error, so none of its functions may stay. In a statement none can be taken back: then
+       this stays too. */
+    for (i--; i > 0; i--)
+        if (sqlite3_create_function_v2(db, FUNCTIONS[i - 1].name, FUNCTIONS[i - 1].arguments, FUNCTIONS[i - 1].flags,
+                                       NULL, NULL, NULL, NULL, NULL) != SQLITE_OK)
+            code = SQLITE_OK_LOAD_PERMANENTLY;
     return code;
 }

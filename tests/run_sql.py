@@ -38,6 +38,8 @@ import sql_rows
 from sql_rows import CANONICAL_HEIGHT, HEIGHT, NOTED, TWIN, Counts, Statement
 
 SECONDS = 600
+# More growths than the program sqlite3 makes here.
+MOST_GROWTHS = 2000
 
 
 def literal(text: bytes, is_blob: bool) -> str:
@@ -246,6 +248,32 @@ def try_rules_once(counts: Counts, extension: pathlib.Path, folder: pathlib.Path
     print("500 rows under a long rules file: " + ", ".join(f"{name} {it:.3f} s" for name, it in seconds.items()))
 
 
+def try_refused(counts: Counts, extension: pathlib.Path, folder: pathlib.Path) -> None:
+    """Each growth of memory refused to the program sqlite3 in turn: an extension that isn't loaded leaves nothing behind,
+    and after a call that has no memory the next answers."""
+    module = folder / "refuse_growth.so"
+    subprocess.run(["cc", "-O2", "-fPIC", "-shared", "-o", module, HERE / "refuse_growth.c"], check=True)
+    asked = f"SELECT crs_canon('{sql_rows.OTHER}', 'full', '{sql_rows.RULES}');"
+    script = f".load {extension}\n{asked}\n.print answered\n{asked}\n"
+    unloaded = refused = 0
+    for number in range(1, MOST_GROWTHS):
+        more = {"LD_PRELOAD": str(module), "REFUSE": str(number), "REFUSE_FROM": "start"}
+        words = ["sqlite3", "-batch", ":memory:"]
+        done = subprocess.run(
+            words, input=script, capture_output=True, text=True, env={**os.environ, **more}, check=False
+        )
+        if "refused 0" in done.stderr:
+            break
+        if "error during initialization" in done.stderr:
+            unloaded += 1
+            counts.compare(f"growth {number} refused to its loading", (done.returncode, done.stdout), (1, "answered\n"))
+        elif "Runtime error near line 2: out of memory" in done.stderr:
+            refused += 1
+            counts.compare(f"growth {number} refused", done.stdout, f"answered\n{sql_rows.FORM}\n")
+    counts.add("growths refused to SQLite", "" if unloaded > 10 and refused > 10 else f"{unloaded}, {refused}")
+    print(f"crs_canon under rules: {unloaded} growths refused to the loading, {refused} to the call")
+
+
 def try_symbols(counts: Counts, extension: pathlib.Path) -> None:
     """It shows one name, and needs the C library alone."""
     shown = subprocess.run(["nm", "-D", "--defined-only", extension], capture_output=True, check=True).stdout.split()
@@ -423,6 +451,7 @@ def main(words: List[str]) -> int:
         try_room(counts, extension)
         try_statements(counts, extension)
         try_rules_once(counts, extension, pathlib.Path(folder))
+        try_refused(counts, extension, pathlib.Path(folder))
         try_sanitized(counts, prefix, pathlib.Path(folder))
         try_threads(counts, extension)
         try_geopackage(counts, extension, pathlib.Path(folder))
