@@ -314,7 +314,7 @@ def of_rules() -> Iterator[Statement]:
     kept = f"CREATE FUNCTION ruled(wkt text, rules text) RETURNS text LANGUAGE plpgsql AS $$BEGIN RETURN crs_canon(wkt, 'full', rules); END$$;"
     yield "rules of a function", kept, ""
     asked = f"SELECT ruled('{other}', it) FROM unnest(ARRAY['', '{rules}', '', 'x', '{rules}']) AS it;"
-    yield "rules of a function", asked, "Error: rules: line 1: refused 6 at 0: Unexpected"
+    yield "rules of a function", asked, "Error: rules: line 1: refused 7 at 1: UnexpectedEnd"
     asked = f"SELECT bool_and(ruled('{other}', it) = crs_canon('{other}', 'full', it)) FROM unnest(ARRAY['', '{rules}', '']) AS it;"
     yield "rules of a function", asked, "t"
 
