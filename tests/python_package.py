@@ -11,6 +11,7 @@ line is 'N passed, M failed', and the status is 0 where M is 0.
 """
 from __future__ import annotations
 
+import contextlib
 import copy
 import doctest
 import functools
@@ -22,6 +23,7 @@ import random
 import re
 import shlex
 import shutil
+import sqlite3
 import subprocess
 import sys
 import tempfile
@@ -1859,6 +1861,41 @@ def rules_that_ship() -> None:
             assert canon(form, "definition", rules) == form
 
 
+# A small database of PROJ's form: two datums with an alias in common, one that is another's name, and an ensemble.
+DATABASE = """
+CREATE TABLE metadata (key, value);
+CREATE TABLE alias_name (table_name, auth_name, code, alt_name, source);
+CREATE TABLE vertical_datum (auth_name, code, name);
+CREATE TABLE ellipsoid (auth_name, code, name);
+CREATE TABLE prime_meridian (auth_name, code, name);
+CREATE TABLE geodetic_datum (auth_name, code, name);
+INSERT INTO geodetic_datum VALUES ('X', 1, 'Frame "1"'), ('X', 2, 'B ensemble'), ('X', 3, 'C'), ('X', 4, 'D_C');
+INSERT INTO alias_name VALUES ('geodetic_datum', 'X', 1, 'both', 'Y'), ('geodetic_datum', 'X', 2, 'both', 'Y'),
+    ('geodetic_datum', 'X', 2, 'D_B', 'Y'), ('geodetic_datum', 'X', 3, 'D_C', 'Y'), ('geodetic_datum', 'X', 4, 'c', 'Y');
+"""
+
+
+def rules_of_a_database() -> None:
+    program = HERE.parent / "tools" / "make_rules.py"
+    with tempfile.TemporaryDirectory() as folder:
+        database = pathlib.Path(folder, "proj.db")
+        with contextlib.closing(sqlite3.connect(database)) as connection:
+            connection.executescript(DATABASE)
+        for more, wanted in (
+            ((), ['DATUM["B"],DATUM["D_B"]', 'DATUM["D_C"],DATUM["c"]']),
+            (("--join",), ['DATUM["B"],DATUM["D_B"]', 'DATUM["C"],DATUM["D_C"],DATUM["c"]']),
+        ):
+            words = [sys.executable, str(program), "--database", str(database), *more]
+            done = subprocess.run(words, capture_output=True, text=True, timeout=600, check=True)
+            rest = [line for line in done.stdout.split("\n") if line and not line.startswith("#")]
+            wanted.append('DATUM["Frame ""1"""],DATUM["Frame_1"]')
+            assert rest == [f"SAME[{it}]" for it in wanted], rest
+            Rules(done.stdout)
+        words = [sys.executable, str(program), "--database", f"{folder}/missing"]
+        done = subprocess.run(words, capture_output=True, text=True, timeout=600, check=False)
+        assert done.returncode == 2 and "Traceback" not in done.stderr, done.stderr
+
+
 PROMISES = [
     refusal_is_told,
     caret_is_under_the_place,
@@ -1906,6 +1943,7 @@ PROMISES = [
     groups_under_rules,
     rules_go_to_threads_and_processes,
     rules_that_ship,
+    rules_of_a_database,
     lock_is_released,
     four_threads,
     four_threads_on_one_catalogue,
