@@ -1,11 +1,12 @@
 -- Units where a kind is asked, as units by themselves.
 use Rattle.std.proofs.Common.{◌≡◌, ◌∙◌, ℕ, List, refl, sym, ap}
+use Rattle.crs_shape.specs.declared.unit_kind.UnitKind.{UnitKind}
+use Rattle.crs_shape.specs.declared.unit_kind.UnitKind.TheVariants as kinds
+use Rattle.crs_shape.specs.UnitKinds.{kind_as}
 use Rattle.crs_value.specs.Reads.{ReadsUnit}
-use Rattle.crs_value.specs.Sound.{IsUnit, kind_as}
+use Rattle.crs_value.specs.Sound.{IsUnit}
 use Rattle.crs_value.specs.Values.{UnitParts}
 use Rattle.crs_value.specs.declared.values.level.Level.{Level}
-use Rattle.crs_value.specs.declared.values.unit_kind.UnitKind.{UnitKind}
-use Rattle.crs_value.specs.declared.values.unit_kind.UnitKind.TheVariants as kinds
 use Rattle.crs_same.specs.SameUnits.{SameUnit}
 use Rattle.crs_normal.specs.PartSpellings.{IsSpelledUnit, unit_class}
 use Rattle.crs_normal.specs.SpelledAs.{IsSpelledAs}

@@ -4,9 +4,10 @@ use Rattle.std.proofs.lemmas.List.{append-nil}
 use Rattle.crs_text.specs.Items.{Item, End, arguments}
 use Rattle.crs_text.specs.Written.{item_text, others_text}
 use Rattle.crs_shape.specs.declared.class.Class.{Class}
+use Rattle.crs_shape.specs.declared.class.Class.TheVariants as class
+use Rattle.crs_shape.specs.declared.unit_kind.UnitKind.TheVariants as kinds
 use Rattle.crs_value.specs.Kept.{kept, kept_one}
 use Rattle.crs_value.specs.Reading.{those, ReadsElse, ReadsFirst, ReadsOne, ReadsOptional}
-use Rattle.crs_shape.specs.declared.class.Class.TheVariants as class
 use Rattle.crs_value.specs.Reads.{LacksUsage, ReadsBare, ReadsBox, ReadsEnsemble, ReadsExtent, ReadsTextOf, ReadsUnit, ReadsUsage}
 use Rattle.crs_value.specs.ReadsConversion.{ReadsAsUnit, ReadsUnitOf}
 use Rattle.crs_value.specs.ReadsCrs.{ReadsAsDatum, ReadsAsEnsemble, ReadsFrame}
@@ -15,7 +16,6 @@ use Rattle.crs_value.specs.declared.values.frame.Frame.{Frame}
 use Rattle.crs_value.specs.declared.values.frame.Frame.TheVariants as frame
 use Rattle.crs_value.specs.declared.values.level.Level.{Level}
 use Rattle.crs_value.specs.declared.values.level.Level.TheVariants as levels
-use Rattle.crs_value.specs.declared.values.unit_kind.UnitKind.TheVariants as kinds
 use Rattle.crs_same.specs.SameUsages.{with_bare}
 use Rattle.crs_normal.specs.SpelledFrames.{item_ensemble, item_frame, norm_ensemble, norm_frame}
 use Rattle.crs_normal.specs.SpelledItems.{each, opt}

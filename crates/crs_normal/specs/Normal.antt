@@ -10,16 +10,16 @@ use Rattle.crs_text.specs.Tokens.{Kind, number, text, word}
 use Rattle.crs_text.specs.Written.{item_text}
 use Rattle.crs_shape.specs.declared.class.Class.{Class}
 use Rattle.crs_shape.specs.declared.class.Class.TheVariants as class
+use Rattle.crs_shape.specs.declared.direction.Direction.{Direction}
+use Rattle.crs_shape.specs.declared.system_type.SystemType.{SystemType}
 use Rattle.crs_shape.specs.Keywords.{keywords_of}
 use Rattle.crs_shape.specs.ShapeFault.{class_in, class_of_root}
+use Rattle.crs_shape.specs.Words.{direction_word, system_word}
 use Rattle.crs_value.specs.Checks.{AtClass}
-use Rattle.crs_value.specs.declared.values.direction.Direction.{Direction}
 use Rattle.crs_value.specs.Kept.{kept}
 use Rattle.crs_value.specs.Reading.{those}
 use Rattle.crs_value.specs.Sound.{Each}
 use Rattle.crs_value.specs.declared.values.level.Level.{Level}
-use Rattle.crs_value.specs.declared.values.system_type.SystemType.{SystemType}
-use Rattle.crs_value.specs.Words.{direction_word, system_word}
 use Rattle.crs_normal.specs.NormalOwn.{HasSets, HasOwnForm}
 
 -- the keyword is spelled as the first of these

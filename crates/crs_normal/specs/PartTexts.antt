@@ -2,6 +2,7 @@
 use Rattle.std.specs.Prelude.{ℕ, List, Option, Some, None, codes}
 use Rattle.crs_text.specs.Items.{Item}
 use Rattle.crs_text.specs.Written.{item_text}
+use Rattle.crs_shape.specs.declared.unit_kind.UnitKind.TheVariants as kinds
 use Rattle.crs_value.specs.CompoundValues.{CompoundParts}
 use Rattle.crs_value.specs.ConversionValues.{ConversionParts, GeoidModelParts, MethodParts}
 use Rattle.crs_value.specs.ConversionValues.{ParameterParts}
@@ -15,7 +16,6 @@ use Rattle.crs_value.specs.declared.values.compound.Horizontal.{Horizontal}
 use Rattle.crs_value.specs.declared.values.frame.Frame.{Frame}
 use Rattle.crs_value.specs.declared.values.frame.Frame.TheVariants as frame
 use Rattle.crs_value.specs.declared.values.level.Level.{Level}
-use Rattle.crs_value.specs.declared.values.unit_kind.UnitKind.TheVariants as kinds
 use Rattle.crs_normal.specs.SpelledConversions.{item_conversion, item_geoid_model, item_method}
 use Rattle.crs_normal.specs.SpelledConversions.{item_parameter}
 use Rattle.crs_normal.specs.SpelledConversions.{norm_conversion, norm_geoid_model, norm_method}

@@ -3,19 +3,20 @@ use Rattle.std.proofs.Common.{◌≡◌, ℕ, zero, suc, ◌+◌, Bool, true, fa
 use Rattle.std.specs.Option.{option_map}
 use Rattle.crs_shape.specs.declared.class.Class.{Class}
 use Rattle.crs_shape.specs.declared.class.Class.TheVariants as class
-use Rattle.crs_value.specs.BadUnit.{asked_kind}
+use Rattle.crs_shape.specs.declared.unit_kind.UnitKind.{UnitKind}
+use Rattle.crs_shape.specs.declared.unit_kind.UnitKind.TheVariants as kinds
+use Rattle.crs_shape.specs.UnitKinds.{asked_kind}
+use Rattle.crs_shape.specs.UnitKinds.{kind_as}
 use Rattle.crs_value.specs.ConversionValues.{ConversionParts, ParameterParts}
 use Rattle.crs_value.specs.DynamicValues.{DynamicParts}
 use Rattle.crs_value.specs.EnsembleFrames.{frame_of}
 use Rattle.crs_value.specs.NamedValues.{IdentParts, NamedParts}
-use Rattle.crs_value.specs.Sound.{Each, kind_as}
+use Rattle.crs_value.specs.Sound.{Each}
 use Rattle.crs_value.specs.SoundSystem.{own_or}
 use Rattle.crs_value.specs.Values.{AxisMeridianParts, AxisParts, DatumParts, EllipsoidParts, EnsembleParts, MeridianParts, SystemParts, UnitParts}
 use Rattle.crs_value.specs.declared.values.frame.Frame.{Frame}
 use Rattle.crs_value.specs.declared.values.frame.Frame.TheVariants as frames
 use Rattle.crs_value.specs.declared.values.level.Level.{Level}
-use Rattle.crs_value.specs.declared.values.unit_kind.UnitKind.{UnitKind}
-use Rattle.crs_value.specs.declared.values.unit_kind.UnitKind.TheVariants as kinds
 use Rattle.crs_normal.specs.Ordered.{StaysInOrder, in_order}
 use Rattle.crs_normal.specs.SpelledConversions.{item_parameter, norm_conversion, norm_parameter, set_parameters}
 use Rattle.crs_normal.specs.SpelledDynamic.{norm_dynamic}

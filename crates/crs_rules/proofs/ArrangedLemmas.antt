@@ -6,15 +6,16 @@ use Rattle.std.specs.Ordering.{nat_cmp, match_ordering, ordering_index, ordering
 use Rattle.std.proofs.lemmas.Bool.Decides.{Decides-eqb}
 use Rattle.std.proofs.lemmas.Cmp.{nat_list_cmp_total}
 use Rattle.crs_shape.specs.declared.class.Class.TheVariants as class
-use Rattle.crs_value.specs.BadUnit.{asked_kind}
+use Rattle.crs_shape.specs.declared.unit_kind.UnitKind.{UnitKind}
+use Rattle.crs_shape.specs.declared.unit_kind.UnitKind.TheVariants as kinds
+use Rattle.crs_shape.specs.UnitKinds.{asked_kind}
+use Rattle.crs_shape.specs.UnitKinds.{kind_as}
 use Rattle.crs_value.specs.NamedValues.{IdentParts}
-use Rattle.crs_value.specs.Sound.{Each, kind_as}
+use Rattle.crs_value.specs.Sound.{Each}
 use Rattle.crs_value.specs.SoundSystem.{own_or}
 use Rattle.crs_value.specs.Values.{AxisMeridianParts, AxisParts, SystemParts, UnitParts}
 use Rattle.crs_value.specs.declared.values.level.Level.{Level}
 use Rattle.crs_value.specs.declared.values.level.Level.TheVariants as levels
-use Rattle.crs_value.specs.declared.values.unit_kind.UnitKind.{UnitKind}
-use Rattle.crs_value.specs.declared.values.unit_kind.UnitKind.TheVariants as kinds
 use Rattle.crs_text.specs.Written.{item_text}
 use Rattle.crs_normal.specs.Ordered.{StaysInOrder}
 use Rattle.crs_normal.specs.SpelledSystems.{axes_from, axis_at, is_at, norm_axis, norm_axis_meridians, norm_system, with_axis}

@@ -3,6 +3,7 @@ use Rattle.std.proofs.Common.{◌≢◌, Bool, Option, Some, None, List, [], ◌
 use Rattle.std.specs.Option.{option_map}
 use Rattle.crs_shape.specs.declared.class.Class.{Class}
 use Rattle.crs_shape.specs.declared.class.Class.TheVariants as class
+use Rattle.crs_shape.specs.declared.unit_kind.UnitKind.TheVariants as kinds
 use Rattle.crs_value.specs.ConversionValues.{ConversionParts, ParameterParts}
 use Rattle.crs_value.specs.DynamicValues.{DynamicParts}
 use Rattle.crs_value.specs.EnsembleFrames.{datum_of, frame_of}
@@ -16,7 +17,6 @@ use Rattle.crs_value.specs.SoundUsages.{IsExtent, IsTail, IsUsage}
 use Rattle.crs_value.specs.Values.{DatumParts, EllipsoidParts, EnsembleParts, ExtentParts, MeridianParts, SaysSome, TailParts, UsageParts}
 use Rattle.crs_value.specs.declared.values.frame.Frame.{Frame}
 use Rattle.crs_value.specs.declared.values.frame.Frame.TheVariants as frames
-use Rattle.crs_value.specs.declared.values.unit_kind.UnitKind.TheVariants as kinds
 use Rattle.crs_rules.specs.Rewritten.{conversion, counted, counted_frame, datum, dynamic, dynamics, ellipsoid, ensemble, extent, frame_or_ensemble, meridian, named, parameter, stemmed, tail, usage}
 use Rattle.crs_rules.specs.Rules.{Meaning, without_ensemble}
 use Rattle.crs_rules.proofs.AliasLemmas.{IsSoundMeaning, choice, counted-name, unit-of, unit-sound}

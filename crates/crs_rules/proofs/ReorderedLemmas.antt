@@ -6,10 +6,13 @@ use Rattle.std.specs.Ordering.{nat_cmp, match_ordering, ordering_index, ordering
 use Rattle.std.proofs.lemmas.Cmp.{nat_list_cmp_total}
 use Rattle.std.proofs.lemmas.Map.Lookups.{exact_bytes}
 use Rattle.crs_text.specs.Written.{item_text}
-use Rattle.crs_value.specs.BadUnit.{asked_kind}
+use Rattle.crs_shape.specs.declared.unit_kind.UnitKind.{UnitKind}
+use Rattle.crs_shape.specs.declared.unit_kind.UnitKind.TheVariants as kinds
+use Rattle.crs_shape.specs.UnitKinds.{asked_kind}
+use Rattle.crs_shape.specs.UnitKinds.{kind_as}
 use Rattle.crs_value.specs.CrsValues.{GeodeticParts, ProjectedParts, VerticalParts}
 use Rattle.crs_value.specs.NamedValues.{IdentParts}
-use Rattle.crs_value.specs.Sound.{Each, IsAxis, kind_as}
+use Rattle.crs_value.specs.Sound.{Each, IsAxis}
 use Rattle.crs_value.specs.SoundCompound.{IsHorizontal}
 use Rattle.crs_value.specs.SoundCrs.{IsCrs}
 use Rattle.crs_value.specs.SoundSystem.{IsSystem, own_or}
@@ -20,8 +23,6 @@ use Rattle.crs_value.specs.declared.values.crs.Crs.{Crs}
 use Rattle.crs_value.specs.declared.values.crs.Crs.TheVariants as crs
 use Rattle.crs_value.specs.declared.values.level.Level.{Level}
 use Rattle.crs_value.specs.declared.values.level.Level.TheVariants as levels
-use Rattle.crs_value.specs.declared.values.unit_kind.UnitKind.{UnitKind}
-use Rattle.crs_value.specs.declared.values.unit_kind.UnitKind.TheVariants as kinds
 use Rattle.crs_normal.specs.Ordered.{StaysInOrder}
 use Rattle.crs_normal.specs.PartTexts.{norm_axis_alone}
 use Rattle.crs_normal.specs.SpelledCrs.{norm_compound, norm_crs, norm_geodetic, norm_horizontal, norm_projected, norm_vertical}

@@ -4,15 +4,15 @@ use Rattle.std.specs.Str.{bytes_eq}
 use Rattle.std.proofs.lemmas.Slice.Eq.{bytes_eq-Decides}
 use denote.Enum.Bare.{sameb, same_true}
 use Rattle.crs_decimal.specs.Plain.{plain}
-use Rattle.crs_normal.specs.Ascending.{IsIn}
 use Rattle.crs_shape.specs.declared.class.Class.{Class}
+use Rattle.crs_shape.specs.declared.unit_kind.UnitKind.{UnitKind}
+use Rattle.crs_shape.specs.contracts.unit_kind.UnitKind.{the_type}
+use Rattle.crs_normal.specs.Ascending.{IsIn}
 use Rattle.crs_value.proofs.ArgumentLemmas.{same_class}
 use Rattle.crs_value.specs.NamedValues.{IdentParts}
 use Rattle.crs_value.specs.Reading.{is_same}
 use Rattle.crs_value.specs.Sound.{Each}
 use Rattle.crs_value.specs.Values.{UnitParts}
-use Rattle.crs_value.specs.contracts.values.unit_kind.UnitKind.{the_type}
-use Rattle.crs_value.specs.declared.values.unit_kind.UnitKind.{UnitKind}
 use Rattle.crs_rules.specs.Rules.{Meaning, NameAliasParts, RulesParts, UnitAliasParts, first_name, first_that, first_unit, is_name_alias, is_unit_alias, meaning, name_for, unit_for}
 use Rattle.crs_rules.specs.SteadyRules.{AreSteady, NamesAgree, UnitsAgree}
 use Rattle.crs_rules.proofs.OrderLemmas.{AreClear, Sought, each-in, sought, unlike}

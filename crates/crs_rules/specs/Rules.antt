@@ -7,10 +7,10 @@ use denote.Enum.Bare.{sameb}
 use Rattle.crs_decimal.specs.Plain.{plain}
 use Rattle.crs_decimal.specs.Value.{Value}
 use Rattle.crs_shape.specs.declared.class.Class.{Class}
+use Rattle.crs_shape.specs.declared.unit_kind.UnitKind.{UnitKind}
+use Rattle.crs_shape.specs.contracts.unit_kind.UnitKind.{the_type}
 use Rattle.crs_value.specs.Reading.{is_same}
 use Rattle.crs_value.specs.Values.{UnitParts}
-use Rattle.crs_value.specs.contracts.values.unit_kind.UnitKind.{the_type}
-use Rattle.crs_value.specs.declared.values.unit_kind.UnitKind.{UnitKind}
 use Rattle.crs_rules.specs.declared.uncounted.Uncounted.{Uncounted}
 
 -- a name of nodes of a class that counts as another name, which is written for it

@@ -8,9 +8,9 @@ use Rattle.crs_text.specs.Written.{AreFormed}
 use Rattle.crs_text.specs.declared.items.ItemKind.{ItemKind}
 use Rattle.crs_text.specs.declared.items.ItemKind.TheVariants as kinds
 use Rattle.crs_shape.specs.declared.class.Class.{Class}
+use Rattle.crs_shape.specs.declared.unit_kind.UnitKind.{UnitKind}
 use Rattle.crs_value.specs.BadValue.{IsAboveZero}
 use Rattle.crs_value.specs.Sound.{IsText}
-use Rattle.crs_value.specs.declared.values.unit_kind.UnitKind.{UnitKind}
 use Rattle.crs_rules_file.specs.Members.{MemberParts, SaysFactor, SaysName, kind_of}
 use Rattle.crs_rules_file.specs.Named.{IsFactor, SaysNamed}
 

@@ -7,9 +7,9 @@ use Rattle.crs_decimal.specs.Bounds.{Denotes}
 use Rattle.crs_decimal.specs.Value.{IsNormal, Value, exact}
 use Rattle.crs_text.specs.Items.{Item, Siblings, End, More, arguments, raw_of}
 use Rattle.crs_text.specs.TextFault.{RefusesText, SpellsNode}
+use Rattle.crs_shape.specs.declared.unit_kind.UnitKind.{UnitKind}
 use Rattle.crs_streams.specs.Lines.{AreLines}
 use Rattle.crs_value.specs.Reading.{OneIs}
-use Rattle.crs_value.specs.declared.values.unit_kind.UnitKind.{UnitKind}
 use Rattle.crs_rules.specs.declared.uncounted.Uncounted.{Uncounted}
 use Rattle.crs_rules_file.specs.declared.fault.RulesRefusal.{RulesRefusal}
 use Rattle.crs_rules_file.specs.Members.{MemberParts, Says, SaysFactor, SaysName, kind_of}

@@ -11,11 +11,11 @@ use Rattle.crs_text.specs.Items.{Item, Siblings, End, More, arguments}
 use Rattle.crs_shape.specs.contracts.class.Class.{the_type}
 use Rattle.crs_shape.specs.declared.class.Class.{Class}
 use Rattle.crs_shape.specs.declared.class.Class.TheVariants as class
+use Rattle.crs_shape.specs.declared.unit_kind.UnitKind.{UnitKind}
+use Rattle.crs_shape.specs.declared.unit_kind.UnitKind.TheVariants as kind
+use Rattle.crs_shape.specs.contracts.unit_kind.UnitKind.{the_type as kind_type}
 use Rattle.crs_value.specs.Reading.{OneIs, is_same}
 use Rattle.crs_value.specs.Sound.{Each}
-use Rattle.crs_value.specs.contracts.values.unit_kind.UnitKind.{the_type as kind_type}
-use Rattle.crs_value.specs.declared.values.unit_kind.UnitKind.{UnitKind}
-use Rattle.crs_value.specs.declared.values.unit_kind.UnitKind.TheVariants as kind
 use Rattle.crs_rules.specs.Rules.{NameAliasParts, RulesParts, UnitAliasParts, is_name_alias, is_unit_alias}
 use Rattle.crs_rules.specs.SteadyRules.{AreSteady, NamesAgree, UnitsAgree, unit_written}
 use Rattle.crs_rules_file.specs.Members.{MemberParts, Says, SaysFactor, SaysName, kind_of}

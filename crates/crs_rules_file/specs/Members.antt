@@ -8,10 +8,10 @@ use Rattle.crs_text.specs.declared.keyword.Keyword.{Keyword}
 use Rattle.crs_shape.specs.Keywords.{has_keyword}
 use Rattle.crs_shape.specs.declared.class.Class.{Class}
 use Rattle.crs_shape.specs.declared.class.Class.TheVariants as class
+use Rattle.crs_shape.specs.declared.unit_kind.UnitKind.{UnitKind}
+use Rattle.crs_shape.specs.declared.unit_kind.UnitKind.TheVariants as kind
 use Rattle.crs_value.specs.BadValue.{IsAboveZero}
 use Rattle.crs_value.specs.Reading.{is_same}
-use Rattle.crs_value.specs.declared.values.unit_kind.UnitKind.{UnitKind}
-use Rattle.crs_value.specs.declared.values.unit_kind.UnitKind.TheVariants as kind
 
 -- the classes of nodes that may count as one; a keyword is that of the first that has it
 abbrev pub subjects : List Class

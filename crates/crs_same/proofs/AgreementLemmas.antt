@@ -2,7 +2,9 @@
 use Rattle.std.proofs.Common.{◌≡◌, ◌⊎◌, ◌↔◌, ◌≤◌, ◌==◌, inl, inr, Bool, true, false, if◌then◌else◌, ℕ, zero, suc, max, Option, Some, None, List, [], length, refl, sym, subst, arith}
 use Rattle.std.specs.Prelude.{⊤}
 use Rattle.std.proofs.lemmas.Bool.{false≢true}
-use Rattle.crs_value.specs.BadUnit.{asked_kind}
+use Rattle.crs_shape.specs.declared.unit_kind.UnitKind.{UnitKind}
+use Rattle.crs_shape.specs.declared.unit_kind.UnitKind.TheVariants as kinds
+use Rattle.crs_shape.specs.UnitKinds.{asked_kind}
 use Rattle.crs_value.specs.declared.values.compound.Horizontal.{Horizontal}
 use Rattle.crs_value.specs.declared.values.compound.Horizontal.TheVariants as horizontal
 use Rattle.crs_value.specs.declared.values.crs.Crs.{Crs}
@@ -24,8 +26,6 @@ use Rattle.crs_same.specs.PartsOfSystems.{parts_of_axis, parts_at, parts_of_axes
 use Rattle.crs_same.specs.Agreement.{AgreeWhereSame, AgreeMethod, AgreeConversion, AgreeGeodetic, AgreeBase, AgreeProjected, AgreeVertical, AgreeHorizontal, AgreeCompound, AgreeCrs, AgreeDynamic, AgreeEllipsoid, AgreeGiven, AgreeMeridian, AgreeDatum, AgreeEnsemble, AgreeFrame, AgreeAxis, AgreeAt, AgreeAxes, AgreeSystem, AgreeTail}
 use Rattle.crs_same.specs.SameFrames.{IsZero}
 use Rattle.crs_same.specs.Sets.{BothOrNeither}
-use Rattle.crs_value.specs.declared.values.unit_kind.UnitKind.{UnitKind}
-use Rattle.crs_value.specs.declared.values.unit_kind.UnitKind.TheVariants as kinds
 use Rattle.crs_value.specs.SoundCompound.{IsCompound, IsHorizontal}
 use Rattle.crs_value.specs.SoundCrs.{IsCrs}
 use Rattle.crs_value.specs.SoundSingle.{IsGeodetic, IsProjected, IsVertical}

@@ -1,14 +1,14 @@
 -- What is the same with everything that counts is the same by definition.
 use Rattle.std.proofs.Common.{ℕ, zero, suc, max, inl, inr, ◌⊎◌, Option, Some, None, List, [], ◌∷◌, length, refl}
 use Rattle.std.specs.Option.{option_and_then}
+use Rattle.crs_shape.specs.declared.unit_kind.UnitKind.{UnitKind}
+use Rattle.crs_shape.specs.declared.unit_kind.UnitKind.TheVariants as kinds
+use Rattle.crs_shape.specs.UnitKinds.{asked_kind}
 use Rattle.crs_value.specs.declared.values.compound.Horizontal.TheVariants as horizontal
 use Rattle.crs_value.specs.declared.values.crs.Crs.{Crs}
 use Rattle.crs_value.specs.declared.values.crs.Crs.TheVariants as crs
 use Rattle.crs_value.specs.declared.values.frame.Frame.TheVariants as frame
 use Rattle.crs_value.specs.declared.values.level.Level.TheVariants as levels
-use Rattle.crs_value.specs.declared.values.unit_kind.UnitKind.{UnitKind}
-use Rattle.crs_value.specs.declared.values.unit_kind.UnitKind.TheVariants as kinds
-use Rattle.crs_value.specs.BadUnit.{asked_kind}
 use Rattle.crs_value.specs.ConversionValues.{ParameterParts, GeoidModelParts}
 use Rattle.crs_value.specs.DynamicValues.{DeformationModelParts}
 use Rattle.crs_value.specs.Values.{AxisParts, AxisMeridianParts, MemberParts, SystemParts, UnitParts}

@@ -1,10 +1,10 @@
 -- The sameness of coordinate reference systems.
+use Rattle.crs_shape.specs.declared.unit_kind.UnitKind.TheVariants as kinds
 use Rattle.crs_value.specs.declared.values.compound.Horizontal.{Horizontal}
 use Rattle.crs_value.specs.declared.values.compound.Horizontal.TheVariants as horizontal
 use Rattle.crs_value.specs.declared.values.crs.Crs.{Crs}
 use Rattle.crs_value.specs.declared.values.crs.Crs.TheVariants as crs
 use Rattle.crs_value.specs.declared.values.level.Level.{Level}
-use Rattle.crs_value.specs.declared.values.unit_kind.UnitKind.TheVariants as kinds
 use Rattle.crs_value.specs.ReadsCrs.{kind_by, kind_of}
 use Rattle.crs_value.specs.SoundCompound.{IsHorizontal, IsCompound}
 use Rattle.crs_value.specs.SoundCrs.{IsCrs}

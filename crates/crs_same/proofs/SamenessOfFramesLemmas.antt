@@ -1,9 +1,9 @@
 -- The sameness of ellipsoids, prime meridians, reference frames and ensembles.
 use Rattle.std.proofs.Common.{◌⊎◌, inl, inr}
+use Rattle.crs_shape.specs.declared.unit_kind.UnitKind.TheVariants as kinds
 use Rattle.crs_value.specs.declared.values.frame.Frame.{Frame}
 use Rattle.crs_value.specs.declared.values.frame.Frame.TheVariants as frame
 use Rattle.crs_value.specs.declared.values.level.Level.{Level}
-use Rattle.crs_value.specs.declared.values.unit_kind.UnitKind.TheVariants as kinds
 use Rattle.crs_value.specs.Values.{MeridianParts}
 use Rattle.crs_same.specs.Sameness.{IsSameness}
 use Rattle.crs_same.specs.Agreement.{AgreeEllipsoid, AgreeGiven, AgreeMeridian, AgreeDatum, AgreeEnsemble, AgreeFrame}

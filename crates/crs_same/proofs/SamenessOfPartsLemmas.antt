@@ -2,10 +2,10 @@
 use Rattle.std.specs.Prelude.{pos, false, ℕ}
 use Rattle.crs_decimal.specs.Number.{SameNumber}
 use Rattle.crs_decimal.specs.Value.{Value, exact}
+use Rattle.crs_shape.specs.declared.unit_kind.UnitKind.{UnitKind}
+use Rattle.crs_shape.specs.declared.unit_kind.UnitKind.TheVariants as kinds
 use Rattle.crs_value.specs.declared.values.level.Level.{Level}
 use Rattle.crs_value.specs.declared.values.level.Level.TheVariants as levels
-use Rattle.crs_value.specs.declared.values.unit_kind.UnitKind.{UnitKind}
-use Rattle.crs_value.specs.declared.values.unit_kind.UnitKind.TheVariants as kinds
 use Rattle.crs_value.specs.Kept.{kept, kept_one}
 use Rattle.crs_same.specs.Sameness.{IsSameness}
 use Rattle.crs_same.specs.Agreement.{AgreeMethod, AgreeConversion, AgreeTail}

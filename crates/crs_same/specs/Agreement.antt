@@ -1,5 +1,8 @@
 -- A bridge: two values agree, field by field, exactly where all their parts are the same.
 use Rattle.std.specs.Prelude.{◌≡◌, ◌↔◌, ℕ, ◌≤◌, length, Option, ◌⊎◌}
+use Rattle.crs_shape.specs.declared.unit_kind.UnitKind.{UnitKind}
+use Rattle.crs_shape.specs.declared.unit_kind.UnitKind.TheVariants as kinds
+use Rattle.crs_shape.specs.UnitKinds.{asked_kind}
 use Rattle.crs_value.specs.declared.values.compound.Horizontal.{Horizontal}
 use Rattle.crs_value.specs.declared.values.compound.Horizontal.TheVariants as horizontal
 use Rattle.crs_value.specs.declared.values.crs.Crs.{Crs}
@@ -7,9 +10,6 @@ use Rattle.crs_value.specs.declared.values.crs.Crs.TheVariants as crs
 use Rattle.crs_value.specs.declared.values.frame.Frame.{Frame}
 use Rattle.crs_value.specs.declared.values.frame.Frame.TheVariants as frame
 use Rattle.crs_value.specs.declared.values.level.Level.{Level}
-use Rattle.crs_value.specs.declared.values.unit_kind.UnitKind.{UnitKind}
-use Rattle.crs_value.specs.declared.values.unit_kind.UnitKind.TheVariants as kinds
-use Rattle.crs_value.specs.BadUnit.{asked_kind}
 use Rattle.crs_value.specs.CompoundValues.{CompoundParts}
 use Rattle.crs_value.specs.ConversionValues.{MethodParts, ConversionParts}
 use Rattle.crs_value.specs.CrsValues.{GeodeticParts, BaseParts, ProjectedParts, VerticalParts}

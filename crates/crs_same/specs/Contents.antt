@@ -1,6 +1,6 @@
 -- The value of a part of a CRS that may be missing.
 use Rattle.std.specs.Prelude.{Option, Some, None}
-use Rattle.crs_value.specs.declared.values.unit_kind.UnitKind.TheVariants as kinds
+use Rattle.crs_shape.specs.declared.unit_kind.UnitKind.TheVariants as kinds
 use Rattle.crs_value.specs.Values.{UnitParts}
 use Rattle.crs_same.specs.declared.content.Content.{Content}
 use Rattle.crs_same.specs.declared.content.Content.TheVariants as content

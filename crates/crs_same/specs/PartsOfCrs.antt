@@ -1,6 +1,7 @@
 -- The parts of coordinate reference systems, in order.
 use Rattle.std.specs.Prelude.{ℕ, Option, List, [], codes}
 use Rattle.std.specs.Option.{option_map, option_and_then}
+use Rattle.crs_shape.specs.declared.unit_kind.UnitKind.TheVariants as kinds
 use Rattle.crs_value.specs.declared.values.compound.Horizontal.{Horizontal}
 use Rattle.crs_value.specs.declared.values.compound.Horizontal.TheVariants as horizontal
 use Rattle.crs_value.specs.declared.values.crs.Crs.{Crs}
@@ -8,7 +9,6 @@ use Rattle.crs_value.specs.declared.values.crs.Crs.TheVariants as crs
 use Rattle.crs_value.specs.declared.values.crs.Kind.{Kind}
 use Rattle.crs_value.specs.declared.values.crs.Kind.TheVariants as kind
 use Rattle.crs_value.specs.declared.values.level.Level.{Level}
-use Rattle.crs_value.specs.declared.values.unit_kind.UnitKind.TheVariants as kinds
 use Rattle.crs_value.specs.CompoundValues.{CompoundParts}
 use Rattle.crs_value.specs.ConversionValues.{MethodParts, ConversionParts}
 use Rattle.crs_value.specs.CrsValues.{GeodeticParts, BaseParts, ProjectedParts, VerticalParts}

@@ -1,9 +1,9 @@
 -- The parts of coordinate systems, in order.
 use Rattle.std.specs.Prelude.{◌≡◌, ℕ, zero, suc, max, length, List, Option, Some, None, ⊤}
+use Rattle.crs_shape.specs.UnitKinds.{asked_kind}
+use Rattle.crs_shape.specs.Words.{direction_word, system_word}
 use Rattle.crs_value.specs.declared.values.level.Level.{Level}
-use Rattle.crs_value.specs.BadUnit.{asked_kind}
 use Rattle.crs_value.specs.Values.{AxisParts, SystemParts}
-use Rattle.crs_value.specs.Words.{direction_word, system_word}
 use Rattle.crs_same.specs.declared.content.Content.TheVariants as content
 use Rattle.crs_same.specs.declared.step.Step.{Step}
 use Rattle.crs_same.specs.declared.step.Step.TheVariants as step

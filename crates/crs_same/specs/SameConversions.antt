@@ -1,7 +1,7 @@
 -- When parameters of conversions and geoid models are the same.
 use Rattle.std.specs.Prelude.{◌≡◌}
+use Rattle.crs_shape.specs.declared.unit_kind.UnitKind.TheVariants as kinds
 use Rattle.crs_value.specs.declared.values.level.Level.{Level}
-use Rattle.crs_value.specs.declared.values.unit_kind.UnitKind.TheVariants as kinds
 use Rattle.crs_value.specs.ConversionValues.{ParameterParts}
 use Rattle.crs_same.specs.Sets.{BothOrNeither}
 use Rattle.crs_same.specs.SameIdents.{SameIdents}

@@ -2,10 +2,10 @@
 use Rattle.std.specs.Prelude.{◌≡◌, false, pos, [], Option, Some, None, codes}
 use Rattle.crs_decimal.specs.Number.{SameNumber}
 use Rattle.crs_decimal.specs.Value.{Value, exact}
+use Rattle.crs_shape.specs.declared.unit_kind.UnitKind.{UnitKind}
+use Rattle.crs_shape.specs.declared.unit_kind.UnitKind.TheVariants as kinds
 use Rattle.crs_value.specs.declared.values.level.Level.{Level}
-use Rattle.crs_value.specs.declared.values.unit_kind.UnitKind.{UnitKind}
-use Rattle.crs_value.specs.declared.values.unit_kind.UnitKind.TheVariants as kinds
-pub use Rattle.crs_value.specs.Sound.{kind_as}
+pub use Rattle.crs_shape.specs.UnitKinds.{kind_as}
 use Rattle.crs_value.specs.Values.{UnitParts}
 use Rattle.crs_same.specs.SameIdents.{SameIdents}
 

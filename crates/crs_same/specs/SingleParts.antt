@@ -1,8 +1,8 @@
 -- Single parts of two values, by their values, and the parts of nodes that may be missing.
 use Rattle.std.specs.Prelude.{◌≡◌, ℕ, List, Option, Some, None}
 use Rattle.crs_decimal.specs.Value.{Value}
+use Rattle.crs_shape.specs.declared.unit_kind.UnitKind.{UnitKind}
 use Rattle.crs_value.specs.declared.values.level.Level.{Level}
-use Rattle.crs_value.specs.declared.values.unit_kind.UnitKind.{UnitKind}
 use Rattle.crs_value.specs.Kept.{kept}
 use Rattle.crs_value.specs.Values.{IdentParts, UnitParts}
 use Rattle.crs_same.specs.declared.content.Content.{Content}

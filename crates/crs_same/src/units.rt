@@ -1,7 +1,7 @@
 //! Units.
 ghost use Rattle.std.specs.Prelude.{◌≡◌, ◌↔◌, IsTrue, None};
 ghost use Rattle.std.specs.Option.{option_copied};
-ghost use Rattle.crs_value.specs.declared.values.unit_kind.UnitKind.TheVariants as kinds;
+ghost use Rattle.crs_shape.specs.declared.unit_kind.UnitKind.TheVariants as kinds;
 ghost use Rattle.crs_same.specs.Sets.{BothOrNeither};
 ghost use Rattle.crs_same.specs.SameUnits.{SameUnitAsked, SameUnit, SameLength, or_metre};
 

@@ -17,3 +17,4 @@ pub mod SlotLemmas
 pub mod SoughtLemmas
 pub mod TableLemmas
 pub mod WalkLemmas
+pub mod WordLemmas

@@ -1,5 +1,7 @@
+pub mod Choice
 pub mod ClassSet
 pub mod Counts
+pub mod Dimensions
 pub mod Expected
 pub mod FaultPlace
 pub mod FirstFault
@@ -13,4 +15,6 @@ pub mod ShapeFault
 pub mod Shaped
 pub mod Slots
 pub mod Sought
+pub mod UnitKinds
 pub mod Walk
+pub mod Words

@@ -1,8 +1,9 @@
-//! Keywords, classes and slots, and the exact refusal of a shape.
+//! Keywords, classes and slots, the closed lists of words, and the exact refusal of a shape.
 #![tactic(auto)]
 
 mod class;
 mod class_set;
+mod direction;
 mod expectation;
 mod expecting;
 mod fitting;
@@ -14,9 +15,12 @@ mod part;
 mod rows;
 mod seeking;
 mod slot;
+mod system_type;
 mod table;
+mod unit_kind;
 
 pub use class::Class;
+pub use direction::Direction;
 pub use expectation::{Expected, classes};
 pub use expecting::expected;
 pub use fitting::{class_at_root, class_in, fit, fit_root};
@@ -24,4 +28,6 @@ pub use keyword::{keywords, known, root_class};
 pub use near::nearest;
 pub use seeking::{Sought, stands_as};
 pub use slot::Slot;
+pub use system_type::SystemType;
 pub use table::{class_of, keyword_names, slots};
+pub use unit_kind::UnitKind;

@@ -1,5 +1,5 @@
 -- Refusals: a number, a place and a name.
-use Rattle.std.specs.Prelude.{ℕ, ◌&&◌, ◌||◌, ◌==◌, ◌++◌, nat_le, Bool, List, codes, decimal, if◌then◌else◌}
+use Rattle.std.specs.Prelude.{ℕ, ◌&&◌, ◌||◌, ◌==◌, ◌++◌, nat_le, nat_lt, Bool, List, codes, decimal, if◌then◌else◌}
 
 -- a refusal: its number, and its place, which counts bytes of the text from 0
 pub record RefusedAt : Type 0 where
@@ -10,6 +10,11 @@ pub record RefusedAt : Type 0 where
 abbrev pub is_refusal : ℕ → Bool
 is_refusal n =
     (nat_le 1 n && nat_le n 8) || (nat_le 11 n && nat_le n 13) || (nat_le 21 n && nat_le n 29)
+
+-- whether one refusal goes before another: it has the lower number,
+-- or the same number and the earlier place
+abbrev pub is_before : RefusedAt → RefusedAt → Bool
+is_before a b = nat_lt a.number b.number || (a.number == b.number && nat_lt a.place b.place)
 
 -- the names of the refusals of the text itself
 abbrev pub text_name : ℕ → List ℕ

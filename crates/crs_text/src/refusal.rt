@@ -1,6 +1,6 @@
 //! Why a text is refused: a number, and the place of the fault.
 ghost use Rattle.std.specs.Prelude.{◌≡◌, ◌↔◌, IsSome, IfSome, IsTrue};
-ghost use Rattle.crs_text.specs.Refusal.{is_refusal, name_of, text_name, shape_name, value_name};
+ghost use Rattle.crs_text.specs.Refusal.{is_before, is_refusal, name_of, text_name, shape_name, value_name};
 
 use std::marker::Model;
 
@@ -100,6 +100,13 @@ impl Refusal {
         ensures { result ≡ self.now.place }
     {
         self.place
+    }
+
+    /// Whether this goes before the other: it has the lower number, or the same number and the earlier place. Profile.
+    pub fn is_before(self, other: Refusal) -> bool
+        ensures { result ≡ is_before self other }
+    {
+        self.number < other.number || (self.number == other.number && self.place < other.place)
     }
 
     /// The number's name.

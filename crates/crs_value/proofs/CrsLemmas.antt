@@ -4,9 +4,9 @@ use Rattle.crs_text.specs.Items.{Item, arguments}
 use Rattle.crs_text.specs.Refusal.{RefusedAt}
 use Rattle.crs_shape.specs.declared.class.Class.{Class}
 use Rattle.crs_shape.specs.declared.class.Class.TheVariants as class
+use Rattle.crs_shape.specs.Dimensions.{dimensions_of}
 use Rattle.crs_value.specs.BadDynamic.{BadDynamic, IsUnsteady}
 use Rattle.crs_value.specs.BadOrder.{BadOrders, BadOrder, LacksOrder, IsBadOrder, orders_in}
-use Rattle.crs_value.specs.BadSystem.{dimensions_of}
 use Rattle.crs_value.specs.BadUnit.{BadOwnUnit, Misfits, HasOwnUnit, IsSuperfluous, BadUnit, units_in}
 use Rattle.crs_value.specs.Break.{at, AnyOf, IsLeast}
 use Rattle.crs_value.specs.Checks.{OfAxes, OfHead, once, OfCrs, BreaksAmong}

@@ -4,14 +4,14 @@ use Rattle.std.specs.Prelude.{◌==◌}
 use Rattle.std.proofs.lemmas.Bool.{eqb-true, eqb-false}
 use Rattle.crs_decimal.specs.Number.{SameNumber, whole_number}
 use Rattle.crs_decimal.specs.Value.{Value, exact}
-use Rattle.crs_value.specs.declared.values.system_type.SystemType.{SystemType}
-use Rattle.crs_value.specs.declared.values.system_type.SystemType.TheVariants as types
-use Rattle.crs_value.specs.declared.values.unit_kind.UnitKind.{UnitKind}
-use Rattle.crs_value.specs.declared.values.unit_kind.UnitKind.TheVariants as kinds
+use Rattle.crs_shape.specs.declared.system_type.SystemType.{SystemType}
+use Rattle.crs_shape.specs.declared.system_type.SystemType.TheVariants as types
+use Rattle.crs_shape.specs.declared.unit_kind.UnitKind.{UnitKind}
+use Rattle.crs_shape.specs.declared.unit_kind.UnitKind.TheVariants as kinds
+use Rattle.crs_shape.specs.Dimensions.{IsOneOf}
 use Rattle.crs_value.specs.BadOrder.{IsPosition}
-use Rattle.crs_value.specs.BadSystem.{IsOneOf}
 use Rattle.crs_value.specs.Sound.{Each, Suits}
-use Rattle.crs_value.proofs.WordLemmas.{kind_place}
+use Rattle.crs_shape.proofs.WordLemmas.{kind_place}
 
 -- it holds or it doesn't
 abbrev pub Either : Type 0 → Type 0

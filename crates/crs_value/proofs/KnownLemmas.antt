@@ -10,16 +10,16 @@ use Rattle.crs_shape.specs.declared.class.Class.{Class}
 use Rattle.crs_shape.specs.declared.class.Class.TheVariants as class
 use Rattle.crs_shape.specs.Keywords.{is_keyword, is_one_of, keywords_of}
 use Rattle.crs_shape.specs.Shaped.{Shaped}
-use Rattle.crs_value.specs.declared.values.direction.Direction.{Direction}
-use Rattle.crs_value.specs.declared.values.system_type.SystemType.{SystemType}
-use Rattle.crs_value.specs.declared.values.unit_kind.UnitKind.{UnitKind}
-use Rattle.crs_value.specs.declared.values.unit_kind.UnitKind.TheVariants as kinds
+use Rattle.crs_shape.specs.declared.direction.Direction.{Direction}
+use Rattle.crs_shape.specs.declared.system_type.SystemType.{SystemType}
+use Rattle.crs_shape.specs.declared.unit_kind.UnitKind.{UnitKind}
+use Rattle.crs_shape.specs.declared.unit_kind.UnitKind.TheVariants as kinds
+use Rattle.crs_shape.specs.Words.{SpellsWord, unit_word}
 use Rattle.crs_value.specs.UnknownWord.{UnknownType, UnknownDirection}
 use Rattle.crs_value.specs.Break.{at, AnyOf}
 use Rattle.crs_value.specs.Checks.{Own, IsSound}
 use Rattle.crs_value.specs.Reading.{those}
 use Rattle.crs_value.specs.Reads.{ReadsType, ReadsDirection, ReadsKind, IsUnitClass}
-use Rattle.crs_value.specs.Words.{SpellsWord, unit_word}
 
 pub known-direction : (item w : Item) (more : List Item) → IsSound class.Axis item → those class.Axis class.Word (arguments item) ≡ w ∷ more →
     ((d : Direction) → ¬ (ReadsDirection w d)) → ⊥

@@ -1,32 +1,34 @@
 -- The first fault of several sets of faults.
 use Rattle.std.proofs.Common.{◌≡◌, ℕ, ◌<◌, ◌≤◌, nat_lt, ◌==◌, Bool, true, false, inl, inr, ◌⊎◌, ◌||◌, ◌&&◌, Option, Some, None, List, [], ◌∷◌, ◌++◌, if◌then◌else◌, refl, sym, subst, arith}
+use Rattle.std.specs.Prelude.{IsFalse}
 use Rattle.std.proofs.lemmas.Bool.Decides.{nat_tests}
 use Rattle.crs_text.specs.Items.{Item}
-use Rattle.crs_text.specs.Refusal.{RefusedAt}
-use Rattle.crs_value.specs.Break.{AnyOf, IsBefore, IsLeast}
-use Rattle.crs_value.specs.Least.{is_before, lesser}
+use Rattle.crs_text.specs.Refusal.{RefusedAt, is_before}
+use Rattle.crs_value.specs.Break.{AnyOf, IsLeast}
+use Rattle.crs_value.specs.Least.{lesser}
 
-before-trans : (a b c : RefusedAt) → IsBefore a b → IsBefore b c → IsBefore a c
-before-trans a b c (inl p) (inl q) = inl (omega arith)
-before-trans a b c (inl p) (inr q) = inl (omega arith)
-before-trans a b c (inr p) (inl q) = inl (omega arith)
-before-trans a b c (inr p) (inr q) = inr (omega arith, omega arith)
+-- a goes before b, or they are at one place with one number
+abbrev Precedes : RefusedAt → RefusedAt → Type 0
+Precedes a b = (a.number < b.number) ⊎ ((a.number ≡ b.number) × (a.place ≤ b.place))
+
+-- b doesn't go before a
+abbrev pub IsFirst : RefusedAt → RefusedAt → Type 0
+IsFirst a b = IsFalse (is_before b a)
+
+precedes-trans : (a b c : RefusedAt) → Precedes a b → Precedes b c → Precedes a c
+precedes-trans a b c (inl p) (inl q) = inl (omega arith)
+precedes-trans a b c (inl p) (inr q) = inl (omega arith)
+precedes-trans a b c (inr p) (inl q) = inl (omega arith)
+precedes-trans a b c (inr p) (inr q) = inr (omega arith, omega arith)
 
 same-or : (m n : ℕ) (b : Bool) → (m == n && b) ≡ true → (m ≡ n) × (b ≡ true)
 same-or m n b e = (grind (arith, nat_tests), grind (arith, nat_tests))
 
-from-test : (a b : RefusedAt) (less : Bool) → nat_lt a.number b.number ≡ less → (less || (a.number == b.number && nat_lt a.place b.place)) ≡ true → IsBefore a b
-from-test a b true e f = inl (grind (arith, nat_tests))
-from-test a b false e f =
-    let h = same-or a.number b.number (nat_lt a.place b.place) f in
-    let k : a.place < b.place = grind (arith, nat_tests) in
-    inr (h.0, omega arith)
-
 not-less : (m n : ℕ) → nat_lt m n ≡ false → n ≤ m
 not-less m n e = grind (arith, nat_tests)
 
-is-less : (m n : ℕ) → nat_lt m n ≡ true → m < n
-is-less m n e = grind (arith, nat_tests)
+is-not-less : (m n : ℕ) → n ≤ m → nat_lt m n ≡ false
+is-not-less m n h = grind (arith, nat_tests)
 
 is-same : (m n : ℕ) → (m == n) ≡ true → m ≡ n
 is-same m n e = grind (arith, nat_tests)
@@ -34,11 +36,13 @@ is-same m n e = grind (arith, nat_tests)
 not-same : (m n : ℕ) → (m == n) ≡ false → m ≡ n → ⊥
 not-same m n e f = grind (arith, nat_tests)
 
--- if b isn't strictly before a, then a is before b
-else-before : (a b : RefusedAt) → is_before b a ≡ false → IsBefore a b
-else-before a b e = by (nat_lt b.number a.number) (b.number == a.number) (nat_lt b.place a.place) refl refl refl e
+is-other : (m n : ℕ) → n < m → (m == n) ≡ false
+is-other m n h = grind (arith, nat_tests)
+
+first-precedes : (a b : RefusedAt) → IsFirst a b → Precedes a b
+first-precedes a b e = by (nat_lt b.number a.number) (b.number == a.number) (nat_lt b.place a.place) refl refl refl e
   where
-    by : (x y z : Bool) → nat_lt b.number a.number ≡ x → (b.number == a.number) ≡ y → nat_lt b.place a.place ≡ z → (x || (y && z)) ≡ false → IsBefore a b
+    by : (x y z : Bool) → nat_lt b.number a.number ≡ x → (b.number == a.number) ≡ y → nat_lt b.place a.place ≡ z → (x || (y && z)) ≡ false → Precedes a b
     by true y z p q r h = cc
     by false true true p q r h = cc
     by false true false p q r h = let s = is-same b.number a.number q in let t = not-less b.place a.place r in inr (sym s, t)
@@ -49,11 +53,59 @@ else-before a b e = by (nat_lt b.number a.number) (b.number == a.number) (nat_lt
         strict : (m n : ℕ) → m ≤ n → (m ≡ n → ⊥) → m < n
         strict m n le ne = omega arith
 
-then-before : (a b : RefusedAt) → is_before b a ≡ true → IsBefore b a
-then-before a b e = from-test b a (nat_lt b.number a.number) refl e
+precedes-first : (a b : RefusedAt) → Precedes a b → IsFirst a b
+precedes-first a b (inl p) =
+    tests (nat_lt b.number a.number) (b.number == a.number) (nat_lt b.place a.place) (is-not-less b.number a.number (omega arith)) (is-other b.number a.number p)
+  where
+    tests : (x y z : Bool) → x ≡ false → y ≡ false → (x || (y && z)) ≡ false
+    tests false false z e f = refl
+    tests false true z e f = cc
+    tests true y z e f = cc
+precedes-first a b (inr p) =
+    tests (nat_lt b.number a.number) (b.number == a.number) (nat_lt b.place a.place) (is-not-less b.number a.number (omega (arith, p.0))) (is-not-less b.place a.place p.1)
+  where
+    tests : (x y z : Bool) → x ≡ false → z ≡ false → (x || (y && z)) ≡ false
+    tests false true false e f = refl
+    tests false true true e f = cc
+    tests false false false e f = refl
+    tests false false true e f = cc
+    tests true y z e f = cc
 
-pub before-self : (a : RefusedAt) → IsBefore a a
-before-self a = inr (refl, omega arith)
+pub first-trans : (a b c : RefusedAt) → IsFirst a b → IsFirst b c → IsFirst a c
+first-trans a b c p q = precedes-first a c (precedes-trans a b c (first-precedes a b p) (first-precedes b c q))
+
+-- what goes before another is first of both
+before-first : (a b : RefusedAt) → is_before b a ≡ true → IsFirst b a
+before-first a b e = precedes-first b a (by (nat_lt b.number a.number) refl e)
+  where
+    by : (x : Bool) → nat_lt b.number a.number ≡ x → (x || (b.number == a.number && nat_lt b.place a.place)) ≡ true → Precedes b a
+    by true p f = inl (grind (arith, nat_tests))
+    by false p f =
+        let h = same-or b.number a.number (nat_lt b.place a.place) f in
+        let k : b.place < a.place = grind (arith, nat_tests) in
+        inr (h.0, omega arith)
+
+pub first-self : (a : RefusedAt) → IsFirst a a
+first-self a = precedes-first a a (inr (refl, omega arith))
+
+pub first-lower : (a b : RefusedAt) → a.number < b.number → IsFirst a b
+first-lower a b p = precedes-first a b (inl p)
+
+-- two faults of which each is first of both are one
+pub first-both : (a b : RefusedAt) → IsFirst a b → IsFirst b a → a ≡ b
+first-both a b p q = by (first-precedes a b p) (first-precedes b a q)
+  where
+    made : ℕ → ℕ → RefusedAt
+    made number place = record { number = number; place = place }
+
+    equal : (m n i j : ℕ) → m ≡ n → i ≡ j → made m i ≡ made n j
+    equal m n i j e f = cc
+
+    by : Precedes a b → Precedes b a → a ≡ b
+    by (inl x) (inl y) = absurd (omega arith)
+    by (inl x) (inr y) = absurd (omega arith)
+    by (inr x) (inl y) = absurd (omega arith)
+    by (inr x) (inr y) = equal a.number b.number a.place b.place x.0 (omega arith)
 
 -- the first of either set is the lesser of their first ones
 pub least-either : (P Q : RefusedAt → Type 0) (a b : Option RefusedAt) → IsLeast P a → IsLeast Q b → IsLeast (λ f. P f ⊎ Q f) (lesser a b)
@@ -64,27 +116,27 @@ least-either P Q None None p q = λ f h. none f h
     none f (inr h) = q f h
 least-either P Q None (Some b) p q = (inr q.0, λ f h. next f h)
   where
-    next : (f : RefusedAt) → P f ⊎ Q f → IsBefore b f
+    next : (f : RefusedAt) → P f ⊎ Q f → IsFirst b f
     next f (inl h) = absurd (p f h)
     next f (inr h) = q.1 f h
 least-either P Q (Some a) None p q = (inl p.0, λ f h. next f h)
   where
-    next : (f : RefusedAt) → P f ⊎ Q f → IsBefore a f
+    next : (f : RefusedAt) → P f ⊎ Q f → IsFirst a f
     next f (inl h) = p.1 f h
     next f (inr h) = absurd (q f h)
 least-either P Q (Some a) (Some b) p q =
     elim (is_before b a) as (λ t. is_before b a ≡ t → IsLeast (λ f. P f ⊎ Q f) (if t then Some b else Some a)) [
-      | true ↦ λ e. (inr q.0, λ f h. second (then-before a b e) f h)
-      | false ↦ λ e. (inl p.0, λ f h. first (else-before a b e) f h)
+      | true ↦ λ e. (inr q.0, λ f h. second (before-first a b e) f h)
+      | false ↦ λ e. (inl p.0, λ f h. first (e) f h)
     ] refl
   where
-    second : IsBefore b a → (f : RefusedAt) → P f ⊎ Q f → IsBefore b f
-    second e f (inl h) = before-trans b a f e (p.1 f h)
+    second : IsFirst b a → (f : RefusedAt) → P f ⊎ Q f → IsFirst b f
+    second e f (inl h) = first-trans b a f e (p.1 f h)
     second e f (inr h) = q.1 f h
 
-    first : IsBefore a b → (f : RefusedAt) → P f ⊎ Q f → IsBefore a f
+    first : IsFirst a b → (f : RefusedAt) → P f ⊎ Q f → IsFirst a f
     first e f (inl h) = p.1 f h
-    first e f (inr h) = before-trans a b f e (q.1 f h)
+    first e f (inr h) = first-trans a b f e (q.1 f h)
 
 -- sets with the same faults have the same first one
 pub least-same : (P Q : RefusedAt → Type 0) (o : Option RefusedAt) → ((f : RefusedAt) → P f → Q f) → ((f : RefusedAt) → Q f → P f) → IsLeast P o → IsLeast Q o
@@ -96,7 +148,7 @@ least-none P none = none
 
 -- one fault under a condition
 pub least-one : (g : RefusedAt) (C : Type 0) → C → IsLeast (λ f. (f ≡ g) × C) (Some g)
-least-one g C holds = ((refl, holds), λ f h. let P : RefusedAt → Type 0 = λ x. IsBefore g x in subst P (sym h.0) (before-self g))
+least-one g C holds = ((refl, holds), λ f h. let P : RefusedAt → Type 0 = λ x. IsFirst g x in subst P (sym h.0) (first-self g))
 
 pub least-not : (g : RefusedAt) (C : Type 0) → ¬ C → IsLeast (λ f. (f ≡ g) × C) None
 least-not g C fails = λ f h. fails h.1
@@ -145,7 +197,7 @@ pub least-at : (g r : RefusedAt) (C : Type 0) → r ≡ g → C → IsLeast (λ 
 least-at g r C e holds = let P : RefusedAt → Type 0 = λ x. IsLeast (λ f. (f ≡ g) × C) (Some x) in subst P (sym e) (least-one g C holds)
 
 pub least-is : (g r : RefusedAt) → r ≡ g → IsLeast (λ f. f ≡ g) (Some r)
-least-is g r e = (e, λ f h. let P : RefusedAt → Type 0 = λ x. IsBefore x f in let Q : RefusedAt → Type 0 = λ x. IsBefore g x in subst P (sym e) (subst Q (sym h) (before-self g)))
+least-is g r e = (e, λ f h. let P : RefusedAt → Type 0 = λ x. IsFirst x f in let Q : RefusedAt → Type 0 = λ x. IsFirst g x in subst P (sym e) (subst Q (sym h) (first-self g)))
 
 pub either-is : (P Q : RefusedAt → Type 0) (a b r : Option RefusedAt) → r ≡ lesser a b → IsLeast P a → IsLeast Q b → IsLeast (λ f. P f ⊎ Q f) r
 either-is P Q a b r e p q = let R : Option RefusedAt → Type 0 = λ o. IsLeast (λ f. P f ⊎ Q f) o in subst R (sym e) (least-either P Q a b p q)
@@ -154,6 +206,6 @@ either-is P Q a b r e p q = let R : Option RefusedAt → Type 0 = λ o. IsLeast 
 pub least-below : (P Q : RefusedAt → Type 0) (n : ℕ) (r : RefusedAt) → r.number < n → ((f : RefusedAt) → Q f → n ≤ f.number) → IsLeast P (Some r) → IsLeast (λ f. P f ⊎ Q f) (Some r)
 least-below P Q n r below high h = (inl h.0, λ f x. next f x)
   where
-    next : (f : RefusedAt) → P f ⊎ Q f → IsBefore r f
+    next : (f : RefusedAt) → P f ⊎ Q f → IsFirst r f
     next f (inl x) = h.1 f x
-    next f (inr x) = inl (omega (arith, below, high f x))
+    next f (inr x) = first-lower r f (omega (arith, below, high f x))

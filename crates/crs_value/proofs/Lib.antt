@@ -47,4 +47,3 @@ pub mod TextLemmas
 pub mod UnitFillingLemmas
 pub mod UnitLemmas
 pub mod WhetherLemmas
-pub mod WordLemmas

@@ -7,11 +7,11 @@ use Rattle.crs_shape.specs.declared.class.Class.{Class}
 use Rattle.crs_shape.specs.declared.class.Class.TheVariants as class
 use Rattle.crs_shape.specs.FaultPlace.{IsPlaceIn, IsShapeNumber}
 use Rattle.crs_shape.specs.ShapeFault.{AtRoot, class_in}
-use Rattle.crs_value.specs.declared.values.system_type.SystemType.{SystemType}
+use Rattle.crs_shape.specs.declared.system_type.SystemType.{SystemType}
+use Rattle.crs_shape.specs.Dimensions.{dimensions_of}
 use Rattle.crs_value.specs.BadValue.{NotAbove, IsNegative}
 use Rattle.crs_value.specs.BadOrder.{LacksOrder, IsBadOrder, BadOrders, BadOrder, orders_in}
 use Rattle.crs_value.specs.BadComponent.{BadComponent, BadComponents}
-use Rattle.crs_value.specs.BadSystem.{dimensions_of}
 use Rattle.crs_value.specs.BadUnit.{units_in, Misfits, BadOwnUnit, IsSuperfluous, HasOwnUnit, BadUnit}
 use Rattle.crs_value.specs.UnknownWord.{UnknownType, UnknownDirection}
 use Rattle.crs_value.specs.Break.{at, AnyOf}

@@ -1,22 +1,23 @@
 -- Uniqueness: an item reads as at most one value, and of faults one is the first.
-use Rattle.std.proofs.Common.{◌≡◌, ℕ, drop, inl, inr, Option, Some, None, List, [], ◌∷◌, refl, sym, ◌∙◌, ap, arith}
+use Rattle.std.proofs.Common.{◌≡◌, ℕ, drop, inl, inr, Option, Some, None, List, [], ◌∷◌, refl, sym, ◌∙◌, ap}
 use Rattle.std.specs.Prelude.{IsSome}
 use Rattle.crs_decimal.specs.Value.{Value}
 use Rattle.crs_text.specs.Items.{Item, arguments, raw_of, skip}
 use Rattle.crs_text.specs.Refusal.{RefusedAt}
 use Rattle.crs_shape.specs.declared.class.Class.{Class}
 use Rattle.crs_shape.specs.declared.class.Class.TheVariants as class
-use Rattle.crs_value.specs.declared.values.direction.Direction.{Direction}
-use Rattle.crs_value.specs.declared.values.system_type.SystemType.{SystemType}
-use Rattle.crs_value.specs.declared.values.unit_kind.UnitKind.{UnitKind}
-use Rattle.crs_value.specs.Break.{IsBefore, IsLeast}
+use Rattle.crs_shape.specs.declared.direction.Direction.{Direction}
+use Rattle.crs_shape.specs.declared.system_type.SystemType.{SystemType}
+use Rattle.crs_shape.specs.declared.unit_kind.UnitKind.{UnitKind}
+use Rattle.crs_value.specs.Break.{IsLeast}
 use Rattle.crs_value.specs.Reading.{those, ReadsFirst, ReadsOptional, ReadsEach}
 use Rattle.crs_value.specs.Reads.{ReadsNumber, ReadsType, ReadsDirection, ReadsKind, ReadsNumberOf, ReadsNumberAt, ReadsUnit, ReadsAxisMeridian, ReadsAxis, ReadsHead, ReadsSystem, ReadsEllipsoid, ReadsMeridian, ReadsDatum, ReadsEnsemble, ReadsBox, ReadsExtent, ReadsUsage, LacksUsage, ReadsBare, ReadsTail}
 use Rattle.crs_value.specs.ReadsNamed.{ReadsText, ReadsTextOf, single_of, ReadsIdent, ReadsNamed}
 use Rattle.crs_value.specs.NamedValues.{IdentParts, NamedParts}
 use Rattle.crs_value.specs.Values.{UnitParts, AxisMeridianParts, AxisParts, SystemParts, EllipsoidParts, MeridianParts, DatumParts, EnsembleParts, BoxParts, ExtentParts, UsageParts, SaysSome, TailParts}
 use Rattle.crs_value.proofs.CheckLemmas.{DenotesOne, number-one}
-use Rattle.crs_value.proofs.WordLemmas.{direction_one, type_one, kind_one}
+use Rattle.crs_value.proofs.LeastLemmas.{first-both}
+use Rattle.crs_shape.proofs.WordLemmas.{direction_one, type_one, kind_one}
 
 -- each item reads as one value at most
 abbrev pub IsOne : {V : Type 0} → (Item → V → Type 0) → Type 0
@@ -316,17 +317,5 @@ system-one law c item a b p q =
     (one-optional (ReadsUnit class.AxisUnit) (unit-one law class.AxisUnit) (those c class.AxisUnit (arguments item)) a.unit b.unit p.unit q.unit)
 
 -- of some faults one is the first
-abbrev refused-made : ℕ → ℕ → RefusedAt
-refused-made number place = record { number = number; place = place }
-
-before-both : (a b : RefusedAt) → IsBefore a b → IsBefore b a → a ≡ b
-before-both a b (inl p) (inl q) = absurd (omega arith)
-before-both a b (inl p) (inr q) = absurd (omega arith)
-before-both a b (inr p) (inl q) = absurd (omega arith)
-before-both a b (inr p) (inr q) = refused-equal a.number b.number a.place b.place p.0 (omega arith)
-  where
-    refused-equal : (m n i j : ℕ) → m ≡ n → i ≡ j → refused-made m i ≡ refused-made n j
-    refused-equal m n i j e f = cc
-
 pub least-one-only : (Fault : RefusedAt → Type 0) (a b : RefusedAt) → IsLeast Fault (Some a) → IsLeast Fault (Some b) → a ≡ b
-least-one-only Fault a b p q = before-both a b (p.1 b q.0) (q.1 a p.0)
+least-one-only Fault a b p q = first-both a b (p.1 b q.0) (q.1 a p.0)

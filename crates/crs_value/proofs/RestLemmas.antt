@@ -8,17 +8,17 @@ use Rattle.crs_text.specs.declared.items.ItemKind.TheVariants as item_kinds
 use Rattle.crs_text.specs.declared.keyword.Keyword.TheVariants as keyword
 use Rattle.crs_shape.specs.declared.class.Class.{Class}
 use Rattle.crs_shape.specs.declared.class.Class.TheVariants as class
+use Rattle.crs_shape.specs.declared.system_type.SystemType.{SystemType}
+use Rattle.crs_shape.specs.declared.unit_kind.UnitKind.{UnitKind}
+use Rattle.crs_shape.specs.declared.unit_kind.UnitKind.TheVariants as kinds
 use Rattle.crs_shape.specs.ShapeFault.{class_in, is_of}
 use Rattle.crs_shape.specs.Slots.{SlotParts, slots_of, one, optional, some, any, tail, vertical_tail, takes, is_class}
+use Rattle.crs_shape.specs.Dimensions.{IsOneOf, dimensions_of}
 use Rattle.crs_value.specs.declared.sound.axes.Axes.{Axes}
 use Rattle.crs_value.specs.declared.sound.axes.Places.{Places}
 use Rattle.crs_value.specs.declared.sound.axes.Run.{Run}
-use Rattle.crs_value.specs.declared.values.system_type.SystemType.{SystemType}
-use Rattle.crs_value.specs.declared.values.unit_kind.UnitKind.{UnitKind}
-use Rattle.crs_value.specs.declared.values.unit_kind.UnitKind.TheVariants as kinds
 use Rattle.crs_value.specs.BadDynamic.{IsUnsteady}
 use Rattle.crs_value.specs.BadOrder.{orders_in, ReadsOrder, OneHas, LacksOrder, SomeHasOrder, IsBadOrder, BadOrders, BadOrder}
-use Rattle.crs_value.specs.BadSystem.{IsOneOf, geodetic_dimensions, geographic_dimensions, projected_dimensions, vertical_dimensions, dimensions_of}
 use Rattle.crs_value.specs.BadUnit.{units_in, Asks, Fits, AllAsk, IsSuperfluous, HasOwnUnit, BadOwnUnit, BadUnit}
 use Rattle.crs_value.specs.Break.{AnyOf, IsLeast}
 use Rattle.crs_value.specs.Checks.{once, HasSystem, OfHead, BadSystems, OfCrs, Own}
@@ -366,10 +366,10 @@ crs-quiet dims c item repeats systems none f (inr (inr h)) = let P : List Item �
 
 own-quiet : (c : Class) (item : Item) → HasSystem c → IsQuiet c (arguments item) → those c class.Dynamic (arguments item) ≡ [] → (f : RefusedAt) → Own c item f → ⊥
 unfolding Own
-own-quiet class.GeodeticCrs item s q none f h = crs-quiet geodetic_dimensions class.GeodeticCrs item q.repeats q.systems none f h
-own-quiet class.GeographicCrs item s q none f h = crs-quiet geographic_dimensions class.GeographicCrs item q.repeats q.systems none f h
-own-quiet class.ProjectedCrs item s q none f h = crs-quiet projected_dimensions class.ProjectedCrs item q.repeats q.systems none f h
-own-quiet class.VerticalCrs item s q none f h = crs-quiet vertical_dimensions class.VerticalCrs item q.repeats q.systems none f h
+own-quiet class.GeodeticCrs item s q none f h = crs-quiet (dimensions_of class.GeodeticCrs) class.GeodeticCrs item q.repeats q.systems none f h
+own-quiet class.GeographicCrs item s q none f h = crs-quiet (dimensions_of class.GeographicCrs) class.GeographicCrs item q.repeats q.systems none f h
+own-quiet class.ProjectedCrs item s q none f h = crs-quiet (dimensions_of class.ProjectedCrs) class.ProjectedCrs item q.repeats q.systems none f h
+own-quiet class.VerticalCrs item s q none f h = crs-quiet (dimensions_of class.VerticalCrs) class.VerticalCrs item q.repeats q.systems none f h
 own-quiet other item s q none f h = absurd s
 
 pub quiet-clean : (c : Class) (item : Item) → HasSystem c → kind_of_item item ≡ item_kinds.Node → is_of c item ≡ true → Fill c (slots_of c) (arguments item) → IsQuiet c (arguments item) →

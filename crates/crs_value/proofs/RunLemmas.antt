@@ -3,12 +3,12 @@ use Rattle.std.proofs.Common.{◌≡◌, ℕ, ◌+◌, length, true, false, Opti
 use Rattle.crs_text.specs.Items.{Item, rest_of, here, HasId, IsAt}
 use Rattle.crs_shape.specs.declared.class.Class.{Class}
 use Rattle.crs_shape.specs.declared.class.Class.TheVariants as class
+use Rattle.crs_shape.specs.declared.system_type.SystemType.{SystemType}
+use Rattle.crs_shape.specs.declared.unit_kind.UnitKind.TheVariants as kinds
 use Rattle.crs_shape.specs.Slots.{SlotParts, some, any}
 use Rattle.crs_value.specs.declared.sound.axes.Axes.{Axes}
 use Rattle.crs_value.specs.declared.sound.axes.Places.{Places}
 use Rattle.crs_value.specs.declared.sound.axes.Seen.{Seen}
-use Rattle.crs_value.specs.declared.values.system_type.SystemType.{SystemType}
-use Rattle.crs_value.specs.declared.values.unit_kind.UnitKind.TheVariants as kinds
 use Rattle.crs_value.specs.BadOrder.{orders_in}
 use Rattle.crs_value.specs.BadUnit.{units_in, Asks, BadOwnUnit}
 use Rattle.crs_value.specs.Break.{IsLeast}

@@ -10,10 +10,11 @@ use Rattle.crs_text.specs.declared.items.ItemKind.{ItemKind}
 use Rattle.crs_text.specs.declared.items.ItemKind.TheVariants as kinds
 use Rattle.crs_shape.specs.declared.class.Class.{Class}
 use Rattle.crs_shape.specs.declared.class.Class.TheVariants as class
+use Rattle.crs_shape.specs.declared.direction.Direction.{Direction}
 use Rattle.crs_shape.specs.Shaped.{Shaped}
 use Rattle.crs_shape.specs.Slots.{one, optional, any}
+use Rattle.crs_shape.specs.Words.{SpellsWord, direction_word}
 use Rattle.crs_value.specs.declared.sound.axes.Seen.{Seen}
-use Rattle.crs_value.specs.declared.values.direction.Direction.{Direction}
 use Rattle.crs_value.specs.Break.{AnyOf}
 use Rattle.crs_value.specs.Checks.{Own}
 use Rattle.crs_value.specs.Filling.{Fill, Leaves}
@@ -21,7 +22,6 @@ use Rattle.crs_value.specs.Reading.{item_at, is_a, ahead, those, ReadsFirst}
 use Rattle.crs_value.specs.Reads.{ReadsDirection}
 use Rattle.crs_value.specs.Seen.{Has, Only}
 use Rattle.crs_value.specs.UnknownWord.{UnknownDirection}
-use Rattle.crs_value.specs.Words.{SpellsWord, direction_word}
 use Rattle.crs_value.proofs.ArgumentLemmas.{SlotsBound, ahead_at, those-first, arguments-few}
 use Rattle.crs_value.proofs.LeavesLemmas.{fill-without}
 

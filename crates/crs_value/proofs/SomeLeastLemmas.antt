@@ -9,16 +9,19 @@ use Rattle.crs_shape.specs.declared.class.Class.{Class}
 use Rattle.crs_shape.specs.declared.class.Class.TheVariants as class
 use Rattle.crs_shape.specs.Shaped.{AreShaped}
 use Rattle.crs_shape.specs.ShapeFault.{class_in}
-use Rattle.crs_value.specs.declared.values.system_type.SystemType.{SystemType}
-use Rattle.crs_value.specs.declared.values.system_type.SystemType.TheVariants as types
-use Rattle.crs_value.specs.declared.values.unit_kind.UnitKind.{UnitKind}
-use Rattle.crs_value.specs.declared.values.unit_kind.UnitKind.TheVariants as kinds
+use Rattle.crs_shape.specs.declared.system_type.SystemType.{SystemType}
+use Rattle.crs_shape.specs.declared.system_type.SystemType.TheVariants as types
+use Rattle.crs_shape.specs.declared.unit_kind.UnitKind.{UnitKind}
+use Rattle.crs_shape.specs.declared.unit_kind.UnitKind.TheVariants as kinds
+use Rattle.crs_shape.specs.Dimensions.{IsOneOf, dimensions_of}
+use Rattle.crs_shape.specs.UnitKinds.{asked_kind}
+use Rattle.crs_shape.specs.Words.{unit_word}
 use Rattle.crs_value.specs.BadValue.{IsAboveZero, NotAbove, IsNegative}
 use Rattle.crs_value.specs.AxisCount.{AxisCount}
 use Rattle.crs_value.specs.BadOrder.{orders_in, SomeHasOrder, AllHaveOrder, LacksOrder, ReadsOrder, IsPosition, HasThis, OneHas, IsWrongOrder, IsBadOrder, BadOrders, BadOrder}
 use Rattle.crs_value.specs.BadComponent.{IsNotEllipsoidal, IsNotPlane, IsNotHorizontal, BadComponent, BadComponents}
-use Rattle.crs_value.specs.BadSystem.{IsOneOf, BadSystem, dimensions_of}
-use Rattle.crs_value.specs.BadUnit.{asked_kind, Asks, Fits, units_in, LacksUnit, Misfits, BadOwnUnit, IsSuperfluous, HasOwnUnit, AllAsk, SharedFits, BadShared, BadUnit}
+use Rattle.crs_value.specs.BadSystem.{BadSystem}
+use Rattle.crs_value.specs.BadUnit.{Asks, Fits, units_in, LacksUnit, Misfits, BadOwnUnit, IsSuperfluous, HasOwnUnit, AllAsk, SharedFits, BadShared, BadUnit}
 use Rattle.crs_value.specs.UnknownWord.{UnknownType, UnknownDirection}
 use Rattle.crs_value.specs.Break.{at, AnyOf, FirstIs, IsLeast}
 use Rattle.crs_value.specs.BadDynamic.{BadDynamic, HasEnsemble, IsUnsteady}
@@ -27,7 +30,6 @@ use Rattle.crs_value.specs.RepeatedPart.{IsRepeated, Repeats, RepeatsAny}
 use Rattle.crs_value.specs.Least.{lesser}
 use Rattle.crs_value.specs.Reading.{those, ReadsFirst}
 use Rattle.crs_value.specs.Reads.{HasType, HasDimension, ReadsNumber, ReadsType, ReadsDirection}
-use Rattle.crs_value.specs.Words.{unit_word}
 use Rattle.crs_value.proofs.CheckLemmas.{DenotesOne, number-one}
 use Rattle.crs_value.proofs.WhetherLemmas.{Decided, Known, decided-as, decided-both, decided-either, decided-not, decided-some, decided-this, decided-word, type-known, direction-known, decided-kind, decided-kinds, not-ellipsoidal, decided-bool, decided-same, decided-value, decided-one-of, decided-position, decided-above}
 use Rattle.crs_value.proofs.LeastLemmas.{least-same, least-either, least-one, least-not, least-is}

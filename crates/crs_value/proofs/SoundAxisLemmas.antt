@@ -3,7 +3,7 @@ use Rattle.crs_text.specs.Items.{arguments}
 use Rattle.crs_decimal.specs.Value.{IsNormal}
 use Rattle.crs_shape.specs.declared.class.Class.{Class}
 use Rattle.crs_shape.specs.declared.class.Class.TheVariants as class
-use Rattle.crs_value.specs.declared.values.unit_kind.UnitKind.TheVariants as kinds
+use Rattle.crs_shape.specs.declared.unit_kind.UnitKind.TheVariants as kinds
 use Rattle.crs_value.specs.Reading.{those}
 use Rattle.crs_value.specs.Reads.{ReadsNumberOf, ReadsUnit, ReadsAxisMeridian, ReadsAxis}
 use Rattle.crs_value.specs.Sound.{IsUnitOf, IsAxisUnit, IsAxisMeridian, IsAxis}

@@ -6,14 +6,14 @@ use Rattle.crs_text.specs.Items.{Item, arguments}
 use Rattle.crs_text.specs.Refusal.{RefusedAt}
 use Rattle.crs_shape.specs.declared.class.Class.{Class}
 use Rattle.crs_shape.specs.declared.class.Class.TheVariants as class
+use Rattle.crs_shape.specs.declared.system_type.SystemType.{SystemType}
+use Rattle.crs_shape.specs.declared.system_type.SystemType.TheVariants as types
+use Rattle.crs_shape.specs.declared.unit_kind.UnitKind.TheVariants as kinds
 use Rattle.crs_shape.specs.Counts.{most, is_bounded}
 use Rattle.crs_shape.specs.Slots.{slots_of}
+use Rattle.crs_shape.specs.Dimensions.{IsOneOf, dimensions_of}
 use Rattle.crs_value.specs.declared.values.frame.Frame.{Frame}
 use Rattle.crs_value.specs.declared.values.frame.Frame.TheVariants as frames
-use Rattle.crs_value.specs.declared.values.system_type.SystemType.{SystemType}
-use Rattle.crs_value.specs.declared.values.system_type.SystemType.TheVariants as types
-use Rattle.crs_value.specs.declared.values.unit_kind.UnitKind.TheVariants as kinds
-use Rattle.crs_value.specs.BadSystem.{IsOneOf, geodetic_dimensions, dimensions_of}
 use Rattle.crs_value.specs.BadDynamic.{BadDynamic}
 use Rattle.crs_value.specs.Checks.{HasSystem, IsSound, Own}
 use Rattle.crs_value.specs.Reading.{is_same, those, Requires, ReadsFirst, ReadsOptional, ReadsElse}
@@ -95,7 +95,7 @@ geodetic-axis other is = absurd is
 
 -- what a CRS that is called geographic allows, each geodetic one allows
 allowed-geodetic : (c : Class) (system_type : SystemType) (value : Value) → IsGeodeticClass c → IsOneOf value (dimensions_of c system_type) →
-    IsOneOf value (geodetic_dimensions system_type)
+    IsOneOf value (dimensions_of class.GeodeticCrs system_type)
 allowed-geodetic class.GeodeticCrs system_type value is h = h
 allowed-geodetic class.GeographicCrs types.Cartesian value is h = absurd h
 allowed-geodetic class.GeographicCrs types.Ellipsoidal value is h = h

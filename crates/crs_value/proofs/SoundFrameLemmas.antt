@@ -6,7 +6,7 @@ use Rattle.crs_text.specs.Items.{Item, leaf, node, More, arguments}
 use Rattle.crs_text.specs.Refusal.{RefusedAt}
 use Rattle.crs_shape.specs.declared.class.Class.{Class}
 use Rattle.crs_shape.specs.declared.class.Class.TheVariants as class
-use Rattle.crs_value.specs.declared.values.unit_kind.UnitKind.TheVariants as kinds
+use Rattle.crs_shape.specs.declared.unit_kind.UnitKind.TheVariants as kinds
 use Rattle.crs_value.specs.BadValue.{IsAboveZero, NotAbove, IsNegative}
 use Rattle.crs_value.specs.Break.{at, AnyOf}
 use Rattle.crs_value.specs.Checks.{OfEllipsoid, Own, IsSound}

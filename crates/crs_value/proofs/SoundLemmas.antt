@@ -16,8 +16,9 @@ use Rattle.crs_shape.specs.declared.class.Class.{Class}
 use Rattle.crs_shape.specs.declared.class.Class.TheVariants as class
 use Rattle.crs_shape.specs.Keywords.{is_keyword, keywords_of}
 use Rattle.crs_shape.specs.Shaped.{Shaped}
-use Rattle.crs_value.specs.declared.values.unit_kind.UnitKind.{UnitKind}
-use Rattle.crs_value.specs.declared.values.unit_kind.UnitKind.TheVariants as kinds
+use Rattle.crs_shape.specs.declared.unit_kind.UnitKind.{UnitKind}
+use Rattle.crs_shape.specs.declared.unit_kind.UnitKind.TheVariants as kinds
+use Rattle.crs_shape.specs.Words.{SpellsWord, unit_word}
 use Rattle.crs_value.specs.BadValue.{IsAboveZero, NotAbove}
 use Rattle.crs_value.specs.Break.{at, AnyOf}
 use Rattle.crs_value.specs.Checks.{OfUnit, Own, IsSound}
@@ -26,10 +27,9 @@ use Rattle.crs_value.specs.Reads.{ReadsNumber, ReadsKind, ReadsNumberOf, IsUnitC
 use Rattle.crs_value.specs.ReadsNamed.{ReadsText, ReadsTextOf, single_of, ReadsIdent, ReadsIds, ReadsNamed}
 use Rattle.crs_value.specs.Sound.{Each, IsText, IsIdent, IsNamed, IsUnit, Suits, IsUnitOf, IsAxisUnit}
 use Rattle.crs_value.specs.NamedValues.{IdentParts}
-use Rattle.crs_value.specs.Words.{SpellsWord, unit_word}
 use Rattle.crs_value.proofs.ArgumentLemmas.{AllSound, arguments-sound}
 use Rattle.crs_value.proofs.KnownLemmas.{NoneOf, none-of, unit-no-leaf}
-use Rattle.crs_value.proofs.WordLemmas.{kind_one}
+use Rattle.crs_shape.proofs.WordLemmas.{kind_one}
 
 -- ---- the bytes of numbers and words are texts too
 

@@ -7,12 +7,13 @@ use Rattle.crs_text.specs.Items.{Item, leaf, node, arguments, raw_of}
 use Rattle.crs_text.specs.Refusal.{RefusedAt}
 use Rattle.crs_shape.specs.declared.class.Class.{Class}
 use Rattle.crs_shape.specs.declared.class.Class.TheVariants as class
-use Rattle.crs_value.specs.declared.values.system_type.SystemType.{SystemType}
-use Rattle.crs_value.specs.declared.values.unit_kind.UnitKind.{UnitKind}
-use Rattle.crs_value.specs.declared.values.unit_kind.UnitKind.TheVariants as kinds
+use Rattle.crs_shape.specs.declared.system_type.SystemType.{SystemType}
+use Rattle.crs_shape.specs.declared.unit_kind.UnitKind.{UnitKind}
+use Rattle.crs_shape.specs.declared.unit_kind.UnitKind.TheVariants as kinds
+use Rattle.crs_shape.specs.Dimensions.{IsOneOf, dimensions_of}
+use Rattle.crs_shape.specs.UnitKinds.{asked_kind}
 use Rattle.crs_value.specs.BadOrder.{IsPosition, orders_in, SomeHasOrder, AllHaveOrder, LacksOrder, OneHas, ReadsOrder, IsBadOrder, BadOrders, BadOrder}
-use Rattle.crs_value.specs.BadSystem.{IsOneOf, dimensions_of}
-use Rattle.crs_value.specs.BadUnit.{asked_kind, Asks, Fits, units_in, Misfits, BadOwnUnit, IsSuperfluous, HasOwnUnit, AllAsk, SharedFits, BadUnit}
+use Rattle.crs_value.specs.BadUnit.{Asks, Fits, units_in, Misfits, BadOwnUnit, IsSuperfluous, HasOwnUnit, AllAsk, SharedFits, BadUnit}
 use Rattle.crs_value.specs.Break.{at, AnyOf}
 use Rattle.crs_value.specs.Checks.{OfHead, BadSystems, OfCrs, HasSystem, Own, IsSound}
 use Rattle.crs_value.specs.Reading.{those, Requires, ReadsFirst, ReadsOptional, ReadsEach}
@@ -25,7 +26,7 @@ use Rattle.crs_value.proofs.DecideLemmas.{Either, stable, both-either, nil-eithe
 use Rattle.crs_value.proofs.SoundAxisLemmas.{axis-tells}
 use Rattle.crs_value.proofs.SoundLemmas.{Tells, optional-tells, each-tells, number-of-tells, identifiers-tell, axis-unit-tells}
 use Rattle.crs_value.proofs.UnitLemmas.{asks-one}
-use Rattle.crs_value.proofs.WordLemmas.{kind_one}
+use Rattle.crs_shape.proofs.WordLemmas.{kind_one}
 
 -- ---- optional arguments
 

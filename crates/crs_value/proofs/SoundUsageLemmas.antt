@@ -10,9 +10,9 @@ use Rattle.crs_shape.specs.Counts.{one_if, how_many, most, is_bounded}
 use Rattle.crs_shape.specs.Shape.{Allowed}
 use Rattle.crs_shape.specs.Shaped.{Shaped}
 use Rattle.crs_shape.specs.Slots.{slots_of}
-use Rattle.crs_value.specs.declared.values.unit_kind.UnitKind.TheVariants as kinds
-use Rattle.crs_value.specs.Reading.{is_same, those, ReadsOptional}
+use Rattle.crs_shape.specs.declared.unit_kind.UnitKind.TheVariants as kinds
 use Rattle.crs_shape.specs.Slots.{is_class}
+use Rattle.crs_value.specs.Reading.{is_same, those, ReadsOptional}
 use Rattle.crs_value.specs.Reads.{ReadsTextOf, ReadsUnit, LacksUsage, ReadsBare, ReadsBox, ReadsExtent, ReadsUsage, ReadsTail}
 use Rattle.crs_value.specs.Sound.{IsUnitOf}
 use Rattle.crs_value.specs.Checks.{IsSound}

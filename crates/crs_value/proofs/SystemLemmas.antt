@@ -6,15 +6,16 @@ use Rattle.crs_text.specs.Items.{Item, Siblings, End, More, count, arguments}
 use Rattle.crs_text.specs.Refusal.{RefusedAt}
 use Rattle.crs_shape.specs.declared.class.Class.{Class}
 use Rattle.crs_shape.specs.declared.class.Class.TheVariants as class
-use Rattle.crs_value.specs.declared.values.system_type.SystemType.{SystemType}
+use Rattle.crs_shape.specs.declared.system_type.SystemType.{SystemType}
+use Rattle.crs_shape.specs.Dimensions.{IsOneOf}
 use Rattle.crs_value.specs.AxisCount.{AxisCount}
-use Rattle.crs_value.specs.BadSystem.{IsOneOf, BadSystem}
+use Rattle.crs_value.specs.BadSystem.{BadSystem}
 use Rattle.crs_value.specs.Break.{at, IsLeast}
 use Rattle.crs_value.specs.Reading.{is_a, those, IsReading, ReadsFirst}
 use Rattle.crs_value.specs.Reads.{HasType, HasDimension, ReadsNumber, ReadsType}
 use Rattle.crs_value.proofs.CheckLemmas.{DenotesOne, number-one}
 use Rattle.crs_value.proofs.LeastLemmas.{least-at}
-use Rattle.crs_value.proofs.WordLemmas.{type_one}
+use Rattle.crs_shape.proofs.WordLemmas.{type_one}
 use Rattle.crs_text.specs.Items.{raw_of}
 
 pub first-one : {V : Type 0} (R : Item → V → Type 0) → ((i : Item) (a b : V) → R i a → R i b → a ≡ b) → (items : List Item) (a b : V) → ReadsFirst R items a → ReadsFirst R items b → a ≡ b

@@ -4,20 +4,21 @@ use Rattle.crs_text.specs.Items.{Item, arguments, raw_of, rest_of, here}
 use Rattle.crs_text.specs.Refusal.{RefusedAt}
 use Rattle.crs_shape.specs.declared.class.Class.{Class}
 use Rattle.crs_shape.specs.declared.class.Class.TheVariants as class
-use Rattle.crs_value.specs.declared.values.unit_kind.UnitKind.{UnitKind}
-use Rattle.crs_value.specs.declared.values.unit_kind.UnitKind.TheVariants as kinds
-use Rattle.crs_value.specs.BadUnit.{asked_kind, Asks, Fits, units_in, Misfits, BadOwnUnit, HasOwnUnit, BadShared, BadUnit, AllAsk}
+use Rattle.crs_shape.specs.declared.unit_kind.UnitKind.{UnitKind}
+use Rattle.crs_shape.specs.declared.unit_kind.UnitKind.TheVariants as kinds
+use Rattle.crs_shape.specs.UnitKinds.{asked_kind}
+use Rattle.crs_shape.specs.Words.{SpellsWord, unit_word}
+use Rattle.crs_shape.specs.Shaped.{Shaped}
+use Rattle.crs_value.specs.BadUnit.{Asks, Fits, units_in, Misfits, BadOwnUnit, HasOwnUnit, BadShared, BadUnit, AllAsk}
 use Rattle.crs_value.specs.Break.{at, AnyOf, IsLeast}
 use Rattle.crs_value.specs.FoundArguments.{from_found, AllShaped}
 use Rattle.crs_value.specs.Least.{lesser}
 use Rattle.crs_value.specs.Reading.{item_at, those, Holds, IsFound}
 use Rattle.crs_value.specs.Reads.{ReadsDirection}
-use Rattle.crs_value.specs.Words.{SpellsWord, unit_word}
-use Rattle.crs_shape.specs.Shaped.{Shaped}
 use Rattle.crs_value.proofs.ArgumentLemmas.{found-is, found-holds, found-shaped, all-shaped}
 use Rattle.crs_value.proofs.LeastLemmas.{least-same, least-at, either-is}
 use Rattle.crs_value.proofs.SystemLemmas.{first-one, type-is-one}
-use Rattle.crs_value.proofs.WordLemmas.{direction_one}
+use Rattle.crs_shape.proofs.WordLemmas.{direction_one}
 
 pub fits-none : (unit : Item) (raw : List ℕ) (kind : UnitKind) → raw ≡ raw_of unit → ((k : UnitKind) → ¬ (SpellsWord raw (unit_word k))) → Fits unit kind → ⊥
 fits-none unit raw kind e none (inl h) = let P : List ℕ → Type 0 = λ r. SpellsWord r (unit_word kinds.Plain) in none kinds.Plain (subst P (sym e) h)

@@ -5,16 +5,16 @@ use Rattle.std.proofs.lemmas.Bool.{cases_eq}
 use Rattle.std.proofs.lemmas.Slice.Eq.{bytes_eq-Decides}
 use Rattle.crs_decimal.specs.Number.{Number, SameNumber, whole_number}
 use Rattle.crs_decimal.specs.Value.{Value, exact}
-use Rattle.crs_value.specs.declared.values.direction.Direction.{Direction}
-use Rattle.crs_value.specs.declared.values.system_type.SystemType.{SystemType}
-use Rattle.crs_value.specs.declared.values.system_type.SystemType.TheVariants as types
-use Rattle.crs_value.specs.declared.values.unit_kind.UnitKind.{UnitKind}
-use Rattle.crs_value.specs.declared.values.unit_kind.UnitKind.TheVariants as kinds
+use Rattle.crs_shape.specs.declared.direction.Direction.{Direction}
+use Rattle.crs_shape.specs.declared.system_type.SystemType.{SystemType}
+use Rattle.crs_shape.specs.declared.system_type.SystemType.TheVariants as types
+use Rattle.crs_shape.specs.declared.unit_kind.UnitKind.{UnitKind}
+use Rattle.crs_shape.specs.declared.unit_kind.UnitKind.TheVariants as kinds
+use Rattle.crs_shape.specs.Dimensions.{IsOneOf}
+use Rattle.crs_shape.specs.Words.{SpellsWord, direction_word, system_word}
 use Rattle.crs_value.specs.BadValue.{IsAboveZero}
 use Rattle.crs_value.specs.BadOrder.{IsPosition}
-use Rattle.crs_value.specs.BadSystem.{IsOneOf}
-use Rattle.crs_value.specs.Words.{SpellsWord, direction_word, system_word}
-use Rattle.crs_value.proofs.WordLemmas.{directions, direction_place, direction_placed, direction_within}
+use Rattle.crs_shape.proofs.WordLemmas.{directions, direction_place, direction_placed, direction_within}
 
 abbrev pub Decided : Type 0 → Type 0
 Decided C = C ⊎ (¬ C)

@@ -6,8 +6,8 @@ use Rattle.crs_text.specs.Items.{Item, Siblings, arguments}
 use Rattle.crs_text.specs.Refusal.{RefusedAt}
 use Rattle.crs_shape.specs.declared.class.Class.{Class}
 use Rattle.crs_shape.specs.declared.class.Class.TheVariants as class
-use Rattle.crs_value.specs.declared.values.system_type.SystemType.{SystemType}
-use Rattle.crs_value.specs.declared.values.system_type.SystemType.TheVariants as types
+use Rattle.crs_shape.specs.declared.system_type.SystemType.{SystemType}
+use Rattle.crs_shape.specs.declared.system_type.SystemType.TheVariants as types
 use Rattle.crs_value.specs.Reading.{OneIs, those}
 use Rattle.crs_value.specs.Break.{at, AnyOf, FirstIs}
 use Rattle.crs_value.specs.Reads.{HasType, HasDimension}

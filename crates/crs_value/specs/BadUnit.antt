@@ -3,29 +3,14 @@ use Rattle.std.specs.Prelude.{◌≡◌, List, [], ◌∷◌, ◌⊎◌}
 use Rattle.crs_text.specs.Items.{Item, arguments}
 use Rattle.crs_text.specs.Refusal.{RefusedAt}
 use Rattle.crs_shape.specs.declared.class.Class.TheVariants as class
-use Rattle.crs_value.specs.declared.values.direction.Direction.{Direction}
-use Rattle.crs_value.specs.declared.values.direction.Direction.TheVariants as direction
-use Rattle.crs_value.specs.declared.values.system_type.SystemType.{SystemType}
-use Rattle.crs_value.specs.declared.values.system_type.SystemType.TheVariants as types
-use Rattle.crs_value.specs.declared.values.unit_kind.UnitKind.{UnitKind}
-use Rattle.crs_value.specs.declared.values.unit_kind.UnitKind.TheVariants as kinds
+use Rattle.crs_shape.specs.declared.direction.Direction.{Direction}
+use Rattle.crs_shape.specs.declared.system_type.SystemType.{SystemType}
+use Rattle.crs_shape.specs.declared.unit_kind.UnitKind.{UnitKind}
+use Rattle.crs_shape.specs.declared.unit_kind.UnitKind.TheVariants as kinds
+use Rattle.crs_shape.specs.UnitKinds.{asked_kind}
 use Rattle.crs_value.specs.Reading.{those, ReadsFirst}
 use Rattle.crs_value.specs.Reads.{HasType, ReadsDirection, ReadsKind}
 use Rattle.crs_value.specs.Break.{at, AnyOf}
-
--- a length for what goes up or down, else an angle
-abbrev pub kind_by_direction : Direction → UnitKind
-kind_by_direction direction.Up = kinds.Length
-kind_by_direction direction.Down = kinds.Length
-kind_by_direction other = kinds.Angle
-
--- the kind of unit that an axis asks for, by the type of its
--- coordinate system and its own direction
-abbrev pub asked_kind : SystemType → Direction → UnitKind
-asked_kind types.Cartesian d = kinds.Length
-asked_kind types.Ellipsoidal d = kind_by_direction d
-asked_kind types.Spherical d = kind_by_direction d
-asked_kind types.Vertical d = kinds.Length
 
 -- this node `CS` and this axis ask for a unit of this kind
 abbrev pub Asks : Item → Item → UnitKind → Type 0

@@ -1,7 +1,7 @@
 -- A broken check: its number, and the place of the item that breaks it; and which one is answered.
-use Rattle.std.specs.Prelude.{◌≡◌, ℕ, ◌≤◌, ◌<◌, List, [], ◌∷◌, Option, Some, None, ◌⊎◌}
+use Rattle.std.specs.Prelude.{◌≡◌, ℕ, List, [], ◌∷◌, Option, Some, None, ◌⊎◌, IsFalse}
 use Rattle.crs_text.specs.Items.{Item, place_of}
-use Rattle.crs_text.specs.Refusal.{RefusedAt}
+use Rattle.crs_text.specs.Refusal.{RefusedAt, is_before}
 
 -- a check of this number is broken at the item's first byte
 abbrev pub at : ℕ → Item → RefusedAt
@@ -17,13 +17,9 @@ abbrev pub FirstIs : (Item → Type 0) → List Item → Type 0
 FirstIs Is [] = ⊥
 FirstIs Is (item ∷ items) = Is item
 
--- one fault goes before another: it has a lower number, or the same number and no later place
-abbrev pub IsBefore : RefusedAt → RefusedAt → Type 0
-IsBefore a b = (a.number < b.number) ⊎ ((a.number ≡ b.number) × (a.place ≤ b.place))
-
--- the first of the faults: the lowest number, and of these the least place; none where there is no
--- fault
+-- the first of the faults: the lowest number, and of these the least place, so that none goes
+-- before it; none where there is no fault
 abbrev pub IsLeast : (RefusedAt → Type 0) → Option RefusedAt → Type 0
 IsLeast Fault None = (fault : RefusedAt) → ¬ (Fault fault)
 IsLeast Fault (Some least) =
-    Fault least × ((fault : RefusedAt) → Fault fault → IsBefore least fault)
+    Fault least × ((fault : RefusedAt) → Fault fault → IsFalse (is_before fault least))

@@ -7,14 +7,13 @@ use Rattle.crs_shape.specs.declared.class.Class.{Class}
 use Rattle.crs_shape.specs.declared.class.Class.TheVariants as class
 use Rattle.crs_shape.specs.ShapeFault.{class_in}
 use Rattle.crs_shape.specs.Shaped.{Shaped}
-use Rattle.crs_value.specs.declared.values.system_type.SystemType.{SystemType}
+use Rattle.crs_shape.specs.declared.system_type.SystemType.{SystemType}
+use Rattle.crs_shape.specs.Dimensions.{dimensions_of}
 use Rattle.crs_value.specs.Reading.{those}
 use Rattle.crs_value.specs.Break.{AnyOf}
 use Rattle.crs_value.specs.UnknownWord.{UnknownType, UnknownDirection}
 use Rattle.crs_value.specs.RepeatedPart.{RepeatsAny}
-use Rattle.crs_value.specs.BadSystem.{geodetic_dimensions, geographic_dimensions}
-use Rattle.crs_value.specs.BadSystem.{projected_dimensions}
-use Rattle.crs_value.specs.BadSystem.{vertical_dimensions, BadSystem}
+use Rattle.crs_value.specs.BadSystem.{BadSystem}
 use Rattle.crs_value.specs.BadComponent.{BadComponents}
 use Rattle.crs_value.specs.BadDynamic.{BadDynamic}
 use Rattle.crs_value.specs.AxisCount.{AxisCount}
@@ -81,10 +80,10 @@ OfEllipsoid numbers fault =
 
 -- the checks that a node of this class breaks by itself
 unfoldable pub Own : Class → Item → RefusedAt → Type 0
-Own class.GeodeticCrs item fault = OfCrs geodetic_dimensions class.GeodeticCrs item fault
-Own class.GeographicCrs item fault = OfCrs geographic_dimensions class.GeographicCrs item fault
-Own class.ProjectedCrs item fault = OfCrs projected_dimensions class.ProjectedCrs item fault
-Own class.VerticalCrs item fault = OfCrs vertical_dimensions class.VerticalCrs item fault
+Own class.GeodeticCrs item fault = OfCrs (dimensions_of class.GeodeticCrs) class.GeodeticCrs item fault
+Own class.GeographicCrs item fault = OfCrs (dimensions_of class.GeographicCrs) class.GeographicCrs item fault
+Own class.ProjectedCrs item fault = OfCrs (dimensions_of class.ProjectedCrs) class.ProjectedCrs item fault
+Own class.VerticalCrs item fault = OfCrs (dimensions_of class.VerticalCrs) class.VerticalCrs item fault
 Own class.BaseCrs item fault = BadDynamic class.BaseCrs item fault
 Own class.CompoundCrs item fault = OfCompound (arguments item) fault
 Own class.GeodeticFrame item fault = RepeatsAny class.GeodeticFrame (arguments item) anchors fault

@@ -42,4 +42,3 @@ pub mod Spells
 pub mod SpellsText
 pub mod UnknownWord
 pub mod Values
-pub mod Words

@@ -8,6 +8,7 @@ use Rattle.crs_text.specs.Items.{Item, Siblings, End, More, arguments, first_of,
 use Rattle.crs_text.specs.Items.{HasId}
 use Rattle.crs_shape.specs.contracts.class.Class.{the_type}
 use Rattle.crs_shape.specs.declared.class.Class.{Class}
+pub use Rattle.crs_shape.specs.Choice.{OneIs, IsReading}
 use Rattle.crs_shape.specs.Counts.{is_bounded, least, most}
 use Rattle.crs_shape.specs.ShapeFault.{class_in}
 use Rattle.crs_shape.specs.Slots.{slots_of, is_class}
@@ -16,11 +17,6 @@ use Rattle.crs_shape.specs.Slots.{slots_of, is_class}
 abbrev pub Each : {V : Type 0} → (V → Type 0) → List V → Type 0
 Each P [] = Unit {0}
 Each P (value ∷ values) = P value × Each P values
-
--- one of these values is so
-abbrev pub OneIs : {V : Type 0} → (V → Type 0) → List V → Type 0
-OneIs P [] = ⊥
-OneIs P (value ∷ values) = P value ⊎ OneIs P values
 
 -- the item of this number in a tree
 abbrev pub item_at : Item → ℕ → Item
@@ -35,11 +31,6 @@ ahead tree (Some id) = here tree id
 abbrev pub Holds : Item → Option ℕ → Type 0
 Holds tree None = Unit {0}
 Holds tree (Some id) = HasId tree id
-
--- the value that reads so, or none where no value does
-abbrev pub IsReading : {V : Type 0} → (V → Type 0) → Option V → Type 0
-IsReading {V = V} reads None = (value : V) → ¬ (reads value)
-IsReading reads (Some value) = reads value
 
 -- whether two classes are the same
 abbrev pub is_same : Class → Class → Bool

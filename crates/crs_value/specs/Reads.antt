@@ -5,15 +5,15 @@ use Rattle.crs_decimal.specs.Value.{Value, IsNormal, exact}
 use Rattle.crs_text.specs.Items.{Item, arguments, raw_of}
 use Rattle.crs_shape.specs.declared.class.Class.{Class}
 use Rattle.crs_shape.specs.declared.class.Class.TheVariants as class
-use Rattle.crs_value.specs.declared.values.direction.Direction.{Direction}
-use Rattle.crs_value.specs.declared.values.system_type.SystemType.{SystemType}
-use Rattle.crs_value.specs.declared.values.unit_kind.UnitKind.{UnitKind}
+use Rattle.crs_shape.specs.declared.direction.Direction.{Direction}
+use Rattle.crs_shape.specs.declared.system_type.SystemType.{SystemType}
+use Rattle.crs_shape.specs.declared.unit_kind.UnitKind.{UnitKind}
+use Rattle.crs_shape.specs.Words.{SpellsWord, direction_word, system_word, unit_word}
 use Rattle.crs_value.specs.Reading.{those, ReadsFirst, ReadsOne, ReadsIfAny, ReadsAll}
 use Rattle.crs_value.specs.ReadsNamed.{ReadsTextOf, ReadsIds, ReadsNamed}
 use Rattle.crs_value.specs.Values.{UnitParts, AxisMeridianParts, AxisParts, SystemParts}
 use Rattle.crs_value.specs.Values.{EllipsoidParts, MeridianParts, DatumParts, EnsembleParts}
 use Rattle.crs_value.specs.Values.{BoxParts, ExtentParts, UsageParts, SaysSome, TailParts}
-use Rattle.crs_value.specs.Words.{SpellsWord, direction_word, system_word, unit_word}
 pub use Rattle.crs_value.specs.ReadsNamed.{ReadsText, single_of, ReadsIdent}
 pub use Rattle.crs_value.specs.ReadsNamed.{ReadsTextOf, ReadsIds, ReadsNamed as ReadsMember}
 

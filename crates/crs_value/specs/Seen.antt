@@ -5,17 +5,18 @@ use Rattle.crs_text.specs.Items.{Item, Siblings, arguments, HasId}
 use Rattle.crs_text.specs.declared.keyword.Keyword.TheVariants as keyword
 use Rattle.crs_shape.specs.declared.class.Class.{Class}
 use Rattle.crs_shape.specs.declared.class.Class.TheVariants as class
+use Rattle.crs_shape.specs.declared.system_type.SystemType.{SystemType}
+use Rattle.crs_shape.specs.declared.unit_kind.UnitKind.TheVariants as kinds
 use Rattle.crs_shape.specs.Shaped.{Shaped}
 use Rattle.crs_shape.specs.Slots.{SlotParts, one, optional, some, any, takes, is_class}
+use Rattle.crs_shape.specs.Dimensions.{dimensions_of}
+use Rattle.crs_shape.specs.UnitKinds.{asked_kind}
 use Rattle.crs_value.specs.declared.sound.axes.Axes.{Axes}
 use Rattle.crs_value.specs.declared.sound.axes.Places.{Places}
 use Rattle.crs_value.specs.declared.sound.axes.Run.{Run}
 use Rattle.crs_value.specs.declared.sound.axes.Seen.{Seen}
-use Rattle.crs_value.specs.declared.values.system_type.SystemType.{SystemType}
-use Rattle.crs_value.specs.declared.values.unit_kind.UnitKind.TheVariants as kinds
 use Rattle.crs_value.specs.BadOrder.{orders_in}
-use Rattle.crs_value.specs.BadSystem.{dimensions_of}
-use Rattle.crs_value.specs.BadUnit.{asked_kind, units_in, Asks, Fits, BadOwnUnit}
+use Rattle.crs_value.specs.BadUnit.{units_in, Asks, Fits, BadOwnUnit}
 use Rattle.crs_value.specs.Break.{IsLeast}
 use Rattle.crs_value.specs.Checks.{once, BadSystems}
 use Rattle.crs_value.specs.Filling.{Fill, Leaves, stand}

@@ -3,8 +3,8 @@
 use Rattle.std.specs.Prelude.{◌≡◌, ◌≢◌, ℕ, List, ◌⊎◌, IsUtf8, IfSome}
 use Rattle.crs_decimal.specs.Value.{IsNormal}
 use Rattle.crs_text.specs.Quoted.{IsInside}
-use Rattle.crs_value.specs.declared.values.unit_kind.UnitKind.{UnitKind}
-use Rattle.crs_value.specs.declared.values.unit_kind.UnitKind.TheVariants as kinds
+use Rattle.crs_shape.specs.declared.unit_kind.UnitKind.{UnitKind}
+use Rattle.crs_shape.specs.declared.unit_kind.UnitKind.TheVariants as kinds
 use Rattle.crs_value.specs.BadValue.{IsAboveZero}
 use Rattle.crs_value.specs.NamedValues.{IdentParts, NamedParts}
 use Rattle.crs_value.specs.Values.{UnitParts, AxisMeridianParts, AxisParts}
@@ -37,13 +37,6 @@ pub record IsUnit (unit : UnitParts) : Type 0 where
   pub factor : IsNormal unit.factor
   pub above_zero : IsAboveZero unit.factor
   pub identifiers : Each IsIdent unit.identifiers
-
--- the kind of a unit where this kind is asked: `UNIT` is of that
-abbrev pub kind_as : UnitKind → UnitKind → UnitKind
-kind_as asked kinds.Plain = asked
-kind_as asked kinds.Length = kinds.Length
-kind_as asked kinds.Angle = kinds.Angle
-kind_as asked kinds.Scale = kinds.Scale
 
 -- a kind of unit that fits the asked one: that kind itself, or the plain one
 abbrev pub Suits : UnitKind → UnitKind → Type 0

@@ -1,10 +1,10 @@
 -- What is asked of geodetic, projected and vertical CRSs, and of base CRSs, by themselves.
 use Rattle.std.specs.Prelude.{IfSome, IsSome, IsNone, Option, Some, None}
+use Rattle.crs_shape.specs.declared.unit_kind.UnitKind.TheVariants as kinds
+use Rattle.crs_shape.specs.declared.class.Class.TheVariants as class
+use Rattle.crs_shape.specs.Dimensions.{dimensions_of}
 use Rattle.crs_value.specs.declared.values.frame.Frame.{Frame}
 use Rattle.crs_value.specs.declared.values.frame.Frame.TheVariants as frame
-use Rattle.crs_value.specs.declared.values.unit_kind.UnitKind.TheVariants as kinds
-use Rattle.crs_value.specs.BadSystem.{geodetic_dimensions, projected_dimensions}
-use Rattle.crs_value.specs.BadSystem.{vertical_dimensions}
 use Rattle.crs_value.specs.CrsValues.{GeodeticParts, BaseParts, ProjectedParts, VerticalParts}
 use Rattle.crs_value.specs.DynamicValues.{DynamicParts}
 use Rattle.crs_value.specs.Sound.{Each, IsText, IsIdent, IsNamed, IsUnitOf}
@@ -38,7 +38,7 @@ pub record IsGeodetic (geodetic : GeodeticParts) : Type 0 where
   pub frame : IsGeodeticFrame geodetic.frame
   pub meridian : IfSome geodetic.meridian IsMeridian
   pub system : IsSystem geodetic.system
-  pub dimension : IsAllowed geodetic_dimensions geodetic.system
+  pub dimension : IsAllowed (dimensions_of class.GeodeticCrs) geodetic.system
   pub tail : IsTail geodetic.tail
 
 -- what is asked of the base CRS of a projected one: its unit, if it has one, fits one of angle
@@ -57,7 +57,7 @@ pub record IsProjected (projected : ProjectedParts) : Type 0 where
   pub base : IsBase projected.base
   pub conversion : IsConversion projected.conversion
   pub system : IsSystem projected.system
-  pub dimension : IsAllowed projected_dimensions projected.system
+  pub dimension : IsAllowed (dimensions_of class.ProjectedCrs) projected.system
   pub tail : IsTail projected.tail
 
 -- what is asked of a vertical CRS: its dimension is one that
@@ -67,6 +67,6 @@ pub record IsVertical (vertical : VerticalParts) : Type 0 where
   pub dynamic : IsDynamicOf vertical.dynamic vertical.frame
   pub frame : IsVerticalFrame vertical.frame
   pub system : IsSystem vertical.system
-  pub dimension : IsAllowed vertical_dimensions vertical.system
+  pub dimension : IsAllowed (dimensions_of class.VerticalCrs) vertical.system
   pub geoid_models : Each IsNamed vertical.geoid_models
   pub tail : IsTail vertical.tail

@@ -4,11 +4,11 @@ use Rattle.std.specs.Prelude.{◌≡◌, ◌≢◌, ℕ, Option, Some, None, Lis
 use Rattle.std.specs.Prelude.{IfSome, IsSomeAnd}
 use Rattle.crs_decimal.specs.Number.{SameNumber, whole_number}
 use Rattle.crs_decimal.specs.Value.{Value, IsNormal, exact}
-use Rattle.crs_value.specs.declared.values.system_type.SystemType.{SystemType}
-use Rattle.crs_value.specs.declared.values.unit_kind.UnitKind.{UnitKind}
+use Rattle.crs_shape.specs.declared.system_type.SystemType.{SystemType}
+use Rattle.crs_shape.specs.declared.unit_kind.UnitKind.{UnitKind}
+use Rattle.crs_shape.specs.Dimensions.{IsOneOf}
+use Rattle.crs_shape.specs.UnitKinds.{asked_kind}
 use Rattle.crs_value.specs.BadOrder.{IsPosition}
-use Rattle.crs_value.specs.BadSystem.{IsOneOf}
-use Rattle.crs_value.specs.BadUnit.{asked_kind}
 use Rattle.crs_value.specs.Sound.{Each, IsIdent, Suits, IsAxisUnit, IsAxis}
 use Rattle.crs_value.specs.Values.{UnitParts, AxisParts, SystemParts}
 

@@ -1,7 +1,7 @@
 -- What is asked of usages and of a CRS's end by themselves.
 use Rattle.std.specs.Prelude.{IfSome}
 use Rattle.crs_decimal.specs.Value.{IsNormal}
-use Rattle.crs_value.specs.declared.values.unit_kind.UnitKind.TheVariants as kinds
+use Rattle.crs_shape.specs.declared.unit_kind.UnitKind.TheVariants as kinds
 use Rattle.crs_value.specs.Sound.{Each, IsText, IsIdent, IsUnitOf}
 use Rattle.crs_value.specs.Values.{BoxParts, ExtentParts, UsageParts, SaysSome, TailParts}
 

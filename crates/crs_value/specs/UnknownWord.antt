@@ -2,8 +2,8 @@
 use Rattle.std.specs.Prelude.{◌≡◌}
 use Rattle.crs_text.specs.Items.{Item}
 use Rattle.crs_text.specs.Refusal.{RefusedAt}
-use Rattle.crs_value.specs.declared.values.direction.Direction.{Direction}
-use Rattle.crs_value.specs.declared.values.system_type.SystemType.{SystemType}
+use Rattle.crs_shape.specs.declared.direction.Direction.{Direction}
+use Rattle.crs_shape.specs.declared.system_type.SystemType.{SystemType}
 use Rattle.crs_value.specs.Reads.{ReadsType, ReadsDirection}
 use Rattle.crs_value.specs.Break.{at}
 

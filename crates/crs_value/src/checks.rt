@@ -16,18 +16,12 @@ ghost use Rattle.crs_shape.specs.declared.class.Class.{Class};
 ghost use Rattle.crs_shape.specs.Shaped.{Shaped};
 ghost use Rattle.crs_value.specs.Break.{at, AnyOf, IsLeast};
 ghost use Rattle.crs_value.specs.FoundArguments.{from_found, AllShaped};
-ghost use Rattle.crs_value.specs.Least.{is_before, lesser};
+ghost use Rattle.crs_value.specs.Least.{lesser};
 ghost use Rattle.crs_value.specs.Reading.{item_at, Holds, IsFound, TakesOne, those};
 
 use crate::reading::arguments::{first, later};
 use crs_shape::{Class, laws};
 use crs_text::{ItemId, Items, Refusal};
-
-fn is_before(a: Refusal, b: Refusal) -> bool
-    ensures { result ≡ is_before a b }
-{
-    a.number() < b.number() || (a.number() == b.number() && a.place() < b.place())
-}
 
 // The first of two refusals.
 pub(crate) fn lesser(a: Option<Refusal>, b: Option<Refusal>) -> Option<Refusal>
@@ -35,7 +29,7 @@ pub(crate) fn lesser(a: Option<Refusal>, b: Option<Refusal>) -> Option<Refusal>
 {
     let Some(x) = a else { return b };
     let Some(y) = b else { return a };
-    if is_before(y, x) { b } else { a }
+    if y.is_before(x) { b } else { a }
 }
 
 // The refusal with this number at an item's first byte.

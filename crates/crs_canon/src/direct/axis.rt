@@ -2,12 +2,11 @@
 ghost use Rattle.std.specs.Prelude.{◌≡◌, ◌∷◌, ◌++◌, Option, OnOk, Some};
 ghost use Rattle.crs_text.specs.Items.{HasId, End, More, arguments};
 ghost use Rattle.crs_text.specs.Written.{item_text, others_text};
-ghost use Rattle.crs_value.specs.BadUnit.{asked_kind};
-ghost use Rattle.crs_value.specs.Reading.{IsReading, item_at, those, ReadsFirst, ReadsIfAny};
+ghost use Rattle.crs_shape.specs.declared.direction.Direction.{Direction};
+ghost use Rattle.crs_shape.specs.UnitKinds.{asked_kind};
+ghost use Rattle.crs_value.specs.Reading.{item_at, those, ReadsFirst, ReadsIfAny};
 ghost use Rattle.crs_value.specs.Reads.{ReadsAxis, ReadsAxisMeridian, ReadsDirection, ReadsUnit};
 ghost use Rattle.crs_value.specs.Values.{AxisParts, SystemParts, UnitParts};
-ghost use Rattle.crs_value.specs.Words.{SpellsWord, direction_word};
-ghost use Rattle.crs_value.specs.declared.values.direction.Direction.{Direction};
 ghost use Rattle.crs_same.specs.SameSystems.{own_or};
 ghost use Rattle.crs_normal.specs.SpelledItems.{opt};
 ghost use Rattle.crs_normal.specs.SpelledSystems.{item_axis, item_axis_meridian, norm_axis, norm_axis_meridians};
@@ -25,44 +24,6 @@ use crs_text::{ItemId, Items};
 use crs_value::{Direction, Level, SystemType, UnitKind};
 use std::alloc::AllocError;
 
-// Those that most texts have go first, since a word is compared with one after another.
-const DIRECTIONS: [Direction; 22] = [
-    Direction::North,
-    Direction::East,
-    Direction::Up,
-    Direction::GeocentricX,
-    Direction::GeocentricY,
-    Direction::GeocentricZ,
-    Direction::South,
-    Direction::West,
-    Direction::Down,
-    Direction::NorthNorthEast,
-    Direction::NorthEast,
-    Direction::EastNorthEast,
-    Direction::EastSouthEast,
-    Direction::SouthEast,
-    Direction::SouthSouthEast,
-    Direction::SouthSouthWest,
-    Direction::SouthWest,
-    Direction::WestSouthWest,
-    Direction::WestNorthWest,
-    Direction::NorthWest,
-    Direction::NorthNorthWest,
-    Direction::Unspecified,
-];
-
-// The direction that a word spells, letter case aside.
-fn direction_by(word: &[u8]) -> Option<Direction>
-    ensures { IsReading (λ value. SpellsWord word.now (direction_word value)) result }
-{
-    for direction in DIRECTIONS {
-        if direction.word().as_bytes().eq_ignore_ascii_case(word) {
-            return Some(direction);
-        }
-    }
-    None
-}
-
 // The direction of an axis.
 fn direction_of(items: &Items<'_>, id: ItemId) -> Option<Direction>
     requires { HasId items.now id }
@@ -71,7 +32,7 @@ fn direction_of(items: &Items<'_>, id: ItemId) -> Option<Direction>
         result ≡ Some direction }
 {
     let word = first(items, id, Class::Axis, Class::Word)?;
-    direction_by(items.raw(word))
+    Direction::read(items.raw(word))
 }
 
 // After a comma.

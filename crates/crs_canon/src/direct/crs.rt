@@ -2,10 +2,10 @@
 ghost use Rattle.std.specs.Prelude.{◌≡◌, ◌∷◌, ◌++◌, OnOk};
 ghost use Rattle.crs_text.specs.Items.{HasId, End};
 ghost use Rattle.crs_text.specs.Written.{item_text, others_text};
+ghost use Rattle.crs_shape.specs.declared.unit_kind.UnitKind.TheVariants as kinds;
 ghost use Rattle.crs_value.specs.Reading.{item_at, ReadsOne};
 ghost use Rattle.crs_value.specs.ReadsCrs.{ReadsBase, ReadsCompound, ReadsCrs, ReadsGeodetic, ReadsHorizontal};
 ghost use Rattle.crs_value.specs.ReadsCrs.{ReadsProjected, ReadsVertical};
-ghost use Rattle.crs_value.specs.declared.values.unit_kind.UnitKind.TheVariants as kinds;
 ghost use Rattle.crs_normal.specs.SpelledCrs.{item_base, item_compound, item_geodetic, item_horizontal};
 ghost use Rattle.crs_normal.specs.SpelledCrs.{item_projected, item_vertical, norm_base, norm_compound};
 ghost use Rattle.crs_normal.specs.SpelledCrs.{norm_geodetic, norm_horizontal, norm_projected, norm_vertical};

@@ -2,11 +2,11 @@
 ghost use Rattle.std.specs.Prelude.{◌≡◌, ◌∷◌, ◌++◌, [], List, Option, OnOk, Some, length};
 ghost use Rattle.crs_text.specs.Items.{HasId, End, More, arguments};
 ghost use Rattle.crs_text.specs.Written.{item_text, others_text};
+ghost use Rattle.crs_shape.specs.declared.system_type.SystemType.{SystemType};
+ghost use Rattle.crs_shape.specs.Words.{SpellsWord, system_word};
 ghost use Rattle.crs_value.specs.Reading.{Holds, item_at, those, ReadsAll};
 ghost use Rattle.crs_value.specs.Reads.{HasType, ReadsAxis, ReadsHead, ReadsSystem};
 ghost use Rattle.crs_value.specs.Values.{AxisParts, SystemParts};
-ghost use Rattle.crs_value.specs.Words.{SpellsWord, system_word};
-ghost use Rattle.crs_value.specs.declared.values.system_type.SystemType.{SystemType};
 ghost use Rattle.crs_normal.specs.SpelledItems.{each};
 ghost use Rattle.crs_normal.specs.SpelledSystems.{axes_from, axis_at, is_at, item_axis, item_head, norm_system};
 ghost use Rattle.crs_normal.specs.SpelledSystems.{system_items, with_axis};

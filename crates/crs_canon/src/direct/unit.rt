@@ -2,9 +2,9 @@
 ghost use Rattle.std.specs.Prelude.{◌≡◌, ◌∷◌, ◌++◌, OnOk, Some};
 ghost use Rattle.crs_text.specs.Items.{HasId, End};
 ghost use Rattle.crs_text.specs.Written.{item_text, others_text};
+ghost use Rattle.crs_shape.specs.declared.unit_kind.UnitKind.{UnitKind};
 ghost use Rattle.crs_value.specs.Reading.{item_at, ReadsIfAny, ReadsOne};
 ghost use Rattle.crs_value.specs.Reads.{ReadsKind, ReadsUnit};
-ghost use Rattle.crs_value.specs.declared.values.unit_kind.UnitKind.{UnitKind};
 ghost use Rattle.crs_normal.specs.SpelledItems.{opt};
 ghost use Rattle.crs_normal.specs.SpelledUnits.{item_unit, norm_length, norm_unit, norm_units};
 ghost use Rattle.crs_canon.specs.Direct.{IsRead, Writes};

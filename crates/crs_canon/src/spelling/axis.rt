@@ -2,10 +2,10 @@
 ghost use Rattle.std.specs.Prelude.{◌≡◌, ◌∷◌, ◌++◌, ◌<◌, OnOk, Some, codes};
 ghost use Rattle.crs_text.specs.Items.{End, More};
 ghost use Rattle.crs_text.specs.Written.{item_text, others_text};
-ghost use Rattle.crs_value.specs.BadUnit.{asked_kind};
+ghost use Rattle.crs_shape.specs.declared.unit_kind.UnitKind.TheVariants as kinds;
+ghost use Rattle.crs_shape.specs.UnitKinds.{asked_kind};
+ghost use Rattle.crs_shape.specs.Words.{direction_word};
 ghost use Rattle.crs_value.specs.Sound.{IsAxis, IsAxisMeridian};
-ghost use Rattle.crs_value.specs.Words.{direction_word};
-ghost use Rattle.crs_value.specs.declared.values.unit_kind.UnitKind.TheVariants as kinds;
 ghost use Rattle.crs_same.specs.SameSystems.{own_or, SameAxisAlone, SameAxisMeridian};
 ghost use Rattle.crs_decimal.specs.Plain.{plain};
 ghost use Rattle.crs_normal.specs.AxisAlone.{IsSpelledAxis};

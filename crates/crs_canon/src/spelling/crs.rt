@@ -3,10 +3,10 @@ ghost use Rattle.std.specs.Prelude.{◌≡◌, ◌∷◌, ◌++◌, [], OnOk, co
 ghost use Rattle.std.specs.Option.{option_map};
 ghost use Rattle.crs_text.specs.Items.{End, More};
 ghost use Rattle.crs_text.specs.Written.{item_text, others_text};
+ghost use Rattle.crs_shape.specs.declared.unit_kind.UnitKind.TheVariants as kinds;
 ghost use Rattle.crs_value.specs.SoundCompound.{IsCompound};
 ghost use Rattle.crs_value.specs.SoundCrs.{IsCrs};
 ghost use Rattle.crs_value.specs.SoundSingle.{IsBase, IsGeodetic, IsProjected, IsVertical};
-ghost use Rattle.crs_value.specs.declared.values.unit_kind.UnitKind.TheVariants as kinds;
 ghost use Rattle.crs_same.specs.Parts.{AreSame};
 ghost use Rattle.crs_same.specs.PartsOfCrs.{parts_of_base, parts_of_compound, parts_of_geodetic, parts_of_horizontal};
 ghost use Rattle.crs_same.specs.PartsOfCrs.{parts_of_projected, parts_of_vertical};

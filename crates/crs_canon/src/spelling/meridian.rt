@@ -2,8 +2,8 @@
 ghost use Rattle.std.specs.Prelude.{◌≡◌, ◌∷◌, ◌++◌, OnOk, None, if◌then◌else◌};
 ghost use Rattle.crs_text.specs.Items.{End, More};
 ghost use Rattle.crs_text.specs.Written.{item_text, others_text};
+ghost use Rattle.crs_shape.specs.declared.unit_kind.UnitKind.TheVariants as kinds;
 ghost use Rattle.crs_value.specs.SoundFrames.{IsMeridian};
-ghost use Rattle.crs_value.specs.declared.values.unit_kind.UnitKind.TheVariants as kinds;
 ghost use Rattle.crs_same.specs.Parts.{AreSame};
 ghost use Rattle.crs_same.specs.PartsOfFrames.{parts_of_given};
 ghost use Rattle.crs_normal.specs.PartSpellings.{IsSpelledMeridian};

@@ -3,7 +3,7 @@ ghost use Rattle.std.specs.Prelude.{◌≡◌, ◌∷◌, ◌++◌, [], ◌<◌,
 ghost use Rattle.std.specs.Option.{option_copied};
 ghost use Rattle.crs_text.specs.Items.{End, More};
 ghost use Rattle.crs_text.specs.Written.{item_text, others_text};
-ghost use Rattle.crs_value.specs.Words.{system_word};
+ghost use Rattle.crs_shape.specs.Words.{system_word};
 ghost use Rattle.crs_normal.specs.SpelledItems.{each, number_item};
 ghost use Rattle.crs_normal.specs.SpelledSystems.{axes_from, axis_at, is_at, is_number, item_axis, item_head};
 ghost use Rattle.crs_normal.specs.SpelledSystems.{norm_system, system_items, with_axis};

@@ -3,9 +3,9 @@ ghost use Rattle.std.specs.Prelude.{◌≡◌, ◌∷◌, ◌++◌, [], OnOk, So
 ghost use Rattle.std.specs.Option.{option_copied};
 ghost use Rattle.crs_text.specs.Items.{End, More};
 ghost use Rattle.crs_text.specs.Written.{item_text, others_text};
+ghost use Rattle.crs_shape.specs.declared.unit_kind.UnitKind.TheVariants as kinds;
+ghost use Rattle.crs_shape.specs.Words.{unit_word};
 ghost use Rattle.crs_value.specs.Sound.{IsUnit};
-ghost use Rattle.crs_value.specs.Words.{unit_word};
-ghost use Rattle.crs_value.specs.declared.values.unit_kind.UnitKind.TheVariants as kinds;
 ghost use Rattle.crs_same.specs.SameUnits.{SameUnit};
 ghost use Rattle.crs_normal.specs.PartSpellings.{IsSpelledUnit};
 ghost use Rattle.crs_normal.specs.PartTexts.{unit_text};

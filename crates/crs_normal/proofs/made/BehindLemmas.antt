@@ -6,11 +6,11 @@ use Rattle.crs_decimal.specs.Value.{exact}
 use Rattle.crs_text.specs.Items.{Item, arguments}
 use Rattle.crs_shape.specs.declared.class.Class.{Class}
 use Rattle.crs_shape.specs.declared.class.Class.TheVariants as class
+use Rattle.crs_shape.specs.declared.system_type.SystemType.{SystemType}
 use Rattle.crs_shape.specs.Slots.{class_named}
-use Rattle.crs_value.specs.BadSystem.{IsOneOf}
+use Rattle.crs_shape.specs.Dimensions.{IsOneOf}
 use Rattle.crs_value.specs.Kept.{kept_one}
 use Rattle.crs_value.specs.declared.values.level.Level.{Level}
-use Rattle.crs_value.specs.declared.values.system_type.SystemType.{SystemType}
 use Rattle.crs_value.specs.Reading.{those}
 use Rattle.crs_value.specs.Sound.{Each}
 use Rattle.crs_value.specs.SoundSystem.{IsSystem}

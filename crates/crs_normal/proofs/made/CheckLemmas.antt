@@ -8,17 +8,18 @@ use Rattle.crs_text.specs.Refusal.{RefusedAt}
 use Rattle.crs_text.specs.Written.{at_place}
 use Rattle.crs_shape.specs.declared.class.Class.{Class}
 use Rattle.crs_shape.specs.declared.class.Class.TheVariants as class
+use Rattle.crs_shape.specs.declared.direction.Direction.{Direction}
+use Rattle.crs_shape.specs.declared.system_type.SystemType.{SystemType}
+use Rattle.crs_shape.specs.Dimensions.{IsOneOf}
+use Rattle.crs_shape.specs.UnitKinds.{asked_kind}
+use Rattle.crs_shape.specs.Words.{direction_word, system_word}
 use Rattle.crs_value.specs.BadOrder.{BadOrder, BadOrders, IsBadOrder, IsPosition, LacksOrder, OneHas, ReadsOrder, orders_in}
-use Rattle.crs_value.specs.BadSystem.{IsOneOf}
-use Rattle.crs_value.specs.BadUnit.{BadOwnUnit, Misfits, asked_kind, units_in}
+use Rattle.crs_value.specs.BadUnit.{BadOwnUnit, Misfits, units_in}
 use Rattle.crs_value.specs.Break.{AnyOf}
 use Rattle.crs_value.specs.Checks.{BadSystems, OfHead}
-use Rattle.crs_value.specs.declared.values.direction.Direction.{Direction}
-use Rattle.crs_value.specs.declared.values.system_type.SystemType.{SystemType}
 use Rattle.crs_value.specs.Reading.{ReadsFirst, those}
 use Rattle.crs_value.specs.Reads.{ReadsDirection, ReadsKind, ReadsNumber, ReadsType}
 use Rattle.crs_value.specs.Sound.{Each}
-use Rattle.crs_value.specs.Words.{direction_word, system_word}
 use Rattle.crs_normal.specs.DecimalLaws.{DecimalLaws}
 use Rattle.crs_normal.specs.NormalOwn.{AreOrdered, Has, HasAxes, numbers_in}
 use Rattle.crs_normal.specs.SpelledItems.{number_item, number_node, word_item}

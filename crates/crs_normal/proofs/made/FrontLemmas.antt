@@ -3,8 +3,10 @@ use Rattle.std.proofs.Common.{◌≡◌, ◌≢◌, ℕ, ◌≤◌, ◌++◌, tr
 use Rattle.crs_text.specs.Items.{Item, arguments}
 use Rattle.crs_shape.specs.declared.class.Class.{Class}
 use Rattle.crs_shape.specs.declared.class.Class.TheVariants as class
+use Rattle.crs_shape.specs.declared.system_type.SystemType.{SystemType}
 use Rattle.crs_shape.specs.ShapeFault.{class_in}
 use Rattle.crs_shape.specs.Slots.{class_named, one_of, takes}
+use Rattle.crs_shape.specs.Dimensions.{IsOneOf}
 use Rattle.crs_value.specs.declared.values.frame.Frame.{Frame}
 use Rattle.crs_value.specs.declared.values.frame.Frame.TheVariants as frame
 use Rattle.crs_value.specs.declared.values.level.Level.{Level}
@@ -25,10 +27,8 @@ use Rattle.crs_normal.proofs.made.PlaceLemmas.{ArePlaced}
 use Rattle.crs_normal.proofs.made.CheckLemmas.{IsSystemSeen, no-bad-systems}
 use Rattle.crs_normal.proofs.made.TailLemmas.{IsTailSeen, no-repeats}
 use Rattle.crs_value.specs.Checks.{OfCrs}
-use Rattle.crs_value.specs.BadSystem.{IsOneOf}
 use Rattle.crs_text.specs.Refusal.{RefusedAt}
 use Rattle.crs_decimal.specs.Value.{IsNormal}
-use Rattle.crs_value.specs.declared.values.system_type.SystemType.{SystemType}
 use Rattle.crs_normal.proofs.made.RiseLemmas.{rises}
 
 -- ---- the frame as an argument, of one class or the other

@@ -8,19 +8,19 @@ use Rattle.crs_text.specs.Tokens.{IsWord}
 use Rattle.crs_text.specs.Written.{at_place}
 use Rattle.crs_shape.specs.declared.class.Class.{Class}
 use Rattle.crs_shape.specs.declared.class.Class.TheVariants as class
+use Rattle.crs_shape.specs.declared.system_type.SystemType.{SystemType}
+use Rattle.crs_shape.specs.declared.system_type.SystemType.TheVariants as types
 use Rattle.crs_shape.specs.Keywords.{is_keyword}
 use Rattle.crs_shape.specs.Shape.{Allowed}
 use Rattle.crs_shape.specs.Slots.{class_named, geodetic_slots, one, one_of, optional, slots_of, some, tail}
-use Rattle.crs_value.specs.BadSystem.{IsOneOf, geodetic_dimensions, geographic_dimensions}
+use Rattle.crs_shape.specs.Dimensions.{IsOneOf, dimensions_of}
+use Rattle.crs_shape.specs.Words.{system_word}
 use Rattle.crs_value.specs.Checks.{OfCrs, Own as BreaksOwn}
 use Rattle.crs_value.specs.CrsValues.{GeodeticParts}
 use Rattle.crs_value.specs.declared.values.level.Level.{Level}
-use Rattle.crs_value.specs.declared.values.system_type.SystemType.{SystemType}
-use Rattle.crs_value.specs.declared.values.system_type.SystemType.TheVariants as types
 use Rattle.crs_value.specs.Reading.{those}
 use Rattle.crs_value.specs.Sound.{Each}
 use Rattle.crs_value.specs.SoundSingle.{IsGeodetic}
-use Rattle.crs_value.specs.Words.{system_word}
 use Rattle.crs_same.specs.SameUsages.{usages_of}
 use Rattle.crs_normal.specs.DecimalLaws.{DecimalLaws}
 use Rattle.crs_normal.specs.CrsClass.{geodetic_class}
@@ -61,7 +61,7 @@ record IsRootClass (t : SystemType) (c : Class) (keyword : List ℕ) : Type 0 wh
   dynamic : class_named c (codes "DYNAMIC") ≡ Some class.Dynamic
   meridian : class_named c (codes "PRIMEM") ≡ Some class.PrimeMeridian
   dimensions : SystemType → List ℕ
-  allows : (d : Value) → IsOneOf d (geodetic_dimensions t) → IsOneOf d (dimensions t)
+  allows : (d : Value) → IsOneOf d (dimensions_of class.GeodeticCrs t) → IsOneOf d (dimensions t)
   breaks : (item : Item) (fault : RefusedAt) → BreaksOwn c item fault → OfCrs dimensions c item fault
   own : (item : Item) → Each (λ cs. words_in class.CoordinateSystem cs ≡ system_word t ∷ [])
       (those c class.CoordinateSystem (arguments item)) →
@@ -89,7 +89,7 @@ geodetic-root t n = record {
   tails = record { usage = refl; ident = refl; remark = refl };
   dynamic = refl;
   meridian = refl;
-  dimensions = geodetic_dimensions;
+  dimensions = dimensions_of class.GeodeticCrs;
   allows = λ d h. h;
   breaks = λ item fault b. b;
   own = λ item words meridian axes end. (
@@ -112,7 +112,7 @@ geographic-root = record {
   tails = record { usage = refl; ident = refl; remark = refl };
   dynamic = refl;
   meridian = refl;
-  dimensions = geographic_dimensions;
+  dimensions = dimensions_of class.GeographicCrs;
   allows = λ d h. h;
   breaks = λ item fault b. b;
   own = λ item words meridian axes end. (meridian, axes, end);
@@ -253,7 +253,7 @@ pub geodetic-made : DecimalLaws → AxisEach → (level : Level) (g : GeodeticPa
 geodetic-made l each_at level g h =
     let c : Class = geodetic_class g.system.system_type in
     let keyword : List ℕ = geodetic_keyword g.system.system_type in
-    let few = few-system l each_at geodetic_dimensions small-geodetic g.system h.system h.dimension in
+    let few = few-system l each_at (dimensions_of class.GeodeticCrs) small-geodetic g.system h.system h.dimension in
     let root = is-root g.system.system_type in
     node-made level 5 c keyword _ _ (geodetic_runs level g) (laid (geodetic_arguments l level c keyword g root few h))
     (geodetic-kept l level c keyword g root few h)
@@ -270,7 +270,7 @@ pub geodetic-seen : DecimalLaws → AxisEach → (level : Level) (g : GeodeticPa
 geodetic-seen l each_at level g h p =
     let c : Class = geodetic_class g.system.system_type in
     let item : Item = at_place p (item_geodetic (norm_geodetic level g)) in
-    let few : IsFew g.system = few-system l each_at geodetic_dimensions small-geodetic g.system h.system h.dimension in
+    let few : IsFew g.system = few-system l each_at (dimensions_of class.GeodeticCrs) small-geodetic g.system h.system h.dimension in
     let s : Sees c (geodetic_runs level g) item =
     arguments-seen level 5 c (geodetic_keyword g.system.system_type) _ _
     (geodetic_arguments l level c (geodetic_keyword g.system.system_type) g (is-root g.system.system_type) few h) refl p in

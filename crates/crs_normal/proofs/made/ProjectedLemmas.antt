@@ -4,14 +4,14 @@ use Rattle.std.specs.Option.{option_map}
 use Rattle.crs_text.specs.Items.{Item, arguments}
 use Rattle.crs_text.specs.Written.{at_place}
 use Rattle.crs_shape.specs.declared.class.Class.TheVariants as class
+use Rattle.crs_shape.specs.declared.unit_kind.UnitKind.TheVariants as kinds
 use Rattle.crs_shape.specs.Keywords.{is_keyword}
 use Rattle.crs_shape.specs.Shape.{Allowed}
 use Rattle.crs_shape.specs.Slots.{class_named, one, optional, slots_of, some, tail}
-use Rattle.crs_value.specs.BadSystem.{projected_dimensions}
+use Rattle.crs_shape.specs.Dimensions.{dimensions_of}
 use Rattle.crs_value.specs.Checks.{Own as BreaksOwn}
 use Rattle.crs_value.specs.CrsValues.{BaseParts, ProjectedParts}
 use Rattle.crs_value.specs.declared.values.level.Level.{Level}
-use Rattle.crs_value.specs.declared.values.unit_kind.UnitKind.TheVariants as kinds
 use Rattle.crs_value.specs.Reading.{those}
 use Rattle.crs_value.specs.SoundSingle.{IsBase, IsProjected}
 use Rattle.crs_same.specs.SameUsages.{usages_of}
@@ -104,7 +104,7 @@ projected_runs level g =
     alone class.Conversion (item_conversion (norm_conversion level g.conversion)) ∷ behind level g.system g.tail
 
 projected-few : DecimalLaws → AxisEach → (g : ProjectedParts) → IsProjected g → IsFew g.system
-projected-few l each_at g h = few-system l each_at projected_dimensions small-projected g.system h.system h.dimension
+projected-few l each_at g h = few-system l each_at (dimensions_of class.ProjectedCrs) small-projected g.system h.system h.dimension
 
 projected-allowed : DecimalLaws → (level : Level) (g : ProjectedParts) → IsFew g.system →
     Allowed (slots_of class.ProjectedCrs) (classes (projected_runs level g))
@@ -173,7 +173,7 @@ projected-kept l level g few h = record {
       );
   unbroken = λ item fault s b.
       let v = views class.ProjectedCrs (projected_runs level g) item crs_classes s in
-      crs-breaks l projected_dimensions class.ProjectedCrs g.system item fault h.system.dimension h.dimension
+      crs-breaks l (dimensions_of class.ProjectedCrs) class.ProjectedCrs g.system item fault h.system.dimension h.dimension
       (tail-seen level class.ProjectedCrs item g.tail v.1.1.1)
       (system-seen l level class.ProjectedCrs item g.system g.tail few v)
       (inl (none-shown (those class.ProjectedCrs class.Dynamic (arguments item)) [] refl (s.view class.Dynamic))) b;

@@ -11,21 +11,21 @@ use Rattle.crs_text.specs.Refusal.{RefusedAt}
 use Rattle.crs_text.specs.Written.{at_place}
 use Rattle.crs_shape.specs.declared.class.Class.{Class}
 use Rattle.crs_shape.specs.declared.class.Class.TheVariants as class
+use Rattle.crs_shape.specs.declared.system_type.SystemType.{SystemType}
+use Rattle.crs_shape.specs.declared.unit_kind.UnitKind.{UnitKind}
 use Rattle.crs_shape.specs.Keywords.{is_keyword}
 use Rattle.crs_shape.specs.Slots.{class_named, slots_of}
-use Rattle.crs_value.specs.BadUnit.{asked_kind}
+use Rattle.crs_shape.specs.UnitKinds.{asked_kind}
+use Rattle.crs_shape.specs.Words.{system_word}
 use Rattle.crs_value.specs.UnknownWord.{UnknownType}
 use Rattle.crs_value.specs.Break.{AnyOf}
 use Rattle.crs_value.specs.Checks.{Own as BreaksOwn}
 use Rattle.crs_value.specs.declared.values.level.Level.{Level}
-use Rattle.crs_value.specs.declared.values.system_type.SystemType.{SystemType}
-use Rattle.crs_value.specs.declared.values.unit_kind.UnitKind.{UnitKind}
 use Rattle.crs_value.specs.Reading.{those}
 use Rattle.crs_value.specs.Reads.{ReadsType}
 use Rattle.crs_value.specs.Sound.{Each, IsAxis, IsAxisUnit, Suits}
 use Rattle.crs_value.specs.SoundSystem.{HasUnits, IsSystem, SuitsAxis}
 use Rattle.crs_value.specs.Values.{AxisParts, SystemParts, UnitParts}
-use Rattle.crs_value.specs.Words.{system_word}
 use Rattle.crs_same.specs.SameSystems.{HasAt, IsPositionOf, own_or}
 use Rattle.crs_normal.specs.DecimalLaws.{DecimalLaws}
 use Rattle.crs_normal.specs.AcceptedNormal.{IsAcceptedNormal}

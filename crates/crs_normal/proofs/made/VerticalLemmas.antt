@@ -9,7 +9,7 @@ use Rattle.crs_shape.specs.Keywords.{is_keyword}
 use Rattle.crs_shape.specs.Shape.{Allowed}
 use Rattle.crs_shape.specs.ShapeFault.{class_in}
 use Rattle.crs_shape.specs.Slots.{any_of, class_named, one, one_of, optional, slots_of, some, takes, vertical_tail}
-use Rattle.crs_value.specs.BadSystem.{vertical_dimensions}
+use Rattle.crs_shape.specs.Dimensions.{dimensions_of}
 use Rattle.crs_value.specs.Checks.{Own as BreaksOwn}
 use Rattle.crs_value.specs.ConversionValues.{GeoidModelParts}
 use Rattle.crs_value.specs.CrsValues.{VerticalParts}
@@ -183,7 +183,7 @@ vertical-kept l level g few h = record {
       );
   unbroken = λ item fault s b.
       let v = vertical-shown level g item s in
-      crs-breaks l vertical_dimensions class.VerticalCrs g.system item fault h.system.dimension h.dimension
+      crs-breaks l (dimensions_of class.VerticalCrs) class.VerticalCrs g.system item fault h.system.dimension h.dimension
       (tail-seen level class.VerticalCrs item g.tail v.1.1.1)
       (system-seen l level class.VerticalCrs item g.system g.tail few v)
       (frame-steady level class.VerticalCrs item (text_item g.name) false g.dynamic g.frame (frame_item level g) (vertical_rest level g)
@@ -193,6 +193,6 @@ vertical-kept l level g few h = record {
 pub vertical-made : DecimalLaws → AxisEach → (level : Level) (g : VerticalParts) → IsVertical g → (p : ℕ) →
     IsAcceptedNormal level class.VerticalCrs 6 (at_place p (item_vertical (norm_vertical level g)))
 vertical-made l each_at level g h =
-    let few = few-system l each_at vertical_dimensions small-vertical g.system h.system h.dimension in
+    let few = few-system l each_at (dimensions_of class.VerticalCrs) small-vertical g.system h.system h.dimension in
     node-made level 5 class.VerticalCrs (codes "VERTCRS") _ _ (vertical_runs level g)
     (laid (vertical_arguments l level g few h)) (vertical-kept l level g few h)

@@ -6,19 +6,19 @@ use Rattle.crs_text.specs.Items.{Item, End, More}
 use Rattle.crs_text.specs.Written.{at_place, item_text}
 use Rattle.crs_shape.specs.declared.class.Class.{Class}
 use Rattle.crs_shape.specs.declared.class.Class.TheVariants as class
+use Rattle.crs_shape.specs.declared.unit_kind.UnitKind.{UnitKind}
+use Rattle.crs_shape.specs.declared.unit_kind.UnitKind.TheVariants as kinds
 use Rattle.crs_shape.specs.Keywords.{is_keyword}
 use Rattle.crs_shape.specs.Slots.{class_named}
+use Rattle.crs_shape.specs.Words.{unit_word}
 use Rattle.crs_value.specs.ConversionValues.{ParameterParts}
 use Rattle.crs_value.specs.declared.values.level.Level.{Level}
-use Rattle.crs_value.specs.declared.values.unit_kind.UnitKind.{UnitKind}
-use Rattle.crs_value.specs.declared.values.unit_kind.UnitKind.TheVariants as kinds
 use Rattle.crs_value.specs.Reading.{ReadsElse}
 use Rattle.crs_value.specs.Reads.{ReadsIds}
 use Rattle.crs_value.specs.ReadsConversion.{ReadsAsUnit, ReadsParameter, ReadsUnitOf, parameter_units}
 use Rattle.crs_value.specs.Sound.{Each, IsIdent, IsUnit}
 use Rattle.crs_value.specs.SoundConversion.{IsParameter}
 use Rattle.crs_value.specs.Values.{IdentParts, UnitParts}
-use Rattle.crs_value.specs.Words.{unit_word}
 use Rattle.crs_same.specs.SameConversions.{SameParameter}
 use Rattle.crs_same.specs.Sets.{SameSet}
 use Rattle.crs_normal.specs.PartSpellings.{unit_class}

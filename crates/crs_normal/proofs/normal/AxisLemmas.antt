@@ -6,17 +6,17 @@ use Rattle.crs_text.specs.Items.{Item, leaf, node, Siblings, End, More, raw_of}
 use Rattle.crs_text.specs.Tokens.{number, text, word}
 use Rattle.crs_shape.specs.declared.class.Class.{Class}
 use Rattle.crs_shape.specs.declared.class.Class.TheVariants as class
+use Rattle.crs_shape.specs.declared.system_type.SystemType.{SystemType}
+use Rattle.crs_shape.specs.declared.unit_kind.UnitKind.{UnitKind}
+use Rattle.crs_shape.specs.declared.unit_kind.UnitKind.TheVariants as kinds
 use Rattle.crs_shape.specs.Shaped.{Shaped}
 use Rattle.crs_shape.specs.Slots.{slots_of}
-use Rattle.crs_value.specs.BadUnit.{asked_kind}
+use Rattle.crs_shape.specs.UnitKinds.{asked_kind}
+use Rattle.crs_shape.specs.Words.{SpellsWord, direction_word, system_word}
 use Rattle.crs_value.specs.Reading.{those, ReadsFirst, ReadsOptional}
 use Rattle.crs_value.specs.Reads.{ReadsAxis, ReadsAxisMeridian, ReadsDirection, ReadsNumber, ReadsNumberOf, ReadsText, ReadsType, ReadsUnit}
 use Rattle.crs_value.specs.Values.{AxisMeridianParts, AxisParts, SystemParts, UnitParts}
-use Rattle.crs_value.specs.Words.{SpellsWord, direction_word, system_word}
 use Rattle.crs_value.specs.declared.values.level.Level.{Level}
-use Rattle.crs_value.specs.declared.values.system_type.SystemType.{SystemType}
-use Rattle.crs_value.specs.declared.values.unit_kind.UnitKind.{UnitKind}
-use Rattle.crs_value.specs.declared.values.unit_kind.UnitKind.TheVariants as kinds
 use Rattle.crs_same.specs.SameSystems.{own_or}
 use Rattle.crs_normal.specs.WithoutPlaces.{without_places}
 use Rattle.crs_normal.specs.Normal.{IsNormalIn, IsWordIn}

@@ -7,12 +7,12 @@ use Rattle.crs_decimal.specs.Value.{Value, IsNormal, is_normal, is_power, zero}
 use Rattle.crs_text.specs.Items.{Item, leaf, node, Siblings, More, raw_of}
 use Rattle.crs_shape.specs.declared.class.Class.{Class}
 use Rattle.crs_shape.specs.declared.class.Class.TheVariants as class
+use Rattle.crs_shape.specs.declared.unit_kind.UnitKind.TheVariants as kinds
 use Rattle.crs_shape.specs.Slots.{slots_of}
 use Rattle.crs_value.specs.Reading.{those, ReadsFirst, ReadsOptional}
 use Rattle.crs_value.specs.Reads.{ReadsEllipsoid, ReadsMeridian, ReadsNumber, ReadsText, ReadsUnit}
 use Rattle.crs_value.specs.Values.{UnitParts}
 use Rattle.crs_value.specs.declared.values.level.Level.{Level}
-use Rattle.crs_value.specs.declared.values.unit_kind.UnitKind.TheVariants as kinds
 use Rattle.crs_value.specs.Sound.{Each}
 use Rattle.crs_normal.specs.SpelledFrames.{is_zero, item_ellipsoid, item_meridian, norm_ellipsoid, norm_given}
 use Rattle.crs_normal.specs.SpelledItems.{number_item, opt, text_item}

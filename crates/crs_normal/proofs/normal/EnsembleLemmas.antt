@@ -4,6 +4,7 @@ use Rattle.std.specs.Option.{option_map}
 use Rattle.crs_text.specs.Items.{Item, leaf, node, Siblings, End, More}
 use Rattle.crs_shape.specs.declared.class.Class.{Class}
 use Rattle.crs_shape.specs.declared.class.Class.TheVariants as class
+use Rattle.crs_shape.specs.declared.unit_kind.UnitKind.TheVariants as kinds
 use Rattle.crs_shape.specs.Slots.{slots_of}
 use Rattle.crs_value.specs.Reading.{is_a, those, ReadsElse, ReadsFirst, ReadsOptional}
 use Rattle.crs_value.specs.Reads.{ReadsDatum, ReadsEllipsoid, ReadsEnsemble, ReadsMember, ReadsMeridian, ReadsNumberOf, ReadsText, ReadsUnit}
@@ -12,7 +13,6 @@ use Rattle.crs_value.specs.Values.{EllipsoidParts, MeridianParts}
 use Rattle.crs_value.specs.declared.values.frame.Frame.{Frame}
 use Rattle.crs_value.specs.declared.values.frame.Frame.TheVariants as frame
 use Rattle.crs_value.specs.declared.values.level.Level.{Level}
-use Rattle.crs_value.specs.declared.values.unit_kind.UnitKind.TheVariants as kinds
 use Rattle.crs_normal.specs.WithoutPlaces.{without_places}
 use Rattle.crs_value.specs.Sound.{Each}
 use Rattle.crs_normal.specs.SpelledCrs.{item_base, norm_base}

@@ -3,8 +3,10 @@ use Rattle.std.proofs.Common.{◌≡◌, ◌≢◌, ℕ, ◌+◌, ◌^◌, ◌�
 use Rattle.crs_text.specs.Items.{Item, leaf, node, Siblings, End, More, arguments}
 use Rattle.crs_shape.specs.declared.class.Class.{Class}
 use Rattle.crs_shape.specs.declared.class.Class.TheVariants as class
+use Rattle.crs_shape.specs.declared.system_type.SystemType.{SystemType}
+use Rattle.crs_shape.specs.declared.system_type.SystemType.TheVariants as types
 use Rattle.crs_shape.specs.Slots.{geodetic_slots, tail}
-use Rattle.crs_value.specs.BadSystem.{geodetic_dimensions, geographic_dimensions}
+use Rattle.crs_shape.specs.Dimensions.{dimensions_of}
 use Rattle.crs_value.specs.Checks.{Own}
 use Rattle.crs_value.specs.CrsValues.{GeodeticParts}
 use Rattle.crs_value.specs.Reading.{those, ReadsEach}
@@ -12,8 +14,6 @@ use Rattle.crs_value.specs.Reads.{ReadsAxis, ReadsMeridian, ReadsText}
 use Rattle.crs_value.specs.ReadsConversion.{ReadsGeoidModel}
 use Rattle.crs_value.specs.ReadsCrs.{ReadsGeodetic}
 use Rattle.crs_value.specs.declared.values.level.Level.{Level}
-use Rattle.crs_value.specs.declared.values.system_type.SystemType.{SystemType}
-use Rattle.crs_value.specs.declared.values.system_type.SystemType.TheVariants as types
 use Rattle.crs_normal.specs.WithoutPlaces.{all_without_places}
 use Rattle.crs_normal.specs.NormalOwn.{Has, HasAxes, HasSets, HasTail, Rise}
 use Rattle.crs_value.specs.Sound.{Each}
@@ -141,14 +141,14 @@ geodetic-form laws level c (node place keyword square first others close) x good
     let reads = checked.1 in
     let o = opened level c d place keyword square first others close good.shaped good.normal in
     let items = More first others in
-    let free : AreFree geodetic_dimensions (those d class.CoordinateSystem items) (those d class.Axis items)
+    let free : AreFree (dimensions_of class.GeodeticCrs) (those d class.CoordinateSystem items) (those d class.Axis items)
     (those d class.AxisUnit items) =
     λ fault b. checked.0 fault (inl (inr (inl b))) in
     let frames = those-unbroken d class.GeodeticFrame o.kept.classes items o.kept.shaped
     (λ fault b. checked.0 fault (inr b)) in
     let remarks = once-only (those d class.Remark items)
     (λ fault b. checked.0 fault (inl (inl (inr (inr (inr (inr (inl b)))))))) in
-    let within = few-axes laws geodetic_dimensions small-geodetic _ _ _ free x.system reads.system.head
+    let within = few-axes laws (dimensions_of class.GeodeticCrs) small-geodetic _ _ _ free x.system reads.system.head
     (each-length (ReadsAxis class.Axis) (those d class.Axis items) x.system.axes reads.system.axes) in
     let other = not-ellipsoidal level d (those d class.CoordinateSystem items)
     (kept-good level d class.CoordinateSystem items o.kept) o.own.0 x.system reads.system.head in
@@ -167,14 +167,14 @@ geographic-form laws level c (node place keyword square first others close) x go
     let reads = checked.1 in
     let o = opened level c d place keyword square first others close good.shaped good.normal in
     let items = More first others in
-    let free : AreFree geographic_dimensions (those d class.CoordinateSystem items) (those d class.Axis items)
+    let free : AreFree (dimensions_of class.GeographicCrs) (those d class.CoordinateSystem items) (those d class.Axis items)
     (those d class.AxisUnit items) =
     λ fault b. checked.0 fault (inl (inr (inl b))) in
     let frames = those-unbroken d class.GeodeticFrame o.kept.classes items o.kept.shaped
     (λ fault b. checked.0 fault (inr b)) in
     let remarks = once-only (those d class.Remark items)
     (λ fault b. checked.0 fault (inl (inl (inr (inr (inr (inr (inl b)))))))) in
-    let within = few-axes laws geographic_dimensions small-geographic _ _ _ free x.system reads.system.head
+    let within = few-axes laws (dimensions_of class.GeographicCrs) small-geographic _ _ _ free x.system reads.system.head
     (each-length (ReadsAxis class.Axis) (those d class.Axis items) x.system.axes reads.system.axes) in
     let same = geographic-type (those d class.CoordinateSystem items) (those d class.Axis items)
     (those d class.AxisUnit items) free x.system reads.system.head in

@@ -8,17 +8,17 @@ use Rattle.crs_text.specs.Items.{Item, leaf, node, End, More, arguments, raw_of}
 use Rattle.crs_text.specs.Refusal.{RefusedAt}
 use Rattle.crs_shape.specs.declared.class.Class.{Class}
 use Rattle.crs_shape.specs.declared.class.Class.TheVariants as class
+use Rattle.crs_shape.specs.declared.system_type.SystemType.{SystemType}
+use Rattle.crs_shape.specs.declared.system_type.SystemType.TheVariants as types
 use Rattle.crs_shape.specs.Slots.{slots_of, tail, vertical_tail}
-use Rattle.crs_value.specs.BadSystem.{IsOneOf, geographic_dimensions}
+use Rattle.crs_shape.specs.Dimensions.{IsOneOf, dimensions_of}
+use Rattle.crs_shape.specs.Words.{system_word}
 use Rattle.crs_value.specs.Break.{at}
 use Rattle.crs_value.specs.Checks.{BadSystems}
 use Rattle.crs_value.specs.Reading.{is_a, those, ReadsEach, ReadsFirst}
 use Rattle.crs_value.specs.Reads.{ReadsHead, ReadsType}
 use Rattle.crs_value.specs.Values.{SystemParts}
-use Rattle.crs_value.specs.Words.{system_word}
 use Rattle.crs_value.specs.declared.values.level.Level.{Level}
-use Rattle.crs_value.specs.declared.values.system_type.SystemType.{SystemType}
-use Rattle.crs_value.specs.declared.values.system_type.SystemType.TheVariants as types
 use Rattle.crs_normal.specs.NormalOwn.{HasTail, words_in}
 use Rattle.crs_value.specs.Sound.{Each}
 use Rattle.crs_normal.proofs.normal.AxisLemmas.{type-raw}
@@ -94,13 +94,13 @@ few-axes laws dimensions small (cs ∷ more) axes units free x reads count =
 -- ---- of which type the system is
 
 -- that of a CRS called geographic is ellipsoidal
-pub geographic-type : (systems axes units : List Item) → AreFree geographic_dimensions systems axes units →
+pub geographic-type : (systems axes units : List Item) → AreFree (dimensions_of class.GeographicCrs) systems axes units →
     (x : SystemParts) → ReadsFirst ReadsHead systems x →
     x.system_type ≡ types.Ellipsoidal
 geographic-type [] axes units free x reads = absurd reads
 geographic-type (cs ∷ more) axes units free x reads = by x.system_type reads.system_type
   where
-    wrong : (t : SystemType) → geographic_dimensions t ≡ [] →
+    wrong : (t : SystemType) → dimensions_of class.GeographicCrs t ≡ [] →
         ReadsFirst ReadsType (those class.CoordinateSystem class.Word (arguments cs)) t → ⊥
     wrong t none read =
         free (at 23 cs) (inl (inl (inl (

@@ -7,6 +7,7 @@ use Rattle.crs_text.specs.Items.{Item, leaf, node, Siblings, End, More, argument
 use Rattle.crs_shape.specs.contracts.class.Class.{the_type}
 use Rattle.crs_shape.specs.declared.class.Class.{Class}
 use Rattle.crs_shape.specs.declared.class.Class.TheVariants as class
+use Rattle.crs_shape.specs.declared.unit_kind.UnitKind.TheVariants as kinds
 use Rattle.crs_shape.specs.ShapeFault.{class_in}
 use Rattle.crs_shape.specs.Slots.{SlotParts, is_class, named_slots, slots_of, unit_slots}
 use Rattle.crs_value.specs.Reading.{is_a, those, ReadsElse}
@@ -15,7 +16,6 @@ use Rattle.crs_value.specs.ReadsConversion.{parameter_units, ReadsAsUnit, ReadsC
 use Rattle.crs_value.specs.ReadsDynamic.{ReadsDeformationModel}
 use Rattle.crs_value.specs.Values.{IdentParts, UnitParts}
 use Rattle.crs_value.specs.declared.values.level.Level.{Level}
-use Rattle.crs_value.specs.declared.values.unit_kind.UnitKind.TheVariants as kinds
 use Rattle.crs_normal.specs.WithoutPlaces.{without_places}
 use Rattle.crs_normal.specs.Normal.{IsFirstKeyword}
 use Rattle.crs_value.specs.Sound.{Each}

@@ -4,7 +4,7 @@ use Rattle.crs_text.specs.Items.{leaf, node, End, More}
 use Rattle.crs_shape.specs.declared.class.Class.{Class}
 use Rattle.crs_shape.specs.declared.class.Class.TheVariants as class
 use Rattle.crs_shape.specs.Slots.{slots_of, tail}
-use Rattle.crs_value.specs.BadSystem.{projected_dimensions, vertical_dimensions}
+use Rattle.crs_shape.specs.Dimensions.{dimensions_of}
 use Rattle.crs_value.specs.Checks.{Own}
 use Rattle.crs_value.specs.Reading.{those}
 use Rattle.crs_value.specs.Reads.{ReadsAxis, ReadsText}
@@ -49,13 +49,13 @@ projected-form laws level c (node place keyword square first others close) x goo
     let v5 = v4.1.1.1.1 in
     let v6 = v5.1.1.1.1 in
     let looked = λ (e : Class). those-looked d e (slots_of d) items v in
-    let free : AreFree projected_dimensions (those d class.CoordinateSystem items) (those d class.Axis items)
+    let free : AreFree (dimensions_of class.ProjectedCrs) (those d class.CoordinateSystem items) (those d class.Axis items)
     (those d class.AxisUnit items) =
     λ fault b. checked.0 fault (inl (inr (inl b))) in
     let bases = those-unbroken d class.BaseCrs k.classes items k.shaped (λ fault b. checked.0 fault (inr b)) in
     let remarks = once-only (those d class.Remark items)
     (λ fault b. checked.0 fault (inl (inl (inr (inr (inr (inr (inl b)))))))) in
-    let within = few-axes laws projected_dimensions small-projected _ _ _ free x.system reads.system.head
+    let within = few-axes laws (dimensions_of class.ProjectedCrs) small-projected _ _ _ free x.system reads.system.head
     (each-length (ReadsAxis class.Axis) (those d class.Axis items) x.system.axes reads.system.axes) in
     let has_tail = o.own.1 in
     let rise = rise-six d 0 v.0 v1.0 v2.0 v3.0 v4.0 v5.0 (onto v6.0 End)
@@ -102,13 +102,13 @@ vertical-form laws level c (node place keyword square first others close) x good
     let v5 = v4.1.1.1.1 in
     let v6 = v5.1.1.1.1 in
     let looked = λ (e : Class). those-looked d e (slots_of d) items v in
-    let free : AreFree vertical_dimensions (those d class.CoordinateSystem items) (those d class.Axis items)
+    let free : AreFree (dimensions_of class.VerticalCrs) (those d class.CoordinateSystem items) (those d class.Axis items)
     (those d class.AxisUnit items) =
     λ fault b. checked.0 fault (inl (inr (inl b))) in
     let frames = those-unbroken d class.VerticalFrame k.classes items k.shaped (λ fault b. checked.0 fault (inr b)) in
     let remarks = once-only (those d class.Remark items)
     (λ fault b. checked.0 fault (inl (inl (inr (inr (inr (inr (inl b)))))))) in
-    let within = few-axes laws vertical_dimensions small-vertical _ _ _ free x.system reads.system.head
+    let within = few-axes laws (dimensions_of class.VerticalCrs) small-vertical _ _ _ free x.system reads.system.head
     (each-length (ReadsAxis class.Axis) (those d class.Axis items) x.system.axes reads.system.axes) in
     let has_tail = o.own.1 in
     let rise = rise-six d 0 v.0 v1.0 v2.0 v3.0 v4.0 v5.0 (onto v6.0 End)

@@ -7,10 +7,10 @@ use Rattle.crs_text.specs.Items.{Item, leaf, node, Siblings, More, arguments}
 use Rattle.crs_shape.specs.declared.class.Class.{Class}
 use Rattle.crs_shape.specs.declared.class.Class.TheVariants as class
 use Rattle.crs_shape.specs.Slots.{slots_of}
+use Rattle.crs_shape.specs.Words.{system_word}
 use Rattle.crs_value.specs.Reading.{those, ReadsEach}
 use Rattle.crs_value.specs.Reads.{ReadsAxis, ReadsHead, ReadsNumber, ReadsSystem, ReadsType}
 use Rattle.crs_value.specs.Values.{AxisParts, SystemParts}
-use Rattle.crs_value.specs.Words.{system_word}
 use Rattle.crs_value.specs.declared.values.level.Level.{Level}
 use Rattle.crs_normal.specs.NormalOwn.{AreOrdered, Has, HasAxes}
 use Rattle.crs_value.specs.Sound.{Each}

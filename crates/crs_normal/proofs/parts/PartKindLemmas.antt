@@ -2,6 +2,8 @@
 use Rattle.std.proofs.Common.{◌≡◌, ◌↔◌}
 use Rattle.crs_shape.specs.declared.class.Class.{Class}
 use Rattle.crs_shape.specs.declared.class.Class.TheVariants as class
+use Rattle.crs_shape.specs.declared.system_type.SystemType.{SystemType}
+use Rattle.crs_shape.specs.declared.system_type.SystemType.TheVariants as types
 use Rattle.crs_text.specs.Written.{item_text}
 use Rattle.crs_value.specs.CrsValues.{GeodeticParts}
 use Rattle.crs_value.specs.ReadsCrs.{ReadsGeodetic}
@@ -12,8 +14,6 @@ use Rattle.crs_value.specs.declared.values.compound.Horizontal.TheVariants as ho
 use Rattle.crs_value.specs.declared.values.crs.Crs.{Crs}
 use Rattle.crs_value.specs.declared.values.crs.Crs.TheVariants as crs
 use Rattle.crs_value.specs.declared.values.level.Level.{Level}
-use Rattle.crs_value.specs.declared.values.system_type.SystemType.{SystemType}
-use Rattle.crs_value.specs.declared.values.system_type.SystemType.TheVariants as types
 use Rattle.crs_same.specs.Parts.{AreSame}
 use Rattle.crs_same.specs.PartsOfCrs.{parts_of_geodetic, parts_of_projected, parts_of_horizontal}
 use Rattle.crs_same.specs.SameCrs.{SameCrs}

@@ -3,11 +3,11 @@ use Rattle.std.proofs.Common.{◌≡◌, ◌≤◌, ℕ, suc, zero, ◌+◌, cod
 use Rattle.crs_text.specs.Written.{at_place}
 use Rattle.crs_shape.specs.declared.class.Class.{Class}
 use Rattle.crs_shape.specs.declared.class.Class.TheVariants as class
+use Rattle.crs_shape.specs.declared.unit_kind.UnitKind.TheVariants as kinds
 use Rattle.crs_shape.specs.Slots.{class_named}
-use Rattle.crs_value.specs.BadSystem.{IsOneOf, geodetic_dimensions, projected_dimensions, vertical_dimensions}
+use Rattle.crs_shape.specs.Dimensions.{IsOneOf, dimensions_of}
 use Rattle.crs_value.specs.CrsValues.{BaseParts, GeodeticParts, ProjectedParts, VerticalParts}
 use Rattle.crs_value.specs.declared.values.level.Level.{Level}
-use Rattle.crs_value.specs.declared.values.unit_kind.UnitKind.TheVariants as kinds
 use Rattle.crs_value.specs.Reads.{ReadsMeridian, ReadsUnit}
 use Rattle.crs_value.specs.ReadsConversion.{ReadsConversion, ReadsGeoidModel}
 use Rattle.crs_value.specs.ReadsCrs.{ReadsBase, ReadsGeodetic, ReadsProjected, ReadsVertical}
@@ -60,7 +60,7 @@ pub record GeodeticNames (c : Class) : Type 0 where
 module _ (laws : TextLaws) (lower : LowerLaws) (c : Class) (names : GeodeticNames c) (level : Level) (g : GeodeticParts) (s : IsGeodetic g) where
   geodetic-whole : AreWhole 1 (length g.system.axes)
   geodetic-whole =
-      few lower g.system s.system (geodetic_dimensions g.system.system_type) (small-geodetic g.system.system_type)
+      few lower g.system s.system (dimensions_of class.GeodeticCrs g.system.system_type) (small-geodetic g.system.system_type)
       s.dimension
 
   abbrev of-geodetic : List (Segment c)
@@ -130,7 +130,7 @@ module _ (laws : TextLaws) (lower : LowerLaws) (level : Level) (p : ProjectedPar
 
   projected-whole : AreWhole 1 (length p.system.axes)
   projected-whole =
-      few lower p.system s.system (projected_dimensions p.system.system_type) (small-projected p.system.system_type)
+      few lower p.system s.system (dimensions_of class.ProjectedCrs p.system.system_type) (small-projected p.system.system_type)
       s.dimension
 
   abbrev of-projected : List (Segment projected)
@@ -163,7 +163,7 @@ module _ (laws : TextLaws) (lower : LowerLaws) (level : Level) (v : VerticalPart
 
   vertical-whole : AreWhole 1 (length v.system.axes)
   vertical-whole =
-      few lower v.system s.system (vertical_dimensions v.system.system_type) (small-vertical v.system.system_type)
+      few lower v.system s.system (dimensions_of class.VerticalCrs v.system.system_type) (small-vertical v.system.system_type)
       s.dimension
 
   abbrev of-vertical : List (Segment vertical)

@@ -3,19 +3,19 @@ use Rattle.std.proofs.Common.{◌≡◌, ◌≢◌, ℕ, suc, zero, ◌+◌, cod
 use Rattle.crs_decimal.specs.Value.{IsNormal}
 use Rattle.crs_text.specs.Written.{at_place}
 use Rattle.crs_shape.specs.declared.class.Class.TheVariants as class
-use Rattle.crs_value.specs.BadUnit.{asked_kind, kind_by_direction}
-use Rattle.crs_value.specs.declared.values.direction.Direction.{Direction}
-use Rattle.crs_value.specs.declared.values.direction.Direction.TheVariants as direction
+use Rattle.crs_shape.specs.UnitKinds.{asked_kind, kind_by_direction}
+use Rattle.crs_shape.specs.declared.direction.Direction.{Direction}
+use Rattle.crs_shape.specs.declared.direction.Direction.TheVariants as direction
+use Rattle.crs_shape.specs.declared.system_type.SystemType.{SystemType}
+use Rattle.crs_shape.specs.declared.system_type.SystemType.TheVariants as types
+use Rattle.crs_shape.specs.declared.unit_kind.UnitKind.{UnitKind}
+use Rattle.crs_shape.specs.declared.unit_kind.UnitKind.TheVariants as kinds
+use Rattle.crs_shape.specs.Words.{direction_word, system_word}
 use Rattle.crs_value.specs.declared.values.level.Level.{Level}
-use Rattle.crs_value.specs.declared.values.system_type.SystemType.{SystemType}
-use Rattle.crs_value.specs.declared.values.system_type.SystemType.TheVariants as types
-use Rattle.crs_value.specs.declared.values.unit_kind.UnitKind.{UnitKind}
-use Rattle.crs_value.specs.declared.values.unit_kind.UnitKind.TheVariants as kinds
 use Rattle.crs_value.specs.Reads.{ReadsAxis, ReadsAxisMeridian, ReadsHead, ReadsNumberOf, ReadsUnit}
 use Rattle.crs_value.specs.Sound.{Each, IsAxis, IsAxisMeridian, IsAxisUnit, IsIdent}
 use Rattle.crs_value.specs.SoundSystem.{IsSystem}
 use Rattle.crs_value.specs.Values.{AxisMeridianParts, AxisParts, SystemParts, UnitParts}
-use Rattle.crs_value.specs.Words.{direction_word, system_word}
 use Rattle.crs_same.specs.SameSystems.{own_or}
 use Rattle.crs_same.specs.SameUnits.{kind_as}
 use Rattle.crs_normal.specs.PartTexts.{norm_axis_alone}

@@ -1,6 +1,8 @@
 -- Coordinate reference systems have one form exactly where they agree.
 use Rattle.std.proofs.Common.{◌≤◌, ℕ, ◌<◌, ◌^◌, List, length, refl, ap, arith}
-use Rattle.crs_value.specs.BadSystem.{IsOneOf, geodetic_dimensions, projected_dimensions, vertical_dimensions}
+use Rattle.crs_shape.specs.declared.class.Class.TheVariants as class
+use Rattle.crs_shape.specs.declared.unit_kind.UnitKind.TheVariants as kinds
+use Rattle.crs_shape.specs.Dimensions.{IsOneOf, dimensions_of}
 use Rattle.crs_value.specs.CompoundValues.{CompoundParts}
 use Rattle.crs_value.specs.CrsValues.{BaseParts, GeodeticParts, ProjectedParts, VerticalParts}
 use Rattle.crs_value.specs.ReadsCrs.{kind_by}
@@ -13,7 +15,6 @@ use Rattle.crs_value.specs.declared.values.compound.Horizontal.{Horizontal}
 use Rattle.crs_value.specs.declared.values.compound.Horizontal.TheVariants as horizontal
 use Rattle.crs_value.specs.declared.values.crs.Crs.TheVariants as crs
 use Rattle.crs_value.specs.declared.values.level.Level.{Level}
-use Rattle.crs_value.specs.declared.values.unit_kind.UnitKind.TheVariants as kinds
 use Rattle.crs_same.specs.Agreement.{AgreeBase, AgreeCompound, AgreeCrs, AgreeGeodetic, AgreeHorizontal, AgreeProjected, AgreeVertical, AgreeSystem}
 use Rattle.crs_same.specs.SameCrs.{IsHorizontalPart}
 use Rattle.crs_normal.specs.Decides.{FormDecides, IsNumbered, SetsDecide}
@@ -44,17 +45,17 @@ numbered laws system sound ns small one = (
 geodetic-numbered : LowerLaws → (g : GeodeticParts) → IsGeodetic g → IsNumbered g.system
 geodetic-numbered laws g sound =
     let type = g.system.system_type in
-    numbered laws g.system sound.system (geodetic_dimensions type) (small-geodetic type) sound.dimension
+    numbered laws g.system sound.system (dimensions_of class.GeodeticCrs type) (small-geodetic type) sound.dimension
 
 projected-numbered : LowerLaws → (p : ProjectedParts) → IsProjected p → IsNumbered p.system
 projected-numbered laws p sound =
     let type = p.system.system_type in
-    numbered laws p.system sound.system (projected_dimensions type) (small-projected type) sound.dimension
+    numbered laws p.system sound.system (dimensions_of class.ProjectedCrs type) (small-projected type) sound.dimension
 
 vertical-numbered : LowerLaws → (v : VerticalParts) → IsVertical v → IsNumbered v.system
 vertical-numbered laws v sound =
     let type = v.system.system_type in
-    numbered laws v.system sound.system (vertical_dimensions type) (small-vertical type) sound.dimension
+    numbered laws v.system sound.system (dimensions_of class.VerticalCrs type) (small-vertical type) sound.dimension
 
 module _ (laws : LowerLaws) (sets : SetsDecide) (level : Level) where
   -- ---- geodetic and geographic CRSs

@@ -2,13 +2,13 @@
 use Rattle.std.proofs.Common.{◌≡◌, ◌↔◌, ◌∙◌, ℕ, [], Option, Some, None, codes, refl, sym, ap, arith, inl, inr}
 use Rattle.crs_decimal.specs.Number.{SameNumber, whole_number}
 use Rattle.crs_decimal.specs.Value.{Value, IsNormal, exact}
+use Rattle.crs_shape.specs.declared.unit_kind.UnitKind.{UnitKind}
+use Rattle.crs_shape.specs.declared.unit_kind.UnitKind.TheVariants as kinds
 use Rattle.crs_value.specs.Sound.{Each, IsIdent, IsNamed, IsUnit, IsUnitOf, Suits}
 use Rattle.crs_value.specs.NamedValues.{NamedParts}
 use Rattle.crs_value.specs.Values.{UnitParts}
 use Rattle.crs_value.specs.KeptLaws.{kept-none}
 use Rattle.crs_value.specs.declared.values.level.Level.{Level}
-use Rattle.crs_value.specs.declared.values.unit_kind.UnitKind.{UnitKind}
-use Rattle.crs_value.specs.declared.values.unit_kind.UnitKind.TheVariants as kinds
 use Rattle.crs_same.specs.SameIdents.{SameIdents, SameNamed}
 use Rattle.crs_same.specs.SameUnits.{SameLength, SameUnit, or_metre, kind_as}
 use Rattle.crs_same.specs.Sets.{BothOrNeither}

@@ -2,13 +2,13 @@
 -- letters has one value.
 use Rattle.std.proofs.Common.{◌≡◌, ℕ, List, [], ◌∷◌, Option, Some, find, refl, sym, ap, ◌∙◌}
 use Rattle.std.specs.Str.{bytes_eq, str_to_ascii_lowercase}
-use Rattle.crs_value.specs.Words.{SpellsWord, direction_word, system_word, unit_word}
-use Rattle.crs_value.specs.declared.values.direction.Direction.{Direction}
-use Rattle.crs_value.specs.declared.values.direction.Direction.TheVariants.{North, NorthNorthEast, NorthEast, EastNorthEast, East, EastSouthEast, SouthEast, SouthSouthEast, South, SouthSouthWest, SouthWest, WestSouthWest, West, WestNorthWest, NorthWest, NorthNorthWest, GeocentricX, GeocentricY, GeocentricZ, Up, Down, Unspecified}
-use Rattle.crs_value.specs.declared.values.system_type.SystemType.{SystemType}
-use Rattle.crs_value.specs.declared.values.system_type.SystemType.TheVariants.{Cartesian, Ellipsoidal, Spherical, Vertical}
-use Rattle.crs_value.specs.declared.values.unit_kind.UnitKind.{UnitKind}
-use Rattle.crs_value.specs.declared.values.unit_kind.UnitKind.TheVariants as kinds
+use Rattle.crs_shape.specs.Words.{SpellsWord, direction_word, system_word, unit_word}
+use Rattle.crs_shape.specs.declared.direction.Direction.{Direction}
+use Rattle.crs_shape.specs.declared.direction.Direction.TheVariants.{North, NorthNorthEast, NorthEast, EastNorthEast, East, EastSouthEast, SouthEast, SouthSouthEast, South, SouthSouthWest, SouthWest, WestSouthWest, West, WestNorthWest, NorthWest, NorthNorthWest, GeocentricX, GeocentricY, GeocentricZ, Up, Down, Unspecified}
+use Rattle.crs_shape.specs.declared.system_type.SystemType.{SystemType}
+use Rattle.crs_shape.specs.declared.system_type.SystemType.TheVariants.{Cartesian, Ellipsoidal, Spherical, Vertical}
+use Rattle.crs_shape.specs.declared.unit_kind.UnitKind.{UnitKind}
+use Rattle.crs_shape.specs.declared.unit_kind.UnitKind.TheVariants as kinds
 
 abbrev directions : List Direction
 directions =

@@ -2,8 +2,11 @@
 ghost use Rattle.std.specs.Prelude.{◌≡◌, ℕ, List, codes};
 ghost use Rattle.crs_shape.specs.declared.class.Class.{Class};
 ghost use Rattle.crs_shape.specs.declared.class.Class.TheVariants as class;
+ghost use Rattle.crs_shape.specs.declared.unit_kind.UnitKind.{UnitKind};
+ghost use Rattle.crs_shape.specs.declared.unit_kind.UnitKind.TheVariants as kinds;
 ghost use Rattle.crs_text.specs.Items.{Item};
 ghost use Rattle.crs_text.specs.Written.{item_text};
+ghost use Rattle.crs_shape.specs.Shaped.{Shaped};
 ghost use Rattle.crs_value.specs.Reads.{ReadsIdent, ReadsUnit, ReadsAxisMeridian, ReadsAxis, ReadsEllipsoid};
 ghost use Rattle.crs_value.specs.Reads.{ReadsMeridian, ReadsMember, ReadsDatum, ReadsEnsemble, ReadsBox, ReadsExtent};
 ghost use Rattle.crs_value.specs.Reads.{ReadsUsage};
@@ -15,8 +18,6 @@ ghost use Rattle.crs_value.specs.SpellsText.{Spells};
 ghost use Rattle.crs_value.specs.Values.{AxisParts, SystemParts};
 ghost use Rattle.crs_value.specs.declared.values.crs.Crs.{Crs};
 ghost use Rattle.crs_value.specs.declared.values.level.Level.{Level};
-ghost use Rattle.crs_value.specs.declared.values.unit_kind.UnitKind.{UnitKind};
-ghost use Rattle.crs_value.specs.declared.values.unit_kind.UnitKind.TheVariants as kinds;
 ghost use Rattle.crs_normal.specs.AxisAlone.{IsNormalAxis};
 ghost use Rattle.crs_normal.specs.WithoutPlaces.{without_places};
 ghost use Rattle.crs_normal.specs.Normal.{IsNormalIn, IsNormalText};
@@ -27,7 +28,6 @@ ghost use Rattle.crs_normal.specs.SpelledCrs.{item_base, norm_base, item_geodeti
 ghost use Rattle.crs_normal.specs.SpelledCrs.{norm_projected, item_vertical, norm_vertical, item_compound};
 ghost use Rattle.crs_normal.specs.SpelledCrs.{norm_compound, item_crs, norm_crs};
 ghost use Rattle.crs_normal.specs.SpelledSystems.{item_axis_meridian, norm_axis_meridian, item_axis, norm_axis};
-ghost use Rattle.crs_shape.specs.Shaped.{Shaped};
 ghost use Rattle.crs_normal.specs.SpelledConversions.{item_method, norm_method, item_parameter, norm_parameter};
 ghost use Rattle.crs_normal.specs.SpelledConversions.{item_conversion, norm_conversion, item_geoid_model};
 ghost use Rattle.crs_normal.specs.SpelledConversions.{norm_geoid_model};

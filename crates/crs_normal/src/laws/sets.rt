@@ -3,11 +3,11 @@ ghost use Rattle.std.specs.Prelude.{◌≡◌, ◌↔◌, ℕ, List, Some, codes
 ghost use Rattle.crs_text.specs.Written.{at_place, item_text};
 ghost use Rattle.crs_shape.specs.declared.class.Class.{Class};
 ghost use Rattle.crs_shape.specs.declared.class.Class.TheVariants as class;
+ghost use Rattle.crs_shape.specs.declared.unit_kind.UnitKind.{UnitKind};
 ghost use Rattle.crs_shape.specs.Slots.{class_named};
 ghost use Rattle.crs_value.specs.ConversionValues.{GeoidModelParts, ParameterParts};
 ghost use Rattle.crs_value.specs.Kept.{kept};
 ghost use Rattle.crs_value.specs.declared.values.level.Level.{Level};
-ghost use Rattle.crs_value.specs.declared.values.unit_kind.UnitKind.{UnitKind};
 ghost use Rattle.crs_value.specs.Reads.{ReadsBox, ReadsExtent, ReadsIdent, ReadsMember, ReadsUnit, ReadsUsage};
 ghost use Rattle.crs_value.specs.ReadsConversion.{ReadsGeoidModel, ReadsParameter};
 ghost use Rattle.crs_value.specs.Sound.{Each, IsIdent, IsUnit};

@@ -1,5 +1,7 @@
 //! The one form of a value decides whether it is the same as another.
 ghost use Rattle.std.specs.Prelude.{◌≡◌, ◌↔◌, ℕ};
+ghost use Rattle.crs_shape.specs.declared.unit_kind.UnitKind.{UnitKind};
+ghost use Rattle.crs_shape.specs.declared.unit_kind.UnitKind.TheVariants as kinds;
 ghost use Rattle.crs_value.specs.Sound.{IsAxis, IsAxisMeridian, IsAxisUnit, IsUnit, IsUnitOf};
 ghost use Rattle.crs_value.specs.SoundCompound.{IsCompound, IsHorizontal};
 ghost use Rattle.crs_value.specs.SoundConversion.{IsConversion, IsGeoidModel, IsMethod, IsParameter};
@@ -10,8 +12,6 @@ ghost use Rattle.crs_value.specs.SoundSingle.{IsGeodeticFrame, IsVerticalFrame};
 ghost use Rattle.crs_value.specs.SoundUsages.{IsBox, IsExtent, IsTail, IsUsage};
 ghost use Rattle.crs_value.specs.Values.{AxisParts, SystemParts};
 ghost use Rattle.crs_value.specs.declared.values.level.Level.{Level};
-ghost use Rattle.crs_value.specs.declared.values.unit_kind.UnitKind.{UnitKind};
-ghost use Rattle.crs_value.specs.declared.values.unit_kind.UnitKind.TheVariants as kinds;
 ghost use Rattle.crs_same.specs.Agreement.{AgreeAxis};
 ghost use Rattle.crs_same.specs.Parts.{AreSame};
 ghost use Rattle.crs_same.specs.PartsOfCrs.{parts_of_method, parts_of_conversion, parts_of_tail};

@@ -12,9 +12,8 @@ use crate::checks::system::type_of;
 use crate::checks::{Check, lesser, only_of, refusal_at};
 use crate::reading::firsts::firsts_of;
 use crate::reading::node::{number, required};
-use crate::values::system_type::SystemType;
 use crs_decimal::laws;
-use crs_shape::Class;
+use crs_shape::{Class, SystemType};
 use crs_text::{ItemId, Items, Refusal};
 
 // Whether a node `CS` has a known type that isn't ellipsoidal.

@@ -2,8 +2,8 @@
 ghost use Rattle.std.specs.Prelude.{◌≡◌, ◌<◌, ◌⊎◌, IfSome, Some};
 ghost use Rattle.crs_text.specs.Items.{HasId, arguments};
 ghost use Rattle.crs_shape.specs.Shaped.{Shaped};
+ghost use Rattle.crs_shape.specs.Dimensions.{dimensions_of};
 ghost use Rattle.crs_value.specs.BadDynamic.{BadDynamic};
-ghost use Rattle.crs_value.specs.BadSystem.{dimensions_of};
 ghost use Rattle.crs_value.specs.Break.{AnyOf, IsLeast};
 ghost use Rattle.crs_value.specs.Checks.{BreaksAmong, once, OfHead, OfAxes, OfCrs};
 ghost use Rattle.crs_value.specs.FirstArguments.{AreFirsts};
@@ -34,8 +34,9 @@ struct HeadOf {
 impl Check for HeadOf {
     ghost use Rattle.std.specs.Prelude.{◌≡◌, ◌⊎◌};
     ghost use Rattle.crs_shape.specs.declared.class.Class.TheVariants as classes;
+    ghost use Rattle.crs_shape.specs.Dimensions.{dimensions_of};
     ghost use Rattle.crs_value.specs.AxisCount.{AxisCount};
-    ghost use Rattle.crs_value.specs.BadSystem.{BadSystem, dimensions_of};
+    ghost use Rattle.crs_value.specs.BadSystem.{BadSystem};
 
     ghost Fits = { λ s tree class. class ≡ classes.CoordinateSystem };
 

@@ -9,10 +9,8 @@ ghost use Rattle.crs_value.specs.Reading.{item_at};
 
 use crate::checks::{Check, refusal_at};
 use crate::reading::node::decimal_of;
-use crate::values::direction::Direction;
-use crate::values::system_type::SystemType;
 use crs_decimal::{Decimal, laws};
-use crs_shape::Class;
+use crs_shape::{Class, Direction, SystemType};
 use crs_text::{ItemId, Items, Refusal};
 
 fn first_byte(bytes: &[u8]) -> u8

@@ -11,10 +11,7 @@ use crate::checks::system::type_of;
 use crate::checks::{Check, any_from, lesser, only_from, only_of, refusal_at};
 use crate::reading::arguments::{first, later};
 use crate::reading::node::required;
-use crate::values::direction::Direction;
-use crate::values::system_type::SystemType;
-use crate::values::unit_kind::UnitKind;
-use crs_shape::Class;
+use crs_shape::{Class, Direction, SystemType, UnitKind};
 use crs_text::{ItemId, Items, Refusal};
 
 // The direction of an axis; None where its word is no direction.

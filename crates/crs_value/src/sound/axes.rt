@@ -18,10 +18,7 @@ use crate::sound::single::Order;
 use crate::sound::system::{AxisMeridian, is_axis};
 use crate::sound::unit::AxisUnit;
 use crate::sound::walk::{Part, any, is_end, is_node, leaf, optional};
-use crate::values::direction::Direction;
-use crate::values::system_type::SystemType;
-use crate::values::unit_kind::UnitKind;
-use crs_shape::{Class, laws};
+use crs_shape::{Class, Direction, SystemType, UnitKind, laws};
 use crs_text::{ItemId, ItemKind, Items};
 
 // An argument that may be missing, and the arguments behind it.

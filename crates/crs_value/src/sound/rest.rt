@@ -4,7 +4,7 @@ ghost use Rattle.crs_text.specs.Items.{Item, HasId};
 ghost use Rattle.crs_shape.specs.declared.class.Class.{Class};
 ghost use Rattle.crs_shape.specs.Shaped.{Shaped};
 ghost use Rattle.crs_shape.specs.Slots.{SlotParts};
-ghost use Rattle.crs_value.specs.BadSystem.{dimensions_of};
+ghost use Rattle.crs_shape.specs.Dimensions.{dimensions_of};
 ghost use Rattle.crs_value.specs.BadUnit.{Fits};
 ghost use Rattle.crs_value.specs.Break.{IsLeast};
 ghost use Rattle.crs_value.specs.Checks.{HasSystem, OfHead, once};
@@ -14,17 +14,15 @@ ghost use Rattle.crs_value.specs.Reads.{HasType};
 ghost use Rattle.crs_value.specs.RepeatedPart.{RepeatsAny};
 ghost use Rattle.crs_value.specs.Seen.{rank, rest_slots, AreOrdered, Climbs, IsQuiet, IsTail, Marks, UnitsFit};
 
-use crate::checks::system::{is_allowed, type_of};
+use crate::checks::system::type_of;
 use crate::checks::unit::fits;
 use crate::reading::node::number;
 use crate::sound::axes::{Axes, Places, at_most_one, run_of};
 use crate::sound::system::System;
 use crate::sound::unit::AxisUnit;
 use crate::sound::walk::{Part, any, is_end};
-use crate::values::system_type::SystemType;
-use crate::values::unit_kind::UnitKind;
 use crs_decimal::laws;
-use crs_shape::{Class, class_in};
+use crs_shape::{Class, SystemType, UnitKind, class_in};
 use crs_text::{ItemId, Items};
 
 // Whether a CRS of this class may have a coordinate system of this type and its dimension, which is the number of axes.
@@ -43,7 +41,7 @@ fn head_fits(
 {
     laws::denotes_one();
     let dimension = number(items, cs, Class::CoordinateSystem);
-    if !is_allowed(class, system_type, &dimension) {
+    if !system_type.is_allowed(class, &dimension) {
         return false;
     }
     dimension.is_whole(count as u64)

@@ -5,12 +5,11 @@ ghost use Rattle.crs_value.specs.Reading.{item_at, those, ReadsFirst};
 ghost use Rattle.crs_value.specs.Reads.{ReadsDirection};
 
 use crate::reading::node::{Node, many, number, one, optional, optional_number, required, text};
-use crate::values::direction::Direction;
 use crate::values::ident::Ident;
 use crate::values::list::List;
 use crate::values::unit::Unit;
 use crs_decimal::Decimal;
-use crs_shape::Class;
+use crs_shape::{Class, Direction};
 use crs_text::{ItemId, Items};
 use std::alloc::{AllocError, Global};
 use std::marker::Model;

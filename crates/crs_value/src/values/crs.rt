@@ -5,8 +5,8 @@ ghost use Rattle.crs_value.specs.ReadsCrs.{kind_by};
 use crate::values::compound::Compound;
 use crate::values::geodetic::Geodetic;
 use crate::values::projected::Projected;
-use crate::values::system_type::SystemType;
 use crate::values::vertical::Vertical;
+use crs_shape::SystemType;
 
 /// A coordinate reference system. ISO 19162:2019, "Coordinate reference systems".
 #[derive(Drop)]

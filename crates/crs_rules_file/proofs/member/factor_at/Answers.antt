@@ -1,5 +1,5 @@
 use Rattle.crs_text.specs.Items.{here}
-use Rattle.crs_value.specs.declared.values.unit_kind.UnitKind.TheVariants as unit_kind
+use Rattle.crs_shape.specs.declared.unit_kind.UnitKind.TheVariants as unit_kind
 use Rattle.crs_rules_file.proofs.MemberLemmas.{false-true, no-factor}
 use Rattle.crs_rules_file.proofs.member.factor_at.Goals as goal
 

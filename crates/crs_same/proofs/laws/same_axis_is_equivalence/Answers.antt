@@ -1,4 +1,4 @@
-use Rattle.crs_value.specs.declared.values.unit_kind.UnitKind.TheVariants as kinds
+use Rattle.crs_shape.specs.declared.unit_kind.UnitKind.TheVariants as kinds
 use Rattle.crs_same.proofs.SamenessOfSystemsLemmas.{axis-alone}
 use Rattle.crs_same.proofs.laws.same_axis_is_equivalence.Goals as goal
 

@@ -1,4 +1,4 @@
-use Rattle.crs_value.specs.declared.values.unit_kind.UnitKind.TheVariants as kinds
+use Rattle.crs_shape.specs.declared.unit_kind.UnitKind.TheVariants as kinds
 use Rattle.crs_same.proofs.SamenessOfPartsLemmas.{length}
 use Rattle.crs_same.proofs.laws.same_length_is_equivalence.Goals as goal
 

@@ -1,4 +1,4 @@
-use Rattle.crs_value.specs.declared.values.unit_kind.UnitKind.TheVariants as kinds
+use Rattle.crs_shape.specs.declared.unit_kind.UnitKind.TheVariants as kinds
 use Rattle.crs_same.proofs.SamenessLemmas.{same-as}
 use Rattle.crs_same.proofs.SamenessOfFramesLemmas.{given, meridian}
 use Rattle.crs_same.proofs.laws.same_meridian_is_equivalence.Goals as goal

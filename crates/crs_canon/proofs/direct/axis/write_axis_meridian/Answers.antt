@@ -3,7 +3,7 @@ use Rattle.std.proofs.lemmas.Result.{on_ok_weaker}
 use Rattle.crs_decimal.specs.Plain.{plain}
 use Rattle.crs_text.specs.Items.{End, More, Siblings}
 use Rattle.crs_text.specs.Written.{others_text}
-use Rattle.crs_value.specs.declared.values.unit_kind.UnitKind.TheVariants as kinds
+use Rattle.crs_shape.specs.declared.unit_kind.UnitKind.TheVariants as kinds
 use Rattle.crs_normal.specs.SpelledSystems.{item_axis_meridian, norm_axis_meridian}
 use Rattle.crs_normal.specs.SpelledUnits.{item_unit, norm_unit}
 use Rattle.crs_canon.proofs.PieceLemmas.{three}

@@ -1,8 +1,8 @@
 use Rattle.std.proofs.Common.{codes}
 use Rattle.std.proofs.lemmas.Result.{on_ok_weaker}
 use Rattle.crs_text.specs.Items.{End, More, Siblings}
+use Rattle.crs_shape.specs.declared.unit_kind.UnitKind.TheVariants as kinds
 use Rattle.crs_normal.specs.SpelledItems.{each, number_item, opt}
-use Rattle.crs_value.specs.declared.values.unit_kind.UnitKind.TheVariants as kinds
 use Rattle.crs_normal.specs.SpelledUnits.{item_ident, item_unit, norm_units, set_idents}
 use Rattle.crs_canon.proofs.PieceLemmas.{then-more, then-opt}
 use Rattle.crs_canon.proofs.DirectLemmas.{closed}

@@ -2,7 +2,7 @@ use Rattle.std.proofs.Common.{◌≡◌, [], subst, sym, ◌++◌, ◌∷◌}
 use Rattle.std.proofs.lemmas.Result.{on_ok_weaker}
 use Rattle.crs_text.specs.Items.{End, More, Siblings}
 use Rattle.crs_text.specs.Written.{others_text}
-use Rattle.crs_value.specs.Words.{system_word}
+use Rattle.crs_shape.specs.Words.{system_word}
 use Rattle.crs_normal.specs.SpelledItems.{each, number_item}
 use Rattle.crs_normal.specs.SpelledUnits.{item_ident, set_idents}
 use Rattle.crs_canon.proofs.PieceLemmas.{then-more, three}

@@ -1,8 +1,8 @@
 use Rattle.std.proofs.Common.{◌≡◌, [], ap, ◌++◌, ◌∙◌, ◌∷◌}
 use Rattle.std.proofs.lemmas.Result.{on_ok_weaker}
 use Rattle.crs_text.specs.Items.{End, More, Siblings}
-use Rattle.crs_value.specs.Words.{unit_word}
-use Rattle.crs_value.specs.Sound.{kind_as}
+use Rattle.crs_shape.specs.Words.{unit_word}
+use Rattle.crs_shape.specs.UnitKinds.{kind_as}
 use Rattle.crs_normal.specs.SpelledItems.{each, number_item}
 use Rattle.crs_normal.specs.SpelledUnits.{item_ident, set_idents}
 use Rattle.crs_canon.proofs.PieceLemmas.{then-more}

@@ -1,6 +1,6 @@
 use Rattle.std.proofs.Common.{refl}
 use Rattle.crs_shape.specs.declared.class.Class.TheVariants as class
-use Rattle.crs_value.specs.declared.values.unit_kind.UnitKind.TheVariants as kinds
+use Rattle.crs_shape.specs.declared.unit_kind.UnitKind.TheVariants as kinds
 use Rattle.crs_normal.proofs.normal.UnitLemmas.{in-angle, in-axis, in-length, in-plain, in-scale, unit-form}
 use Rattle.crs_normal.proofs.laws.normal.normal_unit_is_its_form.Goals as goal
 

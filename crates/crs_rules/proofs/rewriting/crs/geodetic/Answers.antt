@@ -1,8 +1,8 @@
 use Rattle.std.proofs.Common.{IfSome, sym, subst}
 use Rattle.crs_shape.specs.declared.class.Class.TheVariants as class
+use Rattle.crs_shape.specs.Dimensions.{dimensions_of}
 use Rattle.crs_value.specs.SoundFrames.{IsMeridian}
 use Rattle.crs_value.specs.SoundSingle.{IsDynamicOf, IsGeodeticFrame}
-use Rattle.crs_value.specs.BadSystem.{geodetic_dimensions}
 use Rattle.crs_value.specs.SoundSystem.{IsAllowed, IsSystem}
 use Rattle.crs_value.specs.SoundUsages.{IsTail}
 use Rattle.crs_rules.specs.Rewritten.{dynamics, meridian}
@@ -25,6 +25,6 @@ invariant_of-value c =
       frame = subst IsGeodeticFrame (sym c.geodetic_frame.ensures) (geodetic-frame-sound M class.GeodeticFrame class.GeodeticEnsemble h v.frame k.frame);
       meridian = subst (λ x. IfSome x IsMeridian) (sym c.optional_meridian.ensures) (some-map IsMeridian (meridian M) v.meridian (meridian-sound M h) k.meridian);
       system = subst IsSystem (sym c.system.ensures) (system-sound M h v.system k.system);
-      dimension = subst (IsAllowed geodetic_dimensions) (sym c.system.ensures) k.dimension;
+      dimension = subst (IsAllowed (dimensions_of class.GeodeticCrs)) (sym c.system.ensures) k.dimension;
       tail = subst IsTail (sym c.tail.ensures) (tail-sound M h v.tail k.tail);
     }

@@ -1,7 +1,8 @@
 use Rattle.std.proofs.Common.{sym, subst}
+use Rattle.crs_shape.specs.declared.class.Class.TheVariants as class
+use Rattle.crs_shape.specs.Dimensions.{dimensions_of}
 use Rattle.crs_value.specs.SoundConversion.{IsConversion}
 use Rattle.crs_value.specs.SoundSingle.{IsBase}
-use Rattle.crs_value.specs.BadSystem.{projected_dimensions}
 use Rattle.crs_value.specs.SoundSystem.{IsAllowed, IsSystem}
 use Rattle.crs_value.specs.SoundUsages.{IsTail}
 use Rattle.crs_rules.specs.Rules.{Meaning, meaning}
@@ -21,6 +22,6 @@ invariant_of-value c =
       base = subst IsBase (sym c.base.ensures) (base-sound M _ h v.base k.base);
       conversion = subst IsConversion (sym c.conversion.ensures) (conversion-sound M h v.conversion k.conversion);
       system = subst IsSystem (sym c.system.ensures) (system-sound M h v.system k.system);
-      dimension = subst (IsAllowed projected_dimensions) (sym c.system.ensures) k.dimension;
+      dimension = subst (IsAllowed (dimensions_of class.ProjectedCrs)) (sym c.system.ensures) k.dimension;
       tail = subst IsTail (sym c.tail.ensures) (tail-sound M h v.tail k.tail);
     }

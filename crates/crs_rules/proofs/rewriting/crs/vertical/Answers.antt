@@ -1,8 +1,8 @@
 use Rattle.std.proofs.Common.{[], sym, subst}
 use Rattle.crs_shape.specs.declared.class.Class.TheVariants as class
+use Rattle.crs_shape.specs.Dimensions.{dimensions_of}
 use Rattle.crs_value.specs.Sound.{Each, IsNamed}
 use Rattle.crs_value.specs.SoundSingle.{IsDynamicOf, IsVerticalFrame}
-use Rattle.crs_value.specs.BadSystem.{vertical_dimensions}
 use Rattle.crs_value.specs.SoundSystem.{IsAllowed, IsSystem}
 use Rattle.crs_value.specs.SoundUsages.{IsTail}
 use Rattle.crs_rules.specs.Rewritten.{dynamics, named}
@@ -24,7 +24,7 @@ invariant_of-value c =
           (subst (IsDynamicOf (dynamics M v.dynamic)) (sym c.vertical_frame.ensures) (dynamics-sound M class.VerticalFrame class.VerticalEnsemble h v.dynamic v.frame k.dynamic));
       frame = subst IsVerticalFrame (sym c.vertical_frame.ensures) (vertical-frame-sound M class.VerticalFrame class.VerticalEnsemble h v.frame k.frame);
       system = subst IsSystem (sym c.system.ensures) (system-sound M h v.system k.system);
-      dimension = subst (IsAllowed vertical_dimensions) (sym c.system.ensures) k.dimension;
+      dimension = subst (IsAllowed (dimensions_of class.VerticalCrs)) (sym c.system.ensures) k.dimension;
       geoid_models = subst (Each IsNamed) (sym c.geoid_models.ensures)
           (choice (Each IsNamed) M.uncounted.geoid_models [] _ tt (each-map IsNamed (named M class.GeoidModel) v.geoid_models (named-sound M class.GeoidModel h) k.geoid_models));
       tail = subst IsTail (sym c.tail.ensures) (tail-sound M h v.tail k.tail);

@@ -2,8 +2,9 @@ use Rattle.std.proofs.Common.{ℕ, ◌⊎◌, subst}
 use Rattle.crs_text.specs.Items.{arguments}
 use Rattle.crs_text.specs.Refusal.{RefusedAt}
 use Rattle.crs_shape.specs.declared.class.Class.TheVariants as class
+use Rattle.crs_shape.specs.Dimensions.{dimensions_of}
 use Rattle.crs_value.specs.AxisCount.{AxisCount}
-use Rattle.crs_value.specs.BadSystem.{BadSystem, dimensions_of}
+use Rattle.crs_value.specs.BadSystem.{BadSystem}
 use Rattle.crs_value.specs.Break.{AnyOf, IsLeast}
 use Rattle.crs_value.specs.Checks.{OfHead, once}
 use Rattle.crs_value.specs.RepeatedPart.{RepeatsAny}

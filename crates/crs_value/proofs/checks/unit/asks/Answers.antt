@@ -1,5 +1,5 @@
 use Rattle.std.proofs.Common.{subst}
-use Rattle.crs_value.specs.declared.values.unit_kind.UnitKind.{UnitKind}
+use Rattle.crs_shape.specs.declared.unit_kind.UnitKind.{UnitKind}
 use Rattle.crs_value.specs.BadUnit.{Asks}
 use Rattle.crs_value.specs.Reading.{item_at}
 use Rattle.crs_value.proofs.UnitLemmas.{asks-one}

@@ -2,29 +2,29 @@
 -- units, and how bytes spell a word in either case.
 use Rattle.std.specs.Prelude.{◌≡◌, ℕ, List, codes}
 use Rattle.std.specs.Str.{str_to_ascii_lowercase}
-use Rattle.crs_value.specs.declared.values.direction.Direction.{Direction}
-use Rattle.crs_value.specs.declared.values.direction.Direction.TheVariants.{North, NorthNorthEast}
-use Rattle.crs_value.specs.declared.values.direction.Direction.TheVariants.{NorthEast}
-use Rattle.crs_value.specs.declared.values.direction.Direction.TheVariants.{EastNorthEast}
-use Rattle.crs_value.specs.declared.values.direction.Direction.TheVariants.{East, EastSouthEast}
-use Rattle.crs_value.specs.declared.values.direction.Direction.TheVariants.{SouthEast}
-use Rattle.crs_value.specs.declared.values.direction.Direction.TheVariants.{SouthSouthEast}
-use Rattle.crs_value.specs.declared.values.direction.Direction.TheVariants.{South, SouthSouthWest}
-use Rattle.crs_value.specs.declared.values.direction.Direction.TheVariants.{SouthWest}
-use Rattle.crs_value.specs.declared.values.direction.Direction.TheVariants.{WestSouthWest}
-use Rattle.crs_value.specs.declared.values.direction.Direction.TheVariants.{West, WestNorthWest}
-use Rattle.crs_value.specs.declared.values.direction.Direction.TheVariants.{NorthWest}
-use Rattle.crs_value.specs.declared.values.direction.Direction.TheVariants.{NorthNorthWest}
-use Rattle.crs_value.specs.declared.values.direction.Direction.TheVariants.{GeocentricX}
-use Rattle.crs_value.specs.declared.values.direction.Direction.TheVariants.{GeocentricY}
-use Rattle.crs_value.specs.declared.values.direction.Direction.TheVariants.{GeocentricZ, Up, Down}
-use Rattle.crs_value.specs.declared.values.direction.Direction.TheVariants.{Unspecified}
-use Rattle.crs_value.specs.declared.values.system_type.SystemType.{SystemType}
-use Rattle.crs_value.specs.declared.values.system_type.SystemType.TheVariants.{Cartesian}
-use Rattle.crs_value.specs.declared.values.system_type.SystemType.TheVariants.{Ellipsoidal}
-use Rattle.crs_value.specs.declared.values.system_type.SystemType.TheVariants.{Spherical, Vertical}
-use Rattle.crs_value.specs.declared.values.unit_kind.UnitKind.{UnitKind}
-use Rattle.crs_value.specs.declared.values.unit_kind.UnitKind.TheVariants as kinds
+use Rattle.crs_shape.specs.declared.direction.Direction.{Direction}
+use Rattle.crs_shape.specs.declared.direction.Direction.TheVariants.{North, NorthNorthEast}
+use Rattle.crs_shape.specs.declared.direction.Direction.TheVariants.{NorthEast}
+use Rattle.crs_shape.specs.declared.direction.Direction.TheVariants.{EastNorthEast}
+use Rattle.crs_shape.specs.declared.direction.Direction.TheVariants.{East, EastSouthEast}
+use Rattle.crs_shape.specs.declared.direction.Direction.TheVariants.{SouthEast}
+use Rattle.crs_shape.specs.declared.direction.Direction.TheVariants.{SouthSouthEast}
+use Rattle.crs_shape.specs.declared.direction.Direction.TheVariants.{South, SouthSouthWest}
+use Rattle.crs_shape.specs.declared.direction.Direction.TheVariants.{SouthWest}
+use Rattle.crs_shape.specs.declared.direction.Direction.TheVariants.{WestSouthWest}
+use Rattle.crs_shape.specs.declared.direction.Direction.TheVariants.{West, WestNorthWest}
+use Rattle.crs_shape.specs.declared.direction.Direction.TheVariants.{NorthWest}
+use Rattle.crs_shape.specs.declared.direction.Direction.TheVariants.{NorthNorthWest}
+use Rattle.crs_shape.specs.declared.direction.Direction.TheVariants.{GeocentricX}
+use Rattle.crs_shape.specs.declared.direction.Direction.TheVariants.{GeocentricY}
+use Rattle.crs_shape.specs.declared.direction.Direction.TheVariants.{GeocentricZ, Up, Down}
+use Rattle.crs_shape.specs.declared.direction.Direction.TheVariants.{Unspecified}
+use Rattle.crs_shape.specs.declared.system_type.SystemType.{SystemType}
+use Rattle.crs_shape.specs.declared.system_type.SystemType.TheVariants.{Cartesian}
+use Rattle.crs_shape.specs.declared.system_type.SystemType.TheVariants.{Ellipsoidal}
+use Rattle.crs_shape.specs.declared.system_type.SystemType.TheVariants.{Spherical, Vertical}
+use Rattle.crs_shape.specs.declared.unit_kind.UnitKind.{UnitKind}
+use Rattle.crs_shape.specs.declared.unit_kind.UnitKind.TheVariants as kinds
 
 -- the bytes are this word, letter case aside
 abbrev pub SpellsWord : List ℕ → List ℕ → Type 0

@@ -1,8 +1,8 @@
 //! The kinds of unit.
 ghost use Rattle.std.specs.Prelude.{◌≡◌};
-ghost use Rattle.crs_value.specs.Reading.{IsReading};
-ghost use Rattle.crs_value.specs.Sound.{kind_as};
-ghost use Rattle.crs_value.specs.Words.{SpellsWord, unit_word};
+ghost use Rattle.crs_shape.specs.Choice.{IsReading};
+ghost use Rattle.crs_shape.specs.UnitKinds.{kind_as};
+ghost use Rattle.crs_shape.specs.Words.{SpellsWord, unit_word};
 
 /// The kind of a unit, as its keyword says it. ISO 19162:2019, "Units".
 #[derive(Clone, Copy, Debug, PartialEq, Eq)]
@@ -35,8 +35,8 @@ impl UnitKind {
         }
     }
 
-    // The first keyword of a unit of this kind.
-    pub(crate) fn keyword(&self) -> &'static str
+    /// The first keyword of a unit of this kind. ISO 19162:2019, "Units".
+    pub fn keyword(&self) -> &'static str
         ensures { result.now ≡ unit_word self.now }
     {
         match self {
@@ -47,8 +47,8 @@ impl UnitKind {
         }
     }
 
-    // The kind that a keyword says, letter case aside.
-    pub(crate) fn read(word: &[u8]) -> Option<UnitKind>
+    /// The kind that a keyword says, letter case aside; None where it says none. ISO 19162:2019, "Units".
+    pub fn read(word: &[u8]) -> Option<UnitKind>
         ensures { IsReading (λ value. SpellsWord word.now (unit_word value)) result }
     {
         for kind in UNIT_KINDS {

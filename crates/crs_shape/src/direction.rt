@@ -1,6 +1,6 @@
 ghost use Rattle.std.specs.Prelude.{◌≡◌, IfSome};
-ghost use Rattle.crs_value.specs.Reading.{IsReading};
-ghost use Rattle.crs_value.specs.Words.{direction_word, SpellsWord};
+ghost use Rattle.crs_shape.specs.Choice.{IsReading};
+ghost use Rattle.crs_shape.specs.Words.{direction_word, SpellsWord};
 
 /// The direction of an axis. ISO 19162:2019, "Axis direction".
 #[derive(Clone, Copy, Debug, PartialEq, Eq)]
@@ -146,8 +146,8 @@ impl Direction {
         }
     }
 
-    // the direction that a word spells, letter case aside
-    pub(crate) fn read(word: &[u8]) -> Option<Direction>
+    /// The direction that a word spells, letter case aside; None where it spells none. ISO 19162:2019, "Axis direction".
+    pub fn read(word: &[u8]) -> Option<Direction>
         ensures { IsReading (λ value. SpellsWord word.now (direction_word value)) result }
     {
         match common(word) {

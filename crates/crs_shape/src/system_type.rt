@@ -1,10 +1,13 @@
-ghost use Rattle.std.specs.Prelude.{◌≡◌};
-ghost use Rattle.crs_value.specs.BadUnit.{asked_kind};
-ghost use Rattle.crs_value.specs.Reading.{IsReading};
-ghost use Rattle.crs_value.specs.Words.{system_word, SpellsWord};
+ghost use Rattle.std.specs.Prelude.{◌≡◌, ◌↔◌, IsTrue, [], ◌∷◌};
+ghost use Rattle.crs_shape.specs.Choice.{IsReading};
+ghost use Rattle.crs_shape.specs.Dimensions.{IsOneOf, dimensions_of};
+ghost use Rattle.crs_shape.specs.UnitKinds.{asked_kind};
+ghost use Rattle.crs_shape.specs.Words.{system_word, SpellsWord};
 
-use crate::values::direction::Direction;
-use crate::values::unit_kind::UnitKind;
+use crate::class::Class;
+use crate::direction::Direction;
+use crate::unit_kind::UnitKind;
+use crs_decimal::Decimal;
 
 /// The type of a coordinate system. ISO 19162:2019, "Coordinate system".
 #[derive(Clone, Copy, Debug, PartialEq, Eq)]
@@ -25,6 +28,12 @@ const SYSTEM_TYPES: [SystemType; 4] = [
     SystemType::Spherical,
     SystemType::Vertical,
 ];
+
+fn is_two_or_three(value: &Decimal) -> bool
+    ensures { IsTrue result ↔ IsOneOf value.now (2 ∷ 3 ∷ []) }
+{
+    value.is_whole(2) || value.is_whole(3)
+}
 
 impl SystemType {
     /// The word that a text has for the type, as it is written.
@@ -52,8 +61,24 @@ impl SystemType {
         }
     }
 
-    // the type that a word spells, letter case aside
-    pub(crate) fn read(word: &[u8]) -> Option<SystemType>
+    /// Whether a CRS of this class may have a coordinate system of this type and dimension. ISO 19162:2019, "Coordinate
+    /// system".
+    pub fn is_allowed(self, class: Class, dimension: &Decimal) -> bool
+        ensures { IsTrue result ↔ IsOneOf dimension.now (dimensions_of class self) }
+    {
+        match (class, self) {
+            (Class::GeodeticCrs, SystemType::Cartesian) => dimension.is_whole(3),
+            (Class::GeodeticCrs, SystemType::Ellipsoidal) => is_two_or_three(dimension),
+            (Class::GeodeticCrs, SystemType::Spherical) => is_two_or_three(dimension),
+            (Class::GeographicCrs, SystemType::Ellipsoidal) => is_two_or_three(dimension),
+            (Class::ProjectedCrs, SystemType::Cartesian) => is_two_or_three(dimension),
+            (Class::VerticalCrs, SystemType::Vertical) => dimension.is_whole(1),
+            _ => false,
+        }
+    }
+
+    /// The type that a word spells, letter case aside; None where it spells none. ISO 19162:2019, "Coordinate system".
+    pub fn read(word: &[u8]) -> Option<SystemType>
         ensures { IsReading (λ value. SpellsWord word.now (system_word value)) result }
     {
         for system_type in SYSTEM_TYPES {

@@ -1,13 +1,13 @@
 -- No two directions and no two types have one word, letter case aside.
 use Rattle.std.proofs.Common.{◌≡◌, ℕ, List, [], ◌∷◌, Option, Some, find, get_or, ◌<◌, lit<, refl, sym, ap, ◌∙◌}
 use Rattle.std.specs.Str.{bytes_eq, str_to_ascii_lowercase}
-use Rattle.crs_value.specs.Words.{SpellsWord, direction_word, system_word, unit_word}
-use Rattle.crs_value.specs.declared.values.unit_kind.UnitKind.{UnitKind}
-use Rattle.crs_value.specs.declared.values.unit_kind.UnitKind.TheVariants as kinds
-use Rattle.crs_value.specs.declared.values.direction.Direction.{Direction}
-use Rattle.crs_value.specs.declared.values.direction.Direction.TheVariants.{North, NorthNorthEast, NorthEast, EastNorthEast, East, EastSouthEast, SouthEast, SouthSouthEast, South, SouthSouthWest, SouthWest, WestSouthWest, West, WestNorthWest, NorthWest, NorthNorthWest, GeocentricX, GeocentricY, GeocentricZ, Up, Down, Unspecified}
-use Rattle.crs_value.specs.declared.values.system_type.SystemType.{SystemType}
-use Rattle.crs_value.specs.declared.values.system_type.SystemType.TheVariants.{Cartesian, Ellipsoidal, Spherical, Vertical}
+use Rattle.crs_shape.specs.Words.{SpellsWord, direction_word, system_word, unit_word}
+use Rattle.crs_shape.specs.declared.unit_kind.UnitKind.{UnitKind}
+use Rattle.crs_shape.specs.declared.unit_kind.UnitKind.TheVariants as kinds
+use Rattle.crs_shape.specs.declared.direction.Direction.{Direction}
+use Rattle.crs_shape.specs.declared.direction.Direction.TheVariants.{North, NorthNorthEast, NorthEast, EastNorthEast, East, EastSouthEast, SouthEast, SouthSouthEast, South, SouthSouthWest, SouthWest, WestSouthWest, West, WestNorthWest, NorthWest, NorthNorthWest, GeocentricX, GeocentricY, GeocentricZ, Up, Down, Unspecified}
+use Rattle.crs_shape.specs.declared.system_type.SystemType.{SystemType}
+use Rattle.crs_shape.specs.declared.system_type.SystemType.TheVariants.{Cartesian, Ellipsoidal, Spherical, Vertical}
 
 abbrev pub directions : List Direction
 directions = North ∷ East ∷ Up ∷ GeocentricX ∷ GeocentricY ∷ GeocentricZ ∷ South ∷ West ∷ Down ∷ NorthNorthEast ∷ NorthEast ∷ EastNorthEast ∷ EastSouthEast ∷ SouthEast ∷ SouthSouthEast ∷ SouthSouthWest ∷ SouthWest ∷ WestSouthWest ∷ WestNorthWest ∷ NorthWest ∷ NorthNorthWest ∷ Unspecified ∷ []

@@ -1,8 +1,8 @@
 use Rattle.std.proofs.Common.{◌≡◌, ℕ, ◌<◌, get_or}
 use Rattle.std.specs.Str.{str_to_ascii_lowercase}
-use Rattle.crs_value.specs.Words.{unit_word}
-use Rattle.crs_value.specs.declared.values.unit_kind.UnitKind.{UnitKind}
-use Rattle.crs_value.proofs.values.unit_kind.UnitKind.read.Given as goal
+use Rattle.crs_shape.specs.Words.{unit_word}
+use Rattle.crs_shape.specs.declared.unit_kind.UnitKind.{UnitKind}
+use Rattle.crs_shape.proofs.unit_kind.UnitKind.read.Given as goal
 
 abbrev pub invariant-loop-kind : goal.invariant-loop-kind
 invariant-loop-kind l =
