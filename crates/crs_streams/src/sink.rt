@@ -83,6 +83,19 @@ impl<W: Write> Sink<W> {
         }
     }
 
+    /// The writer, with what was written to it.
+    pub fn into_inner(self) -> W
+        ensures { W.contents result ≡ self.contents }
+    {
+        let Sink {
+            writer,
+            used: _,
+            past_failure: _,
+            failed: _,
+        } = self;
+        writer
+    }
+
     /// Whether a write answered a failure, or took no byte.
     pub fn failed(&self) -> bool
         ensures { result ≡ self.now.failed }
