@@ -25,7 +25,11 @@ shown_char c =
     else if steers c then codes "\\u" ++ hex_byte (c / 256) ++ hex_byte (c % 256)
     else encode_utf8 c
 
+-- a text as a line shows it
+abbrev pub escaped : List ℕ → List ℕ
+escaped bytes = flat_map shown_char (lossy_chars bytes)
+
 -- the value of a part as a line shows it: `none` where there is nothing
 abbrev pub shown : List ℕ → List ℕ
 shown [] = codes "none"
-shown (b ∷ bytes) = flat_map shown_char (lossy_chars (b ∷ bytes))
+shown (b ∷ bytes) = escaped (b ∷ bytes)

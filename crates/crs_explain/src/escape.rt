@@ -1,16 +1,17 @@
 //! Texts as one line can show them.
 ghost use Rattle.std.specs.Prelude.{◌≡◌, ◌++◌, ◌≤◌, ◌<◌, ◌/◌, ◌%◌, OnOk, codes, false};
-ghost use Rattle.std.specs.List.{flat_map};
 ghost use Rattle.bstr.specs.Escape.{escape_byte, hex_digit};
-ghost use Rattle.bstr.specs.Utf8.{lossy_chars};
-ghost use Rattle.crs_explain.specs.Escaped.{hex_byte, shown, shown_char, steers};
+ghost use Rattle.crs_explain.specs.Escaped.{escaped, hex_byte, shown, shown_char, steers};
 
 use bstr::{ByteSlice, ByteVec};
 use std::alloc::AllocError;
 
-// Appends a text in which backslashes are escaped, and characters that steer a terminal or the order of a line.
-fn append_escaped(bytes: &[u8], out: &mut Vec<u8>) -> Result<(), AllocError>
-    ensures { OnOk result (out.new.items ≡ out.old.items ++ flat_map shown_char (lossy_chars bytes.now)) }
+/// Appends a text as a line shows it: backslashes are escaped, and characters that steer a terminal, end a line or
+/// change the direction of a text, as `\\`, `\n`, `\x1B` and `\u202E`; what is no UTF-8 is U+FFFD. Profile.
+///
+/// `AllocError`: there is no memory for it.
+pub fn append_escaped(bytes: &[u8], out: &mut Vec<u8>) -> Result<(), AllocError>
+    ensures { OnOk result (out.new.items ≡ out.old.items ++ escaped bytes.now) }
 {
     for c in bytes.chars() {
         append_char(c, out)?;

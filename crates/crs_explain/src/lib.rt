@@ -15,4 +15,5 @@ mod refusal;
 mod sentences;
 
 pub use differences::differences_text;
+pub use escape::append_escaped;
 pub use refusal::refusal_text;
