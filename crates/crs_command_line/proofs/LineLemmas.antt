@@ -1,5 +1,5 @@
 -- Which lines are taken, word by word.
-use Rattle.std.proofs.Common.{◌≡◌, ◌≢◌, ◌<◌, ap₂, nat_lt, subst, ℕ, List, [], ◌∷◌, ◌++◌, length, Option, Some, None, Bool, true, false, not, ◌&&◌, ◌||◌, cond, refl, codes, zero, suc, drop, ap, ◌∙◌, sym, true≢false, option_and_then}
+use Rattle.std.proofs.Common.{◌≡◌, ◌≢◌, ◌<◌, ap₂, nat_lt, subst, ℕ, List, [], ◌∷◌, ◌++◌, length, Option, Some, None, Bool, true, false, not, ◌&&◌, ◌||◌, arith, cond, refl, codes, zero, suc, drop, ap, ◌∙◌, append-nil, append_assoc, is_some, sym, true≢false, option_and_then}
 use Rattle.std.specs.Prelude.{◌==◌, encode_utf8, slice_get}
 use Rattle.std.specs.Option.{option_map_or}
 use Rattle.std.specs.Str.{bytes_eq, chars, chars_after, continuation_len, lead_bits}
@@ -8,14 +8,18 @@ use Rattle.clap.specs.Lexer.{long_of, long_of_rest, name_and_value, short_of, sh
 use Rattle.clap.specs.Words.{Row, Rule, Shape, Text, subcommand_of, takes}
 use Rattle.std.specs.List.{fold, list_all}
 use Rattle.std.proofs.lemmas.Slice.Eq.{bytes_eq-Decides}
-use Rattle.clap.specs.Simple.{filled, filled_from, help_rule, new_shape, with_index}
-use Rattle.clap.specs.Walk.{Held, Outcome, Step, Waiting, Walk, done, waits, plain, refused, idle, option, next, trailing, subcommand, value, after_flag, after_step, bundle_met, bundle_step, finished, long_met, long_or_other, nothing_held, plain_word, rows_after, settled, short_or_plain, subcommand_met, subcommand_or_other, used, walk_from, walked, word_met}
-use Rattle.clap.specs.Takes.{bundle_passes, bundle_step_passes, default_passes, flag_word_passes, flags_pass, is_given, is_valid, level_passes, long_passes, other_passes, settle_passes, short_passes, step_passes, turn_passes, walk_passes, word_passes}
+use Rattle.clap.specs.Simple.{entered, filled, filled_from, help_rule, names_of, new_shape, with_index}
+use Rattle.clap.specs.Words.{built}
+use Rattle.clap.specs.Walk.{Held, Names, Outcome, Step, Waiting, Walk, done, waits, plain, refused, idle, option, positional, next, trailing, subcommand, value, reading_by, after_flag, after_step, bundle_met, bundle_step, finished, long_met, long_or_other, nothing_held, plain_word, rows_after, settled, short_or_plain, subcommand_met, subcommand_or_other, used, walk_from, walked, word_met}
+use Rattle.clap.specs.Takes.{bundle_passes, bundle_step_passes, default_passes, entered_passes, flag_word_passes, flags_pass, is_given, is_valid, level_passes, long_passes, other_passes, settle_passes, short_passes, step_passes, turn_passes, walk_passes, word_passes}
+use Rattle.clap.specs.declared.parser.matches.ValueSource.TheVariants.{CommandLine}
 use Rattle.clap.proofs.OnLiterals.{clap_on_literals}
 use Rattle.clap.proofs.WalkLemmas.{both}
-use Rattle.crs_command_line.specs.CommandLine.{asked, canon_of, desk, explain_of, is_plain_word, level_of, level_option, lines_flag, request_of, same_of, spare_operand}
+use Rattle.crs_command_line.specs.CommandLine.{asked, canon_of, check_of, desk, explain_of, file_operands, files_flag, group_of, is_plain_word, level_option, lines_flag, over, request_of, same_of, spare_operand}
 use Rattle.crs_command_line.specs.declared.requests.Request.{Request}
-use Rattle.crs_command_line.specs.declared.requests.Request.TheVariants.{Canon, Check, Same, Group, CanonLines, CheckLines, Explain, ExplainText, ExplainPair}
+use Rattle.crs_command_line.specs.declared.requests.Request.TheVariants.{Canon, Check, Same, Group, CanonLines, CheckLines, Explain, ExplainText, ExplainPair, Files}
+use Rattle.crs_command_line.specs.declared.requests.Task.{Task}
+use Rattle.crs_command_line.specs.declared.requests.Task.TheVariants as task
 use Rattle.crs_command_line.proofs.OperandLemmas.{built_same, second_given}
 
 -- ---- after `--`
@@ -36,52 +40,65 @@ no_text program = refl
 abbrev rules : List Rule
 rules = built_same.rules
 
--- `--level`, and the flag that asks for help, as `clap` builds them
+-- `--level`, `--files` and the flag that asks for help, as `clap` builds them
 abbrev level : Rule
 level = with_index 3 (filled level_option)
+
+abbrev files : Rule
+files = with_index 3 (filled files_flag)
 
 abbrev help : Rule
 help = with_index 3 (filled help_rule)
 
--- what a walk of `same` met before its first text: nothing; or `--level`, alone or with a level
-abbrev Met : Type 0
-Met = Option (Option Text)
+-- what a walk of `same` met before its first operand: nothing; `--level`, alone or with a level; or `--files`
+data Met : Type 0 where
+  no_flag_met : Met
+  level_wanted : Met
+  level_met : Text → Met
+  files_met : Met
 
 abbrev held_at : Met → Held
-held_at None = nothing_held
-held_at (Some None) = record { rows = []; pending = Some (codes "level", []); skip = 0 }
-held_at (Some (Some v)) = record { rows = used level (v ∷ []) []; pending = None; skip = 0 }
+held_at no_flag_met = nothing_held
+held_at level_wanted = record { rows = []; pending = Some (codes "level", []); skip = 0 }
+held_at (level_met v) = record { rows = used level (v ∷ []) []; pending = None; skip = 0 }
+held_at files_met = record { rows = used files [] []; pending = None; skip = 0 }
 
 abbrev waiting_at : Met → Waiting
-waiting_at None = idle
-waiting_at (Some None) = option (codes "level")
-waiting_at (Some (Some v)) = idle
+waiting_at no_flag_met = idle
+waiting_at level_wanted = option (codes "level")
+waiting_at (level_met v) = idle
+waiting_at files_met = idle
 
 abbrev walk_at : Met → Walk
 walk_at at = record { held = held_at at; waiting = waiting_at at; position = 1; is_trailing = false; stopped = None }
 
--- no second text follows the word
+-- no second operand follows the word
 abbrev Lacks : Met → Text → Held × Step → Type 0
 Lacks at word met = is_given (codes "second") (finished rules (after_step rules word (walk_at at) met.0 met.1).held) ≡ false
 
 stays_lacks : (at : Met) (word : Text) (step : Step) → Lacks at word (held_at at, step)
-stays_lacks None word (next waiting) = refl
-stays_lacks None word (trailing position) = refl
-stays_lacks None word (subcommand name) = refl
-stays_lacks None word value = refl
-stays_lacks (Some None) word (next waiting) = refl
-stays_lacks (Some None) word (trailing position) = refl
-stays_lacks (Some None) word (subcommand name) = refl
-stays_lacks (Some None) word value = refl
-stays_lacks (Some (Some v)) word (next waiting) = refl
-stays_lacks (Some (Some v)) word (trailing position) = refl
-stays_lacks (Some (Some v)) word (subcommand name) = refl
-stays_lacks (Some (Some v)) word value = refl
+stays_lacks no_flag_met word (next waiting) = refl
+stays_lacks no_flag_met word (trailing position) = refl
+stays_lacks no_flag_met word (subcommand name) = refl
+stays_lacks no_flag_met word value = refl
+stays_lacks level_wanted word (next waiting) = refl
+stays_lacks level_wanted word (trailing position) = refl
+stays_lacks level_wanted word (subcommand name) = refl
+stays_lacks level_wanted word value = refl
+stays_lacks (level_met v) word (next waiting) = refl
+stays_lacks (level_met v) word (trailing position) = refl
+stays_lacks (level_met v) word (subcommand name) = refl
+stays_lacks (level_met v) word value = refl
+stays_lacks files_met word (next waiting) = refl
+stays_lacks files_met word (trailing position) = refl
+stays_lacks files_met word (subcommand name) = refl
+stays_lacks files_met word value = refl
 
 plain_lacks : (at : Met) (word : Text) → Lacks at word (plain_word rules (waiting_at at) word (held_at at))
-plain_lacks None word = refl
-plain_lacks (Some None) word = refl
-plain_lacks (Some (Some v)) word = refl
+plain_lacks no_flag_met word = refl
+plain_lacks level_wanted word = refl
+plain_lacks (level_met v) word = refl
+plain_lacks files_met word = refl
 
 flag_lacks : (at : Met) (word : Text) (outcome : Outcome) → Lacks at word (after_flag rules (waiting_at at) word (held_at at) outcome)
 flag_lacks at word done = stays_lacks at word (next idle)
@@ -89,36 +106,54 @@ flag_lacks at word (waits id) = stays_lacks at word (next (option id))
 flag_lacks at word plain = plain_lacks at word
 flag_lacks at word refused = plain_lacks at word
 
--- the flags of `same` are a level and the call for help
-abbrev flag_named : Bool → Bool → Option Rule
-flag_named is_level is_help = cond is_level (Some level) (cond is_help (Some help) None)
+-- the flags of `same` are a level, `--files` and the call for help
+abbrev flag_named : Bool → Bool → Bool → Option Rule
+flag_named is_level are_files is_help = cond is_level (Some level) (cond are_files (Some files) (cond is_help (Some help) None))
 
-help_fails : (at : Met) (is_help : Bool) (v : Option Text) → long_passes rules false (flag_named false is_help) v (held_at at) ≡ true → ⊥
+help_fails : (at : Met) (is_help : Bool) (v : Option Text) → long_passes rules false (flag_named false false is_help) v (held_at at) ≡ true → ⊥
 help_fails at true (Some v) passes = cc
-help_fails None true None passes = cc
-help_fails (Some None) true None passes = cc
-help_fails (Some (Some u)) true None passes = cc
+help_fails no_flag_met true None passes = cc
+help_fails level_wanted true None passes = cc
+help_fails (level_met u) true None passes = cc
+help_fails files_met true None passes = cc
 help_fails at false v passes = cc
 
 level_lacks : (at : Met) (word : Text) (v : Option Text) → long_passes rules false (Some level) v (held_at at) ≡ true
     → let met = long_met rules (Some level) v (held_at at) in Lacks at word (after_flag rules (waiting_at at) word met.0 met.1)
-level_lacks None word (Some v) passes = refl
-level_lacks None word None passes = refl
-level_lacks (Some None) word (Some v) passes = cc
-level_lacks (Some None) word None passes = cc
-level_lacks (Some (Some u)) word (Some v) passes = cc
-level_lacks (Some (Some u)) word None passes = refl
+level_lacks no_flag_met word (Some v) passes = refl
+level_lacks no_flag_met word None passes = refl
+level_lacks level_wanted word (Some v) passes = cc
+level_lacks level_wanted word None passes = cc
+level_lacks (level_met u) word (Some v) passes = cc
+level_lacks (level_met u) word None passes = refl
+level_lacks files_met word (Some v) passes = refl
+level_lacks files_met word None passes = refl
 
-long_lacks : (at : Met) (word : Text) (is_level is_help : Bool) (v : Option Text) → long_passes rules false (flag_named is_level is_help) v (held_at at) ≡ true
-    → let met = long_met rules (flag_named is_level is_help) v (held_at at) in Lacks at word (after_flag rules (waiting_at at) word met.0 met.1)
-long_lacks at word true is_help v passes = level_lacks at word v passes
-long_lacks at word false is_help v passes = absurd (help_fails at is_help v passes)
+files_lacks : (at : Met) (word : Text) (v : Option Text) → long_passes rules false (Some files) v (held_at at) ≡ true
+    → let met = long_met rules (Some files) v (held_at at) in Lacks at word (after_flag rules (waiting_at at) word met.0 met.1)
+files_lacks no_flag_met word (Some v) passes = cc
+files_lacks no_flag_met word None passes = refl
+files_lacks level_wanted word (Some v) passes = cc
+files_lacks level_wanted word None passes = cc
+files_lacks (level_met u) word (Some v) passes = cc
+files_lacks (level_met u) word None passes = refl
+files_lacks files_met word (Some v) passes = cc
+files_lacks files_met word None passes = cc
+
+long_lacks : (at : Met) (word : Text) (is_level are_files is_help : Bool) (v : Option Text)
+    → long_passes rules false (flag_named is_level are_files is_help) v (held_at at) ≡ true
+    → let met = long_met rules (flag_named is_level are_files is_help) v (held_at at) in
+    Lacks at word (after_flag rules (waiting_at at) word met.0 met.1)
+long_lacks at word true are_files is_help v passes = level_lacks at word v passes
+long_lacks at word false true is_help v passes = files_lacks at word v passes
+long_lacks at word false false is_help v passes = absurd (help_fails at is_help v passes)
 
 short_help_fails : (at : Met) (is_help : Bool) (rest : Text) (test : Held → Bool)
     → short_passes rules false (cond is_help (Some help) None) rest (held_at at) test ≡ true → ⊥
-short_help_fails None true rest test passes = cc
-short_help_fails (Some None) true rest test passes = cc
-short_help_fails (Some (Some v)) true rest test passes = cc
+short_help_fails no_flag_met true rest test passes = cc
+short_help_fails level_wanted true rest test passes = cc
+short_help_fails (level_met v) true rest test passes = cc
+short_help_fails files_met true rest test passes = cc
 short_help_fails at false rest test passes = cc
 
 first_flag_stays : (at : Met) (x : Option ℕ) (flags : Text) (after : Text → ℕ → Outcome → Held → Held × Outcome) (test : Text → ℕ → Held → Bool)
@@ -143,13 +178,15 @@ bundle_lacks at word flags passes =
 short_lacks : (at : Met) (word : Text) (flags : Option Text) → option_map_or (λ f. bundle_passes rules false f (held_at at)) flags true ≡ true
     → Lacks at word (short_or_plain rules (waiting_at at) word flags (held_at at))
 short_lacks at word None passes = plain_lacks at word
-short_lacks None word (Some flags) passes = bundle_lacks None word flags passes
-short_lacks (Some None) word (Some flags) passes = bundle_lacks (Some None) word flags passes
-short_lacks (Some (Some v)) word (Some flags) passes = bundle_lacks (Some (Some v)) word flags passes
+short_lacks no_flag_met word (Some flags) passes = bundle_lacks no_flag_met word flags passes
+short_lacks level_wanted word (Some flags) passes = bundle_lacks level_wanted word flags passes
+short_lacks (level_met v) word (Some flags) passes = bundle_lacks (level_met v) word flags passes
+short_lacks files_met word (Some flags) passes = bundle_lacks files_met word flags passes
 
 named_lacks : (at : Met) (word : Text) (name : Option (Text × Option Text)) → flag_word_passes rules false name word (held_at at) ≡ true
     → Lacks at word (long_or_other rules (waiting_at at) word name (held_at at))
-named_lacks at word (Some p) passes = long_lacks at word (bytes_eq (codes "level") p.0 || false) (bytes_eq (codes "help") p.0 || false) p.1 passes
+named_lacks at word (Some p) passes = long_lacks at word (bytes_eq (codes "level") p.0 || false)
+    (bytes_eq (codes "files") p.0 || false) (bytes_eq (codes "help") p.0 || false) p.1 passes
 named_lacks at word None passes = short_lacks at word (short_of word) passes
 
 either_lacks : (at : Met) (word : Text) (b : Bool) (x : Held × Step) (q : Bool) → (q ≡ true → Lacks at word x) → (b || q) ≡ true
@@ -166,9 +203,10 @@ other_lacks at word passes =
 
 word_lacks : (at : Met) (word : Text) → word_passes built_same [] false (waiting_at at) word (held_at at) ≡ true
     → Lacks at word (word_met rules [] false (waiting_at at) 1 word (held_at at))
-word_lacks None word passes = other_lacks None word passes
-word_lacks (Some None) word passes = other_lacks (Some None) word passes
-word_lacks (Some (Some v)) word passes = other_lacks (Some (Some v)) word passes
+word_lacks no_flag_met word passes = other_lacks no_flag_met word passes
+word_lacks level_wanted word passes = other_lacks level_wanted word passes
+word_lacks (level_met v) word passes = other_lacks (level_met v) word passes
+word_lacks files_met word passes = other_lacks files_met word passes
 
 no_second : (at : Met) (word : Text) → turn_passes built_same [] (walk_at at) word ≡ true
     → is_given (codes "second") (finished rules (walked rules [] (walk_at at) word).held) ≡ false
@@ -179,9 +217,9 @@ no_second at word passes =
 one_word_fails : (word : Text) → level_passes built_same [] nothing_held (word ∷ []) false ≡ true → ⊥
 unfolding walk_passes
 one_word_fails word passes =
-    let turn = both (turn_passes built_same [] (walk_at None) word) true (both (walk_passes built_same [] (walk_at None) (word ∷ [])) _ passes).0 in
-    let given : is_given (codes "second") (finished rules (walked rules [] (walk_at None) word).held) ≡ true = second_given (word ∷ []) passes in
-    absurd (true≢false (sym given ∙ no_second None word turn.0))
+    let turn = both (turn_passes built_same [] (walk_at no_flag_met) word) true (both (walk_passes built_same [] (walk_at no_flag_met) (word ∷ [])) _ passes).0 in
+    let given : is_given (codes "second") (finished rules (walked rules [] (walk_at no_flag_met) word).held) ≡ true = second_given (word ∷ []) passes in
+    absurd (true≢false (sym given ∙ no_second no_flag_met word turn.0))
 
 false_unless : (b : Bool) → b ≢ true → b ≡ false
 false_unless true h = absurd (h refl)
@@ -211,24 +249,32 @@ unfolding flags_pass
 short_flag_fails byte rest low passes =
     let test = flags_pass rules false (length rest) in
     let left = drop (length (encode_utf8 byte)) (byte ∷ rest) in
-    short_help_fails None (104 == byte || false) left (test left 0)
+    short_help_fails no_flag_met (104 == byte || false) left (test left 0)
     (subst (λ x. bundle_step_passes rules false x (byte ∷ rest) 0 nothing_held test ≡ true) (first_char byte rest low) passes)
 
 -- where a walk is after a first word: before its first text
 abbrev Stands : Text → Held × Step → Type 0
-Stands word met = (at : Met) × (after_step rules word (walk_at None) met.0 met.1 ≡ walk_at at)
+Stands word met = (at : Met) × (after_step rules word (walk_at no_flag_met) met.0 met.1 ≡ walk_at at)
 
 level_stands : (word : Text) (v : Option Text)
     → let met = long_met rules (Some level) v nothing_held in Stands word (after_flag rules idle word met.0 met.1)
-level_stands word (Some v) = (Some (Some v), refl)
-level_stands word None = (Some None, refl)
+level_stands word (Some v) = (level_met v, refl)
+level_stands word None = (level_wanted, refl)
 
-long_stands : (word : Text) (is_level is_help : Bool) (v : Option Text) → long_passes rules false (flag_named is_level is_help) v nothing_held ≡ true
-    → let met = long_met rules (flag_named is_level is_help) v nothing_held in Stands word (after_flag rules idle word met.0 met.1)
-long_stands word true is_help v passes = level_stands word v
-long_stands word false is_help v passes = absurd (help_fails None is_help v passes)
+files_stands : (word : Text) (v : Option Text) → long_passes rules false (Some files) v nothing_held ≡ true
+    → let met = long_met rules (Some files) v nothing_held in Stands word (after_flag rules idle word met.0 met.1)
+files_stands word (Some v) passes = cc
+files_stands word None passes = (files_met, refl)
 
--- a word that begins as a flag, and passes, is `--level`
+long_stands : (word : Text) (is_level are_files is_help : Bool) (v : Option Text)
+    → long_passes rules false (flag_named is_level are_files is_help) v nothing_held ≡ true
+    → let met = long_met rules (flag_named is_level are_files is_help) v nothing_held in
+    Stands word (after_flag rules idle word met.0 met.1)
+long_stands word true are_files is_help v passes = level_stands word v
+long_stands word false true is_help v passes = files_stands word v passes
+long_stands word false false is_help v passes = absurd (help_fails no_flag_met is_help v passes)
+
+-- a word that begins as a flag, and passes, is `--level` or `--files`
 flag_stands : (byte : ℕ) (rest : Text) (is : Bool) → (byte == 45) ≡ is → byte < 128 → bytes_eq (45 ∷ byte ∷ rest) (45 ∷ 45 ∷ []) ≡ false
     → let name = option_and_then long_of_rest (cond is (Some rest) None) in
     flag_word_passes rules false name (45 ∷ byte ∷ rest) nothing_held ≡ true
@@ -238,7 +284,8 @@ flag_stands byte [] true hyphen low dashes passes =
     absurd (true≢false (sym ((bytes_eq-Decides (45 ∷ byte ∷ []) (45 ∷ 45 ∷ [])).1 two) ∙ dashes))
 flag_stands byte (b ∷ rest) true hyphen low dashes passes =
     let p = name_and_value (b ∷ rest) in
-    long_stands (45 ∷ byte ∷ b ∷ rest) (bytes_eq (codes "level") p.0 || false) (bytes_eq (codes "help") p.0 || false) p.1 passes
+    long_stands (45 ∷ byte ∷ b ∷ rest) (bytes_eq (codes "level") p.0 || false) (bytes_eq (codes "files") p.0 || false)
+    (bytes_eq (codes "help") p.0 || false) p.1 passes
 flag_stands byte rest false hyphen low dashes passes =
     absurd (short_flag_fails byte rest low
     (subst (λ is. option_map_or (λ f. bundle_passes rules false f nothing_held) (cond is None (Some (byte ∷ rest))) true ≡ true) hyphen passes))
@@ -258,13 +305,13 @@ unfolding walk_passes walked
 flag_level_fails byte rest second low flag passes =
     let word : Text = 45 ∷ byte ∷ rest in
     let dashes = false_unless (bytes_eq word (45 ∷ 45 ∷ [])) (λ same. flag ((bytes_eq-Decides word (45 ∷ 45 ∷ [])).0 same)) in
-    let turns = both (turn_passes built_same [] (walk_at None) word) _ (both (walk_passes built_same [] (walk_at None) (word ∷ second ∷ [])) _ passes).0 in
+    let turns = both (turn_passes built_same [] (walk_at no_flag_met) word) _ (both (walk_passes built_same [] (walk_at no_flag_met) (word ∷ second ∷ [])) _ passes).0 in
     let here = both (word_passes built_same [] false idle word nothing_held) _ turns.0 in
     let stands = first_stands byte rest low dashes here.0 in
-    let moved : walked rules [] (walk_at None) word ≡ walk_at stands.0 = stands.1 in
-    let then = both (turn_passes built_same [] (walked rules [] (walk_at None) word) second) true turns.1 in
+    let moved : walked rules [] (walk_at no_flag_met) word ≡ walk_at stands.0 = stands.1 in
+    let then = both (turn_passes built_same [] (walked rules [] (walk_at no_flag_met) word) second) true turns.1 in
     let none = no_second stands.0 second (subst (λ (w : Walk). turn_passes built_same [] w second ≡ true) moved then.0) in
-    let given : is_given (codes "second") (finished rules (walked rules [] (walked rules [] (walk_at None) word) second).held) ≡ true =
+    let given : is_given (codes "second") (finished rules (walked rules [] (walked rules [] (walk_at no_flag_met) word) second).held) ≡ true =
     second_given (word ∷ second ∷ []) passes in
     absurd (true≢false (sym given ∙ ap (λ (w : Walk). is_given (codes "second") (finished rules (walked rules [] w second).held)) moved ∙ none))
 
@@ -430,7 +477,7 @@ level_last program text first second usual one other =
     (goes_on built_same wants to to text []
     (plain_turn built_same (wants_level built_same held) (option (codes "level")) 3 text refl usual) (stays built_same to))))) refl
 
--- `canon`, `group` and `explain`, as `clap` builds them
+-- `canon`, `check`, `group` and `explain`, as `clap` builds them
 abbrev built_with : Text → List Rule → Shape
 built_with name own = record (new_shape name) {
   rules = filled_from 1 own;
@@ -439,17 +486,27 @@ built_with name own = record (new_shape name) {
 }
 
 abbrev built_canon : Shape
-built_canon = built_with (codes "canon") (level_option ∷ lines_flag ∷ help_rule ∷ [])
+built_canon = built_with (codes "canon") (level_option ∷ lines_flag ∷ file_operands ∷ help_rule ∷ [])
+
+abbrev built_check : Shape
+built_check = built_with (codes "check") (lines_flag ∷ file_operands ∷ help_rule ∷ [])
 
 abbrev built_group : Shape
-built_group = built_with (codes "group") (level_option ∷ help_rule ∷ [])
+built_group = built_with (codes "group") (level_option ∷ file_operands ∷ help_rule ∷ [])
 
 abbrev built_explain : Shape
 built_explain =
-    built_with (codes "explain") (spare_operand (codes "first") ∷ spare_operand (codes "second") ∷ level_option ∷ help_rule ∷ [])
+    built_with (codes "explain")
+    (spare_operand (codes "first") ∷ spare_operand (codes "second") ∷ level_option ∷ files_flag ∷ help_rule ∷ [])
 
 abbrev asked_canon : List Row → Option Request
 asked_canon rows = Some (canon_of rows)
+
+abbrev asked_check : List Row → Option Request
+asked_check rows = Some (check_of rows)
+
+abbrev asked_group : List Row → Option Request
+asked_group rows = Some (group_of rows)
 
 -- what `canon` holds after `--lines`
 abbrev with_lines : Held → Held
@@ -476,7 +533,7 @@ group_level program text usual =
     let s = built_group in
     let wants = before (wants_level s nothing_held) (option (codes "level")) 1 in
     let to = before (with_level s nothing_held text) idle 1 in
-    line_asked s (λ rows. Some (Group (level_of rows))) (program ∷ codes "group" ∷ codes "--level" ∷ text ∷ []) (codes "--level" ∷ text ∷ [])
+    line_asked s asked_group (program ∷ codes "group" ∷ codes "--level" ∷ text ∷ []) (codes "--level" ∷ text ∷ [])
     to refl refl
     (goes_on s (walk_from nothing_held) wants to (codes "--level") (text ∷ []) (refl, refl)
     (goes_on s wants to to text [] (plain_turn s (wants_level s nothing_held) (option (codes "level")) 1 text refl usual) (stays s to))) refl
@@ -641,3 +698,222 @@ level_twice program one other = refl
 pub level_alone : (program : Text) → takes desk (program ∷ codes "canon" ∷ codes "--level" ∷ []) ≡ false
 unfolding clap_on_literals
 level_alone program = refl
+
+-- ---- files
+
+-- what is held after some names of files, the last of them pending
+abbrev files_row : List Text → Row
+files_row names = record {
+  id = codes "file";
+  values = names;
+  count = None;
+  source = Some CommandLine;
+  reading = reading_by (with_index 1 (filled file_operands));
+}
+
+abbrev with_files : List Text → Text → Held
+with_files [] last = record { rows = []; pending = Some (codes "file", last ∷ []); skip = 0 }
+with_files (name ∷ names) last =
+    record { rows = files_row (name ∷ names) ∷ []; pending = Some (codes "file", last ∷ []); skip = 0 }
+
+abbrev at_files : List Text → Text → Walk
+at_files names last = before (with_files names last) positional 1
+
+-- a command whose one positional is `FILE`
+abbrev TakesFiles : Shape → Type 0
+TakesFiles s = (names : List Text) (last word : Text) → is_plain_word word ≡ true
+    → Goes s (at_files names last) word (at_files (names ++ last ∷ []) word)
+
+canon_takes : TakesFiles built_canon
+canon_takes [] last word usual = plain_turn built_canon (with_files [] last) positional 1 word refl usual
+canon_takes (name ∷ names) last word usual = plain_turn built_canon (with_files (name ∷ names) last) positional 1 word refl usual
+
+check_takes : TakesFiles built_check
+check_takes [] last word usual = plain_turn built_check (with_files [] last) positional 1 word refl usual
+check_takes (name ∷ names) last word usual = plain_turn built_check (with_files (name ∷ names) last) positional 1 word refl usual
+
+group_takes : TakesFiles built_group
+group_takes [] last word usual = plain_turn built_group (with_files [] last) positional 1 word refl usual
+group_takes (name ∷ names) last word usual = plain_turn built_group (with_files (name ∷ names) last) positional 1 word refl usual
+
+-- names are taken to the last
+files_run : (s : Shape) → TakesFiles s → (names : List Text) (last : Text) (words : List Text) → list_all is_plain_word words ≡ true
+    → (past : List Text) × (end : Text) × (names ++ last ∷ words ≡ past ++ end ∷ []) × Runs s (at_files names last) words (at_files past end)
+files_run s takes_files names last [] usual = (names, last, refl, stays s (at_files names last))
+files_run s takes_files names last (word ∷ words) usual =
+    let each = both (is_plain_word word) _ usual in
+    let rest = files_run s takes_files (names ++ last ∷ []) word words each.1 in (
+      rest.0,
+      rest.1,
+      sym (append_assoc names (last ∷ []) (word ∷ words)) ∙ rest.2,
+      goes_on s (at_files names last) (at_files (names ++ last ∷ []) word) (at_files rest.0 rest.1) word words
+          (takes_files names last word each.0) rest.3,
+    )
+
+some-words : (n : ℕ) → (suc n == 0) ≡ false
+some-words n = false_unless (suc n == 0) (λ none. let same = eqb-true (suc n) 0 none in absurd (omega arith))
+
+-- files are asked for where there are some
+over-some : (alone : Request) (wanted : Task) (name last : Text) (names : List Text)
+    → Some (over alone wanted (name ∷ (names ++ last ∷ []))) ≡ Some (Files wanted (name ∷ (names ++ last ∷ [])))
+over-some alone wanted name last names =
+    ap (λ b. Some (cond b alone (Files wanted (name ∷ (names ++ last ∷ []))))) (some-words (length (names ++ last ∷ [])))
+
+-- the files are asked for at the end, and the end passes
+canon_ends : (names : List Text) (last : Text) → (asked_canon (finished built_canon.rules (with_files names last))
+    ≡ Some (Files (task.Canon (codes "full")) (names ++ last ∷ []))) × (ends built_canon (at_files names last) ≡ true)
+canon_ends [] last = (refl, refl)
+canon_ends (name ∷ names) last = (over-some (Canon (codes "full")) (task.Canon (codes "full")) name last names, refl)
+
+check_ends : (names : List Text) (last : Text) → (asked_check (finished built_check.rules (with_files names last))
+    ≡ Some (Files task.Check (names ++ last ∷ []))) × (ends built_check (at_files names last) ≡ true)
+check_ends [] last = (refl, refl)
+check_ends (name ∷ names) last = (over-some Check task.Check name last names, refl)
+
+group_ends : (names : List Text) (last : Text) → (asked_group (finished built_group.rules (with_files names last))
+    ≡ Some (Files (task.Group (codes "full")) (names ++ last ∷ []))) × (ends built_group (at_files names last) ≡ true)
+group_ends [] last = (refl, refl)
+group_ends (name ∷ names) last = (over-some (Group (codes "full")) (task.Group (codes "full")) name last names, refl)
+
+-- ---- the words behind a command
+
+abbrev top : Shape
+top = (built desk).top
+
+abbrev desk_names : Names
+desk_names = names_of (built desk)
+
+-- the desk's walk behind the name of a command, and the words since
+abbrev stopped_at : Text → List Text → Walk
+stopped_at name words = record {
+  held = nothing_held;
+  waiting = idle;
+  position = 1;
+  is_trailing = false;
+  stopped = Some (name, words);
+}
+
+-- it takes all words that follow
+stopped_runs : (s : Shape) (names : Names) (name : Text) (past words : List Text)
+    → (fold (walked s.rules names) (stopped_at name past) words ≡ stopped_at name (past ++ words))
+    × (walk_passes s names (stopped_at name past) words ≡ true)
+unfolding walked walk_passes
+stopped_runs s names name past [] = (ap (stopped_at name) (sym (append-nil past)), refl)
+stopped_runs s names name past (word ∷ words) =
+    let rest = stopped_runs s names name (past ++ word ∷ []) words in
+    (rest.0 ∙ ap (stopped_at name) (append_assoc past (word ∷ []) words), rest.1)
+
+-- what is left of a line that is taken, after the desk's own walk
+abbrev passes_at : Walk → Bool → Bool
+passes_at w walks =
+    entered_passes (built desk) w.stopped
+    && (walks && (settle_passes top.rules top.args_override_self w.held
+    && (list_all default_passes top.rules && is_valid top (finished top.rules w.held) (is_some (entered (built desk) w.stopped)))))
+
+abbrev asks_at : Walk → Option Request
+asks_at w = option_and_then request_of (entered (built desk) w.stopped)
+
+canon_line : (program : Text) (words : List Text)
+    → (takes desk (program ∷ codes "canon" ∷ words) ≡ (level_passes built_canon [] nothing_held words false && true))
+    × (option_and_then request_of (subcommand_of desk (program ∷ codes "canon" ∷ words)) ≡ asked_canon (rows_after built_canon.rules [] words))
+unfolding clap_on_literals
+canon_line program words =
+    let run = stopped_runs top desk_names (codes "canon") [] words in
+    (ap₂ passes_at run.0 run.1, ap asks_at run.0)
+
+check_line : (program : Text) (words : List Text)
+    → (takes desk (program ∷ codes "check" ∷ words) ≡ (level_passes built_check [] nothing_held words false && true))
+    × (option_and_then request_of (subcommand_of desk (program ∷ codes "check" ∷ words)) ≡ asked_check (rows_after built_check.rules [] words))
+unfolding clap_on_literals
+check_line program words =
+    let run = stopped_runs top desk_names (codes "check") [] words in
+    (ap₂ passes_at run.0 run.1, ap asks_at run.0)
+
+group_line : (program : Text) (words : List Text)
+    → (takes desk (program ∷ codes "group" ∷ words) ≡ (level_passes built_group [] nothing_held words false && true))
+    × (option_and_then request_of (subcommand_of desk (program ∷ codes "group" ∷ words)) ≡ asked_group (rows_after built_group.rules [] words))
+unfolding clap_on_literals
+group_line program words =
+    let run = stopped_runs top desk_names (codes "group") [] words in
+    (ap₂ passes_at run.0 run.1, ap asks_at run.0)
+
+pub canon_files : (program name : Text) (names : List Text) → list_all is_plain_word (name ∷ names) ≡ true
+    → asked (program ∷ codes "canon" ∷ name ∷ names) ≡ Some (Files (task.Canon (codes "full")) (name ∷ names))
+canon_files program name names usual =
+    let s = built_canon in
+    let each = both (is_plain_word name) _ usual in
+    let run = files_run s canon_takes [] name names each.1 in
+    let end = canon_ends run.0 run.1 in
+    let line = canon_line program (name ∷ names) in
+    line_asked s asked_canon (program ∷ codes "canon" ∷ name ∷ names) (name ∷ names) (at_files run.0 run.1) line.0 line.1
+    (goes_on s (walk_from nothing_held) (at_files [] name) (at_files run.0 run.1) name names
+    (plain_turn s nothing_held idle 1 name refl each.0) run.3) end.1
+    ∙ end.0 ∙ sym (ap (λ l. Some (Files (task.Canon (codes "full")) l)) run.2)
+
+pub check_files : (program name : Text) (names : List Text) → list_all is_plain_word (name ∷ names) ≡ true
+    → asked (program ∷ codes "check" ∷ name ∷ names) ≡ Some (Files task.Check (name ∷ names))
+check_files program name names usual =
+    let s = built_check in
+    let each = both (is_plain_word name) _ usual in
+    let run = files_run s check_takes [] name names each.1 in
+    let end = check_ends run.0 run.1 in
+    let line = check_line program (name ∷ names) in
+    line_asked s asked_check (program ∷ codes "check" ∷ name ∷ names) (name ∷ names) (at_files run.0 run.1) line.0 line.1
+    (goes_on s (walk_from nothing_held) (at_files [] name) (at_files run.0 run.1) name names
+    (plain_turn s nothing_held idle 1 name refl each.0) run.3) end.1
+    ∙ end.0 ∙ sym (ap (λ l. Some (Files task.Check l)) run.2)
+
+pub group_files : (program name : Text) (names : List Text) → list_all is_plain_word (name ∷ names) ≡ true
+    → asked (program ∷ codes "group" ∷ name ∷ names) ≡ Some (Files (task.Group (codes "full")) (name ∷ names))
+group_files program name names usual =
+    let s = built_group in
+    let each = both (is_plain_word name) _ usual in
+    let run = files_run s group_takes [] name names each.1 in
+    let end = group_ends run.0 run.1 in
+    let line = group_line program (name ∷ names) in
+    line_asked s asked_group (program ∷ codes "group" ∷ name ∷ names) (name ∷ names) (at_files run.0 run.1) line.0 line.1
+    (goes_on s (walk_from nothing_held) (at_files [] name) (at_files run.0 run.1) name names
+    (plain_turn s nothing_held idle 1 name refl each.0) run.3) end.1
+    ∙ end.0 ∙ sym (ap (λ l. Some (Files (task.Group (codes "full")) l)) run.2)
+
+-- what `same` and `explain` hold after `--files`
+abbrev with_flag : Held
+with_flag = record { rows = used files [] []; pending = None; skip = 0 }
+
+pub same_files : (program first second : Text) → is_plain_word first ≡ true → is_plain_word second ≡ true
+    → asked (program ∷ codes "same" ∷ codes "--files" ∷ first ∷ second ∷ [])
+    ≡ Some (Files (task.Same (codes "full")) (first ∷ second ∷ []))
+unfolding clap_on_literals
+same_files program first second one other =
+    let s = built_same in
+    let via = before (after_first with_flag first) idle 2 in
+    let to = before (after_second with_flag first second) idle 3 in
+    line_asked s same_of (program ∷ codes "same" ∷ codes "--files" ∷ first ∷ second ∷ [])
+    (codes "--files" ∷ first ∷ second ∷ []) to refl refl
+    (goes_on s (walk_from nothing_held) (before with_flag idle 1) to (codes "--files") (first ∷ second ∷ []) (refl, refl)
+    (goes_on s (before with_flag idle 1) via to first (second ∷ []) (plain_turn s with_flag idle 1 first refl one)
+    (goes_on s via to to second [] (plain_turn s (after_first with_flag first) idle 2 second refl other) (stays s to)))) refl
+
+pub explain_file : (program first : Text) → is_plain_word first ≡ true
+    → asked (program ∷ codes "explain" ∷ codes "--files" ∷ first ∷ []) ≡ Some (Files (task.Explain (codes "full")) (first ∷ []))
+unfolding clap_on_literals
+explain_file program first one =
+    let s = built_explain in
+    let to = before (after_first with_flag first) idle 2 in
+    line_asked s asked_explain (program ∷ codes "explain" ∷ codes "--files" ∷ first ∷ []) (codes "--files" ∷ first ∷ []) to refl refl
+    (goes_on s (walk_from nothing_held) (before with_flag idle 1) to (codes "--files") (first ∷ []) (refl, refl)
+    (goes_on s (before with_flag idle 1) to to first [] (plain_turn s with_flag idle 1 first refl one) (stays s to))) refl
+
+pub explain_files : (program first second : Text) → is_plain_word first ≡ true → is_plain_word second ≡ true
+    → asked (program ∷ codes "explain" ∷ codes "--files" ∷ first ∷ second ∷ [])
+    ≡ Some (Files (task.ExplainPair (codes "full")) (first ∷ second ∷ []))
+unfolding clap_on_literals
+explain_files program first second one other =
+    let s = built_explain in
+    let via = before (after_first with_flag first) idle 2 in
+    let to = before (after_second with_flag first second) idle 3 in
+    line_asked s asked_explain (program ∷ codes "explain" ∷ codes "--files" ∷ first ∷ second ∷ [])
+    (codes "--files" ∷ first ∷ second ∷ []) to refl refl
+    (goes_on s (walk_from nothing_held) (before with_flag idle 1) to (codes "--files") (first ∷ second ∷ []) (refl, refl)
+    (goes_on s (before with_flag idle 1) via to first (second ∷ []) (plain_turn s with_flag idle 1 first refl one)
+    (goes_on s via to to second [] (plain_turn s (after_first with_flag first) idle 2 second refl other) (stays s to)))) refl

@@ -1,5 +1,5 @@
 -- Both texts of `same` are there where the command takes the line: no row of its matches is without a value.
-use Rattle.std.proofs.Common.{◌≡◌, ◌≢◌, subst, ℕ, List, [], ◌∷◌, ◌++◌, length, Option, Some, None, IsSome, Bool, true, false, not, ◌&&◌, ◌||◌, cond, refl, codes, zero, suc, drop, is_some, option_and_then, option_map, ap, ap₂, sym, ◌∙◌}
+use Rattle.std.proofs.Common.{◌≡◌, ◌≢◌, subst, ℕ, List, [], ◌∷◌, ◌++◌, length, Option, Some, None, IsSome, Bool, true, false, not, ◌&&◌, ◌||◌, cond, refl, codes, zero, suc, drop, is_some, option_and_then, option_map, map, ap, ap₂, sym, ◌∙◌}
 use Rattle.std.specs.Prelude.{find, encode_utf8, slice_get, unwrap_or}
 use Rattle.std.specs.List.{fold, list_all}
 use Rattle.std.specs.Option.{option_map_or}
@@ -15,9 +15,10 @@ use Rattle.clap.specs.Words.{Row, Rule, Shape, Text, first_of, first_value, rows
 use Rattle.clap.specs.Simple.{filled, filled_from, help_rule, new_shape, rows_at, with_index}
 use Rattle.clap.specs.Walk.{Held, Names, Outcome, Step, Waiting, Walk, done, waits, plain, refused, idle, option, positional, next, trailing, subcommand, value, after_flag, after_step, arg_by_id, arg_by_index, arg_by_long, arg_by_short, at_row, attached_value, bundle, bundle_met, bundle_step, default_rows, flag_met, has_row, is_pending, long_met, long_or_other, more_values, nothing_held, option_met, option_word, plain_word, reacted, reading_by, rows_after, settled, settled_rows, short_met, short_or_plain, subcommand_met, subcommand_or_other, takes_several, takes_values, to_positional, used, used_by_id, walk, walk_from, walked, with_default, with_values, without, word_met}
 use Rattle.clap.specs.Takes.{bundle_passes, bundle_step_passes, flag_word_passes, flags_pass, is_given, is_valid, default_passes, level_passes, long_passes, option_passes, other_passes, positional_passes, react_passes, settle_passes, short_passes, step_passes, turn_passes, use_passes, walk_passes, word_passes}
-use Rattle.clap.proofs.WalkLemmas.{both, first_value-rows}
-use Rattle.crs_command_line.specs.declared.requests.Request.TheVariants.{Explain, ExplainText, ExplainPair}
-use Rattle.crs_command_line.specs.CommandLine.{explain_of, explained_texts, has_lines, level_of, level_option, operand, same_of, same_texts}
+use Rattle.clap.specs.Matches.{matched_of, raw_values}
+use Rattle.clap.proofs.WalkLemmas.{both, first_value-rows, raw_values-rows}
+use Rattle.crs_command_line.specs.declared.requests.Request.TheVariants.{Explain}
+use Rattle.crs_command_line.specs.CommandLine.{explain_of, explained_operands, files_flag, files_of, has_flag, level_of, level_option, operand, same_of, same_operands}
 
 -- ---- rows with values
 
@@ -76,6 +77,14 @@ level_keeps position again [] rows passes have = cc
 level_keeps position again (v ∷ vs) rows passes have =
     with_values_keeps (codes "level") _ CommandLine v vs (without (codes "level") rows)
     (at_row_keeps (codes "level") (λ _. []) [] rows (λ r own. tt) tt have)
+
+files_keep : (position : ℕ) → Keeps (with_index position (filled files_flag))
+files_keep position again [] rows passes have =
+    with_values_keeps (codes "files") _ CommandLine (codes "true") [] (without (codes "files") rows)
+    (at_row_keeps (codes "files") (λ _. []) [] rows (λ r own. tt) tt have)
+files_keep position again (v ∷ vs) rows passes have =
+    with_values_keeps (codes "files") _ CommandLine v vs (without (codes "files") rows)
+    (at_row_keeps (codes "files") (λ _. []) [] rows (λ r own. tt) tt have)
 
 kept_either : (here : Bool) (a : Rule) (others : Option Rule) → Keeps a → IsKept others → IsKept (cond here (Some a) others)
 kept_either true a others keeps kept = keeps
@@ -290,15 +299,16 @@ given_there id [] have given = cc
 given_there id (r ∷ rows) have given =
     given_either (bytes_eq r.id id) r (find (λ r. bytes_eq r.id id) rows) (first_there r.values have.0) (given_there id rows have.1) given
 
-both_there : (level : Text) (first second : Option Text) → IsSome first → IsSome second → IsSome (same_texts level first second)
-both_there level None second one other = cc
-both_there level (Some first) None one other = cc
-both_there level (Some first) (Some second) one other = refl
+both_there : (are_files : Bool) (level : Text) (first second : Option Text) → IsSome first → IsSome second
+    → IsSome (same_operands are_files level first second)
+both_there are_files level None second one other = cc
+both_there are_files level (Some first) None one other = cc
+both_there are_files level (Some first) (Some second) one other = refl
 
 -- `same`, as `clap` builds it
 abbrev pub built_same : Shape
 built_same = record (new_shape (codes "same")) {
-  rules = filled_from 1 (operand (codes "first") ∷ operand (codes "second") ∷ level_option ∷ help_rule ∷ []);
+  rules = filled_from 1 (operand (codes "first") ∷ operand (codes "second") ∷ level_option ∷ files_flag ∷ help_rule ∷ []);
   disable_help_subcommand = true;
   is_built = true;
 }
@@ -313,7 +323,10 @@ given_texts words passes =
       (λ again values. operand_keeps (codes "first") 1 again values),
       (
         (λ again values. operand_keeps (codes "second") 2 again values),
-        ((λ again values. level_keeps 3 again values), ((λ again values rows uses have. have), tt)),
+        (
+          (λ again values. level_keeps 3 again values),
+          ((λ again values. files_keep 3 again values), ((λ again values rows uses have. have), tt)),
+        ),
       ),
     ) passes in
     let given = both (is_given (codes "first") rows) _ level.1 in
@@ -327,51 +340,70 @@ pub texts_there : (words : List Text) → level_passes built_same [] nothing_hel
 texts_there words passes =
     let rows = rows_after built_same.rules [] words in
     let given = given_texts words passes in
-    both_there (level_of rows) (first_of (codes "first") rows) (first_of (codes "second") rows)
+    both_there (has_flag (codes "files") rows) (level_of rows) (first_of (codes "first") rows) (first_of (codes "second") rows)
     (given_there (codes "first") rows given.0 given.1.0) (given_there (codes "second") rows given.0 given.1.1)
 
--- the getters' texts are the request
-pub texts_read : (f : Found) (first second : Option (Bor Text)) → option_map (λ s. s.now) first ≡ first_value f (codes "first")
+-- the getters' words are the operands
+same_read : (f : Found) (first second : Option (Bor Text)) → option_map (λ s. s.now) first ≡ first_value f (codes "first")
     → option_map (λ s. s.now) second ≡ first_value f (codes "second")
-    → same_of (rows_of f) ≡ same_texts (level_of (rows_of f)) (option_map (λ s. s.now) first) (option_map (λ s. s.now) second)
-texts_read f first second one other =
-    ap₂ (same_texts (level_of (rows_of f))) (sym (one ∙ first_value-rows f (codes "first"))) (sym (other ∙ first_value-rows f (codes "second")))
+    → same_of (rows_of f) ≡ same_operands (has_flag (codes "files") (rows_of f)) (level_of (rows_of f))
+    (option_map (λ s. s.now) first) (option_map (λ s. s.now) second)
+same_read f first second one other =
+    ap₂ (same_operands (has_flag (codes "files") (rows_of f)) (level_of (rows_of f)))
+    (sym (one ∙ first_value-rows f (codes "first"))) (sym (other ∙ first_value-rows f (codes "second")))
 
 explained_read : (f : Found) (first second : Option (Bor Text)) → option_map (λ s. s.now) first ≡ first_value f (codes "first")
     → option_map (λ s. s.now) second ≡ first_value f (codes "second")
-    → explain_of (rows_of f) ≡ explained_texts (level_of (rows_of f)) (option_map (λ s. s.now) first) (option_map (λ s. s.now) second)
+    → explain_of (rows_of f) ≡ explained_operands (has_flag (codes "files") (rows_of f)) (level_of (rows_of f))
+    (option_map (λ s. s.now) first) (option_map (λ s. s.now) second)
 explained_read f first second one other =
-    ap₂ (explained_texts (level_of (rows_of f))) (sym (one ∙ first_value-rows f (codes "first"))) (sym (other ∙ first_value-rows f (codes "second")))
+    ap₂ (explained_operands (has_flag (codes "files") (rows_of f)) (level_of (rows_of f)))
+    (sym (one ∙ first_value-rows f (codes "first"))) (sym (other ∙ first_value-rows f (codes "second")))
 
--- what is asked where no text is there, one, or two
-pub explained_none : (f : Found) (first second : Option (Bor Text)) (level : Text) → option_map (λ s. s.now) first ≡ first_value f (codes "first")
-    → option_map (λ s. s.now) second ≡ first_value f (codes "second") → first ≡ None → level ≡ level_of (rows_of f)
+abbrev nows : Option (Bor Text) → Option Text
+nows found = option_map (λ s. s.now) found
+
+-- what is compared, by the flag and the level that were read
+pub same_there : (f : Found) (first second : Option (Bor Text)) (a b : Bor Text) (are_files : Bool) (level : Text)
+    → nows first ≡ first_value f (codes "first") → nows second ≡ first_value f (codes "second")
+    → first ≡ Some a → second ≡ Some b → are_files ≡ has_flag (codes "files") (rows_of f) → level ≡ level_of (rows_of f)
+    → same_of (rows_of f) ≡ same_operands are_files level (Some a.now) (Some b.now)
+same_there f first second a b are_files level one other some more flag is =
+    same_read f first second one other
+    ∙ ap₂ (λ (o p : Option (Bor Text)). same_operands (has_flag (codes "files") (rows_of f)) (level_of (rows_of f)) (nows o) (nows p)) some more
+    ∙ ap₂ (λ t l. same_operands t l (Some a.now) (Some b.now)) (sym flag) (sym is)
+
+-- what is explained, where no operand is there, one, or two
+pub explained_none : (f : Found) (first second : Option (Bor Text)) (level : Text) → nows first ≡ first_value f (codes "first")
+    → nows second ≡ first_value f (codes "second") → first ≡ None → level ≡ level_of (rows_of f)
     → Explain level ≡ explain_of (rows_of f)
 explained_none f first second level one other none is =
     ap Explain is ∙ sym (explained_read f first second one other
-    ∙ ap (λ (o : Option (Bor Text)). explained_texts (level_of (rows_of f)) (option_map (λ s. s.now) o) (option_map (λ s. s.now) second)) none)
+    ∙ ap (λ (o : Option (Bor Text)). explained_operands (has_flag (codes "files") (rows_of f)) (level_of (rows_of f)) (nows o) (nows second)) none)
 
-pub explained_one : (f : Found) (first second : Option (Bor Text)) (text : Bor Text) (word level : Text)
-    → option_map (λ s. s.now) first ≡ first_value f (codes "first") → option_map (λ s. s.now) second ≡ first_value f (codes "second")
-    → first ≡ Some text → second ≡ None → word ≡ text.now → level ≡ level_of (rows_of f)
-    → ExplainText word level ≡ explain_of (rows_of f)
-explained_one f first second text word level one other some none word-is is =
-    ap₂ ExplainText word-is is ∙ sym (explained_read f first second one other
-    ∙ ap₂ (λ (o p : Option (Bor Text)). explained_texts (level_of (rows_of f)) (option_map (λ s. s.now) o) (option_map (λ s. s.now) p)) some none)
+pub explained_one : (f : Found) (first second : Option (Bor Text)) (a : Bor Text) (are_files : Bool) (level : Text)
+    → nows first ≡ first_value f (codes "first") → nows second ≡ first_value f (codes "second")
+    → first ≡ Some a → second ≡ None → are_files ≡ has_flag (codes "files") (rows_of f) → level ≡ level_of (rows_of f)
+    → explained_operands are_files level (Some a.now) None ≡ explain_of (rows_of f)
+explained_one f first second a are_files level one other some none flag is =
+    sym (explained_read f first second one other
+    ∙ ap₂ (λ (o p : Option (Bor Text)). explained_operands (has_flag (codes "files") (rows_of f)) (level_of (rows_of f)) (nows o) (nows p)) some none
+    ∙ ap₂ (λ t l. explained_operands t l (Some a.now) None) (sym flag) (sym is))
 
-pub explained_both : (f : Found) (first second : Option (Bor Text)) (a b : Bor Text) (one-word other-word level : Text)
-    → option_map (λ s. s.now) first ≡ first_value f (codes "first") → option_map (λ s. s.now) second ≡ first_value f (codes "second")
-    → first ≡ Some a → second ≡ Some b → one-word ≡ a.now → other-word ≡ b.now → level ≡ level_of (rows_of f)
-    → ExplainPair one-word other-word level ≡ explain_of (rows_of f)
-explained_both f first second a b one-word other-word level one other some more one-is other-is is =
-    ap (λ l. ExplainPair one-word other-word l) is
-    ∙ ap₂ (λ x y. ExplainPair x y (level_of (rows_of f))) one-is other-is ∙ sym (explained_read f first second one other
-    ∙ ap₂ (λ (o p : Option (Bor Text)). explained_texts (level_of (rows_of f)) (option_map (λ s. s.now) o) (option_map (λ s. s.now) p)) some more)
+pub explained_both : (f : Found) (first second : Option (Bor Text)) (a b : Bor Text) (are_files : Bool) (level : Text)
+    → nows first ≡ first_value f (codes "first") → nows second ≡ first_value f (codes "second")
+    → first ≡ Some a → second ≡ Some b → are_files ≡ has_flag (codes "files") (rows_of f) → level ≡ level_of (rows_of f)
+    → explained_operands are_files level (Some a.now) (Some b.now) ≡ explain_of (rows_of f)
+explained_both f first second a b are_files level one other some more flag is =
+    sym (explained_read f first second one other
+    ∙ ap₂ (λ (o p : Option (Bor Text)). explained_operands (has_flag (codes "files") (rows_of f)) (level_of (rows_of f)) (nows o) (nows p)) some more
+    ∙ ap₂ (λ t l. explained_operands t l (Some a.now) (Some b.now)) (sym flag) (sym is))
 
-there_both : (level : Text) (first second : Option Text) → IsSome (same_texts level first second) → IsSome first × IsSome second
-there_both level None second some = cc
-there_both level (Some first) None some = cc
-there_both level (Some first) (Some second) some = (refl, refl)
+there_both : (are_files : Bool) (level : Text) (first second : Option Text) → IsSome (same_operands are_files level first second)
+    → IsSome first × IsSome second
+there_both are_files level None second some = cc
+there_both are_files level (Some first) None some = cc
+there_both are_files level (Some first) (Some second) some = (refl, refl)
 
 some_there : (found : Option (Bor Text)) → IsSome (option_map (λ s. s.now) found) → found ≢ None
 some_there None some = cc
@@ -381,7 +413,7 @@ some_there (Some text) some = λ none. cc
 pub neither_missing : (f : Found) (first second : Option (Bor Text)) → option_map (λ s. s.now) first ≡ first_value f (codes "first")
     → option_map (λ s. s.now) second ≡ first_value f (codes "second") → IsSome (same_of (rows_of f)) → (first ≢ None) × (second ≢ None)
 neither_missing f first second one other some =
-    let both_are = there_both _ _ _ (subst IsSome (texts_read f first second one other) some) in
+    let both_are = there_both _ _ _ _ (subst IsSome (same_read f first second one other) some) in
     (some_there first both_are.0, some_there second both_are.1)
 
 -- ---- the level
@@ -396,10 +428,27 @@ pub level_read : (f : Found) (found : Option (Bor Text)) (usual text : Bor Text)
 level_read f found usual text is one full =
     ap (λ (t : Bor Text). t.now) is ∙ now_or found usual ∙ ap₂ unwrap_or (one ∙ first_value-rows f (codes "level")) full
 
--- the getter's text, or `false`, says whether the flag `--lines` is there
-pub lines_read : (f : Found) (found : Option (Bor Text)) (usual text : Bor Text) → text ≡ unwrap_or found usual
-    → option_map (λ s. s.now) found ≡ first_value f (codes "lines") → usual.now ≡ codes "false"
-    → bytes_eq text.now (codes "true") ≡ has_lines (rows_of f)
-lines_read f found usual text is one unset =
+-- the getter's text, or `false`, says whether a flag is there
+pub flag_read : (f : Found) (name : Text) (found : Option (Bor Text)) (usual text : Bor Text) → text ≡ unwrap_or found usual
+    → nows found ≡ first_value f name → usual.now ≡ codes "false"
+    → bytes_eq text.now (codes "true") ≡ has_flag name (rows_of f)
+flag_read f name found usual text is one unset =
     ap (λ (t : Text). bytes_eq t (codes "true"))
-    (ap (λ (t : Bor Text). t.now) is ∙ now_or found usual ∙ ap₂ unwrap_or (one ∙ first_value-rows f (codes "lines")) unset)
+    (ap (λ (t : Bor Text). t.now) is ∙ now_or found usual ∙ ap₂ unwrap_or (one ∙ first_value-rows f name) unset)
+
+-- ---- files
+
+-- the getter's texts are the files
+pub some_files : (f : Found) (found : Option (Bor (List (Bor Text)))) (names : Bor (List (Bor Text)))
+    → option_map (λ s. map (λ v. v.now) s.now) found ≡ option_map raw_values (matched_of f (codes "file"))
+    → found ≡ Some names → map (λ (v : Bor Text). v.now) names.now ≡ files_of (rows_of f)
+some_files f found names is some =
+    ap (λ o. unwrap_or o [])
+    (sym (ap (option_map (λ (s : Bor (List (Bor Text))). map (λ v. v.now) s.now)) some) ∙ is ∙ raw_values-rows f (codes "file"))
+
+pub no_files : (f : Found) (found : Option (Bor (List (Bor Text))))
+    → option_map (λ s. map (λ v. v.now) s.now) found ≡ option_map raw_values (matched_of f (codes "file"))
+    → found ≡ None → [] ≡ files_of (rows_of f)
+no_files f found is none =
+    ap (λ o. unwrap_or o [])
+    (sym (ap (option_map (λ (s : Bor (List (Bor Text))). map (λ v. v.now) s.now)) none) ∙ is ∙ raw_values-rows f (codes "file"))

@@ -1,18 +1,22 @@
 -- The command line: what `clap`'s definition of the commands gives for the words.
 use Rattle.std.specs.Prelude.{◌≡◌, ◌≢◌, ◌==◌, [], ◌∷◌, Bool, true, false, not, List, Option, Some}
-use Rattle.std.specs.Prelude.{None, codes}
+use Rattle.std.specs.Prelude.{None, codes, length}
 use Rattle.std.specs.Prelude.{option_and_then, unwrap_or, if◌then◌else◌}
 use Rattle.std.specs.Str.{bytes_eq}
-use Rattle.clap.specs.Words.{App, IsAmong, Row, Rule, Shape, Text, fault_of, first_of, kind_of}
+use Rattle.clap.specs.Words.{App, IsAmong, Row, Rule, Shape, Text, all_of, fault_of, first_of}
+use Rattle.clap.specs.Words.{kind_of}
 use Rattle.clap.specs.Words.{new_app, new_rule}
 use Rattle.clap.specs.Words.{subcommand_of, takes, with_subcommand}
 use Rattle.clap.specs.Simple.{new_shape, on_top}
 use Rattle.crs_command_line.specs.declared.requests.Request.{Request}
 use Rattle.crs_command_line.specs.declared.requests.Request.TheVariants.{Canon, Check, Same, Group, CanonLines, CheckLines}
 use Rattle.crs_command_line.specs.declared.requests.Request.TheVariants.{Explain, ExplainText, ExplainPair}
+use Rattle.crs_command_line.specs.declared.requests.Request.TheVariants.{Files}
+use Rattle.crs_command_line.specs.declared.requests.Task.{Task}
+use Rattle.crs_command_line.specs.declared.requests.Task.TheVariants as task
 use Rattle.crs_command_line.specs.declared.requests.RequestFault.{RequestFault}
 use Rattle.crs_command_line.specs.declared.requests.RequestFault.TheVariants.{Line, Memory}
-use Rattle.clap.specs.declared.builder.action.ArgAction.TheVariants.{SetTrue}
+use Rattle.clap.specs.declared.builder.action.ArgAction.TheVariants.{Append, SetTrue}
 use Rattle.clap.specs.declared.error.Error.{Error}
 use Rattle.clap.specs.declared.error.kind.ErrorKind.TheVariants as kind
 
@@ -28,32 +32,46 @@ operand id = record (spare_operand id) { required = true }
 abbrev pub level_option : Rule
 level_option = record (new_rule (codes "level")) { long = Some (codes "level"); value_names = 1 }
 
--- the flag `--lines`, which takes no word
+-- a flag of this name, which takes no word
+abbrev pub flag : Text → Rule
+flag name = record (new_rule name) { long = Some name; action = Some SetTrue }
+
+-- the flag `--lines`
 abbrev pub lines_flag : Rule
-lines_flag = record (new_rule (codes "lines")) { long = Some (codes "lines"); action = Some SetTrue }
+lines_flag = flag (codes "lines")
 
--- `canon`, which takes a level and that flag
+-- the flag `--files`
+abbrev pub files_flag : Rule
+files_flag = flag (codes "files")
+
+-- names of files, as many words as there are
+abbrev pub file_operands : Rule
+file_operands = record (spare_operand (codes "file")) { action = Some Append }
+
+-- `canon`, which takes a level, the flag `--lines` and files
 abbrev pub canon_shape : Shape
-canon_shape = record (new_shape (codes "canon")) { rules = level_option ∷ lines_flag ∷ [] }
+canon_shape =
+    record (new_shape (codes "canon")) { rules = level_option ∷ lines_flag ∷ file_operands ∷ [] }
 
--- `check`, which takes that flag
+-- `check`, which takes that flag and files
 abbrev pub check_shape : Shape
-check_shape = record (new_shape (codes "check")) { rules = lines_flag ∷ [] }
+check_shape = record (new_shape (codes "check")) { rules = lines_flag ∷ file_operands ∷ [] }
 
--- `group`, which takes a level
+-- `group`, which takes a level and files
 abbrev pub group_shape : Shape
-group_shape = record (new_shape (codes "group")) { rules = level_option ∷ [] }
+group_shape = record (new_shape (codes "group")) { rules = level_option ∷ file_operands ∷ [] }
 
--- `same`, which needs a first text and a second, and takes a level
+-- `same`, which needs a first operand and a second, and takes a level and the flag `--files`
 abbrev pub same_shape : Shape
 same_shape = record (new_shape (codes "same")) {
-  rules = operand (codes "first") ∷ operand (codes "second") ∷ level_option ∷ [];
+  rules = operand (codes "first") ∷ operand (codes "second") ∷ level_option ∷ files_flag ∷ [];
 }
 
--- `explain`, which may have a first text and a second, and takes a level
+-- `explain`, which may have a first operand and a second, and takes a level and the flag `--files`
 abbrev pub explain_shape : Shape
 explain_shape = record (new_shape (codes "explain")) {
-  rules = spare_operand (codes "first") ∷ spare_operand (codes "second") ∷ level_option ∷ [];
+  rules = spare_operand (codes "first") ∷ spare_operand (codes "second") ∷ level_option
+      ∷ files_flag ∷ [];
 }
 
 -- `crsdesk` alone; it has a version, and needs one of its commands
@@ -62,7 +80,7 @@ lone_desk =
     on_top (λ s. record s { has_version = true; subcommand_required = true })
     (new_app (codes "crsdesk"))
 
--- `crsdesk` with `canon`, `check` and `group`, which read standard input
+-- `crsdesk` with `canon`, `check` and `group`, which read standard input or files
 abbrev pub input_desk : App
 input_desk = with_subcommand (with_subcommand (with_subcommand lone_desk
     canon_shape) check_shape) group_shape
@@ -75,39 +93,63 @@ desk = with_subcommand (with_subcommand input_desk same_shape) explain_shape
 abbrev pub level_of : List Row → Text
 level_of rows = unwrap_or (first_of (codes "level") rows) (codes "full")
 
--- whether `--lines` is among a command's matches: its value is `true` there
-abbrev pub has_lines : List Row → Bool
-has_lines rows =
-    bytes_eq (unwrap_or (first_of (codes "lines") rows) (codes "false")) (codes "true")
+-- whether a flag is among a command's matches: its value is `true` there
+abbrev pub has_flag : Text → List Row → Bool
+has_flag name rows = bytes_eq (unwrap_or (first_of name rows) (codes "false")) (codes "true")
+
+-- the files among a command's matches
+abbrev pub files_of : List Row → List Text
+files_of rows = unwrap_or (all_of (codes "file") rows) []
+
+-- what is asked of standard input, or of files where there are some
+abbrev pub over : Request → Task → List Text → Request
+over alone asked names = if length names == 0 then alone else Files asked names
 
 -- the canonical text at a level, of one text or of each line
 abbrev pub canon_of : List Row → Request
-canon_of rows = if has_lines rows then CanonLines (level_of rows) else Canon (level_of rows)
+canon_of rows =
+    if has_flag (codes "lines") rows
+    then over (CanonLines (level_of rows)) (task.CanonLines (level_of rows)) (files_of rows)
+    else over (Canon (level_of rows)) (task.Canon (level_of rows)) (files_of rows)
 
 -- the kind of one text or of each line
 abbrev pub check_of : List Row → Request
-check_of rows = if has_lines rows then CheckLines else Check
+check_of rows =
+    if has_flag (codes "lines") rows then over CheckLines task.CheckLines (files_of rows)
+    else over Check task.Check (files_of rows)
 
--- two texts are compared at a level where both are there
-abbrev pub same_texts : Text → Option Text → Option Text → Option Request
-same_texts level (Some first) (Some second) = Some (Same first second level)
-same_texts level first second = None
+-- the groups at a level
+abbrev pub group_of : List Row → Request
+group_of rows = over (Group (level_of rows)) (task.Group (level_of rows)) (files_of rows)
 
--- the level and the texts of `same`, among its matches
+-- two operands are compared at a level where both are there: files, or else texts
+abbrev pub same_operands : Bool → Text → Option Text → Option Text → Option Request
+same_operands are_files level (Some first) (Some second) =
+    Some (if are_files then Files (task.Same level) (first ∷ second ∷ [])
+    else Same first second level)
+same_operands are_files level first second = None
+
+-- the level and the operands of `same`, among its matches
 abbrev pub same_of : List Row → Option Request
 same_of rows =
-    same_texts (level_of rows) (first_of (codes "first") rows) (first_of (codes "second") rows)
+    same_operands (has_flag (codes "files") rows) (level_of rows) (first_of (codes "first") rows)
+    (first_of (codes "second") rows)
 
--- two texts are explained where both are there, the first alone, or the text on standard input
-abbrev pub explained_texts : Text → Option Text → Option Text → Request
-explained_texts level None second = Explain level
-explained_texts level (Some text) None = ExplainText text level
-explained_texts level (Some first) (Some second) = ExplainPair first second level
+-- two operands are explained where both are there, the first alone, or the text on standard input;
+-- they are files, or else texts
+abbrev pub explained_operands : Bool → Text → Option Text → Option Text → Request
+explained_operands are_files level None second = Explain level
+explained_operands are_files level (Some first) None =
+    if are_files then Files (task.Explain level) (first ∷ []) else ExplainText first level
+explained_operands are_files level (Some first) (Some second) =
+    if are_files then Files (task.ExplainPair level) (first ∷ second ∷ [])
+    else ExplainPair first second level
 
--- the level and the texts of `explain`, as far as they are among its matches
+-- the level and the operands of `explain`, as far as they are among its matches
 abbrev pub explain_of : List Row → Request
 explain_of rows =
-    explained_texts (level_of rows) (first_of (codes "first") rows) (first_of (codes "second") rows)
+    explained_operands (has_flag (codes "files") rows) (level_of rows)
+    (first_of (codes "first") rows) (first_of (codes "second") rows)
 
 -- the request of a command's name and of its matches
 abbrev pub request_of : Text × List Row → Option Request
@@ -115,7 +157,7 @@ request_of (name, rows) =
     if bytes_eq name (codes "canon") then Some (canon_of rows)
     else (if bytes_eq name (codes "check") then Some (check_of rows)
     else (if bytes_eq name (codes "same") then same_of rows
-    else (if bytes_eq name (codes "group") then Some (Group (level_of rows))
+    else (if bytes_eq name (codes "group") then Some (group_of rows)
     else (if bytes_eq name (codes "explain") then Some (explain_of rows) else None))))
 
 -- what the words ask for, where the command takes them; the first of them is the program's name

@@ -1,9 +1,12 @@
 //! Laws of the definitions, as contracts of functions that do nothing.
 ghost use Rattle.std.specs.Prelude.{◌≡◌, ◌≢◌, ◌<◌, ℕ, [], ◌∷◌, ◌++◌, List, Some, IsSome, true, false, codes};
+ghost use Rattle.std.specs.List.{list_all};
 ghost use Rattle.clap.specs.Words.{Text, takes};
 ghost use Rattle.crs_command_line.specs.CommandLine.{asked, desk, is_plain_word};
 ghost use Rattle.crs_command_line.specs.declared.requests.Request.TheVariants.{Canon, Check, Same, Group, CanonLines, CheckLines};
 ghost use Rattle.crs_command_line.specs.declared.requests.Request.TheVariants.{Explain, ExplainText, ExplainPair};
+ghost use Rattle.crs_command_line.specs.declared.requests.Request.TheVariants.{Files};
+ghost use Rattle.crs_command_line.specs.declared.requests.Task.TheVariants as task;
 
 /// A line that the command takes asks for something: no text of `same` is missing there.
 #[tactic(auto, using(crate::proofs::CommandLemmas::taken_asks))]
@@ -100,6 +103,31 @@ pub fn explain_has_a_level()
         is_plain_word first ≡ true → is_plain_word second ≡ true →
         asked (program ∷ codes "explain" ∷ first ∷ second ∷ codes "--level" ∷ level ∷ [])
         ≡ Some (ExplainPair first second level) }
+{}
+
+/// The words after `canon`, `check` and `group` are files, however many they are, where no word is a flag. The level is
+/// `full` there.
+pub fn words_are_files()
+    ensures canon { (program name : Text) (names : List Text) → list_all is_plain_word (name ∷ names) ≡ true →
+        asked (program ∷ codes "canon" ∷ name ∷ names) ≡ Some (Files (task.Canon (codes "full")) (name ∷ names)) }
+    ensures check { (program name : Text) (names : List Text) → list_all is_plain_word (name ∷ names) ≡ true →
+        asked (program ∷ codes "check" ∷ name ∷ names) ≡ Some (Files task.Check (name ∷ names)) }
+    ensures group { (program name : Text) (names : List Text) → list_all is_plain_word (name ∷ names) ≡ true →
+        asked (program ∷ codes "group" ∷ name ∷ names) ≡ Some (Files (task.Group (codes "full")) (name ∷ names)) }
+{}
+
+/// The two words after `same --files` are files, and so are one or two after `explain --files`, where no word is a
+/// flag.
+pub fn operands_are_files()
+    ensures same { (program first second : Text) → is_plain_word first ≡ true → is_plain_word second ≡ true →
+        asked (program ∷ codes "same" ∷ codes "--files" ∷ first ∷ second ∷ [])
+        ≡ Some (Files (task.Same (codes "full")) (first ∷ second ∷ [])) }
+    ensures one { (program first : Text) → is_plain_word first ≡ true →
+        asked (program ∷ codes "explain" ∷ codes "--files" ∷ first ∷ [])
+        ≡ Some (Files (task.Explain (codes "full")) (first ∷ [])) }
+    ensures two { (program first second : Text) → is_plain_word first ≡ true → is_plain_word second ≡ true →
+        asked (program ∷ codes "explain" ∷ codes "--files" ∷ first ∷ second ∷ [])
+        ≡ Some (Files (task.ExplainPair (codes "full")) (first ∷ second ∷ [])) }
 {}
 
 /// `check` has no level.

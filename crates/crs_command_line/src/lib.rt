@@ -1,9 +1,9 @@
-//! The command line: which command is asked for, with its texts, read by `clap`.
+//! The command line: which command is asked for, with its texts or files, read by `clap`.
 #![tactic(auto)]
 
 pub use line::{VERSION, request};
-pub use requests::{Request, RequestFault};
-pub use word::LineWord;
+pub use requests::{Request, RequestFault, Task};
+pub use word::{LineWord, LineWords};
 
 pub mod laws;
 mod line;

@@ -1,14 +1,16 @@
-ghost use Rattle.std.specs.Prelude.{◌≡◌, [], map, IfOk, IfErr, IsSome, Some, false, option_and_then};
+ghost use Rattle.std.specs.Prelude.{◌≡◌, ◌∷◌, [], map, IfOk, IfErr, IsSome, Some, false, option_and_then};
 ghost use Rattle.clap.specs.Words.{app_of, fault_of, found_of, rows_of, rule_of, shape_of};
 ghost use Rattle.clap.specs.Words.{subcommand_rows_of, with_subcommand};
 ghost use Rattle.clap.specs.Simple.{new_shape};
 ghost use Rattle.clap.specs.declared.builder.command.Command.TheViews.{out-Command as fields_of};
 ghost use Rattle.crs_command_line.specs.CommandLine.{HandsOn, IsRefusal, asked, desk, input_desk, lone_desk, operand};
 ghost use Rattle.crs_command_line.specs.CommandLine.{canon_of, canon_shape, check_of, check_shape, explain_of, explain_shape};
-ghost use Rattle.crs_command_line.specs.CommandLine.{group_shape, has_lines, level_of, level_option, lines_flag, request_of};
-ghost use Rattle.crs_command_line.specs.CommandLine.{same_of, same_shape, spare_operand};
+ghost use Rattle.crs_command_line.specs.CommandLine.{file_operands, files_of, flag, group_of, group_shape, has_flag};
+ghost use Rattle.crs_command_line.specs.CommandLine.{explained_operands, level_of, level_option, request_of, same_of};
+ghost use Rattle.crs_command_line.specs.CommandLine.{same_operands, same_shape};
+ghost use Rattle.crs_command_line.specs.CommandLine.{spare_operand};
 
-use crate::{LineWord, Request, RequestFault};
+use crate::{LineWord, LineWords, Request, RequestFault, Task};
 use clap::error::ErrorKind;
 use clap::{Arg, ArgAction, ArgMatches, Command};
 use std::alloc::{AllocError, Global};
@@ -16,29 +18,33 @@ use std::alloc::{AllocError, Global};
 /// The version that `--version` prints.
 pub const VERSION: &str = "0.1.0";
 
-// What help says of the commands that read standard input.
-const CANON_ABOUT: &str = "Writes the canonical text of the text on standard input";
+// What help says of the commands that read files or standard input.
+const CANON_ABOUT: &str = "Writes the canonical text of each file's text";
 
-const CHECK_ABOUT: &str = "Tells what kind of CRS standard input spells, or where it is refused";
+const CHECK_ABOUT: &str = "Tells what kind of CRS each file's text spells, or where it is refused";
 
-const GROUP_ABOUT: &str =
-    "Groups the lines of standard input, a text each, by the CRSs that they spell";
+const GROUP_ABOUT: &str = "Groups the lines of each file, a text each, by the CRSs that they spell";
 
 const EXPLAIN_ABOUT: &str =
     "Tells what a text spells, or explains why it is refused; of two texts each part that differs";
 
 const SAME_ABOUT: &str = "Compares two texts, and names the first part in which their CRSs differ";
 
-// What help says of the texts of `same` and `explain`.
-const FIRST_HELP: &str = "The first text itself, as \"$(cat a.wkt)\"";
+// What help says of the operands of `same` and `explain`.
+const FIRST_HELP: &str = "The first text itself; with --files the name of its file";
 
 const SPARE_FIRST_HELP: &str =
-    "The first text itself, as \"$(cat a.wkt)\" [default: standard input]";
+    "The first text itself; with --files the name of its file [default: standard input]";
 
-const SECOND_HELP: &str = "The second text itself";
+const SECOND_HELP: &str = "The second text, or its file";
 
-// What help says of the flag `--lines`.
-const LINES_HELP: &str = "Takes each line of standard input as a text";
+// What help says of the files of the other commands.
+const FILE_HELP: &str = "A file to read; `-` is standard input [default: standard input]";
+
+// What help says of the flags `--lines` and `--files`.
+const LINES_HELP: &str = "Takes each line as a text";
+
+const FILES_HELP: &str = "Takes A and B as names of files; `-` is standard input";
 
 // What help says of the option `--level`.
 const LEVEL_HELP: &str =
@@ -92,7 +98,7 @@ fn desk_command<'a>(alloc: Global) -> Result<Command<'a>, AllocError>
     command.subcommand(explain_command(alloc)?)
 }
 
-// The commands that read standard input, and `same`.
+// The commands that read files or standard input, and `same`.
 fn with_same<'a>(alloc: Global) -> Result<Command<'a>, AllocError>
     ensures shape { IfOk result (λ command. app_of command ≡ with_subcommand input_desk same_shape) }
     ensures globals { IfOk result (λ command. (fields_of command).has_globals ≡ false) }
@@ -101,7 +107,7 @@ fn with_same<'a>(alloc: Global) -> Result<Command<'a>, AllocError>
     command.subcommand(same_command(alloc)?)
 }
 
-// The commands that read standard input.
+// The commands that read files or standard input.
 fn with_inputs<'a>(alloc: Global) -> Result<Command<'a>, AllocError>
     ensures shape { IfOk result (λ command. app_of command ≡ input_desk) }
     ensures globals { IfOk result (λ command. (fields_of command).has_globals ≡ false) }
@@ -121,21 +127,26 @@ fn canon_command<'a>(alloc: Global) -> Result<Command<'a>, AllocError>
 {
     lone_command(alloc, "canon", CANON_ABOUT, CANON_STATUS)
         .arg(level_argument(alloc))?
-        .arg(lines_argument(alloc))
+        .arg(flag_argument(alloc, "lines", LINES_HELP))?
+        .arg(file_argument(alloc))
 }
 
 fn check_command<'a>(alloc: Global) -> Result<Command<'a>, AllocError>
     ensures shape { IfOk result (λ command. shape_of command ≡ check_shape) }
     ensures globals { IfOk result (λ command. (fields_of command).has_globals ≡ false) }
 {
-    lone_command(alloc, "check", CHECK_ABOUT, CHECK_STATUS).arg(lines_argument(alloc))
+    lone_command(alloc, "check", CHECK_ABOUT, CHECK_STATUS)
+        .arg(flag_argument(alloc, "lines", LINES_HELP))?
+        .arg(file_argument(alloc))
 }
 
 fn group_command<'a>(alloc: Global) -> Result<Command<'a>, AllocError>
     ensures shape { IfOk result (λ command. shape_of command ≡ group_shape) }
     ensures globals { IfOk result (λ command. (fields_of command).has_globals ≡ false) }
 {
-    lone_command(alloc, "group", GROUP_ABOUT, GROUP_STATUS).arg(level_argument(alloc))
+    lone_command(alloc, "group", GROUP_ABOUT, GROUP_STATUS)
+        .arg(level_argument(alloc))?
+        .arg(file_argument(alloc))
 }
 
 // A command before its words are added, what help says of it, and what it says last.
@@ -163,7 +174,8 @@ fn same_command<'a>(alloc: Global) -> Result<Command<'a>, AllocError>
     lone_command(alloc, "same", SAME_ABOUT, SAME_STATUS)
         .arg(needed_word(alloc, "first", "A", FIRST_HELP))?
         .arg(needed_word(alloc, "second", "B", SECOND_HELP))?
-        .arg(level_argument(alloc))
+        .arg(level_argument(alloc))?
+        .arg(flag_argument(alloc, "files", FILES_HELP))
 }
 
 fn explain_command<'a>(alloc: Global) -> Result<Command<'a>, AllocError>
@@ -173,7 +185,8 @@ fn explain_command<'a>(alloc: Global) -> Result<Command<'a>, AllocError>
     lone_command(alloc, "explain", EXPLAIN_ABOUT, EXPLAIN_STATUS)
         .arg(spare_word(alloc, "first", "A", SPARE_FIRST_HELP))?
         .arg(spare_word(alloc, "second", "B", SECOND_HELP))?
-        .arg(level_argument(alloc))
+        .arg(level_argument(alloc))?
+        .arg(flag_argument(alloc, "files", FILES_HELP))
 }
 
 // An operand that must be given, what help calls it, and what help says of it.
@@ -192,14 +205,23 @@ fn spare_word<'a>(alloc: Global, id: &'a str, shown: &'a str, help: &'a str) -> 
     Arg::new(alloc, id).value_name(shown).help(help)
 }
 
-fn lines_argument<'a>(alloc: Global) -> Arg<'a>
-    ensures rule { rule_of result ≡ lines_flag }
+// The files of a command, as many as there are.
+fn file_argument<'a>(alloc: Global) -> Arg<'a>
+    ensures rule { rule_of result ≡ file_operands }
     ensures local { result.global ≡ false }
 {
-    Arg::new(alloc, "lines")
-        .long("lines")
+    spare_word(alloc, "file", "FILE", FILE_HELP).action(ArgAction::Append)
+}
+
+// A flag, and what help says of it.
+fn flag_argument<'a>(alloc: Global, name: &'a str, help: &'a str) -> Arg<'a>
+    ensures rule { rule_of result ≡ flag name.entry.now }
+    ensures local { result.global ≡ false }
+{
+    Arg::new(alloc, name)
+        .long(name)
         .action(ArgAction::SetTrue)
-        .help(LINES_HELP)
+        .help(help)
 }
 
 fn level_argument<'a>(alloc: Global) -> Arg<'a>
@@ -227,9 +249,9 @@ fn named(alloc: Global, matches: &ArgMatches) -> Result<Request, AllocError>
 {
     match matches.subcommand() {
         Some(("canon", options)) => canon_request(alloc, options),
-        Some(("check", options)) => Ok(check_request(options)),
+        Some(("check", options)) => check_request(alloc, options),
         Some(("same", operands)) => same_request(alloc, operands),
-        Some(("group", options)) => Ok(Request::Group(level_word(alloc, options)?)),
+        Some(("group", options)) => group_request(alloc, options),
         Some(("explain", operands)) => explain_request(alloc, operands),
         _ => unreachable!(),
     }
@@ -239,19 +261,36 @@ fn canon_request(alloc: Global, options: &ArgMatches) -> Result<Request, AllocEr
     ensures { IfOk result (λ found. found ≡ canon_of (rows_of (found_of options.now))) }
 {
     let level = level_word(alloc, options)?;
-    if lines_asked(options) {
-        return Ok(Request::CanonLines(level));
+    let files = file_words(alloc, options)?;
+    match (flag_asked(options, "lines"), files.is_empty()) {
+        (false, true) => Ok(Request::Canon(level)),
+        (true, true) => Ok(Request::CanonLines(level)),
+        (false, false) => Ok(Request::Files(Task::Canon(level), files)),
+        (true, false) => Ok(Request::Files(Task::CanonLines(level), files)),
     }
-    Ok(Request::Canon(level))
 }
 
-fn check_request(options: &ArgMatches) -> Request
-    ensures { result ≡ check_of (rows_of (found_of options.now)) }
+fn check_request(alloc: Global, options: &ArgMatches) -> Result<Request, AllocError>
+    ensures { IfOk result (λ found. found ≡ check_of (rows_of (found_of options.now))) }
 {
-    if lines_asked(options) {
-        return Request::CheckLines;
+    let files = file_words(alloc, options)?;
+    match (flag_asked(options, "lines"), files.is_empty()) {
+        (false, true) => Ok(Request::Check),
+        (true, true) => Ok(Request::CheckLines),
+        (false, false) => Ok(Request::Files(Task::Check, files)),
+        (true, false) => Ok(Request::Files(Task::CheckLines, files)),
     }
-    Request::Check
+}
+
+fn group_request(alloc: Global, options: &ArgMatches) -> Result<Request, AllocError>
+    ensures { IfOk result (λ found. found ≡ group_of (rows_of (found_of options.now))) }
+{
+    let level = level_word(alloc, options)?;
+    let files = file_words(alloc, options)?;
+    if files.is_empty() {
+        return Ok(Request::Group(level));
+    }
+    Ok(Request::Files(Task::Group(level), files))
 }
 
 fn same_request(alloc: Global, operands: &ArgMatches) -> Result<Request, AllocError>
@@ -261,12 +300,76 @@ fn same_request(alloc: Global, operands: &ArgMatches) -> Result<Request, AllocEr
     match (operands.get_str("first"), operands.get_str("second")) {
         (Some(first), Some(second)) => {
             let level = level_word(alloc, operands)?;
-            let first = LineWord::new(alloc, first)?;
-            let second = LineWord::new(alloc, second)?;
-            Ok(Request::Same(first, second, level))
+            same_pair(alloc, flag_asked(operands, "files"), level, first, second)
         }
         _ => unreachable!(),
     }
+}
+
+// Two texts are compared, or two files.
+fn same_pair(
+    alloc: Global,
+    are_files: bool,
+    level: LineWord,
+    first: &str,
+    second: &str,
+) -> Result<Request, AllocError>
+    ensures { IfOk result (λ found. Some found ≡ same_operands are_files level (Some first.now) (Some second.now)) }
+{
+    if are_files {
+        let files = LineWords::of(alloc, &[first, second])?;
+        return Ok(Request::Files(Task::Same(level), files));
+    }
+    let first = LineWord::new(alloc, first)?;
+    let second = LineWord::new(alloc, second)?;
+    Ok(Request::Same(first, second, level))
+}
+
+fn explain_request(alloc: Global, operands: &ArgMatches) -> Result<Request, AllocError>
+    ensures { IfOk result (λ found. found ≡ explain_of (rows_of (found_of operands.now))) }
+{
+    let level = level_word(alloc, operands)?;
+    let are_files = flag_asked(operands, "files");
+    match (operands.get_str("first"), operands.get_str("second")) {
+        (None, _) => Ok(Request::Explain(level)),
+        (Some(first), None) => explain_one(alloc, are_files, level, first),
+        (Some(first), Some(second)) => explain_two(alloc, are_files, level, first, second),
+    }
+}
+
+// A text is explained, or a file.
+fn explain_one(
+    alloc: Global,
+    are_files: bool,
+    level: LineWord,
+    first: &str,
+) -> Result<Request, AllocError>
+    ensures { IfOk result (λ found. found ≡ explained_operands are_files level (Some first.now) None) }
+{
+    if are_files {
+        let files = LineWords::of(alloc, &[first])?;
+        return Ok(Request::Files(Task::Explain(level), files));
+    }
+    Ok(Request::ExplainText(LineWord::new(alloc, first)?, level))
+}
+
+// Two texts are explained, or two files.
+fn explain_two(
+    alloc: Global,
+    are_files: bool,
+    level: LineWord,
+    first: &str,
+    second: &str,
+) -> Result<Request, AllocError>
+    ensures { IfOk result (λ found. found ≡ explained_operands are_files level (Some first.now) (Some second.now)) }
+{
+    if are_files {
+        let files = LineWords::of(alloc, &[first, second])?;
+        return Ok(Request::Files(Task::ExplainPair(level), files));
+    }
+    let first = LineWord::new(alloc, first)?;
+    let second = LineWord::new(alloc, second)?;
+    Ok(Request::ExplainPair(first, second, level))
 }
 
 fn level_word(alloc: Global, matches: &ArgMatches) -> Result<LineWord, AllocError>
@@ -275,23 +378,17 @@ fn level_word(alloc: Global, matches: &ArgMatches) -> Result<LineWord, AllocErro
     LineWord::new(alloc, matches.get_str("level").unwrap_or(USUAL_LEVEL))
 }
 
-fn explain_request(alloc: Global, operands: &ArgMatches) -> Result<Request, AllocError>
-    ensures { IfOk result (λ found. found ≡ explain_of (rows_of (found_of operands.now))) }
+fn file_words(alloc: Global, matches: &ArgMatches) -> Result<LineWords, AllocError>
+    ensures { IfOk result (λ files. files ≡ files_of (rows_of (found_of matches.now))) }
 {
-    let level = level_word(alloc, operands)?;
-    match (operands.get_str("first"), operands.get_str("second")) {
-        (None, _) => Ok(Request::Explain(level)),
-        (Some(text), None) => Ok(Request::ExplainText(LineWord::new(alloc, text)?, level)),
-        (Some(first), Some(second)) => {
-            let first = LineWord::new(alloc, first)?;
-            let second = LineWord::new(alloc, second)?;
-            Ok(Request::ExplainPair(first, second, level))
-        }
+    match matches.get_strs("file") {
+        Some(names) => LineWords::of(alloc, names),
+        None => Ok(LineWords::new(alloc)),
     }
 }
 
-fn lines_asked(matches: &ArgMatches) -> bool
-    ensures { result ≡ has_lines (rows_of (found_of matches.now)) }
+fn flag_asked(matches: &ArgMatches, name: &str) -> bool
+    ensures { result ≡ has_flag name.now (rows_of (found_of matches.now)) }
 {
-    matches.get_str("lines").unwrap_or("false") == "true"
+    matches.get_str(name).unwrap_or("false") == "true"
 }

@@ -1,4 +1,4 @@
-use crate::LineWord;
+use crate::{LineWord, LineWords};
 use std::alloc::AllocError;
 use thiserror::Error;
 
@@ -24,6 +24,29 @@ pub enum Request {
     ExplainText(LineWord, LineWord),
     /// Where two texts differ, each part: the first, the second, and a level.
     ExplainPair(LineWord, LineWord, LineWord),
+    /// A task over these files, by their names as they were written; there is at least one.
+    Files(Task, LineWords),
+}
+
+/// What is asked of files. A level is the word after `--level`, as in a `Request`.
+#[derive(Debug, Drop)]
+pub enum Task {
+    /// The canonical text of each file's text, at a level.
+    Canon(LineWord),
+    /// Whether each file's text is accepted, and what it spells.
+    Check,
+    /// Which lines of a file spell the same CRS, at a level, for each file by itself.
+    Group(LineWord),
+    /// The canonical text of each line of each file, at a level.
+    CanonLines(LineWord),
+    /// Whether each line of each file is accepted, and what it spells.
+    CheckLines,
+    /// What a file's text spells, or why it is refused, explained. The level has no bearing on it.
+    Explain(LineWord),
+    /// Whether the texts of two files spell the same CRS, at a level.
+    Same(LineWord),
+    /// Where the texts of two files differ, each part, at a level.
+    ExplainPair(LineWord),
 }
 
 /// Why a command line gives no request.

@@ -1,5 +1,5 @@
-//! A word of the command line, of which a request keeps a copy.
-ghost use Rattle.std.specs.Prelude.{◌≡◌, IfOk};
+//! Words of the command line, of which a request keeps copies.
+ghost use Rattle.std.specs.Prelude.{◌≡◌, ◌==◌, ◌++◌, ◌∷◌, [], IfOk, length, map};
 
 use std::alloc::{AllocError, Global};
 use std::marker::Model;
@@ -31,5 +31,60 @@ impl LineWord {
         ensures { result.now ≡ self.now }
     {
         self.text.as_str()
+    }
+}
+
+/// Words of the command line, in their order.
+#[derive(Debug, Drop)]
+pub struct LineWords {
+    words: Vec<LineWord>,
+}
+
+impl Model for LineWords {
+    ghost use Rattle.std.specs.Prelude.{ℕ, List};
+
+    ghost Value = { List (List ℕ) };
+
+    ghost view = { λ list. list.words.items };
+}
+
+impl LineWords {
+    pub(crate) fn new(alloc: Global) -> LineWords
+        ensures { result ≡ [] }
+    {
+        LineWords {
+            words: Vec::new(alloc),
+        }
+    }
+
+    pub(crate) fn push(&mut self, alloc: Global, text: &str) -> Result<(), AllocError>
+        ensures { IfOk result (λ _. self.new ≡ self.old ++ text.now ∷ []) }
+    {
+        self.words.push(LineWord::new(alloc, text)?)?;
+        Ok(())
+    }
+
+    // These texts, each a word.
+    pub(crate) fn of(alloc: Global, texts: &[&str]) -> Result<LineWords, AllocError>
+        ensures { IfOk result (λ words. words ≡ map (λ text. text.now) texts.now) }
+    {
+        let mut words = LineWords::new(alloc);
+        for text in texts {
+            words.push(alloc, text)?;
+        }
+        Ok(words)
+    }
+
+    pub(crate) fn is_empty(&self) -> bool
+        ensures { result ≡ (length self.now == 0) }
+    {
+        self.words.is_empty()
+    }
+
+    /// The words, in their order.
+    pub fn as_slice(&self) -> &[LineWord]
+        ensures { result.now ≡ self.now }
+    {
+        &self.words
     }
 }

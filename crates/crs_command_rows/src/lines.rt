@@ -1,11 +1,11 @@
 //! The reading of command lines.
-use crs_desk::{LineWord, Request, RequestFault, request};
+use crs_desk::{LineWord, Request, RequestFault, Task, request};
 use crs_suite::put_text;
 use std::alloc::{AllocError, Global};
 use std::str;
 
-/// The command that the words ask for, one a line, and its words in brackets, the level first; `no command` where the
-/// line is wrong.
+/// The command that the words ask for, one a line, and its words in brackets, the level first, and after `files` the
+/// names; `no command` where the line is wrong.
 pub fn put_request(out: &mut String, alloc: Global, input: &[u8]) -> Result<(), AllocError> {
     let Ok(line) = str::from_utf8(input) else {
         return out.push_str("no words");
@@ -32,7 +32,32 @@ pub fn put_asked(out: &mut String, asked: &Request) -> Result<(), AllocError> {
         Request::ExplainPair(first, second, level) => {
             put_command(out, "explain", &[level, first, second])
         }
+        Request::Files(task, names) => {
+            put_task(out, task)?;
+            out.push_str(" files")?;
+            put_words(out, names.as_slice())
+        }
     }
+}
+
+fn put_task(out: &mut String, task: &Task) -> Result<(), AllocError> {
+    match task {
+        Task::Canon(level) => put_command(out, "canon", &[level]),
+        Task::Check => out.push_str("check"),
+        Task::Group(level) => put_command(out, "group", &[level]),
+        Task::CanonLines(level) => put_command(out, "canon lines", &[level]),
+        Task::CheckLines => out.push_str("check lines"),
+        Task::Explain(level) => put_command(out, "explain one", &[level]),
+        Task::Same(level) => put_command(out, "same", &[level]),
+        Task::ExplainPair(level) => put_command(out, "explain two", &[level]),
+    }
+}
+
+fn put_words(out: &mut String, words: &[LineWord]) -> Result<(), AllocError> {
+    for word in words {
+        put_word(out, word)?;
+    }
+    Ok(())
 }
 
 fn put_command(out: &mut String, name: &str, words: &[&LineWord]) -> Result<(), AllocError> {

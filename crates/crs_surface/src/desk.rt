@@ -98,7 +98,7 @@ fn asks(alloc: Global, line: &[&str], command: &str, words: &[&str]) -> bool {
     }
 }
 
-// The last five variants are additions.
+// The last six variants are additions.
 fn is_request(asked: &Request, command: &str, words: &[&str]) -> bool {
     match asked {
         Request::Canon(level) => command == "canon" && are_words(&[level], words),
@@ -111,7 +111,8 @@ fn is_request(asked: &Request, command: &str, words: &[&str]) -> bool {
         | Request::CheckLines
         | Request::Explain(_)
         | Request::ExplainText(_, _)
-        | Request::ExplainPair(_, _, _) => false,
+        | Request::ExplainPair(_, _, _)
+        | Request::Files(_, _) => false,
     }
 }
 

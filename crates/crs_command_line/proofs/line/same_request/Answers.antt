@@ -1,6 +1,7 @@
-use Rattle.std.proofs.Common.{rules, ◌∙◌}
+use Rattle.std.proofs.Common.{◌∙◌, rules, sym}
+use Rattle.std.proofs.lemmas.Result.{IfOk-weaker}
 use Rattle.clap.specs.Words.{found_of}
-use Rattle.crs_command_line.proofs.OperandLemmas.{neither_missing, texts_read}
+use Rattle.crs_command_line.proofs.OperandLemmas.{neither_missing, same_there}
 use Rattle.crs_command_line.proofs.line.same_request.Goals as goal
 use Rattle.crs_command_line.proofs.line.same_request.Goals.{in_default-via-in-Some+in_default, in_default-via-in_default}
 
@@ -14,4 +15,8 @@ unreachable-requires c =
 
 pub returns : goal.returns
 returns c =
-    texts_read (found_of c.args.operands.now) c.get_str.result c.get_str-2.result c.get_str.ensures c.get_str-2.ensures ∙ search rules
+    IfOk-weaker c.same_pair.result _ _
+    (λ found is. same_there (found_of c.args.operands.now) c.get_str.result c.get_str-2.result c.in-Some-Some.first
+    c.in-Some-Some.second c.flag_asked.result c.in_ok-level-in-Some-Some.level c.get_str.ensures c.get_str-2.ensures
+    (search rules) (search rules) c.flag_asked.ensures (search rules) ∙ sym is)
+    c.same_pair.ensures
