@@ -10,8 +10,8 @@ use Rattle.crs_streams.specs.declared.fault.RunFault.{RunFault}
 use Rattle.crs_streams.specs.declared.fault.RunFault.TheVariants.{ReadFailed, WriteFailed, TooLong, TooManyReads, Memory}
 use Rattle.crs_streams.proofs.FeedLemmas.{feeds-append, feeds-none, none-kept, short-ended, short-line, short-more, some-kept}
 use Rattle.crs_streams.proofs.SplitLemmas.{plain-append}
-use Rattle.crs_desk.specs.LinesRun.{AreOutputs, AreWholeLines, HasSent, HasSentMost, IsFrontOutput, Outputs}
-use Rattle.crs_desk.specs.LineCutting.{CutterParts, IsCut, IsEmptied, IsFlushed, IsHealthy, IsKept, IsLinesCut, IsNotKept, IsPut, IsPutOut, IsStopped, IsWrittenOut, PutsLine, WriterParts}
+use Rattle.crs_desk.specs.LinesRun.{AreOutputs, AreWholeLines, HasSent, HasSentAll, IsFrontOutput, Outputs}
+use Rattle.crs_desk.specs.LineCutting.{CutterParts, IsCut, IsEmptied, IsFlushed, IsHealthy, IsKept, IsLinesCut, IsNotKept, IsOver, IsPut, IsPutOut, IsStopped, IsWrittenOut, PutsLine, WriterParts}
 use Rattle.crs_desk.proofs.LineOutputLemmas.{lines-append, outputs-append}
 
 -- some whole lines of bytes are some of more bytes
@@ -135,11 +135,6 @@ put-flushed Output end before now after bytes old new put (inl (few, same, kept)
 put-flushed Output end before now after bytes old new put (inr (block, sent)) =
     put-emptied Output end before now after bytes old new put sent
 
--- less than a block is kept
-flushed-few : (old new : WriterParts) (before after : SinkState) → IsFlushed old new before after → length new.out < 65536
-flushed-few old new before after (inl (few, same, kept)) = subst (λ (w : WriterParts). length w.out < 65536) (sym same) few
-flushed-few old new before after (inr (block, sent)) = omega (arith, ap length sent.is_empty)
-
 -- a write that failed took the first bytes of what was kept
 put-cut : (Output : Outputs) (end : Bool) (before now after : SinkState) (bytes : List ℕ) (writer : WriterParts)
     (fault : RunFault) → IsPutOut Output end before bytes writer now → IsCut writer now after fault
@@ -198,7 +193,6 @@ cut-none Output before cutter healthy is = subst (λ (c : CutterParts). IsLinesC
   is_one = refl;
   is_short = omega arith;
   is_counted = refl;
-  are_few = omega arith;
 })
   where
     appends-none : (contents : Option (List ℕ)) → Appends contents contents []
@@ -241,7 +235,6 @@ cut-line Output before now after bytes line text old new put cut plain fits of-l
         feeds-none whole bare,
         one-feed,
       );
-      are_few = flushed-few put new.writer now after flushed;
     }
   where
     one-feed : feeds (10 ∷ []) ≡ 1
@@ -280,7 +273,20 @@ cut-kept Output before after bytes more old new cut plain fits writer lines part
   is_one = subst HasNoFeed (sym partial) (plain-append old.partial more cut.is_one plain);
   is_short = omega (arith, ap length partial, length-append old.partial more);
   is_counted = lines ∙ cut.is_counted;
-  are_few = subst (λ (w : WriterParts). length w.out < 65536) (sym writer) cut.are_few;
+}
+
+-- what was kept is sent
+pub cut-emptied : (Output : Outputs) (before now after : SinkState) (bytes : List ℕ) (old new : CutterParts)
+    → IsLinesCut Output before bytes old now → IsEmptied old.writer new.writer now after → new.partial ≡ old.partial
+    → new.lines ≡ old.lines → IsLinesCut Output before bytes new after
+cut-emptied Output before now after bytes old new cut emptied partial lines = record {
+  ended = cut.ended;
+  are_bytes = cut.are_bytes ∙ ap (λ l. cut.ended ++ l) (sym partial);
+  is_put = put-emptied Output false before now after cut.ended old.writer new.writer cut.is_put emptied;
+  are_short = cut.are_short;
+  is_one = subst HasNoFeed (sym partial) cut.is_one;
+  is_short = omega (arith, ap length partial, cut.is_short);
+  is_counted = lines ∙ cut.is_counted;
 }
 
 -- whole lines of the bytes that were cut were sent
@@ -292,22 +298,21 @@ cut-sent Output before after bytes more end cutter cut =
     (sent-more Output before after cut.ended (cutter.partial ++ more) [] end
     (put-sent Output false before after cut.ended cutter.writer cut.is_put))
 
--- and most of what is written for the lines that have ended
-pub cut-most : (Output : Outputs) (before after : SinkState) (bytes : List ℕ) (cutter : CutterParts)
-    (cut : IsLinesCut Output before bytes cutter after) → HasSentMost Output cut.ended before after
-cut-most Output before after bytes cutter cut = record {
-  written = cut.is_put.sent;
-  unsent = cutter.writer.out;
-  status = cutter.writer.status;
-  is_output = record {
-    texts = cut.is_put.texts;
-    are_texts = cut.is_put.are_texts;
-    are_outputs = cut.is_put.are_outputs;
-  };
-  is_front = cut.is_put.is_front;
-  are_few = cut.are_few;
-  is_sent = cut.is_put.is_sent;
-}
+-- and all of what is written for the lines that have ended, where none of it is kept
+pub cut-all : (Output : Outputs) (before after : SinkState) (bytes : List ℕ) (cutter : CutterParts)
+    (cut : IsLinesCut Output before bytes cutter after) → cutter.writer.out ≡ [] → HasSentAll Output cut.ended before after
+cut-all Output before after bytes cutter cut none =
+    let same : cut.is_put.sent ++ cutter.writer.out ≡ cut.is_put.sent =
+    ap (λ l. cut.is_put.sent ++ l) none ∙ append-nil cut.is_put.sent in record {
+      written = cut.is_put.sent;
+      status = cutter.writer.status;
+      is_output = record {
+        texts = cut.is_put.texts;
+        are_texts = cut.is_put.are_texts;
+        are_outputs = subst (λ l. AreOutputs Output cut.is_put.texts l cutter.writer.status) same cut.is_put.are_outputs;
+      };
+      is_sent = cut.is_put.is_sent;
+    }
 
 -- memory ran out
 pub cut-starved : (Output : Outputs) (before after : SinkState) (bytes more : List ℕ) (end : Bool) (cutter : CutterParts)
@@ -317,10 +322,10 @@ cut-starved Output before after bytes more end cutter cut =
 
 -- a line is too long
 pub cut-long : (Output : Outputs) (before after : SinkState) (bytes line rest : List ℕ) (cutter : CutterParts)
-    → IsLinesCut Output before bytes cutter after → HasNoFeed line → 1048576 < length cutter.partial + length line
-    → length line + length rest ≤ 65536
+    → IsLinesCut Output before bytes cutter after → cutter.writer.out ≡ [] → HasNoFeed line
+    → 1048576 < length cutter.partial + length line → length line + length rest ≤ 65536
     → IsStopped Output false before (bytes ++ (line ++ rest)) after (TooLong (cutter.lines + 1))
-cut-long Output before after bytes line rest cutter cut plain long small = (
+cut-long Output before after bytes line rest cutter cut none plain long small = (
   cut.is_put.is_healthy,
   (
     record {
@@ -337,9 +342,20 @@ cut-long Output before after bytes line rest cutter cut plain long small = (
       before = cut.are_short;
       is_number = ap (λ n. n + 1) cut.is_counted;
     },
-    cut-most Output before after bytes cutter cut,
+    cut-all Output before after bytes cutter cut none,
   ),
 )
+
+-- what is written for the lines before can't be sent
+pub cut-unsendable : (Output : Outputs) (before now after : SinkState) (bytes more : List ℕ) (cutter : CutterParts)
+    (fault : RunFault) → IsLinesCut Output before bytes cutter now → IsCut cutter.writer now after fault
+    → IsStopped Output false before (bytes ++ more) after fault
+cut-unsendable Output before now after bytes more cutter fault cut unsent =
+    let same : cut.ended ++ (cutter.partial ++ more) ≡ bytes ++ more =
+    sym (append_assoc cut.ended cutter.partial more) ∙ ap (λ b. b ++ more) (sym cut.are_bytes) in
+    subst (λ b. IsStopped Output false before b after fault) same
+    (stopped-more Output before after cut.ended (cutter.partial ++ more) fault unsent.is_fault
+    (put-cut Output false before now after cut.ended cutter.writer fault cut.is_put unsent))
 
 -- the lines that have ended are all whole lines of the bytes that were cut
 pub cut-whole : (Output : Outputs) (before after : SinkState) (bytes : List ℕ) (cutter : CutterParts)
@@ -463,14 +479,29 @@ end-starved Output before after bytes cutter fault is cut =
     (subst (λ b. IsStopped Output true before b after Memory) (append-nil bytes)
     (cut-starved Output before after bytes [] true cutter cut))
 
-pub over-end : (Output : Outputs) (line partial : List ℕ) (now : CutterParts) (writer : WriterParts) (lines : ℕ)
-    → cutter_of writer partial lines ≡ now → HasNoFeed line → 1048576 < length now.partial + length line
-    → (before after : SinkState) (bytes rest : List ℕ) → length line + length rest ≤ 65536
-    → IsLinesCut Output before bytes now after
-    → IsStopped Output false before (bytes ++ (line ++ rest)) after (TooLong (lines + 1))
-over-end Output line partial now writer lines is plain over before after bytes rest small cut =
-    subst (λ n. IsStopped Output false before (bytes ++ (line ++ rest)) after (TooLong (n + 1)))
-    (sym (ap (λ (k : CutterParts). k.lines) is)) (cut-long Output before after bytes line rest now cut plain over small)
+pub over-sent : (now : CutterParts) (writer new : WriterParts) (partial : List ℕ) (lines : ℕ) (before after : SinkState)
+    → cutter_of writer partial lines ≡ now → IsEmptied writer new before after
+    → IsOver now (cutter_of new partial lines) before after (TooLong (lines + 1))
+over-sent now writer new partial lines before after is emptied =
+    subst (λ (k : CutterParts). IsOver k (cutter_of new partial lines) before after (TooLong (lines + 1))) is
+    (inl (refl, emptied, refl, refl))
+
+pub over-cut : (now next : CutterParts) (writer : WriterParts) (partial : List ℕ) (lines : ℕ) (before after : SinkState)
+    (fault : RunFault) → cutter_of writer partial lines ≡ now → IsCut writer before after fault → IsOver now next before after fault
+over-cut now next writer partial lines before after fault is cut =
+    subst (λ (k : CutterParts). IsOver k next before after fault) is (inr cut)
+
+pub over-end : (Output : Outputs) (line : List ℕ) (old new : CutterParts) (now after : SinkState) (fault : RunFault)
+    → HasNoFeed line → 1048576 < length old.partial + length line → IsOver old new now after fault
+    → (before : SinkState) (bytes rest : List ℕ) → length line + length rest ≤ 65536
+    → IsLinesCut Output before bytes old now → IsStopped Output false before (bytes ++ (line ++ rest)) after fault
+over-end Output line old new now after fault plain over (inl (is, emptied, partial, lines)) before bytes rest small cut =
+    subst (IsStopped Output false before (bytes ++ (line ++ rest)) after) (ap (λ n. TooLong (n + 1)) lines ∙ sym is)
+    (cut-long Output before after bytes line rest new
+    (cut-emptied Output before now after bytes old new cut emptied partial lines) emptied.is_empty plain
+    (omega (arith, over, ap length partial)) small)
+over-end Output line old new now after fault plain over (inr unsent) before bytes rest small cut =
+    cut-unsendable Output before now after bytes (line ++ rest) old fault cut unsent
 
 pub line-ended : (Output : Outputs) (line partial : List ℕ) (now next : CutterParts) (writer new : WriterParts) (lines : ℕ)
     (sink after : SinkState) → PutsLine Output line now next → cutter_of writer partial lines ≡ next → HasNoFeed line
@@ -495,14 +526,14 @@ line-unsent Output line partial now next writer lines sink after fault (text, of
     (subst (IsPut Output text now.writer) (sym (ap (λ (k : CutterParts). k.writer) is)) put) unsent
 
 pub keep-stopped : (Output : Outputs) (before after : SinkState) (bytes more : List ℕ) (cutter : CutterParts)
-    (fault : RunFault) → HasNoFeed more → length more ≤ 65536 → IsNotKept more cutter fault
+    (fault : RunFault) → cutter.writer.out ≡ [] → HasNoFeed more → length more ≤ 65536 → IsNotKept more cutter fault
     → IsLinesCut Output before bytes cutter after → IsStopped Output false before (bytes ++ more) after fault
-keep-stopped Output before after bytes more cutter fault plain small (inl memory) cut =
+keep-stopped Output before after bytes more cutter fault none plain small (inl memory) cut =
     line-starved Output before after bytes more cutter fault memory cut
-keep-stopped Output before after bytes more cutter fault plain small (inr (is, over)) cut =
+keep-stopped Output before after bytes more cutter fault none plain small (inr (is, over)) cut =
     subst (IsStopped Output false before (bytes ++ more) after) (sym is)
     (subst (λ l. IsStopped Output false before (bytes ++ l) after (TooLong (cutter.lines + 1))) (append-nil more)
-    (cut-long Output before after bytes more [] cutter cut plain over (omega arith)))
+    (cut-long Output before after bytes more [] cutter cut none plain over (omega arith)))
 
 -- ---- the lines of a piece
 
@@ -546,13 +577,21 @@ piece-kept Output before after bytes front rest piece old new is plain kept cut 
     (cut-kept Output before after (bytes ++ front) rest old new cut plain kept.are_few kept.is_put kept.is_counted kept.are_more)
 
 pub piece-end-stopped : (Output : Outputs) (before after : SinkState) (bytes front rest piece : List ℕ)
-    (cutter : CutterParts) (fault : RunFault) → piece ≡ front ++ rest → HasNoFeed rest → length rest ≤ 65536
-    → IsNotKept rest cutter fault → IsLinesCut Output before (bytes ++ front) cutter after
+    (cutter : CutterParts) (fault : RunFault) → piece ≡ front ++ rest → cutter.writer.out ≡ [] → HasNoFeed rest
+    → length rest ≤ 65536 → IsNotKept rest cutter fault → IsLinesCut Output before (bytes ++ front) cutter after
     → IsStopped Output false before (bytes ++ piece) after fault
-piece-end-stopped Output before after bytes front rest piece cutter fault is plain small why cut =
+piece-end-stopped Output before after bytes front rest piece cutter fault is none plain small why cut =
     subst (λ b. IsStopped Output false before b after fault)
     (append_assoc bytes front rest ∙ ap (λ l. bytes ++ l) (sym is))
-    (keep-stopped Output before after (bytes ++ front) rest cutter fault plain small why cut)
+    (keep-stopped Output before after (bytes ++ front) rest cutter fault none plain small why cut)
+
+pub piece-unsent : (Output : Outputs) (before now after : SinkState) (bytes front rest piece : List ℕ)
+    (cutter : CutterParts) (fault : RunFault) → piece ≡ front ++ rest → IsCut cutter.writer now after fault
+    → IsLinesCut Output before (bytes ++ front) cutter now → IsStopped Output false before (bytes ++ piece) after fault
+piece-unsent Output before now after bytes front rest piece cutter fault is unsent cut =
+    subst (λ b. IsStopped Output false before b after fault)
+    (append_assoc bytes front rest ∙ ap (λ l. bytes ++ l) (sym is))
+    (cut-unsendable Output before now after (bytes ++ front) rest cutter fault cut unsent)
 
 -- ---- what a run's fault says
 

@@ -5,12 +5,12 @@ use Rattle.std.specs.Prelude.{IfErr, IfOk, IsErr}
 use Rattle.std.specs.Io.KnownBytes.{Consumes, ReadConsumes}
 use Rattle.crs_streams.specs.Given.{HasGiven}
 use Rattle.crs_streams.specs.LongLines.{HasShortLines}
-use Rattle.crs_streams.specs.Streams.{CountsRead, SinkState, SourceState, fresh_sink, fresh_source}
+use Rattle.crs_streams.specs.Streams.{CountsRead, SinkState, SourceState, fresh_source}
 use Rattle.crs_streams.specs.declared.fault.RunFault.{RunFault}
 use Rattle.crs_streams.specs.declared.fault.RunFault.TheVariants.{ReadFailed, WriteFailed, TooLong, TooManyReads, Memory}
 use Rattle.crs_desk.specs.LinesRun.{HasBegun, IsLinesAnswered, IsLinesFault, Outputs}
 use Rattle.crs_desk.specs.LineCutting.{CutterParts, IsHealthy, IsLinesCut, IsReadThrough, IsStopped, IsWrittenOut}
-use Rattle.crs_desk.proofs.LineCutLemmas.{cut-fits, cut-healthy, cut-most, cut-none, cut-sent-all, cut-short, cut-whole, cutter_of, sent-end, stopped-first}
+use Rattle.crs_desk.proofs.LineCutLemmas.{cut-all, cut-fits, cut-healthy, cut-none, cut-sent-all, cut-short, cut-whole, cutter_of, sent-end, stopped-first}
 use Rattle.crs_streams.proofs.GivenLemmas.{given-kept}
 
 consumes-none : (remaining : Option (List ℕ)) → Consumes remaining remaining []
@@ -24,13 +24,9 @@ given-none source fresh = record {
   is_first = consumes-none source.remaining;
 }
 
-pub fresh-healthy : (sink : SinkState) → sink ≡ fresh_sink sink.contents → IsHealthy sink
-fresh-healthy sink fresh = (ap (λ (s : SinkState). s.failed) fresh, ap (λ (s : SinkState). s.past_failure) fresh)
-
 pub none-begun : (Output : Outputs) (source : SourceState) (sink : SinkState) → source ≡ fresh_source source.remaining
-    → sink ≡ fresh_sink sink.contents → IsLinesFault Output source source sink sink Memory
-none-begun Output source sink given sent =
-    let healthy = fresh-healthy sink sent in
+    → IsHealthy sink → IsLinesFault Output source source sink sink Memory
+none-begun Output source sink given healthy =
     let cutter = cutter_of (record { out = []; status = 0 }) [] 0 in (
       ap (λ (s : SourceState). s.failed) given,
       healthy.0,
@@ -41,29 +37,30 @@ none-begun Output source sink given sent =
       ),
     )
 
--- so far lines were cut, and most of what is written for them was sent
+-- so far lines were cut, and what is written for them was sent
 cut-begun : (Output : Outputs) (old new : SourceState) (before after : SinkState) (bytes : List ℕ) (cutter : CutterParts)
-    → HasGiven old new bytes → IsLinesCut Output before bytes cutter after → HasBegun Output old new before after
-cut-begun Output old new before after bytes cutter given cut = (
+    → HasGiven old new bytes → IsLinesCut Output before bytes cutter after → cutter.writer.out ≡ []
+    → HasBegun Output old new before after
+cut-begun Output old new before after bytes cutter given cut none = (
   bytes,
   cut.ended,
   given,
   cut-short Output before after bytes cutter cut,
   cut-whole Output before after bytes cutter cut,
-  cut-most Output before after bytes cutter cut,
+  cut-all Output before after bytes cutter cut none,
 )
 
 -- a read that fails
 pub failed-read : {E : Type 0} (Output : Outputs) (old now new : SourceState) (before after : SinkState) (bytes room : List ℕ)
     (cutter : CutterParts) (answer : Result ℕ E) → HasGiven old now bytes → IsLinesCut Output before bytes cutter after
-    → ReadConsumes now.remaining new.remaining answer room → CountsRead now new answer → IsErr answer
+    → cutter.writer.out ≡ [] → ReadConsumes now.remaining new.remaining answer room → CountsRead now new answer → IsErr answer
     → IsLinesFault Output old new before after ReadFailed
-failed-read Output old now new before after bytes room cutter (Ok count) given cut consumed counted bad = cc
-failed-read Output old now new before after bytes room cutter (Err error) given cut consumed counted bad =
+failed-read Output old now new before after bytes room cutter (Ok count) given cut none consumed counted bad = cc
+failed-read Output old now new before after bytes room cutter (Err error) given cut none consumed counted bad =
     let kept = counted.bytes in (
       kept.2,
       (cut-healthy Output before after bytes cutter cut).0,
-      cut-begun Output old new before after bytes cutter (given-kept old now new bytes given consumed kept.0) cut,
+      cut-begun Output old new before after bytes cutter (given-kept old now new bytes given consumed kept.0) cut none,
     )
 
 -- a piece that can't be cut
@@ -81,14 +78,14 @@ stopped-fault Output old new before after bytes Memory given healthy (sound, sen
 
 -- the reads have shown no end
 pub many-reads : (Output : Outputs) (old now : SourceState) (before after : SinkState) (bytes : List ℕ) (cutter : CutterParts)
-    → HasGiven old now bytes → IsLinesCut Output before bytes cutter after → now.failed ≡ false → now.ended ≡ false
-    → now.reads ≡ 2 ^ 47 → IsLinesFault Output old now before after TooManyReads
-many-reads Output old now before after bytes cutter given cut healthy unended reads = (
+    → HasGiven old now bytes → IsLinesCut Output before bytes cutter after → cutter.writer.out ≡ [] → now.failed ≡ false
+    → now.ended ≡ false → now.reads ≡ 2 ^ 47 → IsLinesFault Output old now before after TooManyReads
+many-reads Output old now before after bytes cutter given cut none healthy unended reads = (
   healthy,
   (cut-healthy Output before after bytes cutter cut).0,
   reads,
   unended,
-  cut-begun Output old now before after bytes cutter given cut,
+  cut-begun Output old now before after bytes cutter given cut none,
 )
 
 -- lines are counted within 64 bits

@@ -8,7 +8,7 @@ use Rattle.crs_streams.specs.Streams.{AppendsFront, SinkState, SourceState}
 use Rattle.crs_streams.specs.declared.fault.RunFault.{RunFault}
 use Rattle.crs_streams.specs.declared.fault.RunFault.TheVariants.{ReadFailed, WriteFailed, TooLong}
 use Rattle.crs_streams.specs.declared.fault.RunFault.TheVariants.{TooManyReads, Memory}
-use Rattle.crs_desk.specs.LinesRun.{AreOutputs, HasSent, IsFrontOutput, IsLineOutput, IsLinesOutput}
+use Rattle.crs_desk.specs.LinesRun.{AreOutputs, HasSent, IsFrontOutput, IsLinesOutput}
 use Rattle.crs_desk.specs.LinesRun.{LongLineAfter, Outputs}
 
 -- output that was not sent yet, and the greatest status so far
@@ -25,7 +25,7 @@ pub record CutterParts : Type 0 where
 -- one more line's output
 abbrev pub IsPut : Outputs → List ℕ → WriterParts → WriterParts → Type 0
 IsPut Output text old new =
-    (line : List ℕ) × (status : ℕ) × IsLineOutput Output text line status
+    (line : List ℕ) × (status : ℕ) × Output text line status
     × (new.out ≡ old.out ++ line) × (new.status ≡ max old.status status)
 
 -- the output of the line that ends with these bytes, of which no byte is kept then
@@ -71,6 +71,13 @@ pub record IsCut (old : WriterParts) (before after : SinkState) (fault : RunFaul
   pub is_failed : after.failed ≡ true
   pub is_first : IsHealthy before → after.past_failure ≡ false
 
+-- the line is too long: the output of the lines before it was sent, or a write of that failed
+abbrev pub IsOver : CutterParts → CutterParts → SinkState → SinkState → RunFault → Type 0
+IsOver old new before after fault =
+    ((fault ≡ TooLong (old.lines + 1)) × IsEmptied old.writer new.writer before after
+    × (new.partial ≡ old.partial) × (new.lines ≡ old.lines))
+    ⊎ IsCut old.writer before after fault
+
 -- what is written for the lines of these bytes was sent or is kept; the last line has ended, or
 -- this is the end
 pub record IsPutOut (Output : Outputs) (end : Bool) (before : SinkState) (bytes : List ℕ)
@@ -94,7 +101,6 @@ pub record IsLinesCut (Output : Outputs) (before : SinkState) (bytes : List ℕ)
   pub is_one : HasNoFeed cutter.partial
   pub is_short : length cutter.partial ≤ 1048576
   pub is_counted : cutter.lines ≡ feeds ended
-  pub are_few : length cutter.writer.out < 65536
 
 -- all the bytes of the source are cut
 pub record IsReadThrough (Output : Outputs) (old new : SourceState) (before : SinkState)

@@ -1,6 +1,6 @@
 -- What a run over lines writes, and how it ends.
-use Rattle.std.specs.Prelude.{◌≡◌, ◌⊎◌, ◌<◌, ◌++◌, ◌^◌, [], ◌∷◌, ℕ, List, Bool, true, false}
-use Rattle.std.specs.Prelude.{IsTrue, IsFalse, length, max}
+use Rattle.std.specs.Prelude.{◌≡◌, ◌⊎◌, ◌++◌, ◌^◌, [], ◌∷◌, ℕ, List, Bool, true, false}
+use Rattle.std.specs.Prelude.{IsTrue, IsFalse, max}
 use Rattle.std.specs.List.{list_all}
 use Rattle.std.specs.Io.KnownBytes.{Appends}
 use Rattle.crs_text.specs.Tokens.{is_white}
@@ -29,10 +29,10 @@ abbrev pub AreOutputs : Outputs → List (List ℕ) → List ℕ → ℕ → Typ
 AreOutputs Output [] written status = (written ≡ []) × (status ≡ 0)
 AreOutputs Output (text ∷ texts) written status =
     (line : List ℕ) × (rest : List ℕ) × (first : ℕ) × (others : ℕ)
-    × IsLineOutput Output text line first × AreOutputs Output texts rest others
+    × Output text line first × AreOutputs Output texts rest others
     × (written ≡ line ++ rest) × (status ≡ max first others)
 
--- what is written for the lines of some bytes
+-- what is written for the lines of some bytes, of which each has its output
 pub record IsLinesOutput (Output : Outputs) (bytes written : List ℕ) (status : ℕ) : Type 0 where
   pub texts : List (List ℕ)
   pub are_texts : AreLines bytes texts
@@ -72,32 +72,29 @@ abbrev pub AreWholeLines : List ℕ → List ℕ → Type 0
 AreWholeLines bytes lines =
     (last : List ℕ) × (bytes ≡ lines ++ last) × ((lines ≡ []) ⊎ EndsInFeed lines) × HasNoFeed last
 
--- the sink got what is written for some of these whole lines, the first ones, and fewer than 65536
--- bytes are written for the others
-pub record HasSentMost (Output : Outputs) (lines : List ℕ) (before after : SinkState) : Type 0 where
+-- the sink got what is written for these whole lines
+pub record HasSentAll (Output : Outputs) (lines : List ℕ) (before after : SinkState) : Type 0 where
   pub written : List ℕ
-  pub unsent : List ℕ
   pub status : ℕ
-  pub is_output : IsLinesOutput Output lines (written ++ unsent) status
-  pub is_front : IsFrontOutput Output lines false written
-  pub are_few : length unsent < 65536
+  pub is_output : IsLinesOutput Output lines written status
   pub is_sent : Appends before.contents after.contents written
 
--- the line of this number is the first that is too long, and the sink got most of what is written
--- for the lines before it
+-- the line of this number is the first that is too long, and the sink got what is written for all
+-- lines before it
 abbrev pub LongLineAfter : Outputs → List ℕ → ℕ → SinkState → SinkState → Type 0
 LongLineAfter Output bytes number before after =
-    (long : IsTooLong bytes number) × HasSentMost Output long.front before after
+    (long : IsTooLong bytes number) × HasSentAll Output long.front before after
 
--- the source gave bytes of which no line is too long, and the sink got most of what is written for
+-- the source gave bytes of which no line is too long, and the sink got what is written for all
 -- their whole lines
 abbrev pub HasBegun : Outputs → SourceState → SourceState → SinkState → SinkState → Type 0
 HasBegun Output old new before after =
     (bytes : List ℕ) × (lines : List ℕ) × HasGiven old new bytes × HasShortLines bytes
-    × AreWholeLines bytes lines × HasSentMost Output lines before after
+    × AreWholeLines bytes lines × HasSentAll Output lines before after
 
--- what a run's fault says of its source and of its sink: whole lines were written, but where a
--- write failed; out of memory any number of them, else all but the few that were kept
+-- what a run's fault says of its source and of its sink: where a read fails, reads show no end or a
+-- line is too long, all whole lines before were answered; out of memory any number of them; where a
+-- write failed, a front of such answers was taken
 abbrev pub IsLinesFault : Outputs → SourceState → SourceState → SinkState → SinkState → RunFault
     → Type 0
 IsLinesFault Output old new before after ReadFailed =

@@ -100,7 +100,7 @@ impl Answer for TextAnswer<'_> {
     }
 }
 
-fn text_output<'t>(alloc: Global, text: &'t [u8]) -> Result<(Vec<u8>, u8), AllocError>
+pub(crate) fn text_output<'t>(alloc: Global, text: &'t [u8]) -> Result<(Vec<u8>, u8), AllocError>
     ensures { IfOk result (λ output. IsExplainOutput text.now output.0.items output.1) }
 {
     match read(alloc, text) {

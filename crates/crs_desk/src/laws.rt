@@ -1,7 +1,7 @@
 //! Laws of the definitions, as contracts of functions that do nothing.
 ghost use Rattle.std.specs.Prelude.{◌≡◌, ◌⊎◌, ◌++◌, [], ℕ, List, max};
 ghost use Rattle.crs_streams.specs.LongLines.{EndsInFeed};
-ghost use Rattle.crs_desk.specs.LinesRun.{IsLinesOutput};
+ghost use Rattle.crs_desk.specs.LinesRun.{IsLineOutput, IsLinesOutput};
 ghost use Rattle.crs_desk.specs.Output.{IsCanonOutput, IsCheckOutput};
 ghost use Rattle.crs_value.specs.declared.values.level.Level.{Level};
 
@@ -9,9 +9,9 @@ ghost use Rattle.crs_value.specs.declared.values.level.Level.{Level};
 /// written for both together.
 pub fn lines_joined()
     ensures canon { (level : Level) (a b v w : List ℕ) (m n : ℕ) → (a ≡ []) ⊎ EndsInFeed a →
-        IsLinesOutput (IsCanonOutput level) a v m → IsLinesOutput (IsCanonOutput level) b w n →
-        IsLinesOutput (IsCanonOutput level) (a ++ b) (v ++ w) (max m n) }
+        IsLinesOutput (IsLineOutput (IsCanonOutput level)) a v m → IsLinesOutput (IsLineOutput (IsCanonOutput level)) b w n →
+        IsLinesOutput (IsLineOutput (IsCanonOutput level)) (a ++ b) (v ++ w) (max m n) }
     ensures check { (a b v w : List ℕ) (m n : ℕ) → (a ≡ []) ⊎ EndsInFeed a →
-        IsLinesOutput IsCheckOutput a v m → IsLinesOutput IsCheckOutput b w n →
-        IsLinesOutput IsCheckOutput (a ++ b) (v ++ w) (max m n) }
+        IsLinesOutput (IsLineOutput IsCheckOutput) a v m → IsLinesOutput (IsLineOutput IsCheckOutput) b w n →
+        IsLinesOutput (IsLineOutput IsCheckOutput) (a ++ b) (v ++ w) (max m n) }
 {}

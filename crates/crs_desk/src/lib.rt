@@ -3,18 +3,25 @@
 
 pub use canon_run::run_canon;
 pub use check_run::run_check;
-pub use crs_command_line::{LineWord, Request, RequestFault, request};
+pub use crs_command_line::{LineWord, LineWords, Request, RequestFault, Task, request};
+pub use crs_explain::append_escaped;
 pub use crs_group::{Summary, run_group};
 pub use crs_streams::{Filling, RunFault, Sink, Source, Stream};
 pub use crs_value::Level;
 pub use explain_run::{run_explain, run_explain_pair, run_explain_text};
+pub use file_task::FileTask;
+pub use files_run::{Inputs, run_files};
 pub use lines_run::{run_canon_lines, run_check_lines};
 pub use same_run::run_same;
+pub use text::read_text;
 
 mod answer;
 mod canon_run;
 mod check_run;
 mod explain_run;
+mod file_answer;
+mod file_task;
+mod files_run;
 mod kind_of_text;
 pub mod laws;
 mod line_cutter;
@@ -23,6 +30,7 @@ mod line_writer;
 mod lines_run;
 mod pair;
 mod pieces;
+mod prefixed;
 mod print;
 mod same_run;
 mod text;

@@ -4,9 +4,10 @@ ghost use Rattle.std.specs.Prelude.{◌≡◌, ◌+◌, ◌^◌, ◌<◌, ◌≤
 ghost use Rattle.std.specs.Prelude.{IfErr, IfOk, IsFalse, IsTrue, OnOk, false, true};
 ghost use Rattle.crs_streams.specs.Lines.{HasNoFeed};
 ghost use Rattle.crs_streams.specs.Streams.{SinkState};
-ghost use Rattle.crs_desk.specs.LineCutting.{IsKept, IsLinesCut, IsNotKept, IsPut, IsPutOut, IsStopped, IsWrittenOut, PutsLine};
+ghost use Rattle.crs_desk.specs.LineCutting.{IsKept, IsLinesCut, IsNotKept, IsOver, IsPut, IsPutOut, IsStopped};
+ghost use Rattle.crs_desk.specs.LineCutting.{IsWrittenOut, PutsLine};
 
-use crate::line_output::LineCommand;
+use crate::line_output::TextCommand;
 use crate::line_writer::LineWriter;
 use crate::{RunFault, Sink};
 use crs_streams::{MAX_LINE, append_bytes, split_line, text_of};
@@ -44,8 +45,8 @@ impl LineCutter {
         }
     }
 
-    // The next piece of the bytes.
-    pub(crate) fn take<C: LineCommand, W: Write>(
+    // The next piece of the bytes. What is written for the lines that it ends is sent.
+    pub(crate) fn take<C: TextCommand, W: Write>(
         &mut self,
         alloc: Global,
         command: &C,
@@ -60,17 +61,19 @@ impl LineCutter {
         ensures fault { IfErr result (λ fault. (before : SinkState) (bytes : List ℕ) →
             IsLinesCut (C.Output command.now) before bytes self.old sink.old →
             IsStopped (C.Output command.now) false before (bytes ++ piece.now) sink.new fault) }
+        ensures sent { OnOk result (self.new.writer.out ≡ []) }
     {
         let mut rest = piece;
         while let Some((line, left)) = split_line(rest) {
             self.end_line(alloc, command, line, sink)?;
             rest = left;
         }
+        self.writer.send(sink)?;
         self.keep(rest)
     }
 
     // The status of all lines: what follows the last line feed is one, if it has a byte.
-    pub(crate) fn finish<C: LineCommand, W: Write>(
+    pub(crate) fn finish<C: TextCommand, W: Write>(
         &mut self,
         alloc: Global,
         command: &C,
@@ -89,7 +92,7 @@ impl LineCutter {
     }
 
     // The bytes before a line feed: after what was kept they complete a line.
-    fn end_line<C: LineCommand, W: Write>(
+    fn end_line<C: TextCommand, W: Write>(
         &mut self,
         alloc: Global,
         command: &C,
@@ -108,15 +111,26 @@ impl LineCutter {
         ensures lines { OnOk result (self.new.lines ≡ self.old.lines + 1) }
     {
         if self.is_over(line) {
-            return Err(RunFault::TooLong(self.lines + 1));
+            return Err(self.over(sink));
         }
         self.put_line(alloc, command, line)?;
         self.lines += 1;
         self.writer.send_block(sink)
     }
 
+    // The fault of a line that is too long: what is written for the lines before it is sent first.
+    fn over<W: Write>(&mut self, sink: &mut Sink<W>) -> RunFault
+        requires { self.old.lines + 1 < 2 ^ 64 }
+        ensures { IsOver self.old self.new sink.old sink.new result }
+    {
+        match self.writer.send(sink) {
+            Ok(()) => RunFault::TooLong(self.lines + 1),
+            Err(fault) => fault,
+        }
+    }
+
     // What is written for the line that ends with these bytes.
-    fn put_line<C: LineCommand>(
+    fn put_line<C: TextCommand>(
         &mut self,
         alloc: Global,
         command: &C,
@@ -147,7 +161,7 @@ impl LineCutter {
     }
 
     // What is written for the line that has no line feed, if it has a byte.
-    fn end_last<C: LineCommand>(&mut self, alloc: Global, command: &C) -> Result<(), RunFault>
+    fn end_last<C: TextCommand>(&mut self, alloc: Global, command: &C) -> Result<(), RunFault>
         ensures put { OnOk result ((before after : SinkState) (bytes : List ℕ) →
             IsLinesCut (C.Output command.now) before bytes self.old after →
             IsPutOut (C.Output command.now) true before bytes self.new.writer after) }
@@ -168,7 +182,7 @@ impl LineCutter {
     }
 }
 
-fn put<C: LineCommand>(
+fn put<C: TextCommand>(
     writer: &mut LineWriter,
     alloc: Global,
     command: &C,

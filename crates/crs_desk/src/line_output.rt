@@ -1,15 +1,18 @@
-//! What a command writes for the text of a line.
-ghost use Rattle.std.specs.Prelude.{◌≡◌, ℕ, List, IfOk};
+//! What commands write for a text, and for the text of a line.
+ghost use Rattle.std.specs.Prelude.{◌≡◌, ◌∷◌, [], ℕ, List, IfOk};
 
 use crate::Level;
 use crate::answer::Answer;
 use crate::canon_run::CanonAnswer;
 use crate::check_run::CheckAnswer;
+use crate::explain_run::text_output;
 use crate::kind_of_text::found_in;
+use crate::prefixed::prefixed;
+use crs_group::is_blank;
 use std::alloc::{AllocError, Global};
 
-// A command that answers a text by a line and a status.
-pub(crate) trait LineCommand {
+// A command that answers a text by some bytes and a status.
+pub(crate) trait TextCommand {
     ghost Output: { Self → List ℕ → List ℕ → ℕ → Type 0 };
 
     fn output(&self, alloc: Global, text: &[u8]) -> Result<(Vec<u8>, u8), AllocError>
@@ -18,11 +21,11 @@ pub(crate) trait LineCommand {
 
 // `canon`, at this level.
 #[derive(Drop)]
-pub(crate) struct CanonLines {
+pub(crate) struct CanonText {
     pub(crate) level: Level,
 }
 
-impl LineCommand for CanonLines {
+impl TextCommand for CanonText {
     ghost use Rattle.crs_desk.specs.Output.{IsCanonOutput};
 
     ghost Output = { λ s text written status. IsCanonOutput s.level text written status };
@@ -38,9 +41,9 @@ impl LineCommand for CanonLines {
 
 // `check`.
 #[derive(Drop)]
-pub(crate) struct CheckLines;
+pub(crate) struct CheckText;
 
-impl LineCommand for CheckLines {
+impl TextCommand for CheckText {
     ghost use Rattle.crs_desk.specs.Output.{IsCheckOutput};
 
     ghost Output = { λ s text written status. IsCheckOutput text written status };
@@ -48,5 +51,58 @@ impl LineCommand for CheckLines {
     fn output(&self, alloc: Global, text: &[u8]) -> Result<(Vec<u8>, u8), AllocError> {
         let found = found_in(alloc, text)?;
         CheckAnswer { found }.output(alloc)
+    }
+}
+
+// `explain`.
+#[derive(Drop)]
+pub(crate) struct ExplainText;
+
+impl TextCommand for ExplainText {
+    ghost use Rattle.crs_desk.specs.ExplainOutput.{IsExplainOutput};
+
+    ghost Output = { λ s text written status. IsExplainOutput text written status };
+
+    fn output(&self, alloc: Global, text: &[u8]) -> Result<(Vec<u8>, u8), AllocError> {
+        text_output(alloc, text)
+    }
+}
+
+// A command over the text of a line, of which a blank one is answered by an empty line.
+#[derive(Drop)]
+pub(crate) struct OfLine<C: TextCommand> {
+    pub(crate) command: C,
+}
+
+impl<C: TextCommand> TextCommand for OfLine<C> {
+    ghost use Rattle.crs_desk.specs.LinesRun.{IsLineOutput};
+
+    ghost Output = { λ s text written status. IsLineOutput (C.Output s.command) text written status };
+
+    fn output(&self, alloc: Global, text: &[u8]) -> Result<(Vec<u8>, u8), AllocError> {
+        if is_blank(text) {
+            let line = Vec::from_slice(alloc, b"\n")?;
+            return Ok((line, 0));
+        }
+        self.command.output(alloc, text)
+    }
+}
+
+// A command each of whose lines is written after a prefix.
+#[derive(Drop)]
+pub(crate) struct Prefixed<'p, C: TextCommand> {
+    pub(crate) prefix: &'p [u8],
+    pub(crate) command: C,
+}
+
+impl<C: TextCommand> TextCommand for Prefixed<'_, C> {
+    ghost use Rattle.crs_desk.specs.Prefixed.{IsPrefixed};
+
+    ghost Output = { λ s text written status. IsPrefixed s.prefix.now (C.Output s.command text) written status };
+
+    fn output(&self, alloc: Global, text: &[u8]) -> Result<(Vec<u8>, u8), AllocError> {
+        let (plain, status) = self.command.output(alloc, text)?;
+        let written = prefixed(alloc, self.prefix, &plain)?;
+        Ok((written, status))
     }
 }

@@ -2,9 +2,8 @@
 ghost use Rattle.std.specs.Prelude.{◌≡◌, [], IfErr, OnOk};
 ghost use Rattle.crs_desk.specs.LineCutting.{IsCut, IsEmptied, IsFlushed, IsPut};
 
-use crate::line_output::LineCommand;
+use crate::line_output::TextCommand;
 use crate::{RunFault, Sink};
-use crs_group::is_blank;
 use std::alloc::{AllocError, Global};
 use std::io::Write;
 use std::marker::Model;
@@ -44,7 +43,7 @@ impl LineWriter {
     }
 
     // One more line.
-    pub(crate) fn put<C: LineCommand>(
+    pub(crate) fn put<C: TextCommand>(
         &mut self,
         alloc: Global,
         command: &C,
@@ -52,10 +51,6 @@ impl LineWriter {
     ) -> Result<(), AllocError>
         ensures { OnOk result (IsPut (C.Output command.now) text.now self.old self.new) }
     {
-        if is_blank(text) {
-            self.out.push(b'\n')?;
-            return Ok(());
-        }
         let (line, status) = command.output(alloc, text)?;
         self.out.extend_from_slice(&line)?;
         self.status = self.status.max(status);

@@ -1,9 +1,10 @@
+use Rattle.crs_desk.specs.LinesRun.{IsLineOutput}
 use Rattle.crs_desk.specs.Output.{IsCanonOutput, IsCheckOutput}
 use Rattle.crs_desk.proofs.LineOutputLemmas.{output-append}
 use Rattle.crs_desk.proofs.laws.lines_joined.Goals as goal
 
 pub returns-clause-canon : goal.returns-clause-canon
-returns-clause-canon c level = output-append (IsCanonOutput level)
+returns-clause-canon c level = output-append (IsLineOutput (IsCanonOutput level))
 
 pub returns-clause-check : goal.returns-clause-check
-returns-clause-check c = output-append IsCheckOutput
+returns-clause-check c = output-append (IsLineOutput IsCheckOutput)

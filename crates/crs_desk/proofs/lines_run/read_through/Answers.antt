@@ -5,7 +5,7 @@ use Rattle.crs_streams.specs.declared.fault.RunFault.TheVariants.{ReadFailed}
 use Rattle.crs_streams.proofs.GivenLemmas.{given-read, taken-read}
 use Rattle.crs_desk.specs.LinesRun.{IsLinesFault}
 use Rattle.crs_desk.proofs.LineCutLemmas.{cut-none, stopped-first}
-use Rattle.crs_desk.proofs.LinesRunLemmas.{failed-read, fresh-healthy, given-none, lines-fit, many-reads, stopped-fault}
+use Rattle.crs_desk.proofs.LinesRunLemmas.{failed-read, given-none, lines-fit, many-reads, stopped-fault}
 use Rattle.crs_desk.proofs.lines_run.read_through.Goals as goal
 
 pub loop-turn-init : goal.loop-turn-init
@@ -19,27 +19,28 @@ loop-turn-init g c = record {
   cut = (
     [],
     given-none c.args.source.now c.requires.source,
-    cut-none (g.C.LineCommand.Output c.args.command.now) c.args.sink.now c.args.cutter.now
-        (fresh-healthy c.args.sink.now c.requires.sink) c.requires.cutter,
+    cut-none (g.C.TextCommand.Output c.args.command.now) c.args.sink.now c.args.cutter.now
+        c.requires.sink c.requires.cutter,
   );
+  sent = search rules;
 }
 
 pub returns-in_err-count-clause-err : goal.returns-in_err-count-clause-err
 returns-in_err-count-clause-err g c =
-    let Output = g.C.LineCommand.Output c.args.command.now in
+    let Output = g.C.TextCommand.Output c.args.command.now in
     let cut = c.loop-turn.invariant.cut in
     let same : IfErr c.from_residual.result (λ fault. fault ≡ ReadFailed) = search rules in
     let bad : IsErr c.read.result = search rules in
     IfErr-weaker c.from_residual.result _ _
     (λ fault is. subst (IsLinesFault Output c.args.source.now c.read.new.self c.args.sink.now c.loop-turn.sink) (sym is)
     (failed-read Output c.args.source.now c.loop-turn.source c.read.new.self c.args.sink.now c.loop-turn.sink cut.0
-    c.read.new.room c.loop-turn.cutter c.read.result cut.1 cut.2 c.read.ensures.bytes c.read.ensures.counted bad))
+    c.read.new.room c.loop-turn.cutter c.read.result cut.1 cut.2 c.loop-turn.invariant.sent c.read.ensures.bytes c.read.ensures.counted bad))
     same
 
 pub take-requires-clause-fits : goal.take-requires-clause-fits
 take-requires-clause-fits g c =
     let cut = c.loop-turn.invariant.cut in
-    lines-fit (g.C.LineCommand.Output c.args.command.now) c.args.sink.now c.loop-turn.sink cut.0 c.loop-turn.cutter
+    lines-fit (g.C.TextCommand.Output c.args.command.now) c.args.sink.now c.loop-turn.sink cut.0 c.loop-turn.cutter
     c.args.source.now c.loop-turn.source (length (take c.in_ok-count.count c.read.new.room)) cut.2 cut.1
     (omega (arith, c.loop-turn.invariant.few, c.loop-turn-test.true))
     (omega (arith, length-take c.in_ok-count.count c.read.new.room, c.read.auto.room, c.loop-turn.invariant.room))
@@ -50,7 +51,7 @@ take-requires-clause-small g c =
 
 pub returns-in_err-take-clause-err : goal.returns-in_err-take-clause-err
 returns-in_err-take-clause-err g c =
-    let Output = g.C.LineCommand.Output c.args.command.now in
+    let Output = g.C.TextCommand.Output c.args.command.now in
     let cut = c.loop-turn.invariant.cut in
     let got : c.read.result ≡ Ok c.in_ok-count.count = search rules in
     let healthy : c.read.new.self.failed ≡ false = search rules in
@@ -68,7 +69,7 @@ returns-in_err-take-clause-err g c =
 pub returns-in_err-take-clause-past_failure : goal.returns-in_err-take-clause-past_failure
 returns-in_err-take-clause-past_failure g c =
     let cut = c.loop-turn.invariant.cut in
-    stopped-first (g.C.LineCommand.Output c.args.command.now) false c.args.sink.now c.take.new.sink
+    stopped-first (g.C.TextCommand.Output c.args.command.now) false c.args.sink.now c.take.new.sink
     (cut.0 ++ take c.in_ok-count.count c.read.new.room) c.in_err-take.field-0.0
     (c.in_err-take.ensures.fault c.args.sink.now cut.0 cut.2)
 
@@ -97,11 +98,13 @@ loop-turn-preserved g c =
         given,
         c.in_ok-take.ensures.cut c.args.sink.now cut.0 cut.2,
       );
+      sent = c.in_ok-take.ensures.sent;
     }
 
 pub returns-clause-err : goal.returns-clause-err
 returns-clause-err g c =
     let cut = c.loop-turn.invariant.cut in
-    many-reads (g.C.LineCommand.Output c.args.command.now) c.args.source.now c.loop-turn.source c.args.sink.now
-    c.loop-turn.sink cut.0 c.loop-turn.cutter cut.1 cut.2 c.loop-turn.invariant.healthy c.loop-turn.invariant.unended
+    many-reads (g.C.TextCommand.Output c.args.command.now) c.args.source.now c.loop-turn.source c.args.sink.now
+    c.loop-turn.sink cut.0 c.loop-turn.cutter cut.1 cut.2 c.loop-turn.invariant.sent c.loop-turn.invariant.healthy
+    c.loop-turn.invariant.unended
     (omega (arith, c.loop-turn.invariant.reads, c.loop-turn-test.false, c.loop-turn.auto.turn-end))

@@ -1,4 +1,4 @@
-use Rattle.std.proofs.Common.{◌≡◌, ◌*◌, ◌≤◌, ℕ, List, length, false}
+use Rattle.std.proofs.Common.{◌≡◌, [], ◌*◌, ◌≤◌, ℕ, List, length, false}
 use Rattle.crs_streams.specs.Given.{HasGiven}
 use Rattle.crs_desk.specs.LineCutting.{IsLinesCut}
 use Rattle.crs_desk.proofs.lines_run.read_through.Given as goal
@@ -12,6 +12,7 @@ invariant-loop-turn g l =
       unended : l.source.ended ≡ false;
       within : l.source.past_end ≡ false;
       healthy : l.source.failed ≡ false;
+      sent : l.cutter.writer.out ≡ [];
       cut : (bytes : List ℕ) × HasGiven l.fn.source l.source bytes
-          × IsLinesCut (g.C.LineCommand.Output l.fn.command) l.fn.sink bytes l.cutter l.sink;
+          × IsLinesCut (g.C.TextCommand.Output l.fn.command) l.fn.sink bytes l.cutter l.sink;
     }

@@ -8,7 +8,7 @@ use Rattle.crs_desk.proofs.lines_run.run_lines.Goals as goal
 
 pub returns-in_err-room-clause-fault : goal.returns-in_err-room-clause-fault
 returns-in_err-room-clause-fault g c =
-    let Output = g.C.LineCommand.Output c.args.command.now in
+    let Output = g.C.TextCommand.Output c.args.command.now in
     let same : IfErr c.from_residual.result (λ fault. fault ≡ Memory) = search rules in
     IfErr-weaker c.from_residual.result _ _
     (λ fault is. subst (IsLinesFault Output c.args.source.now c.args.source.now c.args.sink.now c.args.sink.now) (sym is)
@@ -18,7 +18,7 @@ returns-in_err-room-clause-fault g c =
 pub returns-clause-answered : goal.returns-clause-answered
 returns-clause-answered g c =
     IfOk-weaker c.finish.result _ _
-    (λ status. lines-answered (g.C.LineCommand.Output c.args.command.now) c.args.source.now c.read_through.new.source
+    (λ status. lines-answered (g.C.TextCommand.Output c.args.command.now) c.args.source.now c.read_through.new.source
     c.args.sink.now c.read_through.new.sink c.finish.new.sink c.read_through.new.cutter status
     c.in_ok-read_through.ensures.ok)
     c.finish.ensures.written
@@ -26,13 +26,13 @@ returns-clause-answered g c =
 pub returns-clause-fault : goal.returns-clause-fault
 returns-clause-fault g c =
     IfErr-weaker c.finish.result _ _
-    (λ fault. lines-fault (g.C.LineCommand.Output c.args.command.now) c.args.source.now c.read_through.new.source
+    (λ fault. lines-fault (g.C.TextCommand.Output c.args.command.now) c.args.source.now c.read_through.new.source
     c.args.sink.now c.read_through.new.sink c.finish.new.sink c.read_through.new.cutter fault
     c.in_ok-read_through.ensures.ok)
     c.finish.ensures.fault
 
 pub returns-clause-past_failure : goal.returns-clause-past_failure
 returns-clause-past_failure g c =
-    end-first (g.C.LineCommand.Output c.args.command.now) c.args.source.now c.read_through.new.source c.args.sink.now
+    end-first (g.C.TextCommand.Output c.args.command.now) c.args.source.now c.read_through.new.source c.args.sink.now
     c.read_through.new.sink c.finish.new.sink c.read_through.new.cutter c.finish.result c.in_ok-read_through.ensures.ok
     c.finish.ensures.written c.finish.ensures.fault

@@ -6,32 +6,32 @@ use Rattle.crs_desk.proofs.line_cutter.LineCutter.end_line.Goals as goal
 
 pub returns-then-is_over-clause-fault : goal.returns-then-is_over-clause-fault
 returns-then-is_over-clause-fault g c before bytes rest small cut =
-    over-end (g.C.LineCommand.Output c.args.command.now) c.args.line.now c.self.inside.partial.items c.args.self.now
-    c.self.inside.writer c.self.inside.lines c.self.view_is c.requires.one (c.is_over.ensures.over c.if-is_over.true)
-    before c.args.sink.now bytes (10 ∷ rest) small cut
+    over-end (g.C.TextCommand.Output c.args.command.now) c.args.line.now c.args.self.now c.over.new.self c.args.sink.now
+    c.over.new.sink c.over.result c.requires.one (c.is_over.ensures.over c.if-is_over.true) c.over.ensures before bytes
+    (10 ∷ rest) small cut
 
 pub returns-in_err-put_line-clause-fault : goal.returns-in_err-put_line-clause-fault
 returns-in_err-put_line-clause-fault g c =
     let same : IfErr c.from_residual.result (λ fault. fault ≡ c.in_err-put_line.field-0.0) = search rules in
     IfErr-weaker c.from_residual.result _ _
-    (λ fault is before bytes rest small cut. line-starved (g.C.LineCommand.Output c.args.command.now) before
+    (λ fault is before bytes rest small cut. line-starved (g.C.TextCommand.Output c.args.command.now) before
     c.args.sink.now bytes (c.args.line.now ++ 10 ∷ rest) c.args.self.now fault (is ∙ c.in_err-put_line.ensures.fault) cut)
     same
 
 pub returns-clause-cut : goal.returns-clause-cut
 returns-clause-cut g c =
     IfOk-weaker c.send_block.result _ _
-    (λ _ flushed. line-ended (g.C.LineCommand.Output c.args.command.now) c.args.line.now c.self-2.inside.partial.items
-    c.args.self.now c.put_line.new.self c.self-2.inside.writer c.send_block.new.self c.self-2.inside.lines
-    c.args.sink.now c.send_block.new.sink c.in_ok-put_line.ensures.put c.self-2.view_is c.requires.one
+    (λ _ flushed. line-ended (g.C.TextCommand.Output c.args.command.now) c.args.line.now c.self.inside.partial.items
+    c.args.self.now c.put_line.new.self c.self.inside.writer c.send_block.new.self c.self.inside.lines
+    c.args.sink.now c.send_block.new.sink c.in_ok-put_line.ensures.put c.self.view_is c.requires.one
     (c.is_over.ensures.fits c.if-is_over.false) flushed)
     c.send_block.ensures.sent
 
 pub returns-clause-fault : goal.returns-clause-fault
 returns-clause-fault g c =
     IfErr-weaker c.send_block.result _ _
-    (λ fault unsent before bytes rest small cut. line-unsent (g.C.LineCommand.Output c.args.command.now) c.args.line.now
-    c.self-2.inside.partial.items c.args.self.now c.put_line.new.self c.self-2.inside.writer c.self-2.inside.lines
-    c.args.sink.now c.send_block.new.sink fault c.in_ok-put_line.ensures.put c.self-2.view_is c.requires.one unsent
+    (λ fault unsent before bytes rest small cut. line-unsent (g.C.TextCommand.Output c.args.command.now) c.args.line.now
+    c.self.inside.partial.items c.args.self.now c.put_line.new.self c.self.inside.writer c.self.inside.lines
+    c.args.sink.now c.send_block.new.sink fault c.in_ok-put_line.ensures.put c.self.view_is c.requires.one unsent
     before bytes rest cut)
     c.send_block.ensures.cut

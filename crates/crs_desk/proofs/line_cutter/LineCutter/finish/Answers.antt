@@ -9,13 +9,13 @@ pub returns-in_err-end_last-clause-fault : goal.returns-in_err-end_last-clause-f
 returns-in_err-end_last-clause-fault g c =
     let same : IfErr c.from_residual.result (λ fault. fault ≡ c.in_err-end_last.field-0.0) = search rules in
     IfErr-weaker c.from_residual.result _ _
-    (λ fault is before bytes cut. end-starved (g.C.LineCommand.Output c.args.command.now) before c.args.sink.now bytes
+    (λ fault is before bytes cut. end-starved (g.C.TextCommand.Output c.args.command.now) before c.args.sink.now bytes
     c.args.self.now fault (is ∙ c.in_err-end_last.ensures.fault) cut)
     same
 
 pub returns-in_err-send-clause-fault : goal.returns-in_err-send-clause-fault
 returns-in_err-send-clause-fault g c =
-    let Output = g.C.LineCommand.Output c.args.command.now in
+    let Output = g.C.TextCommand.Output c.args.command.now in
     let same : IfErr c.from_residual-in_err-send.result (λ fault. fault ≡ c.in_err-send.field-0.0) = search rules in
     IfErr-weaker c.from_residual-in_err-send.result _ _
     (λ fault is before bytes cut. subst (IsStopped Output true before bytes c.send.new.sink) (sym is)
@@ -27,7 +27,7 @@ returns-in_err-send-clause-fault g c =
 
 pub returns-clause-written : goal.returns-clause-written
 returns-clause-written g c before bytes cut =
-    let Output = g.C.LineCommand.Output c.args.command.now in
+    let Output = g.C.TextCommand.Output c.args.command.now in
     subst (IsWrittenOut Output before bytes c.send.new.sink) (sym c.status.ensures)
     (end-sent Output before c.args.sink.now c.send.new.sink bytes c.self.inside.writer c.send.new.self
     (subst (λ (w : WriterParts). IsPutOut Output true before bytes w c.args.sink.now)

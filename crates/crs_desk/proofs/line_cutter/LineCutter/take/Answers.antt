@@ -1,9 +1,9 @@
-use Rattle.std.proofs.Common.{◌≡◌, ◌++◌, ◌∷◌, [], ap, append-nil, arith, false, length, length-append, refl, rules, subst, sym}
+use Rattle.std.proofs.Common.{◌≡◌, ◌∙◌, ◌++◌, ◌∷◌, [], ap, append-nil, arith, false, length, length-append, refl, rules, subst, sym}
 use Rattle.std.specs.Prelude.{IfErr}
 use Rattle.std.proofs.lemmas.Result.{IfErr-weaker, IfOk-weaker}
 use Rattle.crs_streams.specs.Lines.{HasNoFeed}
-use Rattle.crs_desk.specs.LineCutting.{IsLinesCut, IsStopped}
-use Rattle.crs_desk.proofs.LineCutLemmas.{piece-end-stopped, piece-kept, piece-step, piece-stopped, split-small}
+use Rattle.crs_desk.specs.LineCutting.{CutterParts, IsLinesCut, IsStopped, WriterParts}
+use Rattle.crs_desk.proofs.LineCutLemmas.{cut-emptied, cutter_of, piece-end-stopped, piece-kept, piece-step, piece-stopped, piece-unsent, split-small}
 use Rattle.crs_desk.proofs.line_cutter.LineCutter.take.Goals as goal
 
 pub loop-line-init : goal.loop-line-init
@@ -12,7 +12,7 @@ loop-line-init g c = record {
     [],
     refl,
     λ before bytes cut. subst
-        (λ b. IsLinesCut (g.C.LineCommand.Output c.args.command.now) before b c.args.self.now c.args.sink.now)
+        (λ b. IsLinesCut (g.C.TextCommand.Output c.args.command.now) before b c.args.self.now c.args.sink.now)
         (sym (append-nil bytes)) cut,
   );
   lines = omega arith;
@@ -21,7 +21,7 @@ loop-line-init g c = record {
 
 pub returns-in_err-end_line-clause-fault : goal.returns-in_err-end_line-clause-fault
 returns-in_err-end_line-clause-fault g c =
-    let Output = g.C.LineCommand.Output c.args.command.now in
+    let Output = g.C.TextCommand.Output c.args.command.now in
     let done = c.loop-line.invariant.done in
     let same : IfErr c.from_residual.result (λ fault. fault ≡ c.in_err-end_line.field-0.0) = search rules in
     IfErr-weaker c.from_residual.result _ _
@@ -36,7 +36,7 @@ returns-in_err-end_line-clause-fault g c =
 pub loop-line-preserved : goal.loop-line-preserved
 loop-line-preserved g c =
     let done = c.loop-line.invariant.done in record {
-      done = piece-step (g.C.LineCommand.Output c.args.command.now) done.0 c.in-Some.line.now c.in-Some.left.now
+      done = piece-step (g.C.TextCommand.Output c.args.command.now) done.0 c.in-Some.line.now c.in-Some.left.now
           c.loop-line.rest.now c.args.piece.now c.args.self.now c.loop-line.self c.end_line.new.self c.args.sink.now
           c.loop-line.sink c.end_line.new.sink done.1 c.in-Some.ensures done.2 c.in_ok-end_line.ensures.cut;
       lines = omega (
@@ -54,21 +54,62 @@ loop-line-preserved g c =
       );
     }
 
+pub keep-requires : goal.keep-requires
+keep-requires g c =
+    omega (
+      arith,
+      ap (λ (k : CutterParts). k.lines) c.self.view_is,
+      c.loop-line.invariant.lines,
+      c.requires.fits,
+    )
+
+pub returns-in_err-send-clause-fault : goal.returns-in_err-send-clause-fault
+returns-in_err-send-clause-fault g c =
+    let Output = g.C.TextCommand.Output c.args.command.now in
+    let done = c.loop-line.invariant.done in
+    let now = cutter_of c.self.inside.writer c.self.inside.partial.items c.self.inside.lines in
+    let same : IfErr c.from_residual-in_err-send.result (λ fault. fault ≡ c.in_err-send.field-0.0) = search rules in
+    IfErr-weaker c.from_residual-in_err-send.result _ _
+    (λ fault is before bytes cut. subst (IsStopped Output false before (bytes ++ c.args.piece.now) c.send.new.sink) (sym is)
+    (piece-unsent Output before c.loop-line.sink c.send.new.sink bytes done.0 c.loop-line.rest.now c.args.piece.now now
+    c.in_err-send.field-0.0 done.1 c.in_err-send.ensures.cut
+    (subst (λ (k : CutterParts). IsLinesCut Output before (bytes ++ done.0) k c.loop-line.sink) (sym c.self.view_is)
+    (done.2 before bytes cut))))
+    same
+
 pub returns-clause-cut : goal.returns-clause-cut
 returns-clause-cut g c =
+    let Output = g.C.TextCommand.Output c.args.command.now in
     let done = c.loop-line.invariant.done in
+    let now = cutter_of c.self.inside.writer c.self.inside.partial.items c.self.inside.lines in
+    let next = cutter_of c.send.new.self c.self.inside.partial.items c.self.inside.lines in
     let plain : HasNoFeed c.loop-line.rest.now = search rules in
     IfOk-weaker c.keep.result _ _
-    (λ _ kept before bytes cut. piece-kept (g.C.LineCommand.Output c.args.command.now) before c.loop-line.sink bytes done.0
-    c.loop-line.rest.now c.args.piece.now c.loop-line.self c.keep.new.self done.1 plain kept (done.2 before bytes cut))
+    (λ _ kept before bytes cut. piece-kept Output before c.send.new.sink bytes done.0 c.loop-line.rest.now c.args.piece.now
+    next c.keep.new.self done.1 plain kept
+    (cut-emptied Output before c.loop-line.sink c.send.new.sink (bytes ++ done.0) now next
+    (subst (λ (k : CutterParts). IsLinesCut Output before (bytes ++ done.0) k c.loop-line.sink) (sym c.self.view_is)
+    (done.2 before bytes cut)) c.in_ok-send.ensures.sent refl refl))
     c.keep.ensures.kept
 
 pub returns-clause-fault : goal.returns-clause-fault
 returns-clause-fault g c =
+    let Output = g.C.TextCommand.Output c.args.command.now in
     let done = c.loop-line.invariant.done in
+    let now = cutter_of c.self.inside.writer c.self.inside.partial.items c.self.inside.lines in
+    let next = cutter_of c.send.new.self c.self.inside.partial.items c.self.inside.lines in
     let plain : HasNoFeed c.loop-line.rest.now = search rules in
     IfErr-weaker c.keep.result _ _
-    (λ fault why before bytes cut. piece-end-stopped (g.C.LineCommand.Output c.args.command.now) before c.loop-line.sink
-    bytes done.0 c.loop-line.rest.now c.args.piece.now c.loop-line.self fault done.1 plain
-    (omega (arith, c.loop-line.invariant.small, c.requires.small)) why (done.2 before bytes cut))
+    (λ fault why before bytes cut. piece-end-stopped Output before c.send.new.sink bytes done.0 c.loop-line.rest.now
+    c.args.piece.now next fault done.1 c.in_ok-send.ensures.sent.is_empty plain
+    (omega (arith, c.loop-line.invariant.small, c.requires.small)) why
+    (cut-emptied Output before c.loop-line.sink c.send.new.sink (bytes ++ done.0) now next
+    (subst (λ (k : CutterParts). IsLinesCut Output before (bytes ++ done.0) k c.loop-line.sink) (sym c.self.view_is)
+    (done.2 before bytes cut)) c.in_ok-send.ensures.sent refl refl))
     c.keep.ensures.fault
+
+pub returns-clause-sent : goal.returns-clause-sent
+returns-clause-sent g c =
+    IfOk-weaker c.keep.result _ _
+    (λ _ kept. ap (λ (w : WriterParts). w.out) kept.is_put ∙ c.in_ok-send.ensures.sent.is_empty)
+    c.keep.ensures.kept

@@ -8,8 +8,8 @@ invariant-loop-line g l =
     record {
       done : (front : List ℕ) × (l.fn.piece ≡ front ++ l.rest)
           × ((before : SinkState) (bytes : List ℕ)
-          → IsLinesCut (g.C.LineCommand.Output l.fn.command) before bytes l.fn.self l.fn.sink
-          → IsLinesCut (g.C.LineCommand.Output l.fn.command) before (bytes ++ front) l.self l.sink);
+          → IsLinesCut (g.C.TextCommand.Output l.fn.command) before bytes l.fn.self l.fn.sink
+          → IsLinesCut (g.C.TextCommand.Output l.fn.command) before (bytes ++ front) l.self l.sink);
       lines : l.self.lines + length l.rest ≤ l.fn.self.lines + length l.fn.piece;
       small : length l.rest ≤ length l.fn.piece;
     }

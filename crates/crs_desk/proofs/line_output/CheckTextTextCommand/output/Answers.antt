@@ -1,6 +1,6 @@
 use Rattle.std.proofs.lemmas.Result.{IfOk-weaker}
 use Rattle.crs_desk.proofs.CheckLemmas.{found-written}
-use Rattle.crs_desk.proofs.line_output.CheckLinesLineCommand.output.Goals as goal
+use Rattle.crs_desk.proofs.line_output.CheckTextTextCommand.output.Goals as goal
 
 pub returns : goal.returns
 returns c =

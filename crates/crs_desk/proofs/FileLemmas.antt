@@ -1,0 +1,240 @@
+-- The answer for one file, of the run over it.
+use Rattle.std.proofs.Common.{◌≡◌, ◌∙◌, ◌++◌, ◌⊎◌, ◌∷◌, [], ℕ, arith, List, Option, Some, None, true, false, ap, append-nil, append_assoc, inl, inr, refl, subst, sym}
+use Rattle.std.specs.Prelude.{IfSome, max}
+use Rattle.std.proofs.KnownBytes.{Appends-trans}
+use Rattle.std.proofs.Math.Nat.{max-zero}
+use Rattle.std.specs.Io.KnownBytes.{Appends, Consumes}
+use Rattle.crs_streams.specs.LongLines.{EndsInFeed}
+use Rattle.crs_streams.specs.Streams.{SinkState, SourceState, fresh_sink, fresh_source}
+use Rattle.crs_group.specs.GroupOutput.{IsGroupOutput}
+use Rattle.crs_group.specs.GroupRun.{IsGrouped}
+use Rattle.crs_group.specs.declared.summary.Summary.{Summary}
+use Rattle.crs_value.specs.declared.values.level.Level.{Level}
+use Rattle.crs_streams.specs.declared.fault.RunFault.{RunFault}
+use Rattle.crs_streams.specs.declared.fault.RunFault.TheVariants.{ReadFailed, WriteFailed, TooLong, TooManyReads, Memory}
+use Rattle.crs_desk.specs.FileAnswers.{IsAnswerSent, IsFileFault, IsFileSent, IsFrontSent, IsNoWriteFault, NoFront, is_of_file}
+use Rattle.crs_desk.specs.FilesRun.{AreFileOutputs, AreFilesAnswered, IsFileFront, IsFileOutput, IsTaskFront, name_prefix}
+use Rattle.crs_desk.specs.declared.file_task.FileTask.{FileTask}
+use Rattle.crs_desk.specs.declared.file_task.FileTask.TheVariants as task
+use Rattle.crs_desk.specs.Output.{IsCanonOutput, IsCheckOutput}
+use Rattle.crs_desk.specs.LineCutting.{IsHealthy}
+use Rattle.crs_desk.specs.LinesRun.{HasSentAll, IsFrontOutput, IsLineOutput, IsLinesAnswered, IsLinesFault, IsLinesOutput, Outputs}
+use Rattle.crs_desk.specs.Whole.{IsReadFault}
+use Rattle.crs_desk.proofs.PrefixedLemmas.{Ends, PrefixedOutputs, lines-plain}
+
+pub appends-none : (contents : Option (List ℕ)) → Appends contents contents []
+appends-none None = tt
+appends-none (Some held) = sym (append-nil held)
+
+-- ---- a task over the whole text
+
+-- nothing of a file was answered
+no-front : (prefix : List ℕ) (known : Option (List ℕ)) → IsFileFront NoFront prefix known []
+no-front prefix None = ([], [], tt, [], refl, refl)
+no-front prefix (Some all) = ([], all, refl, [], refl, refl)
+
+pub none-sent : (prefix : List ℕ) (known : Option (List ℕ)) (sink : SinkState) → IsHealthy sink → IsFrontSent NoFront prefix known sink sink
+none-sent prefix known sink healthy = ([], no-front prefix known, appends-none sink.contents, healthy)
+
+-- nothing was written before the fault
+pub unread-file : (prefix : List ℕ) (known : Option (List ℕ)) (sink : SinkState) (fault : RunFault)
+    → IsHealthy sink → IsNoWriteFault fault → IsFileFault NoFront prefix known sink sink fault
+unread-file prefix known sink ReadFailed healthy is = none-sent prefix known sink healthy
+unread-file prefix known sink WriteFailed healthy is = absurd is
+unread-file prefix known sink (TooLong line) healthy is = none-sent prefix known sink healthy
+unread-file prefix known sink TooManyReads healthy is = none-sent prefix known sink healthy
+unread-file prefix known sink Memory healthy is = healthy
+
+pub read-no-write : (source : SourceState) (fault : RunFault) → IsReadFault source fault → IsNoWriteFault fault
+read-no-write source ReadFailed is = tt
+read-no-write source WriteFailed is = absurd is
+read-no-write source (TooLong line) is = tt
+read-no-write source TooManyReads is = tt
+read-no-write source Memory is = tt
+
+-- ---- a task over lines
+
+pub lines-sent : (Output : Outputs) → Ends Output → (prefix : List ℕ) (known : Option (List ℕ)) (old new : SourceState)
+    (before after : SinkState) (status : ℕ) → old ≡ fresh_source known
+    → IsLinesAnswered (PrefixedOutputs prefix Output) old new before after status → after.past_failure ≡ false
+    → IsAnswerSent (IsLinesOutput Output) prefix known before after status
+lines-sent Output ends prefix known old new before after status fresh answered first = (
+  answered.written,
+  (
+    answered.bytes,
+    subst (λ left. IfSome left (λ all. answered.bytes ≡ all)) (ap (λ (s : SourceState). s.remaining) fresh) answered.is_whole.is_all,
+    lines-plain Output ends prefix answered.bytes answered.written status answered.is_output,
+  ),
+  answered.is_sent,
+  (answered.is_healthy, first),
+)
+
+abbrev FrontOf : Outputs → List ℕ → List ℕ → Type 0
+FrontOf Output = λ bytes written. IsFrontOutput Output bytes false written
+
+-- what was given is the front of what is known
+given-front : (known left : Option (List ℕ)) (bytes more : List ℕ) → Consumes known left (bytes ++ more)
+    → (rest : List ℕ) × IfSome known (λ all. all ≡ bytes ++ rest)
+given-front None left bytes more is = ([], tt)
+given-front (Some all) None bytes more is = absurd is
+given-front (Some all) (Some left) bytes more is = (more ++ left, is ∙ append_assoc bytes more left)
+
+-- whole lines were answered
+front-sent : (Output : Outputs) → Ends Output → (prefix : List ℕ) (known left : Option (List ℕ)) (lines more : List ℕ)
+    (before after : SinkState) → Consumes known left (lines ++ more) → (lines ≡ []) ⊎ EndsInFeed lines
+    → HasSentAll (PrefixedOutputs prefix Output) lines before after → IsHealthy after
+    → IsFrontSent (FrontOf Output) prefix known before after
+front-sent Output ends prefix known left lines more before after given begins sent healthy =
+    let front = given-front known left lines more given in
+    let plain = lines-plain Output ends prefix lines sent.written sent.status sent.is_output in (
+      sent.written,
+      (
+        lines,
+        front.0,
+        front.1,
+        plain.0,
+        record {
+          front = lines;
+          rest = [];
+          are_bytes = sym (append-nil lines);
+          are_whole = whole begins;
+          status = sent.status;
+          is_output = plain.1;
+        },
+        plain.2,
+      ),
+      sent.is_sent,
+      healthy,
+    )
+  where
+    whole : (lines ≡ []) ⊎ EndsInFeed lines → (lines ≡ []) ⊎ EndsInFeed lines ⊎ ((◌≡◌ {A = List ℕ} [] []) × (false ≡ true))
+    whole (inl none) = inl none
+    whole (inr feed) = inr (inl feed)
+
+lines-stopped : (Output : Outputs) → Ends Output → (prefix : List ℕ) (old new : SourceState) (before after : SinkState) (fault : RunFault)
+    → IsLinesFault (PrefixedOutputs prefix Output) old new before after fault → after.past_failure ≡ false
+    → IsFileFault (FrontOf Output) prefix old.remaining before after fault
+lines-stopped Output ends prefix old new before after ReadFailed (failed, healthy, (bytes, lines, given, short, (last, split, begins, plain), sent)) first =
+    front-sent Output ends prefix old.remaining new.remaining lines last before after
+    (subst (Consumes old.remaining new.remaining) split given.is_first) begins sent (healthy, first)
+lines-stopped Output ends prefix old new before after WriteFailed (healthy, failed, more) first = (failed, first)
+lines-stopped Output ends prefix old new before after (TooLong number) (healthy, sound, (bytes, given, (long, sent))) first =
+    front-sent Output ends prefix old.remaining new.remaining long.front (long.long ++ long.rest) before after
+    (subst (Consumes old.remaining new.remaining) long.are_bytes given.is_first) long.begins sent (sound, first)
+lines-stopped Output ends prefix old new before after TooManyReads (healthy, sound, reads, unended, (bytes, lines, given, short, (last, split, begins, plain), sent)) first =
+    front-sent Output ends prefix old.remaining new.remaining lines last before after
+    (subst (Consumes old.remaining new.remaining) split given.is_first) begins sent (sound, first)
+lines-stopped Output ends prefix old new before after Memory (healthy, sound, more) first = (sound, first)
+
+pub lines-failed : (Output : Outputs) → Ends Output → (prefix : List ℕ) (known : Option (List ℕ)) (old new : SourceState)
+    (before after : SinkState) (fault : RunFault) → old ≡ fresh_source known
+    → IsLinesFault (PrefixedOutputs prefix Output) old new before after fault → after.past_failure ≡ false
+    → IsFileFault (FrontOf Output) prefix known before after fault
+lines-failed Output ends prefix known old new before after fault fresh stopped first =
+    subst (λ left. IsFileFault (FrontOf Output) prefix left before after fault) (ap (λ (s : SourceState). s.remaining) fresh)
+    (lines-stopped Output ends prefix old new before after fault stopped first)
+
+-- ---- files one after another
+
+-- a file more was answered
+pub file-more : (asked : FileTask) (prefix : List ℕ → List ℕ) (known : List ℕ → Option (List ℕ)) (names rest left : List (List ℕ))
+    (name one : List ℕ) (so-far own : ℕ) (before now after : SinkState) (written : List ℕ)
+    → left ≡ name ∷ rest → IsFileOutput asked (prefix name) (known name) one own
+    → Appends before.contents now.contents written → Appends now.contents after.contents one
+    → ((more : List ℕ) (others : ℕ) → AreFileOutputs asked prefix known left more others
+    → AreFileOutputs asked prefix known names (written ++ more) (max so-far others))
+    → (all : List ℕ) × Appends before.contents after.contents all
+    × ((more : List ℕ) (others : ℕ) → AreFileOutputs asked prefix known rest more others
+    → AreFileOutputs asked prefix known names (all ++ more) (max (max so-far own) others))
+file-more asked prefix known names rest left name one so-far own before now after written is output sent further goes = (
+  written ++ one,
+  Appends-trans _ _ _ _ _ sent further,
+  λ more others outputs.
+      let here : AreFileOutputs asked prefix known (name ∷ rest) (one ++ more) (max own others) =
+      (one, more, own, others, output, outputs, refl, refl) in
+      let all = goes (one ++ more) (max own others) (subst (λ l. AreFileOutputs asked prefix known l (one ++ more) (max own others)) (sym is) here) in
+      subst (λ l. AreFileOutputs asked prefix known names l (max (max so-far own) others)) (sym (append_assoc written one more))
+      (subst (λ n. AreFileOutputs asked prefix known names (written ++ (one ++ more)) n) (max-assoc so-far own others) all),
+)
+  where
+    max-assoc : (a b c : ℕ) → max a (max b c) ≡ max (max a b) c
+    max-assoc a b c = omega arith
+
+-- all files were answered
+pub files-done : (asked : FileTask) (known : List ℕ → Option (List ℕ)) (names left : List (List ℕ)) (status : ℕ)
+    (before after : SinkState) (written : List ℕ) → left ≡ [] → Appends before.contents after.contents written → IsHealthy after
+    → ((more : List ℕ) (others : ℕ) → AreFileOutputs asked (name_prefix names) known left more others
+    → AreFileOutputs asked (name_prefix names) known names (written ++ more) (max status others))
+    → AreFilesAnswered asked known names before after status
+files-done asked known names left status before after written none sent healthy goes =
+    let all = goes [] 0 (subst (λ l. AreFileOutputs asked (name_prefix names) known l [] 0) (sym none) (refl, refl)) in (
+      written,
+      subst (λ n. AreFileOutputs asked (name_prefix names) known names written n) (max-zero status)
+          (subst (λ l. AreFileOutputs asked (name_prefix names) known names l (max status 0)) (append-nil written) all),
+      sent,
+      healthy.0,
+    )
+
+-- ---- one file
+
+front-none : (Output : Outputs) → IsFrontOutput Output [] false []
+front-none Output = record {
+  front = [];
+  rest = [];
+  are_bytes = refl;
+  are_whole = inl refl;
+  status = 0;
+  is_output = record { texts = []; are_texts = refl; are_outputs = (refl, refl) };
+}
+
+nothing-fronts : (asked : FileTask) → IsTaskFront asked [] []
+nothing-fronts (task.Canon level) = refl
+nothing-fronts task.Check = refl
+nothing-fronts task.Explain = refl
+nothing-fronts (task.Group level) = refl
+nothing-fronts (task.CanonLines level) = front-none (IsLineOutput (IsCanonOutput level))
+nothing-fronts task.CheckLines = front-none (IsLineOutput IsCheckOutput)
+
+unopened-front : (asked : FileTask) (prefix : List ℕ) (known : Option (List ℕ)) → IsFileFront (IsTaskFront asked) prefix known []
+unopened-front asked prefix None = ([], [], tt, [], nothing-fronts asked, refl)
+unopened-front asked prefix (Some all) = ([], all, refl, [], nothing-fronts asked, refl)
+
+-- a file that can't be opened
+pub unopened : (asked : FileTask) (prefix : List ℕ) (known : Option (List ℕ)) (sink : SinkState) → IsHealthy sink
+    → IsFileSent asked prefix known sink sink 2
+unopened asked prefix known sink healthy =
+    ([], inr (unopened-front asked prefix known, refl), appends-none sink.contents, healthy)
+
+-- what was sent of a file that failed
+pub failed-file : (asked : FileTask) (prefix : List ℕ) (known : Option (List ℕ)) (before after : SinkState)
+    → IsFrontSent (IsTaskFront asked) prefix known before after → IsFileSent asked prefix known before after 2
+failed-file asked prefix known before after (written, front, sent, healthy) = (written, inr (front, refl), sent, healthy)
+
+-- a file that failed, beside which the others go on
+pub file-failed : (asked : FileTask) (prefix : List ℕ) (left known : Option (List ℕ)) (before after : SinkState) (fault : RunFault)
+    → left ≡ known → is_of_file fault ≡ true → IsFileFault (IsTaskFront asked) prefix left before after fault
+    → IsFileSent asked prefix known before after 2
+file-failed asked prefix left known before after ReadFailed same is front =
+    subst (λ k. IsFileSent asked prefix k before after 2) same (failed-file asked prefix left before after front)
+file-failed asked prefix left known before after WriteFailed same is front = cc
+file-failed asked prefix left known before after (TooLong line) same is front =
+    subst (λ k. IsFileSent asked prefix k before after 2) same (failed-file asked prefix left before after front)
+file-failed asked prefix left known before after TooManyReads same is front =
+    subst (λ k. IsFileSent asked prefix k before after 2) same (failed-file asked prefix left before after front)
+file-failed asked prefix left known before after Memory same is front = cc
+
+-- ---- groups
+
+-- the sink's bytes are those of a catalogue
+pub groups-held : (level : Level) (known : Option (List ℕ)) (old new : SourceState) (before after : SinkState) (summary : Summary)
+    (held : List ℕ) → old ≡ fresh_source known → before ≡ fresh_sink (Some []) → Some held ≡ after.contents
+    → IsGrouped level old new before after summary
+    → (bytes : List ℕ) × IfSome known (λ all. bytes ≡ all) × IsGroupOutput level bytes held summary
+groups-held level known old new before after summary held fresh none held-is grouped =
+    let sent : Appends (Some []) (Some held) grouped.written =
+    subst (λ c. Appends (Some []) c grouped.written) (sym held-is)
+    (subst (λ c. Appends c after.contents grouped.written) (ap (λ (s : SinkState). s.contents) none) grouped.is_sent) in (
+      grouped.bytes,
+      subst (λ left. IfSome left (λ all. grouped.bytes ≡ all)) (ap (λ (s : SourceState). s.remaining) fresh) grouped.is_whole.is_all,
+      subst (λ w. IsGroupOutput level grouped.bytes w summary) (sym sent) grouped.is_output,
+    )

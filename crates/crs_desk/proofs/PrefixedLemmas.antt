@@ -1,0 +1,83 @@
+-- Lines after a prefix, one after another.
+use Rattle.std.proofs.Common.{◌≡◌, ◌∙◌, ◌++◌, ◌∷◌, [], ℕ, List, Bool, true, false, ap, ap₂, append_assoc, inl, inr, refl, sym}
+use Rattle.std.specs.Prelude.{◌==◌, codes, if◌then◌else◌}
+use Rattle.crs_streams.specs.LongLines.{EndsInFeed}
+use Rattle.crs_value.specs.declared.values.level.Level.{Level}
+use Rattle.crs_desk.specs.LinesRun.{AreOutputs, IsLineOutput, IsLinesOutput, Outputs}
+use Rattle.crs_text.specs.Refusal.{refused_text}
+use Rattle.crs_desk.specs.Output.{IsCanonOutput, IsCheckOutput, kind_word}
+use Rattle.crs_desk.specs.Prefixed.{IsPrefixed, prefixed, prefixed_from}
+
+-- a byte further
+pub prefixed-step : (out prefix rest : List ℕ) (begins : Bool) (b : ℕ)
+    → ((out ++ (if begins then prefix else [])) ++ b ∷ []) ++ prefixed_from (b == 10) prefix rest
+    ≡ out ++ prefixed_from begins prefix (b ∷ rest)
+prefixed-step out prefix rest begins b =
+    let front : List ℕ = if begins then prefix else [] in
+    append_assoc (out ++ front) (b ∷ []) (prefixed_from (b == 10) prefix rest)
+    ∙ append_assoc out front (b ∷ prefixed_from (b == 10) prefix rest)
+
+-- after a line feed a line begins
+prefixed-ended : (begins : Bool) (prefix front rest : List ℕ)
+    → prefixed_from begins prefix ((front ++ 10 ∷ []) ++ rest)
+    ≡ prefixed_from begins prefix (front ++ 10 ∷ []) ++ prefixed_from true prefix rest
+prefixed-ended begins prefix [] rest =
+    sym (append_assoc (if begins then prefix else []) (10 ∷ []) (prefixed_from true prefix rest))
+prefixed-ended begins prefix (b ∷ front) rest =
+    let own : List ℕ = if begins then prefix else [] in
+    let more : List ℕ = prefixed_from (b == 10) prefix (front ++ 10 ∷ []) in
+    ap (λ l. own ++ b ∷ l) (prefixed-ended (b == 10) prefix front rest)
+    ∙ sym (append_assoc own (b ∷ more) (prefixed_from true prefix rest))
+
+-- no prefix changes nothing
+pub no-prefix : (begins : Bool) (bytes : List ℕ) → prefixed_from begins [] bytes ≡ bytes
+no-prefix begins [] = refl
+no-prefix true (b ∷ bytes) = ap (λ l. b ∷ l) (no-prefix (b == 10) bytes)
+no-prefix false (b ∷ bytes) = ap (λ l. b ∷ l) (no-prefix (b == 10) bytes)
+
+-- all that is written ends in a line feed
+pub Ends : Outputs → Type 0
+Ends Output = (text line : List ℕ) (status : ℕ) → Output text line status → EndsInFeed line
+
+pub canon-ends : (level : Level) → Ends (IsCanonOutput level)
+unfolding Ends IsCanonOutput
+canon-ends level text line status (inl (canonical, of-text, is)) = (canonical, is.line)
+canon-ends level text line status (inr (refusal, of-text, is)) = (refused_text refusal.number refusal.place, is.line)
+
+pub check-ends : Ends IsCheckOutput
+unfolding Ends IsCheckOutput
+check-ends text line status (inl (found, of-text, is)) = (codes "accepted " ++ kind_word found, is.line)
+check-ends text line status (inr (refusal, of-text, is)) = (refused_text refusal.number refusal.place, is.line)
+
+pub line-ends : (Output : Outputs) → Ends Output → Ends (IsLineOutput Output)
+unfolding Ends
+line-ends Output ends text line status (inl (blank, is)) = ([], is.line)
+line-ends Output ends text line status (inr (plain, is)) = ends text line status is
+
+abbrev pub PrefixedOutputs : List ℕ → Outputs → Outputs
+PrefixedOutputs prefix Output = λ text written status. IsPrefixed prefix (Output text) written status
+
+-- what is written for texts, without the prefix
+outputs-plain : (Output : Outputs) → Ends Output → (prefix : List ℕ) (texts : List (List ℕ)) (written : List ℕ) (status : ℕ)
+    → AreOutputs (PrefixedOutputs prefix Output) texts written status
+    → (plain : List ℕ) × AreOutputs Output texts plain status × (written ≡ prefixed prefix plain)
+unfolding Ends
+outputs-plain Output ends prefix [] written status (none, zero-is) = ([], (refl, zero-is), none)
+outputs-plain Output ends prefix (text ∷ texts) written status (line, rest, first, others, (own, one, is), more, joined, greatest) =
+    let below = outputs-plain Output ends prefix texts rest others more in
+    let end = ends text own first one in (
+      own ++ below.0,
+      (own, below.0, first, others, one, below.1, refl, greatest),
+      joined ∙ (ap₂ (λ a b. a ++ b) is below.2
+          ∙ (ap (λ l. prefixed prefix l ++ prefixed prefix below.0) end.1
+          ∙ (sym (prefixed-ended true prefix end.0 below.0) ∙ ap (λ l. prefixed prefix (l ++ below.0)) (sym end.1)))),
+    )
+
+pub lines-plain : (Output : Outputs) → Ends Output → (prefix bytes written : List ℕ) (status : ℕ)
+    → IsLinesOutput (PrefixedOutputs prefix Output) bytes written status → IsPrefixed prefix (IsLinesOutput Output bytes) written status
+lines-plain Output ends prefix bytes written status lines =
+    let plain = outputs-plain Output ends prefix lines.texts written status lines.are_outputs in (
+      plain.0,
+      record { texts = lines.texts; are_texts = lines.are_texts; are_outputs = plain.1 },
+      plain.2,
+    )

@@ -1,0 +1,70 @@
+-- A bridge: the answer for one file, or the fault with which it ends.
+use Rattle.std.specs.Prelude.{◌≡◌, [], ℕ, List, Bool, Option, true, false}
+use Rattle.std.specs.Io.KnownBytes.{Appends}
+use Rattle.crs_streams.specs.Streams.{SinkState}
+use Rattle.crs_streams.specs.declared.fault.RunFault.{RunFault}
+use Rattle.crs_streams.specs.declared.fault.RunFault.TheVariants.{ReadFailed, WriteFailed, TooLong}
+use Rattle.crs_streams.specs.declared.fault.RunFault.TheVariants.{TooManyReads, Memory}
+use Rattle.crs_desk.specs.FilesRun.{IsFileAnswer, IsFileFront, IsFileOutput}
+use Rattle.crs_desk.specs.LineCutting.{IsHealthy}
+use Rattle.crs_desk.specs.LinesRun.{Outputs}
+use Rattle.crs_desk.specs.declared.file_task.FileTask.{FileTask}
+
+-- nothing is written for a file that fails
+abbrev pub NoFront : List ℕ → List ℕ → Type 0
+NoFront bytes written = written ≡ []
+
+-- the sink got the answer
+abbrev pub IsAnswerSent : Outputs → List ℕ → Option (List ℕ) → SinkState → SinkState → ℕ → Type 0
+IsAnswerSent Output prefix known before after status =
+    (written : List ℕ) × IsFileAnswer Output prefix known written status
+    × Appends before.contents after.contents written × IsHealthy after
+
+-- the sink got what is written for a file that fails
+abbrev pub IsFrontSent : (List ℕ → List ℕ → Type 0) → List ℕ → Option (List ℕ) → SinkState →
+    SinkState → Type 0
+IsFrontSent Front prefix known before after =
+    (written : List ℕ) × IsFileFront Front prefix known written
+    × Appends before.contents after.contents written × IsHealthy after
+
+-- what the fault of a file says
+abbrev pub IsFileFault : (List ℕ → List ℕ → Type 0) → List ℕ → Option (List ℕ) → SinkState →
+    SinkState → RunFault → Type 0
+IsFileFault Front prefix known before after WriteFailed =
+    (after.failed ≡ true) × (after.past_failure ≡ false)
+IsFileFault Front prefix known before after Memory = IsHealthy after
+IsFileFault Front prefix known before after ReadFailed = IsFrontSent Front prefix known before after
+IsFileFault Front prefix known before after (TooLong line) =
+    IsFrontSent Front prefix known before after
+IsFileFault Front prefix known before after TooManyReads =
+    IsFrontSent Front prefix known before after
+
+-- the sink got the output of a file
+abbrev pub IsFileSent : FileTask → List ℕ → Option (List ℕ) → SinkState → SinkState → ℕ → Type 0
+IsFileSent asked prefix known before after status =
+    (written : List ℕ) × IsFileOutput asked prefix known written status
+    × Appends before.contents after.contents written × IsHealthy after
+
+-- the fault is one of a file, beside which the others go on
+abbrev pub is_of_file : RunFault → Bool
+is_of_file ReadFailed = true
+is_of_file WriteFailed = false
+is_of_file (TooLong line) = true
+is_of_file TooManyReads = true
+is_of_file Memory = false
+
+-- the fault is none of a write
+abbrev pub IsNoWriteFault : RunFault → Type 0
+IsNoWriteFault ReadFailed = Unit {0}
+IsNoWriteFault WriteFailed = ⊥
+IsNoWriteFault (TooLong line) = Unit {0}
+IsNoWriteFault TooManyReads = Unit {0}
+IsNoWriteFault Memory = Unit {0}
+
+-- why an answer isn't sent
+abbrev pub IsSendFault : SinkState → RunFault → Type 0
+IsSendFault after ReadFailed = ⊥
+IsSendFault after WriteFailed = (after.failed ≡ true) × (after.past_failure ≡ false)
+IsSendFault after (TooLong line) = ⊥
+IsSendFault after TooManyReads = ⊥
+IsSendFault after Memory = IsHealthy after

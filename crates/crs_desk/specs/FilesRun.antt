@@ -1,0 +1,92 @@
+-- What a run over files writes, and its status.
+use Rattle.std.specs.Prelude.{◌≡◌, ◌⊎◌, ◌==◌, ◌++◌, ◌∷◌, [], ℕ, List, Option, IfSome, codes, max}
+use Rattle.std.specs.Prelude.{false, true, if◌then◌else◌}
+use Rattle.std.specs.Io.KnownBytes.{Appends}
+use Rattle.crs_value.specs.declared.values.level.Level.{Level}
+use Rattle.crs_explain.specs.Escaped.{escaped}
+use Rattle.crs_group.specs.GroupOutput.{IsGroupOutput}
+use Rattle.crs_group.specs.declared.summary.Summary.{Summary}
+use Rattle.crs_streams.specs.Streams.{SinkState}
+use Rattle.crs_streams.specs.declared.fault.RunFault.{RunFault}
+use Rattle.crs_streams.specs.declared.fault.RunFault.TheVariants.{ReadFailed, WriteFailed, TooLong}
+use Rattle.crs_streams.specs.declared.fault.RunFault.TheVariants.{TooManyReads, Memory}
+use Rattle.crs_desk.specs.declared.file_task.FileTask.{FileTask}
+use Rattle.crs_desk.specs.declared.file_task.FileTask.TheVariants as task
+use Rattle.crs_desk.specs.ExplainOutput.{IsExplainOutput}
+use Rattle.crs_desk.specs.LinesRun.{IsFrontOutput, IsLineOutput, IsLinesOutput, Outputs}
+use Rattle.crs_desk.specs.Output.{IsCanonOutput, IsCheckOutput}
+use Rattle.crs_desk.specs.Prefixed.{IsPrefixed, prefixed}
+
+-- what `group` writes for some bytes; the status is 1 where a line was refused
+abbrev pub IsGroupedOutput : Level → Outputs
+IsGroupedOutput level bytes written status =
+    (summary : Summary) × IsGroupOutput level bytes written summary
+    × (status ≡ (if summary.refused == 0 then 0 else 1))
+
+-- what is written for all the bytes of a file, and the status
+abbrev pub IsTaskOutput : FileTask → Outputs
+IsTaskOutput (task.Canon level) = IsCanonOutput level
+IsTaskOutput task.Check = IsCheckOutput
+IsTaskOutput task.Explain = IsExplainOutput
+IsTaskOutput (task.Group level) = IsGroupedOutput level
+IsTaskOutput (task.CanonLines level) = IsLinesOutput (IsLineOutput (IsCanonOutput level))
+IsTaskOutput task.CheckLines = IsLinesOutput (IsLineOutput IsCheckOutput)
+
+-- what is written for the first bytes of a file of which no more can be read: the answers to whole
+-- lines where each line is a text, and else nothing
+abbrev pub IsTaskFront : FileTask → List ℕ → List ℕ → Type 0
+IsTaskFront (task.CanonLines level) bytes written =
+    IsFrontOutput (IsLineOutput (IsCanonOutput level)) bytes false written
+IsTaskFront task.CheckLines bytes written =
+    IsFrontOutput (IsLineOutput IsCheckOutput) bytes false written
+IsTaskFront other bytes written = written ≡ []
+
+-- what stands before each line of a file's answer: nothing where there is one file, else its name,
+-- escaped as a line shows it, and a colon
+abbrev pub name_prefix : List (List ℕ) → List ℕ → List ℕ
+name_prefix (one ∷ []) name = []
+name_prefix names name = escaped name ++ codes ":"
+
+-- the answer for all the bytes of a file, which are these where they are known
+abbrev pub IsFileAnswer : Outputs → List ℕ → Option (List ℕ) → List ℕ → ℕ → Type 0
+IsFileAnswer Output prefix known written status =
+    (bytes : List ℕ) × IfSome known (λ all. bytes ≡ all)
+    × IsPrefixed prefix (Output bytes) written status
+
+-- what was written for a file that can't be opened, or read to its end
+abbrev pub IsFileFront : (List ℕ → List ℕ → Type 0) → List ℕ → Option (List ℕ) → List ℕ → Type 0
+IsFileFront Front prefix known written =
+    (bytes : List ℕ) × (rest : List ℕ) × IfSome known (λ all. all ≡ bytes ++ rest)
+    × (plain : List ℕ) × Front bytes plain × (written ≡ prefixed prefix plain)
+
+-- a file is answered, or fails, with status 2
+abbrev pub IsFileOutput : FileTask → List ℕ → Option (List ℕ) → List ℕ → ℕ → Type 0
+IsFileOutput asked prefix known written status =
+    IsFileAnswer (IsTaskOutput asked) prefix known written status
+    ⊎ (IsFileFront (IsTaskFront asked) prefix known written × (status ≡ 2))
+
+-- what is written for files one after another, by the prefix of each name and the bytes of the file
+-- where they are known; and the greatest status
+abbrev pub AreFileOutputs : FileTask → (List ℕ → List ℕ) → (List ℕ → Option (List ℕ)) →
+    List (List ℕ) → List ℕ → ℕ → Type 0
+AreFileOutputs asked prefix known [] written status = (written ≡ []) × (status ≡ 0)
+AreFileOutputs asked prefix known (name ∷ names) written status =
+    (one : List ℕ) × (rest : List ℕ) × (first : ℕ) × (others : ℕ)
+    × IsFileOutput asked (prefix name) (known name) one first
+    × AreFileOutputs asked prefix known names rest others
+    × (written ≡ one ++ rest) × (status ≡ max first others)
+
+-- the sink got that
+abbrev pub AreFilesAnswered : FileTask → (List ℕ → Option (List ℕ)) → List (List ℕ) → SinkState →
+    SinkState → ℕ → Type 0
+AreFilesAnswered asked known names before after status =
+    (written : List ℕ) × AreFileOutputs asked (name_prefix names) known names written status
+    × Appends before.contents after.contents written × (after.failed ≡ false)
+
+-- a run over files ends before the last of them where a write failed or memory ran out
+abbrev pub IsFilesFault : SinkState → RunFault → Type 0
+IsFilesFault after ReadFailed = ⊥
+IsFilesFault after (TooLong line) = ⊥
+IsFilesFault after TooManyReads = ⊥
+IsFilesFault after WriteFailed = after.failed ≡ true
+IsFilesFault after Memory = after.failed ≡ false

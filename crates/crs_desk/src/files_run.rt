@@ -1,0 +1,109 @@
+//! A run over files: what a command writes for each of them, in their order.
+ghost use Rattle.std.specs.Prelude.{◌≡◌, ℕ, List, Option, IfErr, IfOk, IfSome, false};
+ghost use Rattle.crs_streams.specs.Streams.{fresh_sink};
+ghost use Rattle.crs_desk.specs.FileAnswers.{IsFileSent, is_of_file};
+ghost use Rattle.crs_desk.specs.FilesRun.{AreFilesAnswered, IsFilesFault, name_prefix};
+ghost use Rattle.crs_desk.specs.LineCutting.{IsHealthy};
+
+use crate::file_answer::answer_input;
+use crate::file_task::FileTask;
+use crate::{LineWord, RunFault, Sink};
+use crs_explain::append_escaped;
+use std::alloc::{AllocError, Global};
+use std::io::{Read, Write};
+
+// The status of a file that fails.
+const FAILED: u8 = 2;
+
+/// Files that are opened by their names.
+pub trait Inputs {
+    /// What an opened file is read from.
+    type Input: Read + Drop;
+
+    /// The bytes of the file of a name, where they are known.
+    ghost known: { Self → List ℕ → Option (List ℕ) };
+
+    /// Opens the file of a name. `None` where that fails, which is told to the user.
+    fn open(&self, name: &str) -> Option<Self::Input>
+        ensures { IfSome result (λ input. Self.Input.remaining input ≡ known self.now name.now) };
+
+    /// Tells the user with which fault the file of a name failed; what it was read from may know more.
+    fn tell(&self, name: &str, input: &Self::Input, fault: &RunFault);
+}
+
+/// Writes for each file in its turn what is asked of it; where there are several, each line begins with the file's name,
+/// in which control characters, ends of lines, marks of direction and backslashes are escaped, and a colon. A file that
+/// can't be opened, or not be read to its end within the bounds of its task, is told to the user, has status 2, and the
+/// others go on; of its answer nothing was written, or where each line is a text that of whole lines, the first of all.
+/// The status is the greatest of all. `WriteFailed` where the sink has failed, `Memory` where memory ran out. Profile.
+pub fn run_files<I: Inputs, W: Write>(
+    alloc: Global,
+    task: FileTask,
+    names: &[LineWord],
+    files: &I,
+    w: &mut Sink<W>,
+) -> Result<u8, RunFault>
+    requires { w.old ≡ fresh_sink w.old.contents }
+    ensures answered { IfOk result (AreFilesAnswered task (I.known files.now) names.now w.old w.new) }
+    ensures fault { IfErr result (IsFilesFault w.new) }
+    ensures past_failure { w.new.past_failure ≡ false }
+{
+    let mut status = 0;
+    for name in names {
+        let prefix = prefix_of(alloc, names, name).map_err(|_| RunFault::Memory)?;
+        let own = answer_file(alloc, task, &prefix, name, files, w)?;
+        status = status.max(own);
+    }
+    Ok(status)
+}
+
+// What stands before each line of a file's answer.
+fn prefix_of(alloc: Global, names: &[LineWord], name: &LineWord) -> Result<Vec<u8>, AllocError>
+    ensures { IfOk result (λ prefix. prefix.items ≡ name_prefix names.now name.now) }
+{
+    let mut prefix = Vec::new(alloc);
+    if names.len() != 1 {
+        append_escaped(name.as_str().as_bytes(), &mut prefix)?;
+        prefix.push(b':')?;
+    }
+    Ok(prefix)
+}
+
+// Writes the answer of a file.
+fn answer_file<I: Inputs, W: Write>(
+    alloc: Global,
+    task: FileTask,
+    prefix: &[u8],
+    name: &LineWord,
+    files: &I,
+    sink: &mut Sink<W>,
+) -> Result<u8, RunFault>
+    requires { IsHealthy sink.old }
+    ensures answered { IfOk result (IsFileSent task prefix.now (I.known files.now name.now) sink.old sink.new) }
+    ensures fault { IfErr result (IsFilesFault sink.new) }
+    ensures past_failure { sink.new.past_failure ≡ false }
+{
+    let Some(mut input) = files.open(name.as_str()) else {
+        return Ok(FAILED);
+    };
+    match answer_input(alloc, task, prefix, &mut input, sink) {
+        Ok(status) => Ok(status),
+        Err(fault) => {
+            if !is_of_file(&fault) {
+                return Err(fault);
+            }
+            files.tell(name.as_str(), &input, &fault);
+            Ok(FAILED)
+        }
+    }
+}
+
+// Whether a fault is one of a file, beside which the others go on.
+fn is_of_file(fault: &RunFault) -> bool
+    ensures { result ≡ is_of_file fault.now }
+{
+    match fault {
+        RunFault::ReadFailed | RunFault::TooLong(_) | RunFault::TooManyReads => true,
+        RunFault::WriteFailed | RunFault::Memory => false,
+    }
+}
