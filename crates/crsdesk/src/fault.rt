@@ -1,5 +1,5 @@
 //! Why the program ends without an answer.
-use crs_desk::{RequestFault, RunFault};
+use crs_desk::RunFault;
 use std::alloc::AllocError;
 use std::io;
 use thiserror::Error;
@@ -7,18 +7,24 @@ use thiserror::Error;
 /// Why the program ends without an answer.
 #[derive(Debug, Drop, Error)]
 pub enum Fault {
-    /// The command line is wrong, or asks for help or the version: `clap`'s own text.
-    #[error("{0}")]
-    Line(clap::Error),
     /// A word of the command line isn't UTF-8.
     #[error("a word of the command line isn't UTF-8")]
     Word,
     /// The word after `--level` names no level.
     #[error("no such level")]
     Level,
+    /// A read of standard input failed, for this reason.
+    #[error("read failed")]
+    Read(io::Error),
+    /// A write to standard output failed, for this reason.
+    #[error("write failed")]
+    Write(io::Error),
     /// A run ended with a fault.
     #[error("{0}")]
     Run(RunFault),
+    /// The user was told already, or nobody reads standard output any more.
+    #[error("told")]
+    Told,
 }
 
 impl From<RunFault> for Fault {
@@ -30,15 +36,6 @@ impl From<RunFault> for Fault {
 impl From<AllocError> for Fault {
     fn from(_error: AllocError) -> Fault {
         Fault::Run(RunFault::Memory)
-    }
-}
-
-impl From<RequestFault> for Fault {
-    fn from(fault: RequestFault) -> Fault {
-        match fault {
-            RequestFault::Line(error) => Fault::Line(error),
-            RequestFault::Memory(error) => Fault::from(error),
-        }
     }
 }
 

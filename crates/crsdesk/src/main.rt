@@ -3,16 +3,21 @@
 #![tactic(auto)]
 
 mod fault;
+mod input;
+mod output;
 mod runs;
+mod telling;
 
-use crs_desk::{Level, LineWord, Request, request};
+use crs_desk::{FileTask, Level, LineWord, Request, RequestFault, RunFault, Task, request};
 use fault::Fault;
 use runs::{
-    canon, canon_lines, check, check_lines, explain, explain_pair, explain_text, group, same,
+    canon, canon_lines, check, check_lines, explain, explain_files, explain_pair, explain_text,
+    files, group, same, same_files,
 };
 use std::alloc::{AllocError, Global};
 use std::process::ExitCode;
 use std::{env, io};
+use telling::tell_bad_words;
 
 const FAULT: u8 = 2;
 
@@ -27,7 +32,11 @@ fn main(rt: HostRuntime) -> ExitCode {
 fn run(rt: &HostRuntime) -> Result<u8, Fault> {
     let words = command_words(rt)?;
     let words = texts_of(rt.alloc(), &words)?;
-    answer(rt, &request(rt.alloc(), &words)?)
+    match &request(rt.alloc(), &words) {
+        Ok(wanted) => answer(rt, wanted),
+        Err(RequestFault::Line(error)) => Ok(tell_line(rt, &words, error)),
+        Err(RequestFault::Memory(_)) => Err(Fault::Run(RunFault::Memory)),
+    }
 }
 
 fn command_words(rt: &HostRuntime) -> io::Result<Vec<String>> {
@@ -40,7 +49,7 @@ fn texts_of(alloc: Global, words: &[String]) -> Result<Vec<&str>, AllocError> {
 
 // The level is judged before anything is read.
 fn answer(rt: &HostRuntime, wanted: &Request) -> Result<u8, Fault> {
-    let outcome = match wanted {
+    match wanted {
         Request::Canon(level) => canon(rt, level_of(level)?),
         Request::Check => check(rt),
         Request::Same(first, second, level) => same(rt, level_of(level)?, first, second),
@@ -58,8 +67,24 @@ fn answer(rt: &HostRuntime, wanted: &Request) -> Result<u8, Fault> {
         Request::ExplainPair(first, second, level) => {
             explain_pair(rt, level_of(level)?, first, second)
         }
-    };
-    Ok(outcome?)
+        Request::Files(task, names) => answer_files(rt, task, names.as_slice()),
+    }
+}
+
+fn answer_files(rt: &HostRuntime, task: &Task, names: &[LineWord]) -> Result<u8, Fault> {
+    match task {
+        Task::Canon(level) => files(rt, FileTask::Canon(level_of(level)?), names),
+        Task::Check => files(rt, FileTask::Check, names),
+        Task::Group(level) => files(rt, FileTask::Group(level_of(level)?), names),
+        Task::CanonLines(level) => files(rt, FileTask::CanonLines(level_of(level)?), names),
+        Task::CheckLines => files(rt, FileTask::CheckLines, names),
+        Task::Explain(level) => {
+            level_of(level)?;
+            files(rt, FileTask::Explain, names)
+        }
+        Task::Same(level) => same_files(rt, level_of(level)?, names),
+        Task::ExplainPair(level) => explain_files(rt, level_of(level)?, names),
+    }
 }
 
 fn level_of(word: &LineWord) -> Result<Level, Fault> {
@@ -70,12 +95,43 @@ fn level_of(word: &LineWord) -> Result<Level, Fault> {
     }
 }
 
-// A second failure, of standard error itself, can't be reported.
+// Each fault is a line, and some have a second one that says more. A failure of standard error itself can't be told.
 fn report(rt: &HostRuntime, fault: &Fault) -> u8 {
-    if let Fault::Line(error) = fault {
-        let _ = error.print(rt);
-        return if error.use_stderr() { FAULT } else { 0 };
+    if let Fault::Told = fault {
+        return FAULT;
     }
     let _ = eprintln!(rt; "crsdesk: {fault}");
+    match fault {
+        Fault::Word => tell_bad_words(rt),
+        Fault::Level => {
+            let _ = eprintln!(rt; "crsdesk: the levels are full and definition");
+        }
+        Fault::Read(error) => {
+            let _ = eprintln!(rt; "crsdesk: standard input: {error}");
+        }
+        Fault::Write(error) => {
+            let _ = eprintln!(rt; "crsdesk: standard output: {error}");
+        }
+        _ => {}
+    }
+    FAULT
+}
+
+// `clap`'s own text. Help and the version that can't be written are a fault.
+fn tell_line(rt: &HostRuntime, words: &[&str], error: &clap::Error) -> u8 {
+    if let Err(failure) = error.print(rt) {
+        if failure.kind() != io::ErrorKind::BrokenPipe {
+            return report(rt, &Fault::Write(failure));
+        }
+        return FAULT;
+    }
+    if !error.use_stderr() {
+        return 0;
+    }
+    if words.get(1) == Some(&"explain") && words.contains(&"--lines") {
+        let _ = eprintln!(rt;
+            "crsdesk: explain takes texts; check --lines tells which lines are refused"
+        );
+    }
     FAULT
 }

@@ -1,0 +1,47 @@
+//! Standard output.
+use std::io;
+use std::io::{Stdout, Write};
+
+/// Standard output, with the failure of the last write that failed.
+#[derive(Drop)]
+pub struct Output {
+    stdout: Stdout,
+    failure: Option<io::Error>,
+}
+
+impl Output {
+    /// Standard output, to which nothing was written.
+    pub fn new(rt: &HostRuntime) -> Output {
+        Output {
+            stdout: rt.stdout(),
+            failure: None,
+        }
+    }
+
+    /// Why the last write that failed did so.
+    pub fn failure(&self) -> Option<io::Error> {
+        self.failure
+    }
+
+    /// Whether a write failed since nobody reads any more.
+    pub fn is_closed(&self) -> bool {
+        match &self.failure {
+            Some(error) => error.kind() == io::ErrorKind::BrokenPipe,
+            None => false,
+        }
+    }
+}
+
+impl Write for Output {
+    fn write(&mut self, buf: &[u8]) -> io::Result<usize> {
+        let answer = self.stdout.write(buf);
+        if let Err(error) = answer {
+            self.failure = Some(error);
+        }
+        answer
+    }
+
+    fn flush(&mut self) -> io::Result<()> {
+        Ok(())
+    }
+}

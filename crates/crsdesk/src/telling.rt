@@ -1,0 +1,63 @@
+//! Lines on standard error. A failure of standard error itself can't be told.
+use crs_desk::append_escaped;
+use std::alloc::{AllocError, Global};
+use std::env::{Env, FillError};
+use std::fmt::Display;
+use std::str;
+
+// Linux bounds a word of the command line at this many bytes.
+const MAX_WORD: usize = 131_072;
+
+/// `crsdesk: NAME: WHAT`, the name escaped as a line shows it.
+pub fn tell_of<D: Display + Drop>(rt: &HostRuntime, name: &str, what: D) {
+    match shown(rt.alloc(), name.as_bytes()) {
+        Ok(bytes) => {
+            let shown = str::from_utf8(&bytes).unwrap_or(name);
+            let _ = eprintln!(rt; "crsdesk: {shown}: {what}");
+        }
+        Err(_) => {
+            let _ = eprintln!(rt; "crsdesk: {what}");
+        }
+    }
+}
+
+fn shown(alloc: Global, name: &[u8]) -> Result<Vec<u8>, AllocError> {
+    let mut shown = Vec::new(alloc);
+    append_escaped(name, &mut shown)?;
+    Ok(shown)
+}
+
+/// A line for each word of the command line that isn't UTF-8, with its bytes: those outside ASCII as `\xHH`.
+pub fn tell_bad_words(rt: &HostRuntime) {
+    let Ok(mut room) = vec![in rt.alloc(); 0u8; MAX_WORD] else {
+        return;
+    };
+    for number in 0..usize::MAX {
+        match rt.arg(number, &mut room) {
+            Ok(length) => tell_bad_word(rt, number, &room[..length]),
+            Err(FillError::TooLong) => {}
+            Err(FillError::NotPresent) => return,
+        }
+    }
+}
+
+fn tell_bad_word(rt: &HostRuntime, number: usize, word: &[u8]) {
+    if str::from_utf8(word).is_ok() {
+        return;
+    }
+    if let Ok(shown) = bytes_shown(rt.alloc(), word) {
+        let _ = eprintln!(rt; "crsdesk: word {number}: {shown}");
+    }
+}
+
+fn bytes_shown(alloc: Global, bytes: &[u8]) -> Result<String, AllocError> {
+    let mut shown = String::new(alloc);
+    for byte in bytes {
+        match byte {
+            b'\\' => shown.push_str("\\\\")?,
+            b' '..=b'~' => shown.push(*byte as char)?,
+            _ => write!(shown, "\\x{byte:02X}")?,
+        }
+    }
+    Ok(shown)
+}
