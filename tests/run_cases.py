@@ -13,15 +13,21 @@ a line '# REASON' or more, and then, each in its own line and in this order, as 
     times N TEXT     the same, N times over
     input-file PATH  the same of a file of the repository
     input-by-lines   a read gives one line of standard input, as a pipe does that is written slowly
+    input-in-turn    each line of standard input is written when a line of output has come for the one before
     input-unreadable standard input is a folder, from which a read fails
+    file NAME TEXT   a part of a file in the working folder, which is one of its own then; no line end is added
+    file-times NAME N TEXT  the same, N times over
     output TEXT      a line of standard output, with its LF; none: nothing is written
     output-any       standard output isn't compared
     output-full      standard output is a device on which a write fails
+    output-closed    standard output is a pipe that nobody reads
     status N         the exit status
     error TEXT       a line of standard error, with its LF; none: standard error isn't compared
+    error-none       nothing is written on standard error
 
 TEXT is UTF-8 and everything after the one space, with these escapes: \\n LF, \\r CR, \\t tab, \\\\ a backslash, and
-\\xHH the byte HH. The input is the parts in their order. The program runs at the root of the repository.
+\\xHH the byte HH; so is NAME, but that it has no space. The input is the parts in their order. The program runs at the
+root of the repository.
 """
 import contextlib
 import os
@@ -29,12 +35,14 @@ import re
 import socket
 import subprocess
 import sys
+import tempfile
 import threading
 from concurrent.futures import ThreadPoolExecutor
 
 HERE = os.path.dirname(os.path.abspath(__file__))
 ROOT = os.path.dirname(HERE)
 SECONDS = 600
+SECONDS_IN_TURN = 60
 ESCAPE = re.compile(rb"\\(?:x([0-9a-f]{2})|(.))")
 PLAIN = {b"n": b"\n", b"r": b"\r", b"t": b"\t", b"\\": b"\\"}
 
@@ -46,10 +54,13 @@ class Case:
         self.has_reason = False
         self.words = []
         self.input = b""
+        self.files = {}
         self.is_by_lines = False
+        self.is_in_turn = False
         self.is_unreadable = False
         self.output = b""
         self.is_full = False
+        self.is_closed = False
         self.status = None
         self.error = None
 
@@ -74,6 +85,14 @@ def add_line(case, key, rest):
             case.input += file.read()
     elif key == b"input-by-lines":
         case.is_by_lines = True
+    elif key == b"input-in-turn":
+        case.is_in_turn = True
+    elif key == b"file":
+        name, _, text = rest.partition(b" ")
+        case.files[bytes_of(name)] = case.files.get(bytes_of(name), b"") + bytes_of(text)
+    elif key == b"file-times":
+        name, count, text = rest.split(b" ", 2)
+        case.files[bytes_of(name)] = case.files.get(bytes_of(name), b"") + bytes_of(text) * int(count)
     elif key == b"input-unreadable":
         case.is_unreadable = True
     elif key == b"output":
@@ -83,10 +102,15 @@ def add_line(case, key, rest):
     elif key == b"output-full":
         case.is_full = True
         case.output = None
+    elif key == b"output-closed":
+        case.is_closed = True
+        case.output = None
     elif key == b"status":
         case.status = int(rest)
     elif key == b"error":
         case.error = (case.error or b"") + bytes_of(rest) + b"\n"
+    elif key == b"error-none":
+        case.error = b""
     elif key == b"#":
         case.has_reason = True
     else:
@@ -145,17 +169,55 @@ def run_by_lines(command, lines):
         sender.join()
 
 
+def run_in_turn(command, lines):
+    """Runs a command that is given a line, and asked for its answer before the next."""
+    pipes = {"stdin": subprocess.PIPE, "stdout": subprocess.PIPE, "stderr": subprocess.PIPE}
+    with subprocess.Popen(command, cwd=ROOT, **pipes) as program:
+        timer = threading.Timer(SECONDS_IN_TURN, program.kill)
+        timer.start()
+        try:
+            answers = []
+            for line in lines:
+                program.stdin.write(line)
+                program.stdin.flush()
+                answers.append(program.stdout.readline())
+            rest, errors = program.communicate()
+            return subprocess.CompletedProcess(command, program.returncode, b"".join(answers) + rest, errors)
+        finally:
+            timer.cancel()
+
+
+def closed_pipe():
+    """The end for writing of a pipe that nobody reads."""
+    reading, writing = os.pipe()
+    os.close(reading)
+    return os.fdopen(writing, "wb")
+
+
+def run_in(command, case, folder):
+    with closed_pipe() if case.is_closed else open("/dev/full" if case.is_full else os.devnull, "wb") as sink:
+        unreadable = os.open(HERE, os.O_RDONLY)
+        try:
+            source = {"stdin": unreadable} if case.is_unreadable else {"input": case.input}
+            target = sink if case.is_full or case.is_closed else subprocess.PIPE
+            more = {"stderr": subprocess.PIPE, "timeout": SECONDS, "cwd": folder}
+            return subprocess.run(command, stdout=target, **more, **source)
+        finally:
+            os.close(unreadable)
+
+
 def run(command, case):
     if case.is_by_lines:
         return run_by_lines(command, case.input.splitlines(keepends=True))
-    with open("/dev/full" if case.is_full else os.devnull, "wb") as full:
-        folder = os.open(HERE, os.O_RDONLY)
-        try:
-            source = {"stdin": folder} if case.is_unreadable else {"input": case.input}
-            target = full if case.is_full else subprocess.PIPE
-            return subprocess.run(command, stdout=target, stderr=subprocess.PIPE, timeout=SECONDS, cwd=ROOT, **source)
-        finally:
-            os.close(folder)
+    if case.is_in_turn:
+        return run_in_turn(command, case.input.splitlines(keepends=True))
+    if not case.files:
+        return run_in(command, case, ROOT)
+    with tempfile.TemporaryDirectory() as folder:
+        for name, text in case.files.items():
+            with open(os.path.join(os.fsencode(folder), name), "wb") as file:
+                file.write(text)
+        return run_in(command, case, folder)
 
 
 def fault_of(program, case):
