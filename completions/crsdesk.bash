@@ -1,4 +1,5 @@
-# Completion of crsdesk's command line for bash. What `same` and `explain` take are texts, so no names of files are offered there.
+# Completion of crsdesk's command line for bash. Words that are neither commands nor options nor levels are left to the
+# shell, which offers files: those of check, canon and group, and after --files of same and explain.
 
 _crsdesk() {
     local word=${COMP_WORDS[COMP_CWORD]} before=${COMP_WORDS[COMP_CWORD - 1]} words=
@@ -13,15 +14,17 @@ _crsdesk() {
         words='canon check group same explain help -h --help -V --version'
     elif [[ $before == --level ]]; then
         words='full definition'
-    else
+    elif [[ ${COMP_WORDS[1]} == help ]]; then
+        ((COMP_CWORD == 2)) && words='canon check group same explain help'
+    elif [[ $word == -* ]]; then
         case ${COMP_WORDS[1]} in
         canon) words='--level --lines -h --help' ;;
-        group | same | explain) words='--level -h --help' ;;
+        group) words='--level -h --help' ;;
+        same | explain) words='--files --level -h --help' ;;
         check) words='--lines -h --help' ;;
-        help) ((COMP_CWORD == 2)) && words='canon check group same explain help' ;;
         esac
     fi
     mapfile -t COMPREPLY < <(compgen -W "$words" -- "$word")
 }
 
-complete -F _crsdesk crsdesk
+complete -o bashdefault -o default -F _crsdesk crsdesk

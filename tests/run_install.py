@@ -34,6 +34,8 @@ FILES = {
     "share/crsdesk/rules/any-order.rules",
     "share/crsdesk/rules/producers.rules",
     "share/bash-completion/completions/crsdesk",
+    "share/fish/vendor_completions.d/crsdesk.fish",
+    "share/zsh/site-functions/_crsdesk",
     "share/man/man1/crsdesk.1",
 }
 FOLDER_OF_DOCUMENTS = "share/doc/crsdesk"
@@ -41,6 +43,10 @@ FOLDER_OF_DOCUMENTS = "share/doc/crsdesk"
 OWN = "share/crsdesk/own.txt"
 # Prints what the words before the last are completed to.
 ASK_COMPLETION = 'source "$1"; shift; COMP_WORDS=(crsdesk "$@"); COMP_CWORD=$#; _crsdesk; echo "${COMPREPLY[*]}"'
+# Says how bash completes what the function leaves open.
+ASK_DEFAULT = 'source "$1"; complete -p crsdesk'
+# Prints what fish completes a line to, a word a line.
+ASK_FISH = "source $argv[1]; complete -C $argv[2]"
 
 
 class Counts:
@@ -162,11 +168,29 @@ def try_completion(counts: Counts, prefix: pathlib.Path) -> None:
     for command in sorted(commands - {"help"}):
         counts.compare(f"the options of {command}", offered(command, "-"), helped("help", command))
     counts.compare("ca", offered("ca"), {"canon"})
-    for command in ("same", "explain"):
-        counts.compare(f"no name of a file for {command}", offered(command, "READ"), set())
+    for command in sorted(commands - {"help"}):
+        counts.compare(f"files of {command} are left to the shell", offered(command, "READ"), set())
+        counts.compare(f"and are there without a letter, for {command}", offered(command, ""), set())
+    done = run(["bash", "-c", ASK_DEFAULT, "bash", script])
+    counts.compare("the shell's own", done.stdout, "complete -o bashdefault -o default -F _crsdesk crsdesk\n")
     for words in (["--level", ""], ["--level", "="], ["--level", "=", ""]):
         counts.compare("levels", offered("group", *words), {"full", "definition"})
     counts.compare("a level", offered("group", "--level", "=", "d"), {"definition"})
+    if is_there("zsh", "completion in zsh"):
+        done = run(["zsh", "-n", prefix / "share/zsh/site-functions/_crsdesk"])
+        counts.compare("zsh reads it", (done.returncode, done.stderr), (0, ""))
+    if is_there("fish", "completion in fish"):
+        fish = prefix / "share/fish/vendor_completions.d/crsdesk.fish"
+        for line, some in (("crsdesk ", commands), ("crsdesk same --level ", {"full", "definition"})):
+            done = run(["fish", "--no-config", "-c", ASK_FISH, fish, line])
+            found = {it.split("\t")[0] for it in done.stdout.split("\n")}
+            counts.compare(f"fish completes {line!r}", (done.stderr, some - found), ("", set()))
+        for command in sorted(commands - {"help"}):
+            done = run(["fish", "--no-config", "-c", ASK_FISH, fish, f"crsdesk {command} --"])
+            found = {it.split("\t")[0] for it in done.stdout.split("\n") if it}
+            counts.compare(
+                f"fish's options of {command}", found, {it for it in helped("help", command) if it[1] == "-"}
+            )
 
 
 def try_libraries(counts: Counts, prefix: pathlib.Path, folder: pathlib.Path) -> None:

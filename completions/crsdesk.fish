@@ -1,0 +1,18 @@
+# Completion of crsdesk's command line for fish.
+
+set -l commands canon check group same explain help
+set -l none "not __fish_seen_subcommand_from $commands"
+
+complete -c crsdesk -n $none -f
+complete -c crsdesk -n $none -a canon -d 'Write the canonical text'
+complete -c crsdesk -n $none -a check -d 'Tell what kind of CRS a text spells, or where it is refused'
+complete -c crsdesk -n $none -a group -d 'Group lines by the CRSs that they spell'
+complete -c crsdesk -n $none -a same -d 'Compare two texts'
+complete -c crsdesk -n $none -a explain -d 'Explain a refusal, or all parts in which two texts differ'
+complete -c crsdesk -n $none -a help -d 'Print help'
+complete -c crsdesk -n $none -s V -l version -d 'Print the version'
+complete -c crsdesk -s h -l help -d 'Print help'
+complete -c crsdesk -n '__fish_seen_subcommand_from canon group same explain' -l level -x -a 'full definition' -d 'What counts'
+complete -c crsdesk -n '__fish_seen_subcommand_from canon check' -l lines -d 'Take each line as a text'
+complete -c crsdesk -n '__fish_seen_subcommand_from same explain' -l files -d 'Take the operands as names of files'
+complete -c crsdesk -n '__fish_seen_subcommand_from help' -f -a "$commands"

@@ -1,0 +1,36 @@
+#compdef crsdesk
+# Completion of crsdesk's command line for zsh.
+
+_crsdesk() {
+    local -a commands level lines files help
+    commands=(
+        'canon:write the canonical text'
+        'check:tell what kind of CRS a text spells, or where it is refused'
+        'group:group lines by the CRSs that they spell'
+        'same:compare two texts'
+        'explain:explain a refusal, or all parts in which two texts differ'
+        'help:print help'
+    )
+    level=('--level=[what counts]:level:(full definition)')
+    lines=('--lines[take each line as a text]')
+    files=('--files[take the operands as names of files]')
+    help=('(- *)'{-h,--help}'[print help]')
+
+    if (( CURRENT == 2 )); then
+        _describe command commands
+        _arguments $help '(- *)'{-V,--version}'[print the version]'
+        return
+    fi
+    local command=$words[2]
+    shift words
+    (( CURRENT-- ))
+    case $command in
+        canon) _arguments $level $lines $help '*:file:_files' ;;
+        check) _arguments $lines $help '*:file:_files' ;;
+        group) _arguments $level $help '*:file:_files' ;;
+        same | explain) _arguments $files $level $help '1:first:_files' '2:second:_files' ;;
+        help) _describe command commands ;;
+    esac
+}
+
+_crsdesk "$@"
