@@ -3,7 +3,8 @@
 hostile_texts.py KIND [BYTES].
 
 Of most kinds it is one text. Those that begin with "pair-" are two texts whose sets are hard to compare, and
-"colliding-lines" is as many texts as have room. Without a word it prints the kinds.
+"colliding-lines" is as many texts as have room. Those that begin with "rules-" are rules files; their last line, before
+the line end, decides. Without a word it prints the kinds.
 """
 import itertools
 import string
@@ -135,11 +136,51 @@ MANY = {
 }
 
 
+def lines(line, last=b""):
+    """`line(n)` for n = 0, 1, .., each a line, as many as have room, and the last line."""
+    return b"".join(it + b"\n" for it in many(line, SIZE - len(last))) + last
+
+
+def one_set(node, last):
+    """A set of `node(n)` for n = 0, 1, .., as many as have room, and the last node."""
+    return b"SAME[" + b",".join([*many(node, SIZE - 6 - len(last)), last]) + b"]"
+
+
+def frame(number):
+    return b'DATUM["%d"]' % number
+
+
+def pair_of_frames(number):
+    return b'SAME[DATUM["a%d"],DATUM["b%d"]]' % (number, number)
+
+
+# Files, by what their last line is: read, or refused.
+RULES = {
+    "rules-sets": lambda: lines(pair_of_frames),
+    "rules-sets-and-a-repeated-node": lambda: lines(pair_of_frames, b'SAME[DATUM["c"],TRF["b0"]]'),
+    "rules-one-set": lambda: one_set(frame, b'DATUM["last"]'),
+    "rules-one-set-and-a-repeated-node": lambda: one_set(frame, frame(0)),
+    "rules-units-of-one-name": lambda: one_set(
+        lambda number: b'LENGTHUNIT["m",%d]' % (number + 1), b'LENGTHUNIT["m",0.5]'
+    ),
+    "rules-words": lambda: filled(b"UNCOUNTED[", b"anchor,", b"anchor]"),
+    "rules-words-and-none": lambda: filled(b"UNCOUNTED[", b"anchor,", b"colour]"),
+    "rules-blank-lines": lambda: filled(b"", b"\n", b"EQUAL[1]"),
+    "rules-comments": lambda: filled(b"", b"#\xFF\n", b"EQUAL[1]"),
+    "rules-long-name": lambda: filled(b'SAME[DATUM["', b"x", b'"],DATUM["D"]]'),
+    "rules-ill-formed": lambda: filled(b'SAME[DATUM["', b"x", b'\xFF"]]'),
+    "rules-twelve-open-nodes": lambda: lines(lambda _: b"#" * 999, b"SAME[" * 12 + b"1" + b"]" * 12),
+    "rules-thirteen-open-nodes": lambda: lines(lambda _: b"#" * 999, b"SAME[" * 13 + b"1" + b"]" * 13),
+    "rules-one-open-statement": lambda: filled(b"SAME[", b"SAME,", b"SAME"),
+}
+
+
 def main(words):
     if not words:
-        print("\n".join([*KINDS, *MANY]))
+        print("\n".join([*KINDS, *MANY, *RULES]))
     else:
-        sys.stdout.buffer.write((MANY[words[0]]() if words[0] in MANY else KINDS[words[0]]) + b"\n")
+        made = {**MANY, **RULES}.get(words[0])
+        sys.stdout.buffer.write((made() if made else KINDS[words[0]]) + b"\n")
 
 
 if __name__ == "__main__":

@@ -1714,6 +1714,61 @@ def refused_rules() -> None:
         raised(TypeError, lambda: Rules(other))  # type: ignore[arg-type]
 
 
+# Hostile rules files, by their kinds: None where one is read, or the refusal's number, and what stands at its place in the
+# last line, from there on; None of a place is the line's end.
+HOSTILE_RULES: Dict[str, Optional[Tuple[int, Optional[bytes]]]] = {
+    "rules-sets": None,
+    "rules-sets-and-a-repeated-node": (44, b'TRF["b0"]]'),
+    "rules-one-set": None,
+    "rules-one-set-and-a-repeated-node": (44, b'DATUM["0"]]'),
+    "rules-units-of-one-name": None,
+    "rules-words": None,
+    "rules-words-and-none": (42, b"colour]"),
+    "rules-blank-lines": (41, b"EQUAL[1]"),
+    "rules-comments": (41, b"EQUAL[1]"),
+    "rules-long-name": None,
+    "rules-ill-formed": (4, b'\xff"]]'),
+    "rules-twelve-open-nodes": (42, b"SAME[" * 11 + b"1" + b"]" * 12),
+    "rules-thirteen-open-nodes": (8, b"[1" + b"]" * 13),
+    "rules-one-open-statement": (7, None),
+}
+
+
+def hostile_rules(kind: str, size: int) -> bytes:
+    words = [sys.executable, str(HERE / "hostile_texts.py"), kind, str(size)]
+    return subprocess.run(words, capture_output=True, timeout=600, check=True).stdout
+
+
+def rules_or_refusal(text: bytes) -> Optional[Tuple[int, Optional[bytes]]]:
+    """What is told of a file whose last line decides, as in HOSTILE_RULES."""
+    try:
+        Rules(text)
+    except RulesRefused as refused:
+        last = text.removesuffix(b"\n").split(b"\n")[-1]
+        assert refused.line == text.count(b"\n") and refused.piece == last, refused.line
+        return refused.number, last[refused.place :] or None
+    return None
+
+
+def seconds_of(call: Callable[[], object], tries: int = 3) -> float:
+    """The processor time of a call, the shortest of some."""
+    taken = []
+    for _ in range(tries):
+        began = time.process_time()
+        call()
+        taken.append(time.process_time() - began)
+    return min(taken)
+
+
+def hostile_rules_files() -> None:
+    for kind, wanted in HOSTILE_RULES.items():
+        small, large = hostile_rules(kind, 1 << 17), hostile_rules(kind, 1 << 20)
+        assert rules_or_refusal(large) == wanted == rules_or_refusal(small), (kind, rules_or_refusal(large))
+        # Of eight times the bytes, at most some eight times the time.
+        least, most = (seconds_of(lambda: rules_or_refusal(text)) for text in (small, large))
+        assert most <= 20 * least + 0.02, f"{kind}: {least} s, of eight times the bytes {most} s"
+
+
 def a_crs_under_rules() -> None:
     rules = Rules(NAMES)
     one, other, plain = Crs(HEIGHT, rules=rules), Crs(OTHER_HEIGHT, rules=rules), Crs(HEIGHT)
@@ -1939,6 +1994,7 @@ PROMISES = [
     texts_under_rules,
     rules_of_files,
     refused_rules,
+    hostile_rules_files,
     a_crs_under_rules,
     groups_under_rules,
     rules_go_to_threads_and_processes,
