@@ -28,6 +28,7 @@ LINES_HELP = "a file has a text a line (docs/CATALOGUES.md)"
 CONVERT_HELP = "WKT1, PROJ strings, PROJJSON and codes are read by PROJ, which osgeo or pyproj has (docs/PYTHON.md)"
 LINES_HELP_OF_AUDIT = "it has a text a line, and so has a file of another suffix that is named itself"
 REGISTRY_HELP = "compares the CRSs with those of PROJ's database"
+RULES_HELP = "a rules file, which says what counts as the same; of several the statements count together (docs/RULES.md)"
 
 
 class Place(NamedTuple):
@@ -300,6 +301,7 @@ def parser() -> argparse.ArgumentParser:
     made.add_argument("--txt", action="store_true", help="a .txt file is a text")
     made.add_argument("--lines", action="store_true", help=LINES_HELP_OF_AUDIT)
     made.add_argument("--convert", action="store_true", help=CONVERT_HELP)
+    made.add_argument("--rules", action="append", default=[], metavar="FILE", help=RULES_HELP)
     made.add_argument("--registry", action="store_true", help=REGISTRY_HELP)
     made.add_argument("--html", metavar="FILE", help="writes the report as a page")
     made.add_argument("--json", metavar="FILE", help="writes it as data (docs/audit.schema.json)")

@@ -25,6 +25,7 @@ class RulesRefused(ValueError):
     ``place``   where in that line, in bytes from 0
     ``piece``   the line
     ``path``    the file, as it was handed over; None of a text
+    ``meaning`` what the number says
     """
 
     def __init__(self, line: int, number: int, place: int, piece: bytes = b"", path: Optional[Path] = None) -> None:
@@ -35,13 +36,17 @@ class RulesRefused(ValueError):
         self.piece = piece
         self.path = path
 
+    @property
+    def meaning(self) -> str:
+        return MEANINGS.get(self.number) or _library.refusal_name(self.number)
+
     def __str__(self) -> str:
-        meaning = MEANINGS.get(self.number) or _library.refusal_name(self.number)
         file = f"{os.fsdecode(self.path)}: " if self.path is not None else ""
         before = self.piece[: self.place].decode("utf-8", "replace")
         shown = self.piece.decode("utf-8", "replace").rstrip("\r")
         return (
-            f"{file}line {self.line}: refused {self.number} at {self.place}: {meaning}\n{shown}\n{' ' * len(before)}^"
+            f"{file}line {self.line}: refused {self.number} at {self.place}: {self.meaning}\n"
+            f"{shown}\n{' ' * len(before)}^"
         )
 
 

@@ -7,9 +7,9 @@ import functools
 import importlib.util
 import os
 import signal
-from typing import TYPE_CHECKING, Dict, Iterable, List, Optional, Sequence, Tuple, TypeVar
+from typing import TYPE_CHECKING, Dict, Iterable, List, Optional, Sequence, Tuple, TypeVar, Union
 
-from .. import Difference
+from .. import Difference, Rules, RulesRefused
 from .collecting import Listing, Workers, listing_of
 from .judging import Told, Two, parts_of, told_of
 from .names import place_shown, readable, visible
@@ -17,7 +17,7 @@ from .output import Outputs, is_special
 from .proj import library
 from .reading import Unread
 from .registry import Asked, Registered, Verdict, registered
-from .report import Report, report_of
+from .report import Report, RulesFile, report_of
 
 if TYPE_CHECKING:
     from ..__main__ import Run
@@ -48,12 +48,18 @@ def run_audit(run: Run, asked: argparse.Namespace) -> None:
         run.tell(f"crsdesk: {option} takes PROJ, which osgeo (GDAL's Python) or pyproj has, and neither is installed")
         run.ends(FAULT)
         return
+    try:
+        rules = rules_files_of(asked.rules)
+    except (RulesRefused, OSError) as error:
+        run.tell(f"crsdesk: {rules_fault(error)}")
+        run.ends(FAULT)
+        return
     for number in SIGNALS:
         signal.signal(number, stop)
     # A process that has ended is met where its answers are waited for.
     signal.signal(signal.SIGPIPE, signal.SIG_IGN)
     try:
-        audit(run, asked)
+        audit(run, asked, rules)
     except Stopped as stopped:
         for number in SIGNALS:
             signal.signal(number, signal.SIG_DFL)
@@ -64,7 +70,22 @@ def stop(number: int, _: object) -> None:
     raise Stopped(number)
 
 
-def audit(run: Run, asked: argparse.Namespace) -> None:
+def rules_files_of(names: Sequence[str]) -> List[RulesFile]:
+    """Rules files, read. OSError where one can't be, RulesRefused where one is refused."""
+    rules = Rules.from_file(*names)
+    return [RulesFile(name, text) for name, text in zip(names, rules.texts)]
+
+
+def rules_fault(error: Union[RulesRefused, OSError]) -> str:
+    """Why there are no rules, in one line: the file, the line and what is wrong there."""
+    if isinstance(error, RulesRefused):
+        name = readable(os.fsdecode(error.path or ""))
+        return f"{name}, line {error.line}: refused {error.number} at {error.place}: {error.meaning}"
+    name = f"{readable(error.filename)}: " if isinstance(error.filename, str) else ""
+    return f"{name}{error.strerror}"
+
+
+def audit(run: Run, asked: argparse.Namespace, rules: Sequence[RulesFile]) -> None:
     """Reads, makes the report and writes it. A file that can't be written is a fault, which is found at the start."""
     from .data import write_json
     from .html import write_html
@@ -74,7 +95,7 @@ def audit(run: Run, asked: argparse.Namespace) -> None:
     named = [(asked.html, write_html), (asked.json, write_json), (asked.csv, write_csv)]
     named = [(name, write) for name, write in named if name is not None]
     listing = listing_of(asked.paths, asked.lines, asked.txt)
-    clash = clash_of([name for name, _ in named], listing)
+    clash = clash_of([name for name, _ in named], [*(it.path for it in listing.files), *asked.rules])
     if clash:
         run.tell(f"crsdesk: {clash}")
         run.ends(FAULT)
@@ -83,7 +104,7 @@ def audit(run: Run, asked: argparse.Namespace) -> None:
     try:
         with Outputs(list(writers)) as outputs:
             jobs = asked.jobs or len(os.sched_getaffinity(0))
-            report = report_on(asked.paths, listing, jobs, asked.convert, asked.registry)
+            report = report_on(asked.paths, listing, jobs, asked.convert, asked.registry, rules)
             for name, write in writers.items():
                 outputs.write(name, functools.partial(write, report))
             outputs.finish()
@@ -100,7 +121,7 @@ def audit(run: Run, asked: argparse.Namespace) -> None:
     run.ends(report.status)
 
 
-def clash_of(names: Sequence[str], listing: Listing) -> str:
+def clash_of(names: Sequence[str], read: Sequence[str]) -> str:
     """What is wrong with the files to write: two are one, or one is to be read too, or lies in a folder that is one
     data set. Devices may be named twice."""
     paths: Dict[str, str] = {}
@@ -112,15 +133,15 @@ def clash_of(names: Sequence[str], listing: Listing) -> str:
             return f"{readable(name)}: two of the reports are to be written to it"
         paths[path] = name
     identities = {identity: name for name in names if (identity := identity_of(name)) is not None}
-    for file in listing.files:
-        path = os.path.realpath(file.path)
-        identity = identity_of(file.path)
+    for file in read:
+        path = os.path.realpath(file)
+        identity = identity_of(file)
         written = paths.get(path) or (identities.get(identity) if identity else None)
         if written is not None and not is_special(written):
-            return f"{readable(written)}: it is to be written, and to be read ({readable(file.path)})"
+            return f"{readable(written)}: it is to be written, and to be read ({readable(file)})"
         for path_to, its in paths.items():
             if path_to.startswith(path + os.sep):
-                return f"{readable(its)}: it is to be written into what is to be read ({readable(file.path)})"
+                return f"{readable(its)}: it is to be written into what is to be read ({readable(file)})"
     return ""
 
 
@@ -134,11 +155,12 @@ def identity_of(path: str) -> Optional[Tuple[int, int]]:
 
 
 class Processes:
-    """What a report asks, answered by processes."""
+    """What a report asks, answered by processes, under rules of these bytes."""
 
-    def __init__(self, workers: Workers, is_registered: bool) -> None:
+    def __init__(self, workers: Workers, is_registered: bool, ruling: Tuple[bytes, ...]) -> None:
         self.workers = workers
         self.is_registered = is_registered
+        self.ruling = ruling
 
     def compare(self, pairs: Sequence[Two]) -> List[List[Difference]]:
         answers = self.workers.answers(parts_of, pairs, lost_comparison)
@@ -147,16 +169,26 @@ class Processes:
     def register(self, asked: Sequence[Asked]) -> List[Registered]:
         if not self.is_registered:
             return []
-        answers = self.workers.answers(registered, asked, lost_registered)
+        function = functools.partial(registered, ruling=self.ruling)
+        answers = self.workers.answers(function, asked, lost_registered)
         return in_order(followed(answers, len(asked), "asking the registry"))
 
 
-def report_on(paths: Sequence[str], listing: Listing, jobs: int, converts: bool, is_registered: bool) -> Report:
+def report_on(
+    paths: Sequence[str],
+    listing: Listing,
+    jobs: int,
+    converts: bool,
+    is_registered: bool,
+    rules: Sequence[RulesFile],
+) -> Report:
     """The report on the files of a listing, which processes read."""
+    ruling = tuple(it.text for it in rules)
     with Workers(jobs) as workers:
-        answers = workers.answers(functools.partial(told_of, converts=converts), listing.files, lost_file)
+        function = functools.partial(told_of, converts=converts, ruling=ruling)
+        answers = workers.answers(function, listing.files, lost_file)
         told = in_order(followed(answers, len(listing.files), "reading files"))
-        return report_of(paths, listing, told, Processes(workers, is_registered))
+        return report_of(paths, listing, told, Processes(workers, is_registered, ruling), rules)
 
 
 def in_order(answers: Iterable[Tuple[int, Answer]]) -> List[Answer]:

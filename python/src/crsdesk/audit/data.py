@@ -20,13 +20,14 @@ from .report import (
     Place,
     RefusedText,
     Report,
+    RulesFile,
     Summary,
     Untold,
     Variant,
     cause_of,
 )
 
-FORM = "crsdesk audit 2"
+FORM = "crsdesk audit 3"
 
 
 def write_json(report: Report, file: TextIO) -> None:
@@ -40,6 +41,7 @@ def data_of(report: Report) -> Dict[str, Any]:
         "form": FORM,
         "version": __version__,
         "paths": [name_of(path) for path in report.paths],
+        "rules": [of_rules(it) for it in report.rules],
         "summary": of_summary(report.summary),
         "definitions": [of_definition(it) for it in report.definitions],
         "near_misses": [of_near_miss(it) for it in report.near_misses],
@@ -60,6 +62,13 @@ def name_of(name: str) -> str:
 
 def has_odd_bytes(name: str) -> bool:
     return any(0xD800 <= ord(character) <= 0xDFFF for character in name)
+
+
+def of_rules(rules: RulesFile) -> Dict[str, Any]:
+    """A rules file: its name and what it has; bytes in a comment that aren't UTF-8 are U+FFFD."""
+    data = of_place(Place(rules.name))
+    data["text"] = rules.text.decode("utf-8", "replace")
+    return data
 
 
 def of_place(place: Place) -> Dict[str, Any]:

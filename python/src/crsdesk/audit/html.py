@@ -28,6 +28,7 @@ from .report import (
     Place,
     RefusedText,
     Report,
+    RulesFile,
     Untold,
     cause_of,
     findings_of,
@@ -37,6 +38,7 @@ from .terminal import summary_rows
 
 TEMPLATES = pathlib.Path(__file__).resolve().parent / "templates"
 # The room of each part of the page, in bytes.
+ROOM_OF_RULES = 200_000
 ROOM_OF_TEXTS = 1_000_000
 ROOM_OF_ROWS = 2_500_000
 ROOM_OF_MISSES = 500_000
@@ -116,6 +118,7 @@ def write_html(report: Report, file: TextIO) -> None:
         script=script,
         script_hash=hash_of(script),
         summary=list(summary_rows(report)),
+        rules=filled(report.rules, blocks.rules, ROOM_OF_RULES),
         bars=bars_of(report.definitions),
         areas=drawn[:MOST_AREAS],
         more_areas=len(drawn) - MOST_AREAS,
@@ -156,6 +159,7 @@ def environment_of() -> jinja2.Environment:
     environment.filters.update(
         counted=counted,
         lines=lines_of,
+        statements=statements_of,
         place=place_shown,
         places=places_shown,
         readable=readable,
@@ -177,6 +181,12 @@ def hash_of(text: str) -> str:
 def short(text: str, most: int = MOST_CHARACTERS) -> str:
     """A text's front, where it is long."""
     return text if len(text) <= most else f"{text[:most]}.. ({len(text):,} characters; --json has all)"
+
+
+def statements_of(rules: RulesFile) -> str:
+    """The lines of a rules file."""
+    lines = rules.text.decode("utf-8", "replace").split("\n")
+    return short("\n".join(visible(line.rstrip("\r")) for line in lines))
 
 
 def to_do(report: Report) -> Iterator[ToDo]:

@@ -3,11 +3,12 @@
 from __future__ import annotations
 
 import dataclasses
+import functools
 import hashlib
 from dataclasses import dataclass, field
 from typing import Dict, List, NamedTuple, Optional, Tuple, Union
 
-from .. import Crs, Difference, Level, Refused
+from .. import Crs, Difference, Level, Refused, Rules, canon
 from .._facts import boxes_of
 from .._foreign import form_of
 from .converting import converted
@@ -29,6 +30,7 @@ class Spelled:
     """A CRS that a text spells.
 
     ``full``         its canonical text with everything, ``definition`` the one without identifiers, usages and remarks
+    ``form``         by which it is grouped: the one by definition under rules; without rules it is ``definition``
     ``identifiers``  its own, as ``EPSG:4326``
     ``boxes``        its areas of use, and those of its parts
     ``transformation``  of a bound CRS, which makes it another one than its source CRS; nothing of any other
@@ -36,6 +38,7 @@ class Spelled:
 
     full: str
     definition: str
+    form: str
     kind: str
     name: str
     identifiers: Tuple[str, ...]
@@ -88,11 +91,18 @@ class Told:
     skipped: List[Skipped] = field(default_factory=list)
 
 
-def told_of(file: File, converts: bool = False) -> Told:
+@functools.lru_cache(maxsize=1)
+def rules_of(texts: Tuple[bytes, ...]) -> Optional[Rules]:
+    """The rules of rules files, by their bytes; None of none. A process reads them once."""
+    return Rules(*texts) if texts else None
+
+
+def told_of(file: File, converts: bool = False, ruling: Tuple[bytes, ...] = ()) -> Told:
     """What a file states. Each of its CRSs is in the list once. Layers of a database are in the order of their names.
-    Where that is asked PROJ converts what the library refuses."""
+    Where that is asked PROJ converts what the library refuses; ``ruling`` has the bytes of rules files."""
     told = Told()
     known: Known = {}
+    rules = rules_of(ruling)
     last: Optional[bytes] = None
     for found in read(file):
         if isinstance(found, Text):
@@ -101,7 +111,7 @@ def told_of(file: File, converts: bool = False) -> Told:
                 told.texts.append(told.texts[-1]._replace(layer=found.layer))
                 continue
             try:
-                told.texts.append(judged(found, told.spelled, known, converts))
+                told.texts.append(judged(found, told.spelled, known, converts, rules))
                 last = found.text
             except MemoryError:
                 told.unread.append(Unread("out of memory", found.layer, found.line))
@@ -126,7 +136,7 @@ def by_layer(it: Union[Judged, Without, Unread]) -> bytes:
 Known = Dict[Tuple[str, str], int]
 
 
-def judged(found: Text, spelled: List[Spelled], known: Known, converts: bool) -> Judged:
+def judged(found: Text, spelled: List[Spelled], known: Known, converts: bool, rules: Optional[Rules] = None) -> Judged:
     """A text's answer. A CRS that isn't known yet is added."""
     digest = hashlib.blake2b(found.text, digest_size=16).digest()
     transformation = read_by = ""
@@ -149,16 +159,17 @@ def judged(found: Text, spelled: List[Spelled], known: Known, converts: bool) ->
     key = str(crs), transformation
     if key not in known:
         known[key] = len(spelled)
-        spelled.append(spelled_by(crs, transformation))
+        spelled.append(spelled_by(crs, transformation, rules))
     return Judged(
         found.layer, found.line, digest, known[key], None, read_by, not read_by or b"AXIS" in found.text.upper()
     )
 
 
-def spelled_by(crs: Crs, transformation: str) -> Spelled:
+def spelled_by(crs: Crs, transformation: str, rules: Optional[Rules]) -> Spelled:
     boxes = tuple(Box(*it) for it in boxes_of(str(crs)))
     definition = crs.canonical("definition")
-    return Spelled(str(crs), definition, crs.kind, crs.name, crs.identifiers, boxes, transformation)
+    form = definition if rules is None else canon(definition, "definition", rules)
+    return Spelled(str(crs), definition, form, crs.kind, crs.name, crs.identifiers, boxes, transformation)
 
 
 def refusal_of(refused: Refused, line: int, form: str) -> Refusal:

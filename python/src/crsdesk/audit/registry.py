@@ -1,18 +1,19 @@
 """What the installed database of PROJ, a registry of CRSs, has of a CRS. It is no part of sameness.
 
 A CRS with an identifier of its own is compared with the registry's of that identifier, another one with those that PROJ
-takes for it; the library says in which parts they differ.
+takes for it; the library says in which parts they differ, under rules where there are any.
 """
 
 from __future__ import annotations
 
 import enum
 from dataclasses import dataclass, field
-from typing import List, NamedTuple, Tuple
+from typing import List, NamedTuple, Optional, Tuple
 
-from .. import Crs, Difference, Refused
+from .. import Difference, Refused, Rules, differences
+from .judging import rules_of
 from .kinds import Kind, folded, is_placeholder, kind_of
-from .proj import Context, context
+from .proj import Candidate, Context, context
 from .tree import Node, text_of_node, tree_of
 
 
@@ -66,7 +67,8 @@ class Registered:
 
     ``identifier``  that of the registry's CRS with which it is compared, its ``name``, and how confident PROJ is that it
                     is this one, in per cent; 100 where the text has the identifier
-    ``parts``       in which the two differ by definition; ``first`` is the registry's value
+    ``parts``       in which the two differ by definition, under rules where there are any; ``first`` is the registry's
+                    value
     ``guesses``     all that PROJ takes for it, where the text has no identifier
     ``other``       the identifier of another code whose name it bears
     """
@@ -81,8 +83,9 @@ class Registered:
     other: str = ""
 
 
-def registered(asked: Asked) -> Registered:
-    """What the registry has of a CRS."""
+def registered(asked: Asked, ruling: Tuple[bytes, ...] = ()) -> Registered:
+    """What the registry has of a CRS, compared under the rules of files of these bytes."""
+    rules = rules_of(ruling)
     with context() as proj:
         # An identifier of an authority that isn't in the registry says nothing there.
         known = proj.authorities() if asked.identifiers else []
@@ -90,17 +93,17 @@ def registered(asked: Asked) -> Registered:
         for identifier in own:
             made = proj.from_code(identifier)
             if made:
-                return compared(proj, asked, identifier, proj.wkt_of(made), 100, True)
+                return compared(proj, asked, rules, Candidate(identifier, 100, proj.wkt_of(made)), True)
         if own:
             return Registered(Verdict.UNKNOWN_CODE, own[0], is_own=True)
-        return identified(proj, asked)
+        return identified(proj, asked, rules)
 
 
-def identified(proj: Context, asked: Asked) -> Registered:
+def identified(proj: Context, asked: Asked, rules: Optional[Rules]) -> Registered:
     """The comparison with the candidate that differs least, of those that differ alike the first."""
     made = proj.from_definition(without_identifiers(asked.text))
     candidates = proj.candidates_of(made) if made else []
-    found = [compared(proj, asked, *it[:1], it.text, it.confidence, False) for it in candidates]
+    found = [compared(proj, asked, rules, it, False) for it in candidates]
     if not found:
         return Registered(Verdict.UNIDENTIFIED)
     best = min(found, key=severity)
@@ -119,14 +122,14 @@ def severity(found: Registered) -> Tuple[int, int]:
     return order.index(found.verdict) if found.verdict in order else len(order), -found.confidence
 
 
-def compared(proj: Context, asked: Asked, identifier: str, text: str, confidence: int, is_own: bool) -> Registered:
+def compared(proj: Context, asked: Asked, rules: Optional[Rules], its: Candidate, is_own: bool) -> Registered:
     """The comparison with a CRS of the registry."""
+    identifier, confidence, text = its
     try:
-        crs = Crs(text)
+        parts = differences(text, asked.text, "definition", rules)
     except Refused:
         return Registered(Verdict.UNREAD, identifier, "", confidence, is_own)
     name = tree_of(text).name
-    parts = crs.differences(asked.text, "definition")
     verdict = OF_KIND[kind_of(parts)] if parts else Verdict.SAME
     found = Registered(verdict, identifier, name, confidence, is_own, parts)
     found.other = other_of_name(proj, asked.name, identifier, name)

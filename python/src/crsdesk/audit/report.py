@@ -47,8 +47,8 @@ class Variant:
 
 @dataclass
 class Definition:
-    """The CRSs that are the same by definition, those of the most texts first; ``text`` is the canonical text. Bound CRSs
-    of one source CRS are the same where their transformations are."""
+    """The CRSs that are the same by definition, or under rules, those of the most texts first; ``text`` is the canonical
+    text, or the form under rules. Bound CRSs of one source CRS are the same where their transformations are."""
 
     number: int
     text: str
@@ -62,6 +62,11 @@ class Definition:
     @property
     def kind(self) -> str:
         return self.variants[0].crs.kind
+
+    @property
+    def names(self) -> List[str]:
+        """Those of all its CRSs, each once: there are several where rules say that names don't count."""
+        return list(dict.fromkeys(variant.crs.name for variant in self.variants))
 
     @property
     def identifiers(self) -> List[str]:
@@ -187,11 +192,13 @@ class Summary:
     ``files``        those that were read or tried
     ``others``       those of other suffixes, which aren't read, by suffix
     ``texts``        texts with a CRS or a refusal, so ``accepted`` and ``refused``
-    ``crss``         CRSs with everything; ``definitions`` by definition
+    ``crss``         CRSs with everything; ``definitions`` by definition, and under rules where there are any;
+                     ``without_rules`` by definition where there were none
     ``copies``       texts of equal bytes with one before
     ``respellings``  other texts that spell a CRS that one before spells too: ``accepted`` is ``crss``, ``copies`` and
                      ``respellings`` together
-    ``alone``        CRSs that differ from another in identifiers, usages or remarks alone; ``alone_definitions`` theirs
+    ``alone``        CRSs that differ from another in identifiers, usages or remarks alone, or in what rules take away;
+                     ``alone_definitions`` theirs
     ``converted``    of the accepted texts those that PROJ has read, and ``read_by`` its version
     ``data_sets``    those of several texts, and of them how many disagree in more than names and digits
     ``registry``     accepted texts by what the registry has of their CRSs, where that was asked
@@ -205,6 +212,7 @@ class Summary:
     refused_by_number: List[RefusedNumber] = field(default_factory=list)
     crss: int = 0
     definitions: int = 0
+    without_rules: int = 0
     copies: int = 0
     respellings: int = 0
     alone: int = 0
@@ -217,11 +225,19 @@ class Summary:
     registry: Dict[str, int] = field(default_factory=dict)
 
 
+class RulesFile(NamedTuple):
+    """A rules file under which CRSs are compared: its name as it was asked for, and its bytes."""
+
+    name: str
+    text: bytes
+
+
 @dataclass
 class Report:
-    """All that an audit found."""
+    """All that an audit found, and the rules under which it compared, of no files where there were none."""
 
     paths: List[str]
+    rules: List[RulesFile]
     summary: Summary
     definitions: List[Definition]
     near_misses: List[NearMiss]
@@ -250,9 +266,12 @@ class Asks(Protocol):
         """What the registry has of each CRS; nothing at all where that isn't wanted."""
 
 
-def report_of(paths: Sequence[str], listing: Listing, told: Sequence[Told], asks: Asks) -> Report:
-    """The report of what each of the listed files states."""
-    report = Report(list(paths), Summary(files=len(listing.files)), [], [], [], [], [], [], [], [], [], [])
+def report_of(
+    paths: Sequence[str], listing: Listing, told: Sequence[Told], asks: Asks, rules: Sequence[RulesFile] = ()
+) -> Report:
+    """The report of what each of the listed files states, which was told under the same rules."""
+    summary = Summary(files=len(listing.files))
+    report = Report(list(paths), list(rules), summary, [], [], [], [], [], [], [], [], [], [])
     report.summary.others = dict(sorted(listing.others.items()))
     report.unread += odd_ones(listing.unread)
     report.passed += odd_ones(listing.passed)
@@ -309,7 +328,7 @@ def definitions_of(rows: Iterable[Tuple[Row, Optional[Spelled]]], report: Report
         if crs is None:
             continue
         way = crs.transformation
-        row.definition = found.setdefault((crs.definition, way), Definition(0, crs.definition, way))
+        row.definition = found.setdefault((crs.form, way), Definition(0, crs.form, way))
         if (crs.full, way) not in variants:
             variants[crs.full, way] = Variant(0, crs)
             row.definition.variants.append(variants[crs.full, way])
@@ -327,24 +346,38 @@ def definitions_of(rows: Iterable[Tuple[Row, Optional[Spelled]]], report: Report
 
 def near_misses_of(definitions: Sequence[Definition]) -> List[NearMiss]:
     """Definitions of one name, whose case and punctuation don't count; and those of one identifier, where they don't
-    share a name. What tools write where they know no name is none."""
+    share a name. What tools write where they know no name is none. Two are a pair once, by the first name that both
+    have."""
     by_name: Dict[str, List[Definition]] = {}
     by_identifier: Dict[str, List[Definition]] = {}
+    names: Dict[str, str] = {}
+    keys: Dict[int, Set[str]] = {}
     for definition in definitions:
-        if not is_placeholder(definition.name):
-            by_name.setdefault(folded(definition.name) or definition.name, []).append(definition)
+        keys[definition.number] = set()
+        for name in definition.names:
+            key = folded(name) or name
+            if not is_placeholder(name) and key not in keys[definition.number]:
+                keys[definition.number].add(key)
+                names.setdefault(key, name)
+                by_name.setdefault(key, []).append(definition)
         for identifier in definition.identifiers:
             by_identifier.setdefault(identifier, []).append(definition)
-    misses = [near_miss("name", alike[0].name, alike) for alike in by_name.values() if len(alike) > 1]
-    for identifier, alike in by_identifier.items():
-        others = [definition for definition in alike[1:] if folded(definition.name) != folded(alike[0].name)]
+    misses: List[NearMiss] = []
+    paired: Set[Tuple[int, int]] = set()
+    for key, (first, *others) in by_name.items():
+        others = [it for it in others if (first.number, it.number) not in paired]
+        paired |= {(first.number, it.number) for it in others}
         if others:
-            misses.append(near_miss("identifier", identifier, [alike[0], *others]))
+            misses.append(near_miss("name", names[key], first, others))
+    for identifier, (first, *others) in by_identifier.items():
+        others = [it for it in others if keys[first.number].isdisjoint(keys[it.number])]
+        if others:
+            misses.append(near_miss("identifier", identifier, first, others))
     return misses
 
 
-def near_miss(by: str, value: str, alike: Sequence[Definition]) -> NearMiss:
-    return NearMiss(by, value, [pair_of(alike[0], it) for it in alike[1:]])
+def near_miss(by: str, value: str, first: Definition, others: Sequence[Definition]) -> NearMiss:
+    return NearMiss(by, value, [pair_of(first, it) for it in others])
 
 
 def pair_of(first: Definition, second: Definition) -> Pair:
@@ -450,6 +483,8 @@ def count(report: Report) -> None:
     summary.refused_by_number = [RefusedNumber(it, names[it], numbers.count(it)) for it in sorted(names)]
     summary.definitions = len(report.definitions)
     summary.crss = sum(len(it.variants) for it in report.definitions)
+    variants = [variant for definition in report.definitions for variant in definition.variants]
+    summary.without_rules = len({(it.crs.definition, it.crs.transformation) for it in variants})
     summary.respellings = summary.accepted - summary.crss - summary.copies
     several = [len(it.variants) for it in report.definitions if len(it.variants) > 1]
     summary.alone, summary.alone_definitions = sum(several), len(several)
@@ -460,7 +495,7 @@ def count(report: Report) -> None:
     summary.data_sets = len(report.data_sets)
     summary.disagreeing = sum(it.disagrees for it in report.data_sets)
     counts: Dict[Verdict, int] = collections.Counter()
-    for variant in (variant for definition in report.definitions for variant in definition.variants):
+    for variant in variants:
         if variant.registered:
             counts[variant.registered.verdict] += len(variant.places)
     summary.registry = {verdict.value: counts[verdict] for verdict in Verdict if counts[verdict]}

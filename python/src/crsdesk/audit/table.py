@@ -8,16 +8,30 @@ from typing import List, TextIO
 from .names import readable, visible
 from .report import Report, Row
 
-HEAD = ("file", "layer", "line", "data_set", "definition", "crs", "kind", "name", "refusal", "read_by", "registry")
+HEAD = (
+    "file",
+    "layer",
+    "line",
+    "data_set",
+    "definition",
+    "crs",
+    "kind",
+    "name",
+    "refusal",
+    "read_by",
+    "registry",
+    "rules",
+)
 
 
 def write_csv(report: Report, file: TextIO) -> None:
     """Writes a head, and a row a text. ``crs`` is the definition's number and, after a point, the CRS's in it; texts of one
-    data set have its path in ``data_set``."""
+    data set have its path in ``data_set``; ``rules`` are the files under which definitions are grouped."""
     table = csv.writer(file, lineterminator="\r\n")
     table.writerow(HEAD)
     paths = {it.place: data_set.path for data_set in report.data_sets for it in data_set.rows}
-    table.writerows(cells_of(row, paths.get(row.place, "")) for row in report.rows)
+    rules = "; ".join(readable(it.name) for it in report.rules)
+    table.writerows([*cells_of(row, paths.get(row.place, "")), rules] for row in report.rows)
 
 
 def cells_of(row: Row, data_set: str) -> List[str]:

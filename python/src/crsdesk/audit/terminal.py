@@ -40,11 +40,15 @@ def summary_rows(report: Report) -> Iterator[Tuple[str, str]]:
     summary = report.summary
     yield "files", f"{summary.files:,}{others_told(summary)}"
     yield "texts", f"{summary.texts:,}: {summary.accepted:,} accepted, {summary.refused:,} refused"
-    yield "CRSs", f"{summary.crss:,}; by definition {summary.definitions:,}"
+    if report.rules:
+        yield "rules", ", ".join(readable(it.name) for it in report.rules)
+    under = f", under the rules {summary.definitions:,}" if report.rules else ""
+    yield "CRSs", f"{summary.crss:,}; by definition {summary.without_rules:,}{under}"
     yield "repeats", f"{counted(summary.copies, 'copy', 'copies')} of a text, {counted(summary.respellings, 'respelling')} of a CRS"
     if summary.alone:
         definitions = counted(summary.alone_definitions, "definition")
-        yield "alone", f"{summary.alone:,} CRSs of {definitions} differ in identifiers, usages or remarks alone"
+        rules = ", or in what the rules take away" if report.rules else ""
+        yield "alone", f"{summary.alone:,} CRSs of {definitions} differ in identifiers, usages or remarks alone{rules}"
     if summary.converted:
         yield "converted", f"{counted(summary.converted, 'text')} by {summary.read_by}"
     if summary.causes:
