@@ -163,6 +163,9 @@ def common_strings_are_read() -> None:
         "+proj=stere +lat_0=90 +lat_ts=70 +lon_0=-45 +k=1 +x_0=0 +y_0=0 +datum=WGS84 +units=m +no_defs",
         "+proj=longlat +ellps=bessel +pm=paris +no_defs",
         "proj=utm zone=31 ellps=intl units=m",
+        "+proj=lcc +lat_1=46.8 +lat_0=46.8 +lon_0=0 +k_0=0.99987742 +x_0=600000 +y_0=2200000 +a=6378249.2 +b=6356515 "
+        "+towgs84=-168,-60,320,0,0,0,0 +pm=paris +units=m +no_defs",
+        "+proj=geos +h=35785831 +lon_0=0 +sweep=y +ellps=GRS80 +units=m +no_defs",
     ):
         found = converting.converted(text.encode())
         assert found and found.text and not found.warnings, (text, found)

@@ -1168,6 +1168,13 @@ FOREIGN = {
         True,
     ),
     "+proj=utm +zone=31 +ellps=bessel +towgs84=1,2,3 +geoidgrids=egm96.gtx +vunits=m": ("compound", True),
+    # Words that say what another one says too.
+    "+proj=lcc +lat_1=46.8 +lat_0=46.8 +lon_0=0 +k_0=0.99987742 +x_0=600000 +y_0=2200000 +ellps=clrk80ign +pm=paris": (
+        "projected",
+        False,
+    ),
+    "+proj=utm +zone=33 +ellps=WGS84 +datum=WGS84 +units=m +no_defs": ("projected", False),
+    "+proj=geos +h=35785831 +lon_0=0 +sweep=y +ellps=GRS80": ("projected", False),
 }
 # Texts that PROJ reads, or repairs, and a part of why its reading isn't taken.
 NOT_TAKEN = {
@@ -1188,8 +1195,12 @@ NOT_TAKEN = {
     'GEOGCS["' + "x" * 1_048_576: "more than 1,048,576 characters",
     "+proj=utm +zone=31 +elps=GRS80": "+elps isn't known: PROJ would pass it over",
     "+proj=utm +zone=31 +zone=32": "+zone is there twice",
-    "+proj=utm +zone=31 +lat_ts=45": "the projection doesn't have +lat_ts: PROJ would pass it over",
-    "+proj=longlat +zone=31 +ellps=bessel": "the projection doesn't have +zone",
+    "+proj=utm +zone=31 +lat_ts=45": "+lat_ts=45 has no effect: PROJ would pass it over",
+    # PROJ keeps the whole string in a remark of what it writes of this one.
+    "+proj=utm +zone=31 +lat_0=5": "+lat_0=5 has no effect: PROJ would pass it over",
+    "+proj=longlat +zone=31 +ellps=bessel": "+zone=31 has no effect",
+    "+proj=utm +zone=33 +datum=WGS84 +ellps=bessel": "+ellps=bessel has no effect",
+    "+proj=utm +zone=31 +over": "+over has no effect",
     "+init=epsg:4326": "+init isn't known",
     "+proj=pipeline +step +proj=utm +zone=31": "+step isn't known",
     "+proj=utm +zone=99": "Invalid value for zone",

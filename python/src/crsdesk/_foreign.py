@@ -3,8 +3,8 @@ URNs. It takes a PROJ that osgeo or pyproj has brought into the process.
 
 The reading is strict: what PROJ warns of, repairs or leaves out is refused. So its library is called by itself: GDAL tells
 warnings in its log, pyproj none. Each text has a context of its own, since a context's answers depend on what it has read
-before; it has no network. ``UNIT["degree",0.01745329252]`` and a key of a PROJ string that is unknown are told by no
-warning, and looked for here. PROJ writes numbers with 15 digits.
+before; it has no network. ``UNIT["degree",0.01745329252]``, and a key of a PROJ string that is unknown or has no
+effect, are told by no warning, and looked for here. PROJ writes numbers with 15 digits.
 """
 
 from __future__ import annotations
@@ -16,6 +16,8 @@ import json
 import os
 import re
 from typing import Any, Callable, Dict, Iterator, List, NamedTuple, NoReturn, Optional, Sequence, Set, Tuple, Union
+
+from ._tree import Node, tree_of
 
 # The bound of the program `crsdesk` too.
 MOST_BYTES = 1_048_576
@@ -56,11 +58,23 @@ KEYS = frozenset(
         "lsat plat_0 plon_0 ph0_ nlat rlat lat_c lon_c"
     ).split()
 )
-# Those whose value counts by itself, so that a CRS is another without them, unless the value is the default.
-VALUES = frozenset(
-    "alpha gamma h k k_0 lat_0 lat_1 lat_2 lat_3 lat_ts lon_0 lon_1 lon_2 lon_3 lonc x_0 y_0 zone m n q theta tilt azi".split()
-)
-DEFAULTS = ("0", "1")
+# What a PROJ string may say though it is so without.
+DEFAULTS = {
+    "type": ("crs",),
+    "no_defs": ("",),
+    "wktext": ("",),
+    "axis": ("enu",),
+    "units": ("m",),
+    "vunits": ("m",),
+    "to_meter": ("1",),
+    "vto_meter": ("1",),
+    "pm": ("greenwich", "0"),
+    "ellps": ("GRS80",),
+}
+ZERO = frozenset("x_0 y_0 z_0 lat_0 lon_0 lat_1 lat_2 lat_ts lonc alpha gamma h_0".split())
+ONE = frozenset(("k", "k_0"))
+# Of an ellipsoid's sizes one may follow from others; a title and a transformation are no part of the source CRS.
+NOT_TRIED = frozenset("proj a b rf f e es R datum title towgs84 nadgrids geoidgrids".split())
 UNITS = {"metre": 1.0, "degree": 0.0174532925199433, "unity": 1.0}
 WKT2_2019 = 2
 ERRORS_ALONE = 1
@@ -135,7 +149,7 @@ def read(text: Union[str, bytes]) -> Foreign:
     if form in (WKT1, BOUND):
         check_measures(text, written)
     if form == STRING:
-        check_values(text, written, proj)
+        check_effects(text, written, proj)
     for path in lost(given, json.loads(as_json), "") if form == JSON else ():
         raise NotRead(f"PROJ would pass {path} over, or change it")
     plain, bound = unbound(written)
@@ -229,18 +243,66 @@ def checked_string(text: str) -> str:
     return text if "type" in keys else f"{text} +type=crs"
 
 
-def check_values(text: str, written: str, proj: Proj) -> None:
-    """NotRead where a PROJ string says the same CRS without one of its values: the projection doesn't have it."""
+def check_effects(text: str, written: str, proj: Proj) -> None:
+    """NotRead where a PROJ string has a word, no default, without which and with another value of which it says the same
+    CRS: PROJ passes over those that a projection doesn't have."""
     words = text.split()
+    whole = without_remark(written)
     for place, word in enumerate(words):
         key, _, value = word.lstrip("+").partition("=")
-        if key in VALUES and rounded(value) not in DEFAULTS:
-            try:
-                other = proj.read(checked_string(" ".join(words[:place] + words[place + 1 :])), STRING)[0]
-            except NotRead:
-                continue
-            if other == written:
-                raise NotRead(f"the projection doesn't have +{key}: PROJ would pass it over")
+        if key in NOT_TRIED or is_default(key, value):
+            continue
+        before, after = words[:place], words[place + 1 :]
+        if read_words([*before, *after], proj) != whole or key == "ellps" and has_ellipsoid(words, whole, proj):
+            continue
+        # Where another word says the same, as +lat_1 does with +lat_0, another value still makes a difference.
+        if not value or key == "ellps" or read_words([*before, f"+{key}={another(value)}", *after], proj) == whole:
+            raise NotRead(f"{word} has no effect: PROJ would pass it over")
+
+
+def another(value: str) -> str:
+    """Another value than this, which an angle, a factor or a length may have too."""
+    try:
+        return f"{float(value) / 2 or 0.5:.15g}"
+    except ValueError:
+        return "10"
+
+
+def read_words(words: Sequence[str], proj: Proj) -> Optional[Node]:
+    """What PROJ reads of the words of a string, without a remark; None where that isn't taken."""
+    try:
+        return without_remark(proj.read(checked_string(" ".join(words)), STRING)[0])
+    except NotRead:
+        return None
+
+
+def without_remark(written: str) -> Node:
+    """A text without the remark in which PROJ keeps a string that it doesn't read in full; of a bound CRS the source."""
+    try:
+        whole = tree_of(written)
+    except (IndexError, ValueError):
+        raise NotRead("PROJ writes no well-formed text of it") from None
+    source = whole.child("SOURCECRS")
+    whole = source.nodes[0] if source else whole
+    return Node(whole.keyword, [it for it in whole.items if isinstance(it, str) or it.keyword != "REMARK"])
+
+
+def has_ellipsoid(words: Sequence[str], whole: Node, proj: Proj) -> bool:
+    """Whether a CRS has the ellipsoid of its string, which says a datum too, where the datum is left out."""
+    own = read_words([it for it in words if not it.lstrip("+").startswith("datum=")], proj)
+    return own is not None and sizes_of(own) == sizes_of(whole)
+
+
+def sizes_of(whole: Node) -> List[List[str]]:
+    """The numbers of a CRS's ellipsoids."""
+    return [it.values[1:] for it in whole.all() if it.keyword == "ELLIPSOID"]
+
+
+def is_default(key: str, value: str) -> bool:
+    """Whether a word of a PROJ string says what is so without it."""
+    if value in DEFAULTS.get(key, ()):
+        return True
+    return key in ZERO and rounded(value).lstrip("-") == "0" or key in ONE and rounded(value) == "1"
 
 
 def check_delimiters(text: str) -> None:

@@ -12,7 +12,7 @@ from decimal import Decimal, InvalidOperation
 from typing import Dict, Iterator, List, NamedTuple, Optional, Sequence, Tuple
 
 from .. import Difference
-from .tree import Node, nodes_in, text_of_node, unquoted
+from .._tree import Node, nodes_in, text_of_node, unquoted
 
 
 class Kind(enum.IntEnum):

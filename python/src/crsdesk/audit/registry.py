@@ -11,10 +11,10 @@ from dataclasses import dataclass, field
 from typing import List, NamedTuple, Optional, Tuple
 
 from .. import Difference, Refused, Rules, differences
+from .._tree import Node, text_of_node, tree_of
 from .judging import rules_of
 from .kinds import Kind, folded, is_placeholder, kind_of
 from .proj import Candidate, Context, context
-from .tree import Node, text_of_node, tree_of
 
 
 class Verdict(enum.Enum):
