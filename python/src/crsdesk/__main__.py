@@ -28,7 +28,9 @@ LINES_HELP = "a file has a text a line (docs/CATALOGUES.md)"
 CONVERT_HELP = "WKT1, PROJ strings, PROJJSON and codes are read by PROJ, which osgeo or pyproj has (docs/PYTHON.md)"
 LINES_HELP_OF_AUDIT = "it has a text a line, and so has a file of another suffix that is named itself"
 REGISTRY_HELP = "compares the CRSs with those of PROJ's database"
-RULES_HELP = "a rules file, which says what counts as the same; of several the statements count together (docs/RULES.md)"
+RULES_HELP = (
+    "a rules file, which says what counts as the same; of several the statements count together (docs/RULES.md)"
+)
 
 
 class Place(NamedTuple):

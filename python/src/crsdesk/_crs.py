@@ -23,6 +23,7 @@ from typing import (
 
 from . import _facts, _library
 from ._difference import Difference, differences_of
+from ._library import canon_bytes
 from ._refused import Refused
 from ._rules import Rules
 
@@ -128,13 +129,15 @@ def canon(text: Text, level: Level = "full", rules: Optional[Rules] = None) -> s
     """
     if rules is not None:
         return form_of(text, level, rules)
-    if isinstance(text, Crs):
-        return text.canonical(level)
     try:
         number = LEVELS[level]
     except (KeyError, TypeError):
         number = number_of(level)
-    return _library.canon_bytes(text if type(text) is bytes else bytes_of(text), number).decode()
+    if type(text) is bytes:
+        return canon_bytes(text, number).decode()
+    if isinstance(text, Crs):
+        return text.canonical(level)
+    return canon_bytes(bytes_of(text), number).decode()
 
 
 def form_of(text: Text, level: Level, rules: Rules) -> str:
@@ -334,7 +337,7 @@ class Crs:
         """Its form without rules, or under them, without transformations."""
         if self._rules is not None:
             return self._rules.form(self._text, level)
-        return _library.canon_bytes(self._text, level).decode()
+        return canon_bytes(self._text, level).decode()
 
     @property
     def rules(self) -> Optional[Rules]:
@@ -372,7 +375,7 @@ class Crs:
     def _plain(self) -> str:
         """The canonical text without transformations and without rules."""
         plain = self._bound or self._rules is not None
-        return _library.canon_bytes(self._text, 0).decode() if plain else self._full
+        return canon_bytes(self._text, 0).decode() if plain else self._full
 
     @property
     def kind(self) -> str:

@@ -3,8 +3,8 @@
 The lock of the interpreter is released during each call. A call's answers go to places that are kept for the next one:
 a list of them, since threads call at once, and since a signal's handler may call between a call and its answer.
 
-Of a call's arguments the texts and their lengths alone are converted: the others are objects of ctypes, made once, whose
-types say how they are passed: of seven arguments that saves half of the way through ctypes.
+A call's arguments are texts, which ctypes passes as they are, and what from_param and byref make, once where it can be:
+then nothing is converted in a call, which saves more than half of the way through ctypes.
 """
 
 from __future__ import annotations
@@ -23,6 +23,8 @@ OK, REFUSED, SECOND_REFUSED, NO_MEMORY, NO_LEVEL, NO_ROOM = range(6)
 KINDS = {1: "geodetic", 2: "geographic", 3: "projected", 4: "vertical", 5: "compound"}
 # The room that is kept for answers; a longer text is given its own.
 KEPT_ROOM = 1 << 16
+# The lengths that are kept as they are passed; a longer one is made for its call.
+KEPT_SIZES = 4096
 
 
 class RefusalPlace(ctypes.Structure):
@@ -84,12 +86,12 @@ def load() -> ctypes.CDLL:
     except OSError as error:
         raise ImportError(f"crsdesk needs its shared object, beside it or where {LIBRARY} says: {error}") from None
     text, size = ctypes.c_char_p, ctypes.c_size_t
-    # What is converted. The rest is handed over as objects of ctypes.
+    # What is converted: nothing of most calls.
     arguments: Dict[str, List[Any]] = {
-        "check": [text, size],
-        "canon": [text, size],
-        "same": [text, size, text, size],
-        "first_part": [text, size, text, size],
+        "check": [],
+        "canon": [],
+        "same": [],
+        "first_part": [],
         "differences": [text, size, text, size],
         "explain": [text, size],
         "refusal_name": [ctypes.c_uint32],
@@ -125,9 +127,11 @@ _same = LOADED.crsdesk_same
 _first_part = LOADED.crsdesk_first_part
 _differences = LOADED.crsdesk_differences
 _explain = LOADED.crsdesk_explain
-# A level by its number, and the room of what is kept, as they are passed.
-_LEVELS = ctypes.c_uint32(0), ctypes.c_uint32(1)
-_ROOM = ctypes.c_size_t(KEPT_ROOM)
+# A level by its number, a length, and the room of what is kept, as they are passed.
+_LEVELS = ctypes.c_uint32.from_param(0), ctypes.c_uint32.from_param(1)
+_size = ctypes.c_size_t.from_param
+_SIZES = tuple(map(_size, range(KEPT_SIZES)))
+_ROOM = _size(KEPT_ROOM)
 _kept: List[Places] = []
 
 
@@ -193,7 +197,7 @@ class HeldRules:
 
 def check(text: bytes) -> str:
     found = places()
-    code = _check(text, len(text), found.to_number, found.to_refusal)
+    code = _check(text, _size(len(text)), found.to_number, found.to_refusal)
     if code:
         raise fault(code, found, text)
     kind = KINDS[found.number.value]
@@ -209,7 +213,8 @@ def canon_bytes(text: bytes, level: int) -> bytes:
         found = _kept.pop()
     except IndexError:
         found = Places()
-    code = _canon(text, length, _LEVELS[level], found.to_out, _ROOM, found.to_length, found.to_refusal)
+    size = _SIZES[length] if length < KEPT_SIZES else _size(length)
+    code = _canon(text, size, _LEVELS[level], found.to_out, _ROOM, found.to_length, found.to_refusal)
     if code:
         if code == NO_ROOM:
             _kept.append(found)
@@ -223,7 +228,7 @@ def canon_bytes(text: bytes, level: int) -> bytes:
 def long_canon(text: bytes, level: int) -> bytes:
     """The same of a text whose answer may need more room than is kept."""
     found = places()
-    given = text, len(text), _LEVELS[level]
+    given = text, _size(len(text)), _LEVELS[level]
     code, answer = in_room(found, lambda *room: _canon(*given, *room, found.to_refusal), len(text) + len(text) // 8)
     if code:
         raise fault(code, found, text)
@@ -233,7 +238,8 @@ def long_canon(text: bytes, level: int) -> bytes:
 
 def same(first: bytes, second: bytes, level: int) -> bool:
     found = places()
-    code = _same(first, len(first), second, len(second), _LEVELS[level], found.to_number, found.to_refusal)
+    given = first, _size(len(first)), second, _size(len(second)), _LEVELS[level]
+    code = _same(*given, found.to_number, found.to_refusal)
     if code:
         raise fault(code, found, first, second)
     answer = found.number.value == 1
@@ -243,7 +249,7 @@ def same(first: bytes, second: bytes, level: int) -> bool:
 
 def first_part(first: bytes, second: bytes, level: int) -> str:
     found = places()
-    given = first, len(first), second, len(second), _LEVELS[level]
+    given = first, _size(len(first)), second, _size(len(second)), _LEVELS[level]
     code = _first_part(*given, found.to_out, _ROOM, found.to_length, found.to_refusal)
     if code:
         raise fault(code, found, first, second)
