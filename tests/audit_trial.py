@@ -5,9 +5,10 @@
 
 The archive has 53 registered CRSs in ten forms: shapefiles with Esri's .prj, some with a .qpj, GeoTIFFs, GeoPackages,
 GeoJSON, NetCDF, texts in WKT2:2019, WKT2:2015 and WKT1, zips; and bound CRSs, damaged texts and planted mistakes, which
---list prints. Of each text it is known which CRS it is meant to be. --make makes the archive alone. It needs osgeo, and
-names it as skipped where it isn't there. The figures are printed; each that is worse than it was has a line; the last line
-is 'N passed, M failed', and the status is 0 where M is 0.
+--list prints. Of each text it is known which CRS it is meant to be. It is audited as it is, with conversion and the
+registry, and under the rules that ship too. --make makes the archive alone. It needs osgeo, and names it as skipped where
+it isn't there. The figures are printed; each that is worse than it was has a line; the last line is 'N passed, M failed',
+and the status is 0 where M is 0.
 """
 from __future__ import annotations
 
@@ -37,6 +38,10 @@ TEXTS = 974
 # The CRSs that GDAL doesn't write to NetCDF, or doesn't read back.
 NOT_IN_NETCDF = (2056, 21781, 5514, 27572)
 FIRST = 22
+RULES = pathlib.Path(__file__).resolve().parent.parent / "rules"
+SHIPPED = ("producers.rules", "any-order.rules")
+# The mistakes that the shipped rules take away: under them the order of axes doesn't count.
+TAKEN_AWAY = ("easting before northing", "longitude before latitude")
 Place = Tuple[str, str]
 
 
@@ -324,18 +329,35 @@ def registered_groups(data: Dict[str, Any]) -> List[List[Place]]:
 
 
 def found_in_near_misses(data: Dict[str, Any], archive: Archive, most: int) -> List[str]:
-    """The planted mistakes whose definition is in a pair of one of the first near misses, of a kind other than names."""
+    """The planted mistakes to which one of the first near misses points, by a kind other than names."""
     found = set()
     for miss in data["near_misses"][:most]:
         for pair in miss["pairs"]:
             if pair["kind"] != "names and digits":
-                found |= mistakes_in(data, archive, (pair["first"], pair["second"]))
+                for number in (pair["first"], pair["second"]):
+                    found |= mistakes_in(data["definitions"][number - 1], miss, archive)
     return sorted(found)
 
 
-def mistakes_in(data: Dict[str, Any], archive: Archive, numbers: Iterable[int]) -> set[str]:
-    places = (place for number in numbers for place in groups_of(data)[number - 1])
-    return {archive.planted[place].name for place in places if place in archive.planted}
+def mistakes_in(definition: Dict[str, Any], miss: Dict[str, Any], archive: Archive) -> set[str]:
+    """The planted mistakes of a definition that is in a near miss. Where sound texts are in it too, as rules may have it,
+    those alone to whose name or identifier the near miss is due."""
+    sound, planted = [], []
+    for variant in definition["variants"]:
+        places = [key_of(it) for it in variant["places"]]
+        mistakes = {archive.planted[it].name for it in places if it in archive.planted}
+        planted.append((bears(variant, miss), mistakes))
+        sound += [bears(variant, miss) for it in places if it not in archive.planted]
+    return {name for bears_it, names in planted for name in names if not sound or bears_it and not any(sound)}
+
+
+def bears(variant: Dict[str, Any], miss: Dict[str, Any]) -> bool:
+    """Whether a CRS has the name or the identifier of a near miss."""
+    if miss["by"] == "identifier":
+        return miss["value"] in variant["identifiers"]
+    match = re.match(r'\w+\["((?:[^"]|"")*)"', variant["text"])
+    assert match
+    return re.sub(r"\W|_", "", match[1]).casefold() == re.sub(r"\W|_", "", miss["value"]).casefold()
 
 
 FINDINGS = ("bears another code's name", "datum", "numbers", "axes", "code isn't in the registry")
@@ -362,36 +384,73 @@ def tell(archive: Archive) -> Iterator[Tuple[str, bool]]:
     """Prints the figures, and answers what is tested of them."""
     plain = audited(archive.folder)
     with_all = audited(archive.folder, "--convert", "--registry")
+    rules = [word for name in SHIPPED for word in ("--rules", str(RULES / name))]
+    ruled = audited(archive.folder, "--convert", "--registry", *rules)
     summary, converted = plain["summary"], with_all["summary"]
     print(f"{summary['texts']} texts, of which {summary['refused']} are refused: {causes(summary)}")
     print(f"with conversion {converted['refused']} are refused: {causes(converted)}")
     unstated = set(archive.meant) - {place for group in groups_of(with_all) for place in group}
     print(f"of the sound texts {len(unstated)} have no CRS in the audit with conversion: {sorted(unstated)[:5]}")
-    by_definition, with_conversion = (pairs_in(groups_of(it), archive) for it in (plain, with_all))
+    by_definition, with_conversion, under_rules = (pairs_in(groups_of(it), archive) for it in (plain, with_all, ruled))
     print(f"by definition: {by_definition}\nwith conversion: {with_conversion}")
+    print(f"with conversion and {' and '.join(SHIPPED)}: {under_rules}")
+    for told in apart(ruled, archive):
+        print(f"apart under the rules: {told}")
     by_registry = pairs_in(registered_groups(with_all), archive)
     print(f"with conversion, by the registry but for names and digits: {by_registry}")
-    print("registry: " + "; ".join(f"{name} {texts}" for name, texts in converted["registry"].items()))
-    for name, data in (("near misses", plain), ("near misses with conversion", with_all)):
+    for name, data in (("registry", with_all), ("registry under the rules", ruled)):
+        print(f"{name}: " + "; ".join(f"{it} {texts}" for it, texts in data["summary"]["registry"].items()))
+    for name, data in (
+        ("near misses", plain),
+        ("near misses with conversion", with_all),
+        ("near misses with conversion and rules", ruled),
+    ):
         first, all_of_them = (found_in_near_misses(data, archive, most) for most in (FIRST, 10**9))
         print(
             f"{name}: {len(data['near_misses'])}, {len(first)} of {len(MISTAKES)} mistakes in the first {FIRST}, {len(all_of_them)} in all"
         )
-    in_first = found_in_near_misses(with_all, archive, FIRST)
-    print(f"not in the first {FIRST}: {sorted(it.name for it in MISTAKES if it.name not in in_first)}")
-    in_registry, others = found_in_registry(with_all, archive)
+    in_first, in_first_under = (found_in_near_misses(it, archive, FIRST) for it in (with_all, ruled))
+    print(f"not in the first {FIRST}: {others_than(in_first)}; under the rules {others_than(in_first_under)}")
+    (in_registry, others), (under, others_under) = (found_in_registry(it, archive) for it in (with_all, ruled))
     print(f"registry: {len(in_registry)} of {len(MISTAKES)} mistakes; {others} other texts aren't as registered")
-    print(f"not found there: {sorted(it.name for it in MISTAKES if it.name not in in_registry)}")
+    print(f"under the rules: {len(under)} of {len(MISTAKES)}; {others_under} other texts aren't as registered")
+    print(f"not found there: {others_than(in_registry)}; under the rules {others_than(under)}")
     yield f"{TEXTS} texts are made", len(archive.meant) + len(archive.damaged) == TEXTS
-    yield "no damaged text is accepted", accepted_damages(plain, archive) == accepted_damages(with_all, archive) == []
+    accepted = [accepted_damages(it, archive) for it in (plain, with_all, ruled)]
+    yield "no damaged text is accepted", accepted == 3 * [[]]
     yield "conversion finds more pairs", with_conversion.found > by_definition.found
     yield "precision with conversion is 99 %", with_conversion.found >= 99 * with_conversion.wrong
     yield "precision by definition is 99 %", by_definition.found >= 99 * by_definition.wrong
+    yield "under the rules 90 % of the pairs are found", under_rules.found >= 0.9 * under_rules.all
+    yield "precision under the rules is 99 %", under_rules.found >= 99 * under_rules.wrong
     yield f"11 mistakes are in the first {FIRST} near misses", len(in_first) >= 11
+    yield f"11 are under the rules, all but those of axes", others_than(in_first_under) == sorted(TAKEN_AWAY)
     yield "the registry has 11 mistakes", len(in_registry) >= 11
-    yield "texts that PROJ has read say so", has_marks(with_all)
-    yield "bound CRSs of other transformations are others", are_apart(with_all, archive)
-    yield "no sound data set disagrees", converted["disagreeing"] == 0
+    yield "it has 11 under the rules, and no other text", (len(under), others_under) == (11, 0)
+    yield "texts that PROJ has read say so", has_marks(with_all) and has_marks(ruled)
+    yield "bound CRSs of other transformations are others", are_apart(with_all, archive) and are_apart(ruled, archive)
+    yield "no sound data set disagrees", converted["disagreeing"] == ruled["summary"]["disagreeing"] == 0
+    yield "the report names the rules", [pathlib.Path(it["file"]).name for it in ruled["rules"]] == list(SHIPPED)
+
+
+def others_than(found: List[str]) -> List[str]:
+    """The planted mistakes that aren't found."""
+    return sorted(it.name for it in MISTAKES if it.name not in found)
+
+
+def apart(data: Dict[str, Any], archive: Archive) -> Iterator[str]:
+    """The CRSs whose texts are in several groups: how many in each, and a file of each but the largest."""
+    numbers: Dict[str, Dict[int, List[str]]] = {}
+    for number, group in enumerate(groups_of(data), 1):
+        for place in group:
+            if place in archive.meant:
+                its = numbers.setdefault(archive.meant[place], {})
+                layer = f" ({place[1]})" if place[1] else ""
+                its.setdefault(number, []).append(f"{os.path.basename(place[0])}{layer}")
+    for meant, groups in numbers.items():
+        files = sorted(groups.values(), key=len, reverse=True)
+        if len(files) > 1:
+            yield f"{meant} {' + '.join(str(len(it)) for it in files)} texts, first {', '.join(it[0] for it in files[1:])}"
 
 
 def causes(summary: Dict[str, Any]) -> str:

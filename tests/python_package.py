@@ -6,7 +6,7 @@
 The rows of the .rows files beside it are asked of the package's calls; then come the package's own promises: how a
 refusal is explained, hints, what no text is, hashing, threads, long texts, and the commands over files. run_python.py runs
 it with the package installed in a fresh environment. With --with, what is tried is its use beside another package:
-pandas, pyproj, rasterio or osgeo. What isn't there is named as skipped. Each case that fails has a line; the last
+pandas, pyproj, rasterio, geopandas or osgeo. What isn't there is named as skipped. Each case that fails has a line; the last
 line is 'N passed, M failed', and the status is 0 where M is 0.
 """
 from __future__ import annotations
@@ -1481,6 +1481,29 @@ def with_rasterio() -> None:
     assert own.kind == "projected" and rasterio.crs.CRS.from_user_input(own) == rasterio.crs.CRS.from_epsg(28992)
 
 
+def with_geopandas() -> None:
+    """A table of geometries takes a Crs wherever it takes a CRS; its own is read by way of .crs alone."""
+    import geopandas  # type: ignore[import]
+
+    examples_of_the_document("geopandas")
+    points = geopandas.points_from_xy([5.3876388889], [52.1561605556])
+    amersfoort = Crs.from_file(EXAMPLES / "exports" / "rd_projinfo_2019.wkt")
+    wgs84 = Crs.from_user("EPSG:4326")
+    table = geopandas.GeoDataFrame({"name": ["tower"]}, geometry=points, crs=wgs84)
+    for made in (table, table.geometry, table.to_crs(amersfoort), table.geometry.to_crs(amersfoort)):
+        own = Crs.from_user(made.crs)
+        assert own.text == made.crs.to_wkt().encode() and own.read_by is None
+        for call in (Crs, Crs.from_user, check, canon):
+            wants(TypeError, f"not {type(made).__name__}; hand over its .crs to Crs.from_user", call, made)
+    moved = table.to_crs(amersfoort)
+    assert moved.crs == table.to_crs("EPSG:28992").crs and Crs.from_user(moved.crs) == amersfoort
+    (place,) = moved.geometry
+    assert abs(place.x - 155000) < 200 and abs(place.y - 463000) < 200, place
+    assert Crs.from_user(table.set_crs(amersfoort, allow_override=True).crs) == amersfoort
+    bound = Crs.from_user(SHIFTED)
+    assert Crs.from_user(table.to_crs(bound).crs).transformation == bound.transformation
+
+
 def with_osgeo() -> None:
     from osgeo import osr  # type: ignore[import]
 
@@ -2025,7 +2048,13 @@ PROMISES = [
 
 
 OTHER_PROJ = {"pyproj": "osgeo", "osgeo": "pyproj"}
-WITH = {"pandas": with_pandas, "pyproj": with_pyproj, "rasterio": with_rasterio, "osgeo": with_osgeo}
+WITH = {
+    "pandas": with_pandas,
+    "pyproj": with_pyproj,
+    "rasterio": with_rasterio,
+    "geopandas": with_geopandas,
+    "osgeo": with_osgeo,
+}
 
 
 def promise_fault(promise: Callable[[], None]) -> Optional[str]:

@@ -4,9 +4,9 @@
     run_audit.py [PREFIX]
 
 PREFIX has the shared object in lib/, as tools/build_library.py makes it (out/prefix where none is given). audit_cases.py,
-audit_hostile.py, audit_forms.py, audit_trial.py and audit_page.py have what is tried; they are run by this Python, or the
-system's, whichever has jinja2 and rich. What isn't there is named as skipped. Each case that fails has a line; the last
-line is 'N passed, M failed', and the status is 0 where M is 0.
+audit_hostile.py, audit_forms.py, audit_rules.py, audit_trial.py and audit_page.py have what is tried; they are run by this
+Python, or the system's, whichever has jinja2 and rich. What isn't there is named as skipped. Each case that fails has a
+line; the last line is 'N passed, M failed', and the status is 0 where M is 0.
 """
 from __future__ import annotations
 
@@ -25,7 +25,14 @@ ROOT = HERE.parent
 SECONDS = 1800
 NEEDED = "jinja2, rich"
 SYSTEM = "/usr/bin/python3"
-PROGRAMS = ("audit_cases.py", "audit_hostile.py", "audit_forms.py", "audit_trial.py", "audit_page.py")
+PROGRAMS = (
+    "audit_cases.py",
+    "audit_hostile.py",
+    "audit_forms.py",
+    "audit_rules.py",
+    "audit_trial.py",
+    "audit_page.py",
+)
 
 
 def python_with_needed() -> Optional[str]:

@@ -29,7 +29,7 @@ ROOT = HERE.parent
 PACKAGE = ROOT / "python"
 SECONDS = 1800
 # Packages beside which it is tried, as this Python or the system's has them.
-BESIDE = ("pandas", "pyproj", "rasterio", "osgeo")
+BESIDE = ("pandas", "pyproj", "rasterio", "geopandas", "osgeo")
 SYSTEM = "/usr/bin/python3"
 EXTRAS = "import importlib.metadata; print(importlib.metadata.requires('crsdesk'))"
 

@@ -25,7 +25,6 @@ class RulesRefused(ValueError):
     ``place``   where in that line, in bytes from 0
     ``piece``   the line
     ``path``    the file, as it was handed over; None of a text
-    ``meaning`` what the number says
     """
 
     def __init__(self, line: int, number: int, place: int, piece: bytes = b"", path: Optional[Path] = None) -> None:
@@ -38,6 +37,7 @@ class RulesRefused(ValueError):
 
     @property
     def meaning(self) -> str:
+        """What the number means, in a few words."""
         return MEANINGS.get(self.number) or _library.refusal_name(self.number)
 
     def __str__(self) -> str:
