@@ -97,6 +97,14 @@ def near_misses_are_those_under_the_rules() -> None:
     assert (pair["first"], pair["second"]) == (1, 2) and groups[0]["name"] == "Survey zone 31"
     paths = [it["path"] for it in pair["parts"]]
     assert paths == ["conversion/parameters/Longitude of natural origin"], paths
+    # It is said which texts have the name, where not all of a group have it.
+    places = [str(place / name) for name in ("a.wkt", "e.wkt")]
+    assert miss["value"] == "Survey zone 31" and f"    with this name 2 texts, first {places[0]}\n" in output, output
+    assert f"    with this name 1 text, first {places[1]}\n" in output, output
+    page = folder() / "misses.html"
+    assert audit("--rules", place / "names.rules", "--html", page, place)[0] == 0
+    assert all(f"first {it}" in page.read_text(encoding="utf-8") for it in places)
+    assert "with this name" not in audit(place)[1]
     # What the rules take away is no near miss.
     place = written(
         "taken", {"a.wkt": geographic("S"), "b.wkt": geographic("S").replace("Survey 1990", "D_Survey_1990")}

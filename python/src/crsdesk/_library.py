@@ -196,8 +196,10 @@ class HeldRules:
 
 
 def check(text: bytes) -> str:
+    length = len(text)
+    size = _SIZES[length] if length < KEPT_SIZES else _size(length)
     found = places()
-    code = _check(text, _size(len(text)), found.to_number, found.to_refusal)
+    code = _check(text, size, found.to_number, found.to_refusal)
     if code:
         raise fault(code, found, text)
     kind = KINDS[found.number.value]

@@ -30,6 +30,7 @@ from .report import (
     Report,
     RulesFile,
     Untold,
+    bearing,
     cause_of,
     findings_of,
     verdict_told,
@@ -157,6 +158,7 @@ def environment_of() -> jinja2.Environment:
         lstrip_blocks=True,
     )
     environment.filters.update(
+        bearing=bearing,
         counted=counted,
         lines=lines_of,
         statements=statements_of,

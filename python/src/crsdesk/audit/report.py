@@ -380,6 +380,18 @@ def near_miss(by: str, value: str, first: Definition, others: Sequence[Definitio
     return NearMiss(by, value, [pair_of(first, it) for it in others])
 
 
+def bearing(definition: Definition, miss: NearMiss) -> List[Place]:
+    """The texts of a definition to whose name or identifier a near miss is due; none where it is that of all."""
+
+    def bears(crs: Spelled) -> bool:
+        if miss.by == "identifier":
+            return miss.value in crs.identifiers
+        return (folded(crs.name) or crs.name) == (folded(miss.value) or miss.value)
+
+    its = [it for it in definition.variants if bears(it.crs)]
+    return [] if len(its) == len(definition.variants) else [place for it in its for place in it.places]
+
+
 def pair_of(first: Definition, second: Definition) -> Pair:
     both = [it for it in first.identifiers if it in second.identifiers]
     return Pair(first.number, second.number, both, first.states_axes and second.states_axes)

@@ -9,7 +9,7 @@ from typing import Iterable, Iterator, Optional, Sequence, Tuple
 from .. import Difference
 from .kinds import rows_of
 from .names import counted, place_shown, readable, visible
-from .report import Definition, NearMiss, Pair, Report, Summary, findings_of, verdict_told
+from .report import Definition, NearMiss, Pair, Report, Summary, bearing, findings_of, verdict_told
 
 # How many near misses are shown, and of each how many pairs, parts, and characters of a value.
 MOST_MISSES = 20
@@ -25,7 +25,7 @@ def lines_of(report: Report) -> Iterator[str]:
     for data_set in [it for it in report.data_sets if it.disagrees][:MOST_MISSES]:
         yield ""
         yield f"the texts of {readable(data_set.path)} disagree"
-        yield from pair_lines(report, data_set.pairs, [place_shown(row.place) for row in data_set.rows])
+        yield from pair_lines(report, data_set.pairs, None, [place_shown(row.place) for row in data_set.rows])
     yield from registry_lines(report)
     for miss in report.near_misses[:MOST_MISSES]:
         yield ""
@@ -94,18 +94,28 @@ def near_misses_told(report: Report) -> str:
 def near_miss_lines(report: Report, miss: NearMiss) -> Iterator[str]:
     head = f"of the {miss.by} {cut(visible(miss.value))}"
     yield f"{counted(len(miss.pairs) + 1, 'CRS', 'CRSs')} {head}: {miss.kind.label}"
-    yield from pair_lines(report, miss.pairs)
+    yield from pair_lines(report, miss.pairs, miss)
 
 
-def pair_lines(report: Report, pairs: Sequence[Pair], files: Sequence[str] = ()) -> Iterator[str]:
+def pair_lines(
+    report: Report, pairs: Sequence[Pair], miss: Optional[NearMiss] = None, files: Sequence[str] = ()
+) -> Iterator[str]:
     """The first definition of pairs, and each other one with the parts in which it differs."""
-    yield f"  {told_of(report.definitions[pairs[0].first - 1])}"
+    yield from definition_lines(report.definitions[pairs[0].first - 1], miss)
     for pair in pairs[:MOST_PAIRS]:
-        yield f"  {told_of(report.definitions[pair.second - 1])}"
+        yield from definition_lines(report.definitions[pair.second - 1], miss)
         yield from part_lines(pair.parts)
     if len(pairs) > MOST_PAIRS:
         yield f"  .. and {counted(len(pairs) - MOST_PAIRS, 'CRS', 'CRSs')} more"
     yield from (f"  {file}" for file in files)
+
+
+def definition_lines(definition: Definition, miss: Optional[NearMiss]) -> Iterator[str]:
+    """A definition, and which of its texts have the near miss's name or identifier, where not all have it."""
+    yield f"  {told_of(definition)}"
+    places = bearing(definition, miss) if miss else []
+    if miss and places:
+        yield f"    with this {miss.by} {counted(len(places), 'text')}, first {place_shown(places[0])}"
 
 
 def part_lines(parts: Sequence[Difference]) -> Iterator[str]:
