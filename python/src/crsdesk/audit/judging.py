@@ -158,8 +158,10 @@ def judged(found: Text, spelled: List[Spelled], known: Known, converts: bool, ru
             return Judged(found.layer, found.line, digest, -1, dataclasses.replace(refusal, doubts=doubts))
     key = str(crs), transformation
     if key not in known:
+        # Where memory is refused nothing is added.
+        its = spelled_by(crs, transformation, rules)
         known[key] = len(spelled)
-        spelled.append(spelled_by(crs, transformation, rules))
+        spelled.append(its)
     return Judged(
         found.layer, found.line, digest, known[key], None, read_by, not read_by or b"AXIS" in found.text.upper()
     )
