@@ -597,6 +597,18 @@ def a_crs_of_another_package() -> None:
     assert "Crs.from_user" not in str(refusal_of("WGS 84", Crs)) + str(refusal_of(HEIGHT[:-1], Crs))
 
 
+def texts_of_all_lengths() -> None:
+    """At the lengths up to which something is kept for a call, and beyond."""
+    bare = len(CANONICAL_HEIGHT) - 1
+    for kept in (1 << 12, 1 << 15, 1 << 16, 1 << 17):
+        for length in range(kept - 2, kept + 3):
+            text = CANONICAL_HEIGHT.replace('"H"', f'"{"x" * (length - bare)}"').encode()
+            assert len(text) == length and check(text) == "vertical" and canon(text) == text.decode(), length
+            other = text.replace(b"up", b"down")
+            assert same(text, text) and not same(text, other) and difference(text, other) == "system/axis1/direction"
+            assert Crs(text).canonical("definition") == text.decode() and refusal_of(text[:-1]).place == length - 1
+
+
 def a_crs_of_a_file() -> None:
     for path in (EXAMPLES / "wgs84.wkt", str(EXAMPLES / "wgs84.wkt"), os.fsencode(EXAMPLES / "wgs84.wkt")):
         assert Crs.from_file(path) == Crs((EXAMPLES / "wgs84.wkt").read_bytes())
@@ -1992,6 +2004,7 @@ PROMISES = [
     refusal_goes_to_another_process,
     every_number_has_a_meaning,
     rows_of_explain,
+    texts_of_all_lengths,
     rows_of_explain_of_two,
     refusals_made_by_hand,
     hints_are_given,
