@@ -9,8 +9,8 @@ pub(crate) struct Words {
 }
 
 const BY_PROJ: &str =
-    ": have PROJ write WKT2:2019 (projinfo --single-line -o WKT2:2019 \"$(cat FILE)\" | sed 1d). \
-    Heed its warnings, which -q hides: PROJ reads a damaged text too, as another CRS.";
+    ": have PROJ write WKT2:2019 (projinfo --single-line -o WKT2:2019 @FILE 2>&1 | sed 1d). \
+    Where PROJ warns, as of a damaged text, the warning stays in front, and crsdesk refuses it.";
 
 fn told(front: &'static str, back: &'static str) -> Words {
     Words { front, back }

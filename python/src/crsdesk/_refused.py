@@ -144,7 +144,7 @@ class Refused(ValueError):
         if not line:
             return told
         head, end, rest = told.partition("\n")
-        return head.replace(", line 1,", ",") + end + rest.replace("$(cat FILE)", f"$(sed -n {line}p FILE)")
+        return head.replace(", line 1,", ",") + end + rest.replace("@FILE", f'"$(sed -n {line}p FILE)"')
 
     def __str__(self) -> str:
         told = "\n".join(filter(None, [self.told, self.proj, self._advice()]))
