@@ -17,7 +17,7 @@ use std::io::Read;
 use std::{env, io};
 use timing::timed;
 
-// A stage whose time may grow with the catalogue is run over so many of the first texts, too.
+// A stage whose time may grow with the catalogue is also run over this many of the first texts.
 const SMALLER: [usize; 3] = [10_000, 100_000, 1_000_000];
 
 fn main(rt: HostRuntime) -> Result<()> {

@@ -95,7 +95,8 @@ impl Stage {
         }
     }
 
-    /// Whether it is reported of the first texts alone, too: its time may grow with the catalogue.
+    /// Whether it is also reported for the first texts alone, since its time may grow with the
+    /// catalogue.
     pub fn grows(self) -> bool {
         matches!(self, Stage::Group)
     }
