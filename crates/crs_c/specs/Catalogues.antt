@@ -67,7 +67,7 @@ line_at catalogue group index =
     number_or_none
     (line_of_some (option_map (λ parts. parts.lines) (nth group catalogue.groups)) index)
 
--- of a group's canonical text; where there is no such group, code 6
+-- a piece of a group's canonical text; code 6 where there is no such group
 abbrev pub IsPieceAt : CatalogueParts → ℕ → ℕ → Piece → Type 0
 IsPieceAt catalogue group from told =
     MatchOption (option_map (λ parts. parts.canon.bytes) (nth group catalogue.groups))

@@ -9,7 +9,7 @@ use Rattle.crs_c.specs.Answers.{Answer, IsAtLevel}
 use Rattle.crs_c.specs.Buffers.{Buffer, IsGiven, Gives}
 use Rattle.crs_c.specs.Pairs.{IsPairAnswer}
 
--- the explanation of a text's refusal; none of a text that spells a CRS
+-- the explanation of a text's refusal; none for a text that spells a CRS
 abbrev pub IsExplanation : List ℕ → List ℕ → Type 0
 IsExplanation text told =
     ((refusal : RefusedAt) × Refuses text refusal × IsExplained text refusal told)
