@@ -17,7 +17,7 @@ use Rattle.crs_value.specs.declared.values.crs.Crs.TheVariants as crs
 use Rattle.crs_shape.specs.ShapeFault.{class_of_root}
 use Rattle.crs_canon.specs.Direct.{IsRead, IsReadAt}
 
--- ---- of whatever is read
+-- ---- whatever is read
 
 pub ok-each : {A E V : Type 0} (result : Result A E) (R Q : V → Type 0) → ((value : V) → R value → OnOk result (Q value)) →
     OnOk result ((value : V) → R value → Q value)

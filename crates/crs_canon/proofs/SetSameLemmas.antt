@@ -27,7 +27,7 @@ none-some x xs e = cc
 abbrev GoesOn : List ℕ → List ℕ → List ℕ → List ℕ → Type 0
 GoesOn a b r s = (more : List ℕ) × (b ≡ a ++ more) × (r ≡ more ++ s)
 
--- of two fronts of one list, the one goes on to the other
+-- one of two fronts of a list goes on to the other
 fronts : (a b r s : List ℕ) → a ++ r ≡ b ++ s → GoesOn a b r s ⊎ GoesOn b a s r
 fronts [] b r s e = inl (b, refl, e)
 fronts (x ∷ a) [] r s e = inr (x ∷ a, refl, sym e)
@@ -49,7 +49,7 @@ alone law a b r s p q (more, e, f) =
     let none : more ≡ [] = law a more p (subst IsClosed e q) in
     (sym (append-nil a) ∙ ap (λ x. a ++ x) (sym none) ∙ sym e, f ∙ ap (λ x. x ++ s) none)
 
--- of two closed texts at the start of one list, the one is the other
+-- two closed texts at the start of one list are equal
 pub split : NoFront → (a b r s : List ℕ) → IsClosed a → IsClosed b → a ++ r ≡ b ++ s → (a ≡ b) × (r ≡ s)
 split law a b r s p q e = by (fronts a b r s e)
   where

@@ -68,7 +68,7 @@ front-ascends (z ∷ l) r s = (front-has (Below z) l r s.0, front-ascends l r s.
     front-has P [] r h = tt
     front-has P (x ∷ l) r h = (h.0, front-has P l r h.1)
 
--- of a list at a place: what is before it with one more, and what is after it
+-- a list, cut at a place: what is before the place with one more, and what is after it
 module _ (t y : List ℕ) (all front back : List (List ℕ)) where
   pub step-below : puts t all ≡ puts t (front ++ y ∷ []) ++ back → slice_cmp nat_cmp t y ≡ Less →
       puts t all ≡ puts t front ++ y ∷ back

@@ -71,7 +71,7 @@ map-twice : {A B C : Type 0} (f : B → C) (g : A → B) (xs : List A) → map f
 map-twice f g [] = refl
 map-twice f g (x ∷ xs) = ap (λ ys. f (g x) ∷ ys) (map-twice f g xs)
 
--- of values in their one form
+-- the same for values in their one form
 pub normal_set-written : {A B : Type 0} (spell : B → Item) (norm : A → B) (values : List A) →
     others_text (each spell (in_order (λ v. item_text (spell v)) (map norm values)) End)
     ≡ set_text (map (λ v. item_text (spell (norm v))) values)

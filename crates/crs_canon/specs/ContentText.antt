@@ -20,8 +20,8 @@ abbrev pub IsLackingText : {V : Type 0} → (V → List ℕ → Type 0) → List
 IsLackingText IsSpelling xs others =
     IsSetText (λ x text. IsSpelling x text × (¬ (SpellsOneOf IsSpelling others text))) xs
 
--- the bytes are what is written for the value of a part: of a unit its spelling where this kind is
--- asked, which `UNIT` is of; of a set its members that the other lacks
+-- the bytes are what is written for the value of a part: for a unit its spelling where this kind is
+-- asked, `UNIT` counting as that kind; for a set the members that the other lacks
 abbrev pub IsContentText : Level → Content → List ℕ → Type 0
 IsContentText level content.Nothing = λ bytes. bytes ≡ []
 IsContentText level (content.Word word) = λ bytes. bytes ≡ word

@@ -14,7 +14,7 @@ set_text spellings = commas (in_order (λ bytes. bytes) spellings)
 abbrev pub spellings : List (Vec ℕ Global) → List (List ℕ)
 spellings vectors = map (λ v. v.items) vectors
 
--- of these texts those that aren't among the others
+-- these texts without those that are among the others
 abbrev pub lacking : (these others : List (List ℕ)) → List (List ℕ)
 lacking these others = filter (λ text. not (list_any (bytes_eq text) others)) these
 

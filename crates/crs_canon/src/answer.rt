@@ -22,7 +22,7 @@ use std::mem;
 const ROOM: usize = 1024;
 
 /// The canonical text, at a level, of the CRS that a text spells: it is normal, accepted, and spells a CRS that is the
-/// same. Of two answers at one level the bytes are equal exactly where the two texts spell the same CRS
+/// same. Two answers at one level have equal bytes exactly where the two texts spell the same CRS
 /// (`laws::answers_are_equal_where_same`).
 ///
 /// `Refused`: the text spells no CRS; number and place are those of `read`. `Memory`: there is no memory for the items

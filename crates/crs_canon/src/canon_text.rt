@@ -59,8 +59,8 @@ impl Canon {
         self
     }
 
-    /// Whether levels and texts are equal: of two answers of `canon`, whether they are of one level and the two texts
-    /// spell the same CRS at it (`laws::answers_are_equal_where_same`).
+    /// Whether levels and texts are equal: for two answers of `canon`, whether they have one level, at which the
+    /// texts that they are of spell the same CRS (`laws::answers_are_equal_where_same`).
     pub fn same(&self, other: &Canon) -> bool
         ensures { IsTrue result ↔ (self.now ≡ other.now) }
     {

@@ -109,9 +109,9 @@ fn append_usages(
 }
 
 /// Appends the value of a part of a CRS, as the canonical text at a level writes it: nothing; a word; a text in its
-/// quotes; a number in its plain spelling; a node; or of a set the members of which the other CRS has no same one,
-/// each once, in ascending order of their bytes, a comma between two. A unit has the keyword of its kind, which where
-/// `UNIT` is written is the asked one. Profile.
+/// quotes; a number in its plain spelling; a node; or, for a set, the members that have no same one in the other CRS,
+/// each once, in ascending order of their bytes, a comma between two. A unit has the keyword of its kind; one written
+/// as `UNIT` has that of the asked kind. Profile.
 ///
 /// `AllocError`: there is no memory for it, and `out` is as before.
 pub fn write_content(

@@ -16,7 +16,7 @@ use std::collections::BTreeSet;
 /// copied several times on its way there.
 pub(crate) const MEMBER_ROOM: usize = 128;
 
-// So many members are few: each is compared with all that are there.
+// Up to this many members are few: each is compared with all that are there.
 pub(crate) const FEW: usize = 16;
 
 // The room that the spellings of a few members are given at first.

@@ -23,7 +23,7 @@ fn text_at(bytes: &[u8], span: Span) -> &[u8]
     &bytes[span.start..span.end]
 }
 
-// Behind how many of those in order a text belongs. None: it is one of them.
+// How many of the ordered texts go before a text. None: it is one of them.
 fn place_of(text: &[u8], bytes: &[u8], spans: &[Span]) -> Option<usize>
     requires { AreInOrder bytes.now spans.now }
     ensures { MatchOption result

@@ -108,7 +108,7 @@ fn front_with(raw: &[u8], count: usize, kept: usize) -> &[u8]
 }
 
 // The plain spelling of the number that bytes spell, which have no sign, where it is told at a glance: these bytes, or
-// those of them without the zeros that a fraction ends in.
+// these bytes without the zeros at the end of a fraction.
 fn unsigned_plain(raw: &[u8]) -> Option<&[u8]>
     ensures plain { IfSome result (λ part. IsUnsigned part.now) }
     ensures same { IfSome result (λ part. (number : Number) → Denotes raw.now number → Denotes part.now number) }

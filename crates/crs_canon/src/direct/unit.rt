@@ -32,7 +32,7 @@ fn kind_of(items: &Items<'_>, id: ItemId) -> UnitKind
     }
 }
 
-// After a comma; where this kind is asked, which `UNIT` is of.
+// After a comma, where this kind is asked: `UNIT` counts as that kind.
 pub(crate) fn write_unit(
     out: &mut Vec<u8>,
     asked: UnitKind,

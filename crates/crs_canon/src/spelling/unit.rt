@@ -51,7 +51,7 @@ fn write_from_factor(out: &mut Vec<u8>, unit: &Unit<'_>, level: Level) -> Result
     write_idents(out, &unit.identifiers, level)
 }
 
-// Where this kind is asked, which `UNIT` is of.
+// Where this kind is asked: `UNIT` counts as that kind.
 pub(crate) fn write_unit(
     out: &mut Vec<u8>,
     asked: UnitKind,
