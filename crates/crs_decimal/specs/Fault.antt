@@ -1,4 +1,4 @@
--- Which fault bytes have that are no number in bounds: the form is judged before the bounds.
+-- Which fault bytes have if they are no number in bounds: the form is judged before the bounds.
 use Rattle.std.specs.Prelude.{ℕ, List}
 use Rattle.crs_decimal.specs.declared.fault.NumberFault.{NumberFault}
 use Rattle.crs_decimal.specs.declared.fault.NumberFault.TheVariants.{Malformed, Range}

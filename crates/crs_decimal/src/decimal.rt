@@ -67,8 +67,8 @@ impl Decimal {
     }
 
     // This number, built anew. Where one of two ways leaves its number in registers and the other in memory, the
-    // compiler merges them in memory, and a load from there stalls on store forwarding; of a number that is built
-    // anew it merges the fields.
+    // compiler merges them in memory, and a load from there stalls on store forwarding; if the number is built
+    // anew, it merges the fields instead.
     #[inline(always)]
     pub(crate) fn rebuilt(self) -> Decimal
         ensures { result ≡ self }
