@@ -4,7 +4,7 @@ use crs_text::Fault;
 use crs_value::{Crs, Ellipsoid, Frame, Horizontal, read};
 use std::alloc::Global;
 
-/// The ellipsoid of a CRS; None of a vertical one.
+/// The ellipsoid of a CRS; None for a vertical one.
 pub fn ellipsoid_of<'c, 'a>(crs: &'c Crs<'a>) -> Option<&'c Ellipsoid<'a>> {
     match crs {
         Crs::Geodetic(crs) => ellipsoid_in(&crs.frame),
@@ -24,7 +24,7 @@ fn ellipsoid_in<'c, 'a>(frame: &'c Frame<'a>) -> Option<&'c Ellipsoid<'a>> {
     }
 }
 
-/// The inverse flattening of a text's ellipsoid with all its digits; None of a vertical CRS.
+/// The inverse flattening of a text's ellipsoid with all its digits; None for a vertical CRS.
 pub fn flattening_of(alloc: Global, text: &[u8]) -> Result<Option<String>, Fault> {
     let crs = read(alloc, text)?;
     let Some(ellipsoid) = ellipsoid_of(&crs) else {

@@ -3,8 +3,8 @@
 use crs_text::Fault;
 use std::alloc::{AllocError, Global};
 
-/// What to tell a user: of a refusal its number, name and place, with the text from there on; out of memory, that the
-/// same call may be made again.
+/// What to tell a user: for a refusal, its number, name and place, with the text from there on; out of memory, that
+/// the same call may be made again.
 pub fn told(alloc: Global, text: &[u8], fault: &Fault) -> Result<String, AllocError> {
     match fault.refusal() {
         Some(refusal) => {
