@@ -51,7 +51,7 @@ expected_line text place e =
     node_named e.parent (drop e.place text) ++ codes "at " ++ decimal e.place ++ codes ": found " ++ found_in (drop place text)
     ++ codes ", expected " ++ listed (names_of (filter (may_come e) every_class) e.may_end) ++ 10 ∷ []
 
--- of a refusal of shape the line of the fault of the text's item; of another number nothing
+-- for a refusal of shape the line of the fault of the text's item; for another number nothing
 abbrev pub IsExpectedPart : List ℕ → RefusedAt → List ℕ → Type 0
 IsExpectedPart text refusal part =
     (IsShapeNumber refusal.number × ((item : Item) × SpellsNode text item × ((e : ExpectedParts)

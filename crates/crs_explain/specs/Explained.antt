@@ -32,7 +32,7 @@ pub record AreSentences (sentences : List ℕ) : Type 0 where
   pub are : sentences ≡ open_or_meant ++ meaning ++ hints
 
 -- the explanation of a text's refusal: the head, with the line and column of the place; a piece of
--- the line and a caret; of a refusal of shape what is expected; and sentences, a line each
+-- the line and a caret; for a refusal of shape what is expected; and sentences, a line each
 pub record IsExplained (text : List ℕ) (refusal : RefusedAt) (told : List ℕ) : Type 0 where
   pub position : Position
   pub is_position : IsPosition text refusal.place position

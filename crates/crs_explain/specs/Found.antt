@@ -12,7 +12,7 @@ is_of_word b = is_ascii_alphanumeric b || b == 95
 abbrev pub word_of : List ℕ → List ℕ
 word_of bytes = take (prefix_len is_of_word bytes) bytes
 
--- a word in capitals; of a longer one the first 40 bytes
+-- a word in capitals; for a longer one the first 40 bytes
 abbrev pub named_by : List ℕ → List ℕ
 named_by word =
     if nat_le (length word) 40 then map to_ascii_uppercase word

@@ -11,7 +11,7 @@ use std::alloc::{AllocError, Global};
 
 /// A line for each part in which two CRSs differ at a level, in the order of the canonical text; none exactly where
 /// they are the same. A line is `PATH: FIRST | SECOND` and a line feed: the values of the first CRS and of the second
-/// as the canonical text writes them, of a set the members that the other CRS lacks, `none` where that is nothing;
+/// as the canonical text writes them, for a set the members that the other CRS lacks, `none` where that is nothing;
 /// control characters, ends of lines, marks of direction and backslashes are escaped, as `\n`, `\x1B`, `\u202E` and
 /// `\\`. Profile.
 ///

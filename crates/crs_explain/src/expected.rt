@@ -126,7 +126,7 @@ fn classes_in(alloc: Global, expected: &Expected) -> Result<Vec<Class>, AllocErr
     classes_among(alloc, expected, classes())
 }
 
-// Those of these classes that may come.
+// The classes among these that may come.
 fn classes_among(
     alloc: Global,
     expected: &Expected,

@@ -67,7 +67,7 @@ fn opens(bytes: &[u8]) -> bool
     matches!(first_byte(bytes), b'[' | b'(')
 }
 
-/// Appends a word in capitals, of a long one its front.
+/// Appends a word in capitals, or the front of a long one.
 pub(crate) fn append_name(alloc: Global, word: &[u8], out: &mut Vec<u8>) -> Result<(), AllocError>
     ensures { OnOk result (out.new.items ≡ out.old.items ++ named_by word.now) }
 {
