@@ -47,7 +47,7 @@ text_of bytes level = record { bytes = bytes; level = level }
 same-parts : (a b : CanonicalText) → a.bytes ≡ b.bytes → a.level ≡ b.level → a ≡ b
 same-parts a b bytes level = ap (λ t. text_of t a.level) bytes ∙ ap (text_of b.bytes) level
 
--- of two lines, by their canonical texts
+-- two lines share a group as their canonical texts say
 under-share : (level : Level) (texts : List CanonicalText) → MainTheorem level → AreApart texts → (p q : PlacedLine)
     → IsUnder level texts p.line.text p.place → IsUnder level texts q.line.text q.place → ShareWhereSame level p q
 under-share level texts main apart p q hp hq m n a b pm qn sa sb =
