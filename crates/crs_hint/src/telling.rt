@@ -42,8 +42,8 @@ fn append_next(
     append_hint(hint, text, place, out)
 }
 
-// What to say of the place beside what is said of the whole. Of a class that isn't read only what is damaged is said:
-// in WKT1 a second text may follow.
+// What to say of the place beside what is said of the whole. For a class that isn't read, only damage is named: in
+// WKT1 a second text may follow.
 fn beside<'a>(whole: Option<Hint<'a>>, there: Option<Hint<'a>>, number: u8) -> Option<Hint<'a>> {
     let Some(whole) = whole else {
         return there;
