@@ -22,7 +22,7 @@ use Rattle.crs_normal.specs.SpelledFrames.{set_members}
 use Rattle.crs_normal.specs.SpelledUnits.{set_idents}
 use Rattle.crs_normal.specs.SpelledUsages.{set_usages}
 
--- of the values for which `Is` holds: they have the same form exactly where they are the same
+-- values for which `Is` holds have the same form exactly where they are the same
 abbrev pub FormDecides : {A B : Type 0} → (A → Type 0) → (A → B) → (A → A → Type 0) → Type 0
 FormDecides Is form Same = (a b : _) → Is a → Is b → (form a ≡ form b) ↔ Same a b
 

@@ -27,7 +27,8 @@ abbrev pub IsFirst : List ℕ → List Keyword → Type 0
 IsFirst keyword [] = ⊥
 IsFirst keyword (first ∷ others) = keyword ≡ spelling_of first
 
--- the keyword is the first of those of this class; of a unit on an axis the one that says its kind
+-- the keyword is the first of those of this class; for a unit on an axis it is the one that says
+-- its kind
 abbrev pub IsFirstKeyword : Class → List ℕ → Type 0
 IsFirstKeyword class.AxisUnit keyword =
     (keyword ≡ codes "LENGTHUNIT") ⊎ (keyword ≡ codes "ANGLEUNIT")

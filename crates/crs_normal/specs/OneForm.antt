@@ -19,7 +19,7 @@ IsItsForm {V = V} level c Reads form =
     Reads c item value →
     without_places item ≡ form value
 
--- the same of an item that breaks no check
+-- the same for an item that breaks no check
 abbrev pub IsItsFormUnbroken : {V : Type 0} → Level → Class → (Class → Item → V → Type 0) →
     (V → Item) → Type 0
 IsItsFormUnbroken {V = V} level c Reads form =

@@ -16,7 +16,7 @@ abbrev pub put_all : {A : Type 0} → (A → List ℕ) → List A → List A →
 put_all bytes sorted [] = sorted
 put_all bytes sorted (x ∷ xs) = put_all bytes (put bytes x sorted) xs
 
--- the members in ascending order of their bytes, of those with equal bytes one
+-- the members in ascending order of their bytes, one of those with equal bytes
 abbrev pub in_order : {A : Type 0} → (A → List ℕ) → List A → List A
 in_order bytes xs = put_all bytes [] xs
 

@@ -23,7 +23,7 @@ module _ {A : Type 0} (spell : A → Item) where
   items-ascend [] h = tt
   items-ascend (x ∷ xs) h = (each-map (spell x) xs h.0, items-ascend xs h.1)
 
--- each member of a set of normal values is so, as an item
+-- each member of a set of normal values is normal, as an item
 pub set-each : {V A : Type 0} (norm : V → A) (spell : A → Item) (P : V → Type 0) (Q : Item → Type 0) (xs : List V) →
     Each P xs →
     ((x : V) → P x → Q (spell (norm x))) → Each Q (map spell (in_order (λ a. item_text (spell a)) (map norm xs)))

@@ -1,5 +1,5 @@
--- A node of arguments that are accepted and normal is so itself: what it asks of its arguments is
--- said of them as runs of one class each, with all places left out.
+-- A node of arguments that are accepted and normal is accepted and normal itself: what it asks of
+-- its arguments is said of them as runs of one class each, with all places left out.
 use Rattle.std.proofs.Common.{◌≡◌, ℕ, suc, ◌+◌, ◌≤◌, ◌⊎◌, Bool, true, false, IsTrue, Option, Some, None, List, [], ◌∷◌, ◌++◌, map, length, if◌then◌else◌, inl, inr, refl, sym, ap, subst, ◌∙◌, arith}
 use Rattle.crs_text.specs.Items.{Item, Siblings, End, More, arguments, depth, depths}
 use Rattle.crs_text.specs.Refusal.{RefusedAt}

@@ -103,7 +103,7 @@ module _ {A : Type 0} (bytes : A → List ℕ) where
       ⊎_elim (λ q. ⊎_elim (λ e. inr (inl e)) (λ t. inl t) (has-back x z sorted q)) (λ t. inr (inr t))
       (all-back z (put bytes x sorted) xs h)
 
-  -- of members of this kind, equal bytes are of equal ones
+  -- members of this kind with equal bytes are equal
   abbrev pub Tells : (A → Type 0) → Type 0
   Tells P = (a b : A) → P a → P b → bytes a ≡ bytes b → a ≡ b
 

@@ -22,7 +22,7 @@ use crs_shape::laws::no_fault_is_shape;
 use crs_text::laws::written_items;
 use crs_value::laws::{one_answer, spelled_is_sound};
 
-/// What a text spells is all that is asked of a CRS. Profile.
+/// What a text spells meets all that is asked of a CRS. Profile.
 pub fn spelled_crs_is_sound()
     ensures { (text : List ℕ) (crs : Crs) → Spells text crs → IsCrs crs }
 {
