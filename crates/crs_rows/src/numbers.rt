@@ -31,7 +31,7 @@ pub fn put_parts(out: &mut String, input: &[u8]) -> Result<(), AllocError> {
 }
 
 /// `equal` where two numbers, one a line, are the same by `==` and by `same_number`, in either order; `different` where
-/// they are so by neither.
+/// both calls say so.
 pub fn put_equality(out: &mut String, input: &[u8]) -> Result<(), AllocError> {
     let (first, second) = split_line(input);
     match (Decimal::parse(first), Decimal::parse(second)) {

@@ -50,7 +50,7 @@ pub fn kind_word(kind: Kind) -> &'static str {
     }
 }
 
-/// Of the first axis of a vertical CRS its name, its order and its unit's name, as they are written; `no axis` for
+/// The name, the order and the unit's name of the first axis of a vertical CRS, as they are written; `no axis` for
 /// another CRS.
 pub fn put_axis(out: &mut String, alloc: Global, input: &[u8]) -> Result<(), AllocError> {
     match read(alloc, input) {
