@@ -58,7 +58,7 @@ is_unit_alias u a =
     sameb the_type u.kind a.kind
     && (bytes_eq u.name a.alias && bytes_eq (plain u.factor) (plain a.alias_factor))
 
--- a unit, or it with the name and the factor that are written for an alias
+-- a unit, or the unit with the name and the factor that are written for an alias
 abbrev pub unit_for : UnitParts → Option UnitAliasParts → UnitParts
 unit_for u None = u
 unit_for u (Some a) = record u { name = a.name; factor = a.factor }

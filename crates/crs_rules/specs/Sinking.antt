@@ -21,12 +21,12 @@ sunk_from text n xs = take n xs ++ sunk text (drop n xs)
 abbrev pub IsOrderless : SystemParts → Type 0
 IsOrderless s = Each (λ a. a.order ≡ None) s.axes
 
--- nor of a horizontal part
+-- no axis of a horizontal part has an order
 abbrev pub IsOrderlessAcross : Horizontal → Type 0
 IsOrderlessAcross (horizontal.Geodetic g) = IsOrderless g.system
 IsOrderlessAcross (horizontal.Projected p) = IsOrderless p.system
 
--- nor of a CRS
+-- no axis of a CRS has an order
 abbrev pub IsOrderlessCrs : Crs → Type 0
 IsOrderlessCrs (crs.Geodetic g) = IsOrderless g.system
 IsOrderlessCrs (crs.Projected p) = IsOrderless p.system

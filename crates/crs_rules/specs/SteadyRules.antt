@@ -12,13 +12,13 @@ unit_that_counts a = record { kind = a.kind; name = a.alias; factor = a.alias_fa
 abbrev pub unit_written : UnitAliasParts → UnitParts
 unit_written a = record { kind = a.kind; name = a.name; factor = a.factor; identifiers = [] }
 
--- of two aliases of names: what the one writes is no alias of the other; if both are of one name, both
+-- two aliases of names: what the one writes is no alias of the other; if both are of one name, both
 -- write one name
 pub record NamesAgree (a b : NameAliasParts) : Type 0 where
   pub steady : is_name_alias a.class a.name b ≡ false
   pub clear : is_name_alias a.class a.alias b ≡ true → a.name ≡ b.name
 
--- of two aliases of units: what the one writes is no alias of the other; if both are of one unit, both
+-- two aliases of units: what the one writes is no alias of the other; if both are of one unit, both
 -- write one name and one factor
 pub record UnitsAgree (a b : UnitAliasParts) : Type 0 where
   pub steady : is_unit_alias (unit_written a) b ≡ false

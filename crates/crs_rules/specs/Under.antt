@@ -11,7 +11,7 @@ use Rattle.crs_canon.specs.Canonical.{IsCanonicalText, IsCanonicalOf}
 use Rattle.crs_rules.specs.Rewritten.{rewritten}
 use Rattle.crs_rules.specs.Rules.{RulesParts, meaning}
 
--- these are the texts of axes: of each its one spelling by itself, with all that it holds
+-- these are the texts of axes: the one spelling of each by itself, with all that it holds
 abbrev pub AreTextsOfAxes : (AxisParts → List ℕ) → Type 0
 AreTextsOfAxes text = (axis : AxisParts) → IsAxis axis → IsSpelledAxis levels.Full axis (text axis)
 

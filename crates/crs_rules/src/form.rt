@@ -21,8 +21,8 @@ use crs_value::{Level, read};
 use std::alloc::{AllocError, Global};
 
 /// The form of a text under rules, at a level: the canonical text of the CRS that the text's canonical text spells,
-/// rewritten by the rules. Of two answers under the same rules and at one level the bytes are equal exactly where the
-/// texts are the same under the rules.
+/// rewritten by the rules. Two answers under the same rules and at one level have equal bytes exactly where the texts
+/// are the same under the rules.
 ///
 /// `Refused`: the text spells no CRS; number and place are those of `crs_value::read`. `Memory`: there is no memory for
 /// it. Profile.

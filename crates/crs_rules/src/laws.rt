@@ -36,7 +36,7 @@ use crs_text::laws::written_items;
 use crs_value::laws::parts::parts_read_once;
 use crs_value::laws::{members_read_once, one_answer};
 
-/// A CRS under rules is all that is asked of a CRS, whatever the texts of axes. Profile.
+/// A CRS under rules meets all that is asked of a CRS, whatever the texts of axes. Profile.
 pub fn rewritten_crs_is_sound()
     ensures { (text : AxisParts → List ℕ) (r : RulesParts) (crs : Crs) → AreRules r → IsCrs crs →
         IsCrs (rewritten text (meaning r) crs) }
