@@ -77,7 +77,7 @@ fn factor_after(items: &Items<'_>, name: ItemId, class: Class) -> Option<Decimal
     }
 }
 
-// What a node of this class says whose first argument is this text.
+// What a node of this class says if its first argument is this text.
 fn named<'a>(items: &Items<'a>, text: ItemId, class: Class) -> Option<Member<'a>>
     requires has { HasId items.now text }
     requires text { kind_of_item (item_at items.now text) ≡ ItemKind.Text }

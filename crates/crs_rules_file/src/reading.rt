@@ -8,7 +8,7 @@ use crate::reader::RulesReader;
 use crs_rules::Rules;
 use std::alloc::Global;
 
-/// The rules that the bytes of a rules file spell; of more files, see [`RulesReader`].
+/// The rules that the bytes of a rules file spell; for more files, see [`RulesReader`].
 ///
 /// `Refused`: the first line that is refused, with its number and place. `Memory`: there is no memory for the rules.
 /// Time is linear in the bytes. Profile.
