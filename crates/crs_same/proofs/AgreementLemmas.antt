@@ -109,7 +109,7 @@ module _ (level : Level) where
 
   -- ---- coordinate systems
 
-  -- of systems of one type
+  -- the axes of two systems of one type
   axis : (at : List Step) (a b : SystemParts) (x y : AxisParts) → a.system_type ≡ b.system_type →
       AllSame (parts_of_axis at level a b x y) ↔ AgreeAxis level a b x y
   unfolding parts_of_axis AgreeAxis

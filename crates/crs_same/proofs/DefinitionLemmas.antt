@@ -75,7 +75,7 @@ member a b s = record { name = s.name; identifiers = (tt, tt) }
 axis_meridian : (a b : AxisMeridianParts) → SameAxisMeridian levels.Full a b → SameAxisMeridian levels.Definition a b
 axis_meridian a b s = record { longitude = s.longitude; unit = unit kinds.Angle kinds.Angle a.unit b.unit s.unit }
 
--- ---- of the parts of two values: where all are the same with everything, all are by definition
+-- ---- the parts of two values: where all are the same with everything, all are by definition
 
 abbrev Narrows : {V : Type 0} → PartsOf V → Type 0
 Narrows {V} parts = (at : List Step) (a b : V) → AllSame (parts at levels.Full a b) → AllSame (parts at levels.Definition a b)

@@ -41,7 +41,7 @@ same-as is r = in-words r (λ a b. (is a b).0) (λ a b. (is a b).1)
 pub agree-as : {A : Type 0} {S R : A → A → Type 0} → ((a b : A) → S a b ↔ R a b) → IsSameness S → IsSameness R
 agree-as is s = in-words s (λ a b. (is a b).1) (λ a b. (is a b).0)
 
--- ---- over the values that are so
+-- ---- over the values that have a property
 
 pub over : {A : Type 0} {P : A → Type 0} {R : A → A → Type 0} → IsSameness (λ (x y : (a : A) × P a). R x.0 y.0) →
     IsSamenessOf P R
@@ -67,7 +67,7 @@ pub agree-as-of : {A : Type 0} {P : A → Type 0} {S R : A → A → Type 0} →
     IsSamenessOf P S → IsSamenessOf P R
 agree-as-of is s = over (agree-as (λ x y. is x.0 y.0 x.1 y.1) (of s))
 
--- ---- of what may be missing
+-- ---- what may be missing
 
 pub optional : {A : Type 0} {R : A → A → Type 0} → IsSameness R → IsSameness (BothOrNeither R)
 optional {A} {R} s = record { reflexive = itself; symmetric = swapped; transitive = joined }
@@ -87,7 +87,7 @@ optional {A} {R} s = record { reflexive = itself; symmetric = swapped; transitiv
     joined (Some a) (Some b) None p q = absurd q
     joined a b c p q = absurd p
 
--- ---- of sets
+-- ---- sets
 
 module _ {A : Type 0} {R : A → A → Type 0} (s : IsSameness R) where
   all-more : (xs ys : List A) (y : A) → AllHaveSame R xs ys → AllHaveSame R xs (y ∷ ys)

@@ -25,7 +25,7 @@ axis-meridian level number angle =
     (λ a b p. record { longitude = p.0; unit = p.1 })
 
 module _ (level : Level) (along : IsSameness (SameAxisMeridian level)) (identifiers : IsSameness (SameIdents level)) where
-  -- of axes with their units
+  -- the sameness of axes with their units
   axis-in : (asked : UnitKind) → IsSameness (SameUnit asked level) →
       IsSameness (λ (x y : AxisParts × Option UnitParts). AgreeAxisIn asked level x.0 y.0 x.1 y.1)
   axis-in asked unit =

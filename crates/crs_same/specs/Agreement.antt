@@ -217,7 +217,7 @@ pub record AgreeCrs (level : Level) (a b : Crs) : Type 0 where
 abbrev pub AgreesWith : {V : Type 0} → (V → Type 0) → (V → V → Type 0) → (V → V → Type 0) → Type 0
 AgreesWith IsValue Same Agree = (a b : _) → IsValue a → IsValue b → Same a b ↔ Agree a b
 
--- so it is of each kind of value
+-- this holds for each kind of value
 pub record AgreeWhereSame (level : Level) : Type 0 where
   pub method : (a b : MethodParts) → AreSame parts_of_method level a b ↔ AgreeMethod level a b
   pub conversion : (a b : ConversionParts) →

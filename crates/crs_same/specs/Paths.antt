@@ -4,7 +4,7 @@ use Rattle.std.specs.List.{join_by}
 use Rattle.crs_same.specs.declared.step.Step.{Step}
 use Rattle.crs_same.specs.declared.step.Step.TheVariants as step
 
--- the text of a step: a word, and of an axis its position
+-- the text of a step: a word, and for an axis its position
 abbrev pub step_text : Step → List ℕ
 step_text step.Kind = codes "kind"
 step_text step.Name = codes "name"

@@ -5,8 +5,8 @@ use Rattle.crs_value.specs.Kept.{kept}
 use Rattle.crs_value.specs.NamedValues.{IdentParts, NamedParts}
 use Rattle.crs_same.specs.Sets.{SameSet}
 
--- two identifiers are the same: their texts are when their characters
--- are, and what may be missing is missing in both or the same in both
+-- two identifiers are the same: two texts are when their characters are, and what may be missing is
+-- missing in both or the same in both
 pub record SameIdent (a b : IdentParts) : Type 0 where
   pub authority : a.authority ≡ b.authority
   pub code : a.code ≡ b.code

@@ -143,7 +143,7 @@ pub enum Content<'b, 'a> {
     Text(Text<'a>),
     /// A number.
     Number(Decimal),
-    /// A unit where a kind is asked, which `UNIT` is of.
+    /// A unit where a kind is asked: `UNIT` counts as that kind.
     Unit(UnitKind, Borrowed<'b, Unit<'a>>),
     /// The metre, the default of a missing unit of length.
     Metre,

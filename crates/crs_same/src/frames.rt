@@ -50,7 +50,7 @@ fn walk_ellipsoid<'b, 'a>(
     found.identifiers(&at, Step::Id, level, &a.identifiers, &b.identifiers)
 }
 
-// Of frames: an ellipsoid in both, or in neither.
+// The ellipsoids of two frames: both have one, or neither.
 fn walk_ellipsoids<'b, 'a>(
     found: Found<'b, 'a>,
     at: Path,

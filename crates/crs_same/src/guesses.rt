@@ -1,5 +1,5 @@
-//! Where the same member may be, by keys. It takes no memory: of a long list so many members at once are in a table
-//! of fixed size. No promise rests on a guess.
+//! Where the same member may be, by keys. It takes no memory: a table of fixed size holds so many members of a long
+//! list at once. No promise rests on a guess.
 
 ghost use Rattle.std.specs.Prelude.{◌<◌};
 

@@ -100,7 +100,7 @@ impl Key {
     }
 }
 
-// Of what has a name and identifiers.
+// The key of a value that has a name and identifiers.
 pub(crate) fn key_of_named(name: &[u8], idents: &[Ident<'_>], level: Level) -> u64 {
     let mut key = Key::new();
     key.put_text(name);

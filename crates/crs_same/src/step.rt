@@ -8,13 +8,13 @@ use std::alloc::AllocError;
 /// One step of a path: a part, and for an axis its position in the system, from 1. Profile.
 #[derive(Clone, Copy, Debug, PartialEq, Eq)]
 pub enum Step {
-    /// What the CRS is; of a datum, whether it is a frame or an ensemble.
+    /// What the CRS is; for a datum, whether it is a frame or an ensemble.
     Kind,
     /// The name.
     Name,
     /// The reference frame or the ensemble.
     Datum,
-    /// The prime meridian; of an axis, the meridian that it goes along.
+    /// The prime meridian; for an axis, the meridian that it goes along.
     Meridian,
     /// The coordinate system.
     System,

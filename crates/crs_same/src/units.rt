@@ -17,7 +17,7 @@ fn same_kind(a: UnitKind, b: UnitKind) -> bool
     a == b
 }
 
-// Where a kind is asked of each, which `UNIT` is of.
+// Whether two units are the same where a kind is asked of each: `UNIT` counts as that kind.
 fn same_unit_asked<'a>(
     asked: (UnitKind, UnitKind),
     a: &Unit<'a>,
@@ -85,7 +85,7 @@ fn is_metre(unit: &Unit<'_>, level: Level) -> bool
         && same_kept_idents(unit.identifiers.as_slice(), &[], level)
 }
 
-// Of lengths: a missing unit is the metre.
+// Whether two units of length are the same: a missing one is the metre.
 pub(crate) fn same_length<'a>(a: &Option<Unit<'a>>, b: &Option<Unit<'a>>, level: Level) -> bool
     ensures { IsTrue result ↔ SameLength level a.now b.now }
 {
