@@ -28,7 +28,7 @@ both-true : (b : Bool) → (b && true) ≡ b
 both-true true = refl
 both-true false = refl
 
--- of all classes those that pass a test are those that pass it
+-- the classes that a test takes from all classes are those that pass it
 pub among-passing : (p : Class → Bool) (c : Class) → list_any (λ d. sameb the_type d c) (filter p every_class) ≡ p c
 among-passing p c =
     any-filter_same (λ d. sameb the_type d c) p (p c) (λ d e. ap p (same_true the_type (search rules) d c e)) every_class

@@ -1,6 +1,6 @@
-/// What an item is in its parent: a number, a text or a word, or a node of one of the kinds below. Where a keyword is
-/// of several that are allowed in one parent, it names the first of them there. ISO 19162:2019; a variant's part of
-/// the standard is beside its keywords and its slots.
+/// What an item is in its parent: a number, a text or a word, or a node of one of the kinds below. Where a keyword
+/// has several kinds that are allowed in one parent, it names the first of them there. ISO 19162:2019; a variant's
+/// part of the standard is beside its keywords and its slots.
 #[derive(Clone, Copy, Debug, PartialEq, Eq)]
 pub enum Class {
     /// A number.

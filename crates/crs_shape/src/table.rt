@@ -56,8 +56,8 @@ pub(crate) fn row(class: Class) -> &'static [Slot]
     rows!(slots_of, class)
 }
 
-/// The class that this keyword names in a parent of this class; None where it names none. Of an item that was read,
-/// `class_in` answers it without a look at the keyword's bytes. Profile.
+/// The class that this keyword names in a parent of this class; None where it names none. For an item that was
+/// read, `class_in` answers it without a look at the keyword's bytes. Profile.
 pub fn class_of(parent: Class, keyword: &[u8]) -> Option<Class>
     ensures { result ≡ class_named parent keyword.now }
 {
