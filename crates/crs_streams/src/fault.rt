@@ -13,7 +13,7 @@ pub enum RunFault {
     /// A line is longer than 1,048,576 bytes, lines being counted from 1; 0 where the input is one text. Profile.
     #[error("{}", TooLongText(*.0))]
     TooLong(u64),
-    /// All reads that a source may make, or a stream, have not shown the end. Profile.
+    /// A source or a stream made all the reads that it may, and none showed the end. Profile.
     #[error("too many reads")]
     TooManyReads,
     /// Memory ran out.
