@@ -64,7 +64,7 @@ fn check_text(
     tally.count(rt, "crs_canon::Canon as a key", is_equal(text, own))
 }
 
-// Of another level, though of equal bytes.
+// The other text has equal bytes and another level.
 fn is_other(text: &Canon, other: Result<Canon, Fault>) -> bool {
     match &other {
         Ok(other) => text.bytes() == other.bytes() && !text.same(other),

@@ -37,7 +37,7 @@ fn check_text(rt: &HostRuntime, tally: &mut Tally, name: &str, text: &[u8]) -> i
     }
 }
 
-// Of each text the nodes that no text before it has.
+// Checks the nodes of a text that no text before it has.
 fn check_crs(rt: &HostRuntime, tally: &mut Tally, name: &str, crs: &Crs<'_>) -> io::Result<()> {
     tally.count(rt, "crs_canon::Canonical for Crs", is_own(rt.alloc(), crs))?;
     match crs {

@@ -113,7 +113,8 @@ fn reads_too_often(alloc: Global) -> bool {
     is_fault(&run, "too many reads", 0) && source.reads() == 1_048_576
 }
 
-/// Whether a run ended with the fault of this name, and of a line that is too long with this number.
+/// Whether a run ended with the fault of this name, and, for a line that is too long, with this
+/// number.
 pub fn is_fault<T>(run: &Result<T, RunFault>, name: &str, number: u64) -> bool {
     match run {
         Ok(_answer) => false,

@@ -37,7 +37,7 @@ fn is_same_as<'a>(alloc: Global, first: &Crs<'a>, second: &'a [u8], level: Level
     }
 }
 
-// Of two CRSs that are the same no part differs.
+// Two CRSs that are the same differ in no part.
 fn has_none(alloc: Global, texts: Texts<'_>) -> bool {
     let first = texts.named("geographic");
     let second = texts.named("greenwich");
@@ -89,7 +89,7 @@ fn is_written(alloc: Global, path: &Path) -> bool {
     written.is_ok() && out.as_slice() == b"meridian/unit".as_slice()
 }
 
-// The word of a step; of an axis without its position.
+// The word of a step; for an axis, without its position.
 fn step_word(step: &Step) -> &'static str {
     match step {
         Step::Kind => "kind",
