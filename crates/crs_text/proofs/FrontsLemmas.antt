@@ -69,7 +69,7 @@ skip_white total (t ∷ ts) bytes at left p q =
     let h : q.0 ≡ at = after_white_one bytes q.0 at q.2 p in
     (q.0, q.1, subst (λ z. IsAfterWhite z q.0) h (at_once q.0 q.2.ends), q.3, q.4)
 
--- of two fronts of one text, one goes on where the other ends
+-- one of two fronts of a text goes on where the other ends
 abbrev pub GoesOn : ℕ → List Token → List ℕ → List Token → List ℕ → Type 0
 GoesOn total us a vs b = (more : List Token) × (vs ≡ us ++ more) × Fronts total a more b
 

@@ -192,7 +192,7 @@ pub passed_next : (text : List ℕ) (at n : ℕ) (before behind : Flat) → IsRe
 passed_next text at n before behind r t =
     (reached_next text at n (prefix_len is_white (drop (at + n) text)) before behind r t refl, t.within)
 
--- so is one that comes right behind it
+-- a token that comes right behind it is passed too
 pub passed_on : (text : List ℕ) (at n : ℕ) (before behind : Flat) → IsPassed text before at → prefix_len is_white (drop at text) ≡ 0 → IsTaken text at before behind n → IsPassed text behind (at + n)
 passed_on text at n before behind p none t =
     let e : at + prefix_len is_white (drop at text) ≡ at = omega (arith, none) in

@@ -130,7 +130,7 @@ fronts_longer total (t ∷ ts) bytes left more further p w = (
   fronts_longer total ts p.1 left more further p.4 w,
 )
 
--- of two fronts of one list the longer one goes on where the other ends
+-- the longer of two fronts of one list goes on where the other ends
 prefix_split : (a b x y : List ℕ) → a ++ x ≡ b ++ y → length a ≤ length b → (c : List ℕ) × (b ≡ a ++ c) × (x ≡ c ++ y)
 prefix_split [] b x y e le = (b, refl, e)
 prefix_split (u ∷ a) [] x y e le = absurd (omega arith)
@@ -262,7 +262,7 @@ settled_longer bytes more n place r =
 
 -- ---- where nothing more is settled
 
--- of two settled fronts of one text, one goes on where the other ends
+-- one of two settled fronts of a text goes on where the other ends
 abbrev pub SettledOn : ℕ → List Token → List ℕ → List Token → List ℕ → Type 0
 SettledOn total us a vs b = (more : List Token) × (vs ≡ us ++ more) × SettledFronts total a more b
 

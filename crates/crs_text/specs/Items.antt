@@ -77,7 +77,7 @@ abbrev pub count : Siblings → ℕ
 count End = 0
 count (More item items) = suc (count items)
 
--- the first of some items; of none a word that no text has
+-- the first of some items; where there is none, a word that no text has
 abbrev pub first_of : Siblings → Item
 first_of End = leaf word 0 []
 first_of (More item items) = item

@@ -81,8 +81,8 @@ IsFormed comma = Unit {0}
 IsFormed (opening square) = Unit {0}
 IsFormed (closing place square) = Unit {0}
 
--- a byte that a token of this kind would take if it came next; of a text the quote, which would be
--- doubled
+-- a byte that a token of this kind would take if it came next; for a text this is the quote, which
+-- would be doubled
 abbrev pub takes_byte : Kind → ℕ → Bool
 takes_byte number = is_run_byte
 takes_byte text = is_quote

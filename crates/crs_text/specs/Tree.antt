@@ -71,12 +71,12 @@ abbrev pub join : Siblings → Siblings → Siblings
 join End later = later
 join (More item items) later = More item (join items later)
 
--- of joined items the first ones, as many as the former are, are the former
+-- the first ones of joined items, as many as the former are, are the former
 only-join : (items later : Siblings) → only (count items) (join items later) ≡ items
 only-join End later = refl
 only-join (More item items) later = ap (λ is. More item is) (only-join items later)
 
--- of joined items those after the first ones, as many as the former are, are the later
+-- the joined items after the first ones, as many as the former are, are the later
 skip-join : (items later : Siblings) → skip (count items) (join items later) ≡ later
 skip-join End later = refl
 skip-join (More item items) later = skip-join items later
@@ -211,7 +211,7 @@ TokenStands source comma = Unit {0}
 TokenStands source (opening square) = Unit {0}
 TokenStands source (closing place square) = Unit {0}
 
--- each of these tokens is so
+-- each of these tokens has the property
 abbrev pub EachToken : (Token → Type 0) → List Token → Type 0
 EachToken P [] = Unit {0}
 EachToken P (t ∷ ts) = P t × EachToken P ts

@@ -129,8 +129,8 @@ const BLOCK: usize = 8;
 
 const HALF_BLOCK: usize = 4;
 
-// The keywords with their bytes, in capitals, by how many these are; of each length the frequent ones go first. The
-// bytes are here alone: a macro makes each table from these rows.
+// The keywords with their bytes, in capitals, by how many these are; within a length the frequent ones go first.
+// The bytes are here alone: a macro makes each table from these rows.
 macro_rules! keywords {
     ($table:ident, $asked:expr) => {
         $table! {

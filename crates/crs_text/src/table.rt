@@ -49,7 +49,7 @@ pub(crate) struct Row {
     pub(crate) kind: ItemKind,
     pub(crate) square: bool,
     pub(crate) keyword: Option<Keyword>,
-    // As wide as it is so that the row has no gap, which would be written too.
+    // This width leaves no gap in the row: a gap would be written too.
     pub(crate) depth: u32,
 }
 
