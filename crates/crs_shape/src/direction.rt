@@ -51,7 +51,7 @@ pub enum Direction {
     Unspecified,
 }
 
-// Those that most texts have go first, since a word is compared with one after another.
+// The most frequent directions go first, since a word is compared with one after another.
 const DIRECTIONS: [Direction; 22] = [
     Direction::North,
     Direction::East,

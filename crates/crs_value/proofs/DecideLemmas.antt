@@ -17,7 +17,7 @@ use Rattle.crs_shape.proofs.WordLemmas.{kind_place}
 abbrev pub Either : Type 0 → Type 0
 Either P = P ⊎ (P → ⊥)
 
--- what isn't not so is so
+-- what isn't false is true
 pub stable : (P : Type 0) → Either P → ((P → ⊥) → ⊥) → P
 stable P (inl h) twice = h
 stable P (inr never) twice = absurd (twice never)
@@ -101,7 +101,7 @@ pub each-either : {V : Type 0} (P : V → Type 0) → ((value : V) → Either (P
 each-either P either [] = inl tt
 each-either P either (value ∷ values) = both-either _ _ (either value) (each-either P either values)
 
--- some kind of unit is so, or none is
+-- some kind of unit has a property, or none has it
 pub some-kind : (P : UnitKind → Type 0) → ((kind : UnitKind) → Either (P kind)) → Either ((kind : UnitKind) × P kind)
 some-kind P either = elim (either kinds.Length) [
   | inl h ↦ inl (kinds.Length, h)

@@ -12,7 +12,7 @@ use Rattle.crs_value.specs.Reading.{those}
 pub bad-without : (c : Class) (item : Item) → those c class.Dynamic (arguments item) ≡ [] → IsLeast (BadDynamic c item) None
 bad-without c item none = λ fault h. let P : List Item → Type 0 = λ xs. AnyOf IsUnsteady xs fault in subst P none h.1
 
--- nor without an ensemble
+-- without an ensemble there is nothing to break either
 pub bad-beside-none : (c : Class) (item : Item) → ¬ (HasEnsemble c item) → IsLeast (BadDynamic c item) None
 bad-beside-none c item none = λ fault h. none h.0
 

@@ -1,4 +1,5 @@
--- Items of their shape whose tokens are well formed: their arguments are so, and their numbers have values.
+-- Items of their shape whose tokens are well formed: the same holds for their arguments, and their numbers
+-- have values.
 use Rattle.std.proofs.Common.{◌≡◌, ℕ, zero, suc, drop, Bool, true, false, if◌then◌else◌, inr, List, [], ◌∷◌, ◌++◌}
 use Rattle.crs_decimal.specs.Bounds.{IsInBounds, Denotes}
 use Rattle.crs_decimal.specs.Value.{Value, IsNormal, exact}

@@ -124,7 +124,7 @@ formed-text (node place keyword square first others close) h = word-text keyword
 
 -- ---- from the arguments of a sound item to what is read from them
 
--- what is read from sound items of this class is so
+-- what is read from sound items of this class has the property
 abbrev pub Tells : {V : Type 0} → Class → (Item → V → Type 0) → (V → Type 0) → Type 0
 Tells {V = V} c R P = (item : Item) (value : V) → IsSound c item → R item value → P value
 

@@ -12,7 +12,7 @@ abbrev pub AnyOf : (Item → RefusedAt → Type 0) → List Item → RefusedAt �
 AnyOf Broken [] fault = ⊥
 AnyOf Broken (item ∷ items) fault = Broken item fault ⊎ AnyOf Broken items fault
 
--- the first of these items is so
+-- the first of these items has the property
 abbrev pub FirstIs : (Item → Type 0) → List Item → Type 0
 FirstIs Is [] = ⊥
 FirstIs Is (item ∷ items) = Is item

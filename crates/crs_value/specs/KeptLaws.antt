@@ -7,7 +7,7 @@ use Rattle.crs_value.specs.Kept.{kept, kept_one}
 use Rattle.crs_value.specs.declared.values.level.Level.{Level}
 use Rattle.crs_value.specs.declared.values.level.Level.TheVariants as levels
 
--- of no members none is kept
+-- where there are no members, none is kept
 pub kept-none : {A : Type 0} (level : Level) → kept {A = A} level [] ≡ []
 kept-none levels.Full = refl
 kept-none levels.Definition = refl

@@ -10,7 +10,7 @@ abbrev pub IsReadOnce : {V : Type 0} → (Class → Item → V → Type 0) → T
 IsReadOnce {V = V} Reads =
     (c : Class) (item : Item) (a b : V) → Reads c item a → Reads c item b → a ≡ b
 
--- what is read from a sound item of this class is so
+-- what is read from a sound item of this class has the property
 abbrev pub IsReadAs : {V : Type 0} → (Class → Item → V → Type 0) → (V → Type 0) → Class → Type 0
 IsReadAs {V = V} Reads Is c =
     (item : Item) (value : V) → IsSound c item → Reads c item value → Is value

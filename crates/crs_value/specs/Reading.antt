@@ -13,7 +13,7 @@ use Rattle.crs_shape.specs.Counts.{is_bounded, least, most}
 use Rattle.crs_shape.specs.ShapeFault.{class_in}
 use Rattle.crs_shape.specs.Slots.{slots_of, is_class}
 
--- each of these values is so
+-- each of these values has the property
 abbrev pub Each : {V : Type 0} → (V → Type 0) → List V → Type 0
 Each P [] = Unit {0}
 Each P (value ∷ values) = P value × Each P values

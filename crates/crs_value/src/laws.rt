@@ -75,8 +75,8 @@ pub fn one_answer()
     crs_shape::laws::slots_count();
 }
 
-/// A value that a well-formed item spells is all that is asked of a CRS: its texts are well formed, its
-/// decimals are in their normal form and within their bounds, its axes and units fit. Profile.
+/// A value that a well-formed item spells meets all that is asked of a CRS: its texts are well formed,
+/// its decimals are in their normal form and within their bounds, its axes and units fit. Profile.
 pub fn spelled_is_sound()
     ensures { (item : Item) (value : Crs) → AreFormed item → SpellsCrs item value → IsCrs value }
 {
@@ -84,7 +84,7 @@ pub fn spelled_is_sound()
     crs_shape::laws::slots_count();
 }
 
-/// Every CRS, also one made by hand, is all that is asked of one. Profile.
+/// Every CRS, also one made by hand, meets all that is asked of one. Profile.
 pub fn crs_is_sound(crs: &Crs<'_>)
     ensures { IsCrs crs.now }
 {

@@ -1,5 +1,5 @@
-//! Laws of the nodes within a CRS: an item is read as one value at most, and a sound one as a value that is all that is
-//! asked of its kind.
+//! Laws of the nodes within a CRS: an item is read as one value at most, and a sound one as a value that meets all that
+//! is asked of its kind.
 ghost use Rattle.crs_shape.specs.declared.class.Class.{Class};
 ghost use Rattle.crs_shape.specs.declared.class.Class.TheVariants as class;
 ghost use Rattle.crs_value.specs.Reads.{IsUnitClass, ReadsAxis, ReadsAxisMeridian, ReadsBox, ReadsDatum};
@@ -43,8 +43,8 @@ pub fn parts_read_once()
     crs_decimal::laws::denotes_one();
 }
 
-/// What is read from a well-formed identifier of the right shape that breaks no check is all that is asked of an
-/// identifier; likewise the other nodes within a CRS. Profile.
+/// What is read from a well-formed identifier of the right shape that breaks no check meets all that is asked of
+/// an identifier; likewise the other nodes within a CRS. Profile.
 pub fn parts_are_sound()
     ensures ident { (c : Class) → IsReadAs ReadsIdent IsIdent c }
     ensures unit { (c : Class) → IsUnitClass c → IsReadAs ReadsUnit IsUnit c }
@@ -72,7 +72,8 @@ pub fn parts_are_sound()
     crs_shape::laws::slots_count();
 }
 
-/// A geodetic, projected, vertical or compound CRS that is read from a sound item is what is asked of one. Profile.
+/// A geodetic, projected, vertical or compound CRS that is read from a sound item meets all that is asked of one.
+/// Profile.
 pub fn kinds_are_sound()
     ensures geodetic { (c : Class) → IsGeodeticClass c → IsReadAs ReadsGeodetic IsGeodetic c }
     ensures projected { IsReadAs ReadsProjected IsProjected class.ProjectedCrs }

@@ -87,7 +87,7 @@ impl Drop for Method<'_> {
 pub struct Parameter<'a> {
     /// The name.
     pub name: &'a [u8],
-    /// The number, in the unit; where none is written, in a unit that isn't said.
+    /// The number, in the unit; if `unit` is None, the unit is unspecified.
     pub value: Decimal,
     /// The unit, a length, an angle or a scale; or one with `UNIT`, which doesn't say its kind.
     pub unit: Option<Unit<'a>>,

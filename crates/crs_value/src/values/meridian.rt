@@ -15,7 +15,7 @@ use std::marker::Model;
 pub struct Meridian<'a> {
     /// The name.
     pub name: &'a [u8],
-    /// The longitude from Greenwich, in the unit; where none is written, in a unit that isn't said.
+    /// The longitude from Greenwich, in the unit; if `unit` is None, the unit is unspecified.
     pub longitude: Decimal,
     /// The unit of the longitude, an angle.
     pub unit: Option<Unit<'a>>,
