@@ -128,7 +128,7 @@ uint32_t crsdesk_first_part(const char *first, size_t first_length, const char *
 
        datum/ellipsoid/flattening: 298.257223563 | 298.257222101
 
-   A missing value is written `none`; of a set each side has the members that the other lacks. Values are spelled as in the
+   A missing value is written `none`; for a set each side has the members that the other lacks. Values are spelled as in the
    canonical text; control characters, ends of lines, marks of direction and backslashes in quoted texts are escaped, as
    `\n`, `\x1B`, `\u202E` and `\\`. No lines exactly where the CRSs are the same.
 
@@ -143,7 +143,7 @@ uint32_t crsdesk_differences(const char *first, size_t first_length, const char 
 /* Why a text spells no CRS, explained to a person in some lines, each with a line feed: `refused N NAME at P, line L,
    column C`; the piece of that line, and a caret under the place; for a refusal of shape `in NODE at P: found .., expected
    ..`, with all that could come there; for a refusal of the text which delimiter is open; what the number means; and a
-   hint where the text shows what it is. Of a keyword at most 40 bytes are shown (proved). 5,000 bytes are room enough by
+   hint where the text shows what it is. At most 40 bytes of a keyword are shown (proved). 5,000 bytes are room enough by
    the lengths of these lines, which are counted, not proved: a caller asks for the length with no room, or tries again.
 
    CRSDESK_OK: the buffer begins with the lines, *length is their number of bytes; 0 where the text spells a CRS.
@@ -293,7 +293,7 @@ struct crsdesk_rules_standing {
 /* Makes no rules: everything counts. They take no memory. */
 void crsdesk_rules_new(struct crsdesk_rules *rules);
 
-/* Adds the rules of one more file, given by its bytes. Of several files the statements count together. The bytes aren't
+/* Adds the rules of one more file, given by its bytes. The statements of several files count together. The bytes aren't
    needed after the call. In what is returned the code is
 
    CRSDESK_OK: they are added.
