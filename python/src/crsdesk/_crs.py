@@ -178,8 +178,8 @@ def each_of(form: Callable[[Text], str], first: Text, second: Text) -> Tuple[str
 def same(first: Text, second: Text, level: Level = "full", rules: Optional[Rules] = None) -> bool:
     """Whether two texts spell the same CRS at a level (docs/SAMENESS.md), or are the same under rules (docs/RULES.md).
 
-    ``Refused`` has in ``which`` the text that spells none; where the first does, the second isn't judged. Of a ``Crs``
-    under rules these are the rules; ``ValueError`` where others are asked for.
+    ``Refused`` has in ``which`` the text that spells none; where the first does, the second isn't judged. A ``Crs``
+    under rules brings its rules; ``ValueError`` where others are asked for.
     """
     number = number_of(level)
     asked = rules_of(rules, first, second)
@@ -346,7 +346,7 @@ class Crs:
 
     @property
     def text(self) -> bytes:
-        """The text that it was read from; of one that PROJ read what that wrote of it, without transformations."""
+        """The text that it was read from; if PROJ read it, what PROJ wrote, without transformations."""
         return self._text
 
     @property
@@ -385,7 +385,7 @@ class Crs:
         return self._kind
 
     def canonical(self, level: Level = "full") -> str:
-        """The canonical text, or the form under its rules, as ``canon`` writes it; of a bound CRS it is inside the text
+        """The canonical text, or the form under its rules, as ``canon`` writes it; for a bound CRS, inside the text
         of a ``BOUNDCRS``. ``ValueError`` for a level that isn't there."""
         if number_of(level) == 0:
             return self._full
@@ -496,7 +496,7 @@ class Catalogue:
     """Texts by the CRS that they spell, at a level: the same CRS, the same group (docs/CATALOGUES.md).
 
     Groups are found by canonical texts, which are equal exactly where the CRSs are the same. A catalogue may be used by
-    several threads. Of a text that spells no CRS it keeps what is needed to say why, and with ``keep_texts`` the text.
+    several threads. For a text that spells no CRS it keeps what is needed to say why, and with ``keep_texts`` the text.
     ``ValueError`` for a level that isn't there. With ``rules`` texts are in one group where they are the same under them
     (docs/RULES.md), and a group's text is their form.
     """

@@ -1,10 +1,10 @@
 """The groups of texts that are in partitions, part by part, for engines that run the parts on many machines.
 
-Of each distinct canonical text of a partition, its *key*, a digest of 128 bits goes to one of several *meetings*, by the
-digest. A meeting finds which keys share a digest, has the canonical texts of these sent, and compares them whole: so no
-answer depends on digests. The first key of a group, by partition and place, is its *leader*, and groups are numbered by
-leaders: each partition says which of its keys lead, a bit a key, and the number of a leader is how many bits are before
-it. What goes between machines is arrays and blocks of bytes, never lists of texts.
+Each distinct canonical text of a partition is a *key*, whose digest of 128 bits goes to one of several *meetings*, by
+the digest. A meeting finds which keys share a digest, has the canonical texts of these sent, and compares them whole:
+so no answer depends on digests. The first key of a group, by partition and place, is its *leader*, and groups are
+numbered by leaders: each partition says which of its keys lead, a bit a key, and the number of a leader is how many
+bits are before it. What goes between machines is arrays and blocks of bytes, never lists of texts.
 """
 
 from __future__ import annotations
@@ -22,7 +22,7 @@ from ._rules import Rules
 # An array of numpy.
 Array = Any
 DIGEST_BYTES = 16
-# Of how many words the bits of leaders are counted together.
+# The bits of leaders are counted in words of so many bits.
 WORD = 64
 
 
@@ -193,7 +193,7 @@ def met(keys: Sequence[Keys]) -> Met:
     begins[1:] = (ordered[1:] != ordered[:-1]).any(axis=1)
     classes = numpy.cumsum(begins) - 1
     leaders = numpy.empty(len(order), dtype="int64")
-    # Of equal digests the order is that of the keys, so the first is the leader.
+    # Keys with equal digests are in their own order, so the first is the leader.
     leaders[order] = order[begins][classes]
     shared = numpy.zeros(len(order), dtype=bool)
     shared[order] = (numpy.bincount(classes) > 1)[classes] if len(order) else False
@@ -270,7 +270,7 @@ class Ranks(NamedTuple):
 
 
 def ranks(spans: Sequence[Sequence[Array]]) -> Ranks:
-    """Of the bits of each partition, in the order of partitions."""
+    """The ranks of the bits of each partition, in the order of partitions."""
     parts = [numpy.pad(bits, (0, -len(bits) % (WORD // 8))) for span in spans for bits in span]
     words = numpy.concatenate([numpy.empty(0, dtype="uint8"), *parts]).view("<u8")
     counts = ones(words)

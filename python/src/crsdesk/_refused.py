@@ -53,7 +53,7 @@ class Refused(ValueError):
                   text in UTF-8
     ``line``      the line of that byte, counted from 1; lines end at line feeds
     ``column``    the character of that line, counted from 1
-    ``expected``  what could come at the place, such as ``("PRIMEM", "CS")``; of a refusal of shape (11 to 13) alone
+    ``expected``  what could come at the place, such as ``("PRIMEM", "CS")``; for a refusal of shape (11 to 13) alone
     ``text``      the text, as bytes; None where it isn't kept, as by a ``Catalogue``
     ``which``     ``"first"`` or ``"second"`` where two texts were handed over, else None
     ``proj``      what is said of PROJ's reading, in a line, where it was asked (``Crs.from_user``), else None

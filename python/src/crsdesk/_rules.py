@@ -51,7 +51,7 @@ class RulesRefused(ValueError):
 
 
 class Rules:
-    """The rules that rules files spell, from the bytes of each; of several their statements count together.
+    """The rules that rules files spell, from the bytes of each; the statements of several count together.
 
     They don't change. Two are equal, and hash alike, where they were read from the same files in the same order.
     Threads may use them at once. ``RulesRefused`` where a file is refused, ``TypeError`` for what is no text.
@@ -128,7 +128,7 @@ class Rules:
 
 
 def file_bytes(text: Union[str, bytes]) -> bytes:
-    """The bytes of a rules file: of a str in UTF-8."""
+    """The bytes of a rules file; a str is encoded in UTF-8."""
     if isinstance(text, str):
         return text.encode()
     if isinstance(text, (bytes, bytearray, memoryview)):

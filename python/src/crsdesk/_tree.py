@@ -19,7 +19,7 @@ class Node:
 
     @property
     def values(self) -> List[str]:
-        """Its own values; of a quoted text what is in the quotes."""
+        """Its own values; a quoted text without its quotes."""
         return [unquoted(it) for it in self.items if isinstance(it, str)]
 
     @property

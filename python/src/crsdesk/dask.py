@@ -69,8 +69,8 @@ def groups(
 ) -> Any:
     """The group or the refusal of each text of a bag or of a dataframe's column, as those of one ``Catalogue``.
 
-    Groups are numbered from 1 by their first texts, in the collection's order. Of a bag the answer is a bag of
-    ``Standing``; of a column it is a dataframe with its index, its partitions, and the columns ``group`` (``Int64``, with
+    Groups are numbered from 1 by their first texts, in the collection's order. For a bag the answer is a bag of
+    ``Standing``; for a column it is a dataframe with its index, its partitions, and the columns ``group`` (``Int64``, with
     NA) and ``refusal`` (a str or None). A blank text, and NA in a column, has neither. Nothing is computed before the
     answer is asked for. ``npartitions`` is in how many partitions keys are compared; where none is given, as many as the
     collection has up to 8, and above 256 partitions one for each 32. With ``rules`` texts are in one group where they are

@@ -16,7 +16,7 @@ from .._tree import nodes_in, number_shown
 class Conversion(NamedTuple):
     """A text that PROJ has read.
 
-    ``text``            in WKT2:2019; of a bound CRS that of its source CRS
+    ``text``            in WKT2:2019; for a bound CRS, that of its source CRS
     ``producer``        the reader's name and version: ``PROJ 9.1.1, EPSG v10.076``
     ``warnings``        why it isn't taken, in PROJ's words where it has any; then there is no text
     ``transformation``  that of a bound CRS in one line, its part of a key; nothing where there is none

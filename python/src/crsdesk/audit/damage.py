@@ -134,7 +134,7 @@ def unknown(crs: Dict[str, Any]) -> List[str]:
 
 
 def members_of(gdal: Any, path: str) -> Iterator[Dict[str, Any]]:
-    """The CRSs that a GeoJSON file has as members; of those of features what could be one."""
+    """The CRSs that a GeoJSON file has as members, and what could be one among the members of features."""
     file = gdal.VSIFOpenL(path, "rb")
     if file is None:
         return

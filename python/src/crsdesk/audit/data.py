@@ -135,7 +135,7 @@ def of_parts(parts: List[Difference]) -> List[Dict[str, Any]]:
 
 
 def of_kinds(parts: List[Difference]) -> List[Dict[str, Any]]:
-    """Parts with what kind of difference each is; of a set of parameters a part a parameter."""
+    """Parts with what kind of difference each is; a set of parameters gives a part for each parameter."""
     return [{**row._asdict(), "kind": row.kind.label} for row in rows_of(parts)]
 
 

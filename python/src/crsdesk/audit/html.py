@@ -51,7 +51,8 @@ MOST_PAIRS = 50
 MOST_AREAS = 1500
 MOST_BARS = 15
 MOST_CHARACTERS = 20_000
-# Of the values that are compared, and of one beside none; and the least width and height of a box that is faint, since it is most of the world.
+# How much is shown of values that are compared, and of one beside none; and the least width and height of a box that
+# is faint, since it is most of the world.
 MOST_OF_VALUE = 2000
 MOST_ALONE = 200
 WORLD = 300, 120

@@ -60,7 +60,7 @@ def kind_of(parts: Sequence[Difference]) -> Kind:
 
 
 def rows_of(parts: Sequence[Difference]) -> List[Row]:
-    """The parts, a row each; of a set of parameters or members a row a member."""
+    """The parts, a row each; a set of parameters or members has a row for each member."""
     by_path = {part.path: part for part in parts}
     rows: List[Row] = []
     for part in parts:
@@ -144,8 +144,8 @@ def by_name(written: Optional[str]) -> Dict[str, Node]:
 
 
 def kind_of_parameters(first: Optional[Node], second: Optional[Node]) -> Kind:
-    """Of two of a name their values count, each in its unit; one that is on one side alone counts unless it does
-    nothing there."""
+    """The values of two parameters of one name count, each in its unit; one that is on one side alone counts unless it
+    does nothing there."""
     sides = [number_and_factor(it) for it in (first, second) if it is not None]
     if len(sides) == 1:
         return Kind.NAMES if sides[0][0] in (0, 1) else Kind.NUMBERS

@@ -17,7 +17,7 @@ from typing import Any, Callable, List, TypeVar
 from .drivers import ALL_DRIVERS
 
 Answer = TypeVar("Answer")
-# Of Linux: what a process no longer shares with others.
+# Flags of Linux: what a process no longer shares with others.
 NEW_USER = 0x10000000
 NEW_NETWORK = 0x40000000
 # No server has the port 0, and no version of curl knows the scheme.

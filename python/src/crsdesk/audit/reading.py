@@ -163,7 +163,7 @@ def read_text(path: str) -> Iterator[Found]:
 
 
 def read_lines(path: str) -> Iterator[Found]:
-    """The lines of a catalogue (docs/CATALOGUES.md); of a line that is too long the rest is passed over."""
+    """The lines of a catalogue (docs/CATALOGUES.md); the rest of a line that is too long is passed over."""
     with opened(path) as file:
         number = 0
         while True:
@@ -246,7 +246,7 @@ def decoded(value: Any) -> str:
 
 
 def layers_of(connection: sqlite3.Connection, kind: Tuple[str, str]) -> Iterator[Found]:
-    """The text of each layer: of a GeoPackage the text in WKT2, where the entry has one. Each entry's texts are fetched
+    """The text of each layer; in a GeoPackage, the text in WKT2 where the entry has one. Each entry's texts are fetched
     once, for all its layers, so that layers come in the order of the entries."""
     layers, entries = kind
     columns = {name.lower() for name in column(connection, f"SELECT name FROM pragma_table_info('{entries}')")}
