@@ -1,10 +1,10 @@
 #!/usr/bin/env python3
-"""A key for a cache of transformers, of each text that PROJ reads.
+"""A key for a cache of transformers, for each text that PROJ reads.
 
     bound_key.py FILE ..
 
 A BOUNDCRS is a CRS with a transformation to another, as PROJ makes it of TOWGS84, +towgs84 and +nadgrids. crsdesk
-doesn't read it. Its key is the canonical text of its source CRS and its transformation; of any other CRS it is the
+doesn't read it. Its key is the canonical text of its source CRS and its transformation; for any other CRS it is the
 canonical text alone. A text that crsdesk doesn't read is kept as pyproj writes it. So texts with equal keys have the same
 CRS and the same transformation; one transformation in two spellings may have two keys. Two lines are printed for each
 file, the parts of its key; the second is empty where there is no transformation.

@@ -4,7 +4,7 @@
     fill_wkt2.py FILE.gpkg
 
 The column is that of the GeoPackage extension for WKT2 (gpkg_crs_wkt), and is made where the file lacks it. An entry
-that has WKT2 keeps it. Of any other PROJ rewrites the WKT1 of the column definition; where that is undefined, PROJ is
+that has WKT2 keeps it. For any other PROJ rewrites the WKT1 of the column definition; where that is undefined, PROJ is
 asked for the entry's organization and code. PROJ repairs a damaged text and warns of it: such an entry stays undefined,
 and so does one that PROJ can't read. A line is printed for each entry: its srs_id, and definition, the code, or
 undefined; what PROJ says of one that stays undefined goes to standard error.

@@ -1,5 +1,5 @@
 /* The lines of crsdesk_differences as JSON: an array of objects {"path", "first", "second"}, in the order of the lines,
-   with null where there is nothing. Of both extensions for SQL. */
+   with null where there is nothing. Both extensions for SQL use this. */
 #ifndef CRSDESK_DIFFERENCES_H
 #define CRSDESK_DIFFERENCES_H
 
@@ -60,7 +60,7 @@ static void put_character(struct json *json, unsigned number)
     }
 }
 
-/* A value, as the line has it. Of its escapes JSON has all but \0 and \xHH, and \uHHHH is the character itself; its
+/* A value, as the line has it. JSON has all of its escapes but \0 and \xHH, and \uHHHH is the character itself; its
    quotes are escaped here. */
 static void put_value(struct json *json, const char *value, size_t length)
 {

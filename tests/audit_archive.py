@@ -5,7 +5,7 @@
 
 The folder gets a thousand files: texts (.wkt, .wkt2, .prj, .qpj), catalogues (.txt), GeoPackages, SpatiaLite databases
 and zip archives, and, where osgeo is there, GeoTIFFs, shapefiles, NetCDF files and FlatGeobufs. What each text spells is
-known as it is made: its CRS, by definition and with everything, or its refusal. Of data that GDAL writes, each format has
+known as it is made: its CRS, by definition and with everything, or its refusal. Each format of data that GDAL writes has
 one CRS of its own. Standard output has the answer as JSON. Equal runs make equal texts.
 """
 from __future__ import annotations

@@ -658,7 +658,7 @@ def a_file_vanishes() -> None:
 
 
 def a_process_ends_in_the_middle() -> None:
-    """Of items that end their process each is lost, and no other."""
+    """Each item that ends its process is lost, and no other."""
     items = [0, 0, signal.SIGKILL, 0, signal.SIGSEGV, signal.SIGSEGV, *(100 * [0]), signal.SIGABRT]
     with collecting.Workers(3) as workers:
         # raise_signal answers None of a signal that is none.

@@ -383,7 +383,7 @@ def make_geopackage(path: pathlib.Path, definition: str, layers: int) -> None:
 
 
 def a_definition_is_fetched_once() -> None:
-    """30,000 layers of one definition: of one that is too long, and of one that is read. Their order is by name."""
+    """30,000 layers of one definition: one that is too long, and one that is read. Their order is by name."""
     layers = 30_000
     for length, wanted in ((3_000_000, "unread"), (1_000_000, "accepted")):
         path = folder() / f"{wanted}.gpkg"

@@ -99,7 +99,7 @@ def shown(driver: Any, selector: str) -> List[Any]:
 
 
 def wait(is_so: Callable[[], object]) -> None:
-    """Waits until something is so, on a machine that may be busy."""
+    """Waits until something holds, on a machine that may be busy."""
     end = time.monotonic() + SECONDS
     while not is_so():
         assert time.monotonic() < end, f"not in {SECONDS} seconds"
@@ -271,7 +271,7 @@ def what_differs_is_marked() -> None:
     with browser() as driver:
         opened(driver, page_of_archive())
         marked = [it.text for it in all_of(driver, "#near-misses mark")]
-        # Of 298.257222101 and 298.25, and of 500000 and 0.
+        # What differs in 298.257222101 and 298.25, and in 500000 and 0.
         assert "7222101" in marked and any(it.startswith("50000") for it in marked), marked
         rows = [it.text for it in all_of(driver, "#near-misses tbody th[scope=row]")]
         assert "conversion/parameters/False easting numbers" in rows, rows

@@ -85,7 +85,7 @@ def imported(text: str) -> Scope:
 
 
 def cited(text: str, scope: Scope) -> Iterator[Name]:
-    """The names of a scope that occur in a text; of an operator all its parts."""
+    """The names of a scope that occur in a text; an operator occurs where all its parts do."""
     words = set(WORD.findall(text))
     for name, meant in scope.items():
         parts = [part for part in name.split("◌") if part]
@@ -140,7 +140,7 @@ class Specs:
                         self.scope.setdefault(constructor, name)
 
     def meant(self, name: str) -> Name:
-        """The definition that a name means: of a constructor its type, of an imported name its source."""
+        """The definition that a name means: a constructor means its type, an imported name its source."""
         return self.scope.get(name, self.whole._replace(name=name))
 
 

@@ -4,7 +4,7 @@
     dask_package.py PROGRAM [LINES]
 
 PROGRAM is that command's. Over a catalogue of LINES lines (200,000), some of them blank or refused, all answers are held
-line for line against it: of bags cut into 1, 7 and 1,000 partitions and of a dataframe's column, at both levels, by a
+line for line against it: bags cut into 1, 7 and 1,000 partitions and a dataframe's column, at both levels, by a
 scheduler and four worker processes, of which one is killed in the middle of a run. Small collections are tried by the
 threads of this process. The blocks of docs/CLUSTER.md are run too. Each case that fails has a line; the last line is
 'N passed, M failed', and the status is 0 where M is 0.

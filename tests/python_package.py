@@ -290,7 +290,7 @@ def rows_of_explain() -> None:
 
 
 def rows_of_explain_of_two() -> None:
-    """Of two texts each row's differences, or the refusal of one, are in Python what the command writes."""
+    """Each row's differences of two texts, or the refusal of one, are in Python what the command writes."""
     for path in HERE.glob("explain_two.rows"):
         for case in run_cases.cases_of(path):
             words = case.words[1:]
@@ -807,7 +807,7 @@ def all_parts() -> None:
 
 
 def all_parts_of_all_pairs() -> None:
-    """Of each pair of the examples and exports the first of all parts is the library's."""
+    """The first of all parts in which a pair of examples or exports differs is the library's."""
     names = [*EXAMPLES.glob("*.wkt"), *(EXAMPLES / "exports").glob("*")]
     texts = [path.read_bytes() for path in sorted(names)]
     texts = [text for text in texts if is_accepted(text)]
@@ -855,8 +855,8 @@ def changed(text: str) -> Iterator[str]:
 
 
 def all_parts_of_changed_texts() -> None:
-    """Of a text with each part, and of each that differs from it in one, or from that in another, the first of all
-    parts is the library's."""
+    """The first of all parts is the library's for a text with each part, for each that differs from it in one, and for
+    each that differs from that in another."""
     seen = set()
     for text in RICH:
         texts = [it.encode() for it in changed(text) if is_accepted(it.encode())]
@@ -1330,7 +1330,7 @@ def transformations_count() -> None:
         assert catalogue.group(1).text == one.canonical(level)
     renamed = Crs.from_user(SHIFTED.replace('"G"', '"K"').replace("598.1", "598.2"))
     assert one.difference(renamed) == "name" and [it.path for it in one.differences(renamed)][-1] == "transformation"
-    # Of a compound CRS the members are bound.
+    # The members of a compound CRS are bound.
     texts = [text for text, (kind, is_bound) in OLD.items() if kind == "compound" and is_bound]
     texts += [text for text, (kind, is_bound) in FOREIGN.items() if kind == "compound" and is_bound]
     paths = []

@@ -97,7 +97,7 @@ def documents() -> Set[str]:
 
 
 def files_below(folder: pathlib.Path) -> Set[str]:
-    """The files below a folder; of the wheel, whose name has the version and the system, its kind."""
+    """The files below a folder; the wheel, whose name has the version and the system, by its kind."""
     found = {str(path.relative_to(folder)) for path in folder.rglob("*") if not path.is_dir() or path.is_symlink()}
     return {"the wheel" if path.endswith(".whl") else path for path in found}
 

@@ -5,7 +5,7 @@
 
 PREFIX has the shared object in lib/, as build_library.py makes it (out/prefix where none is given). Each job alters the
 texts of examples/ and of tests/*.rows for N seconds (60): bytes, tokens, arguments, nodes, keywords and depth
-(mutations.py). Of each text it asks:
+(mutations.py). It asks about each text:
 
 - check answers a kind, or a refusal with one of its numbers at a place within the text; canon at both levels answers
   the same; explain begins with this number, its name, the place and its line, and says nothing of an accepted text;
@@ -14,7 +14,7 @@ texts of examples/ and of tests/*.rows for N seconds (60): bytes, tokens, argume
 - another spelling of an accepted text has the same canonical texts: white space, delimiters, case, synonyms, numbers,
   quotes of codes, order and repeats of sets, order of axes that have their ORDER.
 
-Of two texts: same is symmetric and is the equality of canonical texts, at definition where at full; differences are
+About two texts: same is symmetric and is the equality of canonical texts, at definition where at full; differences are
 none exactly then, begin with first_part, exchange their values with the texts, and at definition are in no id, usage or
 remark; a refusal is that of the first text, else of the second. A catalogue has the groups that canonical texts have.
 

@@ -65,7 +65,7 @@ class Item:
 
 
 def parsed(text: bytes) -> Item:
-    """A node whose parts are the items of a text; of a broken one it makes the best."""
+    """A node whose parts are the items of a text, as far as they go in a broken one."""
     root = Item(0, len(text), b"", True)
     opened = [root]
     for match in TOKEN.finditer(text):

@@ -40,7 +40,7 @@ SHIPPED = [str(ROOT / "rules" / name) for name in ("producers.rules", "any-order
 FIRST = "WKT2_2019"
 LAYOUTS = ("WKT2_2015", "WKT2_2019_SIMPLIFIED", "WKT1_GDAL", "WKT1_ESRI")
 KINDS = ("GEODETIC_CRS", "PROJECTED_CRS", "VERTICAL_CRS", "COMPOUND_CRS")
-# Of a number, how much may differ: the last digits that producers write of a factor.
+# How much a number may differ: the last digits that producers write of a factor.
 DIGITS = 1e-13
 QUOTED = re.compile(r'"(?:[^"]|"")*"')
 NUMBER = re.compile(r"[+-]?\d+(?:\.\d*)?(?:[eE][+-]?\d+)?")
