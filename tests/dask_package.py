@@ -153,7 +153,7 @@ def try_small(counts: Counts) -> None:
 
 
 def try_rules(counts: Counts) -> None:
-    """Groups and forms under rules, of a bag and of a column."""
+    """Groups and forms of a bag and of a column under rules."""
     rules = crsdesk.Rules('SAME[VDATUM["D"],VDATUM["E"]]', "UNCOUNTED[crsName]")
     other, foot = HEIGHT.replace('"H"', '"G"').replace('"D"', '"E"'), HEIGHT.replace('"metre",1', '"foot",0.3048')
     texts = [HEIGHT, other, "", foot, "EPSG:4326", crsdesk.Crs(other)]

@@ -288,7 +288,7 @@ def of_rules(dialect: Dialect) -> Iterator[Statement]:
 
 
 def of_refused_rules(dialect: Dialect) -> Iterator[Statement]:
-    """A refused rules file is an error with line, number and place, of each function, and the next is read."""
+    """For each function a refused rules file is an error with line, number and place, and the next is read."""
     for rules, wanted in (
         ('EQUAL[DATUM["a"],DATUM["b"]]', "line 1: refused 41 at 0: neither SAME nor UNCOUNTED"),
         ("# a\n\n UNCOUNTED[anchor,colour]", "line 3: refused 42 at 18: no node or word that may stand here"),

@@ -21,7 +21,7 @@ typedef uint64_t u64;
 enum { TEXT = 1, NUMBER, WORD, NODE };
 enum { MOST = 64, DEEP = 12 };
 
-/* A token's span (of a text its inside, of a node its keyword), and the item behind it. */
+/* A token's span (a text's inside, a node's keyword), and the item behind it. */
 struct item {
     u32 at, length, next;
     u8 kind, class, plain;

@@ -482,7 +482,7 @@ def is_blank(text: Text) -> bool:
 class Group(NamedTuple):
     """The texts of a catalogue that spell one CRS.
 
-    ``number``  of the group, counted from 1 by the first text of each
+    ``number``  the group's, counted from 1 by the first text of each
     ``text``    the canonical text that each text of the group has
     ``names``   the names under which they were added, in that order
     """
@@ -533,7 +533,7 @@ class Catalogue:
         return canon(text, self._level, self._rules)
 
     def _add_canonical(self, spelling: str, name: object = None) -> Optional[int]:
-        """Adds what ``canon`` wrote of a text at the catalogue's level; nothing, of a blank one."""
+        """Adds what ``canon`` wrote of a text at the catalogue's level; nothing for a blank one."""
         with self._lock:
             named = self._name(name)
             if not spelling:

@@ -18,7 +18,7 @@ class Difference:
     """A part in which two CRSs differ.
 
     ``path``    its steps, such as ``datum/ellipsoid/flattening``; the words are those of docs/SAMENESS.md
-    ``first``   its value in the first CRS as the canonical text writes it, of a set the members that the second CRS's
+    ``first``   its value in the first CRS as the canonical text writes it; for a set the members that the second CRS's
                 lacks, joined by commas; None where the first has nothing there
     ``second``  the same of the second CRS
 

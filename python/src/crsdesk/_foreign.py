@@ -90,7 +90,7 @@ class Foreign(NamedTuple):
     """What PROJ read of a text.
 
     ``form``    the form of the text: ``WKT1``, ``BOUNDCRS``, ``a PROJ string``, ``PROJJSON``, ``a code``
-    ``text``    the CRS in WKT2:2019, of a bound one the source CRS
+    ``text``    the CRS in WKT2:2019; for a bound one the source CRS
     ``bound``   the transformations of what is bound: 0 for the whole or the number of a compound CRS's member, with target
                 and transformation as PROJ writes them
     ``reader``  which PROJ read it, with which registry: ``PROJ 9.1.1, EPSG v10.076``
@@ -169,7 +169,7 @@ def reader() -> Optional[str]:
 
 
 def unbound(written: str) -> Tuple[str, Tuple[Tuple[int, str], ...]]:
-    """A text of PROJ's without its transformations, and these: of the whole, or of members of a compound CRS."""
+    """A text of PROJ's without its transformations, and these: the whole one's, or those of a compound CRS's members."""
     if written.startswith(FRONT):
         source, rest = source_and_rest(written)
         bound: Tuple[Tuple[int, str], ...] = ((0, rest),)

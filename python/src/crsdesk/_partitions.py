@@ -185,7 +185,7 @@ def divided(places: Array, count: int) -> List[Array]:
 
 
 def met(keys: Sequence[Keys]) -> Met:
-    """Who leads by digests, of the keys that each span sent to one meeting."""
+    """Which of the keys that each span sent to one meeting leads, by digests."""
     digests = numpy.concatenate([it.digests for it in keys])
     order = numpy.lexsort((digests[:, 1], digests[:, 0]))
     ordered = digests[order]

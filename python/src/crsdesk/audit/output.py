@@ -31,7 +31,7 @@ class Outputs:
         return self
 
     def make(self, name: str) -> None:
-        """Makes the file that is written at first. OSError, of the name that was asked, where there can't be one."""
+        """Makes the file that is written at first. OSError with the name that was asked where there can't be one."""
         try:
             if is_special(name):
                 self.paths[name] = name
