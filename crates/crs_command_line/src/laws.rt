@@ -76,8 +76,8 @@ pub fn lines_is_one_flag()
     ensures group { (program : Text) → takes desk (program ∷ codes "group" ∷ codes "--lines" ∷ []) ≡ false }
 {}
 
-/// `explain` is asked of standard input, of one text or of two, where no word is a flag; of any two after `--`.
-/// The level is `full` there.
+/// A line asks for `explain` of standard input, of one text or of two, where no word is a flag, and of any two
+/// after `--`. The level is `full` there.
 pub fn explain_takes_two_texts_at_most()
     ensures alone { (program : Text) →
         asked (program ∷ codes "explain" ∷ []) ≡ Some (Explain (codes "full")) }
