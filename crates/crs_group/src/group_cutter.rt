@@ -1,5 +1,5 @@
 //! Cuts bytes into lines piece by piece, and puts each line into a ledger. A line that is whole within a piece is
-//! read in place; of others the bytes are kept until their line feed comes.
+//! read in place; the bytes of others are kept until their line feed comes.
 ghost use Rattle.std.specs.Prelude.{◌≡◌, ◌+◌, ◌^◌, ◌<◌, ◌≤◌, ◌++◌, ◌∷◌, [], ℕ, List, length};
 ghost use Rattle.std.specs.Prelude.{IfErr, IfOk, IsFalse, IsTrue, OnOk};
 ghost use Rattle.crs_group.specs.GroupCutting.{IsCutFault, IsCutTo, IsLedgerFor, IsNextLine};
