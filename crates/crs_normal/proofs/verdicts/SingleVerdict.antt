@@ -118,7 +118,7 @@ abbrev without_zeros : List ℕ → ℕ → Bool → Value
 without_zeros ds n true = zero_value
 without_zeros ds n false = record { negative = false; digits = digits_value (take (length ds - n) ds); power = pos n }
 
--- the value of digits, and of digits with a period among them; of any other bytes some value
+-- the value of digits, and of digits with a period among them; for any other bytes some value
 abbrev value_of : List ℕ → List ℕ → Value
 value_of ds [] = without_zeros ds (zeros ds) (zeros ds == length ds)
 value_of ds (e ∷ es) = record { negative = false; digits = digits_value (ds ++ e ∷ es); power = power_by (length (e ∷ es)) }
