@@ -58,7 +58,7 @@ impl Rules {
         self.uncounted = uncounted;
     }
 
-    /// In nodes of this class the name `alias` counts as `name`, which is written for it. Of two that have one alias the
+    /// In nodes of this class the name `alias` counts as `name`, which is written for it. If two have one alias, the
     /// first holds.
     ///
     /// `AllocError`: there is no memory for it, and the rules are as before.
@@ -82,7 +82,7 @@ impl Rules {
     }
 
     /// In units of this kind the name `alias` with the factor `alias_factor` counts as the name with the factor, which are
-    /// written for it. Of two that have one alias the first holds.
+    /// written for it. If two have one alias, the first holds.
     ///
     /// `AllocError`: there is no memory for it, and the rules are as before.
     pub fn alias_unit(
