@@ -55,7 +55,7 @@ pub record LeadsTo (text : List ℕ) (place : ℕ) (before : List Token) (left :
   pub is_place : place + length left ≡ length text + skip
   pub flaw : (skip ≡ 0) ⊎ IsFlaw NotUtf8 left skip
 
--- of the tokens that lead to the place some are passed, and more of them may come from here
+-- some of the tokens that lead to the place are passed, and more of them may come from here
 pub record IsAhead (text : List ℕ) (at : ℕ) (ts before : List Token) (left : List ℕ) : Type 0 where
   pub more : List Token
   pub parts : before ≡ ts ++ more

@@ -29,12 +29,12 @@ abbrev pub IsOneByte : List ℕ → Type 0
 IsOneByte [] = ⊥
 IsOneByte (b ∷ rest) = StopsAt is_word_byte rest
 
--- a sign of so many bytes comes first, of none where none is written
+-- a sign of so many bytes comes first; it has none where none is written
 abbrev pub IsSigned : List ℕ → ℕ → Type 0
 IsSigned left n =
     (sign : Sign) × (left ≡ sign_text sign ++ drop n left) × (n ≡ length (sign_text sign))
 
--- a fraction of so many bytes comes first, of none where none is written
+-- a fraction of so many bytes comes first; it has none where none is written
 abbrev pub IsFractional : List ℕ → ℕ → Type 0
 IsFractional left n =
     (fraction : Option (List ℕ)) × (left ≡ fraction_text fraction ++ drop n left)

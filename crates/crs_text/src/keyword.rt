@@ -398,8 +398,8 @@ fn suspects() -> &'static [Suspect]
     }
 }
 
-// A number that differs from keyword to keyword, letter case aside, of the word of so many bytes in front: by its first
-// two letters, the fourth from its end, and its length.
+// A number for the word of so many bytes in front, letter case aside, which differs from keyword to keyword: it is made
+// of the first two letters, the fourth from the end, and the length.
 #[inline(always)]
 fn fingerprint(left: &[u8], count: usize) -> usize
     requires within { count ≤ 16 }
