@@ -143,8 +143,7 @@ pub(super) fn member_texts_tell_members()
     members_read_once();
 }
 
-/// Texts put in order ascend by their bytes and are the same texts, each once; no other list does and is.
-/// Profile.
+/// Texts put in order ascend by their bytes and are the same texts, each once; this holds of no other list. Profile.
 pub fn texts_are_in_order()
     ensures ascend { (texts : List (List ℕ)) → Ascends (λ text. text) (in_order (λ text. text) texts) }
     ensures members { (texts : List (List ℕ)) (text : List ℕ) →
