@@ -44,6 +44,8 @@ def costly(text: bytes) -> str:
 
 
 def main(names: List[str]) -> int:
+    if len(names) < 2:
+        sys.exit(__doc__)
     cache = Cache(names[0], "definition")
     status = 0
     for name in names[1:]:
