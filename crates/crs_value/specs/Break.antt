@@ -1,5 +1,5 @@
 -- A broken check: its number, and the place of the item that breaks it; and which one is answered.
-use Rattle.std.specs.Prelude.{◌≡◌, ℕ, List, [], ◌∷◌, Option, Some, None, ◌⊎◌, IsFalse}
+use Rattle.std.specs.Prelude.{ℕ, List, [], ◌∷◌, Option, Some, None, ◌⊎◌, IsFalse}
 use Rattle.crs_text.specs.Items.{Item, place_of}
 use Rattle.crs_text.specs.Refusal.{RefusedAt, is_before}
 

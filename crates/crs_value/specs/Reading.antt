@@ -1,7 +1,7 @@
 -- Readings: what is read from an item, or from the arguments of one class;
 -- and what holds of each of some values, or of one.
 use Rattle.std.specs.Prelude.{◌≡◌, ℕ, ◌<◌, ◌≤◌, Bool, IsTrue, List, [], ◌∷◌, Option, Some, None}
-use Rattle.std.specs.Prelude.{◌⊎◌, if◌then◌else◌}
+use Rattle.std.specs.Prelude.{if◌then◌else◌}
 use Rattle.std.specs.List.{list_any}
 use denote.Enum.Bare.{sameb}
 use Rattle.crs_text.specs.Items.{Item, Siblings, End, More, arguments, first_of, rest_of, here}
