@@ -7,18 +7,25 @@ use crs_canon::{Canon, Set, canon, canon_of};
 use crs_text::Fault;
 use crs_value::{Crs, Ident, Level, read};
 use std::alloc::{AllocError, Global};
-use std::io;
 
-pub fn check(rt: &HostRuntime, tally: &mut Tally, texts: Texts<'_>) -> io::Result<()> {
-    tally.count(rt, "crs_canon::canon", refuses(rt.alloc()))?;
-    tally.count(rt, "crs_canon::canon_of", writes_value(rt.alloc(), texts))?;
-    match canon(rt.alloc(), texts.named("height"), Level::Full) {
-        Ok(text) => check_text(rt, tally, texts, &text)?,
-        Err(_fault) => tally.count(rt, "crs_canon::Canon", false)?,
+pub fn check(alloc: Global, tally: &mut Tally<'_>, texts: Texts<'_>) {
+    tally.count("crs_canon::canon", refuses(alloc));
+    tally.count("crs_canon::canon_of", writes_value(alloc, texts));
+    check_canon(alloc, tally, texts);
+    check_codes(alloc, tally, texts);
+}
+
+fn check_canon(alloc: Global, tally: &mut Tally<'_>, texts: Texts<'_>) {
+    match canon(alloc, texts.named("height"), Level::Full) {
+        Ok(text) => check_text(alloc, tally, texts, &text),
+        Err(_fault) => tally.count("crs_canon::Canon", false),
     }
-    match read(rt.alloc(), texts.named("codes")) {
-        Ok(crs) => check_set(rt, tally, texts, identifiers_of(&crs)),
-        Err(_fault) => tally.count(rt, "crs_canon::Set", false),
+}
+
+fn check_codes(alloc: Global, tally: &mut Tally<'_>, texts: Texts<'_>) {
+    match read(alloc, texts.named("codes")) {
+        Ok(crs) => check_set(alloc, tally, texts, identifiers_of(&crs)),
+        Err(_fault) => tally.count("crs_canon::Set", false),
     }
 }
 
@@ -45,23 +52,17 @@ fn is_text_of(alloc: Global, crs: &Crs<'_>, expected: &[u8]) -> bool {
     }
 }
 
-fn check_text(
-    rt: &HostRuntime,
-    tally: &mut Tally,
-    texts: Texts<'_>,
-    text: &Canon,
-) -> io::Result<()> {
+fn check_text(alloc: Global, tally: &mut Tally<'_>, texts: Texts<'_>, text: &Canon) {
     let bytes: &[u8] = text.bytes();
     tally.count(
-        rt,
         "crs_canon::Canon::bytes",
         bytes == texts.named("height_canonical"),
-    )?;
-    tally.count(rt, "crs_canon::Canon::level", text.level() == Level::Full)?;
-    let definition = canon(rt.alloc(), texts.named("height"), Level::Definition);
-    tally.count(rt, "crs_canon::Canon::same", is_other(text, definition))?;
-    let own = canon(rt.alloc(), texts.named("height_canonical"), Level::Full);
-    tally.count(rt, "crs_canon::Canon as a key", is_equal(text, own))
+    );
+    tally.count("crs_canon::Canon::level", text.level() == Level::Full);
+    let definition = canon(alloc, texts.named("height"), Level::Definition);
+    tally.count("crs_canon::Canon::same", is_other(text, definition));
+    let own = canon(alloc, texts.named("height_canonical"), Level::Full);
+    tally.count("crs_canon::Canon as a key", is_equal(text, own));
 }
 
 // The other text has equal bytes and another level.
@@ -88,15 +89,10 @@ fn identifiers_of<'c, 'a>(crs: &'c Crs<'a>) -> &'c [Ident<'a>] {
     }
 }
 
-fn check_set(
-    rt: &HostRuntime,
-    tally: &mut Tally,
-    texts: Texts<'_>,
-    members: &[Ident<'_>],
-) -> io::Result<()> {
-    tally.count(rt, "crs_canon::Set::same", set_is_same(members))?;
-    let agrees = set_is_written(rt.alloc(), members, texts.named("set_of_codes"));
-    tally.count(rt, "crs_canon::Set::write", agrees)
+fn check_set(alloc: Global, tally: &mut Tally<'_>, texts: Texts<'_>, members: &[Ident<'_>]) {
+    tally.count("crs_canon::Set::same", set_is_same(members));
+    let agrees = set_is_written(alloc, members, texts.named("set_of_codes"));
+    tally.count("crs_canon::Set::write", agrees);
 }
 
 fn set_is_same(members: &[Ident<'_>]) -> bool {

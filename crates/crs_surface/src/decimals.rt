@@ -3,18 +3,17 @@ use crate::bounds::{are_equal, copied};
 use crate::tally::Tally;
 use crs_decimal::{Decimal, NumberFault};
 use std::alloc::{AllocError, Global};
-use std::io;
 
-pub fn check(rt: &HostRuntime, tally: &mut Tally) -> io::Result<()> {
-    tally.count(rt, "crs_decimal::Decimal", is_value())?;
-    tally.count(rt, "crs_decimal::Decimal::parse", is_parsed())?;
-    tally.count(rt, "crs_decimal::NumberFault", is_fault_told())?;
-    tally.count(rt, "crs_decimal::Decimal::is_negative", has_sign())?;
-    tally.count(rt, "crs_decimal::Decimal::is_zero", is_zero_told())?;
-    tally.count(rt, "crs_decimal::Decimal::digits", has_digits())?;
-    tally.count(rt, "crs_decimal::Decimal::power", has_power())?;
-    tally.count(rt, "crs_decimal::Decimal::whole", is_whole_told())?;
-    tally.count(rt, "crs_decimal::Decimal::write", is_written(rt.alloc()))
+pub fn check(alloc: Global, tally: &mut Tally<'_>) {
+    tally.count("crs_decimal::Decimal", is_value());
+    tally.count("crs_decimal::Decimal::parse", is_parsed());
+    tally.count("crs_decimal::NumberFault", is_fault_told());
+    tally.count("crs_decimal::Decimal::is_negative", has_sign());
+    tally.count("crs_decimal::Decimal::is_zero", is_zero_told());
+    tally.count("crs_decimal::Decimal::digits", has_digits());
+    tally.count("crs_decimal::Decimal::power", has_power());
+    tally.count("crs_decimal::Decimal::whole", is_whole_told());
+    tally.count("crs_decimal::Decimal::write", is_written(alloc));
 }
 
 fn number(text: &[u8]) -> Option<Decimal> {

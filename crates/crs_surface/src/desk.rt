@@ -5,17 +5,16 @@ use crs_desk::{LineWord, Request, RequestFault, request, run_canon, run_check, r
 use crs_group::{RunFault, Sink, Source};
 use crs_value::Level;
 use std::alloc::{AllocError, Global};
-use std::io;
 
-pub fn check(rt: &HostRuntime, tally: &mut Tally, texts: Texts<'_>) -> io::Result<()> {
-    tally.count(rt, "crs_desk::run_canon", writes_canon(rt.alloc(), texts))?;
-    tally.count(rt, "crs_desk::run_check", writes_kind(rt.alloc(), texts))?;
-    tally.count(rt, "crs_desk::run_same", writes_part(rt.alloc(), texts))?;
-    tally.count(rt, "crs_desk::request", is_refused(rt.alloc()))?;
-    tally.count(rt, "crs_desk::Request::Canon", asks_canon(rt.alloc()))?;
-    tally.count(rt, "crs_desk::Request::Check", asks_check(rt.alloc()))?;
-    tally.count(rt, "crs_desk::Request::Same", asks_same(rt.alloc()))?;
-    tally.count(rt, "crs_desk::Request::Group", asks_group(rt.alloc()))
+pub fn check(alloc: Global, tally: &mut Tally<'_>, texts: Texts<'_>) {
+    tally.count("crs_desk::run_canon", writes_canon(alloc, texts));
+    tally.count("crs_desk::run_check", writes_kind(alloc, texts));
+    tally.count("crs_desk::run_same", writes_part(alloc, texts));
+    tally.count("crs_desk::request", is_refused(alloc));
+    tally.count("crs_desk::Request::Canon", asks_canon(alloc));
+    tally.count("crs_desk::Request::Check", asks_check(alloc));
+    tally.count("crs_desk::Request::Same", asks_same(alloc));
+    tally.count("crs_desk::Request::Group", asks_group(alloc));
 }
 
 // With a line feed after the text.

@@ -4,13 +4,12 @@ use crate::tally::Tally;
 use crate::texts::Texts;
 use crs_text::{Fault, Feeder, Items};
 use std::alloc::Global;
-use std::io;
 
-pub fn check(rt: &HostRuntime, tally: &mut Tally, texts: Texts<'_>) -> io::Result<()> {
-    tally.count(rt, "crs_text::Feeder::new", is_empty(rt.alloc()))?;
-    tally.count(rt, "crs_text::Feeder::feed", is_settled(rt.alloc()))?;
-    let fed = is_fed(rt.alloc(), texts.named("height"));
-    tally.count(rt, "crs_text::Feeder::finish", fed)
+pub fn check(alloc: Global, tally: &mut Tally<'_>, texts: Texts<'_>) {
+    tally.count("crs_text::Feeder::new", is_empty(alloc));
+    tally.count("crs_text::Feeder::feed", is_settled(alloc));
+    let fed = is_fed(alloc, texts.named("height"));
+    tally.count("crs_text::Feeder::finish", fed);
 }
 
 fn is_empty(alloc: Global) -> bool {

@@ -6,16 +6,15 @@ use crate::texts::Texts;
 use crs_decimal::Decimal;
 use crs_text::{Fault, ItemId, ItemKind, Items, read_items};
 use std::alloc::Global;
-use std::io;
 
-pub fn check(rt: &HostRuntime, tally: &mut Tally, texts: Texts<'_>) -> io::Result<()> {
-    tally.count(rt, "crs_text::read_items", is_incomplete(rt.alloc()))?;
-    match read_items(rt.alloc(), texts.named("height")) {
+pub fn check(alloc: Global, tally: &mut Tally<'_>, texts: Texts<'_>) {
+    tally.count("crs_text::read_items", is_incomplete(alloc));
+    match read_items(alloc, texts.named("height")) {
         Ok(items) => {
-            check_whole(rt, tally, &items)?;
-            check_parts(rt, tally, &items)
+            check_whole(alloc, tally, &items);
+            check_parts(alloc, tally, &items)
         }
-        Err(_fault) => tally.count(rt, "crs_text::Items", false),
+        Err(_fault) => tally.count("crs_text::Items", false),
     }
 }
 
@@ -27,22 +26,22 @@ fn is_incomplete(alloc: Global) -> bool {
     }
 }
 
-fn check_whole(rt: &HostRuntime, tally: &mut Tally, items: &Items<'_>) -> io::Result<()> {
+fn check_whole(alloc: Global, tally: &mut Tally<'_>, items: &Items<'_>) {
     let root = items.root();
-    tally.count(rt, "crs_text::Items::root", has_root(items, rt.alloc()))?;
-    tally.count(rt, "crs_text::Items::contains", contains(items, rt.alloc()))?;
-    tally.count(rt, "crs_text::Items::place", items.place(root) == 0)?;
-    tally.count(rt, "crs_text::Items::close", items.close(root) == Some(73))?;
-    tally.count(rt, "crs_text::Items::size", items.size(root) == 13)?;
-    tally.count(rt, "crs_text::Items::arg_count", items.arg_count(root) == 4)
+    tally.count("crs_text::Items::root", has_root(items, alloc));
+    tally.count("crs_text::Items::contains", contains(items, alloc));
+    tally.count("crs_text::Items::place", items.place(root) == 0);
+    tally.count("crs_text::Items::close", items.close(root) == Some(73));
+    tally.count("crs_text::Items::size", items.size(root) == 13);
+    tally.count("crs_text::Items::arg_count", items.arg_count(root) == 4);
 }
 
-fn check_parts(rt: &HostRuntime, tally: &mut Tally, items: &Items<'_>) -> io::Result<()> {
-    tally.count(rt, "crs_text::Items::arg", has_arguments(items))?;
-    tally.count(rt, "crs_text::Items::next", has_next(items))?;
-    tally.count(rt, "crs_text::ItemKind", has_kinds(items))?;
-    tally.count(rt, "crs_text::Items::raw", has_raw(items))?;
-    tally.count(rt, "crs_text::Items::number", has_number(items))
+fn check_parts(alloc: Global, tally: &mut Tally<'_>, items: &Items<'_>) {
+    tally.count("crs_text::Items::arg", has_arguments(items));
+    tally.count("crs_text::Items::next", has_next(items));
+    tally.count("crs_text::ItemKind", has_kinds(items));
+    tally.count("crs_text::Items::raw", has_raw(items));
+    tally.count("crs_text::Items::number", has_number(items));
 }
 
 fn has_root(items: &Items<'_>, alloc: Global) -> bool {

@@ -21,42 +21,39 @@ mod texts;
 mod values;
 mod written;
 
+use std::alloc::Global;
 use std::{fs, io};
 use tally::Tally;
 use texts::Texts;
 
 fn main(rt: HostRuntime) -> io::Result<()> {
     let lines = fs::read_to_string(&rt, "texts.lines")?;
-    let mut tally = Tally::new();
-    check(&rt, &mut tally, Texts::new(lines.as_str()))?;
-    check_run(&rt, &mut tally)?;
-    tally.print(&rt)
+    let catalogue = fs::read(&rt, "catalogue.lines")?;
+    let answer = fs::read(&rt, "groups.lines")?;
+    let mut tally = Tally::new(&rt);
+    check(rt.alloc(), &mut tally, Texts::new(lines.as_str()));
+    runs::check(rt.alloc(), &mut tally, &catalogue, &answer);
+    tally.print()
 }
 
-fn check(rt: &HostRuntime, tally: &mut Tally, texts: Texts<'_>) -> io::Result<()> {
-    check_reading(rt, tally, texts)?;
-    check_values(rt, tally, texts)?;
-    catalogues::check(rt, tally, texts)?;
-    desk::check(rt, tally, texts)
+fn check(alloc: Global, tally: &mut Tally<'_>, texts: Texts<'_>) {
+    check_reading(alloc, tally, texts);
+    check_values(alloc, tally, texts);
+    catalogues::check(alloc, tally, texts);
+    desk::check(alloc, tally, texts);
 }
 
-fn check_reading(rt: &HostRuntime, tally: &mut Tally, texts: Texts<'_>) -> io::Result<()> {
-    decimals::check(rt, tally)?;
-    refusals::check(rt, tally)?;
-    items::check(rt, tally, texts)?;
-    feeders::check(rt, tally, texts)?;
-    shapes::check(rt, tally, texts)
+fn check_reading(alloc: Global, tally: &mut Tally<'_>, texts: Texts<'_>) {
+    decimals::check(alloc, tally);
+    refusals::check(alloc, tally);
+    items::check(alloc, tally, texts);
+    feeders::check(alloc, tally, texts);
+    shapes::check(alloc, tally, texts);
 }
 
-fn check_values(rt: &HostRuntime, tally: &mut Tally, texts: Texts<'_>) -> io::Result<()> {
-    values::check(rt, tally, texts)?;
-    sameness::check(rt, tally, texts)?;
-    nodes::check(rt, tally, texts)?;
-    canonical::check(rt, tally, texts)
-}
-
-fn check_run(rt: &HostRuntime, tally: &mut Tally) -> io::Result<()> {
-    let catalogue = fs::read(rt, "catalogue.lines")?;
-    let answer = fs::read(rt, "groups.lines")?;
-    runs::check(rt, tally, &catalogue, &answer)
+fn check_values(alloc: Global, tally: &mut Tally<'_>, texts: Texts<'_>) {
+    values::check(alloc, tally, texts);
+    sameness::check(alloc, tally, texts);
+    nodes::check(alloc, tally, texts);
+    canonical::check(alloc, tally, texts);
 }

@@ -11,7 +11,12 @@ use crate::written::Written;
 use crs_canon::Canonical;
 use crs_value::{Crs, Level, read};
 use std::alloc::{AllocError, Global};
-use std::io;
+
+/// A node that has a call of its own to compare it.
+trait Node: Canonical + Written {
+    /// Whether that call says that it is the same as itself.
+    fn is_same(&self) -> bool;
+}
 
 // Canonical texts that have all kinds of node.
 const TEXTS: [&str; 6] = [
@@ -23,29 +28,51 @@ const TEXTS: [&str; 6] = [
     "extent",
 ];
 
-pub fn check(rt: &HostRuntime, tally: &mut Tally, texts: Texts<'_>) -> io::Result<()> {
+pub fn check(alloc: Global, tally: &mut Tally<'_>, texts: Texts<'_>) {
     for name in TEXTS {
-        check_text(rt, tally, name, texts.named(name))?;
+        check_text(alloc, tally, name, texts.named(name));
     }
-    Ok(())
 }
 
-fn check_text(rt: &HostRuntime, tally: &mut Tally, name: &str, text: &[u8]) -> io::Result<()> {
-    match read(rt.alloc(), text) {
-        Ok(crs) => check_crs(rt, tally, name, &crs),
-        Err(_fault) => tally.count(rt, "crs_canon::Canonical", false),
+fn check_text(alloc: Global, tally: &mut Tally<'_>, name: &str, text: &[u8]) {
+    match read(alloc, text) {
+        Ok(crs) => check_crs(alloc, tally, name, &crs),
+        Err(_fault) => tally.count("crs_canon::Canonical", false),
     }
+}
+
+fn check_crs(alloc: Global, tally: &mut Tally<'_>, name: &str, crs: &Crs<'_>) {
+    tally.count("crs_canon::Canonical for Crs", is_own(alloc, crs));
+    walk_crs(tally, name == "polar", crs);
 }
 
 // Checks the nodes of a text that no text before it has.
-fn check_crs(rt: &HostRuntime, tally: &mut Tally, name: &str, crs: &Crs<'_>) -> io::Result<()> {
-    tally.count(rt, "crs_canon::Canonical for Crs", is_own(rt.alloc(), crs))?;
+fn walk_crs(tally: &mut Tally<'_>, is_polar: bool, crs: &Crs<'_>) {
     match crs {
-        Crs::Projected(crs) if name == "polar" => walks::walk_polar(rt, tally, crs),
-        Crs::Projected(crs) => walks::walk_projected(rt, tally, crs),
-        Crs::Geodetic(crs) => walks::walk_geodetic(rt, tally, crs),
-        Crs::Compound(crs) => walks::walk_compound(rt, tally, crs),
-        Crs::Vertical(crs) => walks::walk_vertical(rt, tally, crs),
+        Crs::Projected(crs) if is_polar => walks::walk_polar(tally, crs),
+        Crs::Projected(crs) => walks::walk_projected(tally, crs),
+        Crs::Geodetic(crs) => walks::walk_geodetic(tally, crs),
+        Crs::Compound(crs) => walks::walk_compound(tally, crs),
+        Crs::Vertical(crs) => walks::walk_vertical(tally, crs),
+    }
+}
+
+// Counts the call that compares a node, and what the node's type implements.
+fn check_node<T: Node>(tally: &mut Tally<'_>, call: &str, type_name: &str, node: &T) {
+    tally.count(call, node.is_same());
+    let agrees = is_own(tally.alloc(), node);
+    tally.count(type_name, agrees);
+}
+
+fn check_optional<T: Node>(tally: &mut Tally<'_>, call: &str, type_name: &str, part: &Option<T>) {
+    if let Some(node) = part {
+        check_node(tally, call, type_name, node);
+    }
+}
+
+fn check_first<T: Node>(tally: &mut Tally<'_>, call: &str, type_name: &str, list: &[T]) {
+    if let [node, ..] = list {
+        check_node(tally, call, type_name, node);
     }
 }
 

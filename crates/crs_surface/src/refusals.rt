@@ -3,15 +3,14 @@ use crate::bounds::{copied, is_error};
 use crate::tally::Tally;
 use crs_text::{Fault, Refusal};
 use std::alloc::{AllocError, Global};
-use std::io;
 
-pub fn check(rt: &HostRuntime, tally: &mut Tally) -> io::Result<()> {
-    tally.count(rt, "crs_text::Refusal::new", is_made())?;
-    tally.count(rt, "crs_text::Refusal::number", has_number())?;
-    tally.count(rt, "crs_text::Refusal::place", has_place())?;
-    tally.count(rt, "crs_text::Refusal::name", has_name())?;
-    tally.count(rt, "crs_text::Fault::refusal", is_refusal())?;
-    tally.count(rt, "crs_text::Fault", is_displayed(rt.alloc()))
+pub fn check(alloc: Global, tally: &mut Tally<'_>) {
+    tally.count("crs_text::Refusal::new", is_made());
+    tally.count("crs_text::Refusal::number", has_number());
+    tally.count("crs_text::Refusal::place", has_place());
+    tally.count("crs_text::Refusal::name", has_name());
+    tally.count("crs_text::Fault::refusal", is_refusal());
+    tally.count("crs_text::Fault", is_displayed(alloc));
 }
 
 fn unexpected_end() -> Option<Refusal> {

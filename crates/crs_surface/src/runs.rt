@@ -8,36 +8,21 @@ use std::alloc::Global;
 use std::io;
 
 /// Checks the run of groups over the bytes of a catalogue, which has this answer.
-pub fn check(
-    rt: &HostRuntime,
-    tally: &mut Tally,
-    catalogue: &[u8],
-    answer: &[u8],
-) -> io::Result<()> {
+pub fn check(alloc: Global, tally: &mut Tally<'_>, catalogue: &[u8], answer: &[u8]) {
+    tally.count("crs_group::run_group", is_grouped(alloc, catalogue, answer));
+    tally.count("crs_group::Source", is_source());
+    tally.count("crs_group::Sink", is_sink(alloc));
     tally.count(
-        rt,
-        "crs_group::run_group",
-        is_grouped(rt.alloc(), catalogue, answer),
-    )?;
-    tally.count(rt, "crs_group::Source", is_source())?;
-    tally.count(rt, "crs_group::Sink", is_sink(rt.alloc()))?;
-    tally.count(
-        rt,
         "crs_group::RunFault::ReadFailed",
-        fails_to_read(rt.alloc(), catalogue),
-    )?;
+        fails_to_read(alloc, catalogue),
+    );
     tally.count(
-        rt,
         "crs_group::RunFault::WriteFailed",
-        fails_to_write(rt.alloc(), catalogue),
-    )?;
-    tally.count(rt, "crs_group::RunFault::TooLong", is_too_long(rt.alloc()))?;
-    tally.count(
-        rt,
-        "crs_group::RunFault::TooManyReads",
-        reads_too_often(rt.alloc()),
-    )?;
-    tally.count(rt, "crs_group::RunFault", is_displayed(rt.alloc()))
+        fails_to_write(alloc, catalogue),
+    );
+    tally.count("crs_group::RunFault::TooLong", is_too_long(alloc));
+    tally.count("crs_group::RunFault::TooManyReads", reads_too_often(alloc));
+    tally.count("crs_group::RunFault", is_displayed(alloc));
 }
 
 fn is_grouped(alloc: Global, catalogue: &[u8], answer: &[u8]) -> bool {

@@ -2,16 +2,46 @@
 use crate::tally::Tally;
 use crate::texts::Texts;
 use crs_same::{Path, Step, first_part, same};
+use crs_text::Fault;
 use crs_value::{Crs, Level, read};
 use std::alloc::{AllocError, Global};
-use std::io;
 
-pub fn check(rt: &HostRuntime, tally: &mut Tally, texts: Texts<'_>) -> io::Result<()> {
-    tally.count(rt, "crs_same::same", is_same(rt.alloc(), texts))?;
-    tally.count(rt, "crs_same::first_part", has_none(rt.alloc(), texts))?;
-    match first_difference(rt.alloc(), texts) {
-        Some(path) => check_path(rt, tally, &path),
-        None => tally.count(rt, "crs_same::Path", false),
+pub fn check(alloc: Global, tally: &mut Tally<'_>, texts: Texts<'_>) {
+    tally.count("crs_same::same", is_same(alloc, texts));
+    tally.count("crs_same::first_part", has_none(alloc, texts));
+    match first_difference(alloc, texts) {
+        Some(path) => check_path(alloc, tally, &path),
+        None => tally.count("crs_same::Path", false),
+    }
+}
+
+// The CRSs of two texts.
+struct Pair<'t> {
+    first: Crs<'t>,
+    second: Crs<'t>,
+}
+
+// Hand-written: a derived drop is expanded wherever a value is dropped, which slows the proofs.
+impl Drop for Pair<'_> {
+    fn drop(self) {
+        let Pair {
+            first: _,
+            second: _,
+        } = self;
+    }
+}
+
+fn read_pair<'t>(alloc: Global, first: &'t [u8], second: &'t [u8]) -> Result<Pair<'t>, Fault> {
+    match read(alloc, first) {
+        Ok(first) => with_second(first, read(alloc, second)),
+        Err(fault) => Err(fault),
+    }
+}
+
+fn with_second<'t>(first: Crs<'t>, second: Result<Crs<'t>, Fault>) -> Result<Pair<'t>, Fault> {
+    match second {
+        Ok(second) => Ok(Pair { first, second }),
+        Err(fault) => Err(fault),
     }
 }
 
@@ -23,56 +53,44 @@ fn is_same(alloc: Global, texts: Texts<'_>) -> bool {
         && !are_same(alloc, height, identified, Level::Full)
 }
 
-fn are_same<'a>(alloc: Global, first: &'a [u8], second: &'a [u8], level: Level) -> bool {
-    match read(alloc, first) {
-        Ok(crs) => is_same_as(alloc, &crs, second, level),
+fn are_same<'t>(alloc: Global, first: &'t [u8], second: &'t [u8], level: Level) -> bool {
+    match read_pair(alloc, first, second) {
+        Ok(pair) => is_same_pair(&pair, level),
         Err(_fault) => false,
     }
 }
 
-fn is_same_as<'a>(alloc: Global, first: &Crs<'a>, second: &'a [u8], level: Level) -> bool {
-    match read(alloc, second) {
-        Ok(crs) => same(first, &crs, level),
-        Err(_fault) => false,
-    }
+fn is_same_pair(pair: &Pair<'_>, level: Level) -> bool {
+    same(&pair.first, &pair.second, level)
 }
 
 // Two CRSs that are the same differ in no part.
 fn has_none(alloc: Global, texts: Texts<'_>) -> bool {
     let first = texts.named("geographic");
     let second = texts.named("greenwich");
-    are_same(alloc, first, second, Level::Full)
-        && difference(alloc, first, second, Level::Full).is_none()
+    are_same(alloc, first, second, Level::Full) && difference(alloc, first, second).is_none()
 }
 
 fn first_difference(alloc: Global, texts: Texts<'_>) -> Option<Path> {
     let first = texts.named("paris");
     let second = texts.named("paris_in_grads");
-    difference(alloc, first, second, Level::Full)
+    difference(alloc, first, second)
 }
 
-fn difference<'a>(alloc: Global, first: &'a [u8], second: &'a [u8], level: Level) -> Option<Path> {
-    match read(alloc, first) {
-        Ok(crs) => difference_from(alloc, &crs, second, level),
+fn difference<'t>(alloc: Global, first: &'t [u8], second: &'t [u8]) -> Option<Path> {
+    match read_pair(alloc, first, second) {
+        Ok(pair) => difference_of(&pair),
         Err(_fault) => None,
     }
 }
 
-fn difference_from<'a>(
-    alloc: Global,
-    first: &Crs<'a>,
-    second: &'a [u8],
-    level: Level,
-) -> Option<Path> {
-    match read(alloc, second) {
-        Ok(crs) => first_part(first, &crs, level),
-        Err(_fault) => None,
-    }
+fn difference_of(pair: &Pair<'_>) -> Option<Path> {
+    first_part(&pair.first, &pair.second, Level::Full)
 }
 
-fn check_path(rt: &HostRuntime, tally: &mut Tally, path: &Path) -> io::Result<()> {
-    tally.count(rt, "crs_same::Path::steps", has_steps(path))?;
-    tally.count(rt, "crs_same::Path::write", is_written(rt.alloc(), path))
+fn check_path(alloc: Global, tally: &mut Tally<'_>, path: &Path) {
+    tally.count("crs_same::Path::steps", has_steps(path));
+    tally.count("crs_same::Path::write", is_written(alloc, path));
 }
 
 fn has_steps(path: &Path) -> bool {

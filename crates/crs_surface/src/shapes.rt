@@ -5,18 +5,17 @@ use crate::texts::Texts;
 use crs_shape::{Class, Slot, class_of, fit, fit_root, known, root_class, slots};
 use crs_text::{Items, Refusal, read_items};
 use std::alloc::Global;
-use std::io;
 
-pub fn check(rt: &HostRuntime, tally: &mut Tally, texts: Texts<'_>) -> io::Result<()> {
-    tally.count(rt, "crs_shape::Class", has_classes())?;
-    tally.count(rt, "crs_shape::slots", has_slots())?;
-    tally.count(rt, "crs_shape::Slot", has_slot())?;
-    tally.count(rt, "crs_shape::class_of", has_class())?;
-    tally.count(rt, "crs_shape::root_class", has_root_class())?;
-    tally.count(rt, "crs_shape::known", is_known())?;
+pub fn check(alloc: Global, tally: &mut Tally<'_>, texts: Texts<'_>) {
+    tally.count("crs_shape::Class", has_classes());
+    tally.count("crs_shape::slots", has_slots());
+    tally.count("crs_shape::Slot", has_slot());
+    tally.count("crs_shape::class_of", has_class());
+    tally.count("crs_shape::root_class", has_root_class());
+    tally.count("crs_shape::known", is_known());
     let text = texts.named("height");
-    tally.count(rt, "crs_shape::fit", fits(rt.alloc(), text))?;
-    tally.count(rt, "crs_shape::fit_root", fits_root(rt.alloc(), text))
+    tally.count("crs_shape::fit", fits(alloc, text));
+    tally.count("crs_shape::fit_root", fits_root(alloc, text));
 }
 
 fn has_classes() -> bool {

@@ -2,11 +2,10 @@
 use crate::refusals::is_refused;
 use crate::tally::Tally;
 use crate::texts::Texts;
-use crate::written::Written;
-use crs_text::{Fault, read_items};
+use crate::written::{Text, Written};
+use crs_text::{Fault, Items, read_items};
 use crs_value::{Crs, Direction, Kind, Level, SystemType, read, value_of};
 use std::alloc::Global;
-use std::io;
 
 // Texts that are written as they were read.
 const TEXTS: [&str; 12] = [
@@ -24,26 +23,25 @@ const TEXTS: [&str; 12] = [
     "bare_usage",
 ];
 
-pub fn check(rt: &HostRuntime, tally: &mut Tally, texts: Texts<'_>) -> io::Result<()> {
-    tally.count(rt, "crs_value::read", is_read(rt.alloc()))?;
-    tally.count(rt, "crs_value::value_of", has_value(rt.alloc(), texts))?;
-    tally.count(rt, "crs_value::Kind", has_kinds(rt.alloc(), texts))?;
-    check_words(rt, tally)?;
-    check_texts(rt, tally, texts)
+pub fn check(alloc: Global, tally: &mut Tally<'_>, texts: Texts<'_>) {
+    tally.count("crs_value::read", is_read(alloc));
+    tally.count("crs_value::value_of", has_value(alloc, texts));
+    tally.count("crs_value::Kind", has_kinds(alloc, texts));
+    check_words(tally);
+    check_texts(alloc, tally, texts)
 }
 
-fn check_words(rt: &HostRuntime, tally: &mut Tally) -> io::Result<()> {
-    tally.count(rt, "crs_value::Level", has_levels())?;
-    tally.count(rt, "crs_value::SystemType", has_types())?;
-    tally.count(rt, "crs_value::Direction", has_directions())
+fn check_words(tally: &mut Tally<'_>) {
+    tally.count("crs_value::Level", has_levels());
+    tally.count("crs_value::SystemType", has_types());
+    tally.count("crs_value::Direction", has_directions());
 }
 
-fn check_texts(rt: &HostRuntime, tally: &mut Tally, texts: Texts<'_>) -> io::Result<()> {
+fn check_texts(alloc: Global, tally: &mut Tally<'_>, texts: Texts<'_>) {
     for name in TEXTS {
-        let agrees = is_written(rt.alloc(), texts.named(name));
-        tally.count(rt, name, agrees)?;
+        let agrees = is_written(alloc, texts.named(name));
+        tally.count(name, agrees);
     }
-    Ok(())
 }
 
 fn is_read(alloc: Global) -> bool {
@@ -56,10 +54,14 @@ fn is_read(alloc: Global) -> bool {
 
 fn has_value(alloc: Global, texts: Texts<'_>) -> bool {
     match read_items(alloc, texts.named("height")) {
-        Ok(items) => match value_of(alloc, &items) {
-            Ok(crs) => is_kind(crs.kind(), "vertical"),
-            Err(_fault) => false,
-        },
+        Ok(items) => is_value_vertical(alloc, &items),
+        Err(_fault) => false,
+    }
+}
+
+fn is_value_vertical(alloc: Global, items: &Items<'_>) -> bool {
+    match value_of(alloc, items) {
+        Ok(crs) => is_kind(crs.kind(), "vertical"),
         Err(_fault) => false,
     }
 }
@@ -152,6 +154,7 @@ fn is_written(alloc: Global, text: &[u8]) -> bool {
 
 /// Whether a value is written as this text.
 pub fn is_text_of<T: Written>(alloc: Global, value: &T, text: &[u8]) -> bool {
-    let mut out = Vec::new(alloc);
-    value.put(&mut out).is_ok() && out.get(1..) == Some(text)
+    let mut out = Text::new(alloc);
+    value.put(&mut out);
+    out.is(text)
 }

@@ -1,5 +1,5 @@
 //! Values taken apart, field by field, and written as they stood in a text without white space, with first keywords and
-//! plain numbers: a comma before each, and then the node.
+//! plain numbers.
 mod conversions;
 mod crss;
 mod frames;
@@ -8,85 +8,129 @@ mod tails;
 
 use crs_decimal::Decimal;
 use crs_value::List;
-use std::alloc::AllocError;
+use std::alloc::{AllocError, Global};
 
 /// A value that is taken apart by a pattern of all its fields or variants.
 pub trait Written {
-    /// Appends a comma and the value's text.
-    fn put(&self, out: &mut Vec<u8>) -> Result<(), AllocError>;
+    /// Appends the value's text.
+    fn put(&self, out: &mut Text);
 }
 
-fn put_each<T: Written>(out: &mut Vec<u8>, list: &List<T>) -> Result<(), AllocError> {
-    let members: &[T] = list.as_slice();
-    for member in members {
-        member.put(out)?;
+/// A text that is written part by part, with a comma before each part but the first one of a node.
+#[derive(Drop)]
+pub struct Text {
+    bytes: Vec<u8>,
+    // whether the next part is the first one of its node
+    is_first: bool,
+    // whether there was memory for all of it
+    is_whole: bool,
+}
+
+impl Text {
+    /// A text that has nothing yet.
+    pub fn new(alloc: Global) -> Text {
+        Text {
+            bytes: Vec::new(alloc),
+            is_first: true,
+            is_whole: true,
+        }
     }
-    Ok(())
-}
 
-fn put_optional<T: Written>(out: &mut Vec<u8>, part: &Option<T>) -> Result<(), AllocError> {
-    match part {
-        Some(part) => part.put(out),
-        None => Ok(()),
+    /// Whether it is the text of these bytes.
+    pub fn is(&self, bytes: &[u8]) -> bool {
+        self.is_whole && self.bytes.as_slice() == bytes
     }
-}
 
-// A part that is of its own type, and in no box.
-fn put_part<T: Written>(out: &mut Vec<u8>, part: &T) -> Result<(), AllocError> {
-    part.put(out)
-}
+    fn note(&mut self, appended: Result<(), AllocError>) {
+        if appended.is_err() {
+            self.is_whole = false;
+        }
+    }
 
-// A comma, a keyword, its bracket and a quoted text.
-fn put_named(out: &mut Vec<u8>, keyword: &str, name: &[u8]) -> Result<(), AllocError> {
-    put_keyword(out, keyword)?;
-    put_quoted(out, name)
-}
+    fn append(&mut self, bytes: &[u8]) {
+        let appended = self.bytes.extend_from_slice(bytes);
+        self.note(appended);
+    }
 
-// A comma, a keyword and its bracket.
-fn put_keyword(out: &mut Vec<u8>, keyword: &str) -> Result<(), AllocError> {
-    out.push(b',')?;
-    out.extend_from_slice(keyword.as_bytes())?;
-    out.extend_from_slice(b"[")
-}
+    fn begin_part(&mut self) {
+        if !self.is_first {
+            self.append(b",");
+        }
+        self.is_first = false;
+    }
 
-fn put_end(out: &mut Vec<u8>) -> Result<(), AllocError> {
-    out.extend_from_slice(b"]")
-}
+    // Characters as they are.
+    fn word(&mut self, word: &[u8]) {
+        self.begin_part();
+        self.append(word);
+    }
 
-fn put_quoted(out: &mut Vec<u8>, text: &[u8]) -> Result<(), AllocError> {
-    out.push(b'"')?;
-    out.extend_from_slice(text)?;
-    out.extend_from_slice(b"\"")
-}
+    fn quoted(&mut self, text: &[u8]) {
+        self.word(b"\"");
+        self.append(text);
+        self.append(b"\"");
+    }
 
-// A node that holds a text, where there is one.
-fn put_text(out: &mut Vec<u8>, keyword: &str, text: &Option<&[u8]>) -> Result<(), AllocError> {
-    let Some(text) = text else {
-        return Ok(());
-    };
-    put_named(out, keyword, text)?;
-    put_end(out)
-}
+    fn number(&mut self, number: &Decimal) {
+        self.begin_part();
+        let appended = number.write(&mut self.bytes);
+        self.note(appended);
+    }
 
-fn put_number(out: &mut Vec<u8>, number: &Decimal) -> Result<(), AllocError> {
-    out.push(b',')?;
-    number.write(out)
-}
+    // A node's keyword and its bracket.
+    fn open(&mut self, keyword: &str) {
+        self.word(keyword.as_bytes());
+        self.append(b"[");
+        self.is_first = true;
+    }
 
-// A node that holds a number.
-fn put_numbered(out: &mut Vec<u8>, keyword: &str, number: &Decimal) -> Result<(), AllocError> {
-    put_keyword(out, keyword)?;
-    number.write(out)?;
-    put_end(out)
-}
+    fn close(&mut self) {
+        self.append(b"]");
+        self.is_first = false;
+    }
 
-fn put_optional_number(
-    out: &mut Vec<u8>,
-    keyword: &str,
-    number: &Option<Decimal>,
-) -> Result<(), AllocError> {
-    match number {
-        Some(number) => put_numbered(out, keyword, number),
-        None => Ok(()),
+    // A node's keyword, its bracket and a quoted text.
+    fn named(&mut self, keyword: &str, name: &[u8]) {
+        self.open(keyword);
+        self.quoted(name);
+    }
+
+    // A node that holds a text, where there is one.
+    fn text(&mut self, keyword: &str, text: &Option<&[u8]>) {
+        if let Some(text) = text {
+            self.named(keyword, text);
+            self.close();
+        }
+    }
+
+    // A node that holds a number.
+    fn numbered(&mut self, keyword: &str, number: &Decimal) {
+        self.open(keyword);
+        self.number(number);
+        self.close();
+    }
+
+    fn optional_number(&mut self, keyword: &str, number: &Option<Decimal>) {
+        if let Some(number) = number {
+            self.numbered(keyword, number);
+        }
+    }
+
+    fn each<T: Written>(&mut self, list: &List<T>) {
+        let members: &[T] = list.as_slice();
+        for member in members {
+            member.put(self);
+        }
+    }
+
+    fn optional<T: Written>(&mut self, part: &Option<T>) {
+        if let Some(part) = part {
+            part.put(self);
+        }
+    }
+
+    // A part that is of its own type, and in no box.
+    fn part<T: Written>(&mut self, part: &T) {
+        part.put(self);
     }
 }

@@ -1,150 +1,240 @@
 //! From a CRS to the nodes in it.
-use super::crss::{
-    check_base, check_compound, check_geodetic, check_horizontal, check_projected, check_vertical,
-};
-use super::frames::{
-    check_datum, check_deformation_model, check_dynamic, check_ellipsoid, check_ensemble,
-    check_frame, check_member, check_meridian,
-};
-use super::parts::{
-    check_axis, check_axis_meridian, check_box, check_conversion, check_extent, check_geoid_model,
-    check_ident, check_method, check_parameter, check_unit, check_usage,
-};
+use super::{check_first, check_node, check_optional};
 use crate::tally::Tally;
 use crs_value::{
-    Axis, Base, Compound, Conversion, Datum, Dynamic, Ensemble, Frame, Geodetic, Parameter,
+    Axis, Base, Compound, Conversion, Datum, Dynamic, Ensemble, Frame, Geodetic, Method, Parameter,
     Projected, Usage, Vertical,
 };
-use std::io;
 
-pub fn walk_projected(rt: &HostRuntime, tally: &mut Tally, crs: &Projected<'_>) -> io::Result<()> {
-    check_projected(rt, tally, crs, crs)?;
-    check_base(rt, tally, &crs.base, &crs.base)?;
-    walk_base(rt, tally, &crs.base)?;
-    check_conversion(rt, tally, &crs.conversion, &crs.conversion)?;
-    walk_conversion(rt, tally, &crs.conversion)
+pub fn walk_projected(tally: &mut Tally<'_>, crs: &Projected<'_>) {
+    check_node(
+        tally,
+        "crs_same::parts::same_projected",
+        "crs_canon::Canonical for Projected",
+        crs,
+    );
+    walk_base(tally, &crs.base);
+    walk_conversion(tally, &crs.conversion);
 }
 
-fn walk_base(rt: &HostRuntime, tally: &mut Tally, base: &Base<'_>) -> io::Result<()> {
-    if let Some(meridian) = &base.meridian {
-        check_meridian(rt, tally, meridian, meridian)?;
-    }
-    check_frame(rt, tally, &base.frame, &base.frame)?;
-    match &base.frame {
-        Frame::Datum(datum) => walk_datum(rt, tally, datum),
-        Frame::Ensemble(_) => Ok(()),
-    }
+fn walk_base(tally: &mut Tally<'_>, base: &Base<'_>) {
+    check_node(
+        tally,
+        "crs_same::parts::same_base",
+        "crs_canon::Canonical for Base",
+        base,
+    );
+    check_optional(
+        tally,
+        "crs_same::parts::same_meridian",
+        "crs_canon::Canonical for Meridian",
+        &base.meridian,
+    );
+    walk_frame(tally, &base.frame);
 }
 
-fn walk_datum(rt: &HostRuntime, tally: &mut Tally, datum: &Datum<'_>) -> io::Result<()> {
-    check_datum(rt, tally, datum, datum)?;
-    match &datum.ellipsoid {
-        Some(ellipsoid) => check_ellipsoid(rt, tally, ellipsoid, ellipsoid),
-        None => Ok(()),
-    }
-}
-
-fn walk_conversion(
-    rt: &HostRuntime,
-    tally: &mut Tally,
-    conversion: &Conversion<'_>,
-) -> io::Result<()> {
-    let method = &conversion.method;
-    check_method(rt, tally, method, method)?;
-    if let [ident, ..] = method.identifiers.as_slice() {
-        check_ident(rt, tally, ident, ident)?;
-    }
-    match conversion.parameters.as_slice() {
-        [parameter, ..] => walk_parameter(rt, tally, parameter),
-        [] => Ok(()),
+fn walk_frame(tally: &mut Tally<'_>, frame: &Frame<'_>) {
+    check_node(
+        tally,
+        "crs_same::parts::same_frame",
+        "crs_canon::Canonical for Frame",
+        frame,
+    );
+    match frame {
+        Frame::Datum(datum) => walk_datum(tally, datum),
+        Frame::Ensemble(_) => {}
     }
 }
 
-fn walk_parameter(
-    rt: &HostRuntime,
-    tally: &mut Tally,
-    parameter: &Parameter<'_>,
-) -> io::Result<()> {
-    check_parameter(rt, tally, parameter, parameter)?;
-    match &parameter.unit {
-        Some(unit) => check_unit(rt, tally, unit, unit),
-        None => Ok(()),
+fn walk_datum(tally: &mut Tally<'_>, datum: &Datum<'_>) {
+    check_node(
+        tally,
+        "crs_same::parts::same_datum",
+        "crs_canon::Canonical for Datum",
+        datum,
+    );
+    check_optional(
+        tally,
+        "crs_same::parts::same_ellipsoid",
+        "crs_canon::Canonical for Ellipsoid",
+        &datum.ellipsoid,
+    );
+}
+
+fn walk_conversion(tally: &mut Tally<'_>, conversion: &Conversion<'_>) {
+    check_node(
+        tally,
+        "crs_same::parts::same_conversion",
+        "crs_canon::Canonical for Conversion",
+        conversion,
+    );
+    walk_method(tally, &conversion.method);
+    if let [parameter, ..] = conversion.parameters.as_slice() {
+        walk_parameter(tally, parameter);
     }
 }
 
-pub fn walk_polar(rt: &HostRuntime, tally: &mut Tally, crs: &Projected<'_>) -> io::Result<()> {
-    match crs.system.axes.as_slice() {
-        [axis, ..] => walk_axis(rt, tally, axis),
-        [] => Ok(()),
+fn walk_method(tally: &mut Tally<'_>, method: &Method<'_>) {
+    check_node(
+        tally,
+        "crs_same::parts::same_method",
+        "crs_canon::Canonical for Method",
+        method,
+    );
+    check_first(
+        tally,
+        "crs_same::parts::same_ident",
+        "crs_canon::Canonical for Ident",
+        method.identifiers.as_slice(),
+    );
+}
+
+fn walk_parameter(tally: &mut Tally<'_>, parameter: &Parameter<'_>) {
+    check_node(
+        tally,
+        "crs_same::parts::same_parameter",
+        "crs_canon::Canonical for Parameter",
+        parameter,
+    );
+    check_optional(
+        tally,
+        "crs_same::parts::same_unit",
+        "crs_canon::Canonical for Unit",
+        &parameter.unit,
+    );
+}
+
+pub fn walk_polar(tally: &mut Tally<'_>, crs: &Projected<'_>) {
+    if let [axis, ..] = crs.system.axes.as_slice() {
+        walk_axis(tally, axis);
     }
 }
 
-fn walk_axis(rt: &HostRuntime, tally: &mut Tally, axis: &Axis<'_>) -> io::Result<()> {
-    check_axis(rt, tally, axis, axis)?;
-    match &axis.meridian {
-        Some(meridian) => check_axis_meridian(rt, tally, meridian, meridian),
-        None => Ok(()),
-    }
+fn walk_axis(tally: &mut Tally<'_>, axis: &Axis<'_>) {
+    check_node(
+        tally,
+        "crs_same::parts::same_axis",
+        "crs_canon::Canonical for Axis",
+        axis,
+    );
+    check_optional(
+        tally,
+        "crs_same::parts::same_axis_meridian",
+        "crs_canon::Canonical for AxisMeridian",
+        &axis.meridian,
+    );
 }
 
-pub fn walk_geodetic(rt: &HostRuntime, tally: &mut Tally, crs: &Geodetic<'_>) -> io::Result<()> {
-    check_geodetic(rt, tally, crs, crs)?;
+pub fn walk_geodetic(tally: &mut Tally<'_>, crs: &Geodetic<'_>) {
+    check_node(
+        tally,
+        "crs_same::parts::same_geodetic",
+        "crs_canon::Canonical for Geodetic",
+        crs,
+    );
     if let [usage, ..] = crs.tail.usages.as_slice() {
-        walk_usage(rt, tally, usage)?;
+        walk_usage(tally, usage);
     }
-    match &crs.frame {
-        Frame::Datum(_) => Ok(()),
-        Frame::Ensemble(ensemble) => walk_ensemble(rt, tally, ensemble),
+    walk_frame_of_members(tally, &crs.frame);
+}
+
+fn walk_usage(tally: &mut Tally<'_>, usage: &Usage<'_>) {
+    check_node(
+        tally,
+        "crs_same::parts::same_usage",
+        "crs_canon::Canonical for Usage",
+        usage,
+    );
+    check_optional(
+        tally,
+        "crs_same::parts::same_box",
+        "crs_canon::Canonical for BoundingBox",
+        &usage.bbox,
+    );
+}
+
+fn walk_frame_of_members(tally: &mut Tally<'_>, frame: &Frame<'_>) {
+    match frame {
+        Frame::Datum(_) => {}
+        Frame::Ensemble(ensemble) => walk_ensemble(tally, ensemble),
     }
 }
 
-fn walk_usage(rt: &HostRuntime, tally: &mut Tally, usage: &Usage<'_>) -> io::Result<()> {
-    check_usage(rt, tally, usage, usage)?;
-    match &usage.bbox {
-        Some(bbox) => check_box(rt, tally, bbox, bbox),
-        None => Ok(()),
-    }
+fn walk_ensemble(tally: &mut Tally<'_>, ensemble: &Ensemble<'_>) {
+    check_node(
+        tally,
+        "crs_same::parts::same_ensemble",
+        "crs_canon::Canonical for Ensemble",
+        ensemble,
+    );
+    check_first(
+        tally,
+        "crs_same::parts::same_member",
+        "crs_canon::Canonical for Member",
+        ensemble.members.as_slice(),
+    );
 }
 
-fn walk_ensemble(rt: &HostRuntime, tally: &mut Tally, ensemble: &Ensemble<'_>) -> io::Result<()> {
-    check_ensemble(rt, tally, ensemble, ensemble)?;
-    match ensemble.members.as_slice() {
-        [member, ..] => check_member(rt, tally, member, member),
-        [] => Ok(()),
-    }
+pub fn walk_compound(tally: &mut Tally<'_>, crs: &Compound<'_>) {
+    check_node(
+        tally,
+        "crs_same::parts::same_compound",
+        "crs_canon::Canonical for Compound",
+        crs,
+    );
+    check_node(
+        tally,
+        "crs_same::parts::same_horizontal",
+        "crs_canon::Canonical for Horizontal",
+        &crs.horizontal,
+    );
+    walk_height(tally, &crs.vertical);
 }
 
-pub fn walk_compound(rt: &HostRuntime, tally: &mut Tally, crs: &Compound<'_>) -> io::Result<()> {
-    check_compound(rt, tally, crs, crs)?;
-    check_horizontal(rt, tally, &crs.horizontal, &crs.horizontal)?;
-    check_vertical(rt, tally, &crs.vertical, &crs.vertical)?;
-    match crs.vertical.geoid_models.as_slice() {
-        [model, ..] => check_geoid_model(rt, tally, model, model),
-        [] => Ok(()),
-    }
+fn walk_height(tally: &mut Tally<'_>, crs: &Vertical<'_>) {
+    check_node(
+        tally,
+        "crs_same::parts::same_vertical",
+        "crs_canon::Canonical for Vertical",
+        crs,
+    );
+    check_first(
+        tally,
+        "crs_same::parts::same_geoid_model",
+        "crs_canon::Canonical for GeoidModel",
+        crs.geoid_models.as_slice(),
+    );
 }
 
-pub fn walk_vertical(rt: &HostRuntime, tally: &mut Tally, crs: &Vertical<'_>) -> io::Result<()> {
+pub fn walk_vertical(tally: &mut Tally<'_>, crs: &Vertical<'_>) {
     if let Some(dynamic) = &crs.dynamic {
-        walk_dynamic(rt, tally, dynamic)?;
+        walk_dynamic(tally, dynamic);
     }
-    match crs.tail.usages.as_slice() {
-        [usage, ..] => walk_extent(rt, tally, usage),
-        [] => Ok(()),
-    }
-}
-
-fn walk_dynamic(rt: &HostRuntime, tally: &mut Tally, dynamic: &Dynamic<'_>) -> io::Result<()> {
-    check_dynamic(rt, tally, dynamic, dynamic)?;
-    match &dynamic.model {
-        Some(model) => check_deformation_model(rt, tally, model, model),
-        None => Ok(()),
+    if let [usage, ..] = crs.tail.usages.as_slice() {
+        walk_extent(tally, usage);
     }
 }
 
-fn walk_extent(rt: &HostRuntime, tally: &mut Tally, usage: &Usage<'_>) -> io::Result<()> {
-    match &usage.extent {
-        Some(extent) => check_extent(rt, tally, extent, extent),
-        None => Ok(()),
-    }
+fn walk_dynamic(tally: &mut Tally<'_>, dynamic: &Dynamic<'_>) {
+    check_node(
+        tally,
+        "crs_same::parts::same_dynamic",
+        "crs_canon::Canonical for Dynamic",
+        dynamic,
+    );
+    check_optional(
+        tally,
+        "crs_same::parts::same_deformation_model",
+        "crs_canon::Canonical for DeformationModel",
+        &dynamic.model,
+    );
+}
+
+fn walk_extent(tally: &mut Tally<'_>, usage: &Usage<'_>) {
+    check_optional(
+        tally,
+        "crs_same::parts::same_extent",
+        "crs_canon::Canonical for Extent",
+        &usage.extent,
+    );
 }

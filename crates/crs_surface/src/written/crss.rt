@@ -1,10 +1,9 @@
 //! CRSs.
-use super::{Written, put_each, put_end, put_named, put_optional, put_part};
+use super::{Text, Written};
 use crs_value::{Base, Compound, Crs, Geodetic, Horizontal, Projected, SystemType, Vertical};
-use std::alloc::AllocError;
 
 impl Written for Crs<'_> {
-    fn put(&self, out: &mut Vec<u8>) -> Result<(), AllocError> {
+    fn put(&self, out: &mut Text) {
         match self {
             Crs::Geodetic(crs) => crs.put(out),
             Crs::Projected(crs) => crs.put(out),
@@ -15,7 +14,7 @@ impl Written for Crs<'_> {
 }
 
 impl Written for Geodetic<'_> {
-    fn put(&self, out: &mut Vec<u8>) -> Result<(), AllocError> {
+    fn put(&self, out: &mut Text) {
         let Geodetic {
             name,
             dynamic,
@@ -24,13 +23,13 @@ impl Written for Geodetic<'_> {
             system,
             tail,
         } = self;
-        put_named(out, geodetic_keyword(system.system_type), name)?;
-        put_optional(out, dynamic)?;
-        frame.put(out)?;
-        put_optional(out, meridian)?;
-        system.put(out)?;
-        tail.put(out)?;
-        put_end(out)
+        out.named(geodetic_keyword(system.system_type), name);
+        out.optional(dynamic);
+        frame.put(out);
+        out.optional(meridian);
+        system.put(out);
+        tail.put(out);
+        out.close();
     }
 }
 
@@ -42,7 +41,7 @@ fn geodetic_keyword(system_type: SystemType) -> &'static str {
 }
 
 impl Written for Projected<'_> {
-    fn put(&self, out: &mut Vec<u8>) -> Result<(), AllocError> {
+    fn put(&self, out: &mut Text) {
         let Projected {
             name,
             base,
@@ -50,17 +49,17 @@ impl Written for Projected<'_> {
             system,
             tail,
         } = self;
-        put_named(out, "PROJCRS", name)?;
-        base.put(out)?;
-        conversion.put(out)?;
-        system.put(out)?;
-        tail.put(out)?;
-        put_end(out)
+        out.named("PROJCRS", name);
+        base.put(out);
+        conversion.put(out);
+        system.put(out);
+        tail.put(out);
+        out.close();
     }
 }
 
 impl Written for Base<'_> {
-    fn put(&self, out: &mut Vec<u8>) -> Result<(), AllocError> {
+    fn put(&self, out: &mut Text) {
         let Base {
             name,
             dynamic,
@@ -69,18 +68,18 @@ impl Written for Base<'_> {
             unit,
             identifiers,
         } = self;
-        put_named(out, "BASEGEOGCRS", name)?;
-        put_optional(out, dynamic)?;
-        frame.put(out)?;
-        put_optional(out, meridian)?;
-        put_optional(out, unit)?;
-        put_each(out, identifiers)?;
-        put_end(out)
+        out.named("BASEGEOGCRS", name);
+        out.optional(dynamic);
+        frame.put(out);
+        out.optional(meridian);
+        out.optional(unit);
+        out.each(identifiers);
+        out.close();
     }
 }
 
 impl Written for Vertical<'_> {
-    fn put(&self, out: &mut Vec<u8>) -> Result<(), AllocError> {
+    fn put(&self, out: &mut Text) {
         let Vertical {
             name,
             dynamic,
@@ -89,34 +88,34 @@ impl Written for Vertical<'_> {
             geoid_models,
             tail,
         } = self;
-        put_named(out, "VERTCRS", name)?;
-        put_optional(out, dynamic)?;
-        frame.put(out)?;
-        system.put(out)?;
-        put_each(out, geoid_models)?;
-        tail.put(out)?;
-        put_end(out)
+        out.named("VERTCRS", name);
+        out.optional(dynamic);
+        frame.put(out);
+        system.put(out);
+        out.each(geoid_models);
+        tail.put(out);
+        out.close();
     }
 }
 
 impl Written for Compound<'_> {
-    fn put(&self, out: &mut Vec<u8>) -> Result<(), AllocError> {
+    fn put(&self, out: &mut Text) {
         let Compound {
             name,
             horizontal,
             vertical,
             tail,
         } = self;
-        put_named(out, "COMPOUNDCRS", name)?;
-        put_part(out, horizontal)?;
-        vertical.put(out)?;
-        tail.put(out)?;
-        put_end(out)
+        out.named("COMPOUNDCRS", name);
+        out.part(horizontal);
+        vertical.put(out);
+        tail.put(out);
+        out.close();
     }
 }
 
 impl Written for Horizontal<'_> {
-    fn put(&self, out: &mut Vec<u8>) -> Result<(), AllocError> {
+    fn put(&self, out: &mut Text) {
         match self {
             Horizontal::Geodetic(crs) => crs.put(out),
             Horizontal::Projected(crs) => crs.put(out),

@@ -1,13 +1,9 @@
 //! Frames, ensembles and what they hold.
-use super::{
-    Written, put_each, put_end, put_named, put_number, put_numbered, put_optional,
-    put_optional_number, put_text,
-};
+use super::{Text, Written};
 use crs_value::{Datum, DeformationModel, Dynamic, Ellipsoid, Ensemble, Frame, Member, Meridian};
-use std::alloc::AllocError;
 
 impl Written for Frame<'_> {
-    fn put(&self, out: &mut Vec<u8>) -> Result<(), AllocError> {
+    fn put(&self, out: &mut Text) {
         match self {
             Frame::Datum(datum) => datum.put(out),
             Frame::Ensemble(ensemble) => ensemble.put(out),
@@ -16,7 +12,7 @@ impl Written for Frame<'_> {
 }
 
 impl Written for Datum<'_> {
-    fn put(&self, out: &mut Vec<u8>) -> Result<(), AllocError> {
+    fn put(&self, out: &mut Text) {
         let Datum {
             name,
             ellipsoid,
@@ -24,12 +20,12 @@ impl Written for Datum<'_> {
             anchor_epoch,
             identifiers,
         } = self;
-        put_named(out, datum_keyword(ellipsoid), name)?;
-        put_optional(out, ellipsoid)?;
-        put_text(out, "ANCHOR", anchor)?;
-        put_optional_number(out, "ANCHOREPOCH", anchor_epoch)?;
-        put_each(out, identifiers)?;
-        put_end(out)
+        out.named(datum_keyword(ellipsoid), name);
+        out.optional(ellipsoid);
+        out.text("ANCHOR", anchor);
+        out.optional_number("ANCHOREPOCH", anchor_epoch);
+        out.each(identifiers);
+        out.close();
     }
 }
 
@@ -41,7 +37,7 @@ fn datum_keyword(ellipsoid: &Option<Ellipsoid<'_>>) -> &'static str {
 }
 
 impl Written for Ensemble<'_> {
-    fn put(&self, out: &mut Vec<u8>) -> Result<(), AllocError> {
+    fn put(&self, out: &mut Text) {
         let Ensemble {
             name,
             members,
@@ -49,26 +45,26 @@ impl Written for Ensemble<'_> {
             accuracy,
             identifiers,
         } = self;
-        put_named(out, "ENSEMBLE", name)?;
-        put_each(out, members)?;
-        put_optional(out, ellipsoid)?;
-        put_numbered(out, "ENSEMBLEACCURACY", accuracy)?;
-        put_each(out, identifiers)?;
-        put_end(out)
+        out.named("ENSEMBLE", name);
+        out.each(members);
+        out.optional(ellipsoid);
+        out.numbered("ENSEMBLEACCURACY", accuracy);
+        out.each(identifiers);
+        out.close();
     }
 }
 
 impl Written for Member<'_> {
-    fn put(&self, out: &mut Vec<u8>) -> Result<(), AllocError> {
+    fn put(&self, out: &mut Text) {
         let Member { name, identifiers } = self;
-        put_named(out, "MEMBER", name)?;
-        put_each(out, identifiers)?;
-        put_end(out)
+        out.named("MEMBER", name);
+        out.each(identifiers);
+        out.close();
     }
 }
 
 impl Written for Ellipsoid<'_> {
-    fn put(&self, out: &mut Vec<u8>) -> Result<(), AllocError> {
+    fn put(&self, out: &mut Text) {
         let Ellipsoid {
             name,
             semi_major_axis,
@@ -76,47 +72,46 @@ impl Written for Ellipsoid<'_> {
             unit,
             identifiers,
         } = self;
-        put_named(out, "ELLIPSOID", name)?;
-        put_number(out, semi_major_axis)?;
-        put_number(out, inverse_flattening)?;
-        put_optional(out, unit)?;
-        put_each(out, identifiers)?;
-        put_end(out)
+        out.named("ELLIPSOID", name);
+        out.number(semi_major_axis);
+        out.number(inverse_flattening);
+        out.optional(unit);
+        out.each(identifiers);
+        out.close();
     }
 }
 
 impl Written for Meridian<'_> {
-    fn put(&self, out: &mut Vec<u8>) -> Result<(), AllocError> {
+    fn put(&self, out: &mut Text) {
         let Meridian {
             name,
             longitude,
             unit,
             identifiers,
         } = self;
-        put_named(out, "PRIMEM", name)?;
-        put_number(out, longitude)?;
-        put_optional(out, unit)?;
-        put_each(out, identifiers)?;
-        put_end(out)
+        out.named("PRIMEM", name);
+        out.number(longitude);
+        out.optional(unit);
+        out.each(identifiers);
+        out.close();
     }
 }
 
 impl Written for Dynamic<'_> {
-    fn put(&self, out: &mut Vec<u8>) -> Result<(), AllocError> {
+    fn put(&self, out: &mut Text) {
         let Dynamic { epoch, model } = self;
-        out.extend_from_slice(b",DYNAMIC[FRAMEEPOCH[")?;
-        epoch.write(out)?;
-        put_end(out)?;
-        put_optional(out, model)?;
-        put_end(out)
+        out.open("DYNAMIC");
+        out.numbered("FRAMEEPOCH", epoch);
+        out.optional(model);
+        out.close();
     }
 }
 
 impl Written for DeformationModel<'_> {
-    fn put(&self, out: &mut Vec<u8>) -> Result<(), AllocError> {
+    fn put(&self, out: &mut Text) {
         let DeformationModel { name, identifiers } = self;
-        put_named(out, "MODEL", name)?;
-        put_each(out, identifiers)?;
-        put_end(out)
+        out.named("MODEL", name);
+        out.each(identifiers);
+        out.close();
     }
 }

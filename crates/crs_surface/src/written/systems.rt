@@ -1,13 +1,9 @@
 //! Coordinate systems, their axes, and units.
-use super::{
-    Written, put_each, put_end, put_keyword, put_named, put_number, put_optional,
-    put_optional_number,
-};
+use super::{Text, Written};
 use crs_value::{Axis, AxisMeridian, Direction, System, SystemType, Unit, UnitKind};
-use std::alloc::AllocError;
 
 impl Written for System<'_> {
-    fn put(&self, out: &mut Vec<u8>) -> Result<(), AllocError> {
+    fn put(&self, out: &mut Text) {
         let System {
             system_type,
             dimension,
@@ -15,23 +11,23 @@ impl Written for System<'_> {
             axes,
             unit,
         } = self;
-        put_keyword(out, "CS")?;
-        put_type(out, *system_type)?;
-        put_number(out, dimension)?;
-        put_each(out, identifiers)?;
-        put_end(out)?;
-        put_each(out, axes)?;
-        put_optional(out, unit)
+        out.open("CS");
+        put_type(out, *system_type);
+        out.number(dimension);
+        out.each(identifiers);
+        out.close();
+        out.each(axes);
+        out.optional(unit);
     }
 }
 
-fn put_type(out: &mut Vec<u8>, system_type: SystemType) -> Result<(), AllocError> {
+fn put_type(out: &mut Text, system_type: SystemType) {
     let word: &'static str = system_type.word();
-    out.extend_from_slice(word.as_bytes())
+    out.word(word.as_bytes());
 }
 
 impl Written for Axis<'_> {
-    fn put(&self, out: &mut Vec<u8>) -> Result<(), AllocError> {
+    fn put(&self, out: &mut Text) {
         let Axis {
             name,
             direction,
@@ -40,44 +36,43 @@ impl Written for Axis<'_> {
             unit,
             identifiers,
         } = self;
-        put_named(out, "AXIS", name)?;
-        put_direction(out, *direction)?;
-        put_optional(out, meridian)?;
-        put_optional_number(out, "ORDER", order)?;
-        put_optional(out, unit)?;
-        put_each(out, identifiers)?;
-        put_end(out)
+        out.named("AXIS", name);
+        put_direction(out, *direction);
+        out.optional(meridian);
+        out.optional_number("ORDER", order);
+        out.optional(unit);
+        out.each(identifiers);
+        out.close();
     }
 }
 
-fn put_direction(out: &mut Vec<u8>, direction: Direction) -> Result<(), AllocError> {
+fn put_direction(out: &mut Text, direction: Direction) {
     let word: &'static str = direction.word();
-    out.push(b',')?;
-    out.extend_from_slice(word.as_bytes())
+    out.word(word.as_bytes());
 }
 
 impl Written for AxisMeridian<'_> {
-    fn put(&self, out: &mut Vec<u8>) -> Result<(), AllocError> {
+    fn put(&self, out: &mut Text) {
         let AxisMeridian { longitude, unit } = self;
-        put_keyword(out, "MERIDIAN")?;
-        longitude.write(out)?;
-        unit.put(out)?;
-        put_end(out)
+        out.open("MERIDIAN");
+        out.number(longitude);
+        unit.put(out);
+        out.close();
     }
 }
 
 impl Written for Unit<'_> {
-    fn put(&self, out: &mut Vec<u8>) -> Result<(), AllocError> {
+    fn put(&self, out: &mut Text) {
         let Unit {
             kind,
             name,
             factor,
             identifiers,
         } = self;
-        put_named(out, unit_keyword(*kind), name)?;
-        put_number(out, factor)?;
-        put_each(out, identifiers)?;
-        put_end(out)
+        out.named(unit_keyword(*kind), name);
+        out.number(factor);
+        out.each(identifiers);
+        out.close();
     }
 }
 
