@@ -159,9 +159,9 @@ def judged(found: Text, spelled: List[Spelled], known: Known, converts: bool, ru
     key = str(crs), transformation
     if key not in known:
         # Where memory is refused nothing is added.
-        its = spelled_by(crs, transformation, rules)
+        added = spelled_by(crs, transformation, rules)
         known[key] = len(spelled)
-        spelled.append(its)
+        spelled.append(added)
     return Judged(
         found.layer, found.line, digest, known[key], None, read_by, not read_by or b"AXIS" in found.text.upper()
     )
