@@ -129,7 +129,16 @@ class Tally:
         return f"{self.growths} growths, {self.runs} runs, {self.wants} wanted memory"
 
 
-def tried(program, given, ample, want):
+def is_without_memory(found, ample, want, is_by_line):
+    """Whether a run ended as it must out of memory: with `want`, and where each line is answered by itself, after the
+    answers of the first lines."""
+    status, output, error = found
+    if is_by_line and output.endswith(b"\n") and ample[1].startswith(output):
+        return (status, b"", error) == want
+    return found == want
+
+
+def tried(program, given, ample, want, is_by_line=False):
     """Runs with ample memory, which must give `ample`, and with each growth refused, which may give `want` too."""
     found, growths, refused = program.run(given, 0)
     if found != ample or refused:
@@ -138,7 +147,7 @@ def tried(program, given, ample, want):
     for nth in range(1, MOST):
         found, _, refused = program.run(given, nth)
         tally.runs += 1
-        if found not in ((ample, want) if refused else (ample,)):
+        if found != ample and not (refused and is_without_memory(found, ample, want, is_by_line)):
             raise Wrong(f"growth {nth} refused: {found}")
         if not refused:
             return tally
@@ -167,7 +176,8 @@ def tried_call(call, path, preloaded):
 
 def tried_command(case, path, preloaded):
     ample = (case.status, case.output, case.error or b"")
-    tally = tried(Program([os.fsencode(path), *case.words], preloaded, True), case.input, ample, WANT)
+    program = Program([os.fsencode(path), *case.words], preloaded, True)
+    tally = tried(program, case.input, ample, WANT, "--lines" in case.words or b"--lines" in case.words)
     if tally.growths == 0:
         raise Wrong("no growths")
     return tally

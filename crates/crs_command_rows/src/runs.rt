@@ -29,6 +29,14 @@ impl Command {
             _ => None,
         }
     }
+
+    /// Whether each line is answered by itself.
+    pub fn is_by_line(self) -> bool {
+        match self {
+            Command::CanonLines | Command::CheckLines => true,
+            Command::Canon | Command::Check | Command::Group => false,
+        }
+    }
 }
 
 /// The command that the first word names, and the manner that the others say; None where a word says none.

@@ -24,6 +24,12 @@ enum Command<'t> {
     Same(&'t [u8], &'t [u8]),
 }
 
+impl Command<'_> {
+    fn is_by_line(&self) -> bool {
+        matches!(self, Command::CanonLines(_) | Command::CheckLines(_))
+    }
+}
+
 // The run of a command, into a vector that has room for what is written.
 #[derive(Drop)]
 struct Run<'t> {
@@ -36,6 +42,7 @@ impl Trial for Run<'_> {
 
     fn call(&mut self, alloc: Global) -> Result<Self::Answer, AllocError> {
         let command = self.command;
+        self.written.clear();
         let mut sink = Sink::new(&mut self.written);
         let outcome = match command {
             Command::Canon(text) => {
@@ -53,8 +60,9 @@ impl Trial for Run<'_> {
         ended(outcome)
     }
 
+    // Nothing was written, or whole lines where each line is answered by itself.
     fn is_kept(&self, _alloc: Global) -> Result<bool, AllocError> {
-        Ok(self.written.is_empty())
+        Ok(self.written.is_empty() || self.command.is_by_line() && self.written.ends_with(b"\n"))
     }
 
     fn put_answer(&self, out: &mut String, answer: &Self::Answer) -> Result<(), AllocError> {
