@@ -103,9 +103,6 @@ fn report(rt: &HostRuntime, fault: &Fault) -> u8 {
     let _ = eprintln!(rt; "crsdesk: {fault}");
     match fault {
         Fault::Word => tell_bad_words(rt),
-        Fault::Level => {
-            let _ = eprintln!(rt; "crsdesk: the levels are full and definition");
-        }
         Fault::Read(error) => {
             let _ = eprintln!(rt; "crsdesk: standard input: {error}");
         }
