@@ -73,6 +73,14 @@ def nested_pair(count):
     return first + b"\n" + height(*(usage(0, *reversed(it)) for it in reversed(usages)))
 
 
+def lacking_pair():
+    """Two sets of usages that differ in one: its unit has one identifier many times, those of the others have it and one
+    more."""
+    front = many(lambda number: usage(0, identifier(0), identifier(number + 2)), SIZE // 2)
+    repeated = usage(0, *many(lambda _: identifier(0), SIZE // 2 - 500))
+    return height(*front, repeated) + b"\n" + height(*front, usage(0, identifier(1)))
+
+
 # The hasher of the map of groups: its state at first, and what it multiplies by.
 FOLD_STATE, FOLD_MULTIPLIER, WORD = 0x243F6A8885A308D3, 0x9E3779B97F4A7C15, (1 << 64) - 1
 
@@ -131,6 +139,7 @@ MANY = {
     "pair-unlike-repeated-member": lambda: repeated_pair(
         usage(0, identifier(1)), usage(0, *many(identifier, SIZE - 4000)), 40
     ),
+    "pair-lacking-member": lacking_pair,
     "pair-40-nested": lambda: nested_pair(40),
     "pair-280-nested": lambda: nested_pair(280),
 }

@@ -13,7 +13,6 @@ ghost use Rattle.crs_same.specs.SameConversions.{SameParameter, SameGeoidModel};
 use crate::content::{Content, Members};
 use crate::found::Found;
 use crate::idents::same_idents;
-use crate::keys::{Key, key_of_named};
 use crate::laws;
 use crate::numbers::same_value;
 use crate::path::Path;
@@ -21,7 +20,7 @@ use crate::sets::{Member, same_set};
 use crate::step::Step;
 use crate::texts::same_text;
 use crate::units::same_units_as;
-use crs_value::{Conversion, GeoidModel, Level, Method, Parameter, UnitKind};
+use crs_value::{Conversion, GeoidModel, Guesses, Level, Method, Parameter, UnitKind};
 
 #[tactic(auto, unfolding(crate::specs::PartsOfCrs::parts_of_method))]
 fn walk_method<'b, 'a>(
@@ -54,15 +53,6 @@ impl Member for Parameter<'_> {
         same_parameter(self, other, level)
     }
 
-    fn key(&self, level: Level) -> u64 {
-        let mut key = Key::new();
-        key.put_text(self.name);
-        key.put_number(&self.value);
-        key.put_optional_unit(&self.unit, level);
-        key.put_idents(self.identifiers.as_slice(), level);
-        key.finish()
-    }
-
     fn same_is_equivalence(&self) {
         laws::same_parameter_is_equivalence();
     }
@@ -88,10 +78,6 @@ impl Member for GeoidModel<'_> {
         same_geoid_model(self, other, level)
     }
 
-    fn key(&self, level: Level) -> u64 {
-        key_of_named(self.name, self.identifiers.as_slice(), level)
-    }
-
     fn same_is_equivalence(&self) {
         laws::same_geoid_model_is_equivalence();
     }
@@ -104,16 +90,26 @@ pub fn same_geoid_model<'a>(a: &GeoidModel<'a>, b: &GeoidModel<'a>, level: Level
     same_text(a.name, b.name) && same_idents(&a.identifiers, &b.identifiers, level)
 }
 
-fn same_parameters<'a>(a: &[Parameter<'a>], b: &[Parameter<'a>], level: Level) -> bool
+fn same_parameters<'a>(
+    a: &[Parameter<'a>],
+    b: &[Parameter<'a>],
+    guesses: Guesses<'_>,
+    level: Level,
+) -> bool
     ensures { IsTrue result ↔ SameSet (SameParameter level) a.now b.now }
 {
-    same_set(a, b, level)
+    same_set(a, b, guesses, level)
 }
 
-fn same_geoid_models<'a>(a: &[GeoidModel<'a>], b: &[GeoidModel<'a>], level: Level) -> bool
+fn same_geoid_models<'a>(
+    a: &[GeoidModel<'a>],
+    b: &[GeoidModel<'a>],
+    guesses: Guesses<'_>,
+    level: Level,
+) -> bool
     ensures { IsTrue result ↔ SameSet (SameGeoidModel level) a.now b.now }
 {
-    same_set(a, b, level)
+    same_set(a, b, guesses, level)
 }
 
 #[tactic(auto, using(crate::proofs::WalkedLemmas::part_rules))]
@@ -122,6 +118,7 @@ fn walk_parameters<'b, 'a>(
     at: Path,
     a: &'b [Parameter<'a>],
     b: &'b [Parameter<'a>],
+    guesses: Guesses<'_>,
     level: Level,
 ) -> Found<'b, 'a>
     ensures { Walked (sets at (SameParameter level) content.Parameters a.now b.now) found.entry result }
@@ -129,7 +126,7 @@ fn walk_parameters<'b, 'a>(
     if found.is_done() {
         return found;
     }
-    if same_parameters(a, b, level) {
+    if same_parameters(a, b, guesses, level) {
         return found;
     }
     found.differing(
@@ -145,6 +142,7 @@ pub(crate) fn walk_geoid_models<'b, 'a>(
     at: Path,
     a: &'b [GeoidModel<'a>],
     b: &'b [GeoidModel<'a>],
+    guesses: Guesses<'_>,
     level: Level,
 ) -> Found<'b, 'a>
     ensures { Walked (sets at (SameGeoidModel level) content.GeoidModels a.now b.now) found.entry result }
@@ -152,7 +150,7 @@ pub(crate) fn walk_geoid_models<'b, 'a>(
     if found.is_done() {
         return found;
     }
-    if same_geoid_models(a, b, level) {
+    if same_geoid_models(a, b, guesses, level) {
         return found;
     }
     found.differing(
@@ -184,6 +182,7 @@ pub(crate) fn walk_conversion<'b, 'a>(
         at.then(Step::Parameters),
         a.parameters.as_slice(),
         b.parameters.as_slice(),
+        a.parameters.guesses(&b.parameters, level),
         level,
     );
     found.identifiers(&at, Step::Id, level, &a.identifiers, &b.identifiers)

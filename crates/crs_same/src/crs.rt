@@ -196,6 +196,7 @@ fn walk_vertical<'b, 'a>(
         geoid,
         a.geoid_models.as_slice(),
         b.geoid_models.as_slice(),
+        a.geoid_models.guesses(&b.geoid_models, level),
         level,
     );
     walk_tail(found, at, &a.tail, &b.tail, level)

@@ -19,7 +19,7 @@ use crate::step::Step;
 use crate::texts::{same_optional_text, same_text};
 use crate::units::{same_length, same_units_asked};
 use crs_decimal::Decimal;
-use crs_value::{Ident, Level, List, Unit, UnitKind};
+use crs_value::{Guesses, Ident, Level, List, Unit, UnitKind};
 use std::alloc::{AllocError, Global};
 use std::marker::Model;
 
@@ -381,10 +381,10 @@ impl<'b, 'a> Found<'b, 'a> {
         requires { length at.now < 5 }
         ensures { Walked (identifiers (at.now ▸ step) level a.now b.now) self.entry result }
     {
-        self.identifiers_of(at, step, level, a.as_slice(), b.as_slice())
+        let guesses = a.guesses(b, Level::Full);
+        self.identifiers_by(at, step, level, a.as_slice(), b.as_slice(), guesses)
     }
 
-    #[tactic(auto, using(crate::proofs::WalkedLemmas::part_rules))]
     pub(crate) fn identifiers_of(
         self,
         at: &Path,
@@ -396,10 +396,26 @@ impl<'b, 'a> Found<'b, 'a> {
         requires { length at.now < 5 }
         ensures { Walked (identifiers (at.now ▸ step) level a.now b.now) self.entry result }
     {
+        self.identifiers_by(at, step, level, a, b, Guesses::none())
+    }
+
+    #[tactic(auto, using(crate::proofs::WalkedLemmas::part_rules))]
+    fn identifiers_by(
+        self,
+        at: &Path,
+        step: Step,
+        level: Level,
+        a: &'b [Ident<'a>],
+        b: &'b [Ident<'a>],
+        guesses: Guesses<'_>,
+    ) -> Found<'b, 'a>
+        requires { length at.now < 5 }
+        ensures { Walked (identifiers (at.now ▸ step) level a.now b.now) self.entry result }
+    {
         if self.is_done() {
             return self;
         }
-        if same_kept_idents(a, b, level) {
+        if same_kept_idents(a, b, guesses, level) {
             return self;
         }
         let these = level.kept(a);

@@ -17,7 +17,6 @@ ghost use Rattle.crs_same.specs.SameFrames.{SameMember};
 use crate::content::{Content, Members};
 use crate::found::Found;
 use crate::idents::same_idents;
-use crate::keys::key_of_named;
 use crate::laws;
 use crate::path::Path;
 use crate::sets::{Member as SetMember, same_set};
@@ -25,7 +24,7 @@ use crate::step::Step;
 use crate::texts::same_text;
 use crs_decimal::Decimal;
 use crs_value::{
-    Datum, Ellipsoid, Ensemble, Frame, Ident, Level, List, Member, Meridian, Unit, UnitKind,
+    Datum, Ellipsoid, Ensemble, Frame, Guesses, Ident, Level, List, Member, Meridian, Unit, UnitKind,
 };
 
 fn walk_ellipsoid<'b, 'a>(
@@ -208,10 +207,6 @@ impl SetMember for Member<'_> {
         same_member(self, other, level)
     }
 
-    fn key(&self, level: Level) -> u64 {
-        key_of_named(self.name, self.identifiers.as_slice(), level)
-    }
-
     fn same_is_equivalence(&self) {
         laws::same_member_is_equivalence();
     }
@@ -224,10 +219,10 @@ pub fn same_member<'a>(a: &Member<'a>, b: &Member<'a>, level: Level) -> bool
     same_text(a.name, b.name) && same_idents(&a.identifiers, &b.identifiers, level)
 }
 
-fn same_members<'a>(a: &[Member<'a>], b: &[Member<'a>], level: Level) -> bool
+fn same_members<'a>(a: &[Member<'a>], b: &[Member<'a>], guesses: Guesses<'_>, level: Level) -> bool
     ensures { IsTrue result ↔ SameSet (SameMember level) a.now b.now }
 {
-    same_set(a, b, level)
+    same_set(a, b, guesses, level)
 }
 
 #[tactic(auto, using(crate::proofs::WalkedLemmas::part_rules))]
@@ -236,6 +231,7 @@ fn walk_members<'b, 'a>(
     at: Path,
     a: &'b [Member<'a>],
     b: &'b [Member<'a>],
+    guesses: Guesses<'_>,
     level: Level,
 ) -> Found<'b, 'a>
     ensures { Walked (sets at (SameMember level) content.Members a.now b.now) found.entry result }
@@ -243,7 +239,7 @@ fn walk_members<'b, 'a>(
     if found.is_done() {
         return found;
     }
-    if same_members(a, b, level) {
+    if same_members(a, b, guesses, level) {
         return found;
     }
     found.differing(
@@ -287,6 +283,7 @@ fn walk_ensemble<'b, 'a>(
         at.then(Step::Members),
         a.members.as_slice(),
         b.members.as_slice(),
+        a.members.guesses(&b.members, level),
         level,
     );
     let below = at.then(Step::Ellipsoid);

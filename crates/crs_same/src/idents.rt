@@ -3,11 +3,10 @@ ghost use Rattle.std.specs.Prelude.{◌↔◌, IsTrue};
 ghost use Rattle.crs_same.specs.SameIdents.{SameIdent, SameIdents};
 ghost use Rattle.crs_same.specs.Sets.{SameSet};
 
-use crate::keys::key_of_ident;
 use crate::laws;
 use crate::sets::{Member, same_set};
 use crate::texts::{same_optional_text, same_text};
-use crs_value::{Ident, Level, List};
+use crs_value::{Guesses, Ident, Level, List};
 
 /// Whether two identifiers are the same: authority and code, and version, citation and URI, each in both or in
 /// neither. An identifier by itself is compared alike at every level. Profile.
@@ -30,30 +29,31 @@ impl Member for Ident<'_> {
         same_ident(self, other, level)
     }
 
-    fn key(&self, _level: Level) -> u64 {
-        key_of_ident(self)
-    }
-
     fn same_is_equivalence(&self) {
         laws::same_ident_is_equivalence();
     }
 }
 
-fn same_ident_set<'a>(a: &[Ident<'a>], b: &[Ident<'a>]) -> bool
+fn same_ident_set<'a>(a: &[Ident<'a>], b: &[Ident<'a>], guesses: Guesses<'_>) -> bool
     ensures { IsTrue result ↔ SameSet SameIdent a.now b.now }
 {
-    same_set(a, b, Level::Full)
+    same_set(a, b, guesses, Level::Full)
 }
 
 // The identifiers that the level keeps of a part.
-pub(crate) fn same_kept_idents<'a>(a: &[Ident<'a>], b: &[Ident<'a>], level: Level) -> bool
+pub(crate) fn same_kept_idents<'a>(
+    a: &[Ident<'a>],
+    b: &[Ident<'a>],
+    guesses: Guesses<'_>,
+    level: Level,
+) -> bool
     ensures { IsTrue result ↔ SameIdents level a.now b.now }
 {
-    same_ident_set(level.kept(a), level.kept(b))
+    same_ident_set(level.kept(a), level.kept(b), guesses)
 }
 
 pub(crate) fn same_idents<'a>(a: &List<Ident<'a>>, b: &List<Ident<'a>>, level: Level) -> bool
     ensures { IsTrue result ↔ SameIdents level a.now b.now }
 {
-    same_kept_idents(a.as_slice(), b.as_slice(), level)
+    same_kept_idents(a.as_slice(), b.as_slice(), a.guesses(b, Level::Full), level)
 }

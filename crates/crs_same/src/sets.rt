@@ -4,11 +4,7 @@ ghost use Rattle.crs_value.specs.declared.values.level.Level.{Level};
 ghost use Rattle.crs_same.specs.Sameness.{IsSameness};
 ghost use Rattle.crs_same.specs.Sets.{HasSame, AllHaveSame, SameSet};
 
-use crate::guesses::Guesses;
-use crs_value::Level;
-
-// Up to so many members, a same one is looked for one by one.
-pub(crate) const FEW: usize = 32;
+use crs_value::{Guesses, Level};
 
 // A value that may be a member of a set.
 pub(crate) trait Member: Sized {
@@ -16,9 +12,6 @@ pub(crate) trait Member: Sized {
 
     fn is_same(&self, other: &Self, level: Level) -> bool
         ensures { IsTrue result ↔ Same level self.now other.now };
-
-    // A number that same members share. No promise rests on it: it says where a same one is looked for first.
-    fn key(&self, level: Level) -> u64;
 
     // Sameness of members is an equivalence. The call does nothing.
     fn same_is_equivalence(&self)
@@ -47,15 +40,20 @@ fn all_have_same<T: Member>(members: &[T], others: &[T], level: Level) -> bool
     true
 }
 
-// Whether each of many members has a same one among many others, in time that grows with the sum of their lengths as
-// long as keys distinguish members.
-fn all_of_many_have_same<T: Member>(members: &[T], others: &[T], level: Level) -> bool
+// Whether each of many members has a same one among many others. In order it compares each with the one at its place,
+// and else with one of its key: one before it, which has a same one, if there is such, so that another one is compared
+// once, however often a member is repeated.
+fn all_of_many_have_same<T: Member>(
+    members: &[T],
+    others: &[T],
+    guesses: Guesses<'_>,
+    level: Level,
+) -> bool
     ensures { IsTrue result ↔ AllHaveSame (T.Same level) members.now others.now }
 {
-    let mut guesses = Guesses::new();
     let mut at: usize = 0;
     for member in members {
-        if !is_met(member, at, members, others, &mut guesses, level) {
+        if !is_met(member, at, members, others, guesses, level) {
             return false;
         }
         at += 1;
@@ -69,7 +67,7 @@ fn is_met<T: Member>(
     at: usize,
     members: &[T],
     others: &[T],
-    guesses: &mut Guesses,
+    guesses: Guesses<'_>,
     level: Level,
 ) -> bool
     requires there { at ≤ length members.now }
@@ -80,7 +78,7 @@ fn is_met<T: Member>(
         return true;
     }
     member.same_is_equivalence();
-    let guess = guesses.of(at, members, others, level);
+    let guess = guesses.of(at);
     is_same_at(member, &members[..at], guess.before, level)
         || is_found(member, others, guess.other, level)
 }
@@ -102,12 +100,17 @@ pub(crate) fn is_same_at<T: Member>(member: &T, others: &[T], place: usize, leve
 }
 
 // Whether each member of either list has a same member in the other.
-pub(crate) fn same_set<T: Member>(members: &[T], others: &[T], level: Level) -> bool
+pub(crate) fn same_set<T: Member>(
+    members: &[T],
+    others: &[T],
+    guesses: Guesses<'_>,
+    level: Level,
+) -> bool
     ensures { IsTrue result ↔ SameSet (T.Same level) members.now others.now }
 {
-    if members.len() > FEW && others.len() > FEW {
-        return all_of_many_have_same(members, others, level)
-            && all_of_many_have_same(others, members, level);
+    if guesses.are_known() {
+        return all_of_many_have_same(members, others, guesses, level)
+            && all_of_many_have_same(others, members, guesses.turned(), level);
     }
     all_have_same(members, others, level) && all_have_same(others, members, level)
 }

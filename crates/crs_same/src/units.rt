@@ -9,7 +9,7 @@ use crate::idents::{same_idents, same_kept_idents};
 use crate::laws;
 use crate::numbers::same_value;
 use crate::texts::same_text;
-use crs_value::{Level, Unit, UnitKind};
+use crs_value::{Guesses, Level, Unit, UnitKind};
 
 fn same_kind(a: UnitKind, b: UnitKind) -> bool
     ensures { IsTrue result ↔ (a ≡ b) }
@@ -82,7 +82,7 @@ fn is_metre(unit: &Unit<'_>, level: Level) -> bool
     same_kind(unit.kind.as_asked(UnitKind::Length), UnitKind::Length)
         && same_text(unit.name, b"metre")
         && unit.factor.is_whole(1)
-        && same_kept_idents(unit.identifiers.as_slice(), &[], level)
+        && same_kept_idents(unit.identifiers.as_slice(), &[], Guesses::none(), level)
 }
 
 // Whether two units of length are the same: a missing one is the metre.

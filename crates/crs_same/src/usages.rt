@@ -14,16 +14,14 @@ ghost use Rattle.crs_same.specs.SameUsages.{SameBox, SameExtent, SameUsage, with
 
 use crate::content::{Content, Usages};
 use crate::found::Found;
-use crate::guesses::Guesses;
-use crate::keys::Key;
 use crate::laws;
 use crate::numbers::same_value;
 use crate::path::Path;
-use crate::sets::{FEW, Member, has_same, is_found, is_same_at};
+use crate::sets::{Member, has_same, is_found, is_same_at};
 use crate::step::Step;
 use crate::texts::same_optional_text;
 use crate::units::same_length;
-use crs_value::{BoundingBox, Extent, Level, Tail, Usage};
+use crs_value::{BoundingBox, Extent, Guesses, Level, Tail, Usage};
 
 /// Whether two bounding boxes are the same: south, west, north and east. A box is compared alike at every level.
 /// ISO 19162:2019, "Geographic bounding box".
@@ -86,15 +84,6 @@ impl Member for Usage<'_> {
         same_usage(self, other, level)
     }
 
-    fn key(&self, _level: Level) -> u64 {
-        let mut key = Key::new();
-        key.put_optional_text(self.scope);
-        key.put_optional_text(self.area);
-        key.put_box(&self.bbox);
-        key.put_extent(&self.extent, Level::Full);
-        key.finish()
-    }
-
     fn same_is_equivalence(&self) {
         laws::same_usage_is_equivalence();
     }
@@ -116,11 +105,16 @@ fn has_same_in<'a>(usage: &Usage<'a>, bare: Option<&Usage<'a>>, others: &[Usage<
     }
 }
 
-fn all_have_same<'a>(usages: &[Usage<'a>], bare: Option<&Usage<'a>>, others: &[Usage<'a>]) -> bool
+fn all_have_same<'a>(
+    usages: &[Usage<'a>],
+    bare: Option<&Usage<'a>>,
+    others: &[Usage<'a>],
+    guesses: Guesses<'_>,
+) -> bool
     ensures { IsTrue result ↔ AllHaveSame SameUsage usages.now (with_bare (option_copied bare.entry) others.now) }
 {
-    if usages.len() > FEW && others.len() > FEW {
-        return all_of_many_have_same(usages, bare, others);
+    if guesses.are_known() {
+        return all_of_many_have_same(usages, bare, others, guesses);
     }
     for usage in usages {
         if !has_same_in(usage, bare, others) {
@@ -135,13 +129,13 @@ fn all_of_many_have_same<'a>(
     usages: &[Usage<'a>],
     bare: Option<&Usage<'a>>,
     others: &[Usage<'a>],
+    guesses: Guesses<'_>,
 ) -> bool
     ensures { IsTrue result ↔ AllHaveSame SameUsage usages.now (with_bare (option_copied bare.entry) others.now) }
 {
-    let mut guesses = Guesses::new();
     let mut at: usize = 0;
     for usage in usages {
-        if !is_met_in(usage, at, usages, bare, others, &mut guesses) {
+        if !is_met_in(usage, at, usages, bare, others, guesses) {
             return false;
         }
         at += 1;
@@ -156,7 +150,7 @@ fn is_met_in<'a>(
     usages: &[Usage<'a>],
     bare: Option<&Usage<'a>>,
     others: &[Usage<'a>],
-    guesses: &mut Guesses,
+    guesses: Guesses<'_>,
 ) -> bool
     requires there { at ≤ length usages.now }
     requires before { AllHaveSame SameUsage (take at usages.now) (with_bare (option_copied bare) others.now) }
@@ -166,7 +160,7 @@ fn is_met_in<'a>(
         return true;
     }
     laws::same_usage_is_equivalence();
-    let guess = guesses.of(at, usages, others, Level::Full);
+    let guess = guesses.of(at);
     is_same_usage_at(usage, &usages[..at], guess.before)
         || is_found_in(usage, bare, others, guess.other)
 }
@@ -216,13 +210,16 @@ fn all_have_same_in<'a>(
     usages: &[Usage<'a>],
     bare: Option<&Usage<'a>>,
     others: &[Usage<'a>],
+    guesses: Guesses<'_>,
 ) -> bool
     ensures { IsTrue result ↔ AllHaveSame SameUsage (with_bare (option_copied one.entry) usages.now)
         (with_bare (option_copied bare.entry) others.now) }
 {
     match one {
-        None => all_have_same(usages, bare, others),
-        Some(one) => has_same_in(one, bare, others) && all_have_same(usages, bare, others),
+        None => all_have_same(usages, bare, others, guesses),
+        Some(one) => {
+            has_same_in(one, bare, others) && all_have_same(usages, bare, others, guesses)
+        }
     }
 }
 
@@ -231,11 +228,13 @@ fn same_usage_set<'a>(
     usages: &[Usage<'a>],
     bare: Option<&Usage<'a>>,
     others: &[Usage<'a>],
+    guesses: Guesses<'_>,
 ) -> bool
     ensures { IsTrue result ↔ SameSet SameUsage (with_bare (option_copied one.entry) usages.now)
         (with_bare (option_copied bare.entry) others.now) }
 {
-    all_have_same_in(one, usages, bare, others) && all_have_same_in(bare, others, one, usages)
+    all_have_same_in(one, usages, bare, others, guesses)
+        && all_have_same_in(bare, others, one, usages, guesses.turned())
 }
 
 // What the level keeps of them.
@@ -248,6 +247,7 @@ fn same_usages<'a>(a: &Tail<'a>, b: &Tail<'a>, level: Level) -> bool
         level.kept(a.usages.as_slice()),
         level.kept_one(b.bare_parts.as_ref()),
         level.kept(b.usages.as_slice()),
+        a.usages.guesses(&b.usages, Level::Full),
     )
 }
 

@@ -22,6 +22,7 @@ pub use values::ident::Ident;
 pub use values::level::Level;
 pub use values::list::{Change, List};
 pub use values::meridian::Meridian;
+pub use values::places::{Guess, Guesses};
 pub use values::projected::{Base, Projected};
 pub use values::system::System;
 pub use values::unit::Unit;

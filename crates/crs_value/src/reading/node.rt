@@ -9,6 +9,7 @@ ghost use Rattle.crs_value.specs.Reading.{item_at, Requires, those, IsFound, Rea
 ghost use Rattle.crs_value.specs.Reads.{ReadsNumber, ReadsTextOf, ReadsNumberOf, ReadsNumberAt};
 
 use crate::reading::arguments::{first, later};
+use crate::values::key::Keyed;
 use crate::values::list::List;
 use crs_decimal::Decimal;
 use crs_shape::{Class, laws};
@@ -104,7 +105,7 @@ pub(crate) fn optional_from<'a, T: Node<'a>>(
     }
 }
 
-pub(crate) fn many<'a, T: Node<'a>>(
+pub(crate) fn many<'a, T: Node<'a> + Keyed>(
     alloc: Global,
     items: &Items<'a>,
     id: ItemId,
@@ -127,7 +128,7 @@ pub(crate) fn many<'a, T: Node<'a>>(
 }
 
 // The values of all arguments of this class, the first of them having been looked for.
-pub(crate) fn many_from<'a, T: Node<'a>>(
+pub(crate) fn many_from<'a, T: Node<'a> + Keyed>(
     alloc: Global,
     items: &Items<'a>,
     _id: ItemId,
@@ -147,6 +148,7 @@ pub(crate) fn many_from<'a, T: Node<'a>>(
         list.push(T::read(alloc, items, found, class)?)?;
         at = later(items, found, parent, class);
     }
+    list.note_places(alloc)?;
     Ok(list)
 }
 

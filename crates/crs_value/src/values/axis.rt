@@ -6,6 +6,8 @@ ghost use Rattle.crs_value.specs.Reads.{ReadsDirection};
 
 use crate::reading::node::{Node, many, number, one, optional, optional_number, required, text};
 use crate::values::ident::Ident;
+use crate::values::key::Keyed;
+use crate::values::level::Level;
 use crate::values::list::List;
 use crate::values::unit::Unit;
 use crs_decimal::Decimal;
@@ -138,6 +140,17 @@ impl<'a> Node<'a> for Axis<'a> {
             unit: optional(alloc, items, id, class, Class::AxisUnit)?,
             identifiers: many(alloc, items, id, class, Class::Identifier)?,
         })
+    }
+}
+
+// Axes are no set.
+impl Keyed for Axis<'_> {
+    fn key(&self, _level: Level) -> u64 {
+        0
+    }
+
+    fn has_two_keys() -> bool {
+        false
     }
 }
 

@@ -8,6 +8,8 @@ ghost use Rattle.crs_value.specs.ReadsConversion.{ReadsUnitOf, parameter_units};
 use crate::reading::arguments::first;
 use crate::reading::node::{Node, many, number, one, text};
 use crate::values::ident::Ident;
+use crate::values::key::{Key, Keyed};
+use crate::values::level::Level;
 use crate::values::list::List;
 use crate::values::unit::Unit;
 use crs_decimal::Decimal;
@@ -210,5 +212,20 @@ impl<'a> Node<'a> for Parameter<'a> {
             unit: parameter_unit(alloc, items, id)?,
             identifiers: many(alloc, items, id, class, Class::Identifier)?,
         })
+    }
+}
+
+impl Keyed for Parameter<'_> {
+    fn key(&self, level: Level) -> u64 {
+        let mut key = Key::new();
+        key.put_text(self.name);
+        key.put_number(&self.value);
+        key.put_optional_unit(&self.unit, level);
+        key.put_idents(&self.identifiers, level);
+        key.finish()
+    }
+
+    fn has_two_keys() -> bool {
+        true
     }
 }

@@ -7,6 +7,8 @@ use crate::reading::node::{
 };
 use crate::values::ellipsoid::Ellipsoid;
 use crate::values::ident::Ident;
+use crate::values::key::{Keyed, key_of_named};
+use crate::values::level::Level;
 use crate::values::list::List;
 use crs_decimal::Decimal;
 use crs_shape::{Class, laws};
@@ -280,5 +282,15 @@ impl<'a> Node<'a> for Member<'a> {
             name: text(items, id, class),
             identifiers: many(alloc, items, id, class, Class::Identifier)?,
         })
+    }
+}
+
+impl Keyed for Member<'_> {
+    fn key(&self, level: Level) -> u64 {
+        key_of_named(self.name, &self.identifiers, level)
+    }
+
+    fn has_two_keys() -> bool {
+        true
     }
 }

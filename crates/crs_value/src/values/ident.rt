@@ -6,6 +6,8 @@ ghost use Rattle.crs_value.specs.Reading.{item_at, ReadsFirst, ReadsOptional};
 ghost use Rattle.crs_value.specs.Reads.{ReadsText, single_of};
 
 use crate::reading::node::{Node, optional_text, text};
+use crate::values::key::{Keyed, key_of_ident};
+use crate::values::level::Level;
 use crs_shape::Class;
 use crs_text::{ItemId, ItemKind, Items};
 use std::alloc::{AllocError, Global};
@@ -91,5 +93,15 @@ impl<'a> Node<'a> for Ident<'a> {
             citation: optional_text(items, id, class, Class::Citation),
             uri: optional_text(items, id, class, Class::Uri),
         })
+    }
+}
+
+impl Keyed for Ident<'_> {
+    fn key(&self, _level: Level) -> u64 {
+        key_of_ident(self)
+    }
+
+    fn has_two_keys() -> bool {
+        false
     }
 }

@@ -2,12 +2,20 @@
 ghost use Rattle.std.specs.Prelude.{◌≡◌, ◌<◌, [], ◌∷◌, ◌++◌, IfOk, length, map};
 ghost use Rattle.std.specs.List.{swap};
 
+use crate::values::key::Keyed;
+use crate::values::level::Level;
+use crate::values::places::{Guesses, Places};
 use std::alloc::{AllocError, Global};
 use std::marker::Model;
+
+// Up to so many members, a same one is looked for one by one.
+pub(crate) const FEW: usize = 32;
 
 /// A list in a value, seen as its members in order. Profile.
 pub struct List<T> {
     members: Vec<T>,
+    // Of more members, where they are by their keys: with everything, and by definition if these keys are others.
+    places: Vec<Places>,
 }
 
 impl<T> Model for List<T> {
@@ -21,7 +29,10 @@ impl<T> Model for List<T> {
 // Hand-written: a derived drop is expanded wherever a value is dropped, which slows the proofs.
 impl<T: Drop> Drop for List<T> {
     fn drop(self) {
-        let List { members: _ } = self;
+        let List {
+            members: _,
+            places: _,
+        } = self;
     }
 }
 
@@ -70,11 +81,25 @@ impl<T> List<T> {
         self.members.clear();
     }
 
+    /// Where each member may have a same one in another list. No promise rests on it; only lists that were read, of more
+    /// than 32 members, have guesses.
+    pub fn guesses<'b>(&'b self, others: &'b List<T>, level: Level) -> Guesses<'b> {
+        Guesses::new(self.places(level), others.places(level))
+    }
+
+    pub(crate) fn places(&self, level: Level) -> Option<&Places> {
+        match level {
+            Level::Full => self.places.get(0),
+            Level::Definition => self.places.get(1),
+        }
+    }
+
     pub(crate) fn new(alloc: Global) -> List<T>
         ensures { result ≡ [] }
     {
         List {
             members: Vec::new(alloc),
+            places: Vec::new(alloc),
         }
     }
 
@@ -87,4 +112,25 @@ impl<T> List<T> {
         self.members.push(member)?;
         Ok(())
     }
+
+    // Has the list know where its members are, if they are many. Out of memory, it is as before.
+    pub(crate) fn note_places(&mut self, alloc: Global) -> Result<(), AllocError>
+    where
+        T: Keyed,
+        ensures { self.new ≡ self.old }
+    {
+        if self.members.len() > FEW {
+            self.places = places_of(alloc, &self.members)?;
+        }
+        Ok(())
+    }
+}
+
+fn places_of<T: Keyed>(alloc: Global, members: &[T]) -> Result<Vec<Places>, AllocError> {
+    let mut places = Vec::new(alloc);
+    places.push(Places::of(alloc, members, Level::Full)?)?;
+    if T::has_two_keys() {
+        places.push(Places::of(alloc, members, Level::Definition)?)?;
+    }
+    Ok(places)
 }

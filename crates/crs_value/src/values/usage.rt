@@ -13,6 +13,8 @@ use crate::reading::node::{
     Node, many_from, number_at, optional, optional_from, optional_text, optional_text_from,
 };
 use crate::values::ident::Ident;
+use crate::values::key::{Key, Keyed};
+use crate::values::level::Level;
 use crate::values::list::List;
 use crate::values::unit::Unit;
 use crs_decimal::Decimal;
@@ -226,6 +228,21 @@ impl<'a> Node<'a> for Usage<'a> {
             bbox: optional(alloc, items, id, class, Class::BoundingBox)?,
             extent: optional(alloc, items, id, class, Class::VerticalExtent)?,
         })
+    }
+}
+
+impl Keyed for Usage<'_> {
+    fn key(&self, _level: Level) -> u64 {
+        let mut key = Key::new();
+        key.put_optional_text(self.scope);
+        key.put_optional_text(self.area);
+        key.put_box(&self.bbox);
+        key.put_extent(&self.extent);
+        key.finish()
+    }
+
+    fn has_two_keys() -> bool {
+        false
     }
 }
 

@@ -6,6 +6,8 @@ use crate::values::crs_frame::vertical_frame;
 use crate::values::dynamic::Dynamic;
 use crate::values::frame::Frame;
 use crate::values::ident::Ident;
+use crate::values::key::{Keyed, key_of_named};
+use crate::values::level::Level;
 use crate::values::list::List;
 use crate::values::system::{System, read_system};
 use crate::values::usage::{Tail, read_tail};
@@ -139,5 +141,15 @@ impl<'a> Node<'a> for GeoidModel<'a> {
             name: text(items, id, class),
             identifiers: many(alloc, items, id, class, Class::Identifier)?,
         })
+    }
+}
+
+impl Keyed for GeoidModel<'_> {
+    fn key(&self, level: Level) -> u64 {
+        key_of_named(self.name, &self.identifiers, level)
+    }
+
+    fn has_two_keys() -> bool {
+        true
     }
 }

@@ -14,4 +14,5 @@ returns g c =
     let tree = c.args.items.now in
     let whole = those c.args.parent c.args.class (arguments (item_at tree c.args._id)) in
     let P : Option ℕ → Type 0 = λ at. Going (g.T.Node.Reads c.args.class) tree c.args.parent c.args.class whole c.loop-at.list at in
-    going-end (g.T.Node.Reads c.args.class) tree c.args.parent c.args.class whole c.loop-at.list (subst P c.in_default.is c.loop-at.invariant)
+    rw c.note_places.ensures
+    (going-end (g.T.Node.Reads c.args.class) tree c.args.parent c.args.class whole c.loop-at.list (subst P c.in_default.is c.loop-at.invariant))

@@ -1,0 +1,197 @@
+//! Keys: numbers that values share which are the same at a level, by which members of sets are looked for. No promise
+//! rests on a key, since what it leads to is compared.
+
+use crate::values::ident::Ident;
+use crate::values::level::Level;
+use crate::values::list::{FEW, List};
+use crate::values::unit::Unit;
+use crate::values::usage::{BoundingBox, Extent};
+use crs_decimal::Decimal;
+use std::hash::{DefaultHasher, Hasher};
+
+// A value that may be a member of a set.
+pub(crate) trait Keyed {
+    // A number that values share which are the same at this level.
+    fn key(&self, level: Level) -> u64;
+
+    // Whether the keys of the levels differ, where the values count at both.
+    fn has_two_keys() -> bool;
+}
+
+// What a key is made of. Each part is a word or two, which the hasher takes whole.
+#[derive(Drop)]
+pub(crate) struct Key {
+    hasher: DefaultHasher,
+}
+
+impl Key {
+    pub(crate) fn new() -> Key {
+        Key {
+            hasher: DefaultHasher::new(),
+        }
+    }
+
+    pub(crate) fn finish(&self) -> u64 {
+        self.hasher.finish()
+    }
+
+    fn put(&mut self, word: u64) {
+        self.hasher.write_u64(word);
+    }
+
+    fn put_presence(&mut self, is_there: bool) {
+        self.put(u64::from(is_there));
+    }
+
+    pub(crate) fn put_text(&mut self, text: &[u8]) {
+        let mut hasher = DefaultHasher::new();
+        hasher.write(text);
+        self.put(hasher.finish());
+    }
+
+    pub(crate) fn put_optional_text(&mut self, text: Option<&[u8]>) {
+        self.put_presence(text.is_some());
+        if let Some(text) = text {
+            self.put_text(text);
+        }
+    }
+
+    pub(crate) fn put_number(&mut self, number: &Decimal) {
+        self.put_parts(number.is_negative(), number.digits(), number.power());
+    }
+
+    // Equal numbers have equal parts.
+    fn put_parts(&mut self, negative: bool, digits: u128, power: i32) {
+        self.put_presence(negative);
+        self.hasher.write_u128(digits);
+        self.put(u64::from(power.cast_unsigned()));
+    }
+
+    pub(crate) fn put_box(&mut self, bbox: &Option<BoundingBox>) {
+        self.put_presence(bbox.is_some());
+        if let Some(bbox) = bbox {
+            self.put_number(&bbox.south);
+            self.put_number(&bbox.west);
+            self.put_number(&bbox.north);
+            self.put_number(&bbox.east);
+        }
+    }
+
+    pub(crate) fn put_extent(&mut self, extent: &Option<Extent<'_>>) {
+        self.put_presence(extent.is_some());
+        if let Some(extent) = extent {
+            self.put_number(&extent.minimum);
+            self.put_number(&extent.maximum);
+            self.put_length(&extent.unit);
+        }
+    }
+
+    // A length unit with everything; a missing one is the metre.
+    fn put_length(&mut self, unit: &Option<Unit<'_>>) {
+        match unit {
+            Some(unit) => self.put_unit(unit, Level::Full),
+            None => {
+                self.put_text(b"metre");
+                self.put_parts(false, 1, 0);
+                self.put(SetKey::new().finish());
+            }
+        }
+    }
+
+    pub(crate) fn put_optional_unit(&mut self, unit: &Option<Unit<'_>>, level: Level) {
+        self.put_presence(unit.is_some());
+        if let Some(unit) = unit {
+            self.put_unit(unit, level);
+        }
+    }
+
+    // A unit without its kind, which its place may say.
+    fn put_unit(&mut self, unit: &Unit<'_>, level: Level) {
+        self.put_text(unit.name);
+        self.put_number(&unit.factor);
+        self.put_idents(&unit.identifiers, level);
+    }
+
+    // The identifiers that the level keeps, in any order and however often.
+    pub(crate) fn put_idents(&mut self, idents: &List<Ident<'_>>, level: Level) {
+        match level {
+            Level::Full => self.put(key_of_set(idents)),
+            Level::Definition => {}
+        }
+    }
+}
+
+// The key of a set, to which the keys of its members are given in order.
+#[derive(Drop)]
+pub(crate) struct SetKey {
+    key: Key,
+    last: Option<u64>,
+}
+
+impl SetKey {
+    pub(crate) fn new() -> SetKey {
+        SetKey {
+            key: Key::new(),
+            last: None,
+        }
+    }
+
+    // A key that follows itself is given once.
+    pub(crate) fn put(&mut self, key: u64) {
+        if self.last != Some(key) {
+            self.key.put(key);
+            self.last = Some(key);
+        }
+    }
+
+    pub(crate) fn finish(&self) -> u64 {
+        self.key.finish()
+    }
+}
+
+// Of what has a name and identifiers.
+pub(crate) fn key_of_named(name: &[u8], idents: &List<Ident<'_>>, level: Level) -> u64 {
+    let mut key = Key::new();
+    key.put_text(name);
+    key.put_idents(idents, level);
+    key.finish()
+}
+
+pub(crate) fn key_of_ident(ident: &Ident<'_>) -> u64 {
+    let mut key = Key::new();
+    key.put_text(ident.authority);
+    key.put_text(ident.code);
+    key.put_optional_text(ident.version);
+    key.put_optional_text(ident.citation);
+    key.put_optional_text(ident.uri);
+    key.finish()
+}
+
+fn key_of_set(idents: &List<Ident<'_>>) -> u64 {
+    match idents.places(Level::Full) {
+        Some(places) => places.key_of_set(),
+        None => key_of_few(idents.as_slice()),
+    }
+}
+
+fn key_of_few(idents: &[Ident<'_>]) -> u64 {
+    let mut keys = [0; FEW];
+    let mut count: usize = 0;
+    for ident in idents.iter().take(FEW) {
+        if count < FEW {
+            keys[count] = key_of_ident(ident);
+            count += 1;
+        }
+    }
+    let keys = &mut keys[..count.min(FEW)];
+    keys.sort_unstable();
+    key_of_sorted(keys)
+}
+
+fn key_of_sorted(keys: &[u64]) -> u64 {
+    let mut key = SetKey::new();
+    for one in keys {
+        key.put(*one);
+    }
+    key.finish()
+}

@@ -1,0 +1,135 @@
+//! Where the members of a list are, by their keys.
+
+use crate::values::key::{Keyed, SetKey};
+use crate::values::level::Level;
+use std::alloc::{AllocError, Global};
+
+// A place that no list has.
+const NOWHERE: usize = usize::MAX;
+
+// Where the members of a list are, by their keys at one level.
+#[derive(Drop)]
+pub(crate) struct Places {
+    // The keys of the members, in order.
+    keys: Vec<u64>,
+    // Each of these keys with its member's place, ascending.
+    sorted: Vec<(u64, usize)>,
+}
+
+impl Places {
+    pub(crate) fn of<T: Keyed>(
+        alloc: Global,
+        members: &[T],
+        level: Level,
+    ) -> Result<Places, AllocError> {
+        let mut keys = Vec::with_capacity(alloc, members.len())?;
+        let mut sorted = Vec::with_capacity(alloc, members.len())?;
+        for (place, member) in members.iter().enumerate() {
+            let key = member.key(level);
+            keys.push(key)?;
+            sorted.push((key, place))?;
+        }
+        sorted.sort_unstable();
+        Ok(Places { keys, sorted })
+    }
+
+    pub(crate) fn key_of_set(&self) -> u64 {
+        let mut key = SetKey::new();
+        for entry in &self.sorted {
+            key.put(entry.0);
+        }
+        key.finish()
+    }
+
+    // How many entries are less than this one.
+    fn rank(&self, key: u64, place: usize) -> usize {
+        self.sorted.partition_point(|entry| entry.0 < key || (entry.0 == key && entry.1 < place))
+    }
+
+    // The place in the entry of this rank, if it is of this key.
+    fn place(&self, rank: usize, key: u64) -> usize {
+        match self.sorted.get(rank) {
+            Some(entry) if entry.0 == key => entry.1,
+            _ => NOWHERE,
+        }
+    }
+
+    fn first(&self, key: u64) -> usize {
+        self.place(self.rank(key, 0), key)
+    }
+
+    // The last place before this one.
+    fn before(&self, key: u64, at: usize) -> usize {
+        match self.rank(key, at).checked_sub(1) {
+            Some(rank) => self.place(rank, key),
+            None => NOWHERE,
+        }
+    }
+}
+
+/// Where a member that is the same as another may be. No promise rests on it.
+#[derive(Clone, Copy)]
+pub struct Guess {
+    /// Among the other list's members, the first place of its key; past the end where there is none.
+    pub other: usize,
+    /// Before it in its own list, the last place of its key; past the end where there is none.
+    pub before: usize,
+}
+
+/// Where the members of one list may have same ones in another. Profile.
+#[derive(Clone, Copy)]
+pub struct Guesses<'b> {
+    own: Option<&'b Places>,
+    others: Option<&'b Places>,
+}
+
+impl<'b> Guesses<'b> {
+    /// No guess.
+    pub fn none() -> Guesses<'b> {
+        Guesses {
+            own: None,
+            others: None,
+        }
+    }
+
+    pub(crate) fn new(own: Option<&'b Places>, others: Option<&'b Places>) -> Guesses<'b> {
+        Guesses { own, others }
+    }
+
+    /// Whether there are any: both lists are long, and were read.
+    pub fn are_known(self) -> bool {
+        self.own.is_some() && self.others.is_some()
+    }
+
+    /// Those of the other list's members in the one.
+    pub fn turned(self) -> Guesses<'b> {
+        Guesses {
+            own: self.others,
+            others: self.own,
+        }
+    }
+
+    /// The guess for the member at this place.
+    pub fn of(self, at: usize) -> Guess {
+        match (self.own, self.others) {
+            (Some(own), Some(others)) => guessed(own, others, at),
+            _ => Guess {
+                other: NOWHERE,
+                before: NOWHERE,
+            },
+        }
+    }
+}
+
+fn guessed(own: &Places, others: &Places, at: usize) -> Guess {
+    match own.keys.get(at) {
+        Some(key) => Guess {
+            other: others.first(*key),
+            before: own.before(*key, at),
+        },
+        None => Guess {
+            other: NOWHERE,
+            before: NOWHERE,
+        },
+    }
+}
