@@ -14,6 +14,7 @@ pub mod KindLemmas
 pub mod KnownLemmas
 pub mod LeastLemmas
 pub mod LeavesLemmas
+mod MemberLemmas
 pub mod NodeLemmas
 pub mod FirstArgumentsLemmas
 pub mod NumberLemmas

@@ -19,6 +19,7 @@ pub mod FoundArguments
 pub mod Kept
 pub mod KeptLaws
 pub mod Least
+pub mod Members
 pub mod NamedValues
 pub mod ReadOnce
 pub mod Reading

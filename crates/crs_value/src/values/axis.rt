@@ -148,10 +148,6 @@ impl Keyed for Axis<'_> {
     fn key(&self, _level: Level) -> u64 {
         0
     }
-
-    fn has_two_keys() -> bool {
-        false
-    }
 }
 
 fn direction(items: &Items<'_>, id: ItemId) -> Direction

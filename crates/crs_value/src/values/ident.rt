@@ -1,13 +1,16 @@
 //! Identifiers.
+ghost use Rattle.std.specs.Prelude.{◌≡◌, IsTrue, IfOk};
 ghost use Rattle.std.specs.Option.{option_copied};
 ghost use Rattle.crs_text.specs.Items.{HasId, arguments, skip};
 ghost use Rattle.crs_value.specs.Checks.{IsSound};
+ghost use Rattle.crs_value.specs.Members.{HaveSameMembers, IsIn};
 ghost use Rattle.crs_value.specs.Reading.{item_at, ReadsFirst, ReadsOptional};
 ghost use Rattle.crs_value.specs.Reads.{ReadsText, single_of};
 
 use crate::reading::node::{Node, optional_text, text};
 use crate::values::key::{Keyed, key_of_ident};
 use crate::values::level::Level;
+use crate::values::places::Places;
 use crs_shape::Class;
 use crs_text::{ItemId, ItemKind, Items};
 use std::alloc::{AllocError, Global};
@@ -101,7 +104,81 @@ impl Keyed for Ident<'_> {
         key_of_ident(self)
     }
 
-    fn has_two_keys() -> bool {
-        false
+    fn once(
+        alloc: Global,
+        members: &[Self],
+        places: &[Places],
+    ) -> Result<Option<Vec<Self>>, AllocError> {
+        match places {
+            [places] if places.are_some_repeated() => Ok(Some(each_once(alloc, members, places)?)),
+            _ => Ok(None),
+        }
     }
+}
+
+fn is_equal_text(a: &[u8], b: &[u8]) -> bool
+    ensures { IsTrue result → a.now ≡ b.now }
+{
+    a == b
+}
+
+fn is_equal_if_any(a: Option<&[u8]>, b: Option<&[u8]>) -> bool
+    ensures { IsTrue result → option_copied a.entry ≡ option_copied b.entry }
+{
+    match (a, b) {
+        (None, None) => true,
+        (Some(a), Some(b)) => a == b,
+        (None, Some(_)) | (Some(_), None) => false,
+    }
+}
+
+fn is_equal<'a>(a: &Ident<'a>, b: &Ident<'a>) -> bool
+    ensures { IsTrue result → a.now ≡ b.now }
+{
+    is_equal_text(a.authority, b.authority)
+        && is_equal_text(a.code, b.code)
+        && is_equal_if_any(a.version, b.version)
+        && is_equal_if_any(a.citation, b.citation)
+        && is_equal_if_any(a.uri, b.uri)
+}
+
+fn copied<'a>(ident: &Ident<'a>) -> Ident<'a>
+    ensures { result ≡ ident.now }
+{
+    Ident {
+        authority: ident.authority,
+        code: ident.code,
+        version: ident.version,
+        citation: ident.citation,
+        uri: ident.uri,
+    }
+}
+
+// Whether an identifier is equal to one of these, at this place.
+fn is_equal_at<'a>(ident: &Ident<'a>, idents: &[Ident<'a>], place: usize) -> bool
+    ensures { IsTrue result → IsIn ident.now idents.now }
+{
+    match idents.get(place) {
+        Some(other) => is_equal(ident, other),
+        None => false,
+    }
+}
+
+// Each, unless the last before it of its key is equal.
+fn each_once<'a>(
+    alloc: Global,
+    idents: &[Ident<'a>],
+    places: &Places,
+) -> Result<Vec<Ident<'a>>, AllocError>
+    ensures { IfOk result (λ once. HaveSameMembers once.items idents.now) }
+{
+    let mut once = Vec::with_capacity(alloc, places.count_of_keys())?;
+    let mut at: usize = 0;
+    for ident in idents {
+        if !is_equal_at(ident, &idents[..at], places.before_of(at)) {
+            once.push(copied(ident))?;
+        }
+        at += 1;
+    }
+    Ok(once)
 }

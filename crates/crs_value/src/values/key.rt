@@ -1,21 +1,40 @@
 //! Keys: numbers that values share which are the same at a level, by which members of sets are looked for. No promise
 //! rests on a key, since what it leads to is compared.
 
+ghost use Rattle.std.specs.Prelude.{IfOk, IfSome};
+ghost use Rattle.crs_value.specs.Members.{HaveSameMembers};
+
 use crate::values::ident::Ident;
 use crate::values::level::Level;
 use crate::values::list::{FEW, List};
+use crate::values::places::Places;
 use crate::values::unit::Unit;
+use crate::values::unit_kind::UnitKind;
 use crate::values::usage::{BoundingBox, Extent};
 use crs_decimal::Decimal;
+use std::alloc::{AllocError, Global};
 use std::hash::{DefaultHasher, Hasher};
 
 // A value that may be a member of a set.
-pub(crate) trait Keyed {
+pub(crate) trait Keyed: Sized {
     // A number that values share which are the same at this level.
     fn key(&self, level: Level) -> u64;
 
     // Whether the keys of the levels differ, where the values count at both.
-    fn has_two_keys() -> bool;
+    fn has_two_keys() -> bool {
+        false
+    }
+
+    // These members, each once, if some are repeated. Of identifiers alone, which other members of sets have.
+    fn once(
+        _alloc: Global,
+        _members: &[Self],
+        _places: &[Places],
+    ) -> Result<Option<Vec<Self>>, AllocError>
+        ensures { IfOk result (λ once. IfSome once (λ once. HaveSameMembers once.items _members.now)) }
+    {
+        Ok(None)
+    }
 }
 
 // What a key is made of. Each part is a word or two, which the hasher takes whole.
@@ -89,8 +108,9 @@ impl Key {
     // A length unit with everything; a missing one is the metre.
     fn put_length(&mut self, unit: &Option<Unit<'_>>) {
         match unit {
-            Some(unit) => self.put_unit(unit, Level::Full),
+            Some(unit) => self.put_unit(UnitKind::Length, unit, Level::Full),
             None => {
+                self.put_kind(UnitKind::Length);
                 self.put_text(b"metre");
                 self.put_parts(false, 1, 0);
                 self.put(SetKey::new().finish());
@@ -101,15 +121,25 @@ impl Key {
     pub(crate) fn put_optional_unit(&mut self, unit: &Option<Unit<'_>>, level: Level) {
         self.put_presence(unit.is_some());
         if let Some(unit) = unit {
-            self.put_unit(unit, level);
+            self.put_unit(UnitKind::Plain, unit, level);
         }
     }
 
-    // A unit without its kind, which its place may say.
-    fn put_unit(&mut self, unit: &Unit<'_>, level: Level) {
+    // A unit where this kind is asked.
+    fn put_unit(&mut self, asked: UnitKind, unit: &Unit<'_>, level: Level) {
+        self.put_kind(unit.kind.as_asked(asked));
         self.put_text(unit.name);
         self.put_number(&unit.factor);
         self.put_idents(&unit.identifiers, level);
+    }
+
+    fn put_kind(&mut self, kind: UnitKind) {
+        self.put(match kind {
+            UnitKind::Length => 0,
+            UnitKind::Angle => 1,
+            UnitKind::Scale => 2,
+            UnitKind::Plain => 3,
+        });
     }
 
     // The identifiers that the level keeps, in any order and however often.

@@ -1,6 +1,7 @@
 //! Lists.
 ghost use Rattle.std.specs.Prelude.{◌≡◌, ◌<◌, [], ◌∷◌, ◌++◌, IfOk, length, map};
 ghost use Rattle.std.specs.List.{swap};
+ghost use Rattle.crs_value.specs.Members.{HaveSameMembers};
 
 use crate::values::key::Keyed;
 use crate::values::level::Level;
@@ -14,16 +15,23 @@ pub(crate) const FEW: usize = 32;
 /// A list in a value, seen as its members in order. Profile.
 pub struct List<T> {
     members: Vec<T>,
-    // Of more members, where they are by their keys: with everything, and by definition if these keys are others.
+    // The members, each once, where they are more than `FEW`, and some are repeated.
+    once: Vec<T>,
+    has_once: bool,
+    // Where more than `FEW` members are by their keys, each once: at the full level, and by definition if keys differ.
     places: Vec<Places>,
 }
 
 impl<T> Model for List<T> {
     ghost use Rattle.std.specs.Prelude as std;
+    ghost use Rattle.std.specs.Prelude.{◌≡◌, true};
+    ghost use Rattle.crs_value.specs.Members.{HaveSameMembers};
 
     ghost Value = { std.List T };
 
     ghost view = { λ a. a.members.items };
+
+    ghost invariant = { λ a. a.has_once ≡ true → HaveSameMembers a.once.items a.members.items };
 }
 
 // Hand-written: a derived drop is expanded wherever a value is dropped, which slows the proofs.
@@ -31,6 +39,8 @@ impl<T: Drop> Drop for List<T> {
     fn drop(self) {
         let List {
             members: _,
+            once: _,
+            has_once: _,
             places: _,
         } = self;
     }
@@ -54,35 +64,20 @@ impl<T> List<T> {
         &self.members
     }
 
-    /// Changes each member. Profile.
-    pub fn change_each<C: Change<T>>(&mut self, change: &C)
-        ensures { self.new ≡ map (C.changed change.now) self.old }
+    /// The same members. Of more than 32 identifiers that were read, each is there once, so that two lists are compared
+    /// in the time of the shorter one.
+    pub fn once(&self) -> &[T]
+        ensures { HaveSameMembers result.now self.now }
     {
-        for member in self.members.iter_mut() {
-            change.change(member);
+        if self.has_once {
+            &self.once
+        } else {
+            &self.members
         }
     }
 
-    /// Puts two members in each other's place. Profile.
-    pub fn swap(&mut self, first: usize, second: usize)
-        requires first { first < length self.old }
-        requires second { second < length self.old }
-        ensures { self.new ≡ swap self.old first second }
-    {
-        self.members.swap(first, second);
-    }
-
-    /// Takes all members out. Profile.
-    pub fn clear(&mut self)
-    where
-        T: Drop,
-        ensures { self.new ≡ [] }
-    {
-        self.members.clear();
-    }
-
-    /// Where each member may have a same one in another list. No promise rests on it; only lists that were read, of more
-    /// than 32 members, have guesses.
+    /// Where members of `once` may have same ones in another list's. No promise rests on it: there are guesses for lists
+    /// of more than 32 members, until they are changed.
     pub fn guesses<'b>(&'b self, others: &'b List<T>, level: Level) -> Guesses<'b> {
         Guesses::new(self.places(level), others.places(level))
     }
@@ -94,11 +89,46 @@ impl<T> List<T> {
         }
     }
 
+    /// Changes each member. Profile.
+    pub fn change_each<C: Change<T>>(&mut self, change: &C)
+        ensures { self.new ≡ map (C.changed change.now) self.old }
+    {
+        self.has_once = false;
+        self.places.clear();
+        for member in self.members.iter_mut() {
+            change.change(member);
+        }
+    }
+
+    /// Puts two members in each other's place. Profile.
+    pub fn swap(&mut self, first: usize, second: usize)
+        requires first { first < length self.old }
+        requires second { second < length self.old }
+        ensures { self.new ≡ swap self.old first second }
+    {
+        self.has_once = false;
+        self.places.clear();
+        self.members.swap(first, second);
+    }
+
+    /// Takes all members out. Profile.
+    pub fn clear(&mut self)
+    where
+        T: Drop,
+        ensures { self.new ≡ [] }
+    {
+        self.has_once = false;
+        self.places.clear();
+        self.members.clear();
+    }
+
     pub(crate) fn new(alloc: Global) -> List<T>
         ensures { result ≡ [] }
     {
         List {
             members: Vec::new(alloc),
+            once: Vec::new(alloc),
+            has_once: false,
             places: Vec::new(alloc),
         }
     }
@@ -109,6 +139,7 @@ impl<T> List<T> {
         T: Drop,
         ensures { IfOk result (λ _. self.new ≡ self.old ++ member ∷ []) }
     {
+        self.has_once = false;
         self.members.push(member)?;
         Ok(())
     }
@@ -116,11 +147,19 @@ impl<T> List<T> {
     // Has the list know where its members are, if they are many. Out of memory, it is as before.
     pub(crate) fn note_places(&mut self, alloc: Global) -> Result<(), AllocError>
     where
-        T: Keyed,
+        T: Keyed + Drop,
         ensures { self.new ≡ self.old }
     {
         if self.members.len() > FEW {
-            self.places = places_of(alloc, &self.members)?;
+            let places = places_of(alloc, &self.members)?;
+            match T::once(alloc, &self.members, &places)? {
+                None => self.places = places,
+                Some(once) => {
+                    self.places = places_of(alloc, &once)?;
+                    self.once = once;
+                    self.has_once = true;
+                }
+            }
         }
         Ok(())
     }

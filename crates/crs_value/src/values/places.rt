@@ -41,6 +41,31 @@ impl Places {
         key.finish()
     }
 
+    // How many keys there are.
+    pub(crate) fn count_of_keys(&self) -> usize {
+        let mut count: usize = 0;
+        let mut last = None;
+        for entry in &self.sorted {
+            if last != Some(entry.0) {
+                count = count.saturating_add(1);
+                last = Some(entry.0);
+            }
+        }
+        count
+    }
+
+    pub(crate) fn are_some_repeated(&self) -> bool {
+        self.count_of_keys() < self.keys.len()
+    }
+
+    // The last place before this one that has its key.
+    pub(crate) fn before_of(&self, at: usize) -> usize {
+        match self.keys.get(at) {
+            Some(key) => self.before(*key, at),
+            None => NOWHERE,
+        }
+    }
+
     // How many entries are less than this one.
     fn rank(&self, key: u64, place: usize) -> usize {
         self.sorted.partition_point(|entry| entry.0 < key || (entry.0 == key && entry.1 < place))
@@ -96,7 +121,7 @@ impl<'b> Guesses<'b> {
         Guesses { own, others }
     }
 
-    /// Whether there are any: both lists are long, and were read.
+    /// Whether there are any.
     pub fn are_known(self) -> bool {
         self.own.is_some() && self.others.is_some()
     }
@@ -122,14 +147,11 @@ impl<'b> Guesses<'b> {
 }
 
 fn guessed(own: &Places, others: &Places, at: usize) -> Guess {
-    match own.keys.get(at) {
-        Some(key) => Guess {
-            other: others.first(*key),
-            before: own.before(*key, at),
+    Guess {
+        other: match own.keys.get(at) {
+            Some(key) => others.first(*key),
+            None => NOWHERE,
         },
-        None => Guess {
-            other: NOWHERE,
-            before: NOWHERE,
-        },
+        before: own.before_of(at),
     }
 }

@@ -1,0 +1,36 @@
+use Rattle.std.proofs.Common.{◌≡◌, ◌+◌, ◌++◌, ◌∷◌, [], rules, subst, sym, take}
+use Rattle.crs_value.specs.Members.{AreIn, IsIn}
+use Rattle.crs_value.proofs.MemberLemmas.{are-front, are-one-more, in-end, in-index, in-over, taken-more}
+use Rattle.crs_value.proofs.values.ident.each_once.Goals as goal
+use Rattle.crs_value.proofs.values.ident.each_once.Goals.{then-not-is_equal_at+in_ok-push, else-not-is_equal_at}
+
+pub loop-ident-preserved : goal.loop-ident-preserved
+loop-ident-preserved c =
+    let idents = c.args.idents.now in
+    let once = c.loop-ident.once.items in
+    let index = c.loop-ident.ident-index in
+    let ident = c.ident-item.result in
+    let next = c.if-not-is_equal_at.once.items in
+    let before = c.loop-ident.invariant.all in
+    elim c.if-not-is_equal_at.branch [
+      | then-not-is_equal_at+in_ok-push w ↦
+          let more : next ≡ once ++ ident ∷ [] = search rules in
+          record {
+            at = search rules;
+            of = subst (λ it. AreIn it idents) (sym more)
+                (are-one-more once idents ident c.loop-ident.invariant.of (in-index idents index ident c.ident-item.is c.loop-ident-test.true));
+            all = subst (λ it. AreIn (take (index + 1) idents) it) (sym more)
+                (taken-more idents (once ++ ident ∷ []) index ident c.ident-item.is c.loop-ident-test.true
+                (are-front (take index idents) once (ident ∷ []) before) (in-end ident once));
+          }
+      | else-not-is_equal_at w ↦
+          let same : next ≡ once = search rules in
+          let found : IsIn ident (take index idents) = search rules in
+          record {
+            at = search rules;
+            of = subst (λ it. AreIn it idents) (sym same) c.loop-ident.invariant.of;
+            all = subst (λ it. AreIn (take (index + 1) idents) it) (sym same)
+                (taken-more idents once index ident c.ident-item.is c.loop-ident-test.true before
+                (in-over ident (take index idents) once found before));
+          }
+    ]
