@@ -81,6 +81,13 @@ def lacking_pair():
     return height(*front, repeated) + b"\n" + height(*front, usage(0, identifier(1)))
 
 
+def shared_last_pair():
+    """Two sets that are the same: a long member, and a short one, in one set many times, which has its last identifier."""
+    last = identifier(1_000_000_000)
+    long, short = usage(0, *many(identifier, SIZE // 2 - 500), last), usage(0, last)
+    return height(long, *many(lambda _: short, SIZE // 2)) + b"\n" + height(long, short)
+
+
 # The hasher of the map of groups: its state at first, and what it multiplies by.
 FOLD_STATE, FOLD_MULTIPLIER, WORD = 0x243F6A8885A308D3, 0x9E3779B97F4A7C15, (1 << 64) - 1
 
@@ -140,6 +147,7 @@ MANY = {
         usage(0, identifier(1)), usage(0, *many(identifier, SIZE - 4000)), 40
     ),
     "pair-lacking-member": lacking_pair,
+    "pair-shared-last": shared_last_pair,
     "pair-40-nested": lambda: nested_pair(40),
     "pair-280-nested": lambda: nested_pair(280),
 }

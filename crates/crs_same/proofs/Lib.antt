@@ -9,6 +9,7 @@ mod FirstPartLemmas
 mod FrontLemmas
 mod KeptLemmas
 mod NumberLemmas
+mod OnceLemmas
 mod PositionLemmas
 mod SamenessLemmas
 mod SamenessOfCrsLemmas

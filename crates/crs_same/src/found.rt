@@ -1,6 +1,8 @@
 //! What a walk over the parts of two values finds: the first part that differs, or all.
 ghost use Rattle.std.specs.Prelude.{◌≡◌, ◌<◌, ◌++◌, ◌∷◌, ◌↔◌, [], IfOk, IsTrue, List, None, Option, length};
 ghost use Rattle.std.specs.Option.{option_copied};
+ghost use Rattle.crs_value.specs.Kept.{kept};
+ghost use Rattle.crs_same.specs.declared.content.Content.TheVariants as content;
 ghost use Rattle.crs_same.specs.declared.step.Step.{Step};
 ghost use Rattle.crs_same.specs.declared.step.Step.TheVariants as step;
 ghost use Rattle.crs_same.specs.declared.found.Found.TheVariants as found;
@@ -12,7 +14,7 @@ ghost use Rattle.crs_same.specs.SameUnits.{SameLength};
 ghost use Rattle.crs_same.specs.Walked.{IsDone, IsOfAll, Told, Walked};
 
 use crate::content::{Content, Members};
-use crate::idents::same_kept_idents;
+use crate::idents::{same_idents, same_kept_idents};
 use crate::numbers::{same_optional_value, same_value};
 use crate::path::Path;
 use crate::step::Step;
@@ -370,6 +372,7 @@ impl<'b, 'a> Found<'b, 'a> {
     }
 
     // The identifiers that the level keeps.
+    #[tactic(auto, using(crate::proofs::WalkedLemmas::part_rules))]
     pub(crate) fn identifiers(
         self,
         at: &Path,
@@ -381,10 +384,17 @@ impl<'b, 'a> Found<'b, 'a> {
         requires { length at.now < 5 }
         ensures { Walked (identifiers (at.now ▸ step) level a.now b.now) self.entry result }
     {
-        let guesses = a.guesses(b, Level::Full);
-        self.identifiers_by(at, step, level, a.as_slice(), b.as_slice(), guesses)
+        if self.is_done() {
+            return self;
+        }
+        if same_idents(a, b, level) {
+            return self;
+        }
+        self.unlike_identifiers(at, step, level, a.as_slice(), b.as_slice())
     }
 
+    // Of slices, of which one is empty.
+    #[tactic(auto, using(crate::proofs::WalkedLemmas::part_rules))]
     pub(crate) fn identifiers_of(
         self,
         at: &Path,
@@ -396,28 +406,28 @@ impl<'b, 'a> Found<'b, 'a> {
         requires { length at.now < 5 }
         ensures { Walked (identifiers (at.now ▸ step) level a.now b.now) self.entry result }
     {
-        self.identifiers_by(at, step, level, a, b, Guesses::none())
+        if self.is_done() {
+            return self;
+        }
+        if same_kept_idents(a, b, Guesses::none(), level) {
+            return self;
+        }
+        self.unlike_identifiers(at, step, level, a, b)
     }
 
-    #[tactic(auto, using(crate::proofs::WalkedLemmas::part_rules))]
-    fn identifiers_by(
+    // Those that the level keeps, which aren't the same.
+    fn unlike_identifiers(
         self,
         at: &Path,
         step: Step,
         level: Level,
         a: &'b [Ident<'a>],
         b: &'b [Ident<'a>],
-        guesses: Guesses<'_>,
     ) -> Found<'b, 'a>
         requires { length at.now < 5 }
-        ensures { Walked (identifiers (at.now ▸ step) level a.now b.now) self.entry result }
+        ensures { Walked (part (at.now ▸ step) ⊥ (content.Identifiers (kept level a.now) (kept level b.now))
+            (content.Identifiers (kept level b.now) (kept level a.now))) self.entry result }
     {
-        if self.is_done() {
-            return self;
-        }
-        if same_kept_idents(a, b, guesses, level) {
-            return self;
-        }
         let these = level.kept(a);
         let others = level.kept(b);
         self.alone(

@@ -24,7 +24,8 @@ use crate::step::Step;
 use crate::texts::same_text;
 use crs_decimal::Decimal;
 use crs_value::{
-    Datum, Ellipsoid, Ensemble, Frame, Guesses, Ident, Level, List, Member, Meridian, Unit, UnitKind,
+    Datum, Ellipsoid, Ensemble, Frame, Guesses, Ident, Level, List, Member, Meridian, Unit,
+    UnitKind,
 };
 
 fn walk_ellipsoid<'b, 'a>(

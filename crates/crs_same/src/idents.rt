@@ -52,8 +52,9 @@ pub(crate) fn same_kept_idents<'a>(
     same_ident_set(level.kept(a), level.kept(b), guesses)
 }
 
+// Of members that are there once, so that it takes no longer than the shorter list.
 pub(crate) fn same_idents<'a>(a: &List<Ident<'a>>, b: &List<Ident<'a>>, level: Level) -> bool
     ensures { IsTrue result ↔ SameIdents level a.now b.now }
 {
-    same_kept_idents(a.as_slice(), b.as_slice(), a.guesses(b, Level::Full), level)
+    same_kept_idents(a.once(), b.once(), a.guesses(b, Level::Full), level)
 }

@@ -99,7 +99,17 @@ pub(crate) fn is_same_at<T: Member>(member: &T, others: &[T], place: usize, leve
     }
 }
 
-// Whether each member of either list has a same member in the other.
+fn each_has_same<T: Member>(members: &[T], others: &[T], guesses: Guesses<'_>, level: Level) -> bool
+    ensures { IsTrue result ↔ AllHaveSame (T.Same level) members.now others.now }
+{
+    if guesses.are_known() {
+        return all_of_many_have_same(members, others, guesses, level);
+    }
+    all_have_same(members, others, level)
+}
+
+// Whether each member of either list has a same member in the other. The longer list goes first: if its members differ,
+// one that the shorter list lacks comes soon.
 pub(crate) fn same_set<T: Member>(
     members: &[T],
     others: &[T],
@@ -108,9 +118,10 @@ pub(crate) fn same_set<T: Member>(
 ) -> bool
     ensures { IsTrue result ↔ SameSet (T.Same level) members.now others.now }
 {
-    if guesses.are_known() {
-        return all_of_many_have_same(members, others, guesses, level)
-            && all_of_many_have_same(others, members, guesses.turned(), level);
+    if members.len() < others.len() {
+        return each_has_same(others, members, guesses.turned(), level)
+            && each_has_same(members, others, guesses, level);
     }
-    all_have_same(members, others, level) && all_have_same(others, members, level)
+    each_has_same(members, others, guesses, level)
+        && each_has_same(others, members, guesses.turned(), level)
 }
