@@ -145,7 +145,7 @@ impl<'a> Node<'a> for Axis<'a> {
 
 // Axes are no set.
 impl Keyed for Axis<'_> {
-    fn key(&self, _level: Level) -> u64 {
+    fn key(&self, _level: Level) -> u128 {
         0
     }
 }

@@ -216,7 +216,7 @@ impl<'a> Node<'a> for Parameter<'a> {
 }
 
 impl Keyed for Parameter<'_> {
-    fn key(&self, level: Level) -> u64 {
+    fn key(&self, level: Level) -> u128 {
         let mut key = Key::new();
         key.put_text(self.name);
         key.put_number(&self.value);

@@ -286,7 +286,7 @@ impl<'a> Node<'a> for Member<'a> {
 }
 
 impl Keyed for Member<'_> {
-    fn key(&self, level: Level) -> u64 {
+    fn key(&self, level: Level) -> u128 {
         key_of_named(self.name, &self.identifiers, level)
     }
 

@@ -100,7 +100,7 @@ impl<'a> Node<'a> for Ident<'a> {
 }
 
 impl Keyed for Ident<'_> {
-    fn key(&self, _level: Level) -> u64 {
+    fn key(&self, _level: Level) -> u128 {
         key_of_ident(self)
     }
 

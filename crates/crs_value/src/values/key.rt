@@ -18,7 +18,7 @@ use std::hash::{DefaultHasher, Hasher};
 // A value that may be a member of a set.
 pub(crate) trait Keyed: Sized {
     // A number that values share which are the same at this level.
-    fn key(&self, level: Level) -> u64;
+    fn key(&self, level: Level) -> u128;
 
     // Whether the keys of the levels differ, where the values count at both.
     fn has_two_keys() -> bool {
@@ -37,25 +37,36 @@ pub(crate) trait Keyed: Sized {
     }
 }
 
-// What a key is made of. Each part is a word or two, which the hasher takes whole.
+// What a key is made of: two digests, one of which has a word more in front. Each part is a word or two, which the
+// hashers take whole.
 #[derive(Drop)]
 pub(crate) struct Key {
-    hasher: DefaultHasher,
+    high: DefaultHasher,
+    low: DefaultHasher,
 }
 
 impl Key {
     pub(crate) fn new() -> Key {
+        let mut low = DefaultHasher::new();
+        low.write_u64(1);
         Key {
-            hasher: DefaultHasher::new(),
+            high: DefaultHasher::new(),
+            low,
         }
     }
 
-    pub(crate) fn finish(&self) -> u64 {
-        self.hasher.finish()
+    pub(crate) fn finish(&self) -> u128 {
+        u128::from(self.high.finish()) << 64 | u128::from(self.low.finish())
     }
 
     fn put(&mut self, word: u64) {
-        self.hasher.write_u64(word);
+        self.high.write_u64(word);
+        self.low.write_u64(word);
+    }
+
+    fn put_wide(&mut self, word: u128) {
+        self.high.write_u128(word);
+        self.low.write_u128(word);
     }
 
     fn put_presence(&mut self, is_there: bool) {
@@ -63,9 +74,10 @@ impl Key {
     }
 
     pub(crate) fn put_text(&mut self, text: &[u8]) {
-        let mut hasher = DefaultHasher::new();
-        hasher.write(text);
-        self.put(hasher.finish());
+        let mut key = Key::new();
+        key.high.write(text);
+        key.low.write(text);
+        self.put_wide(key.finish());
     }
 
     pub(crate) fn put_optional_text(&mut self, text: Option<&[u8]>) {
@@ -82,7 +94,7 @@ impl Key {
     // Equal numbers have equal parts.
     fn put_parts(&mut self, negative: bool, digits: u128, power: i32) {
         self.put_presence(negative);
-        self.hasher.write_u128(digits);
+        self.put_wide(digits);
         self.put(u64::from(power.cast_unsigned()));
     }
 
@@ -113,7 +125,7 @@ impl Key {
                 self.put_kind(UnitKind::Length);
                 self.put_text(b"metre");
                 self.put_parts(false, 1, 0);
-                self.put(SetKey::new().finish());
+                self.put_wide(SetKey::new().finish());
             }
         }
     }
@@ -145,7 +157,7 @@ impl Key {
     // The identifiers that the level keeps, in any order and however often.
     pub(crate) fn put_idents(&mut self, idents: &List<Ident<'_>>, level: Level) {
         match level {
-            Level::Full => self.put(key_of_set(idents)),
+            Level::Full => self.put_wide(key_of_set(idents)),
             Level::Definition => {}
         }
     }
@@ -155,7 +167,7 @@ impl Key {
 #[derive(Drop)]
 pub(crate) struct SetKey {
     key: Key,
-    last: Option<u64>,
+    last: Option<u128>,
 }
 
 impl SetKey {
@@ -167,27 +179,27 @@ impl SetKey {
     }
 
     // A key that follows itself is given once.
-    pub(crate) fn put(&mut self, key: u64) {
+    pub(crate) fn put(&mut self, key: u128) {
         if self.last != Some(key) {
-            self.key.put(key);
+            self.key.put_wide(key);
             self.last = Some(key);
         }
     }
 
-    pub(crate) fn finish(&self) -> u64 {
+    pub(crate) fn finish(&self) -> u128 {
         self.key.finish()
     }
 }
 
 // Of what has a name and identifiers.
-pub(crate) fn key_of_named(name: &[u8], idents: &List<Ident<'_>>, level: Level) -> u64 {
+pub(crate) fn key_of_named(name: &[u8], idents: &List<Ident<'_>>, level: Level) -> u128 {
     let mut key = Key::new();
     key.put_text(name);
     key.put_idents(idents, level);
     key.finish()
 }
 
-pub(crate) fn key_of_ident(ident: &Ident<'_>) -> u64 {
+pub(crate) fn key_of_ident(ident: &Ident<'_>) -> u128 {
     let mut key = Key::new();
     key.put_text(ident.authority);
     key.put_text(ident.code);
@@ -197,14 +209,14 @@ pub(crate) fn key_of_ident(ident: &Ident<'_>) -> u64 {
     key.finish()
 }
 
-fn key_of_set(idents: &List<Ident<'_>>) -> u64 {
+fn key_of_set(idents: &List<Ident<'_>>) -> u128 {
     match idents.places(Level::Full) {
         Some(places) => places.key_of_set(),
         None => key_of_few(idents.as_slice()),
     }
 }
 
-fn key_of_few(idents: &[Ident<'_>]) -> u64 {
+fn key_of_few(idents: &[Ident<'_>]) -> u128 {
     let mut keys = [0; FEW];
     let mut count: usize = 0;
     for ident in idents.iter().take(FEW) {
@@ -218,7 +230,7 @@ fn key_of_few(idents: &[Ident<'_>]) -> u64 {
     key_of_sorted(keys)
 }
 
-fn key_of_sorted(keys: &[u64]) -> u64 {
+fn key_of_sorted(keys: &[u128]) -> u128 {
     let mut key = SetKey::new();
     for one in keys {
         key.put(*one);

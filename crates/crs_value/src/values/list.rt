@@ -1,5 +1,5 @@
 //! Lists.
-ghost use Rattle.std.specs.Prelude.{◌≡◌, ◌<◌, [], ◌∷◌, ◌++◌, IfOk, length, map};
+ghost use Rattle.std.specs.Prelude.{◌≡◌, ◌<◌, [], ◌∷◌, ◌++◌, IfOk, IfSome, length, map};
 ghost use Rattle.std.specs.List.{swap};
 ghost use Rattle.crs_value.specs.Members.{HaveSameMembers};
 
@@ -15,23 +15,30 @@ pub(crate) const FEW: usize = 32;
 /// A list in a value, seen as its members in order. Profile.
 pub struct List<T> {
     members: Vec<T>,
-    // The members, each once, where they are more than `FEW`, and some are repeated.
-    once: Vec<T>,
-    has_once: bool,
-    // Where more than `FEW` members are by their keys, each once: at the full level, and by definition if keys differ.
+    // Of more than `FEW` members that were read.
+    lookup: Option<Box<Lookup<T>>>,
+}
+
+// How members are found.
+#[derive(Drop)]
+struct Lookup<T> {
+    // The members, each once, if some are repeated.
+    once: Option<Vec<T>>,
+    // Where the members, each once, are by their keys: at the full level, and by definition if keys differ.
     places: Vec<Places>,
 }
 
 impl<T> Model for List<T> {
     ghost use Rattle.std.specs.Prelude as std;
-    ghost use Rattle.std.specs.Prelude.{◌≡◌, true};
+    ghost use Rattle.std.specs.Prelude.{IfSome};
     ghost use Rattle.crs_value.specs.Members.{HaveSameMembers};
 
     ghost Value = { std.List T };
 
     ghost view = { λ a. a.members.items };
 
-    ghost invariant = { λ a. a.has_once ≡ true → HaveSameMembers a.once.items a.members.items };
+    ghost invariant = { λ a. IfSome a.lookup (λ lookup. IfSome lookup.value.once
+        (λ once. HaveSameMembers once.items a.members.items)) };
 }
 
 // Hand-written: a derived drop is expanded wherever a value is dropped, which slows the proofs.
@@ -39,9 +46,7 @@ impl<T: Drop> Drop for List<T> {
     fn drop(self) {
         let List {
             members: _,
-            once: _,
-            has_once: _,
-            places: _,
+            lookup: _,
         } = self;
     }
 }
@@ -69,10 +74,12 @@ impl<T> List<T> {
     pub fn once(&self) -> &[T]
         ensures { HaveSameMembers result.now self.now }
     {
-        if self.has_once {
-            &self.once
-        } else {
-            &self.members
+        match &self.lookup {
+            Some(lookup) => match &lookup.once {
+                Some(once) => once,
+                None => &self.members,
+            },
+            None => &self.members,
         }
     }
 
@@ -83,18 +90,20 @@ impl<T> List<T> {
     }
 
     pub(crate) fn places(&self, level: Level) -> Option<&Places> {
+        let lookup = self.lookup.as_ref()?;
         match level {
-            Level::Full => self.places.get(0),
-            Level::Definition => self.places.get(1),
+            Level::Full => lookup.places.get(0),
+            Level::Definition => lookup.places.get(1),
         }
     }
 
     /// Changes each member. Profile.
     pub fn change_each<C: Change<T>>(&mut self, change: &C)
+    where
+        T: Drop,
         ensures { self.new ≡ map (C.changed change.now) self.old }
     {
-        self.has_once = false;
-        self.places.clear();
+        self.lookup = None;
         for member in self.members.iter_mut() {
             change.change(member);
         }
@@ -102,12 +111,13 @@ impl<T> List<T> {
 
     /// Puts two members in each other's place. Profile.
     pub fn swap(&mut self, first: usize, second: usize)
+    where
+        T: Drop,
         requires first { first < length self.old }
         requires second { second < length self.old }
         ensures { self.new ≡ swap self.old first second }
     {
-        self.has_once = false;
-        self.places.clear();
+        self.lookup = None;
         self.members.swap(first, second);
     }
 
@@ -117,8 +127,7 @@ impl<T> List<T> {
         T: Drop,
         ensures { self.new ≡ [] }
     {
-        self.has_once = false;
-        self.places.clear();
+        self.lookup = None;
         self.members.clear();
     }
 
@@ -127,9 +136,7 @@ impl<T> List<T> {
     {
         List {
             members: Vec::new(alloc),
-            once: Vec::new(alloc),
-            has_once: false,
-            places: Vec::new(alloc),
+            lookup: None,
         }
     }
 
@@ -139,7 +146,7 @@ impl<T> List<T> {
         T: Drop,
         ensures { IfOk result (λ _. self.new ≡ self.old ++ member ∷ []) }
     {
-        self.has_once = false;
+        self.lookup = None;
         self.members.push(member)?;
         Ok(())
     }
@@ -151,18 +158,23 @@ impl<T> List<T> {
         ensures { self.new ≡ self.old }
     {
         if self.members.len() > FEW {
-            let places = places_of(alloc, &self.members)?;
-            match T::once(alloc, &self.members, &places)? {
-                None => self.places = places,
-                Some(once) => {
-                    self.places = places_of(alloc, &once)?;
-                    self.once = once;
-                    self.has_once = true;
-                }
-            }
+            let lookup = lookup_of(alloc, &self.members)?;
+            self.lookup = Some(Box::new(alloc, lookup)?);
         }
         Ok(())
     }
+}
+
+fn lookup_of<T: Keyed + Drop>(alloc: Global, members: &[T]) -> Result<Lookup<T>, AllocError>
+    ensures { IfOk result (λ lookup. IfSome lookup.once (λ once. HaveSameMembers once.items members.now)) }
+{
+    let places = places_of(alloc, members)?;
+    let once = T::once(alloc, members, &places)?;
+    let places = match &once {
+        Some(once) => places_of(alloc, once)?,
+        None => places,
+    };
+    Ok(Lookup { once, places })
 }
 
 fn places_of<T: Keyed>(alloc: Global, members: &[T]) -> Result<Vec<Places>, AllocError> {

@@ -11,9 +11,9 @@ const NOWHERE: usize = usize::MAX;
 #[derive(Drop)]
 pub(crate) struct Places {
     // The keys of the members, in order.
-    keys: Vec<u64>,
+    keys: Vec<u128>,
     // Each of these keys with its member's place, ascending.
-    sorted: Vec<(u64, usize)>,
+    sorted: Vec<(u128, usize)>,
 }
 
 impl Places {
@@ -33,7 +33,7 @@ impl Places {
         Ok(Places { keys, sorted })
     }
 
-    pub(crate) fn key_of_set(&self) -> u64 {
+    pub(crate) fn key_of_set(&self) -> u128 {
         let mut key = SetKey::new();
         for entry in &self.sorted {
             key.put(entry.0);
@@ -67,24 +67,24 @@ impl Places {
     }
 
     // How many entries are less than this one.
-    fn rank(&self, key: u64, place: usize) -> usize {
+    fn rank(&self, key: u128, place: usize) -> usize {
         self.sorted.partition_point(|entry| entry.0 < key || (entry.0 == key && entry.1 < place))
     }
 
     // The place in the entry of this rank, if it is of this key.
-    fn place(&self, rank: usize, key: u64) -> usize {
+    fn place(&self, rank: usize, key: u128) -> usize {
         match self.sorted.get(rank) {
             Some(entry) if entry.0 == key => entry.1,
             _ => NOWHERE,
         }
     }
 
-    fn first(&self, key: u64) -> usize {
+    fn first(&self, key: u128) -> usize {
         self.place(self.rank(key, 0), key)
     }
 
     // The last place before this one.
-    fn before(&self, key: u64, at: usize) -> usize {
+    fn before(&self, key: u128, at: usize) -> usize {
         match self.rank(key, at).checked_sub(1) {
             Some(rank) => self.place(rank, key),
             None => NOWHERE,

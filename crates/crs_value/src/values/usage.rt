@@ -232,7 +232,7 @@ impl<'a> Node<'a> for Usage<'a> {
 }
 
 impl Keyed for Usage<'_> {
-    fn key(&self, _level: Level) -> u64 {
+    fn key(&self, _level: Level) -> u128 {
         let mut key = Key::new();
         key.put_optional_text(self.scope);
         key.put_optional_text(self.area);

@@ -145,7 +145,7 @@ impl<'a> Node<'a> for GeoidModel<'a> {
 }
 
 impl Keyed for GeoidModel<'_> {
-    fn key(&self, level: Level) -> u64 {
+    fn key(&self, level: Level) -> u128 {
         key_of_named(self.name, &self.identifiers, level)
     }
 
