@@ -102,9 +102,9 @@ impl Drop for Datum<'_> {
     }
 }
 
-impl Datum<'_> {
+impl<'a> Datum<'a> {
     // A reference frame that says nothing. It takes no memory.
-    fn nameless(alloc: Global) -> Datum<'static> {
+    fn nameless(alloc: Global) -> Datum<'a> {
         Datum {
             name: b"",
             ellipsoid: None,
