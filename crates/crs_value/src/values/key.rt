@@ -9,9 +9,9 @@ use crate::values::level::Level;
 use crate::values::list::{FEW, List};
 use crate::values::places::Places;
 use crate::values::unit::Unit;
-use crate::values::unit_kind::UnitKind;
 use crate::values::usage::{BoundingBox, Extent};
 use crs_decimal::Decimal;
+use crs_shape::UnitKind;
 use std::alloc::{AllocError, Global};
 use std::hash::{DefaultHasher, Hasher};
 
