@@ -102,9 +102,9 @@ impl Drop for Datum<'_> {
     }
 }
 
-impl<'a> Datum<'a> {
+impl Datum<'_> {
     // A reference frame that says nothing. It takes no memory.
-    fn nameless(alloc: Global) -> Datum<'a> {
+    fn nameless(alloc: Global) -> Datum<'static> {
         Datum {
             name: b"",
             ellipsoid: None,

@@ -1,5 +1,5 @@
 //! Lists.
-ghost use Rattle.std.specs.Prelude.{◌≡◌, ◌<◌, [], ◌∷◌, ◌++◌, IfOk, IfSome, length, map};
+ghost use Rattle.std.specs.Prelude.{◌≡◌, ◌<◌, [], ◌∷◌, ◌++◌, IfOk, IfSome, length, map, slice_get};
 ghost use Rattle.std.specs.List.{swap};
 ghost use Rattle.crs_value.specs.Members.{HaveSameMembers};
 
@@ -15,8 +15,8 @@ pub(crate) const FEW: usize = 32;
 /// A list in a value, seen as its members in order. Profile.
 pub struct List<T> {
     members: Vec<T>,
-    // Of more than `FEW` members that were read.
-    lookup: Option<Box<Lookup<T>>>,
+    // One, where more than `FEW` members were read, else none. No `Box`, since what is in one keeps its lifetime.
+    lookups: Vec<Lookup<T>>,
 }
 
 // How members are found.
@@ -30,14 +30,14 @@ struct Lookup<T> {
 
 impl<T> Model for List<T> {
     ghost use Rattle.std.specs.Prelude as std;
-    ghost use Rattle.std.specs.Prelude.{IfSome};
+    ghost use Rattle.std.specs.Prelude.{IfSome, slice_get};
     ghost use Rattle.crs_value.specs.Members.{HaveSameMembers};
 
     ghost Value = { std.List T };
 
     ghost view = { λ a. a.members.items };
 
-    ghost invariant = { λ a. IfSome a.lookup (λ lookup. IfSome lookup.value.once
+    ghost invariant = { λ a. IfSome (slice_get a.lookups.items 0) (λ lookup. IfSome lookup.once
         (λ once. HaveSameMembers once.items a.members.items)) };
 }
 
@@ -46,7 +46,7 @@ impl<T: Drop> Drop for List<T> {
     fn drop(self) {
         let List {
             members: _,
-            lookup: _,
+            lookups: _,
         } = self;
     }
 }
@@ -74,7 +74,7 @@ impl<T> List<T> {
     pub fn once(&self) -> &[T]
         ensures { HaveSameMembers result.now self.now }
     {
-        match &self.lookup {
+        match self.lookups.first() {
             Some(lookup) => match &lookup.once {
                 Some(once) => once,
                 None => &self.members,
@@ -90,7 +90,7 @@ impl<T> List<T> {
     }
 
     pub(crate) fn places(&self, level: Level) -> Option<&Places> {
-        let lookup = self.lookup.as_ref()?;
+        let lookup = self.lookups.first()?;
         match level {
             Level::Full => lookup.places.get(0),
             Level::Definition => lookup.places.get(1),
@@ -103,7 +103,7 @@ impl<T> List<T> {
         T: Drop,
         ensures { self.new ≡ map (C.changed change.now) self.old }
     {
-        self.lookup = None;
+        self.lookups.clear();
         for member in self.members.iter_mut() {
             change.change(member);
         }
@@ -117,7 +117,7 @@ impl<T> List<T> {
         requires second { second < length self.old }
         ensures { self.new ≡ swap self.old first second }
     {
-        self.lookup = None;
+        self.lookups.clear();
         self.members.swap(first, second);
     }
 
@@ -127,7 +127,7 @@ impl<T> List<T> {
         T: Drop,
         ensures { self.new ≡ [] }
     {
-        self.lookup = None;
+        self.lookups.clear();
         self.members.clear();
     }
 
@@ -136,7 +136,7 @@ impl<T> List<T> {
     {
         List {
             members: Vec::new(alloc),
-            lookup: None,
+            lookups: Vec::new(alloc),
         }
     }
 
@@ -146,7 +146,7 @@ impl<T> List<T> {
         T: Drop,
         ensures { IfOk result (λ _. self.new ≡ self.old ++ member ∷ []) }
     {
-        self.lookup = None;
+        self.lookups.clear();
         self.members.push(member)?;
         Ok(())
     }
@@ -158,11 +158,20 @@ impl<T> List<T> {
         ensures { self.new ≡ self.old }
     {
         if self.members.len() > FEW {
-            let lookup = lookup_of(alloc, &self.members)?;
-            self.lookup = Some(Box::new(alloc, lookup)?);
+            self.lookups = lookups_of(alloc, &self.members)?;
         }
         Ok(())
     }
+}
+
+// One.
+fn lookups_of<T: Keyed + Drop>(alloc: Global, members: &[T]) -> Result<Vec<Lookup<T>>, AllocError>
+    ensures { IfOk result (λ lookups. IfSome (slice_get lookups.items 0) (λ lookup. IfSome lookup.once
+        (λ once. HaveSameMembers once.items members.now))) }
+{
+    let mut lookups = Vec::with_capacity(alloc, 1)?;
+    lookups.push(lookup_of(alloc, members)?)?;
+    Ok(lookups)
 }
 
 fn lookup_of<T: Keyed + Drop>(alloc: Global, members: &[T]) -> Result<Lookup<T>, AllocError>
