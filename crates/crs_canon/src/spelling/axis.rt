@@ -95,10 +95,10 @@ fn write_optional_meridian(
 }
 
 // The unit that the axis has by itself or shares.
-fn write_axis_unit(
+fn write_axis_unit<'a>(
     out: &mut Vec<u8>,
-    system: &System<'_>,
-    axis: &Axis<'_>,
+    system: &System<'a>,
+    axis: &Axis<'a>,
     level: Level,
 ) -> Result<(), AllocError>
     ensures { OnOk result (out.new.items ≡ out.old.items ++ others_text (opt item_unit (norm_units level
@@ -109,10 +109,10 @@ fn write_axis_unit(
 }
 
 #[tactic(auto, using(crate::proofs::PieceLemmas::then_rules))]
-fn write_from_unit(
+fn write_from_unit<'a>(
     out: &mut Vec<u8>,
-    system: &System<'_>,
-    axis: &Axis<'_>,
+    system: &System<'a>,
+    axis: &Axis<'a>,
     level: Level,
 ) -> Result<(), AllocError>
     ensures { OnOk result (out.new.items ≡ out.old.items ++ others_text (opt item_unit (norm_units level
@@ -124,10 +124,10 @@ fn write_from_unit(
 }
 
 #[tactic(auto, using(crate::proofs::PieceLemmas::then_rules))]
-fn write_from_order(
+fn write_from_order<'a>(
     out: &mut Vec<u8>,
-    system: &System<'_>,
-    axis: &Axis<'_>,
+    system: &System<'a>,
+    axis: &Axis<'a>,
     position: u64,
     level: Level,
 ) -> Result<(), AllocError>
@@ -141,10 +141,10 @@ fn write_from_order(
 }
 
 #[tactic(auto, using(crate::proofs::PieceLemmas::then_rules))]
-fn write_from_meridian(
+fn write_from_meridian<'a>(
     out: &mut Vec<u8>,
-    system: &System<'_>,
-    axis: &Axis<'_>,
+    system: &System<'a>,
+    axis: &Axis<'a>,
     position: u64,
     level: Level,
 ) -> Result<(), AllocError>
@@ -159,10 +159,10 @@ fn write_from_meridian(
 }
 
 #[tactic(auto, using(crate::proofs::PieceLemmas::then_rules))]
-fn write_from_direction(
+fn write_from_direction<'a>(
     out: &mut Vec<u8>,
-    system: &System<'_>,
-    axis: &Axis<'_>,
+    system: &System<'a>,
+    axis: &Axis<'a>,
     position: u64,
     level: Level,
 ) -> Result<(), AllocError>
@@ -179,10 +179,10 @@ fn write_from_direction(
 
 // After a comma; the axis of a system at this position.
 #[tactic(auto, unfolding(crs_normal::specs::SpelledSystems::norm_axis))]
-pub(crate) fn write_axis(
+pub(crate) fn write_axis<'a>(
     out: &mut Vec<u8>,
-    system: &System<'_>,
-    axis: &Axis<'_>,
+    system: &System<'a>,
+    axis: &Axis<'a>,
     position: u64,
     level: Level,
 ) -> Result<(), AllocError>

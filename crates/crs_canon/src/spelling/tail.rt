@@ -18,10 +18,10 @@ use crs_value::{Level, Tail, Usage};
 use std::alloc::AllocError;
 
 // The bare parts are together one usage more.
-fn write_usage_set(
+fn write_usage_set<'a>(
     out: &mut Vec<u8>,
-    bare: Option<&Usage<'_>>,
-    usages: &[Usage<'_>],
+    bare: Option<&Usage<'a>>,
+    usages: &[Usage<'a>],
 ) -> Result<(), AllocError>
     ensures { OnOk result (out.new.items ≡ out.old.items ++ set_text
         (map (λ u. item_text (item_usage (norm_usage u))) (with_bare (option_copied bare.entry) usages.now))) }
