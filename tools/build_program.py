@@ -32,7 +32,7 @@ TARGET = "x86_64-unknown-linux-gnu"
 BESIDE = 15
 # Seconds of each crate, as this script measured them on four cores and nothing else at work (docs/GATE.md): the time
 # left is estimated by them, and by how much slower or faster the crates before were. Those of crs_streams, crs_group and
-# crs_desk are estimates, since the run of group moved.
+# crs_desk are estimates, since the run of group moved; so are those of crs_writer and crs_canon, which were one crate.
 KNOWN_SECONDS = {
     "crs_decimal": 22,
     "crs_text": 40,
@@ -40,7 +40,8 @@ KNOWN_SECONDS = {
     "crs_value": 91,
     "crs_same": 60,
     "crs_normal": 15,
-    "crs_canon": 109,
+    "crs_writer": 55,
+    "crs_canon": 60,
     "crs_streams": 15,
     "crs_group": 55,
     "crs_hint": 60,

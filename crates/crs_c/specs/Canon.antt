@@ -1,7 +1,7 @@
 -- What crsdesk_canon answers.
 use Rattle.std.specs.Prelude.{◌⊎◌, ℕ, List}
 use Rattle.crs_value.specs.declared.values.level.Level.{Level}
-use Rattle.crs_canon.specs.Canonical.{IsCanonicalOf}
+use Rattle.crs_writer.specs.Canonical.{IsCanonicalOf}
 use Rattle.crs_c.specs.Answers.{Answer, IsAtLevel, IsRefusedBy, IsWithoutMemory}
 use Rattle.crs_c.specs.Buffers.{Buffer, Gives}
 

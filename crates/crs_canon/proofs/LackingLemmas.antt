@@ -10,9 +10,9 @@ use Rattle.crs_value.specs.Sound.{Each}
 use Rattle.crs_normal.specs.Ascending.{Ascends, Below, IsIn}
 use Rattle.crs_normal.specs.Ordered.{in_order}
 use Rattle.crs_canon.specs.ContentText.{IsLackingText}
-use Rattle.crs_canon.specs.Members.{ArePut, lacking, spellings}
-use Rattle.crs_canon.specs.SetText.{SpellsOneOf, comma_separated}
-use Rattle.crs_canon.proofs.SetLemmas.{compared}
+use Rattle.crs_writer.specs.Members.{ArePut, lacking, spellings}
+use Rattle.crs_writer.specs.SetText.{SpellsOneOf, comma_separated}
+use Rattle.crs_writer.proofs.SetLemmas.{compared}
 use Rattle.crs_canon.proofs.SetTextLemmas.{spellings-tell}
 
 -- ---- keys without those of another set

@@ -8,7 +8,7 @@ use Rattle.crs_value.specs.declared.values.level.Level.TheVariants as levels
 use Rattle.crs_same.specs.SameCrs.{SameCrs}
 use Rattle.crs_same.specs.Sameness.{IsSamenessOf}
 use Rattle.crs_normal.specs.Normal.{IsNormalText}
-use Rattle.crs_canon.specs.Canonical.{IsCanonicalOf, IsCanonicalText}
+use Rattle.crs_writer.specs.Canonical.{IsCanonicalOf, IsCanonicalText}
 
 module _ (laws : (level : Level) → IsSamenessOf IsCrs (SameCrs level)) (sound : (text : List ℕ) (crs : Crs) → Spells text crs → IsCrs crs)
     (once : (text : List ℕ) (a b : Crs) → Spells text a → Spells text b → a ≡ b)

@@ -6,7 +6,7 @@ use Rattle.crs_same.specs.Sets.{AllHaveSame, HasSame, SameSet}
 use Rattle.crs_normal.specs.Ascending.{Ascends, IsIn}
 use Rattle.crs_normal.specs.CanonicalForm.{IsCanonicalForm}
 use Rattle.crs_normal.specs.Closed.{IsClosed}
-use Rattle.crs_canon.specs.SetText.{HaveOneTextWhereSame, IsSetText, SpellsOneOf, commas, comma_separated}
+use Rattle.crs_writer.specs.SetText.{HaveOneTextWhereSame, IsSetText, SpellsOneOf, commas, comma_separated}
 
 -- ---- closed texts after one another
 

@@ -2,9 +2,9 @@
 use Rattle.std.proofs.Common.{◌≡◌, ◌↔◌, ◌∙◌, ℕ, List, [], ◌∷◌, inl, inr, map, refl, sym, ap, subst}
 use Rattle.crs_normal.specs.Ascending.{Ascends, IsIn}
 use Rattle.crs_normal.specs.Ordered.{in_order, put_all}
-use Rattle.crs_canon.specs.Canonical.{AppendsSpelling}
-use Rattle.crs_canon.specs.Members.{AppendsAll, AreSpellingsOf, ArePut, IsOnlySpelling}
-use Rattle.crs_canon.specs.SetText.{IsSetText, SpellsOneOf, comma_separated}
+use Rattle.crs_writer.specs.Canonical.{AppendsSpelling}
+use Rattle.crs_writer.specs.Members.{AppendsAll, AreSpellingsOf, ArePut, IsOnlySpelling}
+use Rattle.crs_writer.specs.SetText.{IsSetText, SpellsOneOf, comma_separated}
 
 module _ {V : Type 0} (IsSpelling : V → List ℕ → Type 0) where
   -- the spelling of a value, which has one alone

@@ -13,7 +13,7 @@ use Rattle.crs_normal.specs.PartSpellings.{IsSpelledAxisMeridian, IsSpelledDefor
 use Rattle.crs_normal.specs.PartSpellings.{IsSpelledGeoidModel, IsSpelledIdent, IsSpelledMember}
 use Rattle.crs_normal.specs.PartSpellings.{IsSpelledParameter, IsSpelledUsage, unit_class}
 use Rattle.crs_normal.specs.SpelledAs.{IsSpelledAs}
-use Rattle.crs_canon.specs.SetText.{IsSetText, SpellsOneOf}
+use Rattle.crs_writer.specs.SetText.{IsSetText, SpellsOneOf}
 
 -- the bytes are the text of the set of those xs whose spelling none of the others has
 abbrev pub IsLackingText : {V : Type 0} → (V → List ℕ → Type 0) → List V → List V → List ℕ → Type 0

@@ -1,12 +1,3 @@
-pub mod Canonical
 pub mod ContentText
-pub mod Direct
-pub mod CrsText
-pub mod Equality
-pub mod EqualityLaws
 pub mod Examples
 pub mod MainTheorem
-pub mod Members
-pub mod Openings
-pub mod SetText
-pub mod Spans

@@ -5,7 +5,7 @@ use Rattle.crs_value.specs.SpellsText.{Spells, Refuses}
 use Rattle.crs_value.specs.declared.values.crs.Crs.{Crs}
 use Rattle.crs_value.specs.declared.values.level.Level.{Level}
 use Rattle.crs_same.specs.SameCrs.{SameCrs}
-use Rattle.crs_canon.specs.Canonical.{IsCanonicalOf}
+use Rattle.crs_writer.specs.Canonical.{IsCanonicalOf}
 
 -- the text spells some CRS
 abbrev pub IsAccepted : List ℕ → Type 0

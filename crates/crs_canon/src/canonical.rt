@@ -1,20 +1,11 @@
 //! Nodes that are compared and written by themselves.
 ghost use Rattle.std.specs.Prelude.{◌≡◌, ◌↔◌, ◌++◌, ◌∷◌, ℕ, IsTrue, List, MatchResult, OnOk};
-ghost use Rattle.crs_value.specs.SoundCrs.{IsCrs};
 ghost use Rattle.crs_value.specs.declared.values.level.Level.{Level};
-ghost use Rattle.crs_same.specs.SameCrs.{SameCrs};
 ghost use Rattle.crs_normal.specs.CanonicalForm.{IsCanonicalForm};
-ghost use Rattle.crs_normal.specs.WrittenForm.{IsWrittenForm};
-ghost use Rattle.crs_canon.specs.Canonical.{AppendsSpelling, IsCanonicalText};
-ghost use Rattle.crs_canon.specs.CrsText.{crs_text};
+ghost use Rattle.crs_writer.specs.Canonical.{AppendsSpelling};
 
-use crate::spelling::texts::append;
-use crs_normal::laws::texts::{
-    normal_text_is_closed_node, normal_texts_are_equal_where_same, one_form_is_the_same,
-    spelled_crs_is_sound, written_form_is_accepted, written_form_is_normal,
-};
-use crs_same::laws::same_crs_is_equivalence;
 use crs_value::Level;
+use crs_writer::pieces::append;
 use std::alloc::{AllocError, Global};
 
 /// A value whose spelling is appended piece by piece. This crate alone has such values.
@@ -80,18 +71,4 @@ pub(crate) fn write_part<T: Spell>(
 {
     append(out, b",")?;
     node.spell(out, level)
-}
-
-// The text that is written for a CRS is its canonical text, which is one and closed, and shows which CRSs are the
-// same.
-pub(crate) fn crss_are_canonical()
-    ensures { (level : Level) → IsWrittenForm IsCrs (SameCrs level) (IsCanonicalText level) (crs_text level) }
-{
-    written_form_is_normal();
-    written_form_is_accepted();
-    one_form_is_the_same();
-    normal_texts_are_equal_where_same();
-    normal_text_is_closed_node();
-    same_crs_is_equivalence();
-    spelled_crs_is_sound();
 }

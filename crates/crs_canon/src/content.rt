@@ -3,20 +3,20 @@ ghost use Rattle.std.specs.Prelude.{◌≡◌, MatchResult, OnOk};
 ghost use Rattle.crs_value.specs.declared.values.level.Level.TheVariants as levels;
 ghost use Rattle.crs_same.specs.declared.content.Content.TheVariants as content;
 ghost use Rattle.crs_normal.specs.PartSpellings.{IsSpelledUsage};
-ghost use Rattle.crs_canon.specs.Canonical.{AppendsSpelling};
+ghost use Rattle.crs_writer.specs.Canonical.{AppendsSpelling};
 ghost use Rattle.crs_canon.specs.ContentText.{IsContentText};
-ghost use Rattle.crs_canon.specs.Members.{ArePut, spellings};
+ghost use Rattle.crs_writer.specs.Members.{ArePut, spellings};
 
 use crate::canonical::Canonical;
 use crate::lacking::{append_lacking, append_lacking_members};
 use crate::set::{gather, gather_all};
 use crate::set_view::are_spelled;
-use crate::spelling::texts::open_text;
 use crate::spelling::unit::write_unit;
 use crs_decimal::Decimal;
 use crs_normal::laws::{parts, sets};
 use crs_same::{Content, Usages};
 use crs_value::{Level, Unit, UnitKind};
+use crs_writer::pieces::open_text;
 use std::alloc::{AllocError, Global};
 use std::collections::BTreeSet;
 

@@ -1,16 +1,16 @@
 //! The members of a set that another lacks.
 ghost use Rattle.std.specs.Prelude.{◌≡◌, ◌++◌, MatchResult, OnOk};
-ghost use Rattle.crs_canon.specs.Canonical.{AppendsSpelling};
+ghost use Rattle.crs_writer.specs.Canonical.{AppendsSpelling};
 ghost use Rattle.crs_canon.specs.ContentText.{IsLackingText};
-ghost use Rattle.crs_canon.specs.Members.{lacking, spellings};
-ghost use Rattle.crs_canon.specs.SetText.{commas, comma_separated};
+ghost use Rattle.crs_writer.specs.Members.{lacking, spellings};
+ghost use Rattle.crs_writer.specs.SetText.{commas, comma_separated};
 
 use crate::canonical::Canonical;
 use crate::set::gather_all;
 use crate::set_view::{append_members, are_spelled};
-use crate::spelling::texts::append;
 use crs_normal::laws::sets;
 use crs_value::Level;
+use crs_writer::pieces::append;
 use std::alloc::{AllocError, Global};
 use std::collections::BTreeSet;
 

@@ -6,18 +6,19 @@ ghost use Rattle.crs_value.specs.declared.values.crs.Crs.{Crs};
 ghost use Rattle.crs_value.specs.declared.values.level.Level.{Level};
 ghost use Rattle.crs_value.specs.declared.values.level.Level.TheVariants as levels;
 ghost use Rattle.crs_same.specs.SameCrs.{SameCrs};
-ghost use Rattle.crs_canon.specs.Canonical.{CanonicalText, IsCanonicalOf, IsCanonicalText};
-ghost use Rattle.crs_canon.specs.Equality.{canon_writes, canons_equal};
+ghost use Rattle.crs_writer.specs.Canonical.{CanonicalText, IsCanonicalOf, IsCanonicalText};
+ghost use Rattle.crs_writer.specs.Equality.{canon_writes, canons_equal};
 ghost use Rattle.crs_canon.specs.Examples.{DigestsArePublished, DigestsAreRusts};
 ghost use Rattle.crs_canon.specs.MainTheorem.{MainTheorem, SpellSame};
-ghost use Rattle.crs_canon.specs.SetText.{HaveOneTextWhereSame};
+ghost use Rattle.crs_writer.specs.SetText.{HaveOneTextWhereSame};
 
-use crate::canonical::{Canonical, crss_are_canonical};
+use crate::canonical::Canonical;
 use crs_normal::laws::parts::closed_texts;
 use crs_normal::laws::sets::texts_are_in_order;
 use crs_normal::laws::texts::{normal_text_is_normal_at_full, spelled_crs_is_sound};
 use crs_same::laws::{same_crs_is_equivalence, same_crs_is_same_by_definition};
 use crs_value::laws::one_answer;
+use crs_writer::laws::crss_are_canonical;
 
 /// Each CRS has a canonical text, and those of two CRSs are equal, byte for byte, exactly where the CRSs are the same.
 /// Profile.

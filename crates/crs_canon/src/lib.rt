@@ -2,19 +2,16 @@
 #![tactic(auto)]
 
 mod answer;
-mod canon_text;
 mod canonical;
 mod content;
-mod direct;
 mod lacking;
 pub mod laws;
 mod set;
 mod set_view;
-mod spans;
 mod spelling;
 
-pub use answer::{canon, canon_in, canon_of};
-pub use canon_text::Canon;
+pub use answer::canon_of;
 pub use canonical::Canonical;
 pub use content::write_content;
+pub use crs_writer::{Canon, canon, canon_in};
 pub use set_view::Set;

@@ -1,26 +1,14 @@
 //! Sets: each spelling once, in ascending order of the bytes.
 ghost use Rattle.std.specs.Prelude.{◌≡◌, ◌∷◌, ◌++◌, [], ℕ, List, map, OnOk};
 ghost use Rattle.crs_normal.specs.Ordered.{put, put_all};
-ghost use Rattle.crs_canon.specs.Members.{set_text, spellings};
-ghost use Rattle.crs_canon.specs.SetText.{commas};
-ghost use Rattle.crs_canon.specs.Spans.{AreAllPut, AreInOrder, IsPutAmong};
+ghost use Rattle.crs_writer.specs.Members.{set_text, spellings};
+ghost use Rattle.crs_writer.specs.Spans.{AreAllPut, AreInOrder, IsPutAmong};
 
 use crate::canonical::{Spell, write_part};
-use crate::spans::{Span, put_last, write_spans};
-use crate::spelling::texts::append;
 use crs_value::Level;
+use crs_writer::pieces::{FEW, FEW_ROOM, MEMBER_ROOM, Span, put_last, write_sorted, write_spans};
 use std::alloc::{AllocError, Global};
 use std::collections::BTreeSet;
-
-/// The room that a member's spelling is given at first, which most don't exceed: a vector that grows from nothing is
-/// copied several times on its way there.
-pub(crate) const MEMBER_ROOM: usize = 128;
-
-// Up to this many members are few: each is compared with all that are there.
-pub(crate) const FEW: usize = 16;
-
-// The room that the spellings of a few members are given at first.
-pub(crate) const FEW_ROOM: usize = 1024;
 
 // Puts a member's spelling among the others.
 pub(crate) fn gather<T: Spell>(
@@ -49,16 +37,6 @@ pub(crate) fn gather_all<T: Spell>(
 {
     for member in members {
         gather(alloc, sorted, member, level)?;
-    }
-    Ok(())
-}
-
-pub(crate) fn write_sorted(out: &mut Vec<u8>, sorted: &BTreeSet<Vec<u8>>) -> Result<(), AllocError>
-    ensures { OnOk result (out.new.items ≡ out.old.items ++ commas (spellings sorted.now.keys)) }
-{
-    for bytes in sorted {
-        append(out, b",")?;
-        append(out, bytes)?;
     }
     Ok(())
 }
@@ -96,7 +74,7 @@ fn gather_spans<T: Spell>(
 }
 
 // Two members or a few more.
-#[tactic(auto, unfolding(crate::specs::Members::set_text))]
+#[tactic(auto, unfolding(crs_writer::specs::Members::set_text))]
 fn write_few<T: Spell>(
     out: &mut Vec<u8>,
     first: &T,
@@ -115,7 +93,7 @@ fn write_few<T: Spell>(
 }
 
 // Two members or more.
-#[tactic(auto, unfolding(crate::specs::Members::set_text))]
+#[tactic(auto, unfolding(crs_writer::specs::Members::set_text))]
 fn write_many<T: Spell>(
     out: &mut Vec<u8>,
     first: &T,
@@ -133,7 +111,7 @@ fn write_many<T: Spell>(
 }
 
 // A set of a member and others. Most have no others, and need no order.
-#[tactic(auto, unfolding(crate::specs::Members::set_text))]
+#[tactic(auto, unfolding(crs_writer::specs::Members::set_text))]
 pub(crate) fn write_set_with<T: Spell>(
     out: &mut Vec<u8>,
     first: &T,
@@ -151,7 +129,7 @@ pub(crate) fn write_set_with<T: Spell>(
 }
 
 // A set, a comma before each member.
-#[tactic(auto, unfolding(crate::specs::Members::set_text))]
+#[tactic(auto, unfolding(crs_writer::specs::Members::set_text))]
 pub(crate) fn write_set<T: Spell>(
     out: &mut Vec<u8>,
     members: &[T],

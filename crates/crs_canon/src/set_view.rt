@@ -4,9 +4,9 @@ ghost use Rattle.crs_value.specs.Sound.{Each};
 ghost use Rattle.crs_value.specs.declared.values.level.Level.{Level};
 ghost use Rattle.crs_same.specs.Sets.{AllHaveSame, HasSame, SameSet};
 ghost use Rattle.crs_normal.specs.Ascending.{IsIn};
-ghost use Rattle.crs_canon.specs.Canonical.{AppendsSpelling};
-ghost use Rattle.crs_canon.specs.Members.{AppendsAll, AreSpellingsOf};
-ghost use Rattle.crs_canon.specs.SetText.{HaveOneTextWhereSame, IsSetText, commas, comma_separated};
+ghost use Rattle.crs_writer.specs.Canonical.{AppendsSpelling};
+ghost use Rattle.crs_writer.specs.Members.{AppendsAll, AreSpellingsOf};
+ghost use Rattle.crs_writer.specs.SetText.{HaveOneTextWhereSame, IsSetText, commas, comma_separated};
 
 use crate::canonical::Canonical;
 use crate::set::write_set;

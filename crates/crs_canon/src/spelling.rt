@@ -11,6 +11,5 @@ pub(crate) mod ident;
 pub(crate) mod meridian;
 pub(crate) mod system;
 pub(crate) mod tail;
-pub(crate) mod texts;
 pub(crate) mod unit;
 pub(crate) mod usage;

@@ -5,7 +5,7 @@ use Rattle.crs_value.specs.declared.values.crs.Kind.{Kind}
 use Rattle.crs_value.specs.declared.values.crs.Kind.TheVariants as kind
 use Rattle.crs_value.specs.SpellsText.{SpellsKind, Refuses}
 use Rattle.crs_value.specs.declared.values.level.Level.{Level}
-use Rattle.crs_canon.specs.Canonical.{IsCanonicalOf}
+use Rattle.crs_writer.specs.Canonical.{IsCanonicalOf}
 
 -- the word for a kind of CRS
 abbrev pub kind_word : Kind → List ℕ

@@ -12,7 +12,7 @@ use Rattle.std.proofs.Common.{Result, Ok, Err}
 use Rattle.std.specs.declared.alloc.AllocError.{AllocError}
 use Rattle.crs_value.specs.SpellsText.{Refuses, IsFaultOfText}
 use Rattle.crs_value.specs.declared.values.level.Level.{Level}
-use Rattle.crs_canon.specs.Canonical.{CanonicalText, IsCanonicalOf}
+use Rattle.crs_writer.specs.Canonical.{CanonicalText, IsCanonicalOf}
 use Rattle.crs_canon.specs.MainTheorem.{MainTheorem}
 use Rattle.crs_group.specs.Catalogue.{Line, GroupParts, CatalogueParts, line_of, nth}
 use Rattle.crs_group.specs.GroupTexts.{IsCatalogue, IsCatalogueOf, IsUnder, canons, then_line}

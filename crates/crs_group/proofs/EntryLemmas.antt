@@ -5,9 +5,9 @@ use Rattle.std.specs.Map.{keys_of, values_of, lookup}
 use Rattle.std.proofs.lemmas.List.Quantifiers.{position-Some}
 use Rattle.std.proofs.lemmas.Option.{slice_get-get_or}
 use Rattle.indexmap.specs.IndexMap.{set_value_at}
-use Rattle.crs_canon.specs.Canonical.{CanonicalText}
-use Rattle.crs_canon.specs.Equality.{canons_equal}
-use Rattle.crs_canon.specs.EqualityLaws.{canons-decide}
+use Rattle.crs_writer.specs.Canonical.{CanonicalText}
+use Rattle.crs_writer.specs.Equality.{canons_equal}
+use Rattle.crs_writer.specs.EqualityLaws.{canons-decide}
 use Rattle.crs_group.specs.Entries.{entry_group, groups_of}
 use Rattle.crs_group.specs.GroupTexts.{canons}
 use Rattle.crs_group.specs.Putting.{IsJoined, IsNew, group_of}

@@ -2,7 +2,7 @@
 use Rattle.std.specs.Prelude.{ℕ, zero, suc, List, Option, None, slice_get}
 use Rattle.crs_text.specs.Refusal.{RefusedAt}
 use Rattle.crs_value.specs.declared.values.level.Level.{Level}
-use Rattle.crs_canon.specs.Canonical.{CanonicalText}
+use Rattle.crs_writer.specs.Canonical.{CanonicalText}
 
 -- a line as it is added: its number, and its text
 pub record Line : Type 0 where

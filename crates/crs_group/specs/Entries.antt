@@ -1,6 +1,6 @@
 -- A bridge: the groups that the entries of a map are.
 use Rattle.std.specs.Prelude.{ℕ, List, map}
-use Rattle.crs_canon.specs.Canonical.{CanonicalText}
+use Rattle.crs_writer.specs.Canonical.{CanonicalText}
 use Rattle.crs_group.specs.Catalogue.{GroupParts}
 
 -- the group of an entry: its canonical text, and the numbers of its lines

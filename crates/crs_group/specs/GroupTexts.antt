@@ -1,7 +1,7 @@
 -- The texts of a catalogue's groups.
 use Rattle.std.specs.Prelude.{◌≡◌, ◌++◌, ◌∷◌, [], ℕ, List, Some, map}
 use Rattle.crs_value.specs.declared.values.level.Level.{Level}
-use Rattle.crs_canon.specs.Canonical.{CanonicalText, IsCanonicalOf}
+use Rattle.crs_writer.specs.Canonical.{CanonicalText, IsCanonicalOf}
 use Rattle.crs_group.specs.Catalogue.{Line, GroupParts, CatalogueParts, line_of, nth}
 use Rattle.crs_group.specs.Partition.{IsPartition, PlacedLine}
 use Rattle.crs_value.specs.Sound.{Each}

@@ -4,7 +4,7 @@ use Rattle.std.specs.Prelude.{slice_set}
 use Rattle.crs_text.specs.Refusal.{RefusedAt}
 use Rattle.crs_text.specs.declared.fault.Fault.{Fault}
 use Rattle.crs_text.specs.declared.fault.Fault.TheVariants as faults
-use Rattle.crs_canon.specs.Canonical.{CanonicalText}
+use Rattle.crs_writer.specs.Canonical.{CanonicalText}
 use Rattle.crs_group.specs.Catalogue.{GroupParts}
 use Rattle.crs_group.specs.GroupTexts.{canons}
 use Rattle.crs_group.specs.declared.placed.Placed.{Placed}

@@ -5,7 +5,7 @@ ghost use Rattle.std.specs.Option.{option_copied, option_map};
 ghost use Rattle.std.specs.List.{list_all};
 ghost use Rattle.crs_text.specs.Tokens.{is_white};
 ghost use Rattle.crs_value.specs.SpellsText.{IsFaultOfText};
-ghost use Rattle.crs_canon.specs.Canonical.{IsCanonicalOf};
+ghost use Rattle.crs_writer.specs.Canonical.{IsCanonicalOf};
 ghost use Rattle.crs_group.specs.Catalogue.{Line, line_of, nth};
 ghost use Rattle.crs_group.specs.GroupTexts.{IsCatalogue, IsCatalogueOf, then_line};
 ghost use Rattle.crs_group.specs.Partition.{PlacedLine};

@@ -13,7 +13,7 @@ use Rattle.crs_same.specs.Sameness.{IsSamenessOf}
 use Rattle.crs_normal.specs.AxisAlone.{IsSpelledAxis}
 use Rattle.crs_normal.specs.PartTexts.{axis_text}
 use Rattle.crs_normal.specs.WrittenForm.{IsWrittenForm}
-use Rattle.crs_canon.specs.Canonical.{IsCanonicalOf, IsCanonicalText}
+use Rattle.crs_writer.specs.Canonical.{IsCanonicalOf, IsCanonicalText}
 use Rattle.crs_canon.specs.MainTheorem.{MainTheorem, IsAccepted, SpellSame}
 use Rattle.crs_rules.specs.Rules.{RulesParts, meaning}
 use Rattle.crs_rules.specs.Rewritten.{rewritten}

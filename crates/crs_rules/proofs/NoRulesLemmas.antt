@@ -17,7 +17,7 @@ use Rattle.crs_value.specs.declared.values.frame.Frame.TheVariants as frames
 use Rattle.crs_value.specs.declared.values.level.Level.{Level}
 use Rattle.crs_value.specs.declared.values.level.Level.TheVariants as levels
 use Rattle.crs_normal.specs.PartTexts.{axis_text}
-use Rattle.crs_canon.specs.Canonical.{IsCanonicalOf, IsCanonicalText}
+use Rattle.crs_writer.specs.Canonical.{IsCanonicalOf, IsCanonicalText}
 use Rattle.crs_canon.specs.MainTheorem.{MainTheorem}
 use Rattle.crs_rules.specs.NoRules.{no_rules}
 use Rattle.crs_rules.specs.Rewritten.{across, axis, axis_meridian, base, compound, conversion, datum, dynamic, dynamics, ellipsoid, ensemble, extent, frame_or_ensemble, geodetic, is_idle, meridian, named, parameter, projected, rewritten, system, tail, units, usage, vertical}

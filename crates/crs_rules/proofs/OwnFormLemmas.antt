@@ -9,7 +9,7 @@ use Rattle.crs_value.specs.declared.values.level.Level.{Level}
 use Rattle.crs_same.specs.SameCrs.{SameCrs}
 use Rattle.crs_normal.specs.Normal.{IsNormalText}
 use Rattle.crs_normal.specs.SpelledCrs.{item_crs, norm_crs}
-use Rattle.crs_canon.specs.Canonical.{IsCanonicalOf, IsCanonicalText}
+use Rattle.crs_writer.specs.Canonical.{IsCanonicalOf, IsCanonicalText}
 use Rattle.crs_canon.specs.MainTheorem.{MainTheorem}
 use Rattle.crs_rules.specs.LowerLaws.{FormLaws, SetLaws}
 use Rattle.crs_rules.specs.ReorderedAxes.{IsCrsReordered}

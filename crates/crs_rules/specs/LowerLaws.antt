@@ -20,7 +20,7 @@ use Rattle.crs_normal.specs.SpelledConversions.{item_geoid_model, item_parameter
 use Rattle.crs_normal.specs.SpelledCrs.{item_crs, norm_crs}
 use Rattle.crs_normal.specs.SpelledFrames.{item_member}
 use Rattle.crs_normal.specs.SpelledUnits.{item_ident}
-use Rattle.crs_canon.specs.Canonical.{IsCanonicalText}
+use Rattle.crs_writer.specs.Canonical.{IsCanonicalText}
 
 -- what is known of sets, and of parameters and axes that have one text
 pub record SetLaws : Type 0 where

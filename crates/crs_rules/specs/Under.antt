@@ -7,7 +7,7 @@ use Rattle.crs_value.specs.declared.values.crs.Crs.{Crs}
 use Rattle.crs_value.specs.declared.values.level.Level.{Level}
 use Rattle.crs_value.specs.declared.values.level.Level.TheVariants as levels
 use Rattle.crs_normal.specs.AxisAlone.{IsSpelledAxis}
-use Rattle.crs_canon.specs.Canonical.{IsCanonicalText, IsCanonicalOf}
+use Rattle.crs_writer.specs.Canonical.{IsCanonicalText, IsCanonicalOf}
 use Rattle.crs_rules.specs.Rewritten.{rewritten}
 use Rattle.crs_rules.specs.Rules.{RulesParts, meaning}
 

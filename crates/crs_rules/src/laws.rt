@@ -7,7 +7,7 @@ ghost use Rattle.crs_value.specs.declared.values.crs.Crs.{Crs};
 ghost use Rattle.crs_value.specs.declared.values.level.Level.{Level};
 ghost use Rattle.crs_normal.specs.DecimalLaws.{DecimalLaws};
 ghost use Rattle.crs_normal.specs.TextLaws.{TextLaws};
-ghost use Rattle.crs_canon.specs.Canonical.{IsCanonicalOf};
+ghost use Rattle.crs_writer.specs.Canonical.{IsCanonicalOf};
 ghost use Rattle.crs_canon.specs.MainTheorem.{IsAccepted, SpellSame};
 ghost use Rattle.crs_rules.specs.LowerLaws.{FormLaws, SetLaws};
 ghost use Rattle.crs_rules.specs.NoRules.{no_rules};

@@ -7,7 +7,6 @@ ghost use Rattle.crs_shape.specs.UnitKinds.{asked_kind};
 ghost use Rattle.crs_shape.specs.Words.{direction_word};
 ghost use Rattle.crs_value.specs.Sound.{IsAxis, IsAxisMeridian};
 ghost use Rattle.crs_same.specs.SameSystems.{own_or, SameAxisAlone, SameAxisMeridian};
-ghost use Rattle.crs_decimal.specs.Plain.{plain};
 ghost use Rattle.crs_normal.specs.AxisAlone.{IsSpelledAxis};
 ghost use Rattle.crs_normal.specs.PartSpellings.{IsSpelledAxisMeridian};
 ghost use Rattle.crs_normal.specs.PartTexts.{axis_meridian_text, axis_text};
@@ -18,40 +17,13 @@ ghost use Rattle.crs_normal.specs.SpelledUnits.{item_ident, item_unit, norm_unit
 
 use crate::canonical::{Canonical, Spell, write_part};
 use crate::spelling::ident::write_idents;
-use crate::spelling::texts::{append, open_number, open_text};
 use crate::spelling::unit::{write_optional_unit, write_unit_part};
 use crs_decimal::Decimal;
 use crs_normal::laws::parts::{axes_are_canonical, frame_parts_are_canonical};
 use crs_same::parts::{same_axis, same_axis_meridian};
-use crs_value::{Axis, AxisMeridian, Direction, Level, System, UnitKind};
-use itoa::Buffer;
+use crs_value::{Axis, AxisMeridian, Level, System, UnitKind};
+use crs_writer::pieces::{append, open_number, open_text, write_direction, write_order};
 use std::alloc::AllocError;
-
-fn write_whole(out: &mut Vec<u8>, number: u64) -> Result<(), AllocError>
-    ensures { OnOk result (out.new.items ≡ out.old.items ++ plain (whole_value number)) }
-{
-    let mut digits = Buffer::new();
-    append(out, digits.format(number).as_bytes())
-}
-
-// After a comma.
-pub(crate) fn write_order(out: &mut Vec<u8>, order: u64) -> Result<(), AllocError>
-    ensures { OnOk result (out.new.items
-        ≡ out.old.items ++ 44 ∷ item_text (number_node (codes "ORDER") (whole_value order))) }
-{
-    append(out, b",ORDER[")?;
-    write_whole(out, order)?;
-    append(out, b"]")
-}
-
-// After a comma.
-pub(crate) fn write_direction(out: &mut Vec<u8>, direction: Direction) -> Result<(), AllocError>
-    ensures { OnOk result (out.new.items
-        ≡ out.old.items ++ 44 ∷ item_text (word_item (direction_word direction))) }
-{
-    append(out, b",")?;
-    append(out, direction.word().as_bytes())
-}
 
 impl Spell for AxisMeridian<'_> {
     ghost spelling = { axis_meridian_text };
@@ -108,7 +80,7 @@ fn write_axis_unit<'a>(
     write_optional_unit(out, asked, system.unit_of(axis), level)
 }
 
-#[tactic(auto, using(crate::proofs::PieceLemmas::then_rules))]
+#[tactic(auto, using(crs_writer::proofs::PieceLemmas::then_rules))]
 fn write_from_unit<'a>(
     out: &mut Vec<u8>,
     system: &System<'a>,
@@ -123,7 +95,7 @@ fn write_from_unit<'a>(
     write_idents(out, &axis.identifiers, level)
 }
 
-#[tactic(auto, using(crate::proofs::PieceLemmas::then_rules))]
+#[tactic(auto, using(crs_writer::proofs::PieceLemmas::then_rules))]
 fn write_from_order<'a>(
     out: &mut Vec<u8>,
     system: &System<'a>,
@@ -140,7 +112,7 @@ fn write_from_order<'a>(
     write_from_unit(out, system, axis, level)
 }
 
-#[tactic(auto, using(crate::proofs::PieceLemmas::then_rules))]
+#[tactic(auto, using(crs_writer::proofs::PieceLemmas::then_rules))]
 fn write_from_meridian<'a>(
     out: &mut Vec<u8>,
     system: &System<'a>,
@@ -158,7 +130,7 @@ fn write_from_meridian<'a>(
     write_from_order(out, system, axis, position, level)
 }
 
-#[tactic(auto, using(crate::proofs::PieceLemmas::then_rules))]
+#[tactic(auto, using(crs_writer::proofs::PieceLemmas::then_rules))]
 fn write_from_direction<'a>(
     out: &mut Vec<u8>,
     system: &System<'a>,
@@ -215,7 +187,7 @@ fn write_optional_order(out: &mut Vec<u8>, order: &Option<Decimal>) -> Result<()
     }
 }
 
-#[tactic(auto, using(crate::proofs::PieceLemmas::then_rules))]
+#[tactic(auto, using(crs_writer::proofs::PieceLemmas::then_rules))]
 fn write_from_own_unit(out: &mut Vec<u8>, axis: &Axis<'_>, level: Level) -> Result<(), AllocError>
     ensures { OnOk result (out.new.items ≡ out.old.items ++ others_text
         (opt item_unit (norm_units level kinds.Plain axis.now.unit)
@@ -225,7 +197,7 @@ fn write_from_own_unit(out: &mut Vec<u8>, axis: &Axis<'_>, level: Level) -> Resu
     write_idents(out, &axis.identifiers, level)
 }
 
-#[tactic(auto, using(crate::proofs::PieceLemmas::then_rules))]
+#[tactic(auto, using(crs_writer::proofs::PieceLemmas::then_rules))]
 fn write_from_own_order(out: &mut Vec<u8>, axis: &Axis<'_>, level: Level) -> Result<(), AllocError>
     ensures { OnOk result (out.new.items ≡ out.old.items ++ others_text
         (opt (number_node (codes "ORDER")) axis.now.order
@@ -236,7 +208,7 @@ fn write_from_own_order(out: &mut Vec<u8>, axis: &Axis<'_>, level: Level) -> Res
     write_from_own_unit(out, axis, level)
 }
 
-#[tactic(auto, using(crate::proofs::PieceLemmas::then_rules))]
+#[tactic(auto, using(crs_writer::proofs::PieceLemmas::then_rules))]
 fn write_from_own_meridian(
     out: &mut Vec<u8>,
     axis: &Axis<'_>,
@@ -252,7 +224,7 @@ fn write_from_own_meridian(
     write_from_own_order(out, axis, level)
 }
 
-#[tactic(auto, using(crate::proofs::PieceLemmas::then_rules))]
+#[tactic(auto, using(crs_writer::proofs::PieceLemmas::then_rules))]
 fn write_from_own_direction(
     out: &mut Vec<u8>,
     axis: &Axis<'_>,

@@ -18,11 +18,11 @@ ghost use Rattle.crs_normal.specs.SpelledUnits.{item_ident, item_unit, norm_unit
 use crate::canonical::{Canonical, Spell, write_part};
 use crate::set::write_set;
 use crate::spelling::ident::{write_idents, write_named};
-use crate::spelling::texts::{append, open_text, write_number};
 use crate::spelling::unit::write_optional_unit;
 use crs_normal::laws::parts::conversions_are_canonical;
 use crs_same::parts::{same_conversion, same_geoid_model, same_method, same_parameter};
 use crs_value::{Conversion, GeoidModel, Level, List, Method, Parameter, UnitKind};
+use crs_writer::pieces::{append, open_text, write_number};
 use std::alloc::AllocError;
 
 impl Spell for Method<'_> {
@@ -50,7 +50,7 @@ impl Canonical for Method<'_> {
     }
 }
 
-#[tactic(auto, using(crate::proofs::PieceLemmas::then_rules))]
+#[tactic(auto, using(crs_writer::proofs::PieceLemmas::then_rules))]
 fn write_from_unit(
     out: &mut Vec<u8>,
     parameter: &Parameter<'_>,
@@ -63,7 +63,7 @@ fn write_from_unit(
     write_idents(out, &parameter.identifiers, level)
 }
 
-#[tactic(auto, using(crate::proofs::PieceLemmas::then_rules))]
+#[tactic(auto, using(crs_writer::proofs::PieceLemmas::then_rules))]
 fn write_from_value(
     out: &mut Vec<u8>,
     parameter: &Parameter<'_>,
@@ -104,7 +104,7 @@ impl Canonical for Parameter<'_> {
     }
 }
 
-#[tactic(auto, using(crate::proofs::WrittenLemmas::written_rules))]
+#[tactic(auto, using(crs_writer::proofs::WrittenLemmas::written_rules))]
 fn write_parameters(
     out: &mut Vec<u8>,
     parameters: &List<Parameter<'_>>,
@@ -116,7 +116,7 @@ fn write_parameters(
     write_set(out, parameters.as_slice(), level)
 }
 
-#[tactic(auto, using(crate::proofs::PieceLemmas::then_rules))]
+#[tactic(auto, using(crs_writer::proofs::PieceLemmas::then_rules))]
 fn write_from_parameters(
     out: &mut Vec<u8>,
     conversion: &Conversion<'_>,
@@ -130,7 +130,7 @@ fn write_from_parameters(
     write_idents(out, &conversion.identifiers, level)
 }
 
-#[tactic(auto, using(crate::proofs::PieceLemmas::then_rules))]
+#[tactic(auto, using(crs_writer::proofs::PieceLemmas::then_rules))]
 fn write_from_method(
     out: &mut Vec<u8>,
     conversion: &Conversion<'_>,
@@ -197,7 +197,7 @@ impl Canonical for GeoidModel<'_> {
     }
 }
 
-#[tactic(auto, using(crate::proofs::WrittenLemmas::written_rules))]
+#[tactic(auto, using(crs_writer::proofs::WrittenLemmas::written_rules))]
 pub(crate) fn write_geoid_models(
     out: &mut Vec<u8>,
     models: &List<GeoidModel<'_>>,

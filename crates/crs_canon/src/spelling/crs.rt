@@ -18,7 +18,7 @@ ghost use Rattle.crs_normal.specs.PartTexts.{base_text, compound_text, geodetic_
 ghost use Rattle.crs_normal.specs.PartTexts.{vertical_text};
 ghost use Rattle.crs_normal.specs.SpelledConversions.{item_conversion, item_geoid_model, norm_conversion};
 ghost use Rattle.crs_normal.specs.SpelledConversions.{set_geoid_models};
-ghost use Rattle.crs_normal.specs.SpelledCrs.{geodetic_keyword, item_base, item_horizontal, item_vertical, norm_base};
+ghost use Rattle.crs_normal.specs.SpelledCrs.{item_base, item_horizontal, item_vertical, norm_base};
 ghost use Rattle.crs_normal.specs.SpelledCrs.{norm_horizontal, norm_vertical};
 ghost use Rattle.crs_normal.specs.SpelledDynamic.{item_dynamic, norm_dynamic};
 ghost use Rattle.crs_normal.specs.SpelledFrames.{item_frame, item_meridian, norm_frame, norm_meridian};
@@ -26,10 +26,10 @@ ghost use Rattle.crs_normal.specs.SpelledItems.{each, opt};
 ghost use Rattle.crs_normal.specs.SpelledSystems.{norm_system, system_items};
 ghost use Rattle.crs_normal.specs.SpelledUnits.{item_ident, item_unit, norm_units, set_idents};
 ghost use Rattle.crs_normal.specs.SpelledUsages.{norm_tail, tail_items};
-ghost use Rattle.crs_canon.specs.Canonical.{IsCanonicalText};
-ghost use Rattle.crs_canon.specs.CrsText.{crs_text};
+ghost use Rattle.crs_writer.specs.Canonical.{IsCanonicalText};
+ghost use Rattle.crs_writer.specs.CrsText.{crs_text};
 
-use crate::canonical::{Canonical, Spell, crss_are_canonical, write_part};
+use crate::canonical::{Canonical, Spell, write_part};
 use crate::spelling::conversion::write_geoid_models;
 use crate::spelling::dynamic::write_optional_dynamic;
 use crate::spelling::frame::{write_geodetic_frame, write_vertical_frame};
@@ -37,7 +37,6 @@ use crate::spelling::ident::write_idents;
 use crate::spelling::meridian::write_meridian;
 use crate::spelling::system::write_system;
 use crate::spelling::tail::write_tail;
-use crate::spelling::texts::{append, open_text};
 use crate::spelling::unit::write_optional_unit;
 use crs_normal::laws::parts::{horizontals_are_canonical, kinds_are_canonical};
 use crs_same::parts::{
@@ -46,12 +45,13 @@ use crs_same::parts::{
 use crs_same::same;
 use crs_value::laws::crs_is_sound;
 use crs_value::{
-    Base, Compound, Crs, Geodetic, Horizontal, Level, Projected, System, SystemType, Tail,
-    UnitKind, Vertical,
+    Base, Compound, Crs, Geodetic, Horizontal, Level, Projected, System, Tail, UnitKind, Vertical,
 };
+use crs_writer::laws::crss_are_canonical;
+use crs_writer::pieces::{append, geodetic_opening, open_text};
 use std::alloc::AllocError;
 
-#[tactic(auto, using(crate::proofs::SystemLemmas::system_rules))]
+#[tactic(auto, using(crs_writer::proofs::SystemLemmas::system_rules))]
 fn write_from_system(
     out: &mut Vec<u8>,
     system: &System<'_>,
@@ -67,7 +67,7 @@ fn write_from_system(
 
 // ---- geodetic and geographic CRSs
 
-#[tactic(auto, using(crate::proofs::PieceLemmas::then_rules))]
+#[tactic(auto, using(crs_writer::proofs::PieceLemmas::then_rules))]
 fn write_from_meridian(
     out: &mut Vec<u8>,
     geodetic: &Geodetic<'_>,
@@ -81,7 +81,7 @@ fn write_from_meridian(
     write_from_system(out, &geodetic.system, &geodetic.tail, level)
 }
 
-#[tactic(auto, using(crate::proofs::PieceLemmas::then_rules))]
+#[tactic(auto, using(crs_writer::proofs::PieceLemmas::then_rules))]
 fn write_from_frame(
     out: &mut Vec<u8>,
     geodetic: &Geodetic<'_>,
@@ -96,7 +96,7 @@ fn write_from_frame(
     write_from_meridian(out, geodetic, level)
 }
 
-#[tactic(auto, using(crate::proofs::PieceLemmas::then_rules))]
+#[tactic(auto, using(crs_writer::proofs::PieceLemmas::then_rules))]
 fn write_from_dynamic(
     out: &mut Vec<u8>,
     geodetic: &Geodetic<'_>,
@@ -110,15 +110,6 @@ fn write_from_dynamic(
 {
     write_optional_dynamic(out, &geodetic.dynamic, level)?;
     write_from_frame(out, geodetic, level)
-}
-
-pub(crate) fn geodetic_opening(system_type: SystemType) -> &'static str
-    ensures { result.now ≡ geodetic_keyword system_type ++ 91 ∷ 34 ∷ [] }
-{
-    match system_type {
-        SystemType::Ellipsoidal => "GEOGCRS[\"",
-        SystemType::Cartesian | SystemType::Spherical | SystemType::Vertical => "GEODCRS[\"",
-    }
 }
 
 impl Spell for Geodetic<'_> {
@@ -151,7 +142,7 @@ impl Canonical for Geodetic<'_> {
 
 // ---- projected CRSs
 
-#[tactic(auto, using(crate::proofs::PieceLemmas::then_rules))]
+#[tactic(auto, using(crs_writer::proofs::PieceLemmas::then_rules))]
 fn write_base_from_unit(out: &mut Vec<u8>, base: &Base<'_>, level: Level) -> Result<(), AllocError>
     ensures { OnOk result (out.new.items ≡ out.old.items ++ others_text
         (opt item_unit (norm_units level kinds.Angle base.now.unit)
@@ -161,7 +152,7 @@ fn write_base_from_unit(out: &mut Vec<u8>, base: &Base<'_>, level: Level) -> Res
     write_idents(out, &base.identifiers, level)
 }
 
-#[tactic(auto, using(crate::proofs::PieceLemmas::then_rules))]
+#[tactic(auto, using(crs_writer::proofs::PieceLemmas::then_rules))]
 fn write_base_from_meridian(
     out: &mut Vec<u8>,
     base: &Base<'_>,
@@ -176,7 +167,7 @@ fn write_base_from_meridian(
     write_base_from_unit(out, base, level)
 }
 
-#[tactic(auto, using(crate::proofs::PieceLemmas::then_rules))]
+#[tactic(auto, using(crs_writer::proofs::PieceLemmas::then_rules))]
 fn write_base_from_frame(out: &mut Vec<u8>, base: &Base<'_>, level: Level) -> Result<(), AllocError>
     ensures { OnOk result (out.new.items ≡ out.old.items ++ others_text
         (More (item_frame (codes "DATUM") (norm_frame level base.now.frame))
@@ -188,7 +179,7 @@ fn write_base_from_frame(out: &mut Vec<u8>, base: &Base<'_>, level: Level) -> Re
     write_base_from_meridian(out, base, level)
 }
 
-#[tactic(auto, using(crate::proofs::PieceLemmas::then_rules))]
+#[tactic(auto, using(crs_writer::proofs::PieceLemmas::then_rules))]
 fn write_base_from_dynamic(
     out: &mut Vec<u8>,
     base: &Base<'_>,
@@ -232,7 +223,7 @@ impl Canonical for Base<'_> {
     }
 }
 
-#[tactic(auto, using(crate::proofs::PieceLemmas::then_rules))]
+#[tactic(auto, using(crs_writer::proofs::PieceLemmas::then_rules))]
 fn write_from_conversion(
     out: &mut Vec<u8>,
     projected: &Projected<'_>,
@@ -246,7 +237,7 @@ fn write_from_conversion(
     write_from_system(out, &projected.system, &projected.tail, level)
 }
 
-#[tactic(auto, using(crate::proofs::PieceLemmas::then_rules))]
+#[tactic(auto, using(crs_writer::proofs::PieceLemmas::then_rules))]
 fn write_from_base(
     out: &mut Vec<u8>,
     projected: &Projected<'_>,
@@ -290,7 +281,7 @@ impl Canonical for Projected<'_> {
 
 // ---- vertical CRSs
 
-#[tactic(auto, using(crate::proofs::PieceLemmas::then_rules))]
+#[tactic(auto, using(crs_writer::proofs::PieceLemmas::then_rules))]
 fn write_from_geoid_models(
     out: &mut Vec<u8>,
     vertical: &Vertical<'_>,
@@ -304,7 +295,7 @@ fn write_from_geoid_models(
     write_tail(out, &vertical.tail, level)
 }
 
-#[tactic(auto, using(crate::proofs::SystemLemmas::system_rules))]
+#[tactic(auto, using(crs_writer::proofs::SystemLemmas::system_rules))]
 fn write_from_vertical_system(
     out: &mut Vec<u8>,
     vertical: &Vertical<'_>,
@@ -319,7 +310,7 @@ fn write_from_vertical_system(
     write_from_geoid_models(out, vertical, level)
 }
 
-#[tactic(auto, using(crate::proofs::PieceLemmas::then_rules))]
+#[tactic(auto, using(crs_writer::proofs::PieceLemmas::then_rules))]
 fn write_from_vertical_frame(
     out: &mut Vec<u8>,
     vertical: &Vertical<'_>,
@@ -335,7 +326,7 @@ fn write_from_vertical_frame(
     write_from_vertical_system(out, vertical, level)
 }
 
-#[tactic(auto, using(crate::proofs::PieceLemmas::then_rules))]
+#[tactic(auto, using(crs_writer::proofs::PieceLemmas::then_rules))]
 fn write_from_vertical_dynamic(
     out: &mut Vec<u8>,
     vertical: &Vertical<'_>,
@@ -412,7 +403,7 @@ impl Canonical for Horizontal<'_> {
     }
 }
 
-#[tactic(auto, using(crate::proofs::PieceLemmas::then_rules))]
+#[tactic(auto, using(crs_writer::proofs::PieceLemmas::then_rules))]
 fn write_from_vertical(
     out: &mut Vec<u8>,
     compound: &Compound<'_>,
@@ -426,7 +417,7 @@ fn write_from_vertical(
     write_tail(out, &compound.tail, level)
 }
 
-#[tactic(auto, using(crate::proofs::PieceLemmas::then_rules))]
+#[tactic(auto, using(crs_writer::proofs::PieceLemmas::then_rules))]
 fn write_from_horizontal(
     out: &mut Vec<u8>,
     compound: &Compound<'_>,

@@ -14,10 +14,10 @@ ghost use Rattle.crs_normal.specs.SpelledItems.{opt};
 
 use crate::canonical::{Canonical, Spell, write_part};
 use crate::spelling::ident::write_named;
-use crate::spelling::texts::{append, open_number};
 use crs_normal::laws::parts::dynamic_parts_are_canonical;
 use crs_same::parts::{same_deformation_model, same_dynamic};
 use crs_value::{DeformationModel, Dynamic, Level};
+use crs_writer::pieces::{append, open_number};
 use std::alloc::AllocError;
 
 impl Spell for DeformationModel<'_> {

@@ -14,14 +14,14 @@ ghost use Rattle.crs_normal.specs.SpelledUnits.{item_ident, item_unit, norm_leng
 
 use crate::canonical::{Canonical, Spell, write_part};
 use crate::spelling::ident::write_idents;
-use crate::spelling::texts::{append, open_text, write_number};
 use crate::spelling::unit::write_length;
 use crs_normal::laws::parts::frame_parts_are_canonical;
 use crs_same::parts::same_ellipsoid;
 use crs_value::{Ellipsoid, Level};
+use crs_writer::pieces::{append, open_text, write_number};
 use std::alloc::AllocError;
 
-#[tactic(auto, using(crate::proofs::PieceLemmas::then_rules))]
+#[tactic(auto, using(crs_writer::proofs::PieceLemmas::then_rules))]
 fn write_from_unit(
     out: &mut Vec<u8>,
     ellipsoid: &Ellipsoid<'_>,
@@ -34,7 +34,7 @@ fn write_from_unit(
     write_idents(out, &ellipsoid.identifiers, level)
 }
 
-#[tactic(auto, using(crate::proofs::PieceLemmas::then_rules))]
+#[tactic(auto, using(crs_writer::proofs::PieceLemmas::then_rules))]
 fn write_from_flattening(
     out: &mut Vec<u8>,
     ellipsoid: &Ellipsoid<'_>,
@@ -48,7 +48,7 @@ fn write_from_flattening(
     write_from_unit(out, ellipsoid, level)
 }
 
-#[tactic(auto, using(crate::proofs::PieceLemmas::then_rules))]
+#[tactic(auto, using(crs_writer::proofs::PieceLemmas::then_rules))]
 fn write_from_axis(
     out: &mut Vec<u8>,
     ellipsoid: &Ellipsoid<'_>,

@@ -14,19 +14,19 @@ ghost use Rattle.crs_normal.specs.SpelledFrames.{item_ellipsoid, item_frame, ite
 ghost use Rattle.crs_normal.specs.SpelledFrames.{norm_ellipsoid, norm_frame, set_members};
 ghost use Rattle.crs_normal.specs.SpelledItems.{each, number_node, opt, text_node};
 ghost use Rattle.crs_normal.specs.SpelledUnits.{item_ident, set_idents};
-ghost use Rattle.crs_canon.specs.Openings.{named_node};
+ghost use Rattle.crs_writer.specs.Openings.{named_node};
 
 use crate::canonical::{Canonical, Spell, write_part};
 use crate::set::write_set;
 use crate::spelling::ellipsoid::write_optional_ellipsoid;
 use crate::spelling::ident::{write_idents, write_named};
-use crate::spelling::texts::{append, open_number, open_text, write_optional_text};
 use crs_decimal::Decimal;
 use crs_normal::laws::parts::{
     datums_are_canonical, frame_parts_are_canonical, frames_are_canonical,
 };
 use crs_same::parts::{same_datum, same_ensemble, same_frame, same_member};
 use crs_value::{Datum, Ensemble, Frame, Level, List, Member};
+use crs_writer::pieces::{append, open_number, open_text, write_optional_text};
 use std::alloc::AllocError;
 
 impl Spell for Member<'_> {
@@ -54,7 +54,7 @@ impl Canonical for Member<'_> {
     }
 }
 
-#[tactic(auto, using(crate::proofs::WrittenLemmas::written_rules))]
+#[tactic(auto, using(crs_writer::proofs::WrittenLemmas::written_rules))]
 fn write_members(
     out: &mut Vec<u8>,
     members: &List<Member<'_>>,
@@ -66,7 +66,7 @@ fn write_members(
     write_set(out, members.as_slice(), level)
 }
 
-#[tactic(auto, using(crate::proofs::TextLemmas::text_node_rules))]
+#[tactic(auto, using(crs_writer::proofs::TextLemmas::text_node_rules))]
 fn write_anchor(out: &mut Vec<u8>, anchor: Option<&[u8]>) -> Result<(), AllocError>
     ensures { OnOk result (out.new.items
         ≡ out.old.items ++ others_text (opt (text_node (codes "ANCHOR")) (option_copied anchor.entry) End)) }
@@ -87,7 +87,7 @@ fn write_anchor_epoch(out: &mut Vec<u8>, epoch: &Option<Decimal>) -> Result<(), 
     }
 }
 
-#[tactic(auto, using(crate::proofs::PieceLemmas::then_rules))]
+#[tactic(auto, using(crs_writer::proofs::PieceLemmas::then_rules))]
 fn write_from_anchor_epoch(
     out: &mut Vec<u8>,
     datum: &Datum<'_>,
@@ -101,7 +101,7 @@ fn write_from_anchor_epoch(
     write_idents(out, &datum.identifiers, level)
 }
 
-#[tactic(auto, using(crate::proofs::PieceLemmas::then_rules))]
+#[tactic(auto, using(crs_writer::proofs::PieceLemmas::then_rules))]
 fn write_from_anchor(out: &mut Vec<u8>, datum: &Datum<'_>, level: Level) -> Result<(), AllocError>
     ensures { OnOk result (out.new.items ≡ out.old.items ++ others_text
         (opt (text_node (codes "ANCHOR")) datum.now.anchor
@@ -112,7 +112,7 @@ fn write_from_anchor(out: &mut Vec<u8>, datum: &Datum<'_>, level: Level) -> Resu
     write_from_anchor_epoch(out, datum, level)
 }
 
-#[tactic(auto, using(crate::proofs::PieceLemmas::then_rules))]
+#[tactic(auto, using(crs_writer::proofs::PieceLemmas::then_rules))]
 fn write_behind_name(out: &mut Vec<u8>, datum: &Datum<'_>, level: Level) -> Result<(), AllocError>
     ensures { OnOk result (out.new.items ≡ out.old.items ++ others_text
         (opt item_ellipsoid (option_map (norm_ellipsoid level) datum.now.ellipsoid)
@@ -178,7 +178,7 @@ fn write_accuracy(out: &mut Vec<u8>, accuracy: &Decimal) -> Result<(), AllocErro
     append(out, b"]")
 }
 
-#[tactic(auto, using(crate::proofs::PieceLemmas::then_rules))]
+#[tactic(auto, using(crs_writer::proofs::PieceLemmas::then_rules))]
 fn write_from_accuracy(
     out: &mut Vec<u8>,
     ensemble: &Ensemble<'_>,
@@ -192,7 +192,7 @@ fn write_from_accuracy(
     write_idents(out, &ensemble.identifiers, level)
 }
 
-#[tactic(auto, using(crate::proofs::PieceLemmas::then_rules))]
+#[tactic(auto, using(crs_writer::proofs::PieceLemmas::then_rules))]
 fn write_from_ellipsoid(
     out: &mut Vec<u8>,
     ensemble: &Ensemble<'_>,
@@ -207,7 +207,7 @@ fn write_from_ellipsoid(
     write_from_accuracy(out, ensemble, level)
 }
 
-#[tactic(auto, using(crate::proofs::PieceLemmas::then_rules))]
+#[tactic(auto, using(crs_writer::proofs::PieceLemmas::then_rules))]
 fn write_from_members(
     out: &mut Vec<u8>,
     ensemble: &Ensemble<'_>,

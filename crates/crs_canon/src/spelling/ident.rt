@@ -9,15 +9,15 @@ ghost use Rattle.crs_normal.specs.PartSpellings.{IsSpelledIdent};
 ghost use Rattle.crs_normal.specs.PartTexts.{ident_text};
 ghost use Rattle.crs_normal.specs.SpelledItems.{code_item, each, opt, text_node};
 ghost use Rattle.crs_normal.specs.SpelledUnits.{item_ident, set_idents};
-ghost use Rattle.crs_canon.specs.Members.{set_text};
-ghost use Rattle.crs_canon.specs.Openings.{named_node};
+ghost use Rattle.crs_writer.specs.Members.{set_text};
+ghost use Rattle.crs_writer.specs.Openings.{named_node};
 
 use crate::canonical::{Canonical, Spell};
 use crate::set::write_set;
-use crate::spelling::texts::{append, open_text, write_code, write_optional_text};
 use crs_normal::laws::parts::identifiers_are_canonical;
 use crs_same::parts::same_ident;
 use crs_value::{Ident, Level, List};
+use crs_writer::pieces::{append, open_text, write_code, write_optional_text};
 use std::alloc::AllocError;
 
 fn write_version(out: &mut Vec<u8>, version: Option<&[u8]>) -> Result<(), AllocError>
@@ -30,7 +30,7 @@ fn write_version(out: &mut Vec<u8>, version: Option<&[u8]>) -> Result<(), AllocE
     }
 }
 
-#[tactic(auto, using(crate::proofs::TextLemmas::text_node_rules))]
+#[tactic(auto, using(crs_writer::proofs::TextLemmas::text_node_rules))]
 fn write_citation(out: &mut Vec<u8>, citation: Option<&[u8]>) -> Result<(), AllocError>
     ensures { OnOk result (out.new.items
         ≡ out.old.items ++ others_text (opt (text_node (codes "CITATION")) (option_copied citation.entry) End)) }
@@ -38,7 +38,7 @@ fn write_citation(out: &mut Vec<u8>, citation: Option<&[u8]>) -> Result<(), Allo
     write_optional_text(out, b",CITATION[\"", citation)
 }
 
-#[tactic(auto, using(crate::proofs::TextLemmas::text_node_rules))]
+#[tactic(auto, using(crs_writer::proofs::TextLemmas::text_node_rules))]
 fn write_uri(out: &mut Vec<u8>, uri: Option<&[u8]>) -> Result<(), AllocError>
     ensures { OnOk result (out.new.items
         ≡ out.old.items ++ others_text (opt (text_node (codes "URI")) (option_copied uri.entry) End)) }
@@ -47,7 +47,7 @@ fn write_uri(out: &mut Vec<u8>, uri: Option<&[u8]>) -> Result<(), AllocError>
 }
 
 // Citation and URI.
-#[tactic(auto, using(crate::proofs::TextLemmas::text_rules))]
+#[tactic(auto, using(crs_writer::proofs::TextLemmas::text_rules))]
 fn write_sources(out: &mut Vec<u8>, ident: &Ident<'_>) -> Result<(), AllocError>
     ensures { OnOk result (out.new.items ≡ out.old.items ++ others_text
         (opt (text_node (codes "CITATION")) ident.now.citation (opt (text_node (codes "URI")) ident.now.uri End))) }
@@ -56,7 +56,7 @@ fn write_sources(out: &mut Vec<u8>, ident: &Ident<'_>) -> Result<(), AllocError>
     write_uri(out, ident.uri)
 }
 
-#[tactic(auto, using(crate::proofs::TextLemmas::text_rules))]
+#[tactic(auto, using(crs_writer::proofs::TextLemmas::text_rules))]
 fn write_behind_code(out: &mut Vec<u8>, ident: &Ident<'_>) -> Result<(), AllocError>
     ensures { OnOk result (out.new.items ≡ out.old.items ++ others_text (opt code_item ident.now.version
         (opt (text_node (codes "CITATION")) ident.now.citation (opt (text_node (codes "URI")) ident.now.uri End)))) }
@@ -100,7 +100,7 @@ fn write_ident_set(out: &mut Vec<u8>, identifiers: &[Ident<'_>]) -> Result<(), A
 }
 
 // The identifiers that the level keeps of a part.
-#[tactic(auto, using(crate::proofs::WrittenLemmas::written_rules))]
+#[tactic(auto, using(crs_writer::proofs::WrittenLemmas::written_rules))]
 pub(crate) fn write_idents(
     out: &mut Vec<u8>,
     identifiers: &List<Ident<'_>>,

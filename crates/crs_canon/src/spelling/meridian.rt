@@ -8,24 +8,18 @@ ghost use Rattle.crs_same.specs.Parts.{AreSame};
 ghost use Rattle.crs_same.specs.PartsOfFrames.{parts_of_given};
 ghost use Rattle.crs_normal.specs.PartSpellings.{IsSpelledMeridian};
 ghost use Rattle.crs_normal.specs.PartTexts.{meridian_text};
-ghost use Rattle.crs_normal.specs.SpelledFrames.{greenwich, is_zero, item_meridian, norm_meridian};
+ghost use Rattle.crs_normal.specs.SpelledFrames.{is_zero, item_meridian, norm_meridian};
 ghost use Rattle.crs_normal.specs.SpelledItems.{each, number_item, opt};
 ghost use Rattle.crs_normal.specs.SpelledUnits.{item_ident, item_unit, norm_units, set_idents};
 
 use crate::canonical::{Canonical, Spell, write_part};
 use crate::spelling::ident::write_idents;
-use crate::spelling::texts::{append, open_text, write_number};
 use crate::spelling::unit::write_optional_unit;
 use crs_normal::laws::parts::frame_parts_are_canonical;
 use crs_same::parts::same_meridian;
 use crs_value::{Level, Meridian, UnitKind};
+use crs_writer::pieces::{append, open_text, write_greenwich, write_number};
 use std::alloc::AllocError;
-
-pub(crate) fn write_greenwich(out: &mut Vec<u8>) -> Result<(), AllocError>
-    ensures { OnOk result (out.new.items ≡ out.old.items ++ 44 ∷ item_text (item_meridian greenwich)) }
-{
-    append(out, b",PRIMEM[\"Greenwich\",0]")
-}
 
 // At longitude 0 a unit has no meaning.
 fn write_unit_of(out: &mut Vec<u8>, meridian: &Meridian<'_>, level: Level) -> Result<(), AllocError>
@@ -39,7 +33,7 @@ fn write_unit_of(out: &mut Vec<u8>, meridian: &Meridian<'_>, level: Level) -> Re
     }
 }
 
-#[tactic(auto, using(crate::proofs::PieceLemmas::then_rules))]
+#[tactic(auto, using(crs_writer::proofs::PieceLemmas::then_rules))]
 fn write_from_unit(
     out: &mut Vec<u8>,
     meridian: &Meridian<'_>,
@@ -53,7 +47,7 @@ fn write_from_unit(
     write_idents(out, &meridian.identifiers, level)
 }
 
-#[tactic(auto, using(crate::proofs::PieceLemmas::then_rules))]
+#[tactic(auto, using(crs_writer::proofs::PieceLemmas::then_rules))]
 fn write_from_longitude(
     out: &mut Vec<u8>,
     meridian: &Meridian<'_>,

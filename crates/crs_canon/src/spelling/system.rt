@@ -5,36 +5,15 @@ ghost use Rattle.crs_text.specs.Items.{End, More};
 ghost use Rattle.crs_text.specs.Written.{item_text, others_text};
 ghost use Rattle.crs_shape.specs.Words.{system_word};
 ghost use Rattle.crs_normal.specs.SpelledItems.{each, number_item};
-ghost use Rattle.crs_normal.specs.SpelledSystems.{axes_from, axis_at, is_at, is_number, item_axis, item_head};
+ghost use Rattle.crs_normal.specs.SpelledSystems.{axes_from, axis_at, item_axis, item_head};
 ghost use Rattle.crs_normal.specs.SpelledSystems.{norm_system, system_items, with_axis};
 ghost use Rattle.crs_normal.specs.SpelledUnits.{item_ident, set_idents};
 
 use crate::spelling::axis::write_axis;
 use crate::spelling::ident::write_idents;
-use crate::spelling::texts::{append, write_number};
-use crs_decimal::Decimal;
 use crs_value::{Axis, Level, System};
+use crs_writer::pieces::{append, is_at, write_number};
 use std::alloc::AllocError;
-
-fn is_number(value: &Decimal, number: u64) -> bool
-    ensures { result ≡ is_number value.now number }
-{
-    crs_decimal::laws::one_form();
-    crs_decimal::laws::plain_is_the_one();
-    crs_decimal::laws::same_number_is_equivalence();
-    let _normal = value.is_negative();
-    value.is_whole(number)
-}
-
-// Whether an axis that is written at this place, from 1 on, has this position.
-pub(crate) fn is_at(position: u64, place: u64, order: Option<Decimal>) -> bool
-    ensures { result ≡ is_at position place order }
-{
-    match order {
-        None => place == position,
-        Some(order) => is_number(&order, position),
-    }
-}
 
 // The axis at this position.
 fn axis_at<'b, 'a>(axes: &'b [Axis<'a>], position: u64) -> Option<&'b Axis<'a>>
@@ -75,7 +54,7 @@ fn write_axes(out: &mut Vec<u8>, system: &System<'_>, level: Level) -> Result<()
     Ok(())
 }
 
-#[tactic(auto, using(crate::proofs::PieceLemmas::then_rules))]
+#[tactic(auto, using(crs_writer::proofs::PieceLemmas::then_rules))]
 fn write_from_dimension(
     out: &mut Vec<u8>,
     system: &System<'_>,
@@ -106,7 +85,7 @@ fn write_head(out: &mut Vec<u8>, system: &System<'_>, level: Level) -> Result<()
     append(out, b"]")
 }
 
-#[tactic(auto, using(crate::proofs::PieceLemmas::then_rules))]
+#[tactic(auto, using(crs_writer::proofs::PieceLemmas::then_rules))]
 pub(crate) fn write_system(
     out: &mut Vec<u8>,
     system: &System<'_>,

@@ -9,12 +9,12 @@ ghost use Rattle.crs_normal.specs.SpelledItems.{each, opt, text_node};
 ghost use Rattle.crs_normal.specs.SpelledUnits.{item_ident, set_idents};
 ghost use Rattle.crs_normal.specs.SpelledUsages.{item_usage, norm_tail, norm_usage, set_usages};
 ghost use Rattle.crs_normal.specs.SpelledUsages.{tail_items};
-ghost use Rattle.crs_canon.specs.Members.{set_text};
+ghost use Rattle.crs_writer.specs.Members.{set_text};
 
 use crate::set::{write_set, write_set_with};
 use crate::spelling::ident::write_idents;
-use crate::spelling::texts::write_optional_text;
 use crs_value::{Level, Tail, Usage};
+use crs_writer::pieces::write_optional_text;
 use std::alloc::AllocError;
 
 // The bare parts are together one usage more.
@@ -32,7 +32,7 @@ fn write_usage_set<'a>(
     }
 }
 
-#[tactic(auto, using(crate::proofs::WrittenLemmas::written_rules))]
+#[tactic(auto, using(crs_writer::proofs::WrittenLemmas::written_rules))]
 fn write_usages(out: &mut Vec<u8>, tail: &Tail<'_>, level: Level) -> Result<(), AllocError>
     ensures { OnOk result (out.new.items
         ≡ out.old.items ++ others_text (each item_usage (set_usages level (usages_of tail.now)) End)) }
@@ -44,7 +44,7 @@ fn write_usages(out: &mut Vec<u8>, tail: &Tail<'_>, level: Level) -> Result<(), 
     )
 }
 
-#[tactic(auto, using(crate::proofs::TextLemmas::text_node_rules))]
+#[tactic(auto, using(crs_writer::proofs::TextLemmas::text_node_rules))]
 fn write_remark(out: &mut Vec<u8>, remark: Option<&[u8]>, level: Level) -> Result<(), AllocError>
     ensures { OnOk result (out.new.items ≡ out.old.items
         ++ others_text (opt (text_node (codes "REMARK")) (kept_one level (option_copied remark.entry)) End)) }
@@ -52,7 +52,7 @@ fn write_remark(out: &mut Vec<u8>, remark: Option<&[u8]>, level: Level) -> Resul
     write_optional_text(out, b",REMARK[\"", level.kept_text(remark))
 }
 
-#[tactic(auto, using(crate::proofs::PieceLemmas::then_rules))]
+#[tactic(auto, using(crs_writer::proofs::PieceLemmas::then_rules))]
 fn write_from_ids(out: &mut Vec<u8>, tail: &Tail<'_>, level: Level) -> Result<(), AllocError>
     ensures { OnOk result (out.new.items ≡ out.old.items ++ others_text
         (each item_ident (set_idents level tail.now.identifiers)
@@ -62,7 +62,7 @@ fn write_from_ids(out: &mut Vec<u8>, tail: &Tail<'_>, level: Level) -> Result<()
     write_remark(out, tail.remark, level)
 }
 
-#[tactic(auto, using(crate::proofs::PieceLemmas::then_rules))]
+#[tactic(auto, using(crs_writer::proofs::PieceLemmas::then_rules))]
 pub(crate) fn write_tail(out: &mut Vec<u8>, tail: &Tail<'_>, level: Level) -> Result<(), AllocError>
     ensures { OnOk result (out.new.items
         ≡ out.old.items ++ others_text (tail_items (norm_tail level tail.now))) }

@@ -10,27 +10,16 @@ ghost use Rattle.crs_same.specs.SameUnits.{SameUnit};
 ghost use Rattle.crs_normal.specs.PartSpellings.{IsSpelledUnit};
 ghost use Rattle.crs_normal.specs.PartTexts.{unit_text};
 ghost use Rattle.crs_normal.specs.SpelledItems.{each, number_item, opt};
-ghost use Rattle.crs_normal.specs.SpelledUnits.{item_ident, item_unit, metre, norm_length, norm_unit, norm_units};
+ghost use Rattle.crs_normal.specs.SpelledUnits.{item_ident, item_unit, norm_length, norm_unit, norm_units};
 ghost use Rattle.crs_normal.specs.SpelledUnits.{set_idents};
 
 use crate::canonical::{Canonical, Spell};
 use crate::spelling::ident::write_idents;
-use crate::spelling::texts::{append, open_text, write_number};
 use crs_normal::laws::parts::units_are_canonical;
 use crs_same::parts::same_unit;
 use crs_value::{Level, Unit, UnitKind};
+use crs_writer::pieces::{append, open_text, unit_opening, write_metre, write_number};
 use std::alloc::AllocError;
-
-pub(crate) fn unit_opening(kind: UnitKind) -> &'static str
-    ensures { result.now ≡ 44 ∷ (unit_word kind ++ 91 ∷ 34 ∷ []) }
-{
-    match kind {
-        UnitKind::Length => ",LENGTHUNIT[\"",
-        UnitKind::Angle => ",ANGLEUNIT[\"",
-        UnitKind::Scale => ",SCALEUNIT[\"",
-        UnitKind::Plain => ",UNIT[\"",
-    }
-}
 
 // Without the comma.
 fn bare_opening(kind: UnitKind) -> &'static [u8]
@@ -42,7 +31,7 @@ fn bare_opening(kind: UnitKind) -> &'static [u8]
     }
 }
 
-#[tactic(auto, using(crate::proofs::PieceLemmas::then_rules))]
+#[tactic(auto, using(crs_writer::proofs::PieceLemmas::then_rules))]
 fn write_from_factor(out: &mut Vec<u8>, unit: &Unit<'_>, level: Level) -> Result<(), AllocError>
     ensures { OnOk result (out.new.items ≡ out.old.items ++ others_text
         (More (number_item unit.now.factor) (each item_ident (set_idents level unit.now.identifiers) End))) }
@@ -117,12 +106,6 @@ pub(crate) fn write_optional_unit(
         None => Ok(()),
         Some(unit) => write_unit_part(out, asked, unit, level),
     }
-}
-
-pub(crate) fn write_metre(out: &mut Vec<u8>) -> Result<(), AllocError>
-    ensures { OnOk result (out.new.items ≡ out.old.items ++ 44 ∷ item_text (item_unit metre)) }
-{
-    append(out, b",LENGTHUNIT[\"metre\",1]")
 }
 
 // A length: where none is written, the metre.

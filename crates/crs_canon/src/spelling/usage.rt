@@ -1,7 +1,7 @@
 //! Usages and their extents.
-ghost use Rattle.std.specs.Prelude.{◌≡◌, ◌∷◌, ◌++◌, ℕ, List, OnOk, ◌<◌, codes, length, slice_set, Some};
+ghost use Rattle.std.specs.Prelude.{◌≡◌, ◌∷◌, ◌++◌, OnOk, codes, Some};
 ghost use Rattle.std.specs.Option.{option_copied, option_map};
-ghost use Rattle.crs_text.specs.Items.{Siblings, End, More};
+ghost use Rattle.crs_text.specs.Items.{End, More};
 ghost use Rattle.crs_text.specs.Written.{item_text, others_text};
 ghost use Rattle.crs_value.specs.SoundUsages.{IsBox, IsExtent, IsUsage};
 ghost use Rattle.crs_value.specs.declared.values.level.Level.TheVariants as levels;
@@ -11,17 +11,16 @@ ghost use Rattle.crs_normal.specs.PartTexts.{box_text, extent_text, usage_text};
 ghost use Rattle.crs_normal.specs.SpelledItems.{number_item, opt, text_node};
 ghost use Rattle.crs_normal.specs.SpelledUnits.{item_unit, norm_length};
 ghost use Rattle.crs_normal.specs.SpelledUsages.{item_box, item_extent, norm_extent};
-ghost use Rattle.crs_canon.specs.Openings.{enclosed};
 
 use crate::canonical::{Canonical, Spell, write_part};
-use crate::spelling::texts::{append, open_number, write_number, write_optional_text};
 use crate::spelling::unit::write_length;
 use crs_normal::laws::parts::{extents_are_canonical, usages_are_canonical};
 use crs_same::parts::{same_box, same_extent, same_usage};
 use crs_value::{BoundingBox, Extent, Level, Usage};
+use crs_writer::pieces::{append, enclose, open_number, write_number, write_optional_text};
 use std::alloc::AllocError;
 
-#[tactic(auto, using(crate::proofs::TextLemmas::text_node_rules))]
+#[tactic(auto, using(crs_writer::proofs::TextLemmas::text_node_rules))]
 fn write_scope(out: &mut Vec<u8>, scope: Option<&[u8]>) -> Result<(), AllocError>
     ensures { OnOk result (out.new.items
         ≡ out.old.items ++ others_text (opt (text_node (codes "SCOPE")) (option_copied scope.entry) End)) }
@@ -29,7 +28,7 @@ fn write_scope(out: &mut Vec<u8>, scope: Option<&[u8]>) -> Result<(), AllocError
     write_optional_text(out, b",SCOPE[\"", scope)
 }
 
-#[tactic(auto, using(crate::proofs::TextLemmas::text_node_rules))]
+#[tactic(auto, using(crs_writer::proofs::TextLemmas::text_node_rules))]
 fn write_area(out: &mut Vec<u8>, area: Option<&[u8]>) -> Result<(), AllocError>
     ensures { OnOk result (out.new.items
         ≡ out.old.items ++ others_text (opt (text_node (codes "AREA")) (option_copied area.entry) End)) }
@@ -37,7 +36,7 @@ fn write_area(out: &mut Vec<u8>, area: Option<&[u8]>) -> Result<(), AllocError>
     write_optional_text(out, b",AREA[\"", area)
 }
 
-#[tactic(auto, using(crate::proofs::PieceLemmas::then_rules))]
+#[tactic(auto, using(crs_writer::proofs::PieceLemmas::then_rules))]
 fn write_from_north(out: &mut Vec<u8>, bbox: &BoundingBox) -> Result<(), AllocError>
     ensures { OnOk result (out.new.items ≡ out.old.items ++ others_text
         (More (number_item bbox.now.north) (More (number_item bbox.now.east) End))) }
@@ -46,7 +45,7 @@ fn write_from_north(out: &mut Vec<u8>, bbox: &BoundingBox) -> Result<(), AllocEr
     write_number(out, &bbox.east)
 }
 
-#[tactic(auto, using(crate::proofs::PieceLemmas::then_rules))]
+#[tactic(auto, using(crs_writer::proofs::PieceLemmas::then_rules))]
 fn write_from_west(out: &mut Vec<u8>, bbox: &BoundingBox) -> Result<(), AllocError>
     ensures { OnOk result (out.new.items ≡ out.old.items ++ others_text (More (number_item bbox.now.west)
         (More (number_item bbox.now.north) (More (number_item bbox.now.east) End)))) }
@@ -91,7 +90,7 @@ fn write_optional_box(out: &mut Vec<u8>, bbox: &Option<BoundingBox>) -> Result<(
     }
 }
 
-#[tactic(auto, using(crate::proofs::PieceLemmas::then_rules))]
+#[tactic(auto, using(crs_writer::proofs::PieceLemmas::then_rules))]
 fn write_from_maximum(
     out: &mut Vec<u8>,
     extent: &Extent<'_>,
@@ -141,7 +140,7 @@ fn write_optional_extent(out: &mut Vec<u8>, extent: &Option<Extent<'_>>) -> Resu
     }
 }
 
-#[tactic(auto, using(crate::proofs::PieceLemmas::then_rules))]
+#[tactic(auto, using(crs_writer::proofs::PieceLemmas::then_rules))]
 fn write_from_box(out: &mut Vec<u8>, usage: &Usage<'_>) -> Result<(), AllocError>
     ensures { OnOk result (out.new.items ≡ out.old.items ++ others_text (opt item_box usage.now.bbox
         (opt item_extent (option_map (norm_extent levels.Full) usage.now.extent) End))) }
@@ -150,7 +149,7 @@ fn write_from_box(out: &mut Vec<u8>, usage: &Usage<'_>) -> Result<(), AllocError
     write_optional_extent(out, &usage.extent)
 }
 
-#[tactic(auto, using(crate::proofs::PieceLemmas::then_rules))]
+#[tactic(auto, using(crs_writer::proofs::PieceLemmas::then_rules))]
 fn write_from_area(out: &mut Vec<u8>, usage: &Usage<'_>) -> Result<(), AllocError>
     ensures { OnOk result (out.new.items ≡ out.old.items ++ others_text
         (opt (text_node (codes "AREA")) usage.now.area (opt item_box usage.now.bbox
@@ -160,7 +159,7 @@ fn write_from_area(out: &mut Vec<u8>, usage: &Usage<'_>) -> Result<(), AllocErro
     write_from_box(out, usage)
 }
 
-#[tactic(auto, using(crate::proofs::PieceLemmas::then_rules))]
+#[tactic(auto, using(crs_writer::proofs::PieceLemmas::then_rules))]
 fn write_from_scope(out: &mut Vec<u8>, usage: &Usage<'_>) -> Result<(), AllocError>
     ensures { OnOk result (out.new.items ≡ out.old.items ++ others_text
         (opt (text_node (codes "SCOPE")) usage.now.scope
@@ -169,25 +168,6 @@ fn write_from_scope(out: &mut Vec<u8>, usage: &Usage<'_>) -> Result<(), AllocErr
 {
     write_scope(out, usage.scope)?;
     write_from_area(out, usage)
-}
-
-fn open_at(out: &mut Vec<u8>, at: usize)
-    requires { at < length out.old.items }
-    ensures { out.new.items ≡ slice_set out.old.items at 91 }
-{
-    out[at] = b'[';
-}
-
-// Delimiters around the arguments from this place on; the opening one replaces the first comma.
-pub(crate) fn enclose(out: &mut Vec<u8>, at: usize) -> Result<(), AllocError>
-    ensures { (front : List ℕ) (items : Siblings) → out.old.items ≡ front ++ others_text items →
-        length front ≡ at → OnOk result (out.new.items ≡ front ++ enclosed items) }
-{
-    if out.len() <= at {
-        return Ok(());
-    }
-    open_at(out, at);
-    append(out, b"]")
 }
 
 // Any part may be the first.

@@ -1,4 +1,4 @@
-use Rattle.crs_canon.proofs.SetLemmas.{gathered}
+use Rattle.crs_writer.proofs.SetLemmas.{gathered}
 use Rattle.crs_canon.proofs.set.gather.Goals as goal
 
 pub returns : goal.returns

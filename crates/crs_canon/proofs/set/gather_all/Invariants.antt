@@ -1,6 +1,6 @@
 use Rattle.std.proofs.Common.{◌≡◌, map, drop}
 use Rattle.crs_normal.specs.Ordered.{put_all}
-use Rattle.crs_canon.specs.Members.{spellings}
+use Rattle.crs_writer.specs.Members.{spellings}
 use Rattle.crs_canon.proofs.set.gather_all.Given as goal
 
 abbrev pub invariant-loop-member : goal.invariant-loop-member

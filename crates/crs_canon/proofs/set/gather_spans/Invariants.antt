@@ -1,6 +1,6 @@
 use Rattle.std.proofs.Common.{◌≡◌, map, drop}
 use Rattle.crs_normal.specs.Ordered.{put_all}
-use Rattle.crs_canon.specs.Spans.{AreInOrder, texts_at}
+use Rattle.crs_writer.specs.Spans.{AreInOrder, texts_at}
 use Rattle.crs_canon.proofs.set.gather_spans.Given as goal
 
 abbrev pub invariant-loop-member : goal.invariant-loop-member

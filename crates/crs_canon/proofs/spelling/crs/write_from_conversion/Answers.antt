@@ -6,7 +6,7 @@ use Rattle.crs_value.specs.CrsValues.{ProjectedParts}
 use Rattle.crs_normal.specs.SpelledConversions.{item_conversion, norm_conversion}
 use Rattle.crs_normal.specs.SpelledSystems.{norm_system, system_items}
 use Rattle.crs_normal.specs.SpelledUsages.{norm_tail, tail_items}
-use Rattle.crs_canon.proofs.PieceLemmas.{then-more}
+use Rattle.crs_writer.proofs.PieceLemmas.{then-more}
 use Rattle.crs_canon.proofs.spelling.crs.write_from_conversion.Goals as goal
 
 pub returns : goal.returns

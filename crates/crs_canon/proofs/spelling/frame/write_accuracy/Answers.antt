@@ -1,7 +1,7 @@
 use Rattle.std.proofs.Common.{[], ◌∷◌, ◌++◌, codes}
 use Rattle.std.proofs.lemmas.Result.{on_ok_weaker}
 use Rattle.crs_decimal.specs.Plain.{plain}
-use Rattle.crs_canon.proofs.PieceLemmas.{two}
+use Rattle.crs_writer.proofs.PieceLemmas.{two}
 use Rattle.crs_canon.proofs.spelling.frame.write_accuracy.Goals as goal
 
 pub returns : goal.returns

@@ -4,7 +4,7 @@ use Rattle.crs_text.specs.Written.{others_text}
 use Rattle.crs_value.specs.Values.{SystemParts}
 use Rattle.crs_normal.specs.SpelledItems.{each}
 use Rattle.crs_normal.specs.SpelledSystems.{axes_from, item_axis}
-use Rattle.crs_canon.proofs.SystemLemmas.{next-axis}
+use Rattle.crs_writer.proofs.SystemLemmas.{next-axis}
 use Rattle.crs_canon.proofs.spelling.system.write_axes.Goals as goal
 
 pub loop-index-preserved : goal.loop-index-preserved

@@ -5,7 +5,7 @@ use Rattle.crs_text.specs.Written.{others_text}
 use Rattle.crs_value.specs.CompoundValues.{CompoundParts}
 use Rattle.crs_normal.specs.SpelledCrs.{item_horizontal, item_vertical, norm_horizontal, norm_vertical}
 use Rattle.crs_normal.specs.SpelledUsages.{norm_tail, tail_items}
-use Rattle.crs_canon.proofs.PieceLemmas.{three}
+use Rattle.crs_writer.proofs.PieceLemmas.{three}
 use Rattle.crs_canon.proofs.spelling.crs.CompoundSpell.spell.Goals as goal
 
 pub returns : goal.returns

@@ -7,7 +7,7 @@ use Rattle.crs_normal.specs.SpelledConversions.{item_conversion, norm_conversion
 use Rattle.crs_normal.specs.SpelledCrs.{item_base, norm_base}
 use Rattle.crs_normal.specs.SpelledSystems.{norm_system, system_items}
 use Rattle.crs_normal.specs.SpelledUsages.{norm_tail, tail_items}
-use Rattle.crs_canon.proofs.PieceLemmas.{three}
+use Rattle.crs_writer.proofs.PieceLemmas.{three}
 use Rattle.crs_canon.proofs.spelling.crs.ProjectedSpell.spell.Goals as goal
 
 pub returns : goal.returns

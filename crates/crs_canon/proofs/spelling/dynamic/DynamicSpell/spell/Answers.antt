@@ -7,7 +7,7 @@ use Rattle.crs_text.specs.Written.{others_text}
 use Rattle.crs_value.specs.DynamicValues.{DynamicParts}
 use Rattle.crs_normal.specs.SpelledDynamic.{item_deformation_model, norm_deformation_model}
 use Rattle.crs_normal.specs.SpelledItems.{opt}
-use Rattle.crs_canon.proofs.PieceLemmas.{three, two}
+use Rattle.crs_writer.proofs.PieceLemmas.{three, two}
 use Rattle.crs_canon.proofs.spelling.dynamic.DynamicSpell.spell.Goals as goal
 
 pub returns : goal.returns

@@ -6,7 +6,7 @@ use Rattle.crs_text.specs.Written.{others_text}
 use Rattle.crs_value.specs.Values.{ExtentParts}
 use Rattle.crs_normal.specs.SpelledItems.{number_item, opt}
 use Rattle.crs_normal.specs.SpelledUnits.{item_unit, norm_length}
-use Rattle.crs_canon.proofs.PieceLemmas.{three}
+use Rattle.crs_writer.proofs.PieceLemmas.{three}
 use Rattle.crs_canon.proofs.spelling.usage.ExtentSpell.spell.Goals as goal
 
 pub returns : goal.returns

@@ -1,0 +1,159 @@
+-- What is written of parts that may be missing, of one of several classes, or that a level doesn't keep.
+use Rattle.std.proofs.Common.{◌≡◌, ℕ, List, [], ◌∷◌, ◌++◌, Option, Some, None, true, false, IsSome, inl, inr, map, refl, sym, ap, subst, ◌∙◌}
+use Rattle.std.proofs.lemmas.List.{append-nil}
+use Rattle.crs_text.specs.Items.{Item, End, arguments}
+use Rattle.crs_text.specs.Written.{item_text, others_text}
+use Rattle.crs_shape.specs.declared.class.Class.{Class}
+use Rattle.crs_shape.specs.declared.class.Class.TheVariants as class
+use Rattle.crs_shape.specs.declared.unit_kind.UnitKind.TheVariants as kinds
+use Rattle.crs_value.specs.Kept.{kept, kept_one}
+use Rattle.crs_value.specs.Reading.{those, ReadsElse, ReadsFirst, ReadsOne, ReadsOptional}
+use Rattle.crs_value.specs.Reads.{LacksUsage, ReadsBare, ReadsBox, ReadsEnsemble, ReadsExtent, ReadsTextOf, ReadsUnit, ReadsUsage}
+use Rattle.crs_value.specs.ReadsConversion.{ReadsAsUnit, ReadsUnitOf}
+use Rattle.crs_value.specs.ReadsCrs.{ReadsAsDatum, ReadsAsEnsemble, ReadsFrame}
+use Rattle.crs_value.specs.Values.{IdentParts, SaysSome, UnitParts, UsageParts}
+use Rattle.crs_value.specs.declared.values.frame.Frame.{Frame}
+use Rattle.crs_value.specs.declared.values.frame.Frame.TheVariants as frame
+use Rattle.crs_value.specs.declared.values.level.Level.{Level}
+use Rattle.crs_value.specs.declared.values.level.Level.TheVariants as levels
+use Rattle.crs_same.specs.SameUsages.{with_bare}
+use Rattle.crs_normal.specs.SpelledFrames.{item_ensemble, item_frame, norm_ensemble, norm_frame}
+use Rattle.crs_normal.specs.SpelledItems.{each, opt}
+use Rattle.crs_normal.specs.SpelledUnits.{item_ident, item_unit, norm_unit, norm_units, set_idents}
+use Rattle.crs_normal.specs.SpelledUsages.{item_usage, norm_usage, set_usages}
+use Rattle.crs_writer.specs.Direct.{Writes}
+use Rattle.crs_writer.specs.Members.{set_text}
+use Rattle.crs_writer.proofs.DirectSetLemmas.{empty-text}
+use Rattle.crs_writer.proofs.WrittenLemmas.{idents-written, usages-written}
+
+-- the same text in other words
+pub retold : {V : Type 0} (R : V → Type 0) (f g : V → List ℕ) (old new : List ℕ) → ((value : V) → f value ≡ g value) →
+    Writes R f old new → Writes R g old new
+retold R f g old new e w = record { writes = λ value r. w.writes value r ∙ ap (λ (x : List ℕ). old ++ x) (e value) }
+
+-- nothing is written where the text is empty
+pub untold : {V : Type 0} (R : V → Type 0) (f : V → List ℕ) (old : List ℕ) → ((value : V) → R value → f value ≡ []) → Writes R f old old
+untold R f old e = record {
+  writes = λ value r. sym (append-nil old) ∙ ap (λ (x : List ℕ). old ++ x) (sym (e value r));
+}
+
+-- ---- parts that may be missing
+
+optional-found : {A V : Type 0} (R : Item → V → Type 0) (spell : A → Item) (norm : Option V → Option A) (one : V → A) (items rest : List Item) (item : Item)
+    (old new : List ℕ) → ((value : V) → norm (Some value) ≡ Some (one value)) → items ≡ item ∷ rest →
+    Writes (R item) (λ v. 44 ∷ item_text (spell (one v))) old new → (value : Option V) → ReadsOptional R items value →
+    new ≡ old ++ others_text (opt spell (norm value) End)
+optional-found {V = V} R spell norm one items rest item old new n e w None h =
+    let P : List Item → Type 0 = λ xs. ReadsOptional R xs None in absurd (subst P e h)
+optional-found {V = V} R spell norm one items rest item old new n e w (Some v) h =
+    let P : List Item → Type 0 = λ xs. ReadsOptional R xs (Some v) in
+    w.writes v (subst P e h) ∙ ap (λ (x : List ℕ). old ++ 44 ∷ x) (sym (append-nil (item_text (spell (one v)))))
+    ∙ ap (λ o. old ++ others_text (opt spell o End)) (sym (n v))
+
+pub found-written : {A V : Type 0} (R : Item → V → Type 0) (spell : A → Item) (norm : Option V → Option A) (one : V → A) (items rest : List Item) (item : Item)
+    (old new : List ℕ) → ((value : V) → norm (Some value) ≡ Some (one value)) → items ≡ item ∷ rest →
+    Writes (R item) (λ v. 44 ∷ item_text (spell (one v))) old new →
+    Writes (ReadsOptional R items) (λ value. others_text (opt spell (norm value) End)) old new
+found-written R spell norm one items rest item old new n e w =
+    record { writes = optional-found R spell norm one items rest item old new n e w }
+
+-- ---- identifiers and usages that a level keeps
+
+full-idents : (level : Level) → level ≡ levels.Full → (ids : List IdentParts) → kept level ids ≡ ids
+full-idents level e ids = ap (λ l. kept l ids) e
+
+pub idents-kept : (level : Level) → level ≡ levels.Full → (ids : List IdentParts) →
+    set_text (map (λ i. item_text (item_ident i)) ids) ≡ others_text (each item_ident (set_idents level ids) End)
+idents-kept level e ids =
+    ap (λ is. set_text (map (λ i. item_text (item_ident i)) is)) (sym (full-idents level e ids)) ∙ sym (idents-written level ids)
+
+pub idents-dropped : (level : Level) → level ≡ levels.Definition → (ids : List IdentParts) → others_text (each item_ident (set_idents level ids) End) ≡ []
+idents-dropped level e ids =
+    idents-written level ids ∙ ap (λ l. set_text (map (λ i. item_text (item_ident i)) (kept l ids))) e ∙ empty-text
+
+abbrev usages_text : Option UsageParts → List UsageParts → List ℕ
+usages_text bare usages = set_text (map (λ u. item_text (item_usage (norm_usage u))) (with_bare bare usages))
+
+pub usages-kept : (level : Level) → level ≡ levels.Full → (bare : Option UsageParts) (usages : List UsageParts) →
+    usages_text bare usages ≡ others_text (each item_usage (set_usages level (with_bare bare usages)) End)
+usages-kept level e bare usages =
+    ap (λ l. usages_text (kept_one l bare) (kept l usages)) (sym e) ∙ sym (usages-written level bare usages)
+
+pub usages-dropped : (level : Level) → level ≡ levels.Definition → (bare : Option UsageParts) (usages : List UsageParts) →
+    others_text (each item_usage (set_usages level (with_bare bare usages)) End) ≡ []
+usages-dropped level e bare usages =
+    usages-written level bare usages ∙ ap (λ l. usages_text (kept_one l bare) (kept l usages)) e ∙ empty-text
+
+-- where no part is bare there is no bare usage
+lacks-one : {V : Type 0} (R : Item → V → Type 0) (items : List Item) (value : Option V) → items ≡ [] → ReadsOptional R items value → ¬ (IsSome value)
+lacks-one R items None e h some = let n : false ≡ true = some in let h : ⊥ = cc in h
+lacks-one R items (Some v) e h some = let P : List Item → Type 0 = λ xs. ReadsOptional R xs (Some v) in subst P e h
+
+lacks-some : (c : Class) (item : Item) (u : UsageParts) → LacksUsage c item → ReadsUsage c item u → ¬ (SaysSome u)
+lacks-some c item u lacks reads (inl some) = lacks-one (ReadsTextOf class.Scope) _ u.scope lacks.scope reads.scope some
+lacks-some c item u lacks reads (inr (inl some)) = lacks-one (ReadsTextOf class.Area) _ u.area lacks.area reads.area some
+lacks-some c item u lacks reads (inr (inr (inl some))) = lacks-one (ReadsBox class.BoundingBox) _ u.bbox lacks.bbox reads.bbox some
+lacks-some c item u lacks reads (inr (inr (inr some))) = lacks-one (ReadsExtent class.VerticalExtent) _ u.extent lacks.extent reads.extent some
+
+lacking-none : (c : Class) (item : Item) (bare : Option UsageParts) → LacksUsage c item → ReadsBare c item bare → bare ≡ None
+lacking-none c item None lacks h = refl
+lacking-none c item (Some u) lacks (reads, some) = absurd (lacks-some c item u lacks reads some)
+
+pub without-bare : (c : Class) (item : Item) (old new : List ℕ) (bare : Option UsageParts) (usages : List UsageParts) → LacksUsage c item →
+    ReadsBare c item bare → new ≡ old ++ usages_text None usages → new ≡ old ++ usages_text bare usages
+without-bare c item old new bare usages lacks h e =
+    e ∙ ap (λ b. old ++ usages_text b usages) (sym (lacking-none c item bare lacks h))
+
+-- ---- the unit of one of several classes
+
+found-unit : (d : Class) (found : Item) (level : Level) (old new : List ℕ) (unit : Option UnitParts) →
+    Writes (ReadsUnit d found) (λ u. 44 ∷ item_text (item_unit (norm_unit level kinds.Plain u))) old new → ReadsAsUnit d found unit →
+    new ≡ old ++ others_text (opt item_unit (norm_units level kinds.Plain unit) End)
+found-unit d found level old new None w h = absurd h
+found-unit d found level old new (Some u) w h =
+    w.writes u h ∙ ap (λ (x : List ℕ). old ++ 44 ∷ x) (sym (append-nil (item_text (item_unit (norm_unit level kinds.Plain u)))))
+
+pub unit-found : (d : Class) (ds : List Class) (c : Class) (item found : Item) (rest : List Item) (level : Level) (old new : List ℕ) →
+    those c d (arguments item) ≡ found ∷ rest →
+    Writes (ReadsUnit d found) (λ u. 44 ∷ item_text (item_unit (norm_unit level kinds.Plain u))) old new →
+    Writes (ReadsUnitOf (d ∷ ds) c item) (λ u. others_text (opt item_unit (norm_units level kinds.Plain u) End)) old new
+unit-found d ds c item found rest level old new e w = record {
+  writes = λ unit h.
+      let P : List Item → Type 0 = λ xs. ReadsElse (ReadsAsUnit d) xs (ReadsUnitOf ds c item) unit in
+      found-unit d found level old new unit w (subst P e h);
+}
+
+pub unit-passed : (d : Class) (ds : List Class) (c : Class) (item : Item) (f : Option UnitParts → List ℕ) (old new : List ℕ) →
+    those c d (arguments item) ≡ [] → Writes (ReadsUnitOf ds c item) f old new → Writes (ReadsUnitOf (d ∷ ds) c item) f old new
+unit-passed d ds c item f old new e w = record {
+  writes = λ unit h.
+      let P : List Item → Type 0 = λ xs. ReadsElse (ReadsAsUnit d) xs (ReadsUnitOf ds c item) unit in
+      w.writes unit (subst P e h);
+}
+
+no-unit : (level : Level) (c : Class) (item : Item) (unit : Option UnitParts) → ReadsUnitOf [] c item unit →
+    others_text (opt item_unit (norm_units level kinds.Plain unit) End) ≡ []
+no-unit level c item None h = refl
+no-unit level c item (Some u) h = absurd h
+
+pub unit-none : (level : Level) (c : Class) (item : Item) (old : List ℕ) →
+    Writes (ReadsUnitOf [] c item) (λ u. others_text (opt item_unit (norm_units level kinds.Plain u) End)) old old
+unit-none level c item old = untold (ReadsUnitOf [] c item) _ old (no-unit level c item)
+
+-- ---- an ensemble in the place of a frame
+
+ensemble-in : (keyword : List ℕ) (level : Level) (e : Class) (items : List Item) (old new : List ℕ) (f : Frame) →
+    Writes (ReadsFirst (ReadsEnsemble e) items) (λ x. 44 ∷ item_text (item_ensemble (norm_ensemble level x))) old new →
+    ReadsFirst (ReadsAsEnsemble e) items f → new ≡ old ++ 44 ∷ item_text (item_frame keyword (norm_frame level f))
+ensemble-in keyword level e [] old new f w h = absurd h
+ensemble-in keyword level e (item ∷ items) old new (frame.Datum d) w h = absurd h
+ensemble-in keyword level e (item ∷ items) old new (frame.Ensemble x) w h = w.writes x h
+
+pub ensemble-written : (keyword : List ℕ) (level : Level) (d e c : Class) (item : Item) (old new : List ℕ) → those c d (arguments item) ≡ [] →
+    Writes (ReadsOne ReadsEnsemble e c item) (λ x. 44 ∷ item_text (item_ensemble (norm_ensemble level x))) old new →
+    Writes (ReadsFrame d e c item) (λ f. 44 ∷ item_text (item_frame keyword (norm_frame level f))) old new
+ensemble-written keyword level d e c item old new none w = record {
+  writes = λ f h.
+      let P : List Item → Type 0 = λ xs. ReadsElse (ReadsAsDatum d) xs (ReadsOne ReadsAsEnsemble e c item) f in
+      ensemble-in keyword level e (those c e (arguments item)) old new f w (subst P none h);
+}

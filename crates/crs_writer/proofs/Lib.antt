@@ -1,0 +1,17 @@
+pub mod DirectAxisLemmas
+pub mod DirectCrsLemmas
+pub mod DirectFlatLemmas
+pub mod DirectLemmas
+pub mod DirectPartLemmas
+pub mod DirectPlainLemmas
+pub mod DirectSetLemmas
+pub mod EncloseLemmas
+pub mod PieceLemmas
+pub mod PlainLemmas
+pub mod ReadLemmas
+pub mod SetLemmas
+pub mod SpanLemmas
+pub mod SystemLemmas
+pub mod TextLemmas
+pub mod WholeLemmas
+pub mod WrittenLemmas

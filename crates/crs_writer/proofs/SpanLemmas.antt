@@ -1,0 +1,208 @@
+-- Texts put among others that are in order: where they belong, and that spans of the others stay theirs.
+use Rattle.std.proofs.Common.{◌≡◌, ◌++◌, ◌∙◌, ◌≤◌, ◌<◌, ◌+◌, ◌-◌, ℕ, zero, suc, get_or, List, [], ◌∷◌, length, take, drop, Ordering, Less, Equal, Greater, refl, sym, ap, subst, arith}
+use Rattle.std.specs.List.{insert, slice_range}
+use Rattle.std.specs.Cmp.Lexicographic.{slice_cmp}
+use Rattle.std.specs.Ordering.{nat_cmp, match_ordering, ordering_reverse}
+use Rattle.std.proofs.lemmas.Cmp.{nat_list_cmp_total}
+use Rattle.std.proofs.lemmas.List.{append_assoc, drop-append-le, drop_more, get_or-map, length-append, length-drop, length-map, take-append-drop, take-append-le, take_all, take_more}
+use Rattle.crs_value.specs.Sound.{Each}
+use Rattle.crs_normal.specs.Ascending.{Ascends, Below}
+use Rattle.crs_normal.specs.Ordered.{put, put_all}
+use Rattle.crs_normal.proofs.members.SetLemmas.{in_order-ascends, in_order-of}
+use Rattle.crs_writer.specs.Spans.{AreInOrder, AreWithin, IsPutAmong, IsWithin, text_at, texts_at}
+use Rattle.crs_writer.specs.declared.spans.Span.{Span}
+
+abbrev pub puts : List ℕ → List (List ℕ) → List (List ℕ)
+puts t texts = put (λ b. b) t texts
+
+-- ---- where a text belongs
+
+match-append : {X : Type 0} (o : Ordering) (a b c s : List X) →
+    match_ordering o a b c ++ s ≡ match_ordering o (a ++ s) (b ++ s) (c ++ s)
+match-append Less a b c s = refl
+match-append Equal a b c s = refl
+match-append Greater a b c s = refl
+
+-- below the last of them it belongs before that
+put-below : (t y : List ℕ) (l : List (List ℕ)) → slice_cmp nat_cmp t y ≡ Less → puts t (l ++ y ∷ []) ≡ puts t l ++ y ∷ []
+put-below t y [] h = ap (λ o. match_ordering o (t ∷ y ∷ []) (y ∷ []) (y ∷ t ∷ [])) h
+put-below t y (z ∷ l) h =
+    ap (λ rest. match_ordering (slice_cmp nat_cmp t z) (t ∷ z ∷ l ++ y ∷ []) (z ∷ l ++ y ∷ []) (z ∷ rest)) (put-below t y l h)
+    ∙ sym (match-append (slice_cmp nat_cmp t z) (t ∷ z ∷ l) (z ∷ l) (z ∷ puts t l) (y ∷ []))
+
+last-has : {A : Type 0} (P : A → Type 0) (l : List A) (y : A) → Each P (l ++ y ∷ []) → P y
+last-has P [] y h = h.0
+last-has P (z ∷ l) y h = last-has P l y h.1
+
+-- what is above a text is above those before it
+over : (t y z : List ℕ) → slice_cmp nat_cmp z y ≡ Less → slice_cmp nat_cmp t y ≡ Greater → slice_cmp nat_cmp t z ≡ Greater
+over t y z below h =
+    let under : slice_cmp nat_cmp y t ≡ Less = nat_list_cmp_total.antisymm y t ∙ ap ordering_reverse h in
+    nat_list_cmp_total.antisymm t z ∙ ap ordering_reverse (nat_list_cmp_total.trans z y t below under)
+
+-- above the last of them it belongs behind all
+put-above : (t y : List ℕ) (l : List (List ℕ)) → Ascends (λ b. b) (l ++ y ∷ []) → slice_cmp nat_cmp t y ≡ Greater →
+    puts t (l ++ y ∷ []) ≡ l ++ y ∷ t ∷ []
+put-above t y [] s h = ap (λ o. match_ordering o (t ∷ y ∷ []) (y ∷ []) (y ∷ t ∷ [])) h
+put-above t y (z ∷ l) s h =
+    ap (λ o. match_ordering o (t ∷ z ∷ l ++ y ∷ []) (z ∷ l ++ y ∷ []) (z ∷ puts t (l ++ y ∷ [])))
+    (over t y z (last-has (Below z) l y s.0) h)
+    ∙ ap (λ rest. z ∷ rest) (put-above t y l s.1 h)
+
+-- the last of them again changes nothing
+put-last : (t y : List ℕ) (l : List (List ℕ)) → Ascends (λ b. b) (l ++ y ∷ []) → slice_cmp nat_cmp t y ≡ Equal →
+    puts t (l ++ y ∷ []) ≡ l ++ y ∷ []
+put-last t y [] s h = ap (λ o. match_ordering o (t ∷ y ∷ []) (y ∷ []) (y ∷ t ∷ [])) h
+put-last t y (z ∷ l) s h =
+    let below : slice_cmp nat_cmp z y ≡ Less = last-has (Below z) l y s.0 in
+    let above : slice_cmp nat_cmp t z ≡ Greater =
+    nat_list_cmp_total.congr t y z h ∙ nat_list_cmp_total.antisymm y z ∙ ap ordering_reverse below in
+    ap (λ o. match_ordering o (t ∷ z ∷ l ++ y ∷ []) (z ∷ l ++ y ∷ []) (z ∷ puts t (l ++ y ∷ []))) above
+    ∙ ap (λ rest. z ∷ rest) (put-last t y l s.1 h)
+
+front-ascends : (l r : List (List ℕ)) → Ascends (λ b. b) (l ++ r) → Ascends (λ b. b) l
+front-ascends [] r s = tt
+front-ascends (z ∷ l) r s = (front-has (Below z) l r s.0, front-ascends l r s.1)
+  where
+    front-has : {A : Type 0} (P : A → Type 0) (l r : List A) → Each P (l ++ r) → Each P l
+    front-has P [] r h = tt
+    front-has P (x ∷ l) r h = (h.0, front-has P l r h.1)
+
+-- a list, cut at a place: what is before the place with one more, and what is after it
+module _ (t y : List ℕ) (all front back : List (List ℕ)) where
+  pub step-below : puts t all ≡ puts t (front ++ y ∷ []) ++ back → slice_cmp nat_cmp t y ≡ Less →
+      puts t all ≡ puts t front ++ y ∷ back
+  step-below e h =
+      e ∙ ap (λ l. l ++ back) (put-below t y front h) ∙ append_assoc (puts t front) (y ∷ []) back
+
+  pub step-equal : puts t all ≡ puts t (front ++ y ∷ []) ++ back → all ≡ (front ++ y ∷ []) ++ back →
+      Ascends (λ b. b) all → slice_cmp nat_cmp t y ≡ Equal → puts t all ≡ all
+  step-equal e is s h =
+      e ∙ ap (λ l. l ++ back)
+      (put-last t y front (front-ascends (front ++ y ∷ []) back (subst (Ascends (λ b. b)) is s)) h)
+      ∙ sym is
+
+  pub step-above : puts t all ≡ puts t (front ++ y ∷ []) ++ back → all ≡ (front ++ y ∷ []) ++ back →
+      Ascends (λ b. b) all → slice_cmp nat_cmp t y ≡ Greater → puts t all ≡ (front ++ y ∷ []) ++ t ∷ back
+  step-above e is s h =
+      e ∙ ap (λ l. l ++ back)
+      (put-above t y front (front-ascends (front ++ y ∷ []) back (subst (Ascends (λ b. b)) is s)) h)
+      ∙ append_assoc front (y ∷ t ∷ []) back ∙ sym (append_assoc front (y ∷ []) (t ∷ back))
+
+-- ---- one more text in order
+
+put_all-more : (sorted xs : List (List ℕ)) (t : List ℕ) →
+    put_all (λ b. b) sorted (xs ++ t ∷ []) ≡ puts t (put_all (λ b. b) sorted xs)
+put_all-more sorted [] t = refl
+put_all-more sorted (x ∷ xs) t = put_all-more (puts x sorted) xs t
+
+pub put-ascends : (t : List ℕ) (texts : List (List ℕ)) → Ascends (λ b. b) texts → Ascends (λ b. b) (puts t texts)
+put-ascends t texts s =
+    subst (Ascends (λ b. b)) (put_all-more [] texts t ∙ ap (puts t) (in_order-of (λ b. b) texts s))
+    (in_order-ascends (λ b. b) (texts ++ t ∷ []))
+
+-- ---- spans among more bytes
+
+pub text-stays : (bytes more : List ℕ) (span : Span) → IsWithin bytes span → text_at (bytes ++ more) span ≡ text_at bytes span
+text-stays bytes more span (ordered, within) =
+    let front : span.start ≤ length bytes = omega (arith, ordered, within) in
+    let room : span.end - span.start ≤ length (drop span.start bytes) =
+    omega (arith, ordered, within, length-drop span.start bytes) in
+    ap (take (span.end - span.start)) (drop-append-le span.start bytes more front)
+    ∙ take-append-le (span.end - span.start) (drop span.start bytes) more room
+
+pub texts-stay : (bytes more : List ℕ) (spans : List Span) → AreWithin bytes spans →
+    texts_at (bytes ++ more) spans ≡ texts_at bytes spans
+texts-stay bytes more [] h = refl
+texts-stay bytes more (s ∷ spans) h =
+    let one = text-stays bytes more s h.0 in
+    let rest = texts-stay bytes more spans h.1 in
+    λ i. one i ∷ rest i
+
+stays-within : (bytes more : List ℕ) (spans : List Span) → AreWithin bytes spans → AreWithin (bytes ++ more) spans
+stays-within bytes more [] h = tt
+stays-within bytes more (s ∷ spans) h =
+    ((h.0.0, omega (arith, h.0.1, length-append bytes more)), stays-within bytes more spans h.1)
+
+pub order-stays : (bytes more : List ℕ) (spans : List Span) → AreInOrder bytes spans → AreInOrder (bytes ++ more) spans
+order-stays bytes more spans h = record {
+  within = stays-within bytes more spans h.within;
+  ascend = subst (Ascends (λ b. b)) (sym (texts-stay bytes more spans h.within)) h.ascend;
+}
+
+pub front-order : (all : List ℕ) (start : ℕ) (spans : List Span) → AreInOrder (take start all) spans → AreInOrder all spans
+front-order all start spans order =
+    subst (λ bytes. AreInOrder bytes spans) (take-append-drop start all)
+    (order-stays (take start all) (drop start all) spans order)
+
+-- the text before a place
+pub before : (bytes : List ℕ) (spans : List Span) (at : ℕ) (d : Span) (y : List ℕ) →
+    y ≡ text_at bytes (get_or spans (at - 1) d) → 0 < at → at ≤ length spans →
+    (take at (texts_at bytes spans) ≡ take (at - 1) (texts_at bytes spans) ++ y ∷ [])
+    × (drop (at - 1) (texts_at bytes spans) ≡ y ∷ drop at (texts_at bytes spans))
+before bytes spans at d y is some le =
+    let texts = texts_at bytes spans in
+    let on : at - 1 + 1 ≡ at = omega (arith, some) in
+    let long : at - 1 < length spans = omega (arith, some, le) in
+    let long-texts : at - 1 < length texts = omega (arith, long, length-map spans (text_at bytes)) in
+    let here : get_or texts (at - 1) (text_at bytes d) ≡ y =
+    get_or-map (text_at bytes) spans (at - 1) d (text_at bytes d) long ∙ sym is in (
+      ap (λ n. take n texts) (sym on) ∙ take_more texts (at - 1) (text_at bytes d) long-texts
+          ∙ ap (λ z. take (at - 1) texts ++ z ∷ []) here,
+      drop_more texts (at - 1) (text_at bytes d) long-texts ∙ (λ i. here i ∷ drop (on i) texts),
+    )
+
+-- ---- a span more
+
+insert-within : (bytes : List ℕ) (spans : List Span) (at : ℕ) (span : Span) → AreWithin bytes spans → IsWithin bytes span →
+    AreWithin bytes (insert spans at span)
+insert-within bytes spans zero span h w = (w, h)
+insert-within bytes [] (suc at) span h w = (w, tt)
+insert-within bytes (s ∷ spans) (suc at) span h w = (h.0, insert-within bytes spans at span h.1 w)
+
+insert-texts : (bytes : List ℕ) (spans : List Span) (at : ℕ) (span : Span) →
+    texts_at bytes (insert spans at span) ≡ insert (texts_at bytes spans) at (text_at bytes span)
+insert-texts bytes spans zero span = refl
+insert-texts bytes [] (suc at) span = refl
+insert-texts bytes (s ∷ spans) (suc at) span = ap (λ l. text_at bytes s ∷ l) (insert-texts bytes spans at span)
+
+-- the last bytes are put among the texts of the others
+pub last-put : (all : List ℕ) (start at : ℕ) (spans others : List Span) (span : Span) →
+    start ≤ length all → AreInOrder (take start all) spans →
+    span.start ≡ start → span.end ≡ length all → others ≡ insert spans at span →
+    puts (drop start all) (texts_at all spans)
+    ≡ take at (texts_at all spans) ++ drop start all ∷ drop at (texts_at all spans) →
+    IsPutAmong (drop start all) (take start all) spans all others
+last-put all start at spans others span le order from to is put =
+    let whole : take start all ++ drop start all ≡ all = take-append-drop start all in
+    let stays : AreInOrder all spans =
+    subst (λ bytes. AreInOrder bytes spans) whole (order-stays (take start all) (drop start all) spans order) in
+    let same : texts_at all spans ≡ texts_at (take start all) spans =
+    ap (λ bytes. texts_at bytes spans) (sym whole) ∙ texts-stay (take start all) (drop start all) spans order.within in
+    let text : text_at all span ≡ drop start all =
+    ap (λ n. slice_range all n span.end) from ∙ ap (λ n. slice_range all start n) to
+    ∙ take_all (length all - start) (drop start all) (omega (arith, length-drop start all)) in
+    let within : AreWithin all others =
+    subst (AreWithin all) (sym is)
+    (insert-within all spans at span stays.within (omega (arith, from, to, le), omega (arith, to))) in
+    let texts : texts_at all others ≡ puts (drop start all) (texts_at all spans) =
+    ap (texts_at all) is ∙ insert-texts all spans at span
+    ∙ ap (λ t. insert (texts_at all spans) at t) text ∙ sym put in
+    record {
+      order = record {
+        within = within;
+        ascend = subst (Ascends (λ b. b)) (sym texts) (put-ascends (drop start all) (texts_at all spans) stays.ascend);
+      };
+      texts = texts ∙ ap (puts (drop start all)) same;
+    }
+
+-- the last bytes are one of the texts already
+pub last-known : (all : List ℕ) (start : ℕ) (spans : List Span) →
+    AreInOrder (take start all) spans →
+    puts (drop start all) (texts_at all spans) ≡ texts_at all spans →
+    IsPutAmong (drop start all) (take start all) spans (take start all) spans
+last-known all start spans order put =
+    let whole : take start all ++ drop start all ≡ all = take-append-drop start all in
+    let same : texts_at all spans ≡ texts_at (take start all) spans =
+    ap (λ bytes. texts_at bytes spans) (sym whole) ∙ texts-stay (take start all) (drop start all) spans order.within in
+    record { order = order; texts = sym same ∙ sym put ∙ ap (puts (drop start all)) same }

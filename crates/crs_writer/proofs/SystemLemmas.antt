@@ -1,0 +1,50 @@
+-- Axes as they are looked up and written.
+use Rattle.std.proofs.Common.{◌≡◌, ℕ, suc, ◌+◌, List, [], ◌∷◌, ◌++◌, Option, Some, None, refl, sym, ap, ◌∙◌, subst, append_assoc}
+use Rattle.crs_text.specs.Items.{Siblings, End}
+use Rattle.crs_text.specs.Written.{item_text, others_text}
+use Rattle.crs_value.specs.Values.{AxisParts, SystemParts}
+use Rattle.crs_value.specs.declared.values.level.Level.{Level}
+use Rattle.crs_normal.specs.SpelledItems.{each}
+use Rattle.crs_normal.specs.SpelledSystems.{axes_from, axis_at, item_axis, item_head, norm_axis, norm_system, system_items, with_axis}
+use Rattle.crs_writer.proofs.PieceLemmas.{two}
+use Rattle.crs_writer.proofs.TextLemmas.{each-text}
+
+with-text : (level : Level) (system : SystemParts) (k : ℕ) (axis : Option AxisParts) (rest : List AxisParts) →
+    others_text (each item_axis (with_axis level system k axis rest) End)
+    ≡ others_text (each item_axis (with_axis level system k axis []) End) ++ others_text (each item_axis rest End)
+with-text level system k None rest = refl
+with-text level system k (Some axis) rest =
+    each-text item_axis (norm_axis level system k axis ∷ []) (each item_axis rest End)
+
+step : (level : Level) (system : SystemParts) (k n : ℕ) (s1 s2 : List ℕ) →
+    s2 ≡ s1 ++ others_text (each item_axis (with_axis level system k (axis_at k 1 system.axes) []) End) →
+    s2 ++ others_text (each item_axis (axes_from level system (k + 1) n) End)
+    ≡ s1 ++ others_text (each item_axis (axes_from level system k (suc n)) End)
+step level system k n s1 s2 e =
+    let here = others_text (each item_axis (with_axis level system k (axis_at k 1 system.axes) []) End) in
+    let rest = others_text (each item_axis (axes_from level system (k + 1) n) End) in
+    two s1 here rest s2 (s2 ++ rest) e refl
+    ∙ ap (λ (x : List ℕ). s1 ++ x) (sym (with-text level system k (axis_at k 1 system.axes) (axes_from level system (k + 1) n)))
+
+-- one position more is written, `left` being one more than `rest`
+pub next-axis : (level : Level) (system : SystemParts) (k left rest : ℕ) (s1 s2 whole : List ℕ) → left ≡ suc rest →
+    s1 ++ others_text (each item_axis (axes_from level system k left) End) ≡ whole →
+    s2 ≡ s1 ++ others_text (each item_axis (with_axis level system k (axis_at k 1 system.axes) []) End) →
+    s2 ++ others_text (each item_axis (axes_from level system (k + 1) rest) End) ≡ whole
+next-axis level system k left rest s1 s2 whole e f g =
+    step level system k rest s1 s2 g
+    ∙ subst (λ n. s1 ++ others_text (each item_axis (axes_from level system k n) End) ≡ whole) e f
+
+-- a system, and then the rest
+pub then-system : (level : Level) (system : SystemParts) (rest : Siblings) (old s1 s2 : List ℕ) →
+    s1 ≡ old ++ others_text (system_items (norm_system level system) End) → s2 ≡ s1 ++ others_text rest →
+    s2 ≡ old ++ others_text (system_items (norm_system level system) rest)
+then-system level system rest old s1 s2 e f =
+    let s = norm_system level system in
+    let head = item_text (item_head s) in
+    let axes = others_text (each item_axis s.axes End) in
+    two old (44 ∷ (head ++ axes)) (others_text rest) s1 s2 e f
+    ∙ ap (λ (x : List ℕ). old ++ (44 ∷ x))
+    (append_assoc head axes (others_text rest) ∙ ap (λ (x : List ℕ). head ++ x) (sym (each-text item_axis s.axes rest)))
+
+pub ruleset system_rules = (then-system)

@@ -1,0 +1,53 @@
+-- The sets of a part as they are written.
+use Rattle.std.proofs.Common.{◌≡◌, ◌∙◌, List, Option, ap, map, refl, sym}
+use Rattle.crs_text.specs.Items.{End}
+use Rattle.crs_text.specs.Written.{item_text, others_text}
+use Rattle.crs_value.specs.ConversionValues.{GeoidModelParts, ParameterParts}
+use Rattle.crs_value.specs.Values.{IdentParts, MemberParts, UsageParts}
+use Rattle.crs_value.specs.Kept.{kept, kept_one}
+use Rattle.crs_value.specs.KeptLaws.{kept-joined}
+use Rattle.crs_value.specs.declared.values.level.Level.{Level}
+use Rattle.crs_same.specs.SameUsages.{with_bare}
+use Rattle.crs_normal.specs.SpelledConversions.{item_geoid_model, item_parameter, norm_geoid_model, norm_parameter, set_geoid_models, set_parameters}
+use Rattle.crs_normal.specs.SpelledFrames.{item_member, norm_member, set_members}
+use Rattle.crs_normal.specs.SpelledItems.{each}
+use Rattle.crs_normal.specs.SpelledUnits.{item_ident, set_idents}
+use Rattle.crs_normal.specs.SpelledUsages.{item_usage, norm_usage, set_usages}
+use Rattle.crs_writer.specs.Members.{set_text}
+use Rattle.crs_writer.proofs.TextLemmas.{normal_set-written, set-written}
+
+pub idents-written : (level : Level) (identifiers : List IdentParts) →
+    others_text (each item_ident (set_idents level identifiers) End)
+    ≡ set_text (map (λ i. item_text (item_ident i)) (kept level identifiers))
+unfolding set_idents
+idents-written level identifiers = set-written item_ident (kept level identifiers)
+
+pub members-written : (level : Level) (members : List MemberParts) →
+    others_text (each item_member (set_members level members) End)
+    ≡ set_text (map (λ m. item_text (item_member (norm_member level m))) members)
+unfolding set_members
+members-written level members = normal_set-written item_member (norm_member level) members
+
+pub parameters-written : (level : Level) (parameters : List ParameterParts) →
+    others_text (each item_parameter (set_parameters level parameters) End)
+    ≡ set_text (map (λ p. item_text (item_parameter (norm_parameter level p))) parameters)
+unfolding set_parameters
+parameters-written level parameters = normal_set-written item_parameter (norm_parameter level) parameters
+
+pub geoid_models-written : (level : Level) (models : List GeoidModelParts) →
+    others_text (each item_geoid_model (set_geoid_models level models) End)
+    ≡ set_text (map (λ g. item_text (item_geoid_model (norm_geoid_model level g))) models)
+unfolding set_geoid_models
+geoid_models-written level models = normal_set-written item_geoid_model (norm_geoid_model level) models
+
+-- the bare usage may be kept by itself, beside the others
+pub usages-written : (level : Level) (bare : Option UsageParts) (usages : List UsageParts) →
+    others_text (each item_usage (set_usages level (with_bare bare usages)) End)
+    ≡ set_text (map (λ u. item_text (item_usage (norm_usage u))) (with_bare (kept_one level bare) (kept level usages)))
+unfolding set_usages
+usages-written level bare usages =
+    normal_set-written item_usage norm_usage (kept level (with_bare bare usages))
+    ∙ ap (λ us. set_text (map (λ u. item_text (item_usage (norm_usage u))) us))
+    (sym (kept-joined with_bare refl level bare usages))
+
+pub ruleset written_rules = (idents-written, members-written, parameters-written, geoid_models-written, usages-written)

@@ -1,0 +1,9 @@
+pub mod Canonical
+pub mod CrsText
+pub mod Direct
+pub mod Equality
+pub mod EqualityLaws
+pub mod Members
+pub mod Openings
+pub mod SetText
+pub mod Spans

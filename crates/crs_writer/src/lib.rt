@@ -1,0 +1,14 @@
+//! The canonical text of a text, written straight from its items.
+#![tactic(auto)]
+
+mod answer;
+mod canon_text;
+mod direct;
+pub mod laws;
+pub mod pieces;
+mod set;
+mod spans;
+mod spelling;
+
+pub use answer::{canon, canon_in};
+pub use canon_text::Canon;

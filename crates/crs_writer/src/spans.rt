@@ -1,0 +1,93 @@
+//! A few texts in ascending order of their bytes, each once: their bytes one after another as they came, and in order
+//! where each is among them. A set of few members needs no more than these two vectors.
+ghost use Rattle.std.specs.Prelude.{◌≡◌, ◌≤◌, ◌++◌, ◌∷◌, MatchOption, OnOk, drop, length, take};
+ghost use Rattle.crs_normal.specs.Ordered.{put};
+ghost use Rattle.crs_writer.specs.SetText.{commas};
+ghost use Rattle.crs_writer.specs.Spans.{AreInOrder, AreWithin, IsPutAmong, IsWithin, text_at, texts_at};
+
+use crate::spelling::texts::append;
+use std::alloc::AllocError;
+use std::cmp::Ordering;
+
+/// Where a text is among bytes. Profile.
+#[derive(Clone, Copy)]
+pub struct Span {
+    /// Its first byte.
+    pub start: usize,
+    /// Behind its last byte.
+    pub end: usize,
+}
+
+fn text_at(bytes: &[u8], span: Span) -> &[u8]
+    requires { IsWithin bytes.now span }
+    ensures { result.now ≡ text_at bytes.now span }
+{
+    &bytes[span.start..span.end]
+}
+
+// How many of the ordered texts go before a text. None: it is one of them.
+fn place_of(text: &[u8], bytes: &[u8], spans: &[Span]) -> Option<usize>
+    requires { AreInOrder bytes.now spans.now }
+    ensures { MatchOption result
+        (put (λ b. b) text.now (texts_at bytes.now spans.now) ≡ texts_at bytes.now spans.now)
+        (λ at. (at ≤ length spans.now) × (put (λ b. b) text.now (texts_at bytes.now spans.now)
+        ≡ take at (texts_at bytes.now spans.now) ++ text.now ∷ drop at (texts_at bytes.now spans.now))) }
+{
+    let mut at = spans.len();
+    while at > 0 {
+        match text.cmp(text_at(bytes, spans[at - 1])) {
+            Ordering::Less => at -= 1,
+            Ordering::Equal => return None,
+            Ordering::Greater => return Some(at),
+        }
+    }
+    Some(0)
+}
+
+fn rest_of(bytes: &[u8], start: usize) -> &[u8]
+    requires { start ≤ length bytes.now }
+    ensures { result.now ≡ drop start bytes.now }
+{
+    &bytes[start..]
+}
+
+/// Puts the text that begins at `start`, and ends with the bytes, among the others. Profile.
+///
+/// `AllocError`: there is no memory for its place.
+pub fn put_last(bytes: &mut Vec<u8>, spans: &mut Vec<Span>, start: usize) -> Result<(), AllocError>
+    requires start { start ≤ length bytes.old.items }
+    requires order { AreInOrder (take start bytes.old.items) spans.old.items }
+    ensures { OnOk result (IsPutAmong (drop start bytes.old.items) (take start bytes.old.items) spans.old.items
+        bytes.new.items spans.new.items) }
+{
+    let end = bytes.len();
+    match place_of(rest_of(bytes, start), bytes, spans) {
+        None => bytes.truncate(start),
+        Some(at) => spans.insert(at, Span { start, end })?,
+    }
+    Ok(())
+}
+
+// Puts a text among the others.
+pub(crate) fn put(bytes: &mut Vec<u8>, spans: &mut Vec<Span>, text: &[u8]) -> Result<(), AllocError>
+    requires { AreInOrder bytes.old.items spans.old.items }
+    ensures { OnOk result (IsPutAmong text.now bytes.old.items spans.old.items bytes.new.items spans.new.items) }
+{
+    let start = bytes.len();
+    append(bytes, text)?;
+    put_last(bytes, spans, start)
+}
+
+/// Appends the texts in order, a comma before each. Profile.
+///
+/// `AllocError`: there is no memory for them.
+pub fn write_spans(out: &mut Vec<u8>, bytes: &[u8], spans: &[Span]) -> Result<(), AllocError>
+    requires { AreWithin bytes.now spans.now }
+    ensures { OnOk result (out.new.items ≡ out.old.items ++ commas (texts_at bytes.now spans.now)) }
+{
+    for span in spans {
+        append(out, b",")?;
+        append(out, text_at(bytes, *span))?;
+    }
+    Ok(())
+}

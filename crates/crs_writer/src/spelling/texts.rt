@@ -1,0 +1,106 @@
+//! Bytes, and items of one token or of one argument.
+ghost use Rattle.std.specs.Prelude.{◌≡◌, ◌∷◌, ◌++◌, OnOk};
+ghost use Rattle.std.specs.List.{list_all};
+ghost use Rattle.std.specs.Option.{option_copied};
+ghost use Rattle.crs_decimal.specs.Plain.{plain};
+ghost use Rattle.crs_decimal.specs.Spelling.{is_digit};
+ghost use Rattle.crs_text.specs.Items.{End, More};
+ghost use Rattle.crs_text.specs.Written.{item_text, others_text};
+ghost use Rattle.crs_normal.specs.SpelledItems.{code_item, is_short, number_item};
+ghost use Rattle.crs_writer.specs.Openings.{opened, text_behind};
+
+use crs_decimal::Decimal;
+use std::alloc::AllocError;
+
+/// Appends bytes. Profile.
+///
+/// `AllocError`: there is no memory for them.
+pub fn append(out: &mut Vec<u8>, bytes: &[u8]) -> Result<(), AllocError>
+    ensures { OnOk result (out.new.items ≡ out.old.items ++ bytes.now) }
+{
+    out.extend_from_slice(bytes)
+}
+
+/// Appends a keyword, the opening delimiter and a quoted text; the opening ends with the quote. Profile.
+///
+/// `AllocError`: there is no memory for them.
+pub fn open_text(out: &mut Vec<u8>, opening: &[u8], text: &[u8]) -> Result<(), AllocError>
+    ensures { OnOk result (out.new.items ≡ out.old.items ++ opened opening.now text.now) }
+{
+    append(out, opening)?;
+    append(out, text)?;
+    append(out, b"\"")
+}
+
+/// Appends a node of one text, if there is one; the opening begins with a comma. Profile.
+///
+/// `AllocError`: there is no memory for it.
+pub fn write_optional_text(
+    out: &mut Vec<u8>,
+    opening: &[u8],
+    text: Option<&[u8]>,
+) -> Result<(), AllocError>
+    ensures { OnOk result (out.new.items ≡ out.old.items ++ text_behind opening.now (option_copied text.entry)) }
+{
+    match text {
+        None => Ok(()),
+        Some(text) => {
+            open_text(out, opening, text)?;
+            append(out, b"]")
+        }
+    }
+}
+
+fn write_decimal(out: &mut Vec<u8>, value: &Decimal) -> Result<(), AllocError>
+    ensures { OnOk result (out.new.items ≡ out.old.items ++ plain value.now) }
+{
+    crs_decimal::laws::plain_is_the_one();
+    value.write(out)
+}
+
+/// Appends a keyword, the opening delimiter and a number; the opening ends with the delimiter. Profile.
+///
+/// `AllocError`: there is no memory for them.
+pub fn open_number(out: &mut Vec<u8>, opening: &[u8], value: &Decimal) -> Result<(), AllocError>
+    ensures { OnOk result (out.new.items ≡ out.old.items ++ (opening.now ++ plain value.now)) }
+{
+    append(out, opening)?;
+    write_decimal(out, value)
+}
+
+/// Appends a number after a comma. Profile.
+///
+/// `AllocError`: there is no memory for it.
+pub fn write_number(out: &mut Vec<u8>, value: &Decimal) -> Result<(), AllocError>
+    ensures { OnOk result (out.new.items ≡ out.old.items ++ 44 ∷ item_text (number_item value.now)) }
+{
+    append(out, b",")?;
+    write_decimal(out, value)
+}
+
+pub(crate) fn are_digits(raw: &[u8]) -> bool
+    ensures { result ≡ list_all is_digit raw.now }
+{
+    raw.iter().all(|byte| byte.is_ascii_digit())
+}
+
+// Whether a code is written without quotes.
+fn is_short(raw: &[u8]) -> bool
+    ensures { result ≡ is_short raw.now }
+{
+    are_digits(raw) && 1 <= raw.len() && raw.len() <= 18
+}
+
+/// Appends a code or a version after a comma. Profile.
+///
+/// `AllocError`: there is no memory for it.
+pub fn write_code(out: &mut Vec<u8>, raw: &[u8]) -> Result<(), AllocError>
+    ensures { OnOk result (out.new.items ≡ out.old.items ++ others_text (More (code_item raw.now) End)) }
+{
+    if is_short(raw) {
+        append(out, b",")?;
+        append(out, raw)
+    } else {
+        open_text(out, b",\"", raw)
+    }
+}
