@@ -43,8 +43,8 @@ SECONDS = 1800
 OTHER_LAYOUTS = [
     ("catalogue {\n    uint64_t hidden[32];", "catalogue {\n    uint64_t hidden[8];", "crsdesk_catalogue"),
     ("catalogue {\n    uint64_t hidden[32];", "catalogue {\n    unsigned char hidden[256];", "crsdesk_catalogue"),
-    ("rules {\n    uint64_t hidden[32];", "rules {\n    uint64_t hidden[8];", "crsdesk_rules"),
-    ("rules {\n    uint64_t hidden[32];", "rules {\n    unsigned char hidden[256];", "crsdesk_rules"),
+    ("rules {\n    uint64_t hidden[64];", "rules {\n    uint64_t hidden[8];", "crsdesk_rules"),
+    ("rules {\n    uint64_t hidden[64];", "rules {\n    unsigned char hidden[512];", "crsdesk_rules"),
     ("    size_t place;\n    uint32_t number;\n", "    uint32_t number;\n    size_t place;\n", "crsdesk_refusal"),
     ("    size_t place;\n    uint32_t number;\n", "    uint32_t place, number;\n", "crsdesk_refusal"),
     ("    size_t group;  ", "    uint64_t first; size_t group;  ", "crsdesk_standing"),

@@ -1811,6 +1811,25 @@ def hostile_rules_files() -> None:
         assert most <= 20 * least + 0.02, f"{kind}: {least} s, of eight times the bytes {most} s"
 
 
+def many_rules_cost_a_text_no_more() -> None:
+    few, many = Rules('SAME[DATUM["a0"],DATUM["b0"]]'), Rules(hostile_rules("rules-sets", 1 << 20))
+    units = Rules(hostile_rules("rules-units-of-one-name", 1 << 20))
+    text = (
+        'GEOGCRS["G",DATUM["b0",ELLIPSOID["E",6378137,298.25]],CS[ellipsoidal,2],AXIS["lat",north],AXIS["lon",east],'
+        'ANGLEUNIT["degree",0.017]]'
+    )
+    other = text.replace('"b0"', '"b1"')
+    assert canon(text, rules=few) == canon(text, rules=many) == canon(text.replace('"b0"', '"a0"'))
+    assert canon(other, rules=few) == canon(other) and canon(other, rules=many) == canon(text.replace('"b0"', '"a1"'))
+    feet = HEIGHT.replace('"metre",1', '"m",77')
+    assert canon(feet, rules=units) == canon(feet.replace("77", "1"))
+    for rules in (many, units):
+        least, most = (
+            seconds_of(lambda: [canon(it, rules=asked) for it in (text, other, feet) * 200]) for asked in (few, rules)
+        )
+        assert most <= 2 * least + 0.02, f"under few rules {least} s, under many {most} s"
+
+
 def a_crs_under_rules() -> None:
     rules = Rules(NAMES)
     one, other, plain = Crs(HEIGHT, rules=rules), Crs(OTHER_HEIGHT, rules=rules), Crs(HEIGHT)
@@ -2038,6 +2057,7 @@ PROMISES = [
     rules_of_files,
     refused_rules,
     hostile_rules_files,
+    many_rules_cost_a_text_no_more,
     a_crs_under_rules,
     groups_under_rules,
     rules_go_to_threads_and_processes,

@@ -279,7 +279,7 @@ void crsdesk_catalogue_free(struct crsdesk_catalogue *catalogue);
    the caller's, which holds rules from crsdesk_rules_new until crsdesk_rules_free. What it has inside is the library's.
    Profile. */
 struct crsdesk_rules {
-    uint64_t hidden[32];
+    uint64_t hidden[64];
 };
 
 /* What became of a rules file. All but the code is 0 unless that is CRSDESK_REFUSED. */

@@ -12,6 +12,14 @@ as-true true b f g = sym (f refl)
 as-true false true f g = g refl
 as-true false false f g = refl
 
+-- values that have one plain spelling are one
+pub one-plain :
+    ((bytes : List ℕ) (a b : Value) → IsNormal a → IsNormal b → Denotes bytes (exact a) → Denotes bytes (exact b) → a ≡ b) →
+    ((v : Value) → IsNormal v → Denotes (plain v) (exact v)) →
+    (a b : Value) → IsNormal a → IsNormal b → plain a ≡ plain b → a ≡ b
+one-plain one denotes a b in-a in-b e =
+    one (plain b) a b in-a in-b (subst (λ bytes. Denotes bytes (exact a)) e (denotes a in-a)) (denotes b in-b)
+
 pub factor-tested :
     ((bytes : List ℕ) (a b : Value) → IsNormal a → IsNormal b → Denotes bytes (exact a) → Denotes bytes (exact b) → a ≡ b) →
     ((a b : Value) → IsNormal a → IsNormal b → SameNumber (exact a) (exact b) ↔ (a ≡ b)) →
@@ -21,5 +29,4 @@ pub factor-tested :
 factor-tested one normal denotes a b r in-a in-b told = as-true r (bytes_eq (plain a) (plain b))
     (λ e. (bytes_eq-Decides (plain a) (plain b)).1 (ap plain ((normal a b in-a in-b).0 (told.0 e))))
     (λ e. told.1 ((normal a b in-a in-b).1
-    (one (plain b) a b in-a in-b (subst (λ bytes. Denotes bytes (exact a)) ((bytes_eq-Decides (plain a) (plain b)).0 e) (denotes a in-a))
-    (denotes b in-b))))
+    (one-plain one denotes a b in-a in-b ((bytes_eq-Decides (plain a) (plain b)).0 e))))

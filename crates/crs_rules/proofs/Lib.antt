@@ -3,7 +3,10 @@ pub mod AliasLemmas
 pub mod ArrangedLemmas
 pub mod CrsLemmas
 pub mod FactorLemmas
+pub mod FirstsLemmas
 pub mod FormLemmas
+pub mod LookUpLemmas
+pub mod MatchLemmas
 pub mod NoRulesLemmas
 pub mod OrderLemmas
 pub mod OwnFormLemmas

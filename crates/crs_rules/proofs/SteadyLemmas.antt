@@ -1,21 +1,19 @@
 -- Steady rules leave what they write as it is, and write one thing for each name and unit.
-use Rattle.std.proofs.Common.{◌≡◌, ℕ, ◌&&◌, Bool, true, false, Option, Some, None, List, [], ◌∷◌, refl, sym, subst, ap, ◌∙◌, inl, inr, if◌then◌else◌, rules}
+use Rattle.std.proofs.Common.{◌≡◌, ℕ, ◌&&◌, Bool, false, Option, Some, None, List, [], ◌∷◌, refl, sym, subst, ap, ◌∙◌, inl, inr, if◌then◌else◌}
 use Rattle.std.specs.Str.{bytes_eq}
-use Rattle.std.proofs.lemmas.Slice.Eq.{bytes_eq-Decides}
-use denote.Enum.Bare.{sameb, same_true}
+use denote.Enum.Bare.{sameb}
 use Rattle.crs_decimal.specs.Plain.{plain}
 use Rattle.crs_shape.specs.declared.class.Class.{Class}
-use Rattle.crs_shape.specs.declared.unit_kind.UnitKind.{UnitKind}
 use Rattle.crs_shape.specs.contracts.unit_kind.UnitKind.{the_type}
 use Rattle.crs_normal.specs.Ascending.{IsIn}
-use Rattle.crs_value.proofs.ArgumentLemmas.{same_class}
 use Rattle.crs_value.specs.NamedValues.{IdentParts}
 use Rattle.crs_value.specs.Reading.{is_same}
 use Rattle.crs_value.specs.Sound.{Each}
 use Rattle.crs_value.specs.Values.{UnitParts}
 use Rattle.crs_rules.specs.Rules.{Meaning, NameAliasParts, RulesParts, UnitAliasParts, first_name, first_that, first_unit, is_name_alias, is_unit_alias, meaning, name_for, unit_for}
 use Rattle.crs_rules.specs.SteadyRules.{AreSteady, NamesAgree, UnitsAgree}
-use Rattle.crs_rules.proofs.OrderLemmas.{AreClear, Sought, each-in, sought, unlike}
+use Rattle.crs_rules.proofs.MatchLemmas.{of-name, of-unit}
+use Rattle.crs_rules.proofs.OrderLemmas.{AreClear, Sought, each-in, sought}
 
 -- units keep their kind and their identifiers
 pub record KeepsKinds (m : Meaning) : Type 0 where
@@ -38,40 +36,6 @@ none-first : {A : Type 0} (test : A → Bool) (xs : List A) → Each (λ x. test
 none-first test [] h = refl
 none-first test (x ∷ xs) h =
     subst (λ b. (if b then Some x else first_that test xs) ≡ None) (sym h.0) (none-first test xs h.1)
-
-pub both : (a b : Bool) → (a && b) ≡ true → (a ≡ true) × (b ≡ true)
-both true b e = (refl, e)
-both false b e = absurd (unlike false e refl)
-
-same-kind : (a b : UnitKind) → sameb the_type a b ≡ true → a ≡ b
-same-kind a b e = same_true the_type (search rules) a b e
-
--- ---- what an alias and what it is of have in common
-
-record OfName (c : Class) (name : List ℕ) (a : NameAliasParts) : Type 0 where
-  pub class : c ≡ a.class
-  pub alias : name ≡ a.alias
-
-of-name : (c : Class) (name : List ℕ) (a : NameAliasParts) → is_name_alias c name a ≡ true → OfName c name a
-of-name c name a e =
-    let h = both (is_same c a.class) (bytes_eq name a.alias) e in
-    record { class = sym (same_class a.class c h.0); alias = (bytes_eq-Decides name a.alias).0 h.1 }
-
-record OfUnit (u : UnitParts) (a : UnitAliasParts) : Type 0 where
-  pub kind : u.kind ≡ a.kind
-  pub alias : u.name ≡ a.alias
-  pub factor : plain u.factor ≡ plain a.alias_factor
-
-of-unit : (u : UnitParts) (a : UnitAliasParts) → is_unit_alias u a ≡ true → OfUnit u a
-of-unit u a e =
-    let h = both (sameb the_type u.kind a.kind)
-    (bytes_eq u.name a.alias && bytes_eq (plain u.factor) (plain a.alias_factor)) e in
-    let k = both (bytes_eq u.name a.alias) (bytes_eq (plain u.factor) (plain a.alias_factor)) h.1 in
-    record {
-      kind = same-kind u.kind a.kind h.0;
-      alias = (bytes_eq-Decides u.name a.alias).0 k.0;
-      factor = (bytes_eq-Decides (plain u.factor) (plain a.alias_factor)).0 k.1;
-    }
 
 -- ---- one thing is written
 

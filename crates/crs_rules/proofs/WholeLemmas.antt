@@ -35,11 +35,12 @@ use Rattle.crs_same.specs.SameUsages.{usages_of}
 use Rattle.crs_rules.specs.LowerLaws.{SetLaws}
 use Rattle.crs_rules.specs.Rewritten.{across, arranged, arranged_compound, arranged_crs, arranged_geodetic, arranged_projected, arranged_vertical, base, compound, counted, extent, geodetic, has_own_unit, is_idle, meridian, named, parameter, projected, renamed, rewritten, system, tail, units, usage, vertical}
 use Rattle.crs_rules.specs.Rules.{Meaning}
+use Rattle.crs_rules.proofs.MatchLemmas.{both}
 use Rattle.crs_rules.proofs.AgainLemmas.{conversion-again, counted-name-again, dynamics-again, each-fixed, each-map, frame-again, length-kind, mapped, member-fixed, meridian-again, system-again, unit-again, units-again}
 use Rattle.crs_rules.proofs.AliasLemmas.{IsSoundMeaning}
 use Rattle.crs_rules.proofs.ArrangedLemmas.{arranged-again}
 use Rattle.crs_rules.proofs.PartLemmas.{parameter-sound}
-use Rattle.crs_rules.proofs.SteadyLemmas.{IsSteady, both}
+use Rattle.crs_rules.proofs.SteadyLemmas.{IsSteady}
 
 abbrev usage-text : UsageParts → List ℕ
 usage-text u = item_text (item_usage u)

@@ -1,3 +1,4 @@
+pub mod Firsts
 pub mod LowerLaws
 pub mod NoRules
 pub mod OrderOfRules

@@ -1,16 +1,24 @@
 //! Names and units that count as others.
-ghost use Rattle.std.specs.Prelude.{◌≡◌};
+ghost use Rattle.std.specs.Prelude.{◌≡◌, ◌++◌, [], ◌∷◌, OnErr, OnOk, drop, length, take};
 ghost use Rattle.std.specs.Option.{option_copied};
 ghost use Rattle.std.specs.Str.{bytes_eq};
 ghost use Rattle.crs_decimal.specs.Plain.{plain};
-ghost use Rattle.crs_value.specs.Sound.{IsText};
+ghost use Rattle.crs_value.specs.Sound.{Each, IsText};
+ghost use Rattle.crs_rules.specs.Firsts.{name_digest, unit_digest};
 ghost use Rattle.crs_rules.specs.Rules.{first_name, first_that, is_name_alias, is_unit_alias};
+ghost use Rattle.crs_rules.specs.SoundRules.{IsUnitAlias};
 
+use crate::firsts::Firsts;
 use crs_decimal::Decimal;
 use crs_decimal::laws::{denotes_one, normal_is_one, plain_is_the_one};
 use crs_shape::Class;
 use crs_value::{Unit, UnitKind};
+use std::alloc::{AllocError, Global};
+use std::hash::{DefaultHasher, Hasher};
 use std::marker::Model;
+
+// Up to so many aliases are compared one by one, which takes less time than a digest.
+const FEW: usize = 128;
 
 // A name of nodes of a class that counts as another name, which is written for it.
 #[derive(Drop)]
@@ -58,8 +66,90 @@ impl Model for UnitAlias {
     ghost invariant = { λ a. IsUnitAlias (view a) };
 }
 
-// The alias that a name of a node of this class is.
-fn name_alias<'a>(aliases: &'a [NameAlias], class: Class, name: &[u8]) -> Option<&'a NameAlias>
+// What is behind a place.
+fn rest_of<T>(items: &[T], from: usize) -> &[T]
+    ensures { result.now ≡ drop from items.now }
+{
+    if from >= items.len() {
+        return &[];
+    }
+    let (_, rest) = items.split_at(from);
+    rest
+}
+
+// ---- names
+
+// Aliases of names, in the order in which they were added.
+#[derive(Drop)]
+pub(crate) struct Names {
+    aliases: Vec<NameAlias>,
+    firsts: Firsts,
+}
+
+impl Model for Names {
+    ghost use Rattle.std.specs.Prelude.{List};
+    ghost use Rattle.crs_rules.specs.Firsts.{AreFound, name_digest};
+    ghost use Rattle.crs_rules.specs.Rules.{NameAliasParts};
+
+    ghost Value = { List NameAliasParts };
+
+    ghost view = { λ names. names.aliases.items };
+
+    ghost invariant = { λ names. AreFound (λ a. name_digest a.class a.alias) names.firsts 0 names.aliases.items };
+}
+
+fn name_digest(class: Class, name: &[u8]) -> u64
+    ensures { result ≡ name_digest class name.now }
+{
+    let mut hasher = DefaultHasher::new();
+    hasher.write(name);
+    hasher.write_u64(class as u64);
+    hasher.finish()
+}
+
+impl Names {
+    // No aliases. They take no memory.
+    pub(crate) fn new(alloc: Global) -> Names
+        ensures { result ≡ [] }
+    {
+        Names {
+            aliases: Vec::new(alloc),
+            firsts: Firsts::new(alloc),
+        }
+    }
+
+    pub(crate) fn len(&self) -> usize
+        ensures { result ≡ length self.now }
+    {
+        self.aliases.len()
+    }
+
+    // A further alias. Out of memory, all is as before.
+    pub(crate) fn push(&mut self, alias: NameAlias) -> Result<(), AllocError>
+        ensures ok { OnOk result (self.new ≡ self.old ++ alias ∷ []) }
+        ensures err { OnErr result (self.new ≡ self.old) }
+    {
+        let digest = name_digest(alias.class, alias.alias.as_slice());
+        let at = self.len();
+        self.firsts.note(digest, at)?;
+        self.aliases.push(alias)?;
+        Ok(())
+    }
+
+    // Forgets all aliases but so many.
+    pub(crate) fn truncate(&mut self, count: usize)
+        ensures { self.new ≡ take count self.old }
+    {
+        self.aliases.truncate(count);
+    }
+}
+
+// The first of these aliases that a name of a node of this class is.
+fn name_alias_among<'a>(
+    aliases: &'a [NameAlias],
+    class: Class,
+    name: &[u8],
+) -> Option<&'a NameAlias>
     ensures { option_copied result ≡ first_that (is_name_alias class name.now) aliases.now }
 {
     for alias in aliases {
@@ -70,15 +160,104 @@ fn name_alias<'a>(aliases: &'a [NameAlias], class: Class, name: &[u8]) -> Option
     None
 }
 
+// The alias that a name of a node of this class is, of many.
+fn name_alias_of_many<'a>(names: &'a Names, class: Class, name: &[u8]) -> Option<&'a NameAlias>
+    ensures { option_copied result ≡ first_that (is_name_alias class name.now) names.now }
+{
+    match names.firsts.place(name_digest(class, name)) {
+        None => None,
+        Some(first) => name_alias_among(rest_of(names.aliases.as_slice(), first), class, name),
+    }
+}
+
+// The alias that a name of a node of this class is.
+fn name_alias<'a>(names: &'a Names, class: Class, name: &[u8]) -> Option<&'a NameAlias>
+    ensures { option_copied result ≡ first_that (is_name_alias class name.now) names.now }
+{
+    if names.aliases.len() > FEW {
+        name_alias_of_many(names, class, name)
+    } else {
+        name_alias_among(names.aliases.as_slice(), class, name)
+    }
+}
+
 // The name that is written for a name of a node of this class.
-pub(crate) fn first_name<'a>(aliases: &'a [NameAlias], class: Class, name: &'a [u8]) -> &'a [u8]
+pub(crate) fn first_name<'a>(names: &'a Names, class: Class, name: &'a [u8]) -> &'a [u8]
     requires { IsText name.now }
-    ensures name { result.now ≡ first_name aliases.now class name.now }
+    ensures name { result.now ≡ first_name names.now class name.now }
     ensures text { IsText result.now }
 {
-    match name_alias(aliases, class, name) {
+    match name_alias(names, class, name) {
         None => name,
         Some(alias) => alias.name.as_slice(),
+    }
+}
+
+// ---- units
+
+// Aliases of units, in the order in which they were added.
+#[derive(Drop)]
+pub(crate) struct Units {
+    aliases: Vec<UnitAlias>,
+    firsts: Firsts,
+}
+
+impl Model for Units {
+    ghost use Rattle.std.specs.Prelude.{List};
+    ghost use Rattle.crs_rules.specs.Firsts.{AreFound, unit_digest};
+    ghost use Rattle.crs_rules.specs.Rules.{UnitAliasParts};
+
+    ghost Value = { List UnitAliasParts };
+
+    ghost view = { λ units. units.aliases.items };
+
+    ghost invariant = { λ units.
+        AreFound (λ a. unit_digest a.alias a.alias_factor.digits) units.firsts 0 units.aliases.items };
+}
+
+fn unit_digest(name: &[u8], digits: u128) -> u64
+    ensures { result ≡ unit_digest name.now digits }
+{
+    let mut hasher = DefaultHasher::new();
+    hasher.write(name);
+    hasher.write_u128(digits);
+    hasher.finish()
+}
+
+impl Units {
+    // No aliases. They take no memory.
+    pub(crate) fn new(alloc: Global) -> Units
+        ensures { result ≡ [] }
+    {
+        Units {
+            aliases: Vec::new(alloc),
+            firsts: Firsts::new(alloc),
+        }
+    }
+
+    pub(crate) fn len(&self) -> usize
+        ensures { result ≡ length self.now }
+    {
+        self.aliases.len()
+    }
+
+    // A further alias. Out of memory, all is as before.
+    pub(crate) fn push(&mut self, alias: UnitAlias) -> Result<(), AllocError>
+        ensures ok { OnOk result (self.new ≡ self.old ++ alias ∷ []) }
+        ensures err { OnErr result (self.new ≡ self.old) }
+    {
+        let digest = unit_digest(alias.alias.as_slice(), alias.alias_factor.digits());
+        let at = self.len();
+        self.firsts.note(digest, at)?;
+        self.aliases.push(alias)?;
+        Ok(())
+    }
+
+    // Forgets all aliases but so many.
+    pub(crate) fn truncate(&mut self, count: usize)
+        ensures { self.new ≡ take count self.old }
+    {
+        self.aliases.truncate(count);
     }
 }
 
@@ -98,8 +277,8 @@ fn is_unit_alias(unit: &Unit<'_>, alias: &UnitAlias) -> bool
     unit.kind == alias.kind && unit.name == alias.alias.as_slice() && has_factor(unit, alias)
 }
 
-// The alias that a unit is.
-pub(crate) fn unit_alias<'a>(aliases: &'a [UnitAlias], unit: &Unit<'_>) -> Option<&'a UnitAlias>
+// The first of these aliases that a unit is.
+fn unit_alias_among<'a>(aliases: &'a [UnitAlias], unit: &Unit<'_>) -> Option<&'a UnitAlias>
     ensures { option_copied result ≡ first_that (is_unit_alias unit.now) aliases.now }
 {
     for alias in aliases {
@@ -108,4 +287,33 @@ pub(crate) fn unit_alias<'a>(aliases: &'a [UnitAlias], unit: &Unit<'_>) -> Optio
         }
     }
     None
+}
+
+// The alias that a unit is, of many.
+fn unit_alias_of_many<'a>(units: &'a Units, unit: &Unit<'_>) -> Option<&'a UnitAlias>
+    requires { Each IsUnitAlias units.now }
+    ensures { option_copied result ≡ first_that (is_unit_alias unit.now) units.now }
+{
+    denotes_one();
+    normal_is_one();
+    plain_is_the_one();
+    match units
+        .firsts
+        .place(unit_digest(unit.name, unit.factor.digits()))
+    {
+        None => None,
+        Some(first) => unit_alias_among(rest_of(units.aliases.as_slice(), first), unit),
+    }
+}
+
+// The alias that a unit is.
+pub(crate) fn unit_alias<'a>(units: &'a Units, unit: &Unit<'_>) -> Option<&'a UnitAlias>
+    requires { Each IsUnitAlias units.now }
+    ensures { option_copied result ≡ first_that (is_unit_alias unit.now) units.now }
+{
+    if units.aliases.len() > FEW {
+        unit_alias_of_many(units, unit)
+    } else {
+        unit_alias_among(units.aliases.as_slice(), unit)
+    }
 }

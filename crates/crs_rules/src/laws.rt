@@ -19,6 +19,7 @@ ghost use Rattle.crs_rules.specs.SoundRules.{AreRules};
 ghost use Rattle.crs_rules.specs.SteadyRules.{AreSteady};
 ghost use Rattle.crs_rules.specs.Under.{IsForm, SameUnder};
 
+use crate::rules::Rules;
 use crs_canon::laws::{
     answers_are_equal_where_same, canonical_texts_are_equal_where_same, main_theorem,
 };
@@ -41,6 +42,13 @@ pub fn rewritten_crs_is_sound()
     ensures { (text : AxisParts → List ℕ) (r : RulesParts) (crs : Crs) → AreRules r → IsCrs crs →
         IsCrs (rewritten text (meaning r) crs) }
 {}
+
+/// What rules write is accepted. Profile.
+pub fn rules_are_sound(rules: &Rules)
+    ensures { AreRules rules.now }
+{
+    let _names = &rules.names;
+}
 
 /// Each accepted text has a form under rules, and just one. Profile.
 pub fn accepted_text_has_one_form()

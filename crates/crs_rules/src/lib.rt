@@ -5,6 +5,7 @@
 #![tactic(auto)]
 
 mod aliases;
+mod firsts;
 mod form;
 pub mod laws;
 mod rewriting;

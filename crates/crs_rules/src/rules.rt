@@ -1,11 +1,11 @@
 //! Rules.
-ghost use Rattle.std.specs.Prelude.{◌≡◌, ◌++◌, ◌∷◌, [], IfOk, OnErr, OnOk};
+ghost use Rattle.std.specs.Prelude.{◌≡◌, ◌++◌, ◌∷◌, [], IfOk, OnErr, OnOk, length, take};
 ghost use Rattle.crs_value.specs.BadValue.{IsAboveZero};
 ghost use Rattle.crs_value.specs.Sound.{IsText};
 ghost use Rattle.crs_rules.specs.NoRules.{no_rules};
 ghost use Rattle.crs_rules.specs.SoundRules.{AreRules};
 
-use crate::aliases::{NameAlias, UnitAlias};
+use crate::aliases::{NameAlias, Names, UnitAlias, Units};
 use crate::uncounted::Uncounted;
 use crs_decimal::Decimal;
 use crs_shape::Class;
@@ -16,8 +16,8 @@ use std::marker::Model;
 /// Rules: names and units that count as others, and what doesn't count. Profile.
 #[derive(Drop)]
 pub struct Rules {
-    pub(crate) names: Vec<NameAlias>,
-    pub(crate) units: Vec<UnitAlias>,
+    pub(crate) names: Names,
+    pub(crate) units: Units,
     pub(crate) uncounted: Uncounted,
 }
 
@@ -27,7 +27,7 @@ impl Model for Rules {
 
     ghost Value = { RulesParts };
 
-    ghost view = { λ r. record { names = r.names.items; units = r.units.items; uncounted = r.uncounted } };
+    ghost view = { λ r. record { names = r.names; units = r.units; uncounted = r.uncounted } };
 
     ghost invariant = { λ r. AreRules (view r) };
 }
@@ -38,8 +38,8 @@ impl Rules {
         ensures { result ≡ no_rules }
     {
         Rules {
-            names: Vec::new(alloc),
-            units: Vec::new(alloc),
+            names: Names::new(alloc),
+            units: Units::new(alloc),
             uncounted: Uncounted::nothing(),
         }
     }
@@ -119,13 +119,31 @@ impl Rules {
         })?;
         Ok(())
     }
-}
 
-// All that is asked of rules. The call does nothing.
-pub(crate) fn rules_are_sound(rules: &Rules)
-    ensures { AreRules rules.now }
-{
-    let _names = &rules.names;
+    /// How many names count as others.
+    pub fn names(&self) -> usize
+        ensures { result ≡ length self.now.names }
+    {
+        self.names.len()
+    }
+
+    /// How many units count as others.
+    pub fn units(&self) -> usize
+        ensures { result ≡ length self.now.units }
+    {
+        self.units.len()
+    }
+
+    /// Forgets all names but so many, and all units but so many, that count as others: those that were added last.
+    pub fn truncate(&mut self, names: usize, units: usize)
+        ensures { self.new ≡ record self.old {
+          names = take names self.old.names;
+          units = take units self.old.units;
+        } }
+    {
+        self.names.truncate(names);
+        self.units.truncate(units);
+    }
 }
 
 fn copied(alloc: Global, bytes: &[u8]) -> Result<Vec<u8>, AllocError>

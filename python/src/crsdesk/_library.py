@@ -36,7 +36,7 @@ class RefusalPlace(ctypes.Structure):
 class RulesRoom(ctypes.Structure):
     """struct crsdesk_rules."""
 
-    _fields_ = [("hidden", ctypes.c_uint64 * 32)]
+    _fields_ = [("hidden", ctypes.c_uint64 * 64)]
 
 
 class RulesStanding(ctypes.Structure):

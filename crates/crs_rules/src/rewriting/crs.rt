@@ -9,12 +9,13 @@ ghost use Rattle.crs_rules.specs.Rewritten.{projected, renamed, rewritten, units
 ghost use Rattle.crs_rules.specs.Rules.{meaning};
 
 use crate::aliases::first_name;
+use crate::laws::rules_are_sound;
 use crate::rewriting::frames::{dynamics, geodetic_frame, optional_meridian, vertical_frame};
 use crate::rewriting::order::arrange_crs;
 use crate::rewriting::parts::{conversion, counted_name, optional_unit};
 use crate::rewriting::systems::system;
 use crate::rewriting::usages::tail;
-use crate::rules::{Rules, rules_are_sound};
+use crate::rules::Rules;
 use crs_shape::Class;
 use crs_value::{
     Base, Change, Compound, Crs, Geodetic, GeoidModel, Horizontal, List, Meridian, Parameter,
@@ -107,7 +108,7 @@ fn projected<'a>(alloc: Global, value: &mut Projected<'a>, rules: &'a Rules)
 fn geoid_model<'a>(value: &mut GeoidModel<'a>, rules: &'a Rules)
     ensures { value.new ≡ named (meaning rules.now) Class.GeoidModel value.old }
 {
-    value.name = first_name(rules.names.as_slice(), Class::GeoidModel, value.name);
+    value.name = first_name(&rules.names, Class::GeoidModel, value.name);
 }
 
 // The geoid models of a vertical CRS under rules.

@@ -7,8 +7,9 @@ ghost use Rattle.crs_rules.specs.Rewritten.{geodetic_frame, meridian, named, ste
 ghost use Rattle.crs_rules.specs.Rules.{meaning, without_ensemble};
 
 use crate::aliases::first_name;
+use crate::laws::rules_are_sound;
 use crate::rewriting::parts::optional_unit;
-use crate::rules::{Rules, rules_are_sound};
+use crate::rules::Rules;
 use crs_decimal::Decimal;
 use crs_shape::Class;
 use crs_value::{
@@ -20,7 +21,7 @@ fn ellipsoid<'a>(value: &mut Ellipsoid<'a>, rules: &'a Rules)
     ensures { value.new ≡ ellipsoid (meaning rules.now) value.old }
 {
     rules_are_sound(rules);
-    value.name = first_name(rules.names.as_slice(), Class::Ellipsoid, value.name);
+    value.name = first_name(&rules.names, Class::Ellipsoid, value.name);
     optional_unit(&mut value.unit, rules);
 }
 
@@ -28,7 +29,7 @@ fn meridian<'a>(value: &mut Meridian<'a>, rules: &'a Rules)
     ensures { value.new ≡ meridian (meaning rules.now) value.old }
 {
     rules_are_sound(rules);
-    value.name = first_name(rules.names.as_slice(), Class::PrimeMeridian, value.name);
+    value.name = first_name(&rules.names, Class::PrimeMeridian, value.name);
     optional_unit(&mut value.unit, rules);
 }
 
@@ -68,7 +69,7 @@ fn datum<'a>(value: &mut Datum<'a>, class: Class, rules: &'a Rules)
     ensures { value.new ≡ datum (meaning rules.now) class value.old }
 {
     rules_are_sound(rules);
-    value.name = first_name(rules.names.as_slice(), class, value.name);
+    value.name = first_name(&rules.names, class, value.name);
     optional_ellipsoid(&mut value.ellipsoid, rules);
     value.anchor = counted_text(rules.uncounted.anchors, value.anchor);
     value.anchor_epoch = counted_number(rules.uncounted.anchors, value.anchor_epoch);
@@ -77,7 +78,7 @@ fn datum<'a>(value: &mut Datum<'a>, class: Class, rules: &'a Rules)
 fn member<'a>(value: &mut Member<'a>, rules: &'a Rules)
     ensures { value.new ≡ named (meaning rules.now) Class.Member value.old }
 {
-    value.name = first_name(rules.names.as_slice(), Class::Member, value.name);
+    value.name = first_name(&rules.names, Class::Member, value.name);
 }
 
 // The members of an ensemble under rules.
@@ -102,7 +103,7 @@ fn ensemble<'a>(value: &mut Ensemble<'a>, class: Class, rules: &'a Rules)
     ensures { value.new ≡ ensemble (meaning rules.now) class value.old }
 {
     rules_are_sound(rules);
-    value.name = first_name(rules.names.as_slice(), class, value.name);
+    value.name = first_name(&rules.names, class, value.name);
     value.members.change_each(&Members { rules });
     optional_ellipsoid(&mut value.ellipsoid, rules);
 }
@@ -171,7 +172,7 @@ pub(super) fn vertical_frame<'a>(alloc: Global, frame: &mut Frame<'a>, rules: &'
 fn model<'a>(value: &mut DeformationModel<'a>, rules: &'a Rules)
     ensures { value.new ≡ named (meaning rules.now) Class.DeformationModel value.old }
 {
-    value.name = first_name(rules.names.as_slice(), Class::DeformationModel, value.name);
+    value.name = first_name(&rules.names, Class::DeformationModel, value.name);
 }
 
 // A deformation model that may be missing.

@@ -5,14 +5,16 @@ ghost use Rattle.crs_rules.specs.Rewritten.{conversion, counted_name, named, par
 ghost use Rattle.crs_rules.specs.Rules.{first_unit, meaning};
 
 use crate::aliases::{first_name, unit_alias};
-use crate::rules::{Rules, rules_are_sound};
+use crate::laws::rules_are_sound;
+use crate::rules::Rules;
 use crs_shape::Class;
 use crs_value::{Change, Conversion, Method, Parameter, Unit};
 
 pub(super) fn unit<'a>(value: &mut Unit<'a>, rules: &'a Rules)
     ensures { value.new ≡ first_unit rules.now.units value.old }
 {
-    if let Some(alias) = unit_alias(rules.units.as_slice(), value) {
+    rules_are_sound(rules);
+    if let Some(alias) = unit_alias(&rules.units, value) {
         value.name = alias.name.as_slice();
         value.factor = alias.factor;
     }
@@ -30,14 +32,14 @@ pub(super) fn optional_unit<'a>(unit_or_none: &mut Option<Unit<'a>>, rules: &'a 
 fn method<'a>(value: &mut Method<'a>, rules: &'a Rules)
     ensures { value.new ≡ named (meaning rules.now) Class.Method value.old }
 {
-    value.name = first_name(rules.names.as_slice(), Class::Method, value.name);
+    value.name = first_name(&rules.names, Class::Method, value.name);
 }
 
 fn parameter<'a>(value: &mut Parameter<'a>, rules: &'a Rules)
     ensures { value.new ≡ parameter (meaning rules.now) value.old }
 {
     rules_are_sound(rules);
-    value.name = first_name(rules.names.as_slice(), Class::Parameter, value.name);
+    value.name = first_name(&rules.names, Class::Parameter, value.name);
     optional_unit(&mut value.unit, rules);
 }
 

@@ -5,9 +5,10 @@ ghost use Rattle.crs_rules.specs.Rewritten.{axis, axis_meridian, system};
 ghost use Rattle.crs_rules.specs.Rules.{meaning};
 
 use crate::aliases::first_name;
+use crate::laws::rules_are_sound;
 use crate::rewriting::frames::counted_number;
 use crate::rewriting::parts::{counted_name, optional_unit, unit};
-use crate::rules::{Rules, rules_are_sound};
+use crate::rules::Rules;
 use crs_shape::Class;
 use crs_value::{Axis, AxisMeridian, Change, System};
 
@@ -31,7 +32,7 @@ fn axis<'a>(value: &mut Axis<'a>, rules: &'a Rules)
     ensures { value.new ≡ axis (meaning rules.now) value.old }
 {
     rules_are_sound(rules);
-    let name = first_name(rules.names.as_slice(), Class::Axis, value.name);
+    let name = first_name(&rules.names, Class::Axis, value.name);
     value.name = counted_name(rules.uncounted.axis_names, name);
     optional_axis_meridian(&mut value.meridian, rules);
     value.order = counted_number(rules.uncounted.axis_order, value.order);

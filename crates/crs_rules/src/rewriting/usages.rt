@@ -4,8 +4,9 @@ ghost use Rattle.std.specs.Option.{option_map};
 ghost use Rattle.crs_rules.specs.Rewritten.{extent, tail, usage};
 ghost use Rattle.crs_rules.specs.Rules.{meaning};
 
+use crate::laws::rules_are_sound;
 use crate::rewriting::parts::optional_unit;
-use crate::rules::{Rules, rules_are_sound};
+use crate::rules::Rules;
 use crs_value::{Change, Extent, Tail, Usage};
 
 fn extent<'a>(value: &mut Extent<'a>, rules: &'a Rules)
