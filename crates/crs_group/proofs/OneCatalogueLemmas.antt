@@ -229,11 +229,11 @@ same-lists (x ∷ xs) (y ∷ ys) e f =
 -- a line of a group has the group's text as its canonical text
 text-of : (level : Level) (groups : List GroupParts) (at : ℕ) (group : GroupParts) (p : PlacedLine)
     → slice_get groups at ≡ Some group → p.place ≡ Group (suc at)
-    → IsUnder level (canons groups) p.line.text p.place
+    → IsUnder IsCanonicalOf level (canons groups) p.line.text p.place
     → (group.canon.level ≡ level) × IsCanonicalOf level p.line.text group.canon.bytes
 text-of level groups at group p has place under =
-    let u : IsUnder level (canons groups) p.line.text (Group (suc at)) =
-    subst (IsUnder level (canons groups) p.line.text) place under in
+    let u : IsUnder IsCanonicalOf level (canons groups) p.line.text (Group (suc at)) =
+    subst (IsUnder IsCanonicalOf level (canons groups) p.line.text) place under in
     let is : u.0 ≡ group.canon = some-is u.0 group.canon (sym u.1 ∙ canon-at groups at group has) in (
       ap (λ c. c.level) (sym is) ∙ u.2,
       subst (λ c. IsCanonicalOf level p.line.text c.bytes) is u.3,
@@ -257,11 +257,11 @@ one-whole level main placed a b la lb wa wb = λ i. record {
     count : length a.groups ≡ length b.groups
     count = numbered-one 0 placed (length a.groups) (length b.groups) wa.0.numbered wb.0.numbered
 
-    under-a : Each (λ p. IsUnder level (canons a.groups) p.line.text p.place) placed
-    under-a = subst (λ l. Each (λ p. IsUnder l (canons a.groups) p.line.text p.place) placed) la wa.1.texts
+    under-a : Each (λ p. IsUnder IsCanonicalOf level (canons a.groups) p.line.text p.place) placed
+    under-a = subst (λ l. Each (λ p. IsUnder IsCanonicalOf l (canons a.groups) p.line.text p.place) placed) la wa.1.texts
 
-    under-b : Each (λ p. IsUnder level (canons b.groups) p.line.text p.place) placed
-    under-b = subst (λ l. Each (λ p. IsUnder l (canons b.groups) p.line.text p.place) placed) lb wb.1.texts
+    under-b : Each (λ p. IsUnder IsCanonicalOf level (canons b.groups) p.line.text p.place) placed
+    under-b = subst (λ l. Each (λ p. IsUnder IsCanonicalOf l (canons b.groups) p.line.text p.place) placed) lb wb.1.texts
 
     with-line : (at : ℕ) (x y : GroupParts) → slice_get a.groups at ≡ Some x → slice_get b.groups at ≡ Some y
         → Found (λ p. ⊥ ⊎ In p placed) (suc at) → x.canon ≡ y.canon

@@ -3,7 +3,7 @@ use Rattle.std.specs.Prelude.{◌≡◌, ◌++◌, ◌∷◌, [], ℕ, List, Som
 use Rattle.crs_value.specs.declared.values.level.Level.{Level}
 use Rattle.crs_writer.specs.Canonical.{CanonicalText, IsCanonicalOf}
 use Rattle.crs_group.specs.Catalogue.{Line, GroupParts, CatalogueParts, line_of, nth}
-use Rattle.crs_group.specs.Partition.{IsPartition, PlacedLine}
+use Rattle.crs_group.specs.Partition.{IsPartitionBy, PlacedLine, ShareWhereSame}
 use Rattle.crs_value.specs.Sound.{Each}
 use Rattle.crs_group.specs.declared.placed.Placed.{Placed}
 use Rattle.crs_group.specs.declared.placed.Placed.TheVariants.{Blank, Refused, Group}
@@ -12,24 +12,32 @@ use Rattle.crs_group.specs.declared.placed.Placed.TheVariants.{Blank, Refused, G
 abbrev pub canons : List GroupParts → List CanonicalText
 canons groups = map (λ group. group.canon) groups
 
--- a line's group has the line's canonical text at the level
-abbrev pub IsUnder : Level → List CanonicalText → List ℕ → Placed → Type 0
-IsUnder level texts text Blank = Unit {0}
-IsUnder level texts text (Refused refusal) = Unit {0}
-IsUnder level texts text (Group n) =
+-- a line's group has the bytes that are of this form of the line's text, at the level
+abbrev pub IsUnder : (Level → List ℕ → List ℕ → Type 0) → Level → List CanonicalText → List ℕ →
+    Placed → Type 0
+IsUnder Form level texts text Blank = Unit {0}
+IsUnder Form level texts text (Refused refusal) = Unit {0}
+IsUnder Form level texts text (Group n) =
     (canon : CanonicalText) × (nth n texts ≡ Some canon) ×
-    (canon.level ≡ level) × IsCanonicalOf level text canon.bytes
+    (canon.level ≡ level) × Form level text canon.bytes
 
--- the text of a group is the canonical text of each of its lines, and no two groups have the same
-pub record HasTexts (placed : List PlacedLine) (catalogue : CatalogueParts) : Type 0 where
-  pub texts : Each (λ p. IsUnder catalogue.level (canons catalogue.groups) p.line.text p.place)
+-- the text of a group is this form of each of its lines, and no two groups have the same
+pub record HasTextsBy (Form : Level → List ℕ → List ℕ → Type 0) (placed : List PlacedLine)
+    (catalogue : CatalogueParts) : Type 0 where
+  pub texts : Each (λ p. IsUnder Form catalogue.level (canons catalogue.groups) p.line.text p.place)
       placed
   pub apart : (m n : ℕ) (canon : CanonicalText) → nth m (canons catalogue.groups) ≡ Some canon
       → nth n (canons catalogue.groups) ≡ Some canon → m ≡ n
 
--- the catalogue is that of lines at these places, and its texts are theirs
+-- the catalogue is that of lines at these places, and its texts are theirs, in this form
+abbrev pub IsCatalogueBy : (Level → List ℕ → List ℕ → Type 0) →
+    (Level → PlacedLine → PlacedLine → Type 0) → List PlacedLine → CatalogueParts → Type 0
+IsCatalogueBy Form Share placed catalogue =
+    IsPartitionBy Share placed catalogue × HasTextsBy Form placed catalogue
+
+-- the catalogue is that of lines at these places, and its texts are their canonical texts
 abbrev pub IsCatalogue : List PlacedLine → CatalogueParts → Type 0
-IsCatalogue placed catalogue = IsPartition placed catalogue × HasTexts placed catalogue
+IsCatalogue placed catalogue = IsCatalogueBy IsCanonicalOf ShareWhereSame placed catalogue
 
 -- a further line at its place
 abbrev pub then_line : List PlacedLine → ℕ → List ℕ → Placed → List PlacedLine

@@ -7,4 +7,5 @@ pub mod GroupRun
 pub mod GroupTexts
 pub mod Partition
 pub mod Putting
+pub mod UnderRules
 pub mod United

@@ -66,12 +66,18 @@ lines_in n placed = flat_map (λ p. in_group n p.line.number p.place) placed
 abbrev pub refused_in : List PlacedLine → List (ℕ × RefusedAt)
 refused_in placed = flat_map (λ p. if_refused p.line.number p.place) placed
 
--- the catalogue is that of lines at these places
-pub record IsPartition (placed : List PlacedLine) (catalogue : CatalogueParts) : Type 0 where
+-- the catalogue is that of lines at these places, where `Share` says of two lines when they are in
+-- one group
+pub record IsPartitionBy (Share : Level → PlacedLine → PlacedLine → Type 0)
+    (placed : List PlacedLine) (catalogue : CatalogueParts) : Type 0 where
   pub each : Each (λ p. IsPlacedAs p.line.text p.place) placed
-  pub same : Each (λ p. Each (ShareWhereSame catalogue.level p) placed) placed
+  pub same : Each (λ p. Each (Share catalogue.level p) placed) placed
   pub numbered : AreNumbered 0 placed (length catalogue.groups)
   -- each group has the numbers of its lines, and each refused line has its refusal
   pub lines : (n : ℕ) (group : GroupParts) → nth n catalogue.groups ≡ Some group →
       group.lines ≡ lines_in n placed
   pub refused : catalogue.refused ≡ refused_in placed
+
+-- the catalogue is that of lines at these places
+abbrev pub IsPartition : List PlacedLine → CatalogueParts → Type 0
+IsPartition placed catalogue = IsPartitionBy ShareWhereSame placed catalogue

@@ -6,14 +6,19 @@ ghost use Rattle.std.specs.List.{list_all};
 ghost use Rattle.crs_text.specs.Tokens.{is_white};
 ghost use Rattle.crs_value.specs.SpellsText.{IsFaultOfText};
 ghost use Rattle.crs_writer.specs.Canonical.{IsCanonicalOf};
+ghost use Rattle.crs_rules.specs.Rules.{RulesParts};
+ghost use Rattle.crs_rules.specs.Under.{IsForm};
 ghost use Rattle.crs_group.specs.Catalogue.{Line, line_of, nth};
 ghost use Rattle.crs_group.specs.GroupTexts.{IsCatalogue, IsCatalogueOf, then_line};
 ghost use Rattle.crs_group.specs.Partition.{PlacedLine};
 ghost use Rattle.crs_group.specs.Putting.{IsPut, IsRefused};
+ghost use Rattle.crs_group.specs.UnderRules.{IsCatalogueUnder};
 
 use crate::groups::Groups;
 use crate::placed::Placed;
 use crs_canon::{Canon, canon_in, laws};
+use crs_rules::laws::{accepted_text_has_one_form, rules_are_sound};
+use crs_rules::{Rules, canon_under};
 use crs_text::{Fault, Refusal};
 use crs_value::Level;
 use std::alloc::{AllocError, Global};
@@ -48,6 +53,7 @@ impl Catalogue {
         ensures empty { result ≡ record { level = level; groups = []; refused = [] } }
         ensures catalogue { IsCatalogue [] result }
         ensures lines { IsCatalogueOf [] result }
+        ensures under { (rules : RulesParts) → IsCatalogueUnder rules [] result }
     {
         Catalogue {
             alloc,
@@ -112,6 +118,37 @@ impl Catalogue {
             Ok(canon) => self.put(line, canon),
             Err(fault) => self.refuse(line, fault),
         }
+    }
+
+    /// Adds a line under rules, and answers where it was placed: with the lines whose texts have the same form under the
+    /// rules, where it spells a CRS. A group's text is the form. All lines of a catalogue are added under the same rules.
+    ///
+    /// `AllocError`: there is no memory for the line; the catalogue is as before. Profile.
+    pub fn add_under(&mut self, line: u64, text: &[u8], rules: &Rules) -> Result<Placed, AllocError>
+        ensures catalogue { IfOk result (λ place. (placed : List PlacedLine) →
+            IsCatalogueUnder rules.now placed self.old →
+            IsCatalogueUnder rules.now (then_line placed line text.now place) self.new) }
+        ensures level { self.new.level ≡ self.old.level }
+        ensures unchanged { OnErr result (self.new ≡ self.old) }
+    {
+        accepted_text_has_one_form();
+        rules_are_sound(rules);
+        if is_blank(text) {
+            return Ok(Placed::Blank);
+        }
+        match self.form(text, rules) {
+            Ok(form) => self.put(line, form),
+            Err(fault) => self.refuse(line, fault),
+        }
+    }
+
+    // The form of a line under rules.
+    fn form(&self, text: &[u8], rules: &Rules) -> Result<Canon, Fault>
+        ensures answer { MatchResult result (λ form. IsForm rules.now self.now.level text.now form.bytes)
+            (IsFaultOfText text.now) }
+        ensures level { IfOk result (λ form. form.level ≡ self.now.level) }
+    {
+        canon_under(self.alloc, text, self.level, rules)
     }
 
     // The canonical text of a line, in the room.
