@@ -297,9 +297,8 @@ void crsdesk_rules_new(struct crsdesk_rules *rules);
    needed after the call. In what is returned the code is
 
    CRSDESK_OK: they are added.
-   CRSDESK_REFUSED: a line is refused; line, number and place say which and why. There are no rules then, not even those
-       of files before it, as after crsdesk_rules_new.
-   CRSDESK_NO_MEMORY: there are no rules then. The same files may be added again, from the first on. */
+   CRSDESK_REFUSED: a line is refused; line, number and place say which and why. All is as before.
+   CRSDESK_NO_MEMORY: all is as before, and the same file may be added again. */
 struct crsdesk_rules_standing crsdesk_rules_add(struct crsdesk_rules *rules, const char *file, size_t file_length);
 
 /* How long the form of a text is. */

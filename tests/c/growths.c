@@ -171,15 +171,26 @@ static uint32_t catalogue(const struct trial *it, struct places *to)
     return code;
 }
 
+/* Adds a rules file, and once more where memory was refused, which must have changed nothing: else its nodes stand in sets
+   before. */
+static struct crsdesk_rules_standing with_file(struct crsdesk_rules *rules, const char *file, size_t length)
+{
+    struct crsdesk_rules_standing told = crsdesk_rules_add(rules, file, length);
+    if (told.code != CRSDESK_NO_MEMORY)
+        return told;
+    retried++;
+    return crsdesk_rules_add(rules, file, length);
+}
+
 /* The form of the first text under the rules of two files. */
 static uint32_t under(const struct trial *it, struct places *to)
 {
     static const char one[] = "# units\nSAME[LENGTHUNIT[\"metre\",1],LENGTHUNIT[\"meter\",1.0]]\nUNCOUNTED[anchor]\n";
     struct crsdesk_rules rules;
     crsdesk_rules_new(&rules);
-    struct crsdesk_rules_standing told = crsdesk_rules_add(&rules, one, sizeof one - 1);
+    struct crsdesk_rules_standing told = with_file(&rules, one, sizeof one - 1);
     if (told.code == CRSDESK_OK)
-        told = crsdesk_rules_add(&rules, it->second, strlen(it->second));
+        told = with_file(&rules, it->second, strlen(it->second));
     uint32_t code = told.code;
     if (code == CRSDESK_OK)
         code = crsdesk_canon_under(it->first, strlen(it->first), CRSDESK_FULL, &rules, to->out, sizeof to->out,

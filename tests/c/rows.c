@@ -615,40 +615,59 @@ static int add_file(const struct bytes *file, size_t number, struct answer *answ
     return told.code == CRSDESK_OK;
 }
 
+/* Makes rules of so many files, to the first that is refused; the number of files that were read. */
+static size_t read_files(const struct row *row, size_t most, struct bytes *text, struct answer *answer)
+{
+    size_t count = 0;
+    *text = row->input;
+    make_rules();
+    while (count < most && memchr(text->at, '\f', text->length)) {
+        struct bytes rest, file = split_at(text, '\f', &rest);
+        if (!add_file(&file, count + 1, answer))
+            break;
+        *text = rest;
+        count++;
+    }
+    while (memchr(text->at, '\f', text->length))
+        split_at(text, '\f', text);
+    return count;
+}
+
+/* After a refused file the rules are those of the files before it, so the form is as under them alone. */
+static void as_before(const struct row *row, size_t count, struct asked *asked, const struct bytes *form, uint32_t code,
+                      struct answer *answer)
+{
+    struct bytes text, again;
+    struct crsdesk_refusal why;
+    free_rules();
+    if (read_files(row, count, &text, answer) != count)
+        wrong(answer, "files that were read are refused");
+    if (in_each_room(asked, &again, &why, answer) != code || again.length != form->length
+        || (form->length && memcmp(again.at, form->at, form->length) != 0))
+        wrong(answer, "the rules aren't as before a refused file");
+    give_back(again.at, again.length);
+}
+
 /* The form of what is behind the last form feed, under the rules of the files before it; it is its own form. */
 static void answer_under(const struct row *row, struct answer *answer)
 {
-    struct bytes rest = row->input, again;
+    struct bytes text, form, again;
     struct asked asked = {call_under, NULL, NULL, 0, 0, row->is_definition ? CRSDESK_DEFINITION : CRSDESK_FULL, 0};
-    struct bytes form;
     struct crsdesk_refusal why;
-    int are_read = 1;
-    make_rules();
-    for (size_t number = 1; are_read && memchr(rest.at, '\f', rest.length); number++) {
-        struct bytes file = split_at(&rest, '\f', &rest);
-        are_read = add_file(&file, number, answer);
-    }
-    while (memchr(rest.at, '\f', rest.length))
-        split_at(&rest, '\f', &rest);
-    asked.first = copied(rest.at, rest.length);
-    asked.first_length = rest.length;
+    size_t count = read_files(row, SIZE_MAX, &text, answer);
+    int are_read = answer->text.length == 0;
+    asked.first = copied(text.at, text.length);
+    asked.first_length = text.length;
     uint32_t code = in_each_room(&asked, &form, &why, answer);
-    give_back(asked.first, asked.first_length);
     if (!are_read) {
-        /* There are no rules then. */
-        asked.call = call_canon;
-        asked.first = copied(rest.at, rest.length);
-        if (in_each_room(&asked, &again, &why, answer) != code || again.length != form.length
-            || (form.length && memcmp(again.at, form.at, form.length) != 0))
-            wrong(answer, "rules are there after a refused file");
-        give_back(again.at, again.length);
-        give_back(asked.first, asked.first_length);
+        as_before(row, count, &asked, &form, code, answer);
     } else if (code == CRSDESK_OK) {
+        struct asked own = asked;
         appendf(answer, "text ");
         append(answer, form.at, form.length);
-        asked.first = form.at;
-        asked.first_length = form.length;
-        if (in_each_room(&asked, &again, &why, answer) != CRSDESK_OK || again.length != form.length
+        own.first = form.at;
+        own.first_length = form.length;
+        if (in_each_room(&own, &again, &why, answer) != CRSDESK_OK || again.length != form.length
             || memcmp(again.at, form.at, form.length) != 0)
             wrong(answer, "a form isn't its own form");
         give_back(again.at, again.length);
@@ -660,6 +679,7 @@ static void answer_under(const struct row *row, struct answer *answer)
     if (crsdesk_rules_piece(rules, SIZE_MAX).length != 0 || crsdesk_rules_piece(rules, SIZE_MAX).code != CRSDESK_OK)
         wrong(answer, "a piece behind the form's end");
     free_rules();
+    give_back(asked.first, asked.first_length);
     give_back(form.at, form.length);
 }
 

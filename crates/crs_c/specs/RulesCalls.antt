@@ -11,7 +11,7 @@ use Rattle.crs_rules_file.specs.declared.fault.RulesRefusal.{RulesRefusal}
 use Rattle.crs_c.specs.declared.rules_answers.Form.{Form}
 use Rattle.crs_c.specs.declared.rules_answers.RulesStanding.{RulesStanding}
 use Rattle.crs_c.specs.Codes.{level_numbered}
-use Rattle.crs_c.specs.Held.{HeldParts, nothing_held}
+use Rattle.crs_c.specs.Held.{HeldParts}
 use Rattle.crs_c.specs.Refusals.{no_refusal, place_and_number}
 
 -- a file was read
@@ -23,14 +23,14 @@ abbrev pub file_fault : RulesFault → RulesStanding
 file_fault (faults.Refused f) = record { line = f.line; place = f.place; number = f.number; code = 1 }
 file_fault (faults.Memory e) = record { line = 0; place = 0; number = 0; code = 3 }
 
--- the rules of one more file are added, with code 0; or it is refused at its first refused line,
--- with code 1, or out of memory, with code 3, and then there are no rules; no form is kept
+-- the rules of one more file are added, with code 0, and no form is kept; or it is refused at its
+-- first refused line, with code 1, or out of memory, with code 3, and all is as before
 unfoldable pub IsFileRead : List ℕ → HeldParts → HeldParts → RulesStanding → Type 0
 IsFileRead text old new told =
     (ReadsFile old.reading text new.reading × (new.form ≡ []) × (told ≡ file_read))
-    ⊎ ((f : RulesRefusal) × RefusesFile old.reading text f × (new ≡ nothing_held)
+    ⊎ ((f : RulesRefusal) × RefusesFile old.reading text f × (new ≡ old)
     × (told ≡ file_fault (faults.Refused f)))
-    ⊎ ((new ≡ nothing_held) × (told ≡ record file_read { code = 3 }))
+    ⊎ ((new ≡ old) × (told ≡ record file_read { code = 3 }))
 
 -- a text is refused with code 1; without a refusal there was no memory, with code 3
 abbrev pub form_fault : Option RefusedAt → Form

@@ -30,8 +30,8 @@ pub unsafe extern "C" fn crsdesk_rules_new(alloc: Global, at: *mut RulesRoom)
 }
 
 /// Adds the rules of one more file. The code of what is answered is 0: they are added. 1: the file is refused, with the
-/// number of its first refused line, the number of the refusal and its place in the line; 3: memory was refused. After
-/// 1 and 3 there are no rules, as before any file was added. Profile.
+/// number of its first refused line, the number of the refusal and its place in the line; 3: memory was refused. With
+/// both all is as before. With code 0 no form is kept. Profile.
 #[unsafe(no_mangle)]
 pub unsafe extern "C" fn crsdesk_rules_add(at: *mut RulesRoom, text: &[u8]) -> RulesStanding
     ghost held: { HeldParts }

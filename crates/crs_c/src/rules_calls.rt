@@ -32,21 +32,13 @@ pub(crate) fn no_rules(alloc: Global) -> HeldRules
 pub(crate) fn with_file(held: HeldRules, text: &[u8]) -> (HeldRules, RulesStanding)
     ensures { IsFileRead text.now held result.0 result.1 }
 {
-    let HeldRules {
-        alloc,
-        reader,
-        form: _,
-    } = held;
-    match reader.read(alloc, text) {
-        Ok(reader) => {
-            let held = HeldRules {
-                alloc,
-                reader,
-                form: Vec::new(alloc),
-            };
+    let mut held = held;
+    match held.reader.read(held.alloc, text) {
+        Ok(()) => {
+            held.form = Vec::new(held.alloc);
             (held, file_read())
         }
-        Err(fault) => (no_rules(alloc), file_fault(fault)),
+        Err(fault) => (held, file_fault(fault)),
     }
 }
 

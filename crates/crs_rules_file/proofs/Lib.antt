@@ -1,4 +1,5 @@
 pub mod FileLemmas
+pub mod GrownLemmas
 pub mod MemberLemmas
 pub mod OneLemmas
 pub mod ReaderLemmas

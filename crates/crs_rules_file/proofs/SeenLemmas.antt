@@ -41,7 +41,8 @@ pub is-added : (seen : List MemberParts) (m : MemberParts) (new : Bool) (more : 
 is-added seen m new more e keys = by_test (cases_Bool (list_any (members_equal m) seen))
   where
     by_test : ((list_any (members_equal m) seen ≡ true) ⊎ (list_any (members_equal m) seen ≡ false)) → IsAdded seen m new more
-    by_test (inl h) = subst (λ b. IsAdded seen m b more) (sym (e ∙ ap not h)) (is-among m seen h)
+    by_test (inl h) = subst (λ b. IsAdded seen m b more) (sym (e ∙ ap not h))
+        (is-among m seen h, keys ∙ ap (λ b. if b then seen else seen ++ m ∷ []) h)
     by_test (inr h) = subst (λ b. IsAdded seen m b more) (sym (e ∙ ap not h))
         (not-among m seen h, keys ∙ ap (λ b. if b then seen else seen ++ m ∷ []) h)
 

@@ -1,6 +1,8 @@
 pub mod Equality
 pub mod EqualityLaws
 pub mod Faults
+pub mod Grown
+pub mod Marks
 pub mod Members
 pub mod Named
 pub mod RulesFile

@@ -1,6 +1,6 @@
 //! Rules files line by line.
 ghost use Rattle.std.specs.Prelude.{◌≡◌, ◌≢◌, ◌↔◌, ◌+◌, ◌^◌, ◌<◌, [], ◌∷◌, ℕ, List, length};
-ghost use Rattle.std.specs.Prelude.{IfErr, IfOk, IsTrue, MatchResult, OnOk, Some};
+ghost use Rattle.std.specs.Prelude.{IfErr, IfOk, IsTrue, MatchResult, OnErr, OnOk, Some};
 ghost use Rattle.std.specs.Option.{option_copied};
 ghost use Rattle.crs_text.specs.Items.{HasId, IsNode, arguments};
 ghost use Rattle.crs_streams.specs.Lines.{AreLines};
@@ -9,6 +9,8 @@ ghost use Rattle.crs_rules_file.specs.RulesFile.{FaultOfLine, Reads, ReadsFile, 
 ghost use Rattle.crs_rules_file.specs.Statements.{Adds, AddsSet, Drops, FaultOfNode, FaultOfSet, FaultOfStatement};
 ghost use Rattle.crs_rules_file.specs.Statements.{FaultOfWord, FaultOver, IsRefusedBy, Joins, Over, States};
 ghost use Rattle.crs_rules_file.specs.Statements.{IsOfSet, joined, listed};
+ghost use Rattle.crs_rules_file.specs.Grown.{HasGrown};
+ghost use Rattle.crs_rules_file.specs.Marks.{IsMarked, gone_back};
 ghost use Rattle.crs_rules_file.specs.Faults.{IsFaultIn, IsMemory, refused_at};
 
 use crate::fault::{RulesFault, RulesRefusal};
@@ -16,12 +18,22 @@ use crate::joining::join;
 use crate::member::{Member, member_at};
 use crate::seen::Seen;
 use crate::words::{is_word, with_item};
-use crs_rules::Rules;
+use crs_rules::{Rules, Uncounted};
 use crs_streams::laws::lines_are_one;
 use crs_streams::{split_line, text_of};
 use crs_text::{Fault, ItemId, Items, read_items};
 use std::alloc::Global;
 use std::marker::Model;
+
+// Where a reader is: its line, how many nodes of sets, names and units there are, and what doesn't count.
+#[derive(Drop)]
+struct Mark {
+    line: usize,
+    seen: usize,
+    names: usize,
+    units: usize,
+    uncounted: Uncounted,
+}
 
 /// What is known of rules files so far: their rules, and the nodes of all sets. Profile.
 #[derive(Drop)]
@@ -90,33 +102,75 @@ impl RulesReader {
     /// Reads the bytes of one more file.
     ///
     /// `Refused`: its first line that is refused, with its number and place. `Memory`: there is no memory for the rules.
-    /// Time is linear in the bytes. Profile.
-    pub fn read(self, alloc: Global, bytes: &[u8]) -> Result<RulesReader, RulesFault>
-        ensures { MatchResult result (ReadsFile self bytes.now) (IsRefusedBy (RefusesFile self bytes.now)) }
+    /// With both, all is as before. Time is linear in the bytes. Profile.
+    #[tactic(auto, using(crate::proofs::GrownLemmas::back_there))]
+    pub fn read(&mut self, alloc: Global, bytes: &[u8]) -> Result<(), RulesFault>
+        ensures answer { MatchResult result (λ _. ReadsFile self.old bytes.now self.new)
+            (IsRefusedBy (RefusesFile self.old bytes.now)) }
+        ensures unchanged { OnErr result (self.new ≡ self.old) }
+    {
+        let mark = self.mark();
+        match self.read_lines(alloc, bytes) {
+            Ok(()) => Ok(()),
+            Err(fault) => {
+                self.go_back(&mark);
+                Err(fault)
+            }
+        }
+    }
+
+    // Where the reader is.
+    fn mark(&self) -> Mark
+        ensures { IsMarked self.now result }
+    {
+        Mark {
+            line: self.line,
+            seen: self.seen.len(),
+            names: self.rules.names(),
+            units: self.rules.units(),
+            uncounted: self.rules.uncounted(),
+        }
+    }
+
+    // Forgets what was read since the reader was there.
+    fn go_back(&mut self, mark: &Mark)
+        ensures { self.new ≡ gone_back mark.now self.old }
+    {
+        self.line = mark.line;
+        self.seen.truncate(mark.seen);
+        self.rules.truncate(mark.names, mark.units);
+        self.rules.set_uncounted(mark.uncounted);
+    }
+
+    // Reads the lines of a file. With a fault some of it may have been added.
+    fn read_lines(&mut self, alloc: Global, bytes: &[u8]) -> Result<(), RulesFault>
+        ensures answer { MatchResult result (λ _. ReadsFile self.old bytes.now self.new)
+            (IsRefusedBy (RefusesFile self.old bytes.now)) }
+        ensures grown { HasGrown self.old self.new }
     {
         lines_are_one();
-        let mut reader = self.at_first_line();
+        self.begin();
         let mut left = bytes;
         while !left.is_empty() {
             let (line, rest) = first_line(left);
-            match reader.line(alloc, line) {
+            match self.line(alloc, line) {
                 Ok(()) => {}
                 Err(fault) => return Err(fault),
             }
             left = rest;
         }
-        Ok(reader)
+        Ok(())
     }
 
-    // The same before a file's first line.
-    fn at_first_line(mut self) -> RulesReader
-        ensures { result ≡ record self { line = 0 } }
+    // Goes before a file's first line.
+    fn begin(&mut self)
+        ensures { self.new ≡ record self.old { line = 0 } }
     {
         self.line = 0;
-        self
     }
 
     // Adds a node to its set, or begins one with it.
+    #[tactic(auto, using(crate::proofs::GrownLemmas::grown_self, crate::proofs::GrownLemmas::grown_by))]
     fn add<'a>(
         &mut self,
         alloc: Global,
@@ -125,9 +179,10 @@ impl RulesReader {
         first: Option<&Member<'a>>,
     ) -> Result<Member<'a>, RulesFault>
         requires { HasId items.now id }
-        ensures { MatchResult result
+        ensures answer { MatchResult result
             (λ m. Adds (option_copied first.entry) m self.old (item_at items.now id) self.new)
             (IsRefusedBy (FaultOfNode (option_copied first.entry) self.old (item_at items.now id))) }
+        ensures grown { HasGrown self.old self.new }
     {
         let Some(member) = member_at(items, id) else {
             return Err(refused(self.line, items, id, 42));
@@ -143,6 +198,7 @@ impl RulesReader {
     }
 
     // A node counts as the first of its set, if it isn't itself the first.
+    #[tactic(auto, using(crate::proofs::GrownLemmas::grown_self, crate::proofs::GrownLemmas::grown_by))]
     fn join<'a>(
         &mut self,
         alloc: Global,
@@ -154,6 +210,7 @@ impl RulesReader {
           rules = joined (option_copied first.entry) member.entry self.old.rules;
         }) }
         ensures memory { IfErr result IsMemory }
+        ensures grown { HasGrown self.old self.new }
     {
         let Some(first) = first else {
             return Ok(member)
@@ -173,10 +230,11 @@ impl RulesReader {
         first: &Member<'a>,
     ) -> Result<(), RulesFault>
         requires { Holds items.now from }
-        ensures { MatchResult result
+        ensures answer { MatchResult result
             (λ _. Over (Joins first.now) self.old (listed (ahead items.now from)) self.new)
             (IsRefusedBy (FaultOver (Joins first.now) (FaultOfNode (Some first.now)) self.old
             (listed (ahead items.now from)))) }
+        ensures grown { HasGrown self.old self.new }
     {
         let mut at = from;
         while let Some(id) = at {
@@ -190,12 +248,14 @@ impl RulesReader {
     }
 
     // Adds a set.
+    #[tactic(auto, using(crate::proofs::GrownLemmas::grown_on))]
     fn add_set(&mut self, alloc: Global, items: &Items<'_>, id: ItemId) -> Result<(), RulesFault>
         requires has { HasId items.now id }
         requires node { IsNode (item_at items.now id) }
-        ensures { MatchResult result
+        ensures answer { MatchResult result
             (λ _. AddsSet self.old (arguments (item_at items.now id)) self.new)
             (IsRefusedBy (FaultOfSet self.old (arguments (item_at items.now id)))) }
+        ensures grown { HasGrown self.old self.new }
     {
         let Some(begin) = items.arg(id, 0) else {
             unreachable!()
@@ -207,11 +267,13 @@ impl RulesReader {
     }
 
     // What an item names doesn't count.
+    #[tactic(auto, using(crate::proofs::GrownLemmas::grown_self, crate::proofs::GrownLemmas::grown_dropped))]
     fn drop_word(&mut self, items: &Items<'_>, id: ItemId) -> Result<(), RulesFault>
         requires { HasId items.now id }
-        ensures { MatchResult result
+        ensures answer { MatchResult result
             (λ _. Drops self.old (item_at items.now id) self.new)
             (IsRefusedBy (FaultOfWord self.old (item_at items.now id))) }
+        ensures grown { HasGrown self.old self.new }
     {
         match with_item(items, id, self.rules.uncounted()) {
             Some(uncounted) => {
@@ -225,9 +287,10 @@ impl RulesReader {
     // What the items from this one on name doesn't count.
     fn drop_words(&mut self, items: &Items<'_>, from: Option<ItemId>) -> Result<(), RulesFault>
         requires { Holds items.now from }
-        ensures { MatchResult result
+        ensures answer { MatchResult result
             (λ _. Over Drops self.old (listed (ahead items.now from)) self.new)
             (IsRefusedBy (FaultOver Drops FaultOfWord self.old (listed (ahead items.now from)))) }
+        ensures grown { HasGrown self.old self.new }
     {
         let mut at = from;
         while let Some(id) = at {
@@ -241,11 +304,13 @@ impl RulesReader {
     }
 
     // Reads a statement.
+    #[tactic(auto, using(crate::proofs::GrownLemmas::grown_self))]
     fn statement(&mut self, alloc: Global, items: &Items<'_>) -> Result<(), RulesFault>
         requires { IsNode items.now }
-        ensures { MatchResult result
+        ensures answer { MatchResult result
             (λ _. States self.old items.now self.new)
             (IsRefusedBy (FaultOfStatement self.old items.now)) }
+        ensures grown { HasGrown self.old self.new }
     {
         let root = items.root();
         if is_word("SAME", items.raw(root)) {
@@ -258,11 +323,13 @@ impl RulesReader {
     }
 
     // Reads a line.
+    #[tactic(auto, using(crate::proofs::GrownLemmas::grown_on, crate::proofs::GrownLemmas::grown_line))]
     fn line(&mut self, alloc: Global, line: &[u8]) -> Result<(), RulesFault>
         requires { self.old.line + 1 < 2 ^ 64 }
-        ensures { MatchResult result
+        ensures answer { MatchResult result
             (λ _. Reads self.old line.now self.new)
             (IsRefusedBy (FaultOfLine self.old line.now)) }
+        ensures grown { HasGrown self.old self.new }
     {
         self.line += 1;
         if is_idle(line) {

@@ -15,8 +15,9 @@ use std::alloc::Global;
 pub fn read_rules(alloc: Global, bytes: &[u8]) -> Result<Rules, RulesFault>
     ensures { MatchResult result (SpellsRules bytes.now) (IsRefusedBy (RefusesFile start bytes.now)) }
 {
-    match RulesReader::new(alloc).read(alloc, bytes) {
-        Ok(reader) => Ok(reader.into_rules()),
+    let mut reader = RulesReader::new(alloc);
+    match reader.read(alloc, bytes) {
+        Ok(()) => Ok(reader.into_rules()),
         Err(fault) => Err(fault),
     }
 }

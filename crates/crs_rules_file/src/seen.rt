@@ -1,5 +1,5 @@
 //! The nodes that stand in the sets so far.
-ghost use Rattle.std.specs.Prelude.{◌≡◌, [], IfOk};
+ghost use Rattle.std.specs.Prelude.{◌≡◌, [], IfOk, OnErr, length, take};
 ghost use Rattle.std.specs.Cmp.{partial_equiv_from_equiv};
 ghost use Rattle.crs_rules_file.specs.Equality.{digest_of, factors_equal, member_writes, members_equal};
 ghost use Rattle.crs_rules_file.specs.EqualityLaws.{members-equivalence, members-hash};
@@ -108,9 +108,23 @@ impl Seen {
         }
     }
 
-    // Adds a node, if it isn't among them; whether it was added.
+    pub(crate) fn len(&self) -> usize
+        ensures { result ≡ length self.now }
+    {
+        self.keys.len()
+    }
+
+    // Forgets all nodes but so many.
+    pub(crate) fn truncate(&mut self, count: usize)
+        ensures { self.new ≡ take count self.old }
+    {
+        self.keys.truncate(count);
+    }
+
+    // Adds a node, if it isn't among them; whether it was added. Out of memory, all is as before.
     pub(crate) fn add(&mut self, alloc: Global, member: &Member<'_>) -> Result<bool, AllocError>
-        ensures { IfOk result (λ new. IsAdded self.old member.now new self.new) }
+        ensures added { IfOk result (λ new. IsAdded self.old member.now new self.new) }
+        ensures unchanged { OnErr result (self.new ≡ self.old) }
     {
         Ok(self.keys.insert(key_of(alloc, member)?)?)
     }

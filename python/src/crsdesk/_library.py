@@ -172,7 +172,7 @@ class HeldRules:
 
     def add(self, file: bytes) -> Optional[Tuple[int, int, int]]:
         """Adds the rules of a file. The answer is None, or its first refused line, the refusal's number and its place
-        in the line; then there are no rules."""
+        in the line; then the rules are as before."""
         told = LOADED.crsdesk_rules_add(self._room, file, len(file))
         if told.code not in (OK, REFUSED):
             raise out_of_memory()

@@ -1,11 +1,13 @@
 use Rattle.std.proofs.Common.{◌+◌, ◌≤◌, length}
+use Rattle.crs_rules_file.specs.Grown.{HasGrown}
 use Rattle.crs_rules_file.proofs.FileLemmas.{LeadsFile}
-use Rattle.crs_rules_file.proofs.reader.RulesReader.read.Given as goal
+use Rattle.crs_rules_file.proofs.reader.RulesReader.read_lines.Given as goal
 
 abbrev pub invariant-loop-left : goal.invariant-loop-left
 invariant-loop-left l = record {
-  leads : LeadsFile l.fn.self l.bytes l.left l.reader;
-  few : l.reader.line + length l.left ≤ length l.bytes;
+  leads : LeadsFile l.fn.self l.bytes l.left l.self;
+  few : l.self.line + length l.left ≤ length l.bytes;
+  grown : HasGrown l.fn.self l.self;
 }
 
 abbrev pub decreases-loop-left : goal.decreases-loop-left

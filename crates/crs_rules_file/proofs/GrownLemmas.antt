@@ -1,0 +1,114 @@
+-- What is known of rules files is only added to.
+use Rattle.std.proofs.Common.{◌≡◌, ◌++◌, ◌∷◌, [], ℕ, Bool, true, false, List, Option, None, Some, length, take, refl, sym, ap, subst, ◌∙◌}
+use Rattle.std.proofs.lemmas.List.{append-nil, append_assoc}
+use Rattle.crs_shape.specs.declared.unit_kind.UnitKind.{UnitKind}
+use Rattle.crs_rules.specs.Rules.{RulesParts}
+use Rattle.crs_rules.specs.declared.uncounted.Uncounted.{Uncounted}
+use Rattle.crs_rules_file.specs.Grown.{Extends, HasGrown}
+use Rattle.crs_rules_file.specs.Marks.{IsMarked, gone_back}
+use Rattle.crs_rules_file.specs.Members.{MemberParts}
+use Rattle.crs_rules_file.specs.Seen.{IsAdded}
+use Rattle.crs_rules_file.specs.Statements.{Reading, with_alias}
+use Rattle.crs_rules_file.specs.declared.reader.Mark.{Mark}
+
+extends-self : {A : Type 0} (xs : List A) → Extends xs xs
+extends-self xs = ([], sym (append-nil xs))
+
+extends-on : {A : Type 0} (xs ys zs : List A) → Extends xs ys → Extends ys zs → Extends xs zs
+extends-on xs ys zs (more, e) (others, f) =
+    (more ++ others, f ∙ (ap (λ l. l ++ others) e ∙ append_assoc xs more others))
+
+pub grown_self : (r : Reading) → HasGrown r r
+grown_self r = record {
+  seen = extends-self r.seen;
+  names = extends-self r.rules.names;
+  units = extends-self r.rules.units;
+}
+
+pub grown_by : (r s : Reading) → s ≡ r → HasGrown r s
+grown_by r s e = subst (HasGrown r) (sym e) (grown_self r)
+
+pub grown_on : (r s t : Reading) → HasGrown r s → HasGrown s t → HasGrown r t
+grown_on r s t g h = record {
+  seen = extends-on r.seen s.seen t.seen g.seen h.seen;
+  names = extends-on r.rules.names s.rules.names t.rules.names g.names h.names;
+  units = extends-on r.rules.units s.rules.units t.rules.units g.units h.units;
+}
+
+-- one more node of a set, or one that stood there
+pub grown_seen : (r q : Reading) (m : MemberParts) (new : Bool) (seen : List MemberParts) → q ≡ r → IsAdded q.seen m new seen
+    → HasGrown r (record q { seen = seen })
+grown_seen r q m true seen e h = subst (λ p. HasGrown p (record q { seen = seen })) e (record {
+  seen = (m ∷ [], h.1);
+  names = extends-self q.rules.names;
+  units = extends-self q.rules.units;
+})
+grown_seen r q m false seen e h = subst (λ p. HasGrown p (record q { seen = seen })) e (record {
+  seen = ([], h.1 ∙ sym (append-nil q.seen));
+  names = extends-self q.rules.names;
+  units = extends-self q.rules.units;
+})
+
+-- one more name or unit
+grown_alias : (r : Reading) (k : Option UnitKind) (first m : MemberParts)
+    → HasGrown r (record r { rules = with_alias k first m r.rules })
+grown_alias r None first m = record {
+  seen = extends-self r.seen;
+  names = (record { class = m.class; alias = m.name; name = first.name } ∷ [], refl);
+  units = extends-self r.rules.units;
+}
+grown_alias r (Some k) first m = record {
+  seen = extends-self r.seen;
+  names = extends-self r.rules.names;
+  units = (
+    record {
+      kind = k;
+      alias = m.name;
+      alias_factor = m.factor;
+      name = first.name;
+      factor = first.factor;
+    } ∷ [],
+    refl,
+  );
+}
+
+pub grown_joined : (r q : Reading) (k : Option UnitKind) (first m : MemberParts) (rules : RulesParts) → q ≡ r
+    → rules ≡ with_alias k first m q.rules → HasGrown r (record q { rules = rules })
+grown_joined r q k first m rules e is =
+    subst (λ p. HasGrown p (record q { rules = rules })) e
+    (subst (λ rs. HasGrown q (record q { rules = rs })) (sym is) (grown_alias q k first m))
+
+-- another thing doesn't count
+pub grown_dropped : (r : Reading) (u : Uncounted) → HasGrown r (record r { rules = record r.rules { uncounted = u } })
+grown_dropped r u = record {
+  seen = extends-self r.seen;
+  names = extends-self r.rules.names;
+  units = extends-self r.rules.units;
+}
+
+-- at another line
+pub grown_line : (r : Reading) (n : ℕ) → HasGrown r (record r { line = n })
+grown_line r n = record {
+  seen = extends-self r.seen;
+  names = extends-self r.rules.names;
+  units = extends-self r.rules.units;
+}
+
+take-front : {A : Type 0} (xs more : List A) → take (length xs) (xs ++ more) ≡ xs
+take-front [] more = refl
+take-front (x ∷ xs) more = ap (λ l. x ∷ l) (take-front xs more)
+
+taken : {A : Type 0} (n : ℕ) (xs ys : List A) → n ≡ length xs → Extends xs ys → take n ys ≡ xs
+taken n xs ys e (more, f) = ap (λ k. take k ys) e ∙ (ap (take (length xs)) f ∙ take-front xs more)
+
+-- a reader is there again
+pub back_there : (mark : Mark) (r s : Reading) → IsMarked r mark → HasGrown r s → gone_back mark s ≡ r
+back_there mark r s m g =
+    let seen = taken mark.seen r.seen s.seen m.seen g.seen in
+    let names = taken mark.names r.rules.names s.rules.names m.names g.names in
+    let units = taken mark.units r.rules.units s.rules.units m.units g.units in
+    λ i. record {
+      line = m.line i;
+      seen = seen i;
+      rules = record { names = names i; units = units i; uncounted = m.uncounted i };
+    }
