@@ -1559,6 +1559,7 @@ def commands() -> None:
         command_lines(files)
         command_names(files)
         command_faults(files)
+        command_streams(files)
 
 
 def command_check(files: Files) -> None:
@@ -1928,6 +1929,45 @@ def command_faults(files: Files) -> None:
         command = [sys.executable, "-m", "crsdesk", "check", "height.wkt"]
         done = subprocess.run(command, cwd=files.folder, stdout=full, stderr=subprocess.PIPE, timeout=600, check=False)
     assert (done.returncode, done.stderr) == (2, b"crsdesk: write failed: No space left on device\n")
+
+
+# What a shell does with the streams of a command, the command's words, its status and what it tells then.
+STREAMS = [
+    (">&-", "check height.wkt", 2, "crsdesk: write failed: Bad file descriptor\n"),
+    (">&-", "check none.wkt", 2, "crsdesk: none.wkt: No such file or directory\n"),
+    (">&-", "--version", 2, "crsdesk: write failed: Bad file descriptor\n"),
+    (">/dev/full", "--help", 2, "crsdesk: write failed: No space left on device\n"),
+    (">/dev/full", "group height.wkt", 2, "crsdesk: write failed: No space left on device\n"),
+    ("<&-", "check -", 2, "crsdesk: -: Bad file descriptor\n"),
+    ("<&-", "check height.wkt", 0, ""),
+    ("2>&-", "check height.wkt", 0, ""),
+    ("2>&-", "check none.wkt height.wkt", 2, ""),
+    ("2>&-", "check old.prj", 2, ""),
+    ("2>&-", "frob", 2, ""),
+    ("2>/dev/full", "check none.wkt height.wkt", 2, ""),
+    ("2>/dev/full", "frob", 2, ""),
+    ("<&- >&- 2>&-", "check - height.wkt", 2, ""),
+]
+UNREAD = ["check height.wkt", "canon --lines many.txt", "group height.wkt", "same height.wkt height.wkt", "--help"]
+
+
+def command_streams(files: Files) -> None:
+    """Streams that are closed or take nothing end in status 2, with one line where there is a place for it; an output that
+    nobody reads any more, as one of ``| head -1``, in none."""
+    files.write("many.txt", f"{HEIGHT}\n" * 3_000)
+    for streams, words, status, error in STREAMS:
+        shell = ["sh", "-c", f'exec "$@" {streams}', "sh", sys.executable, "-m", "crsdesk", *words.split()]
+        done = subprocess.run(shell, cwd=files.folder, capture_output=True, text=True, timeout=600, check=False)
+        assert (done.returncode, done.stderr) == (status, error), (streams, words, done)
+    for words in UNREAD:
+        reader, writer = os.pipe()
+        os.close(reader)
+        command = [sys.executable, "-m", "crsdesk", *words.split()]
+        with os.fdopen(writer, "wb") as pipe:
+            done = subprocess.run(
+                command, cwd=files.folder, stdout=pipe, stderr=subprocess.PIPE, text=True, timeout=600, check=False
+            )
+        assert (done.returncode, done.stderr) == (2, ""), (words, done)
 
 
 # Two texts, whether they are the same by definition, under rules/producers.rules, and under any-order.rules too. A name is

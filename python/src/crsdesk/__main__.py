@@ -1,7 +1,8 @@
 """The commands over files: ``python -m crsdesk check|canon|same|group|audit``.
 
 Answers go to standard output, refusals in full and faults to standard error. Status 0: all texts spell CRSs, and of
-``same`` the same one. 1: a text is refused, or the two CRSs differ. 2: a file can't be read, or another fault.
+``same`` the same one. 1: a text is refused, or the two CRSs differ. 2: a file can't be read, or another fault. Where nobody reads the
+output any more the run ends with status 2, and says nothing.
 
 With ``--lines`` a file has a text a line; one line at a time is held, and ``group`` holds each CRS's canonical text.
 With ``--convert`` PROJ reads texts in other forms, and each that it read is marked.
@@ -13,7 +14,7 @@ import argparse
 import os
 import signal
 import sys
-from typing import BinaryIO, Callable, Dict, Iterable, Iterator, List, NamedTuple, Optional, Tuple
+from typing import IO, Any, BinaryIO, Callable, Dict, Iterable, Iterator, List, NamedTuple, NoReturn, Optional, Tuple
 
 from . import Catalogue, Crs, Refused, Text, __version__, canon, check, difference, differences
 from ._crs import LEVELS, is_blank
@@ -54,10 +55,14 @@ class Run:
         sys.stdout.buffer.write(line.encode("utf-8", "surrogateescape") + b"\n")
 
     def tell(self, line: str) -> None:
-        """A line or more on standard error."""
+        """A line or more on standard error; where it takes none, that is a fault, and the run goes on."""
         sys.stdout.flush()
-        sys.stderr.buffer.write(line.encode("utf-8", "surrogateescape") + b"\n")
-        sys.stderr.flush()
+        try:
+            sys.stderr.buffer.write(line.encode("utf-8", "surrogateescape") + b"\n")
+            sys.stderr.flush()
+        except OSError:
+            give_up(sys.stderr)
+            self.ends(FAULT)
 
     def tell_refusal(self, place: Place, refused: Refused) -> None:
         """A refusal in full."""
@@ -110,6 +115,32 @@ class Run:
                     return
                 number += 1
                 yield Place(name, number), line
+
+
+class Parser(argparse.ArgumentParser):
+    """A parser whose texts are written at once: those of argparse are lost without a word where that fails."""
+
+    def _print_message(self, message: str, file: Any = None) -> None:
+        if message:
+            stream = file or sys.stderr
+            stream.write(message)
+            stream.flush()
+
+
+def give_up(stream: IO[str]) -> None:
+    """Has a stream that can't be written lead nowhere, so that the end of the interpreter doesn't try it again."""
+    os.dup2(os.open(os.devnull, os.O_WRONLY), stream.fileno())
+
+
+def open_closed_streams() -> None:
+    """Has a use of a standard stream that was closed fail as one of the system's calls, and keeps its number from the
+    files of the run."""
+    for number, name in enumerate(("stdin", "stdout", "stderr")):
+        if getattr(sys, name) is None:
+            # It's opened the other way round.
+            os.dup2(os.open(os.devnull, os.O_RDONLY if number else os.O_WRONLY), number)
+            os.set_inheritable(number, True)
+            setattr(sys, name, open(number, "w" if number else "r", closefd=False))
 
 
 def asked_text(run: Run, asked: argparse.Namespace, place: Place, text: bytes) -> Text:
@@ -257,7 +288,7 @@ def jobs(word: str) -> int:
 
 
 def parser() -> argparse.ArgumentParser:
-    whole = argparse.ArgumentParser(
+    whole = Parser(
         prog="python -m crsdesk",
         description="Reads texts (WKT2) of coordinate reference systems from files: says whether two are the same CRS, "
         "writes each in one canonical spelling, groups them.",
@@ -312,29 +343,39 @@ def parser() -> argparse.ArgumentParser:
     return whole
 
 
-def main(words: Optional[List[str]] = None) -> int:
-    """Runs a command line, that of the process where none is given, and answers the status."""
-    asked = parser().parse_args(words)
-    run = Run()
-    if asked.run in CONVERTING and asked.convert and not has_proj():
-        run.tell("crsdesk: --convert takes PROJ, which osgeo (GDAL's Python) or pyproj has, and neither is installed")
-        return FAULT
+def answered(run: Run, words: Optional[List[str]]) -> int:
+    """Runs a command line and answers the status; OSError where standard output takes no more."""
     try:
+        asked = parser().parse_args(words)
+        if asked.run in CONVERTING and asked.convert and not has_proj():
+            run.tell("crsdesk: --convert takes PROJ, which osgeo (GDAL's Python) or pyproj has, and neither is installed")
+            return FAULT
         asked.run(run, asked)
         sys.stdout.flush()
+        return run.status
     except MemoryError:
         run.tell("crsdesk: out of memory")
         return FAULT
+
+
+def main(words: Optional[List[str]] = None) -> int:
+    """Runs a command line, that of the process where none is given, and answers the status."""
+    run = Run()
+    try:
+        return answered(run, words)
     except OSError as error:
-        # What couldn't be written isn't written again when the interpreter ends.
-        os.dup2(os.open(os.devnull, os.O_WRONLY), sys.stdout.fileno())
-        run.tell(f"crsdesk: write failed: {error.strerror}")
+        give_up(sys.stdout)
+        if not isinstance(error, BrokenPipeError):
+            run.tell(f"crsdesk: write failed: {error.strerror}")
         return FAULT
-    return run.status
+
+
+def command() -> NoReturn:
+    """The whole process: its words, its streams and its status."""
+    open_closed_streams()
+    signal.signal(signal.SIGINT, signal.SIG_DFL)
+    sys.exit(main())
 
 
 if __name__ == "__main__":
-    # Where the reader of the output is gone the run ends silently, as other programs of the system do.
-    signal.signal(signal.SIGPIPE, signal.SIG_DFL)
-    signal.signal(signal.SIGINT, signal.SIG_DFL)
-    sys.exit(main())
+    command()

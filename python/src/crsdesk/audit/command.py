@@ -56,8 +56,6 @@ def run_audit(run: Run, asked: argparse.Namespace) -> None:
         return
     for number in SIGNALS:
         signal.signal(number, stop)
-    # A process that has ended is met where its answers are waited for.
-    signal.signal(signal.SIGPIPE, signal.SIG_IGN)
     try:
         audit(run, asked, rules)
     except Stopped as stopped:
@@ -113,7 +111,6 @@ def audit(run: Run, asked: argparse.Namespace, rules: Sequence[RulesFile]) -> No
         run.tell(f"crsdesk: {name}{error.strerror}")
         run.ends(FAULT)
         return
-    signal.signal(signal.SIGPIPE, signal.SIG_DFL)
     for line in lines_of(report):
         run.write(line)
     for untold in report.unread:
