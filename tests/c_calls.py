@@ -196,13 +196,15 @@ class Tries:
         return standard
 
     def names(self):
-        shared = run(["nm", "-D", "--defined-only", self.lib / "libcrsdesk.so"])
         static = run(["nm", "-g", "--defined-only", self.lib / "libcrsdesk.a"])
-        for text in (shared, static):
-            shown = {line.split()[-1] for line in text.splitlines() if len(line.split()) == 3}
-            if shown != self.calls:
-                raise Wrong(f"shown and not declared, or declared and not shown: {sorted(shown ^ self.calls)}")
-        return f"{len(self.calls)} calls"
+        shown = {line.split()[-1] for line in static.splitlines() if len(line.split()) == 3}
+        if shown != self.calls:
+            raise Wrong(f"shown and not declared, or declared and not shown: {sorted(shown ^ self.calls)}")
+        came = build_library.versions()
+        shown, wanted = build_library.shown(self.lib / "libcrsdesk.so"), {f"{it}@@{came.get(it)}" for it in self.calls}
+        if shown != wanted:
+            raise Wrong(f"the shared object's names and versions, or those of symbols.map: {sorted(shown ^ wanted)}")
+        return f"{len(self.calls)} calls, of {', '.join(sorted(set(came.values())))}"
 
     def needs(self):
         needed = re.findall(r"\(NEEDED\).*\[(.*)\]", run(["readelf", "-d", self.lib / "libcrsdesk.so"]))

@@ -12,7 +12,8 @@ given, has
     lib/libcrsdesk.so.0         the shared object, which needs the C library alone; libcrsdesk.so is the same file
     lib/pkgconfig/crsdesk.pc    what pkg-config answers, relative to its own folder
 
-Both libraries show the calls of the header, and no other name. Before they are made, a C program compares the sizes and
+Both libraries show the calls of the header, and no other name, and the shared object each with the version that it came
+with (crates/crs_c/symbols.map). Before they are made, a C program compares the sizes and
 the fields of the header's structs with the library's own (crates/crs_c/layout.c). It takes a C compiler, cc, and ld,
 objcopy and nm.
 
@@ -35,6 +36,7 @@ NAME = "crs_c"
 FOLDER = ROOT / "crates" / NAME
 HEADER = FOLDER / "crsdesk.h"
 LAYOUT = FOLDER / "layout.c"
+SYMBOLS = FOLDER / "symbols.map"
 # The number of the interface: it rises where a program that was linked with the library before can't be run with it.
 INTERFACE = 0
 PC = """prefix=${{pcfiledir}}/../..
@@ -105,6 +107,18 @@ def calls():
     return re.findall(r"^(?!static)\w[\w *]*\b(crsdesk_\w+)\(", HEADER.read_text(encoding="utf-8"), re.MULTILINE)
 
 
+def versions():
+    """The version of the interface that each call came with, as symbols.map names both."""
+    nodes = re.findall(r"^(CRSDESK_[0-9.]+) \{(.*?)^\}", SYMBOLS.read_text(encoding="utf-8"), re.MULTILINE | re.DOTALL)
+    return {name: node for node, body in nodes for name in re.findall(r"\b(crsdesk_\w+);", body)}
+
+
+def shown(shared):
+    """The calls that a shared object shows, with their versions."""
+    lines = run("nm", "-D", "--defined-only", "--with-symbol-versions", shared).splitlines()
+    return {line.split()[2] for line in lines if line.split()[1] != "A"}
+
+
 def version():
     text = (FOLDER / "src" / "names.rt").read_text(encoding="utf-8")
     return re.search(r'give\(b"([0-9.]+)"', text)[1]
@@ -128,7 +142,9 @@ def joined(made, kit, scratch):
 
 def link(made, kit, folder):
     """Both libraries, of the toolchain's two."""
-    names = calls()
+    names, came = calls(), versions()
+    if set(names) != set(came):
+        raise Stop(f"{SYMBOLS.name} and {HEADER.name} don't have the same calls: {sorted(set(names) ^ set(came))}")
     lib = folder / "lib"
     lib.mkdir(parents=True, exist_ok=True)
     with tempfile.TemporaryDirectory() as scratch:
@@ -140,18 +156,17 @@ def link(made, kit, folder):
         run("objcopy", f"--keep-global-symbols={script}", whole)
         (lib / "libcrsdesk.a").unlink(missing_ok=True)
         run("ar", "rcsD", lib / "libcrsdesk.a", whole)
-        script.write_text("{ global: " + "".join(f"{it}; " for it in names) + "local: *; };\n", encoding="utf-8")
         shared = lib / f"libcrsdesk.so.{INTERFACE}"
-        linker = [f"-Wl,-soname,{shared.name}", f"-Wl,--version-script={script}", "-Wl,-z,defs", "-Wl,-z,relro,-z,now"]
+        linker = [f"-Wl,-soname,{shared.name}", f"-Wl,--version-script={SYMBOLS}", "-Wl,-z,defs", "-Wl,-z,relro,-z,now"]
         shared.unlink(missing_ok=True)
         run("cc", "-shared", "-o", shared, *linker, "-Wl,--gc-sections", whole)
         run("strip", "--strip-unneeded", shared)
     # Not a symbolic link: the toolchain allows none in the repository.
     (lib / "libcrsdesk.so").unlink(missing_ok=True)
     os.link(shared, lib / "libcrsdesk.so")
-    shown = {line.split()[-1] for line in run("nm", "-D", "--defined-only", shared).splitlines()}
-    if shown != set(names):
-        raise Stop(f"the shared object and the header don't have the same names: {sorted(shown ^ set(names))}")
+    wanted = {f"{name}@@{node}" for name, node in came.items()}
+    if shown(shared) != wanted:
+        raise Stop(f"the shared object doesn't have the names of {SYMBOLS.name}: {sorted(shown(shared) ^ wanted)}")
 
 
 def build(folder, is_over_gate):

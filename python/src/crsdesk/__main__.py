@@ -348,7 +348,9 @@ def answered(run: Run, words: Optional[List[str]]) -> int:
     try:
         asked = parser().parse_args(words)
         if asked.run in CONVERTING and asked.convert and not has_proj():
-            run.tell("crsdesk: --convert takes PROJ, which osgeo (GDAL's Python) or pyproj has, and neither is installed")
+            run.tell(
+                "crsdesk: --convert takes PROJ, which osgeo (GDAL's Python) or pyproj has, and neither is installed"
+            )
             return FAULT
         asked.run(run, asked)
         sys.stdout.flush()
