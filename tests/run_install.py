@@ -18,7 +18,13 @@ import sys
 import tempfile
 from typing import Dict, List, Set, Tuple
 
+# The imports of files beside this one and of tools leave nothing in the repository.
+sys.dont_write_bytecode = True
 ROOT = pathlib.Path(__file__).resolve().parent.parent
+sys.path.append(str(ROOT / "tools"))
+import build_library
+import run_documents
+
 EXAMPLES = ROOT / "examples"
 SECONDS = 3600
 SYSTEM = "/usr/bin/python3"
@@ -39,6 +45,15 @@ FILES = {
     "share/man/man1/crsdesk.1",
 }
 FOLDER_OF_DOCUMENTS = "share/doc/crsdesk"
+# Where the version of the library is repeated, and how.
+REPEATS = {
+    "crates/crs_c/specs/Names.antt": 'version = codes "{}"\n',
+    "crates/crs_command_line/src/line.rt": 'pub const VERSION: &str = "{}";\n',
+    "man/crsdesk.1": '"crsdesk {}"',
+    "man/crsdesk.3": '"crsdesk {}"',
+    "packaging/debian/changelog": "crsdesk ({}-",
+    "python/pyproject.toml": '\nversion = "{}"\n',
+}
 # What has its files below the list's own folder and the prefix, which a user has.
 OWN = "share/crsdesk/own.txt"
 # Prints what the words before the last are completed to.
@@ -88,10 +103,8 @@ def is_there(tool: str, what: str) -> bool:
 def documents() -> Set[str]:
     """The pages and examples, by the paths that they have below the prefix."""
     found = [
-        ROOT / "README.md",
-        *ROOT.glob("docs/**/*.md"),
-        *ROOT.glob("docs/audit*"),
-        *(it for it in EXAMPLES.glob("**/*") if not it.is_dir()),
+        *(ROOT / f"{name}.md" for name in ("README", "CHANGELOG", "CONTRIBUTING")),
+        *(it for folder in (ROOT / "docs", EXAMPLES) for it in folder.glob("**/*") if not it.is_dir()),
     ]
     return {f"{FOLDER_OF_DOCUMENTS}/{it.relative_to(ROOT)}" for it in found}
 
@@ -127,6 +140,50 @@ def try_install(counts: Counts, prefix: pathlib.Path) -> bool:
     folders = {f"{it.relative_to(prefix)}/" for it in [prefix, *prefix.rglob("*")] if it.is_dir()}
     counts.compare("the list's folders", {it for it in listed if it.endswith("/")}, folders)
     return True
+
+
+def try_documents(counts: Counts, prefix: pathlib.Path) -> None:
+    """The links of the pages lead to what is installed, and the pages are the repository's but for those links."""
+    for page in sorted((prefix / FOLDER_OF_DOCUMENTS).rglob("*.md")):
+        wrong = [why for why in run_documents.wrong_links(page) if why]
+        counts.compare(f"the links of {page.name}", wrong, [])
+        source = ROOT / page.relative_to(prefix / FOLDER_OF_DOCUMENTS)
+        texts = [re.sub(r" ?\([^()]*\)|[][]", "", it.read_text(encoding="utf-8")) for it in (page, source)]
+        counts.compare(f"the text of {page.name}", texts[0] == texts[1], True)
+    readme = (prefix / FOLDER_OF_DOCUMENTS / "README.md").read_text(encoding="utf-8")
+    counts.compare("the header's link", "[crsdesk.h](../../../include/crsdesk.h)" in readme, True)
+    counts.compare("a source's path", "`MainTheorem` (`crates/crs_canon/specs/MainTheorem.antt`)," in readme, True)
+
+
+def try_names(counts: Counts, prefix: pathlib.Path) -> None:
+    """What the installed files show of their names: the program and the extension none, the shared object its calls with
+    the versions that they came with, of which none is later than the library's."""
+    if not is_there("nm", "the names of the installed files") or not is_there(
+        "readelf", "the shared object's own name"
+    ):
+        return
+    for path in ("bin/crsdesk", "lib/crsdesk_sqlite.so", "lib/libcrsdesk.so"):
+        if (prefix / path).exists():
+            counts.compare(f"{path} is stripped", run(["nm", prefix / path]).stdout, "")
+    came = build_library.versions()
+    counts.compare("the calls of symbols.map", sorted(came), sorted(build_library.calls()))
+    shown = build_library.shown(prefix / "lib/libcrsdesk.so")
+    counts.compare("the calls and their versions", shown, {f"{name}@@{node}" for name, node in came.items()})
+    told = run(["readelf", "-d", "-V", prefix / "lib/libcrsdesk.so"]).stdout
+    name = f"libcrsdesk.so.{build_library.INTERFACE}"
+    counts.compare("the shared object's own name", re.findall(r"soname: \[(.*)\]", told), [name])
+    counts.compare("its versions", re.findall(r"Name: (CRSDESK\S*)", told), sorted(set(came.values())))
+    version = [int(it) for it in build_library.version().split(".")]
+    late = [it for it in set(came.values()) if [int(n) for n in it[len("CRSDESK_") :].split(".")] > version[:2]]
+    counts.compare("versions after the library's", late, [])
+
+
+def try_version(counts: Counts) -> None:
+    """The version stands in crates/crs_c/src/names.rt; other files repeat it."""
+    version = build_library.version()
+    for path, form in REPEATS.items():
+        text = (ROOT / path).read_text(encoding="utf-8")
+        counts.compare(f"{version} in {path}", text.count(form.format(version)), 1)
 
 
 def try_program(counts: Counts, prefix: pathlib.Path) -> None:
@@ -404,7 +461,10 @@ def main(words: List[str]) -> int:
     with tempfile.TemporaryDirectory() as name:
         folder = pathlib.Path(name)
         prefix = folder / "prefix"
+        try_version(counts)
         if try_install(counts, prefix):
+            try_documents(counts, prefix)
+            try_names(counts, prefix)
             try_program(counts, prefix)
             try_completion(counts, prefix)
             try_libraries(counts, prefix, folder)
