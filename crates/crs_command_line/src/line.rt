@@ -16,7 +16,7 @@ use clap::{Arg, ArgAction, ArgMatches, Command};
 use std::alloc::{AllocError, Global};
 
 /// The version that `--version` prints.
-pub const VERSION: &str = "0.1.0";
+pub const VERSION: &str = "0.2.0";
 
 // What help says of the commands that read files or standard input.
 const CANON_ABOUT: &str = "Writes the canonical text of each file's text";
