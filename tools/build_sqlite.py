@@ -5,11 +5,14 @@
 
 PREFIX has the header and the library, as build_library.py makes them (out/prefix where none is given).
 FILE, sql/out/crsdesk_sqlite.so where none is given, then needs the C library and nothing else. It
-takes a C compiler, cc, and SQLite's header sqlite3ext.h (Debian: libsqlite3-dev).
+takes a C compiler, cc, and SQLite's header sqlite3ext.h (Debian: libsqlite3-dev). The environment variables CPPFLAGS,
+CFLAGS and LDFLAGS have more words for the compiler and the linker.
 
 The status is 0 where it is there, 3 where SQLite's header isn't there, else 2, with a line on standard error.
 """
+import os
 import pathlib
+import shlex
 import subprocess
 import sys
 from typing import List
@@ -20,9 +23,14 @@ FLAGS = ["-std=c99", "-O2", "-fPIC", "-Wall", "-Wextra", "-pedantic"]
 NO_HEADER = 3
 
 
+def asked(variable: str) -> List[str]:
+    """The words that a variable of the environment has."""
+    return shlex.split(os.environ.get(variable, ""))
+
+
 def has_header() -> bool:
     """Whether the compiler finds SQLite's header."""
-    words = ["cc", "-E", "-x", "c", "-o", "/dev/null", "-"]
+    words = ["cc", *asked("CPPFLAGS"), "-E", "-x", "c", "-o", "/dev/null", "-"]
     done = subprocess.run(words, input=b"#include <sqlite3ext.h>\n", capture_output=True, check=False)
     return done.returncode == 0
 
@@ -30,7 +38,8 @@ def has_header() -> bool:
 def build(prefix: pathlib.Path, file: pathlib.Path, more: List[str]) -> None:
     """Compiles and links; CalledProcessError where the compiler refuses."""
     file.parent.mkdir(parents=True, exist_ok=True)
-    linker = [f"-Wl,--version-script={SOURCES / 'symbols.map'}", "-Wl,-z,defs", "-Wl,--gc-sections"]
+    linker = [f"-Wl,--version-script={SOURCES / 'symbols.map'}", "-Wl,-z,defs", "-Wl,--gc-sections", *asked("LDFLAGS")]
+    more = [*asked("CPPFLAGS"), *asked("CFLAGS"), *more]
     words = ["cc", *FLAGS, *more, "-shared", "-I", prefix / "include", "-o", file, SOURCES / "crsdesk_sqlite.c"]
     subprocess.run([*map(str, words), *linker, str(prefix / "lib" / "libcrsdesk.a")], check=True)
 
