@@ -8,6 +8,7 @@ and the status is 0 where M is 0.
 """
 from __future__ import annotations
 
+import fnmatch
 import importlib.util
 import os
 import pathlib
@@ -176,6 +177,27 @@ def try_names(counts: Counts, prefix: pathlib.Path) -> None:
     version = [int(it) for it in build_library.version().split(".")]
     late = [it for it in set(came.values()) if [int(n) for n in it[len("CRSDESK_") :].split(".")] > version[:2]]
     counts.compare("versions after the library's", late, [])
+
+
+def try_recipe(counts: Counts, prefix: pathlib.Path) -> None:
+    """Each installed file is in one of Debian's packages, or is left out by name; the packages' versions of calls are those
+    of symbols.map, from the library's version on that they name."""
+    folder = ROOT / "packaging/debian"
+    packages = re.findall(r"^Package: (\S+)$", (folder / "control").read_text(encoding="utf-8"), re.M)
+    files = {it.stem: it for it in folder.glob("*.install")}
+    counts.compare("the lists of Debian's packages", sorted(files), sorted(packages))
+    lines = [it.read_text(encoding="utf-8").splitlines() for it in (*files.values(), folder / "not-installed")]
+    patterns = [line.split()[0] for some in lines for line in some]
+    installed = {str(it.relative_to(prefix)) for it in prefix.rglob("*") if not it.is_dir() or it.is_symlink()}
+    below = [re.sub("^usr/lib/", "usr/lib/x86_64-linux-gnu/", f"usr/{it}") for it in sorted(installed)]
+    found = {path: [it for it in patterns if fnmatch.fnmatch(f"{path}/", f"{it}/*")] for path in below}
+    counts.compare("files in no package, or in two", {path: its for path, its in found.items() if len(its) != 1}, {})
+    # The module is unpacked from the wheel.
+    unused = {*patterns} - {its[0] for its in found.values() if its}
+    counts.compare("what the lists name and isn't installed", unused, {"usr/lib/python3"})
+    text = (folder / "libcrsdesk0.symbols").read_text(encoding="utf-8")
+    nodes = {it: it[len("CRSDESK_") :] + ".0" for it in build_library.versions().values()}
+    counts.compare("the versions of Debian's symbols", dict(re.findall(r"\(symver\)(\S+) (\S+)$", text, re.M)), nodes)
 
 
 def try_version(counts: Counts) -> None:
@@ -465,6 +487,7 @@ def main(words: List[str]) -> int:
         if try_install(counts, prefix):
             try_documents(counts, prefix)
             try_names(counts, prefix)
+            try_recipe(counts, prefix)
             try_program(counts, prefix)
             try_completion(counts, prefix)
             try_libraries(counts, prefix, folder)
