@@ -16,6 +16,7 @@ pub mod Filling
 pub mod FirstArguments
 pub mod FirstByte
 pub mod FoundArguments
+pub mod Fronts
 pub mod Kept
 pub mod KeptLaws
 pub mod Least

@@ -1,6 +1,7 @@
 //! Lists.
-ghost use Rattle.std.specs.Prelude.{◌≡◌, ◌<◌, [], ◌∷◌, ◌++◌, IfOk, IfSome, length, map, slice_get};
+ghost use Rattle.std.specs.Prelude.{◌≡◌, ◌<◌, [], ◌∷◌, ◌++◌, IfOk, None, OnErr, length, map, take};
 ghost use Rattle.std.specs.List.{swap};
+ghost use Rattle.crs_value.specs.Fronts.{AreFollowedByOnce, front};
 ghost use Rattle.crs_value.specs.Members.{HaveSameMembers};
 
 use crate::values::key::Keyed;
@@ -14,31 +15,31 @@ pub(crate) const FEW: usize = 32;
 
 /// A list in a value, seen as its members in order. Profile.
 pub struct List<T> {
+    // The members; behind them, where some of many are repeated, each once.
     members: Vec<T>,
-    // One, where more than `FEW` members were read, else none. No `Box`, since what is in one keeps its lifetime.
-    lookups: Vec<Lookup<T>>,
+    // How they are found, where more than `FEW` were read.
+    lookup: Option<Box<Lookup>>,
 }
 
-// How members are found.
+// How members are found. No member is in it, since what is in a `Box` keeps its lifetime.
 #[derive(Drop)]
-struct Lookup<T> {
-    // The members, each once, if some are repeated.
-    once: Option<Vec<T>>,
-    // Where the members, each once, are by their keys: at the full level, and by definition if keys differ.
+struct Lookup {
+    // How many members there are.
+    count: usize,
+    // Where those that are looked through are by their keys: at the full level, and by definition if keys differ.
     places: Vec<Places>,
 }
 
 impl<T> Model for List<T> {
     ghost use Rattle.std.specs.Prelude as std;
-    ghost use Rattle.std.specs.Prelude.{IfSome, slice_get};
-    ghost use Rattle.crs_value.specs.Members.{HaveSameMembers};
+    ghost use Rattle.std.specs.Prelude.{IfSome};
+    ghost use Rattle.crs_value.specs.Fronts.{AreFollowedByOnce, front};
 
     ghost Value = { std.List T };
 
-    ghost view = { λ a. a.members.items };
+    ghost view = { λ a. front (λ lookup. lookup.value.count) a.lookup a.members.items };
 
-    ghost invariant = { λ a. IfSome (slice_get a.lookups.items 0) (λ lookup. IfSome lookup.once
-        (λ once. HaveSameMembers once.items a.members.items)) };
+    ghost invariant = { λ a. IfSome a.lookup (λ lookup. AreFollowedByOnce lookup.value.count a.members.items) };
 }
 
 // Hand-written: a derived drop is expanded wherever a value is dropped, which slows the proofs.
@@ -46,7 +47,7 @@ impl<T: Drop> Drop for List<T> {
     fn drop(self) {
         let List {
             members: _,
-            lookups: _,
+            lookup: _,
         } = self;
     }
 }
@@ -63,23 +64,25 @@ pub trait Change<T> {
 
 impl<T> List<T> {
     /// The members, in order.
+    #[tactic(auto, unfolding(crate::specs::Fronts::front))]
     pub fn as_slice(&self) -> &[T]
         ensures { result.now ≡ self.now }
     {
-        &self.members
+        match &self.lookup {
+            Some(lookup) => &self.members[..lookup.count],
+            None => &self.members,
+        }
     }
 
     /// The same members. Of more than 32 identifiers that were read, each is there once, so that two lists are compared
     /// in the time of the shorter one.
+    #[tactic(auto, unfolding(crate::specs::Fronts::front))]
     pub fn once(&self) -> &[T]
         ensures { HaveSameMembers result.now self.now }
     {
-        match self.lookups.first() {
-            Some(lookup) => match &lookup.once {
-                Some(once) => once,
-                None => &self.members,
-            },
-            None => &self.members,
+        match &self.lookup {
+            Some(lookup) if lookup.count < self.members.len() => &self.members[lookup.count..],
+            _ => self.as_slice(),
         }
     }
 
@@ -90,26 +93,30 @@ impl<T> List<T> {
     }
 
     pub(crate) fn places(&self, level: Level) -> Option<&Places> {
-        let lookup = self.lookups.first()?;
-        match level {
-            Level::Full => lookup.places.get(0),
-            Level::Definition => lookup.places.get(1),
+        match &self.lookup {
+            Some(lookup) => lookup.places.get(match level {
+                Level::Full => 0,
+                Level::Definition => 1,
+            }),
+            None => None,
         }
     }
 
     /// Changes each member. Profile.
+    #[tactic(auto, unfolding(crate::specs::Fronts::front))]
     pub fn change_each<C: Change<T>>(&mut self, change: &C)
     where
         T: Drop,
         ensures { self.new ≡ map (C.changed change.now) self.old }
     {
-        self.lookups.clear();
+        forget(&mut self.members, &mut self.lookup);
         for member in self.members.iter_mut() {
             change.change(member);
         }
     }
 
     /// Puts two members in each other's place. Profile.
+    #[tactic(auto, unfolding(crate::specs::Fronts::front))]
     pub fn swap(&mut self, first: usize, second: usize)
     where
         T: Drop,
@@ -117,73 +124,91 @@ impl<T> List<T> {
         requires second { second < length self.old }
         ensures { self.new ≡ swap self.old first second }
     {
-        self.lookups.clear();
+        forget(&mut self.members, &mut self.lookup);
         self.members.swap(first, second);
     }
 
     /// Takes all members out. Profile.
+    #[tactic(auto, unfolding(crate::specs::Fronts::front))]
     pub fn clear(&mut self)
     where
         T: Drop,
         ensures { self.new ≡ [] }
     {
-        self.lookups.clear();
+        self.lookup = None;
         self.members.clear();
     }
 
+    #[tactic(auto, unfolding(crate::specs::Fronts::front))]
     pub(crate) fn new(alloc: Global) -> List<T>
         ensures { result ≡ [] }
     {
         List {
             members: Vec::new(alloc),
-            lookups: Vec::new(alloc),
+            lookup: None,
         }
     }
 
     // Out of memory, the list is as before.
+    #[tactic(auto, unfolding(crate::specs::Fronts::front))]
     pub(crate) fn push(&mut self, member: T) -> Result<(), AllocError>
     where
         T: Drop,
         ensures { IfOk result (λ _. self.new ≡ self.old ++ member ∷ []) }
     {
-        self.lookups.clear();
+        forget(&mut self.members, &mut self.lookup);
         self.members.push(member)?;
         Ok(())
     }
 
     // Has the list know where its members are, if they are many. Out of memory, it is as before.
+    #[tactic(auto, unfolding(crate::specs::Fronts::front))]
     pub(crate) fn note_places(&mut self, alloc: Global) -> Result<(), AllocError>
     where
         T: Keyed + Drop,
         ensures { self.new ≡ self.old }
     {
+        forget(&mut self.members, &mut self.lookup);
         if self.members.len() > FEW {
-            self.lookups = lookups_of(alloc, &self.members)?;
+            self.lookup = Some(lookup_of(alloc, &mut self.members)?);
         }
         Ok(())
     }
 }
 
-// One.
-fn lookups_of<T: Keyed + Drop>(alloc: Global, members: &[T]) -> Result<Vec<Lookup<T>>, AllocError>
-    ensures { IfOk result (λ lookups. IfSome (slice_get lookups.items 0) (λ lookup. IfSome lookup.once
-        (λ once. HaveSameMembers once.items members.now))) }
+// Leaves the members alone.
+#[tactic(auto, unfolding(crate::specs::Fronts::front))]
+fn forget<T: Drop>(members: &mut Vec<T>, lookup: &mut Option<Box<Lookup>>)
+    ensures members { members.new.items ≡ front (λ lookup. lookup.value.count) lookup.old members.old.items }
+    ensures lookup { lookup.new ≡ None }
 {
-    let mut lookups = Vec::with_capacity(alloc, 1)?;
-    lookups.push(lookup_of(alloc, members)?)?;
-    Ok(lookups)
+    if let Some(known) = lookup {
+        members.truncate(known.count);
+        *lookup = None;
+    }
 }
 
-fn lookup_of<T: Keyed + Drop>(alloc: Global, members: &[T]) -> Result<Lookup<T>, AllocError>
-    ensures { IfOk result (λ lookup. IfSome lookup.once (λ once. HaveSameMembers once.items members.now)) }
+// How these are found; behind them, where some are repeated, each once. Out of memory, they are as before.
+#[tactic(auto, unfolding(crate::specs::Fronts::front))]
+fn lookup_of<T: Keyed + Drop>(
+    alloc: Global,
+    members: &mut Vec<T>,
+) -> Result<Box<Lookup>, AllocError>
+    ensures found { IfOk result (λ lookup. (take lookup.value.count members.new.items ≡ members.old.items)
+        × AreFollowedByOnce lookup.value.count members.new.items) }
+    ensures refused { OnErr result (members.new.items ≡ members.old.items) }
 {
+    let count = members.len();
     let places = places_of(alloc, members)?;
-    let once = T::once(alloc, members, &places)?;
-    let places = match &once {
-        Some(once) => places_of(alloc, once)?,
-        None => places,
-    };
-    Ok(Lookup { once, places })
+    match T::once(alloc, members, &places)? {
+        Some(mut once) => {
+            let places = places_of(alloc, &once)?;
+            let lookup = Box::new(alloc, Lookup { count, places })?;
+            members.append(&mut once)?;
+            Ok(lookup)
+        }
+        None => Ok(Box::new(alloc, Lookup { count, places })?),
+    }
 }
 
 fn places_of<T: Keyed>(alloc: Global, members: &[T]) -> Result<Vec<Places>, AllocError> {
