@@ -1,6 +1,7 @@
 pub mod ExcerptLemmas
 pub mod ExpectedLineLemmas
 pub mod LineLemmas
+pub mod PieceLemmas
 pub mod ListedLemmas
 pub mod PartLemmas
 pub mod DifferingLemmas

@@ -1,9 +1,9 @@
 -- Bytes of a line.
-use Rattle.std.proofs.Common.{◌≡◌, ◌≤◌, ℕ, suc, ◌==◌, false, inl, inr, List, [], ◌∷◌, ◌++◌, length, map, refl, ap, arith}
+use Rattle.std.proofs.Common.{◌≡◌, ◌≤◌, ℕ, suc, ◌==◌, false, inl, inr, List, [], ◌∷◌, length, map, refl, ap, sym, subst, arith}
 use Rattle.std.proofs.lemmas.Bool.{cases_Bool}
 use Rattle.crs_text.specs.Position.{feeds}
 use Rattle.crs_explain.specs.Lines.{in_line}
-use Rattle.crs_explain.specs.Explained.{IsLine}
+use Rattle.crs_explain.specs.Explained.{AreWords}
 
 in_line-not : (b : ℕ) → (in_line b == 10) ≡ false
 in_line-not b = elim (cases_Bool (b == 10)) [
@@ -22,5 +22,6 @@ map-length : (words : List ℕ) → length (map in_line words) ≡ length words
 map-length [] = refl
 map-length (b ∷ words) = ap suc (map-length words)
 
-pub line_of : (words line : List ℕ) → length words ≤ 1000 → line ≡ map in_line words ++ 10 ∷ [] → IsLine line
-line_of words line few is = (map in_line words, no_feeds words, omega (arith, map-length words, few), is)
+pub words_of : (words line : List ℕ) → length words ≤ 1000 → line ≡ map in_line words → AreWords line
+words_of words line few is =
+    subst AreWords (sym is) (no_feeds words, omega (arith, map-length words, few))

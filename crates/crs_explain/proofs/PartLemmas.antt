@@ -1,36 +1,30 @@
--- What is written of a text whose items are read.
-use Rattle.std.proofs.Common.{◌≡◌, ℕ, List, [], subst, inl, inr}
+-- What could come at the fault of a text whose items are read.
+use Rattle.std.proofs.Common.{ℕ, List, Option, Some, None, MatchOption, subst}
+use Rattle.std.proofs.Common.{◌≡◌}
 use Rattle.crs_text.specs.Items.{Item}
-use Rattle.crs_text.specs.Refusal.{RefusedAt}
 use Rattle.crs_text.specs.TextFault.{SpellsNode, RefusesText}
+use Rattle.crs_shape.specs.Expected.{ExpectedParts, ExpectedAtRoot}
 use Rattle.crs_shape.specs.FaultPlace.{IsShapeNumber}
 use Rattle.crs_shape.specs.ShapeFault.{AtRoot, IsFree}
-use Rattle.crs_explain.specs.Expected.{IsExpectedPart}
-use Rattle.crs_explain.specs.Parts.{IsPartOf, IsPartOfText}
+use Rattle.crs_explain.specs.Expected.{IsExpected, IsExpectedInText}
 
--- what is written of the items is written of the text
-pub of_item : (text part : List ℕ) (place : ℕ) (item : Item) →
+-- what could come at the fault of the item could come at that of the text
+pub of_item : (text : List ℕ) (item : Item) (found : Option ExpectedParts) →
     ((bytes : List ℕ) (i j : Item) → SpellsNode bytes i → SpellsNode bytes j → i ≡ j) →
-    SpellsNode text item → IsPartOf text place item part → IsPartOfText text place part
-of_item text part place item one spells (inl told) = inl (item, spells, told)
-of_item text part place item one spells (inr free) =
+    SpellsNode text item → MatchOption found (IsFree (AtRoot item)) (ExpectedAtRoot item) → IsExpectedInText text found
+of_item text item None one spells free =
     let P : Item → Type 0 = λ i. IsFree (AtRoot i) in
-    inr (free.0, λ other spelled. subst P (one text item other spells spelled) free.1)
+    λ other spelled. subst P (one text item other spells spelled) free
+of_item text item (Some e) one spells is = (item, spells, is)
 
--- nothing is written of a text that has no items
-pub of_refused : (text part : List ℕ) (shown n place : ℕ) →
+-- nothing could come at a fault of a text that has no items
+pub of_refused : (text : List ℕ) (n place : ℕ) →
     ((bytes : List ℕ) (item : Item) (n place : ℕ) → SpellsNode bytes item → RefusesText bytes n place → ⊥) →
-    RefusesText text n place → part ≡ [] → IsPartOfText text shown part
-of_refused text part shown n place apart refused empty =
-    inr (empty, λ item spells. absurd (apart text item n place spells refused))
+    RefusesText text n place → IsExpectedInText text None
+of_refused text n place apart refused = λ item spells. absurd (apart text item n place spells refused)
 
--- what is written of the text is written of a refusal of shape
-pub of_shape : (text part : List ℕ) (number place : ℕ) → IsShapeNumber number → IsPartOfText text place part →
-    IsExpectedPart text (record { number = number; place = place }) part
-of_shape text part number place shape (inl told) = inl (shape, told)
-of_shape text part number place shape (inr free) = inr (free.0, λ _. free.1)
-
--- nothing is written of another refusal
-pub of_other : (text part : List ℕ) (number place : ℕ) → (IsShapeNumber number → ⊥) → part ≡ [] →
-    IsExpectedPart text (record { number = number; place = place }) part
-of_other text part number place other empty = inr (empty, λ shape. absurd (other shape))
+-- what could come at the text's fault of shape could come at a refusal of shape
+pub of_shape : (text : List ℕ) (number : ℕ) (found : Option ExpectedParts) →
+    IsShapeNumber number → IsExpectedInText text found → IsExpected text number found
+of_shape text number None shape free = λ _. free
+of_shape text number (Some e) shape is = (shape, is)

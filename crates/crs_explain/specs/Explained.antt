@@ -1,10 +1,41 @@
--- How the refusal of a text is explained.
-use Rattle.std.specs.Prelude.{◌≡◌, ◌⊎◌, ◌≤◌, ◌++◌, ◌∷◌, [], ℕ, List, length, codes, decimal}
+-- How the refusal of a text is explained: to a person in some lines, and to a program in pieces.
+use Rattle.std.specs.Prelude.{◌≡◌, ◌≤◌, ◌++◌, ◌∷◌, [], ℕ, List, Option, Some, None, length, codes, decimal}
 use Rattle.crs_text.specs.Refusal.{RefusedAt, refused_text}
 use Rattle.crs_text.specs.Position.{IsPosition, feeds}
 use Rattle.crs_text.specs.declared.position.Position.{Position}
+use Rattle.crs_shape.specs.Expected.{ExpectedParts}
 use Rattle.crs_explain.specs.Excerpt.{IsExcerpt}
-use Rattle.crs_explain.specs.Expected.{IsExpectedPart}
+use Rattle.crs_explain.specs.Expected.{IsExpected, expected_part, expected_names, found_piece, node_piece}
+use Rattle.crs_explain.specs.Expected.{place_of_node}
+
+-- words of a line: at most 1,000 bytes, none of which is a line feed
+abbrev pub AreWords : List ℕ → Type 0
+AreWords words = (feeds words ≡ 0) × (length words ≤ 1000)
+
+-- what is open or was meant, what the number means, and hints; no words where nothing is to be said
+pub record Sentences : Type 0 where
+  pub open_or_meant : List ℕ
+  pub meaning : List ℕ
+  pub hints : List ℕ
+
+-- each of them is the words of a line
+abbrev pub AreSentences : Sentences → Type 0
+AreSentences s = AreWords s.open_or_meant × AreWords s.meaning × AreWords s.hints
+
+-- all that is explained of a refusal
+pub record Explanation : Type 0 where
+  pub position : Position
+  pub excerpt : List ℕ
+  pub expected : Option ExpectedParts
+  pub sentences : Sentences
+
+-- the explanation of a text's refusal: the line and column of the place; a piece of the line and a
+-- caret; for a refusal of shape what could come there; and sentences
+pub record Explains (text : List ℕ) (refusal : RefusedAt) (e : Explanation) : Type 0 where
+  pub is_position : IsPosition text refusal.place e.position
+  pub is_excerpt : IsExcerpt text refusal.place e.excerpt
+  pub is_expected : IsExpected text refusal.number e.expected
+  pub are_sentences : AreSentences e.sentences
 
 -- `refused N NAME at P, line L, column C`, and a line feed
 abbrev pub head : RefusedAt → Position → List ℕ
@@ -12,34 +43,50 @@ head refusal position =
     refused_text refusal.number refusal.place ++ (codes ", line " ++ decimal position.line
     ++ codes ", column " ++ decimal position.column ++ 10 ∷ [])
 
--- a line of words: at most 1,000 bytes, none of which is a line feed, and a line feed
-abbrev pub IsLine : List ℕ → Type 0
-IsLine line =
-    (words : List ℕ) × (feeds words ≡ 0) × (length words ≤ 1000) × (line ≡ words ++ 10 ∷ [])
+-- words as a line; nothing where there are none
+abbrev pub line_if_any : List ℕ → List ℕ
+line_if_any [] = []
+line_if_any (b ∷ words) = (b ∷ words) ++ 10 ∷ []
 
--- such a line, or nothing
-abbrev pub IsLineIfAny : List ℕ → Type 0
-IsLineIfAny line = (line ≡ []) ⊎ IsLine line
+-- the lines of the sentences; what the number means always has one
+abbrev pub sentence_lines : Sentences → List ℕ
+sentence_lines s = line_if_any s.open_or_meant ++ (s.meaning ++ 10 ∷ []) ++ line_if_any s.hints
 
--- what is open or was meant, if that is known; what the number means; hints, if there are any
-pub record AreSentences (sentences : List ℕ) : Type 0 where
-  pub open_or_meant : List ℕ
-  pub is_open : IsLineIfAny open_or_meant
-  pub meaning : List ℕ
-  pub is_meaning : IsLine meaning
-  pub hints : List ℕ
-  pub are_hints : IsLineIfAny hints
-  pub are : sentences ≡ open_or_meant ++ meaning ++ hints
+-- an explanation in lines
+abbrev pub explanation_text : List ℕ → RefusedAt → Explanation → List ℕ
+explanation_text text refusal e =
+    head refusal e.position ++ e.excerpt ++ expected_part text refusal.place e.expected
+    ++ sentence_lines e.sentences
 
--- the explanation of a text's refusal: the head, with the line and column of the place; a piece of
--- the line and a caret; for a refusal of shape what is expected; and sentences, a line each
-pub record IsExplained (text : List ℕ) (refusal : RefusedAt) (told : List ℕ) : Type 0 where
-  pub position : Position
-  pub is_position : IsPosition text refusal.place position
-  pub excerpt : List ℕ
-  pub is_excerpt : IsExcerpt text refusal.place excerpt
-  pub expected : List ℕ
-  pub is_expected : IsExpectedPart text refusal expected
-  pub sentences : List ℕ
-  pub are_sentences : AreSentences sentences
-  pub is_told : told ≡ head refusal position ++ excerpt ++ expected ++ sentences
+-- the lines explain the text's refusal
+abbrev pub IsExplained : List ℕ → RefusedAt → List ℕ → Type 0
+IsExplained text refusal told =
+    (e : Explanation) × Explains text refusal e × (told ≡ explanation_text text refusal e)
+
+-- in this order the piece of the line with the caret, the keyword of the node in which something else
+-- is expected, what is found at this place, the three sentences, and the names of what could come
+abbrev pub pieces_told : List ℕ → ℕ → Explanation → List (List ℕ)
+pieces_told text place e =
+    e.excerpt ∷ node_piece text e.expected ∷ found_piece text place e.expected
+    ∷ e.sentences.open_or_meant ∷ e.sentences.meaning ∷ e.sentences.hints ∷ expected_names e.expected
+
+-- an explanation as numbers and pieces: line and column, the place of that node, and these pieces
+pub record ExplainedPieces : Type 0 where
+  pub line : ℕ
+  pub column : ℕ
+  pub node : ℕ
+  pub pieces : List (List ℕ)
+
+-- an explanation in this form
+abbrev pub explanation_pieces : List ℕ → RefusedAt → Explanation → ExplainedPieces
+explanation_pieces text refusal e = record {
+  line = e.position.line;
+  column = e.position.column;
+  node = place_of_node e.expected;
+  pieces = pieces_told text refusal.place e;
+}
+
+-- the pieces explain the text's refusal
+abbrev pub AreExplainedPieces : List ℕ → RefusedAt → ExplainedPieces → Type 0
+AreExplainedPieces text refusal told =
+    (e : Explanation) × Explains text refusal e × (told ≡ explanation_pieces text refusal e)

@@ -1,3 +1,4 @@
+pub mod Cut
 pub mod Differing
 pub mod Escaped
 pub mod Expected
@@ -5,4 +6,4 @@ pub mod Explained
 pub mod Excerpt
 pub mod Found
 pub mod Lines
-pub mod Parts
+pub mod Pieces

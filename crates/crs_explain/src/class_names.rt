@@ -1,8 +1,10 @@
 //! What classes are called where they are expected.
 ghost use Rattle.std.specs.Prelude.{◌≡◌, ◌++◌, ◌∷◌, [], OnOk, codes, if◌then◌else◌, slice_index_or, ◌<◌, length, drop};
+ghost use Rattle.std.specs.List.{flat_map};
 ghost use Rattle.crs_text.specs.Keywords.{spelling_of};
-ghost use Rattle.crs_explain.specs.Expected.{class_name, listed, names_of};
+ghost use Rattle.crs_explain.specs.Expected.{class_name, class_pieces, listed, names_of};
 
+use crate::pieces::Pieces;
 use crs_shape::{Class, keywords};
 use crs_text::Keyword;
 use std::alloc::AllocError;
@@ -104,4 +106,40 @@ fn append_end(words: &[u8], may_end: bool, out: &mut Vec<u8>) -> Result<(), Allo
         out.extend_from_slice(b"its closing delimiter")?;
     }
     Ok(())
+}
+
+// The names of classes, each by itself, and the end of the node where it may end.
+pub(crate) fn push_names(
+    classes: &[Class],
+    may_end: bool,
+    out: &mut Pieces,
+) -> Result<(), AllocError>
+    ensures { OnOk result (out.new ≡ out.old ++ (flat_map class_pieces classes.now
+        ++ (if may_end then codes "its closing delimiter" ∷ [] else []))) }
+{
+    push_classes(classes, out)?;
+    if may_end {
+        out.push(b"its closing delimiter")?;
+    }
+    Ok(())
+}
+
+fn push_classes(classes: &[Class], out: &mut Pieces) -> Result<(), AllocError>
+    ensures { OnOk result (out.new ≡ out.old ++ flat_map class_pieces classes.now) }
+{
+    for class in classes {
+        push_class(*class, out)?;
+    }
+    Ok(())
+}
+
+fn push_class(class: Class, out: &mut Pieces) -> Result<(), AllocError>
+    ensures { OnOk result (out.new ≡ out.old ++ class_pieces class) }
+{
+    if class == Class::AxisUnit {
+        out.push(b"LENGTHUNIT")?;
+        out.push(b"ANGLEUNIT")
+    } else {
+        out.push(class_name(class))
+    }
 }

@@ -1,11 +1,11 @@
-//! All parts in which two CRSs differ, for a person to read.
-ghost use Rattle.std.specs.Prelude.{◌≡◌, ◌++◌, ℕ, List, IfOk, OnOk};
-ghost use Rattle.crs_canon.specs.ContentText.{IsContentText};
-ghost use Rattle.crs_explain.specs.Differing.{AreDifferenceLines, IsDifferenceLine, IsDifferencesText};
+//! All parts in which two CRSs differ, for a person to read and for a program to use.
+ghost use Rattle.std.specs.Prelude.{◌≡◌, ◌++◌, IfOk, OnOk};
+ghost use Rattle.std.specs.List.{flat_map};
+ghost use Rattle.crs_explain.specs.Differing.{AreDifferencePieces, IsDifferencesText, difference_line, part_pieces};
 
+use crate::difference_texts::{DifferenceTexts, difference_texts};
 use crate::escape::append_value;
-use crs_canon::write_content;
-use crs_same::{Content, Difference, differences};
+use crate::pieces::Pieces;
 use crs_value::{Crs, Level};
 use std::alloc::{AllocError, Global};
 
@@ -24,65 +24,64 @@ pub fn differences_text<'a>(
 ) -> Result<Vec<u8>, AllocError>
     ensures { IfOk result (λ text. IsDifferencesText level a.now b.now text.items) }
 {
-    let differences = differences(alloc, a, b, level)?;
-    lines_of(alloc, level, differences.as_slice())
+    let differences = difference_texts(alloc, a, b, level)?;
+    let mut lines = Vec::new(alloc);
+    append_lines(&differences, &mut lines)?;
+    Ok(lines)
 }
 
-fn lines_of(
+/// The same as data: three texts for each part in which two CRSs differ, its path, and the values of the first CRS and
+/// of the second, with nothing escaped and no bytes where there is no value. Profile.
+///
+/// `AllocError`: there is no memory for it.
+pub fn difference_pieces<'a>(
     alloc: Global,
+    a: &Crs<'a>,
+    b: &Crs<'a>,
     level: Level,
-    differences: &[Difference<'_, '_>],
-) -> Result<Vec<u8>, AllocError>
-    ensures { IfOk result (λ text. AreDifferenceLines level differences.now text.items) }
+) -> Result<Pieces, AllocError>
+    ensures { IfOk result (AreDifferencePieces level a.now b.now) }
 {
-    let mut text = Vec::new(alloc);
-    append_lines(alloc, level, differences, &mut text)?;
-    Ok(text)
+    let differences = difference_texts(alloc, a, b, level)?;
+    let mut pieces = Pieces::new(alloc);
+    append_pieces(&differences, &mut pieces)?;
+    Ok(pieces)
 }
 
-fn append_lines(
-    alloc: Global,
-    level: Level,
-    differences: &[Difference<'_, '_>],
-    out: &mut Vec<u8>,
-) -> Result<(), AllocError>
-    ensures { OnOk result ((text : List ℕ) × AreDifferenceLines level differences.now text
-        × (out.new.items ≡ out.old.items ++ text)) }
+fn append_lines(differences: &[DifferenceTexts], out: &mut Vec<u8>) -> Result<(), AllocError>
+    ensures { OnOk result (out.new.items ≡ out.old.items ++ flat_map difference_line differences.now) }
 {
     for difference in differences {
-        append_line(alloc, level, difference, out)?;
+        append_line(difference, out)?;
     }
     Ok(())
 }
 
-fn append_line(
-    alloc: Global,
-    level: Level,
-    difference: &Difference<'_, '_>,
-    out: &mut Vec<u8>,
-) -> Result<(), AllocError>
-    ensures { OnOk result ((line : List ℕ) × IsDifferenceLine level difference.now line
-        × (out.new.items ≡ out.old.items ++ line)) }
+fn append_line(difference: &DifferenceTexts, out: &mut Vec<u8>) -> Result<(), AllocError>
+    ensures { OnOk result (out.new.items ≡ out.old.items ++ difference_line difference.now) }
 {
-    let first = content_text(alloc, level, difference.first())?;
-    let second = content_text(alloc, level, difference.second())?;
-    difference.path().write(out)?;
+    out.extend_from_slice(&difference.path)?;
     out.extend_from_slice(b": ")?;
-    append_value(&first, out)?;
+    append_value(&difference.first, out)?;
     out.extend_from_slice(b" | ")?;
-    append_value(&second, out)?;
+    append_value(&difference.second, out)?;
     out.extend_from_slice(b"\n")?;
     Ok(())
 }
 
-fn content_text(
-    alloc: Global,
-    level: Level,
-    content: &Content<'_, '_>,
-) -> Result<Vec<u8>, AllocError>
-    ensures { IfOk result (λ text. IsContentText level content.now text.items) }
+fn append_pieces(differences: &[DifferenceTexts], out: &mut Pieces) -> Result<(), AllocError>
+    ensures { OnOk result (out.new ≡ out.old ++ flat_map part_pieces differences.now) }
 {
-    let mut text = Vec::new(alloc);
-    write_content(content, alloc, level, &mut text)?;
-    Ok(text)
+    for difference in differences {
+        append_part(difference, out)?;
+    }
+    Ok(())
+}
+
+fn append_part(difference: &DifferenceTexts, out: &mut Pieces) -> Result<(), AllocError>
+    ensures { OnOk result (out.new ≡ out.old ++ part_pieces difference.now) }
+{
+    out.push(&difference.path)?;
+    out.push(&difference.first)?;
+    out.push(&difference.second)
 }

@@ -1,52 +1,33 @@
 //! What could come at the place of a fault of shape.
-ghost use Rattle.std.specs.Prelude.{◌≡◌, ◌++◌, ◌↔◌, [], ℕ, IfOk, OnOk, IsTrue, drop, filter, codes, decimal};
+ghost use Rattle.std.specs.Prelude.{◌≡◌, ◌++◌, ◌∷◌, ◌↔◌, [], IfOk, OnOk, IsTrue, drop, filter, codes, decimal};
 ghost use Rattle.crs_shape.specs.FaultPlace.{IsShapeNumber};
 ghost use Rattle.crs_shape.specs.Expected.{may_come};
 ghost use Rattle.crs_shape.specs.Keywords.{every_class};
-ghost use Rattle.crs_explain.specs.Expected.{IsExpectedPart, expected_line, node_named};
+ghost use Rattle.crs_explain.specs.Expected.{IsExpected, IsExpectedInText, expected_line, expected_names};
+ghost use Rattle.crs_explain.specs.Expected.{expected_part, found_piece, node_named, node_piece, node_word, place_of_node};
 ghost use Rattle.crs_explain.specs.Found.{found_in};
-ghost use Rattle.crs_explain.specs.Parts.{IsPartOf, IsPartOfText};
 
-use crate::class_names::append_listed;
+use crate::class_names::{append_listed, push_names};
+use crate::pieces::Pieces;
 use crate::place::{append_found, append_name, rest_of, word_at};
 use crs_shape::{Class, Expected, classes, expected, nearest};
-use crs_text::{Fault, Items, Keyword, laws, read_items};
+use crs_text::{Fault, Keyword, laws, read_items};
 use itoa::Buffer;
 use std::alloc::{AllocError, Global};
 
-/// What is written of what could come at a place.
-#[derive(Drop)]
-pub(crate) struct ShapeTold {
-    /// The line of a fault of shape; empty for another refusal.
-    pub(crate) line: Vec<u8>,
-    /// The expected keyword that an unknown one nearly is.
-    pub(crate) near: Option<Keyword>,
-}
-
-fn nothing(alloc: Global) -> ShapeTold
-    ensures { result.line.items ≡ [] }
-{
-    ShapeTold {
-        line: Vec::new(alloc),
-        near: None,
-    }
-}
-
-// What could come at the place of a refusal of shape; nothing for another refusal.
+// What could come at the place of a refusal of shape, by its number; nothing for another refusal.
 pub(crate) fn expectation(
     alloc: Global,
     text: &[u8],
     number: u8,
-    place: usize,
-) -> Result<ShapeTold, AllocError>
-    ensures { IfOk result (λ told. IsExpectedPart text.now
-        (record { number = number; place = place }) told.line.items) }
+) -> Result<Option<Expected>, AllocError>
+    ensures { IfOk result (IsExpected text.now number) }
 {
     if is_of_shape(number) {
-        let told = of_text(alloc, text, place)?;
-        Ok(told)
+        let found = of_text(alloc, text)?;
+        Ok(found)
     } else {
-        Ok(nothing(alloc))
+        Ok(None)
     }
 }
 
@@ -56,50 +37,123 @@ fn is_of_shape(number: u8) -> bool
     number >= 11 && number <= 13
 }
 
-// The line of the fault of shape that the text has; nothing where it has none.
-fn of_text(alloc: Global, text: &[u8], place: usize) -> Result<ShapeTold, AllocError>
-    ensures { IfOk result (λ told. IsPartOfText text.now place told.line.items) }
+// What could come at the fault of shape that the text has; nothing where it has none.
+fn of_text(alloc: Global, text: &[u8]) -> Result<Option<Expected>, AllocError>
+    ensures { IfOk result (IsExpectedInText text.now) }
 {
     laws::one_answer();
     match read_items(alloc, text) {
-        Ok(items) => {
-            let told = of_items(alloc, text, &items, place)?;
-            Ok(told)
-        }
-        Err(Fault::Refused(_)) => Ok(nothing(alloc)),
+        Ok(items) => Ok(expected(&items)),
+        Err(Fault::Refused(_)) => Ok(None),
         Err(Fault::Memory(error)) => Err(error),
     }
 }
 
-// The line of the fault of shape that the items have; nothing where they have none.
-fn of_items(
-    alloc: Global,
-    text: &[u8],
-    items: &Items<'_>,
-    place: usize,
-) -> Result<ShapeTold, AllocError>
-    ensures { IfOk result (λ told. IsPartOf text.now place items.now told.line.items) }
-{
-    match expected(items) {
-        None => Ok(nothing(alloc)),
-        Some(expected) => {
-            let told = told_of(alloc, text, &expected, place)?;
-            Ok(told)
-        }
+/// The expected keyword that an unknown one at a place nearly is.
+pub(crate) fn meant_at(text: &[u8], place: usize, expected: &Option<Expected>) -> Option<Keyword> {
+    match expected {
+        Some(expected) => nearest(word_at(rest_of(text, place)), expected),
+        None => None,
     }
 }
 
-fn told_of(
+/// Appends the line of what could come, if that is known.
+pub(crate) fn append_expected(
     alloc: Global,
     text: &[u8],
-    expected: &Expected,
     place: usize,
-) -> Result<ShapeTold, AllocError>
-    ensures { IfOk result (λ told. told.line.items ≡ expected_line text.now place expected.now) }
+    expected: &Option<Expected>,
+    out: &mut Vec<u8>,
+) -> Result<(), AllocError>
+    ensures { OnOk result (out.new.items ≡ out.old.items ++ expected_part text.now place expected.now) }
 {
-    let near = nearest(word_at(rest_of(text, place)), expected);
-    let line = line_of(alloc, text, expected, place)?;
-    Ok(ShapeTold { line, near })
+    match expected {
+        Some(expected) => {
+            let line = line_of(alloc, text, expected, place)?;
+            out.extend_from_slice(&line)
+        }
+        None => Ok(()),
+    }
+}
+
+/// Where the node begins in which something else is expected; 0 where that isn't known.
+pub(crate) fn place_of_node(expected: &Option<Expected>) -> usize
+    ensures { result ≡ place_of_node expected.now }
+{
+    match expected {
+        Some(expected) => expected.place(),
+        None => 0,
+    }
+}
+
+/// Adds the keyword of that node, and what is found at a place; nothing for either where it isn't known what could come.
+pub(crate) fn push_found(
+    alloc: Global,
+    text: &[u8],
+    place: usize,
+    expected: &Option<Expected>,
+    out: &mut Pieces,
+) -> Result<(), AllocError>
+    ensures { OnOk result (out.new ≡ out.old ++ node_piece text.now expected.now ∷ found_piece text.now place expected.now ∷ []) }
+{
+    let node = node_text(alloc, text, expected)?;
+    let found = found_text(alloc, text, place, expected)?;
+    out.push(&node)?;
+    out.push(&found)?;
+    Ok(())
+}
+
+// The keyword of the node.
+fn node_text(
+    alloc: Global,
+    text: &[u8],
+    expected: &Option<Expected>,
+) -> Result<Vec<u8>, AllocError>
+    ensures { IfOk result (λ node. node.items ≡ node_piece text.now expected.now) }
+{
+    let mut node = Vec::new(alloc);
+    if let Some(expected) = expected {
+        append_word_of(
+            alloc,
+            rest_of(text, expected.place()),
+            expected.parent(),
+            &mut node,
+        )?;
+    }
+    Ok(node)
+}
+
+// What is found at a place.
+fn found_text(
+    alloc: Global,
+    text: &[u8],
+    place: usize,
+    expected: &Option<Expected>,
+) -> Result<Vec<u8>, AllocError>
+    ensures { IfOk result (λ found. found.items ≡ found_piece text.now place expected.now) }
+{
+    let mut found = Vec::new(alloc);
+    if expected.is_some() {
+        append_found(alloc, rest_of(text, place), &mut found)?;
+    }
+    Ok(found)
+}
+
+/// Adds the name of each class that could come.
+pub(crate) fn push_expected(
+    alloc: Global,
+    expected: &Option<Expected>,
+    out: &mut Pieces,
+) -> Result<(), AllocError>
+    ensures { OnOk result (out.new ≡ out.old ++ expected_names expected.now) }
+{
+    match expected {
+        Some(expected) => {
+            let may_come = classes_in(alloc, expected)?;
+            push_names(&may_come, expected.may_end(), out)
+        }
+        None => Ok(()),
+    }
 }
 
 fn line_of(
@@ -174,9 +228,24 @@ fn append_parent(
         None => Ok(()),
         Some(_) => {
             out.extend_from_slice(b"in ")?;
-            append_name(alloc, word_at(there), out)?;
+            append_word_of(alloc, there, parent, out)?;
             out.extend_from_slice(b" ")
         }
+    }
+}
+
+// `GEOGCRS`, or nothing where the text is of no class.
+fn append_word_of(
+    alloc: Global,
+    there: &[u8],
+    parent: Option<Class>,
+    out: &mut Vec<u8>,
+) -> Result<(), AllocError>
+    ensures { OnOk result (out.new.items ≡ out.old.items ++ node_word parent there.now) }
+{
+    match parent {
+        None => Ok(()),
+        Some(_) => append_name(alloc, word_at(there), out),
     }
 }
 

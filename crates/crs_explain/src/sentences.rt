@@ -1,14 +1,59 @@
-//! What is open or was meant, what a number means, and hints: a line each.
-ghost use Rattle.std.specs.Prelude.{◌≡◌, ◌++◌, ◌≤◌, IfOk, OnOk, length, map};
-ghost use Rattle.crs_explain.specs.Explained.{AreSentences, IsLine, IsLineIfAny};
+//! What is open or was meant, what a number means, and hints.
+ghost use Rattle.std.specs.Prelude.{◌≡◌, ◌++◌, ◌∷◌, ◌≤◌, [], IfOk, OnOk, length, map};
+ghost use Rattle.crs_explain.specs.Explained.{AreSentences, AreWords, line_if_any, sentence_lines};
 ghost use Rattle.crs_explain.specs.Lines.{in_line};
 
+use crate::pieces::Pieces;
 use crs_hint::{hints, meaning, opened};
 use crs_text::{Keyword, Refusal, open_delimiter};
 use std::alloc::{AllocError, Global};
+use std::marker::Model;
 
 // The most bytes of a line.
 const MOST: usize = 1000;
+
+/// What is open, or was meant; what the number means; and hints. No bytes where nothing is to be said.
+#[derive(Drop)]
+pub(crate) struct SentenceTexts {
+    open_or_meant: Vec<u8>,
+    meaning: Vec<u8>,
+    hints: Vec<u8>,
+}
+
+impl Model for SentenceTexts {
+    ghost use Rattle.crs_explain.specs.Explained.{Sentences};
+
+    ghost Value = { Sentences };
+
+    ghost view = { λ s. record {
+      open_or_meant = s.open_or_meant.items;
+      meaning = s.meaning.items;
+      hints = s.hints.items;
+    } };
+}
+
+impl SentenceTexts {
+    /// Appends them, a line each.
+    pub(crate) fn append_lines(&self, out: &mut Vec<u8>) -> Result<(), AllocError>
+        ensures { OnOk result (out.new.items ≡ out.old.items ++ sentence_lines self.now) }
+    {
+        append_line_if_any(&self.open_or_meant, out)?;
+        append_line(&self.meaning, out)?;
+        append_line_if_any(&self.hints, out)?;
+        Ok(())
+    }
+
+    /// Adds each of them to pieces.
+    pub(crate) fn push(&self, out: &mut Pieces) -> Result<(), AllocError>
+        ensures { OnOk result (out.new ≡ out.old
+            ++ self.now.open_or_meant ∷ self.now.meaning ∷ self.now.hints ∷ []) }
+    {
+        out.push(&self.open_or_meant)?;
+        out.push(&self.meaning)?;
+        out.push(&self.hints)?;
+        Ok(())
+    }
+}
 
 /// What is open, or was meant, what the number means, and the hints.
 pub(crate) fn sentences(
@@ -16,51 +61,57 @@ pub(crate) fn sentences(
     text: &[u8],
     refusal: Refusal,
     near: Option<Keyword>,
-) -> Result<Vec<u8>, AllocError>
-    ensures { IfOk result (λ told. AreSentences told.items) }
+) -> Result<SentenceTexts, AllocError>
+    ensures { IfOk result AreSentences }
 {
     let hints = hints(alloc, text, refusal.number(), refusal.place())?;
     let near = if hints.is_empty() { near } else { None };
     let before = open_or_meant(alloc, text, refusal, near)?;
-    three_lines(alloc, &before, meaning(refusal.number()).as_bytes(), &hints)
+    in_lines(alloc, &before, meaning(refusal.number()).as_bytes(), &hints)
 }
 
-// The lines of what is open or was meant, of what the number means, and of hints.
-fn three_lines(
+// Each of them as the words of a line.
+fn in_lines(
     alloc: Global,
-    before: &[u8],
+    open_or_meant: &[u8],
     meaning: &[u8],
     hints: &[u8],
-) -> Result<Vec<u8>, AllocError>
-    ensures { IfOk result (λ told. AreSentences told.items) }
+) -> Result<SentenceTexts, AllocError>
+    ensures { IfOk result AreSentences }
 {
-    let before = line_if_any(alloc, before)?;
-    let meaning = line(alloc, meaning)?;
-    let hints = line_if_any(alloc, hints)?;
-    let mut out = Vec::new(alloc);
-    out.extend_from_slice(&before)?;
-    out.extend_from_slice(&meaning)?;
-    out.extend_from_slice(&hints)?;
-    Ok(out)
+    let open_or_meant = words_of(alloc, open_or_meant)?;
+    let meaning = words_of(alloc, meaning)?;
+    let hints = words_of(alloc, hints)?;
+    Ok(SentenceTexts {
+        open_or_meant,
+        meaning,
+        hints,
+    })
 }
 
-fn line_if_any(alloc: Global, words: &[u8]) -> Result<Vec<u8>, AllocError>
-    ensures { IfOk result (λ line. IsLineIfAny line.items) }
+fn append_line_if_any(words: &[u8], out: &mut Vec<u8>) -> Result<(), AllocError>
+    ensures { OnOk result (out.new.items ≡ out.old.items ++ line_if_any words.now) }
 {
     if words.is_empty() {
-        return Ok(Vec::new(alloc));
+        return Ok(());
     }
-    let line = line(alloc, words)?;
-    Ok(line)
+    append_line(words, out)
 }
 
-// Words as a line: the first of them, with blanks for line feeds.
-fn line(alloc: Global, words: &[u8]) -> Result<Vec<u8>, AllocError>
-    ensures { IfOk result (λ line. IsLine line.items) }
+fn append_line(words: &[u8], out: &mut Vec<u8>) -> Result<(), AllocError>
+    ensures { OnOk result (out.new.items ≡ out.old.items ++ (words.now ++ 10 ∷ [])) }
+{
+    out.extend_from_slice(words)?;
+    out.extend_from_slice(b"\n")?;
+    Ok(())
+}
+
+// The words of a line: the first of these, with blanks for line feeds.
+fn words_of(alloc: Global, words: &[u8]) -> Result<Vec<u8>, AllocError>
+    ensures { IfOk result (λ line. AreWords line.items) }
 {
     let mut line = Vec::new(alloc);
     append_in_line(shortened(words), &mut line)?;
-    line.extend_from_slice(b"\n")?;
     Ok(line)
 }
 

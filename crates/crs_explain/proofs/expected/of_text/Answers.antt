@@ -1,12 +1,9 @@
 use Rattle.crs_explain.proofs.PartLemmas.{of_item, of_refused}
 use Rattle.crs_explain.proofs.expected.of_text.Goals as goal
 
-pub returns-in_ok-told-in-Ok : goal.returns-in_ok-told-in-Ok
-returns-in_ok-told-in-Ok c =
-    of_item c.args.text.now c.in_ok-told-in-Ok.told.line.items c.args.place _ c.one_answer.ensures.node c.in-Ok.ensures
-    c.in_ok-told-in-Ok.ensures
+pub returns-in-Ok : goal.returns-in-Ok
+returns-in-Ok c = of_item c.args.text.now _ c.expected.result c.one_answer.ensures.node c.in-Ok.ensures c.expected.ensures
 
 pub returns-in-Err-Refused : goal.returns-in-Err-Refused
 returns-in-Err-Refused c =
-    of_refused c.args.text.now c.nothing.result.line.items c.args.place _ _ c.one_answer.ensures.apart
-    (rw c.in-Err-Refused.field-0-is at c.in-Err-Refused.ensures) c.nothing.ensures
+    of_refused c.args.text.now _ _ c.one_answer.ensures.apart (rw c.in-Err-Refused.field-0-is at c.in-Err-Refused.ensures)

@@ -1,0 +1,58 @@
+-- Texts one after the other, and one more.
+use Rattle.std.proofs.Common.{◌≡◌, ◌+◌, ◌-◌, ◌++◌, ◌∷◌, [], ℕ, List, length, take, drop, refl, sym, ap, ◌∙◌, append_assoc, append-nil, arith}
+use Rattle.std.proofs.lemmas.List.{take_at, drop_at, length-append}
+use Rattle.crs_explain.specs.Cut.{cut}
+use Rattle.crs_explain.specs.Pieces.{ends_from, joined}
+
+-- texts are what is cut where they end
+pub cut_joined : (place : ℕ) (texts : List (List ℕ)) → cut place (joined texts) (ends_from place texts) ≡ texts
+cut_joined place [] = refl
+cut_joined place (text ∷ texts) =
+    let long : (place + length text) - place ≡ length text = omega arith in
+    let front : take (length text) (text ++ joined texts) ≡ text = take_at text (joined texts) (length text) refl in
+    let rest : drop (length text) (text ++ joined texts) ≡ joined texts = drop_at text (joined texts) (length text) refl in
+    rw (long, front, rest, cut_joined (place + length text) texts) refl
+
+-- one more text is behind the others
+pub joined_more : (texts : List (List ℕ)) (text : List ℕ) → joined (texts ++ text ∷ []) ≡ joined texts ++ text
+joined_more [] text = append-nil text
+joined_more (first ∷ texts) text =
+    ap (λ z. first ++ z) (joined_more texts text) ∙ sym (append_assoc first (joined texts) text)
+
+-- and it ends where all of them do
+pub ends_more : (place : ℕ) (texts : List (List ℕ)) (text : List ℕ) →
+    ends_from place (texts ++ text ∷ []) ≡ ends_from place texts ++ (place + length (joined texts ++ text)) ∷ []
+ends_more place [] text = refl
+ends_more place (first ∷ texts) text =
+    let long : (place + length first) + length (joined texts ++ text) ≡ place + length ((first ++ joined texts) ++ text) =
+    rw (append_assoc first (joined texts) text, length-append first (joined texts ++ text)) (omega arith) in
+    rw (ends_more (place + length first) texts text, long) refl
+
+-- bytes and ends that were cut into texts, with one text more
+pub more : (bytes ends new_bytes new_ends text : List ℕ) →
+    bytes ≡ joined (cut 0 bytes ends) → ends ≡ ends_from 0 (cut 0 bytes ends) →
+    new_bytes ≡ bytes ++ text → new_ends ≡ ends ++ length new_bytes ∷ [] →
+    cut 0 new_bytes new_ends ≡ cut 0 bytes ends ++ text ∷ []
+more bytes ends new_bytes new_ends text laid ended e f =
+    let texts = cut 0 bytes ends in
+    let whole : new_bytes ≡ joined (texts ++ text ∷ []) =
+    e ∙ ap (λ z. z ++ text) laid ∙ sym (joined_more texts text) in
+    let long : length new_bytes ≡ length (joined texts ++ text) = ap length (e ∙ ap (λ z. z ++ text) laid) in
+    let all : new_ends ≡ ends_from 0 (texts ++ text ∷ []) =
+    f ∙ ap (λ z. z ++ length new_bytes ∷ []) ended ∙ ap (λ z. ends_from 0 texts ++ z ∷ []) long
+    ∙ sym (ends_more 0 texts text) in
+    ap (λ z. cut 0 z new_ends) whole ∙ ap (λ z. cut 0 (joined (texts ++ text ∷ [])) z) all ∙ cut_joined 0 (texts ++ text ∷ [])
+
+-- they are cut into texts again
+pub invariant_more : (bytes ends new_bytes new_ends text : List ℕ) →
+    bytes ≡ joined (cut 0 bytes ends) → ends ≡ ends_from 0 (cut 0 bytes ends) →
+    new_bytes ≡ bytes ++ text → new_ends ≡ ends ++ length new_bytes ∷ [] →
+    (new_bytes ≡ joined (cut 0 new_bytes new_ends)) × (new_ends ≡ ends_from 0 (cut 0 new_bytes new_ends))
+invariant_more bytes ends new_bytes new_ends text laid ended e f =
+    let texts = cut 0 bytes ends in
+    let is = more bytes ends new_bytes new_ends text laid ended e f in
+    let long : length new_bytes ≡ length (joined texts ++ text) = ap length (e ∙ ap (λ z. z ++ text) laid) in (
+      e ∙ ap (λ z. z ++ text) laid ∙ sym (joined_more texts text) ∙ ap joined (sym is),
+      f ∙ ap (λ z. z ++ length new_bytes ∷ []) ended ∙ ap (λ z. ends_from 0 texts ++ z ∷ []) long
+          ∙ sym (ends_more 0 texts text) ∙ ap (ends_from 0) (sym is),
+    )

@@ -1,0 +1,56 @@
+//! All that is explained of a refusal.
+ghost use Rattle.std.specs.Prelude.{◌≤◌, IfOk, length};
+ghost use Rattle.crs_explain.specs.Explained.{Explains};
+
+use crate::excerpt::excerpt;
+use crate::expected::{expectation, meant_at};
+use crate::sentences::{SentenceTexts, sentences};
+use crs_shape::Expected;
+use crs_text::{Position, Refusal, position_of};
+use std::alloc::{AllocError, Global};
+use std::marker::Model;
+
+/// What is explained of a refusal. Profile.
+#[derive(Drop)]
+pub(crate) struct ExplanationOf {
+    pub(crate) position: Position,
+    /// The piece of the line and the caret, a line each.
+    pub(crate) excerpt: Vec<u8>,
+    pub(crate) expected: Option<Expected>,
+    pub(crate) sentences: SentenceTexts,
+}
+
+impl Model for ExplanationOf {
+    ghost use Rattle.crs_explain.specs.Explained.{Explanation};
+
+    ghost Value = { Explanation };
+
+    ghost view = { λ e. record {
+      position = e.position;
+      excerpt = e.excerpt.items;
+      expected = e.expected;
+      sentences = e.sentences;
+    } };
+}
+
+/// The explanation of a text's refusal. Time is linear in the text.
+pub(crate) fn explanation(
+    alloc: Global,
+    text: &[u8],
+    refusal: Refusal,
+) -> Result<ExplanationOf, AllocError>
+    requires { refusal.place ≤ length text.now }
+    ensures { IfOk result (Explains text.now refusal) }
+{
+    let (number, place) = (refusal.number(), refusal.place());
+    let position = position_of(text, place);
+    let excerpt = excerpt(alloc, text, place)?;
+    let expected = expectation(alloc, text, number)?;
+    let sentences = sentences(alloc, text, refusal, meant_at(text, place, &expected))?;
+    Ok(ExplanationOf {
+        position,
+        excerpt,
+        expected,
+        sentences,
+    })
+}

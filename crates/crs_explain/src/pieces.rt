@@ -1,0 +1,76 @@
+//! Texts one after the other, and where each ends.
+ghost use Rattle.std.specs.Prelude.{◌≡◌, ◌++◌, ◌∷◌, [], OnErr, OnOk, length};
+ghost use Rattle.crs_explain.specs.Pieces.{ends_from, joined};
+
+use std::alloc::{AllocError, Global};
+use std::marker::Model;
+
+/// Texts in one buffer, one after the other, and where each ends: answers as data, for callers that hold no lists of
+/// lists. Profile.
+#[derive(Drop)]
+pub struct Pieces {
+    bytes: Vec<u8>,
+    ends: Vec<usize>,
+}
+
+impl Model for Pieces {
+    ghost use Rattle.std.specs.Prelude.{◌≡◌, ℕ, List};
+    ghost use Rattle.crs_explain.specs.Cut.{cut};
+    ghost use Rattle.crs_explain.specs.Pieces.{ends_from, joined};
+
+    ghost Value = { List (List ℕ) };
+
+    ghost view = { λ p. cut 0 p.bytes.items p.ends.items };
+
+    ghost invariant = { λ p. (p.bytes.items ≡ joined (cut 0 p.bytes.items p.ends.items))
+        × (p.ends.items ≡ ends_from 0 (cut 0 p.bytes.items p.ends.items)) };
+}
+
+impl Pieces {
+    /// All texts, one after the other.
+    pub fn bytes(&self) -> &[u8]
+        ensures { result.now ≡ joined self.now }
+    {
+        &self.bytes
+    }
+
+    /// Where each ends, counted from the beginning of the first.
+    pub fn ends(&self) -> &[usize]
+        ensures { result.now ≡ ends_from 0 self.now }
+    {
+        &self.ends
+    }
+
+    pub(crate) fn new(alloc: Global) -> Pieces
+        ensures { result ≡ [] }
+    {
+        Pieces {
+            bytes: Vec::new(alloc),
+            ends: Vec::new(alloc),
+        }
+    }
+
+    // Adds a text behind the others.
+    pub(crate) fn push(&mut self, text: &[u8]) -> Result<(), AllocError>
+        ensures { OnOk result (self.new ≡ self.old ++ text.now ∷ []) }
+    {
+        append_piece(text, &mut self.bytes, &mut self.ends)
+    }
+}
+
+// Adds a text and where it ends, or neither. The room for the end is asked for first, so that the last push can't fail.
+fn append_piece(
+    text: &[u8],
+    bytes: &mut Vec<u8>,
+    ends: &mut Vec<usize>,
+) -> Result<(), AllocError>
+    ensures bytes { OnOk result (bytes.new.items ≡ bytes.old.items ++ text.now) }
+    ensures ends { OnOk result (ends.new.items ≡ ends.old.items ++ length bytes.new.items ∷ []) }
+    ensures as_before { OnErr result (bytes.new.items ≡ bytes.old.items) }
+    ensures no_end { OnErr result (ends.new.items ≡ ends.old.items) }
+{
+    ends.reserve(1)?;
+    bytes.extend_from_slice(text)?;
+    ends.push(bytes.len())?;
+    Ok(())
+}
