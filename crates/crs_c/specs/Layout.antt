@@ -3,12 +3,16 @@ use prog.Memory.{size, align}
 use denote.Param.{layout}
 use Rattle.std.specs.Prelude.{replicate}
 use Rattle.crs_c.specs.declared.layout.Sizes.{Sizes}
+use Rattle.crs_c.specs.declared.canon_each.Entry.{Entry}
+use Rattle.crs_c.specs.declared.refusal_pieces.Explained.{Explained}
 use Rattle.crs_c.specs.declared.refused.Refused.{Refused}
 use Rattle.crs_c.specs.declared.catalogue_answers.Numbered.{Numbered}
 use Rattle.crs_c.specs.declared.piece.Piece.{Piece}
 use Rattle.crs_c.specs.declared.catalogue_answers.Standing.{Standing}
 use Rattle.crs_c.specs.declared.rules_answers.Form.{Form}
 use Rattle.crs_c.specs.declared.rules_answers.RulesStanding.{RulesStanding}
+use Rattle.crs_c.specs.contracts.canon_each.Entry as entry
+use Rattle.crs_c.specs.contracts.refusal_pieces.Explained as explained
 use Rattle.crs_c.specs.contracts.refused.Refused as refused
 use Rattle.crs_c.specs.contracts.catalogue_answers.Standing as standing
 use Rattle.crs_c.specs.contracts.catalogue_answers.Numbered as numbered
@@ -32,6 +36,8 @@ sizes =
       piece = size (layout piece.the_row);
       rules_standing = size (layout rules_standing.the_row);
       form = size (layout form.the_row);
+      explained = size (layout explained.the_row);
+      entry = size (layout entry.the_row);
     }
 
 -- a refusal with a mark in each field
@@ -65,3 +71,23 @@ marked_rules_standing = record {
 abbrev pub marked_form : Form
 marked_form =
     record { length = 5555555555555555556; refused = marked_refusal; code = 4000000011 }
+
+-- a refusal and its place as a person counts, with a mark in each field
+abbrev pub marked_explained : Explained
+marked_explained = record {
+  refused = marked_refusal;
+  line = 1111111111111111113;
+  column = 2222222222222222224;
+  node = 3333333333333333335;
+}
+
+-- a text of many, with a mark in each field
+abbrev pub marked_entry : Entry
+marked_entry = record {
+  begin = 1111111111111111114;
+  end = 2222222222222222225;
+  written_end = 3333333333333333336;
+  place = 4444444444444444445;
+  number = 2222222226;
+  code = 4000000012;
+}

@@ -1,12 +1,15 @@
 //! How the structs that C shares with the library are laid out in memory. `layout.c` compares it with the header when
 //! the library is built; the finished library doesn't export these calls.
 ghost use Rattle.std.specs.Prelude.{◌≡◌};
-ghost use Rattle.crs_c.specs.Layout.{marked_form, marked_line, marked_piece, marked_refusal};
+ghost use Rattle.crs_c.specs.Layout.{marked_entry, marked_explained, marked_form, marked_line};
+ghost use Rattle.crs_c.specs.Layout.{marked_piece, marked_refusal};
 ghost use Rattle.crs_c.specs.Layout.{marked_rules_standing, marked_standing, sizes};
 
+use crate::canon_each::Entry;
 use crate::catalogue_answers::{Numbered, Standing};
 use crate::held_rules::HeldRules;
 use crate::piece::Piece;
+use crate::refusal_pieces::Explained;
 use crate::refused::Refused;
 use crate::rules_answers::{Form, RulesStanding};
 use crs_group::Catalogue;
@@ -36,6 +39,10 @@ pub struct Sizes {
     pub rules_standing: usize,
     /// `struct crsdesk_form`.
     pub form: usize,
+    /// `struct crsdesk_explained`.
+    pub explained: usize,
+    /// `struct crsdesk_entry`.
+    pub entry: usize,
 }
 
 /// The sizes.
@@ -54,6 +61,8 @@ pub extern "C" fn crsdesk_layout_sizes() -> Sizes
         piece: size_of::<Piece>(),
         rules_standing: size_of::<RulesStanding>(),
         form: size_of::<Form>(),
+        explained: size_of::<Explained>(),
+        entry: size_of::<Entry>(),
     }
 }
 
@@ -125,5 +134,33 @@ pub extern "C" fn crsdesk_layout_form() -> Form
         length: 5_555_555_555_555_555_556,
         refused: crsdesk_layout_refusal(),
         code: 4_000_000_011,
+    }
+}
+
+/// A refusal and its place as a person counts, with a mark in each field.
+#[unsafe(no_mangle)]
+pub extern "C" fn crsdesk_layout_explained() -> Explained
+    ensures { result ≡ marked_explained }
+{
+    Explained {
+        refused: crsdesk_layout_refusal(),
+        line: 1_111_111_111_111_111_113,
+        column: 2_222_222_222_222_222_224,
+        node: 3_333_333_333_333_333_335,
+    }
+}
+
+/// A text of many, with a mark in each field.
+#[unsafe(no_mangle)]
+pub extern "C" fn crsdesk_layout_entry() -> Entry
+    ensures { result ≡ marked_entry }
+{
+    Entry {
+        begin: 1_111_111_111_111_111_114,
+        end: 2_222_222_222_222_222_225,
+        written_end: 3_333_333_333_333_333_336,
+        place: 4_444_444_444_444_444_445,
+        number: 2_222_222_226,
+        code: 4_000_000_012,
     }
 }

@@ -19,7 +19,7 @@ pub struct Piece {
 pub(crate) fn piece_of(text: &[u8], from: usize) -> Piece
     ensures { IsPiece from result text.now }
 {
-    let piece = front_of(rest_of(text, from));
+    let piece = front_of(rest_of(text, from), 240);
     let mut bytes = [0; 240];
     let (front, _) = bytes.split_at_mut(piece.len());
     front.copy_from_slice(piece);
@@ -30,8 +30,9 @@ pub(crate) fn piece_of(text: &[u8], from: usize) -> Piece
     }
 }
 
+// The bytes from an index on.
 #[tactic(auto, using(std::proofs::lemmas::List::drop_all))]
-fn rest_of(text: &[u8], from: usize) -> &[u8]
+pub(crate) fn rest_of(text: &[u8], from: usize) -> &[u8]
     ensures { result.now ≡ drop from text.now }
 {
     if from >= text.len() {
@@ -41,13 +42,14 @@ fn rest_of(text: &[u8], from: usize) -> &[u8]
     rest
 }
 
-fn front_of(text: &[u8]) -> &[u8]
-    ensures value { result.now ≡ take 240 text.now }
-    ensures at_most { length result.now ≤ 240 }
+// The first bytes, so many at most.
+pub(crate) fn front_of(text: &[u8], most: usize) -> &[u8]
+    ensures value { result.now ≡ take most text.now }
+    ensures at_most { length result.now ≤ most }
 {
-    if text.len() <= 240 {
+    if text.len() <= most {
         return text;
     }
-    let (front, _) = text.split_at(240);
+    let (front, _) = text.split_at(most);
     front
 }

@@ -1,0 +1,115 @@
+//! All parts in which two texts differ, as data.
+ghost use Rattle.std.specs.Prelude.{MatchResult};
+ghost use Rattle.crs_value.specs.SpellsText.{IsFaultOfText};
+ghost use Rattle.crs_c.specs.Comparison.{ArePiecesBehind};
+ghost use Rattle.crs_c.specs.ExplainPieces.{IsDifferencePiecesAnswer};
+ghost use Rattle.crs_c.specs.PieceBuffers.{GivesPieces};
+ghost use Rattle.crs_explain.specs.Differing.{AreDifferencePieces};
+ghost use Rattle.crs_c.specs.Pairs.{IsPairAnswer, IsSecondAnswer};
+
+use crate::codes::{NO_LEVEL, REFUSED, SECOND_REFUSED, level_numbered};
+use crate::piece_buffers::give_pieces;
+use crate::refused::{Refused, tell};
+use crs_explain::{Pieces, difference_pieces};
+use crs_text::Fault;
+use crs_value::{Crs, Level, read};
+use std::alloc::Global;
+
+/// All parts in which the CRSs of two texts differ at a level, three pieces each: the path, and the values in the first
+/// and in the second, with nothing escaped and no bytes where there is no value. No pieces exactly where they are the
+/// same.
+///
+/// 0: each spells a CRS; the bytes of all pieces are at the front of `out`, one after the other, and where each ends at
+/// the front of `ends`; `length` and `count` are their numbers. 1: the first spells none, and `refused` says why. 2: the
+/// first spells a CRS and the second none, and `refused` says why. 3: memory was refused. 4: there is no such level. 5:
+/// there are more bytes than `out` or more pieces than `ends` has room for; `length` and `count` are their numbers, and a
+/// buffer with the room has what it has with 0. What a code doesn't mention is as before. Profile.
+#[unsafe(no_mangle)]
+pub extern "C" fn crsdesk_difference_pieces(
+    alloc: Global,
+    first: &[u8],
+    second: &[u8],
+    level: u32,
+    out: &mut [u8],
+    length: &mut usize,
+    ends: &mut [usize],
+    count: &mut usize,
+    refused: &mut Refused,
+) -> u32
+    ensures { IsDifferencePiecesAnswer level first.now second.now
+        (record { answer = record { bytes = record { items = out.old; told = length.old }; ends = record { items = ends.old; told = count.old } }; refused = refused.old })
+        (record { answer = record { bytes = record { items = out.new; told = length.new }; ends = record { items = ends.new; told = count.new } }; refused = refused.new })
+        result }
+{
+    match level_numbered(level) {
+        Some(level) => pieces_at(
+            alloc, first, second, level, out, length, ends, count, refused,
+        ),
+        None => NO_LEVEL,
+    }
+}
+
+#[tactic(auto, unfolding(crate::specs::Pairs::IsPairAnswer))]
+fn pieces_at<'t>(
+    alloc: Global,
+    first: &'t [u8],
+    second: &'t [u8],
+    level: Level,
+    out: &mut [u8],
+    length: &mut usize,
+    ends: &mut [usize],
+    count: &mut usize,
+    refused: &mut Refused,
+) -> u32
+    ensures { IsPairAnswer (λ a b. GivesPieces (AreDifferencePieces level a b)) first.now second.now
+        (record { answer = record { bytes = record { items = out.old; told = length.old }; ends = record { items = ends.old; told = count.old } }; refused = refused.old })
+        (record { answer = record { bytes = record { items = out.new; told = length.new }; ends = record { items = ends.new; told = count.new } }; refused = refused.new })
+        result }
+{
+    match read(alloc, first) {
+        Ok(crs) => second_pieces(
+            alloc, &crs, second, level, out, length, ends, count, refused,
+        ),
+        Err(fault) => tell(fault, REFUSED, refused),
+    }
+}
+
+// The second text, where the first spells a CRS.
+#[tactic(auto, unfolding(crate::specs::Pairs::IsSecondAnswer))]
+fn second_pieces<'t>(
+    alloc: Global,
+    first: &Crs<'t>,
+    second: &'t [u8],
+    level: Level,
+    out: &mut [u8],
+    length: &mut usize,
+    ends: &mut [usize],
+    count: &mut usize,
+    refused: &mut Refused,
+) -> u32
+    ensures { IsSecondAnswer (λ b. GivesPieces (AreDifferencePieces level first.now b)) second.now
+        (record { answer = record { bytes = record { items = out.old; told = length.old }; ends = record { items = ends.old; told = count.old } }; refused = refused.old })
+        (record { answer = record { bytes = record { items = out.new; told = length.new }; ends = record { items = ends.new; told = count.new } }; refused = refused.new })
+        result }
+{
+    match pieces_with(alloc, first, second, level) {
+        Ok(pieces) => give_pieces(&pieces, out, length, ends, count),
+        Err(fault) => tell(fault, SECOND_REFUSED, refused),
+    }
+}
+
+// The pieces of a CRS and of a text that spells another or the same.
+fn pieces_with<'t>(
+    alloc: Global,
+    first: &Crs<'t>,
+    second: &'t [u8],
+    level: Level,
+) -> Result<Pieces, Fault>
+    ensures { MatchResult result (ArePiecesBehind level second.now first.now) (IsFaultOfText second.now) }
+{
+    let crs = read(alloc, second)?;
+    match difference_pieces(alloc, first, &crs, level) {
+        Ok(pieces) => Ok(pieces),
+        Err(error) => Err(Fault::Memory(error)),
+    }
+}
