@@ -12,16 +12,18 @@
    ANSWERS go to places that the caller gives. A text that is answered goes into a buffer of the caller's, `out`, which
    has room for `room` bytes, and its number of bytes into `*length`; no NUL byte is written after it. Where it has
    more bytes than there is room, the call answers CRSDESK_NO_ROOM, writes nothing into the buffer, and `*length` is the
-   room that is needed: make it and call again. Nothing that a call answers must be freed. Catalogues and rules alone hold
-   memory, until crsdesk_catalogue_free and crsdesk_rules_free.
+   room that is needed: make it and call again. Several texts are PIECES: their bytes go into `out`, one after the other,
+   and where each ends into `ends`, an array with room for `most` numbers; the first begins at 0, each other where the one
+   before ends, and `*count` is how many they are. Nothing that a call answers must be freed. Catalogues and rules alone
+   hold memory, until crsdesk_catalogue_free and crsdesk_rules_free.
 
    CODES: each call that can fail returns CRSDESK_OK, or another code below. A call changes at its pointers only what is
    said of the code that it returns.
 
    THE CALLER KEEPS to these, which nothing checks:
    - no pointer is null, even where its length or room is 0;
-   - each text, and each buffer, has as many bytes as the call is told, at most PTRDIFF_MAX; `numbers` of
-     crsdesk_catalogue_lines has room for as many numbers;
+   - each text, and each buffer, has as many bytes as the call is told, at most PTRDIFF_MAX; `ends`, `entries` and
+     `numbers` have room for as many elements, of at most PTRDIFF_MAX bytes together;
    - what a call writes to overlaps nothing else that it was given, and no other thread uses it during the call; a text
      isn't changed during the call. Each call writes to the catalogue or the rules that it is given, even one that only
      asks; crsdesk_catalogue_lines, crsdesk_catalogue_text and crsdesk_canon_under, which are inline, call others several
@@ -101,6 +103,29 @@ uint32_t crsdesk_check(const char *text, size_t text_length, uint32_t *kind, str
 uint32_t crsdesk_canon(const char *text, size_t text_length, uint32_t level, char *out, size_t room, size_t *length,
                   struct crsdesk_refusal *refusal);
 
+/* One of many texts. */
+struct crsdesk_entry {
+    size_t begin;       /* the caller's: where it begins among the bytes of all texts */
+    size_t end;         /* the caller's: where it ends */
+    size_t written_end; /* where its canonical text ends in `out`; it begins where the one before ends, or at 0 */
+    size_t place;       /* where it is refused, in bytes from its own first, with CRSDESK_REFUSED; else 0 */
+    uint32_t number;    /* and why */
+    uint32_t code;      /* CRSDESK_OK or CRSDESK_REFUSED */
+};
+
+/* The canonical texts, at a level, of many texts: what crsdesk_canon answers for each, in one call. The texts are in one
+   buffer, in any order, with anything between; a text that ends behind the buffer, or before it begins, is what there is
+   of it. Their canonical texts go into `out`, one after the other; a refused text has none. *done is how many entries are
+   answered, from the first on; all others, and the rest of `out`, are as before.
+
+   CRSDESK_OK: all are answered.
+   CRSDESK_NO_ROOM: the canonical text of the next entry has more bytes than are left of `out`.
+   CRSDESK_NO_MEMORY: memory was refused for the next entry.
+   CRSDESK_NO_LEVEL.
+   To go on, call again with the entries from the next on, and with an `out` that has room for the next text at least. */
+uint32_t crsdesk_canon_each(const char *texts, size_t texts_length, struct crsdesk_entry *entries, size_t count,
+                       uint32_t level, char *out, size_t room, size_t *done);
+
 /* Whether two texts spell the same CRS at a level.
 
    CRSDESK_OK: each spells a CRS; *same is 1 where they are the same, else 0.
@@ -150,6 +175,49 @@ uint32_t crsdesk_differences(const char *first, size_t first_length, const char 
    CRSDESK_NO_ROOM: they have more bytes than the buffer; *length is their number.
    CRSDESK_NO_MEMORY. */
 uint32_t crsdesk_explain(const char *text, size_t text_length, char *out, size_t room, size_t *length);
+
+/* The parts of crsdesk_differences as PIECES, three for each part: its path, its value in the first and its value in the
+   second. Nothing is escaped, and a missing value has no bytes. No pieces exactly where the CRSs are the same.
+
+   CRSDESK_OK: each text spells a CRS; the buffers begin with the pieces.
+   CRSDESK_REFUSED: the first spells none; *refusal says why. The second wasn't judged.
+   CRSDESK_SECOND_REFUSED: the first spells a CRS and the second none; *refusal says why the second doesn't.
+   CRSDESK_NO_ROOM: there are more bytes than room, or more pieces than most; *length and *count are their numbers. A
+       buffer that has the room begins with what it has with CRSDESK_OK.
+   CRSDESK_NO_MEMORY, CRSDESK_NO_LEVEL. */
+uint32_t crsdesk_difference_pieces(const char *first, size_t first_length, const char *second, size_t second_length,
+                              uint32_t level, char *out, size_t room, size_t *length, size_t *ends, size_t most,
+                              size_t *count, struct crsdesk_refusal *refusal);
+
+/* Why a text spells no CRS, and where, as a person counts. */
+struct crsdesk_explained {
+    struct crsdesk_refusal refusal;
+    size_t line;   /* the line of its place, counted from 1; lines end at line feeds */
+    size_t column; /* the character of that line, counted from 1 */
+    size_t node;   /* for 11 to 13 where the node begins in which something else is expected; else 0 */
+};
+
+/* What crsdesk_explain says, as PIECES. By index they are
+
+   0  the piece of the line with a caret under the place, in two lines, each with a line feed
+   1  for a refusal of shape (11 to 13) the line of what is found and of what could come, with its line feed,
+   2  the keyword of the node in which something else is expected, and
+   3  what is found at the place
+   4  what is open there, or which keyword was meant
+   5  what the number means
+   6  hints: what the text is, and what to do with it
+   7  and on: the name of each class that could come at the place, and `its closing delimiter` where the node may end
+
+   A piece has no bytes where there is nothing to say; 4 to 6 have no line feed, and at most 1,000 bytes (proved).
+
+   CRSDESK_OK: the text spells a CRS.
+   CRSDESK_REFUSED: it spells none; *explained says why and where; the buffers begin with the pieces.
+   CRSDESK_NO_ROOM: it spells none; *explained says why and where; there are more bytes than room, or more pieces than
+       most; *length and *count are their numbers. A buffer that has the room begins with what it has with
+       CRSDESK_REFUSED.
+   CRSDESK_NO_MEMORY. */
+uint32_t crsdesk_refusal_pieces(const char *text, size_t text_length, char *out, size_t room, size_t *length,
+                           size_t *ends, size_t most, size_t *count, struct crsdesk_explained *explained);
 
 /* The name of a refusal's number, as `UnknownKeyword`. Room for 16 bytes does.
 

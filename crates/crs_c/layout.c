@@ -10,6 +10,7 @@
 /* Sizes in bytes, as the library has them. */
 struct sizes {
     size_t catalogue, alignment, rules, rules_alignment, refusal, standing, line, piece, rules_standing, form;
+    size_t explained, entry;
 };
 
 struct sizes crsdesk_layout_sizes(void);
@@ -19,6 +20,8 @@ struct crsdesk_line crsdesk_layout_line(void);
 struct crsdesk_piece crsdesk_layout_piece(void);
 struct crsdesk_rules_standing crsdesk_layout_rules_standing(void);
 struct crsdesk_form crsdesk_layout_form(void);
+struct crsdesk_explained crsdesk_layout_explained(void);
+struct crsdesk_entry crsdesk_layout_entry(void);
 
 static int differing;
 
@@ -74,6 +77,18 @@ static int is_marked_form(struct crsdesk_form it)
     return it.length == 5555555555555555556u && is_marked_refusal(it.refusal) && it.code == 4000000011u;
 }
 
+static int is_marked_explained(struct crsdesk_explained it)
+{
+    return is_marked_refusal(it.refusal) && it.line == 1111111111111111113u && it.column == 2222222222222222224u
+           && it.node == 3333333333333333335u;
+}
+
+static int is_marked_entry(struct crsdesk_entry it)
+{
+    return it.begin == 1111111111111111114u && it.end == 2222222222222222225u && it.written_end == 3333333333333333336u
+           && it.place == 4444444444444444445u && it.number == 2222222226u && it.code == 4000000012u;
+}
+
 /* Whether what the library keeps in a struct of the caller's has the room and the alignment that it needs. */
 static void holds(const char *name, size_t room, size_t alignment, size_t needed, size_t needed_alignment)
 {
@@ -106,5 +121,9 @@ int main(void)
         marks("crsdesk_rules_standing", is_marked_rules_standing(crsdesk_layout_rules_standing()));
     if (has_size("crsdesk_form", sizeof(struct crsdesk_form), sizes.form))
         marks("crsdesk_form", is_marked_form(crsdesk_layout_form()));
+    if (has_size("crsdesk_explained", sizeof(struct crsdesk_explained), sizes.explained))
+        marks("crsdesk_explained", is_marked_explained(crsdesk_layout_explained()));
+    if (has_size("crsdesk_entry", sizeof(struct crsdesk_entry), sizes.entry))
+        marks("crsdesk_entry", is_marked_entry(crsdesk_layout_entry()));
     return differing;
 }

@@ -24,10 +24,10 @@ pub struct Explained {
     pub node: usize,
 }
 
-/// Why a text spells no CRS, in pieces: the piece of the line with a caret, in two lines; of a refusal of shape the
-/// keyword of the node in which something else is expected, and what is found at the place; what is open or was meant;
-/// what the number means; hints; and then the name of each class that could come at the place. What isn't to be said
-/// has no bytes.
+/// Why a text spells no CRS, in pieces: the piece of the line with a caret, in two lines; of a refusal of shape the line
+/// of what is found and could come, the keyword of the node in which something else is expected, and what is found; what
+/// is open or was meant; what the number means; hints; and then the name of each class that could come at the place. What
+/// isn't to be said has no bytes.
 ///
 /// 0: the text spells a CRS. 1: it spells none, and `explained` says why and where; the bytes of all pieces are at the
 /// front of `out`, one after the other, and where each ends at the front of `ends`; `length` and `count` are their

@@ -63,12 +63,12 @@ abbrev pub IsExplained : List ℕ → RefusedAt → List ℕ → Type 0
 IsExplained text refusal told =
     (e : Explanation) × Explains text refusal e × (told ≡ explanation_text text refusal e)
 
--- in this order the piece of the line with the caret, the keyword of the node in which something else
--- is expected, what is found at this place, the three sentences, and the names of what could come
+-- in this order the piece of the line with the caret, the line of what could come at this place, the
+-- keyword of the node there, what is found, the three sentences, and the names of what could come
 abbrev pub pieces_told : List ℕ → ℕ → Explanation → List (List ℕ)
 pieces_told text place e =
-    e.excerpt ∷ node_piece text e.expected ∷ found_piece text place e.expected
-    ∷ e.sentences.open_or_meant ∷ e.sentences.meaning ∷ e.sentences.hints ∷ expected_names e.expected
+    e.excerpt ∷ expected_part text place e.expected ∷ node_piece text e.expected
+    ∷ found_piece text place e.expected ∷ e.sentences.open_or_meant ∷ e.sentences.meaning ∷ e.sentences.hints ∷ expected_names e.expected
 
 -- an explanation as numbers and pieces: line and column, the place of that node, and these pieces
 pub record ExplainedPieces : Type 0 where

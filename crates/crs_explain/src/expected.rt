@@ -57,22 +57,18 @@ pub(crate) fn meant_at(text: &[u8], place: usize, expected: &Option<Expected>) -
     }
 }
 
-/// Appends the line of what could come, if that is known.
-pub(crate) fn append_expected(
+/// The line of what could come; nothing where that isn't known.
+pub(crate) fn expected_text(
     alloc: Global,
     text: &[u8],
     place: usize,
     expected: &Option<Expected>,
-    out: &mut Vec<u8>,
-) -> Result<(), AllocError>
-    ensures { OnOk result (out.new.items ≡ out.old.items ++ expected_part text.now place expected.now) }
+) -> Result<Vec<u8>, AllocError>
+    ensures { IfOk result (λ part. part.items ≡ expected_part text.now place expected.now) }
 {
     match expected {
-        Some(expected) => {
-            let line = line_of(alloc, text, expected, place)?;
-            out.extend_from_slice(&line)
-        }
-        None => Ok(()),
+        Some(expected) => line_of(alloc, text, expected, place),
+        None => Ok(Vec::new(alloc)),
     }
 }
 

@@ -3,7 +3,7 @@ ghost use Rattle.std.specs.Prelude.{◌≡◌, ◌++◌, ◌≤◌, IfOk, OnOk, 
 ghost use Rattle.crs_explain.specs.Explained.{AreExplainedPieces, IsExplained};
 ghost use Rattle.crs_explain.specs.Explained.{explanation_pieces, explanation_text, pieces_told};
 
-use crate::expected::{append_expected, place_of_node, push_expected, push_found};
+use crate::expected::{expected_text, place_of_node, push_expected, push_found};
 use crate::explanation::{ExplanationOf, explanation};
 use crate::head::append_head;
 use crate::pieces::Pieces;
@@ -36,8 +36,9 @@ pub struct ExplanationPieces {
     /// Where the node begins in which something else is expected, in bytes from the text's first, which is 0; 0 for
     /// another refusal than one of shape.
     pub node: usize,
-    /// The piece of the line with the caret, in two lines; the keyword of that node; what is found at the place; what
-    /// is open or was meant; what the number means; hints; and then the names of what could come at the place.
+    /// The piece of the line with the caret, in two lines; the line of what could come at the place; the keyword of that
+    /// node; what is found at the place; what is open or was meant; what the number means; hints; and then the name of
+    /// each class that could come.
     pub pieces: Pieces,
 }
 
@@ -77,13 +78,8 @@ fn text_of(
     let mut told = Vec::new(alloc);
     append_head(refusal, explanation.position, &mut told)?;
     told.extend_from_slice(&explanation.excerpt)?;
-    append_expected(
-        alloc,
-        text,
-        refusal.place(),
-        &explanation.expected,
-        &mut told,
-    )?;
+    let expected = expected_text(alloc, text, refusal.place(), &explanation.expected)?;
+    told.extend_from_slice(&expected)?;
     explanation.sentences.append_lines(&mut told)?;
     Ok(told)
 }
@@ -115,7 +111,9 @@ fn push_pieces(
 ) -> Result<(), AllocError>
     ensures { OnOk result (out.new ≡ out.old ++ pieces_told text.now place explanation.now) }
 {
+    let line = expected_text(alloc, text, place, &explanation.expected)?;
     out.push(&explanation.excerpt)?;
+    out.push(&line)?;
     push_found(alloc, text, place, &explanation.expected, out)?;
     explanation.sentences.push(out)?;
     push_expected(alloc, &explanation.expected, out)?;

@@ -209,8 +209,8 @@ def differences(first: Text, second: Text, level: Level = "full", rules: Optiona
     The first is that of ``difference``. Raises as ``same`` does.
     """
     number = number_of(level)
-    lines = _library.differences(*compared(first, second, number, rules), number)
-    return differences_of(lines) + bound_parts(first, second)
+    pieces = _library.difference_pieces(*compared(first, second, number, rules), number)
+    return differences_of(pieces) + bound_parts(first, second)
 
 
 def compared(first: Text, second: Text, level: int, rules: Optional[Rules]) -> Tuple[bytes, bytes]:

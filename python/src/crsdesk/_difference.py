@@ -1,15 +1,12 @@
-"""A part in which two CRSs differ, as the library writes it in a line (crsdesk_differences)."""
+"""A part in which two CRSs differ."""
 
 from __future__ import annotations
 
-import re
 from dataclasses import dataclass
-from typing import List, Optional
+from typing import List, Optional, Sequence
 
-from ._shown import escaped, unescaped
+from ._shown import escaped
 
-# Between the two values, but not in a quoted text; a quote in one is doubled.
-QUOTED_OR_BETWEEN = re.compile(r'"[^"]*"| \| ')
 NOTHING = "none"
 
 
@@ -34,16 +31,8 @@ class Difference:
         return f"{self.path}: {escaped(self.first or NOTHING)} | {escaped(self.second or NOTHING)}"
 
 
-def differences_of(lines: str) -> List[Difference]:
-    """The parts of the library's lines."""
-    return [difference_of(line) for line in lines.split("\n") if line]
-
-
-def difference_of(line: str) -> Difference:
-    path, _, values = line.partition(": ")
-    between = next(match for match in QUOTED_OR_BETWEEN.finditer(values) if match[0] == " | ")
-    return Difference(path, value_of(values[: between.start()]), value_of(values[between.end() :]))
-
-
-def value_of(written: str) -> Optional[str]:
-    return None if written == NOTHING else unescaped(written)
+def differences_of(pieces: Sequence[str]) -> List[Difference]:
+    """The parts of the library's pieces (crsdesk_difference_pieces): path, first and second of each, one after the
+    other, of which a missing value is empty."""
+    parts = zip(pieces[::3], pieces[1::3], pieces[2::3])
+    return [Difference(path, first or None, second or None) for path, first, second in parts]

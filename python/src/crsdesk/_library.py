@@ -15,7 +15,7 @@ import os
 import pathlib
 from typing import Any, Callable, Dict, List, Optional, Tuple
 
-from ._refused import Refused
+from ._refused import Refused, Told
 
 # The variable that names another shared object than the package's own.
 LIBRARY = "CRSDESK_LIBRARY"
@@ -23,6 +23,8 @@ OK, REFUSED, SECOND_REFUSED, NO_MEMORY, NO_LEVEL, NO_ROOM = range(6)
 KINDS = {1: "geodetic", 2: "geographic", 3: "projected", 4: "vertical", 5: "compound"}
 # The room that is kept for answers; a longer text is given its own.
 KEPT_ROOM = 1 << 16
+# The number of pieces for which room is kept.
+KEPT_PIECES = 256
 # The lengths that are kept as they are passed; a longer one is made for its call.
 KEPT_SIZES = 4096
 
@@ -31,6 +33,30 @@ class RefusalPlace(ctypes.Structure):
     """struct crsdesk_refusal."""
 
     _fields_ = [("place", ctypes.c_size_t), ("number", ctypes.c_uint32)]
+
+
+class Explained(ctypes.Structure):
+    """struct crsdesk_explained."""
+
+    _fields_ = [
+        ("refusal", RefusalPlace),
+        ("line", ctypes.c_size_t),
+        ("column", ctypes.c_size_t),
+        ("node", ctypes.c_size_t),
+    ]
+
+
+class Entry(ctypes.Structure):
+    """struct crsdesk_entry."""
+
+    _fields_ = [
+        ("begin", ctypes.c_size_t),
+        ("end", ctypes.c_size_t),
+        ("written_end", ctypes.c_size_t),
+        ("place", ctypes.c_size_t),
+        ("number", ctypes.c_uint32),
+        ("code", ctypes.c_uint32),
+    ]
 
 
 class RulesRoom(ctypes.Structure):
@@ -65,15 +91,30 @@ class Piece(ctypes.Structure):
 class Places:
     """Where the answers of one call go."""
 
-    __slots__ = ("length", "number", "out", "refusal", "to_length", "to_number", "to_out", "to_refusal")
+    __slots__ = (
+        "count",
+        "ends",
+        "length",
+        "number",
+        "out",
+        "refusal",
+        "to_count",
+        "to_length",
+        "to_number",
+        "to_out",
+        "to_refusal",
+    )
 
     def __init__(self) -> None:
         self.out: Any = ctypes.create_string_buffer(KEPT_ROOM)
         self.to_out = ctypes.byref(self.out)
+        self.ends: Any = (ctypes.c_size_t * KEPT_PIECES)()
         self.length = ctypes.c_size_t()
+        self.count = ctypes.c_size_t()
         self.number = ctypes.c_uint32()
         self.refusal = RefusalPlace()
         self.to_length = ctypes.byref(self.length)
+        self.to_count = ctypes.byref(self.count)
         self.to_number = ctypes.byref(self.number)
         self.to_refusal = ctypes.byref(self.refusal)
 
@@ -92,8 +133,9 @@ def load() -> ctypes.CDLL:
         "canon": [],
         "same": [],
         "first_part": [],
-        "differences": [text, size, text, size],
-        "explain": [text, size],
+        "canon_each": [],
+        "difference_pieces": [text, size, text, size],
+        "refusal_pieces": [text, size],
         "refusal_name": [ctypes.c_uint32],
         "version": [],
     }
@@ -125,8 +167,9 @@ _check = LOADED.crsdesk_check
 _canon = LOADED.crsdesk_canon
 _same = LOADED.crsdesk_same
 _first_part = LOADED.crsdesk_first_part
-_differences = LOADED.crsdesk_differences
-_explain = LOADED.crsdesk_explain
+_canon_each = LOADED.crsdesk_canon_each
+_difference_pieces = LOADED.crsdesk_difference_pieces
+_refusal_pieces = LOADED.crsdesk_refusal_pieces
 # A level by its number, a length, and the room of what is kept, as they are passed.
 _LEVELS = ctypes.c_uint32.from_param(0), ctypes.c_uint32.from_param(1)
 _size = ctypes.c_size_t.from_param
@@ -271,23 +314,48 @@ def in_room(found: Places, call: Callable[[Any, Any, Any], Any], room: int = KEP
     return code, out[: found.length.value] if code == OK else b""
 
 
-def differences(first: bytes, second: bytes, level: int) -> str:
+def pieces_from(found: Places, call: Callable[..., Any]) -> Tuple[int, List[str]]:
+    """The code of a call that answers pieces, and those that its buffers have. It is given a buffer, its room, where its
+    length goes, an array, its room, and where its count goes; others are made where one needs more room."""
+    out, ends = found.out, found.ends
+    while True:
+        rooms = ctypes.c_size_t(len(out)), ctypes.c_size_t(len(ends))
+        code = call(ctypes.byref(out), rooms[0], found.to_length, ctypes.byref(ends), rooms[1], found.to_count)
+        if code != NO_ROOM:
+            break
+        if found.length.value > len(out):
+            out = ctypes.create_string_buffer(found.length.value)
+        if found.count.value > len(ends):
+            ends = (ctypes.c_size_t * found.count.value)()
+    places: List[int] = ends[: found.count.value] if code in (OK, REFUSED) else []
+    whole = out[: places[-1]] if places else b""
+    return code, [whole[begin:end].decode("utf-8", "replace") for begin, end in zip([0, *places], places)]
+
+
+def difference_pieces(first: bytes, second: bytes, level: int) -> List[str]:
+    """Path, first and second of each part that differs, one after the other."""
     found = places()
     given = first, len(first), second, len(second), _LEVELS[level]
-    code, answer = in_room(found, lambda *room: _differences(*given, *room, found.to_refusal))
+    code, pieces = pieces_from(found, lambda *rooms: _difference_pieces(*given, *rooms, found.to_refusal))
     if code:
         raise fault(code, found, first, second)
     _kept.append(found)
-    return answer.decode()
+    return pieces
 
 
-def explain(text: bytes) -> bytes:
+def explained(text: bytes, number: int, place: int) -> Optional[Told]:
+    """The explanation of this refusal of a text; None where the text isn't refused so."""
     found = places()
-    code, answer = in_room(found, lambda *room: _explain(text, len(text), *room))
-    if code:
-        raise fault(code, found, text)
+    explained = Explained()
+    code, pieces = pieces_from(found, lambda *rooms: _refusal_pieces(text, len(text), *rooms, ctypes.byref(explained)))
     _kept.append(found)
-    return answer
+    if code not in (OK, REFUSED):
+        raise out_of_memory()
+    if code == OK or (explained.refusal.number, explained.refusal.place) != (number, place):
+        return None
+    piece, line, _, _, *sentences = pieces[:7]
+    shown = piece.rstrip("\n"), line.rstrip("\n"), tuple(pieces[7:])
+    return Told(explained.line, explained.column, *shown, *sentences)
 
 
 @functools.lru_cache(maxsize=None)

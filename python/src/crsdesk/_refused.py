@@ -1,47 +1,26 @@
-"""The refusal of a text, explained so that a person can repair it. The words are the library's (crsdesk_explain)."""
+"""The refusal of a text, explained so that a person can repair it. The words are the library's."""
 
 from __future__ import annotations
 
-import re
-from typing import NamedTuple, Optional, Tuple
+from typing import List, NamedTuple, Optional, Tuple
 
-HEAD = re.compile(r"refused \d+ \w+ at \d+, line (\d+), column (\d+)")
-EXPECTED = re.compile(r"(?:in \w+ )?at \d+: found .*?, expected (.*)")
-BETWEEN_NAMES = re.compile(r", | or ")
-MEANT = "Did you mean "
-STILL_OPEN = " is still open"
 FROM_USER = "In Python, Crs.from_user has PROJ read it, where osgeo or pyproj is installed."
 
 
 class Told(NamedTuple):
-    """The parts of an explanation."""
+    """What the library explains of a refusal (crsdesk_refusal_pieces); a line of 0 is that of one made by hand."""
 
     line: int
     column: int
     piece: str
+    expected_line: str
     expected: Tuple[str, ...]
+    open_or_meant: str
     meaning: str
-    hint: Optional[str]
+    hints: str
 
 
-# The explanation of a refusal that was made by hand.
-NOTHING = Told(0, 0, "", (), "", None)
-
-
-def parts_of(told: str) -> Told:
-    """The parts of the library's explanation of a refusal, whose lines docs/REFUSALS.md has."""
-    head, *lines = told.split("\n")
-    match = HEAD.fullmatch(head)
-    if not match:
-        return NOTHING
-    piece, lines = "\n".join(lines[:2]), lines[2:]
-    expected = EXPECTED.fullmatch(lines[0])
-    if expected:
-        del lines[0]
-    is_before = lines[0].startswith(MEANT) or lines[0].endswith(STILL_OPEN)
-    meaning = lines.pop(int(is_before))
-    names = tuple(BETWEEN_NAMES.split(expected[1])) if expected else ()
-    return Told(int(match[1]), int(match[2]), piece, names, meaning, "\n".join(lines) or None)
+NOTHING = Told(0, 0, "", "", (), "", "", "")
 
 
 class Refused(ValueError):
@@ -71,7 +50,7 @@ class Refused(ValueError):
         name: str,
         place: int,
         which: Optional[str] = None,
-        told: Optional[str] = None,
+        told: Optional[Told] = None,
         proj: Optional[str] = None,
     ) -> None:
         # The text isn't an argument of the exception, so that it is freed where it isn't kept.
@@ -88,46 +67,51 @@ class Refused(ValueError):
 
     @property
     def told(self) -> str:
-        """The library's explanation, some lines; asked for once, when it is first needed."""
+        """The library's explanation, some lines."""
+        return "\n".join(self._lines())
+
+    @property
+    def _parts(self) -> Told:
+        """The library's explanation; asked for once, when it is first needed."""
         if self._told is None:
             # The library's module raises refusals, so it is imported after this one.
-            from ._library import explain
+            from ._library import explained
 
-            told = "" if self.text is None else explain(self.text).decode("utf-8", "replace").rstrip("\n")
-            self._told = told if told.startswith(f"{self.summary},") else self.summary
+            told = None if self.text is None else explained(self.text, self.number, self.place)
+            self._told = told or NOTHING
         return self._told
 
     def kept(self, with_text: bool = False) -> Refused:
         """The same refusal to keep: without the calls that it was raised in, and without the text unless asked."""
-        text, told = (self.text, self._told) if with_text else (None, self.told)
+        text, told = (self.text, self._told) if with_text else (None, self._parts)
         return Refused(text, self.number, self.name, self.place, self.which, told, self.proj)
 
     @property
     def line(self) -> int:
         """The line of the place, counted from 1."""
-        return parts_of(self.told).line
+        return self._parts.line
 
     @property
     def column(self) -> int:
         """The character of the line at the place, counted from 1; a byte that is no character counts as one."""
-        return parts_of(self.told).column
+        return self._parts.column
 
     @property
     def expected(self) -> Tuple[str, ...]:
         """What could come at the place: keywords, ``a number``, ``a text in quotes``, ``a word``, and ``its closing
         delimiter`` where the node may end. Empty where the number isn't 11 to 13."""
-        return parts_of(self.told).expected
+        return self._parts.expected
 
     @property
     def meaning(self) -> str:
         """What the number means, in a sentence."""
-        return parts_of(self.told).meaning
+        return self._parts.meaning
 
     @property
     def hint(self) -> Optional[str]:
         """What is open, which keyword was meant, what the text is and what to do with it, in a line or two; None where
         none of it is known."""
-        return parts_of(self.told).hint
+        return "\n".join(self.hints_of_file()) or None
 
     @property
     def summary(self) -> str:
@@ -136,18 +120,31 @@ class Refused(ValueError):
 
     def piece(self) -> str:
         """The piece of the line at the place, and below it a caret under the place, without a line end."""
-        return parts_of(self.told).piece
+        return self._parts.piece
 
     def told_of_file(self, line: int = 0) -> str:
         """What ``str`` has, for a command line that names a file with the text, or with the text in a line."""
-        told = f"{self.told}\n{self.proj}" if self.proj else self.told
-        if not line:
-            return told
-        head, end, rest = told.partition("\n")
-        return head.replace(", line 1,", ",") + end + rest.replace("@FILE", f'"$(sed -n {line}p FILE)"')
+        return "\n".join([*self._lines(line), *filter(None, [self.proj])])
+
+    def hints_of_file(self, line: int = 0) -> List[str]:
+        """The lines of ``hint``, for such a command line."""
+        return [it for it in (self._parts.open_or_meant, self._hints(line)) if it]
+
+    def _lines(self, line: int = 0) -> List[str]:
+        """The lines of the library's explanation, without the number of the line in a text that is one."""
+        told = self._parts
+        if not told.line:
+            return [self.summary]
+        head = f"{self.summary}, column {told.column}" if line else f"{self.summary}, line {told.line}, column {told.column}"
+        said = [head, told.piece, told.expected_line, told.open_or_meant, told.meaning, self._hints(line)]
+        return [it for it in said if it]
+
+    def _hints(self, line: int) -> str:
+        hints = self._parts.hints
+        return hints.replace("@FILE", f'"$(sed -n {line}p FILE)"') if line else hints
 
     def __str__(self) -> str:
-        told = "\n".join(filter(None, [self.told, self.proj, self._advice()]))
+        told = "\n".join([*self._lines(), *filter(None, [self.proj, self._advice()])])
         return f"the {self.which} text: {told}" if self.which else told
 
     def _advice(self) -> str:

@@ -8,8 +8,6 @@ import shlex
 # Control characters, ends of lines and paragraphs, and what reverses the direction of a text.
 CONTROL = re.compile("[\x00-\x1f\x7f-\x9f\u061c\u200e\u200f\u2028-\u202e\u2066-\u2069]")
 ESCAPES = {"\0": "\\0", "\t": "\\t", "\n": "\\n", "\r": "\\r", "\\": "\\\\"}
-UNESCAPED = {escape[1]: character for character, escape in ESCAPES.items()}
-ESCAPE = re.compile(r"\\(?:x([0-9A-F]{2})|u([0-9A-F]{4})|(.))")
 
 
 def escape(character: str) -> str:
@@ -21,11 +19,6 @@ def escape(character: str) -> str:
 def escaped(value: str) -> str:
     """A value with its control characters and backslashes escaped."""
     return CONTROL.sub(lambda match: escape(match[0]), value.replace("\\", "\\\\"))
-
-
-def unescaped(written: str) -> str:
-    """The value that is written with escapes."""
-    return ESCAPE.sub(lambda it: UNESCAPED[it[3]] if it[3] else chr(int(it[1] or it[2], 16)), written)
 
 
 def named(name: str) -> str:

@@ -176,9 +176,7 @@ def spelled_by(crs: Crs, transformation: str, rules: Optional[Rules]) -> Spelled
 
 def refusal_of(refused: Refused, line: int, form: str) -> Refusal:
     """A refusal's words, as they are said of files."""
-    # After the head, the piece and what is expected.
-    lines = refused.told_of_file(line).split("\n")[4 if refused.expected else 3 :]
-    hint = "; ".join(it for it in lines if it != refused.meaning)
+    hint = "; ".join([*refused.hints_of_file(line), *filter(None, [refused.proj])])
     return Refusal(
         refused.number,
         refused.name,
