@@ -413,17 +413,17 @@ static void crs_difference(sqlite3_context *context, int count, sqlite3_value **
     free_pair(&pair);
 }
 
-/* Gives the lines of differences as JSON. */
-static void give_json(sqlite3_context *context, const char *lines, size_t length)
+/* Gives the pieces of differences as JSON. */
+static void give_json(sqlite3_context *context, const char *pieces, const size_t *ends, size_t count)
 {
-    size_t room = differences_as_json(lines, length, NULL);
+    size_t room = differences_as_json(pieces, ends, count, NULL);
     char *json = sqlite3_malloc64(room);
 
     if (json == NULL) {
         sqlite3_result_error_nomem(context);
         return;
     }
-    differences_as_json(lines, length, json);
+    differences_as_json(pieces, ends, count, json);
     sqlite3_result_text64(context, json, room, sqlite3_free, SQLITE_UTF8);
 }
 
@@ -432,25 +432,31 @@ static void crs_differences(sqlite3_context *context, int count, sqlite3_value *
     struct crsdesk_refusal refusal;
     struct pair pair;
     uint32_t code;
-    size_t room, length;
-    char *lines = NULL;
+    size_t room, length, most, found = FIRST_PIECES, *ends = NULL;
+    char *pieces = NULL;
 
     if (!take_pair(context, count, values, &pair))
         return;
     length = room_for_differences(pair.first.length, pair.second.length);
     do {
         room = length;
-        sqlite3_free(lines);
-        lines = sqlite3_malloc64(room);
-        code = lines == NULL ? CRSDESK_NO_MEMORY
-                             : crsdesk_differences(pair.first.bytes, pair.first.length, pair.second.bytes,
-                                                   pair.second.length, pair.level, lines, room, &length, &refusal);
+        most = found;
+        sqlite3_free(pieces);
+        sqlite3_free(ends);
+        pieces = sqlite3_malloc64(room);
+        ends = sqlite3_malloc64(most * sizeof *ends);
+        code = pieces == NULL || ends == NULL
+                   ? CRSDESK_NO_MEMORY
+                   : crsdesk_difference_pieces(pair.first.bytes, pair.first.length, pair.second.bytes,
+                                               pair.second.length, pair.level, pieces, room, &length, ends, most,
+                                               &found, &refusal);
     } while (code == CRSDESK_NO_ROOM);
     if (code == CRSDESK_OK)
-        give_json(context, lines, length);
+        give_json(context, pieces, ends, found);
     else
         give_none(context, code);
-    sqlite3_free(lines);
+    sqlite3_free(pieces);
+    sqlite3_free(ends);
     free_pair(&pair);
 }
 

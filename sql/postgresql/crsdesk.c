@@ -439,44 +439,30 @@ static Datum difference_under(FunctionCallInfo fcinfo, struct pair pair)
     return difference_of(fcinfo, pair);
 }
 
-/* Whether a value of the lines of differences has a NUL byte, which is escaped there. */
-static bool has_nul(const char *lines, size_t length)
+/* The pieces of differences as jsonb. */
+static Datum jsonb_of(const char *pieces, size_t length, const size_t *ends, size_t count)
 {
-    size_t i;
-
-    for (i = 0; i + 1 < length; i++) {
-        if (lines[i] != '\\')
-            continue;
-        if (lines[i + 1] == '0')
-            return true;
-        i++;
-    }
-    return false;
-}
-
-/* The lines of differences as jsonb. */
-static Datum jsonb_of(const char *lines, size_t length)
-{
-    size_t room = differences_as_json(lines, length, NULL);
+    size_t room = differences_as_json(pieces, ends, count, NULL);
     char *json;
 
-    if (has_nul(lines, length))
+    if (memchr(pieces, '\0', length) != NULL)
         ereport(ERROR, (errcode(ERRCODE_UNTRANSLATABLE_CHARACTER),
                         errmsg("a part that differs has a NUL byte, which a text of PostgreSQL can't have")));
     if (room > MOST_BYTES)
         ereport(ERROR, (errcode(ERRCODE_PROGRAM_LIMIT_EXCEEDED),
                         errmsg("the differences have %zu bytes, more than a text of PostgreSQL", room)));
     json = palloc(room + 1);
-    differences_as_json(lines, length, json);
+    differences_as_json(pieces, ends, count, json);
     json[room] = '\0';
     return DirectFunctionCall1(jsonb_in, CStringGetDatum(pg_any_to_server(json, (int)room, PG_UTF8)));
 }
 
 static Datum differences_of(FunctionCallInfo fcinfo, struct pair pair)
 {
-    size_t length = room_for_differences(pair.first.length, pair.second.length), room;
+    size_t length = room_for_differences(pair.first.length, pair.second.length), count = FIRST_PIECES, room, most;
     struct crsdesk_refusal refusal;
-    char *lines = NULL;
+    size_t *ends = NULL;
+    char *pieces = NULL;
     uint32 code;
 
     do {
@@ -484,17 +470,21 @@ static Datum differences_of(FunctionCallInfo fcinfo, struct pair pair)
         if (length > MOST_BYTES)
             ereport(ERROR, (errcode(ERRCODE_PROGRAM_LIMIT_EXCEEDED),
                             errmsg("the differences have %zu bytes, more than a text of PostgreSQL", length)));
-        if (lines != NULL)
-            pfree(lines);
+        if (pieces != NULL) {
+            pfree(pieces);
+            pfree(ends);
+        }
         room = length;
-        lines = palloc(room);
-        code = crsdesk_differences(pair.first.first, pair.first.length, pair.second.first, pair.second.length,
-                                   pair.level, lines, room, &length, &refusal);
+        most = count;
+        pieces = palloc(room);
+        ends = palloc(most * sizeof *ends);
+        code = crsdesk_difference_pieces(pair.first.first, pair.first.length, pair.second.first, pair.second.length,
+                                         pair.level, pieces, room, &length, ends, most, &count, &refusal);
     } while (code == CRSDESK_NO_ROOM);
     hold_code(code);
     if (code != CRSDESK_OK)
         PG_RETURN_NULL();
-    return jsonb_of(lines, length);
+    return jsonb_of(pieces, length, ends, count);
 }
 
 static Datum differences_under(FunctionCallInfo fcinfo, struct pair pair)
