@@ -285,7 +285,7 @@ def try_symbols(counts: Counts, extension: pathlib.Path) -> None:
 
 def try_room(counts: Counts, extension: pathlib.Path) -> None:
     """The differences of ordinary texts have the room that is asked for first (room_for_differences), so that they are
-    compared once: their JSON is longer than their lines."""
+    compared once: their JSON is longer than their pieces."""
     lines = (ROOT / "examples" / "catalogue.txt").read_bytes().split(b"\n")
     values = ",".join(f"(CAST({literal(line, True)} AS TEXT))" for line in lines)
     statement = (

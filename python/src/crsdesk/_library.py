@@ -46,19 +46,6 @@ class Explained(ctypes.Structure):
     ]
 
 
-class Entry(ctypes.Structure):
-    """struct crsdesk_entry."""
-
-    _fields_ = [
-        ("begin", ctypes.c_size_t),
-        ("end", ctypes.c_size_t),
-        ("written_end", ctypes.c_size_t),
-        ("place", ctypes.c_size_t),
-        ("number", ctypes.c_uint32),
-        ("code", ctypes.c_uint32),
-    ]
-
-
 class RulesRoom(ctypes.Structure):
     """struct crsdesk_rules."""
 
@@ -167,7 +154,6 @@ _check = LOADED.crsdesk_check
 _canon = LOADED.crsdesk_canon
 _same = LOADED.crsdesk_same
 _first_part = LOADED.crsdesk_first_part
-_canon_each = LOADED.crsdesk_canon_each
 _difference_pieces = LOADED.crsdesk_difference_pieces
 _refusal_pieces = LOADED.crsdesk_refusal_pieces
 # A level by its number, a length, and the room of what is kept, as they are passed.

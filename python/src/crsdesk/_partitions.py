@@ -10,12 +10,13 @@ bits are before it. What goes between machines is arrays and blocks of bytes, ne
 from __future__ import annotations
 
 import hashlib
-from typing import Any, Dict, Iterable, Iterator, List, NamedTuple, Optional, Sequence, Tuple, Union, overload
+import itertools
+from typing import Any, Dict, Iterable, Iterator, List, Mapping, NamedTuple, Optional, Sequence, Tuple, Union, overload
 
 import numpy
 
+from ._batch import spellings
 from ._crs import Level, bytes_of, canon, is_blank, number_of
-from ._library import canon_bytes
 from ._refused import Refused
 from ._rules import Rules
 
@@ -24,6 +25,13 @@ Array = Any
 DIGEST_BYTES = 16
 # The bits of leaders are counted in words of so many bits.
 WORD = 64
+# How many texts are read in one call.
+BATCH = 4096
+# Texts as most collections have them.
+Plain = Union[str, bytes]
+PLAIN = (str, bytes)
+# The canonical text, no bytes where there is none, and why the text is refused, where it isn't blank.
+Spelled = Tuple[bytes, Optional[str]]
 
 
 class Standing(NamedTuple):
@@ -116,35 +124,53 @@ def own_groups(texts: Iterable[Any], level: Level, missing: Any = None, rules: O
     number = number_of(level)
     numbers: Dict[bytes, int] = {}
     # Repeated texts aren't read again: the collection holds them.
-    known: Dict[Union[str, bytes], int] = {}
-    refused_texts: Dict[Union[str, bytes], str] = {}
+    known: Dict[Plain, Tuple[int, Optional[str]]] = {}
     refusals: Dict[int, str] = {}
     local: List[int] = []
-    for place, text in enumerate(texts):
-        is_plain = type(text) is bytes or type(text) is str
-        group = known.get(text) if is_plain else None
-        if group is None:
-            try:
-                if is_plain and rules is None:
-                    spelling = canon_bytes(text if type(text) is bytes else bytes_of(text), number)
-                elif not is_plain and (missing and missing(text) or is_blank(text)):
-                    spelling = b""
-                else:
-                    spelling = canon(text, level, rules).encode()
-                group = numbers.setdefault(spelling, len(numbers) + 1) if spelling else 0
-            except Refused as refused:
-                group = 0
-                if not is_blank(text):
-                    refusals[place] = refused.summary
-                    if is_plain:
-                        refused_texts[text] = refused.summary
-            if is_plain:
-                known[text] = group
-        elif group == 0 and text in refused_texts:
-            refusals[place] = refused_texts[text]
-        local.append(group)
+    for some in batches(texts):
+        together = {} if rules is not None else spelled_together(some, known, number)
+        for text in some:
+            is_plain = type(text) in PLAIN
+            found = known.get(text) if is_plain else None
+            if found is None:
+                is_spelled = is_plain and rules is None
+                spelling, refusal = together[text] if is_spelled else spelled_alone(text, level, missing, rules)
+                found = numbers.setdefault(spelling, len(numbers) + 1) if spelling else 0, refusal
+                if is_plain:
+                    known[text] = found
+            group, refusal = found
+            if refusal:
+                refusals[len(local)] = refusal
+            local.append(group)
     kept = Kept(numpy.array(local, dtype="int64"), refusals, getattr(texts, "index", None) if missing else None)
     return Half(kept, digests_of(numbers), block_of(list(numbers)))
+
+
+def batches(texts: Iterable[Any]) -> Iterator[List[Any]]:
+    """The texts, so many at a time."""
+    rest = iter(texts)
+    while some := list(itertools.islice(rest, BATCH)):
+        yield some
+
+
+def spelled_together(texts: List[Any], known: Mapping[Plain, Any], level: int) -> Dict[Plain, Spelled]:
+    """How those of the texts are spelled that are str or bytes, and not known, at the level of this number."""
+    fresh = list(dict.fromkeys(text for text in texts if type(text) in PLAIN and text not in known))
+    found = spellings(map(bytes_of, fresh), level)
+    return {
+        text: (spelling, None) if isinstance(spelling, bytes) else (b"", None if is_blank(text) else spelling.summary)
+        for text, spelling in zip(fresh, found)
+    }
+
+
+def spelled_alone(text: Any, level: Level, missing: Any, rules: Optional[Rules]) -> Spelled:
+    """How any value of a column is spelled."""
+    if missing and missing(text) or is_blank(text):
+        return b"", None
+    try:
+        return canon(text, level, rules).encode(), None
+    except Refused as refused:
+        return b"", refused.summary
 
 
 def digests_of(texts: Iterable[bytes]) -> Array:
