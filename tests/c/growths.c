@@ -66,9 +66,12 @@ void free(void *old)
 /* All that a call is handed to write to. */
 struct places {
     char out[4096];
-    size_t length, group;
+    size_t length, group, count;
+    size_t ends[256];
     uint32_t number;
     struct crsdesk_refusal why;
+    struct crsdesk_explained explained;
+    struct crsdesk_entry entries[3];
 };
 
 /* A call and its texts. */
@@ -122,6 +125,48 @@ static uint32_t differences(const struct trial *it, struct places *to)
 {
     return crsdesk_differences(it->first, strlen(it->first), it->second, strlen(it->second), CRSDESK_FULL, to->out,
                                sizeof to->out, &to->length, &to->why);
+}
+
+static uint32_t difference_pieces(const struct trial *it, struct places *to)
+{
+    return crsdesk_difference_pieces(it->first, strlen(it->first), it->second, strlen(it->second), CRSDESK_FULL, to->out,
+                                     sizeof to->out, &to->length, to->ends, 256, &to->count, &to->why);
+}
+
+static uint32_t difference_pieces_without_room(const struct trial *it, struct places *to)
+{
+    return crsdesk_difference_pieces(it->first, strlen(it->first), it->second, strlen(it->second), CRSDESK_FULL, to->out,
+                                     sizeof to->out, &to->length, to->ends, 2, &to->count, &to->why);
+}
+
+static uint32_t refusal_pieces(const struct trial *it, struct places *to)
+{
+    return crsdesk_refusal_pieces(it->first, strlen(it->first), to->out, sizeof to->out, &to->length, to->ends, 256,
+                                  &to->count, &to->explained);
+}
+
+/* Two texts and a front of the first at once, and the rest once more where memory was refused: what was answered stays. */
+static uint32_t canon_each(const struct trial *it, struct places *to)
+{
+    static char texts[4096];
+    size_t first = strlen(it->first), second = strlen(it->second), from = 0, at = 0, done = 0, again = 0;
+    uint32_t code;
+    memcpy(texts, it->first, first);
+    memcpy(texts + first, it->second, second);
+    for (size_t i = 0; i < 3; i++) {
+        to->entries[i].begin = i == 1 ? first : 0;
+        to->entries[i].end = i == 0 ? first : i == 1 ? first + second : first / 2;
+    }
+    do {
+        code = crsdesk_canon_each(texts, first + second, to->entries + from, 3 - from, CRSDESK_FULL, to->out + at,
+                                  sizeof to->out - at, &done);
+        for (size_t i = from; i < from + done; i++)
+            to->entries[i].written_end += at;
+        from += done;
+        at = from > 0 ? to->entries[from - 1].written_end : 0;
+        retried += code == CRSDESK_NO_MEMORY;
+    } while (code == CRSDESK_NO_MEMORY && again++ == 0);
+    return code;
 }
 
 static uint32_t explain(const struct trial *it, struct places *to)
@@ -221,6 +266,16 @@ static const struct trial trials[] = {
     {"differences, a set", differences, VERTICAL ",ID[\"X\",1],REMARK[\"a\\\\\nb\"]]", VERTICAL ",ID[\"X\",2]]"},
     {"differences, the same", differences, GEOGRAPHIC, GEOGRAPHIC},
     {"differences, the second refused", differences, GEOGRAPHIC, VERTICAL},
+    {"difference_pieces", difference_pieces, GEOGRAPHIC, VERTICAL "]"},
+    {"difference_pieces, a set", difference_pieces, VERTICAL ",ID[\"X\",1],REMARK[\"a\\\\\nb\"]]", VERTICAL ",ID[\"X\",2]]"},
+    {"difference_pieces, the same", difference_pieces, GEOGRAPHIC, GEOGRAPHIC},
+    {"difference_pieces, the second refused", difference_pieces, GEOGRAPHIC, VERTICAL},
+    {"difference_pieces without room", difference_pieces_without_room, GEOGRAPHIC, VERTICAL "]"},
+    {"refusal_pieces, of the text", refusal_pieces, VERTICAL, ""},
+    {"refusal_pieces, of the shape", refusal_pieces, VERTICAL ",FOO[1]]", ""},
+    {"refusal_pieces, WKT1", refusal_pieces, "GEOGCS[\"A\",DATUM[\"D\",TOWGS84[1,2,3]]]", ""},
+    {"refusal_pieces, accepted", refusal_pieces, GEOGRAPHIC, ""},
+    {"canon_each", canon_each, GEOGRAPHIC, VERTICAL "]"},
     {"explain, of the text", explain, VERTICAL, ""},
     {"explain, of the shape", explain, VERTICAL ",FOO[1]]", ""},
     {"explain, of the values", explain, "VERTCRS[\"H\",VDATUM[\"D\"],CS[vertical,2],AXIS[\"h\",up,LENGTHUNIT[\"metre\",1]]]", ""},

@@ -9,7 +9,8 @@
    written to. A buffer first has no room, then a byte too few, then the room that was asked for. Behind each call all that
    it doesn't answer must be as before. All rows are run by one thread, and then by four at once, each in another order,
    whose stacks have the 256 kB that the header asks for. Each thread also cuts the texts off at some places, other ones
-   than the others; what `canon` answers of what is left must be what `check` does.
+   than the others; what `canon` answers of what is left must be what `check` does. Pieces are put together to the lines of
+   `explain` and of differences, which they must be; and each thread has the texts of all rows answered at once.
 
    Each row that fails has a line, and so has the first touch outside, which ends the program; the last line is
    'N passed, M failed', and the status is 0 where M is 0. */
@@ -317,6 +318,150 @@ static void without_level(struct asked asked, struct answer *answer)
     give_back(out, 5);
 }
 
+/* What a call that answers pieces was given and gave. */
+struct pieces {
+    char *out;
+    size_t *ends;
+    size_t room, most, length, count;
+    uint32_t code;
+    struct crsdesk_explained told;
+};
+
+static void give_pieces_back(const struct pieces *pieces)
+{
+    give_back(pieces->out, pieces->room);
+    give_back(pieces->ends, pieces->most * sizeof *pieces->ends);
+}
+
+/* The pieces of differences, or of a refusal where there is no second text, with so much room. */
+static struct pieces pieces_with(const struct asked *it, size_t room, size_t most, struct answer *answer)
+{
+    struct pieces pieces = {block(room), (size_t *)block(most * sizeof(size_t)), room, most, UNTOLD, UNTOLD, 0,
+                            {{UNTOLD, UNTOLD}, UNTOLD, UNTOLD, UNTOLD}};
+    struct crsdesk_refusal *why = &pieces.told.refusal;
+    memset(pieces.out, FILLER, room);
+    memset(pieces.ends, FILLER, most * sizeof *pieces.ends);
+    if (it->second)
+        pieces.code = crsdesk_difference_pieces(it->first, it->first_length, it->second, it->second_length, it->level,
+                                                pieces.out, room, &pieces.length, pieces.ends, most, &pieces.count, why);
+    else
+        pieces.code = crsdesk_refusal_pieces(it->first, it->first_length, pieces.out, room, &pieces.length, pieces.ends,
+                                             most, &pieces.count, &pieces.told);
+    int is_answered = pieces.length != UNTOLD;
+    size_t bytes = is_answered && pieces.length <= room ? pieces.length : 0;
+    size_t ends = is_answered && pieces.count <= most ? pieces.count : 0;
+    for (size_t i = bytes; i < room; i++)
+        if ((unsigned char)pieces.out[i] != FILLER)
+            wrong(answer, "the buffer behind the pieces was changed");
+    for (size_t i = ends * sizeof *pieces.ends; i < most * sizeof *pieces.ends; i++)
+        if (((unsigned char *)pieces.ends)[i] != FILLER)
+            wrong(answer, "the array behind the ends was changed");
+    if (is_answered && (pieces.code == CRSDESK_NO_ROOM) != (pieces.length > room || pieces.count > most))
+        wrong(answer, "too little room for pieces wasn't told, or was told");
+    if (!is_answered && pieces.count != UNTOLD)
+        wrong(answer, "the count was changed");
+    return pieces;
+}
+
+/* The pieces with no room, with too little of one and of the other, with just the room, and with more. */
+static struct pieces pieces_in_each_room(const struct asked *it, struct answer *answer)
+{
+    struct pieces none = pieces_with(it, 0, 0, answer), other, just;
+    give_pieces_back(&none);
+    if (none.length == UNTOLD || none.count == 0)
+        return none;
+    other = pieces_with(it, none.length - 1, none.count, answer);
+    give_pieces_back(&other);
+    other = pieces_with(it, none.length, none.count - 1, answer);
+    give_pieces_back(&other);
+    other = pieces_with(it, none.length + 9, none.count + 3, answer);
+    just = pieces_with(it, none.length, none.count, answer);
+    if (just.length != none.length || just.count != none.count || other.length != none.length
+        || other.count != none.count || memcmp(just.out, other.out, just.length) != 0
+        || memcmp(just.ends, other.ends, just.count * sizeof *just.ends) != 0
+        || just.ends[just.count - 1] != just.length)
+        wrong(answer, "other pieces in other room");
+    give_pieces_back(&other);
+    return just;
+}
+
+/* The piece at an index. */
+static struct bytes piece(const struct pieces *pieces, size_t index)
+{
+    size_t begin = index == 0 ? 0 : pieces->ends[index - 1];
+    struct bytes found = {pieces->out + begin, pieces->ends[index] - begin};
+    return found;
+}
+
+static void append_piece(struct answer *answer, const struct pieces *pieces, size_t index, const char *instead)
+{
+    struct bytes found = piece(pieces, index);
+    if (found.length == 0)
+        appendf(answer, "%s", instead);
+    append(answer, found.at, found.length);
+}
+
+/* The parts of differences are their lines, where none has an escape. */
+static void in_pieces(const struct asked *it, uint32_t code, const struct crsdesk_refusal *why,
+                      const struct bytes *lines, struct answer *answer)
+{
+    struct pieces pieces = pieces_in_each_room(it, answer);
+    const struct crsdesk_refusal *told = &pieces.told.refusal;
+    struct answer whole = {{NULL, 0}, 0, ""};
+    int is_empty = lines->length == 0;
+    if (pieces.code != code || told->number != why->number || told->place != why->place
+        || (code == CRSDESK_OK && (pieces.count == 0) != is_empty))
+        wrong(answer, "the pieces and the lines don't agree");
+    if (code != CRSDESK_OK || pieces.count == 0)
+        return;
+    for (size_t i = 0; i + 2 < pieces.count; i += 3) {
+        append_piece(&whole, &pieces, i, "");
+        appendf(&whole, ": ");
+        append_piece(&whole, &pieces, i + 1, "none");
+        appendf(&whole, " | ");
+        append_piece(&whole, &pieces, i + 2, "none");
+        appendf(&whole, "\n");
+    }
+    if (pieces.count % 3 != 0
+        || (!memchr(lines->at, '\\', lines->length)
+            && (whole.text.length != lines->length || memcmp(whole.text.at, lines->at, lines->length) != 0)))
+        wrong(answer, "the pieces aren't those of the lines");
+    free(whole.text.at);
+    give_pieces_back(&pieces);
+}
+
+/* The parts of an explanation are its lines after the first. */
+static void explained_in_pieces(const struct asked *it, const struct crsdesk_refusal *why, const struct bytes *lines,
+                                struct answer *answer)
+{
+    struct pieces pieces = pieces_in_each_room(it, answer);
+    struct answer whole = {{NULL, 0}, 0, ""};
+    int is_refused = lines->length > 0;
+    if (pieces.code != (is_refused ? CRSDESK_REFUSED : CRSDESK_OK) || (is_refused && pieces.count < 7)
+        || pieces.told.refusal.number != why->number || pieces.told.refusal.place != why->place) {
+        wrong(answer, "a refusal isn't told in pieces, or one that isn't there is");
+        return;
+    }
+    if (!is_refused)
+        return;
+    append_refusal(&whole, why);
+    appendf(&whole, ", line %zu, column %zu\n", pieces.told.line, pieces.told.column);
+    append_piece(&whole, &pieces, 0, "");
+    append_piece(&whole, &pieces, 1, "");
+    for (size_t i = 4; i < 7; i++) {
+        append_piece(&whole, &pieces, i, "");
+        if (piece(&pieces, i).length > 0)
+            appendf(&whole, "\n");
+    }
+    if (whole.text.length != lines->length || memcmp(whole.text.at, lines->at, lines->length) != 0)
+        wrong(answer, "the pieces aren't those of the explanation");
+    int is_of_shape = why->number >= 11 && why->number <= 13;
+    if ((pieces.count > 7) != is_of_shape || (piece(&pieces, 3).length > 0) != is_of_shape)
+        wrong(answer, "what could come isn't told of a refusal of shape, or is of another");
+    free(whole.text.at);
+    give_pieces_back(&pieces);
+}
+
 /* The explanation of a text begins with the line of its refusal, and has the piece and a caret after it; an accepted
    text has none. It is the same in each room. */
 static void explained(const struct asked *given, int is_refused, const struct crsdesk_refusal *told,
@@ -339,6 +484,7 @@ static void explained(const struct asked *given, int is_refused, const struct cr
             || lines.at[lines.length - 1] != '\n')
             wrong(answer, "the explanation isn't that of the refusal");
     }
+    explained_in_pieces(&asked, told, &lines, answer);
     give_back(lines.at, lines.length);
     free(line.text.at);
 }
@@ -411,7 +557,13 @@ static void all_parts(const struct asked *given, uint32_t code, const struct byt
         && (lines.length < path->length + 2 || memcmp(lines.at, path->at, path->length) != 0
             || memcmp(lines.at + path->length, ": ", 2) != 0 || lines.at[lines.length - 1] != '\n'))
         wrong(answer, "the first of all parts isn't the first part");
+    in_pieces(&asked, code, told, &lines, answer);
     without_level(asked, answer);
+    asked.level = 2;
+    struct pieces none = pieces_with(&asked, 5, 2, answer);
+    if (none.code != CRSDESK_NO_LEVEL || none.length != UNTOLD || !is_untold(&none.told.refusal))
+        wrong(answer, "a level that isn't one was taken for pieces");
+    give_pieces_back(&none);
     give_back(lines.at, lines.length);
 }
 
@@ -1036,6 +1188,91 @@ static int is_front_right(const struct row *row, size_t length)
     return right;
 }
 
+/* All texts of the rows in one buffer, with an entry for each. */
+struct together {
+    char *texts;
+    size_t length, count;
+    struct crsdesk_entry *entries;
+};
+
+/* The texts of the rows that aren't long, one after the other, each also so that it overlaps others, ends behind the
+   buffer, or ends before it begins. */
+static struct together together_of(const struct rows *rows)
+{
+    struct together all = {NULL, 0, 0, NULL};
+    for (size_t i = 0; i < rows->count; i++)
+        all.length += rows->at[i].input.length <= MOST_CUT ? rows->at[i].input.length : 0;
+    all.texts = block(all.length);
+    all.entries = grown(NULL, 2 * rows->count * sizeof *all.entries);
+    for (size_t i = 0, at = 0; i < rows->count; i++) {
+        const struct bytes *input = &rows->at[i].input;
+        struct crsdesk_entry entry = {at, at + input->length, UNTOLD, UNTOLD, UNTOLD, UNTOLD};
+        if (input->length > MOST_CUT)
+            continue;
+        memcpy(all.texts + at, input->at, input->length);
+        all.entries[all.count++] = entry;
+        entry.begin += i % 3;
+        entry.end = i % 4 == 0 ? SIZE_MAX - i : i % 4 == 1 ? entry.end + 5 : entry.begin - i % 4;
+        all.entries[all.count++] = entry;
+        at += input->length;
+    }
+    return all;
+}
+
+/* Whether an entry has what canon answers of its text, behind what was written before. */
+static int is_entry_right(const struct together *all, const struct crsdesk_entry *entry, uint32_t level,
+                          const char *written, size_t begin)
+{
+    size_t from = entry->begin < all->length ? entry->begin : all->length;
+    size_t end = entry->end < all->length ? entry->end : all->length;
+    size_t text = end > from ? end - from : 0, length = 0;
+    struct crsdesk_refusal why = {0, 0};
+    char *out = grown(NULL, 2 * text + 1000);
+    uint32_t code = crsdesk_canon(all->texts + from, text, level, out, 2 * text + 1000, &length, &why);
+    int right = entry->code == code && entry->number == why.number && entry->place == why.place
+                && entry->written_end == begin + (code == CRSDESK_OK ? length : 0)
+                && (code != CRSDESK_OK || memcmp(written + begin, out, length) == 0);
+    free(out);
+    return right;
+}
+
+/* Whether all texts are answered in as many calls as the room needs, and each call changes no more than it says. */
+static int are_together_right(const struct rows *rows, uint32_t level, size_t room)
+{
+    struct together all = together_of(rows);
+    struct crsdesk_entry *own = grown(NULL, all.count * sizeof *own);
+    size_t from = 0, done = UNTOLD;
+    char *out = block(room);
+    uint32_t code = CRSDESK_NO_ROOM;
+    int right = 1;
+    memcpy(own, all.entries, all.count * sizeof *own);
+    memset(out, FILLER, room);
+    right &= crsdesk_canon_each(all.texts, all.length, own, all.count, 2, out, room, &done) == CRSDESK_NO_LEVEL;
+    right &= done == UNTOLD && memcmp(own, all.entries, all.count * sizeof *own) == 0;
+    while (code == CRSDESK_NO_ROOM && right) {
+        size_t at = 0;
+        memset(out, FILLER, room);
+        code = crsdesk_canon_each(all.texts, all.length, own + from, all.count - from, level, out, room, &done);
+        right &= (code == CRSDESK_OK ? done == all.count - from : code == CRSDESK_NO_ROOM && done > 0);
+        for (size_t i = from; right && i < from + done; i++) {
+            right &= is_entry_right(&all, &own[i], level, out, at) && own[i].begin == all.entries[i].begin
+                     && own[i].end == all.entries[i].end;
+            at = own[i].written_end;
+        }
+        for (; right && at < room; at++)
+            right &= (unsigned char)out[at] == FILLER;
+        from += done;
+        right &= memcmp(own + from, all.entries + from, (all.count - from) * sizeof *own) == 0;
+    }
+    if (!right)
+        printf("the texts of all rows at once, at %s: entry %zu\n", level ? "definition" : "full", from);
+    give_back(out, room);
+    give_back(all.texts, all.length);
+    free(all.entries);
+    free(own);
+    return right;
+}
+
 /* A thread's run of all rows; `number` counts the threads, of which 0 tells the rows that fail. */
 struct turn {
     const struct rows *rows;
@@ -1060,6 +1297,9 @@ static void *run_all(void *at)
         for (size_t cut = turn->number; cut < all_cuts && row->input.length <= MOST_CUT; cut += THREADS + 1)
             count(turn, is_front_right(row, row->input.length * cut / all_cuts));
     }
+    current = NULL;
+    count(turn, are_together_right(turn->rows, CRSDESK_FULL, 2 * MOST_CUT + 1000));
+    count(turn, are_together_right(turn->rows, CRSDESK_DEFINITION, 100 * MOST_CUT));
     return NULL;
 }
 
