@@ -58,6 +58,7 @@ pub extern "C" fn crsdesk_canon_each(
     }
 }
 
+#[tactic(auto, unfolding(crate::specs::Each::IsEachAt))]
 fn each_at(
     alloc: Global,
     texts: &[u8],
