@@ -9,6 +9,11 @@ pub record PieceBuffers : Type 0 where
   pub bytes : Buffer ℕ
   pub ends : Buffer ℕ
 
+-- both, by what is in them and what is told of each
+abbrev pub buffers_of : List ℕ → ℕ → List ℕ → ℕ → PieceBuffers
+buffers_of out length ends count =
+    record { bytes = record { items = out; told = length }; ends = record { items = ends; told = count } }
+
 -- the pieces are given, their bytes one after the other and where each ends, with code 0; or one of
 -- the buffers, or each, has too little room, with code 5
 unfoldable pub AreGiven : List (List ℕ) → PieceBuffers → PieceBuffers → ℕ → Type 0

@@ -3,7 +3,7 @@ ghost use Rattle.std.specs.Prelude.{MatchResult};
 ghost use Rattle.crs_value.specs.SpellsText.{IsFaultOfText};
 ghost use Rattle.crs_c.specs.Comparison.{ArePiecesBehind};
 ghost use Rattle.crs_c.specs.ExplainPieces.{IsDifferencePiecesAnswer};
-ghost use Rattle.crs_c.specs.PieceBuffers.{GivesPieces};
+ghost use Rattle.crs_c.specs.PieceBuffers.{GivesPieces, buffers_of};
 ghost use Rattle.crs_explain.specs.Differing.{AreDifferencePieces};
 ghost use Rattle.crs_c.specs.Pairs.{IsPairAnswer, IsSecondAnswer};
 
@@ -37,8 +37,8 @@ pub extern "C" fn crsdesk_difference_pieces(
     refused: &mut Refused,
 ) -> u32
     ensures { IsDifferencePiecesAnswer level first.now second.now
-        (record { answer = record { bytes = record { items = out.old; told = length.old }; ends = record { items = ends.old; told = count.old } }; refused = refused.old })
-        (record { answer = record { bytes = record { items = out.new; told = length.new }; ends = record { items = ends.new; told = count.new } }; refused = refused.new })
+        (record { answer = buffers_of out.old length.old ends.old count.old; refused = refused.old })
+        (record { answer = buffers_of out.new length.new ends.new count.new; refused = refused.new })
         result }
 {
     match level_numbered(level) {
@@ -62,8 +62,8 @@ fn pieces_at<'t>(
     refused: &mut Refused,
 ) -> u32
     ensures { IsPairAnswer (λ a b. GivesPieces (AreDifferencePieces level a b)) first.now second.now
-        (record { answer = record { bytes = record { items = out.old; told = length.old }; ends = record { items = ends.old; told = count.old } }; refused = refused.old })
-        (record { answer = record { bytes = record { items = out.new; told = length.new }; ends = record { items = ends.new; told = count.new } }; refused = refused.new })
+        (record { answer = buffers_of out.old length.old ends.old count.old; refused = refused.old })
+        (record { answer = buffers_of out.new length.new ends.new count.new; refused = refused.new })
         result }
 {
     match read(alloc, first) {
@@ -88,8 +88,8 @@ fn second_pieces<'t>(
     refused: &mut Refused,
 ) -> u32
     ensures { IsSecondAnswer (λ b. GivesPieces (AreDifferencePieces level first.now b)) second.now
-        (record { answer = record { bytes = record { items = out.old; told = length.old }; ends = record { items = ends.old; told = count.old } }; refused = refused.old })
-        (record { answer = record { bytes = record { items = out.new; told = length.new }; ends = record { items = ends.new; told = count.new } }; refused = refused.new })
+        (record { answer = buffers_of out.old length.old ends.old count.old; refused = refused.old })
+        (record { answer = buffers_of out.new length.new ends.new count.new; refused = refused.new })
         result }
 {
     match pieces_with(alloc, first, second, level) {

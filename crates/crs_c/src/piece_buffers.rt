@@ -1,5 +1,5 @@
 //! Pieces into buffers of the caller's.
-ghost use Rattle.crs_c.specs.PieceBuffers.{AreGiven};
+ghost use Rattle.crs_c.specs.PieceBuffers.{AreGiven, buffers_of};
 
 use crate::buffer::give;
 use crate::codes::OK;
@@ -16,8 +16,8 @@ pub(crate) fn give_pieces(
     count: &mut usize,
 ) -> u32
     ensures { AreGiven pieces.now
-        (record { bytes = record { items = out.old; told = length.old }; ends = record { items = ends.old; told = count.old } })
-        (record { bytes = record { items = out.new; told = length.new }; ends = record { items = ends.new; told = count.new } })
+        (buffers_of out.old length.old ends.old count.old)
+        (buffers_of out.new length.new ends.new count.new)
         result }
 {
     let first = give(pieces.bytes(), out, length);

@@ -1,6 +1,7 @@
 //! Why a text is refused, as data.
 ghost use Rattle.crs_value.specs.SpellsText.{IsFaultOfText};
 ghost use Rattle.crs_c.specs.ExplainPieces.{IsExplanationGiven, IsRefusalExplained, IsRefusalPiecesAnswer};
+ghost use Rattle.crs_c.specs.PieceBuffers.{buffers_of};
 
 use crate::codes::{NO_MEMORY, OK, REFUSED};
 use crate::piece_buffers::give_pieces;
@@ -46,8 +47,8 @@ pub extern "C" fn crsdesk_refusal_pieces(
     explained: &mut Explained,
 ) -> u32
     ensures { IsRefusalPiecesAnswer text.now
-        (record { buffers = record { bytes = record { items = out.old; told = length.old }; ends = record { items = ends.old; told = count.old } }; explained = explained.old })
-        (record { buffers = record { bytes = record { items = out.new; told = length.new }; ends = record { items = ends.new; told = count.new } }; explained = explained.new })
+        (record { buffers = buffers_of out.old length.old ends.old count.old; explained = explained.old })
+        (record { buffers = buffers_of out.new length.new ends.new count.new; explained = explained.new })
         result }
 {
     match read(alloc, text) {
@@ -70,8 +71,8 @@ fn fault_in_pieces(
 ) -> u32
     requires { IsFaultOfText text.now fault }
     ensures { IsRefusalExplained text.now
-        (record { buffers = record { bytes = record { items = out.old; told = length.old }; ends = record { items = ends.old; told = count.old } }; explained = explained.old })
-        (record { buffers = record { bytes = record { items = out.new; told = length.new }; ends = record { items = ends.new; told = count.new } }; explained = explained.new })
+        (record { buffers = buffers_of out.old length.old ends.old count.old; explained = explained.old })
+        (record { buffers = buffers_of out.new length.new ends.new count.new; explained = explained.new })
         result }
 {
     let Some(refusal) = fault.refusal() else {
@@ -95,8 +96,8 @@ fn give_explanation(
     explained: &mut Explained,
 ) -> u32
     ensures { IsExplanationGiven refusal told.now
-        (record { buffers = record { bytes = record { items = out.old; told = length.old }; ends = record { items = ends.old; told = count.old } }; explained = explained.old })
-        (record { buffers = record { bytes = record { items = out.new; told = length.new }; ends = record { items = ends.new; told = count.new } }; explained = explained.new })
+        (record { buffers = buffers_of out.old length.old ends.old count.old; explained = explained.old })
+        (record { buffers = buffers_of out.new length.new ends.new count.new; explained = explained.new })
         result }
 {
     *explained = Explained {
