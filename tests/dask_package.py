@@ -33,7 +33,7 @@ import dask.bag
 import dask.dataframe
 import numpy
 import pandas
-from crsdesk import _partitions
+from crsdesk import _batch, _partitions
 from crsdesk.__main__ import lines_of
 from crsdesk.dask import Standing, canon, groups, lines
 
@@ -150,6 +150,32 @@ def try_small(counts: Counts) -> None:
     try_frames(counts)
     try_faults(counts)
     try_rules(counts)
+    try_batches(counts)
+
+
+def try_batches(counts: Counts) -> None:
+    """Many texts in one call are answered as one by one, whatever room there is and however many go together."""
+    chance = random.Random(62)
+    pool = [HEIGHT, NOTED, TWIN, "", " ", "x[", HEIGHT[:-1], HEIGHT.replace('"H"', '"' + "H" * 3000 + '"')]
+    kept = _batch.MOST_BYTES, _batch.ROOM_BY_TEXTS, _batch.LEAST_ROOM
+    try:
+        for most, by_texts, least in (kept, (1, 2, 1), (400, 0, 1), (5000, 1, 0)):
+            _batch.MOST_BYTES, _batch.ROOM_BY_TEXTS, _batch.LEAST_ROOM = most, by_texts, max(least, 1)
+            for count in (0, 1, 2, 50):
+                texts = [chance.choice(pool).encode() for _ in range(count)]
+                for number, level in enumerate(("full", "definition")):
+                    wanted = [one_by_one(text, level) for text in texts]
+                    found = [it if isinstance(it, bytes) else it.summary for it in _batch.spellings(texts, number)]
+                    counts.compare(f"{count} texts, {most} bytes, room {least}", found, wanted)
+    finally:
+        _batch.MOST_BYTES, _batch.ROOM_BY_TEXTS, _batch.LEAST_ROOM = kept
+
+
+def one_by_one(text: bytes, level: Any) -> Any:
+    try:
+        return crsdesk.canon(text, level).encode()
+    except crsdesk.Refused as refused:
+        return refused.summary
 
 
 def try_rules(counts: Counts) -> None:

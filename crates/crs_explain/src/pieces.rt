@@ -54,7 +54,8 @@ impl Pieces {
     pub(crate) fn push(&mut self, text: &[u8]) -> Result<(), AllocError>
         ensures { OnOk result (self.new ≡ self.old ++ text.now ∷ []) }
     {
-        append_piece(text, &mut self.bytes, &mut self.ends)
+        append_piece(text, &mut self.bytes, &mut self.ends)?;
+        Ok(())
     }
 }
 

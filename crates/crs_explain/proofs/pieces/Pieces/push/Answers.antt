@@ -1,6 +1,7 @@
-use Rattle.crs_explain.proofs.PieceLemmas.{more, invariant_more}
+use Rattle.std.proofs.Common.{sym, ◌∙◌, ap, ◌++◌, ◌∷◌, []}
+use Rattle.crs_explain.proofs.PieceLemmas.{invariant_more, more}
 use Rattle.crs_explain.proofs.pieces.Pieces.push.Goals as goal
 
-pub invariant_of-self-in_ok-append_piece : goal.invariant_of-self-in_ok-append_piece
-invariant_of-self-in_ok-append_piece c =
+pub invariant_of-self-2 : goal.invariant_of-self-2
+invariant_of-self-2 c =
     invariant_more _ _ _ _ c.args.text.now c.self.invariant.0 c.self.invariant.1 c.in_ok-append_piece.ensures.bytes c.in_ok-append_piece.ensures.ends
