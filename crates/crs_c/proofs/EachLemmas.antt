@@ -1,11 +1,15 @@
 -- Many texts, answered one after the other.
 use Rattle.std.proofs.Common.{◌≡◌, ◌≤◌, ◌<◌, ◌+◌, ◌-◌, ◌++◌, ◌∷◌, ◌⊎◌, [], ℕ, List, length, take, drop, get_or, slice_set, refl, sym, ap, subst, ◌∙◌, inl, inr, append_assoc, append-nil, arith, zero-le}
 use Rattle.std.proofs.lemmas.List.{take_all, take_at, drop_at, set_at, get_or_at, take_more, drop_more, drop-drop, length-append, length-drop, length-take-le, take-append-drop, drop_all}
-use Rattle.crs_text.specs.Refusal.{RefusedAt}
+use Rattle.crs_text.specs.Fault.{refusal_of}
+use Rattle.crs_text.specs.declared.fault.Fault.{Fault}
+use Rattle.crs_text.specs.declared.fault.Fault.TheVariants as faults
 use Rattle.crs_value.specs.declared.values.level.Level.{Level}
 use Rattle.crs_c.specs.declared.canon_each.Entry.{Entry}
-use Rattle.crs_c.specs.Each.{AreAnsweredBy, EachPlaces, EndsAt, IsAnsweredBy, IsEachAt, NeedsMore}
-use Rattle.crs_c.specs.Turns.{IsTurn, with_bytes}
+use Rattle.crs_value.specs.SpellsText.{IsFaultOfText}
+use Rattle.crs_canon.specs.Canonical.{IsCanonicalOf}
+use Rattle.crs_c.specs.Each.{AreAnsweredBy, EndsAt, IsAnsweredBy, IsEachAt, NeedsMore, text_of}
+use Rattle.crs_c.specs.Turns.{IsTurn, IsWritten, refused_entry, with_bytes}
 
 -- one entry more at the end
 pub answered_more : (level : Level) (texts : List ℕ) (at : ℕ) (entries answered : List Entry) (written : List ℕ) (entry one : Entry) (own : List ℕ) →
@@ -127,6 +131,29 @@ one_more level texts old out index at now out_now d one own new_out lt s is room
       is_out = written ∙ ap (λ z. z ++ (own ++ drop (at + length own) out_now)) front
           ∙ ap (λ z. s.written ++ (own ++ z)) rest ∙ sym (append_assoc s.written own (drop (length (s.written ++ own)) out));
     }
+
+-- a turn that writes a canonical text, or lacks the room
+pub turn_written : (level : Level) (texts : List ℕ) (at : ℕ) (entry : Entry) (out bytes : List ℕ) (one : Entry) (new_out : List ℕ) (code : ℕ) →
+    at ≤ length out → IsCanonicalOf level (text_of texts entry) bytes → IsWritten bytes at entry out one new_out code →
+    IsTurn level texts at entry out one new_out code
+unfolding IsTurn IsWritten
+turn_written level texts at entry out bytes one new_out code le is (inl (room, e, written, ok)) =
+    inl (bytes, inl (is, e), room, written, ok)
+turn_written level texts at entry out bytes one new_out code le is (inr (more, same, five)) =
+    inr (inl ((bytes, is, omega (arith, more, le)), same, five))
+
+-- a turn whose text is refused, or which has no memory
+pub turn_refused : (level : Level) (texts : List ℕ) (at : ℕ) (entry : Entry) (out : List ℕ) (fault : Fault) (told : Entry × ℕ) (new_out : List ℕ) →
+    at ≤ length out → IsFaultOfText (text_of texts entry) fault → told ≡ refused_entry at (refusal_of fault) entry → new_out ≡ out →
+    IsTurn level texts at entry out told.0 new_out told.1
+unfolding IsTurn
+turn_refused level texts at entry out (faults.Refused refusal) told new_out le is e same =
+    let none : at + 0 ≡ at = omega arith in
+    let as_before : take at out ++ ([] ++ drop (at + 0) out) ≡ out =
+    ap (λ n. take at out ++ drop n out) none ∙ take-append-drop at out in
+    inl ([], inr (refusal, is, refl, ap (λ (p : Entry × ℕ). p.0) e), omega (arith, le), same ∙ sym as_before, ap (λ (p : Entry × ℕ). p.1) e)
+turn_refused level texts at entry out (faults.Memory error) told new_out le is e same =
+    inr (inr (same, ap (λ (p : Entry × ℕ). p.1) e))
 
 -- a turn that ends with code 0 has answered its entry
 pub turn_done : (level : Level) (texts : List ℕ) (at : ℕ) (entry : Entry) (out : List ℕ) (one : Entry) (new_out : List ℕ) (code : ℕ) →

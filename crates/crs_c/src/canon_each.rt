@@ -7,7 +7,7 @@ ghost use Rattle.crs_c.specs.Turns.{IsTurn, IsWritten, refused_entry};
 use crate::buffer::give;
 use crate::codes::{NO_LEVEL, NO_MEMORY, OK, REFUSED, level_numbered};
 use crate::piece::{front_of, rest_of};
-use crs_canon::canon;
+use crs_canon::canon_in;
 use crs_text::Fault;
 use crs_value::Level;
 use std::alloc::Global;
@@ -90,9 +90,10 @@ fn answer_entries(
         (record { entries = entries.new; out = out.new; done = result.0 })
         result.1 }
 {
+    let mut room = Vec::new(alloc);
     let mut at = 0;
     for index in 0..entries.len() {
-        let (entry, code) = answer(alloc, texts, entries[index], level, out, at);
+        let (entry, code) = answer(alloc, texts, entries[index], level, out, at, &mut room);
         if code != OK {
             return (index, code);
         }
@@ -102,8 +103,8 @@ fn answer_entries(
     (entries.len(), OK)
 }
 
-// Answers an entry, and writes its canonical text at this place.
-#[tactic(auto, unfolding(crate::specs::Turns::IsTurn, crate::specs::Turns::IsWritten))]
+// Answers an entry, and writes its canonical text at this place. The text is first made in memory that goes from entry to
+// entry.
 fn answer(
     alloc: Global,
     texts: &[u8],
@@ -111,12 +112,18 @@ fn answer(
     level: Level,
     out: &mut [u8],
     at: usize,
+    room: &mut Vec<u8>,
 ) -> (Entry, u32)
     requires { at ≤ length out.old }
     ensures { IsTurn level texts.now at entry out.old result.0 out.new result.1 }
 {
-    match canon(alloc, text_of(texts, entry), level) {
-        Ok(canonical) => written(canonical.bytes(), entry, out, at),
+    match canon_in(alloc, text_of(texts, entry), level, room) {
+        Ok(canonical) => {
+            let answered = written(canonical.bytes(), entry, out, at);
+            *room = canonical.into_bytes();
+            room.clear();
+            answered
+        }
         Err(fault) => refused(fault, entry, at),
     }
 }
