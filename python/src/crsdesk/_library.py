@@ -304,6 +304,7 @@ def pieces_from(found: Places, call: Callable[..., Any]) -> Tuple[int, List[str]
     """The code of a call that answers pieces, and those that its buffers have. It is given a buffer, its room, where its
     length goes, an array, its room, and where its count goes; others are made where one needs more room."""
     out, ends = found.out, found.ends
+    found.count.value = 0
     while True:
         rooms = ctypes.c_size_t(len(out)), ctypes.c_size_t(len(ends))
         code = call(ctypes.byref(out), rooms[0], found.to_length, ctypes.byref(ends), rooms[1], found.to_count)
@@ -313,9 +314,9 @@ def pieces_from(found: Places, call: Callable[..., Any]) -> Tuple[int, List[str]
             out = ctypes.create_string_buffer(found.length.value)
         if found.count.value > len(ends):
             ends = (ctypes.c_size_t * found.count.value)()
-    places: List[int] = ends[: found.count.value] if code in (OK, REFUSED) else []
-    whole = out[: places[-1]] if places else b""
-    return code, [whole[begin:end].decode("utf-8", "replace") for begin, end in zip([0, *places], places)]
+    marks: List[int] = ends[: found.count.value]
+    whole = out[: marks[-1]] if marks else b""
+    return code, [whole[begin:end].decode("utf-8", "replace") for begin, end in zip([0, *marks], marks)]
 
 
 def difference_pieces(first: bytes, second: bytes, level: int) -> List[str]:
@@ -331,17 +332,16 @@ def difference_pieces(first: bytes, second: bytes, level: int) -> List[str]:
 
 def explained(text: bytes, number: int, place: int) -> Optional[Told]:
     """The explanation of this refusal of a text; None where the text isn't refused so."""
-    found = places()
-    explained = Explained()
-    code, pieces = pieces_from(found, lambda *rooms: _refusal_pieces(text, len(text), *rooms, ctypes.byref(explained)))
+    found, where = places(), Explained()
+    code, pieces = pieces_from(found, lambda *rooms: _refusal_pieces(text, len(text), *rooms, ctypes.byref(where)))
     _kept.append(found)
     if code not in (OK, REFUSED):
         raise out_of_memory()
-    if code == OK or (explained.refusal.number, explained.refusal.place) != (number, place):
+    if code == OK or (where.refusal.number, where.refusal.place) != (number, place):
         return None
     piece, line, _, _, *sentences = pieces[:7]
     shown = piece.rstrip("\n"), line.rstrip("\n"), tuple(pieces[7:])
-    return Told(explained.line, explained.column, *shown, *sentences)
+    return Told(where.line, where.column, *shown, *sentences)
 
 
 @functools.lru_cache(maxsize=None)
