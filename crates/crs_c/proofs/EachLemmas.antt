@@ -105,8 +105,9 @@ pub one_more : (level : Level) (texts : List ℕ) (old : List Entry) (out : List
 one_more level texts old out index at now out_now d one own new_out lt s is room written =
     let entry = get_or old index d in
     let here = s.place in
+    let begins : at ≡ 0 + length s.written = omega (arith, here) in
     let is_next : IsAnsweredBy level texts (0 + length s.written) entry one own =
-    subst (λ place. IsAnsweredBy level texts place entry one own) (here ∙ refl)
+    subst (λ place. IsAnsweredBy level texts place entry one own) begins
     (subst (λ e. IsAnsweredBy level texts at e one own) (next_is level texts old out index at now out_now d lt s) is) in
     let long = same_room level texts old out index at now out_now s in
     let front : take at out_now ≡ s.written =
@@ -122,7 +123,7 @@ one_more level texts old out index at now out_now d one own new_out lt s is room
       written = s.written ++ own;
       are = subst (λ es. AreAnsweredBy level texts 0 es (s.answered ++ one ∷ []) (s.written ++ own)) (sym (take_more old index d lt))
           (answered_more level texts 0 (take index old) s.answered s.written entry one own s.are is_next);
-      many = length-append s.answered (one ∷ []) ∙ ap (λ n. n + 1) s.many;
+      many = omega (arith, length-append s.answered (one ∷ []), s.many);
       entries = ap (λ z. slice_set z index one) (s.entries ∙ ap (λ z. s.answered ++ z) (drop_more old index d lt))
           ∙ set_at s.answered entry (drop (index + 1) old) one index s.many
           ∙ sym (append_assoc s.answered (one ∷ []) (drop (index + 1) old));
@@ -160,9 +161,9 @@ pub turn_done : (level : Level) (texts : List ℕ) (at : ℕ) (entry : Entry) (o
     IsTurn level texts at entry out one new_out code → code ≡ 0 →
     (own : List ℕ) × IsAnsweredBy level texts at entry one own × (at + length own ≤ length out) × (new_out ≡ with_bytes at own out)
 unfolding IsTurn
-turn_done level texts at entry out one new_out code (inl (own, is, room, written, ok)) zero = (own, is, room, written)
-turn_done level texts at entry out one new_out code (inr (inl (needs, same, five))) zero = absurd (omega (arith, five, zero))
-turn_done level texts at entry out one new_out code (inr (inr (same, three))) zero = absurd (omega (arith, three, zero))
+turn_done level texts at entry out one new_out code (inl (own, is, room, written, ok)) none = (own, is, room, written)
+turn_done level texts at entry out one new_out code (inr (inl (needs, same, five))) none = absurd (omega (arith, five, none))
+turn_done level texts at entry out one new_out code (inr (inr (same, three))) none = absurd (omega (arith, three, none))
 
 -- another code says why the call ends before its entry
 pub turn_ends : (level : Level) (texts : List ℕ) (at : ℕ) (entry : Entry) (out : List ℕ) (one : Entry) (new_out : List ℕ) (code : ℕ) →

@@ -37,7 +37,7 @@ more bytes ends new_bytes new_ends text laid ended e f =
     let texts = cut 0 bytes ends in
     let whole : new_bytes ≡ joined (texts ++ text ∷ []) =
     e ∙ ap (λ z. z ++ text) laid ∙ sym (joined_more texts text) in
-    let long : length new_bytes ≡ length (joined texts ++ text) = ap length (e ∙ ap (λ z. z ++ text) laid) in
+    let long : length new_bytes ≡ 0 + length (joined texts ++ text) = omega (arith, ap length (e ∙ ap (λ z. z ++ text) laid)) in
     let all : new_ends ≡ ends_from 0 (texts ++ text ∷ []) =
     f ∙ ap (λ z. z ++ length new_bytes ∷ []) ended ∙ ap (λ z. ends_from 0 texts ++ z ∷ []) long
     ∙ sym (ends_more 0 texts text) in
@@ -51,7 +51,7 @@ pub invariant_more : (bytes ends new_bytes new_ends text : List ℕ) →
 invariant_more bytes ends new_bytes new_ends text laid ended e f =
     let texts = cut 0 bytes ends in
     let is = more bytes ends new_bytes new_ends text laid ended e f in
-    let long : length new_bytes ≡ length (joined texts ++ text) = ap length (e ∙ ap (λ z. z ++ text) laid) in (
+    let long : length new_bytes ≡ 0 + length (joined texts ++ text) = omega (arith, ap length (e ∙ ap (λ z. z ++ text) laid)) in (
       e ∙ ap (λ z. z ++ text) laid ∙ sym (joined_more texts text) ∙ ap joined (sym is),
       f ∙ ap (λ z. z ++ length new_bytes ∷ []) ended ∙ ap (λ z. ends_from 0 texts ++ z ∷ []) long
           ∙ sym (ends_more 0 texts text) ∙ ap (ends_from 0) (sym is),
