@@ -100,11 +100,7 @@ pub(crate) fn push_found(
 }
 
 // The keyword of the node.
-fn node_text(
-    alloc: Global,
-    text: &[u8],
-    expected: &Option<Expected>,
-) -> Result<Vec<u8>, AllocError>
+fn node_text(alloc: Global, text: &[u8], expected: &Option<Expected>) -> Result<Vec<u8>, AllocError>
     ensures { IfOk result (λ node. node.items ≡ node_piece text.now expected.now) }
 {
     let mut node = Vec::new(alloc);

@@ -60,11 +60,7 @@ impl Pieces {
 }
 
 // Adds a text and where it ends, or neither. The room for the end is asked for first, so that the last push can't fail.
-fn append_piece(
-    text: &[u8],
-    bytes: &mut Vec<u8>,
-    ends: &mut Vec<usize>,
-) -> Result<(), AllocError>
+fn append_piece(text: &[u8], bytes: &mut Vec<u8>, ends: &mut Vec<usize>) -> Result<(), AllocError>
     ensures bytes { OnOk result (bytes.new.items ≡ bytes.old.items ++ text.now) }
     ensures ends { OnOk result (ends.new.items ≡ ends.old.items ++ length bytes.new.items ∷ []) }
     ensures as_before { OnErr result (bytes.new.items ≡ bytes.old.items) }
