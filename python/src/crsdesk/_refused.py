@@ -73,13 +73,12 @@ class Refused(ValueError):
     @property
     def _parts(self) -> Told:
         """The library's explanation; asked for once, when it is first needed."""
-        if self._told is None:
+        if self._told is None and self.text is not None:
             # The library's module raises refusals, so it is imported after this one.
             from ._library import explained
 
-            told = None if self.text is None else explained(self.text, self.number, self.place)
-            self._told = told or NOTHING
-        return self._told
+            self._told = explained(self.text, self.number, self.place)
+        return self._told or NOTHING
 
     def kept(self, with_text: bool = False) -> Refused:
         """The same refusal to keep: without the calls that it was raised in, and without the text unless asked."""
