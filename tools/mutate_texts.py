@@ -8,7 +8,7 @@ texts of examples/ and of tests/*.rows for N seconds (60): bytes, tokens, argume
 (mutations.py). It asks about each text:
 
 - check answers a kind, or a refusal with one of its numbers at a place within the text; canon at both levels answers
-  the same; explain begins with this number, its name, the place and its line, and says nothing of an accepted text;
+  the same; the explanation is of this number and place, with the line, and an accepted text has none;
 - a canonical text is its own canonical text, and spells a CRS of the same kind that is the same as its source's; that
   at full has the source's canonical text at definition, and that at definition is its own at both levels;
 - another spelling of an accepted text has the same canonical texts: white space, delimiters, case, synonyms, numbers,
@@ -43,9 +43,8 @@ from mutations import MOST_BYTES, Mutator
 ROOT = pathlib.Path(__file__).resolve().parent.parent
 LEVELS = FULL, DEFINITION = range(2)
 NUMBERS = {*range(1, 9), *range(11, 14), *range(21, 30)}
-# A line of differences; a quote in a quoted text is doubled.
-LINE = re.compile(rb'([a-z0-9/]+): ((?:"[^"]*"|[^"|])+) \| ((?:"[^"]*"|[^"|])+)')
-LEFT_OUT = b"id", b"usage", b"remark"
+PATH = re.compile("[a-z0-9/]+")
+LEFT_OUT = "id", "usage", "remark"
 # The texts of a round, and how many of those that are accepted are respelled.
 MADE = 16
 RESPELLED = 0.25
@@ -106,17 +105,15 @@ class Asker:
     def ask(self, text: bytes) -> Known:
         """Asks what is said of a text."""
         kind, refusal, _ = self.answer(self.calls.check, text)
-        found = [self.answer(self.calls.canon, text, level) for level in LEVELS]
+        found = [self.answer(self.calls.canon_bytes, text, level) for level in LEVELS]
         hold("the refusals of canon", [it[1] for it in found], [refusal] * 2)
-        explained = self.calls.explain(text)
+        told = self.calls.explained(text, *(refusal or (0, 0)))
         if refusal:
             number, place = refusal
             hold(f"that {refusal} may be", number in NUMBERS and place <= len(text), True)
-            line = text.count(b"\n", 0, place) + 1
-            head = f"refused {number} {self.calls.refusal_name(number)} at {place}, line {line}, column "
-            hold("the head of explain", explained[: len(head)], head.encode())
+            hold("the line of the explanation", told and told.line, text.count(b"\n", 0, place) + 1)
             return Known(text, refusal, (b"", b""))
-        hold("explain", explained, b"")
+        hold("the explanation", told, None)
         asked = Known(text, None, (found[FULL][0], found[DEFINITION][0]))
         self.ask_canons(asked, kind)
         return asked
@@ -130,18 +127,18 @@ class Asker:
             (FULL, definition, definition),
             (DEFINITION, definition, definition),
         ):
-            hold(f"canon at level {level} of {canon!r}", self.answer(self.calls.canon, canon, level)[0], wanted)
+            hold(f"canon at level {level} of {canon!r}", self.answer(self.calls.canon_bytes, canon, level)[0], wanted)
         for level, canon in enumerate(asked.canons):
             hold(f"the kind of {canon!r}", self.calls.check(canon), kind)
             hold(f"same at level {level} as {canon!r}", self.calls.same(asked.text, canon, level), True)
-            hold("first_part with the canonical text", self.calls.first_part(asked.text, canon, level), b"")
-            hold("differences from the canonical text", self.calls.differences(asked.text, canon, level), b"")
+            hold("first_part with the canonical text", self.calls.first_part(asked.text, canon, level), "")
+            hold("differences from the canonical text", self.calls.difference_pieces(asked.text, canon, level), [])
 
     def ask_pair(self, first: Known, second: Known) -> None:
         """Asks what is said of two texts."""
         if first.refusal or second.refusal:
             wanted = (first.refusal, "first") if first.refusal else (second.refusal, "second")
-            for call in (self.calls.same, self.calls.first_part, self.calls.differences):
+            for call in (self.calls.same, self.calls.first_part, self.calls.difference_pieces):
                 for level in LEVELS:
                     hold(
                         f"the refusal of {call.__name__}", self.answer(call, first.text, second.text, level)[1:], wanted
@@ -150,10 +147,10 @@ class Asker:
         is_same, _ = (self.ask_level(first, second, level)[0] for level in LEVELS)
         if is_same:
             hold("the canonical texts at definition", second.canons[DEFINITION], first.canons[DEFINITION])
-        ends = [path.rpartition(b"/")[2] for path in self.ask_level(first, second, DEFINITION)[1]]
+        ends = [path.rpartition("/")[2] for path in self.ask_level(first, second, DEFINITION)[1]]
         hold("parts that don't count at definition", [it for it in ends if it in LEFT_OUT], [])
 
-    def ask_level(self, first: Known, second: Known, level: int) -> Tuple[bool, List[bytes]]:
+    def ask_level(self, first: Known, second: Known, level: int) -> Tuple[bool, List[str]]:
         """Asks what is said of two accepted texts at a level; whether they are the same, and the parts that differ."""
         there, back = (first.text, second.text, level), (second.text, first.text, level)
         is_same = first.canons[level] == second.canons[level]
@@ -161,17 +158,16 @@ class Asker:
         parts, exchanged = (self.parts(*it) for it in (there, back))
         hold("whether nothing differs", not parts, is_same)
         hold("differences in the other order", exchanged, [(path, two, one) for path, one, two in parts])
-        path = parts[0][0] if parts else b""
+        path = parts[0][0] if parts else ""
         hold("first_part in both orders", [self.calls.first_part(*it) for it in (there, back)], [path] * 2)
         return is_same, [it[0] for it in parts]
 
-    def parts(self, first: bytes, second: bytes, level: int) -> List[Tuple[bytes, bytes, bytes]]:
-        parts = []
-        for line in self.calls.differences(first, second, level).split(b"\n")[:-1]:
-            match = LINE.fullmatch(line)
-            if not match or match[2] == match[3]:
-                raise Wrong(f"this is no line of differences: {line!r}")
-            parts.append((match[1], match[2], match[3]))
+    def parts(self, first: bytes, second: bytes, level: int) -> List[Tuple[str, str, str]]:
+        pieces = self.calls.difference_pieces(first, second, level)
+        parts = list(zip(pieces[::3], pieces[1::3], pieces[2::3]))
+        for path, one, other in parts:
+            if not PATH.fullmatch(path) or one == other:
+                raise Wrong(f"this is no part that differs: {path!r}: {one!r} | {other!r}")
         return parts
 
     def ask_catalogue(self, texts: Sequence[Known], level: int) -> int:
