@@ -54,6 +54,10 @@ OTHER_LAYOUTS = [
     ("    size_t line;     /*", "    uint32_t line, more;     /*", "crsdesk_rules_standing"),
     ("    uint64_t number; /* why", "    uint32_t more, number; /* why", "crsdesk_rules_standing"),
     ("    size_t length;                  /*", "    uint64_t first; size_t length;  /*", "crsdesk_form"),
+    ("    size_t column; /*", "    uint32_t column, more; /*", "crsdesk_explained"),
+    ("    size_t node;   /*", "    uint64_t first; size_t node;   /*", "crsdesk_explained"),
+    ("    size_t begin;       /*", "    uint64_t first; size_t begin;       /*", "crsdesk_entry"),
+    ("    size_t written_end; /*", "    uint32_t written_end, more; /*", "crsdesk_entry"),
 ]
 BARE = "#include <crsdesk.h>\nint main(void) { size_t n; char out[16]; return crsdesk_version(out, 16, &n) == CRSDESK_OK ? 0 : 1; }\n"
 VERSION = """#include <crsdesk.h>
