@@ -121,29 +121,49 @@ class Met(NamedTuple):
 
 def own_groups(texts: Iterable[Any], level: Level, missing: Any = None, rules: Optional[Rules] = None) -> Half:
     """The groups of a partition by itself. ``missing`` says whether a value of a column is none."""
-    number = number_of(level)
     numbers: Dict[bytes, int] = {}
     # Repeated texts aren't read again: the collection holds them.
     known: Dict[Plain, Tuple[int, Optional[str]]] = {}
     refusals: Dict[int, str] = {}
     local: List[int] = []
+    for text, answer in spelled(texts, level, missing, rules, known):
+        if answer is None:
+            found = known[text]
+        else:
+            spelling, refusal = answer
+            found = numbers.setdefault(spelling, len(numbers) + 1) if spelling else 0, refusal
+            if type(text) in PLAIN:
+                known[text] = found
+        if found[1]:
+            refusals[len(local)] = found[1]
+        local.append(found[0])
+    kept = Kept(numpy.array(local, dtype="int64"), refusals, getattr(texts, "index", None) if missing else None)
+    return Half(kept, digests_of(numbers), block_of(list(numbers)))
+
+
+def spelled(
+    texts: Iterable[Any], level: Level, missing: Any, rules: Optional[Rules], known: Mapping[Plain, Any]
+) -> Iterator[Tuple[Any, Optional[Spelled]]]:
+    """Each text and how it is spelled; None where the text is known when it is its turn."""
+    number = number_of(level)
     for some in batches(texts):
         together = {} if rules is not None else spelled_together(some, known, number)
         for text in some:
             is_plain = type(text) in PLAIN
-            found = known.get(text) if is_plain else None
-            if found is None:
-                is_spelled = is_plain and rules is None
-                spelling, refusal = together[text] if is_spelled else spelled_alone(text, level, missing, rules)
-                found = numbers.setdefault(spelling, len(numbers) + 1) if spelling else 0, refusal
-                if is_plain:
-                    known[text] = found
-            group, refusal = found
-            if refusal:
-                refusals[len(local)] = refusal
-            local.append(group)
-    kept = Kept(numpy.array(local, dtype="int64"), refusals, getattr(texts, "index", None) if missing else None)
-    return Half(kept, digests_of(numbers), block_of(list(numbers)))
+            if is_plain and text in known:
+                yield text, None
+            elif is_plain and rules is None:
+                yield text, together[text]
+            else:
+                yield text, spelled_alone(text, level, missing, rules)
+
+
+def canonical_texts(
+    texts: Iterable[Any], level: Level, missing: Any, rules: Optional[Rules]
+) -> List[Optional[str]]:
+    """The canonical text or the form of each text; None of one that spells no CRS."""
+    answers = (answer for _, answer in spelled(texts, level, missing, rules, {}))
+    return [answer[0].decode() if answer and answer[0] else None for answer in answers]
 
 
 def batches(texts: Iterable[Any]) -> Iterator[List[Any]]:

@@ -26,9 +26,8 @@ from dask.delayed import Delayed
 from dask.highlevelgraph import HighLevelGraph
 
 from . import _partitions
-from ._crs import Level, canon as canonical_text, number_of, rules_of
+from ._crs import Level, number_of, rules_of
 from ._partitions import Half, Kept, Led, Ranks, Standing, Standings
-from ._refused import Refused
 from ._rules import Rules
 
 __all__ = ["Standing", "canon", "groups", "lines"]
@@ -228,20 +227,12 @@ def answer(kept: Kept, led: List[Led], place: int, ranks: Ranks, is_bag: bool) -
     return pandas.DataFrame(columns, index=kept.index)
 
 
-def canonical_or_none(text: Any, level: Level, rules: Optional[Rules]) -> Optional[str]:
-    """The canonical text, or the form; None of a text that spells no CRS."""
-    try:
-        return canonical_text(text, level, rules)
-    except Refused:
-        return None
-
-
 def canonical_list(texts: Iterable[Any], level: Level, rules: Optional[Rules]) -> List[Optional[str]]:
     """The canonical texts of a partition of a bag."""
-    return [canonical_or_none(text, level, rules) for text in texts]
+    return _partitions.canonical_texts(texts, level, None, rules)
 
 
 def canonical_column(texts: Any, level: Level, rules: Optional[Rules]) -> Any:
     """The canonical texts of a partition of a column."""
-    found = [None if is_missing(text) else canonical_or_none(text, level, rules) for text in texts]
+    found = _partitions.canonical_texts(texts, level, is_missing, rules)
     return pandas.Series(found, index=texts.index, name=texts.name, dtype="object")
