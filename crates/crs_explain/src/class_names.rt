@@ -118,6 +118,14 @@ pub(crate) fn push_names(
         ++ (if may_end then codes "its closing delimiter" ∷ [] else []))) }
 {
     push_classes(classes, out)?;
+    push_end(may_end, out)?;
+    Ok(())
+}
+
+// The end of the node, where it may end.
+fn push_end(may_end: bool, out: &mut Pieces) -> Result<(), AllocError>
+    ensures { OnOk result (out.new ≡ (if may_end then out.old ++ codes "its closing delimiter" ∷ [] else out.old)) }
+{
     if may_end {
         out.push(b"its closing delimiter")?;
     }
@@ -137,9 +145,16 @@ fn push_class(class: Class, out: &mut Pieces) -> Result<(), AllocError>
     ensures { OnOk result (out.new ≡ out.old ++ class_pieces class) }
 {
     if class == Class::AxisUnit {
-        out.push(b"LENGTHUNIT")?;
-        out.push(b"ANGLEUNIT")
+        push_two(b"LENGTHUNIT", b"ANGLEUNIT", out)
     } else {
         out.push(class_name(class))
     }
+}
+
+fn push_two(first: &[u8], second: &[u8], out: &mut Pieces) -> Result<(), AllocError>
+    ensures { OnOk result (out.new ≡ out.old ++ first.now ∷ second.now ∷ []) }
+{
+    out.push(first)?;
+    out.push(second)?;
+    Ok(())
 }
