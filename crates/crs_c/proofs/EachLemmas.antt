@@ -1,5 +1,5 @@
 -- Many texts, answered one after the other.
-use Rattle.std.proofs.Common.{◌≡◌, ◌≤◌, ◌<◌, ◌+◌, ◌-◌, ◌++◌, ◌∷◌, ◌⊎◌, [], ℕ, List, length, take, drop, get_or, slice_set, refl, sym, ap, subst, ◌∙◌, inl, inr, append_assoc, append-nil, arith, zero-le}
+use Rattle.std.proofs.Common.{◌≡◌, ◌≤◌, ◌<◌, ◌+◌, ◌-◌, ◌++◌, ◌∷◌, ◌⊎◌, [], ℕ, List, length, take, drop, get_or, slice_set, refl, sym, ap, subst, ◌∙◌, inl, inr, append_assoc, append-nil, arith}
 use Rattle.std.proofs.lemmas.List.{take_all, take_at, drop_at, set_at, get_or_at, take_more, drop_more, drop-drop, length-append, length-drop, length-take-le, take-append-drop, drop_all}
 use Rattle.crs_text.specs.Fault.{refusal_of}
 use Rattle.crs_text.specs.declared.fault.Fault.{Fault}
@@ -60,7 +60,7 @@ nothing_yet level texts old out = record {
   many = refl;
   entries = refl;
   place = refl;
-  fits = zero-le (length out);
+  fits = omega arith;
   is_out = refl;
 }
 

@@ -5,8 +5,8 @@ use Rattle.crs_c.proofs.canon_each.answer_entries.Goals as goal
 pub loop-index-init : goal.loop-index-init
 loop-index-init c = nothing_yet c.args.level c.args.texts.now c.args.entries.now c.args.out.now
 
-pub answer-requires : goal.answer-requires
-answer-requires c =
+pub answer-code-requires : goal.answer-code-requires
+answer-code-requires c =
     let s = c.loop-index.invariant in
     let long = same_room _ _ _ _ _ _ _ _ s in
     omega (arith, s.place, s.fits, long)
