@@ -7,7 +7,7 @@ use Rattle.crs_text.specs.declared.fault.Fault.TheVariants as faults
 use Rattle.crs_value.specs.declared.values.level.Level.{Level}
 use Rattle.crs_c.specs.declared.canon_each.Entry.{Entry}
 use Rattle.crs_value.specs.SpellsText.{IsFaultOfText}
-use Rattle.crs_canon.specs.Canonical.{IsCanonicalOf}
+use Rattle.crs_writer.specs.Canonical.{IsCanonicalOf}
 use Rattle.crs_c.specs.Each.{AreAnsweredBy, EndsAt, IsAnsweredBy, IsEachAt, NeedsMore, text_of}
 use Rattle.crs_c.specs.Turns.{IsTurn, IsWritten, refused_entry, with_bytes}
 

@@ -4,7 +4,7 @@ use Rattle.std.specs.Prelude.{length, take, drop}
 use Rattle.crs_text.specs.Refusal.{RefusedAt}
 use Rattle.crs_value.specs.declared.values.level.Level.{Level}
 use Rattle.crs_value.specs.SpellsText.{Refuses}
-use Rattle.crs_canon.specs.Canonical.{IsCanonicalOf}
+use Rattle.crs_writer.specs.Canonical.{IsCanonicalOf}
 use Rattle.crs_c.specs.declared.canon_each.Entry.{Entry}
 use Rattle.crs_c.specs.Codes.{level_numbered}
 

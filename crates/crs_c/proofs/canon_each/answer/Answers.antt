@@ -1,6 +1,6 @@
 use Rattle.std.proofs.Common.{refl, subst, List, ℕ}
 use Rattle.crs_value.specs.SpellsText.{IsFaultOfText}
-use Rattle.crs_canon.specs.Canonical.{IsCanonicalOf}
+use Rattle.crs_writer.specs.Canonical.{IsCanonicalOf}
 use Rattle.crs_c.specs.Turns.{IsWritten}
 use Rattle.crs_c.proofs.EachLemmas.{turn_refused, turn_written}
 use Rattle.crs_c.proofs.canon_each.answer.Goals as goal
