@@ -72,14 +72,6 @@ same_room level texts old out index at now out_now s =
     let left = length-drop (length s.written) out in
     omega (arith, long, left, s.fits)
 
--- so do the entries their number
-pub same_number : (level : Level) (texts : List ℕ) (old : List Entry) (out : List ℕ) (index at : ℕ) (now : List Entry) (out_now : List ℕ) →
-    index ≤ length old → SoFar level texts old out index at now out_now → length now ≡ length old
-same_number level texts old out index at now out_now le s =
-    let long = ap length s.entries ∙ length-append s.answered (drop index old) in
-    let left = length-drop index old in
-    omega (arith, long, left, s.many, le)
-
 -- the next entry is as before
 pub next_is : (level : Level) (texts : List ℕ) (old : List Entry) (out : List ℕ) (index at : ℕ) (now : List Entry) (out_now : List ℕ) (d : Entry) →
     index < length old → SoFar level texts old out index at now out_now → get_or now index d ≡ get_or old index d
