@@ -1,6 +1,6 @@
 -- Many texts, answered one after the other.
 use Rattle.std.proofs.Common.{◌≡◌, ◌≤◌, ◌<◌, ◌+◌, ◌-◌, ◌++◌, ◌∷◌, ◌⊎◌, [], ℕ, List, length, take, drop, get_or, slice_set, refl, sym, ap, subst, ◌∙◌, inl, inr, append_assoc, append-nil, arith}
-use Rattle.std.proofs.lemmas.List.{take_all, take_at, drop_at, set_at, get_or_at, take_more, drop_more, drop-drop, length-append, length-drop, length-take-le, take-append-drop, drop_all}
+use Rattle.std.proofs.lemmas.List.{take_at, drop_at, set_at, get_or_at, take_more, drop_more, drop-drop, length-append, length-drop, length-take-le, take-append-drop, drop_all}
 use Rattle.crs_text.specs.Fault.{refusal_of}
 use Rattle.crs_text.specs.declared.fault.Fault.{Fault}
 use Rattle.crs_text.specs.declared.fault.Fault.TheVariants as faults

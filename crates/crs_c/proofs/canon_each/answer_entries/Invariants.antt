@@ -1,4 +1,3 @@
-use Rattle.std.proofs.Common.{◌≤◌, length}
 use Rattle.crs_c.proofs.EachLemmas.{SoFar}
 use Rattle.crs_c.proofs.canon_each.answer_entries.Given as goal
 
