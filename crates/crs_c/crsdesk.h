@@ -418,6 +418,12 @@ static inline uint32_t crsdesk_canon_under(const char *text, size_t text_length,
     return CRSDESK_OK;
 }
 
+/* Adds a text to a catalogue as crsdesk_catalogue_add does, but under rules: its group is that of the texts that are the
+   same under them, and the group's text is their form. All texts of a catalogue are added under the same rules. The rules
+   are as before, and so is the form that they keep. The codes are those of crsdesk_catalogue_add. */
+struct crsdesk_standing crsdesk_catalogue_add_under(struct crsdesk_catalogue *catalogue, struct crsdesk_rules *rules,
+                                                    uint64_t number, const char *text, size_t length);
+
 /* Frees all memory that rules took; the struct holds none then, and crsdesk_rules_new may make others there. */
 void crsdesk_rules_free(struct crsdesk_rules *rules);
 

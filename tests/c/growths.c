@@ -179,13 +179,22 @@ static uint32_t explain_without_room(const struct trial *it, struct places *to)
     return crsdesk_explain(it->first, strlen(it->first), to->out, 3, &to->length);
 }
 
+/* Adds a text, under rules where there are some. */
+static struct crsdesk_standing added_once(struct crsdesk_catalogue *catalogue, struct crsdesk_rules *rules,
+                                          uint64_t number, const char *text)
+{
+    if (rules)
+        return crsdesk_catalogue_add_under(catalogue, rules, number, text, strlen(text));
+    return crsdesk_catalogue_add(catalogue, number, text, strlen(text));
+}
+
 /* Adds a text, and once more where memory was refused, which must have changed nothing. */
-static struct crsdesk_standing added(struct crsdesk_catalogue *catalogue, uint64_t number, const char *text,
-                                     struct places *to)
+static struct crsdesk_standing added(struct crsdesk_catalogue *catalogue, struct crsdesk_rules *rules, uint64_t number,
+                                     const char *text, struct places *to)
 {
     size_t groups = crsdesk_catalogue_groups(catalogue);
     struct crsdesk_line last = crsdesk_catalogue_line(catalogue, groups, 0);
-    struct crsdesk_standing told = crsdesk_catalogue_add(catalogue, number, text, strlen(text));
+    struct crsdesk_standing told = added_once(catalogue, rules, number, text);
     if (told.code != CRSDESK_NO_MEMORY)
         return told;
     struct crsdesk_line still = crsdesk_catalogue_line(catalogue, groups, 0);
@@ -193,18 +202,18 @@ static struct crsdesk_standing added(struct crsdesk_catalogue *catalogue, uint64
         || crsdesk_catalogue_line(catalogue, groups + 1, 0).code != CRSDESK_NO_NUMBER)
         to->out[0] = 'X';
     retried++;
-    return crsdesk_catalogue_add(catalogue, number, text, strlen(text));
+    return added_once(catalogue, rules, number, text);
 }
 
 /* A catalogue of four texts, of which one is refused; where each was placed, and the lines of the first group. */
-static uint32_t catalogue(const struct trial *it, struct places *to)
+static uint32_t catalogue_under(const struct trial *it, struct crsdesk_rules *rules, struct places *to)
 {
     static const char refused_text[] = "GEOGCRS[\"A\"]";
     struct crsdesk_catalogue made;
     uint32_t code = crsdesk_catalogue_new(&made, CRSDESK_DEFINITION);
     const char *texts[] = {it->first, it->second, refused_text, it->first};
     for (size_t i = 0; i < 4; i++) {
-        struct crsdesk_standing told = added(&made, 10 + i, texts[i], to);
+        struct crsdesk_standing told = added(&made, rules, 10 + i, texts[i], to);
         to->out[8 * i + 8] = (char)told.group;
         to->out[8 * i + 9] = (char)told.code;
         to->out[8 * i + 10] = (char)told.refusal.number;
@@ -216,6 +225,11 @@ static uint32_t catalogue(const struct trial *it, struct places *to)
     return code;
 }
 
+static uint32_t catalogue(const struct trial *it, struct places *to)
+{
+    return catalogue_under(it, NULL, to);
+}
+
 /* Adds a rules file, and once more where memory was refused, which must have changed nothing: else its nodes stand in sets
    before. */
 static struct crsdesk_rules_standing with_file(struct crsdesk_rules *rules, const char *file, size_t length)
@@ -225,6 +239,18 @@ static struct crsdesk_rules_standing with_file(struct crsdesk_rules *rules, cons
         return told;
     retried++;
     return crsdesk_rules_add(rules, file, length);
+}
+
+/* A catalogue under the rules of a file. */
+static uint32_t catalogue_by_rules(const struct trial *it, struct places *to)
+{
+    static const char file[] = "SAME[VDATUM[\"D\"],VDATUM[\"E\"],VDATUM[\"F\"]]\nUNCOUNTED[axisOrder,crsName]\n";
+    struct crsdesk_rules rules;
+    crsdesk_rules_new(&rules);
+    with_file(&rules, file, sizeof file - 1);
+    uint32_t code = catalogue_under(it, &rules, to);
+    crsdesk_rules_free(&rules);
+    return code;
 }
 
 /* The form of the first text under the rules of two files. */
@@ -284,6 +310,7 @@ static const struct trial trials[] = {
     {"explain, accepted", explain, GEOGRAPHIC, ""},
     {"explain without room", explain_without_room, VERTICAL, ""},
     {"a catalogue", catalogue, GEOGRAPHIC, VERTICAL "]"},
+    {"a catalogue under rules", catalogue_by_rules, GEOGRAPHIC, VERTICAL "]"},
     {"under rules", under, GEOGRAPHIC, "UNCOUNTED[axisOrder,ensemble]"},
     {"under rules, names", under, VERTICAL "]", NAMES},
     {"under rules, the text refused", under, VERTICAL, NAMES},

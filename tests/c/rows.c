@@ -785,6 +785,41 @@ static size_t read_files(const struct row *row, size_t most, struct bytes *text,
     return count;
 }
 
+/* A text and its form are in one group under the rules, whose text is the form; the form that is kept stays. */
+static void in_one_group(const struct asked *asked, const struct bytes *form, struct answer *answer)
+{
+    struct crsdesk_catalogue *catalogue = (struct crsdesk_catalogue *)block(sizeof *catalogue);
+    char *text = block(form->length);
+    size_t length = UNTOLD;
+    crsdesk_catalogue_new(catalogue, asked->level);
+    struct crsdesk_standing told = crsdesk_catalogue_add_under(catalogue, rules, 7, asked->first, asked->first_length);
+    struct crsdesk_standing again = crsdesk_catalogue_add_under(catalogue, rules, 8, form->at, form->length);
+    struct crsdesk_standing blank = crsdesk_catalogue_add_under(catalogue, rules, 9, "\t\n", 2);
+    if (told.code != CRSDESK_OK || told.group != 1 || again.code != CRSDESK_OK || again.group != 1
+        || blank.code != CRSDESK_OK || blank.group != 0 || crsdesk_catalogue_groups(catalogue) != 1
+        || crsdesk_catalogue_line(catalogue, 1, 1).number != 8)
+        wrong(answer, "a text and its form aren't in one group under the rules");
+    else if (crsdesk_catalogue_text(catalogue, 1, text, form->length, &length) != CRSDESK_OK || length != form->length
+             || memcmp(text, form->at, length) != 0)
+        wrong(answer, "the text of a group isn't the form");
+    crsdesk_catalogue_free(catalogue);
+    give_back(text, form->length);
+    give_back(catalogue, sizeof *catalogue);
+}
+
+/* What is refused has no group under the rules. */
+static void in_no_group(const struct asked *asked, const struct crsdesk_refusal *why, struct answer *answer)
+{
+    struct crsdesk_catalogue *catalogue = (struct crsdesk_catalogue *)block(sizeof *catalogue);
+    crsdesk_catalogue_new(catalogue, asked->level);
+    struct crsdesk_standing told = crsdesk_catalogue_add_under(catalogue, rules, 7, asked->first, asked->first_length);
+    if (told.code != CRSDESK_REFUSED || told.group != 0 || told.refusal.number != why->number
+        || told.refusal.place != why->place || crsdesk_catalogue_groups(catalogue) != 0)
+        wrong(answer, "a catalogue under rules refuses otherwise");
+    crsdesk_catalogue_free(catalogue);
+    give_back(catalogue, sizeof *catalogue);
+}
+
 /* After a refused file the rules are those of the files before it, so the form is as under them alone. */
 static void as_before(const struct row *row, size_t count, struct asked *asked, const struct bytes *form, uint32_t code,
                       struct answer *answer)
@@ -823,8 +858,10 @@ static void answer_under(const struct row *row, struct answer *answer)
             || memcmp(again.at, form.at, form.length) != 0)
             wrong(answer, "a form isn't its own form");
         give_back(again.at, again.length);
+        in_one_group(&asked, &form, answer);
     } else if (code == CRSDESK_REFUSED) {
         append_refusal(answer, &why);
+        in_no_group(&asked, &why, answer);
     } else {
         wrong(answer, "a code that canon_under doesn't have here");
     }

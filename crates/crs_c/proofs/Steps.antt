@@ -44,3 +44,7 @@ and_true false t = absurd t
 pub both_true : (x y : Bool) → T x → T y → T (x && (y && true))
 both_true true y s t = and_true y t
 both_true false y s t = absurd s
+
+pub three_true : (x y z : Bool) → T x → T y → T z → T (x && (y && (z && true)))
+three_true true y z s t u = both_true y z t u
+three_true false y z s t u = absurd s

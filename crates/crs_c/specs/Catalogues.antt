@@ -7,6 +7,8 @@ use Rattle.crs_value.specs.declared.values.level.Level.TheVariants as level
 use Rattle.crs_group.specs.Catalogue.{CatalogueParts, Line, line_of, nth}
 use Rattle.crs_group.specs.GroupTexts.{IsCatalogue, IsCatalogueOf, then_line}
 use Rattle.crs_group.specs.Partition.{PlacedLine}
+use Rattle.crs_group.specs.UnderRules.{IsCatalogueUnder}
+use Rattle.crs_rules.specs.Rules.{RulesParts}
 use Rattle.crs_group.specs.declared.placed.Placed.{Placed}
 use Rattle.crs_group.specs.declared.placed.Placed.TheVariants as placed
 use Rattle.crs_c.specs.declared.catalogue_answers.Numbered.{Numbered}
@@ -20,11 +22,11 @@ use Rattle.crs_c.specs.Refusals.{no_refusal, place_and_number}
 abbrev pub empty_at : Level → CatalogueParts
 empty_at level = record { level = level; groups = []; refused = [] }
 
--- the catalogue of no lines, at the level of this number with code 0; at full, with code 4, where
--- no level has the number
+-- the catalogue of no lines, under any rules, at the level of this number with code 0; at full, with
+-- code 4, where no level has the number
 unfoldable pub IsMadeEmpty : ℕ → CatalogueParts → ℕ → Type 0
 IsMadeEmpty number made code =
-    IsCatalogueOf [] made
+    IsCatalogueOf [] made × ((rules : RulesParts) → IsCatalogueUnder rules [] made)
     × MatchOption (level_numbered number) ((made ≡ empty_at level.Full) × (code ≡ 4))
     (λ l. (made ≡ empty_at l) × (code ≡ 0))
 
@@ -48,6 +50,17 @@ IsAdded number text old new told =
     IsCatalogue (then_line places number text place) new)
     × ((lines : List Line) → IsCatalogueOf lines old →
     IsCatalogueOf (lines ++ line_of number text ∷ []) new)
+    × (new.level ≡ old.level))
+    ⊎ ((told ≡ without_memory) × (new ≡ old))
+
+-- the line is added under the rules, and its place is answered; or out of memory, with code 3, and
+-- the catalogue is as before
+unfoldable pub IsAddedUnder : RulesParts → ℕ → List ℕ → CatalogueParts → CatalogueParts → Standing →
+    Type 0
+IsAddedUnder rules number text old new told =
+    ((place : Placed) × (told ≡ standing_of place)
+    × ((places : List PlacedLine) → IsCatalogueUnder rules places old →
+    IsCatalogueUnder rules (then_line places number text place) new)
     × (new.level ≡ old.level))
     ⊎ ((told ≡ without_memory) × (new ≡ old))
 

@@ -2,12 +2,15 @@
 ghost use Rattle.std.specs.Prelude.{◌≡◌, length};
 ghost use Rattle.std.specs.Borrow.{sem};
 ghost use Rattle.crs_group.specs.Catalogue.{CatalogueParts};
-ghost use Rattle.crs_c.specs.Catalogues.{IsAdded, IsMadeEmpty, IsPieceAt, line_at};
-ghost use Rattle.crs_c.specs.Places.{catalogue_at, has_room};
+ghost use Rattle.crs_c.specs.Catalogues.{IsAdded, IsAddedUnder, IsMadeEmpty, IsPieceAt, line_at};
+ghost use Rattle.crs_c.specs.Held.{HeldParts};
+ghost use Rattle.crs_c.specs.Places.{catalogue_at, has_room, rules_at};
 
 use crate::catalogue_answers::{Numbered, Standing};
-use crate::catalogue_calls::{added, counted, cut, let_go, looked_up, made};
+use crate::catalogue_calls::{added, added_under, counted, cut, let_go, looked_up, made};
+use crate::held_rules::HeldRules;
 use crate::piece::Piece;
+use crate::rules::RulesRoom;
 use crs_group::Catalogue;
 use std::alloc::Global;
 
@@ -46,6 +49,31 @@ pub unsafe extern "C" fn crsdesk_catalogue_add(at: *mut Room, number: u64, text:
     let held = place.read();
     let (held, told) = added(held, number, text);
     place.write(held);
+    told
+}
+
+/// Adds a text to a catalogue under rules, with the texts that are the same under them; a group's text is its form. All
+/// texts of a catalogue are added under the same rules. The code of what is answered is as of `crsdesk_catalogue_add`.
+/// The rules are as before, and the form that they keep is too. Profile.
+#[unsafe(no_mangle)]
+pub unsafe extern "C" fn crsdesk_catalogue_add_under(
+    at: *mut Room,
+    rules: *mut RulesRoom,
+    number: u64,
+    text: &[u8],
+) -> Standing
+    ghost held: { CatalogueParts × HeldParts }
+    requires* { sem 𝓛 (catalogue_at at held.0) ∗ sem 𝓛 (rules_at rules held.1) }
+    ensures* { ∃ₛ (λ (new : CatalogueParts). (sem 𝓛 (catalogue_at at new) ∗ sem 𝓛 (rules_at rules held.1)) ∗
+        ⌜ IsAddedUnder held.1.reading.rules number text.now held.0 new result ⌝) }
+{
+    let place = at as *mut Catalogue;
+    let rules_place = rules as *mut HeldRules;
+    let held = place.read();
+    let under = rules_place.read();
+    let (held, under, told) = added_under(held, under, number, text);
+    place.write(held);
+    rules_place.write(under);
     told
 }
 

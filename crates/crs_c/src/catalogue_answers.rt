@@ -1,8 +1,8 @@
 //! Where a text was placed in a catalogue, and numbers of its lines, as C has them.
 ghost use Rattle.std.specs.Prelude.{◌≡◌};
-ghost use Rattle.crs_c.specs.Catalogues.{standing_of};
+ghost use Rattle.crs_c.specs.Catalogues.{standing_of, without_memory};
 
-use crate::codes::{OK, REFUSED};
+use crate::codes::{NO_MEMORY, OK, REFUSED};
 use crate::refused::{Refused, no_refusal, place_and_number};
 use crs_group::Placed;
 
@@ -48,5 +48,16 @@ pub(crate) fn standing_of(place: Placed) -> Standing
             refused: no_refusal(),
             code: OK,
         },
+    }
+}
+
+// What is answered of a line for which there was no memory.
+pub(crate) fn without_memory() -> Standing
+    ensures { result ≡ without_memory }
+{
+    Standing {
+        group: 0,
+        refused: no_refusal(),
+        code: NO_MEMORY,
     }
 }

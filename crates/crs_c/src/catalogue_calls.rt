@@ -1,13 +1,14 @@
 //! What each call does to a catalogue, which it takes by value and hands back.
 ghost use Rattle.std.specs.Prelude.{◌≡◌, length};
-ghost use Rattle.crs_c.specs.Catalogues.{IsAdded, IsMadeEmpty, IsPieceAt, line_at};
+ghost use Rattle.crs_c.specs.Catalogues.{IsAdded, IsAddedUnder, IsMadeEmpty, IsPieceAt, line_at};
 
-use crate::catalogue_answers::{Numbered, Standing, standing_of};
-use crate::codes::{NO_LEVEL, NO_MEMORY, NO_NUMBER, OK, level_numbered};
+use crate::catalogue_answers::{Numbered, Standing, standing_of, without_memory};
+use crate::codes::{NO_LEVEL, NO_NUMBER, OK, level_numbered};
+use crate::held_rules::HeldRules;
 use crate::letting_go::let_go_anywhere;
 use crate::piece::{Piece, piece_of};
-use crate::refused::no_refusal;
 use crs_group::Catalogue;
+use crs_rules::Rules;
 use crs_value::Level;
 use std::alloc::Global;
 
@@ -28,14 +29,30 @@ pub(crate) fn added(held: Catalogue, number: u64, text: &[u8]) -> (Catalogue, St
     let mut held = held;
     match held.add(number, text) {
         Ok(place) => (held, standing_of(place)),
-        Err(_) => {
-            let told = Standing {
-                group: 0,
-                refused: no_refusal(),
-                code: NO_MEMORY,
-            };
-            (held, told)
-        }
+        Err(_) => (held, without_memory()),
+    }
+}
+
+pub(crate) fn added_under(
+    held: Catalogue,
+    rules: HeldRules,
+    number: u64,
+    text: &[u8],
+) -> (Catalogue, HeldRules, Standing)
+    ensures { (result.1 ≡ rules) × IsAddedUnder rules.reading.rules number text.now held result.0 result.2 }
+{
+    let (held, told) = added_by(held, rules.reader.rules(), number, text);
+    (held, rules, told)
+}
+
+#[tactic(auto, unfolding(crate::specs::Catalogues::IsAddedUnder))]
+fn added_by(held: Catalogue, rules: &Rules, number: u64, text: &[u8]) -> (Catalogue, Standing)
+    ensures { IsAddedUnder rules.now number text.now held result.0 result.1 }
+{
+    let mut held = held;
+    match held.add_under(number, text, rules) {
+        Ok(place) => (held, standing_of(place)),
+        Err(_) => (held, without_memory()),
     }
 }
 

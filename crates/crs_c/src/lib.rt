@@ -31,8 +31,9 @@ mod same;
 pub use canon::crsdesk_canon;
 pub use canon_each::{Entry, crsdesk_canon_each};
 pub use catalogue::{
-    Room, crsdesk_catalogue_add, crsdesk_catalogue_free, crsdesk_catalogue_groups,
-    crsdesk_catalogue_line, crsdesk_catalogue_new, crsdesk_catalogue_piece,
+    Room, crsdesk_catalogue_add, crsdesk_catalogue_add_under, crsdesk_catalogue_free,
+    crsdesk_catalogue_groups, crsdesk_catalogue_line, crsdesk_catalogue_new,
+    crsdesk_catalogue_piece,
 };
 pub use catalogue_answers::{Numbered, Standing};
 pub use check::crsdesk_check;
