@@ -124,7 +124,7 @@ struct crsdesk_entry {
    CRSDESK_NO_LEVEL.
    To go on, call again with the entries from the next on, and with an `out` that has room for the next text at least. */
 uint32_t crsdesk_canon_each(const char *texts, size_t texts_length, struct crsdesk_entry *entries, size_t count,
-                       uint32_t level, char *out, size_t room, size_t *done);
+                            uint32_t level, char *out, size_t room, size_t *done);
 
 /* Whether two texts spell the same CRS at a level.
 
@@ -186,8 +186,8 @@ uint32_t crsdesk_explain(const char *text, size_t text_length, char *out, size_t
        buffer that has the room begins with what it has with CRSDESK_OK.
    CRSDESK_NO_MEMORY, CRSDESK_NO_LEVEL. */
 uint32_t crsdesk_difference_pieces(const char *first, size_t first_length, const char *second, size_t second_length,
-                              uint32_t level, char *out, size_t room, size_t *length, size_t *ends, size_t most,
-                              size_t *count, struct crsdesk_refusal *refusal);
+                                   uint32_t level, char *out, size_t room, size_t *length, size_t *ends, size_t most,
+                                   size_t *count, struct crsdesk_refusal *refusal);
 
 /* Why a text spells no CRS, and where, as a person counts. */
 struct crsdesk_explained {
@@ -217,7 +217,7 @@ struct crsdesk_explained {
        CRSDESK_REFUSED.
    CRSDESK_NO_MEMORY. */
 uint32_t crsdesk_refusal_pieces(const char *text, size_t text_length, char *out, size_t room, size_t *length,
-                           size_t *ends, size_t most, size_t *count, struct crsdesk_explained *explained);
+                                size_t *ends, size_t most, size_t *count, struct crsdesk_explained *explained);
 
 /* The name of a refusal's number, as `UnknownKeyword`. Room for 16 bytes does.
 
