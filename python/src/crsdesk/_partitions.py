@@ -158,9 +158,7 @@ def spelled(
                 yield text, spelled_alone(text, level, missing, rules)
 
 
-def canonical_texts(
-    texts: Iterable[Any], level: Level, missing: Any, rules: Optional[Rules]
-) -> List[Optional[str]]:
+def canonical_texts(texts: Iterable[Any], level: Level, missing: Any, rules: Optional[Rules]) -> List[Optional[str]]:
     """The canonical text or the form of each text; None of one that spells no CRS."""
     answers = (answer for _, answer in spelled(texts, level, missing, rules, {}))
     return [answer[0].decode() if answer and answer[0] else None for answer in answers]

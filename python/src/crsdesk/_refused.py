@@ -134,7 +134,11 @@ class Refused(ValueError):
         told = self._parts
         if not told.line:
             return [self.summary]
-        head = f"{self.summary}, column {told.column}" if line else f"{self.summary}, line {told.line}, column {told.column}"
+        head = (
+            f"{self.summary}, column {told.column}"
+            if line
+            else f"{self.summary}, line {told.line}, column {told.column}"
+        )
         said = [head, told.piece, told.expected_line, told.open_or_meant, told.meaning, self._hints(line)]
         return [it for it in said if it]
 
