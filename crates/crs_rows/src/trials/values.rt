@@ -3,7 +3,7 @@ use crate::sameness::paths_text;
 use crate::texts::{answered, put_refusal};
 use crate::values::kind_word;
 use crs_canon::{Canon, canon, canon_of};
-use crs_same::{Differences, differences};
+use crs_same::differences;
 use crs_suite::{Trial, put_text, run_trial, unusable};
 use crs_text::{Fault, Items, Refusal, read_items};
 use crs_value::{Crs, Level, read, value_of};
@@ -79,18 +79,19 @@ impl Trial for Spelling<'_, '_> {
     }
 }
 
-// What is compared: two CRSs.
+// What is compared: two CRSs. The answer is the paths of the parts that differ, which take memory too.
 #[derive(Clone, Copy)]
 struct Comparing<'v, 't> {
     first: &'v Crs<'t>,
     second: &'v Crs<'t>,
 }
 
-impl<'v, 't> Trial for Comparing<'v, 't> {
-    type Answer = Differences<'v, 't>;
+impl Trial for Comparing<'_, '_> {
+    type Answer = Vec<u8>;
 
     fn call(&mut self, alloc: Global) -> Result<Self::Answer, AllocError> {
-        differences(alloc, self.first, self.second, Level::Full)
+        let found = differences(alloc, self.first, self.second, Level::Full)?;
+        paths_text(alloc, &found)
     }
 
     // Values that are only read can't change.
@@ -99,8 +100,7 @@ impl<'v, 't> Trial for Comparing<'v, 't> {
     }
 
     fn put_answer(&self, out: &mut String, answer: &Self::Answer) -> Result<(), AllocError> {
-        let text = paths_text(*out.allocator(), answer)?;
-        put_text(out, &text)
+        put_text(out, answer)
     }
 }
 
