@@ -263,7 +263,7 @@ class Archive:
 
 def text_of(data_set: Any) -> str:
     reference = data_set.GetLayer(0).GetSpatialRef() if data_set.GetLayerCount() else data_set.GetSpatialRef()
-    return reference.ExportToWkt(["FORMAT=WKT2_2019", "MULTILINE=NO"])
+    return str(reference.ExportToWkt(["FORMAT=WKT2_2019", "MULTILINE=NO"]))
 
 
 def kinds(archive: Archive, has_gdal: bool) -> Iterator[Tuple[int, Any]]:

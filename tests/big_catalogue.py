@@ -9,6 +9,7 @@ lines.
 """
 import os
 import sys
+from typing import Iterator, Tuple
 
 ROOT = os.path.dirname(os.path.dirname(os.path.abspath(__file__)))
 HEADS = (
@@ -26,7 +27,7 @@ HEADS = (
 REFUSED = (59, 78)
 
 
-def respelled(text, spelling):
+def respelled(text: bytes, spelling: int) -> bytes:
     """The text with `spelling % 8` spaces after each comma, and round delimiters from 8 on."""
     out = bytearray()
     quoted = False
@@ -43,7 +44,7 @@ def respelled(text, spelling):
     return bytes(out)
 
 
-def texts():
+def texts() -> Iterator[Tuple[bytes, bytes]]:
     """Each text, as what comes before the end of its name and what comes after."""
     with open(os.path.join(ROOT, "examples/catalogue.txt"), "rb") as file:
         for number, line in enumerate(file.read().splitlines(), 1):
@@ -52,7 +53,7 @@ def texts():
                 yield line[:end], line[end + 1 :]
 
 
-def main(crss, spellings):
+def main(crss: int, spellings: int) -> None:
     out = sys.stdout.buffer
     parts = [[(respelled(front, n), respelled(rest, n)) for front, rest in texts()] for n in range(spellings)]
     for spelling in parts:

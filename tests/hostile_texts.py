@@ -9,16 +9,17 @@ the line end, decides. Without a word it prints the kinds.
 import itertools
 import string
 import sys
+from typing import Callable, Dict, List, Optional
 
 SIZE = int(sys.argv[2]) if len(sys.argv) == 3 else 1 << 20
 
 
-def filled(front, part, back, more=b""):
-    """`part` as often as there is room between `front` and `back`, then `more`."""
-    return front + part * ((SIZE - len(front) - len(back) - len(more)) // len(part)) + more + back
+def filled(front: bytes, part: bytes, back: bytes) -> bytes:
+    """`part` as often as there is room between `front` and `back`."""
+    return front + part * ((SIZE - len(front) - len(back)) // len(part)) + back
 
 
-def nested(arguments):
+def nested(arguments: int) -> bytes:
     """Twelve open nodes, each of so many arguments, the next node being the last of them."""
     text = b""
     for _ in range(12):
@@ -30,41 +31,41 @@ SYSTEM = b'CS[vertical,1],AXIS["h",up],LENGTHUNIT["metre",1]'
 HEIGHT = b'VERTCRS["H",VDATUM["D"],' + SYSTEM
 
 
-def height(*parts):
+def height(*parts: bytes) -> bytes:
     """A vertical CRS with these parts after its unit."""
     return HEIGHT + b"".join(b"," + part for part in parts) + b"]"
 
 
-def many(part, length=SIZE - 200):
+def many(part: Callable[[int], bytes], length: int = SIZE - 200) -> List[bytes]:
     """`part(n)` for n = 0, 1, .., as many as have room in so many bytes."""
-    parts, left = [], length
+    parts, left = list[bytes](), length
     while (left := left - len(part(len(parts))) - 1) >= 0:
         parts.append(part(len(parts)))
     return parts
 
 
-def reversed_pair(part):
+def reversed_pair(part: Callable[[int], bytes]) -> bytes:
     """Two sets of many members, in opposite orders."""
     parts = many(part)
     return height(*parts) + b"\n" + height(*reversed(parts))
 
 
-def identifier(number):
+def identifier(number: int) -> bytes:
     return b'ID["",%d]' % number
 
 
-def usage(number, *identifiers):
+def usage(number: int, *identifiers: bytes) -> bytes:
     unit = b'LENGTHUNIT["m",1' + b"".join(b"," + it for it in identifiers) + b"]"
     return b"USAGE[VERTICALEXTENT[0,%d,%s]]" % (number, unit)
 
 
-def repeated_pair(small, big, others):
+def repeated_pair(small: bytes, big: bytes, others: int) -> bytes:
     """Two sets that are the same: one has a short member many times, the other once, in a long spelling."""
     front = [usage(number) for number in range(1, others)]
     return height(*front, *many(lambda _: small, SIZE - 4000)) + b"\n" + height(big, *front)
 
 
-def nested_pair(count):
+def nested_pair(count: int) -> bytes:
     """Two sets of so many usages, whose units have all identifiers but one each, the second in opposite orders."""
     size = (SIZE - 200) // count
     identifiers = many(identifier, size - 60)
@@ -73,7 +74,7 @@ def nested_pair(count):
     return first + b"\n" + height(*(usage(0, *reversed(it)) for it in reversed(usages)))
 
 
-def lacking_pair():
+def lacking_pair() -> bytes:
     """Two sets of usages that differ in one: its unit has one identifier many times, those of the others have it and one
     more."""
     front = many(lambda number: usage(0, identifier(0), identifier(number + 2)), SIZE // 2)
@@ -81,7 +82,7 @@ def lacking_pair():
     return height(*front, repeated) + b"\n" + height(*front, usage(0, identifier(1)))
 
 
-def shared_last_pair():
+def shared_last_pair() -> bytes:
     """Two sets that are the same: a long member, and a short one, in one set many times, which has its last identifier."""
     last = identifier(1_000_000_000)
     long, short = usage(0, *many(identifier, SIZE // 2 - 500), last), usage(0, last)
@@ -92,13 +93,13 @@ def shared_last_pair():
 FOLD_STATE, FOLD_MULTIPLIER, WORD = 0x243F6A8885A308D3, 0x9E3779B97F4A7C15, (1 << 64) - 1
 
 
-def folded(first, second):
+def folded(first: int, second: int) -> int:
     """The state after two words, each of which had its part of the state put in by xor."""
     product = first * second
     return (product & WORD) ^ (product >> 64)
 
 
-def colliding_lines():
+def colliding_lines() -> bytes:
     """Canonical texts whose bytes leave the hasher of the map in one state: it multiplies, and a word of the name is
     what the state is there, so that the product is 0 whatever word comes next."""
     back = b'",VDATUM["D"],' + b'CS[vertical,1],AXIS["h",up,ORDER[1],LENGTHUNIT["metre",1]]]'
@@ -153,26 +154,26 @@ MANY = {
 }
 
 
-def lines(line, last=b""):
+def lines(line: Callable[[int], bytes], last: bytes = b"") -> bytes:
     """`line(n)` for n = 0, 1, .., each a line, as many as have room, and the last line."""
     return b"".join(it + b"\n" for it in many(line, SIZE - len(last))) + last
 
 
-def one_set(node, last):
+def one_set(node: Callable[[int], bytes], last: bytes) -> bytes:
     """A set of `node(n)` for n = 0, 1, .., as many as have room, and the last node."""
     return b"SAME[" + b",".join([*many(node, SIZE - 6 - len(last)), last]) + b"]"
 
 
-def frame(number):
+def frame(number: int) -> bytes:
     return b'DATUM["%d"]' % number
 
 
-def pair_of_frames(number):
+def pair_of_frames(number: int) -> bytes:
     return b'SAME[DATUM["a%d"],DATUM["b%d"]]' % (number, number)
 
 
 # Files, by what their last line is: read, or refused.
-RULES = {
+RULES: Dict[str, Callable[[], bytes]] = {
     "rules-sets": lambda: lines(pair_of_frames),
     "rules-sets-and-a-repeated-node": lambda: lines(pair_of_frames, b'SAME[DATUM["c"],TRF["b0"]]'),
     "rules-one-set": lambda: one_set(frame, b'DATUM["last"]'),
@@ -192,11 +193,11 @@ RULES = {
 }
 
 
-def main(words):
+def main(words: List[str]) -> None:
     if not words:
         print("\n".join([*KINDS, *MANY, *RULES]))
     else:
-        made = {**MANY, **RULES}.get(words[0])
+        made: Optional[Callable[[], bytes]] = {**MANY, **RULES}.get(words[0])
         sys.stdout.buffer.write((made() if made else KINDS[words[0]]) + b"\n")
 
 

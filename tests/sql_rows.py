@@ -3,17 +3,11 @@ and what they promise alike. A database's own spelling of it is a Dialect."""
 
 from __future__ import annotations
 
-import pathlib
-from typing import Callable, Iterator, List, NamedTuple, Optional, Tuple
+from typing import Callable, Iterable, Iterator, List, NamedTuple, Optional, Tuple
 
-import run_cases
+import rows
+from support import CANONICAL_HEIGHT, HEIGHT, NOTED
 
-HERE = pathlib.Path(__file__).resolve().parent
-HEIGHT = 'VERTCRS["H",VDATUM["D"],CS[vertical,1],AXIS["h",up,LENGTHUNIT["metre",1]]]'
-CANONICAL_HEIGHT = 'VERTCRS["H",VDATUM["D"],CS[vertical,1],AXIS["h",up,ORDER[1],LENGTHUNIT["metre",1]]]'
-NOTED = HEIGHT[:-1] + ',REMARK["r"]]'
-# The same CRS as that of HEIGHT, spelled otherwise.
-TWIN = HEIGHT.replace("[", "(").replace("]", ")")
 LEVELS = "there are 'full' and 'definition'"
 # The limit on a text's bytes where none is set.
 LIMIT = 1_048_576
@@ -46,23 +40,6 @@ class Dialect(NamedTuple):
     set_limit: Callable[[int], str]
 
 
-class Counts:
-    """How many cases passed and failed."""
-
-    def __init__(self) -> None:
-        self.passed = self.failed = 0
-
-    def add(self, name: str, fault: str) -> None:
-        if fault:
-            self.failed += 1
-            print(f"{name}: {fault[:1000]}", flush=True)
-        else:
-            self.passed += 1
-
-    def compare(self, name: str, got: object, wanted: object) -> None:
-        self.add(name, "" if got == wanted else f"answered {str(got)[:300]!r}, wanted {str(wanted)[:300]!r}")
-
-
 def level_of(words: List[bytes]) -> Tuple[List[str], List[bytes]]:
     """A command line's level as arguments of SQL, and its other words."""
     rest = [word for word in words if word != b"--"]
@@ -75,7 +52,7 @@ def level_of(words: List[bytes]) -> Tuple[List[str], List[bytes]]:
     return [], rest
 
 
-def of_case(case: run_cases.Case, is_blob: bool, dialect: Dialect) -> Iterator[Statement]:
+def of_case(case: rows.Case, is_blob: bool, dialect: Dialect) -> Iterator[Statement]:
     """The statements that ask a row, each with its answer; none of a text that the database hasn't."""
     if case.error is not None or case.output is None or case.is_unreadable or case.status == 2 or not case.words:
         return
@@ -123,9 +100,9 @@ def are_said(texts: List[bytes], dialect: Dialect) -> bool:
     return all(dialect.literal(it, False) is not None for it in texts)
 
 
-def of_parts(case: run_cases.Case, parts: str, dialect: Dialect) -> Iterator[Statement]:
+def of_parts(case: rows.Case, parts: str, dialect: Dialect) -> Iterator[Statement]:
     """All parts in which two texts differ, each but for one whose values have escapes or separators."""
-    lines = [it for it in case.output.splitlines() if it != b"same"]
+    lines = [it for it in (case.output or b"").splitlines() if it != b"same"]
     for index, line in enumerate(lines):
         path, _, rest = line.partition(b": ")
         values = rest.split(b" | ")
@@ -138,11 +115,20 @@ def of_parts(case: run_cases.Case, parts: str, dialect: Dialect) -> Iterator[Sta
     yield case.place, f"SELECT {dialect.part(parts, 'path', len(lines))};", ""
 
 
-def rows(dialect: Dialect) -> Iterator[Statement]:
-    for path in sorted(HERE.glob("*.rows")):
-        for case in run_cases.cases_of(path):
-            for is_blob in (False, True):
-                yield from of_case(case, is_blob, dialect)
+def all_rows(dialect: Dialect) -> Iterator[Statement]:
+    for case in rows.all_cases():
+        for is_blob in (False, True):
+            yield from of_case(case, is_blob, dialect)
+
+
+def hold(statements: Iterable[Statement], answers: Iterable[str]) -> None:
+    """Each statement has the answer that it must print."""
+    wrong = [(it, got) for it, got in zip(statements, answers) if got != it[2]]
+    told = [
+        f"{place}: {statement[:100]} answered {got[:300]!r}, wanted {wanted[:300]!r}"
+        for (place, statement, wanted), got in wrong
+    ]
+    assert not wrong, "\n".join([f"{len(wrong)} statements:", *told[:20]])
 
 
 def promises(dialect: Dialect) -> Iterator[Statement]:
@@ -270,10 +256,10 @@ def of_rules(dialect: Dialect) -> Iterator[Statement]:
         f"{it}|{renamed}" for it in (CANONICAL_HEIGHT, renamed, CANONICAL_HEIGHT, FORM)
     )
     for name in ("é", "高", "\U0001f600"):
-        text = dialect.literal(HEIGHT.replace('"D"', f'"{name}"').encode(), False)
+        written = dialect.literal(HEIGHT.replace('"D"', f'"{name}"').encode(), False)
         alias = dialect.literal(f'SAME[VDATUM["D"],VDATUM["{name}"]]'.encode(), False)
-        if text is not None and alias is not None:
-            yield "characters of rules", f"SELECT crs_canon({text}, 'full', {alias});", CANONICAL_HEIGHT
+        if written is not None and alias is not None:
+            yield "characters of rules", f"SELECT crs_canon({written}, 'full', {alias});", CANONICAL_HEIGHT
     ended = dialect.literal(RULES.replace("\n", "\r\n").encode(), False)
     yield "lines that end in CRLF", f"SELECT crs_canon('{OTHER}', 'full', {ended});", FORM
     for call in UNDER:

@@ -72,7 +72,7 @@ def len_of(part: List[object]) -> List[int]:
 
 def time_postgresql(prefix: pathlib.Path, path: pathlib.Path, lines: int, folder: pathlib.Path) -> None:
     import build_postgresql
-    import run_postgresql
+    import postgresql_server
 
     lack = build_postgresql.lacking()
     if lack:
@@ -80,7 +80,7 @@ def time_postgresql(prefix: pathlib.Path, path: pathlib.Path, lines: int, folder
         return
     (folder / "server").mkdir()
     build_postgresql.build(prefix, folder / "stage", "")
-    server = run_postgresql.Server(folder / "server", folder / "stage")
+    server = postgresql_server.Server(folder / "server", folder / "stage")
     os.environ["PATH"] = server.environment["PATH"]
     with server.running():
         server.printed([], "postgres", "CREATE EXTENSION crsdesk; CREATE TABLE texts (wkt text);")

@@ -45,7 +45,7 @@ def main(words: List[str]) -> int:
     os.environ["CRSDESK_LIBRARY"] = str(prefix / "lib" / "libcrsdesk.so")
     sys.dont_write_bytecode = True
     sys.path.insert(0, str(ROOT / "python" / "src"))
-    import crsdesk  # type: ignore[import]
+    import crsdesk
 
     texts, strings = [], []
     for line in (ROOT / "examples" / "catalogue.txt").read_bytes().split(b"\n"):

@@ -19,6 +19,8 @@ objcopy and nm.
 
 The status is 0 where they are there; else 2, with a line on standard error.
 """
+from __future__ import annotations
+
 import os
 import pathlib
 import re
@@ -26,6 +28,7 @@ import shutil
 import subprocess
 import sys
 import tempfile
+from typing import Any, Dict, List, Set, Tuple, Union
 
 # The import of the file beside this one leaves nothing in the repository.
 sys.dont_write_bytecode = True
@@ -54,23 +57,23 @@ Cflags: -I${{includedir}}
 class Library(Crate):
     """The crate of the library, of which a static library is built."""
 
-    def __init__(self, *words):
+    def __init__(self, *words: Any) -> None:
         super().__init__(*words)
         self.made = self.folder / "out" / f"lib{NAME}.a"
 
-    def words(self, jobs):
+    def words(self, jobs: int) -> List[str]:
         words = super().words(jobs)
         words.remove("--statements")
         return [*words, "--crate-type", "staticlib", "--toolchain", f"{self.kit}/toolchain", "--backend", "llvm"]
 
 
-def needed(kit):
+def needed(kit: pathlib.Path) -> List[Crate]:
     """The crates below the library, each after those that it uses, and then the library."""
     *below, top = build_program.needed(kit, [NAME])
     return [*below, Library(NAME, kit, top.libraries, top.below)]
 
 
-def take_from_gate(crates):
+def take_from_gate(crates: List[Crate]) -> None:
     """Has crates be what rt ci proved last, from nothing, which is as new as their sources."""
     for crate in crates:
         crate.kept = crate.folder / "out" / "rlib"
@@ -79,7 +82,7 @@ def take_from_gate(crates):
             raise Stop(f"the gate left nothing of {crate.name}: run rt ci, or leave --over-gate away")
 
 
-def proved(is_over_gate):
+def proved(is_over_gate: bool) -> Tuple[pathlib.Path, pathlib.Path]:
     """The static library as the toolchain builds it, once all is proved, and the toolchain's folder."""
     kit = build_program.toolchain()
     crates = needed(kit)
@@ -92,7 +95,7 @@ def proved(is_over_gate):
     return crates[-1].made, kit
 
 
-def run(*words):
+def run(*words: object) -> str:
     try:
         done = subprocess.run([str(it) for it in words], stdout=subprocess.PIPE, stderr=subprocess.STDOUT, check=False)
     except FileNotFoundError as error:
@@ -102,29 +105,31 @@ def run(*words):
     return done.stdout.decode()
 
 
-def calls():
+def calls() -> List[str]:
     """The names of the calls, as the header declares them."""
     return re.findall(r"^(?!static)\w[\w *]*\b(crsdesk_\w+)\(", HEADER.read_text(encoding="utf-8"), re.MULTILINE)
 
 
-def versions():
+def versions() -> Dict[str, str]:
     """The version of the interface that each call came with, as symbols.map names both."""
     nodes = re.findall(r"^(CRSDESK_[0-9.]+) \{(.*?)^\}", SYMBOLS.read_text(encoding="utf-8"), re.MULTILINE | re.DOTALL)
     return {name: node for node, body in nodes for name in re.findall(r"\b(crsdesk_\w+);", body)}
 
 
-def shown(shared):
+def shown(shared: pathlib.Path) -> Set[str]:
     """The calls that a shared object shows, with their versions."""
     lines = run("nm", "-D", "--defined-only", "--with-symbol-versions", shared).splitlines()
     return {line.split()[2] for line in lines if line.split()[1] != "A"}
 
 
-def version():
+def version() -> str:
     text = (FOLDER / "src" / "names.rt").read_text(encoding="utf-8")
-    return re.search(r'give\(b"([0-9.]+)"', text)[1]
+    match = re.search(r'give\(b"([0-9.]+)"', text)
+    assert match
+    return match[1]
 
 
-def differences(include, whole, scratch):
+def differences(include: pathlib.Path, whole: pathlib.Path, scratch: Union[str, pathlib.Path]) -> List[str]:
     """In which structs the header of this folder differs from the library, a line each."""
     program = pathlib.Path(scratch, "layout")
     run("cc", "-std=c11", f"-I{include}", "-o", program, LAYOUT, whole)
@@ -133,14 +138,14 @@ def differences(include, whole, scratch):
     return lines if done.returncode == 0 or lines else [f"{LAYOUT.name} ended with status {done.returncode}"]
 
 
-def joined(made, kit, scratch):
+def joined(made: pathlib.Path, kit: pathlib.Path, scratch: Union[str, pathlib.Path]) -> pathlib.Path:
     """One object of the toolchain's two libraries, which still shows all names."""
     whole = pathlib.Path(scratch, "crsdesk.o")
     run("ld", "-r", "-o", whole, "--whole-archive", made, "--no-whole-archive", f"{kit}/c/liblibc_c.a")
     return whole
 
 
-def link(made, kit, folder):
+def link(made: pathlib.Path, kit: pathlib.Path, folder: pathlib.Path) -> None:
     """Both libraries, of the toolchain's two."""
     names, came = calls(), versions()
     if set(names) != set(came):
@@ -169,7 +174,7 @@ def link(made, kit, folder):
         raise Stop(f"the shared object doesn't have the names of {SYMBOLS.name}: {sorted(shown(shared) ^ wanted)}")
 
 
-def build(folder, is_over_gate):
+def build(folder: pathlib.Path, is_over_gate: bool) -> None:
     made, kit = proved(is_over_gate)
     link(made, kit, folder)
     for place, file in (("include", HEADER),):
@@ -180,7 +185,7 @@ def build(folder, is_over_gate):
     told.write_text(PC.format(version=version()), encoding="utf-8")
 
 
-def main(words):
+def main(words: List[str]) -> int:
     is_over_gate = "--over-gate" in words[:1]
     folders = words[1:] if is_over_gate else words
     if len(folders) > 1 or folders and folders[0].startswith("-"):

@@ -10,6 +10,8 @@ toolchain in these crates wait, and so does this one.
 
 The status is 0 where the program is there and is newer than its sources; else 2, with a line on standard error.
 """
+from __future__ import annotations
+
 import contextlib
 import fcntl
 import hashlib
@@ -21,6 +23,7 @@ import signal
 import subprocess
 import sys
 import time
+from typing import Dict, Iterable, Iterator, List
 
 ROOT = pathlib.Path(__file__).resolve().parent.parent
 PROGRAM = "crsdesk"
@@ -58,17 +61,17 @@ class Stop(Exception):
     """Why there is no program, or no library, in a line for the user."""
 
 
-def say(text, end="\n"):
+def say(text: str, end: str = "\n") -> None:
     """A line on standard error; on a terminal in place of the one that is rewritten."""
     front = "\r\033[K" if sys.stderr.isatty() else ""
     print(f"{front}crsdesk: {text}", end=end, file=sys.stderr, flush=True)
 
 
-def minutes(seconds):
+def minutes(seconds: float) -> str:
     return f"{int(seconds) // 60}:{int(seconds) % 60:02}"
 
 
-def toolchain():
+def toolchain() -> pathlib.Path:
     """The toolchain's folder, where its logic is that of the one that the README names."""
     if not shutil.which("rt"):
         raise Stop('the Rattle toolchain isn\'t here: no command rt. README, "Two commands", says what is needed')
@@ -84,9 +87,9 @@ def toolchain():
     return pathlib.Path(page).parent
 
 
-def listed():
+def listed() -> Dict[str, List[str]]:
     """Each crate of crates.txt with the libraries that it uses."""
-    rows = {}
+    rows: Dict[str, List[str]] = {}
     for line in (ROOT / "crates.txt").read_text(encoding="utf-8").split("\n"):
         name, _, libraries = line.partition("#")[0].partition(":")
         if name.strip():
@@ -97,7 +100,13 @@ def listed():
 class Crate:
     """A crate that the program or the library needs."""
 
-    def __init__(self, name, kit, libraries, below):
+    # Set before the crate is proved, and as its check is started.
+    stamp_now: str
+    jobs: int
+    began: float
+    process: subprocess.Popen[bytes]
+
+    def __init__(self, name: str, kit: pathlib.Path, libraries: List[str], below: List[Crate]) -> None:
         self.name = name
         self.kit = kit
         self.folder = ROOT / "crates" / name
@@ -110,16 +119,16 @@ class Crate:
         self.stamp_file = self.kept / "stamp"
         self.log = self.kept / "log"
 
-    def files(self):
+    def files(self) -> Iterator[pathlib.Path]:
         for part in PARTS:
             yield from sorted(it for it in (self.folder / part).rglob("*") if it.is_file())
 
-    def changed(self):
+    def changed(self) -> float:
         """When a source of the crate changed last; a folder changes with the names in it."""
         paths = [it for part in PARTS for it in [self.folder / part, *(self.folder / part).rglob("*")]]
         return max(it.stat().st_mtime for it in paths if it.exists())
 
-    def stamp(self):
+    def stamp(self) -> str:
         """A sum of all that the crate's verdict rests on."""
         total = hashlib.sha256((self.kit / "WHAT").read_bytes())
         total.update(repr((self.name, self.libraries)).encode())
@@ -129,12 +138,12 @@ class Crate:
             total.update(crate.stamp_now.encode())
         return total.hexdigest()
 
-    def is_proved(self):
+    def is_proved(self) -> bool:
         with contextlib.suppress(FileNotFoundError):
             return self.made.exists() and self.stamp_file.read_text(encoding="utf-8") == self.stamp_now
         return False
 
-    def words_to_check(self, jobs):
+    def words_to_check(self, jobs: int) -> List[str]:
         """The words of a check over the statements of the crates below."""
         of_kit = ["std", *(it for it in self.libraries if it not in {crate.name for crate in self.below})]
         words = ["--crate-name", self.name, "src/main.rt" if self.is_program else "src/lib.rt"]
@@ -147,13 +156,13 @@ class Crate:
         words += ["--antt-project", f"{self.kit}/rattle/logic/antt-project.json"]
         return [*words, "--logic-built", f"{self.kit}/logic_built", "--jobs", str(jobs)]
 
-    def words(self, jobs):
+    def words(self, jobs: int) -> List[str]:
         words = self.words_to_check(jobs)
         if self.is_program:
             return [*words, "--toolchain", f"{self.kit}/toolchain", "--backend", "llvm", "-o", f"{self.kept}/main.o"]
         return [*words, "--statements", "-o", str(self.made)]
 
-    def start(self, jobs):
+    def start(self, jobs: int) -> None:
         self.kept.mkdir(parents=True, exist_ok=True)
         self.stamp_file.unlink(missing_ok=True)
         self.jobs = jobs
@@ -170,13 +179,13 @@ class Crate:
         # A crate beside the chain takes what the chain leaves idle.
         os.setpriority(os.PRIO_PROCESS, self.process.pid, 0 if jobs > 1 else BESIDE)
 
-    def kill(self):
+    def kill(self) -> None:
         """Ends the check with its copies."""
         with contextlib.suppress(ProcessLookupError):
             os.killpg(self.process.pid, signal.SIGKILL)
         self.process.wait()
 
-    def finish(self):
+    def finish(self) -> bool:
         """Takes what an ended check left. A check that was killed, most likely for memory, begins again with one job."""
         if self.process.returncode == -signal.SIGKILL and self.jobs > 1:
             self.start(1)
@@ -188,7 +197,7 @@ class Crate:
         self.stamp_file.write_text(self.stamp_now, encoding="utf-8")
         return True
 
-    def link(self):
+    def link(self) -> None:
         made = f"{self.kept}/{self.name}"
         words = ["--target", TARGET, "--toolchain", f"{self.kit}/toolchain", "-o", made, f"{self.kept}/main.o"]
         words += [f"{self.kit}/c/libos_c.a", f"{self.kit}/c/liblibc_c.a"]
@@ -199,14 +208,15 @@ class Crate:
         os.replace(made, self.made)
 
 
-def needed(kit, names=(PROGRAM,)):
+def needed(kit: pathlib.Path, names: Iterable[str] = (PROGRAM,)) -> List[Crate]:
     """These crates and those that they need, each after those that it uses."""
-    rows, found = listed(), {}
+    rows: Dict[str, List[str]] = listed()
+    found: Dict[str, Crate] = {}
 
-    def visit(name):
+    def visit(name: str) -> None:
         if name in found:
             return
-        below = []
+        below: List[Crate] = []
         for library in rows[name]:
             if library in rows:
                 visit(library)
@@ -221,10 +231,10 @@ def needed(kit, names=(PROGRAM,)):
 class Progress:
     """Says how far the work is: on a terminal in one line that is rewritten, else in a line a crate."""
 
-    def __init__(self, crates, what):
+    def __init__(self, crates: List[Crate], what: str) -> None:
         self.crates = crates
         self.began = time.monotonic()
-        self.proved = []
+        self.proved: List[Crate] = []
         self.is_terminal = sys.stderr.isatty()
         # What the crates before were known to take, and what they took.
         self.known = self.spent = 0.0
@@ -232,24 +242,24 @@ class Progress:
         noun = "crate" if len(crates) == 1 else "crates"
         say(f"proving and building {what}: {len(crates)} {noun}, about {left} on four cores")
 
-    def left(self, running):
+    def left(self, running: List[Crate]) -> float:
         """Seconds that are left, by the known times and by how the crates before compare with theirs: a crate waits for
         those below it alone."""
         pace = self.spent / self.known if self.known else 1.0
-        ends = {}
+        ends: Dict[Crate, float] = {}
         for crate in self.crates:
             begins = max((ends[it] for it in crate.below if it in ends), default=0.0)
             ends[crate] = begins + self.rest(crate, pace, crate in running)
         return max(ends.values())
 
-    def rest(self, crate, pace, is_running):
+    def rest(self, crate: Crate, pace: float, is_running: bool) -> float:
         """Seconds that a crate takes yet."""
         if crate in self.proved:
             return 0.0
         known = KNOWN_SECONDS.get(crate.name, 60) * pace
         return max(known - (time.monotonic() - crate.began), 5.0) if is_running else known
 
-    def add(self, crate, running):
+    def add(self, crate: Crate, running: List[Crate]) -> None:
         self.proved.append(crate)
         took = time.monotonic() - crate.began
         self.spent += took
@@ -258,12 +268,12 @@ class Progress:
         text = f"{len(self.proved)} of {len(self.crates)}, {crate.name} {done} in {minutes(took)}"
         self.tell(text, running, ends=not self.is_terminal or len(self.proved) == len(self.crates))
 
-    def show(self, running):
+    def show(self, running: List[Crate]) -> None:
         if self.is_terminal and running:
             names = " and ".join(it.name for it in running)
             self.tell(f"{len(self.proved)} of {len(self.crates)} proved, now {names}", running, ends=False)
 
-    def tell(self, text, running, ends):
+    def tell(self, text: str, running: List[Crate], ends: bool) -> None:
         so_far = minutes(time.monotonic() - self.began)
         text += f"; {so_far} so far"
         if len(self.proved) < len(self.crates):
@@ -272,20 +282,21 @@ class Progress:
             say(text, end="\n" if ends else "")
 
 
-def jobs_of_this_machine():
+def jobs_of_this_machine() -> int:
     cores = len(os.sched_getaffinity(0))
     memory = os.sysconf("SC_PHYS_PAGES") * os.sysconf("SC_PAGE_SIZE")
     return max(min(cores, MOST_JOBS, memory // JOB_BYTES), 1)
 
 
-def prove(crates, what):
+def prove(crates: List[Crate], what: str) -> None:
     """Proves what isn't proved yet for the program or the library, as it is called: the chain of crates with all jobs, a
     crate beside it with one."""
     jobs = jobs_of_this_machine()
     left = [it for it in crates if not it.is_proved()]
     if not left:
         return
-    progress, running = Progress([*left], what), []
+    progress = Progress([*left], what)
+    running: List[Crate] = []
     try:
         while left or running:
             ready = [it for it in left if not any(below in left or below in running for below in it.below)]
@@ -308,7 +319,7 @@ def prove(crates, what):
 
 
 @contextlib.contextmanager
-def alone(crates):
+def alone(crates: List[Crate]) -> Iterator[None]:
     """Keeps every other run of the toolchain out of these crates, as its own runs do."""
     held = [os.open(it.folder, os.O_RDONLY) for it in sorted(crates, key=lambda it: str(it.folder))]
     try:
@@ -324,7 +335,7 @@ def alone(crates):
             os.close(file)
 
 
-def build():
+def build() -> None:
     kit = toolchain()
     crates = needed(kit)
     program = crates[-1].made
@@ -338,7 +349,7 @@ def build():
         os.utime(program)
 
 
-def main():
+def main() -> int:
     if len(sys.argv) > 1:
         sys.exit(__doc__)
     for number in (signal.SIGTERM, signal.SIGHUP):

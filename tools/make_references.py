@@ -5,7 +5,7 @@ the manual pages man/*.3 of crates/crs_c/crsdesk.h, a page crsdesk(3) to which t
     make_references.py [FOLDER]
 
 They are written below the folder, the repository where none is given. Nothing is imported or compiled: the sources are
-read as text. tests/run_references.py holds what the repository has against what this writes.
+read as text. tests/test_references.py holds what the repository has against what this writes.
 """
 import ast
 import pathlib

@@ -257,11 +257,11 @@ class Job:
 def real_texts() -> List[bytes]:
     """Each text of examples/, and each of the rows of tests/ that looks like one, whether it spells a CRS or not."""
     sys.path.append(str(ROOT / "tests"))
-    cases_of = importlib.import_module("run_cases").cases_of
+    cases = importlib.import_module("rows").all_cases()
     folder = ROOT / "examples"
     texts = [path.read_bytes() for path in (*folder.glob("*.wkt"), *(folder / "exports").iterdir())]
     texts += (folder / "catalogue.txt").read_bytes().splitlines()
-    for case in [case for path in (ROOT / "tests").glob("*.rows") for case in cases_of(path)]:
+    for case in cases:
         texts += [*case.words, case.input, *case.input.splitlines()]
     return sorted({text for text in texts if re.search(rb"[\[(]", text) and len(text) <= MOST_BYTES})
 

@@ -34,7 +34,7 @@ ROOT = pathlib.Path(__file__).resolve().parent.parent
 os.environ.setdefault("CRSDESK_LIBRARY", str(ROOT / "out" / "prefix" / "lib" / "libcrsdesk.so"))
 sys.dont_write_bytecode = True
 sys.path.insert(0, str(ROOT / "python" / "src"))
-import crsdesk  # type: ignore[import]
+import crsdesk
 
 SHIPPED = [str(ROOT / "rules" / name) for name in ("producers.rules", "any-order.rules")]
 FIRST = "WKT2_2019"

@@ -1,12 +1,5 @@
-#!/usr/bin/env python3
-"""Tries what `python -m crsdesk audit` does with old forms (--convert), with a registry (--registry), and with texts that
-belong to one data set; and of what kind differences are.
-
-    audit_forms.py
-
-run_audit.py runs it with a Python that has what the command needs. What isn't there is named as skipped. Each case that
-fails has a line; the last line is 'N passed, M failed', and the status is 0 where M is 0.
-"""
+"""What `python -m crsdesk audit` does with old forms (--convert), with a registry (--registry), and with texts that belong to
+one data set; and of what kind differences are."""
 from __future__ import annotations
 
 import importlib.util
@@ -15,21 +8,20 @@ import os
 import pathlib
 import random
 import re
-import sys
-import traceback
-from typing import Any, Callable, Dict, List, Optional, Tuple
+from typing import Any, Dict, List, Optional, Tuple
 
-sys.dont_write_bytecode = True
-from audit_cases import HEIGHT, audit, folder
-from audit_hostile import server
+import pytest
+from support import HEIGHT, ROOT, need
+from test_audit import audit, folder
+from test_audit_hostile import server
 
 from crsdesk import Crs, Difference
 from crsdesk.audit import converting, kinds, marking, names, registry
 from crsdesk.audit.datasets import belongs_to
 
-HAS_GDAL = importlib.util.find_spec("osgeo") is not None
-HAS_PROJ = HAS_GDAL or importlib.util.find_spec("pyproj") is not None
-EXAMPLES = pathlib.Path(__file__).resolve().parent.parent / "examples" / "exports"
+HAS_PROJ = any(importlib.util.find_spec(package) for package in ("osgeo", "pyproj"))
+by_proj = pytest.mark.skipif(not HAS_PROJ, reason="neither osgeo nor pyproj is there")
+EXAMPLES = ROOT / "examples" / "exports"
 SHIFT = "598.1,73.7,418.2,0.202,0.045,-2.455,6.7"
 RD = (
     "+proj=sterea +lat_0=52.1561605555556 +lon_0=5.38763888888889 +k=0.9999079 +x_0=155000 +y_0=463000 +ellps=bessel "
@@ -85,7 +77,8 @@ def forms() -> Dict[str, str]:
     }
 
 
-def old_forms_are_read_where_that_is_asked() -> None:
+@by_proj
+def test_old_forms_are_read_where_that_is_asked() -> None:
     place = written("forms", forms())
     status, _, data = data_of(place)
     assert status == 1 and [*by_file(data)] == ["itself.wkt"] and len(data["refused"]) == 9
@@ -108,7 +101,8 @@ def old_forms_are_read_where_that_is_asked() -> None:
     assert miss["kind"] == "datum" and [it["path"] for it in miss["pairs"][0]["parts"]] == ["transformation"]
 
 
-def the_order_of_conversions_changes_nothing() -> None:
+@by_proj
+def test_the_order_of_conversions_changes_nothing() -> None:
     place = written("shuffled", forms())
     paths = [str(place / name) for name in forms()]
     reports = []
@@ -123,7 +117,8 @@ def the_order_of_conversions_changes_nothing() -> None:
     assert reports[0] == reports[1] == reports[2]
 
 
-def what_is_repaired_is_refused() -> None:
+@by_proj
+def test_what_is_repaired_is_refused() -> None:
     """With PROJ's words, or with what it passes over."""
     esri = text_of("wgs84_esri.prj")
     wanted = {
@@ -151,7 +146,8 @@ def what_is_repaired_is_refused() -> None:
     assert status == 1 and [it["doubts"] for it in data["refused"]] == [[], []]
 
 
-def common_strings_are_read() -> None:
+@by_proj
+def test_common_strings_are_read() -> None:
     """Strings as tools write them, whose parameters say some things twice."""
     for text in (
         "+proj=utm +zone=33 +ellps=WGS84 +datum=WGS84 +units=m +no_defs",
@@ -178,7 +174,8 @@ def common_strings_are_read() -> None:
         assert found and found.warnings and not found.text, (text, found)
 
 
-def a_conversion_fetches_nothing() -> None:
+@by_proj
+def test_a_conversion_fetches_nothing() -> None:
     with server() as (address, asked):
         texts = [
             f"{address}/a",
@@ -196,7 +193,7 @@ def a_conversion_fetches_nothing() -> None:
         assert asked == [], asked
 
 
-def what_isnt_there_is_told() -> None:
+def test_what_isnt_there_is_told() -> None:
     place = folder() / "without"
     for name in ("osgeo", "pyproj"):
         (place / name).mkdir(parents=True)
@@ -212,10 +209,10 @@ def what_isnt_there_is_told() -> None:
 # Data sets.
 
 
-def texts_of_one_data_set_are_compared() -> None:
+@by_proj
+def test_texts_of_one_data_set_are_compared() -> None:
     """A shapefile, its .prj, and a .qpj that says another zone; one that is sound; and texts that stand alone."""
-    if not HAS_GDAL:
-        return
+    need("python3:osgeo")
     from osgeo import gdal, ogr, osr
 
     gdal.UseExceptions()
@@ -247,7 +244,7 @@ def texts_of_one_data_set_are_compared() -> None:
     assert data["summary"]["disagreeing"] == 0 and [it["kind"] for it in data["data_sets"]] == [None, None]
 
 
-def what_belongs_together() -> None:
+def test_what_belongs_together() -> None:
     together = [("a/b.shp", "b"), ("a/b.PRJ", ""), ("a/b.qpj", "")]
     keys = {(it.archive, it.path) for it in (belongs_to(*place) for place in together) if it}
     assert keys == {("", "a/b")}
@@ -259,7 +256,8 @@ def what_belongs_together() -> None:
 # The registry.
 
 
-def verdicts_of_the_registry() -> None:
+@by_proj
+def test_verdicts_of_the_registry() -> None:
     rd = text_of("rd_projinfo_2019.wkt")
     bare = re.sub(r",USAGE\[.*", "]", rd)
     zone = re.sub(r",USAGE\[.*", "]", text_of("utm31_projinfo_2019.wkt"))
@@ -289,7 +287,8 @@ def verdicts_of_the_registry() -> None:
             assert found.other in ("EPSG:28991", "EPSG:32632"), found.other
 
 
-def registry_is_no_part_of_sameness() -> None:
+@by_proj
+def test_registry_is_no_part_of_sameness() -> None:
     """Groups and near misses are those without it."""
     place = written("sameness", {**forms(), "odd.wkt": text_of("rd_projinfo_2019.wkt").replace("155000", "155001")})
     status, output, data = data_of(place, "--convert", "--registry")
@@ -309,7 +308,7 @@ def registry_is_no_part_of_sameness() -> None:
 # Kinds of differences.
 
 
-def kinds_of_differences() -> None:
+def test_kinds_of_differences() -> None:
     kind = kinds.Kind
     degree, other = 'ANGLEUNIT["degree",0.0174532925199433]', 'ANGLEUNIT["Degree",0.017453292519943295]'
     cases: List[Tuple[List[Tuple[str, Optional[str], Optional[str]]], kinds.Kind]] = [
@@ -347,7 +346,7 @@ def kinds_of_differences() -> None:
     ]
 
 
-def differing_characters_are_marked() -> None:
+def test_differing_characters_are_marked() -> None:
     def told(first: Optional[str], second: Optional[str]) -> List[str]:
         return [
             "".join(f"<{it.text}>" if it.differs else it.text for it in side)
@@ -360,39 +359,3 @@ def differing_characters_are_marked() -> None:
     assert told("a", None) == ["a", ""] and told("same", "same") == ["same", "same"]
     assert told("x" * 3000 + " " * 3000 + "a", "x" * 3000 + " " * 3000 + "b")[0].endswith(" <a>")
     assert told("ab", "") == ["<ab>", ""] and told("aXb aYb", "aZb aYb") == ["a<X>b aYb", "a<Z>b aYb"]
-
-
-CASES: List[Callable[[], None]] = [
-    old_forms_are_read_where_that_is_asked,
-    the_order_of_conversions_changes_nothing,
-    what_is_repaired_is_refused,
-    common_strings_are_read,
-    a_conversion_fetches_nothing,
-    what_isnt_there_is_told,
-    texts_of_one_data_set_are_compared,
-    what_belongs_together,
-    verdicts_of_the_registry,
-    registry_is_no_part_of_sameness,
-    kinds_of_differences,
-    differing_characters_are_marked,
-]
-WITHOUT_PROJ = (what_isnt_there_is_told, what_belongs_together, kinds_of_differences, differing_characters_are_marked)
-
-
-def main() -> int:
-    passed = failed = 0
-    if not HAS_PROJ:
-        print("skipped: neither osgeo nor pyproj is there: an audit of old forms, and with a registry")
-    for case in CASES if HAS_PROJ else WITHOUT_PROJ:
-        try:
-            case()
-            passed += 1
-        except Exception:
-            failed += 1
-            print(f"{case.__name__}: {''.join(traceback.format_exc().splitlines(keepends=True)[-5:]).rstrip()}")
-    print(f"{passed} passed, {failed} failed")
-    return 1 if failed else 0
-
-
-if __name__ == "__main__":
-    sys.exit(main())

@@ -10,8 +10,8 @@ clauses alone. Each must be in a file of the table of words of docs/THEOREMS.md,
 by proofs alone, and below a sentence, a comment. And each definition, call, law and clause that docs/THEOREMS.md names
 must be there.
 
-Prints the definitions and lines of each crate, and with -v each definition, its lines, whether it has a comment, and
-what cites it first; then what is wrong, and 'N passed, M failed'. The status is 0 where M is 0. Nothing is proved.
+Prints the definitions and lines of each crate, with -v each definition and what cites it first, and what is wrong, which
+tests/test_believed.py has as tests. Nothing is proved.
 """
 import fnmatch
 import pathlib
@@ -344,35 +344,46 @@ def lost(said: Told) -> Iterator[str]:
                 yield f"the clause {name} of {' '.join(row.columns[1])}"
 
 
-def main() -> int:
+class Found(NamedTuple):
+    """What docs/THEOREMS.md says, the definitions that are reached, each with what cites it first, and their files."""
+
+    said: Told
+    reached: dict[Name, str]
+    files: dict[tuple[str, str], Specs]
+
+    def definition(self, name: Name) -> Optional[Definition]:
+        return self.files[name.crate, name.file].definitions.get(name.name)
+
+    def fault(self, name: Name) -> str:
+        """What is wrong with a definition that is reached; nothing where nothing is."""
+        if (name.crate, name.file) in self.said.computing:
+            return f"{name} computes, and is cited by {self.reached[name]}"
+        if not any((name.crate, name.file) in files_of(row) for row in self.said.words):
+            return f"{name} is in no file of the table, and is cited by {self.reached[name]}"
+        definition = self.definition(name)
+        if not definition:
+            return f"{name} has no text that was found"
+        return (
+            "" if definition.has_comment else f"{name} has no sentence before it, and is cited by {self.reached[name]}"
+        )
+
+
+def find() -> Found:
     said = told()
-    words = {file for row in said.words for file in files_of(row)}
-    reached, files = believed({claim for row in said.claims for claim in claimed(row)})
-    counts: dict[str, tuple[int, int, int]] = {}
-    wrong = [f"{name} isn't there" for name in lost(said)]
-    for name, by in sorted(reached.items()):
-        definition = files[name.crate, name.file].definitions.get(name.name)
-        lines, is_bare = (definition.lines, not definition.has_comment) if definition else (0, False)
-        all_, total, bare = counts.get(name.crate, (0, 0, 0))
-        counts[name.crate] = all_ + 1, total + lines, bare + is_bare
-        if "-v" in sys.argv:
-            print(f"{name} {lines}{' bare' * is_bare} by {by}")
-        if (name.crate, name.file) in said.computing:
-            wrong.append(f"{name} computes, and is cited by {by}")
-        elif (name.crate, name.file) not in words:
-            wrong.append(f"{name} is in no file of the table, and is cited by {by}")
-        elif not definition:
-            wrong.append(f"{name} has no text that was found")
-        elif is_bare:
-            wrong.append(f"{name} has no sentence before it, and is cited by {by}")
+    return Found(said, *believed({claim for row in said.claims for claim in claimed(row)}))
+
+
+def main() -> None:
+    found = find()
     for crate in LIBRARIES:
-        print(f"{crate}: %d definitions, %d lines, %d without a comment" % counts.get(crate, (0, 0, 0)))
-    print("together: %d definitions, %d lines, %d without a comment" % tuple(map(sum, zip(*counts.values()))))
-    for why in wrong:
-        print(why)
-    print(f"{max(len(reached) - len(wrong), 0)} passed, {len(wrong)} failed")
-    return 1 if wrong else 0
+        names = sorted(name for name in found.reached if name.crate == crate)
+        lines = [definition.lines for name in names if (definition := found.definition(name))]
+        print(f"{crate}: {len(names)} definitions, {sum(lines)} lines")
+        for name in names if "-v" in sys.argv else ():
+            print(f"{name} by {found.reached[name]}")
+    for why in [*(f"{name} isn't there" for name in lost(found.said)), *map(found.fault, sorted(found.reached))]:
+        print(why, end="\n" * bool(why))
 
 
 if __name__ == "__main__":
-    sys.exit(main())
+    main()

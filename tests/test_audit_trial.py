@@ -1,19 +1,18 @@
 #!/usr/bin/env python3
-"""Audits an archive as archives are, and tells how many of its pairs and planted mistakes are found.
+"""An archive as archives are, and how many of its pairs and planted mistakes an audit finds.
 
-    audit_trial.py [--make FOLDER | --list]
+    test_audit_trial.py [--make FOLDER | --list]
 
 The archive has 53 registered CRSs in ten forms: shapefiles with Esri's .prj, some with a .qpj, GeoTIFFs, GeoPackages,
 GeoJSON, NetCDF, texts in WKT2:2019, WKT2:2015 and WKT1, zips; and bound CRSs, damaged texts and planted mistakes, which
 --list prints. Of each text it is known which CRS it is meant to be. It is audited as it is, with conversion and the
-registry, and under the rules that ship too. --make makes the archive alone. It needs osgeo, and names it as skipped where
-it isn't there. The figures are printed; each that is worse than it was has a line; the last line is 'N passed, M failed',
-and the status is 0 where M is 0.
+registry, and under the rules that ship too. --make makes the archive alone. Without words the figures are printed, which
+pytest holds against those that were reached.
 """
 from __future__ import annotations
 
 import collections
-import importlib.util
+import importlib
 import itertools
 import json
 import os
@@ -25,6 +24,8 @@ import sys
 import tempfile
 import zipfile
 from typing import Any, Callable, Dict, Iterable, Iterator, List, NamedTuple, Tuple
+
+import pytest
 
 GEOGRAPHIC = (4326, 4258, 4269, 4267, 4289, 4314, 4230, 4283, 4167, 4807)
 PROJECTED = (
@@ -469,29 +470,25 @@ def are_apart(data: Dict[str, Any], archive: Archive) -> bool:
     return [len(it) for it in groups if it] == 4 * [1]
 
 
-def main(words: List[str]) -> int:
+@pytest.mark.needs("python3:osgeo")
+def test_figures(tmp_path: pathlib.Path, library: pathlib.Path) -> None:
+    assert [name for name, is_so in tell(make(tmp_path)) if not is_so] == []
+
+
+def main(words: List[str]) -> None:
+    # It sets where the package is.
+    importlib.import_module("conftest")
     if words == ["--list"]:
         for mistake in MISTAKES:
             print(f"EPSG:{mistake.code} {mistake.form}: {mistake.name}")
-        return 0
-    if words and (words[0] != "--make" or len(words) != 2):
-        sys.exit(__doc__)
-    if importlib.util.find_spec("osgeo") is None:
-        print("skipped: osgeo isn't there: the trial of an archive")
-        print("0 passed, 0 failed")
-        return 0
-    if words:
+    elif len(words) == 2 and words[0] == "--make":
         make(pathlib.Path(os.path.abspath(words[1])))
-        return 0
-    passed = failed = 0
-    with tempfile.TemporaryDirectory() as folder:
-        for name, is_so in tell(make(pathlib.Path(folder))):
-            passed, failed = passed + is_so, failed + (not is_so)
-            if not is_so:
-                print(f"audit_trial: not so: {name}")
-    print(f"{passed} passed, {failed} failed")
-    return 1 if failed else 0
+    elif words:
+        sys.exit(__doc__)
+    else:
+        with tempfile.TemporaryDirectory() as folder:
+            list(tell(make(pathlib.Path(folder))))
 
 
 if __name__ == "__main__":
-    sys.exit(main(sys.argv[1:]))
+    main(sys.argv[1:])

@@ -1,12 +1,4 @@
-#!/usr/bin/env python3
-"""Tries `python -m crsdesk audit` on data sets that mean ill: what they name isn't fetched, and what they swell to
-isn't written.
-
-    audit_hostile.py
-
-run_audit.py runs it with a Python that has what the command needs. What isn't there is named as skipped. Each case that
-fails has a line; the last line is 'N passed, M failed', and the status is 0 where M is 0.
-"""
+"""`python -m crsdesk audit` on data sets that mean ill: what they name isn't fetched, and what they swell to isn't written."""
 from __future__ import annotations
 
 import contextlib
@@ -22,13 +14,12 @@ import sqlite3
 import subprocess
 import sys
 import threading
-import traceback
 import urllib.request
 import zipfile
-from typing import Any, Callable, Dict, Iterator, List, Tuple
+from typing import Any, Dict, Iterator, List, Tuple
 
-sys.dont_write_bytecode = True
-from audit_cases import HEIGHT, audit, folder
+from support import HEIGHT, need
+from test_audit import audit, folder
 
 HAS_GDAL = importlib.util.find_spec("osgeo") is not None
 POINT = {"type": "Feature", "properties": {}, "geometry": {"type": "Point", "coordinates": [1, 2]}}
@@ -152,7 +143,7 @@ def make_linked_vectors(place: pathlib.Path, address: str) -> None:
     (place / "vector.prj").write_text(f"{address}/prj")
 
 
-def nothing_is_fetched() -> None:
+def test_nothing_is_fetched() -> None:
     """By the command, whose processes have no network where the system lets them leave it; and where they couldn't."""
     place = folder() / "links"
     place.mkdir()
@@ -184,7 +175,7 @@ def nothing_is_fetched() -> None:
         assert asked == ["/it"], asked
 
 
-def a_process_leaves_the_network() -> None:
+def test_a_process_leaves_the_network() -> None:
     """Where the system lets it; and so that it stays the same user, who may read and write as before."""
     program = (
         "import os, socket, sys; from crsdesk.audit import offline\n"
@@ -213,11 +204,10 @@ def a_process_leaves_the_network() -> None:
 # One report whatever the order.
 
 
-def the_order_changes_nothing() -> None:
+def test_the_order_changes_nothing() -> None:
     """Data sets of several CRSs that share parts, by several drivers: each text is the one that its file has alone, in
     any order, and by 1, 2 and 4 processes."""
-    if not HAS_GDAL:
-        return
+    need("python3:osgeo")
     place = folder() / "order"
     place.mkdir()
     paths = make_alike(place)
@@ -269,10 +259,9 @@ def make_alike(place: pathlib.Path) -> List[str]:
 # Damage isn't repaired.
 
 
-def damage_is_told() -> None:
+def test_damage_is_told() -> None:
     """Shapefiles whose .prj is damaged, and GeoJSON that names what isn't known: none is accepted, in a zip neither."""
-    if not HAS_GDAL:
-        return
+    need("python3:osgeo")
     place = folder() / "damage"
     place.mkdir()
     wanted = make_damaged_shapefiles(place) | make_unknown(place)
@@ -382,7 +371,7 @@ def make_geopackage(path: pathlib.Path, definition: str, layers: int) -> None:
         base.commit()
 
 
-def a_definition_is_fetched_once() -> None:
+def test_a_definition_is_fetched_once() -> None:
     """30,000 layers of one definition: one that is too long, and one that is read. Their order is by name."""
     layers = 30_000
     for length, wanted in ((3_000_000, "unread"), (1_000_000, "accepted")):
@@ -401,7 +390,7 @@ def a_definition_is_fetched_once() -> None:
         assert found == [f"layer {number:05}" for number in range(layers)], (len(found), found[:3])
 
 
-def what_a_view_sorts_isnt_written() -> None:
+def test_what_a_view_sorts_isnt_written() -> None:
     """A view that sorts gigabytes, and one that takes forever to find nothing."""
     place = folder() / "views"
     place.mkdir()
@@ -418,32 +407,3 @@ def what_a_view_sorts_isnt_written() -> None:
     status, _, error, data = audit_writing_little(place)
     told = {pathlib.Path(it["place"]["file"]).stem: it["why"] for it in data["unread"]}
     assert (status, told) == (2, {"sorts": "out of memory", "waits": "SQLite: interrupted"}), (status, error)
-
-
-CASES: List[Callable[[], None]] = [
-    nothing_is_fetched,
-    a_process_leaves_the_network,
-    the_order_changes_nothing,
-    damage_is_told,
-    a_definition_is_fetched_once,
-    what_a_view_sorts_isnt_written,
-]
-
-
-def main() -> int:
-    passed = failed = 0
-    if not HAS_GDAL:
-        print("skipped: osgeo isn't there: what GDAL would fetch")
-    for case in CASES:
-        try:
-            case()
-            passed += 1
-        except Exception:
-            failed += 1
-            print(f"{case.__name__}: {''.join(traceback.format_exc().splitlines(keepends=True)[-5:]).rstrip()}")
-    print(f"{passed} passed, {failed} failed")
-    return 1 if failed else 0
-
-
-if __name__ == "__main__":
-    sys.exit(main())

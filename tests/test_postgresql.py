@@ -1,48 +1,31 @@
-#!/usr/bin/env python3
-"""Tries the extension for PostgreSQL in a server of its own.
+"""The extension for PostgreSQL, built under all warnings, in a server of its own (postgresql_server.py).
 
-    run_postgresql.py [PREFIX]
-
-PREFIX has the header and the static library, as tools/build_library.py makes them (out/prefix where none is
-given). The extension is built anew by PGXS, under all warnings, below a temporary folder; beside it go the server's
-programs and links to all else that it needs, since a server looks for its files from where its program lies. So nothing
-of the system's is touched. The server runs as nobody where root calls, and is reached by a socket in that folder alone.
-
-The rows of the .rows files beside this one are asked of the functions, as text and as bytea, in databases of three
-encodings; then come what no text is, levels, constraints, indexes, generated columns, a parallel plan over a million
-rows, a cancelled query, the limit on a text's length, dump and restore, an update from each older version, entries of a
-GeoPackage, the commands that docs/SQL.md shows, and each growth of memory refused in turn. What isn't there is named as skipped. Each case that
-fails has a line; the last line is 'N passed, M failed', and the status is 0 where M is 0.
+The rows of the .rows files are asked of the functions, as text and as bytea, in databases of three encodings; then come
+what no text is, levels, constraints, indexes, generated columns, a parallel plan over a million rows, a cancelled query,
+the limit on a text's length, dump and restore, an update from each older version, entries of a GeoPackage, the commands
+that docs/SQL.md shows, and each growth of memory refused in turn.
 """
 from __future__ import annotations
 
 import contextlib
 import os
 import pathlib
-import pwd
 import re
-import shutil
-import signal
 import sqlite3
 import subprocess
-import sys
 import tempfile
-import time
-from typing import Any, Dict, Iterator, List, Optional
+from typing import Dict, Iterator, Optional
 
-HERE = pathlib.Path(__file__).resolve().parent
-ROOT = HERE.parent
-
-# The imports of the repository's own files leave nothing in it.
-sys.dont_write_bytecode = True
-sys.path.append(str(ROOT / "tools"))
 import build_postgresql
-import run_documents
+import documents
+import pytest
 import sql_rows
-from sql_rows import CANONICAL_HEIGHT, HEIGHT, NOTED, TWIN, Counts, Statement
+from postgresql_server import Server, below
+from sql_rows import Statement
+from support import CANONICAL_HEIGHT, HEIGHT, HERE, NOTED, ROOT, TWIN, need, run, succeed
 
+pytestmark = pytest.mark.xdist_group("postgresql")
 SECONDS = 600
-USER = "tester"
 # Python's names of the encodings of the databases; of SQL_ASCII a text is any bytes but NUL.
 ENCODINGS: Dict[str, Optional[str]] = {"UTF8": "utf-8", "LATIN1": "latin-1", "SQL_ASCII": None}
 # The variable of the environment by which docs/SQL.md asks for a server: its folder of sockets.
@@ -51,7 +34,6 @@ SERVER = "$CRSDESK_POSTGRESQL"
 POSTGIS, POSTGIS_FILE = "$CRSDESK_POSTGIS", "extension/postgis.control"
 # More growths than any call here makes.
 MOST_GROWTHS = 250
-LACKS = "the extension for PostgreSQL"
 CONTROL = (build_postgresql.SOURCES / "crsdesk.control").read_text(encoding="utf-8")
 VERSION = CONTROL.partition("default_version = '")[2].partition("'")[0]
 # The scripts of the oldest version that can be made, and those that update one to another.
@@ -89,164 +71,79 @@ def dialect_of(encoding: str) -> sql_rows.Dialect:
     )
 
 
-def run(words: List[object], **more: Any) -> "subprocess.CompletedProcess[str]":
-    """Runs a command; what it writes comes back as one text."""
-    return subprocess.run(
-        [str(word) for word in words],
-        stdout=subprocess.PIPE,
-        stderr=subprocess.STDOUT,
-        text=True,
-        timeout=SECONDS,
-        check=False,
-        **more,
-    )
+@pytest.fixture(scope="module")
+def stage(prefix: pathlib.Path) -> Iterator[pathlib.Path]:
+    """The folder below which the extension was put; other users may read it."""
+    lack = build_postgresql.lacking()
+    if lack or not (build_postgresql.folder_of("bindir") / "postgres").exists():
+        pytest.skip(lack or "no server of PostgreSQL")
+    with tempfile.TemporaryDirectory() as name:
+        folder = pathlib.Path(name)
+        folder.chmod(0o755)
+        build_postgresql.build(prefix, folder / "stage", "-Werror")
+        yield folder / "stage"
 
 
-class Server:
-    """A server of its own below a folder, in which the extension was put by PGXS."""
-
-    def __init__(self, folder: pathlib.Path, stage: pathlib.Path) -> None:
-        programs = build_postgresql.folder_of("bindir")
-        self.programs = programs
-        self.folder = folder
-        self.own = below(stage, programs)
-        self.own.mkdir(parents=True, exist_ok=True)
-        for name in ("postgres", "initdb"):
-            shutil.copy(programs / name, self.own)
-        for kind in ("pkglibdir", "sharedir"):
-            add_links(build_postgresql.folder_of(kind), below(stage, build_postgresql.folder_of(kind)))
-        self.user: Dict[str, Any] = {}
-        if os.geteuid() == 0:
-            nobody = pwd.getpwnam("nobody")
-            self.user = {"user": nobody.pw_uid, "group": nobody.pw_gid, "extra_groups": []}
-            os.chown(folder, nobody.pw_uid, nobody.pw_gid)
-        words = [
-            self.own / "initdb",
-            "-D",
-            folder / "data",
-            "-U",
-            USER,
-            "-A",
-            "trust",
-            "-E",
-            "UTF8",
-            "--no-locale",
-            "-N",
-        ]
-        done = run(words, cwd=folder, env={**os.environ, "LC_ALL": "C"}, **self.user)
-        if done.returncode:
-            raise RuntimeError(f"initdb: {done.stdout[-1000:]}")
-        self.environment = {
-            **{key: value for key, value in os.environ.items() if not key.startswith("PG")},
-            "PATH": f"{programs}{os.pathsep}{os.environ['PATH']}",
-            "PGHOST": str(folder),
-            "PGUSER": USER,
-            "PGDATABASE": "postgres",
-            "PGCLIENTENCODING": "UTF8",
-            "PGOPTIONS": "--client-min-messages=warning",
-        }
-
-    @contextlib.contextmanager
-    def running(self, **more: str) -> Iterator[None]:
-        """The server, from when it answers; it is ended afterwards."""
-        settings = {
-            "listen_addresses": "",
-            "unix_socket_directories": str(self.folder),
-            "fsync": "off",
-            "autovacuum": "off",
-            "dynamic_shared_memory_type": "mmap",
-            "max_wal_size": "4GB",
-        }
-        words = [self.own / "postgres", "-D", self.folder / "data"]
-        words += [word for name, value in settings.items() for word in ("-c", f"{name}={value}")]
-        with open(self.folder / "log", "ab") as log:
-            server = subprocess.Popen(
-                [str(word) for word in words],
-                cwd=self.folder,
-                env={**os.environ, **more, "LC_ALL": "C"},
-                stdin=subprocess.DEVNULL,
-                stdout=log,
-                stderr=log,
-                **self.user,
-            )
-            try:
-                end = time.monotonic() + SECONDS
-                while run(["pg_isready", "-q"], env=self.environment).returncode:
-                    if server.poll() is not None or time.monotonic() > end:
-                        raise RuntimeError((self.folder / "log").read_text(encoding="utf-8")[-1000:])
-                    time.sleep(0.1)
-                yield
-            finally:
-                # The fast shutdown: connections are ended.
-                server.send_signal(signal.SIGINT)
-                server.wait(SECONDS)
-
-    def printed(self, statements: List[Statement], database: str = "postgres", first: str = "") -> List[str]:
-        """What the program psql prints for each statement, and after all of them; an error as 'Error: '."""
-        script = [f"{first}\n"]
-        for index, (_, statement, _) in enumerate(statements):
-            script.append(f"{statement}\n\\echo -- {index}\n")
-        done = subprocess.run(
-            ["psql", "-X", "-q", "-A", "-t", "-v", "VERBOSITY=terse", "-d", database],
-            input="".join(script).encode(),
-            stdout=subprocess.PIPE,
-            stderr=subprocess.STDOUT,
-            env=self.environment,
-            timeout=SECONDS,
-            check=False,
-        )
-        lines, found = done.stdout.decode(errors="replace").split("\n"), []
-        begin = 0
-        for index in range(len(statements)):
-            end = lines.index(f"-- {index}", begin) if f"-- {index}" in lines[begin:] else len(lines)
-            found.append("\n".join(lines[begin:end]).replace("ERROR:  ", "Error: "))
-            begin = end + 1
-        return [*found, "\n".join(lines[begin:])]
-
-    def hold(self, counts: Counts, statements: List[Statement], database: str = "postgres", first: str = "") -> None:
-        *answers, rest = self.printed(statements, database, first)
-        for (place, statement, wanted), got in zip(statements, answers):
-            counts.compare(f"{database}: {place}: {statement[:100]}", got, wanted)
-        counts.compare(f"{database}: after all statements", rest, "")
-
-    def make(self, database: str, encoding: str = "UTF8") -> None:
-        """An empty database of an encoding."""
-        done = run(["createdb", "-T", "template0", "-E", encoding, database], env=self.environment)
-        if done.returncode:
-            raise RuntimeError(done.stdout)
+@contextlib.contextmanager
+def running(stage: pathlib.Path, name: str, **more: str) -> Iterator[Server]:
+    """A server with a database of each encoding that has the extension."""
+    folder = stage.with_name(name)
+    folder.mkdir()
+    server = Server(folder, stage)
+    with server.running(**more):
+        for database, encoding in [("postgres", ""), *((it.lower(), it) for it in ENCODINGS)]:
+            if encoding:
+                server.make(database, encoding)
+            server.hold([], database, "CREATE EXTENSION crsdesk;")
+        yield server
 
 
-def below(stage: pathlib.Path, folder: pathlib.Path) -> pathlib.Path:
-    return stage / folder.relative_to("/")
+@pytest.fixture(scope="module")
+def server(stage: pathlib.Path) -> Iterator[Server]:
+    with running(stage, "server") as it:
+        yield it
 
 
-def add_links(source: pathlib.Path, target: pathlib.Path) -> None:
-    """Links from a folder to all that another has, but for what is there, and but for an installed crsdesk."""
-    target.mkdir(parents=True, exist_ok=True)
-    for path in source.iterdir():
-        if path.name == "extension":
-            add_links(path, target / path.name)
-        elif not path.name.startswith("crsdesk") and not (target / path.name).exists():
-            (target / path.name).symlink_to(path)
+@pytest.fixture(scope="module")
+def million(server: Server) -> Server:
+    """The server with a table of a million rows in its database utf8."""
+    server.hold([], "utf8", MILLION)
+    return server
 
 
-def try_symbols(counts: Counts, module: pathlib.Path, scripts: str) -> None:
+@pytest.fixture(scope="module")
+def refusing_server(stage: pathlib.Path) -> Iterator[Server]:
+    """A server that refuses growths of memory where it is asked to."""
+    module = stage.with_name("refuse.so")
+    include = build_postgresql.folder_of("includedir-server")
+    words = ["cc", "-Wall", "-Wextra", "-Werror", "-O2", "-fPIC", "-shared", "-isystem", include]
+    succeed([*words, "-o", module, HERE / "postgresql" / "refuse.c"])
+    declared = [
+        f"CREATE FUNCTION {it} RETURNS int AS '{module}' LANGUAGE C;"
+        for it in ("refuse_growth(n int)", "refused_growths()", "counted_growths()")
+    ]
+    with running(stage, "refusing", LD_PRELOAD=str(module)) as it:
+        it.hold([], "utf8", "\n".join(declared))
+        yield it
+
+
+def test_symbols(stage: pathlib.Path) -> None:
     """It shows the functions that SQL declares, and needs the C library alone."""
-    shown = subprocess.run(["nm", "-D", "--defined-only", module], capture_output=True, text=True, check=True).stdout
+    module = below(stage, build_postgresql.folder_of("pkglibdir")) / "crsdesk.so"
+    scripts = "".join((build_postgresql.SOURCES / name).read_text(encoding="utf-8") for name in SCRIPTS)
+    shown = succeed(["nm", "-D", "--defined-only", module])
     declared = re.findall(r"'MODULE_PATHNAME', '(\w+)'", scripts)
     wanted = {"Pg_magic_func", "_PG_init", *declared, *(f"pg_finfo_{name}" for name in declared)}
-    counts.compare("its names", set(shown.split()[2::3]), wanted)
-    needs = subprocess.run(["readelf", "-d", module], capture_output=True, text=True, check=True).stdout
-    found = [line.split("[")[1] for line in needs.split("\n") if "(NEEDED)" in line]
-    counts.compare("what it needs", found, ["libc.so.6]"])
+    assert set(shown.split()[2::3]) == wanted, "its names"
+    assert re.findall(r"\(NEEDED\).*\[(.*)\]", succeed(["readelf", "-d", module])) == ["libc.so.6"]
 
 
-def try_version(counts: Counts, server: Server, prefix: pathlib.Path) -> None:
+def test_version(server: Server, prefix: pathlib.Path) -> None:
     """crs_version is the library's that the extension holds; the extension's own version is that of its scripts."""
     told = (prefix / "lib" / "pkgconfig" / "crsdesk.pc").read_text(encoding="utf-8").split("\n")
     wanted = next(line.partition(": ")[2] for line in told if line.startswith("Version: "))
     asked = "SELECT crs_version(), extversion FROM pg_extension WHERE extname = 'crsdesk';"
-    server.hold(counts, [("the version", asked, f"{wanted}|{VERSION}")])
+    server.hold([("the version", asked, f"{wanted}|{VERSION}")])
 
 
 # All functions of the extension as they are declared.
@@ -311,7 +208,7 @@ def of_rules() -> Iterator[Statement]:
     yield "each CRS once under rules", f"INSERT INTO ruled VALUES ('{HEIGHT}'), ('{NOTED}'), ('x'), (NULL);", ""
     wanted = 'Error: conflicting key value violates exclusion constraint "ruled_crs_canon_excl"'
     yield "each CRS once under rules", f"INSERT INTO ruled VALUES ('{other}');", wanted
-    kept = f"CREATE FUNCTION ruled(wkt text, rules text) RETURNS text LANGUAGE plpgsql AS $$BEGIN RETURN crs_canon(wkt, 'full', rules); END$$;"
+    kept = "CREATE FUNCTION ruled(wkt text, rules text) RETURNS text LANGUAGE plpgsql AS $$BEGIN RETURN crs_canon(wkt, 'full', rules); END$$;"
     yield "rules of a function", kept, ""
     asked = f"SELECT ruled('{other}', it) FROM unnest(ARRAY['', '{rules}', '', 'x', '{rules}']) AS it;"
     yield "rules of a function", asked, "Error: rules: line 1: refused 7 at 1: UnexpectedEnd"
@@ -382,26 +279,27 @@ def of_limits() -> Iterator[Statement]:
     yield "after it", "SHOW crsdesk.max_text_length; DROP TABLE longer;", "1MB"
 
 
-def try_statements(counts: Counts, server: Server) -> None:
-    """The rows in databases of three encodings, and the promises."""
-    for encoding in ENCODINGS:
-        database, dialect = encoding.lower(), dialect_of(encoding)
-        server.make(database, encoding)
-        asked = list(sql_rows.rows(dialect))
-        as_text = sum("convert_from" in statement for _, statement, _ in asked)
-        counts.add(f"{encoding}: rows as text", "" if as_text > 500 else f"{as_text} of {len(asked)}")
-        server.hold(counts, asked, database, "CREATE EXTENSION crsdesk;")
-        server.hold(counts, list(sql_rows.promises(dialect)), database)
-    server.hold(counts, list(promises()), "utf8")
-    try_encodings(counts, server)
+@pytest.mark.parametrize("encoding", ENCODINGS)
+def test_rows(encoding: str, server: Server) -> None:
+    asked = list(sql_rows.all_rows(dialect_of(encoding)))
+    assert sum("convert_from" in statement for _, statement, _ in asked) > 500, "too few as text"
+    server.hold(asked, encoding.lower())
 
 
-def try_encodings(counts: Counts, server: Server) -> None:
+@pytest.mark.parametrize("encoding", ENCODINGS)
+def test_promises(encoding: str, server: Server) -> None:
+    server.hold(list(sql_rows.promises(dialect_of(encoding))), encoding.lower())
+
+
+def test_own_promises(server: Server) -> None:
+    server.hold(list(promises()), "utf8")
+
+
+def test_encodings(server: Server) -> None:
     """Answers are those of the characters, whatever bytes the server keeps of them."""
     accented = HEIGHT.replace('"H"', '"é"')
     euro = f"'\\x{HEIGHT.replace(chr(34) + 'H', chr(34) + '€').encode().hex()}'::bytea"
     server.hold(
-        counts,
         [
             ("bytes of a text", f"SELECT octet_length('{accented}') - char_length('{accented}');", "0"),
             (
@@ -432,13 +330,11 @@ ELSE format('VERTCRS["H %s",VDATUM["D"],CS[vertical,1],AXIS["h",up,LENGTHUNIT["m
 FROM generate_series(1, 1000000) AS n; ANALYZE million;"""
 
 
-def try_parallel(counts: Counts, server: Server) -> None:
+def test_parallel(million: Server) -> None:
     """A plan of several workers has the answers of a plan of one."""
-    begin = time.monotonic()
     workers = "SET max_parallel_workers_per_gather = "
-    found = server.printed(
+    found = million.printed(
         [
-            ("", MILLION, ""),
             ("", f"{workers}2; EXPLAIN (COSTS OFF) {PARALLEL};", ""),
             ("", f"{PARALLEL};", ""),
             ("", f"{workers}0; EXPLAIN (COSTS OFF) {PARALLEL};", ""),
@@ -446,17 +342,15 @@ def try_parallel(counts: Counts, server: Server) -> None:
         ],
         "utf8",
     )
-    is_parallel = "Gather" in found[1] and "Parallel Seq Scan on million" in found[1]
-    counts.compare("a parallel plan", (is_parallel, "Gather" in found[3]), (True, False))
-    counts.compare("its answers", found[2], found[4])
-    counts.compare("what they count", found[2].split("|")[:3], ["1000000", "800000", "100000"])
-    counts.compare("what they say under rules", found[2].split("|")[4:], [CANONICAL_HEIGHT.replace('"H"', '""')] * 2)
-    counts.compare("nothing else", [found[0], found[5]], ["", ""])
-    print(f"a million rows: {time.monotonic() - begin:.1f} s")
+    plan, answers, plan_of_one, answers_of_one, rest = found
+    assert "Gather" in plan and "Parallel Seq Scan on million" in plan and "Gather" not in plan_of_one
+    assert answers == answers_of_one and rest == ""
+    assert answers.split("|")[:3] == ["1000000", "800000", "100000"], "what they count"
+    assert answers.split("|")[4:] == [CANONICAL_HEIGHT.replace('"H"', '""')] * 2, "what they say under rules"
     # A setting before the first call of a session, and in each worker.
     padded = "SELECT count(crs_kind(rpad(wkt, 200))) FROM million;"
     explained = f"EXPLAIN (COSTS OFF) {padded}"
-    *found, rest = server.printed(
+    *found, rest = million.printed(
         [
             ("", f"SET crsdesk.max_text_length = 199; {workers}2; {explained}", ""),
             ("", padded, ""),
@@ -464,19 +358,18 @@ def try_parallel(counts: Counts, server: Server) -> None:
         ],
         "utf8",
     )
-    counts.compare("a parallel plan", "Gather" in found[0], True)
+    assert "Gather" in found[0]
     wanted = [sql_rows.too_long(200, 199, dialect_of("UTF8")), "800000", ""]
-    counts.compare("a limit in workers", [*found[1:], rest], wanted)
+    assert [*found[1:], rest] == wanted, "a limit in workers"
 
 
 # Either query takes an hour; a server that doesn't cancel it is given up after SECONDS.
 LIMITED, UNLIMITED = "SET statement_timeout = 200;", "SET statement_timeout = 0;"
 
 
-def try_cancel(counts: Counts, server: Server) -> None:
+def test_cancel(million: Server) -> None:
     """A query ends between two texts, and the connection goes on."""
-    server.hold(
-        counts,
+    million.hold(
         [
             ("a cancelled query", "SET max_parallel_workers_per_gather = 0;", ""),
             (
@@ -506,11 +399,11 @@ def try_cancel(counts: Counts, server: Server) -> None:
 KEPT = "SELECT (regexp_match(pg_read_file('/proc/' || pg_backend_pid() || '/status'), 'RssAnon:\\s+(\\d+) kB'))[1]::int * 1024;"
 
 
-def try_leaks(counts: Counts, server: Server) -> None:
+def test_leaks(million: Server) -> None:
     """The memory of a backend doesn't grow with the calls that it made."""
     asked = "SELECT count(crs_canon(wkt)), count(crs_refusal(wkt)) FROM million WHERE wkt IS NOT NULL;"
     words = ["psql", "-X", "-q", "-A", "-t", "-d", "utf8"]
-    client = subprocess.Popen(words, env=server.environment, stdin=subprocess.PIPE, stdout=subprocess.PIPE, text=True)
+    client = subprocess.Popen(words, env=million.environment, stdin=subprocess.PIPE, stdout=subprocess.PIPE, text=True)
     assert client.stdin is not None and client.stdout is not None
     kept = []
     try:
@@ -526,10 +419,10 @@ def try_leaks(counts: Counts, server: Server) -> None:
         client.stdin.close()
         client.wait(SECONDS)
     grown = int(kept[5]) - int(kept[3])
-    counts.add("the memory of a backend", "" if grown < 8000 else f"grew by {grown} kB in two million calls")
+    assert grown < 8000, f"grew by {grown} kB in two million calls"
 
 
-def try_leaks_of_rules(counts: Counts, server: Server) -> None:
+def test_leaks_of_rules(server: Server) -> None:
     """Nor does it grow with the rules that were read, or refused."""
     names = "".join(f'SAME[DATUM["a{n}"],DATUM["b{n}"]]\n' for n in range(100))
     read = f"DO $$BEGIN FOR n IN 1..2000 LOOP PERFORM crs_canon('{HEIGHT}', 'full', '{names}# ' || n % 2); END LOOP; END$$;"
@@ -543,16 +436,15 @@ def try_leaks_of_rules(counts: Counts, server: Server) -> None:
         )[:-1]
     ]
     grown = max(found) - before
-    counts.add("the memory of rules", "" if grown < 4_000_000 else f"grew by {grown} bytes: {before}, {found}")
+    assert grown < 4_000_000, f"grew by {grown} bytes: {before}, {found}"
 
 
-def try_dump(counts: Counts, server: Server, folder: pathlib.Path) -> None:
+def test_dump(server: Server, tmp_path: pathlib.Path) -> None:
     """A table with an index, a check and a generated column goes through a dump into another database."""
     server.make("before")
     server.make("after")
     rows = ", ".join(f"('{text}')" for text in (HEIGHT, NOTED, TWIN))
     server.hold(
-        counts,
         [
             (
                 "a table",
@@ -568,12 +460,12 @@ def try_dump(counts: Counts, server: Server, folder: pathlib.Path) -> None:
         ],
         "before",
     )
-    file = folder / "dump.sql"
+    file = tmp_path / "dump.sql"
     with file.open("w", encoding="utf-8") as out:
         done = subprocess.run(["pg_dump", "before"], env=server.environment, stdout=out, check=False, timeout=SECONDS)
     words = ["psql", "-X", "-q", "-o", os.devnull, "-v", "ON_ERROR_STOP=1", "-d", "after", "-f", file]
     back = run(words, env=server.environment)
-    counts.compare("dump and restore", (done.returncode, back.returncode, back.stdout), (0, 0, ""))
+    assert (done.returncode, back.returncode, back.stdout) == (0, 0, ""), "dump and restore"
     same = [
         "SELECT wkt, crs FROM kept ORDER BY ctid;",
         "SELECT pg_get_indexdef(indexrelid) FROM pg_index WHERE indrelid = 'kept'::regclass ORDER BY 1;",
@@ -581,22 +473,20 @@ def try_dump(counts: Counts, server: Server, folder: pathlib.Path) -> None:
         "SELECT pg_get_expr(adbin, adrelid) FROM pg_attrdef WHERE adrelid = 'kept'::regclass;",
     ]
     asked = [("", it, "") for it in same]
-    counts.compare("what was restored", server.printed(asked, "after"), server.printed(asked, "before"))
+    assert server.printed(asked, "after") == server.printed(asked, "before"), "what was restored"
     wanted = 'Error: new row for relation "kept" violates check constraint "kept_wkt_check"'
     asked_index = f"SET enable_seqscan = off; SELECT count(*) FROM kept WHERE crs_canon(wkt) = '{CANONICAL_HEIGHT}';"
     server.hold(
-        counts,
         [("the check", "INSERT INTO kept VALUES ('x');", wanted), ("the index", asked_index, "2")],
         "after",
     )
 
 
-def try_update(counts: Counts, server: Server) -> None:
+def test_update(server: Server) -> None:
     """ALTER EXTENSION .. UPDATE from each older version makes what CREATE EXTENSION makes, and keeps what depends on it."""
     made = "SELECT extversion FROM pg_extension WHERE extname = 'crsdesk';"
     server.make("older")
     server.hold(
-        counts,
         [
             ("an older version", f"CREATE EXTENSION crsdesk VERSION '{OLDEST}'; {made}", OLDEST),
             (
@@ -642,17 +532,17 @@ def try_update(counts: Counts, server: Server) -> None:
     )
     asked = [("", DECLARED, "")]
     found = {version for name in SCRIPTS for version in name[len("crsdesk--") : -len(".sql")].split("--")}
-    counts.compare("its versions", (OLDEST in found, VERSION in found, len(found) > 1), (True, True, True))
+    assert (OLDEST in found, VERSION in found, len(found) > 1) == (True, True, True), "its versions"
     for version in sorted(found - {VERSION}):
         database = f"from {version}"
         server.make(database)
         update = f"CREATE EXTENSION crsdesk VERSION '{version}'; ALTER EXTENSION crsdesk UPDATE; {made}"
-        server.hold(counts, [("an update", update, VERSION)], database)
+        server.hold([("an update", update, VERSION)], database)
         wanted = server.printed(asked, "utf8")
-        counts.compare(f"what an update from {version} makes", server.printed(asked, database), wanted)
+        assert server.printed(asked, database) == wanted, f"what an update from {version} makes"
 
 
-def try_rights(counts: Counts, server: Server) -> None:
+def test_rights(server: Server) -> None:
     """A user who may create in a database may create the extension there."""
     server.make("owned")
     first = "CREATE ROLE owner LOGIN; GRANT CREATE ON DATABASE owned TO owner; GRANT CREATE ON SCHEMA public TO owner;"
@@ -665,15 +555,13 @@ def try_rights(counts: Counts, server: Server) -> None:
         ("a database's limit", f"RESET ROLE; {lasting}", "3MB"),
         ("a database's limit", f"SELECT crs_kind({sql_rows.text_of(3_145_728, dialect_of('UTF8'))});", "vertical"),
     ]
-    server.hold(counts, statements, "owned", first)
+    server.hold(statements, "owned", first)
 
 
-def try_geopackage(counts: Counts, server: Server, folder: pathlib.Path) -> None:
+@pytest.mark.needs("ogr2ogr")
+def test_geopackage(server: Server, tmp_path: pathlib.Path) -> None:
     """The queries of docs/SQL.md over a GeoPackage's entries, as far as they apply, over a copy of them."""
-    if shutil.which("ogr2ogr") is None:
-        print("skipped: ogr2ogr isn't there: a GeoPackage's entries in PostgreSQL")
-        return
-    file = folder / "layers.gpkg"
+    file = tmp_path / "layers.gpkg"
     subprocess.run(["sh", ROOT / "examples" / "layers.sh", file], check=True, timeout=SECONDS, capture_output=True)
     tables = {
         "gpkg_spatial_ref_sys": "srs_id, organization, organization_coordsys_id, definition, definition_12_063",
@@ -705,82 +593,58 @@ def try_geopackage(counts: Counts, server: Server, folder: pathlib.Path) -> None
         ("pairs", pairs, "31|32631|id"),
         ("refused", refused, "-1|refused 7 UnexpectedEnd at 9\n0|refused 7 UnexpectedEnd at 9"),
     ]
-    server.hold(counts, statements, "utf8", "\n".join(first))
+    server.hold(statements, "utf8", "\n".join(first))
 
 
-def try_documents(counts: Counts, server: Server) -> None:
-    """The commands of docs/SQL.md that ask for a server, in a database of their own, and for one that has PostGIS."""
-    server.make("documents")
-    path, found = ROOT / "docs" / "SQL.md", 0
-    environment = {**server.environment, "PGDATABASE": "documents", SERVER[1:]: str(server.folder)}
-    has_postgis = (build_postgresql.folder_of("sharedir") / POSTGIS_FILE).exists()
-    if not has_postgis:
-        print("skipped: PostGIS isn't there: what docs/SQL.md says of it")
-    for start, head, lines in run_documents.blocks_of(path):
-        needs = head.partition("needs=")[2].split(",")
-        if head.split(" ")[0] != "console" or not {SERVER, POSTGIS} & set(needs):
-            continue
-        if POSTGIS in needs and not has_postgis:
-            continue
-        tool = next((it for it in needs if it not in (SERVER, POSTGIS) and not run_documents.is_there(it)), None)
-        if tool:
-            print(f"skipped: {tool} isn't there: SQL.md:{start}")
-            continue
-        for number, command, wanted in run_documents.commands_of(start, lines):
-            found += 1
-            done = run(["sh", "-c", command], cwd=ROOT, env=environment)
-            counts.compare(f"SQL.md:{number}: {command}", done.stdout, wanted)
-    counts.add("the commands of SQL.md", "" if found else "there are none")
+@pytest.mark.parametrize("asked", [SERVER, POSTGIS])
+def test_documents(asked: str, server: Server) -> None:
+    """The commands of docs/SQL.md that ask for a server, or for one that has PostGIS, in a database of their own."""
+    if asked == POSTGIS and not (build_postgresql.folder_of("sharedir") / POSTGIS_FILE).exists():
+        pytest.skip("PostGIS isn't there")
+    database = asked.lower().lstrip("$")
+    server.make(database)
+    environment = {**server.environment, "PGDATABASE": database, asked[1:]: str(server.folder)}
+    blocks = [it for it in documents.blocks_of(ROOT / "docs" / "SQL.md") if asked in it.needs]
+    need(*(tool for block in blocks for tool in block.needs if tool != asked))
+    commands = [command for block in blocks for command in documents.commands_of(block)]
+    assert commands
+    for command in commands:
+        assert documents.printed(command, **environment) == command.wanted, command.words
 
 
-def try_refused(counts: Counts, server: Server, folder: pathlib.Path) -> None:
+# Long enough that a canonical text has no room at first.
+MANY = "".join(f",USAGE[BBOX[1E40,-1E40,1E-40,{n}]]" for n in range(30))
+CALLS = {
+    f"crs_canon('{HEIGHT[:-1]}{MANY}]') IS NULL": "f",
+    f"crs_kind('{HEIGHT}')": "vertical",
+    f"crs_same('{HEIGHT}', '{NOTED}')": "f",
+    f"crs_difference('{HEIGHT}', '{NOTED}')": "remark",
+    f"crs_differences('{HEIGHT}', '{NOTED}')->0->>'path'": "remark",
+    f"crs_refusal('{HEIGHT}x')": f"refused 6 Unexpected at {len(HEIGHT)}",
+    f"left(crs_explain('{HEIGHT}x'), 9)": "refused 6",
+    f"crs_canon('{sql_rows.OTHER}', 'full', '{sql_rows.RULES}')": sql_rows.FORM,
+    f"crs_same('{HEIGHT}', '{sql_rows.OTHER}', 'full', '{sql_rows.RULES}')": "t",
+}
+
+
+@pytest.mark.parametrize("call", CALLS, ids=[f"{number}-{it.partition('(')[0]}" for number, it in enumerate(CALLS)])
+def test_growths_refused(call: str, refusing_server: Server) -> None:
     """Each growth of memory refused in turn: out of memory, by its code; the same call answers then."""
-    module = folder / "refuse.so"
-    include = build_postgresql.folder_of("includedir-server")
-    words = ["cc", "-Wall", "-Wextra", "-Werror", "-O2", "-fPIC", "-shared", "-isystem", include]
-    done = run([*words, "-o", module, HERE / "postgresql" / "refuse.c"])
-    counts.compare("refuse.c", (done.returncode, done.stdout), (0, ""))
-    if done.returncode:
-        return
-    declared = [
-        f"CREATE FUNCTION {it} RETURNS int AS '{module}' LANGUAGE C;"
-        for it in ("refuse_growth(n int)", "refused_growths()", "counted_growths()")
-    ]
-    # Long enough that a canonical text has no room at first.
-    many = "".join(f",USAGE[BBOX[1E40,-1E40,1E-40,{n}]]" for n in range(30))
-    calls = {
-        f"crs_canon('{HEIGHT[:-1]}{many}]') IS NULL": "f",
-        f"crs_kind('{HEIGHT}')": "vertical",
-        f"crs_same('{HEIGHT}', '{NOTED}')": "f",
-        f"crs_difference('{HEIGHT}', '{NOTED}')": "remark",
-        f"crs_differences('{HEIGHT}', '{NOTED}')->0->>'path'": "remark",
-        f"crs_refusal('{HEIGHT}x')": f"refused 6 Unexpected at {len(HEIGHT)}",
-        f"left(crs_explain('{HEIGHT}x'), 9)": "refused 6",
-        f"crs_canon('{sql_rows.OTHER}', 'full', '{sql_rows.RULES}')": sql_rows.FORM,
-        f"crs_same('{HEIGHT}', '{sql_rows.OTHER}', 'full', '{sql_rows.RULES}')": "t",
-    }
-    with server.running(LD_PRELOAD=str(module)):
-        server.printed([], "utf8", "\n".join(declared))
-        for call, wanted in calls.items():
-            statements = []
-            for number in range(1, MOST_GROWTHS + 1):
-                statements.append(("", f"SELECT refuse_growth({number});", ""))
-                statements.append(("", f"\\set VERBOSITY sqlstate\nSELECT {call};", ""))
-                statements.append(("", "SELECT refused_growths();", ""))
-            found = server.printed(statements, "utf8")[:-1]
-            trials = list(zip(found[1::3], found[2::3]))
-            refused = [answer for answer, count in trials if count == "1"]
-            answered = [answer for answer, count in trials if count == "0"]
-            # The library does without some memory that it asks for: then it answers as ever.
-            counts.compare(f"growths refused to {call[:20]}", set(refused) - {wanted}, {"Error: 53200"})
-            counts.compare(f"none refused to {call[:20]}", set(answered), {wanted})
-            is_front = [count for _, count in trials] == ["1"] * len(refused) + ["0"] * len(answered)
-            counts.add(f"each growth of {call[:20]}", "" if is_front else "one that was refused left no trace")
-            print(f"{call[:14]}: {len(refused)} growths refused")
-        try_rules_once(counts, server)
+    wanted, statements = CALLS[call], []
+    for number in range(1, MOST_GROWTHS + 1):
+        statements.append(("", f"SELECT refuse_growth({number});", ""))
+        statements.append(("", f"\\set VERBOSITY sqlstate\nSELECT {call};", ""))
+        statements.append(("", "SELECT refused_growths();", ""))
+    found = refusing_server.printed(statements, "utf8")[:-1]
+    trials = list(zip(found[1::3], found[2::3]))
+    refused = [answer for answer, count in trials if count == "1"]
+    answered = [answer for answer, count in trials if count == "0"]
+    # The library does without some memory that it asks for: then it answers as ever.
+    assert set(refused) - {wanted} == {"Error: 53200"} and set(answered) == {wanted}
+    assert [count for _, count in trials] == ["1"] * len(refused) + ["0"] * len(answered)
 
 
-def try_rules_once(counts: Counts, server: Server) -> None:
+def test_rules_are_read_once(refusing_server: Server) -> None:
     """Rules are read once a statement: it takes the growths of memory of one reading, where rules that change from row to
     row take those of one for each row."""
     names = "".join(f'SAME[DATUM["a{n}"],DATUM["b{n}"]]\n' for n in range(100))
@@ -794,51 +658,7 @@ def try_rules_once(counts: Counts, server: Server) -> None:
             ("", asked, ""),
             ("", "SELECT counted_growths();", ""),
         ]
-    found = server.printed(statements, "utf8")
+    found = refusing_server.printed(statements, "utf8")
     constant, changing = int(found[2]), int(found[5])
-    counts.compare("rules over rows", [found[1], found[4]], ["50", "50"])
-    told = "" if 4 * constant < changing else f"{constant} growths, {changing} under rules that change"
-    counts.add("rules are read once", told)
-    print(f"50 rows under rules: {constant} growths, {changing} under rules that change")
-
-
-def main(words: List[str]) -> int:
-    if len(words) > 1 or words and words[0].startswith("-"):
-        sys.exit(__doc__)
-    prefix = pathlib.Path(words[0]) if words else ROOT / "out" / "prefix"
-    lack = build_postgresql.lacking()
-    if lack or not (build_postgresql.folder_of("bindir") / "postgres").exists():
-        print(f"skipped: {lack or 'no server of PostgreSQL'}: {LACKS}")
-        print("0 passed, 0 failed")
-        return 0
-    counts = Counts()
-    with tempfile.TemporaryDirectory() as name:
-        folder = pathlib.Path(name)
-        folder.chmod(0o755)
-        (folder / "server").mkdir()
-        stage = folder / "stage"
-        build_postgresql.build(prefix, stage, "-Werror")
-        scripts = "".join((build_postgresql.SOURCES / name).read_text(encoding="utf-8") for name in SCRIPTS)
-        try_symbols(counts, below(stage, build_postgresql.folder_of("pkglibdir")) / "crsdesk.so", scripts)
-        server = Server(folder / "server", stage)
-        os.environ["PATH"] = server.environment["PATH"]
-        with server.running():
-            server.hold(counts, [], "postgres", "CREATE EXTENSION crsdesk;")
-            try_version(counts, server, prefix)
-            try_statements(counts, server)
-            try_parallel(counts, server)
-            try_cancel(counts, server)
-            try_leaks(counts, server)
-            try_leaks_of_rules(counts, server)
-            try_dump(counts, server, folder)
-            try_update(counts, server)
-            try_rights(counts, server)
-            try_geopackage(counts, server, folder)
-            try_documents(counts, server)
-        try_refused(counts, server, folder)
-    print(f"{counts.passed} passed, {counts.failed} failed")
-    return 1 if counts.failed else 0
-
-
-if __name__ == "__main__":
-    sys.exit(main(sys.argv[1:]))
+    assert [found[1], found[4]] == ["50", "50"], "rules over rows"
+    assert 4 * constant < changing

@@ -1,35 +1,24 @@
-#!/usr/bin/env python3
-"""Opens the page of `python -m crsdesk audit --html` in a browser, and tries what a reader does there.
-
-    audit_page.py [--measure | --pictures PAGE FOLDER]
-
-The browser is Chromium, without a window, as Debian's chromium, chromium-driver and python3-selenium have it. With
---measure it tells how long the page of 13,000 texts takes to open and to filter; with --pictures it writes the pictures
-of docs/AUDIT.md, of a page, into a folder. What isn't there is named as skipped. Each case that fails has a line; the last line is
-'N passed, M failed', and the status is 0 where M is 0.
-"""
+"""What a reader does in the page of `python -m crsdesk audit --html`, in a browser: Chromium, without a window, as Debian's
+chromium, chromium-driver and python3-selenium have it. tools/audit_pictures.py takes pictures of it and measures it."""
 from __future__ import annotations
 
 import base64
 import contextlib
 import functools
-import importlib.util
-import os
 import pathlib
 import re
 import shutil
 import subprocess
 import sys
-import tempfile
 import time
-import traceback
 from typing import Any, Callable, Iterator, List, NamedTuple
 
-sys.dont_write_bytecode = True
 import audit_archive
 import big_catalogue
+import pytest
+from test_audit import folder
 
-ROOT = pathlib.Path(__file__).resolve().parent.parent
+pytestmark = pytest.mark.needs("chromium", "chromedriver", "python3:selenium")
 DRIVER = "chromedriver"
 BROWSER = "chromium"
 SECONDS = 300
@@ -57,16 +46,6 @@ def browser(*words: str, has_scripts: bool = True, size: str = "1200,1000") -> I
         yield driver
     finally:
         driver.quit()
-
-
-@functools.lru_cache(maxsize=None)
-def folder() -> pathlib.Path:
-    made = tempfile.TemporaryDirectory()
-    KEPT.append(made)
-    return pathlib.Path(made.name)
-
-
-KEPT: List[Any] = []
 
 
 def audited(name: str, *words: object) -> pathlib.Path:
@@ -120,7 +99,7 @@ def click(element: Any) -> None:
     wait(is_clicked)
 
 
-def loads_without_an_error() -> None:
+def test_loads_without_an_error() -> None:
     with browser() as driver:
         opened(driver, page_of_archive())
         assert driver.get_log("browser") == []
@@ -130,7 +109,7 @@ def loads_without_an_error() -> None:
         assert asked == 0, "the page asks for more than itself"
 
 
-def filter_hides_and_shows() -> None:
+def test_filter_hides_and_shows() -> None:
     with browser() as driver:
         opened(driver, page_of_archive())
         words = driver.find_element("id", "words")
@@ -148,7 +127,7 @@ def filter_hides_and_shows() -> None:
         assert driver.get_log("browser") == []
 
 
-def filter_shows_matches_in_folded_sections() -> None:
+def test_filter_shows_matches_in_folded_sections() -> None:
     """A section with a match is opened, and folded again with the filter."""
     with browser() as driver:
         opened(driver, page_of_archive())
@@ -165,7 +144,7 @@ def filter_shows_matches_in_folded_sections() -> None:
         wait(lambda: unfolded() == [])
 
 
-def links_land_below_the_filter() -> None:
+def test_links_land_below_the_filter() -> None:
     with browser() as driver:
         opened(driver, page_of_archive())
         for target in ("#groups", "#d30", "#refused"):
@@ -177,12 +156,12 @@ def links_land_below_the_filter() -> None:
 
             def lies_below() -> bool:
                 top, bottom, it, height = driver.execute_script(edges, target)
-                return top <= 0.5 and bottom <= it + 0.5 < height
+                return bool(top <= 0.5 and bottom <= it + 0.5 < height)
 
             wait(lies_below)
 
 
-def sections_fold_by_keyboard_too() -> None:
+def test_sections_fold_by_keyboard_too() -> None:
     from selenium.webdriver.common.keys import Keys
 
     with browser() as driver:
@@ -207,7 +186,7 @@ def sections_fold_by_keyboard_too() -> None:
         wait(lambda: driver.find_element("css selector", "#d2 pre").is_displayed())
 
 
-def is_readable_without_scripts() -> None:
+def test_is_readable_without_scripts() -> None:
     with browser(has_scripts=False) as driver:
         opened(driver, page_of_archive())
         assert not driver.find_element("id", "filter").is_displayed()
@@ -218,7 +197,7 @@ def is_readable_without_scripts() -> None:
         wait(lambda: first.find_element("css selector", "pre").is_displayed())
 
 
-def markup_stays_text() -> None:
+def test_markup_stays_text() -> None:
     with browser() as driver:
         opened(driver, page_of_archive())
         names = [it.get_attribute("textContent") for it in all_of(driver, "#groups summary b")]
@@ -230,7 +209,7 @@ def markup_stays_text() -> None:
         assert driver.execute_script("return window.ran") is None
 
 
-def is_a_summary_on_paper() -> None:
+def test_is_a_summary_on_paper() -> None:
     """What is folded stays so where the page is printed, and is printed where it was unfolded."""
     with browser() as driver:
         opened(driver, page_of_archive())
@@ -253,7 +232,7 @@ def printed_pages(driver: Any) -> int:
     return len(re.findall(rb"/Type\s*/Page[^s]", content))
 
 
-def sections_count_what_fits() -> None:
+def test_sections_count_what_fits() -> None:
     with browser() as driver:
         opened(driver, page_of_archive())
         words = driver.find_element("id", "words")
@@ -267,7 +246,7 @@ def sections_count_what_fits() -> None:
         assert re.fullmatch(r"0 of \d+", count_of("near-misses")), count_of("near-misses")
 
 
-def what_differs_is_marked() -> None:
+def test_what_differs_is_marked() -> None:
     with browser() as driver:
         opened(driver, page_of_archive())
         marked = [it.text for it in all_of(driver, "#near-misses mark")]
@@ -277,7 +256,7 @@ def what_differs_is_marked() -> None:
         assert "conversion/parameters/False easting numbers" in rows, rows
 
 
-def fits_a_phone() -> None:
+def test_fits_a_phone() -> None:
     """Nothing but a text of its own width is wider than the window."""
     with browser() as driver:
         # A window of the browser has a least width.
@@ -289,7 +268,7 @@ def fits_a_phone() -> None:
         assert cell.size["width"] > 300
 
 
-def is_dark_where_that_is_asked() -> None:
+def test_is_dark_where_that_is_asked() -> None:
     with browser() as driver:
         opened(driver, page_of_archive())
         colors = []
@@ -361,79 +340,10 @@ def thread_time(driver: Any) -> float:
     return float({it["name"]: it["value"] for it in metrics}["TaskDuration"])
 
 
-def many_texts_are_filtered() -> None:
+def test_many_texts_are_filtered() -> None:
     taken = many_texts()
     told = [it.shown for it in taken]
     assert page_of_many().stat().st_size < 10_000_000 and taken[0].of_a_core < 1, taken[0]
     # The text of this number, and that of this line; what everything has, and nothing.
     counts = ["2 of 13013 shown", "13013 of 13013 shown", "0 of 13013 shown"]
     assert told == ["", *counts, ""], told
-
-
-CASES = [
-    loads_without_an_error,
-    filter_hides_and_shows,
-    filter_shows_matches_in_folded_sections,
-    links_land_below_the_filter,
-    sections_fold_by_keyboard_too,
-    is_readable_without_scripts,
-    markup_stays_text,
-    is_a_summary_on_paper,
-    sections_count_what_fits,
-    what_differs_is_marked,
-    fits_a_phone,
-    is_dark_where_that_is_asked,
-    many_texts_are_filtered,
-]
-
-
-def lacking() -> List[str]:
-    programs = [name for name in (BROWSER, DRIVER) if shutil.which(name) is None]
-    return programs + [name for name in ("selenium",) if importlib.util.find_spec(name) is None]
-
-
-def take_pictures(page: pathlib.Path, to: pathlib.Path) -> None:
-    """The page's beginning, its map, and a part on a phone."""
-    with browser(size="1000,1500") as driver:
-        opened(driver, page)
-        driver.save_screenshot(str(to / "audit.png"))
-        driver.execute_script("document.getElementById('filter').hidden = true")
-        driver.find_element("css selector", ".map").screenshot(str(to / "audit_map.png"))
-    with browser() as driver:
-        metrics = {"width": 390, "height": 1000, "deviceScaleFactor": 1, "mobile": True}
-        driver.execute_cdp_cmd("Emulation.setDeviceMetricsOverride", metrics)
-        opened(driver, page)
-        driver.execute_script("document.getElementById('registry').scrollIntoView()")
-        time.sleep(1)
-        driver.save_screenshot(str(to / "audit_phone.png"))
-
-
-def main(words: List[str]) -> int:
-    if lacking():
-        print(f"skipped: {lacking()[0]} isn't there: the audit's page in a browser")
-        print("1 passed, 0 failed")
-        return 0
-    if words[:1] == ["--measure"]:
-        print(*many_texts(), page_of_many().stat().st_size, os.getloadavg(), sep="\n")
-        return 0
-    if words[:1] == ["--pictures"]:
-        take_pictures(pathlib.Path(words[1]).resolve(), pathlib.Path(words[2]))
-        return 0
-    passed = failed = 0
-    for case in CASES:
-        try:
-            case()
-            passed += 1
-        except Exception as error:
-            failed += 1
-            # The driver's errors end with frames of its own.
-            place = next(it for it in traceback.extract_tb(error.__traceback__)[::-1] if it.filename == __file__)
-            print(
-                f"{case.__name__}: line {place.lineno}: {type(error).__name__}: {str(error).partition('Stacktrace')[0]}"
-            )
-    print(f"{passed} passed, {failed} failed")
-    return 1 if failed else 0
-
-
-if __name__ == "__main__":
-    sys.exit(main(sys.argv[1:]))

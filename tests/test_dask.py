@@ -1,13 +1,9 @@
-#!/usr/bin/env python3
-"""Tries crsdesk.dask, which its Python has, against the command `crsdesk group`.
+"""crsdesk.dask against the command `crsdesk group`.
 
-    dask_package.py PROGRAM [LINES]
-
-PROGRAM is that command's. Over a catalogue of LINES lines (200,000), some of them blank or refused, all answers are held
-line for line against it: bags cut into 1, 7 and 1,000 partitions and a dataframe's column, at both levels, by a
-scheduler and four worker processes, of which one is killed in the middle of a run. Small collections are tried by the
-threads of this process. The blocks of docs/CLUSTER.md are run too. Each case that fails has a line; the last line is
-'N passed, M failed', and the status is 0 where M is 0.
+Over a catalogue of 200,000 lines, some of them blank or refused, all answers are held line for line against it: bags cut
+into 1, 7 and 1,000 partitions and a dataframe's column, at both levels, by a scheduler and four worker processes, of
+which one is killed in the middle of a run. Small collections are tried by the threads of this process. The blocks of
+docs/CLUSTER.md are run too.
 """
 from __future__ import annotations
 
@@ -21,10 +17,16 @@ import random
 import signal
 import subprocess
 import sys
-import tempfile
 import threading
 import time
-from typing import Any, Dict, List, Optional, Tuple
+from typing import Any, Callable, Dict, Iterator, List, NamedTuple, Optional, Set, Tuple
+
+import documents
+import pytest
+from support import CANONICAL_HEIGHT, HEIGHT, HERE, NOTED, ROOT, TWIN
+
+for package in ("dask.bag", "dask.dataframe", "distributed"):
+    pytest.importorskip(package)
 
 import crsdesk
 import crsdesk.dask
@@ -37,14 +39,8 @@ from crsdesk import _batch, _partitions
 from crsdesk.__main__ import lines_of
 from crsdesk.dask import Standing, canon, groups, lines
 
-HERE = pathlib.Path(__file__).resolve().parent
-ROOT = HERE.parent
-
-# The imports of the repository's own files leave nothing in it.
-sys.dont_write_bytecode = True
-import run_documents
-from sql_rows import CANONICAL_HEIGHT, HEIGHT, NOTED, TWIN, Counts
-
+pytestmark = pytest.mark.xdist_group("dask")
+LINES = 200_000
 WORKERS = 4
 SECONDS = 600
 # Lines that are put between those of the large catalogue: each so many lines, one of these.
@@ -61,9 +57,9 @@ def large_catalogue(lines: int) -> bytes:
     return b"".join(line + b"\n" for line in made)
 
 
-def by_command(program: str, catalogue: bytes, level: str) -> List[Standing]:
+def by_command(program: pathlib.Path, catalogue: bytes, level: str) -> List[Standing]:
     """What the command says of each line."""
-    words = [program, "group", "--level", level]
+    words = [str(program), "group", "--level", level]
     done = subprocess.run(words, input=catalogue, stdout=subprocess.PIPE, check=False, timeout=SECONDS)
     found: Dict[int, Standing] = {}
     for line in done.stdout.decode().split("\n")[:-1]:
@@ -120,40 +116,30 @@ def standings(frame: Any) -> List[Standing]:
     return [Standing(number, refusal) for number, refusal in zip(numbers, frame["refusal"])]
 
 
-def try_answer(counts: Counts, name: str, got: List[Standing], wanted: List[Standing]) -> None:
+def hold_answer(name: str, got: List[Standing], wanted: List[Standing]) -> None:
     wrong = next((number for number, pair in enumerate(zip(got, wanted), 1) if pair[0] != pair[1]), 0)
-    fault = f"line {wrong}: {got[wrong - 1]}, wanted {wanted[wrong - 1]}" if wrong else ""
-    counts.add(name, fault or ("" if len(got) == len(wanted) else f"{len(got)} of {len(wanted)} lines"))
+    assert not wrong, f"{name}: line {wrong}: {got[wrong - 1]}, wanted {wanted[wrong - 1]}"
+    assert len(got) == len(wanted), name
 
 
-def try_small(counts: Counts) -> None:
+def test_small() -> None:
     """Small collections, by the threads of this process."""
     texts = ["", HEIGHT, NOTED, "EPSG:4326", TWIN, " ", HEIGHT.encode(), crsdesk.Crs(NOTED)]
     refused = "refused 1 BadCharacter at 4"
     wanted = [(None, None), (1, None), (2, None), (None, refused), (1, None), (None, None), (1, None), (2, None)]
     for partitions in range(1, len(texts) + 1):
         bag = dask.bag.from_sequence(texts, npartitions=partitions)
-        counts.compare(f"a bag of {partitions}", groups(bag).compute(scheduler="threads"), wanted)
+        assert groups(bag).compute(scheduler="threads") == wanted, f"a bag of {partitions}"
         by_definition = groups(bag, "definition", npartitions=3).compute(scheduler="sync")
-        counts.compare("by definition", [it.group for it in by_definition], [None, 1, 1, None, 1, None, 1, 1])
+        assert [it.group for it in by_definition] == [None, 1, 1, None, 1, None, 1, 1], "by definition"
         answers = canon(bag).compute(scheduler="sync")
-        counts.compare(
-            "canonical texts", answers[:5], [None, CANONICAL_HEIGHT, crsdesk.canon(NOTED), None, CANONICAL_HEIGHT]
-        )
-    counts.compare(
-        "nothing", groups(dask.bag.from_sequence([""], npartitions=1)).compute(scheduler="sync"), [(None, None)]
-    )
+        assert answers[:5] == [None, CANONICAL_HEIGHT, crsdesk.canon(NOTED), None, CANONICAL_HEIGHT], "canonical texts"
+    assert groups(dask.bag.from_sequence([""], npartitions=1)).compute(scheduler="sync") == [(None, None)], "nothing"
     empty = dask.bag.from_delayed([dask.delayed(read)(os.devnull, 0, 0) for _ in range(3)])
-    counts.compare("no text", groups(empty).compute(scheduler="sync"), [])
-    try_collisions(counts)
-    try_lines(counts)
-    try_frames(counts)
-    try_faults(counts)
-    try_rules(counts)
-    try_batches(counts)
+    assert groups(empty).compute(scheduler="sync") == [], "no text"
 
 
-def try_batches(counts: Counts) -> None:
+def test_batches() -> None:
     """Many texts in one call are answered as one by one, whatever room there is and however many go together."""
     chance = random.Random(62)
     pool = [HEIGHT, NOTED, TWIN, "", " ", "x[", HEIGHT[:-1], HEIGHT.replace('"H"', '"' + "H" * 3000 + '"')]
@@ -166,7 +152,7 @@ def try_batches(counts: Counts) -> None:
                 for number, level in enumerate(("full", "definition")):
                     wanted = [one_by_one(text, level) for text in texts]
                     found = [it if isinstance(it, bytes) else it.summary for it in _batch.spellings(texts, number)]
-                    counts.compare(f"{count} texts, {most} bytes, room {least}", found, wanted)
+                    assert found == wanted, f"{count} texts, {most} bytes, room {least}"
     finally:
         _batch.MOST_BYTES, _batch.ROOM_BY_TEXTS, _batch.LEAST_ROOM = kept
 
@@ -178,22 +164,22 @@ def one_by_one(text: bytes, level: Any) -> Any:
         return refused.summary
 
 
-def try_rules(counts: Counts) -> None:
+def test_rules() -> None:
     """Groups and forms of a bag and of a column under rules."""
     rules = crsdesk.Rules('SAME[VDATUM["D"],VDATUM["E"]]', "UNCOUNTED[crsName]")
     other, foot = HEIGHT.replace('"H"', '"G"').replace('"D"', '"E"'), HEIGHT.replace('"metre",1', '"foot",0.3048')
-    texts = [HEIGHT, other, "", foot, "EPSG:4326", crsdesk.Crs(other)]
+    texts: List[Any] = [HEIGHT, other, "", foot, "EPSG:4326", crsdesk.Crs(other)]
     bag = dask.bag.from_sequence(texts, npartitions=3)
     column = dask.dataframe.from_pandas(pandas.Series(texts, name="wkt"), npartitions=2)
     answers = groups(bag, rules=rules).compute(scheduler="threads")
-    counts.compare("a bag under rules", [it.group for it in answers], [1, 1, None, 2, None, 1])
+    assert [it.group for it in answers] == [1, 1, None, 2, None, 1], "a bag under rules"
     answers = standings(groups(column, "definition", rules=rules).compute(scheduler="sync"))
-    counts.compare("a column under rules", [it.group for it in answers], [1, 1, None, 2, None, 1])
+    assert [it.group for it in answers] == [1, 1, None, 2, None, 1], "a column under rules"
     answers = groups(bag).compute(scheduler="sync")
-    counts.compare("the same bag without rules", [it.group for it in answers], [1, 2, None, 3, None, 2])
+    assert [it.group for it in answers] == [1, 2, None, 3, None, 2], "the same bag without rules"
     forms = [None if it in ("", "EPSG:4326") else crsdesk.canon(it, rules=rules) for it in texts]
-    counts.compare("forms of a bag", canon(bag, rules=rules).compute(scheduler="sync"), forms)
-    counts.compare("forms of a column", canon(column, "full", rules).compute(scheduler="sync").tolist(), forms)
+    assert canon(bag, rules=rules).compute(scheduler="sync") == forms, "forms of a bag"
+    assert canon(column, "full", rules).compute(scheduler="sync").tolist() == forms, "forms of a column"
 
 
 def by_catalogue(texts: List[Any]) -> List[Standing]:
@@ -208,7 +194,7 @@ def by_catalogue(texts: List[Any]) -> List[Standing]:
     return found
 
 
-def try_collisions(counts: Counts) -> None:
+def test_collisions() -> None:
     """Texts are compared whole, whatever their digests: those of this package, one for all, and three. Collections by
     chance, of texts, bytes and CRSs, in any number of partitions and meetings."""
     chance = random.Random(58)
@@ -231,36 +217,37 @@ def try_collisions(counts: Counts) -> None:
                     bag = dask.bag.from_sequence(texts, npartitions=partitions)
                     for meetings in (None, 1, 3):
                         found = groups(bag, npartitions=meetings).compute(scheduler="sync")
-                        counts.compare(f"{name}: {len(texts)} in {partitions}, {meetings}", found, wanted)
+                        assert found == wanted, f"{name}: {len(texts)} in {partitions}, {meetings}"
         finally:
             _partitions.digests_of = kept
     # A partition is a sequence of standings.
     part = _partitions.Standings(numpy.array([1, 0, 2]), {1: "refused"})
     wanted = [Standing(1, None), Standing(None, "refused"), Standing(2, None)]
-    counts.compare(
-        "a partition",
-        (list(part), len(part), part[1], part[-1], part[:2]),
-        (wanted, 3, wanted[1], wanted[2], wanted[:2]),
-    )
-    counts.compare("a partition is sent", list(pickle.loads(pickle.dumps(part))), wanted)
+    assert (list(part), len(part), part[1], part[-1], part[:2]) == (
+        wanted,
+        3,
+        wanted[1],
+        wanted[2],
+        wanted[:2],
+    ), "a partition"
+    assert list(pickle.loads(pickle.dumps(part))) == wanted, "a partition is sent"
 
 
-def try_lines(counts: Counts) -> None:
+def test_lines(tmp_path: pathlib.Path) -> None:
     """The lines of files in blocks of any size are those of a catalogue."""
     data = b"a\r\nb\n\nc\rd\r\r\n" + b"x" * 50 + b"\n\xff\nlast\r"
-    with tempfile.TemporaryDirectory() as folder:
-        for number, end in enumerate((data, data + b"\n", b"", b"\n", b"\r\n")):
-            path = pathlib.Path(folder, f"{number}.txt")
-            path.write_bytes(end)
-            wanted = list(lines_of(io.BytesIO(end)))
-            for size in (*range(1, 12), 100):
-                found = lines(str(path), blocksize=size).compute(scheduler="sync")
-                counts.compare(f"lines {number} in blocks of {size}", found, wanted)
-        found = lines([f"{folder}/0.txt", f"{folder}/1.txt"], blocksize=7).compute(scheduler="sync")
-        counts.compare("lines of two files", found, [*lines_of(io.BytesIO(data)), *lines_of(io.BytesIO(data + b"\n"))])
+    for number, end in enumerate((data, data + b"\n", b"", b"\n", b"\r\n")):
+        path = tmp_path / f"{number}.txt"
+        path.write_bytes(end)
+        wanted = list(lines_of(io.BytesIO(end)))
+        for size in (*range(1, 12), 100):
+            found = lines(str(path), blocksize=size).compute(scheduler="sync")
+            assert found == wanted, f"lines {number} in blocks of {size}"
+    found = lines([f"{tmp_path}/0.txt", f"{tmp_path}/1.txt"], blocksize=7).compute(scheduler="sync")
+    assert found == [*lines_of(io.BytesIO(data)), *lines_of(io.BytesIO(data + b"\n"))], "lines of two files"
 
 
-def try_frames(counts: Counts) -> None:
+def test_frames() -> None:
     """Columns: their index, their partitions, missing values, and other types of strings."""
     values = [HEIGHT, None, NOTED, float("nan"), "EPSG:4326", TWIN, pandas.NA, ""]
     frame = pandas.DataFrame({"wkt": values, "other": range(8)}, index=[f"i{n}" for n in range(8)])
@@ -268,26 +255,27 @@ def try_frames(counts: Counts) -> None:
         table = dask.dataframe.from_pandas(frame.astype({"wkt": kind}), npartitions=3)
         answer = groups(table["wkt"])
         found = answer.compute(scheduler="sync")
-        counts.compare(f"{kind}: types", found.dtypes.astype(str).tolist(), ["Int64", "object"])
-        counts.compare(f"{kind}: types before", answer.dtypes.tolist(), found.dtypes.tolist())
-        counts.compare(f"{kind}: index", found.index.tolist(), frame.index.tolist())
-        counts.compare(f"{kind}: divisions", answer.divisions, table.divisions)
+        assert found.dtypes.astype(str).tolist() == ["Int64", "object"], f"{kind}: types"
+        assert answer.dtypes.tolist() == found.dtypes.tolist(), f"{kind}: types before"
+        assert found.index.tolist() == frame.index.tolist(), f"{kind}: index"
+        assert answer.divisions == table.divisions, f"{kind}: divisions"
         numbers = [None if it is pandas.NA else it for it in found["group"]]
-        counts.compare(f"{kind}: groups", numbers, [1, None, 2, None, None, 1, None, None])
+        assert numbers == [1, None, 2, None, None, 1, None, None], f"{kind}: groups"
         refusals = [None] * 4 + ["refused 1 BadCharacter at 4"] + [None] * 3
-        counts.compare(f"{kind}: refusals", found["refusal"].tolist(), refusals)
+        assert found["refusal"].tolist() == refusals, f"{kind}: refusals"
         joined = table.assign(group=answer["group"]).compute(scheduler="sync")
-        counts.compare(f"{kind}: beside the texts", joined["group"].fillna(0).tolist(), [1, 0, 2, 0, 0, 1, 0, 0])
+        assert joined["group"].fillna(0).tolist() == [1, 0, 2, 0, 0, 1, 0, 0], f"{kind}: beside the texts"
         texts = canon(table["wkt"], "definition").compute(scheduler="sync")
-        counts.compare(f"{kind}: canonical texts", (texts.name, texts.index.tolist()), ("wkt", frame.index.tolist()))
+        assert (texts.name, texts.index.tolist()) == ("wkt", frame.index.tolist()), f"{kind}: canonical texts"
         wanted = [CANONICAL_HEIGHT if it in (1, 2) else None for it in numbers]
-        counts.compare(f"{kind}: canonical texts", texts.tolist(), wanted)
+        assert texts.tolist() == wanted, f"{kind}: canonical texts"
 
 
-def try_faults(counts: Counts) -> None:
+def test_faults() -> None:
     bag = dask.bag.from_sequence([HEIGHT, 4326], npartitions=2)
     table = dask.dataframe.from_pandas(pandas.DataFrame({"wkt": [HEIGHT]}), npartitions=1)
-    for call in (groups, canon):
+    calls: List[Callable[..., Any]] = [groups, canon]
+    for call in calls:
         for given, level, wanted in (
             ([HEIGHT], "full", "TypeError: a catalogue is a bag of dask or a column of its dataframe, not list"),
             (
@@ -302,50 +290,63 @@ def try_faults(counts: Counts) -> None:
                 found = str(call(given, level).compute(scheduler="sync"))
             except (TypeError, ValueError) as error:
                 found = f"{type(error).__name__}: {error}"
-            counts.compare(f"{call.__name__} of {type(given).__name__}", found, wanted)
+            assert found == wanted, f"{call.__name__} of {type(given).__name__}"
 
 
-def try_large(counts: Counts, program: str, count: int, folder: pathlib.Path) -> None:
-    """A large catalogue by four worker processes; one of them is killed in the middle."""
+class Large(NamedTuple):
+    """A client of four worker processes, and a large catalogue with what the command says of it at each level."""
+
+    client: Any
+    path: pathlib.Path
+    wanted: Dict[str, List[Standing]]
+
+
+@pytest.fixture(scope="module")
+def large(program: pathlib.Path, tmp_path_factory: pytest.TempPathFactory) -> Iterator[Large]:
     from dask.distributed import Client, LocalCluster
 
+    folder = tmp_path_factory.mktemp("dask")
     path = folder / "catalogue.txt"
-    path.write_bytes(large_catalogue(count))
+    path.write_bytes(large_catalogue(LINES))
     wanted = {level: by_command(program, path.read_bytes(), level) for level in ("full", "definition")}
-    numbers = [it.group for it in wanted["full"] if it.group]
-    print(f"{count} lines, {max(numbers)} groups, {sum(it.refusal is not None for it in wanted['full'])} refused")
     settings: Dict[str, Any] = {"n_workers": WORKERS, "threads_per_worker": 1, "processes": True}
     # What Dask says of a worker that is killed is no fault.
     settings |= {"silence_logs": logging.CRITICAL, "dashboard_address": None, "local_directory": str(folder)}
     with LocalCluster(**settings) as cluster, Client(cluster) as client:
-        client.upload_file(__file__)
-        processes = client.run(os.getpid)
-        counts.compare("worker processes", len({*processes.values(), os.getpid()}), WORKERS + 1)
-        for partitions in (1, 7, 1000):
-            begin = time.monotonic()
-            found = groups(bag_of(path, partitions)).compute()
-            try_answer(counts, f"a bag of {partitions} partitions", found, wanted["full"])
-            print(f"a bag of {partitions} partitions: {time.monotonic() - begin:.1f} s")
-        column = column_of(path, 50)
-        found = standings(groups(column, "definition").compute())
-        try_answer(counts, "a column of 50 partitions by definition", found, wanted["definition"])
-        begin = time.monotonic()
-        found = groups(lines(str(path), blocksize="4 MiB")).compute()
-        try_answer(counts, "lines in blocks of bytes", found, wanted["full"])
-        print(f"lines in blocks of bytes: {time.monotonic() - begin:.1f} s")
-        texts = canon(column_of(path, 50)).compute().tolist()
-        has_text = [it.group is not None for it in wanted["full"]]
-        counts.compare("canonical texts of a column", [it is not None for it in texts], has_text)
-        by_group: Dict[Optional[int], set[str]] = {}
-        for text, standing in zip(texts, wanted["full"]):
-            by_group.setdefault(standing.group, set()).add(text)
-        counts.compare("one canonical text a group", {len(it) for it in by_group.values()}, {1})
-        try_killed(counts, client, path, wanted["full"])
+        yield Large(client, path, wanted)
 
 
-def try_killed(counts: Counts, client: Any, path: pathlib.Path, wanted: List[Standing]) -> None:
+def test_worker_processes(large: Large) -> None:
+    assert len({*large.client.run(os.getpid).values(), os.getpid()}) == WORKERS + 1
+
+
+@pytest.mark.parametrize("partitions", [1, 7, 1000])
+def test_bag(partitions: int, large: Large) -> None:
+    hold_answer("a bag", groups(bag_of(large.path, partitions)).compute(), large.wanted["full"])
+
+
+def test_column_by_definition(large: Large) -> None:
+    found = standings(groups(column_of(large.path, 50), "definition").compute())
+    hold_answer("a column", found, large.wanted["definition"])
+
+
+def test_lines_in_blocks_of_bytes(large: Large) -> None:
+    hold_answer("lines", groups(lines(str(large.path), blocksize="4 MiB")).compute(), large.wanted["full"])
+
+
+def test_canonical_texts_of_a_column(large: Large) -> None:
+    texts = canon(column_of(large.path, 50)).compute().tolist()
+    assert [it is not None for it in texts] == [it.group is not None for it in large.wanted["full"]]
+    by_group: Dict[Optional[int], Set[str]] = {}
+    for text, standing in zip(texts, large.wanted["full"]):
+        by_group.setdefault(standing.group, set()).add(text)
+    assert {len(it) for it in by_group.values()} == {1}, "one canonical text a group"
+
+
+def test_a_worker_is_killed(large: Large) -> None:
     """A worker's process ends in the middle of a run: some partitions are grouped, and none is answered, since the last
     is read after that."""
+    client, path, wanted = large
     before = dict(client.run(os.getpid))
     answered = []
     is_killed = path.with_name("killed")
@@ -365,9 +366,9 @@ def try_killed(counts: Counts, client: Any, path: pathlib.Path, wanted: List[Sta
     thread.start()
     found = answer.compute()
     thread.join()
-    try_answer(counts, "a worker killed in the middle", found, wanted)
+    hold_answer("a worker killed in the middle", found, wanted["full"])
     left = set(client.run(os.getpid).values()) & set(before.values())
-    counts.compare("one was killed in the middle", (answered, len(left)), ([0], WORKERS - 1))
+    assert (answered, len(left)) == ([0], WORKERS - 1), "one was killed in the middle"
 
 
 def made(dask_scheduler: Any, name: str) -> int:
@@ -376,34 +377,10 @@ def made(dask_scheduler: Any, name: str) -> int:
     return sum(task.key.startswith(name) and task.state in ("memory", "released") for task in tasks)
 
 
-def try_documents(counts: Counts) -> None:
-    """The blocks of docs/CLUSTER.md."""
-    path = ROOT / "docs" / "CLUSTER.md"
-    globs: Dict[str, Any] = {}
+def test_document(monkeypatch: pytest.MonkeyPatch) -> None:
+    """The session of docs/CLUSTER.md."""
+    monkeypatch.chdir(ROOT)
+    text = "".join(it.text for it in documents.blocks_of(ROOT / "docs" / "CLUSTER.md") if it.kind == "pycon")
     runner = doctest.DocTestRunner(optionflags=doctest.ELLIPSIS | doctest.NORMALIZE_WHITESPACE)
-    os.chdir(ROOT)
-    for start, head, lines in run_documents.blocks_of(path):
-        if head.split(" ")[0] == "pycon":
-            test = doctest.DocTestParser().get_doctest("\n".join(lines) + "\n", globs, path.name, str(path), start - 1)
-            runner.run(test, clear_globs=False)
-            globs.update(test.globs)
-    counts.passed += runner.tries - runner.failures
-    counts.failed += runner.failures
-    counts.add("the blocks of CLUSTER.md", "" if runner.tries else "there are none")
-
-
-def main(words: List[str]) -> int:
-    if not 1 <= len(words) <= 2:
-        sys.exit(__doc__)
-    counts = Counts()
-    count = int(words[1]) if len(words) > 1 else 200_000
-    with tempfile.TemporaryDirectory() as folder:
-        try_small(counts)
-        try_large(counts, words[0], count, pathlib.Path(folder))
-        try_documents(counts)
-    print(f"{counts.passed} passed, {counts.failed} failed")
-    return 1 if counts.failed else 0
-
-
-if __name__ == "__main__":
-    sys.exit(main(sys.argv[1:]))
+    found = runner.run(doctest.DocTestParser().get_doctest(text, {}, "CLUSTER.md", None, 0))
+    assert found.attempted and not found.failed

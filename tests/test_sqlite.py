@@ -1,14 +1,7 @@
-#!/usr/bin/env python3
-"""Tries the extension for SQLite.
+"""The extension for SQLite, built anew under all warnings.
 
-    run_sql.py [PREFIX]
-
-PREFIX has the header and the static library, as tools/build_library.py makes them (out/prefix where none
-is given). The extension is built anew as sql/out/crsdesk_sqlite.so, under all warnings. The rows of the .rows files
-beside it are asked of its functions by the program sqlite3, as TEXT and as BLOB; then come what no text is, levels,
-indexes, other encodings and long texts; all of it again under checks of memory; threads; and, where GDAL is there, a
-GeoPackage. What isn't there is named as skipped. Each case that fails has a line; the last line is 'N passed, M
-failed', and the status is 0 where M is 0.
+The rows of the .rows files are asked of its functions by the program sqlite3, as TEXT and as BLOB; then come what no text
+is, levels, indexes, other encodings and long texts; all of it again under checks of memory; threads; and a GeoPackage.
 """
 from __future__ import annotations
 
@@ -18,25 +11,20 @@ import ctypes.util
 import os
 import pathlib
 import resource
-import shutil
 import sqlite3
 import subprocess
 import sys
-import tempfile
 from concurrent.futures import ThreadPoolExecutor
-from typing import Iterator, List
+from typing import Iterator, List, NamedTuple
 
-HERE = pathlib.Path(__file__).resolve().parent
-ROOT = HERE.parent
-
-# The imports of the repository's own files leave nothing in it.
-sys.dont_write_bytecode = True
-sys.path.append(str(ROOT / "tools"))
 import build_sqlite
-import run_cases
+import pytest
+import rows
 import sql_rows
-from sql_rows import CANONICAL_HEIGHT, HEIGHT, NOTED, TWIN, Counts, Statement
+from sql_rows import Statement
+from support import CANONICAL_HEIGHT, HEIGHT, NOTED, ROOT, TWIN, succeed
 
+pytestmark = [pytest.mark.needs("sqlite3"), pytest.mark.xdist_group("sqlite")]
 SECONDS = 600
 # More growths than the program sqlite3 makes here.
 MOST_GROWTHS = 2000
@@ -107,14 +95,14 @@ def of_indexes() -> Iterator[Statement]:
 
 def of_rules() -> Iterator[Statement]:
     """Rules as bytes, and in a schema."""
-    height, other, rules = sql_rows.HEIGHT, sql_rows.OTHER, sql_rows.RULES
+    other, rules = sql_rows.OTHER, sql_rows.RULES
     blob = literal(rules.encode(), True)
-    yield "rules as bytes", f"SELECT crs_canon('{other}', 'full', {blob}), crs_canon('{height}', 'full', X'');", f"{sql_rows.FORM}|{CANONICAL_HEIGHT}"
-    yield "types", f"SELECT typeof(crs_canon('{height}', 'full', '')), typeof(crs_same('{height}', '{height}', 'full', ''));", "text|integer"
-    yield "a NUL byte", f"SELECT crs_canon('{height}', 'full', {literal(rules.encode() + bytes(1), False)});", "Error: rules: line 5: refused 1 at 0: BadCharacter"
+    yield "rules as bytes", f"SELECT crs_canon('{other}', 'full', {blob}), crs_canon('{HEIGHT}', 'full', X'');", f"{sql_rows.FORM}|{CANONICAL_HEIGHT}"
+    yield "types", f"SELECT typeof(crs_canon('{HEIGHT}', 'full', '')), typeof(crs_same('{HEIGHT}', '{HEIGHT}', 'full', ''));", "text|integer"
+    yield "a NUL byte", f"SELECT crs_canon('{HEIGHT}', 'full', {literal(rules.encode() + bytes(1), False)});", "Error: rules: line 5: refused 1 at 0: BadCharacter"
     yield "a table", "CREATE TABLE r (n INTEGER PRIMARY KEY, wkt TEXT);", ""
     yield "an index", f"CREATE UNIQUE INDEX r_by_crs ON r (crs_canon(wkt, 'full', '{rules}'));", ""
-    yield "rows", f"INSERT INTO r (wkt) VALUES ('{height}'), ('x'), (NULL);", ""
+    yield "rows", f"INSERT INTO r (wkt) VALUES ('{HEIGHT}'), ('x'), (NULL);", ""
     wanted = "Error: UNIQUE constraint failed: index 'r_by_crs'"
     yield "each CRS once under rules", f"INSERT INTO r (wkt) VALUES ('{other}');", wanted
     yield "each CRS once under rules", f"INSERT INTO r (wkt) VALUES ('{NOTED}'); SELECT count(*) FROM r;", "4"
@@ -171,49 +159,76 @@ def plain_error(text: str) -> str:
     return text
 
 
-def try_statements(counts: Counts, extension: pathlib.Path, preloaded: str = "") -> None:
-    asked, promised = list(sql_rows.rows(SQLITE)), list(promises())
-    names = (
-        "a level",
-        "a wrong level",
-        "under rules",
-        "rules of rows",
-        "refused rules",
-        "long rules",
-        "a limit",
-        "the usual limit",
-        "a refused text",
-        "nothing",
-        "types",
-    )
-    of_encoding = [it for it in promised if it[0] in names]
-    for statements, first in ((asked, ""), (promised, ""), (of_encoding, "PRAGMA encoding='UTF-16';")):
-        *answers, rest = printed(extension, statements, first, preloaded)
-        for (place, statement, wanted), got in zip(statements, answers):
-            counts.compare(f"{place}: {first} {statement[:80]}", plain_error(got), wanted)
-        counts.compare("after all statements", rest, "")
-    # A second time in one connection: the limit is the usual one again.
-    twice = f"SELECT crs_max_text_length(5);\n.load {extension}\nSELECT crs_max_text_length();"
-    coded = f"SELECT crs_kind({sql_rows.text_of(sql_rows.LIMIT + 1, SQLITE)});"
-    *answers, rest = printed(extension, [("", twice, ""), ("", coded, "")], "", preloaded)
-    counts.compare("loaded twice", answers[0], f"5\n{sql_rows.LIMIT}")
-    counts.compare("the error is SQLITE_TOOBIG", answers[1].endswith(" (18)"), True)
-    counts.compare("loaded twice", rest, "")
+class Loaded(NamedTuple):
+    """An extension, and what is preloaded with it."""
+
+    extension: pathlib.Path
+    preloaded: str
 
 
-def try_sanitized(counts: Counts, prefix: pathlib.Path, folder: pathlib.Path) -> None:
-    """The same of the extension built with checks of memory and of undefined behaviour, and a search for leaks."""
-    names = ["libasan.so", "libubsan.so"]
-    words = ["cc", *(f"-print-file-name={name}" for name in names)]
-    found = [
-        subprocess.run([words[0], it], capture_output=True, text=True, check=True).stdout.strip() for it in words[1:]
-    ]
+@pytest.fixture
+def extension(sqlite_extension: pathlib.Path) -> pathlib.Path:
+    if not sqlite_extension.exists():
+        pytest.skip("sqlite3ext.h isn't there")
+    return sqlite_extension
+
+
+@pytest.fixture(scope="module")
+def sanitized(prefix: pathlib.Path, tmp_path_factory: pytest.TempPathFactory) -> Loaded:
+    """The extension with checks of memory and of undefined behaviour, and a search for leaks."""
+    found = [succeed(["cc", f"-print-file-name={it}"]).strip() for it in ("libasan.so", "libubsan.so")]
     if not all("/" in it for it in found):
-        print("skipped: libasan or libubsan isn't there: the extension under checks of memory")
-        return
-    extension = folder / "crsdesk_sqlite.so"
-    build_sqlite.build(prefix, extension, ["-g", "-fsanitize=address,undefined", "-fno-sanitize-recover=all"])
-    try_statements(counts, extension, " ".join(found))
+        pytest.skip("libasan or libubsan isn't there")
+    made = tmp_path_factory.mktemp("sanitized") / "crsdesk_sqlite.so"
+    build_sqlite.build(prefix, made, ["-g", "-fsanitize=address,undefined", "-fno-sanitize-recover=all"])
+    return Loaded(made, " ".join(found))
+
+
+def of_encoding() -> List[Statement]:
+    """Those of the promises that are asked in another encoding too."""
+    names = "a level,a wrong level,under rules,rules of rows,refused rules,long rules,a limit,the usual limit"
+    return [it for it in promises() if it[0] in [*names.split(","), "a refused text", "nothing", "types"]]
+
+
+STATEMENTS = {
+    "rows": (list(sql_rows.all_rows(SQLITE)), ""),
+    "promises": (list(promises()), ""),
+    "UTF-16": (of_encoding(), "PRAGMA encoding='UTF-16';"),
+}
+
+
+def hold_statements(name: str, loaded: Loaded) -> None:
+    statements, first = STATEMENTS[name]
+    *answers, rest = printed(loaded.extension, statements, first, loaded.preloaded)
+    sql_rows.hold(statements, map(plain_error, answers))
+    assert rest == ""
+
+
+def hold_loading(loaded: Loaded) -> None:
+    """A second time in one connection: the limit is the usual one again."""
+    twice = f"SELECT crs_max_text_length(5);\n.load {loaded.extension}\nSELECT crs_max_text_length();"
+    coded = f"SELECT crs_kind({sql_rows.text_of(sql_rows.LIMIT + 1, SQLITE)});"
+    first, error, rest = printed(loaded.extension, [("", twice, ""), ("", coded, "")], "", loaded.preloaded)
+    assert first == f"5\n{sql_rows.LIMIT}" and rest == ""
+    assert error.endswith(" (18)"), "the error is SQLITE_TOOBIG"
+
+
+@pytest.mark.parametrize("name", STATEMENTS)
+def test_statements(name: str, extension: pathlib.Path) -> None:
+    hold_statements(name, Loaded(extension, ""))
+
+
+@pytest.mark.parametrize("name", STATEMENTS)
+def test_statements_sanitized(name: str, sanitized: Loaded) -> None:
+    hold_statements(name, sanitized)
+
+
+def test_loading(extension: pathlib.Path) -> None:
+    hold_loading(Loaded(extension, ""))
+
+
+def test_loading_sanitized(sanitized: Loaded) -> None:
+    hold_loading(sanitized)
 
 
 # A long rules file, and rows of which each spells the same CRS in another text.
@@ -221,10 +236,10 @@ LARGE = "".join(f'SAME[DATUM["a{n}"],DATUM["b{n}"]]\n' for n in range(2000))
 ROWS = "WITH RECURSIVE n (n) AS (SELECT 1 UNION ALL SELECT n + 1 FROM n WHERE n < 500)"
 
 
-def try_rules_once(counts: Counts, extension: pathlib.Path, folder: pathlib.Path) -> None:
+def test_rules_are_read_once(extension: pathlib.Path, tmp_path: pathlib.Path) -> None:
     """Rules are read once a statement, those of a constant and those that a function answers for each row: that takes a
     fraction of the processor's time of rules that change from row to row."""
-    file = folder / "large.rules"
+    file = tmp_path / "large.rules"
     file.write_text(LARGE, encoding="utf-8")
     seconds = {}
     for name, rules in {
@@ -237,27 +252,19 @@ def try_rules_once(counts: Counts, extension: pathlib.Path, folder: pathlib.Path
         found = printed(extension, [("rules", asked, "")], "", "")
         end = resource.getrusage(resource.RUSAGE_CHILDREN)
         seconds[name] = end.ru_utime + end.ru_stime - begin.ru_utime - begin.ru_stime
-        counts.compare(f"rules of {name}", found, ["500", ""])
+        assert found == ["500", ""], f"rules of {name}"
     for name in ("a constant", "a function"):
-        told = (
-            ""
-            if 4 * seconds[name] < seconds["changing"]
-            else f"took {seconds[name]:.3f} s, changing rules {seconds['changing']:.3f} s"
-        )
-        counts.add(f"rules of {name} are read once", told)
-    print("500 rows under a long rules file: " + ", ".join(f"{name} {it:.3f} s" for name, it in seconds.items()))
+        assert 4 * seconds[name] < seconds["changing"], seconds
 
 
-def try_refused(counts: Counts, extension: pathlib.Path, folder: pathlib.Path) -> None:
+def test_growths_refused(extension: pathlib.Path, refusing: pathlib.Path) -> None:
     """Each growth of memory refused to the program sqlite3 in turn: an extension that isn't loaded leaves nothing behind,
     and after a call that has no memory the next answers."""
-    module = folder / "refuse_growth.so"
-    subprocess.run(["cc", "-O2", "-fPIC", "-shared", "-o", module, HERE / "refuse_growth.c"], check=True)
     asked = f"SELECT crs_canon('{sql_rows.OTHER}', 'full', '{sql_rows.RULES}');"
     script = f".load {extension}\n{asked}\n.print answered\n{asked}\n"
     unloaded = refused = 0
     for number in range(1, MOST_GROWTHS):
-        more = {"LD_PRELOAD": str(module), "REFUSE": str(number), "REFUSE_FROM": "start"}
+        more = {"LD_PRELOAD": str(refusing), "REFUSE": str(number), "REFUSE_FROM": "start"}
         words = ["sqlite3", "-batch", ":memory:"]
         done = subprocess.run(
             words, input=script, capture_output=True, text=True, env={**os.environ, **more}, check=False
@@ -266,24 +273,23 @@ def try_refused(counts: Counts, extension: pathlib.Path, folder: pathlib.Path) -
             break
         if "error during initialization" in done.stderr:
             unloaded += 1
-            counts.compare(f"growth {number} refused to its loading", (done.returncode, done.stdout), (1, "answered\n"))
+            assert (done.returncode, done.stdout) == (1, "answered\n"), f"growth {number} refused to its loading"
         elif "Runtime error near line 2: out of memory" in done.stderr:
             refused += 1
-            counts.compare(f"growth {number} refused", done.stdout, f"answered\n{sql_rows.FORM}\n")
-    counts.add("growths refused to SQLite", "" if unloaded > 10 and refused > 10 else f"{unloaded}, {refused}")
-    print(f"crs_canon under rules: {unloaded} growths refused to the loading, {refused} to the call")
+            assert done.stdout == f"answered\n{sql_rows.FORM}\n", f"growth {number} refused"
+    assert unloaded > 10 and refused > 10
 
 
-def try_symbols(counts: Counts, extension: pathlib.Path) -> None:
+def test_symbols(extension: pathlib.Path) -> None:
     """It shows one name, and needs the C library alone."""
     shown = subprocess.run(["nm", "-D", "--defined-only", extension], capture_output=True, check=True).stdout.split()
-    counts.compare("its names", shown[2::3], [b"sqlite3_crsdesksqlite_init"])
+    assert shown[2::3] == [b"sqlite3_crsdesksqlite_init"], "its names"
     needs = subprocess.run(["readelf", "-d", extension], capture_output=True, check=True).stdout.decode()
     found = [line.split("[")[1] for line in needs.split("\n") if "(NEEDED)" in line]
-    counts.compare("what it needs", found, ["libc.so.6]"])
+    assert found == ["libc.so.6]"], "what it needs"
 
 
-def try_room(counts: Counts, extension: pathlib.Path) -> None:
+def test_room(extension: pathlib.Path) -> None:
     """The differences of ordinary texts have the room that is asked for first (room_for_differences), so that they are
     compared once: their JSON is longer than their pieces."""
     lines = (ROOT / "examples" / "catalogue.txt").read_bytes().split(b"\n")
@@ -295,15 +301,15 @@ def try_room(counts: Counts, extension: pathlib.Path) -> None:
         "FROM ordinary AS a CROSS JOIN ordinary AS b);"
     )
     found = printed(extension, [("the room", statement, "")], "", "")
-    counts.compare("room for differences", found, ["1|1|1", ""])
+    assert found == ["1|1|1", ""], "room for differences"
 
 
-def try_version(counts: Counts, prefix: pathlib.Path, extension: pathlib.Path) -> None:
+def test_version(prefix: pathlib.Path, extension: pathlib.Path) -> None:
     """It answers the version of the library that it holds."""
     told = (prefix / "lib" / "pkgconfig" / "crsdesk.pc").read_text(encoding="utf-8").split("\n")
     wanted = next(line.partition(": ")[2] for line in told if line.startswith("Version: "))
     found = printed(extension, [("the version", "SELECT crs_version(), typeof(crs_version());", "")], "", "")
-    counts.compare("crs_version", found, [f"{wanted}|text", ""])
+    assert found == [f"{wanted}|text", ""], "crs_version"
 
 
 class Connection:
@@ -337,27 +343,23 @@ class Connection:
         return found
 
 
-def try_threads(counts: Counts, extension: pathlib.Path) -> None:
+def test_threads(extension: pathlib.Path) -> None:
     """Four threads at once, each with a connection of its own, in one process."""
     library = ctypes.util.find_library("sqlite3")
     if library is None:
-        print("skipped: libsqlite3 isn't there: four threads")
-        return
-    cases = [it for path in HERE.glob("*.rows") for it in run_cases.cases_of(path)]
-    cases = [it for it in cases if it.words == [b"canon"] and it.output and it.error is None]
+        pytest.skip("libsqlite3 isn't there")
+    cases = [it for it in rows.all_cases() if it.words == [b"canon"] and it.output and it.error is None]
     texts = [it.input for it in cases] * 5
     with ThreadPoolExecutor(4) as pool:
-        wanted = [it.output[:-1] for it in cases] * 5
+        wanted = [(it.output or b"")[:-1] for it in cases] * 5
         calls = [pool.submit(lambda name: Connection(name, extension).answers(texts), library) for _ in range(8)]
         for call in calls:
-            counts.compare("four threads", call.result(), wanted)
+            assert call.result() == wanted, "four threads"
 
 
-def try_geopackage(counts: Counts, extension: pathlib.Path, folder: pathlib.Path) -> None:
-    if shutil.which("ogr2ogr") is None:
-        print("skipped: ogr2ogr isn't there: a GeoPackage")
-        return
-    file = folder / "layers.gpkg"
+@pytest.mark.needs("ogr2ogr")
+def test_geopackage(extension: pathlib.Path, tmp_path: pathlib.Path) -> None:
+    file = tmp_path / "layers.gpkg"
     subprocess.run(["sh", ROOT / "examples" / "layers.sh", file], check=True, timeout=SECONDS)
     for level, wanted in (
         ("definition", "heights\nwells\ntiles roads parcels"),
@@ -369,7 +371,7 @@ def try_geopackage(counts: Counts, extension: pathlib.Path, folder: pathlib.Path
         )
         words = ["sqlite3", str(file), "-cmd", f".load {extension}", statement]
         done = subprocess.run(words, stdout=subprocess.PIPE, timeout=SECONDS, check=True).stdout.decode()
-        counts.compare(f"a GeoPackage at {level}", sorted(done.split("\n")), sorted([*wanted.split("\n"), ""]))
+        assert sorted(done.split("\n")) == sorted([*wanted.split("\n"), ""]), f"a GeoPackage at {level}"
 
 
 # Entries of a GeoPackage as examples/fill_wkt2.py meets them: srs_id, organization, code, definition, WKT2 before, and
@@ -385,14 +387,12 @@ ENTRIES = [
 ]
 
 
-def try_filling(counts: Counts, folder: pathlib.Path) -> None:
+@pytest.mark.needs("projinfo")
+def test_filling(tmp_path: pathlib.Path) -> None:
     """Whether examples/fill_wkt2.py fills what it says, with and without the column, and takes no repaired text."""
-    if shutil.which("projinfo") is None:
-        print("skipped: projinfo isn't there: the column of WKT2 filled by PROJ")
-        return
     script = [sys.executable, str(ROOT / "examples" / "fill_wkt2.py")]
     for has_column in (False, True):
-        file = folder / f"{has_column}.gpkg"
+        file = tmp_path / f"{has_column}.gpkg"
         with contextlib.closing(sqlite3.connect(file)) as table:
             table.execute(
                 "CREATE TABLE gpkg_spatial_ref_sys (srs_name TEXT, srs_id INTEGER PRIMARY KEY, organization TEXT, "
@@ -404,11 +404,12 @@ def try_filling(counts: Counts, folder: pathlib.Path) -> None:
                 table.execute(f"INSERT INTO gpkg_spatial_ref_sys VALUES ({', '.join('?' * len(row))})", row)
             table.commit()
         done = subprocess.run([*script, str(file)], capture_output=True, text=True, check=False, timeout=SECONDS)
-        counts.compare(
-            "what is filled", (done.returncode, done.stdout.split()), (1, " ".join(it[5] for it in entries).split())
-        )
+        assert (done.returncode, done.stdout.split()) == (
+            1,
+            " ".join(it[5] for it in entries).split(),
+        ), "what is filled"
         told = [line.split(": ")[0] for line in done.stderr.split("\n") if line[:2] in ("1:", "5:")]
-        counts.compare("what PROJ says is told", (told, "syntax error" in done.stderr), (["1", "5"], True))
+        assert (told, "syntax error" in done.stderr) == (["1", "5"], True), "what PROJ says is told"
         with contextlib.closing(sqlite3.connect(file)) as table:
             found = [
                 row[0] for row in table.execute("SELECT definition_12_063 FROM gpkg_spatial_ref_sys ORDER BY srs_id")
@@ -416,49 +417,16 @@ def try_filling(counts: Counts, folder: pathlib.Path) -> None:
             extensions = table.execute("SELECT count(*) FROM sqlite_master WHERE name = 'gpkg_extensions'").fetchone()
         fronts = [it[: it.find("[") + 1] or it for it in found]
         wanted = ["undefined", "GEODCRS[", "GEODCRS[", *["kept"] * has_column, "undefined", "undefined"]
-        counts.compare("the column", (fronts, extensions), (wanted, (int(not has_column),)))
-    other = folder / "other.db"
+        assert (fronts, extensions) == (wanted, (int(not has_column),)), "the column"
+    other = tmp_path / "other.db"
     with contextlib.closing(sqlite3.connect(other)) as table:
         table.execute("CREATE TABLE t (a)")
     before_it = other.read_bytes()
-    for name in (other, ROOT / "README.md", folder / "missing"):
+    for name in (other, ROOT / "README.md", tmp_path / "missing"):
         done = subprocess.run([*script, str(name)], capture_output=True, text=True, check=False, timeout=SECONDS)
-        counts.compare(
-            f"no GeoPackage: {name.name}", (done.returncode, done.stdout, "Traceback" in done.stderr), (2, "", False)
-        )
-    counts.compare("it is as before", (other.read_bytes(), (folder / "missing").exists()), (before_it, False))
-
-
-def main(words: List[str]) -> int:
-    if len(words) > 1 or words and words[0].startswith("-"):
-        sys.exit(__doc__)
-    prefix = pathlib.Path(words[0]) if words else ROOT / "out" / "prefix"
-    if shutil.which("sqlite3") is None:
-        print("skipped: sqlite3 isn't there: the extension for SQLite")
-        print("0 passed, 0 failed")
-        return 0
-    counts = Counts()
-    with tempfile.TemporaryDirectory() as folder:
-        extension = ROOT / "sql" / "out" / "crsdesk_sqlite.so"
-        extension.unlink(missing_ok=True)
-        if not build_sqlite.has_header():
-            print("skipped: sqlite3ext.h isn't there: the extension for SQLite")
-            print("0 passed, 0 failed")
-            return 0
-        build_sqlite.build(prefix, extension, ["-Werror"])
-        try_symbols(counts, extension)
-        try_version(counts, prefix, extension)
-        try_room(counts, extension)
-        try_statements(counts, extension)
-        try_rules_once(counts, extension, pathlib.Path(folder))
-        try_refused(counts, extension, pathlib.Path(folder))
-        try_sanitized(counts, prefix, pathlib.Path(folder))
-        try_threads(counts, extension)
-        try_geopackage(counts, extension, pathlib.Path(folder))
-        try_filling(counts, pathlib.Path(folder))
-    print(f"{counts.passed} passed, {counts.failed} failed")
-    return 1 if counts.failed else 0
-
-
-if __name__ == "__main__":
-    sys.exit(main(sys.argv[1:]))
+        assert (done.returncode, done.stdout, "Traceback" in done.stderr) == (
+            2,
+            "",
+            False,
+        ), f"no GeoPackage: {name.name}"
+    assert (other.read_bytes(), (tmp_path / "missing").exists()) == (before_it, False), "it is as before"

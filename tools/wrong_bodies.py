@@ -21,9 +21,10 @@ crates below are proved first, as build_program.py does it; with --over-gate the
 
 Prints a line for each body, and last `N passed, M failed`.
 """
+from __future__ import annotations
+
 import argparse
 import concurrent.futures
-import contextlib
 import pathlib
 import re
 import shutil
@@ -31,6 +32,7 @@ import subprocess
 import sys
 import tempfile
 import time
+from typing import Dict, Iterable, List, Optional, Set, Tuple
 
 ROOT = pathlib.Path(__file__).resolve().parent.parent
 # The import of the file of tools/ leaves nothing in the repository.
@@ -38,6 +40,7 @@ sys.dont_write_bytecode = True
 sys.path.insert(0, str(ROOT / "tools"))
 import build_library
 import build_program
+from build_program import Crate
 
 MOST = 12
 GATE, FURTHER, WHOLE = "wrong-bodies", "more-wrong-bodies", "must-fail"
@@ -57,7 +60,7 @@ class Fault(Exception):
     """Why a body can't be applied."""
 
 
-def enclosing(path, lines):
+def enclosing(path: str, lines: List[str]) -> Optional[str]:
     """The function that the last of these lines of a file stands in, or None: its path, or a method's type and name, since
     the prover names a method by the module of its type."""
     inside = path.removeprefix("src/").removesuffix(".rt")
@@ -76,9 +79,10 @@ def enclosing(path, lines):
     return None
 
 
-def goals_by_function(crate, said):
+def goals_by_function(crate: str, said: str) -> Dict[str, List[str]]:
     """The goals that the prover tells as not proved, by the function that they are of."""
-    found, goals = {}, []
+    found: Dict[str, List[str]] = {}
+    goals: List[str] = []
     for line in said.split("\n"):
         if goal := GOAL.match(line):
             goals.append(goal[1])
@@ -90,11 +94,13 @@ def goals_by_function(crate, said):
 class Body:
     """A wrong body of a crate."""
 
-    def __init__(self, file):
+    def __init__(self, file: pathlib.Path) -> None:
         self.file = file
         self.name = f"{file.parent.parent.name}/{file.stem}"
-        self.pairs, self.named = [], None
-        path = old = None
+        self.pairs: List[Tuple[str, str, str]] = []
+        self.named: Optional[str] = None
+        path: Optional[str] = None
+        old: Optional[str] = None
         for line in file.read_text(encoding="utf-8").split("\n"):
             word, _, text = line.partition(":")
             text = text.removeprefix(" ")
@@ -112,10 +118,11 @@ class Body:
         if not self.pairs:
             raise Fault("no pair of texts")
 
-    def applied(self, texts, folder):
+    def applied(self, texts: Dict[str, str], folder: pathlib.Path) -> Tuple[Dict[str, str], List[str]]:
         """The texts of files that it changes, over the texts given and the folder's files, and the functions that it
         changes. A Fault where an old text isn't there exactly once."""
-        changed, functions = {}, []
+        changed: Dict[str, str] = {}
+        functions: List[str] = []
         for path, old, new in self.pairs:
             text = changed.get(path) or texts.get(path)
             if text is None:
@@ -138,13 +145,18 @@ class Body:
             raise Fault("it stands in no function, and has no line in: FUNCTION")
         return changed, functions
 
-    def is_of_definitions(self):
+    def is_of_definitions(self) -> bool:
         return not self.named and any(not path.startswith("src/") for path, _, _ in self.pairs)
 
 
-def bodies_of(folder, parts):
+# Bodies that are tried together, each with its functions.
+Batch = List[Tuple[Body, List[str]]]
+
+
+def bodies_of(folder: pathlib.Path, parts: Iterable[str]) -> Tuple[List[Body], List[str]]:
     """The bodies of a crate's folders, and what is wrong with their files."""
-    bodies, faults = [], []
+    bodies: List[Body] = []
+    faults: List[str] = []
     for file in sorted(it for part in parts for it in folder.glob(f"{part}/*.edit")):
         try:
             body = Body(file)
@@ -155,9 +167,9 @@ def bodies_of(folder, parts):
     return bodies, faults
 
 
-def applies():
+def applies() -> Tuple[int, List[str]]:
     """Whether each body applies, and is in one folder of at most twelve."""
-    passed, faults = 0, []
+    passed, faults = 0, list[str]()
     for folder in sorted((ROOT / "crates").iterdir()):
         bodies, found = bodies_of(folder, (WHOLE, GATE, FURTHER))
         passed += len(bodies)
@@ -176,28 +188,30 @@ def applies():
 class Trial:
     """The trial of a crate's bodies."""
 
-    def __init__(self, crate, bodies):
+    def __init__(self, crate: Crate, bodies: List[Body]) -> None:
         self.crate = crate
         self.left = bodies
-        self.passed, self.faults = 0, []
+        self.passed, self.faults = 0, list[str]()
         # For a body that was tried: those that its function calls, and which were refused or not tried yet.
-        self.waits = {}
+        self.waits: Dict[Body, List[Body]] = {}
 
-    def run(self):
+    def run(self) -> Trial:
         # What a round has proved is kept for the next.
         with tempfile.TemporaryDirectory(prefix="wrong-bodies-") as self.proved:
             self.try_left()
         return self
 
-    def try_left(self):
+    def try_left(self) -> None:
         while self.left:
             batch, texts = self.batch()
             self.try_batch(batch, texts)
 
-    def batch(self):
+    def batch(self) -> Tuple[Batch, Dict[str, str]]:
         """Bodies that stand in different functions, each with its functions, and the texts with all of them. Those that are
         known to call others wait for these."""
-        batch, texts, taken = [], {}, set()
+        batch: Batch = []
+        texts: Dict[str, str] = {}
+        taken: Set[str] = set()
         for body in self.left:
             try:
                 changed, functions = body.applied(texts, self.crate.folder)
@@ -218,7 +232,7 @@ class Trial:
             return self.batch()
         return batch, texts
 
-    def check(self, functions, texts):
+    def check(self, functions: List[str], texts: Dict[str, str]) -> str:
         """What the prover says of these functions, with these texts in place of the crate's."""
         with tempfile.TemporaryDirectory(prefix="wrong-bodies-") as room:
             for part in build_program.PARTS:
@@ -243,7 +257,7 @@ class Trial:
             )
         return done.stdout
 
-    def try_batch(self, batch, texts):
+    def try_batch(self, batch: Batch, texts: Dict[str, str]) -> None:
         began = time.monotonic()
         said = self.check([it for _, functions in batch for it in functions], texts)
         print(f"{self.crate.name}: {len(batch)} tried in {time.monotonic() - began:.0f} s", flush=True)
@@ -279,9 +293,10 @@ class Trial:
             else:
                 self.halve(batch, said)
 
-    def called(self, functions, told):
+    def called(self, functions: List[str], told: Dict[str, str]) -> Set[str]:
         """What isn't proved of all that these functions call, as far as the prover tells."""
-        found, left = set(), list(functions)
+        found: Set[str] = set()
+        left = list(functions)
         while left:
             ends = re.findall(rf"`{self.crate.name}::(\S+?)`", told.get(left.pop(), "").partition("it calls")[2])
             # A block stands for each of its functions.
@@ -290,7 +305,9 @@ class Trial:
             left += further
         return found
 
-    def reason(self, name, told, goals, said):
+    def reason(
+        self, name: str, told: Dict[str, str], goals: Dict[str, List[str]], said: str
+    ) -> Optional[Tuple[str, bool]]:
         """Why a function isn't proved, and whether only since answers name what a body took away; None where it is proved,
         or where what it calls isn't."""
         words = told.get(name, "proved")
@@ -305,7 +322,7 @@ class Trial:
         other = next((it for it in errors if not NAMES.search(it)), None)
         return f"{name}: {other or (errors or [words])[0]}", bool(errors) and not other
 
-    def halve(self, batch, said):
+    def halve(self, batch: Batch, said: str) -> None:
         """Nothing is known of these bodies together: each half is tried for itself."""
         if len(batch) == 1:
             self.fail(batch[0][0], "CAN'T BE TRIED", said)
@@ -317,19 +334,19 @@ class Trial:
             self.try_left()
         self.left = [it for it in rest if it not in bodies]
 
-    def settle(self, body, why):
+    def settle(self, body: Body, why: str) -> None:
         self.left = [it for it in self.left if it is not body]
         self.passed += 1
         print(f"{body.name}: refused in {why[:160]}", flush=True)
 
-    def fail(self, body, word, said):
+    def fail(self, body: Body, word: str, said: str) -> None:
         self.left = [it for it in self.left if it is not body]
         lines = said.split("\n")
         told = [it for it in lines if "error" in it or it.startswith("fn ") and not it.endswith(": proved")]
         self.faults.append(f"{body.name}: {word}: {' '.join((told or lines)[:2])[:300]}")
 
 
-def proved_below(names, is_over_gate):
+def proved_below(names: List[str], is_over_gate: bool) -> List[Crate]:
     """The crates of these names, once those below them are proved."""
     kit = build_program.toolchain()
     crates = build_program.needed(kit, names)
@@ -344,7 +361,7 @@ def proved_below(names, is_over_gate):
     return [it for it in crates if it.name in names]
 
 
-def try_all(names, parts, is_over_gate):
+def try_all(names: List[str], parts: Iterable[str], is_over_gate: bool) -> Tuple[int, List[str]]:
     """Tries the bodies of these crates, and returns how many were refused, and what is wrong."""
     found = {it: bodies_of(ROOT / "crates" / it, parts) for it in names}
     faults = [it for _, faults in found.values() for it in faults]
@@ -358,7 +375,7 @@ def try_all(names, parts, is_over_gate):
     return sum(it.passed for it in done), [*faults, *(fault for it in done for fault in it.faults)]
 
 
-def main():
+def main() -> int:
     parser = argparse.ArgumentParser(description="Tries wrong bodies: the prover must refuse each.")
     parser.add_argument("--applies", action="store_true", help="proves nothing: says whether each applies")
     parser.add_argument("--over-gate", action="store_true", help="takes the crates below as rt ci has left them")

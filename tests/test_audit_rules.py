@@ -1,12 +1,5 @@
-#!/usr/bin/env python3
-"""Tries `python -m crsdesk audit --rules`: groups, near misses and the registry under rules, their names in the report,
-and rules files that are refused.
-
-    audit_rules.py
-
-run_audit.py runs it with a Python that has what the command needs. What isn't there is named as skipped. Each case that
-fails has a line; the last line is 'N passed, M failed', and the status is 0 where M is 0.
-"""
+"""`python -m crsdesk audit --rules`: groups, near misses and the registry under rules, their names in the report, and rules
+files that are refused."""
 from __future__ import annotations
 
 import csv
@@ -15,23 +8,20 @@ import importlib.util
 import json
 import os
 import pathlib
-import sys
-import traceback
-from typing import Callable, List
 
-sys.dont_write_bytecode = True
 from audit_archive import geographic, projected
-from audit_cases import HEIGHT, SCHEMA, Page, audit, everything_below, folder
-from audit_forms import EXAMPLES, HAS_PROJ, by_file, data_of, text_of, written
+from support import HEIGHT, ROOT
+from test_audit import SCHEMA, Page, audit, everything_below, folder
+from test_audit_forms import by_file, by_proj, data_of, text_of, written
 
 from crsdesk import Rules, canon
 
-RULES = pathlib.Path(__file__).resolve().parent.parent / "rules"
+RULES = ROOT / "rules"
 PRODUCERS, ANY_ORDER = RULES / "producers.rules", RULES / "any-order.rules"
 UTM = ("utm31_projinfo_2019.wkt", "utm31_shapefile.wkt")
 
 
-def groups_are_those_under_the_rules() -> None:
+def test_groups_are_those_under_the_rules() -> None:
     place = written("ruled", {name: text_of(name) for name in (*UTM, "rd_projinfo_2019.wkt")})
     status, output, data = data_of(place)
     assert status == 0 and len(data["definitions"]) == data["summary"]["definitions"] == 3 and data["rules"] == []
@@ -59,7 +49,7 @@ def groups_are_those_under_the_rules() -> None:
     assert data["near_misses"] == []
 
 
-def several_files_count_together() -> None:
+def test_several_files_count_together() -> None:
     texts = {"first.wkt": text_of("wgs84_projinfo_2019.wkt"), "second.wkt": text_of("wgs84_prj.wkt")}
     place = written("together", texts)
     assert len(data_of(place, "--rules", PRODUCERS)[2]["definitions"]) == 2
@@ -76,7 +66,7 @@ def several_files_count_together() -> None:
     assert len(data["definitions"]) == 2 and data["definitions"] == data_of(place)[2]["definitions"]
 
 
-def near_misses_are_those_under_the_rules() -> None:
+def test_near_misses_are_those_under_the_rules() -> None:
     """By each name that a group has, each pair once, and in the parts that are left."""
     texts = {
         "a.wkt": projected(31, "Survey zone 31"),
@@ -115,9 +105,8 @@ def near_misses_are_those_under_the_rules() -> None:
     assert data["near_misses"] == [] and len(data["definitions"]) == 1
 
 
-def the_registry_is_compared_under_the_rules() -> None:
-    if not HAS_PROJ:
-        return
+@by_proj
+def test_the_registry_is_compared_under_the_rules() -> None:
     rd = text_of("rd_projinfo_2019.wkt")
     assert 'DATUM["Amersfoort"' in rd
     place = written("registered", {"a.wkt": rd.replace('DATUM["Amersfoort"', 'DATUM["Rijksdriehoek"')})
@@ -133,10 +122,10 @@ def the_registry_is_compared_under_the_rules() -> None:
     assert data["summary"]["registry"] == {"bears another code's name": 1}
 
 
-def the_report_names_the_rules() -> None:
+def test_the_report_names_the_rules() -> None:
     place = written("named rules", {name: text_of(name) for name in UTM})
     odd = place / "<b>\n.rules"
-    odd.write_text('# <script>alert(1)</script> \x1b[31m\r\nSAME[DATUM["a"],DATUM["b"]]\r\n', newline="")
+    odd.write_bytes(b'# <script>alert(1)</script> \x1b[31m\r\nSAME[DATUM["a"],DATUM["b"]]\r\n')
     out = {kind: folder() / f"named.{kind}" for kind in ("html", "json", "csv")}
     words = [word for kind, path in out.items() for word in (f"--{kind}", path)]
     status, output, error = audit("--rules", PRODUCERS, "--rules", odd, *words, place)
@@ -147,7 +136,7 @@ def the_report_names_the_rules() -> None:
     assert [it["file"] for it in data["rules"]] == [str(PRODUCERS), str(odd)] and data["form"] == "crsdesk audit 3"
     assert [it["text"].encode() for it in data["rules"]] == [PRODUCERS.read_bytes(), odd.read_bytes()]
     if importlib.util.find_spec("jsonschema"):
-        import jsonschema  # type: ignore[import]
+        import jsonschema
 
         schema = jsonschema.Draft202012Validator(json.loads(SCHEMA.read_text(encoding="utf-8")))
         assert list(schema.iter_errors(data)) == []
@@ -167,7 +156,7 @@ def the_report_names_the_rules() -> None:
     assert {row["rules"] for row in csv.DictReader(out["csv"].read_text(encoding="utf-8").splitlines())} == {""}
 
 
-def rules_that_are_refused_are_told_before_anything_is_read() -> None:
+def test_rules_that_are_refused_are_told_before_anything_is_read() -> None:
     place = written("refused", {"a.wkt": HEIGHT, "b.wkt": "no CRS"})
     files = {
         "word.rules": b"# a comment\n\nUNCOUNTED[colour]\n",
@@ -203,32 +192,3 @@ def rules_that_are_refused_are_told_before_anything_is_read() -> None:
         told = f"crsdesk: {name}: it is to be written, and to be read (good.rules)\n"
         assert (status, output, error) == (2, "", told), error
         assert everything_below(place) == before
-
-
-CASES: List[Callable[[], None]] = [
-    groups_are_those_under_the_rules,
-    several_files_count_together,
-    near_misses_are_those_under_the_rules,
-    the_registry_is_compared_under_the_rules,
-    the_report_names_the_rules,
-    rules_that_are_refused_are_told_before_anything_is_read,
-]
-
-
-def main() -> int:
-    passed = failed = 0
-    if not HAS_PROJ:
-        print("skipped: neither osgeo nor pyproj is there: an audit under rules with a registry")
-    for case in CASES:
-        try:
-            case()
-            passed += 1
-        except Exception:
-            failed += 1
-            print(f"{case.__name__}: {''.join(traceback.format_exc().splitlines(keepends=True)[-5:]).rstrip()}")
-    print(f"{passed} passed, {failed} failed")
-    return 1 if failed else 0
-
-
-if __name__ == "__main__":
-    sys.exit(main())

@@ -1,13 +1,5 @@
-#!/usr/bin/env python3
-"""Tries `python -m crsdesk audit` of the package that this Python imports.
-
-    audit_cases.py
-
-audit_archive.py makes an archive whose groups, near misses and refusals are known; each form of the report is held
-against them. Then come files that can't be read, signals, and what isn't installed. run_audit.py runs it with a Python
-that has what the command needs. What isn't there is named as skipped. Each case that fails has a line; the last
-line is 'N passed, M failed', and the status is 0 where M is 0.
-"""
+"""`python -m crsdesk audit`: audit_archive.py makes an archive whose groups, near misses and refusals are known; each form
+of the report is held against them. Then come files that can't be read, signals, and what isn't installed."""
 from __future__ import annotations
 
 import collections
@@ -29,22 +21,22 @@ import subprocess
 import sys
 import tempfile
 import time
-import traceback
 import zipfile
-from typing import Any, Callable, Dict, FrozenSet, Iterator, List, Optional, Tuple
+from typing import Any, Dict, FrozenSet, Iterator, List, Optional, Tuple
 
-sys.dont_write_bytecode = True
 import audit_archive
 import big_catalogue
+import pytest
+from support import HEIGHT, ROOT, need
+
+pytest.importorskip("jinja2")
+pytest.importorskip("rich")
 
 import crsdesk
 from crsdesk import Crs, Difference
 from crsdesk.audit import collecting, judging, kinds, names, report
 
-HERE = pathlib.Path(__file__).resolve().parent
-ROOT = HERE.parent
 SCHEMA = ROOT / "docs" / "audit.schema.json"
-HEIGHT = 'VERTCRS["H",VDATUM["D"],CS[vertical,1],AXIS["h",up,LENGTHUNIT["metre",1]]]'
 Places = FrozenSet[Tuple[str, str, int]]
 Partition = FrozenSet[FrozenSet[Places]]
 
@@ -102,10 +94,16 @@ def everything_below(path: pathlib.Path) -> List[Tuple[str, int, float]]:
     return [(str(it), it.lstat().st_size, it.lstat().st_mtime) for it in sorted(path.rglob("*"))]
 
 
+def place_of(place: List[Any]) -> Tuple[str, str, int]:
+    """A place as JSON has it: its file, its layer and its line."""
+    file, layer, line = place
+    return file, layer, line
+
+
 def wanted_partition() -> Partition:
     """The places of each CRS with everything, of each definition."""
     groups = audited().wanted["spelled"].values()
-    return frozenset(frozenset(frozenset(map(tuple, places)) for places in crss.values()) for crss in groups)
+    return frozenset(frozenset(frozenset(map(place_of, places)) for places in crss.values()) for crss in groups)
 
 
 def key_of(place: Dict[str, Any]) -> Tuple[str, str, int]:
@@ -115,14 +113,14 @@ def key_of(place: Dict[str, Any]) -> Tuple[str, str, int]:
 # The forms of the report.
 
 
-def result_is_one_for_all_jobs() -> None:
+def test_result_is_one_for_all_jobs() -> None:
     assert audited().runs[1] == audited().runs[4]
 
 
-def data_has_the_groups() -> None:
+def test_data_has_the_groups() -> None:
     definitions = audited().data["definitions"]
     groups = [[frozenset(map(key_of, it["places"])) for it in group["variants"]] for group in definitions]
-    assert frozenset(map(frozenset, groups)) == wanted_partition()
+    assert frozenset(frozenset(it) for it in groups) == wanted_partition()
     assert [it["number"] for it in definitions] == list(range(1, len(definitions) + 1))
     texts = [it["texts"] for it in definitions]
     assert texts == sorted(texts, reverse=True) and texts == [sum(map(len, group)) for group in groups]
@@ -137,7 +135,7 @@ def data_has_the_groups() -> None:
             assert crs.kind == definition["kind"]
 
 
-def data_has_names_and_identifiers() -> None:
+def test_data_has_names_and_identifiers() -> None:
     by_name = {it["name"]: it for it in audited().data["definitions"]}
     zone = by_name["Survey zone 8"]
     assert zone["identifiers"] == ["SURVEY:1008"] and zone["kind"] == "projected"
@@ -147,9 +145,7 @@ def data_has_names_and_identifiers() -> None:
 
 
 def wanted_near_misses() -> List[Tuple[str, str, FrozenSet[str], List[str]]]:
-    return sorted(
-        (by, value, frozenset(both), parts) for by, value, both, parts in map(tuple, audited().wanted["near_misses"])
-    )
+    return sorted((by, value, frozenset(both), parts) for by, value, both, parts in audited().wanted["near_misses"])
 
 
 def numbers_of_definitions() -> Dict[str, int]:
@@ -161,13 +157,13 @@ def numbers_of_definitions() -> Dict[str, int]:
         for it in v["places"]
     }
     return {
-        name: numbers[tuple(places[0])]
+        name: numbers[place_of(places[0])]
         for name, crss in audited().wanted["spelled"].items()
         for places in crss.values()
     }
 
 
-def data_has_the_near_misses() -> None:
+def test_data_has_the_near_misses() -> None:
     data = audited().data
     names_of = {number: name for name, number in numbers_of_definitions().items()}
     found = []
@@ -189,7 +185,7 @@ def data_has_the_near_misses() -> None:
     assert told == [("numbers", True), ("numbers", False), ("axes", False), ("names and digits", True)], told
 
 
-def data_has_the_refusals() -> None:
+def test_data_has_the_refusals() -> None:
     found = [[*key_of(it["place"]), it["number"], it["byte"]] for it in audited().data["refused"]]
     assert sorted(found) == sorted(audited().wanted["refused"])
     assert sorted(key_of(it["place"]) for it in audited().data["without"]) == sorted(
@@ -204,7 +200,7 @@ def data_has_the_refusals() -> None:
     assert "WKT1" in hints[11] and "PROJ string" in hints[2] and "code" in hints[1] and hints[23] is None
 
 
-def data_has_the_summary() -> None:
+def test_data_has_the_summary() -> None:
     summary, wanted = audited().data["summary"], audited().wanted
     accepted = wanted["texts"] - len(wanted["refused"])
     crss = sum(map(len, wanted["spelled"].values()))
@@ -219,7 +215,7 @@ def data_has_the_summary() -> None:
     assert {it["number"]: it["texts"] for it in summary["refused_by_number"]} == numbers
 
 
-def data_has_the_areas() -> None:
+def test_data_has_the_areas() -> None:
     areas = audited().data["areas"]
     zone = numbers_of_definitions()["zone 5"]
     (area,) = [it for it in areas if zone in it["definitions"]]
@@ -227,11 +223,9 @@ def data_has_the_areas() -> None:
     assert [area[it] for it in ("south", "west", "north", "east", "texts")] == [-35, -144, 5, -135, len(places)]
 
 
-def data_fits_the_schema() -> None:
-    if importlib.util.find_spec("jsonschema") is None:
-        print("skipped: jsonschema isn't there: the schema of the audit's data")
-        return
-    import jsonschema  # type: ignore[import]
+def test_data_fits_the_schema() -> None:
+    need("python3:jsonschema")
+    import jsonschema
 
     schema = json.loads(SCHEMA.read_text(encoding="utf-8"))
     jsonschema.Draft202012Validator.check_schema(schema)
@@ -243,7 +237,7 @@ def data_fits_the_schema() -> None:
     assert not jsonschema.Draft202012Validator(schema).is_valid(broken)
 
 
-def table_has_a_row_a_text() -> None:
+def test_table_has_a_row_a_text() -> None:
     rows = list(csv.DictReader(audited().runs[4]["csv"].splitlines()))
     assert len(rows) == audited().wanted["texts"]
     groups: Dict[str, Dict[str, set[Tuple[str, str, int]]]] = {}
@@ -259,11 +253,14 @@ def table_has_a_row_a_text() -> None:
             assert row["crs"].startswith(row["definition"] + ".")
             definition = audited().data["definitions"][int(row["definition"]) - 1]
             assert (row["kind"], row["name"]) == (definition["kind"], definition["name"])
-    assert frozenset(frozenset(map(frozenset, it.values())) for it in groups.values()) == wanted_partition()
+    assert (
+        frozenset(frozenset(frozenset(places) for places in it.values()) for it in groups.values())
+        == wanted_partition()
+    )
     assert sorted(refused) == sorted(audited().wanted["refused"])
 
 
-def terminal_has_the_summary_and_the_near_misses() -> None:
+def test_terminal_has_the_summary_and_the_near_misses() -> None:
     output, wanted = audited().runs[4]["terminal"], audited().wanted
     head, *misses = output.split("\n\n")
     accepted = wanted["texts"] - len(wanted["refused"])
@@ -339,7 +336,7 @@ class Page(html.parser.HTMLParser):
         self.open[-1].pieces.append(data)
 
 
-def page_has_the_groups() -> None:
+def test_page_has_the_groups() -> None:
     page = Page(audited().runs[4]["html"]).open[0]
     groups = []
     for definition in audited().data["definitions"]:
@@ -354,14 +351,14 @@ def page_has_the_groups() -> None:
         paths = [it.text for it in found.all("th") if it.attributes["scope"] == "row"]
         assert paths == [part["path"] for variant in definition["variants"] for part in variant["parts"]]
     wanted = [[frozenset(map(shown, places)) for places in group] for group in wanted_partition()]
-    assert frozenset(groups) == frozenset(map(frozenset, wanted))
+    assert frozenset(groups) == frozenset(frozenset(it) for it in wanted)
 
 
 def shown(place: Tuple[str, str, int]) -> str:
     return place[0] + (f":{place[2]}" if place[2] else "") + (f" ({place[1]})" if place[1] else "")
 
 
-def page_has_the_near_misses_and_refusals() -> None:
+def test_page_has_the_near_misses_and_refusals() -> None:
     page = Page(audited().runs[4]["html"]).open[0]
     numbers = {number: name for name, number in numbers_of_definitions().items()}
     misses = []
@@ -389,7 +386,7 @@ def page_has_the_near_misses_and_refusals() -> None:
     assert sorted(refused) == sorted(wanted)
 
 
-def page_is_whole_and_asks_for_nothing() -> None:
+def test_page_is_whole_and_asks_for_nothing() -> None:
     text = audited().runs[4]["html"]
     page = Page(text).open[0]
     assert not re.search(r"(src|href)=\"(?!#)", text) and "@import" not in text and "url(" not in text
@@ -463,7 +460,7 @@ def make_logged_database(path: pathlib.Path) -> None:
             path.with_name(path.name + end).write_bytes(pathlib.Path(f"{name}/a{end}").read_bytes())
 
 
-def a_log_is_read_and_nothing_is_made() -> None:
+def test_a_log_is_read_and_nothing_is_made() -> None:
     path = folder() / "logged" / "a.sqlite"
     make_logged_database(path)
     before = everything_below(path.parent)
@@ -476,10 +473,9 @@ def a_log_is_read_and_nothing_is_made() -> None:
     assert everything_below(path.parent) == before
 
 
-def what_gdal_reads() -> None:
+def test_what_gdal_reads() -> None:
     """Layers, subdatasets, archives and folders that are data sets; no file is made beside them."""
-    if importlib.util.find_spec("osgeo") is None:
-        return
+    need("python3:osgeo")
     from osgeo import gdal, ogr, osr
 
     gdal.UseExceptions()
@@ -543,7 +539,7 @@ def odd_data() -> Any:
     return json.loads(odd_run()[3]["json"])
 
 
-def what_cant_be_read_is_told() -> None:
+def test_what_cant_be_read_is_told() -> None:
     status, output, error, _ = odd_run()
     assert status == 2 and "Traceback" not in error, error
     told = dict(line[len("crsdesk: ") :].split(": ", 1) for line in error.splitlines())
@@ -578,7 +574,7 @@ def what_cant_be_read_is_told() -> None:
     assert without == {("./empty.wkt", None, "empty"), ("./blank.wkt", None, "blank"), ("./lines.txt", 2, "empty")}
 
 
-def what_may_not_be_read_is_told() -> None:
+def test_what_may_not_be_read_is_told() -> None:
     """What another user has closed: a text, a database, a folder. Root may read all, so that nobody reads there."""
     place = folder() / "closed"
     (place / "in" / "shut").mkdir(parents=True)
@@ -605,8 +601,7 @@ def what_may_not_be_read_is_told() -> None:
     except OSError:
         is_able = False
     if not is_able:
-        print("skipped: another user has no Python here: an audit of what may not be read")
-        return
+        pytest.skip("another user has no Python here")
     done = run("-m", "crsdesk", "audit", "--json", "out/a.json", "in")
     (place / "in" / "shut").chmod(0o700)
     closed = {f"crsdesk: in/{name}: Permission denied" for name in ("b.wkt", "c.gpkg", "shut")}
@@ -615,7 +610,7 @@ def what_may_not_be_read_is_told() -> None:
     assert data["summary"]["accepted"] == 1 and len(data["unread"]) == 3, data
 
 
-def the_rest_goes_on() -> None:
+def test_the_rest_goes_on() -> None:
     """What comes before and after odd files and lines is read."""
     data = odd_data()
     places = [(it["file"], it.get("line")) for it in data["definitions"][0]["variants"][0]["places"]]
@@ -624,7 +619,7 @@ def the_rest_goes_on() -> None:
     assert bytes.fromhex(odd_name["file_bytes"]) == b"./na\xefme.wkt" and odd_name["file"] == "./na\ufffdme.wkt"
 
 
-def names_are_shown_as_text() -> None:
+def test_names_are_shown_as_text() -> None:
     _, _, _, files = odd_run()
     line_end = r"$'./<img src=x onerror=alert(1)>\n.wkt'"
     assert r"$'./na\xEFme.wkt'" in files["csv"] and line_end in files["csv"]
@@ -643,7 +638,7 @@ class Alone:
         return []
 
 
-def a_file_vanishes() -> None:
+def test_a_file_vanishes() -> None:
     """Between the listing and the reading, and a folder between its listing and that of those in it."""
     path = folder() / "vanishes"
     path.mkdir()
@@ -657,7 +652,7 @@ def a_file_vanishes() -> None:
     assert made.summary.accepted == 1 and [it.why for it in made.unread] == 3 * ["No such file or directory"]
 
 
-def a_process_ends_in_the_middle() -> None:
+def test_a_process_ends_in_the_middle() -> None:
     """Each item that ends its process is lost, and no other."""
     items = [0, 0, signal.SIGKILL, 0, signal.SIGSEGV, signal.SIGSEGV, *(100 * [0]), signal.SIGABRT]
     with collecting.Workers(3) as workers:
@@ -680,7 +675,7 @@ def processes_of(session: int) -> List[int]:
     return found
 
 
-def a_signal_leaves_nothing() -> None:
+def test_a_signal_leaves_nothing() -> None:
     many = folder() / "many"
     many.mkdir()
     for number in range(30_000):
@@ -716,7 +711,7 @@ def a_signal_leaves_nothing() -> None:
 # What is written, and where.
 
 
-def a_bar_is_shown_on_a_terminal() -> None:
+def test_a_bar_is_shown_on_a_terminal() -> None:
     ours, its_own = pty.openpty()
     command = [sys.executable, "-m", "crsdesk", "audit", str(audited().archive)]
     environment = {**os.environ, "TERM": "xterm", "COLUMNS": "100"}
@@ -735,7 +730,7 @@ def a_bar_is_shown_on_a_terminal() -> None:
     assert standard.startswith(b"files ") and b"reading" not in standard
 
 
-def files_are_written_whole() -> None:
+def test_files_are_written_whole() -> None:
     place = folder() / "written"
     place.mkdir()
     (place / "a.wkt").write_text(HEIGHT)
@@ -758,7 +753,7 @@ def files_are_written_whole() -> None:
     assert sorted(it.name for it in place.iterdir()) == ["a.wkt", "link.json", "new.csv", "real.json"]
 
 
-def outputs_that_are_inputs_are_refused() -> None:
+def test_outputs_that_are_inputs_are_refused() -> None:
     """By any name, and before anything is read or written; so are two reports in one file, but on a device."""
     place = folder() / "clashes"
     (place / "in").mkdir(parents=True)
@@ -783,7 +778,7 @@ def outputs_that_are_inputs_are_refused() -> None:
     assert audit("--json", "in/a.json", "in", cwd=place)[0] == audit("--json", "in/a.json", "in", cwd=place)[0] == 0
 
 
-def statuses() -> None:
+def test_statuses() -> None:
     place = folder() / "statuses"
     place.mkdir()
     (place / "a.wkt").write_text(HEIGHT)
@@ -809,7 +804,7 @@ def statuses() -> None:
 # What isn't installed.
 
 
-def what_isnt_installed_is_told() -> None:
+def test_what_isnt_installed_is_told() -> None:
     place = folder() / "lacking"
     place.mkdir()
     for name in ("jinja2", "osgeo"):
@@ -839,7 +834,7 @@ def what_isnt_installed_is_told() -> None:
     ]
 
 
-def importing_the_package_imports_nothing_of_it() -> None:
+def test_importing_the_package_imports_nothing_of_it() -> None:
     program = "import sys, crsdesk; print([it for it in sys.modules if it.split('.')[0] in ('jinja2', 'rich', 'sqlite3', 'multiprocessing') or 'audit' in it])"
     done = subprocess.run([sys.executable, "-c", program], capture_output=True, text=True, check=False)
     assert done.stdout == "[]\n", done
@@ -848,7 +843,7 @@ def importing_the_package_imports_nothing_of_it() -> None:
 # Many texts.
 
 
-def many_texts_make_a_page_of_less_than_ten_megabytes() -> None:
+def test_many_texts_make_a_page_of_less_than_ten_megabytes() -> None:
     """13,000 texts of CRSs each with its own name; a twentieth of them refused, and all boxes and parts."""
     path = folder() / "thirteen.txt"
     parts = list(big_catalogue.texts())
@@ -862,55 +857,3 @@ def many_texts_make_a_page_of_less_than_ten_megabytes() -> None:
     assert out.stat().st_size < 10_000_000, out.stat().st_size
     page = Page(out.read_text(encoding="utf-8")).open[0]
     assert all("--json" in it.text for it in page.all("p", "more"))
-
-
-CASES = [
-    result_is_one_for_all_jobs,
-    data_has_the_groups,
-    data_has_names_and_identifiers,
-    data_has_the_near_misses,
-    data_has_the_refusals,
-    data_has_the_summary,
-    data_has_the_areas,
-    data_fits_the_schema,
-    table_has_a_row_a_text,
-    terminal_has_the_summary_and_the_near_misses,
-    page_has_the_groups,
-    page_has_the_near_misses_and_refusals,
-    page_is_whole_and_asks_for_nothing,
-    what_cant_be_read_is_told,
-    what_may_not_be_read_is_told,
-    the_rest_goes_on,
-    names_are_shown_as_text,
-    a_log_is_read_and_nothing_is_made,
-    what_gdal_reads,
-    a_file_vanishes,
-    a_process_ends_in_the_middle,
-    a_signal_leaves_nothing,
-    a_bar_is_shown_on_a_terminal,
-    files_are_written_whole,
-    outputs_that_are_inputs_are_refused,
-    statuses,
-    what_isnt_installed_is_told,
-    importing_the_package_imports_nothing_of_it,
-    many_texts_make_a_page_of_less_than_ten_megabytes,
-]
-
-
-def main() -> int:
-    passed = failed = 0
-    if importlib.util.find_spec("osgeo") is None:
-        print("skipped: osgeo isn't there: an audit of what GDAL reads")
-    for case in CASES:
-        try:
-            case()
-            passed += 1
-        except Exception:
-            failed += 1
-            print(f"{case.__name__}: {''.join(traceback.format_exc().splitlines(keepends=True)[-5:]).rstrip()}")
-    print(f"{passed} passed, {failed} failed")
-    return 1 if failed else 0
-
-
-if __name__ == "__main__":
-    sys.exit(main())

@@ -1,0 +1,68 @@
+"""What the tests share beside their fixtures: where things are, and how a command is run."""
+from __future__ import annotations
+
+import importlib.util
+import os
+import pathlib
+import shutil
+import subprocess
+from typing import Any, Dict, Iterable
+
+import pytest
+
+HERE = pathlib.Path(__file__).resolve().parent
+ROOT = HERE.parent
+EXAMPLES = ROOT / "examples"
+PREFIX = ROOT / "out" / "prefix"
+LIBRARY = PREFIX / "lib" / "libcrsdesk.so"
+PROGRAM = ROOT / "crates" / "crsdesk" / "out" / "crsdesk"
+SECONDS = 1800
+# ./test sets this variable: what rt ci has built must be there.
+GATE = "CRSDESK_GATE"
+# A height, its canonical text, the same with a remark, and the same spelled otherwise.
+HEIGHT = 'VERTCRS["H",VDATUM["D"],CS[vertical,1],AXIS["h",up,LENGTHUNIT["metre",1]]]'
+CANONICAL_HEIGHT = 'VERTCRS["H",VDATUM["D"],CS[vertical,1],AXIS["h",up,ORDER[1],LENGTHUNIT["metre",1]]]'
+NOTED = HEIGHT[:-1] + ',REMARK["r"]]'
+TWIN = HEIGHT.replace("[", "(").replace("]", ")")
+
+
+def run(words: Iterable[object], **more: Any) -> "subprocess.CompletedProcess[str]":
+    """Runs a command, whose output and error are kept as texts; more is what subprocess.run takes."""
+    settings: Dict[str, Any] = {
+        "stdin": subprocess.DEVNULL,
+        "stdout": subprocess.PIPE,
+        "stderr": subprocess.PIPE,
+        **more,
+    }
+    if "input" in more:
+        del settings["stdin"]
+    return subprocess.run([str(it) for it in words], text=True, timeout=SECONDS, check=False, **settings)
+
+
+def succeed(words: Iterable[object], **more: Any) -> str:
+    """What a command writes to output and error, which must end with status 0."""
+    done = run(words, **{"stderr": subprocess.STDOUT, **more})
+    assert done.returncode == 0, done.stdout[-3000:]
+    return str(done.stdout)
+
+
+def found(file: pathlib.Path, how: str) -> pathlib.Path:
+    """A file that was built before; else the test fails, and says what builds it."""
+    if not file.exists():
+        pytest.fail(f"there is no {file.relative_to(ROOT)}: {how} builds it")
+    return file
+
+
+def left_by_gate(file: pathlib.Path) -> pathlib.Path:
+    """A file that rt ci leaves; a test is skipped where it isn't there, and rt ci wasn't run before."""
+    if not file.exists() and GATE not in os.environ:
+        pytest.skip(f"there is no {file.relative_to(ROOT)}: ./test has rt ci make it")
+    return found(file, "rt ci")
+
+
+def need(*tools: str) -> None:
+    """Skips a test where a program isn't on the PATH, or, as python3:MODULE, a module of Python isn't there."""
+    for tool in tools:
+        is_module, _, name = tool.rpartition(":")
+        if not (importlib.util.find_spec(name) if is_module else shutil.which(name)):
+            pytest.skip(f"{name} isn't there")

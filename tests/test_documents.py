@@ -1,0 +1,55 @@
+"""The commands, sessions, code and links that documents show (documents.py)."""
+from __future__ import annotations
+
+import pathlib
+import sys
+from typing import Tuple
+
+import pytest
+from documents import Block, Command, blocks_of, commands_of, leads, links_of, printed
+from support import ROOT, run
+
+EXAMPLES = ROOT / "crates" / "crs_examples" / "src"
+DOCUMENTS = [ROOT / "README.md", ROOT / "python" / "README.md", *sorted((ROOT / "docs").glob("*.md"))]
+BLOCKS = [block for path in DOCUMENTS for block in blocks_of(path)]
+COMMANDS = [command for block in BLOCKS if block.kind == "console" for command in commands_of(block)]
+CODE = [block for block in BLOCKS if block.kind == "rust" or " of=" in block.head]
+# The documents whose sessions of Python test_python.py and test_dask.py run.
+ELSEWHERE = ("PYTHON.md", "CLUSTER.md")
+SESSIONS = [path for path in DOCUMENTS if path.name not in ELSEWHERE and "```pycon" in path.read_text(encoding="utf-8")]
+# Runs a session, whose text is standard input.
+SESSION = """
+import doctest, sys
+test = doctest.DocTestParser().get_doctest(sys.stdin.read(), {}, sys.argv[1], None, 0)
+found = doctest.DocTestRunner(optionflags=doctest.ELLIPSIS).run(test)
+sys.exit(found.failed > 0 or found.attempted == 0)
+"""
+
+
+@pytest.mark.parametrize("command", COMMANDS, ids=str)
+def test_command(command: Command, program: pathlib.Path, sqlite_extension: pathlib.Path) -> None:
+    if command.block.lacks:
+        pytest.skip(f"{command.block.lacks} isn't there")
+    assert printed(command) == command.wanted
+
+
+@pytest.mark.parametrize("path", SESSIONS, ids=lambda it: str(it.name))
+def test_session(path: pathlib.Path, library: pathlib.Path) -> None:
+    text = "".join(f"{it.text}\n" for it in blocks_of(path) if it.kind == "pycon" and not it.lacks)
+    if not text:
+        pytest.skip("what its blocks need isn't there")
+    done = run([sys.executable, "-c", SESSION, path.name], input=text, cwd=ROOT)
+    assert done.returncode == 0, done.stdout + done.stderr
+
+
+@pytest.mark.parametrize("block", CODE, ids=str)
+def test_code(block: Block) -> None:
+    files = [ROOT / block.head.partition(" of=")[2]] if " of=" in block.head else list(EXAMPLES.rglob("*.rt"))
+    assert any(block.text in file.read_text(encoding="utf-8") for file in files)
+
+
+@pytest.mark.parametrize(
+    "link", [(path, link) for path in DOCUMENTS for link in links_of(path)], ids=lambda it: f"{it[0].name}-{it[1]}"
+)
+def test_link(link: Tuple[pathlib.Path, str]) -> None:
+    assert leads(*link)

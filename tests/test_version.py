@@ -1,0 +1,19 @@
+"""The version is that of the library, wherever it is repeated."""
+import build_library
+import pytest
+from support import ROOT
+
+VERSION = build_library.version()
+REPEATS = {
+    "crates/crs_c/specs/Names.antt": f'version = codes "{VERSION}"\n',
+    "crates/crs_command_line/src/line.rt": f'pub const VERSION: &str = "{VERSION}";\n',
+    "packaging/debian/changelog": f"crsdesk ({VERSION}-",
+    "python/pyproject.toml": f'\nversion = "{VERSION}"\n',
+    "man/crsdesk.1": f'"crsdesk {VERSION}"',
+    "man/crsdesk.3": f'"crsdesk {VERSION}"',
+}
+
+
+@pytest.mark.parametrize("path", REPEATS)
+def test_version(path: str) -> None:
+    assert (ROOT / path).read_text(encoding="utf-8").count(REPEATS[path]) == 1

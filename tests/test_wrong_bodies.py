@@ -1,0 +1,59 @@
+"""Wrong bodies: each applies to the sources, and the prover refuses those that the gate tries (tools/wrong_bodies.py).
+
+The script itself is tried over crs_decimal, which stands on no other crate: a body that is wrong is refused, one that
+means what the code means is told as let through, and one that takes away a name that an answer cites shows nothing.
+"""
+import pathlib
+from collections import Counter
+
+import pytest
+import wrong_bodies
+from support import ROOT
+from wrong_bodies import FURTHER, GATE, MOST, WHOLE
+
+CRATES = ROOT / "crates"
+FILES = [it for part in (WHOLE, GATE, FURTHER) for it in sorted(CRATES.glob(f"*/{part}/*.edit"))]
+WRONG = """file: src/decimal.rt
+old: self.digits == 0
+new: self.power == 0
+"""
+RIGHT = """file: src/decimal.rt
+old: self.power as i32
+new: let power = self.power; power as i32
+"""
+NAMELESS = """file: src/short.rt
+old: let (digits, zeros) = stripped(self.value);
+new: let pair = stripped(self.value); let (digits, zeros) = (pair.0, pair.1);
+"""
+
+
+@pytest.mark.parametrize("file", FILES, ids=lambda it: str(it.relative_to(CRATES)))
+def test_applies(file: pathlib.Path) -> None:
+    wrong_bodies.Body(file).applied({}, file.parent.parent)
+
+
+def test_folders() -> None:
+    """A body is in one folder of its crate, and those that the gate tries are at most twelve each."""
+    assert max(Counter((it.parent.parent, it.name) for it in FILES).values()) == 1
+    assert max(Counter(it.parent for it in FILES if it.parent.name != FURTHER).values()) <= MOST
+
+
+@pytest.mark.gate
+@pytest.mark.parametrize("name", sorted({it.parent.parent.name for it in FILES if it.parent.name == GATE}))
+def test_refused(name: str) -> None:
+    _, faults = wrong_bodies.try_all([name], (GATE,), True)
+    assert not faults
+
+
+@pytest.mark.gate
+def test_trial(tmp_path: pathlib.Path) -> None:
+    folder = tmp_path / "crs_decimal" / "wrong-bodies"
+    folder.mkdir(parents=True)
+    for name, text in {"nameless": NAMELESS, "right": RIGHT, "wrong": WRONG}.items():
+        (folder / f"{name}.edit").write_text(text, encoding="utf-8")
+    (crate,) = wrong_bodies.proved_below(["crs_decimal"], True)
+    trial = wrong_bodies.Trial(crate, [wrong_bodies.Body(it) for it in sorted(folder.iterdir())]).run()
+    nameless, right = sorted(trial.faults)
+    assert trial.passed == 1
+    assert nameless.startswith("crs_decimal/nameless: REFUSED ONLY SINCE AN ANSWER NAMES")
+    assert right.startswith("crs_decimal/right: NOT REFUSED")
