@@ -36,9 +36,10 @@ POSTGIS, POSTGIS_FILE = "$CRSDESK_POSTGIS", "extension/postgis.control"
 MOST_GROWTHS = 250
 CONTROL = (build_postgresql.SOURCES / "crsdesk.control").read_text(encoding="utf-8")
 VERSION = CONTROL.partition("default_version = '")[2].partition("'")[0]
-# The scripts of the oldest version that can be made, and those that update one to another.
-SCRIPTS = sorted(path.name for path in build_postgresql.SOURCES.glob("crsdesk--*.sql"))
-OLDEST = "0.1.0"
+# The versions that scripts make, or update to another; of them the first that can be made.
+SCRIPTS = sorted(path.stem for path in build_postgresql.SOURCES.glob("crsdesk--*.sql"))
+VERSIONS = {version for name in SCRIPTS for version in name.split("--")[1:]}
+OLDEST = "0.2.0"
 
 
 def dialect_of(encoding: str) -> sql_rows.Dialect:
@@ -130,7 +131,7 @@ def refusing_server(stage: pathlib.Path) -> Iterator[Server]:
 def test_symbols(stage: pathlib.Path) -> None:
     """It shows the functions that SQL declares, and needs the C library alone."""
     module = below(stage, build_postgresql.folder_of("pkglibdir")) / "crsdesk.so"
-    scripts = "".join((build_postgresql.SOURCES / name).read_text(encoding="utf-8") for name in SCRIPTS)
+    scripts = "".join((build_postgresql.SOURCES / f"{name}.sql").read_text(encoding="utf-8") for name in SCRIPTS)
     shown = succeed(["nm", "-D", "--defined-only", module])
     declared = re.findall(r"'MODULE_PATHNAME', '(\w+)'", scripts)
     wanted = {"Pg_magic_func", "_PG_init", *declared, *(f"pg_finfo_{name}" for name in declared)}
@@ -482,32 +483,21 @@ def test_dump(server: Server, tmp_path: pathlib.Path) -> None:
     )
 
 
-def test_update(server: Server) -> None:
-    """ALTER EXTENSION .. UPDATE from each older version makes what CREATE EXTENSION makes, and keeps what depends on it."""
+def test_dropped(server: Server) -> None:
+    """An index keeps the extension; without what depends on it, it goes, and can be made in another schema."""
     made = "SELECT extversion FROM pg_extension WHERE extname = 'crsdesk';"
-    server.make("older")
+    server.make("dropped")
     server.hold(
         [
-            ("an older version", f"CREATE EXTENSION crsdesk VERSION '{OLDEST}'; {made}", OLDEST),
-            (
-                "an older version",
-                f"SELECT crs_differences('{HEIGHT}', '{NOTED}');",
-                "Error: function crs_differences(unknown, unknown) does not exist at character 8",
-            ),
+            ("its version", f"CREATE EXTENSION crsdesk; {made}", VERSION),
             (
                 "a table",
                 f"CREATE TABLE t (wkt text); CREATE INDEX ON t (crs_canon(wkt)); INSERT INTO t VALUES ('{HEIGHT}');",
                 "",
             ),
-            ("an update", f"ALTER EXTENSION crsdesk UPDATE; {made}", VERSION),
-            ("a newer function", f"SELECT crs_differences('{HEIGHT}', '{NOTED}')->0->>'path';", "remark"),
+            ("an update to what it is", f"ALTER EXTENSION crsdesk UPDATE; {made}", VERSION),
             (
-                "a newer function",
-                f"SELECT crs_canon('{sql_rows.OTHER}', 'full', '{sql_rows.RULES}');",
-                sql_rows.FORM,
-            ),
-            (
-                "an index of before",
+                "the index",
                 f"SET enable_seqscan = off; SELECT count(*) FROM t WHERE crs_canon(wkt) = crs_canon('{TWIN}');",
                 "1",
             ),
@@ -528,18 +518,38 @@ def test_update(server: Server) -> None:
             ),
             ("another schema", f"SELECT crs_kind('{HEIGHT}');", "vertical"),
         ],
-        "older",
+        "dropped",
     )
+
+
+def test_update(server: Server) -> None:
+    """ALTER EXTENSION .. UPDATE from each older version makes what CREATE EXTENSION makes, and keeps what depends on it."""
+    assert {OLDEST, VERSION} <= VERSIONS
     asked = [("", DECLARED, "")]
-    found = {version for name in SCRIPTS for version in name[len("crsdesk--") : -len(".sql")].split("--")}
-    assert (OLDEST in found, VERSION in found, len(found) > 1) == (True, True, True), "its versions"
-    for version in sorted(found - {VERSION}):
+    for version in sorted(VERSIONS - {VERSION}):
         database = f"from {version}"
         server.make(database)
-        update = f"CREATE EXTENSION crsdesk VERSION '{version}'; ALTER EXTENSION crsdesk UPDATE; {made}"
-        server.hold([("an update", update, VERSION)], database)
-        wanted = server.printed(asked, "utf8")
-        assert server.printed(asked, database) == wanted, f"what an update from {version} makes"
+        steps = [
+            ("an older version", f"CREATE EXTENSION crsdesk VERSION '{version}';", ""),
+            (
+                "a table",
+                f"CREATE TABLE t (wkt text); CREATE INDEX ON t (crs_canon(wkt)); INSERT INTO t VALUES ('{HEIGHT}');",
+                "",
+            ),
+            (
+                "an update",
+                "ALTER EXTENSION crsdesk UPDATE; SELECT extversion FROM pg_extension WHERE extname = 'crsdesk';",
+                VERSION,
+            ),
+            (
+                "its index",
+                f"SET enable_seqscan = off; SELECT count(*) FROM t WHERE crs_canon(wkt) = crs_canon('{TWIN}');",
+                "1",
+            ),
+            ("without it", "DROP TABLE t;", ""),
+        ]
+        server.hold(steps, database)
+        assert server.printed(asked, database) == server.printed(asked, "utf8"), f"what an update from {version} makes"
 
 
 def test_rights(server: Server) -> None:
