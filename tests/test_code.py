@@ -65,6 +65,13 @@ def test_form() -> None:
     succeed([*words, *all_python(), WITHOUT_PYTEST])
 
 
+def test_modes() -> None:
+    """What begins with #! may be run, and nothing else may."""
+    folders = [ROOT / it for it in (".", "examples", "packaging/debian", "python", "tests", "tools")]
+    for file in (it for folder in folders for it in folder.iterdir() if it.is_file()):
+        assert (file.read_bytes()[:2] == b"#!") == os.access(file, os.X_OK), file.relative_to(ROOT)
+
+
 def public_names() -> Iterator[str]:
     exported = (SOURCES / "__init__.py").read_text(encoding="utf-8")
     for file in ("_crs.py", "_difference.py", "_refused.py"):
