@@ -1,7 +1,7 @@
 """Makes the wheel and the source archive of the package crsdesk; pyproject.toml says what they are.
 
 The wheel has the shared object that the environment variable CRSDESK_LIBRARY names, or that of the repository's out/prefix,
-as tools/build_library.py makes it; the source archive has none. Equal files make equal bytes, and nothing is left in the
+as tools/build.py makes it; the source archive has none. Equal files make equal bytes, and nothing is left in the
 sources.
 """
 import gzip
@@ -33,7 +33,7 @@ class WithLibrary(build_py):
         super().run()
         library = pathlib.Path(os.environ.get("CRSDESK_LIBRARY", LIBRARY))
         if not library.is_file():
-            raise SystemExit(f"crsdesk: there is no shared object {library}: tools/build_library.py makes it")
+            raise SystemExit(f"crsdesk: there is no shared object {library}: tools/build.py makes it")
         self.copy_file(str(library), os.path.join(self.build_lib, "crsdesk", "libcrsdesk.so"))
 
 

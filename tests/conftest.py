@@ -30,7 +30,7 @@ def program() -> pathlib.Path:
 @pytest.fixture(scope="session")
 def library() -> pathlib.Path:
     """The shared object."""
-    return found(LIBRARY, "python3 tools/build_library.py")
+    return found(LIBRARY, "python3 tools/build.py library")
 
 
 @pytest.fixture(scope="session")

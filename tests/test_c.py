@@ -6,7 +6,7 @@ between pages that can't be touched, with the caller's side under the address an
 growths.c, which refuses each growth of memory in turn; and threads.c, which hands a catalogue from thread to thread under
 the thread sanitizer of the first compiler that has one. The header must do for C99 and for C++ with every warning an
 error, the shared object must need the C library alone, both must show the header's calls and nothing else, pkg-config must
-find them, and both must answer the version that the program crsdesk prints. The comparison that tools/build_library.py
+find them, and both must answer the version that the program crsdesk prints. The comparison that tools/build.py
 makes must find headers whose structs differ from the library's.
 """
 from __future__ import annotations
@@ -16,12 +16,12 @@ import pathlib
 import re
 from typing import List, Tuple
 
-import build_library
+import build
 import pytest
-from build_program import toolchain
+from build import toolchain
 from support import HERE, ROOT, run, succeed
 
-MADE = build_library.FOLDER / "out" / "libcrs_c.a"
+MADE = build.FOLDER / "out" / "libcrs_c.a"
 ROWS = sorted((ROOT / "crates").glob("*/data/*.rows"))
 WARNINGS = ["-Wall", "-Wextra", "-Wpedantic", "-Werror"]
 SANITIZERS = ["-g", "-O1", "-fsanitize=address,undefined", "-fno-sanitize-recover=all"]
@@ -120,7 +120,7 @@ def whole(tmp_path_factory: pytest.TempPathFactory) -> pathlib.Path:
     """One object of the toolchain's two libraries."""
     if not MADE.exists():
         pytest.skip(f"there is no {MADE.relative_to(ROOT)}")
-    return build_library.joined(MADE, toolchain(), tmp_path_factory.mktemp("whole"))
+    return build.joined(MADE, toolchain(), tmp_path_factory.mktemp("whole"))
 
 
 @pytest.mark.parametrize("old, new, struct", [("", "", ""), *OTHER_LAYOUTS])
@@ -130,7 +130,7 @@ def test_layout(
     header = (prefix / "include" / "crsdesk.h").read_text(encoding="utf-8")
     assert not old or header.count(old) == 1
     (tmp_path / "crsdesk.h").write_text(header.replace(old, new) if old else header, encoding="utf-8")
-    told = build_library.differences(tmp_path, whole, tmp_path)
+    told = build.differences(tmp_path, whole, tmp_path)
     assert any(f"struct {struct} " in it for it in told) if struct else not told
 
 
@@ -159,11 +159,9 @@ def test_header(compiler: str, ending: str, flags: List[str], prefix: pathlib.Pa
 def test_names(prefix: pathlib.Path) -> None:
     """The libraries show the calls of the header, and nothing else; the shared object with the versions of symbols.map."""
     lines = succeed(["nm", "-g", "--defined-only", prefix / "lib" / "libcrsdesk.a"]).splitlines()
-    assert {line.split()[-1] for line in lines if len(line.split()) == 3} == set(build_library.calls())
-    came = build_library.versions()
-    assert build_library.shown(prefix / "lib" / "libcrsdesk.so") == {
-        f"{it}@@{came.get(it)}" for it in build_library.calls()
-    }
+    assert {line.split()[-1] for line in lines if len(line.split()) == 3} == set(build.calls())
+    came = build.versions()
+    assert build.shown(prefix / "lib" / "libcrsdesk.so") == {f"{it}@@{came.get(it)}" for it in build.calls()}
 
 
 def test_needs(prefix: pathlib.Path) -> None:
@@ -178,4 +176,4 @@ def test_pkg_config(prefix: pathlib.Path, tmp_path: pathlib.Path) -> None:
     (tmp_path / "found.c").write_text(BARE, encoding="utf-8")
     succeed(["cc", tmp_path / "found.c", "-o", tmp_path / "found", *words])
     succeed([tmp_path / "found"], env={**os.environ, "LD_LIBRARY_PATH": str(prefix / "lib")})
-    assert succeed(["pkg-config", "--modversion", "crsdesk"], env=environment).strip() == build_library.version()
+    assert succeed(["pkg-config", "--modversion", "crsdesk"], env=environment).strip() == build.version()

@@ -11,7 +11,7 @@ import sys
 import tempfile
 from typing import List, NamedTuple, Set, Tuple
 
-import build_library
+import build
 import pytest
 from documents import leads, links_of
 from support import EXAMPLES, ROOT, need
@@ -144,13 +144,13 @@ def test_it_is_stripped(path: str, prefix: pathlib.Path) -> None:
 
 def test_names(prefix: pathlib.Path) -> None:
     """The shared object shows its calls with the versions that they came with, of which none is later than the library's."""
-    shared, came = prefix / "lib/libcrsdesk.so", build_library.versions()
-    assert sorted(came) == sorted(build_library.calls()), "the calls of symbols.map"
-    assert build_library.shown(shared) == {f"{name}@@{node}" for name, node in came.items()}
+    shared, came = prefix / "lib/libcrsdesk.so", build.versions()
+    assert sorted(came) == sorted(build.calls()), "the calls of symbols.map"
+    assert build.shown(shared) == {f"{name}@@{node}" for name, node in came.items()}
     told = run(["readelf", "-d", "-V", shared]).stdout
-    assert re.findall(r"soname: \[(.*)\]", told) == [f"libcrsdesk.so.{build_library.INTERFACE}"], "its own name"
+    assert re.findall(r"soname: \[(.*)\]", told) == [f"libcrsdesk.so.{build.INTERFACE}"], "its own name"
     assert re.findall(r"Name: (CRSDESK\S*)", told) == sorted(set(came.values())), "its versions"
-    version = [int(it) for it in build_library.version().split(".")]
+    version = [int(it) for it in build.version().split(".")]
     late = [it for it in came.values() if [int(part) for part in it[len("CRSDESK_") :].split(".")] > version[:2]]
     assert late == [], "versions after the library's"
 
@@ -173,7 +173,7 @@ def test_recipe_for_debian(prefix: pathlib.Path) -> None:
     used = {its[0] for its in found.values()}
     assert {*patterns} - others - used == set(), "what the lists name and isn't installed"
     text = (folder / "libcrsdesk0.symbols").read_text(encoding="utf-8")
-    nodes = {it: it[len("CRSDESK_") :] + ".0" for it in build_library.versions().values()}
+    nodes = {it: it[len("CRSDESK_") :] + ".0" for it in build.versions().values()}
     assert dict(re.findall(r"\(symver\)(\S+) (\S+)$", text, re.M)) == nodes, "the versions of Debian's symbols"
 
 

@@ -1,9 +1,9 @@
 """The version is that of the library, wherever it is repeated."""
-import build_library
+import build
 import pytest
 from support import ROOT
 
-VERSION = build_library.version()
+VERSION = build.version()
 REPEATS = {
     "crates/crs_c/specs/Names.antt": f'version = codes "{VERSION}"\n',
     "crates/crs_command_line/src/line.rt": f'pub const VERSION: &str = "{VERSION}";\n',

@@ -4,7 +4,7 @@ workers.
 
     bench_parallel.py [PREFIX [LINES]]
 
-PREFIX has the header and the libraries, as build_library.py makes them (out/prefix where none is given). The catalogue
+PREFIX has the header and the libraries, as tools/build.py makes them (out/prefix where none is given). The catalogue
 has LINES lines (100,000) by tests/big_catalogue.py, four spellings of each CRS. A line is printed for each: the seconds
 and the lines a second of the best of three runs, and the machine's load average before it. By Dask a bag of the file's
 lines in eight blocks a worker is grouped, and the processor time of all workers is told, and how long it takes to gather

@@ -3,7 +3,7 @@
 
     bench_python.py [PREFIX [ROUNDS]]
 
-PREFIX has the header and the libraries, as build_library.py makes them (out/prefix where none is given).
+PREFIX has the header and the libraries, as tools/build.py makes them (out/prefix where none is given).
 The texts are the lines of examples/catalogue.txt that spell a CRS. Each call is timed over all of them, ROUNDS times
 (200), by turns with the others and with the same calls from C, and the least counts. A line is printed for each call:
 its nanoseconds of the processor a text, and those beyond the same call from C. It judges nothing.

@@ -3,7 +3,7 @@
 
     bench_sql.py [PREFIX [ROWS]]
 
-PREFIX has the header and the static library, as build_library.py makes them (out/prefix where none is
+PREFIX has the header and the static library, as tools/build.py makes them (out/prefix where none is
 given). The table has ROWS rows (100,000), the lines of examples/catalogue.txt that spell a CRS again and again. A line
 is printed for each statement: its nanoseconds of the processor a row, the least of nine runs of the program sqlite3, by
 turns with the same call from C; and of reading the rows alone. Results are written to /dev/null, or counted. It judges

@@ -3,7 +3,7 @@
 
     build_postgresql.py [PREFIX [STAGE]]
 
-PREFIX has the header and the library, as build_library.py makes them (out/prefix where none is given).
+PREFIX has the header and the library, as tools/build.py makes them (out/prefix where none is given).
 Below the folder STAGE, sql/out/postgresql where none is given, its files are then under the paths at which the server
 looks for them; what was in that folder before is gone. The server is that of the program that the environment variable
 PG_CONFIG names, else of pg_config. It takes a C compiler, make, and the server's headers (Debian:

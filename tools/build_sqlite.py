@@ -3,7 +3,7 @@
 
     build_sqlite.py [PREFIX [FILE]]
 
-PREFIX has the header and the library, as build_library.py makes them (out/prefix where none is given).
+PREFIX has the header and the library, as tools/build.py makes them (out/prefix where none is given).
 FILE, sql/out/crsdesk_sqlite.so where none is given, then needs the C library and nothing else. It
 takes a C compiler, cc, and SQLite's header sqlite3ext.h (Debian: libsqlite3-dev). The environment variables CPPFLAGS,
 CFLAGS and LDFLAGS have more words for the compiler and the linker.

@@ -3,7 +3,7 @@
 
     mutate_texts.py [--prefix PREFIX] [--seconds N] [--jobs N] [--seed N]
 
-PREFIX has the shared object in lib/, as build_library.py makes it (out/prefix where none is given). Each job alters the
+PREFIX has the shared object in lib/, as tools/build.py makes it (out/prefix where none is given). Each job alters the
 texts of examples/ and of tests/*.rows for N seconds (60): bytes, tokens, arguments, nodes, keywords and depth
 (mutations.py). It asks about each text:
 

@@ -16,7 +16,7 @@ A reason of its own is a goal that isn't proved. A body whose function fails onl
 body took away shows nothing of the contract, and is a failure of the body.
 
 Crates have wrong-bodies/, which the gate tries, at most twelve each, and more-wrong-bodies/, which --all tries too. The
-crates below are proved first, as build_program.py does it; with --over-gate they are taken as rt ci has left them. With
+crates below are proved first, as tools/build.py does it; with --over-gate they are taken as rt ci has left them. With
 --applies nothing is proved: it checks that each body applies to the sources, those of must-fail/ too, which rt ci tries.
 
 Prints a line for each body, and last `N passed, M failed`.
@@ -38,9 +38,8 @@ ROOT = pathlib.Path(__file__).resolve().parent.parent
 # The import of the file of tools/ leaves nothing in the repository.
 sys.dont_write_bytecode = True
 sys.path.insert(0, str(ROOT / "tools"))
-import build_library
-import build_program
-from build_program import Crate
+import build
+from build import Crate
 
 MOST = 12
 GATE, FURTHER, WHOLE = "wrong-bodies", "more-wrong-bodies", "must-fail"
@@ -235,7 +234,7 @@ class Trial:
     def check(self, functions: List[str], texts: Dict[str, str]) -> str:
         """What the prover says of these functions, with these texts in place of the crate's."""
         with tempfile.TemporaryDirectory(prefix="wrong-bodies-") as room:
-            for part in build_program.PARTS:
+            for part in build.PARTS:
                 if (self.crate.folder / part).is_dir():
                     shutil.copytree(self.crate.folder / part, f"{room}/{part}")
             for path, text in texts.items():
@@ -247,7 +246,7 @@ class Trial:
                 *(it for name in functions for it in ("--only", name)),
             ]
             done = subprocess.run(
-                [self.crate.kit / "bin" / "rattle", "check", *words],
+                [build.toolchain() / "bin" / "rattle", "check", *words],
                 cwd=room,
                 stdin=subprocess.DEVNULL,
                 stdout=subprocess.PIPE,
@@ -348,16 +347,9 @@ class Trial:
 
 def proved_below(names: List[str], is_over_gate: bool) -> List[Crate]:
     """The crates of these names, once those below them are proved."""
-    kit = build_program.toolchain()
-    crates = build_program.needed(kit, names)
+    crates = build.needed(names)
     below = [it for it in crates if any(it in other.below for other in crates if other.name in names)]
-    with build_program.alone(below):
-        if is_over_gate:
-            build_library.take_from_gate(below)
-        else:
-            for crate in below:
-                crate.stamp_now = crate.stamp()
-            build_program.prove(below, "what wrong bodies rest on")
+    build.prove(below, "what wrong bodies rest on", below if is_over_gate else ())
     return [it for it in crates if it.name in names]
 
 
@@ -367,9 +359,9 @@ def try_all(names: List[str], parts: Iterable[str], is_over_gate: bool) -> Tuple
     faults = [it for _, faults in found.values() for it in faults]
     names = [it for it, (bodies, _) in found.items() if bodies]
     crates = proved_below(names, is_over_gate)
-    # Those that take longest go first.
-    crates.sort(key=lambda it: -build_program.KNOWN_SECONDS.get(it.name, 60))
-    with concurrent.futures.ThreadPoolExecutor(build_program.jobs_of_this_machine()) as pool:
+    # Those with most bodies take longest, and go first.
+    crates.sort(key=lambda it: -len(found[it.name][0]))
+    with concurrent.futures.ThreadPoolExecutor(build.jobs_of_this_machine()) as pool:
         trials = [pool.submit(Trial(it, found[it.name][0]).run) for it in crates]
         done = [it.result() for it in trials]
     return sum(it.passed for it in done), [*faults, *(fault for it in done for fault in it.faults)]
@@ -382,7 +374,7 @@ def main() -> int:
     parser.add_argument("--all", action="store_true", help="tries those of more-wrong-bodies/ too")
     parser.add_argument("names", nargs="*", metavar="NAME", help="a crate")
     given = parser.parse_args()
-    every = list(build_program.listed())
+    every = list(build.listed())
     if unknown := [it for it in given.names if it not in every]:
         parser.error(f"crates.txt has no {unknown[0]}")
     if given.applies:
@@ -390,7 +382,7 @@ def main() -> int:
     else:
         try:
             passed, faults = try_all(given.names or every, (GATE, FURTHER) if given.all else (GATE,), given.over_gate)
-        except build_program.Stop as why:
+        except build.Stop as why:
             passed, faults = 0, [str(why)]
     for fault in faults:
         print(fault)

@@ -1,6 +1,6 @@
 /* Compares crsdesk.h with what the library says of its own layout (src/layout.rt): that a catalogue and rules fit into
    their structs and are aligned there, and that the other structs have the size of the library's and each field where the library puts
-   it. tools/build_library.py runs it before it makes the libraries, which don't show these calls.
+   it. tools/build.py runs it before it makes the libraries, which don't show these calls.
 
    Each struct that differs has a line; the status is 0 where none does. */
 #include <stdio.h>
