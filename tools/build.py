@@ -53,7 +53,7 @@ INTERFACE = 0
 MOST_JOBS = 4
 JOB_BYTES = 1_500_000_000
 TARGET = "x86_64-unknown-linux-gnu"
-BESIDE = 15
+BESIDE = 5
 ANY_TOOLCHAIN = "CRSDESK_ANY_TOOLCHAIN"
 # Before any source was read: what is made is of the sources as they were then.
 BEGAN = time.time()
