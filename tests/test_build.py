@@ -1,12 +1,12 @@
 """tools/build.py and ./crsdesk, over a toolchain that proves what has no word WRONG, and writes down what it was asked for."""
 from __future__ import annotations
 
+import fcntl
 import os
 import pathlib
 import shutil
 import signal
 import subprocess
-import textwrap
 import time
 
 import pytest
@@ -220,6 +220,19 @@ def test_an_interrupt_ends_the_checks_and_what_is_proved_stays(copy: Copy) -> No
     copy.asked()
     copy.build("program")
     assert copy.asked() == ["crsdesk"]
+
+
+def test_another_run_of_the_toolchain_is_waited_for(copy: Copy) -> None:
+    other = os.open(copy.root / "crates/mid", os.O_RDONLY)
+    fcntl.flock(other, fcntl.LOCK_EX)
+    words = [str(copy.root / "tools/build.py"), "program"]
+    with subprocess.Popen(words, env=copy.environment, stderr=subprocess.PIPE, text=True) as running:
+        assert running.stderr
+        said = running.stderr.readline()
+        assert said == "crsdesk: waiting for another run of the toolchain in these crates\n" and copy.asked() == []
+        os.close(other)
+        running.communicate()
+    assert running.returncode == 0 and len(copy.asked()) == 4
 
 
 def test_another_toolchain_is_refused_unless_it_is_asked_for(copy: Copy) -> None:
