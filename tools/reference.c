@@ -99,6 +99,8 @@ struct word {
 static struct word firsts[SLOTS], capitals[SLOTS];
 static u8 classes[SLOTS];
 static struct word keep[33];
+
+/* Each class's word in canonical texts. */
 static struct {
     u8 word[16];
     u32 length;
