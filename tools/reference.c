@@ -167,7 +167,7 @@ static void fill_words(void)
 }
 
 /* Sorts of bytes. */
-enum { IS_WHITE = 1, IN_WORD = 2, IN_NUMBER = 4, IS_DIGIT = 8 };
+enum { IS_WHITE = 1, IS_LETTER = 2, IS_DIGIT = 4, IN_WORD = 8, IN_NUMBER = 16 };
 
 static u8 sort[256];
 
@@ -175,9 +175,9 @@ static void fill_sort(void)
 {
     sort[' '] = sort['\t'] = sort['\n'] = sort['\r'] = IS_WHITE;
     for (int c = 'A'; c <= 'Z'; c++)
-        sort[c] = sort[c + 32] = IN_WORD | IN_NUMBER;
+        sort[c] = sort[c + 32] = IS_LETTER | IN_WORD | IN_NUMBER;
     for (int c = '0'; c <= '9'; c++)
-        sort[c] = IN_WORD | IN_NUMBER | IS_DIGIT;
+        sort[c] = IS_DIGIT | IN_WORD | IN_NUMBER;
     sort['_'] = IN_WORD | IN_NUMBER;
     sort['.'] = sort['+'] = sort['-'] = IN_NUMBER;
 }
@@ -449,20 +449,20 @@ static inline u32 take_word(struct item *it, const u8 *s, u32 at, u32 *odd)
 /* The items of a text of n bytes, or 0. */
 static int scan(const u8 *s, u32 n)
 {
-    u32 open[DEEP + 1], depth = 0, at = 0, odd = 0;
+    u32 depth = 0, at = 0, odd = 0;
+    struct item *it = items, *open[DEEP + 1];
     u8 close[DEEP + 1];
-    struct item *it = items;
     /* No bracket closes what isn't open: a comma was taken before. */
     close[0] = ',';
     text = s;
     for (;;) {
         u8 c = s[at];
-        if ((u8)((c | 32) - 'a') <= 25) {
+        if (sort[c] & IS_LETTER) {
             at = take_word(it, s, at, &odd);
             if (it->kind == NODE) {
                 if (depth == DEEP)
                     return 0;
-                open[++depth] = (u32)(it++ - items);
+                open[++depth] = it++;
                 close[depth] = s[at++] == '[' ? ']' : ')';
                 continue;
             }
@@ -486,7 +486,7 @@ static int scan(const u8 *s, u32 n)
                 odd = at;
                 continue;
             }
-            struct item *node = &items[open[depth]];
+            struct item *node = open[depth];
             node->end = at;
             node->next = (u32)(it - items);
             node->clean = odd <= node->at;
@@ -737,10 +737,11 @@ static void group(const u8 *s, size_t n)
 
 static void empty_groups(void)
 {
-    for (u64 k = 0; k < slots; k++)
+    for (u64 k = 0; taken && k < slots; k++) {
+        taken -= groups[k].hash != 0;
         free(groups[k].bytes);
-    memset(groups, 0, slots * sizeof *groups);
-    taken = 0;
+        groups[k] = (struct group){0};
+    }
 }
 
 /* What a job makes of a text: how many items, texts or bytes. */
