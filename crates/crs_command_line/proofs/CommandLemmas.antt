@@ -14,7 +14,7 @@ use Rattle.clap.proofs.WalkLemmas.{both}
 use Rattle.crs_command_line.specs.declared.requests.RequestFault.{RequestFault}
 use Rattle.crs_command_line.specs.declared.requests.RequestFault.TheVariants.{Line, Memory}
 use Rattle.crs_command_line.proofs.HelpLemmas.{IsFree, answers_help, stops_at_no_help}
-use Rattle.crs_command_line.proofs.OperandLemmas.{texts_there}
+use Rattle.crs_command_line.proofs.OperandLemmas.{same_asks}
 use Rattle.crs_command_line.specs.CommandLine.{HandsOn, IsRefusal, asked, desk, request_of}
 
 -- the words are a request of the shape, where it answers and takes them
@@ -64,7 +64,7 @@ stop_asks (Some stop) free passes some =
         (
           (λ answers taken. refl),
           (
-            (λ answers taken. texts_there stop.1 taken),
+            (λ answers taken. same_asks stop.1 taken),
             (
               (λ answers taken. refl),
               ((λ answers taken. absurd (answers_help stop.0 free (or_false _ answers))), tt),

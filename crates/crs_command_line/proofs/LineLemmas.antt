@@ -1,7 +1,7 @@
 -- Which lines are taken, word by word.
 use Rattle.std.proofs.Common.{◌≡◌, ◌≢◌, ◌<◌, ap₂, nat_lt, subst, ℕ, List, [], ◌∷◌, ◌++◌, length, Option, Some, None, Bool, true, false, not, ◌&&◌, ◌||◌, arith, cond, refl, codes, zero, suc, drop, ap, ◌∙◌, append-nil, append_assoc, is_some, sym, true≢false, option_and_then}
 use Rattle.std.specs.Prelude.{◌==◌, encode_utf8, slice_get}
-use Rattle.std.specs.Option.{option_map_or}
+use Rattle.std.specs.Option.{option_map, option_map_or}
 use Rattle.std.specs.Str.{bytes_eq, chars, chars_after, continuation_len, lead_bits}
 use Rattle.std.proofs.lemmas.Bool.{eqb-true, lt-ltb}
 use Rattle.clap.specs.Lexer.{long_of, long_of_rest, name_and_value, short_of, short_of_rest, strip_byte}
@@ -15,9 +15,9 @@ use Rattle.clap.specs.Takes.{bundle_passes, bundle_step_passes, default_passes, 
 use Rattle.clap.specs.declared.parser.matches.ValueSource.TheVariants.{CommandLine}
 use Rattle.clap.proofs.OnLiterals.{clap_on_literals}
 use Rattle.clap.proofs.WalkLemmas.{both}
-use Rattle.crs_command_line.specs.CommandLine.{asked, canon_of, check_of, desk, explain_of, file_operands, files_flag, group_of, is_plain_word, level_option, lines_flag, over, request_of, same_of, spare_operand}
+use Rattle.crs_command_line.specs.CommandLine.{asked, canon_of, check_of, desk, explain_of, file_operands, files_flag, group_of, is_plain_word, level_option, lines_flag, over, request_of, rules_of, rules_option, same_of, spare_operand, standard, under}
 use Rattle.crs_command_line.specs.declared.requests.Request.{Request}
-use Rattle.crs_command_line.specs.declared.requests.Request.TheVariants.{Canon, Check, Same, Group, CanonLines, CheckLines, Explain, ExplainText, ExplainPair, Files}
+use Rattle.crs_command_line.specs.declared.requests.Request.TheVariants.{Canon, Check, Same, Group, CanonLines, CheckLines, Explain, ExplainText, ExplainPair, Files, FilesUnder, TextsUnder}
 use Rattle.crs_command_line.specs.declared.requests.Task.{Task}
 use Rattle.crs_command_line.specs.declared.requests.Task.TheVariants as task
 use Rattle.crs_command_line.proofs.OperandLemmas.{built_same, second_given}
@@ -40,9 +40,12 @@ no_text program = refl
 abbrev rules : List Rule
 rules = built_same.rules
 
--- `--level`, `--files` and the flag that asks for help, as `clap` builds them
+-- `--level`, `--rules`, `--files` and the flag that asks for help, as `clap` builds them
 abbrev level : Rule
 level = with_index 3 (filled level_option)
+
+abbrev ruling : Rule
+ruling = with_index 3 (filled rules_option)
 
 abbrev files : Rule
 files = with_index 3 (filled files_flag)
@@ -50,23 +53,30 @@ files = with_index 3 (filled files_flag)
 abbrev help : Rule
 help = with_index 3 (filled help_rule)
 
--- what a walk of `same` met before its first operand: nothing; `--level`, alone or with a level; or `--files`
+-- what a walk of `same` met before its first operand: nothing; `--level` or `--rules`, alone or with a word; or
+-- `--files`
 data Met : Type 0 where
   no_flag_met : Met
   level_wanted : Met
   level_met : Text → Met
+  rules_wanted : Met
+  rules_met : Text → Met
   files_met : Met
 
 abbrev held_at : Met → Held
 held_at no_flag_met = nothing_held
 held_at level_wanted = record { rows = []; pending = Some (codes "level", []); skip = 0 }
 held_at (level_met v) = record { rows = used level (v ∷ []) []; pending = None; skip = 0 }
+held_at rules_wanted = record { rows = []; pending = Some (codes "rules", []); skip = 0 }
+held_at (rules_met v) = record { rows = used ruling (v ∷ []) []; pending = None; skip = 0 }
 held_at files_met = record { rows = used files [] []; pending = None; skip = 0 }
 
 abbrev waiting_at : Met → Waiting
 waiting_at no_flag_met = idle
 waiting_at level_wanted = option (codes "level")
 waiting_at (level_met v) = idle
+waiting_at rules_wanted = option (codes "rules")
+waiting_at (rules_met v) = idle
 waiting_at files_met = idle
 
 abbrev walk_at : Met → Walk
@@ -89,6 +99,14 @@ stays_lacks (level_met v) word (next waiting) = refl
 stays_lacks (level_met v) word (trailing position) = refl
 stays_lacks (level_met v) word (subcommand name) = refl
 stays_lacks (level_met v) word value = refl
+stays_lacks rules_wanted word (next waiting) = refl
+stays_lacks rules_wanted word (trailing position) = refl
+stays_lacks rules_wanted word (subcommand name) = refl
+stays_lacks rules_wanted word value = refl
+stays_lacks (rules_met v) word (next waiting) = refl
+stays_lacks (rules_met v) word (trailing position) = refl
+stays_lacks (rules_met v) word (subcommand name) = refl
+stays_lacks (rules_met v) word value = refl
 stays_lacks files_met word (next waiting) = refl
 stays_lacks files_met word (trailing position) = refl
 stays_lacks files_met word (subcommand name) = refl
@@ -98,6 +116,8 @@ plain_lacks : (at : Met) (word : Text) → Lacks at word (plain_word rules (wait
 plain_lacks no_flag_met word = refl
 plain_lacks level_wanted word = refl
 plain_lacks (level_met v) word = refl
+plain_lacks rules_wanted word = refl
+plain_lacks (rules_met v) word = refl
 plain_lacks files_met word = refl
 
 flag_lacks : (at : Met) (word : Text) (outcome : Outcome) → Lacks at word (after_flag rules (waiting_at at) word (held_at at) outcome)
@@ -106,15 +126,18 @@ flag_lacks at word (waits id) = stays_lacks at word (next (option id))
 flag_lacks at word plain = plain_lacks at word
 flag_lacks at word refused = plain_lacks at word
 
--- the flags of `same` are a level, `--files` and the call for help
-abbrev flag_named : Bool → Bool → Bool → Option Rule
-flag_named is_level are_files is_help = cond is_level (Some level) (cond are_files (Some files) (cond is_help (Some help) None))
+-- the flags of `same` are a level, rules, `--files` and the call for help
+abbrev flag_named : Bool → Bool → Bool → Bool → Option Rule
+flag_named is_level are_rules are_files is_help =
+    cond is_level (Some level) (cond are_rules (Some ruling) (cond are_files (Some files) (cond is_help (Some help) None)))
 
-help_fails : (at : Met) (is_help : Bool) (v : Option Text) → long_passes rules false (flag_named false false is_help) v (held_at at) ≡ true → ⊥
+help_fails : (at : Met) (is_help : Bool) (v : Option Text) → long_passes rules false (flag_named false false false is_help) v (held_at at) ≡ true → ⊥
 help_fails at true (Some v) passes = cc
 help_fails no_flag_met true None passes = cc
 help_fails level_wanted true None passes = cc
 help_fails (level_met u) true None passes = cc
+help_fails rules_wanted true None passes = cc
+help_fails (rules_met u) true None passes = cc
 help_fails files_met true None passes = cc
 help_fails at false v passes = cc
 
@@ -126,8 +149,27 @@ level_lacks level_wanted word (Some v) passes = cc
 level_lacks level_wanted word None passes = cc
 level_lacks (level_met u) word (Some v) passes = cc
 level_lacks (level_met u) word None passes = refl
+level_lacks rules_wanted word (Some v) passes = cc
+level_lacks rules_wanted word None passes = cc
+level_lacks (rules_met u) word (Some v) passes = refl
+level_lacks (rules_met u) word None passes = refl
 level_lacks files_met word (Some v) passes = refl
 level_lacks files_met word None passes = refl
+
+rules_lacks : (at : Met) (word : Text) (v : Option Text) → long_passes rules false (Some ruling) v (held_at at) ≡ true
+    → let met = long_met rules (Some ruling) v (held_at at) in Lacks at word (after_flag rules (waiting_at at) word met.0 met.1)
+rules_lacks no_flag_met word (Some v) passes = refl
+rules_lacks no_flag_met word None passes = refl
+rules_lacks level_wanted word (Some v) passes = cc
+rules_lacks level_wanted word None passes = cc
+rules_lacks (level_met u) word (Some v) passes = refl
+rules_lacks (level_met u) word None passes = refl
+rules_lacks rules_wanted word (Some v) passes = cc
+rules_lacks rules_wanted word None passes = cc
+rules_lacks (rules_met u) word (Some v) passes = refl
+rules_lacks (rules_met u) word None passes = refl
+rules_lacks files_met word (Some v) passes = refl
+rules_lacks files_met word None passes = refl
 
 files_lacks : (at : Met) (word : Text) (v : Option Text) → long_passes rules false (Some files) v (held_at at) ≡ true
     → let met = long_met rules (Some files) v (held_at at) in Lacks at word (after_flag rules (waiting_at at) word met.0 met.1)
@@ -137,22 +179,29 @@ files_lacks level_wanted word (Some v) passes = cc
 files_lacks level_wanted word None passes = cc
 files_lacks (level_met u) word (Some v) passes = cc
 files_lacks (level_met u) word None passes = refl
+files_lacks rules_wanted word (Some v) passes = cc
+files_lacks rules_wanted word None passes = cc
+files_lacks (rules_met u) word (Some v) passes = cc
+files_lacks (rules_met u) word None passes = refl
 files_lacks files_met word (Some v) passes = cc
 files_lacks files_met word None passes = cc
 
-long_lacks : (at : Met) (word : Text) (is_level are_files is_help : Bool) (v : Option Text)
-    → long_passes rules false (flag_named is_level are_files is_help) v (held_at at) ≡ true
-    → let met = long_met rules (flag_named is_level are_files is_help) v (held_at at) in
+long_lacks : (at : Met) (word : Text) (is_level are_rules are_files is_help : Bool) (v : Option Text)
+    → long_passes rules false (flag_named is_level are_rules are_files is_help) v (held_at at) ≡ true
+    → let met = long_met rules (flag_named is_level are_rules are_files is_help) v (held_at at) in
     Lacks at word (after_flag rules (waiting_at at) word met.0 met.1)
-long_lacks at word true are_files is_help v passes = level_lacks at word v passes
-long_lacks at word false true is_help v passes = files_lacks at word v passes
-long_lacks at word false false is_help v passes = absurd (help_fails at is_help v passes)
+long_lacks at word true are_rules are_files is_help v passes = level_lacks at word v passes
+long_lacks at word false true are_files is_help v passes = rules_lacks at word v passes
+long_lacks at word false false true is_help v passes = files_lacks at word v passes
+long_lacks at word false false false is_help v passes = absurd (help_fails at is_help v passes)
 
 short_help_fails : (at : Met) (is_help : Bool) (rest : Text) (test : Held → Bool)
     → short_passes rules false (cond is_help (Some help) None) rest (held_at at) test ≡ true → ⊥
 short_help_fails no_flag_met true rest test passes = cc
 short_help_fails level_wanted true rest test passes = cc
 short_help_fails (level_met v) true rest test passes = cc
+short_help_fails rules_wanted true rest test passes = cc
+short_help_fails (rules_met v) true rest test passes = cc
 short_help_fails files_met true rest test passes = cc
 short_help_fails at false rest test passes = cc
 
@@ -181,12 +230,15 @@ short_lacks at word None passes = plain_lacks at word
 short_lacks no_flag_met word (Some flags) passes = bundle_lacks no_flag_met word flags passes
 short_lacks level_wanted word (Some flags) passes = bundle_lacks level_wanted word flags passes
 short_lacks (level_met v) word (Some flags) passes = bundle_lacks (level_met v) word flags passes
+short_lacks rules_wanted word (Some flags) passes = bundle_lacks rules_wanted word flags passes
+short_lacks (rules_met v) word (Some flags) passes = bundle_lacks (rules_met v) word flags passes
 short_lacks files_met word (Some flags) passes = bundle_lacks files_met word flags passes
 
 named_lacks : (at : Met) (word : Text) (name : Option (Text × Option Text)) → flag_word_passes rules false name word (held_at at) ≡ true
     → Lacks at word (long_or_other rules (waiting_at at) word name (held_at at))
 named_lacks at word (Some p) passes = long_lacks at word (bytes_eq (codes "level") p.0 || false)
-    (bytes_eq (codes "files") p.0 || false) (bytes_eq (codes "help") p.0 || false) p.1 passes
+    (bytes_eq (codes "rules") p.0 || false) (bytes_eq (codes "files") p.0 || false) (bytes_eq (codes "help") p.0 || false) p.1
+    passes
 named_lacks at word None passes = short_lacks at word (short_of word) passes
 
 either_lacks : (at : Met) (word : Text) (b : Bool) (x : Held × Step) (q : Bool) → (q ≡ true → Lacks at word x) → (b || q) ≡ true
@@ -206,6 +258,8 @@ word_lacks : (at : Met) (word : Text) → word_passes built_same [] false (waiti
 word_lacks no_flag_met word passes = other_lacks no_flag_met word passes
 word_lacks level_wanted word passes = other_lacks level_wanted word passes
 word_lacks (level_met v) word passes = other_lacks (level_met v) word passes
+word_lacks rules_wanted word passes = other_lacks rules_wanted word passes
+word_lacks (rules_met v) word passes = other_lacks (rules_met v) word passes
 word_lacks files_met word passes = other_lacks files_met word passes
 
 no_second : (at : Met) (word : Text) → turn_passes built_same [] (walk_at at) word ≡ true
@@ -261,20 +315,26 @@ level_stands : (word : Text) (v : Option Text)
 level_stands word (Some v) = (level_met v, refl)
 level_stands word None = (level_wanted, refl)
 
+rules_stands : (word : Text) (v : Option Text)
+    → let met = long_met rules (Some ruling) v nothing_held in Stands word (after_flag rules idle word met.0 met.1)
+rules_stands word (Some v) = (rules_met v, refl)
+rules_stands word None = (rules_wanted, refl)
+
 files_stands : (word : Text) (v : Option Text) → long_passes rules false (Some files) v nothing_held ≡ true
     → let met = long_met rules (Some files) v nothing_held in Stands word (after_flag rules idle word met.0 met.1)
 files_stands word (Some v) passes = cc
 files_stands word None passes = (files_met, refl)
 
-long_stands : (word : Text) (is_level are_files is_help : Bool) (v : Option Text)
-    → long_passes rules false (flag_named is_level are_files is_help) v nothing_held ≡ true
-    → let met = long_met rules (flag_named is_level are_files is_help) v nothing_held in
+long_stands : (word : Text) (is_level are_rules are_files is_help : Bool) (v : Option Text)
+    → long_passes rules false (flag_named is_level are_rules are_files is_help) v nothing_held ≡ true
+    → let met = long_met rules (flag_named is_level are_rules are_files is_help) v nothing_held in
     Stands word (after_flag rules idle word met.0 met.1)
-long_stands word true are_files is_help v passes = level_stands word v
-long_stands word false true is_help v passes = files_stands word v passes
-long_stands word false false is_help v passes = absurd (help_fails no_flag_met is_help v passes)
+long_stands word true are_rules are_files is_help v passes = level_stands word v
+long_stands word false true are_files is_help v passes = rules_stands word v
+long_stands word false false true is_help v passes = files_stands word v passes
+long_stands word false false false is_help v passes = absurd (help_fails no_flag_met is_help v passes)
 
--- a word that begins as a flag, and passes, is `--level` or `--files`
+-- a word that begins as a flag, and passes, is `--level`, `--rules` or `--files`
 flag_stands : (byte : ℕ) (rest : Text) (is : Bool) → (byte == 45) ≡ is → byte < 128 → bytes_eq (45 ∷ byte ∷ rest) (45 ∷ 45 ∷ []) ≡ false
     → let name = option_and_then long_of_rest (cond is (Some rest) None) in
     flag_word_passes rules false name (45 ∷ byte ∷ rest) nothing_held ≡ true
@@ -284,8 +344,8 @@ flag_stands byte [] true hyphen low dashes passes =
     absurd (true≢false (sym ((bytes_eq-Decides (45 ∷ byte ∷ []) (45 ∷ 45 ∷ [])).1 two) ∙ dashes))
 flag_stands byte (b ∷ rest) true hyphen low dashes passes =
     let p = name_and_value (b ∷ rest) in
-    long_stands (45 ∷ byte ∷ b ∷ rest) (bytes_eq (codes "level") p.0 || false) (bytes_eq (codes "files") p.0 || false)
-    (bytes_eq (codes "help") p.0 || false) p.1 passes
+    long_stands (45 ∷ byte ∷ b ∷ rest) (bytes_eq (codes "level") p.0 || false) (bytes_eq (codes "rules") p.0 || false)
+    (bytes_eq (codes "files") p.0 || false) (bytes_eq (codes "help") p.0 || false) p.1 passes
 flag_stands byte rest false hyphen low dashes passes =
     absurd (short_flag_fails byte rest low
     (subst (λ is. option_map_or (λ f. bundle_passes rules false f nothing_held) (cond is None (Some (byte ∷ rest))) true ≡ true) hyphen passes))
@@ -428,12 +488,16 @@ with_level s h text = record { rows = (settled s.rules h).rows; pending = Some (
 abbrev wants_level : Shape → Held → Held
 wants_level s h = record { rows = (settled s.rules h).rows; pending = Some (codes "level", []); skip = 0 }
 
+-- the request of the matches of `same`
+abbrev asked_same : List Row → Option Request
+asked_same rows = option_map (under (rules_of rows)) (same_of rows)
+
 pub plain_texts : (program first second : Text) → is_plain_word first ≡ true → is_plain_word second ≡ true
     → asked (program ∷ codes "same" ∷ first ∷ second ∷ []) ≡ Some (Same first second (codes "full"))
 unfolding clap_on_literals
 plain_texts program first second one other =
     let to = before (after_second nothing_held first second) idle 3 in
-    line_asked built_same same_of (program ∷ codes "same" ∷ first ∷ second ∷ []) (first ∷ second ∷ []) to refl refl
+    line_asked built_same asked_same (program ∷ codes "same" ∷ first ∷ second ∷ []) (first ∷ second ∷ []) to refl refl
     (goes_on built_same (walk_from nothing_held) (before (after_first nothing_held first) idle 2) to first (second ∷ [])
     (plain_turn built_same nothing_held idle 1 first refl one)
     (goes_on built_same (before (after_first nothing_held first) idle 2) to to second []
@@ -449,7 +513,7 @@ level_first program text first second usual one other =
     let wants = before (wants_level built_same nothing_held) (option (codes "level")) 1 in
     let h = with_level built_same nothing_held text in
     let to = before (after_second h first second) idle 3 in
-    line_asked built_same same_of (program ∷ codes "same" ∷ codes "--level" ∷ text ∷ first ∷ second ∷ [])
+    line_asked built_same asked_same (program ∷ codes "same" ∷ codes "--level" ∷ text ∷ first ∷ second ∷ [])
     (codes "--level" ∷ text ∷ first ∷ second ∷ []) to refl refl
     (goes_on built_same start wants to (codes "--level") (text ∷ first ∷ second ∷ []) (refl, refl)
     (goes_on built_same wants (before h idle 1) to text (first ∷ second ∷ [])
@@ -467,7 +531,7 @@ level_last program text first second usual one other =
     let held = after_second nothing_held first second in
     let wants = before (wants_level built_same held) (option (codes "level")) 3 in
     let to = before (with_level built_same held text) idle 3 in
-    line_asked built_same same_of (program ∷ codes "same" ∷ first ∷ second ∷ codes "--level" ∷ text ∷ [])
+    line_asked built_same asked_same (program ∷ codes "same" ∷ first ∷ second ∷ codes "--level" ∷ text ∷ [])
     (first ∷ second ∷ codes "--level" ∷ text ∷ []) to refl refl
     (goes_on built_same start (before (after_first nothing_held first) idle 2) to first (second ∷ codes "--level" ∷ text ∷ [])
     (plain_turn built_same nothing_held idle 1 first refl one)
@@ -486,27 +550,27 @@ built_with name own = record (new_shape name) {
 }
 
 abbrev built_canon : Shape
-built_canon = built_with (codes "canon") (level_option ∷ lines_flag ∷ file_operands ∷ help_rule ∷ [])
+built_canon = built_with (codes "canon") (level_option ∷ rules_option ∷ lines_flag ∷ file_operands ∷ help_rule ∷ [])
 
 abbrev built_check : Shape
 built_check = built_with (codes "check") (lines_flag ∷ file_operands ∷ help_rule ∷ [])
 
 abbrev built_group : Shape
-built_group = built_with (codes "group") (level_option ∷ file_operands ∷ help_rule ∷ [])
+built_group = built_with (codes "group") (level_option ∷ rules_option ∷ file_operands ∷ help_rule ∷ [])
 
 abbrev built_explain : Shape
 built_explain =
     built_with (codes "explain")
-    (spare_operand (codes "first") ∷ spare_operand (codes "second") ∷ level_option ∷ files_flag ∷ help_rule ∷ [])
+    (spare_operand (codes "first") ∷ spare_operand (codes "second") ∷ level_option ∷ rules_option ∷ files_flag ∷ help_rule ∷ [])
 
 abbrev asked_canon : List Row → Option Request
-asked_canon rows = Some (canon_of rows)
+asked_canon rows = Some (under (rules_of rows) (canon_of rows))
 
 abbrev asked_check : List Row → Option Request
-asked_check rows = Some (check_of rows)
+asked_check rows = Some (under (rules_of rows) (check_of rows))
 
 abbrev asked_group : List Row → Option Request
-asked_group rows = Some (group_of rows)
+asked_group rows = Some (under (rules_of rows) (group_of rows))
 
 -- what `canon` holds after `--lines`
 abbrev with_lines : Held → Held
@@ -612,7 +676,7 @@ group_lines program = refl
 -- ---- texts that are explained
 
 abbrev asked_explain : List Row → Option Request
-asked_explain rows = Some (explain_of rows)
+asked_explain rows = Some (under (rules_of rows) (explain_of rows))
 
 pub explain_alone : (program : Text) → asked (program ∷ codes "explain" ∷ []) ≡ Some (Explain (codes "full"))
 unfolding clap_on_literals
@@ -698,6 +762,56 @@ level_twice program one other = refl
 pub level_alone : (program : Text) → takes desk (program ∷ codes "canon" ∷ codes "--level" ∷ []) ≡ false
 unfolding clap_on_literals
 level_alone program = refl
+
+-- ---- rules
+
+-- what is held after `--rules` alone, and after `--rules` and the name of a file
+abbrev wants_rules : Shape → Held → Held
+wants_rules s h = record { rows = (settled s.rules h).rows; pending = Some (codes "rules", []); skip = 0 }
+
+abbrev with_rules : Shape → Held → Text → Held
+with_rules s h file = record { rows = (settled s.rules h).rows; pending = Some (codes "rules", file ∷ []); skip = 0 }
+
+pub canon_rules : (program file : Text) → is_plain_word file ≡ true
+    → asked (program ∷ codes "canon" ∷ codes "--rules" ∷ file ∷ [])
+    ≡ Some (FilesUnder (task.Canon (codes "full")) standard (file ∷ []))
+unfolding clap_on_literals
+canon_rules program file usual =
+    let s = built_canon in
+    let wants = before (wants_rules s nothing_held) (option (codes "rules")) 1 in
+    let to = before (with_rules s nothing_held file) idle 1 in
+    line_asked s asked_canon (program ∷ codes "canon" ∷ codes "--rules" ∷ file ∷ []) (codes "--rules" ∷ file ∷ []) to refl refl
+    (goes_on s (walk_from nothing_held) wants to (codes "--rules") (file ∷ []) (refl, refl)
+    (goes_on s wants to to file [] (plain_turn s (wants_rules s nothing_held) (option (codes "rules")) 1 file refl usual) (stays s to))) refl
+
+pub canon_rules_twice : (program one other : Text)
+    → asked (program ∷ codes "canon" ∷ (codes "--rules=" ++ one) ∷ (codes "--rules=" ++ other) ∷ [])
+    ≡ Some (FilesUnder (task.Canon (codes "full")) standard (one ∷ other ∷ []))
+unfolding clap_on_literals
+canon_rules_twice program one other = refl
+
+pub same_rules : (program file first second : Text) → is_plain_word file ≡ true → is_plain_word first ≡ true → is_plain_word second ≡ true
+    → asked (program ∷ codes "same" ∷ codes "--rules" ∷ file ∷ first ∷ second ∷ [])
+    ≡ Some (TextsUnder (task.Same (codes "full")) (first ∷ second ∷ []) (file ∷ []))
+unfolding clap_on_literals
+same_rules program file first second usual one other =
+    let s = built_same in
+    let wants = before (wants_rules s nothing_held) (option (codes "rules")) 1 in
+    let h = with_rules s nothing_held file in
+    let to = before (after_second h first second) idle 3 in
+    line_asked s asked_same (program ∷ codes "same" ∷ codes "--rules" ∷ file ∷ first ∷ second ∷ [])
+    (codes "--rules" ∷ file ∷ first ∷ second ∷ []) to refl refl
+    (goes_on s (walk_from nothing_held) wants to (codes "--rules") (file ∷ first ∷ second ∷ []) (refl, refl)
+    (goes_on s wants (before h idle 1) to file (first ∷ second ∷ [])
+    (plain_turn s (wants_rules s nothing_held) (option (codes "rules")) 1 file refl usual)
+    (goes_on s (before h idle 1) (before (after_first h first) idle 2) to first (second ∷ [])
+    (plain_turn s h idle 1 first refl one)
+    (goes_on s (before (after_first h first) idle 2) to to second []
+    (plain_turn s (after_first h first) idle 2 second refl other) (stays s to))))) refl
+
+pub check_rules : (program file : Text) → takes desk (program ∷ codes "check" ∷ codes "--rules" ∷ file ∷ []) ≡ false
+unfolding clap_on_literals
+check_rules program file = refl
 
 -- ---- files
 
@@ -888,7 +1002,7 @@ same_files program first second one other =
     let s = built_same in
     let via = before (after_first with_flag first) idle 2 in
     let to = before (after_second with_flag first second) idle 3 in
-    line_asked s same_of (program ∷ codes "same" ∷ codes "--files" ∷ first ∷ second ∷ [])
+    line_asked s asked_same (program ∷ codes "same" ∷ codes "--files" ∷ first ∷ second ∷ [])
     (codes "--files" ∷ first ∷ second ∷ []) to refl refl
     (goes_on s (walk_from nothing_held) (before with_flag idle 1) to (codes "--files") (first ∷ second ∷ []) (refl, refl)
     (goes_on s (before with_flag idle 1) via to first (second ∷ []) (plain_turn s with_flag idle 1 first refl one)

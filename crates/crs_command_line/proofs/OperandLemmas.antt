@@ -17,8 +17,9 @@ use Rattle.clap.specs.Walk.{Held, Names, Outcome, Step, Waiting, Walk, done, wai
 use Rattle.clap.specs.Takes.{bundle_passes, bundle_step_passes, flag_word_passes, flags_pass, is_given, is_valid, default_passes, level_passes, long_passes, option_passes, other_passes, positional_passes, react_passes, settle_passes, short_passes, step_passes, turn_passes, use_passes, walk_passes, word_passes}
 use Rattle.clap.specs.Matches.{matched_of, raw_values}
 use Rattle.clap.proofs.WalkLemmas.{both, first_value-rows, raw_values-rows}
+use Rattle.crs_command_line.specs.declared.requests.Request.{Request}
 use Rattle.crs_command_line.specs.declared.requests.Request.TheVariants.{Explain}
-use Rattle.crs_command_line.specs.CommandLine.{explain_of, explained_operands, files_flag, files_of, has_flag, level_of, level_option, operand, same_of, same_operands}
+use Rattle.crs_command_line.specs.CommandLine.{explain_of, explained_operands, files_flag, has_flag, level_of, level_option, operand, rules_of, rules_option, same_of, same_operands, under, words_of}
 
 -- ---- rows with values
 
@@ -77,6 +78,10 @@ level_keeps position again [] rows passes have = cc
 level_keeps position again (v ∷ vs) rows passes have =
     with_values_keeps (codes "level") _ CommandLine v vs (without (codes "level") rows)
     (at_row_keeps (codes "level") (λ _. []) [] rows (λ r own. tt) tt have)
+
+rules_keep : (position : ℕ) → Keeps (with_index position (filled rules_option))
+rules_keep position again [] rows passes have = cc
+rules_keep position again (v ∷ vs) rows passes have = with_values_keeps (codes "rules") _ CommandLine v vs rows have
 
 files_keep : (position : ℕ) → Keeps (with_index position (filled files_flag))
 files_keep position again [] rows passes have =
@@ -308,7 +313,7 @@ both_there are_files level (Some first) (Some second) one other = refl
 -- `same`, as `clap` builds it
 abbrev pub built_same : Shape
 built_same = record (new_shape (codes "same")) {
-  rules = filled_from 1 (operand (codes "first") ∷ operand (codes "second") ∷ level_option ∷ files_flag ∷ help_rule ∷ []);
+  rules = filled_from 1 (operand (codes "first") ∷ operand (codes "second") ∷ level_option ∷ rules_option ∷ files_flag ∷ help_rule ∷ []);
   disable_help_subcommand = true;
   is_built = true;
 }
@@ -325,7 +330,10 @@ given_texts words passes =
         (λ again values. operand_keeps (codes "second") 2 again values),
         (
           (λ again values. level_keeps 3 again values),
-          ((λ again values. files_keep 3 again values), ((λ again values rows uses have. have), tt)),
+          (
+            (λ again values. rules_keep 3 again values),
+            ((λ again values. files_keep 3 again values), ((λ again values rows uses have. have), tt)),
+          ),
         ),
       ),
     ) passes in
@@ -342,6 +350,27 @@ texts_there words passes =
     let given = given_texts words passes in
     both_there (has_flag (codes "files") rows) (level_of rows) (first_of (codes "first") rows) (first_of (codes "second") rows)
     (given_there (codes "first") rows given.0 given.1.0) (given_there (codes "second") rows given.0 given.1.1)
+
+mapped_there : {A B : Type 0} (f : A → B) (found : Option A) → IsSome found → IsSome (option_map f found)
+mapped_there f None some = cc
+mapped_there f (Some x) some = refl
+
+-- with rules or without, `same` asks for something
+pub same_asks : (words : List Text) → level_passes built_same [] nothing_held words false ≡ true
+    → IsSome (option_map (under (rules_of (rows_at built_same words).1)) (same_of (rows_at built_same words).1))
+same_asks words passes =
+    mapped_there (under (rules_of (rows_at built_same words).1)) (same_of (rows_at built_same words).1) (texts_there words passes)
+
+-- where a request is there with rules, it is there without
+pub asked_there : {A B : Type 0} (f : A → B) (found : Option A) → IsSome (option_map f found) → IsSome found
+asked_there f None some = cc
+asked_there f (Some x) some = refl
+
+-- what is asked under the rules that were read
+pub asked_is_under : (plain : Option Request) (asked : Request) (rules found-rules : List Text) (found : Request)
+    → plain ≡ Some asked → found-rules ≡ rules → found ≡ under found-rules asked → option_map (under rules) plain ≡ Some found
+asked_is_under plain asked rules found-rules found is same made =
+    ap (option_map (under rules)) is ∙ ap (λ names. Some (under names asked)) (sym same) ∙ ap Some (sym made)
 
 -- the getters' words are the operands
 same_read : (f : Found) (first second : Option (Bor Text)) → option_map (λ s. s.now) first ≡ first_value f (codes "first")
@@ -436,19 +465,19 @@ flag_read f name found usual text is one unset =
     ap (λ (t : Text). bytes_eq t (codes "true"))
     (ap (λ (t : Bor Text). t.now) is ∙ now_or found usual ∙ ap₂ unwrap_or (one ∙ first_value-rows f name) unset)
 
--- ---- files
+-- ---- files, and rules files
 
--- the getter's texts are the files
-pub some_files : (f : Found) (found : Option (Bor (List (Bor Text)))) (names : Bor (List (Bor Text)))
-    → option_map (λ s. map (λ v. v.now) s.now) found ≡ option_map raw_values (matched_of f (codes "file"))
-    → found ≡ Some names → map (λ (v : Bor Text). v.now) names.now ≡ files_of (rows_of f)
-some_files f found names is some =
+-- the getter's texts are the words
+pub some_words : (f : Found) (name : Text) (found : Option (Bor (List (Bor Text)))) (words : Bor (List (Bor Text)))
+    → option_map (λ s. map (λ v. v.now) s.now) found ≡ option_map raw_values (matched_of f name)
+    → found ≡ Some words → map (λ (v : Bor Text). v.now) words.now ≡ words_of name (rows_of f)
+some_words f name found words is some =
     ap (λ o. unwrap_or o [])
-    (sym (ap (option_map (λ (s : Bor (List (Bor Text))). map (λ v. v.now) s.now)) some) ∙ is ∙ raw_values-rows f (codes "file"))
+    (sym (ap (option_map (λ (s : Bor (List (Bor Text))). map (λ v. v.now) s.now)) some) ∙ is ∙ raw_values-rows f name)
 
-pub no_files : (f : Found) (found : Option (Bor (List (Bor Text))))
-    → option_map (λ s. map (λ v. v.now) s.now) found ≡ option_map raw_values (matched_of f (codes "file"))
-    → found ≡ None → [] ≡ files_of (rows_of f)
-no_files f found is none =
+pub no_words : (f : Found) (name : Text) (found : Option (Bor (List (Bor Text))))
+    → option_map (λ s. map (λ v. v.now) s.now) found ≡ option_map raw_values (matched_of f name)
+    → found ≡ None → [] ≡ words_of name (rows_of f)
+no_words f name found is none =
     ap (λ o. unwrap_or o [])
-    (sym (ap (option_map (λ (s : Bor (List (Bor Text))). map (λ v. v.now) s.now)) none) ∙ is ∙ raw_values-rows f (codes "file"))
+    (sym (ap (option_map (λ (s : Bor (List (Bor Text))). map (λ v. v.now) s.now)) none) ∙ is ∙ raw_values-rows f name)

@@ -1,7 +1,7 @@
 -- The command line: what `clap`'s definition of the commands gives for the words.
 use Rattle.std.specs.Prelude.{◌≡◌, ◌≢◌, ◌==◌, [], ◌∷◌, Bool, true, false, not, List, Option, Some}
 use Rattle.std.specs.Prelude.{None, codes, length}
-use Rattle.std.specs.Prelude.{option_and_then, unwrap_or, if◌then◌else◌}
+use Rattle.std.specs.Prelude.{option_and_then, option_map, unwrap_or, if◌then◌else◌}
 use Rattle.std.specs.Str.{bytes_eq}
 use Rattle.clap.specs.Words.{App, IsAmong, Row, Rule, Shape, Text, all_of, fault_of, first_of}
 use Rattle.clap.specs.Words.{kind_of}
@@ -11,7 +11,7 @@ use Rattle.clap.specs.Simple.{new_shape, on_top}
 use Rattle.crs_command_line.specs.declared.requests.Request.{Request}
 use Rattle.crs_command_line.specs.declared.requests.Request.TheVariants.{Canon, Check, Same, Group, CanonLines, CheckLines}
 use Rattle.crs_command_line.specs.declared.requests.Request.TheVariants.{Explain, ExplainText, ExplainPair}
-use Rattle.crs_command_line.specs.declared.requests.Request.TheVariants.{Files}
+use Rattle.crs_command_line.specs.declared.requests.Request.TheVariants.{Files, FilesUnder, TextsUnder}
 use Rattle.crs_command_line.specs.declared.requests.Task.{Task}
 use Rattle.crs_command_line.specs.declared.requests.Task.TheVariants as task
 use Rattle.crs_command_line.specs.declared.requests.RequestFault.{RequestFault}
@@ -32,6 +32,14 @@ operand id = record (spare_operand id) { required = true }
 abbrev pub level_option : Rule
 level_option = record (new_rule (codes "level")) { long = Some (codes "level"); value_names = 1 }
 
+-- the option `--rules`, which takes one word each time that it stands
+abbrev pub rules_option : Rule
+rules_option = record (new_rule (codes "rules")) {
+  long = Some (codes "rules");
+  value_names = 1;
+  action = Some Append;
+}
+
 -- a flag of this name, which takes no word
 abbrev pub flag : Text → Rule
 flag name = record (new_rule name) { long = Some name; action = Some SetTrue }
@@ -48,30 +56,35 @@ files_flag = flag (codes "files")
 abbrev pub file_operands : Rule
 file_operands = record (spare_operand (codes "file")) { action = Some Append }
 
--- `canon`, which takes a level, the flag `--lines` and files
+-- `canon`, which takes a level, rules, the flag `--lines` and files
 abbrev pub canon_shape : Shape
-canon_shape =
-    record (new_shape (codes "canon")) { rules = level_option ∷ lines_flag ∷ file_operands ∷ [] }
+canon_shape = record (new_shape (codes "canon")) {
+  rules = level_option ∷ rules_option ∷ lines_flag ∷ file_operands ∷ [];
+}
 
 -- `check`, which takes that flag and files
 abbrev pub check_shape : Shape
 check_shape = record (new_shape (codes "check")) { rules = lines_flag ∷ file_operands ∷ [] }
 
--- `group`, which takes a level and files
+-- `group`, which takes a level, rules and files
 abbrev pub group_shape : Shape
-group_shape = record (new_shape (codes "group")) { rules = level_option ∷ file_operands ∷ [] }
-
--- `same`, which needs a first operand and a second, and takes a level and the flag `--files`
-abbrev pub same_shape : Shape
-same_shape = record (new_shape (codes "same")) {
-  rules = operand (codes "first") ∷ operand (codes "second") ∷ level_option ∷ files_flag ∷ [];
+group_shape = record (new_shape (codes "group")) {
+  rules = level_option ∷ rules_option ∷ file_operands ∷ [];
 }
 
--- `explain`, which may have a first operand and a second, and takes a level and the flag `--files`
+-- `same`, which needs a first operand and a second, and takes a level, rules and the flag `--files`
+abbrev pub same_shape : Shape
+same_shape = record (new_shape (codes "same")) {
+  rules = operand (codes "first") ∷ operand (codes "second") ∷ level_option ∷ rules_option
+      ∷ files_flag ∷ [];
+}
+
+-- `explain`, which may have a first operand and a second, and takes a level, rules and the flag
+-- `--files`
 abbrev pub explain_shape : Shape
 explain_shape = record (new_shape (codes "explain")) {
   rules = spare_operand (codes "first") ∷ spare_operand (codes "second") ∷ level_option
-      ∷ files_flag ∷ [];
+      ∷ rules_option ∷ files_flag ∷ [];
 }
 
 -- `crsdesk` alone; it has a version, and needs one of its commands
@@ -97,9 +110,17 @@ level_of rows = unwrap_or (first_of (codes "level") rows) (codes "full")
 abbrev pub has_flag : Text → List Row → Bool
 has_flag name rows = bytes_eq (unwrap_or (first_of name rows) (codes "false")) (codes "true")
 
+-- all words of an operand or an option among a command's matches
+abbrev pub words_of : Text → List Row → List Text
+words_of name rows = unwrap_or (all_of name rows) []
+
 -- the files among a command's matches
 abbrev pub files_of : List Row → List Text
-files_of rows = unwrap_or (all_of (codes "file") rows) []
+files_of rows = words_of (codes "file") rows
+
+-- the rules files among a command's matches
+abbrev pub rules_of : List Row → List Text
+rules_of rows = words_of (codes "rules") rows
 
 -- what is asked of standard input, or of files where there are some
 abbrev pub over : Request → Task → List Text → Request
@@ -151,14 +172,43 @@ explain_of rows =
     explained_operands (has_flag (codes "files") rows) (level_of rows)
     (first_of (codes "first") rows) (first_of (codes "second") rows)
 
--- the request of a command's name and of its matches
-abbrev pub request_of : Text × List Row → Option Request
-request_of (name, rows) =
+-- the name of standard input among those of files
+abbrev pub standard : List Text
+standard = codes "-" ∷ []
+
+-- what is asked, under the rules of these files: of files, of which standard input is one, or of
+-- texts; a check has no rules
+abbrev pub ruled : List Text → Request → Request
+ruled rules (Canon level) = FilesUnder (task.Canon level) standard rules
+ruled rules Check = Check
+ruled rules (Same first second level) = TextsUnder (task.Same level) (first ∷ second ∷ []) rules
+ruled rules (Group level) = FilesUnder (task.Group level) standard rules
+ruled rules (CanonLines level) = FilesUnder (task.CanonLines level) standard rules
+ruled rules CheckLines = CheckLines
+ruled rules (Explain level) = FilesUnder (task.Explain level) standard rules
+ruled rules (ExplainText text level) = TextsUnder (task.Explain level) (text ∷ []) rules
+ruled rules (ExplainPair first second level) =
+    TextsUnder (task.ExplainPair level) (first ∷ second ∷ []) rules
+ruled rules (Files asked names) = FilesUnder asked names rules
+ruled rules (FilesUnder asked names others) = FilesUnder asked names others
+ruled rules (TextsUnder asked texts others) = TextsUnder asked texts others
+
+-- what is asked, under rules where there are some
+abbrev pub under : List Text → Request → Request
+under rules asked = if length rules == 0 then asked else ruled rules asked
+
+-- what a command asks for, by its name and its matches, but for rules
+abbrev pub command_of : Text × List Row → Option Request
+command_of (name, rows) =
     if bytes_eq name (codes "canon") then Some (canon_of rows)
     else (if bytes_eq name (codes "check") then Some (check_of rows)
     else (if bytes_eq name (codes "same") then same_of rows
     else (if bytes_eq name (codes "group") then Some (group_of rows)
     else (if bytes_eq name (codes "explain") then Some (explain_of rows) else None))))
+
+-- the request of a command's name and of its matches
+abbrev pub request_of : Text × List Row → Option Request
+request_of (name, rows) = option_map (under (rules_of rows)) (command_of (name, rows))
 
 -- what the words ask for, where the command takes them; the first of them is the program's name
 abbrev pub asked : List Text → Option Request

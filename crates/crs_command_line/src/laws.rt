@@ -2,10 +2,10 @@
 ghost use Rattle.std.specs.Prelude.{◌≡◌, ◌≢◌, ◌<◌, ℕ, [], ◌∷◌, ◌++◌, List, Some, IsSome, true, false, codes};
 ghost use Rattle.std.specs.List.{list_all};
 ghost use Rattle.clap.specs.Words.{Text, takes};
-ghost use Rattle.crs_command_line.specs.CommandLine.{asked, desk, is_plain_word};
+ghost use Rattle.crs_command_line.specs.CommandLine.{asked, desk, is_plain_word, standard};
 ghost use Rattle.crs_command_line.specs.declared.requests.Request.TheVariants.{Canon, Check, Same, Group, CanonLines, CheckLines};
 ghost use Rattle.crs_command_line.specs.declared.requests.Request.TheVariants.{Explain, ExplainText, ExplainPair};
-ghost use Rattle.crs_command_line.specs.declared.requests.Request.TheVariants.{Files};
+ghost use Rattle.crs_command_line.specs.declared.requests.Request.TheVariants.{Files, FilesUnder, TextsUnder};
 ghost use Rattle.crs_command_line.specs.declared.requests.Task.TheVariants as task;
 
 /// A line that the command takes asks for something: no text of `same` is missing there.
@@ -128,6 +128,22 @@ pub fn operands_are_files()
     ensures two { (program first second : Text) → is_plain_word first ≡ true → is_plain_word second ≡ true →
         asked (program ∷ codes "explain" ∷ codes "--files" ∷ first ∷ second ∷ [])
         ≡ Some (Files (task.ExplainPair (codes "full")) (first ∷ second ∷ [])) }
+{}
+
+/// The words after each `--rules` are rules files, where no word is a flag: a task over standard input, where the line
+/// names no file, or over two texts is under their rules. `check` has none.
+pub fn rules_are_named()
+    ensures canon { (program file : Text) → is_plain_word file ≡ true →
+        asked (program ∷ codes "canon" ∷ codes "--rules" ∷ file ∷ [])
+        ≡ Some (FilesUnder (task.Canon (codes "full")) standard (file ∷ [])) }
+    ensures twice { (program one other : Text) →
+        asked (program ∷ codes "canon" ∷ (codes "--rules=" ++ one) ∷ (codes "--rules=" ++ other) ∷ [])
+        ≡ Some (FilesUnder (task.Canon (codes "full")) standard (one ∷ other ∷ [])) }
+    ensures same { (program file first second : Text) → is_plain_word file ≡ true →
+        is_plain_word first ≡ true → is_plain_word second ≡ true →
+        asked (program ∷ codes "same" ∷ codes "--rules" ∷ file ∷ first ∷ second ∷ [])
+        ≡ Some (TextsUnder (task.Same (codes "full")) (first ∷ second ∷ []) (file ∷ [])) }
+    ensures check { (program file : Text) → takes desk (program ∷ codes "check" ∷ codes "--rules" ∷ file ∷ []) ≡ false }
 {}
 
 /// `check` has no level.

@@ -5,10 +5,10 @@ ghost use Rattle.clap.specs.Simple.{new_shape};
 ghost use Rattle.clap.specs.declared.builder.command.Command.TheViews.{out-Command as fields_of};
 ghost use Rattle.crs_command_line.specs.CommandLine.{HandsOn, IsRefusal, asked, desk, input_desk, lone_desk, operand};
 ghost use Rattle.crs_command_line.specs.CommandLine.{canon_of, canon_shape, check_of, check_shape, explain_of, explain_shape};
-ghost use Rattle.crs_command_line.specs.CommandLine.{file_operands, files_of, flag, group_of, group_shape, has_flag};
-ghost use Rattle.crs_command_line.specs.CommandLine.{explained_operands, level_of, level_option, request_of, same_of};
-ghost use Rattle.crs_command_line.specs.CommandLine.{same_operands, same_shape};
-ghost use Rattle.crs_command_line.specs.CommandLine.{spare_operand};
+ghost use Rattle.crs_command_line.specs.CommandLine.{file_operands, flag, group_of, group_shape, has_flag};
+ghost use Rattle.crs_command_line.specs.CommandLine.{command_of, explained_operands, level_of, level_option, request_of};
+ghost use Rattle.crs_command_line.specs.CommandLine.{ruled, rules_option, same_of, same_operands, same_shape};
+ghost use Rattle.crs_command_line.specs.CommandLine.{spare_operand, standard, under, words_of};
 
 use crate::{LineWord, LineWords, Request, RequestFault, Task};
 use clap::error::ErrorKind;
@@ -49,6 +49,13 @@ const FILES_HELP: &str = "Takes A and B as names of files; `-` is standard input
 // What help says of the option `--level`.
 const LEVEL_HELP: &str =
     "What counts: full, or definition, without identifiers, usages and remarks [default: full]";
+
+// What help says of the option `--rules`.
+const RULES_HELP: &str =
+    "Compares under the rules of a file, which say what counts as the same; more than once";
+
+// The name of standard input among those of files.
+const STANDARD: &str = "-";
 
 // The level where the line names none.
 const USUAL_LEVEL: &str = "full";
@@ -127,6 +134,7 @@ fn canon_command<'a>(alloc: Global) -> Result<Command<'a>, AllocError>
 {
     lone_command(alloc, "canon", CANON_ABOUT, CANON_STATUS)
         .arg(level_argument(alloc))?
+        .arg(rules_argument(alloc))?
         .arg(flag_argument(alloc, "lines", LINES_HELP))?
         .arg(file_argument(alloc))
 }
@@ -146,6 +154,7 @@ fn group_command<'a>(alloc: Global) -> Result<Command<'a>, AllocError>
 {
     lone_command(alloc, "group", GROUP_ABOUT, GROUP_STATUS)
         .arg(level_argument(alloc))?
+        .arg(rules_argument(alloc))?
         .arg(file_argument(alloc))
 }
 
@@ -175,6 +184,7 @@ fn same_command<'a>(alloc: Global) -> Result<Command<'a>, AllocError>
         .arg(needed_word(alloc, "first", "A", FIRST_HELP))?
         .arg(needed_word(alloc, "second", "B", SECOND_HELP))?
         .arg(level_argument(alloc))?
+        .arg(rules_argument(alloc))?
         .arg(flag_argument(alloc, "files", FILES_HELP))
 }
 
@@ -186,6 +196,7 @@ fn explain_command<'a>(alloc: Global) -> Result<Command<'a>, AllocError>
         .arg(spare_word(alloc, "first", "A", SPARE_FIRST_HELP))?
         .arg(spare_word(alloc, "second", "B", SECOND_HELP))?
         .arg(level_argument(alloc))?
+        .arg(rules_argument(alloc))?
         .arg(flag_argument(alloc, "files", FILES_HELP))
 }
 
@@ -234,6 +245,17 @@ fn level_argument<'a>(alloc: Global) -> Arg<'a>
         .help(LEVEL_HELP)
 }
 
+fn rules_argument<'a>(alloc: Global) -> Arg<'a>
+    ensures rule { rule_of result ≡ rules_option }
+    ensures local { result.global ≡ false }
+{
+    Arg::new(alloc, "rules")
+        .long("rules")
+        .value_name("FILE")
+        .action(ArgAction::Append)
+        .help(RULES_HELP)
+}
+
 fn refusal(error: clap::Error) -> RequestFault
     ensures { HandsOn error result }
 {
@@ -248,20 +270,100 @@ fn named(alloc: Global, matches: &ArgMatches) -> Result<Request, AllocError>
     ensures { IfOk result (λ found. option_and_then request_of (subcommand_rows_of matches.now) ≡ Some found) }
 {
     match matches.subcommand() {
-        Some(("canon", options)) => canon_request(alloc, options),
-        Some(("check", options)) => check_request(alloc, options),
-        Some(("same", operands)) => same_request(alloc, operands),
-        Some(("group", options)) => group_request(alloc, options),
-        Some(("explain", operands)) => explain_request(alloc, operands),
+        Some((name, options)) => request_named(alloc, name, options),
+        None => unreachable!(),
+    }
+}
+
+// The request of a command, by its name and its matches.
+fn request_named(alloc: Global, name: &str, options: &ArgMatches) -> Result<Request, AllocError>
+    requires { IsSome (request_of (name.now, rows_of (found_of options.now))) }
+    ensures { IfOk result (λ found. request_of (name.now, rows_of (found_of options.now)) ≡ Some found) }
+{
+    let asked = command_request(alloc, name, options)?;
+    let rules = words_named(alloc, options, "rules")?;
+    under(alloc, rules, asked)
+}
+
+// What a command asks for, but for rules.
+fn command_request(alloc: Global, name: &str, options: &ArgMatches) -> Result<Request, AllocError>
+    requires { IsSome (command_of (name.now, rows_of (found_of options.now))) }
+    ensures { IfOk result (λ found. command_of (name.now, rows_of (found_of options.now)) ≡ Some found) }
+{
+    match name {
+        "canon" => canon_request(alloc, options),
+        "check" => check_request(alloc, options),
+        "same" => same_request(alloc, options),
+        "group" => group_request(alloc, options),
+        "explain" => explain_request(alloc, options),
         _ => unreachable!(),
     }
+}
+
+// What is asked, under the rules of these files where there are some.
+fn under(alloc: Global, rules: LineWords, asked: Request) -> Result<Request, AllocError>
+    ensures { IfOk result (λ found. found ≡ under rules asked) }
+{
+    if rules.is_empty() {
+        return Ok(asked);
+    }
+    ruled(alloc, rules, asked)
+}
+
+// What is asked, under the rules of these files.
+fn ruled(alloc: Global, rules: LineWords, asked: Request) -> Result<Request, AllocError>
+    ensures { IfOk result (λ found. found ≡ ruled rules asked) }
+{
+    match asked {
+        Request::Canon(level) => over_standard(alloc, Task::Canon(level), rules),
+        Request::Same(first, second, level) => {
+            over_two(alloc, Task::Same(level), first, second, rules)
+        }
+        Request::Group(level) => over_standard(alloc, Task::Group(level), rules),
+        Request::CanonLines(level) => over_standard(alloc, Task::CanonLines(level), rules),
+        Request::Explain(level) => over_standard(alloc, Task::Explain(level), rules),
+        Request::ExplainText(text, level) => {
+            let texts = LineWords::one(alloc, text)?;
+            Ok(Request::TextsUnder(Task::Explain(level), texts, rules))
+        }
+        Request::ExplainPair(first, second, level) => {
+            over_two(alloc, Task::ExplainPair(level), first, second, rules)
+        }
+        Request::Files(task, names) => Ok(Request::FilesUnder(task, names, rules)),
+        Request::Check => Ok(Request::Check),
+        Request::CheckLines => Ok(Request::CheckLines),
+        Request::FilesUnder(task, names, others) => Ok(Request::FilesUnder(task, names, others)),
+        Request::TextsUnder(task, texts, others) => Ok(Request::TextsUnder(task, texts, others)),
+    }
+}
+
+// A task over standard input under rules.
+fn over_standard(alloc: Global, task: Task, rules: LineWords) -> Result<Request, AllocError>
+    ensures { IfOk result (λ found. found ≡ Request.FilesUnder task standard rules) }
+{
+    let names = LineWords::of(alloc, &[STANDARD])?;
+    Ok(Request::FilesUnder(task, names, rules))
+}
+
+// A task over two texts under rules.
+fn over_two(
+    alloc: Global,
+    task: Task,
+    first: LineWord,
+    second: LineWord,
+    rules: LineWords,
+) -> Result<Request, AllocError>
+    ensures { IfOk result (λ found. found ≡ Request.TextsUnder task (first ∷ second ∷ []) rules) }
+{
+    let texts = LineWords::two(alloc, first, second)?;
+    Ok(Request::TextsUnder(task, texts, rules))
 }
 
 fn canon_request(alloc: Global, options: &ArgMatches) -> Result<Request, AllocError>
     ensures { IfOk result (λ found. found ≡ canon_of (rows_of (found_of options.now))) }
 {
     let level = level_word(alloc, options)?;
-    let files = file_words(alloc, options)?;
+    let files = words_named(alloc, options, "file")?;
     match (flag_asked(options, "lines"), files.is_empty()) {
         (false, true) => Ok(Request::Canon(level)),
         (true, true) => Ok(Request::CanonLines(level)),
@@ -273,7 +375,7 @@ fn canon_request(alloc: Global, options: &ArgMatches) -> Result<Request, AllocEr
 fn check_request(alloc: Global, options: &ArgMatches) -> Result<Request, AllocError>
     ensures { IfOk result (λ found. found ≡ check_of (rows_of (found_of options.now))) }
 {
-    let files = file_words(alloc, options)?;
+    let files = words_named(alloc, options, "file")?;
     match (flag_asked(options, "lines"), files.is_empty()) {
         (false, true) => Ok(Request::Check),
         (true, true) => Ok(Request::CheckLines),
@@ -286,7 +388,7 @@ fn group_request(alloc: Global, options: &ArgMatches) -> Result<Request, AllocEr
     ensures { IfOk result (λ found. found ≡ group_of (rows_of (found_of options.now))) }
 {
     let level = level_word(alloc, options)?;
-    let files = file_words(alloc, options)?;
+    let files = words_named(alloc, options, "file")?;
     if files.is_empty() {
         return Ok(Request::Group(level));
     }
@@ -378,11 +480,12 @@ fn level_word(alloc: Global, matches: &ArgMatches) -> Result<LineWord, AllocErro
     LineWord::new(alloc, matches.get_str("level").unwrap_or(USUAL_LEVEL))
 }
 
-fn file_words(alloc: Global, matches: &ArgMatches) -> Result<LineWords, AllocError>
-    ensures { IfOk result (λ files. files ≡ files_of (rows_of (found_of matches.now))) }
+// All words of an operand or an option.
+fn words_named(alloc: Global, matches: &ArgMatches, name: &str) -> Result<LineWords, AllocError>
+    ensures { IfOk result (λ words. words ≡ words_of name.now (rows_of (found_of matches.now))) }
 {
-    match matches.get_strs("file") {
-        Some(names) => LineWords::of(alloc, names),
+    match matches.get_strs(name) {
+        Some(words) => LineWords::of(alloc, words),
         None => Ok(LineWords::new(alloc)),
     }
 }

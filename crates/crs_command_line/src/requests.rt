@@ -26,6 +26,11 @@ pub enum Request {
     ExplainPair(LineWord, LineWord, LineWord),
     /// A task over these files, by their names as they were written; there is at least one.
     Files(Task, LineWords),
+    /// A task over these files under the rules of others: the names of the files, of which `-` is standard input, and of
+    /// the rules files; there is at least one of both.
+    FilesUnder(Task, LineWords, LineWords),
+    /// A task over these texts under the rules of files, by the names of these; there is at least one of both.
+    TextsUnder(Task, LineWords, LineWords),
 }
 
 /// What is asked of files. A level is the word after `--level`, as in a `Request`.

@@ -75,6 +75,29 @@ impl LineWords {
         Ok(words)
     }
 
+    // This word alone.
+    pub(crate) fn one(alloc: Global, word: LineWord) -> Result<LineWords, AllocError>
+        ensures { IfOk result (λ words. words ≡ word ∷ []) }
+    {
+        let mut words = Vec::new(alloc);
+        words.push(word)?;
+        Ok(LineWords { words })
+    }
+
+    // These two words.
+    pub(crate) fn two(
+        alloc: Global,
+        first: LineWord,
+        second: LineWord,
+    ) -> Result<LineWords, AllocError>
+        ensures { IfOk result (λ words. words ≡ first ∷ second ∷ []) }
+    {
+        let mut words = Vec::new(alloc);
+        words.push(first)?;
+        words.push(second)?;
+        Ok(LineWords { words })
+    }
+
     pub(crate) fn is_empty(&self) -> bool
         ensures { result ≡ (length self.now == 0) }
     {
