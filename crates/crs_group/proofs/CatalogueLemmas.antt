@@ -17,7 +17,7 @@ use Rattle.crs_canon.specs.MainTheorem.{IsAccepted, MainTheorem}
 use Rattle.crs_rules.specs.Rules.{RulesParts}
 use Rattle.crs_rules.specs.Under.{IsForm}
 use Rattle.crs_group.specs.Catalogue.{Line, GroupParts, CatalogueParts, line_of, nth}
-use Rattle.crs_group.specs.GroupTexts.{IsCatalogue, IsCatalogueBy, IsCatalogueOf, IsUnder, canons, then_line}
+use Rattle.crs_group.specs.GroupTexts.{IsCatalogue, IsCatalogueBy, IsCatalogueOf, IsCatalogueOfBy, IsUnder, canons, then_line}
 use Rattle.crs_group.specs.Partition.{Counts, IsPlacedAs, PlacedLine, ShareWhereSame, if_refused, in_group, lines_in}
 use Rattle.crs_group.specs.UnderRules.{ShareWhereSameUnder}
 use Rattle.crs_value.specs.Sound.{Each}
@@ -359,10 +359,13 @@ module _ (Form : Level → List ℕ → List ℕ → Type 0) (Share : Level → 
   refuse-result c after number text fault (Err error) black of refused same kept = tt
 
 -- the catalogue of some lines and one more
-pub lines-added : (c after : CatalogueParts) (number : ℕ) (text : List ℕ) (place : Placed)
-    → ((placed : List PlacedLine) → IsCatalogue placed c → IsCatalogue (then_line placed number text place) after)
-    → (lines : List Line) → IsCatalogueOf lines c → IsCatalogueOf (lines ++ line_of number text ∷ []) after
-lines-added c after number text place step lines old = record {
+pub lines-added : (Form : Level → List ℕ → List ℕ → Type 0) (Share : Level → PlacedLine → PlacedLine → Type 0)
+    (c after : CatalogueParts) (number : ℕ) (text : List ℕ) (place : Placed)
+    → ((placed : List PlacedLine) → IsCatalogueBy Form Share placed c →
+    IsCatalogueBy Form Share (then_line placed number text place) after)
+    → (lines : List Line) → IsCatalogueOfBy Form Share lines c →
+    IsCatalogueOfBy Form Share (lines ++ line_of number text ∷ []) after
+lines-added Form Share c after number text place step lines old = record {
   placed = then_line old.placed number text place;
   are_lines = map-append (λ p. p.line) old.placed (placed_at number text place ∷ [])
       ∙ ap (λ l. l ++ line_of number text ∷ []) old.are_lines;
@@ -373,5 +376,5 @@ pub lines-result : (c after : CatalogueParts) (number : ℕ) (text : List ℕ) (
     → IfOk r (λ place. (placed : List PlacedLine) → IsCatalogue placed c
     → IsCatalogue (then_line placed number text place) after)
     → OnOk r ((lines : List Line) → IsCatalogueOf lines c → IsCatalogueOf (lines ++ line_of number text ∷ []) after)
-lines-result c after number text (Ok place) step = lines-added c after number text place step
+lines-result c after number text (Ok place) step = lines-added IsCanonicalOf ShareWhereSame c after number text place step
 lines-result c after number text (Err error) step = tt

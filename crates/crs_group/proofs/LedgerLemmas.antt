@@ -6,14 +6,16 @@ use Rattle.std.proofs.lemmas.Bool.{cond-true}
 use Rattle.std.proofs.lemmas.List.Sums.{sum_by-append}
 use Rattle.crs_text.specs.Tokens.{is_white}
 use Rattle.crs_group.specs.Catalogue.{CatalogueParts, Line, line_of}
-use Rattle.crs_group.specs.GroupCutting.{IsLedgerOf, LedgerParts, blank_count}
-use Rattle.crs_group.specs.GroupTexts.{IsCatalogue, IsCatalogueOf, then_line}
+use Rattle.crs_group.specs.GroupCutting.{IsLedgerOf, LedgerParts, blank_count, no_lines}
+use Rattle.crs_group.specs.GroupTexts.{IsCatalogueBy, IsCatalogueOfBy, then_line}
 use Rattle.crs_streams.specs.Lines.{blank_in}
 use Rattle.crs_group.specs.GroupOutput.{numbered}
 use Rattle.crs_value.specs.Sound.{Each}
 use Rattle.crs_group.specs.Partition.{IsPlacedAs, PlacedLine}
 use Rattle.crs_group.specs.declared.placed.Placed.{Placed}
 use Rattle.crs_group.specs.declared.placed.Placed.TheVariants.{Blank, Refused, Group}
+use Rattle.crs_value.specs.declared.values.level.Level.{Level}
+use Rattle.crs_group.proofs.CatalogueLemmas.{lines-added, none-added}
 
 lines-is : (a b : Line) (xs ys : List Line) → a ≡ b → xs ≡ ys → a ∷ xs ≡ b ∷ ys
 lines-is a b xs ys h t = cc
@@ -48,52 +50,59 @@ one-blank text (Group n) (black, accepted) = by_test (list_all is_white text) bl
     by_test true black = absurd (black refl)
     by_test false black = refl
 
-pub blank-more : (texts : List (List ℕ)) (text : List ℕ) (before after : CatalogueParts) (number : ℕ) (place : Placed)
-    → IsCatalogueOf (numbered 1 texts) before
-    → ((placed : List PlacedLine) → IsCatalogue placed before → IsCatalogue (then_line placed number text place) after)
-    → blank_in (texts ++ text ∷ []) ≡ blank_in texts + blank_count place
-blank-more texts text before after number place of_lines step =
-    let whole = step of_lines.placed of_lines.whole in
-    let placed_as : IsPlacedAs text place = each-last (λ p. IsPlacedAs p.line.text p.place) of_lines.placed
-    (record { line = line_of number text; place = place }) whole.0.each in
-    let whole_count : blank_in (texts ++ text ∷ []) ≡ blank_in texts + blank_in (text ∷ []) =
-    sum_by-append (λ t. cond (list_all is_white t) 1 0) texts (text ∷ []) in
-    let one : blank_in (text ∷ []) ≡ cond (list_all is_white text) 1 0 = omega arith in
-    whole_count ∙ ap (λ n. blank_in texts + n) one
-    ∙ (ap (λ n. blank_in texts + n) (one-blank text place placed_as))
-
--- the ledger of one more text
-pub ledger-more : (texts : List (List ℕ)) (text : List ℕ) (before after : LedgerParts) (place : Placed)
-    → IsLedgerOf texts before
-    → ((placed : List PlacedLine) → IsCatalogue placed before.catalogue →
-    IsCatalogue (then_line placed (before.lines + 1) text place) after.catalogue)
-    → ((lines : List Line) → IsCatalogueOf lines before.catalogue →
-    IsCatalogueOf (lines ++ line_of (before.lines + 1) text ∷ []) after.catalogue)
-    → after.lines ≡ before.lines + 1 → after.blank ≡ before.blank + blank_count place
-    → IsLedgerOf (texts ++ text ∷ []) after
-ledger-more texts text before after place ledger step further lines blank =
-    let place_is : before.lines + 1 ≡ 1 + length texts = omega (arith, ledger.lines) in
-    record {
-      of_lines = subst (λ l. IsCatalogueOf l after.catalogue)
-          (ap (λ n. numbered 1 texts ++ line_of n text ∷ []) place_is ∙ sym (numbered-more 1 texts text))
-          (further (numbered 1 texts) ledger.of_lines);
-      lines = omega (arith, lines, ledger.lines, length-append texts (text ∷ []));
-      blank = blank ∙ (ap (λ n. n + blank_count place) ledger.blank
-          ∙ sym (blank-more texts text before.catalogue after.catalogue (before.lines + 1) place ledger.of_lines step));
-    }
-
 abbrev pub ledger_of : CatalogueParts → ℕ → ℕ → LedgerParts
 ledger_of catalogue lines blank = record { catalogue = catalogue; lines = lines; blank = blank }
 
--- as the code counts
-pub ledger-step : (texts : List (List ℕ)) (text : List ℕ) (now : LedgerParts) (before after : CatalogueParts)
-    (lines blank count : ℕ) (place : Placed)
-    → ledger_of before lines blank ≡ now
-    → ((placed : List PlacedLine) → IsCatalogue placed before →
-    IsCatalogue (then_line placed (lines + 1) text place) after)
-    → ((all : List Line) → IsCatalogueOf all before → IsCatalogueOf (all ++ line_of (lines + 1) text ∷ []) after)
-    → count ≡ blank_count place → IsLedgerOf texts now
-    → IsLedgerOf (texts ++ text ∷ []) (ledger_of after (lines + 1) (blank + count))
-ledger-step texts text now before after lines blank count place is step further counted ledger =
-    ledger-more texts text (ledger_of before lines blank) (ledger_of after (lines + 1) (blank + count)) place
-    (subst (IsLedgerOf texts) (sym is) ledger) step further refl (ap (λ n. blank + n) counted)
+module _ (Form : Level → List ℕ → List ℕ → Type 0) (Share : Level → PlacedLine → PlacedLine → Type 0) where
+  pub blank-more : (texts : List (List ℕ)) (text : List ℕ) (before after : CatalogueParts) (number : ℕ) (place : Placed)
+      → IsCatalogueOfBy Form Share (numbered 1 texts) before
+      → ((placed : List PlacedLine) → IsCatalogueBy Form Share placed before → IsCatalogueBy Form Share (then_line placed number text place) after)
+      → blank_in (texts ++ text ∷ []) ≡ blank_in texts + blank_count place
+  blank-more texts text before after number place of_lines step =
+      let whole = step of_lines.placed of_lines.whole in
+      let placed_as : IsPlacedAs text place = each-last (λ p. IsPlacedAs p.line.text p.place) of_lines.placed
+      (record { line = line_of number text; place = place }) whole.0.each in
+      let whole_count : blank_in (texts ++ text ∷ []) ≡ blank_in texts + blank_in (text ∷ []) =
+      sum_by-append (λ t. cond (list_all is_white t) 1 0) texts (text ∷ []) in
+      let one : blank_in (text ∷ []) ≡ cond (list_all is_white text) 1 0 = omega arith in
+      whole_count ∙ ap (λ n. blank_in texts + n) one
+      ∙ (ap (λ n. blank_in texts + n) (one-blank text place placed_as))
+
+  -- the ledger of no lines
+  pub none-ledger : (level : Level) → IsLedgerOf Form Share [] (no_lines level)
+  none-ledger level = record {
+    of_lines = record { placed = []; are_lines = refl; whole = none-added Form Share level };
+    lines = refl;
+    blank = refl;
+  }
+
+  -- the ledger of one more text
+  pub ledger-more : (texts : List (List ℕ)) (text : List ℕ) (before after : LedgerParts) (place : Placed)
+      → IsLedgerOf Form Share texts before
+      → ((placed : List PlacedLine) → IsCatalogueBy Form Share placed before.catalogue →
+      IsCatalogueBy Form Share (then_line placed (before.lines + 1) text place) after.catalogue)
+      → after.lines ≡ before.lines + 1 → after.blank ≡ before.blank + blank_count place
+      → IsLedgerOf Form Share (texts ++ text ∷ []) after
+  ledger-more texts text before after place ledger step lines blank =
+      let place_is : before.lines + 1 ≡ 1 + length texts = omega (arith, ledger.lines) in
+      record {
+        of_lines = subst (λ l. IsCatalogueOfBy Form Share l after.catalogue)
+            (ap (λ n. numbered 1 texts ++ line_of n text ∷ []) place_is ∙ sym (numbered-more 1 texts text))
+            (lines-added Form Share before.catalogue after.catalogue (before.lines + 1) text place step (numbered 1 texts)
+            ledger.of_lines);
+        lines = omega (arith, lines, ledger.lines, length-append texts (text ∷ []));
+        blank = blank ∙ (ap (λ n. n + blank_count place) ledger.blank
+            ∙ sym (blank-more texts text before.catalogue after.catalogue (before.lines + 1) place ledger.of_lines step));
+      }
+
+  -- as the code counts
+  pub ledger-step : (texts : List (List ℕ)) (text : List ℕ) (now : LedgerParts) (before after : CatalogueParts)
+      (lines blank count : ℕ) (place : Placed)
+      → ledger_of before lines blank ≡ now
+      → ((placed : List PlacedLine) → IsCatalogueBy Form Share placed before →
+      IsCatalogueBy Form Share (then_line placed (lines + 1) text place) after)
+      → count ≡ blank_count place → IsLedgerOf Form Share texts now
+      → IsLedgerOf Form Share (texts ++ text ∷ []) (ledger_of after (lines + 1) (blank + count))
+  ledger-step texts text now before after lines blank count place is step counted ledger =
+      ledger-more texts text (ledger_of before lines blank) (ledger_of after (lines + 1) (blank + count)) place
+      (subst (IsLedgerOf Form Share texts) (sym is) ledger) step refl (ap (λ n. blank + n) counted)

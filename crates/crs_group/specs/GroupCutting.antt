@@ -1,7 +1,9 @@
 -- A bridge: bytes that are cut into lines piece by piece.
-use Rattle.std.specs.Prelude.{◌≡◌, ◌≤◌, ◌++◌, ◌∷◌, [], ℕ, List, length}
+use Rattle.std.specs.Prelude.{◌≡◌, ◌+◌, ◌<◌, ◌≤◌, ◌⊎◌, ◌++◌, ◌∷◌, [], ℕ, List, length}
+use Rattle.crs_value.specs.declared.values.level.Level.{Level}
 use Rattle.crs_group.specs.Catalogue.{CatalogueParts}
-use Rattle.crs_group.specs.GroupTexts.{IsCatalogueOf}
+use Rattle.crs_group.specs.GroupTexts.{IsCatalogueOfBy}
+use Rattle.crs_group.specs.Partition.{PlacedLine}
 use Rattle.crs_streams.specs.EndedLines.{AreEnded}
 use Rattle.crs_streams.specs.Lines.{AreLines, HasNoFeed, IsTextOf, blank_in}
 use Rattle.crs_group.specs.GroupOutput.{numbered}
@@ -18,9 +20,19 @@ pub record LedgerParts : Type 0 where
   pub lines : ℕ
   pub blank : ℕ
 
--- the ledger is that of these texts
-pub record IsLedgerOf (texts : List (List ℕ)) (ledger : LedgerParts) : Type 0 where
-  pub of_lines : IsCatalogueOf (numbered 1 texts) ledger.catalogue
+-- the ledger of no lines
+abbrev pub no_lines : Level → LedgerParts
+no_lines level = record {
+  catalogue = record { level = level; groups = []; refused = [] };
+  lines = 0;
+  blank = 0;
+}
+
+-- the ledger is that of these texts, in this form of them
+pub record IsLedgerOf (Form : Level → List ℕ → List ℕ → Type 0)
+    (Share : Level → PlacedLine → PlacedLine → Type 0) (texts : List (List ℕ))
+    (ledger : LedgerParts) : Type 0 where
+  pub of_lines : IsCatalogueOfBy Form Share (numbered 1 texts) ledger.catalogue
   pub lines : ledger.lines ≡ length texts
   pub blank : ledger.blank ≡ blank_in texts
 
@@ -31,16 +43,20 @@ blank_count (Refused refusal) = 0
 blank_count (Group n) = 0
 
 -- the ledger is that of the lines of these bytes
-pub record IsLedgerFor (bytes : List ℕ) (ledger : LedgerParts) : Type 0 where
+pub record IsLedgerFor (Form : Level → List ℕ → List ℕ → Type 0)
+    (Share : Level → PlacedLine → PlacedLine → Type 0) (bytes : List ℕ)
+    (ledger : LedgerParts) : Type 0 where
   pub texts : List (List ℕ)
   pub are_texts : AreLines bytes texts
-  pub of_texts : IsLedgerOf texts ledger
+  pub of_texts : IsLedgerOf Form Share texts ledger
 
 -- the ledger has one more line, with these bytes before its line feed
-abbrev pub IsNextLine : List ℕ → LedgerParts → LedgerParts → Type 0
-IsNextLine line before after =
+abbrev pub IsNextLine : (Level → List ℕ → List ℕ → Type 0) →
+    (Level → PlacedLine → PlacedLine → Type 0) → List ℕ → LedgerParts → LedgerParts → Type 0
+IsNextLine Form Share line before after =
     (text : List ℕ) × IsTextOf line text
-    × ((texts : List (List ℕ)) → IsLedgerOf texts before → IsLedgerOf (texts ++ text ∷ []) after)
+    × ((texts : List (List ℕ)) → IsLedgerOf Form Share texts before →
+    IsLedgerOf Form Share (texts ++ text ∷ []) after)
 
 -- the lines that have ended, and the bytes of the one that has not
 pub record CutterParts : Type 0 where
@@ -48,7 +64,9 @@ pub record CutterParts : Type 0 where
   pub partial : List ℕ
 
 -- so far these bytes were cut
-pub record IsCutTo (bytes : List ℕ) (cutter : CutterParts) : Type 0 where
+pub record IsCutTo (Form : Level → List ℕ → List ℕ → Type 0)
+    (Share : Level → PlacedLine → PlacedLine → Type 0) (bytes : List ℕ)
+    (cutter : CutterParts) : Type 0 where
   pub ended : List ℕ
   pub texts : List (List ℕ)
   pub are_bytes : bytes ≡ ended ++ cutter.partial
@@ -56,7 +74,19 @@ pub record IsCutTo (bytes : List ℕ) (cutter : CutterParts) : Type 0 where
   pub are_short : HasShortLines ended
   pub is_one : HasNoFeed cutter.partial
   pub is_short : length cutter.partial ≤ 1048576
-  pub of_texts : IsLedgerOf texts cutter.ledger
+  pub of_texts : IsLedgerOf Form Share texts cutter.ledger
+
+-- more bytes of the line that has not ended
+pub record IsKept (more : List ℕ) (old new : CutterParts) : Type 0 where
+  pub is_ledger : new.ledger ≡ old.ledger
+  pub are_more : new.partial ≡ old.partial ++ more
+  pub are_few : length old.partial + length more ≤ 1048576
+
+-- the line is too long with them, or memory ran out
+abbrev pub IsNotKept : List ℕ → CutterParts → RunFault → Type 0
+IsNotKept more old fault =
+    (fault ≡ Memory) ⊎ ((fault ≡ TooLong (old.ledger.lines + 1))
+    × (1048576 < length old.partial + length more))
 
 -- why bytes aren't cut
 abbrev pub IsCutFault : List ℕ → RunFault → Type 0

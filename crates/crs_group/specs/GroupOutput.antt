@@ -3,8 +3,13 @@ use Rattle.std.specs.Prelude.{◌≡◌, ◌+◌, ◌++◌, ◌∷◌, [], ℕ, 
 use Rattle.std.specs.List.{flat_map}
 use Rattle.crs_text.specs.Refusal.{RefusedAt, refused_text}
 use Rattle.crs_value.specs.declared.values.level.Level.{Level}
+use Rattle.crs_canon.specs.Canonical.{IsCanonicalOf}
+use Rattle.crs_rules.specs.Rules.{RulesParts}
+use Rattle.crs_rules.specs.Under.{IsForm}
 use Rattle.crs_group.specs.Catalogue.{CatalogueParts, GroupParts, Line, line_of}
-use Rattle.crs_group.specs.GroupTexts.{IsCatalogueOf}
+use Rattle.crs_group.specs.GroupTexts.{IsCatalogueOfBy}
+use Rattle.crs_group.specs.Partition.{PlacedLine, ShareWhereSame}
+use Rattle.crs_group.specs.UnderRules.{ShareWhereSameUnder}
 use Rattle.crs_streams.specs.Lines.{AreLines, blank_in}
 use Rattle.crs_group.specs.declared.summary.Summary.{Summary}
 
@@ -37,16 +42,26 @@ abbrev pub numbered : ℕ → List (List ℕ) → List Line
 numbered number [] = []
 numbered number (text ∷ texts) = line_of number text ∷ numbered (number + 1) texts
 
--- the bytes are written as the catalogue of their lines, which are numbered from 1, and this is its
--- summary
-pub record IsGroupOutput (level : Level) (bytes written : List ℕ) (summary : Summary) : Type 0 where
+-- the bytes are written as the catalogue of their lines, in this form of their texts, which are
+-- numbered from 1, and this is its summary
+pub record IsGroupOutputBy (Form : Level → List ℕ → List ℕ → Type 0)
+    (Share : Level → PlacedLine → PlacedLine → Type 0) (level : Level) (bytes written : List ℕ)
+    (summary : Summary) : Type 0 where
   pub texts : List (List ℕ)
   pub are_texts : AreLines bytes texts
   pub catalogue : CatalogueParts
   pub is_level : catalogue.level ≡ level
-  pub of_lines : IsCatalogueOf (numbered 1 texts) catalogue
+  pub of_lines : IsCatalogueOfBy Form Share (numbered 1 texts) catalogue
   pub is_written : written ≡ catalogue_text catalogue
   pub lines : summary.lines ≡ length texts
   pub blank : summary.blank ≡ blank_in texts
   pub refused : summary.refused ≡ length catalogue.refused
   pub groups : summary.groups ≡ length catalogue.groups
+
+-- that, where two texts share a group if their CRSs are the same
+abbrev pub IsGroupOutput : Level → List ℕ → List ℕ → Summary → Type 0
+IsGroupOutput level = IsGroupOutputBy IsCanonicalOf ShareWhereSame level
+
+-- that, where two texts share a group if they are the same under rules
+abbrev pub IsGroupOutputUnder : RulesParts → Level → List ℕ → List ℕ → Summary → Type 0
+IsGroupOutputUnder rules level = IsGroupOutputBy (IsForm rules) (ShareWhereSameUnder rules) level

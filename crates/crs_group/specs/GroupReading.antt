@@ -3,6 +3,7 @@ use Rattle.std.specs.Prelude.{◌≡◌, ◌*◌, ◌≤◌, ℕ, List, true, fa
 use Rattle.std.specs.Io.KnownBytes.{Appends}
 use Rattle.crs_value.specs.declared.values.level.Level.{Level}
 use Rattle.crs_group.specs.GroupCutting.{CutterParts, IsCutTo, IsLedgerFor, LedgerParts}
+use Rattle.crs_group.specs.Partition.{PlacedLine}
 use Rattle.crs_streams.specs.Given.{HasGivenAll}
 use Rattle.crs_streams.specs.LongLines.{HasShortLines}
 use Rattle.crs_group.specs.GroupOutput.{catalogue_text}
@@ -13,19 +14,22 @@ use Rattle.crs_streams.specs.declared.fault.RunFault.TheVariants.{TooManyReads, 
 use Rattle.crs_group.specs.declared.summary.Summary.{Summary}
 
 -- all the bytes of the source are cut
-pub record IsReadInto (old new : SourceState) (cutter : CutterParts) : Type 0 where
+pub record IsReadInto (Form : Level → List ℕ → List ℕ → Type 0)
+    (Share : Level → PlacedLine → PlacedLine → Type 0) (old new : SourceState)
+    (cutter : CutterParts) : Type 0 where
   pub bytes : List ℕ
   pub is_whole : HasGivenAll old new bytes
   pub is_few : new.taken ≤ 65536 * 1048576
-  pub is_cut : IsCutTo bytes cutter
+  pub is_cut : IsCutTo Form Share bytes cutter
 
 -- the ledger is that of the lines of the source
-pub record IsLedgerWhole (level : Level) (old new : SourceState)
+pub record IsLedgerWhole (Form : Level → List ℕ → List ℕ → Type 0)
+    (Share : Level → PlacedLine → PlacedLine → Type 0) (level : Level) (old new : SourceState)
     (ledger : LedgerParts) : Type 0 where
   pub bytes : List ℕ
   pub is_whole : HasGivenAll old new bytes
   pub are_short : HasShortLines bytes
-  pub is_ledger : IsLedgerFor bytes ledger
+  pub is_ledger : IsLedgerFor Form Share bytes ledger
   pub is_level : ledger.catalogue.level ≡ level
 
 -- the sink got the text of the ledger's catalogue, and this is the summary

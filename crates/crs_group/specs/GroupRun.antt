@@ -2,9 +2,10 @@
 use Rattle.std.specs.Prelude.{◌≡◌, ℕ, true, false, List}
 use Rattle.std.specs.Io.KnownBytes.{Appends}
 use Rattle.crs_value.specs.declared.values.level.Level.{Level}
+use Rattle.crs_rules.specs.Rules.{RulesParts}
 use Rattle.crs_streams.specs.Given.{GivesLongLine, GivesShortLines, HasGivenAll}
 use Rattle.crs_streams.specs.LongLines.{HasShortLines}
-use Rattle.crs_group.specs.GroupOutput.{IsGroupOutput}
+use Rattle.crs_group.specs.GroupOutput.{IsGroupOutput, IsGroupOutputUnder}
 use Rattle.crs_streams.specs.Streams.{IsAskedFor, SourceState, SinkState}
 use Rattle.crs_streams.specs.declared.fault.RunFault.{RunFault}
 use Rattle.crs_streams.specs.declared.fault.RunFault.TheVariants.{ReadFailed, WriteFailed, TooLong}
@@ -12,17 +13,26 @@ use Rattle.crs_streams.specs.declared.fault.RunFault.TheVariants.{TooManyReads, 
 use Rattle.crs_group.specs.declared.summary.Summary.{Summary}
 
 -- the source gave all its bytes, and the sink got what is written for them
-pub record IsGrouped (level : Level) (old_source new_source : SourceState)
-    (old_sink new_sink : SinkState)
+pub record IsGroupedBy (Output : List ℕ → List ℕ → Summary → Type 0)
+    (old_source new_source : SourceState) (old_sink new_sink : SinkState)
     (summary : Summary) : Type 0 where
   pub bytes : List ℕ
   pub is_whole : HasGivenAll old_source new_source bytes
   pub are_short : HasShortLines bytes
   pub written : List ℕ
-  pub is_output : IsGroupOutput level bytes written summary
+  pub is_output : Output bytes written summary
   pub is_sent : Appends old_sink.contents new_sink.contents written
   pub is_asked : IsAskedFor written old_sink new_sink
   pub is_healthy : new_sink.failed ≡ false
+
+-- that, without rules
+abbrev pub IsGrouped : Level → SourceState → SourceState → SinkState → SinkState → Summary → Type 0
+IsGrouped level = IsGroupedBy (IsGroupOutput level)
+
+-- that, under rules
+abbrev pub IsGroupedUnder : RulesParts → Level → SourceState → SourceState → SinkState → SinkState →
+    Summary → Type 0
+IsGroupedUnder rules level = IsGroupedBy (IsGroupOutputUnder rules level)
 
 -- what a fault of the reading says
 abbrev pub IsReadingFault : SourceState → SourceState → RunFault → Type 0

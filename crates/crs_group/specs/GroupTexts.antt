@@ -44,8 +44,14 @@ abbrev pub then_line : List PlacedLine → ℕ → List ℕ → Placed → List 
 then_line placed number text place =
     placed ++ record { line = line_of number text; place = place } ∷ []
 
--- the catalogue is that of these lines
-pub record IsCatalogueOf (lines : List Line) (catalogue : CatalogueParts) : Type 0 where
+-- the catalogue is that of these lines, in this form of their texts
+pub record IsCatalogueOfBy (Form : Level → List ℕ → List ℕ → Type 0)
+    (Share : Level → PlacedLine → PlacedLine → Type 0) (lines : List Line)
+    (catalogue : CatalogueParts) : Type 0 where
   pub placed : List PlacedLine
   pub are_lines : map (λ p. p.line) placed ≡ lines
-  pub whole : IsCatalogue placed catalogue
+  pub whole : IsCatalogueBy Form Share placed catalogue
+
+-- the catalogue is that of these lines
+abbrev pub IsCatalogueOf : List Line → CatalogueParts → Type 0
+IsCatalogueOf lines catalogue = IsCatalogueOfBy IsCanonicalOf ShareWhereSame lines catalogue

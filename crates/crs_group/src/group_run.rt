@@ -1,14 +1,16 @@
 ghost use Rattle.std.specs.Prelude.{◌≡◌, ◌≤◌, ◌↔◌, [], IfErr, IfOk, IsErrOf, OnOk, false, length, true};
 ghost use Rattle.crs_group.specs.GroupCutting.{IsCutTo};
-ghost use Rattle.crs_group.specs.GroupRun.{IsGroupFault, IsGrouped, IsReadingFault};
+ghost use Rattle.crs_group.specs.GroupRun.{IsGroupFault, IsGrouped, IsGroupedUnder, IsReadingFault};
 ghost use Rattle.crs_group.specs.GroupReading.{IsLedgerWhole, IsReadInto, WritesLedger, IsWritingFault};
 ghost use Rattle.crs_streams.specs.Streams.{fresh_sink, fresh_source};
 
+use crate::adding::{Adding, ByCanon, ByForm};
 use crate::group_cutter::Cutter;
 use crate::group_text::write_catalogue;
 use crate::ledger::Ledger;
 use crate::summary::Summary;
 use crate::{RunFault, Sink, Source};
+use crs_rules::Rules;
 use crs_streams::{MAX_READS, make_room};
 use crs_value::Level;
 use std::alloc::Global;
@@ -36,37 +38,61 @@ pub fn run_group<R: Read, W: Write>(
     ensures write_failed { IsErrOf result RunFault.WriteFailed ↔ (w.new.failed ≡ true) }
     ensures past_failure { w.new.past_failure ≡ false }
 {
-    let ledger = read_ledger(alloc, level, r)?;
+    let ledger = read_ledger(alloc, level, &ByCanon, r)?;
     write_ledger(alloc, &ledger, w)
 }
 
-// The ledger of all lines of a source.
-fn read_ledger<R: Read>(
+/// As `run_group`, under rules: lines are in one group exactly where their texts are the same under the rules. Profile.
+pub fn run_group_under<R: Read, W: Write>(
     alloc: Global,
     level: Level,
+    rules: &Rules,
+    r: &mut Source<R>,
+    w: &mut Sink<W>,
+) -> Result<Summary, RunFault>
+    requires source { r.old ≡ fresh_source r.old.remaining }
+    requires sink { w.old ≡ fresh_sink w.old.contents }
+    ensures answered { IfOk result (IsGroupedUnder rules.now level r.old r.new w.old w.new) }
+    ensures reads { r.new.reads ≤ 1048576 }
+    ensures past_end { r.new.past_end ≡ false }
+    ensures fault { IfErr result (IsGroupFault r.old r.new w.old w.new) }
+    ensures read_failed { IsErrOf result RunFault.ReadFailed ↔ (r.new.failed ≡ true) }
+    ensures write_failed { IsErrOf result RunFault.WriteFailed ↔ (w.new.failed ≡ true) }
+    ensures past_failure { w.new.past_failure ≡ false }
+{
+    let forms = read_ledger(alloc, level, &ByForm { rules }, r)?;
+    write_ledger(alloc, &forms, w)
+}
+
+// The ledger of all lines of a source.
+fn read_ledger<A: Adding, R: Read>(
+    alloc: Global,
+    level: Level,
+    adding: &A,
     source: &mut Source<R>,
 ) -> Result<Ledger, RunFault>
     requires { source.old ≡ fresh_source source.old.remaining }
-    ensures ok { IfOk result (IsLedgerWhole level source.old source.new) }
+    ensures ok { IfOk result (IsLedgerWhole (A.Form adding.now) (A.Share adding.now) level source.old source.new) }
     ensures reads { source.new.reads ≤ 1048576 }
     ensures past_end { source.new.past_end ≡ false }
     ensures err { IfErr result (IsReadingFault source.old source.new) }
 {
     let mut room = make_room(alloc).map_err(|_| RunFault::Memory)?;
     let mut cutter = Cutter::new(alloc, level);
-    read_into(&mut cutter, source, room.as_mut_slice())?;
-    cutter.finish().map_err(|_| RunFault::Memory)
+    read_into(adding, &mut cutter, source, room.as_mut_slice())?;
+    cutter.finish(adding).map_err(|_| RunFault::Memory)
 }
 
-fn read_into<R: Read>(
+fn read_into<A: Adding, R: Read>(
+    adding: &A,
     cutter: &mut Cutter,
     source: &mut Source<R>,
     room: &mut [u8],
 ) -> Result<(), RunFault>
     requires source { source.old ≡ fresh_source source.old.remaining }
-    requires cutter { IsCutTo [] cutter.old }
+    requires cutter { IsCutTo (A.Form adding.now) (A.Share adding.now) [] cutter.old }
     requires room { length room.old ≡ 65536 }
-    ensures ok { OnOk result (IsReadInto source.old source.new cutter.new) }
+    ensures ok { OnOk result (IsReadInto (A.Form adding.now) (A.Share adding.now) source.old source.new cutter.new) }
     ensures reads { source.new.reads ≤ 1048576 }
     ensures past_end { source.new.past_end ≡ false }
     ensures err { IfErr result (IsReadingFault source.old source.new) }
@@ -77,7 +103,7 @@ fn read_into<R: Read>(
         if count == 0 {
             return Ok(());
         }
-        cutter.take(&room[..count])?;
+        cutter.take(adding, &room[..count])?;
     }
     Err(RunFault::TooManyReads)
 }

@@ -1,7 +1,8 @@
 //! A catalogue of lines that are numbered as they come, and counted.
 ghost use Rattle.std.specs.Prelude.{◌≡◌, ◌+◌, ◌^◌, ◌<◌, ◌≤◌, ◌++◌, ◌∷◌, [], ℕ, List, OnOk, length};
-ghost use Rattle.crs_group.specs.GroupCutting.{IsLedgerOf, blank_count};
+ghost use Rattle.crs_group.specs.GroupCutting.{IsLedgerOf, blank_count, no_lines};
 
+use crate::adding::Adding;
 use crate::summary::Summary;
 use crate::{Catalogue, Placed};
 use crs_value::Level;
@@ -33,8 +34,7 @@ impl Model for Ledger {
 impl Ledger {
     // A ledger of no lines.
     pub(crate) fn new(alloc: Global, level: Level) -> Ledger
-        ensures texts { IsLedgerOf [] result }
-        ensures level { result.catalogue.level ≡ level }
+        ensures { result ≡ no_lines level }
     {
         Ledger {
             catalogue: Catalogue::new(alloc, level),
@@ -44,14 +44,15 @@ impl Ledger {
     }
 
     // The next line.
-    pub(crate) fn add(&mut self, text: &[u8]) -> Result<(), AllocError>
+    pub(crate) fn add<A: Adding>(&mut self, adding: &A, text: &[u8]) -> Result<(), AllocError>
         requires { self.old.lines + 1 < 2 ^ 64 }
-        ensures texts { OnOk result ((texts : List (List ℕ)) → IsLedgerOf texts self.old →
-            IsLedgerOf (texts ++ text.now ∷ []) self.new) }
+        ensures texts { OnOk result ((texts : List (List ℕ)) →
+            IsLedgerOf (A.Form adding.now) (A.Share adding.now) texts self.old →
+            IsLedgerOf (A.Form adding.now) (A.Share adding.now) (texts ++ text.now ∷ []) self.new) }
         ensures lines { OnOk result (self.new.lines ≡ self.old.lines + 1) }
         ensures level { self.new.catalogue.level ≡ self.old.catalogue.level }
     {
-        let placed = self.catalogue.add(self.lines + 1, text)?;
+        let placed = adding.add(&mut self.catalogue, self.lines + 1, text)?;
         self.lines += 1;
         self.blank += blank_count(placed);
         Ok(())

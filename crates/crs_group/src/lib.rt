@@ -2,6 +2,7 @@
 //! and refusals alone, or hand over a reader and a writer.
 #![tactic(auto)]
 
+mod adding;
 mod catalogue;
 mod group_cutter;
 mod group_run;
@@ -14,6 +15,6 @@ mod summary;
 
 pub use catalogue::{Catalogue, is_blank};
 pub use crs_streams::{RunFault, Sink, Source};
-pub use group_run::run_group;
+pub use group_run::{run_group, run_group_under};
 pub use placed::Placed;
 pub use summary::Summary;

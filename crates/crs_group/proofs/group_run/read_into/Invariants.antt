@@ -12,6 +12,7 @@ invariant-loop-turn g l =
       unended : l.source.ended ≡ false;
       within : l.source.past_end ≡ false;
       healthy : l.source.failed ≡ false;
-      cut : (bytes : List ℕ) × HasGiven l.fn.source l.source bytes × IsCutTo bytes l.cutter;
+      cut : (bytes : List ℕ) × HasGiven l.fn.source l.source bytes
+          × IsCutTo (g.A.Adding.Form l.fn.adding) (g.A.Adding.Share l.fn.adding) bytes l.cutter;
       level : l.cutter.ledger.catalogue.level ≡ l.fn.cutter.ledger.catalogue.level;
     }

@@ -40,7 +40,7 @@ returns-in-Err-clause-catalogue c =
 
 pub returns-then-is_blank-clause-lines : goal.returns-then-is_blank-clause-lines
 returns-then-is_blank-clause-lines c =
-    lines-added c.args.self.now c.args.self.now c.args.line c.args.text.now Blank
+    lines-added IsCanonicalOf ShareWhereSame c.args.self.now c.args.self.now c.args.line c.args.text.now Blank
     (returns-then-is_blank-clause-catalogue c)
 
 pub returns-in-Ok-clause-lines : goal.returns-in-Ok-clause-lines

@@ -3,14 +3,16 @@ use Rattle.crs_group.specs.GroupCutting.{IsCutTo}
 use Rattle.crs_group.proofs.group_cutter.Cutter.take.Given as goal
 
 abbrev pub invariant-loop-line : goal.invariant-loop-line
-invariant-loop-line l =
+invariant-loop-line g l =
     record {
       done : (front : List ℕ) × (l.fn.piece ≡ front ++ l.rest)
-          × ((bytes : List ℕ) → IsCutTo bytes l.fn.self → IsCutTo (bytes ++ front) l.self);
+          × ((bytes : List ℕ)
+          → IsCutTo (g.A.Adding.Form l.fn.adding) (g.A.Adding.Share l.fn.adding) bytes l.fn.self
+          → IsCutTo (g.A.Adding.Form l.fn.adding) (g.A.Adding.Share l.fn.adding) (bytes ++ front) l.self);
       lines : l.self.ledger.lines + length l.rest ≤ l.fn.self.ledger.lines + length l.fn.piece;
       small : length l.rest ≤ length l.fn.piece;
       level : l.self.ledger.catalogue.level ≡ l.fn.self.ledger.catalogue.level;
     }
 
 abbrev pub decreases-loop-line : goal.decreases-loop-line
-decreases-loop-line l = length l.rest
+decreases-loop-line g l = length l.rest
