@@ -4,8 +4,8 @@ use crs_suite::put_text;
 use std::alloc::{AllocError, Global};
 use std::str;
 
-/// The command that the words ask for, one a line, and its words in brackets, the level first, and after `files` the
-/// names; `no command` where the line is wrong.
+/// The command that the words ask for, one a line, and its words in brackets, the level first, after `files` the names,
+/// after `texts` the texts and after `rules` the names of rules files; `no command` where the line is wrong.
 pub fn put_request(out: &mut String, alloc: Global, input: &[u8]) -> Result<(), AllocError> {
     let Ok(line) = str::from_utf8(input) else {
         return out.push_str("no words");
@@ -36,6 +36,20 @@ pub fn put_asked(out: &mut String, asked: &Request) -> Result<(), AllocError> {
             put_task(out, task)?;
             out.push_str(" files")?;
             put_words(out, names.as_slice())
+        }
+        Request::FilesUnder(task, names, rules) => {
+            put_task(out, task)?;
+            out.push_str(" files")?;
+            put_words(out, names.as_slice())?;
+            out.push_str(" rules")?;
+            put_words(out, rules.as_slice())
+        }
+        Request::TextsUnder(task, texts, rules) => {
+            put_task(out, task)?;
+            out.push_str(" texts")?;
+            put_words(out, texts.as_slice())?;
+            out.push_str(" rules")?;
+            put_words(out, rules.as_slice())
         }
     }
 }

@@ -6,10 +6,8 @@ use Rattle.std.proofs.Math.Nat.{max-zero}
 use Rattle.std.specs.Io.KnownBytes.{Appends, Consumes}
 use Rattle.crs_streams.specs.LongLines.{EndsInFeed}
 use Rattle.crs_streams.specs.Streams.{SinkState, SourceState, fresh_sink, fresh_source}
-use Rattle.crs_group.specs.GroupOutput.{IsGroupOutput}
-use Rattle.crs_group.specs.GroupRun.{IsGrouped}
+use Rattle.crs_group.specs.GroupRun.{IsGroupedBy}
 use Rattle.crs_group.specs.declared.summary.Summary.{Summary}
-use Rattle.crs_value.specs.declared.values.level.Level.{Level}
 use Rattle.crs_streams.specs.declared.fault.RunFault.{RunFault}
 use Rattle.crs_streams.specs.declared.fault.RunFault.TheVariants.{ReadFailed, WriteFailed, TooLong, TooManyReads, Memory}
 use Rattle.crs_desk.specs.FileAnswers.{IsAnswerSent, IsFileFault, IsFileSent, IsFrontSent, IsNoWriteFault, NoFront, is_of_file}
@@ -17,6 +15,7 @@ use Rattle.crs_desk.specs.FilesRun.{AreFileOutputs, AreFilesAnswered, IsFileFron
 use Rattle.crs_desk.specs.declared.file_task.FileTask.{FileTask}
 use Rattle.crs_desk.specs.declared.file_task.FileTask.TheVariants as task
 use Rattle.crs_desk.specs.Output.{IsCanonOutput, IsCheckOutput}
+use Rattle.crs_desk.specs.RulesOutput.{IsFormOutput}
 use Rattle.crs_desk.specs.LineCutting.{IsHealthy}
 use Rattle.crs_desk.specs.LinesRun.{HasSentAll, IsFrontOutput, IsLineOutput, IsLinesAnswered, IsLinesFault, IsLinesOutput, Outputs}
 use Rattle.crs_desk.specs.Whole.{IsReadFault}
@@ -194,6 +193,9 @@ nothing-fronts task.Explain = refl
 nothing-fronts (task.Group level) = refl
 nothing-fronts (task.CanonLines level) = front-none (IsLineOutput (IsCanonOutput level))
 nothing-fronts task.CheckLines = front-none (IsLineOutput IsCheckOutput)
+nothing-fronts (task.Form level rules) = refl
+nothing-fronts (task.FormGroup level rules) = refl
+nothing-fronts (task.FormLines level rules) = front-none (IsLineOutput (IsFormOutput rules.now level))
 
 unopened-front : (asked : FileTask) (prefix : List ℕ) (known : Option (List ℕ)) → IsFileFront (IsTaskFront asked) prefix known []
 unopened-front asked prefix None = ([], [], tt, [], nothing-fronts asked, refl)
@@ -226,15 +228,15 @@ file-failed asked prefix left known before after Memory same is front = cc
 -- ---- groups
 
 -- the sink's bytes are those of a catalogue
-pub groups-held : (level : Level) (known : Option (List ℕ)) (old new : SourceState) (before after : SinkState) (summary : Summary)
+pub groups-held : (Output : List ℕ → List ℕ → Summary → Type 0) (known : Option (List ℕ)) (old new : SourceState) (before after : SinkState) (summary : Summary)
     (held : List ℕ) → old ≡ fresh_source known → before ≡ fresh_sink (Some []) → Some held ≡ after.contents
-    → IsGrouped level old new before after summary
-    → (bytes : List ℕ) × IfSome known (λ all. bytes ≡ all) × IsGroupOutput level bytes held summary
-groups-held level known old new before after summary held fresh none held-is grouped =
+    → IsGroupedBy Output old new before after summary
+    → (bytes : List ℕ) × IfSome known (λ all. bytes ≡ all) × Output bytes held summary
+groups-held Output known old new before after summary held fresh none held-is grouped =
     let sent : Appends (Some []) (Some held) grouped.written =
     subst (λ c. Appends (Some []) c grouped.written) (sym held-is)
     (subst (λ c. Appends c after.contents grouped.written) (ap (λ (s : SinkState). s.contents) none) grouped.is_sent) in (
       grouped.bytes,
       subst (λ left. IfSome left (λ all. grouped.bytes ≡ all)) (ap (λ (s : SourceState). s.remaining) fresh) grouped.is_whole.is_all,
-      subst (λ w. IsGroupOutput level grouped.bytes w summary) (sym sent) grouped.is_output,
+      subst (λ w. Output grouped.bytes w summary) (sym sent) grouped.is_output,
     )

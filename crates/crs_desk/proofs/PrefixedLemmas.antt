@@ -7,6 +7,8 @@ use Rattle.crs_desk.specs.LinesRun.{AreOutputs, IsLineOutput, IsLinesOutput, Out
 use Rattle.crs_text.specs.Refusal.{refused_text}
 use Rattle.crs_desk.specs.Output.{IsCanonOutput, IsCheckOutput, kind_word}
 use Rattle.crs_desk.specs.Prefixed.{IsPrefixed, prefixed, prefixed_from}
+use Rattle.crs_desk.specs.RulesOutput.{IsFormOutput}
+use Rattle.crs_rules.specs.Rules.{RulesParts}
 
 -- a byte further
 pub prefixed-step : (out prefix rest : List ℕ) (begins : Bool) (b : ℕ)
@@ -43,6 +45,11 @@ pub canon-ends : (level : Level) → Ends (IsCanonOutput level)
 unfolding Ends IsCanonOutput
 canon-ends level text line status (inl (canonical, of-text, is)) = (canonical, is.line)
 canon-ends level text line status (inr (refusal, of-text, is)) = (refused_text refusal.number refusal.place, is.line)
+
+pub form-ends : (rules : RulesParts) (level : Level) → Ends (IsFormOutput rules level)
+unfolding Ends IsFormOutput
+form-ends rules level text line status (inl (form, of-text, is)) = (form, is.line)
+form-ends rules level text line status (inr (refusal, of-text, is)) = (refused_text refusal.number refusal.place, is.line)
 
 pub check-ends : Ends IsCheckOutput
 unfolding Ends IsCheckOutput

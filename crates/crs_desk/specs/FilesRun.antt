@@ -4,7 +4,7 @@ use Rattle.std.specs.Prelude.{false, true, if◌then◌else◌}
 use Rattle.std.specs.Io.KnownBytes.{Appends}
 use Rattle.crs_value.specs.declared.values.level.Level.{Level}
 use Rattle.crs_explain.specs.Escaped.{escaped}
-use Rattle.crs_group.specs.GroupOutput.{IsGroupOutput}
+use Rattle.crs_group.specs.GroupOutput.{IsGroupOutput, IsGroupOutputUnder}
 use Rattle.crs_group.specs.declared.summary.Summary.{Summary}
 use Rattle.crs_streams.specs.Streams.{SinkState}
 use Rattle.crs_streams.specs.declared.fault.RunFault.{RunFault}
@@ -16,11 +16,13 @@ use Rattle.crs_desk.specs.ExplainOutput.{IsExplainOutput}
 use Rattle.crs_desk.specs.LinesRun.{IsFrontOutput, IsLineOutput, IsLinesOutput, Outputs}
 use Rattle.crs_desk.specs.Output.{IsCanonOutput, IsCheckOutput}
 use Rattle.crs_desk.specs.Prefixed.{IsPrefixed, prefixed}
+use Rattle.crs_desk.specs.RulesOutput.{IsFormOutput}
 
--- what `group` writes for some bytes; the status is 1 where a line was refused
-abbrev pub IsGroupedOutput : Level → Outputs
-IsGroupedOutput level bytes written status =
-    (summary : Summary) × IsGroupOutput level bytes written summary
+-- what `group` writes for some bytes, by what its run writes; the status is 1 where a line was
+-- refused
+abbrev pub IsGroupedOutput : (List ℕ → List ℕ → Summary → Type 0) → Outputs
+IsGroupedOutput Output bytes written status =
+    (summary : Summary) × Output bytes written summary
     × (status ≡ (if summary.refused == 0 then 0 else 1))
 
 -- what is written for all the bytes of a file, and the status
@@ -28,9 +30,13 @@ abbrev pub IsTaskOutput : FileTask → Outputs
 IsTaskOutput (task.Canon level) = IsCanonOutput level
 IsTaskOutput task.Check = IsCheckOutput
 IsTaskOutput task.Explain = IsExplainOutput
-IsTaskOutput (task.Group level) = IsGroupedOutput level
+IsTaskOutput (task.Group level) = IsGroupedOutput (IsGroupOutput level)
 IsTaskOutput (task.CanonLines level) = IsLinesOutput (IsLineOutput (IsCanonOutput level))
 IsTaskOutput task.CheckLines = IsLinesOutput (IsLineOutput IsCheckOutput)
+IsTaskOutput (task.Form level rules) = IsFormOutput rules.now level
+IsTaskOutput (task.FormGroup level rules) = IsGroupedOutput (IsGroupOutputUnder rules.now level)
+IsTaskOutput (task.FormLines level rules) =
+    IsLinesOutput (IsLineOutput (IsFormOutput rules.now level))
 
 -- what is written for the first bytes of a file of which no more can be read: the answers to whole
 -- lines where each line is a text, and else nothing
@@ -39,6 +45,8 @@ IsTaskFront (task.CanonLines level) bytes written =
     IsFrontOutput (IsLineOutput (IsCanonOutput level)) bytes false written
 IsTaskFront task.CheckLines bytes written =
     IsFrontOutput (IsLineOutput IsCheckOutput) bytes false written
+IsTaskFront (task.FormLines level rules) bytes written =
+    IsFrontOutput (IsLineOutput (IsFormOutput rules.now level)) bytes false written
 IsTaskFront other bytes written = written ≡ []
 
 -- what stands before each line of a file's answer: nothing where there is one file, else its name,

@@ -7,5 +7,6 @@ pub mod LinesRun
 pub mod Output
 pub mod Pieces
 pub mod Prefixed
+pub mod RulesOutput
 pub mod SameOutput
 pub mod Whole

@@ -151,7 +151,7 @@ impl Answer for PairAnswer<'_> {
 }
 
 // Explains a refusal, and of two CRSs all parts that differ.
-struct InFull;
+pub(crate) struct InFull;
 
 impl Telling for InFull {
     ghost use Rattle.crs_desk.specs.ExplainOutput.{ExplainsRefusalOf, ExplainsWhetherSame};

@@ -38,7 +38,7 @@ pub trait Inputs {
 /// The status is the greatest of all. `WriteFailed` where the sink has failed, `Memory` where memory ran out. Profile.
 pub fn run_files<I: Inputs, W: Write>(
     alloc: Global,
-    task: FileTask,
+    task: FileTask<'_>,
     names: &[LineWord],
     files: &I,
     w: &mut Sink<W>,
@@ -72,7 +72,7 @@ fn prefix_of(alloc: Global, names: &[LineWord], name: &LineWord) -> Result<Vec<u
 // Writes the answer of a file.
 fn answer_file<I: Inputs, W: Write>(
     alloc: Global,
-    task: FileTask,
+    task: FileTask<'_>,
     prefix: &[u8],
     name: &LineWord,
     files: &I,

@@ -3,6 +3,8 @@ ghost use Rattle.std.specs.Prelude.{◌≡◌, ◌⊎◌, ◌++◌, [], ℕ, Lis
 ghost use Rattle.crs_streams.specs.LongLines.{EndsInFeed};
 ghost use Rattle.crs_desk.specs.LinesRun.{IsLineOutput, IsLinesOutput};
 ghost use Rattle.crs_desk.specs.Output.{IsCanonOutput, IsCheckOutput};
+ghost use Rattle.crs_desk.specs.RulesOutput.{IsFormOutput};
+ghost use Rattle.crs_rules.specs.Rules.{RulesParts};
 ghost use Rattle.crs_value.specs.declared.values.level.Level.{Level};
 
 /// Lines may be worked on in parts: what is written for bytes that end in a line feed, and then for others, is what is
@@ -14,4 +16,8 @@ pub fn lines_joined()
     ensures check { (a b v w : List ℕ) (m n : ℕ) → (a ≡ []) ⊎ EndsInFeed a →
         IsLinesOutput (IsLineOutput IsCheckOutput) a v m → IsLinesOutput (IsLineOutput IsCheckOutput) b w n →
         IsLinesOutput (IsLineOutput IsCheckOutput) (a ++ b) (v ++ w) (max m n) }
+    ensures form { (rules : RulesParts) (level : Level) (a b v w : List ℕ) (m n : ℕ) → (a ≡ []) ⊎ EndsInFeed a →
+        IsLinesOutput (IsLineOutput (IsFormOutput rules level)) a v m →
+        IsLinesOutput (IsLineOutput (IsFormOutput rules level)) b w n →
+        IsLinesOutput (IsLineOutput (IsFormOutput rules level)) (a ++ b) (v ++ w) (max m n) }
 {}

@@ -6,9 +6,11 @@ use crate::answer::Answer;
 use crate::canon_run::CanonAnswer;
 use crate::check_run::CheckAnswer;
 use crate::explain_run::text_output;
-use crate::kind_of_text::found_in;
+use crate::kind_of_text::{found_in, refusal_in};
 use crate::prefixed::prefixed;
+use crate::print::{line_of, refused_line};
 use crs_group::is_blank;
+use crs_rules::{Rules, canon_under};
 use std::alloc::{AllocError, Global};
 
 // A command that answers a text by some bytes and a status.
@@ -36,6 +38,32 @@ impl TextCommand for CanonText {
             text,
         }
         .output(alloc)
+    }
+}
+
+// `canon` under rules, at this level.
+#[derive(Drop)]
+pub(crate) struct FormText<'r> {
+    pub(crate) level: Level,
+    pub(crate) rules: &'r Rules,
+}
+
+impl TextCommand for FormText<'_> {
+    ghost use Rattle.crs_desk.specs.RulesOutput.{IsFormOutput};
+
+    ghost Output = { λ s text written status. IsFormOutput s.rules.now s.level text written status };
+
+    fn output(&self, alloc: Global, text: &[u8]) -> Result<(Vec<u8>, u8), AllocError> {
+        match canon_under(alloc, text, self.level, self.rules) {
+            Ok(form) => {
+                let line = line_of(alloc, form.bytes())?;
+                Ok((line, 0))
+            }
+            Err(fault) => {
+                let line = refused_line(alloc, b"", refusal_in(fault)?)?;
+                Ok((line, 1))
+            }
+        }
     }
 }
 

@@ -57,7 +57,7 @@ impl Answer for SameAnswer<'_> {
 }
 
 // A refusal, and the first part in which two CRSs differ, are a line each.
-struct InALine;
+pub(crate) struct InALine;
 
 impl Telling for InALine {
     ghost use Rattle.crs_desk.specs.SameOutput.{WritesRefusalOf, WritesWhetherSame};

@@ -97,7 +97,7 @@ fn asks(alloc: Global, line: &[&str], command: &str, words: &[&str]) -> bool {
     }
 }
 
-// The last six variants are additions.
+// The last eight variants are additions.
 fn is_request(asked: &Request, command: &str, words: &[&str]) -> bool {
     match asked {
         Request::Canon(level) => command == "canon" && are_words(&[level], words),
@@ -111,7 +111,9 @@ fn is_request(asked: &Request, command: &str, words: &[&str]) -> bool {
         | Request::Explain(_)
         | Request::ExplainText(_, _)
         | Request::ExplainPair(_, _, _)
-        | Request::Files(_, _) => false,
+        | Request::Files(_, _)
+        | Request::FilesUnder(_, _, _)
+        | Request::TextsUnder(_, _, _) => false,
     }
 }
 

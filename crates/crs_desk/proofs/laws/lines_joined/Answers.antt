@@ -1,5 +1,6 @@
 use Rattle.crs_desk.specs.LinesRun.{IsLineOutput}
 use Rattle.crs_desk.specs.Output.{IsCanonOutput, IsCheckOutput}
+use Rattle.crs_desk.specs.RulesOutput.{IsFormOutput}
 use Rattle.crs_desk.proofs.LineOutputLemmas.{output-append}
 use Rattle.crs_desk.proofs.laws.lines_joined.Goals as goal
 
@@ -8,3 +9,6 @@ returns-clause-canon c level = output-append (IsLineOutput (IsCanonOutput level)
 
 pub returns-clause-check : goal.returns-clause-check
 returns-clause-check c = output-append (IsLineOutput IsCheckOutput)
+
+pub returns-clause-form : goal.returns-clause-form
+returns-clause-form c rules level = output-append (IsLineOutput (IsFormOutput rules level))

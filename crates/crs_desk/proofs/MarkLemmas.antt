@@ -1,0 +1,73 @@
+-- The lines of an explanation, one further.
+use Rattle.std.proofs.Common.{◌≡◌, ◌∙◌, ◌++◌, ◌∷◌, [], ℕ, List, Bool, true, false, not, ◌&&◌, ◌||◌, ap, append-nil, append_assoc, refl, sym}
+use Rattle.std.specs.Prelude.{◌==◌, if◌then◌else◌}
+use Rattle.std.specs.Str.{bytes_eq}
+use Rattle.crs_streams.specs.Lines.{HasNoFeed, IsSplit}
+use Rattle.crs_desk.specs.RulesOutput.{has_path, lines_after, lines_in, marked, marked_line, path_in}
+
+both : (a b : Bool) → (a && b) ≡ true → (a ≡ true) × (b ≡ true)
+both true b is = (refl, is)
+both false b is = cc
+
+is-false : (b : Bool) → not b ≡ true → b ≡ false
+is-false true none = cc
+is-false false none = refl
+
+-- a byte that is no line feed goes on with the line
+goes-on : (front bytes : List ℕ) (b : ℕ) → not (b == 10) ≡ true
+    → lines_after front (b ∷ bytes) ≡ lines_after (front ++ b ∷ []) bytes
+goes-on front bytes b none =
+    ap (λ t. if t then front ∷ lines_after [] bytes else lines_after (front ++ b ∷ []) bytes) (is-false (b == 10) none)
+
+no-feed-first : (b : ℕ) (bytes : List ℕ) → HasNoFeed (b ∷ bytes) → (not (b == 10) ≡ true) × HasNoFeed bytes
+no-feed-first b bytes none = both (not (b == 10)) _ none
+
+line-ends : (front line rest : List ℕ) → HasNoFeed line
+    → lines_after front (line ++ 10 ∷ rest) ≡ (front ++ line) ∷ lines_in rest
+line-ends front [] rest none = ap (λ l. l ∷ lines_in rest) (sym (append-nil front))
+line-ends front (b ∷ line) rest none =
+    let each = no-feed-first b line none in
+    goes-on front (line ++ 10 ∷ rest) b each.0
+    ∙ (line-ends (front ++ b ∷ []) line rest each.1 ∙ ap (λ l. l ∷ lines_in rest) (append_assoc front (b ∷ []) line))
+
+no-line : (front bytes : List ℕ) → HasNoFeed bytes → lines_after front bytes ≡ []
+no-line front [] none = refl
+no-line front (b ∷ bytes) none =
+    let each = no-feed-first b bytes none in
+    goes-on front bytes b each.0 ∙ no-line (front ++ b ∷ []) bytes each.1
+
+-- a first line, and those after it
+split-lines : (bytes line rest : List ℕ) → IsSplit bytes line rest → lines_in bytes ≡ line ∷ lines_in rest
+split-lines bytes line rest (is, none) = ap lines_in is ∙ line-ends [] line rest none
+
+-- ---- whether a line has a path
+
+path-first : (line : List ℕ) (lines : List (List ℕ)) (path : List ℕ) (b : Bool) → bytes_eq (path_in line) path ≡ b
+    → has_path (line ∷ lines) path ≡ (b || has_path lines path)
+path-first line lines path b is = ap (λ t. t || has_path lines path) is
+
+pub path_here : (bytes line rest path : List ℕ) → IsSplit bytes line rest → bytes_eq (path_in line) path ≡ true
+    → has_path (lines_in bytes) path ≡ true
+path_here bytes line rest path split is =
+    ap (λ ls. has_path ls path) (split-lines bytes line rest split) ∙ path-first line (lines_in rest) path true is
+
+pub path_further : (bytes line rest path : List ℕ) → IsSplit bytes line rest → bytes_eq (path_in line) path ≡ false
+    → has_path (lines_in bytes) path ≡ has_path (lines_in rest) path
+path_further bytes line rest path split is =
+    ap (λ ls. has_path ls path) (split-lines bytes line rest split) ∙ path-first line (lines_in rest) path false is
+
+pub path_nowhere : (bytes path : List ℕ) → HasNoFeed bytes → has_path (lines_in bytes) path ≡ false
+path_nowhere bytes path none = ap (λ ls. has_path ls path) (no-line [] bytes none)
+
+-- ---- what is appended
+
+pub marked_on : (new now : List ℕ) (others : List (List ℕ)) (bytes line rest : List ℕ) → new ≡ now ++ marked_line others line
+    → IsSplit bytes line rest → new ++ marked others (lines_in rest) ≡ now ++ marked others (lines_in bytes)
+marked_on new now others bytes line rest is split =
+    ap (λ l. l ++ marked others (lines_in rest)) is
+    ∙ (append_assoc now (marked_line others line) (marked others (lines_in rest))
+    ∙ ap (λ ls. now ++ marked others ls) (sym (split-lines bytes line rest split)))
+
+pub marked_all : (out : List ℕ) (others : List (List ℕ)) (bytes : List ℕ) → HasNoFeed bytes
+    → out ++ marked others (lines_in bytes) ≡ out
+marked_all out others bytes none = ap (λ ls. out ++ marked others ls) (no-line [] bytes none) ∙ append-nil out

@@ -1,0 +1,23 @@
+use Rattle.std.proofs.Common.{◌∙◌, ◌++◌, ◌∷◌, [], ap, inl, inr, refl}
+use Rattle.crs_desk.specs.RulesOutput.{IsFormOutput}
+use Rattle.crs_desk.proofs.JudgedLemmas.{refused-text}
+use Rattle.crs_desk.proofs.line_output.FormTextTextCommand.output.Goals as goal
+
+pub returns-in_ok-line-in-Ok : goal.returns-in_ok-line-in-Ok
+unfolding IsFormOutput
+returns-in_ok-line-in-Ok c =
+    inl (
+      c.in-Ok.form.bytes,
+      c.in-Ok.ensures.answer,
+      record {
+        line = c.in_ok-line-in-Ok.ensures ∙ ap (λ bytes. bytes ++ 10 ∷ []) c.bytes.ensures;
+        is_status = refl;
+      },
+    )
+
+pub returns-in_ok-line-in-Err : goal.returns-in_ok-line-in-Err
+unfolding IsFormOutput
+returns-in_ok-line-in-Err c =
+    let refused = refused-text c.args.text.now c.in-Err.fault c.in_ok-refusal_in-in-Err.field-0 c.in-Err.ensures.answer
+    c.in_ok-refusal_in-in-Err.ensures in
+    inr (c.in_ok-refusal_in-in-Err.field-0, refused, record { line = c.in_ok-line-in-Err.ensures; is_status = refl })

@@ -1,0 +1,20 @@
+use Rattle.std.proofs.Common.{inl}
+use Rattle.std.proofs.lemmas.Result.{IfOk-weaker}
+use Rattle.crs_desk.specs.ExplainOutput.{ExplainsRefusalOf}
+use Rattle.crs_desk.specs.RulesOutput.{IsExplainedUnder, IsPairUnder}
+use Rattle.crs_desk.proofs.FormsLemmas.{pair-formed}
+use Rattle.crs_desk.proofs.under_run.ExplainedFormsAnswer.output.Goals as goal
+
+pub returns-in-Ok : goal.returns-in-Ok
+returns-in-Ok c =
+    let self = c.args.self.now in
+    IfOk-weaker c.explained.result _ _
+    (λ output. pair-formed self.rules.now self.level ExplainsRefusalOf
+    (IsExplainedUnder self.level self.first.now self.second.now) self.first.now self.second.now
+    c.in-Ok.a c.in-Ok.b c.bytes.result.now c.bytes-2.result.now output.0.items output.1 c.in-Ok.ensures c.bytes.ensures
+    c.bytes-2.ensures)
+    c.explained.ensures
+
+pub returns-in-Err : goal.returns-in-Err
+unfolding IsPairUnder
+returns-in-Err c = inl c.in-Err.ensures
