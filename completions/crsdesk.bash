@@ -1,5 +1,5 @@
 # Completion of crsdesk's command line for bash. Words that are neither commands nor options nor levels are left to the
-# shell, which offers files: those of check, canon and group, and after --files of same and explain.
+# shell, which offers files: those of check, canon and group, after --files of same and explain, and after --rules.
 
 _crsdesk() {
     local word=${COMP_WORDS[COMP_CWORD]} before=${COMP_WORDS[COMP_CWORD - 1]} words=
@@ -18,9 +18,9 @@ _crsdesk() {
         ((COMP_CWORD == 2)) && words='canon check group same explain help'
     elif [[ $word == -* ]]; then
         case ${COMP_WORDS[1]} in
-        canon) words='--level --lines -h --help' ;;
-        group) words='--level -h --help' ;;
-        same | explain) words='--files --level -h --help' ;;
+        canon) words='--level --lines --rules -h --help' ;;
+        group) words='--level --rules -h --help' ;;
+        same | explain) words='--files --level --rules -h --help' ;;
         check) words='--lines -h --help' ;;
         esac
     fi

@@ -2,7 +2,7 @@
 # Completion of crsdesk's command line for zsh.
 
 _crsdesk() {
-    local -a commands level lines files help
+    local -a commands level rules lines files help
     commands=(
         'canon:write the canonical text'
         'check:tell what kind of CRS a text spells, or where it is refused'
@@ -12,6 +12,7 @@ _crsdesk() {
         'help:print help'
     )
     level=('--level=[what counts]:level:(full definition)')
+    rules=('*--rules=[compare under the rules of a file]:file:_files')
     lines=('--lines[take each line as a text]')
     files=('--files[take the operands as names of files]')
     help=('(- *)'{-h,--help}'[print help]')
@@ -25,10 +26,10 @@ _crsdesk() {
     shift words
     (( CURRENT-- ))
     case $command in
-        canon) _arguments $level $lines $help '*:file:_files' ;;
+        canon) _arguments $level $rules $lines $help '*:file:_files' ;;
         check) _arguments $lines $help '*:file:_files' ;;
-        group) _arguments $level $help '*:file:_files' ;;
-        same | explain) _arguments $files $level $help '1:first:_files' '2:second:_files' ;;
+        group) _arguments $level $rules $help '*:file:_files' ;;
+        same | explain) _arguments $files $level $rules $help '1:first:_files' '2:second:_files' ;;
         help) _describe command commands ;;
     esac
 }

@@ -7,6 +7,7 @@ mod input;
 mod output;
 mod runs;
 mod telling;
+mod under;
 
 use crs_desk::{FileTask, Level, LineWord, Request, RequestFault, RunFault, Task, request};
 use fault::Fault;
@@ -18,6 +19,7 @@ use std::alloc::{AllocError, Global};
 use std::process::ExitCode;
 use std::{env, io};
 use telling::tell_bad_words;
+use under::{files_under, texts_under};
 
 const FAULT: u8 = 2;
 
@@ -68,6 +70,12 @@ fn answer(rt: &HostRuntime, wanted: &Request) -> Result<u8, Fault> {
             explain_pair(rt, level_of(level)?, first, second)
         }
         Request::Files(task, names) => answer_files(rt, task, names.as_slice()),
+        Request::FilesUnder(task, names, rules) => {
+            files_under(rt, task, names.as_slice(), rules.as_slice())
+        }
+        Request::TextsUnder(task, texts, rules) => {
+            texts_under(rt, task, texts.as_slice(), rules.as_slice())
+        }
     }
 }
 
@@ -87,7 +95,7 @@ fn answer_files(rt: &HostRuntime, task: &Task, names: &[LineWord]) -> Result<u8,
     }
 }
 
-fn level_of(word: &LineWord) -> Result<Level, Fault> {
+pub(crate) fn level_of(word: &LineWord) -> Result<Level, Fault> {
     match word.as_str() {
         "full" => Ok(Level::Full),
         "definition" => Ok(Level::Definition),

@@ -90,7 +90,7 @@ pub fn explain(rt: &HostRuntime) -> Result<u8, Fault> {
 }
 
 /// What is asked of each of these files.
-pub fn files(rt: &HostRuntime, task: FileTask, names: &[LineWord]) -> Result<u8, Fault> {
+pub fn files(rt: &HostRuntime, task: FileTask<'_>, names: &[LineWord]) -> Result<u8, Fault> {
     let mut output = Output::new(rt);
     let answer = run_files(
         rt.alloc(),
@@ -154,8 +154,8 @@ fn explain_texts(rt: &HostRuntime, level: Level, a: &[u8], b: &[u8]) -> Result<u
     written(answer, &output)
 }
 
-// The texts of two files: a request for two names two. The faults of both are told.
-fn two_texts(rt: &HostRuntime, names: &[LineWord]) -> Result<(Vec<u8>, Vec<u8>), Fault> {
+/// The texts of two files: a request for two names two. The faults of both are told.
+pub fn two_texts(rt: &HostRuntime, names: &[LineWord]) -> Result<(Vec<u8>, Vec<u8>), Fault> {
     let (Some(first), Some(second)) = (names.first(), names.get(1)) else {
         return Err(Fault::Told);
     };
@@ -164,7 +164,8 @@ fn two_texts(rt: &HostRuntime, names: &[LineWord]) -> Result<(Vec<u8>, Vec<u8>),
     Ok((first?, second?))
 }
 
-fn file_text(rt: &HostRuntime, name: &str) -> Result<Vec<u8>, Fault> {
+/// The text of a file. Its fault is told.
+pub fn file_text(rt: &HostRuntime, name: &str) -> Result<Vec<u8>, Fault> {
     let mut input = match Input::open(rt, name) {
         Ok(input) => input,
         Err(error) => {
@@ -191,8 +192,8 @@ fn answered(answer: Result<u8, RunFault>, input: &Input, output: &Output) -> Res
     }
 }
 
-// The answer of a run over standard output.
-fn written(answer: Result<u8, RunFault>, output: &Output) -> Result<u8, Fault> {
+/// The answer of a run over standard output.
+pub fn written(answer: Result<u8, RunFault>, output: &Output) -> Result<u8, Fault> {
     match (answer, output.failure()) {
         (Err(RunFault::WriteFailed), Some(error)) => {
             if output.is_closed() {
@@ -204,9 +205,9 @@ fn written(answer: Result<u8, RunFault>, output: &Output) -> Result<u8, Fault> {
     }
 }
 
-// The text that a word is. A word without an opening delimiter is no text. Where it names a file, the user most likely
-// meant that file's text.
-fn text_of<'w>(rt: &HostRuntime, word: &'w LineWord) -> &'w [u8] {
+/// The text that a word is. A word without an opening delimiter is no text. Where it names a file, the user most likely
+/// meant that file's text.
+pub fn text_of<'w>(rt: &HostRuntime, word: &'w LineWord) -> &'w [u8] {
     let name = word.as_str();
     if !name.contains(['[', '(']) && Path::new(name).is_file(rt) {
         tell_of(rt, name, "this is a file; with --files its text is read");

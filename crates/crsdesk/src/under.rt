@@ -1,0 +1,113 @@
+//! The commands under rules, of which the files are read first.
+use crate::fault::Fault;
+use crate::level_of;
+use crate::output::Output;
+use crate::runs::{explain_text, file_text, files, text_of, two_texts, written};
+use crate::telling::tell_refused;
+use crs_desk::{
+    FileTask, Level, LineWord, Rules, RulesFault, RulesReader, RunFault, Sink, Task,
+    run_explain_pair_under, run_same_under,
+};
+
+/// What is asked of files under the rules of others. The level is judged before anything is read.
+pub fn files_under(
+    rt: &HostRuntime,
+    task: &Task,
+    names: &[LineWord],
+    rules: &[LineWord],
+) -> Result<u8, Fault> {
+    let level = task_level(task)?;
+    let rules = rules_of(rt, rules)?;
+    match task {
+        Task::Canon(_) => files(rt, FileTask::Form(level, &rules), names),
+        Task::Check => files(rt, FileTask::Check, names),
+        Task::Group(_) => files(rt, FileTask::FormGroup(level, &rules), names),
+        Task::CanonLines(_) => files(rt, FileTask::FormLines(level, &rules), names),
+        Task::CheckLines => files(rt, FileTask::CheckLines, names),
+        Task::Explain(_) => files(rt, FileTask::Explain, names),
+        Task::Same(_) => {
+            let (first, second) = two_texts(rt, names)?;
+            same_texts(rt, level, &rules, &first, &second)
+        }
+        Task::ExplainPair(_) => {
+            let (first, second) = two_texts(rt, names)?;
+            explain_texts(rt, level, &rules, &first, &second)
+        }
+    }
+}
+
+/// What is asked of texts under the rules of files. The level is judged before anything is read.
+pub fn texts_under(
+    rt: &HostRuntime,
+    task: &Task,
+    texts: &[LineWord],
+    rules: &[LineWord],
+) -> Result<u8, Fault> {
+    let level = task_level(task)?;
+    let rules = rules_of(rt, rules)?;
+    match (texts.first(), texts.get(1)) {
+        (Some(first), Some(second)) => {
+            let (a, b) = (text_of(rt, first), text_of(rt, second));
+            match task {
+                Task::Same(_) => same_texts(rt, level, &rules, a, b),
+                _ => explain_texts(rt, level, &rules, a, b),
+            }
+        }
+        (Some(text), None) => explain_text(rt, text),
+        _ => Err(Fault::Told),
+    }
+}
+
+fn task_level(task: &Task) -> Result<Level, Fault> {
+    match task {
+        Task::Canon(level) => level_of(level),
+        Task::Group(level) => level_of(level),
+        Task::CanonLines(level) => level_of(level),
+        Task::Explain(level) => level_of(level),
+        Task::Same(level) => level_of(level),
+        Task::ExplainPair(level) => level_of(level),
+        Task::Check | Task::CheckLines => Ok(Level::Full),
+    }
+}
+
+// The rules of these files together. The fault of the first that has one is told.
+fn rules_of(rt: &HostRuntime, names: &[LineWord]) -> Result<Rules, Fault> {
+    let mut reader = RulesReader::new(rt.alloc());
+    for name in names {
+        let text = file_text(rt, name.as_str())?;
+        match reader.read(rt.alloc(), &text) {
+            Ok(()) => {}
+            Err(RulesFault::Refused(refusal)) => {
+                tell_refused(rt, name.as_str(), &refusal);
+                return Err(Fault::Told);
+            }
+            Err(RulesFault::Memory(_)) => return Err(Fault::Run(RunFault::Memory)),
+        }
+    }
+    Ok(reader.into_rules())
+}
+
+fn same_texts(
+    rt: &HostRuntime,
+    level: Level,
+    rules: &Rules,
+    a: &[u8],
+    b: &[u8],
+) -> Result<u8, Fault> {
+    let mut output = Output::new(rt);
+    let answer = run_same_under(rt.alloc(), level, rules, a, b, &mut Sink::new(&mut output));
+    written(answer, &output)
+}
+
+fn explain_texts(
+    rt: &HostRuntime,
+    level: Level,
+    rules: &Rules,
+    a: &[u8],
+    b: &[u8],
+) -> Result<u8, Fault> {
+    let mut output = Output::new(rt);
+    let answer =
+        run_explain_pair_under(rt.alloc(), level, rules, a, b, &mut Sink::new(&mut output));
+    written(answer, &output)
+}
