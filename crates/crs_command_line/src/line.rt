@@ -52,7 +52,7 @@ const LEVEL_HELP: &str =
 
 // What help says of the option `--rules`.
 const RULES_HELP: &str =
-    "Compares under the rules of a file, which say what counts as the same; more than once";
+    "Compares under the rules of a file; given more than once, of all of them";
 
 // The name of standard input among those of files.
 const STANDARD: &str = "-";
