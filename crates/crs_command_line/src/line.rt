@@ -51,8 +51,7 @@ const LEVEL_HELP: &str =
     "What counts: full, or definition, without identifiers, usages and remarks [default: full]";
 
 // What help says of the option `--rules`.
-const RULES_HELP: &str =
-    "Compares under the rules of a file; given more than once, of all of them";
+const RULES_HELP: &str = "Compares under the rules of a file; given more than once, of all of them";
 
 // The name of standard input among those of files.
 const STANDARD: &str = "-";

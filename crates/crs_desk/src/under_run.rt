@@ -84,7 +84,15 @@ impl Answer for SameForms<'_> {
         IsSameUnderOutput s.rules.now s.level s.first.now s.second.now written status };
 
     fn output(&self, alloc: Global) -> Result<(Vec<u8>, u8), AllocError> {
-        match forms_of(alloc, &InALine, self.level, self.rules, self.first, self.second)? {
+        let found = forms_of(
+            alloc,
+            &InALine,
+            self.level,
+            self.rules,
+            self.first,
+            self.second,
+        )?;
+        match found {
             Ok((a, b)) => pair_output(alloc, &InALine, self.level, a.bytes(), b.bytes()),
             Err(output) => Ok(output),
         }
@@ -107,7 +115,15 @@ impl Answer for ExplainedForms<'_> {
         IsExplainUnderOutput s.rules.now s.level s.first.now s.second.now written status };
 
     fn output(&self, alloc: Global) -> Result<(Vec<u8>, u8), AllocError> {
-        match forms_of(alloc, &InFull, self.level, self.rules, self.first, self.second)? {
+        let found = forms_of(
+            alloc,
+            &InFull,
+            self.level,
+            self.rules,
+            self.first,
+            self.second,
+        )?;
+        match found {
             Ok((a, b)) => explained(
                 alloc,
                 self.level,

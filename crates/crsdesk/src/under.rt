@@ -107,7 +107,13 @@ fn explain_texts(
     b: &[u8],
 ) -> Result<u8, Fault> {
     let mut output = Output::new(rt);
-    let answer =
-        run_explain_pair_under(rt.alloc(), level, rules, a, b, &mut Sink::new(&mut output));
+    let answer = run_explain_pair_under(
+        rt.alloc(),
+        level,
+        rules,
+        a,
+        b,
+        &mut Sink::new(&mut output),
+    );
     written(answer, &output)
 }
