@@ -30,7 +30,8 @@ impl Model for Cutter {
 
 impl Cutter {
     pub(crate) fn new(alloc: Global, level: Level) -> Cutter
-        ensures { result ≡ record { ledger = no_lines level; partial = [] } }
+        ensures empty { result ≡ record { ledger = no_lines level; partial = [] } }
+        ensures level { result.ledger.catalogue.level ≡ level }
     {
         Cutter {
             ledger: Ledger::new(alloc, level),
