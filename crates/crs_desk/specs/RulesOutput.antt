@@ -75,7 +75,7 @@ abbrev pub marked : List (List ℕ) → List (List ℕ) → List ℕ
 marked others lines = flat_map (marked_line others) lines
 
 -- what `explain` writes for the forms of two texts: what it writes for them without rules, and then,
--- marked, what it writes without rules for the texts and of which no part of the forms is left
+-- after a mark, each line that it writes for the texts and whose path no line for the forms has
 abbrev pub IsExplainedUnder : Level → List ℕ → List ℕ → List ℕ → List ℕ → List ℕ → ℕ → Type 0
 IsExplainedUnder level first second a b written status =
     (under : List ℕ) × (plain : List ℕ) × (other : ℕ)
