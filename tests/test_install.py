@@ -226,6 +226,7 @@ def test_completion(prefix: pathlib.Path) -> None:
     for words in (["--level", ""], ["--level", "="], ["--level", "=", ""]):
         assert offered("group", *words) == {"full", "definition"}, "levels"
     assert offered("group", "--level", "=", "d") == {"definition"}, "a level"
+    assert offered("group", "--rules", "f") == set(), "a rules file is left to the shell"
 
 
 @pytest.mark.needs("zsh")
