@@ -1,4 +1,4 @@
-use Rattle.std.proofs.Common.{inl}
+use Rattle.std.proofs.Common.{codes, inl}
 use Rattle.std.proofs.lemmas.Result.{IfOk-weaker}
 use Rattle.crs_desk.proofs.FormsLemmas.{second-formed}
 use Rattle.crs_desk.proofs.JudgedLemmas.{refused-text}
@@ -6,9 +6,11 @@ use Rattle.crs_desk.proofs.forms.forms_of.Goals as goal
 
 pub returns-in-Ok : goal.returns-in-Ok
 returns-in-Ok g c =
+    let Refused = g.T.Telling.Refused c.args.told.now in
     IfOk-weaker c.second_form.result _ _
-    (λ found. second-formed (λ bytes. bytes.items) c.args.rules.now c.args.level (g.T.Telling.Refused c.args.told.now)
-    c.in-Ok.form c.args.first.now c.args.second.now c.in-Ok.ensures.answer found)
+    (λ found. second-formed found c.args.rules.now c.args.level c.in-Ok.form c.args.first.now c.args.second.now
+    (λ output. Refused (codes "first ") c.args.first.now output.0.items output.1)
+    (λ output. Refused (codes "second ") c.args.second.now output.0.items output.1) c.in-Ok.ensures.answer)
     c.second_form.ensures
 
 pub refusal-requires : goal.refusal-requires
