@@ -127,8 +127,10 @@ impl Answer for ExplainedForms<'_> {
             Ok((a, b)) => explained(
                 alloc,
                 self.level,
-                (self.first, self.second),
-                (a.bytes(), b.bytes()),
+                self.first,
+                self.second,
+                a.bytes(),
+                b.bytes(),
             ),
             Err(output) => Ok(output),
         }
@@ -139,14 +141,16 @@ impl Answer for ExplainedForms<'_> {
 fn explained(
     alloc: Global,
     level: Level,
-    texts: (&[u8], &[u8]),
-    forms: (&[u8], &[u8]),
+    first: &[u8],
+    second: &[u8],
+    a: &[u8],
+    b: &[u8],
 ) -> Result<(Vec<u8>, u8), AllocError>
-    ensures { IfOk result (λ output. IsExplainedUnder level texts.0.now texts.1.now forms.0.now forms.1.now
+    ensures { IfOk result (λ output. IsExplainedUnder level first.now second.now a.now b.now
         output.0.items output.1) }
 {
-    let (under, status) = pair_output(alloc, &InFull, level, forms.0, forms.1)?;
-    let (plain, _status) = pair_output(alloc, &InFull, level, texts.0, texts.1)?;
+    let (under, status) = pair_output(alloc, &InFull, level, a, b)?;
+    let (plain, _status) = pair_output(alloc, &InFull, level, first, second)?;
     let mut lines = Vec::from_slice(alloc, &under)?;
     append_marked(&mut lines, &under, &plain)?;
     Ok((lines, status))
