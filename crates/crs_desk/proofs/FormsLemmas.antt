@@ -2,7 +2,7 @@
 use Rattle.std.proofs.Common.{◌≡◌, ◌⊎◌, ℕ, List, Result, Ok, Err, inr, subst, sym}
 use Rattle.std.specs.Prelude.{MatchResult}
 use Rattle.crs_value.specs.declared.values.level.Level.{Level}
-use Rattle.crs_canon.specs.Canonical.{CanonicalText}
+use Rattle.crs_writer.specs.Canonical.{CanonicalText}
 use Rattle.crs_rules.specs.Rules.{RulesParts}
 use Rattle.crs_rules.specs.Under.{IsForm}
 use Rattle.crs_desk.specs.RulesOutput.{IsPairUnder, Refusals}

@@ -3,7 +3,7 @@ use Rattle.std.specs.Prelude.{◌≡◌, ◌+◌, ◌++◌, ◌∷◌, [], ℕ, 
 use Rattle.std.specs.List.{flat_map}
 use Rattle.crs_text.specs.Refusal.{RefusedAt, refused_text}
 use Rattle.crs_value.specs.declared.values.level.Level.{Level}
-use Rattle.crs_canon.specs.Canonical.{IsCanonicalOf}
+use Rattle.crs_writer.specs.Canonical.{IsCanonicalOf}
 use Rattle.crs_rules.specs.Rules.{RulesParts}
 use Rattle.crs_rules.specs.Under.{IsForm}
 use Rattle.crs_group.specs.Catalogue.{CatalogueParts, GroupParts, Line, line_of}

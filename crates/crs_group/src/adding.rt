@@ -28,7 +28,7 @@ pub(crate) trait Adding {
 pub(crate) struct ByCanon;
 
 impl Adding for ByCanon {
-    ghost use Rattle.crs_canon.specs.Canonical.{IsCanonicalOf};
+    ghost use Rattle.crs_writer.specs.Canonical.{IsCanonicalOf};
     ghost use Rattle.crs_group.specs.Partition.{ShareWhereSame};
 
     ghost Form = { λ s level text bytes. IsCanonicalOf level text bytes };
