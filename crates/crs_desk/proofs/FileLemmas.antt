@@ -10,7 +10,7 @@ use Rattle.crs_group.specs.GroupRun.{IsGroupedBy}
 use Rattle.crs_group.specs.declared.summary.Summary.{Summary}
 use Rattle.crs_streams.specs.declared.fault.RunFault.{RunFault}
 use Rattle.crs_streams.specs.declared.fault.RunFault.TheVariants.{ReadFailed, WriteFailed, TooLong, TooManyReads, Memory}
-use Rattle.crs_desk.specs.FileAnswers.{IsAnswerSent, IsFileFault, IsFileSent, IsFrontSent, IsNoWriteFault, NoFront, is_of_file}
+use Rattle.crs_desk.specs.FileAnswers.{Ends, IsAnswerSent, IsFileFault, IsFileSent, IsFrontSent, IsNoWriteFault, NoFront, is_of_file}
 use Rattle.crs_desk.specs.FilesRun.{AreFileOutputs, AreFilesAnswered, IsFileFront, IsFileOutput, IsTaskFront, name_prefix}
 use Rattle.crs_desk.specs.declared.file_task.FileTask.{FileTask}
 use Rattle.crs_desk.specs.declared.file_task.FileTask.TheVariants as task
@@ -19,7 +19,7 @@ use Rattle.crs_desk.specs.RulesOutput.{IsFormOutput}
 use Rattle.crs_desk.specs.LineCutting.{IsHealthy}
 use Rattle.crs_desk.specs.LinesRun.{HasSentAll, IsFrontOutput, IsLineOutput, IsLinesAnswered, IsLinesFault, IsLinesOutput, Outputs}
 use Rattle.crs_desk.specs.Whole.{IsReadFault}
-use Rattle.crs_desk.proofs.PrefixedLemmas.{Ends, PrefixedOutputs, lines-plain}
+use Rattle.crs_desk.proofs.PrefixedLemmas.{PrefixedOutputs, lines-plain}
 
 pub appends-none : (contents : Option (List ℕ)) → Appends contents contents []
 appends-none None = tt

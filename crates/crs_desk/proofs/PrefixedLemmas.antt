@@ -1,8 +1,8 @@
 -- Lines after a prefix, one after another.
 use Rattle.std.proofs.Common.{◌≡◌, ◌∙◌, ◌++◌, ◌∷◌, [], ℕ, List, Bool, true, false, ap, ap₂, append_assoc, inl, inr, refl, sym}
 use Rattle.std.specs.Prelude.{◌==◌, codes, if◌then◌else◌}
-use Rattle.crs_streams.specs.LongLines.{EndsInFeed}
 use Rattle.crs_value.specs.declared.values.level.Level.{Level}
+use Rattle.crs_desk.specs.FileAnswers.{Ends}
 use Rattle.crs_desk.specs.LinesRun.{AreOutputs, IsLineOutput, IsLinesOutput, Outputs}
 use Rattle.crs_text.specs.Refusal.{refused_text}
 use Rattle.crs_desk.specs.Output.{IsCanonOutput, IsCheckOutput, kind_word}
@@ -36,10 +36,6 @@ pub no-prefix : (begins : Bool) (bytes : List ℕ) → prefixed_from begins [] b
 no-prefix begins [] = refl
 no-prefix true (b ∷ bytes) = ap (λ l. b ∷ l) (no-prefix (b == 10) bytes)
 no-prefix false (b ∷ bytes) = ap (λ l. b ∷ l) (no-prefix (b == 10) bytes)
-
--- all that is written ends in a line feed
-pub Ends : Outputs → Type 0
-Ends Output = (text line : List ℕ) (status : ℕ) → Output text line status → EndsInFeed line
 
 pub canon-ends : (level : Level) → Ends (IsCanonOutput level)
 unfolding Ends IsCanonOutput

@@ -1,6 +1,7 @@
 -- A bridge: the answer for one file, or the fault with which it ends.
 use Rattle.std.specs.Prelude.{◌≡◌, [], ℕ, List, Bool, Option, true, false}
 use Rattle.std.specs.Io.KnownBytes.{Appends}
+use Rattle.crs_streams.specs.LongLines.{EndsInFeed}
 use Rattle.crs_streams.specs.Streams.{SinkState}
 use Rattle.crs_streams.specs.declared.fault.RunFault.{RunFault}
 use Rattle.crs_streams.specs.declared.fault.RunFault.TheVariants.{ReadFailed, WriteFailed, TooLong}
@@ -9,6 +10,11 @@ use Rattle.crs_desk.specs.FilesRun.{IsFileAnswer, IsFileFront, IsFileOutput}
 use Rattle.crs_desk.specs.LineCutting.{IsHealthy}
 use Rattle.crs_desk.specs.LinesRun.{Outputs}
 use Rattle.crs_desk.specs.declared.file_task.FileTask.{FileTask}
+
+-- all that is written ends in a line feed
+unfoldable pub Ends : Outputs → Type 0
+Ends Output =
+    (text line : List ℕ) (status : ℕ) → Output text line status → EndsInFeed line
 
 -- nothing is written for a file that fails
 abbrev pub NoFront : List ℕ → List ℕ → Type 0

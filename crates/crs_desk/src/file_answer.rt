@@ -1,25 +1,22 @@
 //! The answer for one file.
 ghost use Rattle.std.specs.Prelude.{◌≡◌, ◌==◌, ℕ, List, IfErr, IfOk, IfSome, OnOk, false, if◌then◌else◌};
 ghost use Rattle.std.specs.Io.KnownBytes.{Appends};
-ghost use Rattle.crs_desk.specs.FileAnswers.{IsAnswerSent, IsFileFault, IsNoWriteFault, IsSendFault, NoFront};
+ghost use Rattle.crs_desk.specs.FileAnswers.{Ends, IsAnswerSent, IsFileFault, IsNoWriteFault, IsSendFault, NoFront};
 ghost use Rattle.crs_desk.specs.FilesRun.{IsGroupedOutput, IsTaskFront, IsTaskOutput};
 ghost use Rattle.crs_desk.specs.LineCutting.{IsHealthy};
 ghost use Rattle.crs_desk.specs.LinesRun.{IsFrontOutput, IsLineOutput, IsLinesOutput};
-ghost use Rattle.crs_desk.specs.Output.{IsCanonOutput, IsCheckOutput};
 ghost use Rattle.crs_desk.specs.Prefixed.{prefixed};
-ghost use Rattle.crs_desk.specs.RulesOutput.{IsFormOutput};
-ghost use Rattle.crs_group.specs.GroupOutput.{IsGroupOutput, IsGroupOutputUnder};
 
 use crate::file_task::FileTask;
+use crate::grouping::{FormGroups, Grouping, Groups};
 use crate::line_output::{
     CanonText, CheckText, ExplainText, FormText, OfLine, Prefixed, TextCommand,
 };
 use crate::lines_run::run_lines;
 use crate::prefixed::prefixed;
 use crate::text::read_text;
-use crate::{Filling, Level, RunFault, Sink, Source, Stream};
-use crs_group::{Summary, run_group, run_group_under};
-use crs_rules::Rules;
+use crate::{Filling, RunFault, Sink, Source, Stream};
+use crs_group::Summary;
 use std::alloc::Global;
 use std::io::{Read, Write};
 
@@ -39,17 +36,19 @@ pub(crate) fn answer_input<R: Read + Drop, W: Write>(
         FileTask::Canon(level) => answer_text(alloc, &CanonText { level }, prefix, reader, sink),
         FileTask::Check => answer_text(alloc, &CheckText, prefix, reader, sink),
         FileTask::Explain => answer_text(alloc, &ExplainText, prefix, reader, sink),
-        FileTask::Group(level) => answer_group(alloc, level, prefix, reader, sink),
-        FileTask::CanonLines(level) => answer_canon_lines(alloc, level, prefix, reader, sink),
-        FileTask::CheckLines => answer_check_lines(alloc, prefix, reader, sink),
+        FileTask::Group(level) => answer_group(alloc, &Groups { level }, prefix, reader, sink),
+        FileTask::CanonLines(level) => {
+            answer_lines(alloc, CanonText { level }, prefix, reader, sink)
+        }
+        FileTask::CheckLines => answer_lines(alloc, CheckText, prefix, reader, sink),
         FileTask::Form(level, rules) => {
             answer_text(alloc, &FormText { level, rules }, prefix, reader, sink)
         }
         FileTask::FormGroup(level, rules) => {
-            answer_form_group(alloc, level, rules, prefix, reader, sink)
+            answer_group(alloc, &FormGroups { level, rules }, prefix, reader, sink)
         }
         FileTask::FormLines(level, rules) => {
-            answer_form_lines(alloc, level, rules, prefix, reader, sink)
+            answer_lines(alloc, FormText { level, rules }, prefix, reader, sink)
         }
     }
 }
@@ -73,74 +72,36 @@ fn answer_text<C: TextCommand, R: Read + Drop, W: Write>(
 }
 
 // The groups of the lines.
-fn answer_group<R: Read + Drop, W: Write>(
+fn answer_group<G: Grouping, R: Read + Drop, W: Write>(
     alloc: Global,
-    level: Level,
+    grouping: &G,
     prefix: &[u8],
     reader: R,
     sink: &mut Sink<W>,
 ) -> Result<u8, RunFault>
     requires { IsHealthy sink.old }
-    ensures answered { IfOk result (IsAnswerSent (IsGroupedOutput (IsGroupOutput level)) prefix.now (R.remaining reader) sink.old sink.new) }
-    ensures fault { IfErr result (IsFileFault NoFront prefix.now (R.remaining reader) sink.old sink.new) }
-{
-    let (plain, status) = grouped(alloc, level, reader)?;
-    send(alloc, prefix, &plain, sink)?;
-    Ok(status)
-}
-
-// What `group` writes for all that a reader gives, and the status.
-fn grouped<R: Read + Drop>(
-    alloc: Global,
-    level: Level,
-    reader: R,
-) -> Result<(Vec<u8>, u8), RunFault>
-    ensures grouped { IfOk result (λ output. (bytes : List ℕ) × IfSome (R.remaining reader) (λ all. bytes ≡ all)
-        × IsGroupedOutput (IsGroupOutput level) bytes output.0.items output.1) }
-    ensures fault { IfErr result IsNoWriteFault }
-{
-    let mut source = Source::new(Filling::new(reader));
-    let mut sink = Sink::new(Vec::new(alloc));
-    match run_group(alloc, level, &mut source, &mut sink) {
-        Ok(summary) => Ok((sink.into_inner(), status_of(&summary))),
-        Err(RunFault::WriteFailed) => Err(RunFault::Memory),
-        Err(fault) => Err(fault),
-    }
-}
-
-// The groups of the lines under rules.
-fn answer_form_group<R: Read + Drop, W: Write>(
-    alloc: Global,
-    level: Level,
-    rules: &Rules,
-    prefix: &[u8],
-    reader: R,
-    sink: &mut Sink<W>,
-) -> Result<u8, RunFault>
-    requires { IsHealthy sink.old }
-    ensures answered { IfOk result (IsAnswerSent (IsGroupedOutput (IsGroupOutputUnder rules.now level)) prefix.now
+    ensures answered { IfOk result (IsAnswerSent (IsGroupedOutput (G.Output grouping.now)) prefix.now
         (R.remaining reader) sink.old sink.new) }
     ensures fault { IfErr result (IsFileFault NoFront prefix.now (R.remaining reader) sink.old sink.new) }
 {
-    let (plain, status) = grouped_under(alloc, level, rules, reader)?;
+    let (plain, status) = grouped(alloc, grouping, reader)?;
     send(alloc, prefix, &plain, sink)?;
     Ok(status)
 }
 
-// What `group` writes under rules for all that a reader gives, and the status.
-fn grouped_under<R: Read + Drop>(
+// What is written for the groups of all that a reader gives, and the status.
+fn grouped<G: Grouping, R: Read + Drop>(
     alloc: Global,
-    level: Level,
-    rules: &Rules,
+    grouping: &G,
     reader: R,
 ) -> Result<(Vec<u8>, u8), RunFault>
     ensures grouped { IfOk result (λ output. (bytes : List ℕ) × IfSome (R.remaining reader) (λ all. bytes ≡ all)
-        × IsGroupedOutput (IsGroupOutputUnder rules.now level) bytes output.0.items output.1) }
+        × IsGroupedOutput (G.Output grouping.now) bytes output.0.items output.1) }
     ensures fault { IfErr result IsNoWriteFault }
 {
     let mut source = Source::new(Filling::new(reader));
     let mut sink = Sink::new(Vec::new(alloc));
-    match run_group_under(alloc, level, rules, &mut source, &mut sink) {
+    match grouping.run(alloc, &mut source, &mut sink) {
         Ok(summary) => Ok((sink.into_inner(), status_of(&summary))),
         Err(RunFault::WriteFailed) => Err(RunFault::Memory),
         Err(fault) => Err(fault),
@@ -157,74 +118,23 @@ fn status_of(summary: &Summary) -> u8
     1
 }
 
-// The canonical text of each line.
-fn answer_canon_lines<R: Read + Drop, W: Write>(
+// The answer of a command for each line.
+fn answer_lines<C: TextCommand, R: Read + Drop, W: Write>(
     alloc: Global,
-    level: Level,
+    command: C,
     prefix: &[u8],
     reader: R,
     sink: &mut Sink<W>,
 ) -> Result<u8, RunFault>
-    requires { IsHealthy sink.old }
-    ensures answered { IfOk result (IsAnswerSent (IsLinesOutput (IsLineOutput (IsCanonOutput level))) prefix.now
+    requires healthy { IsHealthy sink.old }
+    requires ends { Ends (C.Output command) }
+    ensures answered { IfOk result (IsAnswerSent (IsLinesOutput (IsLineOutput (C.Output command))) prefix.now
         (R.remaining reader) sink.old sink.new) }
     ensures fault { IfErr result (IsFileFault
-        (λ bytes written. IsFrontOutput (IsLineOutput (IsCanonOutput level)) bytes false written)
+        (λ bytes written. IsFrontOutput (IsLineOutput (C.Output command)) bytes false written)
         prefix.now (R.remaining reader) sink.old sink.new) }
 {
-    let command = OfLine {
-        command: CanonText { level },
-    };
-    run_lines(
-        alloc,
-        &Prefixed { prefix, command },
-        &mut Stream::new(reader),
-        sink,
-    )
-}
-
-// The kind of each line.
-fn answer_check_lines<R: Read + Drop, W: Write>(
-    alloc: Global,
-    prefix: &[u8],
-    reader: R,
-    sink: &mut Sink<W>,
-) -> Result<u8, RunFault>
-    requires { IsHealthy sink.old }
-    ensures answered { IfOk result (IsAnswerSent (IsLinesOutput (IsLineOutput IsCheckOutput)) prefix.now
-        (R.remaining reader) sink.old sink.new) }
-    ensures fault { IfErr result (IsFileFault
-        (λ bytes written. IsFrontOutput (IsLineOutput IsCheckOutput) bytes false written)
-        prefix.now (R.remaining reader) sink.old sink.new) }
-{
-    let command = OfLine { command: CheckText };
-    run_lines(
-        alloc,
-        &Prefixed { prefix, command },
-        &mut Stream::new(reader),
-        sink,
-    )
-}
-
-// The form of each line under rules.
-fn answer_form_lines<R: Read + Drop, W: Write>(
-    alloc: Global,
-    level: Level,
-    rules: &Rules,
-    prefix: &[u8],
-    reader: R,
-    sink: &mut Sink<W>,
-) -> Result<u8, RunFault>
-    requires { IsHealthy sink.old }
-    ensures answered { IfOk result (IsAnswerSent (IsLinesOutput (IsLineOutput (IsFormOutput rules.now level))) prefix.now
-        (R.remaining reader) sink.old sink.new) }
-    ensures fault { IfErr result (IsFileFault
-        (λ bytes written. IsFrontOutput (IsLineOutput (IsFormOutput rules.now level)) bytes false written)
-        prefix.now (R.remaining reader) sink.old sink.new) }
-{
-    let command = OfLine {
-        command: FormText { level, rules },
-    };
+    let command = OfLine { command };
     run_lines(
         alloc,
         &Prefixed { prefix, command },

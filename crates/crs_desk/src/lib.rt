@@ -27,6 +27,7 @@ mod file_answer;
 mod file_task;
 mod files_run;
 mod forms;
+mod grouping;
 mod kind_of_text;
 pub mod laws;
 mod line_cutter;
