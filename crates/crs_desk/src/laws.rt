@@ -1,10 +1,15 @@
 //! Laws of the definitions, as contracts of functions that do nothing.
-ghost use Rattle.std.specs.Prelude.{◌≡◌, ◌⊎◌, ◌++◌, [], ℕ, List, max};
+ghost use Rattle.std.specs.Prelude.{◌≡◌, ◌⊎◌, ◌↔◌, ◌++◌, [], ℕ, List, max};
 ghost use Rattle.crs_streams.specs.LongLines.{EndsInFeed};
 ghost use Rattle.crs_desk.specs.LinesRun.{IsLineOutput, IsLinesOutput};
 ghost use Rattle.crs_desk.specs.Output.{IsCanonOutput, IsCheckOutput};
 ghost use Rattle.crs_desk.specs.RulesOutput.{IsFormOutput};
 ghost use Rattle.crs_rules.specs.Rules.{RulesParts};
+ghost use Rattle.crs_rules.specs.SoundRules.{AreRules};
+ghost use Rattle.crs_rules.specs.Under.{IsForm, SameUnder};
+ghost use Rattle.crs_same.specs.SameCrs.{SameCrs};
+ghost use Rattle.crs_value.specs.SpellsText.{Spells};
+ghost use Rattle.crs_value.specs.declared.values.crs.Crs.{Crs};
 ghost use Rattle.crs_value.specs.declared.values.level.Level.{Level};
 
 /// Lines may be worked on in parts: what is written for bytes that end in a line feed, and then for others, is what is
@@ -21,3 +26,15 @@ pub fn lines_joined()
         IsLinesOutput (IsLineOutput (IsFormOutput rules level)) b w n →
         IsLinesOutput (IsLineOutput (IsFormOutput rules level)) (a ++ b) (v ++ w) (max m n) }
 {}
+
+/// The CRSs that two forms spell are the same at the level exactly where the texts are the same under the rules: so
+/// `same` under rules tells whether they are. Profile.
+pub fn forms_spell_the_same()
+    ensures { (r : RulesParts) (level : Level) (first second a b : List ℕ) (x y : Crs) → AreRules r →
+        IsForm r level first a → IsForm r level second b → Spells a x → Spells b y →
+        SameUnder r level first second ↔ SameCrs level x y }
+{
+    crs_canon::laws::main_theorem();
+    crs_rules::laws::forms_are_canonical();
+    crs_rules::laws::same_under_rules_is_equivalence();
+}

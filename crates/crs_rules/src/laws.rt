@@ -5,7 +5,6 @@ ghost use Rattle.crs_value.specs.SpellsText.{Spells};
 ghost use Rattle.crs_value.specs.Values.{AxisParts};
 ghost use Rattle.crs_value.specs.declared.values.crs.Crs.{Crs};
 ghost use Rattle.crs_value.specs.declared.values.level.Level.{Level};
-ghost use Rattle.crs_same.specs.SameCrs.{SameCrs};
 ghost use Rattle.crs_normal.specs.DecimalLaws.{DecimalLaws};
 ghost use Rattle.crs_normal.specs.TextLaws.{TextLaws};
 ghost use Rattle.crs_writer.specs.Canonical.{IsCanonicalOf};
@@ -102,17 +101,6 @@ pub fn same_under_rules_is_equivalence()
         IsForm r level first a → IsForm r level second b → (a ≡ b) ↔ SameUnder r level first second }
 {
     accepted_text_has_one_form();
-}
-
-/// The CRSs that two forms spell are the same at the level exactly where the texts are the same under the rules. Profile.
-pub fn forms_spell_the_same()
-    ensures { (r : RulesParts) (level : Level) (first second a b : List ℕ) (x y : Crs) → AreRules r →
-        IsForm r level first a → IsForm r level second b → Spells a x → Spells b y →
-        SameUnder r level first second ↔ SameCrs level x y }
-{
-    main_theorem();
-    forms_are_canonical();
-    same_under_rules_is_equivalence();
 }
 
 /// No rules change nothing: forms are canonical texts. Profile.

@@ -1,4 +1,4 @@
-use Rattle.crs_rules.proofs.laws.forms_spell_the_same.Goals as goal
+use Rattle.crs_desk.proofs.laws.forms_spell_the_same.Goals as goal
 
 pub returns : goal.returns
 returns c = λ r level first second a b x y h f g s t.
