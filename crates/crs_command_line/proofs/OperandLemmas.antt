@@ -367,9 +367,9 @@ asked_there f None some = cc
 asked_there f (Some x) some = refl
 
 -- what is asked under the rules that were read
-pub asked_is_under : (plain : Option Request) (asked : Request) (rules named : List Text) (found : Request)
-    → plain ≡ Some asked → named ≡ rules → found ≡ under named asked → option_map (under rules) plain ≡ Some found
-asked_is_under plain asked rules named found is same made =
+pub asked_is_under : (alone : Option Request) (asked : Request) (rules named : List Text) (found : Request)
+    → alone ≡ Some asked → named ≡ rules → found ≡ under named asked → option_map (under rules) alone ≡ Some found
+asked_is_under alone asked rules named found is same made =
     ap (option_map (under rules)) is ∙ ap (λ names. Some (under names asked)) (sym same) ∙ ap Some (sym made)
 
 -- the getters' words are the operands

@@ -1,5 +1,5 @@
 -- The command line: what `clap`'s definition of the commands gives for the words.
-use Rattle.std.specs.Prelude.{◌≡◌, ◌≢◌, ◌==◌, [], ◌∷◌, Bool, true, false, not, List, Option, Some}
+use Rattle.std.specs.Prelude.{◌≡◌, ◌≢◌, ◌==◌, ◌++◌, [], ◌∷◌, Bool, true, false, not, List, Option, Some}
 use Rattle.std.specs.Prelude.{None, codes, length}
 use Rattle.std.specs.Prelude.{option_and_then, option_map, unwrap_or, if◌then◌else◌}
 use Rattle.std.specs.Str.{bytes_eq}
@@ -72,20 +72,21 @@ group_shape = record (new_shape (codes "group")) {
   rules = level_option ∷ rules_option ∷ file_operands ∷ [];
 }
 
--- `same`, which needs a first operand and a second, and takes a level, rules and the flag `--files`
-abbrev pub same_shape : Shape
-same_shape = record (new_shape (codes "same")) {
-  rules = operand (codes "first") ∷ operand (codes "second") ∷ level_option ∷ rules_option
-      ∷ files_flag ∷ [];
-}
+-- with the options of the commands that compare two texts: a level, rules and the flag `--files`
+abbrev pub with_options : Shape → Shape
+with_options s = record s { rules = s.rules ++ level_option ∷ rules_option ∷ files_flag ∷ [] }
 
--- `explain`, which may have a first operand and a second, and takes a level, rules and the flag
--- `--files`
+-- `same`, which needs a first operand and a second, and takes those options
+abbrev pub same_shape : Shape
+same_shape = with_options (record (new_shape (codes "same")) {
+  rules = operand (codes "first") ∷ operand (codes "second") ∷ [];
+})
+
+-- `explain`, which may have a first operand and a second, and takes those options
 abbrev pub explain_shape : Shape
-explain_shape = record (new_shape (codes "explain")) {
-  rules = spare_operand (codes "first") ∷ spare_operand (codes "second") ∷ level_option
-      ∷ rules_option ∷ files_flag ∷ [];
-}
+explain_shape = with_options (record (new_shape (codes "explain")) {
+  rules = spare_operand (codes "first") ∷ spare_operand (codes "second") ∷ [];
+})
 
 -- `crsdesk` alone; it has a version, and needs one of its commands
 abbrev pub lone_desk : App

@@ -8,7 +8,7 @@ ghost use Rattle.crs_command_line.specs.CommandLine.{canon_of, canon_shape, chec
 ghost use Rattle.crs_command_line.specs.CommandLine.{file_operands, flag, group_of, group_shape, has_flag};
 ghost use Rattle.crs_command_line.specs.CommandLine.{command_of, explained_operands, level_of, level_option, request_of};
 ghost use Rattle.crs_command_line.specs.CommandLine.{ruled, rules_option, same_of, same_operands, same_shape};
-ghost use Rattle.crs_command_line.specs.CommandLine.{spare_operand, standard, under, words_of};
+ghost use Rattle.crs_command_line.specs.CommandLine.{spare_operand, standard, under, with_options, words_of};
 
 use crate::{LineWord, LineWords, Request, RequestFault, Task};
 use clap::error::ErrorKind;
@@ -179,21 +179,29 @@ fn same_command<'a>(alloc: Global) -> Result<Command<'a>, AllocError>
     ensures shape { IfOk result (λ command. shape_of command ≡ same_shape) }
     ensures globals { IfOk result (λ command. (fields_of command).has_globals ≡ false) }
 {
-    lone_command(alloc, "same", SAME_ABOUT, SAME_STATUS)
+    let command = lone_command(alloc, "same", SAME_ABOUT, SAME_STATUS)
         .arg(needed_word(alloc, "first", "A", FIRST_HELP))?
-        .arg(needed_word(alloc, "second", "B", SECOND_HELP))?
-        .arg(level_argument(alloc))?
-        .arg(rules_argument(alloc))?
-        .arg(flag_argument(alloc, "files", FILES_HELP))
+        .arg(needed_word(alloc, "second", "B", SECOND_HELP))?;
+    with_options(alloc, command)
 }
 
 fn explain_command<'a>(alloc: Global) -> Result<Command<'a>, AllocError>
     ensures shape { IfOk result (λ command. shape_of command ≡ explain_shape) }
     ensures globals { IfOk result (λ command. (fields_of command).has_globals ≡ false) }
 {
-    lone_command(alloc, "explain", EXPLAIN_ABOUT, EXPLAIN_STATUS)
+    let command = lone_command(alloc, "explain", EXPLAIN_ABOUT, EXPLAIN_STATUS)
         .arg(spare_word(alloc, "first", "A", SPARE_FIRST_HELP))?
-        .arg(spare_word(alloc, "second", "B", SECOND_HELP))?
+        .arg(spare_word(alloc, "second", "B", SECOND_HELP))?;
+    with_options(alloc, command)
+}
+
+// What `same` and `explain` take beside their operands: a level, rules and the flag `--files`.
+fn with_options<'a>(alloc: Global, command: Command<'a>) -> Result<Command<'a>, AllocError>
+    requires { (fields_of command).has_globals ≡ false }
+    ensures shape { IfOk result (λ whole. shape_of whole ≡ with_options (shape_of command)) }
+    ensures globals { IfOk result (λ whole. (fields_of whole).has_globals ≡ false) }
+{
+    command
         .arg(level_argument(alloc))?
         .arg(rules_argument(alloc))?
         .arg(flag_argument(alloc, "files", FILES_HELP))

@@ -1,13 +1,15 @@
 -- What the source of a run has given, and what the two halves of the run say of the whole.
-use Rattle.std.proofs.Common.{◌≡◌, ◌+◌, ◌<◌, ◌≤◌, ◌*◌, ◌^◌, ℕ, List, false, subst, sym, arith, is_ok, true≢false, Result, Ok, Err}
+use Rattle.std.proofs.Common.{◌≡◌, ◌∙◌, ◌+◌, ◌<◌, ◌≤◌, ◌*◌, ◌^◌, ℕ, List, false, refl, subst, sym, arith, is_ok, true≢false, Result, Ok, Err}
 use Rattle.std.specs.Prelude.{IfOk, IsErr, MatchResult}
 use Rattle.std.specs.Io.KnownBytes.{ReadConsumes}
 use Rattle.crs_group.specs.GroupCutting.{CutterParts, IsCutFault, IsCutTo, IsLedgerFor, LedgerParts}
 use Rattle.crs_value.specs.declared.values.level.Level.{Level}
-use Rattle.crs_group.specs.GroupReading.{IsLedgerWhole, IsReadInto}
+use Rattle.crs_group.specs.GroupOutput.{IsGroupOutputBy, catalogue_text}
+use Rattle.crs_group.specs.GroupReading.{IsLedgerWhole, IsReadInto, WritesLedger}
 use Rattle.crs_streams.specs.Given.{GivesShortLines, HasGiven}
-use Rattle.crs_group.specs.GroupRun.{IsReadingFault}
-use Rattle.crs_streams.specs.Streams.{CountsRead, SourceState}
+use Rattle.crs_group.specs.GroupRun.{IsGroupedBy, IsReadingFault}
+use Rattle.crs_group.specs.declared.summary.Summary.{Summary}
+use Rattle.crs_streams.specs.Streams.{CountsRead, SinkState, SourceState}
 use Rattle.crs_streams.specs.declared.fault.RunFault.{RunFault}
 use Rattle.crs_streams.specs.declared.fault.RunFault.TheVariants.{ReadFailed, WriteFailed, TooLong, TooManyReads, Memory}
 use Rattle.crs_group.proofs.GroupCutLemmas.{cut-fits, cut-short}
@@ -71,3 +73,30 @@ module _ (Form : Level → List ℕ → List ℕ → Type 0) (Share : Level → 
     is_level = is;
   }
   whole-ledger level old new cutter (Err error) read lines is = tt
+
+  -- the catalogue of all that was read is written
+  pub grouped : (level : Level) (old new : SourceState) (before after : SinkState) (ledger : LedgerParts) (summary : Summary)
+      → IsLedgerWhole Form Share level old new ledger → WritesLedger ledger before after summary
+      → IsGroupedBy (IsGroupOutputBy Form Share level) old new before after summary
+  grouped level old new before after ledger summary whole writes =
+      let texts = whole.is_ledger.of_texts in record {
+        bytes = whole.bytes;
+        is_whole = whole.is_whole;
+        are_short = whole.are_short;
+        written = catalogue_text ledger.catalogue;
+        is_output = record {
+          texts = whole.is_ledger.texts;
+          are_texts = whole.is_ledger.are_texts;
+          catalogue = ledger.catalogue;
+          is_level = whole.is_level;
+          of_lines = texts.of_lines;
+          is_written = refl;
+          lines = writes.lines ∙ texts.lines;
+          blank = writes.blank ∙ texts.blank;
+          refused = writes.refused;
+          groups = writes.groups;
+        };
+        is_sent = writes.is_sent;
+        is_asked = writes.is_asked;
+        is_healthy = writes.is_healthy;
+      }

@@ -7,7 +7,7 @@ use Rattle.crs_group.proofs.group_run.read_ledger.Goals as goal
 
 pub read_into-requires-clause-cutter : goal.read_into-requires-clause-cutter
 read_into-requires-clause-cutter g c =
-    cut-fresh (g.A.Adding.Form c.args.adding.now) (g.A.Adding.Share c.args.adding.now) c.args.level c.new.result c.new.ensures.empty
+    cut-fresh (g.A.Adding.Form c.args.adding.now) (g.A.Adding.Share c.args.adding.now) c.args.level c.new-cutter.result c.new-cutter.ensures.empty
 
 pub finish-requires : goal.finish-requires
 finish-requires g c =

@@ -1,10 +1,24 @@
-use Rattle.std.proofs.Common.{◌≡◌, ◌+◌, ◌≤◌, ◌++◌, ◌∷◌, ℕ, List, ap, arith, length, length-append, rules, subst, sym}
+use Rattle.std.proofs.Common.{◌≡◌, ◌+◌, ◌≤◌, ◌++◌, ◌∷◌, [], ℕ, List, ap, append-nil, arith, length, length-append, refl, rules, subst, sym}
 use Rattle.std.specs.Prelude.{IfErr}
 use Rattle.std.proofs.lemmas.Result.{IfErr-weaker, IfOk-weaker}
 use Rattle.crs_streams.specs.Lines.{HasNoFeed}
 use Rattle.crs_group.specs.GroupCutting.{IsCutFault, IsCutTo}
 use Rattle.crs_group.proofs.GroupCutLemmas.{keep-fault, piece-end-fault, piece-fault, piece-kept, piece-step}
 use Rattle.crs_group.proofs.group_cutter.Cutter.take.Goals as goal
+
+pub loop-line-init : goal.loop-line-init
+loop-line-init g c = record {
+  done = (
+    [],
+    refl,
+    λ bytes cut. subst
+        (λ l. IsCutTo (g.A.Adding.Form c.args.adding.now) (g.A.Adding.Share c.args.adding.now) l c.args.self.now)
+        (sym (append-nil bytes)) cut,
+  );
+  lines = omega arith;
+  small = omega arith;
+  level = refl;
+}
 
 pub returns-in_err-end_line-clause-fault : goal.returns-in_err-end_line-clause-fault
 returns-in_err-end_line-clause-fault g c =
