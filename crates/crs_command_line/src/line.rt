@@ -198,7 +198,7 @@ fn explain_command<'a>(alloc: Global) -> Result<Command<'a>, AllocError>
 // What `same` and `explain` take beside their operands: a level, rules and the flag `--files`.
 fn with_options<'a>(alloc: Global, command: Command<'a>) -> Result<Command<'a>, AllocError>
     requires { (fields_of command).has_globals ≡ false }
-    ensures shape { IfOk result (λ whole. shape_of whole ≡ with_options (shape_of command)) }
+    ensures shape { IfOk result (λ whole. shape_of whole ≡ with_options (shape_of command.entry)) }
     ensures globals { IfOk result (λ whole. (fields_of whole).has_globals ≡ false) }
 {
     command
