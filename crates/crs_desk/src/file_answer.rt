@@ -119,7 +119,7 @@ fn status_of(summary: &Summary) -> u8
 }
 
 // The answer of a command for each line.
-fn answer_lines<C: TextCommand, R: Read + Drop, W: Write>(
+fn answer_lines<C: TextCommand + Drop, R: Read + Drop, W: Write>(
     alloc: Global,
     command: C,
     prefix: &[u8],
