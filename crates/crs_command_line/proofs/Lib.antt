@@ -3,3 +3,4 @@ mod HelpLemmas
 mod OperandLemmas
 mod CommandLemmas
 mod LineLemmas
+mod OptionLemmas
