@@ -29,8 +29,8 @@ pub(crate) fn answer_input<R: Read + Drop, W: Write>(
     sink: &mut Sink<W>,
 ) -> Result<u8, RunFault>
     requires { IsHealthy sink.old }
-    ensures answered { IfOk result (IsAnswerSent (IsTaskOutput task) prefix.now (R.remaining reader) sink.old sink.new) }
-    ensures fault { IfErr result (IsFileFault (IsTaskFront task) prefix.now (R.remaining reader) sink.old sink.new) }
+    ensures answered { IfOk result (IsAnswerSent (IsTaskOutput task.entry) prefix.now (R.remaining reader) sink.old sink.new) }
+    ensures fault { IfErr result (IsFileFault (IsTaskFront task.entry) prefix.now (R.remaining reader) sink.old sink.new) }
 {
     match task {
         FileTask::Canon(level) => answer_text(alloc, &CanonText { level }, prefix, reader, sink),

@@ -44,7 +44,7 @@ pub fn run_files<I: Inputs, W: Write>(
     w: &mut Sink<W>,
 ) -> Result<u8, RunFault>
     requires { w.old ≡ fresh_sink w.old.contents }
-    ensures answered { IfOk result (AreFilesAnswered task (I.known files.now) names.now w.old w.new) }
+    ensures answered { IfOk result (AreFilesAnswered task.entry (I.known files.now) names.now w.old w.new) }
     ensures fault { IfErr result (IsFilesFault w.new) }
     ensures past_failure { w.new.past_failure ≡ false }
 {
@@ -79,7 +79,7 @@ fn answer_file<I: Inputs, W: Write>(
     sink: &mut Sink<W>,
 ) -> Result<u8, RunFault>
     requires { IsHealthy sink.old }
-    ensures answered { IfOk result (IsFileSent task prefix.now (I.known files.now name.now) sink.old sink.new) }
+    ensures answered { IfOk result (IsFileSent task.entry prefix.now (I.known files.now name.now) sink.old sink.new) }
     ensures fault { IfErr result (IsFilesFault sink.new) }
     ensures past_failure { sink.new.past_failure ≡ false }
 {

@@ -1,6 +1,7 @@
 //! What is written for the groups of lines, without rules and under them.
 ghost use Rattle.std.specs.Prelude.{◌≡◌, ℕ, List, IfOk};
 ghost use Rattle.crs_group.specs.GroupRun.{IsGroupedBy};
+ghost use Rattle.crs_group.specs.declared.summary.Summary.{Summary};
 ghost use Rattle.crs_streams.specs.Streams.{fresh_sink, fresh_source};
 
 use crate::{Level, RunFault, Sink, Source, Summary, run_group, run_group_under};
