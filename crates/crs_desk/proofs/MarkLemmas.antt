@@ -1,5 +1,5 @@
 -- The lines of an explanation, one further.
-use Rattle.std.proofs.Common.{◌≡◌, ◌∙◌, ◌++◌, ◌∷◌, [], ℕ, List, Bool, true, false, not, ◌&&◌, ◌||◌, ap, append-nil, append_assoc, refl, sym}
+use Rattle.std.proofs.Common.{◌≡◌, ◌∙◌, ◌++◌, ◌∷◌, [], ℕ, List, Bool, true, false, not, ◌&&◌, ◌||◌, ap, append-nil, append_assoc, codes, refl, sym}
 use Rattle.std.specs.Prelude.{◌==◌, if◌then◌else◌}
 use Rattle.std.specs.Str.{bytes_eq}
 use Rattle.crs_streams.specs.Lines.{HasNoFeed, IsSplit}
@@ -71,3 +71,25 @@ marked_on new now others bytes line rest is split =
 pub marked_all : (out : List ℕ) (others : List (List ℕ)) (bytes : List ℕ) → HasNoFeed bytes
     → out ++ marked others (lines_in bytes) ≡ out
 marked_all out others bytes none = ap (λ ls. out ++ marked others ls) (no-line [] bytes none) ∙ append-nil out
+
+abbrev line_or_none : List ℕ → Bool → List ℕ
+line_or_none line test = if test then [] else codes "the same by the rules: " ++ line ++ 10 ∷ []
+
+-- whether a line is marked is found out by its path
+marked-by : (others : List (List ℕ)) (line path : List ℕ) (test found : Bool) → found ≡ test → found ≡ has_path others path
+    → path ≡ path_in line → line_or_none line test ≡ marked_line others line
+marked-by others line path test found known is same =
+    ap (line_or_none line) (sym known ∙ (is ∙ ap (has_path others) same))
+
+pub marked_none : (out : List ℕ) (others : List (List ℕ)) (line path : List ℕ) (found : Bool) → found ≡ true
+    → found ≡ has_path others path → path ≡ path_in line → out ≡ out ++ marked_line others line
+marked_none out others line path found known is same =
+    sym (append-nil out) ∙ ap (λ l. out ++ l) (marked-by others line path true found known is same)
+
+pub marked_one : (new out : List ℕ) (others : List (List ℕ)) (line path : List ℕ) (found : Bool) → found ≡ false
+    → found ≡ has_path others path → path ≡ path_in line
+    → new ≡ ((out ++ codes "the same by the rules: ") ++ line) ++ 10 ∷ [] → new ≡ out ++ marked_line others line
+marked_one new out others line path found known is same appended =
+    appended ∙ (append_assoc (out ++ codes "the same by the rules: ") line (10 ∷ [])
+    ∙ (append_assoc out (codes "the same by the rules: ") (line ++ 10 ∷ [])
+    ∙ ap (λ l. out ++ l) (marked-by others line path false found known is same)))

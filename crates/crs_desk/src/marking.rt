@@ -1,5 +1,5 @@
 //! The lines of an explanation that another one lacks.
-ghost use Rattle.std.specs.Prelude.{◌≡◌, ◌≤◌, ◌++◌, OnOk, length};
+ghost use Rattle.std.specs.Prelude.{◌≡◌, ◌≤◌, ◌++◌, ◌∷◌, [], OnOk, codes, length};
 ghost use Rattle.std.specs.List.{prefix_len};
 ghost use Rattle.crs_desk.specs.RulesOutput.{has_path, is_of_path, lines_in, marked, marked_line, path_in};
 
@@ -32,6 +32,13 @@ fn append_marked_line(out: &mut Vec<u8>, others: &[u8], line: &[u8]) -> Result<(
     if has_path(others, path_in(line)) {
         return Ok(());
     }
+    append_line(out, line)
+}
+
+// Appends a line after the mark.
+fn append_line(out: &mut Vec<u8>, line: &[u8]) -> Result<(), AllocError>
+    ensures { OnOk result (out.new.items ≡ ((out.old.items ++ codes "the same by the rules: ") ++ line.now) ++ 10 ∷ []) }
+{
     out.extend_from_slice(MARK)?;
     out.extend_from_slice(line)?;
     out.push(b'\n').map_err(AllocError::from)
