@@ -1,0 +1,24 @@
+use Rattle.std.proofs.Common.{◌≡◌, rules, subst, sym}
+use Rattle.std.specs.Prelude.{IfErr}
+use Rattle.crs_desk.specs.FileAnswers.{IsFileFault}
+use Rattle.crs_desk.specs.FilesRun.{IsTaskFront}
+use Rattle.crs_desk.specs.declared.file_task.FileTask.{FileTask}
+use Rattle.crs_desk.specs.declared.file_task.FileTask.TheVariants as task
+use Rattle.crs_desk.proofs.PrefixedLemmas.{canon-ends, check-ends, form-ends}
+use Rattle.crs_desk.proofs.file_answer.answer_input.Goals as goal
+
+pub answer_lines-requires-clause-ends : goal.answer_lines-requires-clause-ends
+answer_lines-requires-clause-ends g c = canon-ends c.in-CanonLines.level
+
+pub answer_lines-requires-in-CheckLines-clause-ends : goal.answer_lines-requires-in-CheckLines-clause-ends
+answer_lines-requires-in-CheckLines-clause-ends g c = check-ends
+
+pub answer_lines-requires-in-FormLines-clause-ends : goal.answer_lines-requires-in-FormLines-clause-ends
+answer_lines-requires-in-FormLines-clause-ends g c = form-ends c.in-FormLines.rules.now c.in-FormLines.level
+
+pub returns-in-FormLines-clause-fault : goal.returns-in-FormLines-clause-fault
+returns-in-FormLines-clause-fault g c =
+    let asked : c.args.task ≡ task.FormLines c.in-FormLines.level c.in-FormLines.rules = search rules in
+    subst (λ (t : FileTask). IfErr c.answer_lines-in-FormLines.result
+    (IsFileFault (IsTaskFront t) c.args.prefix.now (g.R.Read.remaining c.args.reader) c.args.sink.now
+    c.answer_lines-in-FormLines.new.sink)) (sym asked) c.answer_lines-in-FormLines.ensures.fault
