@@ -35,7 +35,9 @@ class Server:
         self.own = below(stage, programs)
         self.own.mkdir(parents=True, exist_ok=True)
         for name in ("postgres", "initdb"):
-            shutil.copy(programs / name, self.own)
+            # An earlier server below the same stage may run it.
+            if not (self.own / name).exists():
+                shutil.copy(programs / name, self.own)
         for kind in ("pkglibdir", "sharedir"):
             add_links(build_postgresql.folder_of(kind), below(stage, build_postgresql.folder_of(kind)))
         self.user: Dict[str, Any] = {}
