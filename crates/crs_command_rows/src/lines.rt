@@ -7,14 +7,34 @@ use std::str;
 /// The command that the words ask for, one a line, and its words in brackets, the level first, after `files` the names,
 /// after `texts` the texts and after `rules` the names of rules files; `no command` where the line is wrong.
 pub fn put_request(out: &mut String, alloc: Global, input: &[u8]) -> Result<(), AllocError> {
-    let Ok(line) = str::from_utf8(input) else {
-        return out.push_str("no words");
-    };
+    match str::from_utf8(input) {
+        Ok(line) => put_line(out, alloc, line),
+        Err(_) => out.push_str("no words"),
+    }
+}
+
+fn put_line(out: &mut String, alloc: Global, line: &str) -> Result<(), AllocError> {
     let words: Vec<&str> = line.split('\n').collect(alloc)?;
-    match &request(alloc, &words) {
-        Ok(asked) => put_asked(out, asked),
-        Err(RequestFault::Line(_)) => out.push_str("no command"),
-        Err(RequestFault::Memory(error)) => Err(*error),
+    put_told(out, request(alloc, &words))
+}
+
+// Something that is put into words.
+trait Told {
+    fn put(&self, out: &mut String) -> Result<(), AllocError>;
+}
+
+// It alone owns a request, whose type it doesn't know: a function that owns one is slow to prove.
+fn put_told<T: Told + Drop>(out: &mut String, told: T) -> Result<(), AllocError> {
+    told.put(out)
+}
+
+impl Told for Result<Request, RequestFault> {
+    fn put(&self, out: &mut String) -> Result<(), AllocError> {
+        match self {
+            Ok(asked) => put_asked(out, asked),
+            Err(RequestFault::Line(_)) => out.push_str("no command"),
+            Err(RequestFault::Memory(error)) => Err(*error),
+        }
     }
 }
 

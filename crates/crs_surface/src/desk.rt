@@ -53,10 +53,46 @@ fn is_status(run: &Result<u8, RunFault>, status: u8) -> bool {
 
 // No command has this name.
 fn is_refused(alloc: Global) -> bool {
-    let asked: Result<Request, RequestFault> = request(alloc, &["crsdesk", "frob"]);
-    match &asked {
-        Ok(_request) => false,
-        Err(fault) => is_line(fault) && !is_line(&RequestFault::Memory(AllocError)),
+    is_so(request(alloc, &["crsdesk", "frob"]), Refused)
+        && !is_line(&RequestFault::Memory(AllocError))
+}
+
+// What is claimed of a value.
+trait Claim<T> {
+    fn holds(self, of: &T) -> bool;
+}
+
+// It alone owns a request, whose type it doesn't know: a function that owns one is slow to prove.
+fn is_so<T: Drop, C: Claim<T>>(of: T, claim: C) -> bool {
+    claim.holds(&of)
+}
+
+// No command is asked for.
+#[derive(Clone, Copy)]
+struct Refused;
+
+impl Claim<Result<Request, RequestFault>> for Refused {
+    fn holds(self, of: &Result<Request, RequestFault>) -> bool {
+        match of {
+            Ok(_request) => false,
+            Err(fault) => is_line(fault),
+        }
+    }
+}
+
+// A command with these words is asked for.
+#[derive(Clone, Copy)]
+struct AskedFor<'w> {
+    command: &'w str,
+    words: &'w [&'w str],
+}
+
+impl Claim<Result<Request, RequestFault>> for AskedFor<'_> {
+    fn holds(self, of: &Result<Request, RequestFault>) -> bool {
+        match of {
+            Ok(asked) => is_request(asked, self.command, self.words),
+            Err(_fault) => false,
+        }
     }
 }
 
@@ -90,11 +126,8 @@ fn asks_group(alloc: Global) -> bool {
 }
 
 // Whether a command line asks for a command with these words.
-fn asks(alloc: Global, line: &[&str], command: &str, words: &[&str]) -> bool {
-    match &request(alloc, line) {
-        Ok(asked) => is_request(asked, command, words),
-        Err(_fault) => false,
-    }
+fn asks<'w>(alloc: Global, line: &[&str], command: &'w str, words: &'w [&'w str]) -> bool {
+    is_so(request(alloc, line), AskedFor { command, words })
 }
 
 // The last eight variants are additions.

@@ -34,10 +34,27 @@ fn main(rt: HostRuntime) -> ExitCode {
 fn run(rt: &HostRuntime) -> Result<u8, Fault> {
     let words = command_words(rt)?;
     let words = texts_of(rt.alloc(), &words)?;
-    match &request(rt.alloc(), &words) {
-        Ok(wanted) => answer(rt, wanted),
-        Err(RequestFault::Line(error)) => Ok(tell_line(rt, &words, error)),
-        Err(RequestFault::Memory(_)) => Err(Fault::Run(RunFault::Memory)),
+    settled(rt, &words, request(rt.alloc(), &words))
+}
+
+// What the words of a line ask for, or why they ask for nothing.
+trait Asked {
+    // The status of what is asked for.
+    fn settle(&self, rt: &HostRuntime, words: &[&str]) -> Result<u8, Fault>;
+}
+
+// It alone owns a request, whose type it doesn't know: a function that owns one is slow to prove.
+fn settled<T: Asked + Drop>(rt: &HostRuntime, words: &[&str], asked: T) -> Result<u8, Fault> {
+    asked.settle(rt, words)
+}
+
+impl Asked for Result<Request, RequestFault> {
+    fn settle(&self, rt: &HostRuntime, words: &[&str]) -> Result<u8, Fault> {
+        match self {
+            Ok(wanted) => answer(rt, wanted),
+            Err(RequestFault::Line(error)) => Ok(tell_line(rt, words, error)),
+            Err(RequestFault::Memory(_)) => Err(Fault::Run(RunFault::Memory)),
+        }
     }
 }
 
