@@ -177,10 +177,10 @@ def run_by_lines(command: List[bytes], lines: List[bytes]) -> "subprocess.Comple
         sender.join()
 
 
-def run_in_turn(command: List[bytes], lines: List[bytes]) -> "subprocess.CompletedProcess[bytes]":
+def run_in_turn(folder: pathlib.Path, command: List[bytes], lines: List[bytes]) -> "subprocess.CompletedProcess[bytes]":
     """Runs a command that is given a line, and asked for its answer before the next."""
     pipes: Dict[str, Any] = {"stdin": subprocess.PIPE, "stdout": subprocess.PIPE, "stderr": subprocess.PIPE}
-    with subprocess.Popen(command, cwd=ROOT, **pipes) as program:
+    with subprocess.Popen(command, cwd=folder, **pipes) as program:
         assert program.stdin and program.stdout
         timer = threading.Timer(SECONDS_IN_TURN, program.kill)
         timer.start()
@@ -219,12 +219,16 @@ def run(program: pathlib.Path, case: Case) -> "subprocess.CompletedProcess[bytes
     command = [os.fsencode(program), *case.words]
     if case.is_by_lines:
         return run_by_lines(command, case.input.splitlines(keepends=True))
-    if case.is_in_turn:
-        return run_in_turn(command, case.input.splitlines(keepends=True))
     if not case.files:
-        return run_in(ROOT, command, case)
+        return run_there(ROOT, command, case)
     with tempfile.TemporaryDirectory() as folder:
         for name, text in case.files.items():
             with open(os.path.join(os.fsencode(folder), name), "wb") as file:
                 file.write(text)
-        return run_in(pathlib.Path(folder), command, case)
+        return run_there(pathlib.Path(folder), command, case)
+
+
+def run_there(folder: pathlib.Path, command: List[bytes], case: Case) -> "subprocess.CompletedProcess[bytes]":
+    if case.is_in_turn:
+        return run_in_turn(folder, command, case.input.splitlines(keepends=True))
+    return run_in(folder, command, case)
