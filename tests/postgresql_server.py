@@ -34,8 +34,8 @@ class Server:
         self.folder = folder
         self.own = below(stage, programs)
         self.own.mkdir(parents=True, exist_ok=True)
+        # Another server, which may run, has copied them before.
         for name in ("postgres", "initdb"):
-            # An earlier server below the same stage may run it.
             if not (self.own / name).exists():
                 shutil.copy(programs / name, self.own)
         for kind in ("pkglibdir", "sharedir"):

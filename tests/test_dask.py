@@ -122,6 +122,15 @@ def hold_answer(name: str, got: List[Standing], wanted: List[Standing]) -> None:
     assert len(got) == len(wanted), name
 
 
+def test_document(monkeypatch: pytest.MonkeyPatch) -> None:
+    """The session of docs/CLUSTER.md, before there is a cluster here that its collections would take."""
+    monkeypatch.chdir(ROOT)
+    text = "".join(it.text for it in documents.blocks_of(ROOT / "docs" / "CLUSTER.md") if it.kind == "pycon")
+    runner = doctest.DocTestRunner(optionflags=doctest.ELLIPSIS | doctest.NORMALIZE_WHITESPACE)
+    found = runner.run(doctest.DocTestParser().get_doctest(text, {}, "CLUSTER.md", None, 0))
+    assert found.attempted and not found.failed
+
+
 def test_small() -> None:
     """Small collections, by the threads of this process."""
     texts = ["", HEIGHT, NOTED, "EPSG:4326", TWIN, " ", HEIGHT.encode(), crsdesk.Crs(NOTED)]
@@ -375,12 +384,3 @@ def made(dask_scheduler: Any, name: str) -> int:
     """How many results of a function were made, as the scheduler sees it."""
     tasks = dask_scheduler.tasks.values()
     return sum(task.key.startswith(name) and task.state in ("memory", "released") for task in tasks)
-
-
-def test_document(monkeypatch: pytest.MonkeyPatch) -> None:
-    """The session of docs/CLUSTER.md."""
-    monkeypatch.chdir(ROOT)
-    text = "".join(it.text for it in documents.blocks_of(ROOT / "docs" / "CLUSTER.md") if it.kind == "pycon")
-    runner = doctest.DocTestRunner(optionflags=doctest.ELLIPSIS | doctest.NORMALIZE_WHITESPACE)
-    found = runner.run(doctest.DocTestParser().get_doctest(text, {}, "CLUSTER.md", None, 0))
-    assert found.attempted and not found.failed

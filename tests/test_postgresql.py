@@ -613,16 +613,16 @@ def test_documents(asked: str, server: Server) -> None:
         pytest.skip("PostGIS isn't there")
     database = asked.lower().lstrip("$")
     server.make(database)
+    if asked == POSTGIS:
+        server.hold([], database, "CREATE EXTENSION crsdesk;")
     environment = {**server.environment, "PGDATABASE": database, asked[1:]: str(server.folder)}
     blocks = [it for it in documents.blocks_of(ROOT / "docs" / "SQL.md") if asked in it.needs]
-    need(*(tool for block in blocks for tool in block.needs if tool != asked))
-    commands = [command for block in blocks for command in documents.commands_of(block)]
-    assert commands
-    if asked == POSTGIS:
-        # A block that asks for a server alone makes it in the other database.
-        succeed(["psql", "-q", "-c", "CREATE EXTENSION crsdesk"], env=environment)
-    for command in commands:
-        assert documents.printed(command, **environment) == command.wanted, command.words
+    others = [[tool for tool in block.needs if tool != asked] for block in blocks]
+    assert blocks
+    for block, tools in zip(blocks, others):
+        for command in documents.commands_of(block) if all(map(documents.is_there, tools)) else []:
+            assert documents.printed(command, **environment) == command.wanted, command.words
+    need(*(tool for tools in others for tool in tools))
 
 
 # Long enough that a canonical text has no room at first.
