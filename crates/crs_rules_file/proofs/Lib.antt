@@ -2,6 +2,7 @@ pub mod FileLemmas
 pub mod GrownLemmas
 pub mod MemberLemmas
 pub mod OneLemmas
+pub mod OrderLemmas
 pub mod ReaderLemmas
 pub mod SeenLemmas
 pub mod SteadyLemmas

@@ -247,3 +247,10 @@ pub never-both : DenotesOne → NodeOne → RefusalOne → TextApart → LinesOn
 never-both law node refusal text lines r s bytes f (xs, p, over) (ys, q, b) =
     over-apart Reads FaultOfLine (lines-sharp law node refusal text) (record r { line = 0 }) s ys f
     (subst (λ o. Over Reads (record r { line = 0 }) o s) (lines bytes xs ys p q) over) b
+
+-- files are read to one thing
+pub files-one : ((r s t : Reading) (bytes : List ℕ) → ReadsFile r bytes s → ReadsFile r bytes t → s ≡ t)
+    → (r s t : Reading) (files : List (List ℕ)) → Over ReadsFile r files s → Over ReadsFile r files t → s ≡ t
+files-one one r s t [] d e = sym d ∙ e
+files-one one r s t (file ∷ files) (q, read, rest) (p, other, more) =
+    files-one one p s t files (subst (λ o. Over ReadsFile o files s) (one r q p file read other) rest) more

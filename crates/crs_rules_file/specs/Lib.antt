@@ -5,6 +5,7 @@ pub mod Grown
 pub mod Marks
 pub mod Members
 pub mod Named
+pub mod OrderOfLines
 pub mod RulesFile
 pub mod Seen
 pub mod Statements

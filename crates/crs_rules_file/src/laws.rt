@@ -1,12 +1,17 @@
 //! Laws of rules files: calls that do nothing, and whose contracts are the laws.
 ghost use Rattle.std.specs.Prelude.{◌≡◌, List, ℕ};
+ghost use Rattle.crs_value.specs.declared.values.level.Level.{Level};
+ghost use Rattle.crs_rules.specs.OrderOfRules.{DifferInOrder};
 ghost use Rattle.crs_rules.specs.Rules.{RulesParts};
 ghost use Rattle.crs_rules.specs.SteadyRules.{AreSteady};
+ghost use Rattle.crs_rules.specs.Under.{IsForm};
+ghost use Rattle.crs_rules_file.specs.OrderOfLines.{AreReordered};
 ghost use Rattle.crs_rules_file.specs.RulesFile.{ReadsFile, RefusesFile, SpellsRules, start};
 ghost use Rattle.crs_rules_file.specs.Statements.{Over, Reading};
 ghost use Rattle.crs_rules_file.specs.declared.fault.RulesRefusal.{RulesRefusal};
 
 use crs_decimal::laws::{denotes_one, plain_is_the_one};
+use crs_rules::laws::order_of_rules_is_nothing;
 use crs_streams::laws::lines_are_one;
 
 /// After what was read, a file says one thing at most, or is refused at one line with one number at one place at most,
@@ -30,4 +35,19 @@ pub fn read_rules_are_steady()
 {
     denotes_one();
     plain_is_the_one();
+}
+
+/// The order of statements says nothing, nor does which of some files they stand in: files with the same lines in
+/// another order are read too, to rules that differ in order alone, and texts have the same forms under them. Profile.
+pub fn order_of_lines_is_nothing()
+    ensures rules { (files others : List (List ℕ)) (s : Reading) → AreReordered files others →
+        Over ReadsFile start files s → (t : Reading) × Over ReadsFile start others t × DifferInOrder s.rules t.rules }
+    ensures forms { (files others : List (List ℕ)) (s t : Reading) (level : Level) (text bytes : List ℕ) →
+        AreReordered files others → Over ReadsFile start files s → Over ReadsFile start others t →
+        IsForm s.rules level text bytes → IsForm t.rules level text bytes }
+{
+    lines_are_one();
+    one_answer();
+    read_rules_are_steady();
+    order_of_rules_is_nothing();
 }
