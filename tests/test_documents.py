@@ -30,7 +30,8 @@ sys.exit(found.failed > 0 or found.attempted == 0)
 def test_command(command: Command, program: pathlib.Path, sqlite_extension: pathlib.Path) -> None:
     if command.block.lacks:
         pytest.skip(f"{command.block.lacks} isn't there")
-    assert printed(command) == command.wanted
+    found = printed(command)
+    assert found == command.wanted
 
 
 @pytest.mark.parametrize("path", SESSIONS, ids=lambda it: str(it.name))

@@ -13,6 +13,7 @@ import inspect
 import itertools
 import os
 import pathlib
+import reprlib
 import sys
 import tempfile
 import traceback
@@ -184,9 +185,17 @@ def tried(conftest: Any, fixtures: Fixtures, item: Item) -> Tuple[str, str]:
         fixtures.run(item)
     except Skipped as why:
         return "skipped", str(why)
-    except BaseException:
-        return "failed", f"{item.name}\n{traceback.format_exc()[-3000:]}"
+    except BaseException as error:
+        return "failed", f"{item.name}\n{traceback.format_exc()[-3000:]}{values_of(error)}"
     return "passed", ""
+
+
+def values_of(error: BaseException) -> str:
+    """The values of the function that raised an error, each in a line, cut off."""
+    *_, (frame, _) = traceback.walk_tb(error.__traceback__)
+    shown = reprlib.Repr()
+    shown.maxstring = shown.maxother = 1000
+    return "".join(f"    {name} = {shown.repr(value)}\n" for name, value in frame.f_locals.items())
 
 
 class Share(NamedTuple):
