@@ -26,6 +26,8 @@ sys.exit(found.failed > 0 or found.attempted == 0)
 """
 
 
+# In a document's order, since commands read what others before them have written.
+@pytest.mark.xdist_group("documents")
 @pytest.mark.parametrize("command", COMMANDS, ids=str)
 def test_command(command: Command, program: pathlib.Path, sqlite_extension: pathlib.Path) -> None:
     if command.block.lacks:
