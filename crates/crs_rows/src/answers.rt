@@ -1,7 +1,8 @@
 //! From the name of a call to its answer.
 use crate::nodes::Part;
+use crate::sameness::{Comparison, put_comparison};
 use crate::texts::Column;
-use crate::{canonical, levels, nodes, numbers, pieces, sameness, shapes, texts, values};
+use crate::{canonical, levels, nodes, numbers, pieces, shapes, texts, values};
 use crs_suite::Calls;
 use crs_value::Level;
 use std::alloc::{AllocError, Global};
@@ -82,10 +83,10 @@ fn put_value_answer(
         "read" => values::put_read(out, alloc, input),
         "value_of" => values::put_value_of(out, alloc, input),
         "first_axis" => values::put_axis(out, alloc, input),
-        "same" => sameness::put_same(out, alloc, level, input),
-        "differences" => sameness::put_differences(out, alloc, level, input),
-        "values" => sameness::put_values(out, alloc, level, input),
-        "same_axis" => sameness::put_same_axis(out, alloc, level, input),
+        "same" => put_comparison(out, alloc, level, Comparison::Same, input),
+        "differences" => put_comparison(out, alloc, level, Comparison::Differences, input),
+        "values" => put_comparison(out, alloc, level, Comparison::Values, input),
+        "same_axis" => put_comparison(out, alloc, level, Comparison::Axes, input),
         "canon" => canonical::put_canon(out, alloc, level, input),
         "Canon::same" => canonical::put_same(out, alloc, level, input),
         "levels" => levels::put_levels(out, alloc, input),

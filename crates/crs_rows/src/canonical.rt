@@ -1,4 +1,5 @@
 //! The calls that write canonical texts.
+use crate::questions::{Question, put_answer};
 use crate::texts::put_fault;
 use crs_canon::{Canon, Canonical, canon, canon_of};
 use crs_suite::{put_text, split_line};
@@ -27,33 +28,36 @@ fn put_agreed(
     input: &[u8],
     text: &Canon,
 ) -> Result<(), AllocError> {
-    if !is_of_value(alloc, level, input, text)? || !is_of_text(alloc, text.bytes(), text)? {
+    if !is_of_text(alloc, text.bytes(), text)? {
         return out.push_str("another text");
     }
-    out.push_str("text ")?;
-    put_text(out, text.bytes())
+    put_answer(out, alloc, read(alloc, input), Spelled { level, text })
 }
 
-// Whether this is the canonical text of the value of a text.
-fn is_of_value(
-    alloc: Global,
+// A canonical text, and the level at which it must be that of a CRS.
+#[derive(Clone, Copy)]
+struct Spelled<'c> {
     level: Level,
-    input: &[u8],
-    text: &Canon,
-) -> Result<bool, AllocError> {
-    match read(alloc, input) {
-        Ok(crs) => is_of_crs(alloc, level, &crs, text),
-        Err(Fault::Refused(_)) => Ok(false),
-        Err(Fault::Memory(error)) => Err(error),
+    text: &'c Canon,
+}
+
+impl<'a> Question<Crs<'a>> for Spelled<'_> {
+    fn put(self, out: &mut String, alloc: Global, crs: &Crs<'a>) -> Result<(), AllocError> {
+        if !self.is_text(canon_of(alloc, crs, self.level))?
+            || !appends(alloc, self.level, crs, self.text.bytes())?
+        {
+            return out.push_str("another text");
+        }
+        out.push_str("text ")?;
+        put_text(out, self.text.bytes())
     }
 }
 
-fn is_of_crs(alloc: Global, level: Level, crs: &Crs<'_>, text: &Canon) -> Result<bool, AllocError> {
-    let own = canon_of(alloc, crs, level)?;
-    if own.level() != level || !own.same(text) {
-        return Ok(false);
+impl Spelled<'_> {
+    fn is_text(self, own: Result<Canon, AllocError>) -> Result<bool, AllocError> {
+        let own = own?;
+        Ok(own.level() == self.level && own.same(self.text))
     }
-    appends(alloc, level, crs, text.bytes())
 }
 
 // Whether a node by itself appends this text, and no other.

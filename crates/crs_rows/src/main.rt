@@ -9,12 +9,12 @@ mod levels;
 mod nodes;
 mod numbers;
 mod pieces;
+mod questions;
 mod sameness;
 mod shapes;
 mod texts;
 mod trials;
 mod values;
-mod verticals;
 
 use answers::Answers;
 use crs_suite::{call_of, run_rows};

@@ -1,11 +1,8 @@
 //! What parts of a vertical CRS append by themselves, and a set of them.
-use crate::texts::put_fault;
-use crate::verticals::{
-    dynamic_of, extent_of, first_axis, first_ident, first_usage, idents_of, model_of,
-};
+use crate::questions::{Question, put_answer};
 use crs_canon::{Canonical, Set};
 use crs_suite::put_text;
-use crs_value::{Crs, Ident, Level, read};
+use crs_value::{Crs, Dynamic, Ident, Level, Tail, Usage, Vertical, read};
 use std::alloc::{AllocError, Global};
 
 /// A part of a vertical CRS.
@@ -27,6 +24,21 @@ pub enum Part {
     Idents,
 }
 
+impl Part {
+    // What is said where there is no such part.
+    fn absent(self) -> &'static str {
+        match self {
+            Part::Axis => "no axis",
+            Part::Dynamic => "no dynamic part",
+            Part::Model => "no model",
+            Part::Usage => "no usage",
+            Part::Extent => "no extent",
+            Part::Ident => "no identifier",
+            Part::Idents => "no set",
+        }
+    }
+}
+
 /// `text` and what a part of the CRS of a text appends by itself, or the refusal of the text; `no` and the part where
 /// it has none, and for another CRS than a vertical one, and `one way` where the part isn't the same as itself.
 pub fn put_part(
@@ -36,9 +48,24 @@ pub fn put_part(
     part: Part,
     input: &[u8],
 ) -> Result<(), AllocError> {
-    match read(alloc, input) {
-        Ok(crs) => put_part_of(out, alloc, level, part, &crs),
-        Err(fault) => put_fault(out, fault),
+    put_answer(out, alloc, read(alloc, input), Appended { part, level })
+}
+
+// What a part of a vertical CRS appends at a level.
+#[derive(Clone, Copy)]
+struct Appended {
+    part: Part,
+    level: Level,
+}
+
+impl<'a> Question<Crs<'a>> for Appended {
+    fn put(self, out: &mut String, alloc: Global, crs: &Crs<'a>) -> Result<(), AllocError> {
+        match crs {
+            Crs::Vertical(vertical) => put_part_of(out, alloc, self.level, self.part, vertical),
+            Crs::Geodetic(_) | Crs::Projected(_) | Crs::Compound(_) => {
+                out.push_str(self.part.absent())
+            }
+        }
     }
 }
 
@@ -47,16 +74,80 @@ fn put_part_of(
     alloc: Global,
     level: Level,
     part: Part,
-    crs: &Crs<'_>,
+    crs: &Vertical<'_>,
 ) -> Result<(), AllocError> {
     match part {
-        Part::Axis => put_node(out, alloc, level, first_axis(crs), "no axis"),
-        Part::Dynamic => put_node(out, alloc, level, dynamic_of(crs), "no dynamic part"),
-        Part::Model => put_node(out, alloc, level, model_of(crs), "no model"),
-        Part::Usage => put_node(out, alloc, level, first_usage(crs), "no usage"),
-        Part::Extent => put_node(out, alloc, level, extent_of(crs), "no extent"),
-        Part::Ident => put_node(out, alloc, level, first_ident(crs), "no identifier"),
-        Part::Idents => put_set(out, alloc, level, idents_of(crs)),
+        Part::Axis => put_first(out, alloc, level, part, crs.system.axes.as_slice()),
+        Part::Dynamic => put_optional(out, alloc, level, part, &crs.dynamic),
+        Part::Model => put_model(out, alloc, level, &crs.dynamic),
+        Part::Usage | Part::Extent | Part::Ident | Part::Idents => {
+            put_end(out, alloc, level, part, &crs.tail)
+        }
+    }
+}
+
+fn put_model(
+    out: &mut String,
+    alloc: Global,
+    level: Level,
+    dynamic: &Option<Dynamic<'_>>,
+) -> Result<(), AllocError> {
+    match dynamic {
+        Some(dynamic) => put_optional(out, alloc, level, Part::Model, &dynamic.model),
+        None => out.push_str(Part::Model.absent()),
+    }
+}
+
+fn put_end(
+    out: &mut String,
+    alloc: Global,
+    level: Level,
+    part: Part,
+    tail: &Tail<'_>,
+) -> Result<(), AllocError> {
+    match part {
+        Part::Usage => put_first(out, alloc, level, part, tail.usages.as_slice()),
+        Part::Extent => put_extent(out, alloc, level, tail.usages.as_slice()),
+        Part::Ident => put_first(out, alloc, level, part, tail.identifiers.as_slice()),
+        _ => put_set(out, alloc, level, tail.identifiers.as_slice()),
+    }
+}
+
+fn put_extent(
+    out: &mut String,
+    alloc: Global,
+    level: Level,
+    usages: &[Usage<'_>],
+) -> Result<(), AllocError> {
+    match usages {
+        [usage, ..] => put_optional(out, alloc, level, Part::Extent, &usage.extent),
+        [] => out.push_str(Part::Extent.absent()),
+    }
+}
+
+fn put_first<T: Canonical>(
+    out: &mut String,
+    alloc: Global,
+    level: Level,
+    part: Part,
+    nodes: &[T],
+) -> Result<(), AllocError> {
+    match nodes {
+        [node, ..] => put_node(out, alloc, level, node),
+        [] => out.push_str(part.absent()),
+    }
+}
+
+fn put_optional<T: Canonical>(
+    out: &mut String,
+    alloc: Global,
+    level: Level,
+    part: Part,
+    node: &Option<T>,
+) -> Result<(), AllocError> {
+    match node {
+        Some(node) => put_node(out, alloc, level, node),
+        None => out.push_str(part.absent()),
     }
 }
 
@@ -64,12 +155,8 @@ fn put_node<T: Canonical>(
     out: &mut String,
     alloc: Global,
     level: Level,
-    node: Option<&T>,
-    absent: &str,
+    node: &T,
 ) -> Result<(), AllocError> {
-    let Some(node) = node else {
-        return out.push_str(absent);
-    };
     if !node.same(node, level) {
         return out.push_str("one way");
     }
@@ -84,11 +171,8 @@ fn put_set(
     out: &mut String,
     alloc: Global,
     level: Level,
-    identifiers: Option<&[Ident<'_>]>,
+    identifiers: &[Ident<'_>],
 ) -> Result<(), AllocError> {
-    let Some(identifiers) = identifiers else {
-        return out.push_str("no set");
-    };
     let set = Set::of(identifiers);
     if !set.same(&set, level) {
         return out.push_str("one way");

@@ -1,4 +1,6 @@
 //! Texts in pieces.
+ghost use Rattle.std.specs.Prelude.{◌<◌};
+
 use crate::texts::{answered, put_read, put_refusal};
 use crs_text::{Fault, Feeder, Refusal, read_items};
 use std::alloc::{AllocError, Global};
@@ -15,15 +17,28 @@ pub fn put_fed(
     ends: &[usize],
 ) -> Result<(), AllocError> {
     let mut feeder = Feeder::new(alloc);
+    put_pieces(out, &mut feeder, input, ends)?;
+    put_read(out, feeder.finish())
+}
+
+fn put_pieces(
+    out: &mut String,
+    feeder: &mut Feeder,
+    input: &[u8],
+    ends: &[usize],
+) -> Result<(), AllocError> {
     let mut from = 0;
     for end in ends {
         let piece = input.get(from..*end).unwrap_or(&[]);
-        let taken = answered(feeder.feed(piece))?;
-        put_taken(out, &taken)?;
-        out.push_str("; ")?;
+        put_piece(out, feeder, piece)?;
         from = *end;
     }
-    put_read(out, feeder.finish())
+    Ok(())
+}
+
+fn put_piece(out: &mut String, feeder: &mut Feeder, piece: &[u8]) -> Result<(), AllocError> {
+    put_taken(out, &answered(feeder.feed(piece))?)?;
+    out.push_str("; ")
 }
 
 /// What `feed` answers: `ok`, or the refusal.
@@ -44,31 +59,65 @@ pub fn agree(alloc: Global, text: &[u8]) -> Result<bool, AllocError> {
 
 fn agree_in_two(alloc: Global, text: &[u8]) -> Result<bool, AllocError> {
     let whole = answer(alloc, text)?;
+    agree_at_cuts(alloc, text, whole.as_str())
+}
+
+fn agree_at_cuts(alloc: Global, text: &[u8], whole: &str) -> Result<bool, AllocError> {
     for cut in 0..text.len() {
         let (first, second) = text.split_at(cut);
-        let mut feeder = Feeder::new(alloc);
-        feed(&mut feeder, first)?;
-        feed(&mut feeder, second)?;
-        if !answers(alloc, &feeder, whole.as_str())? {
+        if !agrees_in_two(alloc, first, second, whole)? {
             return Ok(false);
         }
     }
     Ok(true)
 }
 
+fn agrees_in_two(
+    alloc: Global,
+    first: &[u8],
+    second: &[u8],
+    whole: &str,
+) -> Result<bool, AllocError> {
+    let mut feeder = Feeder::new(alloc);
+    feed_two(&mut feeder, first, second)?;
+    answers(alloc, &feeder, whole)
+}
+
+fn feed_two(feeder: &mut Feeder, first: &[u8], second: &[u8]) -> Result<(), AllocError> {
+    feed(feeder, first)?;
+    feed(feeder, second)
+}
+
 /// Whether a text gives the same answer as a whole and in pieces of 1 to 7 bytes.
 pub fn agree_in_many(alloc: Global, text: &[u8]) -> Result<bool, AllocError> {
     let whole = answer(alloc, text)?;
+    agree_in_sizes(alloc, text, whole.as_str())
+}
+
+fn agree_in_sizes(alloc: Global, text: &[u8], whole: &str) -> Result<bool, AllocError> {
     for size in 1..8 {
-        let mut feeder = Feeder::new(alloc);
-        for piece in text.chunks(size) {
-            feed(&mut feeder, piece)?;
-        }
-        if !answers(alloc, &feeder, whole.as_str())? {
+        if !agrees_in(alloc, text, size, whole)? {
             return Ok(false);
         }
     }
     Ok(true)
+}
+
+fn agrees_in(alloc: Global, text: &[u8], size: usize, whole: &str) -> Result<bool, AllocError>
+    requires { 0 < size }
+{
+    let mut feeder = Feeder::new(alloc);
+    feed_in(&mut feeder, text, size)?;
+    answers(alloc, &feeder, whole)
+}
+
+fn feed_in(feeder: &mut Feeder, text: &[u8], size: usize) -> Result<(), AllocError>
+    requires { 0 < size }
+{
+    for piece in text.chunks(size) {
+        feed(feeder, piece)?;
+    }
+    Ok(())
 }
 
 fn answer(alloc: Global, text: &[u8]) -> Result<String, AllocError> {

@@ -1,71 +1,121 @@
 //! The calls that compare CRSs.
-use crate::texts::put_fault;
-use crate::verticals::first_axis;
+use crate::questions::{Pair, Question, Wording, both, put_answer, text_of};
 use crs_canon::write_content;
 use crs_same::parts::same_axis;
-use crs_same::{Content, Difference, Differences, Path, differences, first_part, same};
+use crs_same::{Difference, Differences, Path, differences, first_part, same};
 use crs_suite::{put_text, split_line};
 use crs_value::{Axis, Crs, Level, read};
 use std::alloc::{AllocError, Global};
 
-/// `same` for the CRSs of two texts, one a line, or `different` and the first part that differs, or the refusal of the
-/// first text that has one; `one way` where the calls or the orders of the two disagree.
-pub fn put_same(
+/// What is asked of two CRSs.
+#[derive(Clone, Copy)]
+pub enum Comparison {
+    /// `same`, or `different` and the first part that differs; `one way` where the calls or the orders of the two
+    /// disagree.
+    Same,
+    /// The paths to all parts in which they differ, with a semicolon between two; `none`, or `one way` where the orders
+    /// of the two disagree.
+    Differences,
+    /// All parts in which they differ, each as its path and its value in the first and in the second, with a semicolon
+    /// between two; else as `Differences`.
+    Values,
+    /// Whether the first axes of two vertical CRSs are the same by themselves; `no axes` for other ones.
+    Axes,
+}
+
+/// What is asked of the CRSs of two texts, one a line, or the refusal of the first text that has one.
+pub fn put_comparison(
     out: &mut String,
     alloc: Global,
     level: Level,
+    comparison: Comparison,
     input: &[u8],
 ) -> Result<(), AllocError> {
     let (first, second) = split_line(input);
-    match read(alloc, first) {
-        Ok(crs) => put_same_as(out, alloc, level, &crs, second),
-        Err(fault) => put_fault(out, fault),
+    let pair = both(read(alloc, first), read(alloc, second));
+    put_answer(out, alloc, pair, Compared { comparison, level })
+}
+
+#[derive(Clone, Copy)]
+struct Compared {
+    comparison: Comparison,
+    level: Level,
+}
+
+impl<'a> Question<Pair<Crs<'a>>> for Compared {
+    fn put(self, out: &mut String, alloc: Global, pair: &Pair<Crs<'a>>) -> Result<(), AllocError> {
+        match self.comparison {
+            Comparison::Same => put_same(out, alloc, self.level, &pair.first, &pair.second),
+            Comparison::Differences => {
+                put_differences(out, alloc, self.level, &pair.first, &pair.second)
+            }
+            Comparison::Values => put_values(out, alloc, self.level, &pair.first, &pair.second),
+            Comparison::Axes => out.push_str(axes_of(&pair.first, &pair.second, self.level)),
+        }
     }
 }
 
-fn put_same_as<'a>(
+fn put_same<'a>(
     out: &mut String,
     alloc: Global,
     level: Level,
     first: &Crs<'a>,
-    second: &'a [u8],
+    second: &Crs<'a>,
 ) -> Result<(), AllocError> {
-    match read(alloc, second) {
-        Ok(crs) => put_outcome(out, alloc, told(first, &crs, level)),
-        Err(fault) => put_fault(out, fault),
+    if !agree(first, second, level) {
+        return out.push_str("one way");
+    }
+    put_first_part(out, alloc, first_part(first, second, level))
+}
+
+fn put_first_part(out: &mut String, alloc: Global, found: Option<Path>) -> Result<(), AllocError> {
+    match &found {
+        Some(path) => put_path(out, alloc, path),
+        None => out.push_str("same"),
     }
 }
 
-/// The paths to all parts in which the CRSs of two texts differ, one a line of the text, with a semicolon between two;
-/// `none`, the refusal of the first text that has one, or `one way` where the orders of the two disagree.
-pub fn put_differences(
-    out: &mut String,
-    alloc: Global,
-    level: Level,
-    input: &[u8],
-) -> Result<(), AllocError> {
-    let (first, second) = split_line(input);
-    match read(alloc, first) {
-        Ok(crs) => put_differences_from(out, alloc, level, &crs, second),
-        Err(fault) => put_fault(out, fault),
+fn agree<'a>(a: &Crs<'a>, b: &Crs<'a>, level: Level) -> bool {
+    agree_one_way(a, b, level) && agree_one_way(b, a, level) && have_same_steps(a, b, level)
+}
+
+fn agree_one_way<'a>(a: &Crs<'a>, b: &Crs<'a>, level: Level) -> bool {
+    same(a, b, level) == is_none(first_part(a, b, level))
+}
+
+fn is_none(path: Option<Path>) -> bool {
+    path.is_none()
+}
+
+fn have_same_steps<'a>(a: &Crs<'a>, b: &Crs<'a>, level: Level) -> bool {
+    are_alike(first_part(a, b, level), first_part(b, a, level))
+}
+
+fn are_alike(a: Option<Path>, b: Option<Path>) -> bool {
+    match (&a, &b) {
+        (None, None) => true,
+        (Some(x), Some(y)) => x.steps() == y.steps(),
+        (None, Some(_)) | (Some(_), None) => false,
     }
 }
 
-fn put_differences_from<'a>(
+fn put_path(out: &mut String, alloc: Global, path: &Path) -> Result<(), AllocError> {
+    let mut words = Vec::new(alloc);
+    path.write(&mut words)?;
+    out.push_str("different ")?;
+    put_text(out, &words)
+}
+
+fn put_differences<'a>(
     out: &mut String,
     alloc: Global,
     level: Level,
     first: &Crs<'a>,
-    second: &'a [u8],
+    second: &Crs<'a>,
 ) -> Result<(), AllocError> {
-    match read(alloc, second) {
-        Ok(crs) => put_one_way_or(
-            out,
-            paths_between(alloc, first, &crs, level)?,
-            paths_between(alloc, &crs, first, level)?,
-        ),
-        Err(fault) => put_fault(out, fault),
-    }
+    let forth = paths_between(alloc, first, second, level);
+    let back = paths_between(alloc, second, first, level);
+    put_one_way_or(out, forth, back)
 }
 
 fn paths_between<'a>(
@@ -74,11 +124,25 @@ fn paths_between<'a>(
     b: &Crs<'a>,
     level: Level,
 ) -> Result<Vec<u8>, AllocError> {
-    let found = differences(alloc, a, b, level)?;
-    paths_text(alloc, &found)
+    text_of(alloc, differences(alloc, a, b, level), Paths)
 }
 
-fn put_one_way_or(out: &mut String, forth: Vec<u8>, back: Vec<u8>) -> Result<(), AllocError> {
+#[derive(Clone, Copy)]
+struct Paths;
+
+impl<'v, 'a> Wording<Differences<'v, 'a>> for Paths {
+    fn text(self, alloc: Global, found: &Differences<'v, 'a>) -> Result<Vec<u8>, AllocError> {
+        paths_text(alloc, found)
+    }
+}
+
+fn put_one_way_or(
+    out: &mut String,
+    forth: Result<Vec<u8>, AllocError>,
+    back: Result<Vec<u8>, AllocError>,
+) -> Result<(), AllocError> {
+    let forth = forth?;
+    let back = back?;
     if forth.as_slice() != back.as_slice() {
         return out.push_str("one way");
     }
@@ -89,44 +153,30 @@ fn put_one_way_or(out: &mut String, forth: Vec<u8>, back: Vec<u8>) -> Result<(),
 pub fn paths_text(alloc: Global, differences: &Differences<'_, '_>) -> Result<Vec<u8>, AllocError> {
     let mut words = Vec::new(alloc);
     for difference in differences.as_slice() {
-        if !words.is_empty() {
-            words.push(b';')?;
-        }
+        put_semicolon(&mut words)?;
         difference.path().write(&mut words)?;
     }
     Ok(words)
 }
 
-/// All parts in which the CRSs of two texts differ, one a line of the text, each as its path and its value in the
-/// first and in the second, with a semicolon between two; else as `put_differences`.
-pub fn put_values(
-    out: &mut String,
-    alloc: Global,
-    level: Level,
-    input: &[u8],
-) -> Result<(), AllocError> {
-    let (first, second) = split_line(input);
-    match read(alloc, first) {
-        Ok(crs) => put_values_from(out, alloc, level, &crs, second),
-        Err(fault) => put_fault(out, fault),
+// Before each but the first.
+fn put_semicolon(text: &mut Vec<u8>) -> Result<(), AllocError> {
+    if text.is_empty() {
+        return Ok(());
     }
+    text.push(b';')
 }
 
-fn put_values_from<'a>(
+fn put_values<'a>(
     out: &mut String,
     alloc: Global,
     level: Level,
     first: &Crs<'a>,
-    second: &'a [u8],
+    second: &Crs<'a>,
 ) -> Result<(), AllocError> {
-    match read(alloc, second) {
-        Ok(crs) => put_one_way_or(
-            out,
-            values_between(alloc, first, &crs, level, false)?,
-            values_between(alloc, &crs, first, level, true)?,
-        ),
-        Err(fault) => put_fault(out, fault),
-    }
+    let forth = values_between(alloc, first, second, level, false);
+    let back = values_between(alloc, second, first, level, true);
+    put_one_way_or(out, forth, back)
 }
 
 fn values_between<'a>(
@@ -134,89 +184,70 @@ fn values_between<'a>(
     a: &Crs<'a>,
     b: &Crs<'a>,
     level: Level,
-    turned: bool,
+    is_turned: bool,
 ) -> Result<Vec<u8>, AllocError> {
-    let found = differences(alloc, a, b, level)?;
-    values_text(alloc, &found, level, turned)
+    let values = Values { level, is_turned };
+    text_of(alloc, differences(alloc, a, b, level), values)
 }
 
-fn values_text(
-    alloc: Global,
-    differences: &Differences<'_, '_>,
+// The value in the second CRS comes first where they are turned.
+#[derive(Clone, Copy)]
+struct Values {
     level: Level,
-    turned: bool,
-) -> Result<Vec<u8>, AllocError> {
-    let mut text = Vec::new(alloc);
-    for difference in differences.as_slice() {
-        if !text.is_empty() {
-            text.push(b';')?;
+    is_turned: bool,
+}
+
+impl<'v, 'a> Wording<Differences<'v, 'a>> for Values {
+    fn text(self, alloc: Global, found: &Differences<'v, 'a>) -> Result<Vec<u8>, AllocError> {
+        let mut text = Vec::new(alloc);
+        for difference in found.as_slice() {
+            self.put_value(&mut text, alloc, difference)?;
         }
-        put_value(&mut text, alloc, difference, level, turned)?;
-    }
-    Ok(text)
-}
-
-fn put_value(
-    text: &mut Vec<u8>,
-    alloc: Global,
-    difference: &Difference<'_, '_>,
-    level: Level,
-    turned: bool,
-) -> Result<(), AllocError> {
-    difference.path().write(text)?;
-    text.extend_from_slice(b": ")?;
-    if turned {
-        put_contents(text, alloc, difference.second(), difference.first(), level)
-    } else {
-        put_contents(text, alloc, difference.first(), difference.second(), level)
+        Ok(text)
     }
 }
 
-fn put_contents(
-    text: &mut Vec<u8>,
-    alloc: Global,
-    first: &Content<'_, '_>,
-    second: &Content<'_, '_>,
-    level: Level,
-) -> Result<(), AllocError> {
-    write_content(first, alloc, level, text)?;
-    text.extend_from_slice(b" | ")?;
-    write_content(second, alloc, level, text)
-}
+impl Values {
+    fn put_value(
+        self,
+        text: &mut Vec<u8>,
+        alloc: Global,
+        difference: &Difference<'_, '_>,
+    ) -> Result<(), AllocError> {
+        put_semicolon(text)?;
+        difference.path().write(text)?;
+        text.extend_from_slice(b": ")?;
+        self.put_side(text, alloc, difference, self.is_turned)?;
+        text.extend_from_slice(b" | ")?;
+        self.put_side(text, alloc, difference, !self.is_turned)
+    }
 
-/// Whether the first axes of two vertical CRSs are the same by themselves; `no axes` for other texts.
-pub fn put_same_axis(
-    out: &mut String,
-    alloc: Global,
-    level: Level,
-    input: &[u8],
-) -> Result<(), AllocError> {
-    let (first, second) = split_line(input);
-    match read(alloc, first) {
-        Ok(crs) => put_same_axis_as(out, alloc, level, first_axis(&crs), second),
-        Err(fault) => put_fault(out, fault),
+    fn put_side(
+        self,
+        text: &mut Vec<u8>,
+        alloc: Global,
+        difference: &Difference<'_, '_>,
+        is_second: bool,
+    ) -> Result<(), AllocError> {
+        if is_second {
+            write_content(difference.second(), alloc, self.level, text)
+        } else {
+            write_content(difference.first(), alloc, self.level, text)
+        }
     }
 }
 
-fn put_same_axis_as<'a>(
-    out: &mut String,
-    alloc: Global,
-    level: Level,
-    first: Option<&Axis<'a>>,
-    second: &'a [u8],
-) -> Result<(), AllocError> {
-    match read(alloc, second) {
-        Ok(crs) => out.push_str(axes_told(first, first_axis(&crs), level)),
-        Err(fault) => put_fault(out, fault),
+fn axes_of<'a>(first: &Crs<'a>, second: &Crs<'a>, level: Level) -> &'static str {
+    match (first, second) {
+        (Crs::Vertical(x), Crs::Vertical(y)) => {
+            axes_told(x.system.axes.as_slice(), y.system.axes.as_slice(), level)
+        }
+        _ => "no axes",
     }
 }
 
-fn axes_told<'a>(
-    first: Option<&Axis<'a>>,
-    second: Option<&Axis<'a>>,
-    level: Level,
-) -> &'static str {
-    let (Some(x), Some(y)) = (first, second) else {
+fn axes_told<'a>(first: &[Axis<'a>], second: &[Axis<'a>], level: Level) -> &'static str {
+    let ([x, ..], [y, ..]) = (first, second) else {
         return "no axes";
     };
     match (same_axis(x, y, level), same_axis(y, x, level)) {
@@ -224,52 +255,4 @@ fn axes_told<'a>(
         (false, false) => "different",
         _ => "one way",
     }
-}
-
-#[derive(Drop)]
-enum Outcome {
-    Same,
-    Different(Path),
-    OneWay,
-}
-
-fn told<'a>(a: &Crs<'a>, b: &Crs<'a>, level: Level) -> Outcome {
-    if !agree(a, b, level) {
-        return Outcome::OneWay;
-    }
-    match first_part(a, b, level) {
-        None => Outcome::Same,
-        Some(path) => Outcome::Different(path),
-    }
-}
-
-fn agree<'a>(a: &Crs<'a>, b: &Crs<'a>, level: Level) -> bool {
-    let forth = first_part(a, b, level);
-    let back = first_part(b, a, level);
-    same(a, b, level) == forth.is_none()
-        && same(b, a, level) == back.is_none()
-        && are_alike(forth.as_ref(), back.as_ref())
-}
-
-fn are_alike(a: Option<&Path>, b: Option<&Path>) -> bool {
-    match (a, b) {
-        (None, None) => true,
-        (Some(x), Some(y)) => x.steps() == y.steps(),
-        (None, Some(_)) | (Some(_), None) => false,
-    }
-}
-
-fn put_outcome(out: &mut String, alloc: Global, outcome: Outcome) -> Result<(), AllocError> {
-    match outcome {
-        Outcome::Same => out.push_str("same"),
-        Outcome::Different(path) => put_path(out, alloc, &path),
-        Outcome::OneWay => out.push_str("one way"),
-    }
-}
-
-fn put_path(out: &mut String, alloc: Global, path: &Path) -> Result<(), AllocError> {
-    let mut words = Vec::new(alloc);
-    path.write(&mut words)?;
-    out.push_str("different ")?;
-    put_text(out, &words)
 }

@@ -186,14 +186,7 @@ fn put_each(
 ) -> Result<(), AllocError>
     requires { HasId items.now id }
 {
-    match column {
-        Column::Place => write!(out, " {}", items.place(id))?,
-        Column::Close => put_close(out, items.close(id))?,
-        Column::Number => put_number(out, items.number(id))?,
-        Column::Size => write!(out, " {}", items.size(id))?,
-        Column::Next => put_next(out, items, id)?,
-        Column::Keyword => put_keyword(out, items.keyword(id))?,
-    }
+    put_cell(out, items, id, column)?;
     for i in 0..items.arg_count(id) {
         if depth > 0
             && let Some(arg) = items.arg(id, i)
@@ -202,6 +195,24 @@ fn put_each(
         }
     }
     Ok(())
+}
+
+fn put_cell(
+    out: &mut String,
+    items: &Items<'_>,
+    id: ItemId,
+    column: Column,
+) -> Result<(), AllocError>
+    requires { HasId items.now id }
+{
+    match column {
+        Column::Place => write!(out, " {}", items.place(id)),
+        Column::Close => put_close(out, items.close(id)),
+        Column::Number => put_number(out, items.number(id)),
+        Column::Size => write!(out, " {}", items.size(id)),
+        Column::Next => put_next(out, items, id),
+        Column::Keyword => put_keyword(out, items.keyword(id)),
+    }
 }
 
 fn put_next(out: &mut String, items: &Items<'_>, id: ItemId) -> Result<(), AllocError>

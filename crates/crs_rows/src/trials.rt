@@ -1,5 +1,6 @@
 //! The calls that take memory, each made while a growth may be refused.
 mod appending;
+mod attempts;
 mod texts;
 mod values;
 

@@ -1,11 +1,11 @@
 //! Calls that append to a vector.
-use crate::trials::values::crs_of;
-use crate::verticals::{first_axis, first_ident, first_unit, first_usage, frame_of, idents_of};
+use crate::questions::{Pair, both};
+use crate::trials::attempts::{Attempt, try_with};
 use crs_canon::{Canonical, Set};
 use crs_decimal::Decimal;
 use crs_same::{Path, first_part};
 use crs_suite::{Trial, put_text, run_trial, unusable};
-use crs_value::{Crs, Ident, Level};
+use crs_value::{Axis, Crs, Ident, Level, Tail, Vertical, read};
 use std::alloc::{AllocError, Global};
 use std::io;
 
@@ -96,26 +96,22 @@ pub fn try_path<'a>(
     first: &'a [u8],
     second: &'a [u8],
 ) -> io::Result<()> {
-    let first = crs_of(rt.alloc(), first)?;
-    try_path_from(rt, &first, second)
+    let pair = both(read(rt.alloc(), first), read(rt.alloc(), second));
+    try_with(rt, pair, FirstPath)
 }
 
-fn try_path_from<'a>(
-    rt: &(impl Print + AllocGlobal),
-    first: &Crs<'a>,
-    text: &'a [u8],
-) -> io::Result<()> {
-    let second = crs_of(rt.alloc(), text)?;
-    try_path_between(rt, first, &second)
+#[derive(Clone, Copy)]
+struct FirstPath;
+
+impl<'t> Attempt<Pair<Crs<'t>>> for FirstPath {
+    fn make<R: Print + AllocGlobal>(self, rt: &R, pair: &Pair<Crs<'t>>) -> io::Result<()> {
+        try_found(rt, first_part(&pair.first, &pair.second, Level::Full))
+    }
 }
 
-fn try_path_between<'a>(
-    rt: &(impl Print + AllocGlobal),
-    first: &Crs<'a>,
-    second: &Crs<'a>,
-) -> io::Result<()> {
-    match first_part(first, second, Level::Full) {
-        Some(path) => run_append(rt, &path),
+fn try_found(rt: &(impl Print + AllocGlobal), found: Option<Path>) -> io::Result<()> {
+    match &found {
+        Some(path) => run_append(rt, path),
         None => Err(unusable()),
     }
 }
@@ -123,33 +119,69 @@ fn try_path_between<'a>(
 /// `Canonical::write` of the CRS that a text spells, `crs`, or of a part of a vertical one: its first `axis` and the
 /// `unit` of that, its `frame`, its first `usage` or `identifier`; `Set::write` of its `identifiers`.
 pub fn try_part(rt: &(impl Print + AllocGlobal), word: &str, text: &[u8]) -> io::Result<()> {
-    let crs = crs_of(rt.alloc(), text)?;
-    try_part_of(rt, word, &crs)
+    try_with(rt, read(rt.alloc(), text), PartOf { word })
 }
 
-fn try_part_of(rt: &(impl Print + AllocGlobal), word: &str, crs: &Crs<'_>) -> io::Result<()> {
+// A part that a word names.
+#[derive(Clone, Copy)]
+struct PartOf<'w> {
+    word: &'w str,
+}
+
+impl<'t> Attempt<Crs<'t>> for PartOf<'_> {
+    fn make<R: Print + AllocGlobal>(self, rt: &R, crs: &Crs<'t>) -> io::Result<()> {
+        if self.word == "crs" {
+            return try_node(rt, crs);
+        }
+        match crs {
+            Crs::Vertical(vertical) => try_part_of(rt, self.word, vertical),
+            Crs::Geodetic(_) | Crs::Projected(_) | Crs::Compound(_) => Err(unusable()),
+        }
+    }
+}
+
+fn try_part_of(rt: &(impl Print + AllocGlobal), word: &str, crs: &Vertical<'_>) -> io::Result<()> {
     match word {
-        "crs" => try_node(rt, Some(crs)),
-        "axis" => try_node(rt, first_axis(crs)),
-        "unit" => try_node(rt, first_unit(crs)),
-        "frame" => try_node(rt, frame_of(crs)),
-        "usage" => try_node(rt, first_usage(crs)),
-        "identifier" => try_node(rt, first_ident(crs)),
-        "identifiers" => try_idents(rt, idents_of(crs)),
+        "axis" | "unit" => try_axis(rt, word, crs.system.axes.as_slice()),
+        "frame" => try_node(rt, &crs.frame),
+        _ => try_end(rt, word, &crs.tail),
+    }
+}
+
+fn try_axis(rt: &(impl Print + AllocGlobal), word: &str, axes: &[Axis<'_>]) -> io::Result<()> {
+    match axes {
+        [axis, ..] if word == "unit" => try_optional(rt, &axis.unit),
+        _ => try_first(rt, axes),
+    }
+}
+
+fn try_end(rt: &(impl Print + AllocGlobal), word: &str, tail: &Tail<'_>) -> io::Result<()> {
+    match word {
+        "usage" => try_first(rt, tail.usages.as_slice()),
+        "identifier" => try_first(rt, tail.identifiers.as_slice()),
+        "identifiers" => try_idents(rt, tail.identifiers.as_slice()),
         _ => Err(unusable()),
     }
 }
 
-fn try_node<T: Canonical>(rt: &(impl Print + AllocGlobal), node: Option<&T>) -> io::Result<()> {
+fn try_first<T: Canonical>(rt: &(impl Print + AllocGlobal), nodes: &[T]) -> io::Result<()> {
+    match nodes {
+        [node, ..] => try_node(rt, node),
+        [] => Err(unusable()),
+    }
+}
+
+fn try_optional<T: Canonical>(rt: &(impl Print + AllocGlobal), node: &Option<T>) -> io::Result<()> {
     match node {
-        Some(node) => run_append(rt, &Node { node }),
+        Some(node) => try_node(rt, node),
         None => Err(unusable()),
     }
 }
 
-fn try_idents(rt: &(impl Print + AllocGlobal), idents: Option<&[Ident<'_>]>) -> io::Result<()> {
-    match idents {
-        Some(idents) => run_append(rt, &Idents { idents }),
-        None => Err(unusable()),
-    }
+fn try_node<T: Canonical>(rt: &(impl Print + AllocGlobal), node: &T) -> io::Result<()> {
+    run_append(rt, &Node { node })
+}
+
+fn try_idents(rt: &(impl Print + AllocGlobal), idents: &[Ident<'_>]) -> io::Result<()> {
+    run_append(rt, &Idents { idents })
 }

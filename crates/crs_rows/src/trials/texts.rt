@@ -1,30 +1,26 @@
 //! Calls that read the items of a text, as a whole and in pieces.
 use crate::pieces::{feed, finished, put_taken};
 use crate::texts::{answered, put_answered, put_read};
+use crate::trials::attempts::{Call, run_reading};
 use crs_suite::{Trial, run_trial};
 use crs_text::{Feeder, Items, Refusal, read_items};
 use std::alloc::{AllocError, Global};
 use std::io;
 
 // `read_items` of a text.
-#[derive(Drop)]
-struct Whole<'t> {
+#[derive(Clone, Copy)]
+struct ItemsCall<'t> {
     text: &'t [u8],
 }
 
-impl<'t> Trial for Whole<'t> {
+impl<'t> Call for ItemsCall<'t> {
     type Answer = Result<Items<'t>, Refusal>;
 
-    fn call(&mut self, alloc: Global) -> Result<Self::Answer, AllocError> {
+    fn make(self, alloc: Global) -> Result<Self::Answer, AllocError> {
         answered(read_items(alloc, self.text))
     }
 
-    // Bytes that are only read can't change.
-    fn is_kept(&self, _alloc: Global) -> Result<bool, AllocError> {
-        Ok(true)
-    }
-
-    fn put_answer(&self, out: &mut String, answer: &Self::Answer) -> Result<(), AllocError> {
+    fn put_answer(self, out: &mut String, answer: &Self::Answer) -> Result<(), AllocError> {
         put_answered(out, answer)
     }
 }
@@ -92,7 +88,7 @@ impl<'f> Trial for Finish<'f> {
 
 /// `read_items` of a text.
 pub fn try_read(rt: &(impl Print + AllocGlobal), text: &[u8]) -> io::Result<()> {
-    run_trial(rt, &mut Whole { text })
+    run_reading(rt, ItemsCall { text })
 }
 
 /// `Feeder::feed` of the last piece, after the others.

@@ -1,131 +1,176 @@
 //! Calls that make the value of a text, or its canonical text, and that compare values.
+use crate::questions::{Pair, both};
 use crate::sameness::paths_text;
 use crate::texts::{answered, put_refusal};
+use crate::trials::attempts::{Attempt, Call, run_reading, try_with};
 use crate::values::kind_word;
 use crs_canon::{Canon, canon, canon_of};
 use crs_same::differences;
-use crs_suite::{Trial, put_text, run_trial, unusable};
-use crs_text::{Fault, Items, Refusal, read_items};
+use crs_suite::put_text;
+use crs_text::{Items, Refusal, read_items};
 use crs_value::{Crs, Level, read, value_of};
 use std::alloc::{AllocError, Global};
 use std::io;
 
-// What makes a value: `read` of a text, or `value_of` of items.
+// `read` of a text.
 #[derive(Clone, Copy)]
-enum Reading<'i, 't> {
-    Text(&'t [u8]),
-    Items(&'i Items<'t>),
+struct ReadCall<'t> {
+    text: &'t [u8],
 }
 
-impl<'t> Trial for Reading<'_, 't> {
+impl<'t> Call for ReadCall<'t> {
     type Answer = Result<Crs<'t>, Refusal>;
 
-    fn call(&mut self, alloc: Global) -> Result<Self::Answer, AllocError> {
-        match self {
-            Reading::Text(text) => answered(read(alloc, text)),
-            Reading::Items(items) => answered(value_of(alloc, items)),
-        }
+    fn make(self, alloc: Global) -> Result<Self::Answer, AllocError> {
+        answered(read(alloc, self.text))
     }
 
-    // Bytes and items that are only read can't change.
-    fn is_kept(&self, _alloc: Global) -> Result<bool, AllocError> {
-        Ok(true)
-    }
-
-    // A value by its kind and its canonical text.
-    fn put_answer(&self, out: &mut String, answer: &Self::Answer) -> Result<(), AllocError> {
-        match answer {
-            Ok(crs) => {
-                out.push_str(kind_word(crs.kind()))?;
-                out.push(' ')?;
-                let text = canon_of(*out.allocator(), crs, Level::Full)?;
-                put_text(out, text.bytes())
-            }
-            Err(refusal) => put_refusal(out, *refusal),
-        }
+    fn put_answer(self, out: &mut String, answer: &Self::Answer) -> Result<(), AllocError> {
+        put_value(out, answer)
     }
 }
 
-// What is spelled: by `canon` the CRS of a text, by `canon_of` a CRS.
+// `value_of` of items.
 #[derive(Clone, Copy)]
-enum Spelling<'v, 't> {
-    Text(&'t [u8]),
-    Crs(&'v Crs<'t>),
+struct ValueOfCall<'i, 't> {
+    items: &'i Items<'t>,
 }
 
-impl Trial for Spelling<'_, '_> {
+impl<'t> Call for ValueOfCall<'_, 't> {
+    type Answer = Result<Crs<'t>, Refusal>;
+
+    fn make(self, alloc: Global) -> Result<Self::Answer, AllocError> {
+        answered(value_of(alloc, self.items))
+    }
+
+    fn put_answer(self, out: &mut String, answer: &Self::Answer) -> Result<(), AllocError> {
+        put_value(out, answer)
+    }
+}
+
+// A value by its kind and its canonical text.
+fn put_value(out: &mut String, answer: &Result<Crs<'_>, Refusal>) -> Result<(), AllocError> {
+    match answer {
+        Ok(crs) => put_crs(out, crs),
+        Err(refusal) => put_refusal(out, *refusal),
+    }
+}
+
+fn put_crs(out: &mut String, crs: &Crs<'_>) -> Result<(), AllocError> {
+    out.push_str(kind_word(crs.kind()))?;
+    out.push(' ')?;
+    let alloc = *out.allocator();
+    put_canonical(out, canon_of(alloc, crs, Level::Full))
+}
+
+fn put_canonical(out: &mut String, text: Result<Canon, AllocError>) -> Result<(), AllocError> {
+    let text = text?;
+    put_text(out, text.bytes())
+}
+
+// `canon` of a text.
+#[derive(Clone, Copy)]
+struct CanonCall<'t> {
+    text: &'t [u8],
+}
+
+impl Call for CanonCall<'_> {
     type Answer = Result<Canon, Refusal>;
 
-    fn call(&mut self, alloc: Global) -> Result<Self::Answer, AllocError> {
-        match self {
-            Spelling::Text(text) => answered(canon(alloc, text, Level::Full)),
-            Spelling::Crs(crs) => Ok(Ok(canon_of(alloc, crs, Level::Full)?)),
-        }
+    fn make(self, alloc: Global) -> Result<Self::Answer, AllocError> {
+        answered(canon(alloc, self.text, Level::Full))
     }
 
-    // Bytes and values that are only read can't change.
-    fn is_kept(&self, _alloc: Global) -> Result<bool, AllocError> {
-        Ok(true)
-    }
-
-    fn put_answer(&self, out: &mut String, answer: &Self::Answer) -> Result<(), AllocError> {
+    fn put_answer(self, out: &mut String, answer: &Self::Answer) -> Result<(), AllocError> {
         match answer {
-            Ok(text) => {
-                out.push_str("text ")?;
-                put_text(out, text.bytes())
-            }
+            Ok(text) => put_spelling(out, text),
             Err(refusal) => put_refusal(out, *refusal),
         }
     }
 }
 
-// What is compared: two CRSs. The answer is the paths of the parts that differ, which take memory too.
+// `canon_of` a CRS.
 #[derive(Clone, Copy)]
-struct Comparing<'v, 't> {
-    first: &'v Crs<'t>,
-    second: &'v Crs<'t>,
+struct CanonOfCall<'v, 't> {
+    crs: &'v Crs<'t>,
 }
 
-impl Trial for Comparing<'_, '_> {
+impl Call for CanonOfCall<'_, '_> {
+    type Answer = Canon;
+
+    fn make(self, alloc: Global) -> Result<Canon, AllocError> {
+        canon_of(alloc, self.crs, Level::Full)
+    }
+
+    fn put_answer(self, out: &mut String, answer: &Canon) -> Result<(), AllocError> {
+        put_spelling(out, answer)
+    }
+}
+
+fn put_spelling(out: &mut String, text: &Canon) -> Result<(), AllocError> {
+    out.push_str("text ")?;
+    put_text(out, text.bytes())
+}
+
+// `differences` between two CRSs. The answer is the paths of the parts that differ, which take memory too.
+#[derive(Clone, Copy)]
+struct DifferencesCall<'v, 't> {
+    pair: &'v Pair<Crs<'t>>,
+}
+
+impl Call for DifferencesCall<'_, '_> {
     type Answer = Vec<u8>;
 
-    fn call(&mut self, alloc: Global) -> Result<Self::Answer, AllocError> {
-        let found = differences(alloc, self.first, self.second, Level::Full)?;
-        paths_text(alloc, &found)
+    fn make(self, alloc: Global) -> Result<Self::Answer, AllocError> {
+        paths_between(alloc, self.pair)
     }
 
-    // Values that are only read can't change.
-    fn is_kept(&self, _alloc: Global) -> Result<bool, AllocError> {
-        Ok(true)
-    }
-
-    fn put_answer(&self, out: &mut String, answer: &Self::Answer) -> Result<(), AllocError> {
+    fn put_answer(self, out: &mut String, answer: &Self::Answer) -> Result<(), AllocError> {
         put_text(out, answer)
     }
 }
 
+fn paths_between(alloc: Global, pair: &Pair<Crs<'_>>) -> Result<Vec<u8>, AllocError> {
+    let found = differences(alloc, &pair.first, &pair.second, Level::Full)?;
+    paths_text(alloc, &found)
+}
+
 /// `read` of a text.
 pub fn try_read(rt: &(impl Print + AllocGlobal), text: &[u8]) -> io::Result<()> {
-    run_trial(rt, &mut Reading::Text(text))
+    run_reading(rt, ReadCall { text })
 }
 
 /// `value_of` of the items of a text.
 pub fn try_value_of(rt: &(impl Print + AllocGlobal), text: &[u8]) -> io::Result<()> {
-    match read_items(rt.alloc(), text) {
-        Ok(items) => run_trial(rt, &mut Reading::Items(&items)),
-        Err(_) => Err(unusable()),
+    try_with(rt, read_items(rt.alloc(), text), WithItems)
+}
+
+#[derive(Clone, Copy)]
+struct WithItems;
+
+impl<'t> Attempt<Items<'t>> for WithItems {
+    fn make<R: Print + AllocGlobal>(self, rt: &R, items: &Items<'t>) -> io::Result<()> {
+        run_reading(rt, ValueOfCall { items })
     }
 }
 
 /// `canon` of a text.
 pub fn try_canon(rt: &(impl Print + AllocGlobal), text: &[u8]) -> io::Result<()> {
-    run_trial(rt, &mut Spelling::Text(text))
+    run_reading(rt, CanonCall { text })
 }
 
 /// `canon_of` the CRS that a text spells.
 pub fn try_canon_of(rt: &(impl Print + AllocGlobal), text: &[u8]) -> io::Result<()> {
-    let crs = crs_of(rt.alloc(), text)?;
-    run_trial(rt, &mut Spelling::Crs(&crs))
+    try_with(rt, read(rt.alloc(), text), WithCrs)
+}
+
+#[derive(Clone, Copy)]
+struct WithCrs;
+
+impl<'t> Attempt<Crs<'t>> for WithCrs {
+    fn make<R: Print + AllocGlobal>(self, rt: &R, crs: &Crs<'t>) -> io::Result<()> {
+        run_reading(rt, CanonOfCall { crs })
+    }
 }
 
 /// `differences` between the CRSs of two texts.
@@ -134,33 +179,15 @@ pub fn try_differences<'t>(
     first: &'t [u8],
     second: &'t [u8],
 ) -> io::Result<()> {
-    let first = crs_of(rt.alloc(), first)?;
-    try_differences_from(rt, &first, second)
+    let pair = both(read(rt.alloc(), first), read(rt.alloc(), second));
+    try_with(rt, pair, WithPair)
 }
 
-fn try_differences_from<'t>(
-    rt: &(impl Print + AllocGlobal),
-    first: &Crs<'t>,
-    text: &'t [u8],
-) -> io::Result<()> {
-    let second = crs_of(rt.alloc(), text)?;
-    run_trial(
-        rt,
-        &mut Comparing {
-            first,
-            second: &second,
-        },
-    )
-}
+#[derive(Clone, Copy)]
+struct WithPair;
 
-/// The CRS that a text spells, for a call that is handed one.
-pub fn crs_of(alloc: Global, text: &[u8]) -> io::Result<Crs<'_>> {
-    read(alloc, text).map_err(fault_of)
-}
-
-fn fault_of(fault: Fault) -> io::Error {
-    match fault {
-        Fault::Refused(_) => unusable(),
-        Fault::Memory(error) => io::Error::from(error),
+impl<'t> Attempt<Pair<Crs<'t>>> for WithPair {
+    fn make<R: Print + AllocGlobal>(self, rt: &R, pair: &Pair<Crs<'t>>) -> io::Result<()> {
+        run_reading(rt, DifferencesCall { pair })
     }
 }
