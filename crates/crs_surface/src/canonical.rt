@@ -1,6 +1,6 @@
 //! Canonical texts, and sets.
 use crate::bounds::{are_equal, hash_of};
-use crate::refusals::is_refused;
+use crate::made::{Calls, Claim, count_made, is_made, is_refused_at};
 use crate::tally::Tally;
 use crate::texts::Texts;
 use crs_canon::{Canon, Set, canon, canon_of};
@@ -23,30 +23,39 @@ fn check_canon(alloc: Global, tally: &mut Tally<'_>, texts: Texts<'_>) {
 }
 
 fn check_codes(alloc: Global, tally: &mut Tally<'_>, texts: Texts<'_>) {
-    match read(alloc, texts.named("codes")) {
-        Ok(crs) => check_set(alloc, tally, texts, identifiers_of(&crs)),
-        Err(_fault) => tally.count("crs_canon::Set", false),
-    }
+    let read = read(alloc, texts.named("codes"));
+    let set = SetOfCodes {
+        text: texts.named("set_of_codes"),
+    };
+    count_made(alloc, tally, "crs_canon::Set", read, set);
 }
 
 fn refuses(alloc: Global) -> bool {
     let answer: Result<Canon, Fault> = canon(alloc, b"VERTCRS[\"H\"", Level::Full);
-    match answer {
-        Ok(_text) => false,
-        Err(fault) => is_refused(&fault, 7, 11),
-    }
+    is_refused_at(answer, 7, 11)
 }
 
 fn writes_value(alloc: Global, texts: Texts<'_>) -> bool {
-    match read(alloc, texts.named("height")) {
-        Ok(crs) => is_text_of(alloc, &crs, texts.named("height_canonical")),
-        Err(_fault) => false,
+    let spelled = Spelled {
+        text: texts.named("height_canonical"),
+    };
+    is_made(alloc, read(alloc, texts.named("height")), spelled)
+}
+
+// A CRS has this canonical text.
+#[derive(Clone, Copy)]
+struct Spelled<'t> {
+    text: &'t [u8],
+}
+
+impl<'a> Claim<Crs<'a>> for Spelled<'_> {
+    fn holds(self, alloc: Global, crs: &Crs<'a>) -> bool {
+        is_text(canon_of(alloc, crs, Level::Full), self.text)
     }
 }
 
-fn is_text_of(alloc: Global, crs: &Crs<'_>, expected: &[u8]) -> bool {
-    let answer: Result<Canon, AllocError> = canon_of(alloc, crs, Level::Full);
-    match answer {
+fn is_text(answer: Result<Canon, AllocError>, expected: &[u8]) -> bool {
+    match &answer {
         Ok(text) => text.bytes() == expected,
         Err(_error) => false,
     }
@@ -82,17 +91,29 @@ fn is_equal(text: &Canon, other: Result<Canon, Fault>) -> bool {
     }
 }
 
-fn identifiers_of<'c, 'a>(crs: &'c Crs<'a>) -> &'c [Ident<'a>] {
-    match crs {
-        Crs::Vertical(crs) => crs.tail.identifiers.as_slice(),
-        Crs::Geodetic(_) | Crs::Projected(_) | Crs::Compound(_) => &[],
+// The set of a vertical CRS's identifiers, which has this text.
+#[derive(Clone, Copy)]
+struct SetOfCodes<'t> {
+    text: &'t [u8],
+}
+
+impl<'a> Calls<Crs<'a>> for SetOfCodes<'_> {
+    fn count(self, alloc: Global, tally: &mut Tally<'_>, crs: &Crs<'a>) {
+        match crs {
+            Crs::Vertical(crs) => self.count_set(alloc, tally, crs.tail.identifiers.as_slice()),
+            Crs::Geodetic(_) | Crs::Projected(_) | Crs::Compound(_) => {
+                tally.count("crs_canon::Set", false)
+            }
+        }
     }
 }
 
-fn check_set(alloc: Global, tally: &mut Tally<'_>, texts: Texts<'_>, members: &[Ident<'_>]) {
-    tally.count("crs_canon::Set::same", set_is_same(members));
-    let agrees = set_is_written(alloc, members, texts.named("set_of_codes"));
-    tally.count("crs_canon::Set::write", agrees);
+impl SetOfCodes<'_> {
+    fn count_set(self, alloc: Global, tally: &mut Tally<'_>, members: &[Ident<'_>]) {
+        tally.count("crs_canon::Set::same", set_is_same(members));
+        let agrees = set_is_written(alloc, members, self.text);
+        tally.count("crs_canon::Set::write", agrees);
+    }
 }
 
 fn set_is_same(members: &[Ident<'_>]) -> bool {

@@ -10,6 +10,7 @@ mod decimals;
 mod desk;
 mod feeders;
 mod items;
+mod made;
 mod nodes;
 mod refusals;
 mod runs;

@@ -4,6 +4,7 @@ mod frames;
 mod parts;
 mod walks;
 
+use crate::made::{Calls, count_made};
 use crate::tally::Tally;
 use crate::texts::Texts;
 use crate::values::is_text_of;
@@ -35,15 +36,29 @@ pub fn check(alloc: Global, tally: &mut Tally<'_>, texts: Texts<'_>) {
 }
 
 fn check_text(alloc: Global, tally: &mut Tally<'_>, name: &str, text: &[u8]) {
-    match read(alloc, text) {
-        Ok(crs) => check_crs(alloc, tally, name, &crs),
-        Err(_fault) => tally.count("crs_canon::Canonical", false),
-    }
+    let nodes = Nodes {
+        is_polar: name == "polar",
+    };
+    count_made(
+        alloc,
+        tally,
+        "crs_canon::Canonical",
+        read(alloc, text),
+        nodes,
+    );
 }
 
-fn check_crs(alloc: Global, tally: &mut Tally<'_>, name: &str, crs: &Crs<'_>) {
-    tally.count("crs_canon::Canonical for Crs", is_own(alloc, crs));
-    walk_crs(tally, name == "polar", crs);
+// The nodes of a CRS, in the polar text or in another one.
+#[derive(Clone, Copy)]
+struct Nodes {
+    is_polar: bool,
+}
+
+impl<'a> Calls<Crs<'a>> for Nodes {
+    fn count(self, alloc: Global, tally: &mut Tally<'_>, crs: &Crs<'a>) {
+        tally.count("crs_canon::Canonical for Crs", is_own(alloc, crs));
+        walk_crs(tally, self.is_polar, crs);
+    }
 }
 
 // Checks the nodes of a text that no text before it has.

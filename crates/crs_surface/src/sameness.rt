@@ -1,91 +1,78 @@
 //! Sameness, and the first part that differs.
+use crate::made::{Calls, Claim, Pair, both, count_made, is_made};
 use crate::tally::Tally;
 use crate::texts::Texts;
 use crs_same::{Path, Step, first_part, same};
-use crs_text::Fault;
 use crs_value::{Crs, Level, read};
 use std::alloc::{AllocError, Global};
 
 pub fn check(alloc: Global, tally: &mut Tally<'_>, texts: Texts<'_>) {
     tally.count("crs_same::same", is_same(alloc, texts));
     tally.count("crs_same::first_part", has_none(alloc, texts));
-    match first_difference(alloc, texts) {
-        Some(path) => check_path(alloc, tally, &path),
-        None => tally.count("crs_same::Path", false),
-    }
-}
-
-// The CRSs of two texts.
-struct Pair<'t> {
-    first: Crs<'t>,
-    second: Crs<'t>,
-}
-
-// Hand-written: a derived drop is expanded wherever a value is dropped, which slows the proofs.
-impl Drop for Pair<'_> {
-    fn drop(self) {
-        let Pair {
-            first: _,
-            second: _,
-        } = self;
-    }
-}
-
-fn read_pair<'t>(alloc: Global, first: &'t [u8], second: &'t [u8]) -> Result<Pair<'t>, Fault> {
-    match read(alloc, first) {
-        Ok(first) => with_second(first, read(alloc, second)),
-        Err(fault) => Err(fault),
-    }
-}
-
-fn with_second<'t>(first: Crs<'t>, second: Result<Crs<'t>, Fault>) -> Result<Pair<'t>, Fault> {
-    match second {
-        Ok(second) => Ok(Pair { first, second }),
-        Err(fault) => Err(fault),
-    }
+    let first = read(alloc, texts.named("paris"));
+    let second = read(alloc, texts.named("paris_in_grads"));
+    count_made(alloc, tally, "crs_same::Path", both(first, second), PathTo);
 }
 
 // Identifiers don't count at the level of definition.
 fn is_same(alloc: Global, texts: Texts<'_>) -> bool {
-    let height = texts.named("height");
-    let identified = texts.named("identified");
-    are_same(alloc, height, identified, Level::Definition)
-        && !are_same(alloc, height, identified, Level::Full)
+    let first = read(alloc, texts.named("height"));
+    let second = read(alloc, texts.named("identified"));
+    is_made(alloc, both(first, second), AreByDefinition)
 }
 
-fn are_same<'t>(alloc: Global, first: &'t [u8], second: &'t [u8], level: Level) -> bool {
-    match read_pair(alloc, first, second) {
-        Ok(pair) => is_same_pair(&pair, level),
-        Err(_fault) => false,
+// Two CRSs are the same by definition alone.
+#[derive(Clone, Copy)]
+struct AreByDefinition;
+
+impl<'a> Claim<Pair<Crs<'a>>> for AreByDefinition {
+    fn holds(self, _alloc: Global, pair: &Pair<Crs<'a>>) -> bool {
+        same(&pair.first, &pair.second, Level::Definition)
+            && !same(&pair.first, &pair.second, Level::Full)
     }
-}
-
-fn is_same_pair(pair: &Pair<'_>, level: Level) -> bool {
-    same(&pair.first, &pair.second, level)
 }
 
 // Two CRSs that are the same differ in no part.
 fn has_none(alloc: Global, texts: Texts<'_>) -> bool {
-    let first = texts.named("geographic");
-    let second = texts.named("greenwich");
-    are_same(alloc, first, second, Level::Full) && difference(alloc, first, second).is_none()
+    let first = read(alloc, texts.named("geographic"));
+    let second = read(alloc, texts.named("greenwich"));
+    is_made(alloc, both(first, second), AreSame)
 }
 
-fn first_difference(alloc: Global, texts: Texts<'_>) -> Option<Path> {
-    let first = texts.named("paris");
-    let second = texts.named("paris_in_grads");
-    difference(alloc, first, second)
-}
+// Two CRSs are the same.
+#[derive(Clone, Copy)]
+struct AreSame;
 
-fn difference<'t>(alloc: Global, first: &'t [u8], second: &'t [u8]) -> Option<Path> {
-    match read_pair(alloc, first, second) {
-        Ok(pair) => difference_of(&pair),
-        Err(_fault) => None,
+impl<'a> Claim<Pair<Crs<'a>>> for AreSame {
+    fn holds(self, _alloc: Global, pair: &Pair<Crs<'a>>) -> bool {
+        same(&pair.first, &pair.second, Level::Full)
+            && is_none(first_part(&pair.first, &pair.second, Level::Full))
     }
 }
 
-fn difference_of(pair: &Pair<'_>) -> Option<Path> {
-    first_part(&pair.first, &pair.second, Level::Full)
+fn is_none(path: Option<Path>) -> bool {
+    path.is_none()
+}
+
+// The path to the first part in which two CRSs differ.
+#[derive(Clone, Copy)]
+struct PathTo;
+
+impl<'a> Calls<Pair<Crs<'a>>> for PathTo {
+    fn count(self, alloc: Global, tally: &mut Tally<'_>, pair: &Pair<Crs<'a>>) {
+        check_found(
+            alloc,
+            tally,
+            first_part(&pair.first, &pair.second, Level::Full),
+        );
+    }
+}
+
+fn check_found(alloc: Global, tally: &mut Tally<'_>, found: Option<Path>) {
+    match &found {
+        Some(path) => check_path(alloc, tally, path),
+        None => tally.count("crs_same::Path", false),
+    }
 }
 
 fn check_path(alloc: Global, tally: &mut Tally<'_>, path: &Path) {

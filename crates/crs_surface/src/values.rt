@@ -1,5 +1,5 @@
 //! Values.
-use crate::refusals::is_refused;
+use crate::made::{Claim, is_made, is_refused_at};
 use crate::tally::Tally;
 use crate::texts::Texts;
 use crate::written::{Text, Written};
@@ -46,23 +46,21 @@ fn check_texts(alloc: Global, tally: &mut Tally<'_>, texts: Texts<'_>) {
 
 fn is_read(alloc: Global) -> bool {
     let read: Result<Crs<'_>, Fault> = read(alloc, b"VERTCRS[\"H\",FOO]");
-    match read {
-        Ok(_crs) => false,
-        Err(fault) => is_refused(&fault, 12, 12),
-    }
+    is_refused_at(read, 12, 12)
 }
 
 fn has_value(alloc: Global, texts: Texts<'_>) -> bool {
-    match read_items(alloc, texts.named("height")) {
-        Ok(items) => is_value_vertical(alloc, &items),
-        Err(_fault) => false,
-    }
+    let read = read_items(alloc, texts.named("height"));
+    is_made(alloc, read, HasVertical)
 }
 
-fn is_value_vertical(alloc: Global, items: &Items<'_>) -> bool {
-    match value_of(alloc, items) {
-        Ok(crs) => is_kind(crs.kind(), "vertical"),
-        Err(_fault) => false,
+// The value of items is vertical.
+#[derive(Clone, Copy)]
+struct HasVertical;
+
+impl<'a> Claim<Items<'a>> for HasVertical {
+    fn holds(self, alloc: Global, items: &Items<'a>) -> bool {
+        is_made(alloc, value_of(alloc, items), IsOf { kind: "vertical" })
     }
 }
 
@@ -73,10 +71,19 @@ fn has_kinds(alloc: Global, texts: Texts<'_>) -> bool {
         && has_kind(alloc, texts.named("compound"), "compound")
 }
 
-fn has_kind(alloc: Global, text: &[u8], name: &str) -> bool {
-    match read(alloc, text) {
-        Ok(crs) => is_kind(crs.kind(), name),
-        Err(_fault) => false,
+fn has_kind(alloc: Global, text: &[u8], kind: &str) -> bool {
+    is_made(alloc, read(alloc, text), IsOf { kind })
+}
+
+// A CRS is of a kind.
+#[derive(Clone, Copy)]
+struct IsOf<'k> {
+    kind: &'k str,
+}
+
+impl<'a> Claim<Crs<'a>> for IsOf<'_> {
+    fn holds(self, _alloc: Global, crs: &Crs<'a>) -> bool {
+        is_kind(crs.kind(), self.kind)
     }
 }
 
@@ -146,9 +153,18 @@ fn is_compass(direction: Direction) -> bool {
 }
 
 fn is_written(alloc: Global, text: &[u8]) -> bool {
-    match read(alloc, text) {
-        Ok(crs) => is_text_of(alloc, &crs, text),
-        Err(_fault) => false,
+    is_made(alloc, read(alloc, text), IsWritten { text })
+}
+
+// A CRS is written as a text.
+#[derive(Clone, Copy)]
+struct IsWritten<'t> {
+    text: &'t [u8],
+}
+
+impl<'a> Claim<Crs<'a>> for IsWritten<'_> {
+    fn holds(self, alloc: Global, crs: &Crs<'a>) -> bool {
+        is_text_of(alloc, crs, self.text)
     }
 }
 
