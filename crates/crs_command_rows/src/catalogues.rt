@@ -14,11 +14,15 @@ pub fn put_catalogue(
     input: &[u8],
 ) -> Result<(), AllocError> {
     let mut catalogue = Catalogue::new(alloc, level);
+    put_calls(out, &mut catalogue, input)
+}
+
+fn put_calls(out: &mut String, catalogue: &mut Catalogue, input: &[u8]) -> Result<(), AllocError> {
     for (index, line) in input.split(|byte| *byte == b'\n').enumerate() {
         if index > 0 {
             out.push_str("; ")?;
         }
-        put_call(out, &mut catalogue, line)?;
+        put_call(out, catalogue, line)?;
     }
     Ok(())
 }

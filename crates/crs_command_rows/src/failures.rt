@@ -1,5 +1,6 @@
 //! Runs in which every read, or every write, fails in turn.
-use crate::runs::{Done, put_done, read_run, run};
+use crate::runs::{Command, Done, put_done, read_run, run};
+use crate::streams::Manner;
 use crs_value::Level;
 use std::alloc::{AllocError, Global};
 
@@ -15,21 +16,42 @@ pub fn put_failed_reads(
     words: &str,
     input: &[u8],
 ) -> Result<(), AllocError> {
-    let Some((command, mut manner)) = read_run(words) else {
+    let Some((command, manner)) = read_run(words) else {
         return out.push_str("no such run");
     };
     let whole = run(alloc, Level::Full, command, manner, input)?;
+    put_reads(out, alloc, command, manner, input, &whole.written)
+}
+
+fn put_reads(
+    out: &mut String,
+    alloc: Global,
+    command: Command,
+    mut manner: Manner,
+    input: &[u8],
+    whole: &[u8],
+) -> Result<(), AllocError> {
     for nth in 1..MOST {
         manner.fails_at = nth;
         let done = run(alloc, Level::Full, command, manner, input)?;
-        let failed = format!(in alloc; "fault ReadFailed, reads {nth}, source failed")?;
-        let is_left = done.written.is_empty()
-            || command.is_by_line() && are_first_lines(&done.written, &whole.written);
-        if done.told.as_str() != failed.as_str() || !is_left {
+        if !is_failed_read(alloc, command, nth, &done, whole)? {
             return put_behind(out, nth - 1, "reads", &done);
         }
     }
     out.push_str("no end of reads")
+}
+
+fn is_failed_read(
+    alloc: Global,
+    command: Command,
+    nth: u32,
+    done: &Done,
+    whole: &[u8],
+) -> Result<bool, AllocError> {
+    let failed = format!(in alloc; "fault ReadFailed, reads {nth}, source failed")?;
+    let is_left = done.written.is_empty()
+        || command.is_by_line() && are_first_lines(&done.written, whole);
+    Ok(done.told.as_str() == failed.as_str() && is_left)
 }
 
 fn are_first_lines(lines: &[u8], whole: &[u8]) -> bool {
