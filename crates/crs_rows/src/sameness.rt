@@ -164,7 +164,8 @@ fn put_semicolon(text: &mut Vec<u8>) -> Result<(), AllocError> {
     if text.is_empty() {
         return Ok(());
     }
-    text.push(b';')
+    text.push(b';')?;
+    Ok(())
 }
 
 fn put_values<'a>(
