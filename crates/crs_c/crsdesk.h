@@ -194,19 +194,20 @@ struct crsdesk_explained {
     struct crsdesk_refusal refusal;
     size_t line;   /* the line of its place, counted from 1; lines end at line feeds */
     size_t column; /* the character of that line, counted from 1 */
-    size_t node;   /* for 11 to 13 where the node begins in which something else is expected; else 0 */
+    size_t node;   /* where the node begins in which something else is expected; 0 where that isn't known */
 };
 
 /* What crsdesk_explain says, as PIECES. By index they are
 
    0  the piece of the line with a caret under the place, in two lines, each with a line feed
-   1  for a refusal of shape (11 to 13) the line of what is found and of what could come, with its line feed,
+   1  for 11 to 13, 21 and 25 the line of what is found and of what could stand there, with its line feed,
    2  the keyword of the node in which something else is expected, and
-   3  what is found at the place
-   4  what is open there, or which keyword was meant
+   3  what is found
+   4  what is open there, which name was meant, or which units are asked for (27)
    5  what the number means
    6  hints: what the text is, and what to do with it
-   7  and on: the name of each class that could come at the place, and `its closing delimiter` where the node may end
+   7  and on: the name of each that could stand there: for 11 to 13 classes, and `its closing delimiter` where the node
+      may end; for 21 the words that are known; for 25 the dimension
 
    A piece has no bytes where there is nothing to say; 4 to 6 have no line feed, and at most 1,000 bytes (proved).
 

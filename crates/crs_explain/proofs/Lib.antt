@@ -1,5 +1,5 @@
+pub mod ArgumentLemmas
 pub mod ExcerptLemmas
-pub mod ExpectedLineLemmas
 pub mod LineLemmas
 pub mod PieceLemmas
 pub mod ListedLemmas

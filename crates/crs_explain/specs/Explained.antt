@@ -3,16 +3,16 @@ use Rattle.std.specs.Prelude.{◌≡◌, ◌≤◌, ◌++◌, ◌∷◌, [], ℕ
 use Rattle.crs_text.specs.Refusal.{RefusedAt, refused_text}
 use Rattle.crs_text.specs.Position.{IsPosition, feeds}
 use Rattle.crs_text.specs.declared.position.Position.{Position}
-use Rattle.crs_shape.specs.Expected.{ExpectedParts}
 use Rattle.crs_explain.specs.Excerpt.{IsExcerpt}
-use Rattle.crs_explain.specs.Expected.{IsExpected, expected_part, expected_names, found_piece, node_piece}
+use Rattle.crs_explain.specs.Expected.{Expectation, IsExpected, expected_part, expected_names, found_pieces}
 use Rattle.crs_explain.specs.Expected.{place_of_node}
 
 -- words of a line: at most 1,000 bytes, none of which is a line feed
 abbrev pub AreWords : List ℕ → Type 0
 AreWords words = (feeds words ≡ 0) × (length words ≤ 1000)
 
--- what is open or was meant, what the number means, and hints; no words where nothing is to be said
+-- what is open, was meant or is asked for; what the number means; and hints; no words where nothing is
+-- to be said
 pub record Sentences : Type 0 where
   pub open_or_meant : List ℕ
   pub meaning : List ℕ
@@ -26,15 +26,15 @@ AreSentences s = AreWords s.open_or_meant × AreWords s.meaning × AreWords s.hi
 pub record Explanation : Type 0 where
   pub position : Position
   pub excerpt : List ℕ
-  pub expected : Option ExpectedParts
+  pub expected : Option Expectation
   pub sentences : Sentences
 
 -- the explanation of a text's refusal: the line and column of the place; a piece of the line and a
--- caret; for a refusal of shape what could come there; and sentences
+-- caret; what is found and what could stand there, where that is known; and sentences
 pub record Explains (text : List ℕ) (refusal : RefusedAt) (e : Explanation) : Type 0 where
   pub is_position : IsPosition text refusal.place e.position
   pub is_excerpt : IsExcerpt text refusal.place e.excerpt
-  pub is_expected : IsExpected text refusal.number e.expected
+  pub is_expected : IsExpected text refusal e.expected
   pub are_sentences : AreSentences e.sentences
 
 -- `refused N NAME at P, line L, column C`, and a line feed
@@ -53,22 +53,20 @@ abbrev pub sentence_lines : Sentences → List ℕ
 sentence_lines s = line_if_any s.open_or_meant ++ (s.meaning ++ 10 ∷ []) ++ line_if_any s.hints
 
 -- an explanation in lines
-abbrev pub explanation_text : List ℕ → RefusedAt → Explanation → List ℕ
-explanation_text text refusal e =
-    head refusal e.position ++ e.excerpt ++ expected_part text refusal.place e.expected
-    ++ sentence_lines e.sentences
+abbrev pub explanation_text : RefusedAt → Explanation → List ℕ
+explanation_text refusal e =
+    head refusal e.position ++ e.excerpt ++ expected_part e.expected ++ sentence_lines e.sentences
 
 -- the lines explain the text's refusal
 abbrev pub IsExplained : List ℕ → RefusedAt → List ℕ → Type 0
 IsExplained text refusal told =
-    (e : Explanation) × Explains text refusal e × (told ≡ explanation_text text refusal e)
+    (e : Explanation) × Explains text refusal e × (told ≡ explanation_text refusal e)
 
--- in this order the piece of the line with the caret, the line of what could come at this place, the
--- keyword of the node there, what is found, the three sentences, and the names of what could come
-abbrev pub pieces_told : List ℕ → ℕ → Explanation → List (List ℕ)
-pieces_told text place e =
-    e.excerpt ∷ expected_part text place e.expected ∷ node_piece text e.expected
-    ∷ found_piece text place e.expected ∷ e.sentences.open_or_meant ∷ e.sentences.meaning ∷ e.sentences.hints ∷ expected_names e.expected
+-- in this order the piece of the line with the caret; the line of what could stand there, the keyword of
+-- the node, and what is found; the three sentences; and the names of what could stand there
+abbrev pub pieces_told : Explanation → List (List ℕ)
+pieces_told e =
+    e.excerpt ∷ (found_pieces e.expected ++ e.sentences.open_or_meant ∷ e.sentences.meaning ∷ e.sentences.hints ∷ expected_names e.expected)
 
 -- an explanation as numbers and pieces: line and column, the place of that node, and these pieces
 pub record ExplainedPieces : Type 0 where
@@ -78,15 +76,15 @@ pub record ExplainedPieces : Type 0 where
   pub pieces : List (List ℕ)
 
 -- an explanation in this form
-abbrev pub explanation_pieces : List ℕ → RefusedAt → Explanation → ExplainedPieces
-explanation_pieces text refusal e = record {
+abbrev pub explanation_pieces : Explanation → ExplainedPieces
+explanation_pieces e = record {
   line = e.position.line;
   column = e.position.column;
   node = place_of_node e.expected;
-  pieces = pieces_told text refusal.place e;
+  pieces = pieces_told e;
 }
 
 -- the pieces explain the text's refusal
 abbrev pub AreExplainedPieces : List ℕ → RefusedAt → ExplainedPieces → Type 0
 AreExplainedPieces text refusal told =
-    (e : Explanation) × Explains text refusal e × (told ≡ explanation_pieces text refusal e)
+    (e : Explanation) × Explains text refusal e × (told ≡ explanation_pieces e)

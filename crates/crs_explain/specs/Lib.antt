@@ -1,3 +1,4 @@
+pub mod Around
 pub mod Cut
 pub mod Differing
 pub mod Escaped
@@ -6,4 +7,5 @@ pub mod Explained
 pub mod Excerpt
 pub mod Found
 pub mod Lines
+pub mod Names
 pub mod Pieces

@@ -3,9 +3,9 @@ ghost use Rattle.std.specs.Prelude.{◌≤◌, IfOk, length};
 ghost use Rattle.crs_explain.specs.Explained.{Explains};
 
 use crate::excerpt::excerpt;
-use crate::expected::{expectation, meant_at};
+use crate::expected::expectation;
+use crate::expected_texts::{ExpectedTexts, meant_in};
 use crate::sentences::{SentenceTexts, sentences};
-use crs_shape::Expected;
 use crs_text::{Position, Refusal, position_of};
 use std::alloc::{AllocError, Global};
 use std::marker::Model;
@@ -16,7 +16,7 @@ pub(crate) struct ExplanationOf {
     pub(crate) position: Position,
     /// The piece of the line and the caret, a line each.
     pub(crate) excerpt: Vec<u8>,
-    pub(crate) expected: Option<Expected>,
+    pub(crate) expected: Option<ExpectedTexts>,
     pub(crate) sentences: SentenceTexts,
 }
 
@@ -42,11 +42,11 @@ pub(crate) fn explanation(
     requires { refusal.place ≤ length text.now }
     ensures { IfOk result (Explains text.now refusal) }
 {
-    let (number, place) = (refusal.number(), refusal.place());
+    let place = refusal.place();
     let position = position_of(text, place);
     let excerpt = excerpt(alloc, text, place)?;
-    let expected = expectation(alloc, text, number)?;
-    let sentences = sentences(alloc, text, refusal, meant_at(text, place, &expected))?;
+    let expected = expectation(alloc, text, refusal)?;
+    let sentences = sentences(alloc, text, refusal, meant_in(&expected))?;
     Ok(ExplanationOf {
         position,
         excerpt,

@@ -3,19 +3,25 @@
 //! that differs. Each is one text for a person, and pieces for a program. Crates above know nothing of how they are made.
 #![tactic(auto)]
 
+mod around;
+mod axes;
 mod class_names;
 mod difference_texts;
 mod differences;
 mod escape;
 mod excerpt;
 mod expected;
+mod expected_texts;
 mod explanation;
 mod head;
+mod names;
 mod pieces;
 mod place;
 mod printed;
 mod refusal;
 mod sentences;
+mod units;
+mod unknown_word;
 
 pub use differences::{difference_pieces, differences_text};
 pub use escape::append_escaped;

@@ -79,7 +79,8 @@ pub(crate) fn append_name(alloc: Global, word: &[u8], out: &mut Vec<u8>) -> Resu
     }
 }
 
-fn front_of(word: &[u8], count: usize) -> &[u8]
+/// The first bytes of a word.
+pub(crate) fn front_of(word: &[u8], count: usize) -> &[u8]
     requires { count ≤ length word.now }
     ensures { result.now ≡ take count word.now }
 {

@@ -1,18 +1,19 @@
-//! What is open or was meant, what a number means, and hints.
+//! What is open, was meant or is asked for, what a number means, and hints.
 ghost use Rattle.std.specs.Prelude.{◌≡◌, ◌++◌, ◌∷◌, ◌≤◌, [], IfOk, OnOk, length, map};
 ghost use Rattle.crs_explain.specs.Explained.{AreSentences, AreWords, line_if_any, sentence_lines};
 ghost use Rattle.crs_explain.specs.Lines.{in_line};
 
 use crate::pieces::Pieces;
+use crate::units::units;
 use crs_hint::{hints, meaning, opened};
-use crs_text::{Keyword, Refusal, open_delimiter};
+use crs_text::{Refusal, open_delimiter};
 use std::alloc::{AllocError, Global};
 use std::marker::Model;
 
 // The most bytes of a line.
 const MOST: usize = 1000;
 
-/// What is open, or was meant; what the number means; and hints. No bytes where nothing is to be said.
+/// What is open, was meant or is asked for; what the number means; and hints. No bytes where nothing is to be said.
 #[derive(Drop)]
 pub(crate) struct SentenceTexts {
     open_or_meant: Vec<u8>,
@@ -55,18 +56,19 @@ impl SentenceTexts {
     }
 }
 
-/// What is open, or was meant, what the number means, and the hints.
+/// What is open, was meant or is asked for, what the number means, and the hints. A name that was likely meant has no
+/// bytes where there is none.
 pub(crate) fn sentences(
     alloc: Global,
     text: &[u8],
     refusal: Refusal,
-    near: Option<Keyword>,
+    meant: &[u8],
 ) -> Result<SentenceTexts, AllocError>
     ensures { IfOk result AreSentences }
 {
     let hints = hints(alloc, text, refusal.number(), refusal.place())?;
-    let near = if hints.is_empty() { near } else { None };
-    let before = open_or_meant(alloc, text, refusal, near)?;
+    let meant = if hints.is_empty() { meant } else { b"" };
+    let before = open_or_meant(alloc, text, refusal, meant)?;
     in_lines(alloc, &before, meaning(refusal.number()).as_bytes(), &hints)
 }
 
@@ -139,17 +141,17 @@ fn in_line(byte: u8) -> u8
     if byte == b'\n' { b' ' } else { byte }
 }
 
-// What is open at the place, or which keyword an unknown one nearly is.
+// What is open at the place, which units are asked for, or which name was meant.
 fn open_or_meant(
     alloc: Global,
     text: &[u8],
     refusal: Refusal,
-    near: Option<Keyword>,
+    meant: &[u8],
 ) -> Result<Vec<u8>, AllocError> {
-    match (refusal.number(), near) {
-        (6 | 7, _) => still_open(alloc, text, refusal.place()),
-        (11, Some(keyword)) => meant(alloc, keyword),
-        _ => Ok(Vec::new(alloc)),
+    match refusal.number() {
+        6 | 7 => still_open(alloc, text, refusal.place()),
+        27 => units(alloc, text, refusal.place()),
+        _ => did_you_mean(alloc, meant),
     }
 }
 
@@ -163,10 +165,13 @@ fn still_open(alloc: Global, text: &[u8], place: usize) -> Result<Vec<u8>, Alloc
     Ok(out)
 }
 
-// `Did you mean CS?`
-fn meant(alloc: Global, keyword: Keyword) -> Result<Vec<u8>, AllocError> {
-    let mut out = Vec::from_slice(alloc, b"Did you mean ")?;
-    out.extend_from_slice(keyword.spelling())?;
-    out.extend_from_slice(b"?")?;
+// `Did you mean CS?`, or nothing where no name was meant.
+fn did_you_mean(alloc: Global, name: &[u8]) -> Result<Vec<u8>, AllocError> {
+    let mut out = Vec::new(alloc);
+    if !name.is_empty() {
+        out.extend_from_slice(b"Did you mean ")?;
+        out.extend_from_slice(name)?;
+        out.extend_from_slice(b"?")?;
+    }
     Ok(out)
 }

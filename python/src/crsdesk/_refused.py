@@ -32,7 +32,7 @@ class Refused(ValueError):
                   text in UTF-8
     ``line``      the line of that byte, counted from 1; lines end at line feeds
     ``column``    the character of that line, counted from 1
-    ``expected``  what could come at the place, such as ``("PRIMEM", "CS")``; for a refusal of shape (11 to 13) alone
+    ``expected``  what could stand at the place, such as ``("PRIMEM", "CS")``; empty where that isn't known
     ``text``      the text, as bytes; None where it isn't kept, as by a ``Catalogue``
     ``which``     ``"first"`` or ``"second"`` where two texts were handed over, else None
     ``proj``      what is said of PROJ's reading, in a line, where it was asked (``Crs.from_user``), else None
@@ -97,8 +97,8 @@ class Refused(ValueError):
 
     @property
     def expected(self) -> Tuple[str, ...]:
-        """What could come at the place: keywords, ``a number``, ``a text in quotes``, ``a word``, and ``its closing
-        delimiter`` where the node may end. Empty where the number isn't 11 to 13."""
+        """What could stand at the place: for 11 to 13 keywords, ``a number``, ``a text in quotes``, ``a word``, and ``its
+        closing delimiter`` where the node may end; for 21 the words that are known; for 25 the dimension. Else empty."""
         return self._parts.expected
 
     @property
@@ -108,8 +108,8 @@ class Refused(ValueError):
 
     @property
     def hint(self) -> Optional[str]:
-        """What is open, which keyword was meant, what the text is and what to do with it, in a line or two; None where
-        none of it is known."""
+        """What is open, which name was meant, which units are asked for, what the text is and what to do with it, in a
+        line or two; None where none of it is known."""
         return "\n".join(self.hints_of_file()) or None
 
     @property

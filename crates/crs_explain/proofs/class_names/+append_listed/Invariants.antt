@@ -1,5 +1,0 @@
-use Rattle.std.proofs.Common.{length}
-use Rattle.crs_explain.proofs.class_names.+append_listed.Given as goal
-
-abbrev pub decreases-append_listed : goal.decreases-append_listed
-decreases-append_listed l = length l.classes.now

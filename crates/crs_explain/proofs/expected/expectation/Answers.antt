@@ -1,0 +1,10 @@
+use Rattle.crs_explain.proofs.PartLemmas.{of_item, of_refused}
+use Rattle.crs_explain.proofs.expected.expectation.Goals as goal
+
+pub returns-in_ok-found-in-Ok : goal.returns-in_ok-found-in-Ok
+returns-in_ok-found-in-Ok c =
+    of_item c.args.text.now _ _ _ c.one_answer.ensures.node c.in-Ok.ensures c.in_ok-found-in-Ok.ensures
+
+pub returns-in-Err-Refused : goal.returns-in-Err-Refused
+returns-in-Err-Refused c =
+    of_refused c.args.text.now _ _ _ c.one_answer.ensures.apart (rw c.in-Err-Refused.field-0-is at c.in-Err-Refused.ensures)

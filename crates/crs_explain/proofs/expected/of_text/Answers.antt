@@ -1,9 +1,0 @@
-use Rattle.crs_explain.proofs.PartLemmas.{of_item, of_refused}
-use Rattle.crs_explain.proofs.expected.of_text.Goals as goal
-
-pub returns-in-Ok : goal.returns-in-Ok
-returns-in-Ok c = of_item c.args.text.now _ c.expected.result c.one_answer.ensures.node c.in-Ok.ensures c.expected.ensures
-
-pub returns-in-Err-Refused : goal.returns-in-Err-Refused
-returns-in-Err-Refused c =
-    of_refused c.args.text.now _ _ c.one_answer.ensures.apart (rw c.in-Err-Refused.field-0-is at c.in-Err-Refused.ensures)

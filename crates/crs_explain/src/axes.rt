@@ -1,0 +1,77 @@
+//! Axes that are more or fewer than the dimension of their coordinate system.
+ghost use Rattle.std.specs.Prelude.{◌≡◌, ◌++◌, ◌≤◌, IfOk, OnOk, if◌then◌else◌};
+ghost use Rattle.crs_text.specs.Items.{HasId, arguments};
+ghost use Rattle.crs_value.specs.Reading.{item_at};
+ghost use Rattle.crs_explain.specs.Expected.{axes_among, axes_expectation, axes_text, raw_at};
+
+use crate::around::{crs_around, is_called, part_around};
+use crate::expected_texts::{ExpectedTexts, texts_of_one};
+use crate::unknown_word::append_shown;
+use crs_text::{ItemId, Items, Keyword};
+use itoa::Buffer;
+use std::alloc::{AllocError, Global};
+
+/// What is expected at a `CS`: in its CRS so many axes are found, and another dimension is said.
+pub(crate) fn axes_expected(
+    alloc: Global,
+    items: &Items<'_>,
+    place: usize,
+) -> Result<ExpectedTexts, AllocError>
+    ensures { IfOk result (λ e. e ≡ axes_expectation place items.now) }
+{
+    let crs = crs_around(items, place);
+    let system = part_around(items, place);
+    let axes = axes_in(items, crs);
+    let mut found = Vec::new(alloc);
+    append_axes(axes, &mut found)?;
+    let mut dimension = Vec::new(alloc);
+    append_shown(raw_at(items, system, 1), &mut dimension)?;
+    texts_of_one(alloc, items.raw(crs), items.place(crs), found, &dimension)
+}
+
+// How many axes a CRS has.
+fn axes_in(items: &Items<'_>, id: ItemId) -> usize
+    requires { HasId items.now id }
+    ensures { result ≡ axes_among (arguments (item_at items.now id)) }
+{
+    // The axes are no more than the arguments, whose number is a usize.
+    let _most = items.arg_count(id);
+    let mut count = 0;
+    let mut at = items.arg(id, 0);
+    while let Some(argument) = at {
+        count += one_if(is_called(items, argument, Keyword::Axis));
+        at = items.next(argument);
+    }
+    count
+}
+
+fn one_if(is_one: bool) -> usize
+    ensures value { result ≡ (if is_one then 1 else 0) }
+    ensures small { result ≤ 1 }
+{
+    if is_one { 1 } else { 0 }
+}
+
+/// An argument of a node as it is written, the first at 0; nothing where there is none.
+pub(crate) fn raw_at<'a>(items: &Items<'a>, id: ItemId, i: usize) -> &'a [u8]
+    requires { HasId items.now id }
+    ensures { result.now ≡ raw_at i (item_at items.now id) }
+{
+    match items.arg(id, i) {
+        Some(argument) => items.raw(argument),
+        None => b"",
+    }
+}
+
+// `1 axis`, `2 axes`.
+fn append_axes(axes: usize, out: &mut Vec<u8>) -> Result<(), AllocError>
+    ensures { OnOk result (out.new.items ≡ out.old.items ++ axes_text axes) }
+{
+    let mut digits = Buffer::new();
+    out.extend_from_slice(digits.format(axes).as_bytes())?;
+    if axes == 1 {
+        out.extend_from_slice(b" axis")
+    } else {
+        out.extend_from_slice(b" axes")
+    }
+}

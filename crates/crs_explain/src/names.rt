@@ -1,0 +1,91 @@
+//! Names of what could stand at a place, each by itself and listed.
+ghost use Rattle.std.specs.Prelude.{◌≡◌, ◌++◌, ◌∷◌, [], OnOk, codes, drop, length, ◌<◌};
+ghost use Rattle.crs_explain.specs.Names.{listed};
+
+use crate::pieces::Pieces;
+use std::alloc::{AllocError, Global};
+use std::marker::Model;
+
+/// A name, as bytes. Profile.
+#[derive(Drop)]
+pub(crate) struct Name {
+    bytes: Vec<u8>,
+}
+
+impl Model for Name {
+    ghost use Rattle.std.specs.Prelude.{ℕ, List};
+
+    ghost Value = { List ℕ };
+
+    ghost view = { λ n. n.bytes.items };
+}
+
+impl Name {
+    /// Its bytes.
+    pub(crate) fn bytes(&self) -> &[u8]
+        ensures { result.now ≡ self.now }
+    {
+        &self.bytes
+    }
+}
+
+/// Adds a name behind others.
+pub(crate) fn push_name(alloc: Global, bytes: &[u8], out: &mut Vec<Name>) -> Result<(), AllocError>
+    ensures { OnOk result (out.new.items ≡ out.old.items ++ bytes.now ∷ []) }
+{
+    let bytes = Vec::from_slice(alloc, bytes)?;
+    out.push(Name { bytes })?;
+    Ok(())
+}
+
+/// Appends names with commas between, and an `or` before the last.
+pub(crate) fn append_listed(names: &[Name], out: &mut Vec<u8>) -> Result<(), AllocError>
+    ensures { OnOk result (out.new.items ≡ out.old.items ++ listed names.now) }
+{
+    if names.len() < 3 {
+        return append_few(names, out);
+    }
+    out.extend_from_slice(names[0].bytes())?;
+    out.extend_from_slice(b", ")?;
+    append_listed(behind_first(names), out)?;
+    Ok(())
+}
+
+fn behind_first(names: &[Name]) -> &[Name]
+    ensures { result.now ≡ drop 1 names.now }
+{
+    match names {
+        [] => names,
+        [_, others @ ..] => others,
+    }
+}
+
+fn append_few(names: &[Name], out: &mut Vec<u8>) -> Result<(), AllocError>
+    requires { length names.now < 3 }
+    ensures { OnOk result (out.new.items ≡ out.old.items ++ listed names.now) }
+{
+    match names {
+        [] => Ok(()),
+        [only] => out.extend_from_slice(only.bytes()),
+        [first, last] => append_two(first, last, out),
+        _ => unreachable!(),
+    }
+}
+
+fn append_two(first: &Name, last: &Name, out: &mut Vec<u8>) -> Result<(), AllocError>
+    ensures { OnOk result (out.new.items ≡ out.old.items ++ (first.now ++ codes " or " ++ last.now)) }
+{
+    out.extend_from_slice(first.bytes())?;
+    out.extend_from_slice(b" or ")?;
+    out.extend_from_slice(last.bytes())
+}
+
+/// Adds each name to pieces.
+pub(crate) fn push_each(names: &[Name], out: &mut Pieces) -> Result<(), AllocError>
+    ensures { OnOk result (out.new ≡ out.old ++ names.now) }
+{
+    for name in names {
+        out.push(name.bytes())?;
+    }
+    Ok(())
+}

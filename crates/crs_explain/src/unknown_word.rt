@@ -1,0 +1,124 @@
+//! A word that is no type of a coordinate system, or no direction of an axis.
+ghost use Rattle.std.specs.Prelude.{◌≡◌, ◌++◌, IfOk, OnOk, map};
+ghost use Rattle.crs_shape.specs.Words.{direction_word, system_word};
+ghost use Rattle.crs_explain.specs.Expected.{every_direction, every_type, known_words, word_expectation, word_shown};
+
+use crate::around::{is_called, part_around};
+use crate::expected_texts::{ExpectedTexts, texts_of};
+use crate::names::{Name, push_name};
+use crate::place::{front_of, rest_of, word_at};
+use crs_shape::{Direction, SystemType};
+use crs_text::{Items, Keyword};
+use std::alloc::{AllocError, Global};
+
+// How many bytes of a word are shown.
+const SHOWN: usize = 40;
+
+const TYPES: [SystemType; 4] = [
+    SystemType::Cartesian,
+    SystemType::Ellipsoidal,
+    SystemType::Spherical,
+    SystemType::Vertical,
+];
+
+const DIRECTIONS: [Direction; 22] = [
+    Direction::North,
+    Direction::NorthNorthEast,
+    Direction::NorthEast,
+    Direction::EastNorthEast,
+    Direction::East,
+    Direction::EastSouthEast,
+    Direction::SouthEast,
+    Direction::SouthSouthEast,
+    Direction::South,
+    Direction::SouthSouthWest,
+    Direction::SouthWest,
+    Direction::WestSouthWest,
+    Direction::West,
+    Direction::WestNorthWest,
+    Direction::NorthWest,
+    Direction::NorthNorthWest,
+    Direction::GeocentricX,
+    Direction::GeocentricY,
+    Direction::GeocentricZ,
+    Direction::Up,
+    Direction::Down,
+    Direction::Unspecified,
+];
+
+/// What is expected at a word that isn't known: in its `CS` or `AXIS` the word is found, and all that are known there
+/// are expected.
+pub(crate) fn word_expected(
+    alloc: Global,
+    text: &[u8],
+    items: &Items<'_>,
+    place: usize,
+) -> Result<ExpectedTexts, AllocError>
+    ensures { IfOk result (λ e. e ≡ word_expectation text.now place items.now) }
+{
+    let part = part_around(items, place);
+    let mut found = Vec::new(alloc);
+    append_shown(word_at(rest_of(text, place)), &mut found)?;
+    let mut names = Vec::new(alloc);
+    push_known(alloc, is_called(items, part, Keyword::Cs), &mut names)?;
+    texts_of(alloc, items.raw(part), items.place(part), found, names)
+}
+
+/// Appends a word as it is written, or the front of a long one.
+pub(crate) fn append_shown(word: &[u8], out: &mut Vec<u8>) -> Result<(), AllocError>
+    ensures { OnOk result (out.new.items ≡ out.old.items ++ word_shown word.now) }
+{
+    if word.len() <= SHOWN {
+        out.extend_from_slice(word)
+    } else {
+        out.extend_from_slice(front_of(word, SHOWN))?;
+        out.extend_from_slice(b"..")
+    }
+}
+
+// The words of all types, or of all directions.
+fn push_known(alloc: Global, is_type: bool, out: &mut Vec<Name>) -> Result<(), AllocError>
+    ensures { OnOk result (out.new.items ≡ out.old.items ++ known_words is_type) }
+{
+    if is_type {
+        push_every_type(alloc, out)
+    } else {
+        push_every_direction(alloc, out)
+    }
+}
+
+#[tactic(auto, unfolding(crate::specs::Expected::every_type))]
+fn push_every_type(alloc: Global, out: &mut Vec<Name>) -> Result<(), AllocError>
+    ensures { OnOk result (out.new.items ≡ out.old.items ++ map system_word every_type) }
+{
+    push_types(alloc, &TYPES, out)
+}
+
+#[tactic(auto, unfolding(crate::specs::Expected::every_direction))]
+fn push_every_direction(alloc: Global, out: &mut Vec<Name>) -> Result<(), AllocError>
+    ensures { OnOk result (out.new.items ≡ out.old.items ++ map direction_word every_direction) }
+{
+    push_directions(alloc, &DIRECTIONS, out)
+}
+
+fn push_types(alloc: Global, types: &[SystemType], out: &mut Vec<Name>) -> Result<(), AllocError>
+    ensures { OnOk result (out.new.items ≡ out.old.items ++ map system_word types.now) }
+{
+    for system_type in types {
+        push_name(alloc, system_type.word().as_bytes(), out)?;
+    }
+    Ok(())
+}
+
+fn push_directions(
+    alloc: Global,
+    directions: &[Direction],
+    out: &mut Vec<Name>,
+) -> Result<(), AllocError>
+    ensures { OnOk result (out.new.items ≡ out.old.items ++ map direction_word directions.now) }
+{
+    for direction in directions {
+        push_name(alloc, direction.word().as_bytes(), out)?;
+    }
+    Ok(())
+}
