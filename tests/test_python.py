@@ -228,7 +228,7 @@ def are_all_parts(refused: Refused) -> bool:
         head == f"{refused.summary}, line {refused.line}, column {refused.column}"
         and "\n".join(lines[:2]) == refused.piece()
         and listed == ", ".join(names)
-        and bool(expected) == (11 <= refused.number <= 13)
+        and bool(expected) == (refused.number in {11, 12, 13, 21, 25})
         and sorted(lines[2 + len(expected) :]) == sorted([refused.meaning, *hints])
     )
 
@@ -242,7 +242,9 @@ EXPECTED = {
     "number-in-quotes": ("a number",),
     "direction-in-quotes": ("a word",),
     "decimal-comma": ("LENGTHUNIT", "ID", "its closing delimiter"),
-    "direction-misspelt": (),
+    "type-misspelt": ("Cartesian", "ellipsoidal", "spherical", "vertical"),
+    "axes-of-a-part-too-many": ("1",),
+    "unit-of-another-kind": (),
     "comma-missing": (),
 }
 HINT = {
@@ -251,6 +253,7 @@ HINT = {
     "keyword-misspelt": "Did you mean ELLIPSOID?",
     "system-left-out": None,
     "semicolon-for-comma": "Arguments are separated by commas.",
+    "unit-of-another-kind": "found LENGTHUNIT in AXIS at 66, expected ANGLEUNIT",
 }
 
 

@@ -455,9 +455,9 @@ static void explained_in_pieces(const struct asked *it, const struct crsdesk_ref
     }
     if (whole.text.length != lines->length || memcmp(whole.text.at, lines->at, lines->length) != 0)
         wrong(answer, "the pieces aren't those of the explanation");
-    int is_of_shape = why->number >= 11 && why->number <= 13;
-    if ((pieces.count > 7) != is_of_shape || (piece(&pieces, 3).length > 0) != is_of_shape)
-        wrong(answer, "what could come isn't told of a refusal of shape, or is of another");
+    int is_known = (why->number >= 11 && why->number <= 13) || why->number == 21 || why->number == 25;
+    if ((pieces.count > 7) != is_known || (piece(&pieces, 3).length > 0) != is_known)
+        wrong(answer, "what could stand there isn't told of 11 to 13, 21 or 25, or is of another number");
     free(whole.text.at);
     give_pieces_back(&pieces);
 }
