@@ -1,12 +1,12 @@
 -- What is expected at a refusal of a text whose items are read, or that has none.
-use Rattle.std.proofs.Common.{◌≡◌, ◌≢◌, ◌<◌, ℕ, List, Option, Some, None, MatchOption, inl, inr, refl, subst, sym, ◌∙◌, arith}
+use Rattle.std.proofs.Common.{◌≡◌, ◌<◌, ℕ, List, Option, None, MatchOption, inl, inr, refl, subst, ◌∙◌, arith}
 use Rattle.crs_text.specs.Items.{Item}
 use Rattle.crs_text.specs.Refusal.{RefusedAt}
 use Rattle.crs_text.specs.TextFault.{SpellsNode, RefusesText}
 use Rattle.crs_shape.specs.Expected.{ExpectedParts, ExpectedAtRoot}
 use Rattle.crs_shape.specs.FaultPlace.{IsShapeNumber}
 use Rattle.crs_shape.specs.ShapeFault.{AtRoot, IsFree}
-use Rattle.crs_explain.specs.Expected.{Expectation, IsExpected, IsExpectedIn, axes_expectation, shape_expectation, word_expectation}
+use Rattle.crs_explain.specs.Expected.{Expectation, IsExpected, IsExpectedIn, shape_expectation}
 
 -- what is expected of the item is expected of the text
 pub of_item : (text : List ℕ) (refusal : RefusedAt) (item : Item) (found : Option Expectation) →
@@ -38,7 +38,7 @@ abbrev pub IsOfShape : List ℕ → ℕ → Item → Option Expectation → Type
 IsOfShape text place item found = MatchOption found (IsFree (AtRoot item)) (λ e.
     (parts : ExpectedParts) × ExpectedAtRoot item parts × (e ≡ shape_expectation text place parts))
 
--- what is expected, by the number and the place of the refusal
+-- what is expected at a refusal of shape, by its number and its place
 pub of_shape : (text : List ℕ) (refusal : RefusedAt) (item : Item) (found : Option Expectation) (number place : ℕ) →
     number ≡ refusal.number → place ≡ refusal.place → IsShapeNumber number → IsOfShape text place item found →
     IsExpectedIn text refusal item found
@@ -47,33 +47,4 @@ of_shape text refusal item found number place n p shape is = record {
   word = λ e. absurd (no_shape number 21 shape (n ∙ e) (omega arith));
   axes = λ e. absurd (no_shape number 25 shape (n ∙ e) (omega arith));
   other = λ no _ _. absurd (no (subst IsShapeNumber n shape));
-}
-
-pub of_word : (text : List ℕ) (refusal : RefusedAt) (item : Item) (found : Option Expectation) (number place : ℕ) →
-    number ≡ refusal.number → place ≡ refusal.place → number ≡ 21 → found ≡ Some (word_expectation text place item) →
-    IsExpectedIn text refusal item found
-of_word text refusal item found number place n p is e = record {
-  shape = λ shape. absurd (no_shape refusal.number 21 shape (sym n ∙ is) (omega arith));
-  word = λ _. subst (λ at. found ≡ Some (word_expectation text at item)) p e;
-  axes = λ f. absurd (omega (arith, n, is, f));
-  other = λ _ no _. absurd (no (sym n ∙ is));
-}
-
-pub of_axes : (text : List ℕ) (refusal : RefusedAt) (item : Item) (found : Option Expectation) (number place : ℕ) →
-    number ≡ refusal.number → place ≡ refusal.place → number ≡ 25 → found ≡ Some (axes_expectation place item) →
-    IsExpectedIn text refusal item found
-of_axes text refusal item found number place n p is e = record {
-  shape = λ shape. absurd (no_shape refusal.number 25 shape (sym n ∙ is) (omega arith));
-  word = λ f. absurd (omega (arith, n, is, f));
-  axes = λ _. subst (λ at. found ≡ Some (axes_expectation at item)) p e;
-  other = λ _ _ no. absurd (no (sym n ∙ is));
-}
-
-pub of_none : (text : List ℕ) (refusal : RefusedAt) (item : Item) (number : ℕ) → number ≡ refusal.number →
-    ¬ (IsShapeNumber number) → number ≢ 21 → number ≢ 25 → IsExpectedIn text refusal item None
-of_none text refusal item number n shape word axes = record {
-  shape = λ is. absurd (shape (subst IsShapeNumber (sym n) is));
-  word = λ e. absurd (word (n ∙ e));
-  axes = λ e. absurd (axes (n ∙ e));
-  other = λ _ _ _. refl;
 }

@@ -1,5 +1,5 @@
 -- How the refusal of a text is explained: to a person in some lines, and to a program in pieces.
-use Rattle.std.specs.Prelude.{◌≡◌, ◌≤◌, ◌++◌, ◌∷◌, [], ℕ, List, Option, Some, None, length, codes, decimal}
+use Rattle.std.specs.Prelude.{◌≡◌, ◌≤◌, ◌++◌, ◌∷◌, [], ℕ, List, Option, length, codes, decimal}
 use Rattle.crs_text.specs.Refusal.{RefusedAt, refused_text}
 use Rattle.crs_text.specs.Position.{IsPosition, feeds}
 use Rattle.crs_text.specs.declared.position.Position.{Position}
