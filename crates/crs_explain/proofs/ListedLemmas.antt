@@ -1,6 +1,6 @@
 -- Names with commas between.
 use Rattle.std.proofs.Common.{◌≡◌, ◌≤◌, ◌++◌, ◌∷◌, [], ℕ, List, codes, length, drop, get_or, arith, ap, ◌∙◌, sym, append_assoc}
-use Rattle.crs_explain.specs.Names.{listed}
+use Rattle.crs_explain.specs.Expectation.{listed}
 
 -- a name that has two after it is before a comma
 pub listed_more : (names : List (List ℕ)) (d : List ℕ) → 3 ≤ length names →

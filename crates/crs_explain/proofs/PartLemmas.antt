@@ -1,12 +1,12 @@
 -- What is expected at a refusal of a text whose items are read, or that has none.
-use Rattle.std.proofs.Common.{◌≡◌, ◌<◌, ℕ, List, Option, None, MatchOption, inl, inr, refl, subst, ◌∙◌, arith}
+use Rattle.std.proofs.Common.{◌≡◌, ◌<◌, ℕ, List, Option, None, inl, inr, refl, subst, ◌∙◌, arith}
 use Rattle.crs_text.specs.Items.{Item}
 use Rattle.crs_text.specs.Refusal.{RefusedAt}
 use Rattle.crs_text.specs.TextFault.{SpellsNode, RefusesText}
-use Rattle.crs_shape.specs.Expected.{ExpectedParts, ExpectedAtRoot}
 use Rattle.crs_shape.specs.FaultPlace.{IsShapeNumber}
-use Rattle.crs_shape.specs.ShapeFault.{AtRoot, IsFree}
-use Rattle.crs_explain.specs.Expected.{Expectation, IsExpected, IsExpectedIn, shape_expectation}
+use Rattle.crs_explain.specs.Expectation.{Expectation}
+use Rattle.crs_explain.specs.Expected.{IsExpected, IsExpectedIn}
+use Rattle.crs_explain.specs.ExpectedClasses.{IsShapeExpected}
 
 -- what is expected of the item is expected of the text
 pub of_item : (text : List ℕ) (refusal : RefusedAt) (item : Item) (found : Option Expectation) →
@@ -34,16 +34,12 @@ no_shape n m (inl e) f high = omega (arith, e, f, high)
 no_shape n m (inr (inl e)) f high = omega (arith, e, f, high)
 no_shape n m (inr (inr e)) f high = omega (arith, e, f, high)
 
-abbrev pub IsOfShape : List ℕ → ℕ → Item → Option Expectation → Type 0
-IsOfShape text place item found = MatchOption found (IsFree (AtRoot item)) (λ e.
-    (parts : ExpectedParts) × ExpectedAtRoot item parts × (e ≡ shape_expectation text place parts))
-
 -- what is expected at a refusal of shape, by its number and its place
 pub of_shape : (text : List ℕ) (refusal : RefusedAt) (item : Item) (found : Option Expectation) (number place : ℕ) →
-    number ≡ refusal.number → place ≡ refusal.place → IsShapeNumber number → IsOfShape text place item found →
+    number ≡ refusal.number → place ≡ refusal.place → IsShapeNumber number → IsShapeExpected text place item found →
     IsExpectedIn text refusal item found
 of_shape text refusal item found number place n p shape is = record {
-  shape = λ _. subst (λ at. IsOfShape text at item found) p is;
+  shape = λ _. subst (λ at. IsShapeExpected text at item found) p is;
   word = λ e. absurd (no_shape number 21 shape (n ∙ e) (omega arith));
   axes = λ e. absurd (no_shape number 25 shape (n ∙ e) (omega arith));
   other = λ no _ _. absurd (no (subst IsShapeNumber n shape));

@@ -4,8 +4,8 @@ use Rattle.crs_text.specs.Refusal.{RefusedAt, refused_text}
 use Rattle.crs_text.specs.Position.{IsPosition, feeds}
 use Rattle.crs_text.specs.declared.position.Position.{Position}
 use Rattle.crs_explain.specs.Excerpt.{IsExcerpt}
-use Rattle.crs_explain.specs.Expected.{Expectation, IsExpected, expected_part, expected_names, found_pieces}
-use Rattle.crs_explain.specs.Expected.{place_of_node}
+use Rattle.crs_explain.specs.Expectation.{Expectation, expected_line, or_nothing}
+use Rattle.crs_explain.specs.Expected.{IsExpected}
 
 -- words of a line: at most 1,000 bytes, none of which is a line feed
 abbrev pub AreWords : List ℕ → Type 0
@@ -55,7 +55,7 @@ sentence_lines s = line_if_any s.open_or_meant ++ (s.meaning ++ 10 ∷ []) ++ li
 -- an explanation in lines
 abbrev pub explanation_text : RefusedAt → Explanation → List ℕ
 explanation_text refusal e =
-    head refusal e.position ++ e.excerpt ++ expected_part e.expected ++ sentence_lines e.sentences
+    head refusal e.position ++ e.excerpt ++ expected_line (or_nothing e.expected) ++ sentence_lines e.sentences
 
 -- the lines explain the text's refusal
 abbrev pub IsExplained : List ℕ → RefusedAt → List ℕ → Type 0
@@ -66,7 +66,9 @@ IsExplained text refusal told =
 -- the node, and what is found; the three sentences; and the names of what could stand there
 abbrev pub pieces_told : Explanation → List (List ℕ)
 pieces_told e =
-    e.excerpt ∷ (found_pieces e.expected ++ e.sentences.open_or_meant ∷ e.sentences.meaning ∷ e.sentences.hints ∷ expected_names e.expected)
+    e.excerpt ∷ expected_line (or_nothing e.expected) ∷ (or_nothing e.expected).node
+    ∷ (or_nothing e.expected).found ∷ e.sentences.open_or_meant ∷ e.sentences.meaning ∷ e.sentences.hints
+    ∷ (or_nothing e.expected).names
 
 -- an explanation as numbers and pieces: line and column, the place of that node, and these pieces
 pub record ExplainedPieces : Type 0 where
@@ -80,7 +82,7 @@ abbrev pub explanation_pieces : Explanation → ExplainedPieces
 explanation_pieces e = record {
   line = e.position.line;
   column = e.position.column;
-  node = place_of_node e.expected;
+  node = (or_nothing e.expected).place;
   pieces = pieces_told e;
 }
 

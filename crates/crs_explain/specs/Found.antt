@@ -12,11 +12,13 @@ is_of_word b = is_ascii_alphanumeric b || b == 95
 abbrev pub word_of : List ℕ → List ℕ
 word_of bytes = take (prefix_len is_of_word bytes) bytes
 
--- a word in capitals; for a longer one the first 40 bytes
+-- a word as it is written; of a longer one the first 40 bytes
+abbrev pub word_shown : List ℕ → List ℕ
+word_shown word = if nat_le (length word) 40 then word else take 40 word ++ codes ".."
+
+-- the same in capitals
 abbrev pub named_by : List ℕ → List ℕ
-named_by word =
-    if nat_le (length word) 40 then map to_ascii_uppercase word
-    else map to_ascii_uppercase (take 40 word) ++ codes ".."
+named_by word = map to_ascii_uppercase (word_shown word)
 
 -- the first byte, 0 where there is none
 abbrev pub first_byte : List ℕ → ℕ

@@ -2,10 +2,13 @@ pub mod Around
 pub mod Cut
 pub mod Differing
 pub mod Escaped
+pub mod Expectation
 pub mod Expected
+pub mod ExpectedAxes
+pub mod ExpectedClasses
+pub mod ExpectedWords
 pub mod Explained
 pub mod Excerpt
 pub mod Found
 pub mod Lines
-pub mod Names
 pub mod Pieces

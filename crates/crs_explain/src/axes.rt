@@ -1,14 +1,13 @@
 //! Axes that are more or fewer than the dimension of their coordinate system.
 ghost use Rattle.std.specs.Prelude.{◌≡◌, ◌++◌, ◌≤◌, IfOk, OnOk, if◌then◌else◌};
-ghost use Rattle.crs_text.specs.Items.{HasId, arguments};
+ghost use Rattle.crs_text.specs.Items.{HasId, arguments, first_of, raw_of, skip};
 ghost use Rattle.crs_value.specs.Reading.{item_at};
-ghost use Rattle.crs_explain.specs.Expected.{axes_among, axes_expectation, axes_text, raw_at};
+ghost use Rattle.crs_explain.specs.ExpectedAxes.{axes_among, axes_expectation, axes_text};
 
 use crate::around::{crs_around, is_called, part_around};
 use crate::expected_texts::{ExpectedTexts, texts_of_one};
-use crate::unknown_word::append_shown;
+use crate::number::append_number;
 use crs_text::{ItemId, Items, Keyword};
-use itoa::Buffer;
 use std::alloc::{AllocError, Global};
 
 /// What is expected at a `CS`: in its CRS so many axes are found, and another dimension is said.
@@ -24,9 +23,8 @@ pub(crate) fn axes_expected(
     let axes = axes_in(items, crs);
     let mut found = Vec::new(alloc);
     append_axes(axes, &mut found)?;
-    let mut dimension = Vec::new(alloc);
-    append_shown(raw_at(items, system, 1), &mut dimension)?;
-    texts_of_one(alloc, items.raw(crs), items.place(crs), found, &dimension)
+    let dimension = raw_at(items, system, 1);
+    texts_of_one(alloc, items.raw(crs), items.place(crs), found, dimension)
 }
 
 // How many axes a CRS has.
@@ -55,7 +53,7 @@ fn one_if(is_one: bool) -> usize
 /// An argument of a node as it is written, the first at 0; nothing where there is none.
 pub(crate) fn raw_at<'a>(items: &Items<'a>, id: ItemId, i: usize) -> &'a [u8]
     requires { HasId items.now id }
-    ensures { result.now ≡ raw_at i (item_at items.now id) }
+    ensures { result.now ≡ raw_of (first_of (skip i (arguments (item_at items.now id)))) }
 {
     match items.arg(id, i) {
         Some(argument) => items.raw(argument),
@@ -67,8 +65,7 @@ pub(crate) fn raw_at<'a>(items: &Items<'a>, id: ItemId, i: usize) -> &'a [u8]
 fn append_axes(axes: usize, out: &mut Vec<u8>) -> Result<(), AllocError>
     ensures { OnOk result (out.new.items ≡ out.old.items ++ axes_text axes) }
 {
-    let mut digits = Buffer::new();
-    out.extend_from_slice(digits.format(axes).as_bytes())?;
+    append_number(axes, out)?;
     if axes == 1 {
         out.extend_from_slice(b" axis")
     } else {

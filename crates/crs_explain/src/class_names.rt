@@ -2,7 +2,7 @@
 ghost use Rattle.std.specs.Prelude.{◌≡◌, ◌++◌, ◌∷◌, [], OnOk, codes, if◌then◌else◌, slice_index_or};
 ghost use Rattle.std.specs.List.{flat_map};
 ghost use Rattle.crs_text.specs.Keywords.{spelling_of};
-ghost use Rattle.crs_explain.specs.Expected.{class_names, names_of};
+ghost use Rattle.crs_explain.specs.ExpectedClasses.{class_names, names_of};
 
 use crate::names::{Name, push_name};
 use crs_shape::{Class, keywords};

@@ -1,10 +1,10 @@
 //! What is found at the place of a refusal, and what could stand there.
-ghost use Rattle.std.specs.Prelude.{◌≡◌, ◌↔◌, IfOk, IsTrue, MatchOption, filter};
-ghost use Rattle.crs_shape.specs.Expected.{ExpectedAtRoot, ExpectedParts, may_come};
+ghost use Rattle.std.specs.Prelude.{◌≡◌, ◌↔◌, IfOk, IsTrue, filter};
+ghost use Rattle.crs_shape.specs.Expected.{may_come};
 ghost use Rattle.crs_shape.specs.FaultPlace.{IsShapeNumber};
 ghost use Rattle.crs_shape.specs.Keywords.{every_class};
-ghost use Rattle.crs_shape.specs.ShapeFault.{AtRoot, IsFree};
-ghost use Rattle.crs_explain.specs.Expected.{IsExpected, IsExpectedIn, names_of, node_word, shape_expectation};
+ghost use Rattle.crs_explain.specs.Expected.{IsExpected, IsExpectedIn};
+ghost use Rattle.crs_explain.specs.ExpectedClasses.{IsShapeExpected, names_of, node_word, shape_expectation};
 
 use crate::axes::axes_expected;
 use crate::class_names::push_names;
@@ -77,8 +77,7 @@ fn shape_expected(
     items: &Items<'_>,
     place: usize,
 ) -> Result<Option<ExpectedTexts>, AllocError>
-    ensures { IfOk result (λ found. MatchOption found (IsFree (AtRoot items.now))
-        (λ e. (parts : ExpectedParts) × ExpectedAtRoot items.now parts × (e ≡ shape_expectation text.now place parts))) }
+    ensures { IfOk result (IsShapeExpected text.now place items.now) }
 {
     match expected(items) {
         None => Ok(None),

@@ -1,13 +1,12 @@
 //! What is found at a place and what could stand there, as texts: a line for a person, and pieces for a program.
-ghost use Rattle.std.specs.Prelude.{◌≡◌, ◌++◌, ◌∷◌, [], IfOk, OnOk};
-ghost use Rattle.crs_explain.specs.Expected.{expected_line, expected_names, expected_part, found_pieces};
-ghost use Rattle.crs_explain.specs.Expected.{found_and_expected, node_at, node_named, place_of_node};
+ghost use Rattle.std.specs.Prelude.{◌≡◌, ◌++◌, ◌∷◌, [], IfOk, OnOk, codes};
+ghost use Rattle.crs_explain.specs.Expectation.{expected_line, listed, node_at, or_nothing};
 ghost use Rattle.crs_explain.specs.Found.{named_by};
 
 use crate::names::{Name, append_listed, push_each, push_name};
+use crate::number::append_number;
 use crate::pieces::Pieces;
 use crate::place::append_name;
-use itoa::Buffer;
 use std::alloc::{AllocError, Global};
 use std::marker::Model;
 
@@ -25,7 +24,7 @@ pub(crate) struct ExpectedTexts {
 }
 
 impl Model for ExpectedTexts {
-    ghost use Rattle.crs_explain.specs.Expected.{Expectation};
+    ghost use Rattle.crs_explain.specs.Expectation.{Expectation};
 
     ghost Value = { Expectation };
 
@@ -88,7 +87,7 @@ pub(crate) fn append_expected(
     expected: &Option<ExpectedTexts>,
     out: &mut Vec<u8>,
 ) -> Result<(), AllocError>
-    ensures { OnOk result (out.new.items ≡ out.old.items ++ expected_part expected.now) }
+    ensures { OnOk result (out.new.items ≡ out.old.items ++ expected_line (or_nothing expected.now)) }
 {
     match expected {
         Some(expected) => append_line(expected, out),
@@ -98,7 +97,7 @@ pub(crate) fn append_expected(
 
 /// Where the node begins; 0 where it isn't known what could stand there.
 pub(crate) fn place_of_node(expected: &Option<ExpectedTexts>) -> usize
-    ensures { result ≡ place_of_node expected.now }
+    ensures { result ≡ (or_nothing expected.now).place }
 {
     match expected {
         Some(expected) => expected.place,
@@ -120,7 +119,8 @@ pub(crate) fn push_found(
     expected: &Option<ExpectedTexts>,
     out: &mut Pieces,
 ) -> Result<(), AllocError>
-    ensures { OnOk result (out.new ≡ out.old ++ found_pieces expected.now) }
+    ensures { OnOk result (out.new ≡ out.old ++ expected_line (or_nothing expected.now)
+        ∷ (or_nothing expected.now).node ∷ (or_nothing expected.now).found ∷ []) }
 {
     match expected {
         Some(expected) => {
@@ -145,7 +145,7 @@ pub(crate) fn push_expected(
     expected: &Option<ExpectedTexts>,
     out: &mut Pieces,
 ) -> Result<(), AllocError>
-    ensures { OnOk result (out.new ≡ out.old ++ expected_names expected.now) }
+    ensures { OnOk result (out.new ≡ out.old ++ (or_nothing expected.now).names) }
 {
     match expected {
         Some(expected) => push_each(&expected.names, out),
@@ -156,13 +156,17 @@ pub(crate) fn push_expected(
 fn append_line(expected: &ExpectedTexts, out: &mut Vec<u8>) -> Result<(), AllocError>
     ensures { OnOk result (out.new.items ≡ out.old.items ++ expected_line expected.now) }
 {
+    if expected.names.is_empty() {
+        return Ok(());
+    }
     append_node(&expected.node, expected.place, out)?;
     append_rest(&expected.found, &expected.names, out)
 }
 
 // `: found AXIS, expected CS`, and a line feed.
 fn append_rest(found: &[u8], names: &[Name], out: &mut Vec<u8>) -> Result<(), AllocError>
-    ensures { OnOk result (out.new.items ≡ out.old.items ++ found_and_expected found.now names.now) }
+    ensures { OnOk result (out.new.items ≡ out.old.items
+        ++ (codes ": found " ++ found.now ++ codes ", expected " ++ listed names.now ++ 10 ∷ [])) }
 {
     out.extend_from_slice(b": found ")?;
     out.extend_from_slice(found)?;
@@ -171,24 +175,16 @@ fn append_rest(found: &[u8], names: &[Name], out: &mut Vec<u8>) -> Result<(), Al
     out.extend_from_slice(b"\n")
 }
 
-// `in GEOGCRS at 0`, or `at 0` where the text is of no class.
+// `in GEOGCRS at 0`, or `at 0` where there is no keyword.
 fn append_node(word: &[u8], place: usize, out: &mut Vec<u8>) -> Result<(), AllocError>
     ensures { OnOk result (out.new.items ≡ out.old.items ++ node_at word.now place) }
 {
-    let mut digits = Buffer::new();
-    append_named(word, out)?;
-    out.extend_from_slice(b"at ")?;
-    out.extend_from_slice(digits.format(place).as_bytes())
-}
-
-// `in GEOGCRS `, or nothing where there is no keyword.
-fn append_named(word: &[u8], out: &mut Vec<u8>) -> Result<(), AllocError>
-    ensures { OnOk result (out.new.items ≡ out.old.items ++ node_named word.now) }
-{
     if word.is_empty() {
-        return Ok(());
+        out.extend_from_slice(b"at ")?;
+        return append_number(place, out);
     }
     out.extend_from_slice(b"in ")?;
     out.extend_from_slice(word)?;
-    out.extend_from_slice(b" ")
+    out.extend_from_slice(b" at ")?;
+    append_number(place, out)
 }

@@ -15,6 +15,7 @@ mod expected_texts;
 mod explanation;
 mod head;
 mod names;
+mod number;
 mod pieces;
 mod place;
 mod printed;

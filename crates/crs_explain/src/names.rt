@@ -1,6 +1,6 @@
 //! Names of what could stand at a place, each by itself and listed.
 ghost use Rattle.std.specs.Prelude.{◌≡◌, ◌++◌, ◌∷◌, [], OnOk, codes, drop, length, ◌<◌};
-ghost use Rattle.crs_explain.specs.Names.{listed};
+ghost use Rattle.crs_explain.specs.Expectation.{listed};
 
 use crate::pieces::Pieces;
 use std::alloc::{AllocError, Global};

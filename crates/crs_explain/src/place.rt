@@ -2,7 +2,7 @@
 ghost use Rattle.std.specs.Char.{is_ascii_whitespace};
 ghost use Rattle.std.specs.Prelude.{◌≡◌, ◌++◌, ◌≤◌, OnOk, drop, length, take};
 ghost use Rattle.std.specs.List.{prefix_len};
-ghost use Rattle.crs_explain.specs.Found.{first_byte, found_in, is_of_word, named_by, opens, opens_after_white, word_found, word_of};
+ghost use Rattle.crs_explain.specs.Found.{first_byte, found_in, is_of_word, named_by, opens, opens_after_white, word_found, word_of, word_shown};
 
 use std::alloc::{AllocError, Global};
 
@@ -71,16 +71,24 @@ fn opens(bytes: &[u8]) -> bool
 pub(crate) fn append_name(alloc: Global, word: &[u8], out: &mut Vec<u8>) -> Result<(), AllocError>
     ensures { OnOk result (out.new.items ≡ out.old.items ++ named_by word.now) }
 {
+    let mut shown = Vec::new(alloc);
+    append_shown(word, &mut shown)?;
+    out.extend_from_slice(&shown.to_ascii_uppercase(alloc)?)
+}
+
+/// Appends a word as it is written, or the front of a long one.
+pub(crate) fn append_shown(word: &[u8], out: &mut Vec<u8>) -> Result<(), AllocError>
+    ensures { OnOk result (out.new.items ≡ out.old.items ++ word_shown word.now) }
+{
     if word.len() <= SHOWN {
-        out.extend_from_slice(&word.to_ascii_uppercase(alloc)?)
+        out.extend_from_slice(word)
     } else {
-        out.extend_from_slice(&front_of(word, SHOWN).to_ascii_uppercase(alloc)?)?;
+        out.extend_from_slice(front_of(word, SHOWN))?;
         out.extend_from_slice(b"..")
     }
 }
 
-/// The first bytes of a word.
-pub(crate) fn front_of(word: &[u8], count: usize) -> &[u8]
+fn front_of(word: &[u8], count: usize) -> &[u8]
     requires { count ≤ length word.now }
     ensures { result.now ≡ take count word.now }
 {

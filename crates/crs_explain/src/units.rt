@@ -4,10 +4,10 @@ ghost use Rattle.crs_value.specs.Reading.{Holds};
 
 use crate::around::{around, crs_around, is_called, part_around};
 use crate::axes::raw_at;
+use crate::number::append_number;
 use crate::place::append_name;
 use crs_shape::{Direction, SystemType};
 use crs_text::{Fault, ItemId, Items, Keyword, read_items};
-use itoa::Buffer;
 use std::alloc::{AllocError, Global};
 
 /// For a unit on an axis, or where there is none, `found LENGTHUNIT in AXIS at 66, expected ANGLEUNIT`; for one that all
@@ -48,14 +48,13 @@ fn append_unit(
 ) -> Result<(), AllocError>
     requires { HasId items.now axis }
 {
-    let mut digits = Buffer::new();
     if items.place(axis) == place {
         out.extend_from_slice(b"no unit")?;
     } else {
         append_name(alloc, items.raw(around(items, axis, place)), out)?;
     }
     out.extend_from_slice(b" in AXIS at ")?;
-    out.extend_from_slice(digits.format(items.place(axis)).as_bytes())
+    append_number(items.place(axis), out)
 }
 
 // `, expected ANGLEUNIT`, or that there is a unit for all axes too.
@@ -152,13 +151,12 @@ fn append_asked(
 ) -> Result<(), AllocError>
     requires { HasId items.now axis }
 {
-    let mut digits = Buffer::new();
     if !is_first {
         out.extend_from_slice(b", ")?;
     }
     append_kind(items, system_type, axis, out)?;
     out.extend_from_slice(b" for AXIS at ")?;
-    out.extend_from_slice(digits.format(items.place(axis)).as_bytes())
+    append_number(items.place(axis), out)
 }
 
 // The kind of unit for which an axis asks, by the type of its system and by its direction.

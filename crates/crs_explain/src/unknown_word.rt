@@ -1,18 +1,15 @@
 //! A word that is no type of a coordinate system, or no direction of an axis.
-ghost use Rattle.std.specs.Prelude.{◌≡◌, ◌++◌, IfOk, OnOk, map};
+ghost use Rattle.std.specs.Prelude.{◌≡◌, ◌++◌, IfOk, OnOk, if◌then◌else◌, map};
 ghost use Rattle.crs_shape.specs.Words.{direction_word, system_word};
-ghost use Rattle.crs_explain.specs.Expected.{every_direction, every_type, known_words, word_expectation, word_shown};
+ghost use Rattle.crs_explain.specs.ExpectedWords.{every_direction, every_type, word_expectation};
 
 use crate::around::{is_called, part_around};
 use crate::expected_texts::{ExpectedTexts, texts_of};
 use crate::names::{Name, push_name};
-use crate::place::{front_of, rest_of, word_at};
+use crate::place::{append_shown, rest_of, word_at};
 use crs_shape::{Direction, SystemType};
 use crs_text::{Items, Keyword};
 use std::alloc::{AllocError, Global};
-
-// How many bytes of a word are shown.
-const SHOWN: usize = 40;
 
 const TYPES: [SystemType; 4] = [
     SystemType::Cartesian,
@@ -64,21 +61,10 @@ pub(crate) fn word_expected(
     texts_of(alloc, items.raw(part), items.place(part), found, names)
 }
 
-/// Appends a word as it is written, or the front of a long one.
-pub(crate) fn append_shown(word: &[u8], out: &mut Vec<u8>) -> Result<(), AllocError>
-    ensures { OnOk result (out.new.items ≡ out.old.items ++ word_shown word.now) }
-{
-    if word.len() <= SHOWN {
-        out.extend_from_slice(word)
-    } else {
-        out.extend_from_slice(front_of(word, SHOWN))?;
-        out.extend_from_slice(b"..")
-    }
-}
-
 // The words of all types, or of all directions.
 fn push_known(alloc: Global, is_type: bool, out: &mut Vec<Name>) -> Result<(), AllocError>
-    ensures { OnOk result (out.new.items ≡ out.old.items ++ known_words is_type) }
+    ensures { OnOk result (out.new.items ≡ out.old.items
+        ++ (if is_type then map system_word every_type else map direction_word every_direction)) }
 {
     if is_type {
         push_every_type(alloc, out)
@@ -87,14 +73,14 @@ fn push_known(alloc: Global, is_type: bool, out: &mut Vec<Name>) -> Result<(), A
     }
 }
 
-#[tactic(auto, unfolding(crate::specs::Expected::every_type))]
+#[tactic(auto, unfolding(crate::specs::ExpectedWords::every_type))]
 fn push_every_type(alloc: Global, out: &mut Vec<Name>) -> Result<(), AllocError>
     ensures { OnOk result (out.new.items ≡ out.old.items ++ map system_word every_type) }
 {
     push_types(alloc, &TYPES, out)
 }
 
-#[tactic(auto, unfolding(crate::specs::Expected::every_direction))]
+#[tactic(auto, unfolding(crate::specs::ExpectedWords::every_direction))]
 fn push_every_direction(alloc: Global, out: &mut Vec<Name>) -> Result<(), AllocError>
     ensures { OnOk result (out.new.items ≡ out.old.items ++ map direction_word every_direction) }
 {

@@ -1,5 +1,5 @@
 use Rattle.std.proofs.Common.{◌++◌, ◌∙◌, ap, arith}
-use Rattle.crs_explain.specs.Names.{listed}
+use Rattle.crs_explain.specs.Expectation.{listed}
 use Rattle.crs_explain.proofs.ListedLemmas.{appended_more}
 use Rattle.crs_explain.proofs.names.+append_listed.Goals as goal
 
