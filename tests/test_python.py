@@ -253,6 +253,8 @@ HINT = {
     "keyword-misspelt": "Did you mean ELLIPSOID?",
     "system-left-out": None,
     "semicolon-for-comma": "Arguments are separated by commas.",
+    "direction-nearest": "Did you mean south?",
+    "direction-not-near": None,
     "unit-of-another-kind": "found LENGTHUNIT in AXIS at 66, expected ANGLEUNIT",
 }
 

@@ -11,4 +11,5 @@ pub mod Explained
 pub mod Excerpt
 pub mod Found
 pub mod Lines
+pub mod Meant
 pub mod Pieces

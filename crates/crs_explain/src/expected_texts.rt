@@ -19,7 +19,7 @@ pub(crate) struct ExpectedTexts {
     pub(crate) place: usize,
     pub(crate) found: Vec<u8>,
     pub(crate) names: Vec<Name>,
-    /// The name that was likely meant; no bytes where none is near. No clause says which.
+    /// The name that was likely meant; no bytes where none is near. No public clause says which.
     pub(crate) meant: Vec<u8>,
 }
 
@@ -36,13 +36,15 @@ impl Model for ExpectedTexts {
     } };
 }
 
-/// The texts of a node by its keyword as it is written, and where it begins.
+/// The texts of a node by its keyword as it is written, and where it begins. What was meant has no bytes where that isn't
+/// known.
 pub(crate) fn texts_of(
     alloc: Global,
     word: &[u8],
     place: usize,
     found: Vec<u8>,
     names: Vec<Name>,
+    meant: Vec<u8>,
 ) -> Result<ExpectedTexts, AllocError>
     ensures { IfOk result (λ e. e ≡ record {
       node = named_by word.now;
@@ -58,7 +60,7 @@ pub(crate) fn texts_of(
         place,
         found,
         names,
-        meant: Vec::new(alloc),
+        meant,
     })
 }
 
@@ -79,7 +81,7 @@ pub(crate) fn texts_of_one(
 {
     let mut names = Vec::new(alloc);
     push_name(alloc, name, &mut names)?;
-    texts_of(alloc, word, place, found, names)
+    texts_of(alloc, word, place, found, names, Vec::new(alloc))
 }
 
 /// Appends the line of what is found and what could stand there; nothing where that isn't known.

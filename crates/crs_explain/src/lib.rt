@@ -14,6 +14,7 @@ mod expected;
 mod expected_texts;
 mod explanation;
 mod head;
+mod meant;
 mod names;
 mod number;
 mod pieces;

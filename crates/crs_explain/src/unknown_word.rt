@@ -5,6 +5,7 @@ ghost use Rattle.crs_explain.specs.ExpectedWords.{every_direction, every_type, w
 
 use crate::around::{is_called, part_around};
 use crate::expected_texts::{ExpectedTexts, texts_of};
+use crate::meant::meant_of;
 use crate::names::{Name, push_name};
 use crate::place::{append_shown, rest_of, word_at};
 use crs_shape::{Direction, SystemType};
@@ -54,11 +55,20 @@ pub(crate) fn word_expected(
     ensures { IfOk result (λ e. e ≡ word_expectation text.now place items.now) }
 {
     let part = part_around(items, place);
+    let word = word_at(rest_of(text, place));
     let mut found = Vec::new(alloc);
-    append_shown(word_at(rest_of(text, place)), &mut found)?;
+    append_shown(word, &mut found)?;
     let mut names = Vec::new(alloc);
     push_known(alloc, is_called(items, part, Keyword::Cs), &mut names)?;
-    texts_of(alloc, items.raw(part), items.place(part), found, names)
+    let meant = meant_of(alloc, word, &names)?;
+    texts_of(
+        alloc,
+        items.raw(part),
+        items.place(part),
+        found,
+        names,
+        meant,
+    )
 }
 
 // The words of all types, or of all directions.
