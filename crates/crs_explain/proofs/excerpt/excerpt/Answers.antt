@@ -1,4 +1,3 @@
-use Rattle.std.proofs.Common.{refl}
 use Rattle.crs_explain.proofs.ExcerptLemmas.{excerpt_of}
 use Rattle.crs_explain.proofs.excerpt.excerpt.Goals as goal
 
