@@ -21,14 +21,14 @@ pub struct Explained {
     pub line: usize,
     /// The character of that line at its place, counted from 1.
     pub column: usize,
-    /// Where the node begins in which something else is expected; 0 for another refusal than one of shape.
+    /// Where the node begins in which something else is expected; 0 where that isn't known.
     pub node: usize,
 }
 
-/// Why a text spells no CRS, in pieces: the piece of the line with a caret, in two lines; of a refusal of shape the line
-/// of what is found and could come, the keyword of the node in which something else is expected, and what is found; what
-/// is open or was meant; what the number means; hints; and then the name of each class that could come at the place. What
-/// isn't to be said has no bytes.
+/// Why a text spells no CRS, in pieces: the piece of the line with a caret, in two lines; for 11 to 13, 21 and 25 the
+/// line of what is found and what could stand there, the keyword of the node in which something else is expected, and
+/// what is found; what is open, was meant or is asked for; what the number means; hints; and then the name of each that
+/// could stand there. What isn't to be said has no bytes.
 ///
 /// 0: the text spells a CRS. 1: it spells none, and `explained` says why and where; the bytes of all pieces are at the
 /// front of `out`, one after the other, and where each ends at the front of `ends`; `length` and `count` are their

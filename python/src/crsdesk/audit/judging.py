@@ -49,7 +49,7 @@ class Spelled:
 @dataclass(frozen=True)
 class Refusal:
     """Why a text is refused, in the words of ``Refused``: ``place`` is its byte, ``piece`` the line with a caret below,
-    ``expected`` what could come there, ``hint`` what the text most likely is and what to do, or nothing, ``doubts`` why
+    ``expected`` what could stand there, ``hint`` what the text most likely is and what to do, or nothing, ``doubts`` why
     what PROJ reads the text as isn't taken, where that was tried. ``form`` is that of a text that PROJ is asked for, as
     ``WKT1``, damaged or not; nothing of any other."""
 
