@@ -26,7 +26,7 @@ const CHECK_ABOUT: &str = "Tells what kind of CRS each file's text spells, or wh
 const GROUP_ABOUT: &str = "Groups the lines of each file, a text each, by the CRSs that they spell";
 
 const EXPLAIN_ABOUT: &str =
-    "Tells what a text spells, or explains why it is refused; of two texts each part that differs";
+    "Tells what a text spells or why it is refused, or lists the parts in which two texts differ";
 
 const SAME_ABOUT: &str = "Compares two texts, and names the first part in which their CRSs differ";
 
