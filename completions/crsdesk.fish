@@ -15,5 +15,6 @@ complete -c crsdesk -s h -l help -d 'Print help'
 complete -c crsdesk -n '__fish_seen_subcommand_from canon group same explain' -l level -x -a 'full definition' -d 'What counts'
 complete -c crsdesk -n '__fish_seen_subcommand_from canon group same explain' -l rules -r -d 'Compare under the rules of a file'
 complete -c crsdesk -n '__fish_seen_subcommand_from canon check' -l lines -d 'Take each line as a text'
+complete -c crsdesk -n '__fish_seen_subcommand_from group' -l repeated -d 'Write the groups of two lines or more alone'
 complete -c crsdesk -n '__fish_seen_subcommand_from same explain' -l files -d 'Take the operands as names of files'
 complete -c crsdesk -n '__fish_seen_subcommand_from help' -f -a "$commands"

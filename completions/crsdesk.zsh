@@ -2,7 +2,7 @@
 # Completion of crsdesk's command line for zsh.
 
 _crsdesk() {
-    local -a commands level rules lines files help
+    local -a commands level rules lines repeated files help
     commands=(
         'canon:write the canonical text'
         'check:tell what kind of CRS a text spells, or where it is refused'
@@ -14,6 +14,7 @@ _crsdesk() {
     level=('--level=[what counts]:level:(full definition)')
     rules=('*--rules=[compare under the rules of a file]:file:_files')
     lines=('--lines[take each line as a text]')
+    repeated=('--repeated[write the groups of two lines or more alone]')
     files=('--files[take the operands as names of files]')
     help=('(- *)'{-h,--help}'[print help]')
 
@@ -28,7 +29,7 @@ _crsdesk() {
     case $command in
         canon) _arguments $level $rules $lines $help '*:file:_files' ;;
         check) _arguments $lines $help '*:file:_files' ;;
-        group) _arguments $level $rules $help '*:file:_files' ;;
+        group) _arguments $level $rules $repeated $help '*:file:_files' ;;
         same | explain) _arguments $files $level $rules $help '1:first:_files' '2:second:_files' ;;
         help) _describe command commands ;;
     esac

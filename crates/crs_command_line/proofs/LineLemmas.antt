@@ -15,9 +15,9 @@ use Rattle.clap.specs.Takes.{bundle_passes, bundle_step_passes, default_passes, 
 use Rattle.clap.specs.declared.parser.matches.ValueSource.TheVariants.{CommandLine}
 use Rattle.clap.proofs.OnLiterals.{clap_on_literals}
 use Rattle.clap.proofs.WalkLemmas.{both}
-use Rattle.crs_command_line.specs.CommandLine.{asked, canon_of, check_of, desk, explain_of, file_operands, files_flag, group_of, is_plain_word, level_option, lines_flag, over, request_of, rules_of, rules_option, same_of, spare_operand, standard, under}
+use Rattle.crs_command_line.specs.CommandLine.{asked, canon_of, check_of, desk, explain_of, file_operands, files_flag, group_of, is_plain_word, level_option, lines_flag, over, repeated_flag, request_of, rules_of, rules_option, same_of, spare_operand, standard, under}
 use Rattle.crs_command_line.specs.declared.requests.Request.{Request}
-use Rattle.crs_command_line.specs.declared.requests.Request.TheVariants.{Canon, Check, Same, Group, CanonLines, CheckLines, Explain, ExplainText, ExplainPair, Files, FilesUnder, TextsUnder}
+use Rattle.crs_command_line.specs.declared.requests.Request.TheVariants.{Canon, Check, Same, Group, CanonLines, CheckLines, Explain, ExplainText, ExplainPair, GroupListed, Files, FilesUnder, TextsUnder}
 use Rattle.crs_command_line.specs.declared.requests.Task.{Task}
 use Rattle.crs_command_line.specs.declared.requests.Task.TheVariants as task
 use Rattle.crs_command_line.proofs.OperandLemmas.{built_same, second_given}
@@ -556,7 +556,7 @@ abbrev built_check : Shape
 built_check = built_with (codes "check") (lines_flag ∷ file_operands ∷ help_rule ∷ [])
 
 abbrev built_group : Shape
-built_group = built_with (codes "group") (level_option ∷ rules_option ∷ file_operands ∷ help_rule ∷ [])
+built_group = built_with (codes "group") (level_option ∷ rules_option ∷ repeated_flag ∷ file_operands ∷ help_rule ∷ [])
 
 abbrev built_explain : Shape
 built_explain =
@@ -672,6 +672,49 @@ lines_valued program word = refl
 pub group_lines : (program : Text) → takes desk (program ∷ codes "group" ∷ codes "--lines" ∷ []) ≡ false
 unfolding clap_on_literals
 group_lines program = refl
+
+-- ---- groups of two lines or more
+
+-- what `group` holds after `--repeated`
+abbrev with_repeated : Held → Held
+with_repeated h = record {
+  rows = used (with_index 1 (filled repeated_flag)) [] (settled built_group.rules h).rows;
+  pending = None;
+  skip = 0;
+}
+
+pub group_repeated : (program : Text) → asked (program ∷ codes "group" ∷ codes "--repeated" ∷ []) ≡ Some (GroupListed (codes "full") (record { repeated = true }))
+unfolding clap_on_literals
+group_repeated program = refl
+
+pub repeated_first : (program text : Text) → is_plain_word text ≡ true
+    → asked (program ∷ codes "group" ∷ codes "--repeated" ∷ codes "--level" ∷ text ∷ []) ≡ Some (GroupListed text (record { repeated = true }))
+unfolding clap_on_literals
+repeated_first program text usual =
+    let s = built_group in
+    let h = with_repeated nothing_held in
+    let wants = before (wants_level s h) (option (codes "level")) 1 in
+    let to = before (with_level s h text) idle 1 in
+    line_asked s asked_group (program ∷ codes "group" ∷ codes "--repeated" ∷ codes "--level" ∷ text ∷ [])
+    (codes "--repeated" ∷ codes "--level" ∷ text ∷ []) to refl refl
+    (goes_on s (walk_from nothing_held) (before h idle 1) to (codes "--repeated") (codes "--level" ∷ text ∷ []) (refl, refl)
+    (goes_on s (before h idle 1) wants to (codes "--level") (text ∷ []) (refl, refl)
+    (goes_on s wants to to text [] (plain_turn s (wants_level s h) (option (codes "level")) 1 text refl usual) (stays s to)))) refl
+
+pub repeated_last : (program text : Text) → is_plain_word text ≡ true
+    → asked (program ∷ codes "group" ∷ codes "--level" ∷ text ∷ codes "--repeated" ∷ []) ≡ Some (GroupListed text (record { repeated = true }))
+unfolding clap_on_literals
+repeated_last program text usual =
+    let s = built_group in
+    let wants = before (wants_level s nothing_held) (option (codes "level")) 1 in
+    let via = before (with_level s nothing_held text) idle 1 in
+    let to = before (with_repeated (with_level s nothing_held text)) idle 1 in
+    line_asked s asked_group (program ∷ codes "group" ∷ codes "--level" ∷ text ∷ codes "--repeated" ∷ [])
+    (codes "--level" ∷ text ∷ codes "--repeated" ∷ []) to refl refl
+    (goes_on s (walk_from nothing_held) wants to (codes "--level") (text ∷ codes "--repeated" ∷ []) (refl, refl)
+    (goes_on s wants via to text (codes "--repeated" ∷ [])
+    (plain_turn s (wants_level s nothing_held) (option (codes "level")) 1 text refl usual)
+    (goes_on s via to to (codes "--repeated") [] (refl, refl) (stays s to)))) refl
 
 -- ---- texts that are explained
 

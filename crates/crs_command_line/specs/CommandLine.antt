@@ -10,8 +10,9 @@ use Rattle.clap.specs.Words.{subcommand_of, takes, with_subcommand}
 use Rattle.clap.specs.Simple.{new_shape, on_top}
 use Rattle.crs_command_line.specs.declared.requests.Request.{Request}
 use Rattle.crs_command_line.specs.declared.requests.Request.TheVariants.{Canon, Check, Same, Group, CanonLines, CheckLines}
-use Rattle.crs_command_line.specs.declared.requests.Request.TheVariants.{Explain, ExplainText, ExplainPair}
+use Rattle.crs_command_line.specs.declared.requests.Request.TheVariants.{Explain, ExplainText, ExplainPair, GroupListed}
 use Rattle.crs_command_line.specs.declared.requests.Request.TheVariants.{Files, FilesUnder, TextsUnder}
+use Rattle.crs_command_line.specs.declared.requests.GroupFlags.{GroupFlags}
 use Rattle.crs_command_line.specs.declared.requests.Task.{Task}
 use Rattle.crs_command_line.specs.declared.requests.Task.TheVariants as task
 use Rattle.crs_command_line.specs.declared.requests.RequestFault.{RequestFault}
@@ -48,6 +49,10 @@ flag name = record (new_rule name) { long = Some name; action = Some SetTrue }
 abbrev pub lines_flag : Rule
 lines_flag = flag (codes "lines")
 
+-- the flag `--repeated`
+abbrev pub repeated_flag : Rule
+repeated_flag = flag (codes "repeated")
+
 -- the flag `--files`
 abbrev pub files_flag : Rule
 files_flag = flag (codes "files")
@@ -66,10 +71,10 @@ canon_shape = record (new_shape (codes "canon")) {
 abbrev pub check_shape : Shape
 check_shape = record (new_shape (codes "check")) { rules = lines_flag ∷ file_operands ∷ [] }
 
--- `group`, which takes a level, rules and files
+-- `group`, which takes a level, rules, the flag `--repeated` and files
 abbrev pub group_shape : Shape
 group_shape = record (new_shape (codes "group")) {
-  rules = level_option ∷ rules_option ∷ file_operands ∷ [];
+  rules = level_option ∷ rules_option ∷ repeated_flag ∷ file_operands ∷ [];
 }
 
 -- with the options of the commands that compare two texts: a level, rules and the flag `--files`
@@ -140,9 +145,17 @@ check_of rows =
     if has_flag (codes "lines") rows then over CheckLines task.CheckLines (files_of rows)
     else over Check task.Check (files_of rows)
 
--- the groups at a level
+-- the flags of `group` among its matches
+abbrev pub group_flags : List Row → GroupFlags
+group_flags rows = record { repeated = has_flag (codes "repeated") rows }
+
+-- the groups at a level, as the flags say where there is one
 abbrev pub group_of : List Row → Request
-group_of rows = over (Group (level_of rows)) (task.Group (level_of rows)) (files_of rows)
+group_of rows =
+    if has_flag (codes "repeated") rows
+    then over (GroupListed (level_of rows) (group_flags rows))
+    (task.GroupListed (level_of rows) (group_flags rows)) (files_of rows)
+    else over (Group (level_of rows)) (task.Group (level_of rows)) (files_of rows)
 
 -- two operands are compared at a level where both are there: files, or else texts
 abbrev pub same_operands : Bool → Text → Option Text → Option Text → Option Request
@@ -184,6 +197,7 @@ ruled rules (Canon level) = FilesUnder (task.Canon level) standard rules
 ruled rules Check = Check
 ruled rules (Same first second level) = TextsUnder (task.Same level) (first ∷ second ∷ []) rules
 ruled rules (Group level) = FilesUnder (task.Group level) standard rules
+ruled rules (GroupListed level flags) = FilesUnder (task.GroupListed level flags) standard rules
 ruled rules (CanonLines level) = FilesUnder (task.CanonLines level) standard rules
 ruled rules CheckLines = CheckLines
 ruled rules (Explain level) = FilesUnder (task.Explain level) standard rules

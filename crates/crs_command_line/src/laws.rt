@@ -4,7 +4,7 @@ ghost use Rattle.std.specs.List.{list_all};
 ghost use Rattle.clap.specs.Words.{Text, takes};
 ghost use Rattle.crs_command_line.specs.CommandLine.{asked, desk, is_plain_word, standard};
 ghost use Rattle.crs_command_line.specs.declared.requests.Request.TheVariants.{Canon, Check, Same, Group, CanonLines, CheckLines};
-ghost use Rattle.crs_command_line.specs.declared.requests.Request.TheVariants.{Explain, ExplainText, ExplainPair};
+ghost use Rattle.crs_command_line.specs.declared.requests.Request.TheVariants.{Explain, ExplainText, ExplainPair, GroupListed};
 ghost use Rattle.crs_command_line.specs.declared.requests.Request.TheVariants.{Files, FilesUnder, TextsUnder};
 ghost use Rattle.crs_command_line.specs.declared.requests.Task.TheVariants as task;
 
@@ -41,6 +41,18 @@ pub fn canon_and_group_have_a_level()
         asked (program ∷ codes "canon" ∷ codes "--level" ∷ level ∷ []) ≡ Some (Canon level) }
     ensures group { (program level : Text) → is_plain_word level ≡ true →
         asked (program ∷ codes "group" ∷ codes "--level" ∷ level ∷ []) ≡ Some (Group level) }
+{}
+
+/// With `--repeated`, before the level or after it, `group` writes the groups of two lines or more.
+pub fn group_has_repeated()
+    ensures alone { (program : Text) →
+        asked (program ∷ codes "group" ∷ codes "--repeated" ∷ []) ≡ Some (GroupListed (codes "full") (record { repeated = true })) }
+    ensures before { (program level : Text) → is_plain_word level ≡ true →
+        asked (program ∷ codes "group" ∷ codes "--repeated" ∷ codes "--level" ∷ level ∷ [])
+        ≡ Some (GroupListed level (record { repeated = true })) }
+    ensures after { (program level : Text) → is_plain_word level ≡ true →
+        asked (program ∷ codes "group" ∷ codes "--level" ∷ level ∷ codes "--repeated" ∷ [])
+        ≡ Some (GroupListed level (record { repeated = true })) }
 {}
 
 /// `canon` and `group` alone are at the level `full`.

@@ -5,12 +5,12 @@ ghost use Rattle.clap.specs.Simple.{new_shape};
 ghost use Rattle.clap.specs.declared.builder.command.Command.TheViews.{out-Command as fields_of};
 ghost use Rattle.crs_command_line.specs.CommandLine.{HandsOn, IsRefusal, asked, desk, input_desk, lone_desk, operand};
 ghost use Rattle.crs_command_line.specs.CommandLine.{canon_of, canon_shape, check_of, check_shape, explain_of, explain_shape};
-ghost use Rattle.crs_command_line.specs.CommandLine.{file_operands, flag, group_of, group_shape, has_flag};
+ghost use Rattle.crs_command_line.specs.CommandLine.{file_operands, flag, group_flags, group_of, group_shape, has_flag};
 ghost use Rattle.crs_command_line.specs.CommandLine.{command_of, explained_operands, level_of, level_option, request_of};
 ghost use Rattle.crs_command_line.specs.CommandLine.{ruled, rules_option, same_of, same_operands, same_shape};
 ghost use Rattle.crs_command_line.specs.CommandLine.{spare_operand, standard, under, with_options, words_of};
 
-use crate::{LineWord, LineWords, Request, RequestFault, Task};
+use crate::{GroupFlags, LineWord, LineWords, Request, RequestFault, Task};
 use clap::error::ErrorKind;
 use clap::{Arg, ArgAction, ArgMatches, Command};
 use std::alloc::{AllocError, Global};
@@ -41,8 +41,10 @@ const SECOND_HELP: &str = "The second text, or its file";
 // What help says of the files of the other commands.
 const FILE_HELP: &str = "A file to read; `-` is standard input [default: standard input]";
 
-// What help says of the flags `--lines` and `--files`.
+// What help says of the flags `--lines`, `--repeated` and `--files`.
 const LINES_HELP: &str = "Takes each line as a text";
+
+const REPEATED_HELP: &str = "Writes the groups of two lines or more alone";
 
 const FILES_HELP: &str = "Takes A and B as names of files; `-` is standard input";
 
@@ -154,6 +156,7 @@ fn group_command<'a>(alloc: Global) -> Result<Command<'a>, AllocError>
     lone_command(alloc, "group", GROUP_ABOUT, GROUP_STATUS)
         .arg(level_argument(alloc))?
         .arg(rules_argument(alloc))?
+        .arg(flag_argument(alloc, "repeated", REPEATED_HELP))?
         .arg(file_argument(alloc))
 }
 
@@ -327,6 +330,9 @@ fn ruled(alloc: Global, rules: LineWords, asked: Request) -> Result<Request, All
             over_two(alloc, Task::Same(level), first, second, rules)
         }
         Request::Group(level) => over_standard(alloc, Task::Group(level), rules),
+        Request::GroupListed(level, flags) => {
+            over_standard(alloc, Task::GroupListed(level, flags), rules)
+        }
         Request::CanonLines(level) => over_standard(alloc, Task::CanonLines(level), rules),
         Request::Explain(level) => over_standard(alloc, Task::Explain(level), rules),
         Request::ExplainText(text, level) => {
@@ -396,10 +402,21 @@ fn group_request(alloc: Global, options: &ArgMatches) -> Result<Request, AllocEr
 {
     let level = level_word(alloc, options)?;
     let files = words_named(alloc, options, "file")?;
-    if files.is_empty() {
-        return Ok(Request::Group(level));
+    let flags = group_flags(options);
+    match (flags.repeated, files.is_empty()) {
+        (false, true) => Ok(Request::Group(level)),
+        (true, true) => Ok(Request::GroupListed(level, flags)),
+        (false, false) => Ok(Request::Files(Task::Group(level), files)),
+        (true, false) => Ok(Request::Files(Task::GroupListed(level, flags), files)),
     }
-    Ok(Request::Files(Task::Group(level), files))
+}
+
+fn group_flags(options: &ArgMatches) -> GroupFlags
+    ensures { result ≡ group_flags (rows_of (found_of options.now)) }
+{
+    GroupFlags {
+        repeated: flag_asked(options, "repeated"),
+    }
 }
 
 fn same_request(alloc: Global, operands: &ArgMatches) -> Result<Request, AllocError>

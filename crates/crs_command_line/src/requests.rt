@@ -2,6 +2,13 @@ use crate::{LineWord, LineWords};
 use std::alloc::AllocError;
 use thiserror::Error;
 
+/// What `group` writes, as its flags say.
+#[derive(Clone, Copy, Debug)]
+pub struct GroupFlags {
+    /// The groups of two lines or more alone.
+    pub repeated: bool,
+}
+
 /// What a command line asks for. A level is the word after `--level`, whatever word it is, and
 /// `full` where the line names none.
 #[derive(Debug, Drop)]
@@ -24,6 +31,8 @@ pub enum Request {
     ExplainText(LineWord, LineWord),
     /// Where two texts differ, each part: the first, the second, and a level.
     ExplainPair(LineWord, LineWord, LineWord),
+    /// What `Group` asks for, at a level, as these flags say, of which there is at least one.
+    GroupListed(LineWord, GroupFlags),
     /// A task over these files, by their names as they were written; there is at least one.
     Files(Task, LineWords),
     /// A task over these files under the rules of others: the names of the files, of which `-` is standard input, and of
@@ -42,6 +51,8 @@ pub enum Task {
     Check,
     /// Which lines of a file spell the same CRS, at a level, for each file by itself.
     Group(LineWord),
+    /// The same, as these flags say, of which there is at least one.
+    GroupListed(LineWord, GroupFlags),
     /// The canonical text of each line of each file, at a level.
     CanonLines(LineWord),
     /// Whether each line of each file is accepted, and what it spells.

@@ -1,5 +1,5 @@
 //! The reading of command lines.
-use crs_desk::{LineWord, Request, RequestFault, Task, request};
+use crs_desk::{GroupFlags, LineWord, Request, RequestFault, Task, request};
 use crs_suite::put_text;
 use std::alloc::{AllocError, Global};
 use std::str;
@@ -45,6 +45,7 @@ pub fn put_asked(out: &mut String, asked: &Request) -> Result<(), AllocError> {
         Request::Check => out.push_str("check"),
         Request::Same(first, second, level) => put_command(out, "same", &[level, first, second]),
         Request::Group(level) => put_command(out, "group", &[level]),
+        Request::GroupListed(level, flags) => put_listed(out, level, *flags),
         Request::CanonLines(level) => put_command(out, "canon lines", &[level]),
         Request::CheckLines => out.push_str("check lines"),
         Request::Explain(level) => put_command(out, "explain", &[level]),
@@ -79,12 +80,22 @@ fn put_task(out: &mut String, task: &Task) -> Result<(), AllocError> {
         Task::Canon(level) => put_command(out, "canon", &[level]),
         Task::Check => out.push_str("check"),
         Task::Group(level) => put_command(out, "group", &[level]),
+        Task::GroupListed(level, flags) => put_listed(out, level, *flags),
         Task::CanonLines(level) => put_command(out, "canon lines", &[level]),
         Task::CheckLines => out.push_str("check lines"),
         Task::Explain(level) => put_command(out, "explain one", &[level]),
         Task::Same(level) => put_command(out, "same", &[level]),
         Task::ExplainPair(level) => put_command(out, "explain two", &[level]),
     }
+}
+
+// `group` with its flags, which there are.
+fn put_listed(out: &mut String, level: &LineWord, flags: GroupFlags) -> Result<(), AllocError> {
+    out.push_str("group")?;
+    if flags.repeated {
+        out.push_str(" repeated")?;
+    }
+    put_word(out, level)
 }
 
 fn put_words(out: &mut String, words: &[LineWord]) -> Result<(), AllocError> {

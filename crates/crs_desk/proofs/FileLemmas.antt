@@ -190,11 +190,11 @@ nothing-fronts : (asked : FileTask) → IsTaskFront asked [] []
 nothing-fronts (task.Canon level) = refl
 nothing-fronts task.Check = refl
 nothing-fronts task.Explain = refl
-nothing-fronts (task.Group level) = refl
+nothing-fronts (task.Group level listing) = refl
 nothing-fronts (task.CanonLines level) = front-none (IsLineOutput (IsCanonOutput level))
 nothing-fronts task.CheckLines = front-none (IsLineOutput IsCheckOutput)
 nothing-fronts (task.Form level rules) = refl
-nothing-fronts (task.FormGroup level rules) = refl
+nothing-fronts (task.FormGroup level listing rules) = refl
 nothing-fronts (task.FormLines level rules) = front-none (IsLineOutput (IsFormOutput rules.now level))
 
 unopened-front : (asked : FileTask) (prefix : List ℕ) (known : Option (List ℕ)) → IsFileFront (IsTaskFront asked) prefix known []

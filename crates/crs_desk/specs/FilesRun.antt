@@ -29,11 +29,12 @@ abbrev pub IsTaskOutput : FileTask → Outputs
 IsTaskOutput (task.Canon level) = IsCanonOutput level
 IsTaskOutput task.Check = IsCheckOutput
 IsTaskOutput task.Explain = IsExplainOutput
-IsTaskOutput (task.Group level) = IsGroupedOutput (IsGroupOutput level)
+IsTaskOutput (task.Group level listing) = IsGroupedOutput (IsGroupOutput listing level)
 IsTaskOutput (task.CanonLines level) = IsLinesOutput (IsLineOutput (IsCanonOutput level))
 IsTaskOutput task.CheckLines = IsLinesOutput (IsLineOutput IsCheckOutput)
 IsTaskOutput (task.Form level rules) = IsFormOutput rules.now level
-IsTaskOutput (task.FormGroup level rules) = IsGroupedOutput (IsGroupOutputUnder rules.now level)
+IsTaskOutput (task.FormGroup level listing rules) =
+    IsGroupedOutput (IsGroupOutputUnder rules.now listing level)
 IsTaskOutput (task.FormLines level rules) =
     IsLinesOutput (IsLineOutput (IsFormOutput rules.now level))
 

@@ -36,7 +36,9 @@ pub(crate) fn answer_input<R: Read + Drop, W: Write>(
         FileTask::Canon(level) => answer_text(alloc, &CanonText { level }, prefix, reader, sink),
         FileTask::Check => answer_text(alloc, &CheckText, prefix, reader, sink),
         FileTask::Explain => answer_text(alloc, &ExplainText, prefix, reader, sink),
-        FileTask::Group(level) => answer_group(alloc, &Groups { level }, prefix, reader, sink),
+        FileTask::Group(level, listing) => {
+            answer_group(alloc, &Groups { level, listing }, prefix, reader, sink)
+        }
         FileTask::CanonLines(level) => {
             answer_lines(alloc, CanonText { level }, prefix, reader, sink)
         }
@@ -44,8 +46,13 @@ pub(crate) fn answer_input<R: Read + Drop, W: Write>(
         FileTask::Form(level, rules) => {
             answer_text(alloc, &FormText { level, rules }, prefix, reader, sink)
         }
-        FileTask::FormGroup(level, rules) => {
-            answer_group(alloc, &FormGroups { level, rules }, prefix, reader, sink)
+        FileTask::FormGroup(level, listing, rules) => {
+            let forms = FormGroups {
+                level,
+                listing,
+                rules,
+            };
+            answer_group(alloc, &forms, prefix, reader, sink)
         }
         FileTask::FormLines(level, rules) => {
             answer_lines(alloc, FormText { level, rules }, prefix, reader, sink)

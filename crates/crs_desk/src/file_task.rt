@@ -1,4 +1,4 @@
-use crate::Level;
+use crate::{Level, Listing};
 use crs_rules::Rules;
 
 /// What is asked of each of some files.
@@ -10,8 +10,8 @@ pub enum FileTask<'r> {
     Check,
     /// What `run_explain` writes.
     Explain,
-    /// What `run_group` writes, at a level, with status 1 where a line was refused.
-    Group(Level),
+    /// What `run_group_listing` writes, at a level, with status 1 where a line was refused.
+    Group(Level, Listing),
     /// What `run_canon_lines` writes, at a level.
     CanonLines(Level),
     /// What `run_check_lines` writes.
@@ -19,7 +19,7 @@ pub enum FileTask<'r> {
     /// What `run_canon` writes, but the form under rules for the canonical text, at a level.
     Form(Level, &'r Rules),
     /// What `run_group_under` writes, at a level, with status 1 where a line was refused.
-    FormGroup(Level, &'r Rules),
+    FormGroup(Level, Listing, &'r Rules),
     /// What `run_canon_lines` writes, but forms under rules for canonical texts, at a level.
     FormLines(Level, &'r Rules),
 }

@@ -4,7 +4,7 @@ ghost use Rattle.crs_group.specs.GroupRun.{IsGroupedBy};
 ghost use Rattle.crs_group.specs.declared.summary.Summary.{Summary};
 ghost use Rattle.crs_streams.specs.Streams.{fresh_sink, fresh_source};
 
-use crate::{Level, RunFault, Sink, Source, Summary, run_group, run_group_under};
+use crate::{Level, Listing, RunFault, Sink, Source, Summary, run_group_listing, run_group_under};
 use crs_rules::Rules;
 use std::alloc::Global;
 use std::io::Read;
@@ -29,12 +29,13 @@ pub(crate) trait Grouping {
 #[derive(Drop)]
 pub(crate) struct Groups {
     pub(crate) level: Level,
+    pub(crate) listing: Listing,
 }
 
 impl Grouping for Groups {
     ghost use Rattle.crs_group.specs.GroupOutput.{IsGroupOutput};
 
-    ghost Output = { λ s bytes written summary. IsGroupOutput s.level bytes written summary };
+    ghost Output = { λ s bytes written summary. IsGroupOutput s.listing s.level bytes written summary };
 
     fn run<R: Read>(
         &self,
@@ -42,7 +43,7 @@ impl Grouping for Groups {
         source: &mut Source<R>,
         sink: &mut Sink<Vec<u8>>,
     ) -> Result<Summary, RunFault> {
-        run_group(alloc, self.level, source, sink)
+        run_group_listing(alloc, self.level, self.listing, source, sink)
     }
 }
 
@@ -50,13 +51,14 @@ impl Grouping for Groups {
 #[derive(Drop)]
 pub(crate) struct FormGroups<'r> {
     pub(crate) level: Level,
+    pub(crate) listing: Listing,
     pub(crate) rules: &'r Rules,
 }
 
 impl Grouping for FormGroups<'_> {
     ghost use Rattle.crs_group.specs.GroupOutput.{IsGroupOutputUnder};
 
-    ghost Output = { λ s bytes written summary. IsGroupOutputUnder s.rules.now s.level bytes written summary };
+    ghost Output = { λ s bytes written summary. IsGroupOutputUnder s.rules.now s.listing s.level bytes written summary };
 
     fn run<R: Read>(
         &self,
@@ -64,6 +66,6 @@ impl Grouping for FormGroups<'_> {
         source: &mut Source<R>,
         sink: &mut Sink<Vec<u8>>,
     ) -> Result<Summary, RunFault> {
-        run_group_under(alloc, self.level, self.rules, source, sink)
+        run_group_under(alloc, self.level, self.rules, self.listing, source, sink)
     }
 }

@@ -3,9 +3,9 @@
 
 pub use canon_run::run_canon;
 pub use check_run::run_check;
-pub use crs_command_line::{LineWord, LineWords, Request, RequestFault, Task, request};
+pub use crs_command_line::{GroupFlags, LineWord, LineWords, Request, RequestFault, Task, request};
 pub use crs_explain::append_escaped;
-pub use crs_group::{Summary, run_group, run_group_under};
+pub use crs_group::{Listing, PLAIN, Summary, run_group, run_group_listing, run_group_under};
 pub use crs_rules::Rules;
 pub use crs_rules_file::{RulesFault, RulesReader, RulesRefusal};
 pub use crs_streams::{Filling, RunFault, Sink, Source, Stream};

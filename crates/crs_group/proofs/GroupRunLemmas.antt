@@ -8,6 +8,7 @@ use Rattle.crs_group.specs.GroupOutput.{IsGroupOutputBy, catalogue_text}
 use Rattle.crs_group.specs.GroupReading.{IsLedgerWhole, IsReadInto, WritesLedger}
 use Rattle.crs_streams.specs.Given.{GivesShortLines, HasGiven}
 use Rattle.crs_group.specs.GroupRun.{IsGroupedBy, IsReadingFault}
+use Rattle.crs_group.specs.declared.listing.Listing.{Listing}
 use Rattle.crs_group.specs.declared.summary.Summary.{Summary}
 use Rattle.crs_streams.specs.Streams.{CountsRead, SinkState, SourceState}
 use Rattle.crs_streams.specs.declared.fault.RunFault.{RunFault}
@@ -75,15 +76,15 @@ module _ (Form : Level → List ℕ → List ℕ → Type 0) (Share : Level → 
   whole-ledger level old new cutter (Err error) read lines is = tt
 
   -- the catalogue of all that was read is written
-  pub grouped : (level : Level) (old new : SourceState) (before after : SinkState) (ledger : LedgerParts) (summary : Summary)
-      → IsLedgerWhole Form Share level old new ledger → WritesLedger ledger before after summary
-      → IsGroupedBy (IsGroupOutputBy Form Share level) old new before after summary
-  grouped level old new before after ledger summary whole writes =
+  pub grouped : (listing : Listing) (level : Level) (old new : SourceState) (before after : SinkState) (ledger : LedgerParts) (summary : Summary)
+      → IsLedgerWhole Form Share level old new ledger → WritesLedger listing ledger before after summary
+      → IsGroupedBy (IsGroupOutputBy Form Share listing level) old new before after summary
+  grouped listing level old new before after ledger summary whole writes =
       let texts = whole.is_ledger.of_texts in record {
         bytes = whole.bytes;
         is_whole = whole.is_whole;
         are_short = whole.are_short;
-        written = catalogue_text ledger.catalogue;
+        written = catalogue_text listing ledger.catalogue;
         is_output = record {
           texts = whole.is_ledger.texts;
           are_texts = whole.is_ledger.are_texts;

@@ -1,5 +1,6 @@
 -- How the catalogue of some bytes is written.
-use Rattle.std.specs.Prelude.{◌≡◌, ◌+◌, ◌++◌, ◌∷◌, [], ℕ, List, codes, decimal, length}
+use Rattle.std.specs.Prelude.{◌≡◌, ◌+◌, ◌++◌, ◌∷◌, [], ℕ, Bool, true, false, nat_lt, List, codes}
+use Rattle.std.specs.Prelude.{decimal, length, if◌then◌else◌}
 use Rattle.std.specs.List.{flat_map}
 use Rattle.crs_text.specs.Refusal.{RefusedAt, refused_text}
 use Rattle.crs_value.specs.declared.values.level.Level.{Level}
@@ -11,6 +12,7 @@ use Rattle.crs_group.specs.GroupTexts.{IsCatalogueOfBy}
 use Rattle.crs_group.specs.Partition.{PlacedLine, ShareWhereSame}
 use Rattle.crs_group.specs.UnderRules.{ShareWhereSameUnder}
 use Rattle.crs_streams.specs.Lines.{AreLines, blank_in}
+use Rattle.crs_group.specs.declared.listing.Listing.{Listing}
 use Rattle.crs_group.specs.declared.summary.Summary.{Summary}
 
 -- ` L1 L2 ..`
@@ -28,14 +30,29 @@ refused_line (line, refusal) =
     codes "line " ++ decimal line ++ codes ": " ++ refused_text refusal.number refusal.place
     ++ 10 ∷ []
 
--- the groups, from this number on
-abbrev pub group_lines : ℕ → List GroupParts → List ℕ
-group_lines number [] = []
-group_lines number (group ∷ groups) = group_line number group ++ group_lines (number + 1) groups
+-- every group is listed
+abbrev pub plain : Listing
+plain = record { repeated = false }
+
+-- whether a group of these lines is listed: each is, or each of two lines or more
+abbrev pub is_listed : Listing → List ℕ → Bool
+is_listed listing lines = if listing.repeated then nat_lt 1 (length lines) else true
+
+-- the line of a group, if it is listed
+abbrev pub listed_line : Listing → ℕ → GroupParts → List ℕ
+listed_line listing number group =
+    if is_listed listing group.lines then group_line number group else []
+
+-- the groups that are listed, from this number on; each has its number among all
+abbrev pub group_lines : Listing → ℕ → List GroupParts → List ℕ
+group_lines listing number [] = []
+group_lines listing number (group ∷ groups) =
+    listed_line listing number group ++ group_lines listing (number + 1) groups
 
 -- the groups in the order of their numbers, and then the refused lines in theirs
-abbrev pub catalogue_text : CatalogueParts → List ℕ
-catalogue_text catalogue = group_lines 1 catalogue.groups ++ flat_map refused_line catalogue.refused
+abbrev pub catalogue_text : Listing → CatalogueParts → List ℕ
+catalogue_text listing catalogue =
+    group_lines listing 1 catalogue.groups ++ flat_map refused_line catalogue.refused
 
 -- lines are numbered in order, from this number on
 abbrev pub numbered : ℕ → List (List ℕ) → List Line
@@ -43,25 +60,27 @@ numbered number [] = []
 numbered number (text ∷ texts) = line_of number text ∷ numbered (number + 1) texts
 
 -- the bytes are written as the catalogue of their lines, in this form of their texts, which are
--- numbered from 1, and this is its summary
+-- numbered from 1, with the groups that are listed, and this is its summary
 pub record IsGroupOutputBy (Form : Level → List ℕ → List ℕ → Type 0)
-    (Share : Level → PlacedLine → PlacedLine → Type 0) (level : Level) (bytes written : List ℕ)
+    (Share : Level → PlacedLine → PlacedLine → Type 0) (listing : Listing) (level : Level)
+    (bytes written : List ℕ)
     (summary : Summary) : Type 0 where
   pub texts : List (List ℕ)
   pub are_texts : AreLines bytes texts
   pub catalogue : CatalogueParts
   pub is_level : catalogue.level ≡ level
   pub of_lines : IsCatalogueOfBy Form Share (numbered 1 texts) catalogue
-  pub is_written : written ≡ catalogue_text catalogue
+  pub is_written : written ≡ catalogue_text listing catalogue
   pub lines : summary.lines ≡ length texts
   pub blank : summary.blank ≡ blank_in texts
   pub refused : summary.refused ≡ length catalogue.refused
   pub groups : summary.groups ≡ length catalogue.groups
 
 -- that, where two texts share a group if their CRSs are the same
-abbrev pub IsGroupOutput : Level → List ℕ → List ℕ → Summary → Type 0
-IsGroupOutput level = IsGroupOutputBy IsCanonicalOf ShareWhereSame level
+abbrev pub IsGroupOutput : Listing → Level → List ℕ → List ℕ → Summary → Type 0
+IsGroupOutput listing level = IsGroupOutputBy IsCanonicalOf ShareWhereSame listing level
 
 -- that, where two texts share a group if they are the same under rules
-abbrev pub IsGroupOutputUnder : RulesParts → Level → List ℕ → List ℕ → Summary → Type 0
-IsGroupOutputUnder rules level = IsGroupOutputBy (IsForm rules) (ShareWhereSameUnder rules) level
+abbrev pub IsGroupOutputUnder : RulesParts → Listing → Level → List ℕ → List ℕ → Summary → Type 0
+IsGroupOutputUnder rules listing level =
+    IsGroupOutputBy (IsForm rules) (ShareWhereSameUnder rules) listing level

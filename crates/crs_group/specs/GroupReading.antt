@@ -11,6 +11,7 @@ use Rattle.crs_streams.specs.Streams.{IsAskedFor, SourceState, SinkState}
 use Rattle.crs_streams.specs.declared.fault.RunFault.{RunFault}
 use Rattle.crs_streams.specs.declared.fault.RunFault.TheVariants.{ReadFailed, WriteFailed, TooLong}
 use Rattle.crs_streams.specs.declared.fault.RunFault.TheVariants.{TooManyReads, Memory}
+use Rattle.crs_group.specs.declared.listing.Listing.{Listing}
 use Rattle.crs_group.specs.declared.summary.Summary.{Summary}
 
 -- all the bytes of the source are cut
@@ -33,10 +34,10 @@ pub record IsLedgerWhole (Form : Level → List ℕ → List ℕ → Type 0)
   pub is_level : ledger.catalogue.level ≡ level
 
 -- the sink got the text of the ledger's catalogue, and this is the summary
-pub record WritesLedger (ledger : LedgerParts) (old new : SinkState)
+pub record WritesLedger (listing : Listing) (ledger : LedgerParts) (old new : SinkState)
     (summary : Summary) : Type 0 where
-  pub is_sent : Appends old.contents new.contents (catalogue_text ledger.catalogue)
-  pub is_asked : IsAskedFor (catalogue_text ledger.catalogue) old new
+  pub is_sent : Appends old.contents new.contents (catalogue_text listing ledger.catalogue)
+  pub is_asked : IsAskedFor (catalogue_text listing ledger.catalogue) old new
   pub is_healthy : new.failed ≡ false
   pub lines : summary.lines ≡ ledger.lines
   pub blank : summary.blank ≡ ledger.blank

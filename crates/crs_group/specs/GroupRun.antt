@@ -10,6 +10,7 @@ use Rattle.crs_streams.specs.Streams.{IsAskedFor, SourceState, SinkState}
 use Rattle.crs_streams.specs.declared.fault.RunFault.{RunFault}
 use Rattle.crs_streams.specs.declared.fault.RunFault.TheVariants.{ReadFailed, WriteFailed, TooLong}
 use Rattle.crs_streams.specs.declared.fault.RunFault.TheVariants.{TooManyReads, Memory}
+use Rattle.crs_group.specs.declared.listing.Listing.{Listing}
 use Rattle.crs_group.specs.declared.summary.Summary.{Summary}
 
 -- the source gave all its bytes, and the sink got what is written for them
@@ -26,13 +27,14 @@ pub record IsGroupedBy (Output : List ℕ → List ℕ → Summary → Type 0)
   pub is_healthy : new_sink.failed ≡ false
 
 -- that, without rules
-abbrev pub IsGrouped : Level → SourceState → SourceState → SinkState → SinkState → Summary → Type 0
-IsGrouped level = IsGroupedBy (IsGroupOutput level)
+abbrev pub IsGrouped : Listing → Level → SourceState → SourceState → SinkState → SinkState →
+    Summary → Type 0
+IsGrouped listing level = IsGroupedBy (IsGroupOutput listing level)
 
 -- that, under rules
-abbrev pub IsGroupedUnder : RulesParts → Level → SourceState → SourceState → SinkState → SinkState →
-    Summary → Type 0
-IsGroupedUnder rules level = IsGroupedBy (IsGroupOutputUnder rules level)
+abbrev pub IsGroupedUnder : RulesParts → Listing → Level → SourceState → SourceState → SinkState →
+    SinkState → Summary → Type 0
+IsGroupedUnder rules listing level = IsGroupedBy (IsGroupOutputUnder rules listing level)
 
 -- what a fault of the reading says
 abbrev pub IsReadingFault : SourceState → SourceState → RunFault → Type 0

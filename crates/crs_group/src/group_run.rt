@@ -1,5 +1,6 @@
 ghost use Rattle.std.specs.Prelude.{◌≡◌, ◌≤◌, ◌↔◌, [], IfErr, IfOk, IsErrOf, OnOk, false, length, true};
 ghost use Rattle.crs_group.specs.GroupCutting.{IsCutTo};
+ghost use Rattle.crs_group.specs.GroupOutput.{plain};
 ghost use Rattle.crs_group.specs.GroupRun.{IsGroupFault, IsGrouped, IsGroupedUnder, IsReadingFault};
 ghost use Rattle.crs_group.specs.GroupReading.{IsLedgerWhole, IsReadInto, WritesLedger, IsWritingFault};
 ghost use Rattle.crs_streams.specs.Streams.{fresh_sink, fresh_source};
@@ -9,7 +10,7 @@ use crate::group_cutter::Cutter;
 use crate::group_text::write_catalogue;
 use crate::ledger::Ledger;
 use crate::summary::Summary;
-use crate::{RunFault, Sink, Source};
+use crate::{Listing, PLAIN, RunFault, Sink, Source};
 use crs_rules::Rules;
 use crs_streams::{MAX_READS, make_room};
 use crs_value::Level;
@@ -30,7 +31,7 @@ pub fn run_group<R: Read, W: Write>(
 ) -> Result<Summary, RunFault>
     requires source { r.old ≡ fresh_source r.old.remaining }
     requires sink { w.old ≡ fresh_sink w.old.contents }
-    ensures answered { IfOk result (IsGrouped level r.old r.new w.old w.new) }
+    ensures answered { IfOk result (IsGrouped plain level r.old r.new w.old w.new) }
     ensures reads { r.new.reads ≤ 1048576 }
     ensures past_end { r.new.past_end ≡ false }
     ensures fault { IfErr result (IsGroupFault r.old r.new w.old w.new) }
@@ -42,17 +43,42 @@ pub fn run_group<R: Read, W: Write>(
     write_ledger(alloc, &ledger, w)
 }
 
-/// As `run_group`, under rules: lines are in one group exactly where their texts are the same under the rules. Profile.
-pub fn run_group_under<R: Read, W: Write>(
+/// Writes what `run_group` writes, without the groups that aren't listed: the others have their numbers among all, and
+/// the summary counts all. Faults as there. Profile.
+pub fn run_group_listing<R: Read, W: Write>(
     alloc: Global,
     level: Level,
-    rules: &Rules,
+    listing: Listing,
     r: &mut Source<R>,
     w: &mut Sink<W>,
 ) -> Result<Summary, RunFault>
     requires source { r.old ≡ fresh_source r.old.remaining }
     requires sink { w.old ≡ fresh_sink w.old.contents }
-    ensures answered { IfOk result (IsGroupedUnder rules.now level r.old r.new w.old w.new) }
+    ensures answered { IfOk result (IsGrouped listing level r.old r.new w.old w.new) }
+    ensures reads { r.new.reads ≤ 1048576 }
+    ensures past_end { r.new.past_end ≡ false }
+    ensures fault { IfErr result (IsGroupFault r.old r.new w.old w.new) }
+    ensures read_failed { IsErrOf result RunFault.ReadFailed ↔ (r.new.failed ≡ true) }
+    ensures write_failed { IsErrOf result RunFault.WriteFailed ↔ (w.new.failed ≡ true) }
+    ensures past_failure { w.new.past_failure ≡ false }
+{
+    let listed = read_ledger(alloc, level, &ByCanon, r)?;
+    write_listing(alloc, listing, &listed, w)
+}
+
+/// As `run_group_listing`, under rules: lines are in one group exactly where their texts are the same under the rules.
+/// Profile.
+pub fn run_group_under<R: Read, W: Write>(
+    alloc: Global,
+    level: Level,
+    rules: &Rules,
+    listing: Listing,
+    r: &mut Source<R>,
+    w: &mut Sink<W>,
+) -> Result<Summary, RunFault>
+    requires source { r.old ≡ fresh_source r.old.remaining }
+    requires sink { w.old ≡ fresh_sink w.old.contents }
+    ensures answered { IfOk result (IsGroupedUnder rules.now listing level r.old r.new w.old w.new) }
     ensures reads { r.new.reads ≤ 1048576 }
     ensures past_end { r.new.past_end ≡ false }
     ensures fault { IfErr result (IsGroupFault r.old r.new w.old w.new) }
@@ -61,7 +87,7 @@ pub fn run_group_under<R: Read, W: Write>(
     ensures past_failure { w.new.past_failure ≡ false }
 {
     let forms = read_ledger(alloc, level, &ByForm { rules }, r)?;
-    write_ledger(alloc, &forms, w)
+    write_listing(alloc, listing, &forms, w)
 }
 
 // The ledger of all lines of a source.
@@ -115,12 +141,27 @@ fn write_ledger<W: Write>(
     sink: &mut Sink<W>,
 ) -> Result<Summary, RunFault>
     requires { sink.old ≡ fresh_sink sink.old.contents }
-    ensures ok { IfOk result (WritesLedger ledger.now sink.old sink.new) }
+    ensures ok { IfOk result (WritesLedger plain ledger.now sink.old sink.new) }
+    ensures err { IfErr result (IsWritingFault sink.old sink.new) }
+    ensures past_failure { sink.new.past_failure ≡ false }
+{
+    write_listing(alloc, PLAIN, ledger, sink)
+}
+
+// That, with the groups that are listed.
+fn write_listing<W: Write>(
+    alloc: Global,
+    listing: Listing,
+    ledger: &Ledger,
+    sink: &mut Sink<W>,
+) -> Result<Summary, RunFault>
+    requires { sink.old ≡ fresh_sink sink.old.contents }
+    ensures ok { IfOk result (WritesLedger listing ledger.now sink.old sink.new) }
     ensures err { IfErr result (IsWritingFault sink.old sink.new) }
     ensures past_failure { sink.new.past_failure ≡ false }
 {
     let mut text = Vec::new(alloc);
-    write_catalogue(&mut text, ledger.catalogue()).map_err(|_| RunFault::Memory)?;
+    write_catalogue(&mut text, listing, ledger.catalogue()).map_err(|_| RunFault::Memory)?;
     if !text.is_empty() {
         sink.write_all(&text).map_err(|_| RunFault::WriteFailed)?;
     }

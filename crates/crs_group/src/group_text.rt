@@ -2,41 +2,77 @@
 ghost use Rattle.std.specs.Prelude.{◌≡◌, ◌++◌, OnOk, Some};
 ghost use Rattle.std.specs.List.{flat_map};
 ghost use Rattle.crs_group.specs.Catalogue.{GroupParts, nth};
-ghost use Rattle.crs_group.specs.GroupOutput.{catalogue_text, group_line, group_lines, numbers_text};
-ghost use Rattle.crs_group.specs.GroupOutput.{refused_line};
+ghost use Rattle.crs_group.specs.GroupOutput.{catalogue_text, group_line, group_lines, is_listed, listed_line};
+ghost use Rattle.crs_group.specs.GroupOutput.{numbers_text, refused_line};
 
-use crate::Catalogue;
+use crate::{Catalogue, Listing};
 use crs_streams::append_refusal;
 use crs_text::Refusal;
 use itoa::Buffer;
 use std::alloc::AllocError;
 
-// The groups, and after them the refused lines.
-pub(crate) fn write_catalogue(out: &mut Vec<u8>, catalogue: &Catalogue) -> Result<(), AllocError>
-    ensures { OnOk result (out.new.items ≡ out.old.items ++ catalogue_text catalogue.now) }
+// The groups that are listed, and after them the refused lines.
+pub(crate) fn write_catalogue(
+    out: &mut Vec<u8>,
+    listing: Listing,
+    catalogue: &Catalogue,
+) -> Result<(), AllocError>
+    ensures { OnOk result (out.new.items ≡ out.old.items ++ catalogue_text listing catalogue.now) }
 {
-    write_groups(out, catalogue)?;
+    write_groups(out, listing, catalogue)?;
     write_refused_lines(out, catalogue.refused())
 }
 
-fn write_groups(out: &mut Vec<u8>, catalogue: &Catalogue) -> Result<(), AllocError>
-    ensures { OnOk result (out.new.items ≡ out.old.items ++ group_lines 1 catalogue.now.groups) }
+fn write_groups(
+    out: &mut Vec<u8>,
+    listing: Listing,
+    catalogue: &Catalogue,
+) -> Result<(), AllocError>
+    ensures { OnOk result (out.new.items ≡ out.old.items ++ group_lines listing 1 catalogue.now.groups) }
 {
     for at in 0..catalogue.groups() {
-        write_numbered(out, catalogue, at + 1)?;
+        write_numbered(out, listing, catalogue, at + 1)?;
     }
     Ok(())
 }
 
-// The group of this number.
-fn write_numbered(out: &mut Vec<u8>, catalogue: &Catalogue, number: usize) -> Result<(), AllocError>
+// The group of this number, if it is listed.
+fn write_numbered(
+    out: &mut Vec<u8>,
+    listing: Listing,
+    catalogue: &Catalogue,
+    number: usize,
+) -> Result<(), AllocError>
     ensures { (group : GroupParts) → nth number catalogue.now.groups ≡ Some group →
-        OnOk result (out.new.items ≡ out.old.items ++ group_line number group) }
+        OnOk result (out.new.items ≡ out.old.items ++ listed_line listing number group) }
 {
     match catalogue.lines(number) {
-        Some(lines) => write_group(out, number, lines),
+        Some(lines) => write_if_listed(out, listing, number, lines),
         None => Ok(()),
     }
+}
+
+fn write_if_listed(
+    out: &mut Vec<u8>,
+    listing: Listing,
+    number: usize,
+    lines: &[u64],
+) -> Result<(), AllocError>
+    ensures { (group : GroupParts) → group.lines ≡ lines.now →
+        OnOk result (out.new.items ≡ out.old.items ++ listed_line listing number group) }
+{
+    if is_listed(listing, lines) {
+        write_group(out, number, lines)
+    } else {
+        Ok(())
+    }
+}
+
+// Whether a group of these lines is listed.
+fn is_listed(listing: Listing, lines: &[u64]) -> bool
+    ensures { result ≡ is_listed listing lines.now }
+{
+    !listing.repeated || lines.len() > 1
 }
 
 // `group N: L1 L2 ..` and a line end.

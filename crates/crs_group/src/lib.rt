@@ -10,11 +10,13 @@ mod group_text;
 mod groups;
 pub mod laws;
 mod ledger;
+mod listing;
 mod placed;
 mod summary;
 
 pub use catalogue::{Catalogue, is_blank};
 pub use crs_streams::{RunFault, Sink, Source};
-pub use group_run::{run_group, run_group_under};
+pub use group_run::{run_group, run_group_listing, run_group_under};
+pub use listing::{Listing, PLAIN};
 pub use placed::Placed;
 pub use summary::Summary;

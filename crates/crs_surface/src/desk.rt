@@ -130,7 +130,7 @@ fn asks<'w>(alloc: Global, line: &[&str], command: &'w str, words: &'w [&'w str]
     is_so(request(alloc, line), AskedFor { command, words })
 }
 
-// The last eight variants are additions.
+// The last nine variants are additions.
 fn is_request(asked: &Request, command: &str, words: &[&str]) -> bool {
     match asked {
         Request::Canon(level) => command == "canon" && are_words(&[level], words),
@@ -141,6 +141,7 @@ fn is_request(asked: &Request, command: &str, words: &[&str]) -> bool {
         Request::Group(level) => command == "group" && are_words(&[level], words),
         Request::CanonLines(_)
         | Request::CheckLines
+        | Request::GroupListed(_, _)
         | Request::Explain(_)
         | Request::ExplainText(_, _)
         | Request::ExplainPair(_, _, _)

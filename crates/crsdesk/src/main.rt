@@ -9,7 +9,10 @@ mod runs;
 mod telling;
 mod under;
 
-use crs_desk::{FileTask, Level, LineWord, Request, RequestFault, RunFault, Task, request};
+use crs_desk::{
+    FileTask, GroupFlags, Level, LineWord, Listing, PLAIN, Request, RequestFault, RunFault, Task,
+    request,
+};
 use fault::Fault;
 use runs::{
     canon, canon_lines, check, check_lines, explain, explain_files, explain_pair, explain_text,
@@ -72,7 +75,8 @@ fn answer(rt: &HostRuntime, wanted: &Request) -> Result<u8, Fault> {
         Request::Canon(level) => canon(rt, level_of(level)?),
         Request::Check => check(rt),
         Request::Same(first, second, level) => same(rt, level_of(level)?, first, second),
-        Request::Group(level) => group(rt, level_of(level)?),
+        Request::Group(level) => group(rt, level_of(level)?, PLAIN),
+        Request::GroupListed(level, flags) => group(rt, level_of(level)?, listing_of(flags)),
         Request::CanonLines(level) => canon_lines(rt, level_of(level)?),
         Request::CheckLines => check_lines(rt),
         Request::Explain(level) => {
@@ -100,7 +104,11 @@ fn answer_files(rt: &HostRuntime, task: &Task, names: &[LineWord]) -> Result<u8,
     match task {
         Task::Canon(level) => files(rt, FileTask::Canon(level_of(level)?), names),
         Task::Check => files(rt, FileTask::Check, names),
-        Task::Group(level) => files(rt, FileTask::Group(level_of(level)?), names),
+        Task::Group(level) => files(rt, FileTask::Group(level_of(level)?, PLAIN), names),
+        Task::GroupListed(level, flags) => {
+            let task = FileTask::Group(level_of(level)?, listing_of(flags));
+            files(rt, task, names)
+        }
         Task::CanonLines(level) => files(rt, FileTask::CanonLines(level_of(level)?), names),
         Task::CheckLines => files(rt, FileTask::CheckLines, names),
         Task::Explain(level) => {
@@ -109,6 +117,12 @@ fn answer_files(rt: &HostRuntime, task: &Task, names: &[LineWord]) -> Result<u8,
         }
         Task::Same(level) => same_files(rt, level_of(level)?, names),
         Task::ExplainPair(level) => explain_files(rt, level_of(level)?, names),
+    }
+}
+
+pub(crate) fn listing_of(flags: &GroupFlags) -> Listing {
+    Listing {
+        repeated: flags.repeated,
     }
 }
 

@@ -4,9 +4,9 @@ use crate::input::{Input, Opener, tell_fault};
 use crate::output::Output;
 use crate::telling::tell_of;
 use crs_desk::{
-    FileTask, Filling, Level, LineWord, RunFault, Sink, Source, Stream, read_text, run_canon,
-    run_canon_lines, run_check, run_check_lines, run_explain, run_explain_pair, run_explain_text,
-    run_files, run_group, run_same,
+    FileTask, Filling, Level, LineWord, Listing, RunFault, Sink, Source, Stream, read_text,
+    run_canon, run_canon_lines, run_check, run_check_lines, run_explain, run_explain_pair,
+    run_explain_text, run_files, run_group_listing, run_same,
 };
 use std::path::Path;
 
@@ -60,13 +60,14 @@ pub fn check_lines(rt: &HostRuntime) -> Result<u8, Fault> {
     answered(answer, &input, &output)
 }
 
-/// The catalogue of the lines of standard input. Status 1 where a line was refused.
-pub fn group(rt: &HostRuntime, level: Level) -> Result<u8, Fault> {
+/// The catalogue of the lines of standard input, with these groups. Status 1 where a line was refused.
+pub fn group(rt: &HostRuntime, level: Level, listing: Listing) -> Result<u8, Fault> {
     let mut input = Input::standard(rt);
     let mut output = Output::new(rt);
-    let answer = run_group(
+    let answer = run_group_listing(
         rt.alloc(),
         level,
+        listing,
         &mut Source::new(Filling::new(&mut input)),
         &mut Sink::new(&mut output),
     );

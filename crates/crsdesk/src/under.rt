@@ -1,11 +1,11 @@
 //! The commands under rules, of which the files are read first.
 use crate::fault::Fault;
-use crate::level_of;
 use crate::output::Output;
 use crate::runs::{explain_text, file_text, files, text_of, two_texts, written};
 use crate::telling::tell_refused;
+use crate::{level_of, listing_of};
 use crs_desk::{
-    FileTask, Level, LineWord, Rules, RulesFault, RulesReader, RunFault, Sink, Task,
+    FileTask, Level, LineWord, PLAIN, Rules, RulesFault, RulesReader, RunFault, Sink, Task,
     run_explain_pair_under, run_same_under,
 };
 
@@ -21,7 +21,11 @@ pub fn files_under(
     match task {
         Task::Canon(_) => files(rt, FileTask::Form(level, &rules), names),
         Task::Check => files(rt, FileTask::Check, names),
-        Task::Group(_) => files(rt, FileTask::FormGroup(level, &rules), names),
+        Task::Group(_) => files(rt, FileTask::FormGroup(level, PLAIN, &rules), names),
+        Task::GroupListed(_, flags) => {
+            let task = FileTask::FormGroup(level, listing_of(flags), &rules);
+            files(rt, task, names)
+        }
         Task::CanonLines(_) => files(rt, FileTask::FormLines(level, &rules), names),
         Task::CheckLines => files(rt, FileTask::CheckLines, names),
         Task::Explain(_) => files(rt, FileTask::Explain, names),
@@ -62,6 +66,7 @@ fn task_level(task: &Task) -> Result<Level, Fault> {
     match task {
         Task::Canon(level) => level_of(level),
         Task::Group(level) => level_of(level),
+        Task::GroupListed(level, _) => level_of(level),
         Task::CanonLines(level) => level_of(level),
         Task::Explain(level) => level_of(level),
         Task::Same(level) => level_of(level),
