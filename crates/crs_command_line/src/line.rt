@@ -7,8 +7,8 @@ ghost use Rattle.crs_command_line.specs.CommandLine.{HandsOn, IsRefusal, asked, 
 ghost use Rattle.crs_command_line.specs.CommandLine.{canon_of, canon_shape, check_of, check_shape, explain_of, explain_shape};
 ghost use Rattle.crs_command_line.specs.CommandLine.{file_operands, flag, group_flags, group_of, group_shape, has_flag};
 ghost use Rattle.crs_command_line.specs.CommandLine.{command_of, explained_operands, level_of, level_option, request_of};
-ghost use Rattle.crs_command_line.specs.CommandLine.{ruled, rules_option, same_of, same_operands, same_shape};
-ghost use Rattle.crs_command_line.specs.CommandLine.{spare_operand, standard, under, with_options, words_of};
+ghost use Rattle.crs_command_line.specs.CommandLine.{rules_option, same_of, same_operands, same_shape};
+ghost use Rattle.crs_command_line.specs.CommandLine.{spare_operand, under, with_options, words_of};
 
 use crate::{GroupFlags, LineWord, LineWords, Request, RequestFault, Task};
 use clap::error::ErrorKind;
@@ -54,9 +54,6 @@ const LEVEL_HELP: &str =
 
 // What help says of the option `--rules`.
 const RULES_HELP: &str = "Compares under the rules of a file; given more than once, of all of them";
-
-// The name of standard input among those of files.
-const STANDARD: &str = "-";
 
 // The level where the line names none.
 const USUAL_LEVEL: &str = "full";
@@ -317,59 +314,7 @@ fn under(alloc: Global, rules: LineWords, asked: Request) -> Result<Request, All
     if rules.is_empty() {
         return Ok(asked);
     }
-    ruled(alloc, rules, asked)
-}
-
-// What is asked, under the rules of these files.
-fn ruled(alloc: Global, rules: LineWords, asked: Request) -> Result<Request, AllocError>
-    ensures { IfOk result (λ found. found ≡ ruled rules asked) }
-{
-    match asked {
-        Request::Canon(level) => over_standard(alloc, Task::Canon(level), rules),
-        Request::Same(first, second, level) => {
-            over_two(alloc, Task::Same(level), first, second, rules)
-        }
-        Request::Group(level) => over_standard(alloc, Task::Group(level), rules),
-        Request::GroupListed(level, flags) => {
-            over_standard(alloc, Task::GroupListed(level, flags), rules)
-        }
-        Request::CanonLines(level) => over_standard(alloc, Task::CanonLines(level), rules),
-        Request::Explain(level) => over_standard(alloc, Task::Explain(level), rules),
-        Request::ExplainText(text, level) => {
-            let texts = LineWords::one(alloc, text)?;
-            Ok(Request::TextsUnder(Task::Explain(level), texts, rules))
-        }
-        Request::ExplainPair(first, second, level) => {
-            over_two(alloc, Task::ExplainPair(level), first, second, rules)
-        }
-        Request::Files(task, names) => Ok(Request::FilesUnder(task, names, rules)),
-        Request::Check => Ok(Request::Check),
-        Request::CheckLines => Ok(Request::CheckLines),
-        Request::FilesUnder(task, names, others) => Ok(Request::FilesUnder(task, names, others)),
-        Request::TextsUnder(task, texts, others) => Ok(Request::TextsUnder(task, texts, others)),
-    }
-}
-
-// A task over standard input under rules.
-fn over_standard(alloc: Global, task: Task, rules: LineWords) -> Result<Request, AllocError>
-    ensures { IfOk result (λ found. found ≡ Request.FilesUnder task standard rules) }
-{
-    let names = LineWords::of(alloc, &[STANDARD])?;
-    Ok(Request::FilesUnder(task, names, rules))
-}
-
-// A task over two texts under rules.
-fn over_two(
-    alloc: Global,
-    task: Task,
-    first: LineWord,
-    second: LineWord,
-    rules: LineWords,
-) -> Result<Request, AllocError>
-    ensures { IfOk result (λ found. found ≡ Request.TextsUnder task (first ∷ second ∷ []) rules) }
-{
-    let texts = LineWords::two(alloc, first, second)?;
-    Ok(Request::TextsUnder(task, texts, rules))
+    asked.ruled(alloc, rules)
 }
 
 fn canon_request(alloc: Global, options: &ArgMatches) -> Result<Request, AllocError>

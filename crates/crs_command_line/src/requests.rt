@@ -1,6 +1,12 @@
+ghost use Rattle.std.specs.Prelude.{◌≡◌, ◌∷◌, [], IfOk};
+ghost use Rattle.crs_command_line.specs.CommandLine.{ruled, standard};
+
 use crate::{LineWord, LineWords};
-use std::alloc::AllocError;
+use std::alloc::{AllocError, Global};
 use thiserror::Error;
+
+// The name of standard input among those of files.
+const STANDARD: &str = "-";
 
 /// What `group` writes, as its flags say.
 #[derive(Clone, Copy, Debug)]
@@ -11,7 +17,7 @@ pub struct GroupFlags {
 
 /// What a command line asks for. A level is the word after `--level`, whatever word it is, and
 /// `full` where the line names none.
-#[derive(Debug, Drop)]
+#[derive(Debug)]
 pub enum Request {
     /// The canonical text of the text on standard input, at a level.
     Canon(LineWord),
@@ -42,8 +48,65 @@ pub enum Request {
     TextsUnder(Task, LineWords, LineWords),
 }
 
+// Hand-written: a derived drop is expanded wherever a value is dropped, which slows the proofs.
+impl Drop for Request {
+    fn drop(self) {
+        match self {
+            Request::Canon(_) => {}
+            Request::Check => {}
+            Request::Same(_, _, _) => {}
+            Request::Group(_) => {}
+            Request::CanonLines(_) => {}
+            Request::CheckLines => {}
+            Request::Explain(_) => {}
+            Request::ExplainText(_, _) => {}
+            Request::ExplainPair(_, _, _) => {}
+            Request::GroupListed(_, _) => {}
+            Request::Files(_, _) => {}
+            Request::FilesUnder(_, _, _) => {}
+            Request::TextsUnder(_, _, _) => {}
+        }
+    }
+}
+
+impl Request {
+    // What is asked, under the rules of these files.
+    pub(crate) fn ruled(self, alloc: Global, rules: LineWords) -> Result<Request, AllocError>
+        ensures { IfOk result (λ found. found ≡ ruled rules self) }
+    {
+        match self {
+            Request::Canon(level) => over_standard(alloc, Task::Canon(level), rules),
+            Request::Same(first, second, level) => {
+                over_two(alloc, Task::Same(level), first, second, rules)
+            }
+            Request::Group(level) => over_standard(alloc, Task::Group(level), rules),
+            Request::GroupListed(level, flags) => {
+                over_standard(alloc, Task::GroupListed(level, flags), rules)
+            }
+            Request::CanonLines(level) => over_standard(alloc, Task::CanonLines(level), rules),
+            Request::Explain(level) => over_standard(alloc, Task::Explain(level), rules),
+            Request::ExplainText(text, level) => {
+                let texts = LineWords::one(alloc, text)?;
+                Ok(Request::TextsUnder(Task::Explain(level), texts, rules))
+            }
+            Request::ExplainPair(first, second, level) => {
+                over_two(alloc, Task::ExplainPair(level), first, second, rules)
+            }
+            Request::Files(task, names) => Ok(Request::FilesUnder(task, names, rules)),
+            Request::Check => Ok(Request::Check),
+            Request::CheckLines => Ok(Request::CheckLines),
+            Request::FilesUnder(task, names, others) => Ok(Request::FilesUnder(
+                task, names, others,
+            )),
+            Request::TextsUnder(task, texts, others) => Ok(Request::TextsUnder(
+                task, texts, others,
+            )),
+        }
+    }
+}
+
 /// What is asked of files. A level is the word after `--level`, as in a `Request`.
-#[derive(Debug, Drop)]
+#[derive(Debug)]
 pub enum Task {
     /// The canonical text of each file's text, at a level.
     Canon(LineWord),
@@ -63,6 +126,44 @@ pub enum Task {
     Same(LineWord),
     /// Where the texts of two files differ, each part, at a level.
     ExplainPair(LineWord),
+}
+
+impl Drop for Task {
+    fn drop(self) {
+        match self {
+            Task::Canon(_) => {}
+            Task::Check => {}
+            Task::Group(_) => {}
+            Task::GroupListed(_, _) => {}
+            Task::CanonLines(_) => {}
+            Task::CheckLines => {}
+            Task::Explain(_) => {}
+            Task::Same(_) => {}
+            Task::ExplainPair(_) => {}
+        }
+    }
+}
+
+// A task over standard input under rules.
+fn over_standard(alloc: Global, task: Task, rules: LineWords) -> Result<Request, AllocError>
+    ensures { IfOk result (λ found. found ≡ Request.FilesUnder task standard rules) }
+{
+    let names = LineWords::of(alloc, &[STANDARD])?;
+    Ok(Request::FilesUnder(task, names, rules))
+}
+
+// A task over two texts under rules.
+fn over_two(
+    alloc: Global,
+    task: Task,
+    first: LineWord,
+    second: LineWord,
+    rules: LineWords,
+) -> Result<Request, AllocError>
+    ensures { IfOk result (λ found. found ≡ Request.TextsUnder task (first ∷ second ∷ []) rules) }
+{
+    let texts = LineWords::two(alloc, first, second)?;
+    Ok(Request::TextsUnder(task, texts, rules))
 }
 
 /// Why a command line gives no request.
