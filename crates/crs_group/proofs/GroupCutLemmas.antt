@@ -1,5 +1,5 @@
 -- Bytes are cut into lines, one piece further.
-use Rattle.std.proofs.Common.{◌≡◌, ◌+◌, ◌<◌, ◌≤◌, ◌++◌, ◌∷◌, [], ℕ, List, true, false, length, ap, subst, sym, refl, ◌∙◌, arith, append_assoc, append-nil, inl, inr, length-append}
+use Rattle.std.proofs.Common.{◌≡◌, ◌+◌, ◌<◌, ◌≤◌, ◌++◌, ◌∷◌, [], ℕ, Bool, List, true, false, length, ap, subst, sym, refl, ◌∙◌, arith, append_assoc, append-nil, inl, inr, length-append}
 use Rattle.std.specs.Prelude.{◌==◌}
 use Rattle.crs_group.specs.GroupCutting.{CutterParts, IsCutFault, IsCutTo, IsKept, IsLedgerFor, IsLedgerOf, IsNextLine, IsNotKept, LedgerParts, no_lines}
 use Rattle.crs_streams.specs.declared.fault.RunFault.{RunFault}
@@ -22,9 +22,9 @@ line-in-piece bytes front line left rest piece is split =
     append_assoc bytes front (line ++ 10 ∷ left)
     ∙ ap (λ l. bytes ++ l) (ap (λ r. front ++ r) (sym split) ∙ sym is)
 
-module _ (Form : Level → List ℕ → List ℕ → Type 0) (Share : Level → PlacedLine → PlacedLine → Type 0) where
+module _ (Form : Level → List ℕ → List ℕ → Type 0) (Share : Level → PlacedLine → PlacedLine → Type 0) (named : Bool) where
   -- no byte was cut
-  pub cut-none : (cutter : CutterParts) → cutter.partial ≡ [] → IsLedgerOf Form Share [] cutter.ledger → IsCutTo Form Share [] cutter
+  pub cut-none : (cutter : CutterParts) → cutter.partial ≡ [] → IsLedgerOf Form Share named [] cutter.ledger → IsCutTo Form Share named [] cutter
   cut-none cutter none ledger = record {
     ended = [];
     texts = [];
@@ -36,15 +36,15 @@ module _ (Form : Level → List ℕ → List ℕ → Type 0) (Share : Level → 
     of_texts = ledger;
   }
 
-  pub cut-fresh : (level : Level) (cutter : CutterParts) → cutter ≡ cutter_of (no_lines level) [] → IsCutTo Form Share [] cutter
+  pub cut-fresh : (level : Level) (cutter : CutterParts) → cutter ≡ cutter_of (no_lines level) [] → IsCutTo Form Share named [] cutter
   cut-fresh level cutter is =
-      subst (IsCutTo Form Share []) (sym is) (cut-none (cutter_of (no_lines level) []) refl (none-ledger Form Share level))
+      subst (IsCutTo Form Share named []) (sym is) (cut-none (cutter_of (no_lines level) []) refl (none-ledger Form Share named level))
 
   -- a line ends
-  pub cut-line : (bytes line : List ℕ) (before after : CutterParts) → IsCutTo Form Share bytes before → HasNoFeed line
+  pub cut-line : (bytes line : List ℕ) (before after : CutterParts) → IsCutTo Form Share named bytes before → HasNoFeed line
       → length before.partial + length line ≤ 1048576
-      → IsNextLine Form Share (before.partial ++ line) before.ledger after.ledger → after.partial ≡ []
-      → IsCutTo Form Share (bytes ++ (line ++ 10 ∷ [])) after
+      → IsNextLine Form Share named (before.partial ++ line) before.ledger after.ledger → after.partial ≡ []
+      → IsCutTo Form Share named (bytes ++ (line ++ 10 ∷ [])) after
   cut-line bytes line before after cut plain fits (text, is, further) none = record {
     ended = cut.ended ++ ((before.partial ++ line) ++ 10 ∷ []);
     texts = cut.texts ++ text ∷ [];
@@ -63,10 +63,10 @@ module _ (Form : Level → List ℕ → List ℕ → Type 0) (Share : Level → 
   }
 
   -- bytes of a line that goes on
-  pub cut-kept : (bytes more : List ℕ) (before after : CutterParts) → IsCutTo Form Share bytes before → HasNoFeed more
+  pub cut-kept : (bytes more : List ℕ) (before after : CutterParts) → IsCutTo Form Share named bytes before → HasNoFeed more
       → length before.partial + length more ≤ 1048576
       → after.ledger ≡ before.ledger → after.partial ≡ before.partial ++ more
-      → IsCutTo Form Share (bytes ++ more) after
+      → IsCutTo Form Share named (bytes ++ more) after
   cut-kept bytes more before after cut plain fits ledger partial = record {
     ended = cut.ended;
     texts = cut.texts;
@@ -76,11 +76,11 @@ module _ (Form : Level → List ℕ → List ℕ → Type 0) (Share : Level → 
     are_short = cut.are_short;
     is_one = subst HasNoFeed (sym partial) (plain-append before.partial more cut.is_one plain);
     is_short = omega (arith, ap length partial, length-append before.partial more);
-    of_texts = subst (IsLedgerOf Form Share cut.texts) (sym ledger) cut.of_texts;
+    of_texts = subst (IsLedgerOf Form Share named cut.texts) (sym ledger) cut.of_texts;
   }
 
   -- a line is too long
-  pub cut-long : (bytes line rest : List ℕ) (cutter : CutterParts) → IsCutTo Form Share bytes cutter → HasNoFeed line
+  pub cut-long : (bytes line rest : List ℕ) (cutter : CutterParts) → IsCutTo Form Share named bytes cutter → HasNoFeed line
       → 1048576 < length cutter.partial + length line → length line + length rest ≤ 65536
       → IsTooLong (bytes ++ (line ++ rest)) (cutter.ledger.lines + 1)
   cut-long bytes line rest cutter cut plain long small = record {
@@ -99,13 +99,13 @@ module _ (Form : Level → List ℕ → List ℕ → Type 0) (Share : Level → 
   }
 
   -- so far no line is too long
-  pub cut-short : (bytes : List ℕ) (cutter : CutterParts) → IsCutTo Form Share bytes cutter → HasShortLines bytes
+  pub cut-short : (bytes : List ℕ) (cutter : CutterParts) → IsCutTo Form Share named bytes cutter → HasShortLines bytes
   cut-short bytes cutter cut =
       subst HasShortLines (sym cut.are_bytes)
       (short-more cut.ended cutter.partial (ended-begins cut.ended cut.texts cut.are_ended) cut.are_short
       (short-line cutter.partial cut.is_short))
 
-  pub cut-fits : (bytes : List ℕ) (cutter : CutterParts) → IsCutTo Form Share bytes cutter → cutter.ledger.lines ≤ length bytes
+  pub cut-fits : (bytes : List ℕ) (cutter : CutterParts) → IsCutTo Form Share named bytes cutter → cutter.ledger.lines ≤ length bytes
   cut-fits bytes cutter cut =
       omega (
         arith,
@@ -116,8 +116,8 @@ module _ (Form : Level → List ℕ → List ℕ → Type 0) (Share : Level → 
       )
 
   -- at the end no line is open
-  pub cut-ended : (bytes : List ℕ) (cutter : CutterParts) → IsCutTo Form Share bytes cutter → cutter.partial ≡ []
-      → IsLedgerFor Form Share bytes cutter.ledger
+  pub cut-ended : (bytes : List ℕ) (cutter : CutterParts) → IsCutTo Form Share named bytes cutter → cutter.partial ≡ []
+      → IsLedgerFor Form Share named bytes cutter.ledger
   cut-ended bytes cutter cut none = record {
     texts = cut.texts;
     are_texts = ended-lines bytes cut.texts
@@ -127,10 +127,10 @@ module _ (Form : Level → List ℕ → List ℕ → Type 0) (Share : Level → 
   }
 
   -- at the end the open line is the last
-  pub cut-last : (bytes : List ℕ) (cutter : CutterParts) (ledger : LedgerParts) → IsCutTo Form Share bytes cutter
+  pub cut-last : (bytes : List ℕ) (cutter : CutterParts) (ledger : LedgerParts) → IsCutTo Form Share named bytes cutter
       → ¬ (cutter.partial ≡ [])
-      → ((texts : List (List ℕ)) → IsLedgerOf Form Share texts cutter.ledger → IsLedgerOf Form Share (texts ++ cutter.partial ∷ []) ledger)
-      → IsLedgerFor Form Share bytes ledger
+      → ((texts : List (List ℕ)) → IsLedgerOf Form Share named texts cutter.ledger → IsLedgerOf Form Share named (texts ++ cutter.partial ∷ []) ledger)
+      → IsLedgerFor Form Share named bytes ledger
   cut-last bytes cutter ledger cut some further = record {
     texts = cut.texts ++ cutter.partial ∷ [];
     are_texts = subst (λ b. AreLines b (cut.texts ++ cutter.partial ∷ [])) (sym cut.are_bytes)
@@ -141,27 +141,27 @@ module _ (Form : Level → List ℕ → List ℕ → Type 0) (Share : Level → 
   -- a line that is whole within a piece
   pub cut-straight : (line : List ℕ) (now : CutterParts) (ledger after : LedgerParts) (partial : List ℕ)
       → cutter_of ledger partial ≡ now → HasNoFeed line → length now.partial + length line ≤ 1048576
-      → true ≡ (length partial == 0) → IsNextLine Form Share line ledger after → (bytes : List ℕ) → IsCutTo Form Share bytes now
-      → IsCutTo Form Share (bytes ++ (line ++ 10 ∷ [])) (cutter_of after partial)
+      → true ≡ (length partial == 0) → IsNextLine Form Share named line ledger after → (bytes : List ℕ) → IsCutTo Form Share named bytes now
+      → IsCutTo Form Share named (bytes ++ (line ++ 10 ∷ [])) (cutter_of after partial)
   cut-straight line now ledger after partial is plain fits empty next bytes cut =
       let none = none-kept partial empty in
       let was : partial ≡ now.partial = ap (λ c. c.partial) is in
-      cut-line bytes line (cutter_of ledger partial) (cutter_of after partial) (subst (IsCutTo Form Share bytes) (sym is) cut) plain
-      (omega (arith, ap length was)) (subst (λ p. IsNextLine Form Share (p ++ line) ledger after) (sym none) next) none
+      cut-line bytes line (cutter_of ledger partial) (cutter_of after partial) (subst (IsCutTo Form Share named bytes) (sym is) cut) plain
+      (omega (arith, ap length was)) (subst (λ p. IsNextLine Form Share named (p ++ line) ledger after) (sym none) next) none
 
   -- a line some bytes of which were kept
   pub cut-joined : (line : List ℕ) (now : CutterParts) (ledger after : LedgerParts) (partial joined cleared : List ℕ)
       → cutter_of ledger partial ≡ now → HasNoFeed line → length now.partial + length line ≤ 1048576
-      → joined ≡ partial ++ line → cleared ≡ [] → IsNextLine Form Share joined ledger after → (bytes : List ℕ) → IsCutTo Form Share bytes now
-      → IsCutTo Form Share (bytes ++ (line ++ 10 ∷ [])) (cutter_of after cleared)
+      → joined ≡ partial ++ line → cleared ≡ [] → IsNextLine Form Share named joined ledger after → (bytes : List ℕ) → IsCutTo Form Share named bytes now
+      → IsCutTo Form Share named (bytes ++ (line ++ 10 ∷ [])) (cutter_of after cleared)
   cut-joined line now ledger after partial joined cleared is plain fits whole none next bytes cut =
       let was : partial ≡ now.partial = ap (λ c. c.partial) is in
-      cut-line bytes line (cutter_of ledger partial) (cutter_of after cleared) (subst (IsCutTo Form Share bytes) (sym is) cut) plain
-      (omega (arith, ap length was)) (subst (λ l. IsNextLine Form Share l ledger after) whole next) none
+      cut-line bytes line (cutter_of ledger partial) (cutter_of after cleared) (subst (IsCutTo Form Share named bytes) (sym is) cut) plain
+      (omega (arith, ap length was)) (subst (λ l. IsNextLine Form Share named l ledger after) whole next) none
 
   pub cut-over : (line : List ℕ) (now : CutterParts) (ledger : LedgerParts) (partial : List ℕ) (lines : ℕ)
       → cutter_of ledger partial ≡ now → HasNoFeed line → 1048576 < length now.partial + length line
-      → lines ≡ ledger.lines → (bytes rest : List ℕ) → length line + length rest ≤ 65536 → IsCutTo Form Share bytes now
+      → lines ≡ ledger.lines → (bytes rest : List ℕ) → length line + length rest ≤ 65536 → IsCutTo Form Share named bytes now
       → IsTooLong (bytes ++ (line ++ rest)) (lines + 1)
   cut-over line now ledger partial lines is plain over counted bytes rest small cut =
       subst (λ n. IsTooLong (bytes ++ (line ++ rest)) (n + 1)) (sym (counted ∙ ap (λ c. c.ledger.lines) is))
@@ -169,25 +169,25 @@ module _ (Form : Level → List ℕ → List ℕ → Type 0) (Share : Level → 
 
   -- a piece is cut up to the next line
   pub piece-step : (front line left rest piece : List ℕ) (old now next : CutterParts) → piece ≡ front ++ rest
-      → IsSplit rest line left → ((bytes : List ℕ) → IsCutTo Form Share bytes old → IsCutTo Form Share (bytes ++ front) now)
-      → ((bytes : List ℕ) → IsCutTo Form Share bytes now → IsCutTo Form Share (bytes ++ (line ++ 10 ∷ [])) next)
+      → IsSplit rest line left → ((bytes : List ℕ) → IsCutTo Form Share named bytes old → IsCutTo Form Share named (bytes ++ front) now)
+      → ((bytes : List ℕ) → IsCutTo Form Share named bytes now → IsCutTo Form Share named (bytes ++ (line ++ 10 ∷ [])) next)
       → (done : List ℕ) × (piece ≡ done ++ left)
-      × ((bytes : List ℕ) → IsCutTo Form Share bytes old → IsCutTo Form Share (bytes ++ done) next)
+      × ((bytes : List ℕ) → IsCutTo Form Share named bytes old → IsCutTo Form Share named (bytes ++ done) next)
   piece-step front line left rest piece old now next is (split, plain) before step = (
     front ++ (line ++ 10 ∷ []),
     is ∙ (ap (λ r. front ++ r) (split ∙ sym (append_assoc line (10 ∷ []) left))
         ∙ sym (append_assoc front (line ++ 10 ∷ []) left)),
-    λ bytes cut. subst (λ b. IsCutTo Form Share b next) (append_assoc bytes front (line ++ 10 ∷ []))
+    λ bytes cut. subst (λ b. IsCutTo Form Share named b next) (append_assoc bytes front (line ++ 10 ∷ []))
         (step (bytes ++ front) (before bytes cut)),
   )
 
   -- a line of a piece is too long
   pub piece-fault : (front line left rest piece : List ℕ) (old now : CutterParts) (fault : RunFault)
       → piece ≡ front ++ rest → IsSplit rest line left
-      → ((bytes : List ℕ) → IsCutTo Form Share bytes old → IsCutTo Form Share (bytes ++ front) now)
-      → ((bytes behind : List ℕ) → length line + length behind ≤ 65536 → IsCutTo Form Share bytes now
+      → ((bytes : List ℕ) → IsCutTo Form Share named bytes old → IsCutTo Form Share named (bytes ++ front) now)
+      → ((bytes behind : List ℕ) → length line + length behind ≤ 65536 → IsCutTo Form Share named bytes now
       → IsCutFault (bytes ++ (line ++ behind)) fault)
-      → length piece ≤ 65536 → (bytes : List ℕ) → IsCutTo Form Share bytes old → IsCutFault (bytes ++ piece) fault
+      → length piece ≤ 65536 → (bytes : List ℕ) → IsCutTo Form Share named bytes old → IsCutFault (bytes ++ piece) fault
   piece-fault front line left rest piece old now fault is (split, plain) before step small bytes cut =
       let within : length line + length (10 ∷ left) ≤ 65536 = omega
       (arith, ap length is, length-append front rest, ap length split, length-append line (10 ∷ left)) in
@@ -196,15 +196,15 @@ module _ (Form : Level → List ℕ → List ℕ → Type 0) (Share : Level → 
 
   -- the rest of a piece is kept
   pub piece-kept : (front rest piece : List ℕ) (old now next : CutterParts) → piece ≡ front ++ rest
-      → ((bytes : List ℕ) → IsCutTo Form Share bytes old → IsCutTo Form Share (bytes ++ front) now) → HasNoFeed rest → IsKept rest now next
-      → (bytes : List ℕ) → IsCutTo Form Share bytes old → IsCutTo Form Share (bytes ++ piece) next
+      → ((bytes : List ℕ) → IsCutTo Form Share named bytes old → IsCutTo Form Share named (bytes ++ front) now) → HasNoFeed rest → IsKept rest now next
+      → (bytes : List ℕ) → IsCutTo Form Share named bytes old → IsCutTo Form Share named (bytes ++ piece) next
   piece-kept front rest piece old now next is before plain kept bytes cut =
-      subst (λ b. IsCutTo Form Share b next) (append_assoc bytes front rest ∙ ap (λ l. bytes ++ l) (sym is))
+      subst (λ b. IsCutTo Form Share named b next) (append_assoc bytes front rest ∙ ap (λ l. bytes ++ l) (sym is))
       (cut-kept (bytes ++ front) rest now next (before bytes cut) plain kept.are_few kept.is_ledger kept.are_more)
 
   -- the rest of a piece isn't kept
   pub keep-fault : (more : List ℕ) (now : CutterParts) (fault : RunFault) → HasNoFeed more → length more ≤ 65536
-      → IsNotKept more now fault → (bytes : List ℕ) → IsCutTo Form Share bytes now → IsCutFault (bytes ++ more) fault
+      → IsNotKept more now fault → (bytes : List ℕ) → IsCutTo Form Share named bytes now → IsCutFault (bytes ++ more) fault
   keep-fault more now fault plain small (inl memory) bytes cut = subst (IsCutFault (bytes ++ more)) (sym memory) tt
   keep-fault more now fault plain small (inr (is, over)) bytes cut =
       subst (IsCutFault (bytes ++ more)) (sym is)
@@ -212,22 +212,22 @@ module _ (Form : Level → List ℕ → List ℕ → Type 0) (Share : Level → 
       (cut-long bytes more [] now cut plain over (omega arith)))
 
   pub piece-end-fault : (front rest piece : List ℕ) (old now : CutterParts) (fault : RunFault) → piece ≡ front ++ rest
-      → ((bytes : List ℕ) → IsCutTo Form Share bytes old → IsCutTo Form Share (bytes ++ front) now)
-      → ((bytes : List ℕ) → IsCutTo Form Share bytes now → IsCutFault (bytes ++ rest) fault)
-      → (bytes : List ℕ) → IsCutTo Form Share bytes old → IsCutFault (bytes ++ piece) fault
+      → ((bytes : List ℕ) → IsCutTo Form Share named bytes old → IsCutTo Form Share named (bytes ++ front) now)
+      → ((bytes : List ℕ) → IsCutTo Form Share named bytes now → IsCutFault (bytes ++ rest) fault)
+      → (bytes : List ℕ) → IsCutTo Form Share named bytes old → IsCutFault (bytes ++ piece) fault
   piece-end-fault front rest piece old now fault is before step bytes cut =
       subst (λ b. IsCutFault b fault) (append_assoc bytes front rest ∙ ap (λ l. bytes ++ l) (sym is))
       (step (bytes ++ front) (before bytes cut))
 
   pub ended-ledger : (now : CutterParts) (ledger : LedgerParts) (partial : List ℕ) → cutter_of ledger partial ≡ now
-      → true ≡ (length partial == 0) → (bytes : List ℕ) → IsCutTo Form Share bytes now → IsLedgerFor Form Share bytes ledger
+      → true ≡ (length partial == 0) → (bytes : List ℕ) → IsCutTo Form Share named bytes now → IsLedgerFor Form Share named bytes ledger
   ended-ledger now ledger partial is empty bytes cut =
-      cut-ended bytes (cutter_of ledger partial) (subst (IsCutTo Form Share bytes) (sym is) cut) (none-kept partial empty)
+      cut-ended bytes (cutter_of ledger partial) (subst (IsCutTo Form Share named bytes) (sym is) cut) (none-kept partial empty)
 
   pub last-ledger : (now : CutterParts) (ledger after : LedgerParts) (partial last : List ℕ)
       → cutter_of ledger partial ≡ now → false ≡ (length partial == 0) → last ≡ partial
-      → ((texts : List (List ℕ)) → IsLedgerOf Form Share texts ledger → IsLedgerOf Form Share (texts ++ last ∷ []) after)
-      → (bytes : List ℕ) → IsCutTo Form Share bytes now → IsLedgerFor Form Share bytes after
+      → ((texts : List (List ℕ)) → IsLedgerOf Form Share named texts ledger → IsLedgerOf Form Share named (texts ++ last ∷ []) after)
+      → (bytes : List ℕ) → IsCutTo Form Share named bytes now → IsLedgerFor Form Share named bytes after
   last-ledger now ledger after partial last is some same further bytes cut =
-      cut-last bytes (cutter_of ledger partial) after (subst (IsCutTo Form Share bytes) (sym is) cut) (some-kept partial some)
-      (λ texts of_texts. subst (λ l. IsLedgerOf Form Share (texts ++ l ∷ []) after) same (further texts of_texts))
+      cut-last bytes (cutter_of ledger partial) after (subst (IsCutTo Form Share named bytes) (sym is) cut) (some-kept partial some)
+      (λ texts of_texts. subst (λ l. IsLedgerOf Form Share named (texts ++ l ∷ []) after) same (further texts of_texts))

@@ -12,15 +12,16 @@ split-at (g ∷ gs) zero within = (g, refl, refl)
 split-at (g ∷ gs) (suc at) within = split-at gs at (omega arith)
 
 -- a further group is written
-pub group-step : (listing : Listing) (all now next : List ℕ) (groups : List GroupParts) (at : ℕ) → at < length groups
-    → ((group : GroupParts) → nth (at + 1) groups ≡ Some group → next ≡ now ++ listed_line listing (at + 1) group)
-    → now ++ group_lines listing (at + 1) (drop at groups) ≡ all
-    → next ++ group_lines listing (at + 1 + 1) (drop (at + 1) groups) ≡ all
-group-step listing all now next groups at within written so-far =
+pub group-step : (listing : Listing) (names : List (List ℕ)) (all now next : List ℕ) (groups : List GroupParts) (at : ℕ)
+    → at < length groups
+    → ((group : GroupParts) → nth (at + 1) groups ≡ Some group → next ≡ now ++ listed_line listing names (at + 1) group)
+    → now ++ group_lines listing names (at + 1) (drop at groups) ≡ all
+    → next ++ group_lines listing names (at + 1 + 1) (drop (at + 1) groups) ≡ all
+group-step listing names all now next groups at within written so-far =
     let (group, here, parts) = split-at groups at within in
-    ap (λ text. text ++ group_lines listing (at + 1 + 1) (drop (at + 1) groups))
+    ap (λ text. text ++ group_lines listing names (at + 1 + 1) (drop (at + 1) groups))
     (written group (ap (λ n. nth n groups) (add-one at) ∙ here))
-    ∙ append_assoc now (listed_line listing (at + 1) group) (group_lines listing (at + 1 + 1) (drop (at + 1) groups))
-    ∙ ap (λ rest. now ++ group_lines listing (at + 1) rest)
+    ∙ append_assoc now (listed_line listing names (at + 1) group) (group_lines listing names (at + 1 + 1) (drop (at + 1) groups))
+    ∙ ap (λ rest. now ++ group_lines listing names (at + 1) rest)
     (ap (λ n. group ∷ drop n groups) (add-one at) ∙ sym parts)
     ∙ so-far

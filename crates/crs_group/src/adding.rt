@@ -1,5 +1,5 @@
 //! How a line is added to a catalogue: by its canonical text, or by its form under rules.
-ghost use Rattle.std.specs.Prelude.{◌≡◌, ℕ, List, IfOk};
+ghost use Rattle.std.specs.Prelude.{◌≡◌, ℕ, Bool, List, IfOk};
 ghost use Rattle.crs_value.specs.declared.values.level.Level.{Level};
 ghost use Rattle.crs_group.specs.GroupTexts.{IsCatalogueBy, then_line};
 ghost use Rattle.crs_group.specs.Partition.{PlacedLine};
@@ -16,6 +16,12 @@ pub(crate) trait Adding {
     // When two lines share a group.
     ghost Share: { Self → Level → PlacedLine → PlacedLine → Type 0 };
 
+    // Whether lines have names.
+    ghost named: { Self → Bool };
+
+    fn are_named(&self) -> bool
+        ensures { result ≡ named self.now };
+
     fn add(&self, catalogue: &mut Catalogue, line: u64, text: &[u8]) -> Result<Placed, AllocError>
         ensures catalogue { IfOk result (λ place. (placed : List PlacedLine) →
             IsCatalogueBy (Form self.now) (Share self.now) placed catalogue.old →
@@ -28,12 +34,19 @@ pub(crate) trait Adding {
 pub(crate) struct ByCanon;
 
 impl Adding for ByCanon {
+    ghost use Rattle.std.specs.Prelude.{false};
     ghost use Rattle.crs_writer.specs.Canonical.{IsCanonicalOf};
     ghost use Rattle.crs_group.specs.Partition.{ShareWhereSame};
 
     ghost Form = { λ s level text bytes. IsCanonicalOf level text bytes };
 
     ghost Share = { λ s level p q. ShareWhereSame level p q };
+
+    ghost named = { λ s. false };
+
+    fn are_named(&self) -> bool {
+        false
+    }
 
     fn add(&self, catalogue: &mut Catalogue, line: u64, text: &[u8]) -> Result<Placed, AllocError> {
         catalogue.add(line, text)
@@ -47,6 +60,7 @@ pub(crate) struct ByForm<'r> {
 }
 
 impl Adding for ByForm<'_> {
+    ghost use Rattle.std.specs.Prelude.{false};
     ghost use Rattle.crs_rules.specs.Under.{IsForm};
     ghost use Rattle.crs_group.specs.UnderRules.{ShareWhereSameUnder};
 
@@ -54,7 +68,36 @@ impl Adding for ByForm<'_> {
 
     ghost Share = { λ s level p q. ShareWhereSameUnder s.rules.now level p q };
 
+    ghost named = { λ s. false };
+
+    fn are_named(&self) -> bool {
+        false
+    }
+
     fn add(&self, catalogue: &mut Catalogue, line: u64, text: &[u8]) -> Result<Placed, AllocError> {
         catalogue.add_under(line, text, self.rules)
+    }
+}
+
+// In such a way, where lines have names or not.
+#[derive(Drop)]
+pub(crate) struct WithNames<A: Adding> {
+    pub(crate) adding: A,
+    pub(crate) named: bool,
+}
+
+impl<A: Adding> Adding for WithNames<A> {
+    ghost Form = { λ s level text bytes. A.Form s.adding level text bytes };
+
+    ghost Share = { λ s level p q. A.Share s.adding level p q };
+
+    ghost named = { λ s. s.named };
+
+    fn are_named(&self) -> bool {
+        self.named
+    }
+
+    fn add(&self, catalogue: &mut Catalogue, line: u64, text: &[u8]) -> Result<Placed, AllocError> {
+        self.adding.add(catalogue, line, text)
     }
 }

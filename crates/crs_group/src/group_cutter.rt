@@ -44,10 +44,10 @@ impl Cutter {
         requires fits { self.old.ledger.lines + length piece.now + 1 < 2 ^ 64 }
         requires small { length piece.now ≤ 65536 }
         ensures cut { OnOk result ((bytes : List ℕ) →
-            IsCutTo (A.Form adding.now) (A.Share adding.now) bytes self.old →
-            IsCutTo (A.Form adding.now) (A.Share adding.now) (bytes ++ piece.now) self.new) }
+            IsCutTo (A.Form adding.now) (A.Share adding.now) (A.named adding.now) bytes self.old →
+            IsCutTo (A.Form adding.now) (A.Share adding.now) (A.named adding.now) (bytes ++ piece.now) self.new) }
         ensures fault { IfErr result (λ fault. (bytes : List ℕ) →
-            IsCutTo (A.Form adding.now) (A.Share adding.now) bytes self.old →
+            IsCutTo (A.Form adding.now) (A.Share adding.now) (A.named adding.now) bytes self.old →
             IsCutFault (bytes ++ piece.now) fault) }
         ensures level { self.new.ledger.catalogue.level ≡ self.old.ledger.catalogue.level }
     {
@@ -63,8 +63,8 @@ impl Cutter {
     pub(crate) fn finish<A: Adding>(self, adding: &A) -> Result<Ledger, AllocError>
         requires { self.ledger.lines + 1 < 2 ^ 64 }
         ensures lines { IfOk result (λ ledger. (bytes : List ℕ) →
-            IsCutTo (A.Form adding.now) (A.Share adding.now) bytes self →
-            IsLedgerFor (A.Form adding.now) (A.Share adding.now) bytes ledger) }
+            IsCutTo (A.Form adding.now) (A.Share adding.now) (A.named adding.now) bytes self →
+            IsLedgerFor (A.Form adding.now) (A.Share adding.now) (A.named adding.now) bytes ledger) }
         ensures level { IfOk result (λ ledger. ledger.catalogue.level ≡ self.ledger.catalogue.level) }
     {
         let mut ledger = self.ledger;
@@ -80,10 +80,10 @@ impl Cutter {
         requires one { HasNoFeed line.now }
         requires fits { self.old.ledger.lines + 1 < 2 ^ 64 }
         ensures cut { OnOk result ((bytes : List ℕ) →
-            IsCutTo (A.Form adding.now) (A.Share adding.now) bytes self.old →
-            IsCutTo (A.Form adding.now) (A.Share adding.now) (bytes ++ (line.now ++ 10 ∷ [])) self.new) }
+            IsCutTo (A.Form adding.now) (A.Share adding.now) (A.named adding.now) bytes self.old →
+            IsCutTo (A.Form adding.now) (A.Share adding.now) (A.named adding.now) (bytes ++ (line.now ++ 10 ∷ [])) self.new) }
         ensures fault { IfErr result (λ fault. (bytes rest : List ℕ) → length line.now + length rest ≤ 65536 →
-            IsCutTo (A.Form adding.now) (A.Share adding.now) bytes self.old →
+            IsCutTo (A.Form adding.now) (A.Share adding.now) (A.named adding.now) bytes self.old →
             IsCutFault (bytes ++ (line.now ++ rest)) fault) }
         ensures lines { OnOk result (self.new.ledger.lines ≡ self.old.ledger.lines + 1) }
         ensures level { self.new.ledger.catalogue.level ≡ self.old.ledger.catalogue.level }
@@ -124,7 +124,7 @@ impl Cutter {
 
 fn add_line<A: Adding>(ledger: &mut Ledger, adding: &A, line: &[u8]) -> Result<(), RunFault>
     requires { ledger.old.lines + 1 < 2 ^ 64 }
-    ensures added { OnOk result (IsNextLine (A.Form adding.now) (A.Share adding.now) line.now ledger.old ledger.new) }
+    ensures added { OnOk result (IsNextLine (A.Form adding.now) (A.Share adding.now) (A.named adding.now) line.now ledger.old ledger.new) }
     ensures fault { IfErr result (λ fault. fault ≡ RunFault.Memory) }
     ensures lines { OnOk result (ledger.new.lines ≡ ledger.old.lines + 1) }
     ensures level { ledger.new.catalogue.level ≡ ledger.old.catalogue.level }

@@ -5,7 +5,7 @@ ghost use Rattle.crs_group.specs.GroupRun.{IsGroupFault, IsGrouped, IsGroupedUnd
 ghost use Rattle.crs_group.specs.GroupReading.{IsLedgerWhole, IsReadInto, WritesLedger, IsWritingFault};
 ghost use Rattle.crs_streams.specs.Streams.{fresh_sink, fresh_source};
 
-use crate::adding::{Adding, ByCanon, ByForm};
+use crate::adding::{Adding, ByCanon, ByForm, WithNames};
 use crate::group_cutter::Cutter;
 use crate::group_text::write_catalogue;
 use crate::ledger::Ledger;
@@ -44,7 +44,9 @@ pub fn run_group<R: Read, W: Write>(
 }
 
 /// Writes what `run_group` writes, without the groups that aren't listed: the others have their numbers among all, and
-/// the summary counts all. Faults as there. Profile.
+/// the summary counts all. Where lines have names, `group N:` and each name after a tab, and `line NAME:`; in a name
+/// control characters, marks of direction and backslashes are escaped, and what is no UTF-8 is U+FFFD. Faults as there:
+/// a name counts to its line. Profile.
 pub fn run_group_listing<R: Read, W: Write>(
     alloc: Global,
     level: Level,
@@ -62,7 +64,11 @@ pub fn run_group_listing<R: Read, W: Write>(
     ensures write_failed { IsErrOf result RunFault.WriteFailed ↔ (w.new.failed ≡ true) }
     ensures past_failure { w.new.past_failure ≡ false }
 {
-    let listed = read_ledger(alloc, level, &ByCanon, r)?;
+    let adding = WithNames {
+        adding: ByCanon,
+        named: listing.names,
+    };
+    let listed = read_ledger(alloc, level, &adding, r)?;
     write_listing(alloc, listing, &listed, w)
 }
 
@@ -86,7 +92,11 @@ pub fn run_group_under<R: Read, W: Write>(
     ensures write_failed { IsErrOf result RunFault.WriteFailed ↔ (w.new.failed ≡ true) }
     ensures past_failure { w.new.past_failure ≡ false }
 {
-    let forms = read_ledger(alloc, level, &ByForm { rules }, r)?;
+    let adding = WithNames {
+        adding: ByForm { rules },
+        named: listing.names,
+    };
+    let forms = read_ledger(alloc, level, &adding, r)?;
     write_listing(alloc, listing, &forms, w)
 }
 
@@ -98,7 +108,7 @@ fn read_ledger<A: Adding, R: Read>(
     source: &mut Source<R>,
 ) -> Result<Ledger, RunFault>
     requires { source.old ≡ fresh_source source.old.remaining }
-    ensures ok { IfOk result (IsLedgerWhole (A.Form adding.now) (A.Share adding.now) level source.old source.new) }
+    ensures ok { IfOk result (IsLedgerWhole (A.Form adding.now) (A.Share adding.now) (A.named adding.now) level source.old source.new) }
     ensures reads { source.new.reads ≤ 1048576 }
     ensures past_end { source.new.past_end ≡ false }
     ensures err { IfErr result (IsReadingFault source.old source.new) }
@@ -116,9 +126,9 @@ fn read_into<A: Adding, R: Read>(
     room: &mut [u8],
 ) -> Result<(), RunFault>
     requires source { source.old ≡ fresh_source source.old.remaining }
-    requires cutter { IsCutTo (A.Form adding.now) (A.Share adding.now) [] cutter.old }
+    requires cutter { IsCutTo (A.Form adding.now) (A.Share adding.now) (A.named adding.now) [] cutter.old }
     requires room { length room.old ≡ 65536 }
-    ensures ok { OnOk result (IsReadInto (A.Form adding.now) (A.Share adding.now) source.old source.new cutter.new) }
+    ensures ok { OnOk result (IsReadInto (A.Form adding.now) (A.Share adding.now) (A.named adding.now) source.old source.new cutter.new) }
     ensures reads { source.new.reads ≤ 1048576 }
     ensures past_end { source.new.past_end ≡ false }
     ensures err { IfErr result (IsReadingFault source.old source.new) }
@@ -161,7 +171,9 @@ fn write_listing<W: Write>(
     ensures past_failure { sink.new.past_failure ≡ false }
 {
     let mut text = Vec::new(alloc);
-    write_catalogue(&mut text, listing, ledger.catalogue()).map_err(|_| RunFault::Memory)?;
+    write_catalogue(&mut text, listing, ledger.names(), ledger.catalogue()).map_err(
+        |_| RunFault::Memory,
+    )?;
     if !text.is_empty() {
         sink.write_all(&text).map_err(|_| RunFault::WriteFailed)?;
     }

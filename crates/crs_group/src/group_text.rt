@@ -2,10 +2,12 @@
 ghost use Rattle.std.specs.Prelude.{◌≡◌, ◌++◌, OnOk, Some};
 ghost use Rattle.std.specs.List.{flat_map};
 ghost use Rattle.crs_group.specs.Catalogue.{GroupParts, nth};
-ghost use Rattle.crs_group.specs.GroupOutput.{catalogue_text, group_line, group_lines, is_listed, listed_line};
-ghost use Rattle.crs_group.specs.GroupOutput.{numbers_text, refused_line};
+ghost use Rattle.crs_group.specs.GroupOutput.{catalogue_text, group_line, group_lines, is_listed, label};
+ghost use Rattle.crs_group.specs.GroupOutput.{labelled, labels_text, listed_line, refused_line};
 
+use crate::names::Names;
 use crate::{Catalogue, Listing};
+use crs_explain::append_escaped;
 use crs_streams::append_refusal;
 use crs_text::Refusal;
 use itoa::Buffer;
@@ -15,23 +17,25 @@ use std::alloc::AllocError;
 pub(crate) fn write_catalogue(
     out: &mut Vec<u8>,
     listing: Listing,
+    names: &Names,
     catalogue: &Catalogue,
 ) -> Result<(), AllocError>
-    ensures { OnOk result (out.new.items ≡ out.old.items ++ catalogue_text listing catalogue.now) }
+    ensures { OnOk result (out.new.items ≡ out.old.items ++ catalogue_text listing names.now catalogue.now) }
 {
-    write_groups(out, listing, catalogue)?;
-    write_refused_lines(out, catalogue.refused())
+    write_groups(out, listing, names, catalogue)?;
+    write_refused_lines(out, listing, names, catalogue.refused())
 }
 
 fn write_groups(
     out: &mut Vec<u8>,
     listing: Listing,
+    names: &Names,
     catalogue: &Catalogue,
 ) -> Result<(), AllocError>
-    ensures { OnOk result (out.new.items ≡ out.old.items ++ group_lines listing 1 catalogue.now.groups) }
+    ensures { OnOk result (out.new.items ≡ out.old.items ++ group_lines listing names.now 1 catalogue.now.groups) }
 {
     for at in 0..catalogue.groups() {
-        write_numbered(out, listing, catalogue, at + 1)?;
+        write_numbered(out, listing, names, catalogue, at + 1)?;
     }
     Ok(())
 }
@@ -40,14 +44,15 @@ fn write_groups(
 fn write_numbered(
     out: &mut Vec<u8>,
     listing: Listing,
+    names: &Names,
     catalogue: &Catalogue,
     number: usize,
 ) -> Result<(), AllocError>
     ensures { (group : GroupParts) → nth number catalogue.now.groups ≡ Some group →
-        OnOk result (out.new.items ≡ out.old.items ++ listed_line listing number group) }
+        OnOk result (out.new.items ≡ out.old.items ++ listed_line listing names.now number group) }
 {
     match catalogue.lines(number) {
-        Some(lines) => write_if_listed(out, listing, number, lines),
+        Some(lines) => write_if_listed(out, listing, names, number, lines),
         None => Ok(()),
     }
 }
@@ -55,14 +60,15 @@ fn write_numbered(
 fn write_if_listed(
     out: &mut Vec<u8>,
     listing: Listing,
+    names: &Names,
     number: usize,
     lines: &[u64],
 ) -> Result<(), AllocError>
     ensures { (group : GroupParts) → group.lines ≡ lines.now →
-        OnOk result (out.new.items ≡ out.old.items ++ listed_line listing number group) }
+        OnOk result (out.new.items ≡ out.old.items ++ listed_line listing names.now number group) }
 {
     if is_listed(listing, lines) {
-        write_group(out, number, lines)
+        write_group(out, listing, names, number, lines)
     } else {
         Ok(())
     }
@@ -76,46 +82,94 @@ fn is_listed(listing: Listing, lines: &[u64]) -> bool
 }
 
 // `group N: L1 L2 ..` and a line end.
-fn write_group(out: &mut Vec<u8>, number: usize, lines: &[u64]) -> Result<(), AllocError>
+fn write_group(
+    out: &mut Vec<u8>,
+    listing: Listing,
+    names: &Names,
+    number: usize,
+    lines: &[u64],
+) -> Result<(), AllocError>
     ensures { (group : GroupParts) → group.lines ≡ lines.now →
-        OnOk result (out.new.items ≡ out.old.items ++ group_line number group) }
+        OnOk result (out.new.items ≡ out.old.items ++ group_line listing names.now number group) }
 {
     let mut digits = Buffer::new();
     out.extend_from_slice(b"group ")?;
     out.extend_from_slice(digits.format(number).as_bytes())?;
     out.push(b':')?;
-    write_numbers(out, lines)?;
+    write_labels(out, listing, names, lines)?;
     out.push(b'\n').map_err(AllocError::from)
 }
 
 // ` L1 L2 ..`
-fn write_numbers(out: &mut Vec<u8>, numbers: &[u64]) -> Result<(), AllocError>
-    ensures { OnOk result (out.new.items ≡ out.old.items ++ numbers_text numbers.now) }
+fn write_labels(
+    out: &mut Vec<u8>,
+    listing: Listing,
+    names: &Names,
+    numbers: &[u64],
+) -> Result<(), AllocError>
+    ensures { OnOk result (out.new.items ≡ out.old.items ++ labels_text listing names.now numbers.now) }
 {
-    let mut digits = Buffer::new();
     for number in numbers {
-        out.push(b' ')?;
-        out.extend_from_slice(digits.format(*number).as_bytes())?;
+        write_labelled(out, listing, names, *number)?;
     }
     Ok(())
 }
 
-fn write_refused_lines(out: &mut Vec<u8>, refused: &[(u64, Refusal)]) -> Result<(), AllocError>
-    ensures { OnOk result (out.new.items ≡ out.old.items ++ flat_map refused_line refused.now) }
+// A blank and a line's number, or a tab and its name.
+fn write_labelled(
+    out: &mut Vec<u8>,
+    listing: Listing,
+    names: &Names,
+    number: u64,
+) -> Result<(), AllocError>
+    ensures { OnOk result (out.new.items ≡ out.old.items ++ labelled listing names.now number) }
+{
+    out.push(if listing.names { b'\t' } else { b' ' })?;
+    write_label(out, listing, names, number)
+}
+
+// A line's number, or its name.
+fn write_label(
+    out: &mut Vec<u8>,
+    listing: Listing,
+    names: &Names,
+    number: u64,
+) -> Result<(), AllocError>
+    ensures { OnOk result (out.new.items ≡ out.old.items ++ label listing names.now number) }
+{
+    if listing.names {
+        return append_escaped(names.at(number), out);
+    }
+    let mut digits = Buffer::new();
+    out.extend_from_slice(digits.format(number).as_bytes())
+}
+
+fn write_refused_lines(
+    out: &mut Vec<u8>,
+    listing: Listing,
+    names: &Names,
+    refused: &[(u64, Refusal)],
+) -> Result<(), AllocError>
+    ensures { OnOk result (out.new.items ≡ out.old.items ++ flat_map (refused_line listing names.now) refused.now) }
 {
     for (line, refusal) in refused {
-        write_refused_line(out, *line, *refusal)?;
+        write_refused_line(out, listing, names, *line, *refusal)?;
     }
     Ok(())
 }
 
 // `line L: refused N NAME at P` and a line end.
-fn write_refused_line(out: &mut Vec<u8>, line: u64, refusal: Refusal) -> Result<(), AllocError>
-    ensures { OnOk result (out.new.items ≡ out.old.items ++ refused_line (line, refusal)) }
+fn write_refused_line(
+    out: &mut Vec<u8>,
+    listing: Listing,
+    names: &Names,
+    line: u64,
+    refusal: Refusal,
+) -> Result<(), AllocError>
+    ensures { OnOk result (out.new.items ≡ out.old.items ++ refused_line listing names.now (line, refusal)) }
 {
-    let mut digits = Buffer::new();
     out.extend_from_slice(b"line ")?;
-    out.extend_from_slice(digits.format(line).as_bytes())?;
+    write_label(out, listing, names, line)?;
     out.extend_from_slice(b": ")?;
     append_refusal(out, refusal)?;
     out.push(b'\n').map_err(AllocError::from)

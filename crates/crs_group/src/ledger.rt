@@ -1,8 +1,9 @@
-//! A catalogue of lines that are numbered as they come, and counted.
+//! A catalogue of lines that are numbered as they come, counted, and named where they have names.
 ghost use Rattle.std.specs.Prelude.{◌≡◌, ◌+◌, ◌^◌, ◌<◌, ◌≤◌, ◌++◌, ◌∷◌, [], ℕ, List, OnOk, length};
 ghost use Rattle.crs_group.specs.GroupCutting.{IsLedgerOf, blank_count, no_lines};
 
 use crate::adding::Adding;
+use crate::names::{Names, text_in};
 use crate::summary::Summary;
 use crate::{Catalogue, Placed};
 use crs_value::Level;
@@ -12,6 +13,7 @@ use std::marker::Model;
 #[derive(Drop)]
 pub(crate) struct Ledger {
     catalogue: Catalogue,
+    names: Names,
     lines: u64,
     blank: u64,
 }
@@ -24,6 +26,7 @@ impl Model for Ledger {
 
     ghost view = { λ ledger. record {
       catalogue = ledger.catalogue;
+      names = ledger.names;
       lines = ledger.lines;
       blank = ledger.blank;
     } };
@@ -38,21 +41,24 @@ impl Ledger {
     {
         Ledger {
             catalogue: Catalogue::new(alloc, level),
+            names: Names::new(alloc),
             lines: 0,
             blank: 0,
         }
     }
 
     // The next line.
-    pub(crate) fn add<A: Adding>(&mut self, adding: &A, text: &[u8]) -> Result<(), AllocError>
+    pub(crate) fn add<A: Adding>(&mut self, adding: &A, line: &[u8]) -> Result<(), AllocError>
         requires { self.old.lines + 1 < 2 ^ 64 }
         ensures texts { OnOk result ((texts : List (List ℕ)) →
-            IsLedgerOf (A.Form adding.now) (A.Share adding.now) texts self.old →
-            IsLedgerOf (A.Form adding.now) (A.Share adding.now) (texts ++ text.now ∷ []) self.new) }
+            IsLedgerOf (A.Form adding.now) (A.Share adding.now) (A.named adding.now) texts self.old →
+            IsLedgerOf (A.Form adding.now) (A.Share adding.now) (A.named adding.now) (texts ++ line.now ∷ []) self.new) }
         ensures lines { OnOk result (self.new.lines ≡ self.old.lines + 1) }
         ensures level { self.new.catalogue.level ≡ self.old.catalogue.level }
     {
-        let placed = adding.add(&mut self.catalogue, self.lines + 1, text)?;
+        let named = adding.are_named();
+        let placed = adding.add(&mut self.catalogue, self.lines + 1, text_in(named, line))?;
+        self.names.keep(named, self.lines + 1, line)?;
         self.lines += 1;
         self.blank += blank_count(placed);
         Ok(())
@@ -62,6 +68,12 @@ impl Ledger {
         ensures { result ≡ self.now.lines }
     {
         self.lines
+    }
+
+    pub(crate) fn names(&self) -> &Names
+        ensures { result.now ≡ self.now.names }
+    {
+        &self.names
     }
 
     pub(crate) fn catalogue(&self) -> &Catalogue

@@ -11,6 +11,7 @@ mod groups;
 pub mod laws;
 mod ledger;
 mod listing;
+mod names;
 mod placed;
 mod summary;
 

@@ -14,14 +14,14 @@ returns-in_err-count-clause-err g c =
     let bad : IsErr c.read.result = search rules in
     IfErr-weaker c.from_residual.result _ _
     (λ fault is. subst (IsReadingFault c.args.source.now c.read.new.self) (sym is)
-    (failed-read (g.A.Adding.Form c.args.adding.now) (g.A.Adding.Share c.args.adding.now) c.args.source.now c.loop-turn.source c.read.new.self cut.0 c.read.new.room c.loop-turn.cutter
+    (failed-read (g.A.Adding.Form c.args.adding.now) (g.A.Adding.Share c.args.adding.now) (g.A.Adding.named c.args.adding.now) c.args.source.now c.loop-turn.source c.read.new.self cut.0 c.read.new.room c.loop-turn.cutter
     c.read.result cut.1 cut.2 c.read.ensures.bytes c.read.ensures.counted bad))
     same
 
 pub take-requires-clause-fits : goal.take-requires-clause-fits
 take-requires-clause-fits g c =
     let cut = c.loop-turn.invariant.cut in
-    lines-fit (g.A.Adding.Form c.args.adding.now) (g.A.Adding.Share c.args.adding.now) cut.0 c.loop-turn.cutter c.args.source.now c.loop-turn.source
+    lines-fit (g.A.Adding.Form c.args.adding.now) (g.A.Adding.Share c.args.adding.now) (g.A.Adding.named c.args.adding.now) cut.0 c.loop-turn.cutter c.args.source.now c.loop-turn.source
     (length (take c.in_ok-count.count c.read.new.room)) cut.2 cut.1
     (omega (arith, c.loop-turn.invariant.few, c.loop-turn-test.true))
     (omega (arith, length-take c.in_ok-count.count c.read.new.room, c.read.auto.room, c.loop-turn.invariant.room))
@@ -75,5 +75,5 @@ returns-clause-err g c =
       c.loop-turn.invariant.healthy,
       omega (arith, c.loop-turn.invariant.reads, c.loop-turn-test.false, c.loop-turn.auto.turn-end),
       c.loop-turn.invariant.unended,
-      gives-short (g.A.Adding.Form c.args.adding.now) (g.A.Adding.Share c.args.adding.now) c.args.source.now c.loop-turn.source cut.0 c.loop-turn.cutter cut.1 cut.2,
+      gives-short (g.A.Adding.Form c.args.adding.now) (g.A.Adding.Share c.args.adding.now) (g.A.Adding.named c.args.adding.now) c.args.source.now c.loop-turn.source cut.0 c.loop-turn.cutter cut.1 cut.2,
     )

@@ -5,5 +5,5 @@ use Rattle.crs_group.proofs.group_text.write_refused_lines.Given as goal
 
 abbrev pub invariant-loop-line : goal.invariant-loop-line
 invariant-loop-line l =
-    l.out.items ++ flat_map refused_line (drop l.line-index l.refused)
-    ≡ l.initial.out.items ++ flat_map refused_line l.refused
+    l.out.items ++ flat_map (refused_line l.listing l.names) (drop l.line-index l.refused)
+    ≡ l.initial.out.items ++ flat_map (refused_line l.listing l.names) l.refused
