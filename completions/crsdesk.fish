@@ -16,5 +16,6 @@ complete -c crsdesk -n '__fish_seen_subcommand_from canon group same explain' -l
 complete -c crsdesk -n '__fish_seen_subcommand_from canon group same explain' -l rules -r -d 'Compare under the rules of a file'
 complete -c crsdesk -n '__fish_seen_subcommand_from canon check' -l lines -d 'Take each line as a text'
 complete -c crsdesk -n '__fish_seen_subcommand_from group' -l repeated -d 'Write the groups of two lines or more alone'
+complete -c crsdesk -n '__fish_seen_subcommand_from group' -l names -d 'Take names from the fronts of lines, and write them for numbers'
 complete -c crsdesk -n '__fish_seen_subcommand_from same explain' -l files -d 'Take the operands as names of files'
 complete -c crsdesk -n '__fish_seen_subcommand_from help' -f -a "$commands"

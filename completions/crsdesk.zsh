@@ -2,7 +2,7 @@
 # Completion of crsdesk's command line for zsh.
 
 _crsdesk() {
-    local -a commands level rules lines repeated files help
+    local -a commands level rules lines repeated names files help
     commands=(
         'canon:write the canonical text'
         'check:tell what kind of CRS a text spells, or where it is refused'
@@ -15,6 +15,7 @@ _crsdesk() {
     rules=('*--rules=[compare under the rules of a file]:file:_files')
     lines=('--lines[take each line as a text]')
     repeated=('--repeated[write the groups of two lines or more alone]')
+    names=('--names[take names from the fronts of lines, and write them for numbers]')
     files=('--files[take the operands as names of files]')
     help=('(- *)'{-h,--help}'[print help]')
 
@@ -29,7 +30,7 @@ _crsdesk() {
     case $command in
         canon) _arguments $level $rules $lines $help '*:file:_files' ;;
         check) _arguments $lines $help '*:file:_files' ;;
-        group) _arguments $level $rules $repeated $help '*:file:_files' ;;
+        group) _arguments $level $rules $repeated $names $help '*:file:_files' ;;
         same | explain) _arguments $files $level $rules $help '1:first:_files' '2:second:_files' ;;
         help) _describe command commands ;;
     esac

@@ -15,7 +15,7 @@ use Rattle.clap.specs.Takes.{bundle_passes, bundle_step_passes, default_passes, 
 use Rattle.clap.specs.declared.parser.matches.ValueSource.TheVariants.{CommandLine}
 use Rattle.clap.proofs.OnLiterals.{clap_on_literals}
 use Rattle.clap.proofs.WalkLemmas.{both}
-use Rattle.crs_command_line.specs.CommandLine.{asked, canon_of, check_of, desk, explain_of, file_operands, files_flag, group_of, is_plain_word, level_option, lines_flag, over, repeated_flag, request_of, rules_of, rules_option, same_of, spare_operand, standard, under}
+use Rattle.crs_command_line.specs.CommandLine.{asked, canon_of, check_of, desk, explain_of, file_operands, files_flag, group_of, is_plain_word, level_option, lines_flag, names_flag, over, repeated_flag, request_of, rules_of, rules_option, same_of, spare_operand, standard, under}
 use Rattle.crs_command_line.specs.declared.requests.Request.{Request}
 use Rattle.crs_command_line.specs.declared.requests.Request.TheVariants.{Canon, Check, Same, Group, CanonLines, CheckLines, Explain, ExplainText, ExplainPair, GroupListed, Files, FilesUnder, TextsUnder}
 use Rattle.crs_command_line.specs.declared.requests.Task.{Task}
@@ -556,7 +556,7 @@ abbrev built_check : Shape
 built_check = built_with (codes "check") (lines_flag ∷ file_operands ∷ help_rule ∷ [])
 
 abbrev built_group : Shape
-built_group = built_with (codes "group") (level_option ∷ rules_option ∷ repeated_flag ∷ file_operands ∷ help_rule ∷ [])
+built_group = built_with (codes "group") (level_option ∷ rules_option ∷ repeated_flag ∷ names_flag ∷ file_operands ∷ help_rule ∷ [])
 
 abbrev built_explain : Shape
 built_explain =
@@ -673,7 +673,7 @@ pub group_lines : (program : Text) → takes desk (program ∷ codes "group" ∷
 unfolding clap_on_literals
 group_lines program = refl
 
--- ---- groups of two lines or more
+-- ---- groups with flags
 
 -- what `group` holds after `--repeated`
 abbrev with_repeated : Held → Held
@@ -683,12 +683,23 @@ with_repeated h = record {
   skip = 0;
 }
 
-pub group_repeated : (program : Text) → asked (program ∷ codes "group" ∷ codes "--repeated" ∷ []) ≡ Some (GroupListed (codes "full") (record { repeated = true }))
+pub group_repeated : (program : Text) → asked (program ∷ codes "group" ∷ codes "--repeated" ∷ [])
+    ≡ Some (GroupListed (codes "full") (record { repeated = true; names = false }))
 unfolding clap_on_literals
 group_repeated program = refl
 
+pub group_names : (program : Text) → asked (program ∷ codes "group" ∷ codes "--names" ∷ [])
+    ≡ Some (GroupListed (codes "full") (record { repeated = false; names = true }))
+unfolding clap_on_literals
+group_names program = refl
+
+pub group_both : (program : Text) → asked (program ∷ codes "group" ∷ codes "--names" ∷ codes "--repeated" ∷ [])
+    ≡ Some (GroupListed (codes "full") (record { repeated = true; names = true }))
+unfolding clap_on_literals
+group_both program = refl
+
 pub repeated_first : (program text : Text) → is_plain_word text ≡ true
-    → asked (program ∷ codes "group" ∷ codes "--repeated" ∷ codes "--level" ∷ text ∷ []) ≡ Some (GroupListed text (record { repeated = true }))
+    → asked (program ∷ codes "group" ∷ codes "--repeated" ∷ codes "--level" ∷ text ∷ []) ≡ Some (GroupListed text (record { repeated = true; names = false }))
 unfolding clap_on_literals
 repeated_first program text usual =
     let s = built_group in
@@ -702,7 +713,7 @@ repeated_first program text usual =
     (goes_on s wants to to text [] (plain_turn s (wants_level s h) (option (codes "level")) 1 text refl usual) (stays s to)))) refl
 
 pub repeated_last : (program text : Text) → is_plain_word text ≡ true
-    → asked (program ∷ codes "group" ∷ codes "--level" ∷ text ∷ codes "--repeated" ∷ []) ≡ Some (GroupListed text (record { repeated = true }))
+    → asked (program ∷ codes "group" ∷ codes "--level" ∷ text ∷ codes "--repeated" ∷ []) ≡ Some (GroupListed text (record { repeated = true; names = false }))
 unfolding clap_on_literals
 repeated_last program text usual =
     let s = built_group in

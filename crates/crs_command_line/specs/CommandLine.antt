@@ -1,6 +1,6 @@
 -- The command line: what `clap`'s definition of the commands gives for the words.
-use Rattle.std.specs.Prelude.{◌≡◌, ◌≢◌, ◌==◌, ◌++◌, [], ◌∷◌, Bool, true, false, not, List, Option, Some}
-use Rattle.std.specs.Prelude.{None, codes, length}
+use Rattle.std.specs.Prelude.{◌≡◌, ◌≢◌, ◌==◌, ◌||◌, ◌++◌, [], ◌∷◌, Bool, true, false, not, List, Option}
+use Rattle.std.specs.Prelude.{Some, None, codes, length}
 use Rattle.std.specs.Prelude.{option_and_then, option_map, unwrap_or, if◌then◌else◌}
 use Rattle.std.specs.Str.{bytes_eq}
 use Rattle.clap.specs.Words.{App, IsAmong, Row, Rule, Shape, Text, all_of, fault_of, first_of}
@@ -53,6 +53,10 @@ lines_flag = flag (codes "lines")
 abbrev pub repeated_flag : Rule
 repeated_flag = flag (codes "repeated")
 
+-- the flag `--names`
+abbrev pub names_flag : Rule
+names_flag = flag (codes "names")
+
 -- the flag `--files`
 abbrev pub files_flag : Rule
 files_flag = flag (codes "files")
@@ -71,11 +75,15 @@ canon_shape = record (new_shape (codes "canon")) {
 abbrev pub check_shape : Shape
 check_shape = record (new_shape (codes "check")) { rules = lines_flag ∷ file_operands ∷ [] }
 
--- `group`, which takes a level, rules, the flag `--repeated` and files
+-- with what says how groups are written, the flags `--repeated` and `--names`, and with files
+abbrev pub with_listing : Shape → Shape
+with_listing s = record s { rules = s.rules ++ repeated_flag ∷ names_flag ∷ file_operands ∷ [] }
+
+-- `group`, which takes a level, rules, those flags and files
 abbrev pub group_shape : Shape
-group_shape = record (new_shape (codes "group")) {
-  rules = level_option ∷ rules_option ∷ repeated_flag ∷ file_operands ∷ [];
-}
+group_shape = with_listing (record (new_shape (codes "group")) {
+  rules = level_option ∷ rules_option ∷ [];
+})
 
 -- with the options of the commands that compare two texts: a level, rules and the flag `--files`
 abbrev pub with_options : Shape → Shape
@@ -147,12 +155,13 @@ check_of rows =
 
 -- the flags of `group` among its matches
 abbrev pub group_flags : List Row → GroupFlags
-group_flags rows = record { repeated = has_flag (codes "repeated") rows }
+group_flags rows =
+    record { repeated = has_flag (codes "repeated") rows; names = has_flag (codes "names") rows }
 
 -- the groups at a level, as the flags say where there is one
 abbrev pub group_of : List Row → Request
 group_of rows =
-    if has_flag (codes "repeated") rows
+    if has_flag (codes "repeated") rows || has_flag (codes "names") rows
     then over (GroupListed (level_of rows) (group_flags rows))
     (task.GroupListed (level_of rows) (group_flags rows)) (files_of rows)
     else over (Group (level_of rows)) (task.Group (level_of rows)) (files_of rows)

@@ -43,16 +43,21 @@ pub fn canon_and_group_have_a_level()
         asked (program ∷ codes "group" ∷ codes "--level" ∷ level ∷ []) ≡ Some (Group level) }
 {}
 
-/// With `--repeated`, before the level or after it, `group` writes the groups of two lines or more.
-pub fn group_has_repeated()
-    ensures alone { (program : Text) →
-        asked (program ∷ codes "group" ∷ codes "--repeated" ∷ []) ≡ Some (GroupListed (codes "full") (record { repeated = true })) }
+/// With `--repeated`, before the level or after it, `group` writes the groups of two lines or more; with `--names` it
+/// writes names for numbers.
+pub fn group_has_flags()
+    ensures repeated { (program : Text) → asked (program ∷ codes "group" ∷ codes "--repeated" ∷ [])
+        ≡ Some (GroupListed (codes "full") (record { repeated = true; names = false })) }
+    ensures names { (program : Text) → asked (program ∷ codes "group" ∷ codes "--names" ∷ [])
+        ≡ Some (GroupListed (codes "full") (record { repeated = false; names = true })) }
+    ensures both { (program : Text) → asked (program ∷ codes "group" ∷ codes "--names" ∷ codes "--repeated" ∷ [])
+        ≡ Some (GroupListed (codes "full") (record { repeated = true; names = true })) }
     ensures before { (program level : Text) → is_plain_word level ≡ true →
         asked (program ∷ codes "group" ∷ codes "--repeated" ∷ codes "--level" ∷ level ∷ [])
-        ≡ Some (GroupListed level (record { repeated = true })) }
+        ≡ Some (GroupListed level (record { repeated = true; names = false })) }
     ensures after { (program level : Text) → is_plain_word level ≡ true →
         asked (program ∷ codes "group" ∷ codes "--level" ∷ level ∷ codes "--repeated" ∷ [])
-        ≡ Some (GroupListed level (record { repeated = true })) }
+        ≡ Some (GroupListed level (record { repeated = true; names = false })) }
 {}
 
 /// `canon` and `group` alone are at the level `full`.

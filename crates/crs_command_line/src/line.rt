@@ -8,7 +8,7 @@ ghost use Rattle.crs_command_line.specs.CommandLine.{canon_of, canon_shape, chec
 ghost use Rattle.crs_command_line.specs.CommandLine.{file_operands, flag, group_flags, group_of, group_shape, has_flag};
 ghost use Rattle.crs_command_line.specs.CommandLine.{command_of, explained_operands, level_of, level_option, request_of};
 ghost use Rattle.crs_command_line.specs.CommandLine.{rules_option, same_of, same_operands, same_shape};
-ghost use Rattle.crs_command_line.specs.CommandLine.{spare_operand, under, with_options, words_of};
+ghost use Rattle.crs_command_line.specs.CommandLine.{spare_operand, under, with_listing, with_options, words_of};
 
 use crate::{GroupFlags, LineWord, LineWords, Request, RequestFault, Task};
 use clap::error::ErrorKind;
@@ -41,10 +41,13 @@ const SECOND_HELP: &str = "The second text, or its file";
 // What help says of the files of the other commands.
 const FILE_HELP: &str = "A file to read; `-` is standard input [default: standard input]";
 
-// What help says of the flags `--lines`, `--repeated` and `--files`.
+// What help says of the flags `--lines`, `--repeated`, `--names` and `--files`.
 const LINES_HELP: &str = "Takes each line as a text";
 
 const REPEATED_HELP: &str = "Writes the groups of two lines or more alone";
+
+const NAMES_HELP: &str =
+    "Takes the front of each line, up to a tab, as its name, and writes names for numbers";
 
 const FILES_HELP: &str = "Takes A and B as names of files; `-` is standard input";
 
@@ -150,10 +153,21 @@ fn group_command<'a>(alloc: Global) -> Result<Command<'a>, AllocError>
     ensures shape { IfOk result (λ command. shape_of command ≡ group_shape) }
     ensures globals { IfOk result (λ command. (fields_of command).has_globals ≡ false) }
 {
-    lone_command(alloc, "group", GROUP_ABOUT, GROUP_STATUS)
+    let command = lone_command(alloc, "group", GROUP_ABOUT, GROUP_STATUS)
         .arg(level_argument(alloc))?
-        .arg(rules_argument(alloc))?
+        .arg(rules_argument(alloc))?;
+    with_listing(alloc, command)
+}
+
+// What `group` takes beside a level and rules: what says how groups are written, and files.
+fn with_listing<'a>(alloc: Global, command: Command<'a>) -> Result<Command<'a>, AllocError>
+    requires { (fields_of command).has_globals ≡ false }
+    ensures shape { IfOk result (λ whole. shape_of whole ≡ with_listing (shape_of command.entry)) }
+    ensures globals { IfOk result (λ whole. (fields_of whole).has_globals ≡ false) }
+{
+    command
         .arg(flag_argument(alloc, "repeated", REPEATED_HELP))?
+        .arg(flag_argument(alloc, "names", NAMES_HELP))?
         .arg(file_argument(alloc))
 }
 
@@ -348,7 +362,7 @@ fn group_request(alloc: Global, options: &ArgMatches) -> Result<Request, AllocEr
     let level = level_word(alloc, options)?;
     let files = words_named(alloc, options, "file")?;
     let flags = group_flags(options);
-    match (flags.repeated, files.is_empty()) {
+    match (flags.repeated || flags.names, files.is_empty()) {
         (false, true) => Ok(Request::Group(level)),
         (true, true) => Ok(Request::GroupListed(level, flags)),
         (false, false) => Ok(Request::Files(Task::Group(level), files)),
@@ -361,6 +375,7 @@ fn group_flags(options: &ArgMatches) -> GroupFlags
 {
     GroupFlags {
         repeated: flag_asked(options, "repeated"),
+        names: flag_asked(options, "names"),
     }
 }
 

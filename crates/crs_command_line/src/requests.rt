@@ -13,6 +13,8 @@ const STANDARD: &str = "-";
 pub struct GroupFlags {
     /// The groups of two lines or more alone.
     pub repeated: bool,
+    /// Lines begin with a name and a tab, and their names stand for their numbers.
+    pub names: bool,
 }
 
 /// What a command line asks for. A level is the word after `--level`, whatever word it is, and

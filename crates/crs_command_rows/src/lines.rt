@@ -95,6 +95,9 @@ fn put_listed(out: &mut String, level: &LineWord, flags: GroupFlags) -> Result<(
     if flags.repeated {
         out.push_str(" repeated")?;
     }
+    if flags.names {
+        out.push_str(" names")?;
+    }
     put_word(out, level)
 }
 

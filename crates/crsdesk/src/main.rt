@@ -123,6 +123,7 @@ fn answer_files(rt: &HostRuntime, task: &Task, names: &[LineWord]) -> Result<u8,
 pub(crate) fn listing_of(flags: &GroupFlags) -> Listing {
     Listing {
         repeated: flags.repeated,
+        names: flags.names,
     }
 }
 
