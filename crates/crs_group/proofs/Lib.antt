@@ -3,6 +3,7 @@ pub mod EntryLemmas
 pub mod GroupCutLemmas
 pub mod GroupRunLemmas
 pub mod GroupTextLemmas
+pub mod KnownLemmas
 pub mod LedgerLemmas
 pub mod ListLemmas
 pub mod OneCatalogueLemmas

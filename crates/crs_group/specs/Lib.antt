@@ -5,6 +5,7 @@ pub mod GroupOutput
 pub mod GroupReading
 pub mod GroupRun
 pub mod GroupTexts
+pub mod Known
 pub mod Names
 pub mod Partition
 pub mod Putting

@@ -1,6 +1,6 @@
 //! The catalogue: groups by their canonical texts, and the refused lines.
 ghost use Rattle.std.specs.Prelude.{◌≡◌, ◌+◌, ◌<◌, [], ◌∷◌, ◌++◌, List, Some, length};
-ghost use Rattle.std.specs.Prelude.{IfOk, MatchResult, OnErr, OnOk};
+ghost use Rattle.std.specs.Prelude.{IfOk, IfSome, MatchResult, OnErr, OnOk};
 ghost use Rattle.std.specs.Option.{option_copied, option_map};
 ghost use Rattle.std.specs.List.{list_all};
 ghost use Rattle.crs_text.specs.Tokens.{is_white};
@@ -9,13 +9,16 @@ ghost use Rattle.crs_writer.specs.Canonical.{IsCanonicalOf};
 ghost use Rattle.crs_rules.specs.Rules.{RulesParts};
 ghost use Rattle.crs_rules.specs.Under.{IsForm};
 ghost use Rattle.crs_group.specs.Catalogue.{Line, line_of, nth};
-ghost use Rattle.crs_group.specs.GroupTexts.{IsCatalogue, IsCatalogueOf, then_line};
+ghost use Rattle.crs_group.specs.GroupTexts.{IsCatalogue, IsCatalogueOf, IsUnder, canons, then_line};
+ghost use Rattle.crs_group.specs.Known.{HasGroup};
 ghost use Rattle.crs_group.specs.Partition.{PlacedLine};
-ghost use Rattle.crs_group.specs.Putting.{IsPut, IsRefused};
+ghost use Rattle.crs_group.specs.Putting.{IsJoined, IsPut, IsRefused};
 ghost use Rattle.crs_group.specs.UnderRules.{IsCatalogueUnder};
+ghost use Rattle.crs_group.specs.declared.placed.Placed.TheVariants.{Group};
 
 use crate::groups::Groups;
 use crate::placed::Placed;
+use crate::recent::{Recent, place_of};
 use crs_canon::{Canon, canon_in, laws};
 use crs_rules::laws::{accepted_text_has_one_form, rules_are_sound};
 use crs_rules::{Rules, canon_under};
@@ -31,6 +34,8 @@ pub struct Catalogue {
     level: Level,
     groups: Groups,
     refused: Vec<(u64, Refusal)>,
+    // Lines that were added by their canonical texts, with their groups.
+    recent: Recent,
     // The memory of a canonical text that isn't kept, for that of the next line.
     room: Vec<u8>,
 }
@@ -40,11 +45,17 @@ impl Model for Catalogue {
 
     ghost Value = { CatalogueParts };
 
+    ghost use Rattle.crs_group.specs.GroupTexts.{canons};
+    ghost use Rattle.crs_group.specs.Known.{AreKnown};
+
     ghost view = { λ catalogue. record {
       level = catalogue.level;
       groups = catalogue.groups;
       refused = catalogue.refused.items;
     } };
+
+    ghost invariant = { λ catalogue.
+        AreKnown catalogue.level (canons catalogue.groups) catalogue.recent };
 }
 
 impl Catalogue {
@@ -60,6 +71,7 @@ impl Catalogue {
             level,
             groups: Groups::new(alloc),
             refused: Vec::new(alloc),
+            recent: Recent::new(alloc),
             room: Vec::new(alloc),
         }
     }
@@ -114,8 +126,12 @@ impl Catalogue {
         if is_blank(text) {
             return Ok(Placed::Blank);
         }
+        let place = place_of(text);
+        if let Some(at) = self.known(place, text) {
+            return self.join(line, at);
+        }
         match self.canon(text) {
-            Ok(canon) => self.put(line, canon),
+            Ok(canon) => self.put_and_remember(line, place, text, canon),
             Err(fault) => self.refuse(line, fault),
         }
     }
@@ -161,6 +177,48 @@ impl Catalogue {
         canon_in(self.alloc, text, self.level, &mut self.room)
     }
 
+    // The place of the group of a text, from 0, where a recent line has the same bytes.
+    fn known(&self, place: Option<usize>, text: &[u8]) -> Option<usize>
+        ensures group { IfSome result (HasGroup self.now.level (canons self.now.groups) text.now) }
+        ensures within { IfSome result (λ at. at < length self.now.groups) }
+    {
+        self.recent.group_of(place?, text)
+    }
+
+    // Puts a line into the group of its canonical text, and remembers it.
+    fn put_and_remember(
+        &mut self,
+        line: u64,
+        place: Option<usize>,
+        text: &[u8],
+        canon: Canon,
+    ) -> Result<Placed, AllocError>
+        requires canonical { IsCanonicalOf self.old.level text.now canon.bytes }
+        requires level { canon.level ≡ self.old.level }
+        ensures groups { IfOk result (IsPut canon line self.old.groups self.new.groups) }
+        ensures refused { self.new.refused ≡ self.old.refused }
+        ensures level { self.new.level ≡ self.old.level }
+        ensures unchanged { OnErr result (self.new ≡ self.old) }
+    {
+        let placed = self.put(line, canon)?;
+        self.remember(place, text, &placed);
+        Ok(placed)
+    }
+
+    // Remembers the group of a text, where that has a place among recent lines.
+    fn remember(&mut self, place: Option<usize>, text: &[u8], placed: &Placed)
+        requires { IsUnder IsCanonicalOf self.old.level (canons self.old.groups) text.now placed.now }
+        ensures { self.new ≡ self.old }
+    {
+        let Some(place) = place else {
+            return;
+        };
+        let Placed::Group(number) = placed else {
+            return;
+        };
+        self.recent.keep(self.alloc, place, text, *number - 1);
+    }
+
     // Puts a line into the group of its text.
     fn put(&mut self, line: u64, canon: Canon) -> Result<Placed, AllocError>
         ensures groups { IfOk result (IsPut canon line self.old.groups self.new.groups) }
@@ -173,8 +231,7 @@ impl Catalogue {
             Some(at) => {
                 self.room = canon.into_bytes();
                 self.room.clear();
-                self.groups.join(at, line)?;
-                Ok(Placed::Group(at + 1))
+                self.join(line, at)
             }
             None => {
                 self.groups
@@ -182,6 +239,20 @@ impl Catalogue {
                 Ok(Placed::Group(count + 1))
             }
         }
+    }
+
+    // Puts a line into the group at this place, from 0.
+    fn join(&mut self, line: u64, at: usize) -> Result<Placed, AllocError>
+        requires { at < length self.old.groups }
+        ensures groups { IfOk result (λ place. (place ≡ Group (at + 1)) ×
+            IsJoined at line self.old.groups self.new.groups) }
+        ensures refused { self.new.refused ≡ self.old.refused }
+        ensures level { self.new.level ≡ self.old.level }
+        ensures unchanged { OnErr result (self.new ≡ self.old) }
+    {
+        let _count = self.groups.len();
+        self.groups.join(at, line)?;
+        Ok(Placed::Group(at + 1))
     }
 
     // Adds a refused line.

@@ -13,6 +13,7 @@ mod ledger;
 mod listing;
 mod names;
 mod placed;
+mod recent;
 mod summary;
 
 pub use catalogue::{Catalogue, is_blank};

@@ -4,7 +4,9 @@ use Rattle.crs_rules.specs.Under.{IsForm}
 use Rattle.crs_group.specs.Catalogue.{CatalogueParts}
 use Rattle.crs_group.specs.Partition.{ShareWhereSame}
 use Rattle.crs_group.specs.UnderRules.{ShareWhereSameUnder}
+use Rattle.crs_group.specs.GroupTexts.{canons}
 use Rattle.crs_group.proofs.CatalogueLemmas.{by-parts, none-added}
+use Rattle.crs_group.proofs.KnownLemmas.{none-known}
 use Rattle.crs_group.proofs.catalogue.Catalogue.new.Goals as goal
 
 pub returns-clause-catalogue : goal.returns-clause-catalogue
@@ -21,3 +23,6 @@ returns-clause-under c rules =
     let made : CatalogueParts = record { level = c.args.level; groups = c.new.result; refused = c.new-2.result.items } in
     by-parts (IsForm rules) (ShareWhereSameUnder rules) [] c.args.level [] [] made refl c.new.ensures c.new-2.ensures.items
     (none-added (IsForm rules) (ShareWhereSameUnder rules) c.args.level)
+
+pub invariant_of-result : goal.invariant_of-result
+invariant_of-result c = none-known c.args.level (canons c.new.result) c.new-3.result c.new-3.ensures
