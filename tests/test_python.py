@@ -903,6 +903,21 @@ def test_many_lines_of_one_group() -> None:
     assert catalogue.group(1).names == list(range(1, 3001))
 
 
+def test_texts_that_come_again() -> None:
+    """More texts than a catalogue remembers, several with one canonical text, some of them at once again."""
+    texts = [HEIGHT.replace('"H"', f'"H{number}"') for number in range(300)]
+    texts += [text[:-1] + f',ID["X",{number % 3}]]' for number, text in enumerate(texts)]
+    texts += [text + " " for text in texts]
+    levels: List[Any] = ["full", "definition"]
+    for level in levels:
+        catalogue = Catalogue(level)
+        groups: Dict[str, int] = {}
+        for number in range(2000):
+            for step in (0, 1, 1, 7):
+                text = texts[number * step % len(texts)]
+                assert catalogue.add(text) == groups.setdefault(canon(text, level), len(groups) + 1)
+
+
 def test_refused_texts_are_not_kept() -> None:
     """A catalogue takes little for a refused text, however long that is, and keeps no frame that has it."""
     catalogue, keeping = Catalogue(), Catalogue(keep_texts=True)
