@@ -10,6 +10,7 @@ pub mod ExpectedWords
 pub mod Explained
 pub mod Excerpt
 pub mod Found
+pub mod Json
 pub mod Lines
 pub mod Meant
 pub mod Pieces

@@ -34,7 +34,7 @@ fn append_char(c: char, out: &mut Vec<u8>) -> Result<(), AllocError>
 }
 
 // Whether a character from U+0080 on steers a terminal, ends a line or changes the direction of a text.
-fn steers(c: char) -> bool
+pub(crate) fn steers(c: char) -> bool
     ensures { result ≡ steers c }
 {
     matches!(
@@ -60,7 +60,8 @@ fn append_byte(byte: u8, out: &mut Vec<u8>) -> Result<(), AllocError>
     }
 }
 
-fn append_code(code: u16, out: &mut Vec<u8>) -> Result<(), AllocError>
+// Appends a character by its code.
+pub(crate) fn append_code(code: u16, out: &mut Vec<u8>) -> Result<(), AllocError>
     ensures { OnOk result (out.new.items ≡ out.old.items ++ (codes "\\u" ++ hex_byte (code / 256) ++ hex_byte (code % 256))) }
 {
     out.extend_from_slice(b"\\u")?;
@@ -68,7 +69,8 @@ fn append_code(code: u16, out: &mut Vec<u8>) -> Result<(), AllocError>
     append_hex((code % 256) as u8, out)
 }
 
-fn append_hex(byte: u8, out: &mut Vec<u8>) -> Result<(), AllocError>
+// Appends two hexadecimal digits.
+pub(crate) fn append_hex(byte: u8, out: &mut Vec<u8>) -> Result<(), AllocError>
     ensures { OnOk result (out.new.items ≡ out.old.items ++ hex_byte byte) }
 {
     out.extend_from_slice(&[hex_digit(byte / 16), hex_digit(byte % 16)])

@@ -1,6 +1,7 @@
 //! A refusal of a text, and the parts in which two CRSs differ, explained so that a person can act on them: where a
 //! text is refused, what is found there and what is expected, what the text most likely is; the values of each part
-//! that differs. Each is one text for a person, and pieces for a program. Crates above know nothing of how they are made.
+//! that differs. Each is one text for a person, and for a program pieces, or an object of JSON. Crates above know nothing
+//! of how they are made.
 #![tactic(auto)]
 
 mod around;
@@ -14,9 +15,11 @@ mod expected;
 mod expected_texts;
 mod explanation;
 mod head;
+pub mod json;
 mod meant;
 mod names;
 mod number;
+mod objects;
 mod pieces;
 mod place;
 mod printed;
@@ -27,5 +30,6 @@ mod unknown_word;
 
 pub use differences::{difference_pieces, differences_text};
 pub use escape::append_escaped;
+pub use objects::{difference_objects, refusal_object};
 pub use pieces::Pieces;
 pub use refusal::{ExplanationPieces, refusal_pieces, refusal_text};

@@ -16,9 +16,9 @@ const MOST: usize = 1000;
 /// What is open, was meant or is asked for; what the number means; and hints. No bytes where nothing is to be said.
 #[derive(Drop)]
 pub(crate) struct SentenceTexts {
-    open_or_meant: Vec<u8>,
-    meaning: Vec<u8>,
-    hints: Vec<u8>,
+    pub(crate) open_or_meant: Vec<u8>,
+    pub(crate) meaning: Vec<u8>,
+    pub(crate) hints: Vec<u8>,
 }
 
 impl Model for SentenceTexts {

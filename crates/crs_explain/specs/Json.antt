@@ -1,0 +1,119 @@
+-- Texts, refusals and parts that differ in JSON (RFC 8259), each object in a line.
+use Rattle.std.specs.Prelude.{◌≡◌, ◌/◌, ◌%◌, ◌++◌, ◌∷◌, [], ◌==◌, ◌||◌, nat_lt, ℕ, List, Option, Some, None, codes}
+use Rattle.std.specs.Prelude.{decimal, encode_utf8, if◌then◌else◌}
+use Rattle.std.specs.List.{flat_map}
+use Rattle.std.specs.Str.{is_utf8}
+use Rattle.bstr.specs.Utf8.{lossy_chars}
+use Rattle.crs_value.specs.declared.values.crs.Crs.{Crs}
+use Rattle.crs_value.specs.declared.values.level.Level.{Level}
+use Rattle.crs_text.specs.Refusal.{RefusedAt, name_of}
+use Rattle.crs_text.specs.declared.position.Position.{Position}
+use Rattle.crs_explain.specs.Differing.{AreDifferenceTexts, PartTexts}
+use Rattle.crs_explain.specs.Escaped.{hex_byte, steers}
+use Rattle.crs_explain.specs.Expectation.{Expectation}
+use Rattle.crs_explain.specs.Explained.{Explanation, Explains, Sentences}
+use Rattle.crs_explain.specs.Found.{word_of}
+
+-- a character by its code, as `\u202E`
+abbrev pub code_text : ℕ → List ℕ
+code_text c = codes "\\u" ++ hex_byte (c / 256) ++ hex_byte (c % 256)
+
+-- a character in a string: a quote and a backslash have a backslash before them; what steers a terminal,
+-- ends a line or changes the direction of a text is a code
+abbrev pub json_char : ℕ → List ℕ
+json_char c =
+    if c == 34 || c == 92 then 92 ∷ c ∷ []
+    else if (nat_lt c 32 || c == 127) || steers c then code_text c
+    else encode_utf8 c
+
+-- a string of characters
+abbrev pub json_string : List ℕ → List ℕ
+json_string bytes = codes "\"" ++ flat_map json_char (lossy_chars bytes) ++ codes "\""
+
+-- bytes that aren't UTF-8, by two hexadecimal digits each, as `{"bytes":"FF"}`
+abbrev pub json_bytes : List ℕ → List ℕ
+json_bytes bytes = codes "{\"bytes\":\"" ++ flat_map hex_byte bytes ++ codes "\"}"
+
+-- a text: a string, or its bytes where it isn't UTF-8
+abbrev pub json_text : List ℕ → List ℕ
+json_text bytes = if is_utf8 bytes then json_string bytes else json_bytes bytes
+
+-- the same, or `null` where there are no bytes
+abbrev pub json_value : List ℕ → List ℕ
+json_value [] = codes "null"
+json_value (b ∷ bytes) = json_text (b ∷ bytes)
+
+-- texts, each after a comma
+abbrev pub json_more : List (List ℕ) → List ℕ
+json_more texts = flat_map (λ text. codes "," ++ json_text text) texts
+
+-- an array of texts
+abbrev pub json_array : List (List ℕ) → List ℕ
+json_array [] = codes "[]"
+json_array (text ∷ texts) = codes "[" ++ json_text text ++ json_more texts ++ codes "]"
+
+-- the name of a further member of an object
+unfoldable pub key : List ℕ → List ℕ
+key name = codes ",\"" ++ name ++ codes "\":"
+
+-- a further member that is a number
+abbrev pub number_member : List ℕ → ℕ → List ℕ
+number_member name n = key name ++ decimal n
+
+-- one that is a text
+abbrev pub text_member : List ℕ → List ℕ → List ℕ
+text_member name text = key name ++ json_text text
+
+-- one that is a text, or `null` where there are no bytes
+abbrev pub value_member : List ℕ → List ℕ → List ℕ
+value_member name text = key name ++ json_value text
+
+-- the number of a refusal, its name and its place, and the line and column of that
+abbrev pub place_members : RefusedAt → Position → List ℕ
+place_members refusal position =
+    codes "\"refused\":" ++ decimal refusal.number ++ text_member (codes "name") (name_of refusal.number)
+    ++ number_member (codes "place") refusal.place ++ number_member (codes "line") position.line
+    ++ number_member (codes "column") position.column
+
+-- what is found and what could stand there: the keyword of the node, where it begins, what is found, and
+-- the names; `null` and no name where that isn't known
+abbrev pub expected_members : Option Expectation → List ℕ
+expected_members None = codes ",\"node\":null,\"node_place\":null,\"found\":null,\"expected\":[]"
+expected_members (Some e) =
+    value_member (codes "node") e.node ++ number_member (codes "node_place") e.place
+    ++ text_member (codes "found") e.found ++ key (codes "expected") ++ json_array e.names
+
+-- what is open, was meant or is asked for; what the number means; and hints
+abbrev pub sentence_members : Sentences → List ℕ
+sentence_members s =
+    value_member (codes "clue") s.open_or_meant ++ text_member (codes "meaning") s.meaning
+    ++ value_member (codes "hints") s.hints
+
+-- which of two texts it is, by the word that begins these bytes, as the first member; nothing where there
+-- is one text
+abbrev pub which_member : List ℕ → List ℕ
+which_member [] = []
+which_member (b ∷ which) = codes "\"text\":" ++ json_text (word_of (b ∷ which)) ++ codes ","
+
+-- an explanation as an object
+abbrev pub refusal_object : List ℕ → RefusedAt → Explanation → List ℕ
+refusal_object which refusal e =
+    codes "{" ++ which_member which ++ place_members refusal e.position
+    ++ text_member (codes "excerpt") e.excerpt ++ expected_members e.expected
+    ++ sentence_members e.sentences ++ codes "}\n"
+
+-- the object explains the refusal of a text, which is this one of two where a word says so
+abbrev pub IsRefusalObject : List ℕ → List ℕ → RefusedAt → List ℕ → Type 0
+IsRefusalObject which text refusal object =
+    (e : Explanation) × Explains text refusal e × (object ≡ refusal_object which refusal e)
+
+-- a part that differs as an object; `null` for what has no value
+abbrev pub difference_object : PartTexts → List ℕ
+difference_object part =
+    codes "{\"path\":" ++ json_text part.path ++ value_member (codes "first") part.first
+    ++ value_member (codes "second") part.second ++ codes "}\n"
+
+-- the objects of all parts in which two CRSs differ at a level, in order
+abbrev pub AreDifferenceObjects : Level → Crs → Crs → List ℕ → Type 0
+AreDifferenceObjects level a b text =
+    (parts : List PartTexts) × AreDifferenceTexts level a b parts × (text ≡ flat_map difference_object parts)

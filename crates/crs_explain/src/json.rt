@@ -1,0 +1,165 @@
+//! Texts in JSON (RFC 8259), in one line.
+ghost use Rattle.std.specs.Prelude.{◌≡◌, ◌++◌, OnOk};
+ghost use Rattle.std.specs.List.{flat_map};
+ghost use Rattle.std.specs.Str.{is_utf8};
+ghost use Rattle.bstr.specs.Utf8.{lossy_chars};
+ghost use Rattle.crs_explain.specs.Escaped.{hex_byte};
+ghost use Rattle.crs_explain.specs.Json.{json_array, json_bytes, json_char, json_more, json_string, json_text};
+ghost use Rattle.crs_explain.specs.Json.{json_value, key, number_member, text_member, value_member};
+
+use crate::escape::{append_code, append_hex, steers};
+use crate::names::Name;
+use crate::number::append_number;
+use bstr::{ByteSlice, ByteVec};
+use std::alloc::AllocError;
+
+/// Appends a text as a string, in which a quote and a backslash have a backslash before them, and what steers a terminal,
+/// ends a line or changes the direction of a text is a code, as `\u202E`; or where it isn't UTF-8 as an object with its
+/// bytes by two hexadecimal digits each, as `{"bytes":"FF"}`. Profile.
+///
+/// `AllocError`: there is no memory for it.
+pub fn append_text(bytes: &[u8], out: &mut Vec<u8>) -> Result<(), AllocError>
+    ensures { OnOk result (out.new.items ≡ out.old.items ++ json_text bytes.now) }
+{
+    if is_utf8(bytes) {
+        append_string(bytes, out)
+    } else {
+        append_bytes(bytes, out)
+    }
+}
+
+/// The same, or `null` where there are no bytes. Profile.
+///
+/// `AllocError`: there is no memory for it.
+pub fn append_text_or_null(bytes: &[u8], out: &mut Vec<u8>) -> Result<(), AllocError>
+    ensures { OnOk result (out.new.items ≡ out.old.items ++ json_value bytes.now) }
+{
+    if bytes.is_empty() {
+        return out.extend_from_slice(b"null");
+    }
+    append_text(bytes, out)
+}
+
+/// Appends the name of a further member of an object.
+#[tactic(auto, using(crate::proofs::JsonLemmas::key_appended))]
+pub(crate) fn append_key(name: &[u8], out: &mut Vec<u8>) -> Result<(), AllocError>
+    ensures { OnOk result (out.new.items ≡ out.old.items ++ key name.now) }
+{
+    out.extend_from_slice(b",\"")?;
+    out.extend_from_slice(name)?;
+    out.extend_from_slice(b"\":")
+}
+
+/// Appends a further member that is a number.
+pub(crate) fn append_number_member(
+    name: &[u8],
+    number: usize,
+    out: &mut Vec<u8>,
+) -> Result<(), AllocError>
+    ensures { OnOk result (out.new.items ≡ out.old.items ++ number_member name.now number) }
+{
+    append_key(name, out)?;
+    append_number(number, out)
+}
+
+/// Appends one that is a text.
+pub(crate) fn append_text_member(
+    name: &[u8],
+    text: &[u8],
+    out: &mut Vec<u8>,
+) -> Result<(), AllocError>
+    ensures { OnOk result (out.new.items ≡ out.old.items ++ text_member name.now text.now) }
+{
+    append_key(name, out)?;
+    append_text(text, out)
+}
+
+/// Appends one that is a text, or `null` where there are no bytes.
+pub(crate) fn append_value_member(
+    name: &[u8],
+    text: &[u8],
+    out: &mut Vec<u8>,
+) -> Result<(), AllocError>
+    ensures { OnOk result (out.new.items ≡ out.old.items ++ value_member name.now text.now) }
+{
+    append_key(name, out)?;
+    append_text_or_null(text, out)
+}
+
+/// Appends an array of texts.
+pub(crate) fn append_array(names: &[Name], out: &mut Vec<u8>) -> Result<(), AllocError>
+    ensures { OnOk result (out.new.items ≡ out.old.items ++ json_array names.now) }
+{
+    match names {
+        [] => out.extend_from_slice(b"[]"),
+        [first, others @ ..] => {
+            out.extend_from_slice(b"[")?;
+            append_text(first.bytes(), out)?;
+            append_more(others, out)?;
+            out.extend_from_slice(b"]")
+        }
+    }
+}
+
+// Texts, each after a comma.
+fn append_more(names: &[Name], out: &mut Vec<u8>) -> Result<(), AllocError>
+    ensures { OnOk result (out.new.items ≡ out.old.items ++ json_more names.now) }
+{
+    for name in names {
+        out.extend_from_slice(b",")?;
+        append_text(name.bytes(), out)?;
+    }
+    Ok(())
+}
+
+fn is_utf8(bytes: &[u8]) -> bool
+    ensures { result ≡ is_utf8 bytes.now }
+{
+    bytes.is_utf8()
+}
+
+fn append_string(bytes: &[u8], out: &mut Vec<u8>) -> Result<(), AllocError>
+    ensures { OnOk result (out.new.items ≡ out.old.items ++ json_string bytes.now) }
+{
+    out.extend_from_slice(b"\"")?;
+    append_chars(bytes, out)?;
+    out.extend_from_slice(b"\"")
+}
+
+fn append_chars(bytes: &[u8], out: &mut Vec<u8>) -> Result<(), AllocError>
+    ensures { OnOk result (out.new.items ≡ out.old.items ++ flat_map json_char (lossy_chars bytes.now)) }
+{
+    for c in bytes.chars() {
+        append_char(c, out)?;
+    }
+    Ok(())
+}
+
+fn append_char(c: char, out: &mut Vec<u8>) -> Result<(), AllocError>
+    ensures { OnOk result (out.new.items ≡ out.old.items ++ json_char c) }
+{
+    if c == '"' || c == '\\' {
+        out.extend_from_slice(&[b'\\', c as u8])
+    } else if c < ' ' || c == '\u{7f}' || steers(c) {
+        append_code(c as u16, out)
+    } else {
+        out.push_char(c)
+    }
+}
+
+fn append_bytes(bytes: &[u8], out: &mut Vec<u8>) -> Result<(), AllocError>
+    ensures { OnOk result (out.new.items ≡ out.old.items ++ json_bytes bytes.now) }
+{
+    out.extend_from_slice(b"{\"bytes\":\"")?;
+    append_digits(bytes, out)?;
+    out.extend_from_slice(b"\"}")
+}
+
+fn append_digits(bytes: &[u8], out: &mut Vec<u8>) -> Result<(), AllocError>
+    ensures { OnOk result (out.new.items ≡ out.old.items ++ flat_map hex_byte bytes.now) }
+{
+    for byte in bytes {
+        append_hex(*byte, out)?;
+    }
+    Ok(())
+}

@@ -1,0 +1,165 @@
+//! Refusals and parts that differ as objects of JSON, each in a line.
+ghost use Rattle.std.specs.Prelude.{◌≡◌, ◌++◌, ◌≤◌, IfOk, OnOk, Some, codes, decimal, length};
+ghost use Rattle.std.specs.List.{flat_map};
+ghost use Rattle.crs_text.specs.Refusal.{name_of};
+ghost use Rattle.crs_explain.specs.Json.{AreDifferenceObjects, IsRefusalObject, difference_object, expected_members};
+ghost use Rattle.crs_explain.specs.Json.{place_members, refusal_object, sentence_members, text_member, value_member};
+ghost use Rattle.crs_explain.specs.Json.{which_member};
+
+use crate::difference_texts::{DifferenceTexts, difference_texts};
+use crate::expected_texts::ExpectedTexts;
+use crate::explanation::{ExplanationOf, explanation};
+use crate::json::{
+    append_array, append_key, append_number_member, append_text, append_text_member,
+    append_value_member,
+};
+use crate::place::word_at;
+use crate::sentences::SentenceTexts;
+use crs_text::{Position, Refusal};
+use crs_value::{Crs, Level};
+use itoa::Buffer;
+use std::alloc::{AllocError, Global};
+
+/// Explains the refusal of a text as `refusal_text` does, in an object of JSON and a line feed: the number, its name, the
+/// place, line and column; the piece of the line and the caret; what is found and what could stand there, `null` and no
+/// name where that isn't known; and sentences, `null` where nothing is to be said. Of two texts a word says which it is, as
+/// `first `; no bytes say nothing.
+///
+/// `AllocError`: there is no memory for it. Time is linear in the text. Profile.
+pub fn refusal_object(
+    alloc: Global,
+    which: &[u8],
+    text: &[u8],
+    refusal: Refusal,
+) -> Result<Vec<u8>, AllocError>
+    requires { refusal.place ≤ length text.now }
+    ensures { IfOk result (λ object. IsRefusalObject which.now text.now refusal object.items) }
+{
+    let explanation = explanation(alloc, text, refusal)?;
+    let object = object_of(alloc, which, refusal, &explanation)?;
+    Ok(object)
+}
+
+/// An object of JSON and a line feed for each part in which two CRSs differ at a level, in the order of the canonical
+/// text; none exactly where they are the same: its path, and the values of the first and of the second, `null` for what
+/// has none. Profile.
+///
+/// `AllocError`: there is no memory for it.
+pub fn difference_objects<'a>(
+    alloc: Global,
+    a: &Crs<'a>,
+    b: &Crs<'a>,
+    level: Level,
+) -> Result<Vec<u8>, AllocError>
+    ensures { IfOk result (λ text. AreDifferenceObjects level a.now b.now text.items) }
+{
+    let differences = difference_texts(alloc, a, b, level)?;
+    let mut objects = Vec::new(alloc);
+    append_differences(&differences, &mut objects)?;
+    Ok(objects)
+}
+
+fn append_differences(differences: &[DifferenceTexts], out: &mut Vec<u8>) -> Result<(), AllocError>
+    ensures { OnOk result (out.new.items ≡ out.old.items ++ flat_map difference_object differences.now) }
+{
+    for difference in differences {
+        append_difference(difference, out)?;
+    }
+    Ok(())
+}
+
+fn append_difference(difference: &DifferenceTexts, out: &mut Vec<u8>) -> Result<(), AllocError>
+    ensures { OnOk result (out.new.items ≡ out.old.items ++ difference_object difference.now) }
+{
+    out.extend_from_slice(b"{\"path\":")?;
+    append_text(&difference.path, out)?;
+    append_value_member(b"first", &difference.first, out)?;
+    append_value_member(b"second", &difference.second, out)?;
+    out.extend_from_slice(b"}\n")
+}
+
+fn object_of(
+    alloc: Global,
+    which: &[u8],
+    refusal: Refusal,
+    explanation: &ExplanationOf,
+) -> Result<Vec<u8>, AllocError>
+    ensures { IfOk result (λ object. object.items ≡ refusal_object which.now refusal explanation.now) }
+{
+    let mut out = Vec::from_slice(alloc, b"{")?;
+    append_which(which, &mut out)?;
+    append_place(refusal, explanation.position, &mut out)?;
+    append_text_member(b"excerpt", &explanation.excerpt, &mut out)?;
+    append_expected(&explanation.expected, &mut out)?;
+    append_sentences(&explanation.sentences, &mut out)?;
+    out.extend_from_slice(b"}\n")?;
+    Ok(out)
+}
+
+// `"text":"first",`, or nothing where there is one text.
+fn append_which(which: &[u8], out: &mut Vec<u8>) -> Result<(), AllocError>
+    ensures { OnOk result (out.new.items ≡ out.old.items ++ which_member which.now) }
+{
+    if which.is_empty() {
+        return Ok(());
+    }
+    out.extend_from_slice(b"\"text\":")?;
+    append_text(word_at(which), out)?;
+    out.extend_from_slice(b",")
+}
+
+fn append_place(refusal: Refusal, position: Position, out: &mut Vec<u8>) -> Result<(), AllocError>
+    ensures { OnOk result (out.new.items ≡ out.old.items ++ place_members refusal position) }
+{
+    append_refused(refusal, out)?;
+    append_number_member(b"place", refusal.place(), out)?;
+    append_number_member(b"line", position.line, out)?;
+    append_number_member(b"column", position.column, out)
+}
+
+// The number and its name.
+fn append_refused(refusal: Refusal, out: &mut Vec<u8>) -> Result<(), AllocError>
+    ensures { OnOk result (out.new.items ≡ out.old.items ++ (codes "\"refused\":" ++ decimal refusal.number
+        ++ text_member (codes "name") (name_of refusal.number))) }
+{
+    let mut digits = Buffer::new();
+    out.extend_from_slice(b"\"refused\":")?;
+    out.extend_from_slice(digits.format(refusal.number()).as_bytes())?;
+    append_text_member(b"name", refusal.name().as_bytes(), out)
+}
+
+fn append_expected(expected: &Option<ExpectedTexts>, out: &mut Vec<u8>) -> Result<(), AllocError>
+    ensures { OnOk result (out.new.items ≡ out.old.items ++ expected_members expected.now) }
+{
+    match expected {
+        Some(expected) => append_expectation(expected, out),
+        None => out.extend_from_slice(
+            b",\"node\":null,\"node_place\":null,\"found\":null,\"expected\":[]",
+        ),
+    }
+}
+
+fn append_expectation(expected: &ExpectedTexts, out: &mut Vec<u8>) -> Result<(), AllocError>
+    ensures { OnOk result (out.new.items ≡ out.old.items ++ expected_members (Some expected.now)) }
+{
+    append_value_member(b"node", &expected.node, out)?;
+    append_number_member(b"node_place", expected.place, out)?;
+    append_text_member(b"found", &expected.found, out)?;
+    append_key(b"expected", out)?;
+    append_array(&expected.names, out)
+}
+
+fn append_sentences(sentences: &SentenceTexts, out: &mut Vec<u8>) -> Result<(), AllocError>
+    ensures { OnOk result (out.new.items ≡ out.old.items ++ sentence_members sentences.now) }
+{
+    append_value_member(b"clue", &sentences.open_or_meant, out)?;
+    append_meaning(&sentences.meaning, &sentences.hints, out)
+}
+
+fn append_meaning(meaning: &[u8], hints: &[u8], out: &mut Vec<u8>) -> Result<(), AllocError>
+    ensures { OnOk result (out.new.items ≡ out.old.items
+        ++ (text_member (codes "meaning") meaning.now ++ value_member (codes "hints") hints.now)) }
+{
+    append_text_member(b"meaning", meaning, out)?;
+    append_value_member(b"hints", hints, out)
+}
