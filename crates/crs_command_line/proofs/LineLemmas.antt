@@ -15,7 +15,7 @@ use Rattle.clap.specs.Takes.{bundle_passes, bundle_step_passes, default_passes, 
 use Rattle.clap.specs.declared.parser.matches.ValueSource.TheVariants.{CommandLine}
 use Rattle.clap.proofs.OnLiterals.{clap_on_literals}
 use Rattle.clap.proofs.WalkLemmas.{both}
-use Rattle.crs_command_line.specs.CommandLine.{asked, canon_of, check_of, desk, explain_of, file_operands, files_flag, group_of, is_plain_word, level_option, lines_flag, names_flag, over, repeated_flag, request_of, rules_of, rules_option, same_of, spare_operand, standard, under}
+use Rattle.crs_command_line.specs.CommandLine.{asked, canon_of, check_of, desk, explain_of, file_operands, files_flag, group_of, is_plain_word, json_flag, level_option, lines_flag, names_flag, over, plainly, repeated_flag, request_of, rules_of, rules_option, same_of, spare_operand, standard, under}
 use Rattle.crs_command_line.specs.declared.requests.Request.{Request}
 use Rattle.crs_command_line.specs.declared.requests.Request.TheVariants.{Canon, Check, Same, Group, CanonLines, CheckLines, Explain, ExplainText, ExplainPair, GroupListed, Files, FilesUnder, TextsUnder}
 use Rattle.crs_command_line.specs.declared.requests.Task.{Task}
@@ -561,7 +561,7 @@ built_group = built_with (codes "group") (level_option ∷ rules_option ∷ repe
 abbrev built_explain : Shape
 built_explain =
     built_with (codes "explain")
-    (spare_operand (codes "first") ∷ spare_operand (codes "second") ∷ level_option ∷ rules_option ∷ files_flag ∷ help_rule ∷ [])
+    (spare_operand (codes "first") ∷ spare_operand (codes "second") ∷ json_flag ∷ level_option ∷ rules_option ∷ files_flag ∷ help_rule ∷ [])
 
 abbrev asked_canon : List Row → Option Request
 asked_canon rows = Some (under (rules_of rows) (canon_of rows))
@@ -732,12 +732,17 @@ repeated_last program text usual =
 abbrev asked_explain : List Row → Option Request
 asked_explain rows = Some (under (rules_of rows) (explain_of rows))
 
-pub explain_alone : (program : Text) → asked (program ∷ codes "explain" ∷ []) ≡ Some (Explain (codes "full"))
+pub explain_alone : (program : Text) → asked (program ∷ codes "explain" ∷ []) ≡ Some (Explain (plainly (codes "full")))
 unfolding clap_on_literals
 explain_alone program = refl
 
+pub explain_json : (program : Text) → asked (program ∷ codes "explain" ∷ codes "--json" ∷ [])
+    ≡ Some (Explain (record { level = codes "full"; json = true }))
+unfolding clap_on_literals
+explain_json program = refl
+
 pub explain_one : (program first : Text) → is_plain_word first ≡ true
-    → asked (program ∷ codes "explain" ∷ first ∷ []) ≡ Some (ExplainText first (codes "full"))
+    → asked (program ∷ codes "explain" ∷ first ∷ []) ≡ Some (ExplainText first (plainly (codes "full")))
 unfolding clap_on_literals
 explain_one program first one =
     let s = built_explain in
@@ -746,7 +751,7 @@ explain_one program first one =
     (goes_on s (walk_from nothing_held) to to first [] (plain_turn s nothing_held idle 1 first refl one) (stays s to)) refl
 
 pub explain_two : (program first second : Text) → is_plain_word first ≡ true → is_plain_word second ≡ true
-    → asked (program ∷ codes "explain" ∷ first ∷ second ∷ []) ≡ Some (ExplainPair first second (codes "full"))
+    → asked (program ∷ codes "explain" ∷ first ∷ second ∷ []) ≡ Some (ExplainPair first second (plainly (codes "full")))
 unfolding clap_on_literals
 explain_two program first second one other =
     let s = built_explain in
@@ -757,12 +762,12 @@ explain_two program first second one other =
     (goes_on s via to to second [] (plain_turn s (after_first nothing_held first) idle 2 second refl other) (stays s to))) refl
 
 pub explain_dashes : (program first second : Text)
-    → asked (program ∷ codes "explain" ∷ codes "--" ∷ first ∷ second ∷ []) ≡ Some (ExplainPair first second (codes "full"))
+    → asked (program ∷ codes "explain" ∷ codes "--" ∷ first ∷ second ∷ []) ≡ Some (ExplainPair first second (plainly (codes "full")))
 unfolding clap_on_literals
 explain_dashes program first second = refl
 
 pub explain_level : (program text : Text) → is_plain_word text ≡ true
-    → asked (program ∷ codes "explain" ∷ codes "--level" ∷ text ∷ []) ≡ Some (Explain text)
+    → asked (program ∷ codes "explain" ∷ codes "--level" ∷ text ∷ []) ≡ Some (Explain (plainly text))
 unfolding clap_on_literals
 explain_level program text usual =
     let s = built_explain in
@@ -773,7 +778,7 @@ explain_level program text usual =
     (goes_on s wants to to text [] (plain_turn s (wants_level s nothing_held) (option (codes "level")) 1 text refl usual) (stays s to))) refl
 
 pub explain_level_first : (program text first second : Text) → is_plain_word text ≡ true → is_plain_word first ≡ true → is_plain_word second ≡ true
-    → asked (program ∷ codes "explain" ∷ codes "--level" ∷ text ∷ first ∷ second ∷ []) ≡ Some (ExplainPair first second text)
+    → asked (program ∷ codes "explain" ∷ codes "--level" ∷ text ∷ first ∷ second ∷ []) ≡ Some (ExplainPair first second (plainly text))
 unfolding clap_on_literals
 explain_level_first program text first second usual one other =
     let s = built_explain in
@@ -790,7 +795,7 @@ explain_level_first program text first second usual one other =
     (plain_turn s (after_first h first) idle 2 second refl other) (stays s to))))) refl
 
 pub explain_level_last : (program text first second : Text) → is_plain_word text ≡ true → is_plain_word first ≡ true → is_plain_word second ≡ true
-    → asked (program ∷ codes "explain" ∷ first ∷ second ∷ codes "--level" ∷ text ∷ []) ≡ Some (ExplainPair first second text)
+    → asked (program ∷ codes "explain" ∷ first ∷ second ∷ codes "--level" ∷ text ∷ []) ≡ Some (ExplainPair first second (plainly text))
 unfolding clap_on_literals
 explain_level_last program text first second usual one other =
     let s = built_explain in
@@ -1063,7 +1068,7 @@ same_files program first second one other =
     (goes_on s via to to second [] (plain_turn s (after_first with_flag first) idle 2 second refl other) (stays s to)))) refl
 
 pub explain_file : (program first : Text) → is_plain_word first ≡ true
-    → asked (program ∷ codes "explain" ∷ codes "--files" ∷ first ∷ []) ≡ Some (Files (task.Explain (codes "full")) (first ∷ []))
+    → asked (program ∷ codes "explain" ∷ codes "--files" ∷ first ∷ []) ≡ Some (Files (task.Explain (plainly (codes "full"))) (first ∷ []))
 unfolding clap_on_literals
 explain_file program first one =
     let s = built_explain in
@@ -1074,7 +1079,7 @@ explain_file program first one =
 
 pub explain_files : (program first second : Text) → is_plain_word first ≡ true → is_plain_word second ≡ true
     → asked (program ∷ codes "explain" ∷ codes "--files" ∷ first ∷ second ∷ [])
-    ≡ Some (Files (task.ExplainPair (codes "full")) (first ∷ second ∷ []))
+    ≡ Some (Files (task.ExplainPair (plainly (codes "full"))) (first ∷ second ∷ []))
 unfolding clap_on_literals
 explain_files program first second one other =
     let s = built_explain in

@@ -18,8 +18,9 @@ use Rattle.clap.specs.Takes.{bundle_passes, bundle_step_passes, flag_word_passes
 use Rattle.clap.specs.Matches.{matched_of, raw_values}
 use Rattle.clap.proofs.WalkLemmas.{both, first_value-rows, raw_values-rows}
 use Rattle.crs_command_line.specs.declared.requests.Request.{Request}
+use Rattle.crs_command_line.specs.declared.requests.ExplainOptions.{ExplainOptions}
 use Rattle.crs_command_line.specs.declared.requests.Request.TheVariants.{Explain}
-use Rattle.crs_command_line.specs.CommandLine.{explain_of, explained_operands, files_flag, has_flag, level_of, level_option, operand, rules_of, rules_option, same_of, same_operands, under, words_of}
+use Rattle.crs_command_line.specs.CommandLine.{explain_of, explained_operands, files_flag, has_flag, level_of, level_option, operand, options_of, rules_of, rules_option, same_of, same_operands, under, words_of}
 
 -- ---- rows with values
 
@@ -383,10 +384,10 @@ same_read f first second one other =
 
 explained_read : (f : Found) (first second : Option (Bor Text)) → option_map (λ s. s.now) first ≡ first_value f (codes "first")
     → option_map (λ s. s.now) second ≡ first_value f (codes "second")
-    → explain_of (rows_of f) ≡ explained_operands (has_flag (codes "files") (rows_of f)) (level_of (rows_of f))
+    → explain_of (rows_of f) ≡ explained_operands (has_flag (codes "files") (rows_of f)) (options_of (rows_of f))
     (option_map (λ s. s.now) first) (option_map (λ s. s.now) second)
 explained_read f first second one other =
-    ap₂ (explained_operands (has_flag (codes "files") (rows_of f)) (level_of (rows_of f)))
+    ap₂ (explained_operands (has_flag (codes "files") (rows_of f)) (options_of (rows_of f)))
     (sym (one ∙ first_value-rows f (codes "first"))) (sym (other ∙ first_value-rows f (codes "second")))
 
 abbrev nows : Option (Bor Text) → Option Text
@@ -403,29 +404,29 @@ same_there f first second a b are_files level one other some more flag is =
     ∙ ap₂ (λ t l. same_operands t l (Some a.now) (Some b.now)) (sym flag) (sym is)
 
 -- what is explained, where no operand is there, one, or two
-pub explained_none : (f : Found) (first second : Option (Bor Text)) (level : Text) → nows first ≡ first_value f (codes "first")
-    → nows second ≡ first_value f (codes "second") → first ≡ None → level ≡ level_of (rows_of f)
-    → Explain level ≡ explain_of (rows_of f)
-explained_none f first second level one other none is =
+pub explained_none : (f : Found) (first second : Option (Bor Text)) (options : ExplainOptions) → nows first ≡ first_value f (codes "first")
+    → nows second ≡ first_value f (codes "second") → first ≡ None → options ≡ options_of (rows_of f)
+    → Explain options ≡ explain_of (rows_of f)
+explained_none f first second options one other none is =
     ap Explain is ∙ sym (explained_read f first second one other
-    ∙ ap (λ (o : Option (Bor Text)). explained_operands (has_flag (codes "files") (rows_of f)) (level_of (rows_of f)) (nows o) (nows second)) none)
+    ∙ ap (λ (o : Option (Bor Text)). explained_operands (has_flag (codes "files") (rows_of f)) (options_of (rows_of f)) (nows o) (nows second)) none)
 
-pub explained_one : (f : Found) (first second : Option (Bor Text)) (a : Bor Text) (are_files : Bool) (level : Text)
+pub explained_one : (f : Found) (first second : Option (Bor Text)) (a : Bor Text) (are_files : Bool) (options : ExplainOptions)
     → nows first ≡ first_value f (codes "first") → nows second ≡ first_value f (codes "second")
-    → first ≡ Some a → second ≡ None → are_files ≡ has_flag (codes "files") (rows_of f) → level ≡ level_of (rows_of f)
-    → explained_operands are_files level (Some a.now) None ≡ explain_of (rows_of f)
-explained_one f first second a are_files level one other some none flag is =
+    → first ≡ Some a → second ≡ None → are_files ≡ has_flag (codes "files") (rows_of f) → options ≡ options_of (rows_of f)
+    → explained_operands are_files options (Some a.now) None ≡ explain_of (rows_of f)
+explained_one f first second a are_files options one other some none flag is =
     sym (explained_read f first second one other
-    ∙ ap₂ (λ (o p : Option (Bor Text)). explained_operands (has_flag (codes "files") (rows_of f)) (level_of (rows_of f)) (nows o) (nows p)) some none
+    ∙ ap₂ (λ (o p : Option (Bor Text)). explained_operands (has_flag (codes "files") (rows_of f)) (options_of (rows_of f)) (nows o) (nows p)) some none
     ∙ ap₂ (λ t l. explained_operands t l (Some a.now) None) (sym flag) (sym is))
 
-pub explained_both : (f : Found) (first second : Option (Bor Text)) (a b : Bor Text) (are_files : Bool) (level : Text)
+pub explained_both : (f : Found) (first second : Option (Bor Text)) (a b : Bor Text) (are_files : Bool) (options : ExplainOptions)
     → nows first ≡ first_value f (codes "first") → nows second ≡ first_value f (codes "second")
-    → first ≡ Some a → second ≡ Some b → are_files ≡ has_flag (codes "files") (rows_of f) → level ≡ level_of (rows_of f)
-    → explained_operands are_files level (Some a.now) (Some b.now) ≡ explain_of (rows_of f)
-explained_both f first second a b are_files level one other some more flag is =
+    → first ≡ Some a → second ≡ Some b → are_files ≡ has_flag (codes "files") (rows_of f) → options ≡ options_of (rows_of f)
+    → explained_operands are_files options (Some a.now) (Some b.now) ≡ explain_of (rows_of f)
+explained_both f first second a b are_files options one other some more flag is =
     sym (explained_read f first second one other
-    ∙ ap₂ (λ (o p : Option (Bor Text)). explained_operands (has_flag (codes "files") (rows_of f)) (level_of (rows_of f)) (nows o) (nows p)) some more
+    ∙ ap₂ (λ (o p : Option (Bor Text)). explained_operands (has_flag (codes "files") (rows_of f)) (options_of (rows_of f)) (nows o) (nows p)) some more
     ∙ ap₂ (λ t l. explained_operands t l (Some a.now) (Some b.now)) (sym flag) (sym is))
 
 there_both : (are_files : Bool) (level : Text) (first second : Option Text) → IsSome (same_operands are_files level first second)

@@ -13,6 +13,7 @@ use Rattle.crs_command_line.specs.declared.requests.Request.TheVariants.{Canon, 
 use Rattle.crs_command_line.specs.declared.requests.Request.TheVariants.{Explain, ExplainText, ExplainPair, GroupListed}
 use Rattle.crs_command_line.specs.declared.requests.Request.TheVariants.{Files, FilesUnder, TextsUnder}
 use Rattle.crs_command_line.specs.declared.requests.GroupFlags.{GroupFlags}
+use Rattle.crs_command_line.specs.declared.requests.ExplainOptions.{ExplainOptions}
 use Rattle.crs_command_line.specs.declared.requests.Task.{Task}
 use Rattle.crs_command_line.specs.declared.requests.Task.TheVariants as task
 use Rattle.crs_command_line.specs.declared.requests.RequestFault.{RequestFault}
@@ -61,6 +62,10 @@ names_flag = flag (codes "names")
 abbrev pub files_flag : Rule
 files_flag = flag (codes "files")
 
+-- the flag `--json`
+abbrev pub json_flag : Rule
+json_flag = flag (codes "json")
+
 -- names of files, as many words as there are
 abbrev pub file_operands : Rule
 file_operands = record (spare_operand (codes "file")) { action = Some Append }
@@ -95,10 +100,11 @@ same_shape = with_options (record (new_shape (codes "same")) {
   rules = operand (codes "first") ∷ operand (codes "second") ∷ [];
 })
 
--- `explain`, which may have a first operand and a second, and takes those options
+-- `explain`, which may have a first operand and a second, and takes the flag `--json` and those
+-- options
 abbrev pub explain_shape : Shape
 explain_shape = with_options (record (new_shape (codes "explain")) {
-  rules = spare_operand (codes "first") ∷ spare_operand (codes "second") ∷ [];
+  rules = spare_operand (codes "first") ∷ spare_operand (codes "second") ∷ json_flag ∷ [];
 })
 
 -- `crsdesk` alone; it has a version, and needs one of its commands
@@ -179,20 +185,28 @@ same_of rows =
     same_operands (has_flag (codes "files") rows) (level_of rows) (first_of (codes "first") rows)
     (first_of (codes "second") rows)
 
+-- the options of `explain` among its matches
+abbrev pub options_of : List Row → ExplainOptions
+options_of rows = record { level = level_of rows; json = has_flag (codes "json") rows }
+
+-- those where a level alone is named
+abbrev pub plainly : Text → ExplainOptions
+plainly level = record { level = level; json = false }
+
 -- two operands are explained where both are there, the first alone, or the text on standard input;
 -- they are files, or else texts
-abbrev pub explained_operands : Bool → Text → Option Text → Option Text → Request
-explained_operands are_files level None second = Explain level
-explained_operands are_files level (Some first) None =
-    if are_files then Files (task.Explain level) (first ∷ []) else ExplainText first level
-explained_operands are_files level (Some first) (Some second) =
-    if are_files then Files (task.ExplainPair level) (first ∷ second ∷ [])
-    else ExplainPair first second level
+abbrev pub explained_operands : Bool → ExplainOptions → Option Text → Option Text → Request
+explained_operands are_files options None second = Explain options
+explained_operands are_files options (Some first) None =
+    if are_files then Files (task.Explain options) (first ∷ []) else ExplainText first options
+explained_operands are_files options (Some first) (Some second) =
+    if are_files then Files (task.ExplainPair options) (first ∷ second ∷ [])
+    else ExplainPair first second options
 
--- the level and the operands of `explain`, as far as they are among its matches
+-- the options and the operands of `explain`, as far as they are among its matches
 abbrev pub explain_of : List Row → Request
 explain_of rows =
-    explained_operands (has_flag (codes "files") rows) (level_of rows)
+    explained_operands (has_flag (codes "files") rows) (options_of rows)
     (first_of (codes "first") rows) (first_of (codes "second") rows)
 
 -- the name of standard input among those of files
@@ -209,10 +223,10 @@ ruled rules (Group level) = FilesUnder (task.Group level) standard rules
 ruled rules (GroupListed level flags) = FilesUnder (task.GroupListed level flags) standard rules
 ruled rules (CanonLines level) = FilesUnder (task.CanonLines level) standard rules
 ruled rules CheckLines = CheckLines
-ruled rules (Explain level) = FilesUnder (task.Explain level) standard rules
-ruled rules (ExplainText text level) = TextsUnder (task.Explain level) (text ∷ []) rules
-ruled rules (ExplainPair first second level) =
-    TextsUnder (task.ExplainPair level) (first ∷ second ∷ []) rules
+ruled rules (Explain options) = FilesUnder (task.Explain options) standard rules
+ruled rules (ExplainText text options) = TextsUnder (task.Explain options) (text ∷ []) rules
+ruled rules (ExplainPair first second options) =
+    TextsUnder (task.ExplainPair options) (first ∷ second ∷ []) rules
 ruled rules (Files asked names) = FilesUnder asked names rules
 ruled rules (FilesUnder asked names others) = FilesUnder asked names others
 ruled rules (TextsUnder asked texts others) = TextsUnder asked texts others

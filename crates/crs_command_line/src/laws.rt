@@ -2,7 +2,7 @@
 ghost use Rattle.std.specs.Prelude.{◌≡◌, ◌≢◌, ◌<◌, ℕ, [], ◌∷◌, ◌++◌, List, Some, IsSome, true, false, codes};
 ghost use Rattle.std.specs.List.{list_all};
 ghost use Rattle.clap.specs.Words.{Text, takes};
-ghost use Rattle.crs_command_line.specs.CommandLine.{asked, desk, is_plain_word, standard};
+ghost use Rattle.crs_command_line.specs.CommandLine.{asked, desk, is_plain_word, plainly, standard};
 ghost use Rattle.crs_command_line.specs.declared.requests.Request.TheVariants.{Canon, Check, Same, Group, CanonLines, CheckLines};
 ghost use Rattle.crs_command_line.specs.declared.requests.Request.TheVariants.{Explain, ExplainText, ExplainPair, GroupListed};
 ghost use Rattle.crs_command_line.specs.declared.requests.Request.TheVariants.{Files, FilesUnder, TextsUnder};
@@ -97,29 +97,35 @@ pub fn lines_is_one_flag()
 /// after `--`. The level is `full` there.
 pub fn explain_takes_two_texts_at_most()
     ensures alone { (program : Text) →
-        asked (program ∷ codes "explain" ∷ []) ≡ Some (Explain (codes "full")) }
+        asked (program ∷ codes "explain" ∷ []) ≡ Some (Explain (plainly (codes "full"))) }
     ensures one { (program first : Text) → is_plain_word first ≡ true →
-        asked (program ∷ codes "explain" ∷ first ∷ []) ≡ Some (ExplainText first (codes "full")) }
+        asked (program ∷ codes "explain" ∷ first ∷ []) ≡ Some (ExplainText first (plainly (codes "full"))) }
     ensures two { (program first second : Text) → is_plain_word first ≡ true → is_plain_word second ≡ true →
         asked (program ∷ codes "explain" ∷ first ∷ second ∷ [])
-        ≡ Some (ExplainPair first second (codes "full")) }
+        ≡ Some (ExplainPair first second (plainly (codes "full"))) }
     ensures dashes { (program first second : Text) →
         asked (program ∷ codes "explain" ∷ codes "--" ∷ first ∷ second ∷ [])
-        ≡ Some (ExplainPair first second (codes "full")) }
+        ≡ Some (ExplainPair first second (plainly (codes "full"))) }
 {}
 
 /// The word after `--level` is the level of `explain`, alone, before two texts and after them, where no word is a flag.
 pub fn explain_has_a_level()
     ensures alone { (program level : Text) → is_plain_word level ≡ true →
-        asked (program ∷ codes "explain" ∷ codes "--level" ∷ level ∷ []) ≡ Some (Explain level) }
+        asked (program ∷ codes "explain" ∷ codes "--level" ∷ level ∷ []) ≡ Some (Explain (plainly level)) }
     ensures before { (program level first second : Text) → is_plain_word level ≡ true →
         is_plain_word first ≡ true → is_plain_word second ≡ true →
         asked (program ∷ codes "explain" ∷ codes "--level" ∷ level ∷ first ∷ second ∷ [])
-        ≡ Some (ExplainPair first second level) }
+        ≡ Some (ExplainPair first second (plainly level)) }
     ensures after { (program level first second : Text) → is_plain_word level ≡ true →
         is_plain_word first ≡ true → is_plain_word second ≡ true →
         asked (program ∷ codes "explain" ∷ first ∷ second ∷ codes "--level" ∷ level ∷ [])
-        ≡ Some (ExplainPair first second level) }
+        ≡ Some (ExplainPair first second (plainly level)) }
+{}
+
+/// With `--json` `explain` is asked for JSON.
+pub fn explain_has_json()
+    ensures { (program : Text) → asked (program ∷ codes "explain" ∷ codes "--json" ∷ [])
+        ≡ Some (Explain (record { level = codes "full"; json = true })) }
 {}
 
 /// The words after `canon`, `check` and `group` are files, however many they are, where no word is a flag. The level is
@@ -141,10 +147,10 @@ pub fn operands_are_files()
         ≡ Some (Files (task.Same (codes "full")) (first ∷ second ∷ [])) }
     ensures one { (program first : Text) → is_plain_word first ≡ true →
         asked (program ∷ codes "explain" ∷ codes "--files" ∷ first ∷ [])
-        ≡ Some (Files (task.Explain (codes "full")) (first ∷ [])) }
+        ≡ Some (Files (task.Explain (plainly (codes "full"))) (first ∷ [])) }
     ensures two { (program first second : Text) → is_plain_word first ≡ true → is_plain_word second ≡ true →
         asked (program ∷ codes "explain" ∷ codes "--files" ∷ first ∷ second ∷ [])
-        ≡ Some (Files (task.ExplainPair (codes "full")) (first ∷ second ∷ [])) }
+        ≡ Some (Files (task.ExplainPair (plainly (codes "full"))) (first ∷ second ∷ [])) }
 {}
 
 /// The words after each `--rules` are rules files, where no word is a flag: a task over standard input, where the line

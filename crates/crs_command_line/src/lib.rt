@@ -2,7 +2,7 @@
 #![tactic(auto)]
 
 pub use line::{VERSION, request};
-pub use requests::{GroupFlags, Request, RequestFault, Task};
+pub use requests::{ExplainOptions, GroupFlags, Request, RequestFault, Task};
 pub use word::{LineWord, LineWords};
 
 pub mod laws;

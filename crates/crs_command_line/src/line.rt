@@ -6,11 +6,11 @@ ghost use Rattle.clap.specs.declared.builder.command.Command.TheViews.{out-Comma
 ghost use Rattle.crs_command_line.specs.CommandLine.{HandsOn, IsRefusal, asked, desk, input_desk, lone_desk, operand};
 ghost use Rattle.crs_command_line.specs.CommandLine.{canon_of, canon_shape, check_of, check_shape, explain_of, explain_shape};
 ghost use Rattle.crs_command_line.specs.CommandLine.{file_operands, flag, group_flags, group_of, group_shape, has_flag};
-ghost use Rattle.crs_command_line.specs.CommandLine.{command_of, explained_operands, level_of, level_option, request_of};
+ghost use Rattle.crs_command_line.specs.CommandLine.{command_of, explained_operands, level_of, level_option, options_of, request_of};
 ghost use Rattle.crs_command_line.specs.CommandLine.{rules_option, same_of, same_operands, same_shape};
 ghost use Rattle.crs_command_line.specs.CommandLine.{spare_operand, under, with_listing, with_options, words_of};
 
-use crate::{GroupFlags, LineWord, LineWords, Request, RequestFault, Task};
+use crate::{ExplainOptions, GroupFlags, LineWord, LineWords, Request, RequestFault, Task};
 use clap::error::ErrorKind;
 use clap::{Arg, ArgAction, ArgMatches, Command};
 use std::alloc::{AllocError, Global};
@@ -41,7 +41,9 @@ const SECOND_HELP: &str = "The second text, or its file";
 // What help says of the files of the other commands.
 const FILE_HELP: &str = "A file to read; `-` is standard input [default: standard input]";
 
-// What help says of the flags `--lines`, `--repeated`, `--names` and `--files`.
+// What help says of the flags `--json`, `--lines`, `--repeated`, `--names` and `--files`.
+const JSON_HELP: &str = "Writes objects of JSON, one a line";
+
 const LINES_HELP: &str = "Takes each line as a text";
 
 const REPEATED_HELP: &str = "Writes the groups of two lines or more alone";
@@ -205,7 +207,8 @@ fn explain_command<'a>(alloc: Global) -> Result<Command<'a>, AllocError>
 {
     let command = lone_command(alloc, "explain", EXPLAIN_ABOUT, EXPLAIN_STATUS)
         .arg(spare_word(alloc, "first", "A", SPARE_FIRST_HELP))?
-        .arg(spare_word(alloc, "second", "B", SECOND_HELP))?;
+        .arg(spare_word(alloc, "second", "B", SECOND_HELP))?
+        .arg(flag_argument(alloc, "json", JSON_HELP))?;
     with_options(alloc, command)
 }
 
@@ -414,48 +417,58 @@ fn same_pair(
 fn explain_request(alloc: Global, operands: &ArgMatches) -> Result<Request, AllocError>
     ensures { IfOk result (λ found. found ≡ explain_of (rows_of (found_of operands.now))) }
 {
-    let level = level_word(alloc, operands)?;
+    let options = explain_options(alloc, operands)?;
     let are_files = flag_asked(operands, "files");
     match (operands.get_str("first"), operands.get_str("second")) {
-        (None, _) => Ok(Request::Explain(level)),
-        (Some(first), None) => explain_one(alloc, are_files, level, first),
-        (Some(first), Some(second)) => explain_two(alloc, are_files, level, first, second),
+        (None, _) => Ok(Request::Explain(options)),
+        (Some(first), None) => explain_one(alloc, are_files, options, first),
+        (Some(first), Some(second)) => explain_two(alloc, are_files, options, first, second),
     }
+}
+
+fn explain_options(alloc: Global, operands: &ArgMatches) -> Result<ExplainOptions, AllocError>
+    ensures { IfOk result (λ options. options ≡ options_of (rows_of (found_of operands.now))) }
+{
+    let level = level_word(alloc, operands)?;
+    Ok(ExplainOptions {
+        level,
+        json: flag_asked(operands, "json"),
+    })
 }
 
 // A text is explained, or a file.
 fn explain_one(
     alloc: Global,
     are_files: bool,
-    level: LineWord,
+    options: ExplainOptions,
     first: &str,
 ) -> Result<Request, AllocError>
-    ensures { IfOk result (λ found. found ≡ explained_operands are_files level (Some first.now) None) }
+    ensures { IfOk result (λ found. found ≡ explained_operands are_files options (Some first.now) None) }
 {
     if are_files {
         let files = LineWords::of(alloc, &[first])?;
-        return Ok(Request::Files(Task::Explain(level), files));
+        return Ok(Request::Files(Task::Explain(options), files));
     }
-    Ok(Request::ExplainText(LineWord::new(alloc, first)?, level))
+    Ok(Request::ExplainText(LineWord::new(alloc, first)?, options))
 }
 
 // Two texts are explained, or two files.
 fn explain_two(
     alloc: Global,
     are_files: bool,
-    level: LineWord,
+    options: ExplainOptions,
     first: &str,
     second: &str,
 ) -> Result<Request, AllocError>
-    ensures { IfOk result (λ found. found ≡ explained_operands are_files level (Some first.now) (Some second.now)) }
+    ensures { IfOk result (λ found. found ≡ explained_operands are_files options (Some first.now) (Some second.now)) }
 {
     if are_files {
         let files = LineWords::of(alloc, &[first, second])?;
-        return Ok(Request::Files(Task::ExplainPair(level), files));
+        return Ok(Request::Files(Task::ExplainPair(options), files));
     }
     let first = LineWord::new(alloc, first)?;
     let second = LineWord::new(alloc, second)?;
-    Ok(Request::ExplainPair(first, second, level))
+    Ok(Request::ExplainPair(first, second, options))
 }
 
 fn level_word(alloc: Global, matches: &ArgMatches) -> Result<LineWord, AllocError>

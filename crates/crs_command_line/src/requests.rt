@@ -17,6 +17,21 @@ pub struct GroupFlags {
     pub names: bool,
 }
 
+/// What `explain` is asked for. Profile.
+#[derive(Debug)]
+pub struct ExplainOptions {
+    /// The word after `--level`, as in a `Request`. It has a bearing on two texts alone.
+    pub level: LineWord,
+    /// Whether it is to write JSON.
+    pub json: bool,
+}
+
+impl Drop for ExplainOptions {
+    fn drop(self) {
+        let ExplainOptions { level: _, json: _ } = self;
+    }
+}
+
 /// What a command line asks for. A level is the word after `--level`, whatever word it is, and
 /// `full` where the line names none.
 #[derive(Debug)]
@@ -33,12 +48,12 @@ pub enum Request {
     CanonLines(LineWord),
     /// Whether each line of standard input is accepted, and what it spells.
     CheckLines,
-    /// What the text on standard input spells, or why it is refused, explained. The level has no bearing on it.
-    Explain(LineWord),
-    /// What a text spells, or why it is refused, explained: the text, and a level, which has no bearing on it.
-    ExplainText(LineWord, LineWord),
-    /// Where two texts differ, each part: the first, the second, and a level.
-    ExplainPair(LineWord, LineWord, LineWord),
+    /// What the text on standard input spells, or why it is refused, explained.
+    Explain(ExplainOptions),
+    /// What a text spells, or why it is refused, explained.
+    ExplainText(LineWord, ExplainOptions),
+    /// Where two texts differ, each part: the first, the second, and the options.
+    ExplainPair(LineWord, LineWord, ExplainOptions),
     /// What `Group` asks for, at a level, as these flags say, of which there is at least one.
     GroupListed(LineWord, GroupFlags),
     /// A task over these files, by their names as they were written; there is at least one.
@@ -86,13 +101,13 @@ impl Request {
                 over_standard(alloc, Task::GroupListed(level, flags), rules)
             }
             Request::CanonLines(level) => over_standard(alloc, Task::CanonLines(level), rules),
-            Request::Explain(level) => over_standard(alloc, Task::Explain(level), rules),
-            Request::ExplainText(text, level) => {
+            Request::Explain(options) => over_standard(alloc, Task::Explain(options), rules),
+            Request::ExplainText(text, options) => {
                 let texts = LineWords::one(alloc, text)?;
-                Ok(Request::TextsUnder(Task::Explain(level), texts, rules))
+                Ok(Request::TextsUnder(Task::Explain(options), texts, rules))
             }
-            Request::ExplainPair(first, second, level) => {
-                over_two(alloc, Task::ExplainPair(level), first, second, rules)
+            Request::ExplainPair(first, second, options) => {
+                over_two(alloc, Task::ExplainPair(options), first, second, rules)
             }
             Request::Files(task, names) => Ok(Request::FilesUnder(task, names, rules)),
             Request::Check => Ok(Request::Check),
@@ -122,12 +137,12 @@ pub enum Task {
     CanonLines(LineWord),
     /// Whether each line of each file is accepted, and what it spells.
     CheckLines,
-    /// What a file's text spells, or why it is refused, explained. The level has no bearing on it.
-    Explain(LineWord),
+    /// What a file's text spells, or why it is refused, explained.
+    Explain(ExplainOptions),
     /// Whether the texts of two files spell the same CRS, at a level.
     Same(LineWord),
-    /// Where the texts of two files differ, each part, at a level.
-    ExplainPair(LineWord),
+    /// Where the texts of two files differ, each part.
+    ExplainPair(ExplainOptions),
 }
 
 impl Drop for Task {

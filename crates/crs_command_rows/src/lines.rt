@@ -1,5 +1,5 @@
 //! The reading of command lines.
-use crs_desk::{GroupFlags, LineWord, Request, RequestFault, Task, request};
+use crs_desk::{ExplainOptions, GroupFlags, LineWord, Request, RequestFault, Task, request};
 use crs_suite::put_text;
 use std::alloc::{AllocError, Global};
 use std::str;
@@ -48,10 +48,10 @@ pub fn put_asked(out: &mut String, asked: &Request) -> Result<(), AllocError> {
         Request::GroupListed(level, flags) => put_listed(out, level, *flags),
         Request::CanonLines(level) => put_command(out, "canon lines", &[level]),
         Request::CheckLines => out.push_str("check lines"),
-        Request::Explain(level) => put_command(out, "explain", &[level]),
-        Request::ExplainText(text, level) => put_command(out, "explain", &[level, text]),
-        Request::ExplainPair(first, second, level) => {
-            put_command(out, "explain", &[level, first, second])
+        Request::Explain(options) => put_explain(out, "explain", options, &[]),
+        Request::ExplainText(text, options) => put_explain(out, "explain", options, &[text]),
+        Request::ExplainPair(first, second, options) => {
+            put_explain(out, "explain", options, &[first, second])
         }
         Request::Files(task, names) => {
             put_task(out, task)?;
@@ -83,9 +83,9 @@ fn put_task(out: &mut String, task: &Task) -> Result<(), AllocError> {
         Task::GroupListed(level, flags) => put_listed(out, level, *flags),
         Task::CanonLines(level) => put_command(out, "canon lines", &[level]),
         Task::CheckLines => out.push_str("check lines"),
-        Task::Explain(level) => put_command(out, "explain one", &[level]),
+        Task::Explain(options) => put_explain(out, "explain one", options, &[]),
         Task::Same(level) => put_command(out, "same", &[level]),
-        Task::ExplainPair(level) => put_command(out, "explain two", &[level]),
+        Task::ExplainPair(options) => put_explain(out, "explain two", options, &[]),
     }
 }
 
@@ -102,6 +102,23 @@ fn put_listed(out: &mut String, level: &LineWord, flags: GroupFlags) -> Result<(
 }
 
 fn put_words(out: &mut String, words: &[LineWord]) -> Result<(), AllocError> {
+    for word in words {
+        put_word(out, word)?;
+    }
+    Ok(())
+}
+
+// The command, the level in brackets, `json` where it is asked for, and the words.
+fn put_explain(
+    out: &mut String,
+    name: &str,
+    options: &ExplainOptions,
+    words: &[&LineWord],
+) -> Result<(), AllocError> {
+    put_command(out, name, &[&options.level])?;
+    if options.json {
+        out.push_str(" json")?;
+    }
     for word in words {
         put_word(out, word)?;
     }
