@@ -20,7 +20,8 @@ _crsdesk() {
         case ${COMP_WORDS[1]} in
         canon) words='--level --lines --rules -h --help' ;;
         group) words='--level --rules --repeated --names -h --help' ;;
-        same | explain) words='--files --level --rules -h --help' ;;
+        same) words='--files --level --rules -h --help' ;;
+        explain) words='--files --json --level --rules -h --help' ;;
         check) words='--lines -h --help' ;;
         esac
     fi

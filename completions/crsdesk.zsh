@@ -2,7 +2,7 @@
 # Completion of crsdesk's command line for zsh.
 
 _crsdesk() {
-    local -a commands level rules lines repeated names files help
+    local -a commands level rules lines repeated names files json help
     commands=(
         'canon:write the canonical text'
         'check:tell what kind of CRS a text spells, or where it is refused'
@@ -17,6 +17,7 @@ _crsdesk() {
     repeated=('--repeated[write the groups of two lines or more alone]')
     names=('--names[take names from the fronts of lines, and write them for numbers]')
     files=('--files[take the operands as names of files]')
+    json=('--json[write objects of JSON, one a line]')
     help=('(- *)'{-h,--help}'[print help]')
 
     if (( CURRENT == 2 )); then
@@ -31,7 +32,8 @@ _crsdesk() {
         canon) _arguments $level $rules $lines $help '*:file:_files' ;;
         check) _arguments $lines $help '*:file:_files' ;;
         group) _arguments $level $rules $repeated $names $help '*:file:_files' ;;
-        same | explain) _arguments $files $level $rules $help '1:first:_files' '2:second:_files' ;;
+        same) _arguments $files $level $rules $help '1:first:_files' '2:second:_files' ;;
+        explain) _arguments $files $json $level $rules $help '1:first:_files' '2:second:_files' ;;
         help) _describe command commands ;;
     esac
 }

@@ -2,6 +2,7 @@
 mod catalogues;
 mod commands;
 
+use crs_desk::Manner;
 use crs_suite::{part_at, unusable};
 use std::io;
 
@@ -14,8 +15,14 @@ pub fn try_call(rt: &(impl Print + AllocGlobal), name: &str, parts: &[&[u8]]) ->
         "run_canon_lines" => commands::try_canon_lines(rt, part_at(parts, 0)),
         "run_check" => commands::try_check(rt, part_at(parts, 0)),
         "run_check_lines" => commands::try_check_lines(rt, part_at(parts, 0)),
-        "run_explain" => commands::try_explain(rt, part_at(parts, 0)),
-        "run_explain_pair" => commands::try_explain_pair(rt, part_at(parts, 0), part_at(parts, 1)),
+        "run_explain" => commands::try_explain(rt, Manner::Lines, part_at(parts, 0)),
+        "run_explain_objects" => commands::try_explain(rt, Manner::Objects, part_at(parts, 0)),
+        "run_explain_pair" => {
+            commands::try_explain_pair(rt, Manner::Lines, part_at(parts, 0), part_at(parts, 1))
+        }
+        "run_explain_pair_objects" => {
+            commands::try_explain_pair(rt, Manner::Objects, part_at(parts, 0), part_at(parts, 1))
+        }
         "run_same" => commands::try_same(rt, part_at(parts, 0), part_at(parts, 1)),
         "request" => commands::try_request(rt, parts),
         _ => Err(unusable()),

@@ -189,7 +189,7 @@ front-none Output = record {
 nothing-fronts : (asked : FileTask) → IsTaskFront asked [] []
 nothing-fronts (task.Canon level) = refl
 nothing-fronts task.Check = refl
-nothing-fronts task.Explain = refl
+nothing-fronts (task.Explain how) = refl
 nothing-fronts (task.Group level listing) = refl
 nothing-fronts (task.CanonLines level) = front-none (IsLineOutput (IsCanonOutput level))
 nothing-fronts task.CheckLines = front-none (IsLineOutput IsCheckOutput)

@@ -1,9 +1,10 @@
 -- The lines of an explanation, one further.
-use Rattle.std.proofs.Common.{◌≡◌, ◌∙◌, ◌++◌, ◌∷◌, [], ℕ, List, Bool, true, false, not, ◌&&◌, ◌||◌, ap, append-nil, append_assoc, codes, refl, sym}
+use Rattle.std.proofs.Common.{◌≡◌, ◌∙◌, ◌++◌, ◌∷◌, [], ℕ, List, Bool, true, false, not, ◌&&◌, ◌||◌, ap, append-nil, append_assoc, refl, sym}
 use Rattle.std.specs.Prelude.{◌==◌, if◌then◌else◌}
 use Rattle.std.specs.Str.{bytes_eq}
 use Rattle.crs_streams.specs.Lines.{HasNoFeed, IsSplit}
-use Rattle.crs_desk.specs.RulesOutput.{has_path, lines_after, lines_in, marked, marked_line, path_in}
+use Rattle.crs_desk.specs.RulesOutput.{has_path, lines_after, lines_in, marked, marked_line, path_in, with_mark}
+use Rattle.crs_desk.specs.declared.manner.Manner.{Manner}
 
 both : (a b : Bool) → (a && b) ≡ true → (a ≡ true) × (b ≡ true)
 both true b is = (refl, is)
@@ -42,54 +43,52 @@ split-lines bytes line rest (is, none) = ap lines_in is ∙ line-ends [] line re
 
 -- ---- whether a line has a path
 
-path-first : (line : List ℕ) (lines : List (List ℕ)) (path : List ℕ) (b : Bool) → bytes_eq (path_in line) path ≡ b
-    → has_path (line ∷ lines) path ≡ (b || has_path lines path)
-path-first line lines path b is = ap (λ t. t || has_path lines path) is
+path-first : (how : Manner) (line : List ℕ) (lines : List (List ℕ)) (path : List ℕ) (b : Bool) → bytes_eq (path_in how line) path ≡ b
+    → has_path how (line ∷ lines) path ≡ (b || has_path how lines path)
+path-first how line lines path b is = ap (λ t. t || has_path how lines path) is
 
-pub path_here : (bytes line rest path : List ℕ) → IsSplit bytes line rest → bytes_eq (path_in line) path ≡ true
-    → has_path (lines_in bytes) path ≡ true
-path_here bytes line rest path split is =
-    ap (λ ls. has_path ls path) (split-lines bytes line rest split) ∙ path-first line (lines_in rest) path true is
+pub path_here : (how : Manner) (bytes line rest path : List ℕ) → IsSplit bytes line rest → bytes_eq (path_in how line) path ≡ true
+    → has_path how (lines_in bytes) path ≡ true
+path_here how bytes line rest path split is =
+    ap (λ ls. has_path how ls path) (split-lines bytes line rest split) ∙ path-first how line (lines_in rest) path true is
 
-pub path_further : (bytes line rest path : List ℕ) → IsSplit bytes line rest → bytes_eq (path_in line) path ≡ false
-    → has_path (lines_in bytes) path ≡ has_path (lines_in rest) path
-path_further bytes line rest path split is =
-    ap (λ ls. has_path ls path) (split-lines bytes line rest split) ∙ path-first line (lines_in rest) path false is
+pub path_further : (how : Manner) (bytes line rest path : List ℕ) → IsSplit bytes line rest → bytes_eq (path_in how line) path ≡ false
+    → has_path how (lines_in bytes) path ≡ has_path how (lines_in rest) path
+path_further how bytes line rest path split is =
+    ap (λ ls. has_path how ls path) (split-lines bytes line rest split) ∙ path-first how line (lines_in rest) path false is
 
-pub path_nowhere : (bytes path : List ℕ) → HasNoFeed bytes → has_path (lines_in bytes) path ≡ false
-path_nowhere bytes path none = ap (λ ls. has_path ls path) (no-line [] bytes none)
+pub path_nowhere : (how : Manner) (bytes path : List ℕ) → HasNoFeed bytes → has_path how (lines_in bytes) path ≡ false
+path_nowhere how bytes path none = ap (λ ls. has_path how ls path) (no-line [] bytes none)
 
 -- ---- what is appended
 
-pub marked_on : (new now : List ℕ) (others : List (List ℕ)) (bytes line rest : List ℕ) → new ≡ now ++ marked_line others line
-    → IsSplit bytes line rest → new ++ marked others (lines_in rest) ≡ now ++ marked others (lines_in bytes)
-marked_on new now others bytes line rest is split =
-    ap (λ l. l ++ marked others (lines_in rest)) is
-    ∙ (append_assoc now (marked_line others line) (marked others (lines_in rest))
-    ∙ ap (λ ls. now ++ marked others ls) (sym (split-lines bytes line rest split)))
+pub marked_on : (how : Manner) (new now : List ℕ) (others : List (List ℕ)) (bytes line rest : List ℕ) → new ≡ now ++ marked_line how others line
+    → IsSplit bytes line rest → new ++ marked how others (lines_in rest) ≡ now ++ marked how others (lines_in bytes)
+marked_on how new now others bytes line rest is split =
+    ap (λ l. l ++ marked how others (lines_in rest)) is
+    ∙ (append_assoc now (marked_line how others line) (marked how others (lines_in rest))
+    ∙ ap (λ ls. now ++ marked how others ls) (sym (split-lines bytes line rest split)))
 
-pub marked_all : (out : List ℕ) (others : List (List ℕ)) (bytes : List ℕ) → HasNoFeed bytes
-    → out ++ marked others (lines_in bytes) ≡ out
-marked_all out others bytes none = ap (λ ls. out ++ marked others ls) (no-line [] bytes none) ∙ append-nil out
+pub marked_all : (how : Manner) (out : List ℕ) (others : List (List ℕ)) (bytes : List ℕ) → HasNoFeed bytes
+    → out ++ marked how others (lines_in bytes) ≡ out
+marked_all how out others bytes none = ap (λ ls. out ++ marked how others ls) (no-line [] bytes none) ∙ append-nil out
 
-abbrev line_or_none : List ℕ → Bool → List ℕ
-line_or_none line test = if test then [] else codes "the same by the rules: " ++ line ++ 10 ∷ []
+abbrev marked_unless : Manner → List ℕ → Bool → List ℕ
+marked_unless how line test = if test then [] else with_mark how line
 
 -- whether a line is marked is found out by its path
-marked-by : (others : List (List ℕ)) (line path : List ℕ) (test found : Bool) → found ≡ test → found ≡ has_path others path
-    → path ≡ path_in line → line_or_none line test ≡ marked_line others line
-marked-by others line path test found known is same =
-    ap (line_or_none line) (sym known ∙ (is ∙ ap (has_path others) same))
+marked-by : (how : Manner) (others : List (List ℕ)) (line path : List ℕ) (test found : Bool) → found ≡ test → found ≡ has_path how others path
+    → path ≡ path_in how line → marked_unless how line test ≡ marked_line how others line
+marked-by how others line path test found known is same =
+    ap (marked_unless how line) (sym known ∙ (is ∙ ap (has_path how others) same))
 
-pub marked_none : (out : List ℕ) (others : List (List ℕ)) (line path : List ℕ) (found : Bool) → found ≡ true
-    → found ≡ has_path others path → path ≡ path_in line → out ≡ out ++ marked_line others line
-marked_none out others line path found known is same =
-    sym (append-nil out) ∙ ap (λ l. out ++ l) (marked-by others line path true found known is same)
+pub marked_none : (how : Manner) (out : List ℕ) (others : List (List ℕ)) (line path : List ℕ) (found : Bool) → found ≡ true
+    → found ≡ has_path how others path → path ≡ path_in how line → out ≡ out ++ marked_line how others line
+marked_none how out others line path found known is same =
+    sym (append-nil out) ∙ ap (λ l. out ++ l) (marked-by how others line path true found known is same)
 
-pub marked_one : (new out : List ℕ) (others : List (List ℕ)) (line path : List ℕ) (found : Bool) → found ≡ false
-    → found ≡ has_path others path → path ≡ path_in line
-    → new ≡ ((out ++ codes "the same by the rules: ") ++ line) ++ 10 ∷ [] → new ≡ out ++ marked_line others line
-marked_one new out others line path found known is same appended =
-    appended ∙ (append_assoc (out ++ codes "the same by the rules: ") line (10 ∷ [])
-    ∙ (append_assoc out (codes "the same by the rules: ") (line ++ 10 ∷ [])
-    ∙ ap (λ l. out ++ l) (marked-by others line path false found known is same)))
+pub marked_one : (how : Manner) (new out : List ℕ) (others : List (List ℕ)) (line path : List ℕ) (found : Bool) → found ≡ false
+    → found ≡ has_path how others path → path ≡ path_in how line
+    → new ≡ out ++ with_mark how line → new ≡ out ++ marked_line how others line
+marked_one how new out others line path found known is same appended =
+    appended ∙ ap (λ l. out ++ l) (marked-by how others line path false found known is same)

@@ -1,32 +1,65 @@
--- What `explain` writes for a text and for two, and its status.
-use Rattle.std.specs.Prelude.{◌≡◌, ◌++◌, ◌⊎◌, ℕ, List, []}
+-- What `explain` writes for a text and for two, in lines or as objects of JSON, and its status.
+use Rattle.std.specs.Prelude.{◌≡◌, ◌++◌, ◌⊎◌, ℕ, List, [], codes}
 use Rattle.crs_text.specs.Refusal.{RefusedAt}
 use Rattle.crs_value.specs.declared.values.crs.Crs.{Crs}
+use Rattle.crs_value.specs.declared.values.crs.Kind.{Kind}
 use Rattle.crs_value.specs.declared.values.level.Level.{Level}
-use Rattle.crs_value.specs.SpellsText.{Refuses}
+use Rattle.crs_value.specs.SpellsText.{Refuses, SpellsKind}
 use Rattle.crs_same.specs.SameCrs.{SameCrs}
 use Rattle.crs_explain.specs.Explained.{IsExplained}
 use Rattle.crs_explain.specs.Differing.{IsDifferencesText}
-use Rattle.crs_desk.specs.Output.{WritesAccepted}
-use Rattle.crs_desk.specs.SameOutput.{IsPairOutput, WritesSame}
+use Rattle.crs_explain.specs.Json.{AreDifferenceObjects, IsRefusalObject}
+use Rattle.crs_desk.specs.Output.{IsLine, kind_word}
+use Rattle.crs_desk.specs.SameOutput.{IsPairOutput}
+use Rattle.crs_desk.specs.declared.manner.Manner.{Manner}
+use Rattle.crs_desk.specs.declared.manner.Manner.TheVariants as manner
 
--- the refusal of a text is explained after the word that says which text it is, with status 1
-abbrev pub ExplainsRefusalOf : List ℕ → List ℕ → List ℕ → ℕ → Type 0
-ExplainsRefusalOf which text written status =
-    (refusal : RefusedAt) × Refuses text refusal × (told : List ℕ) × IsExplained text refusal told
-    × (written ≡ which ++ told) × (status ≡ 1)
+-- a kind of CRS is told as `accepted` and its word, or as `{"accepted":"geographic"}`
+abbrev pub kind_told : Manner → Kind → List ℕ
+kind_told manner.Lines kind = codes "accepted " ++ kind_word kind
+kind_told manner.Objects kind = codes "{\"accepted\":\"" ++ kind_word kind ++ codes "\"}"
+
+-- the refusal of a text is told in some lines after the word that says which text it is, or as an
+-- object with that word
+abbrev pub IsRefusalTold : Manner → List ℕ → List ℕ → RefusedAt → List ℕ → Type 0
+IsRefusalTold manner.Lines which text refusal written =
+    (told : List ℕ) × IsExplained text refusal told × (written ≡ which ++ told)
+IsRefusalTold manner.Objects which text refusal written =
+    IsRefusalObject which text refusal written
+
+-- that two CRSs are the same is told as `same`, or as `{"same":true}`
+abbrev pub same_told : Manner → List ℕ
+same_told manner.Lines = codes "same"
+same_told manner.Objects = codes "{\"same\":true}"
+
+-- the parts in which two CRSs differ at a level are told in a line each, or as an object each
+abbrev pub AreDifferencesTold : Manner → Level → Crs → Crs → List ℕ → Type 0
+AreDifferencesTold manner.Lines level a b written = IsDifferencesText level a b written
+AreDifferencesTold manner.Objects level a b written = AreDifferenceObjects level a b written
+
+-- the kind of the CRS that a text spells is told, with status 0
+abbrev pub TellsKind : Manner → List ℕ → List ℕ → ℕ → Type 0
+TellsKind how text written status =
+    (found : Kind) × SpellsKind text found × IsLine (kind_told how found) 0 written status
+
+-- the refusal of a text is told after the word that says which text it is, with status 1
+abbrev pub TellsRefusalOf : Manner → List ℕ → List ℕ → List ℕ → ℕ → Type 0
+TellsRefusalOf how which text written status =
+    (refusal : RefusedAt) × Refuses text refusal × IsRefusalTold how which text refusal written
+    × (status ≡ 1)
 
 -- what `explain` writes for a text, and its status
-unfoldable pub IsExplainOutput : List ℕ → List ℕ → ℕ → Type 0
-IsExplainOutput text written status =
-    WritesAccepted text written status ⊎ ExplainsRefusalOf [] text written status
+unfoldable pub IsExplainOutput : Manner → List ℕ → List ℕ → ℕ → Type 0
+IsExplainOutput how text written status =
+    TellsKind how text written status ⊎ TellsRefusalOf how [] text written status
 
--- `same`, or a line for each part in which two CRSs differ, with status 1
-abbrev pub ExplainsWhetherSame : Level → Crs → Crs → List ℕ → ℕ → Type 0
-ExplainsWhetherSame level a b written status =
-    WritesSame level a b written status
-    ⊎ ((¬ SameCrs level a b) × IsDifferencesText level a b written × (status ≡ 1))
+-- it is told that two CRSs are the same, with status 0, or each part in which they differ, with
+-- status 1
+abbrev pub TellsWhetherSame : Manner → Level → Crs → Crs → List ℕ → ℕ → Type 0
+TellsWhetherSame how level a b written status =
+    (SameCrs level a b × IsLine (same_told how) 0 written status)
+    ⊎ ((¬ SameCrs level a b) × AreDifferencesTold how level a b written × (status ≡ 1))
 
 -- what `explain` writes for two texts, and its status
-abbrev pub IsExplainPairOutput : Level → List ℕ → List ℕ → List ℕ → ℕ → Type 0
-IsExplainPairOutput level = IsPairOutput ExplainsRefusalOf (ExplainsWhetherSame level)
+abbrev pub IsExplainPairOutput : Manner → Level → List ℕ → List ℕ → List ℕ → ℕ → Type 0
+IsExplainPairOutput how level = IsPairOutput (TellsRefusalOf how) (TellsWhetherSame how level)

@@ -28,7 +28,7 @@ IsGroupedOutput Output bytes written status =
 abbrev pub IsTaskOutput : FileTask → Outputs
 IsTaskOutput (task.Canon level) = IsCanonOutput level
 IsTaskOutput task.Check = IsCheckOutput
-IsTaskOutput task.Explain = IsExplainOutput
+IsTaskOutput (task.Explain how) = IsExplainOutput how
 IsTaskOutput (task.Group level listing) = IsGroupedOutput (IsGroupOutput listing level)
 IsTaskOutput (task.CanonLines level) = IsLinesOutput (IsLineOutput (IsCanonOutput level))
 IsTaskOutput task.CheckLines = IsLinesOutput (IsLineOutput IsCheckOutput)

@@ -1,14 +1,16 @@
 -- What commands write under rules, and their status.
-use Rattle.std.specs.Prelude.{◌≡◌, ◌++◌, ◌∷◌, ◌⊎◌, ◌==◌, [], ℕ, List, Bool, codes, not, take}
+use Rattle.std.specs.Prelude.{◌≡◌, ◌++◌, ◌∷◌, ◌⊎◌, ◌==◌, [], ℕ, List, Bool, codes, drop, not, take}
 use Rattle.std.specs.Prelude.{if◌then◌else◌}
 use Rattle.std.specs.List.{flat_map, list_any, prefix_len}
 use Rattle.std.specs.Str.{bytes_eq}
 use Rattle.crs_value.specs.declared.values.level.Level.{Level}
 use Rattle.crs_rules.specs.Rules.{RulesParts}
 use Rattle.crs_rules.specs.Under.{IsForm}
-use Rattle.crs_desk.specs.ExplainOutput.{ExplainsRefusalOf, IsExplainPairOutput}
+use Rattle.crs_desk.specs.ExplainOutput.{IsExplainPairOutput, TellsRefusalOf}
 use Rattle.crs_desk.specs.Output.{IsLine, WritesRefusal}
 use Rattle.crs_desk.specs.SameOutput.{IsSameOutput, WritesRefusalOf}
+use Rattle.crs_desk.specs.declared.manner.Manner.{Manner}
+use Rattle.crs_desk.specs.declared.manner.Manner.TheVariants as manner
 
 -- the form of a text under rules at a level, with status 0
 abbrev pub WritesForm : RulesParts → Level → List ℕ → List ℕ → ℕ → Type 0
@@ -42,13 +44,18 @@ IsPairUnder rules level Refused Compared first second written status =
 abbrev pub IsSameUnderOutput : RulesParts → Level → List ℕ → List ℕ → List ℕ → ℕ → Type 0
 IsSameUnderOutput rules level = IsPairUnder rules level WritesRefusalOf (IsSameOutput level)
 
--- whether a byte belongs to a path: it is no colon
-abbrev pub is_of_path : ℕ → Bool
-is_of_path b = not (b == 58)
+-- the byte behind the path of a line that `explain` writes: a colon, and in an object a comma
+abbrev pub path_end : Manner → ℕ
+path_end manner.Lines = 58
+path_end manner.Objects = 44
 
--- the path of a line that `explain` writes
-abbrev pub path_in : List ℕ → List ℕ
-path_in line = take (prefix_len is_of_path line) line
+-- whether a byte belongs to a path
+abbrev pub is_of_path : Manner → ℕ → Bool
+is_of_path how b = not (b == path_end how)
+
+-- the path of a line that `explain` writes, with what stands before it in an object
+abbrev pub path_in : Manner → List ℕ → List ℕ
+path_in how line = take (prefix_len (is_of_path how) line) line
 
 -- the whole lines of some bytes, where these begin the first
 abbrev pub lines_after : List ℕ → List ℕ → List (List ℕ)
@@ -61,29 +68,43 @@ abbrev pub lines_in : List ℕ → List (List ℕ)
 lines_in bytes = lines_after [] bytes
 
 -- whether one of some lines has this path
-abbrev pub has_path : List (List ℕ) → List ℕ → Bool
-has_path lines path = list_any (λ line. bytes_eq (path_in line) path) lines
+abbrev pub has_path : Manner → List (List ℕ) → List ℕ → Bool
+has_path how lines path = list_any (λ line. bytes_eq (path_in how line) path) lines
 
--- a line after a mark; nothing where one of others has its path
-abbrev pub marked_line : List (List ℕ) → List ℕ → List ℕ
-marked_line others line =
-    if has_path others (path_in line) then []
-    else codes "the same by the rules: " ++ line ++ 10 ∷ []
+-- the mark of a line; of an object it is a first member, behind the brace
+abbrev pub mark_of : Manner → List ℕ
+mark_of manner.Lines = codes "the same by the rules: "
+mark_of manner.Objects = codes "{\"same_by_rules\":true,"
 
--- lines after a mark, but for those whose path one of others has
-abbrev pub marked : List (List ℕ) → List (List ℕ) → List ℕ
-marked others lines = flat_map (marked_line others) lines
+-- what stands behind the mark: the line; of an object all but its brace
+abbrev pub behind_mark : Manner → List ℕ → List ℕ
+behind_mark manner.Lines line = line
+behind_mark manner.Objects line = drop 1 line
+
+-- a line with its mark, and a line feed
+abbrev pub with_mark : Manner → List ℕ → List ℕ
+with_mark how line = mark_of how ++ behind_mark how line ++ 10 ∷ []
+
+-- a line with a mark; nothing where one of others has its path
+abbrev pub marked_line : Manner → List (List ℕ) → List ℕ → List ℕ
+marked_line how others line =
+    if has_path how others (path_in how line) then [] else with_mark how line
+
+-- lines with a mark, but for those whose path one of others has
+abbrev pub marked : Manner → List (List ℕ) → List (List ℕ) → List ℕ
+marked how others lines = flat_map (marked_line how others) lines
 
 -- what `explain` writes for the forms of two texts: what it writes for them without rules, and then,
--- after a mark, each line that it writes for the texts and whose path no line for the forms has
-abbrev pub IsExplainedUnder : Level → List ℕ → List ℕ → List ℕ → List ℕ → List ℕ → ℕ → Type 0
-IsExplainedUnder level first second a b written status =
+-- with a mark, each line that it writes for the texts and whose path no line for the forms has
+abbrev pub IsExplainedUnder : Manner → Level → List ℕ → List ℕ → List ℕ → List ℕ → List ℕ → ℕ → Type 0
+IsExplainedUnder how level first second a b written status =
     (under : List ℕ) × (plain : List ℕ) × (other : ℕ)
-    × IsExplainPairOutput level a b under status
-    × IsExplainPairOutput level first second plain other
-    × (written ≡ under ++ marked (lines_in under) (lines_in plain))
+    × IsExplainPairOutput how level a b under status
+    × IsExplainPairOutput how level first second plain other
+    × (written ≡ under ++ marked how (lines_in under) (lines_in plain))
 
 -- what `explain` writes for two texts under rules
-abbrev pub IsExplainUnderOutput : RulesParts → Level → List ℕ → List ℕ → List ℕ → ℕ → Type 0
-IsExplainUnderOutput rules level first second =
-    IsPairUnder rules level ExplainsRefusalOf (IsExplainedUnder level first second) first second
+abbrev pub IsExplainUnderOutput : Manner → RulesParts → Level → List ℕ → List ℕ → List ℕ → ℕ →
+    Type 0
+IsExplainUnderOutput how rules level first second =
+    IsPairUnder rules level (TellsRefusalOf how) (IsExplainedUnder how level first second) first second

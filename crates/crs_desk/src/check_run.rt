@@ -73,7 +73,7 @@ pub(crate) fn accepted_line(alloc: Global, kind: Kind) -> Result<Vec<u8>, AllocE
     Ok(line)
 }
 
-fn kind_word(kind: Kind) -> &'static str
+pub(crate) fn kind_word(kind: Kind) -> &'static str
     ensures { result.now ≡ kind_word kind }
 {
     match kind {

@@ -1,36 +1,39 @@
-//! What a text spells or why it is refused, and all parts in which two texts differ, explained to a person.
-ghost use Rattle.std.specs.Prelude.{◌≡◌, ◌<◌, ◌↔◌, ◌≤◌, IfOk, IfErr, IsErrOf, true, false};
+//! What a text spells or why it is refused, and all parts in which two texts differ, explained to a person or a program.
+ghost use Rattle.std.specs.Prelude.{◌≡◌, ◌<◌, ◌↔◌, ◌≤◌, ◌++◌, ◌∷◌, [], IfOk, IfErr, IsErrOf, length, true, false};
 ghost use Rattle.crs_value.specs.SpellsText.{Refuses};
 ghost use Rattle.crs_desk.specs.Ending.{IsAnswered, IsRunFault, IsWritten, IsWriteFault};
-ghost use Rattle.crs_desk.specs.ExplainOutput.{IsExplainOutput, IsExplainPairOutput, ExplainsRefusalOf};
-ghost use Rattle.crs_desk.specs.ExplainOutput.{ExplainsWhetherSame};
+ghost use Rattle.crs_desk.specs.ExplainOutput.{AreDifferencesTold, IsExplainOutput, IsExplainPairOutput};
+ghost use Rattle.crs_desk.specs.ExplainOutput.{IsRefusalTold, TellsRefusalOf, TellsWhetherSame, kind_told, same_told};
+ghost use Rattle.crs_desk.specs.declared.manner.Manner.TheVariants as manner;
 ghost use Rattle.crs_streams.specs.Streams.{fresh_sink, fresh_source};
 
 use crate::answer::{Answer, write_answer};
-use crate::check_run::accepted_line;
+use crate::check_run::{accepted_line, kind_word};
 use crate::kind_of_text::refusal_in;
 use crate::pair::{Telling, pair_output};
 use crate::text::read_text;
-use crate::{Level, RunFault, Sink, Source};
-use crs_explain::{differences_text, refusal_text};
+use crate::{Level, Manner, RunFault, Sink, Source};
+use crs_explain::{difference_objects, differences_text, refusal_object, refusal_text};
 use crs_same::same;
 use crs_text::Refusal;
-use crs_value::{Crs, laws, read};
+use crs_value::{Crs, Kind, laws, read};
 use std::alloc::{AllocError, Global};
 use std::io::{Read, Write};
 
 /// Reads a text to its end, and writes what it is: `accepted KIND` for a text that spells a CRS, with status 0, else
-/// the refusal, explained over some lines, with status 1. `ReadFailed` and `WriteFailed` where the source or the sink
-/// has failed, `TooLong(0)` for more than 1,048,576 bytes, `TooManyReads` where 1,048,576 reads have not shown the
-/// end, `Memory` where memory ran out. Every fault but `WriteFailed` leaves the sink untouched. Profile.
+/// the refusal, explained over some lines, with status 1; as objects of JSON `{"accepted":"KIND"}`, or the refusal in one.
+/// `ReadFailed` and `WriteFailed` where the source or the sink has failed, `TooLong(0)` for more than 1,048,576 bytes,
+/// `TooManyReads` where 1,048,576 reads have not shown the end, `Memory` where memory ran out. Every fault but
+/// `WriteFailed` leaves the sink untouched. Profile.
 pub fn run_explain<R: Read, W: Write>(
     alloc: Global,
+    how: Manner,
     r: &mut Source<R>,
     w: &mut Sink<W>,
 ) -> Result<u8, RunFault>
     requires source { r.old ≡ fresh_source r.old.remaining }
     requires sink { w.old ≡ fresh_sink w.old.contents }
-    ensures answered { IfOk result (IsAnswered IsExplainOutput r.old r.new w.old w.new) }
+    ensures answered { IfOk result (IsAnswered (IsExplainOutput how) r.old r.new w.old w.new) }
     ensures reads { r.new.reads ≤ 1048576 }
     ensures past_end { r.new.past_end ≡ false }
     ensures fault { IfErr result (IsRunFault r.new w.old w.new) }
@@ -40,43 +43,46 @@ pub fn run_explain<R: Read, W: Write>(
     ensures too_long { IsErrOf result (RunFault.TooLong 0) ↔ (1048576 < r.new.taken) × (r.new.failed ≡ false) }
 {
     let text = read_text(alloc, r)?;
-    write_answer(alloc, &TextAnswer { text: &text }, w)
+    write_answer(alloc, &TextAnswer { how, text: &text }, w)
 }
 
 /// Writes what a text is, as `run_explain` does. `WriteFailed` where the sink has failed, `Memory` where memory ran
 /// out, and then nothing was written. Profile.
 pub fn run_explain_text<W: Write>(
     alloc: Global,
+    how: Manner,
     text: &[u8],
     w: &mut Sink<W>,
 ) -> Result<u8, RunFault>
     requires { w.old ≡ fresh_sink w.old.contents }
-    ensures answered { IfOk result (IsWritten (IsExplainOutput text.now) w.old w.new) }
+    ensures answered { IfOk result (IsWritten (IsExplainOutput how text.now) w.old w.new) }
     ensures fault { IfErr result (IsWriteFault w.old w.new) }
     ensures write_failed { IsErrOf result RunFault.WriteFailed ↔ (w.new.failed ≡ true) }
     ensures past_failure { w.new.past_failure ≡ false }
 {
-    write_answer(alloc, &TextAnswer { text }, w)
+    write_answer(alloc, &TextAnswer { how, text }, w)
 }
 
 /// Writes whether two texts spell the same CRS at a level: `same`, with status 0; or, with status 1, a line for each
 /// part in which they differ, with both values, or `first` or `second` and the refusal of the first text that spells no
-/// CRS, explained. `WriteFailed` where the sink has failed, `Memory` where memory ran out, and then nothing was written.
-/// Profile.
+/// CRS, explained; as objects of JSON `{"same":true}`, or an object for each part, or the refusal in one. `WriteFailed`
+/// where the sink has failed, `Memory` where memory ran out, and then nothing was written. Profile.
 pub fn run_explain_pair<W: Write>(
     alloc: Global,
+    how: Manner,
     level: Level,
     a: &[u8],
     b: &[u8],
     w: &mut Sink<W>,
 ) -> Result<u8, RunFault>
     requires { w.old ≡ fresh_sink w.old.contents }
-    ensures answered { IfOk result (IsWritten (IsExplainPairOutput level a.now b.now) w.old w.new) }
+    ensures answered { IfOk result (IsWritten (IsExplainPairOutput how level a.now b.now) w.old w.new) }
     ensures fault { IfErr result (IsWriteFault w.old w.new) }
     ensures write_failed { IsErrOf result RunFault.WriteFailed ↔ (w.new.failed ≡ true) }
     ensures past_failure { w.new.past_failure ≡ false }
 {
     let answer = PairAnswer {
+        how,
         level,
         first: a,
         second: b,
@@ -87,45 +93,99 @@ pub fn run_explain_pair<W: Write>(
 // What a text is.
 #[derive(Drop)]
 struct TextAnswer<'t> {
+    how: Manner,
     text: &'t [u8],
 }
 
 impl Answer for TextAnswer<'_> {
     ghost use Rattle.crs_desk.specs.ExplainOutput.{IsExplainOutput};
 
-    ghost Output = { λ s written status. IsExplainOutput s.text.now written status };
+    ghost Output = { λ s written status. IsExplainOutput s.how s.text.now written status };
 
     fn output(&self, alloc: Global) -> Result<(Vec<u8>, u8), AllocError> {
-        text_output(alloc, self.text)
+        text_output(alloc, self.how, self.text)
     }
 }
 
-pub(crate) fn text_output<'t>(alloc: Global, text: &'t [u8]) -> Result<(Vec<u8>, u8), AllocError>
-    ensures { IfOk result (λ output. IsExplainOutput text.now output.0.items output.1) }
+pub(crate) fn text_output<'t>(
+    alloc: Global,
+    how: Manner,
+    text: &'t [u8],
+) -> Result<(Vec<u8>, u8), AllocError>
+    ensures { IfOk result (λ output. IsExplainOutput how text.now output.0.items output.1) }
 {
     match read(alloc, text) {
         Ok(crs) => {
-            let line = accepted_line(alloc, crs.kind())?;
+            let line = kind_line(alloc, how, crs.kind())?;
             Ok((line, 0))
         }
         Err(fault) => {
-            let told = explained(alloc, b"", text, refusal_in(fault)?)?;
+            let told = explained(alloc, how, b"", text, refusal_in(fault)?)?;
             Ok((told, 1))
         }
     }
 }
 
-// The refusal of a text, explained after the word that says which text it is.
+fn kind_line(alloc: Global, how: Manner, kind: Kind) -> Result<Vec<u8>, AllocError>
+    ensures { IfOk result (λ line. line.items ≡ kind_told how kind ++ 10 ∷ []) }
+{
+    match how {
+        Manner::Lines => accepted_line(alloc, kind),
+        Manner::Objects => accepted_object(alloc, kind),
+    }
+}
+
+// `{"accepted":"geographic"}` and a line end.
+fn accepted_object(alloc: Global, kind: Kind) -> Result<Vec<u8>, AllocError>
+    ensures { IfOk result (λ line. line.items ≡ kind_told manner.Objects kind ++ 10 ∷ []) }
+{
+    let mut line = Vec::from_slice(alloc, b"{\"accepted\":\"")?;
+    line.extend_from_slice(kind_word(kind).as_bytes())?;
+    line.extend_from_slice(b"\"}\n")?;
+    Ok(line)
+}
+
+// The refusal of a text, told after the word that says which text it is.
 fn explained(
     alloc: Global,
+    how: Manner,
     which: &[u8],
     text: &[u8],
     refusal: Refusal,
 ) -> Result<Vec<u8>, AllocError>
     requires { Refuses text.now refusal }
-    ensures { IfOk result (λ whole. ExplainsRefusalOf which.now text.now whole.items 1) }
+    ensures { IfOk result (λ told. TellsRefusalOf how which.now text.now told.items 1) }
 {
     laws::one_answer();
+    let told = refusal_told(alloc, how, which, text, refusal)?;
+    Ok(told)
+}
+
+fn refusal_told(
+    alloc: Global,
+    how: Manner,
+    which: &[u8],
+    text: &[u8],
+    refusal: Refusal,
+) -> Result<Vec<u8>, AllocError>
+    requires { refusal.place ≤ length text.now }
+    ensures { IfOk result (λ told. IsRefusalTold how which.now text.now refusal told.items) }
+{
+    match how {
+        Manner::Lines => refusal_lines(alloc, which, text, refusal),
+        Manner::Objects => refusal_object(alloc, which, text, refusal),
+    }
+}
+
+fn refusal_lines(
+    alloc: Global,
+    which: &[u8],
+    text: &[u8],
+    refusal: Refusal,
+) -> Result<Vec<u8>, AllocError>
+    requires { refusal.place ≤ length text.now }
+    ensures { IfOk result (λ told. IsRefusalTold manner.Lines which.now text.now refusal told.items) }
+{
     let told = refusal_text(alloc, text, refusal)?;
     let mut whole = Vec::from_slice(alloc, which)?;
     whole.extend_from_slice(&told)?;
@@ -135,6 +195,7 @@ fn explained(
 // What two texts are, at this level.
 #[derive(Drop)]
 struct PairAnswer<'t> {
+    how: Manner,
     level: Level,
     first: &'t [u8],
     second: &'t [u8],
@@ -143,22 +204,21 @@ struct PairAnswer<'t> {
 impl Answer for PairAnswer<'_> {
     ghost use Rattle.crs_desk.specs.ExplainOutput.{IsExplainPairOutput};
 
-    ghost Output = { λ s written status. IsExplainPairOutput s.level s.first.now s.second.now written status };
+    ghost Output = { λ s written status.
+        IsExplainPairOutput s.how s.level s.first.now s.second.now written status };
 
     fn output(&self, alloc: Global) -> Result<(Vec<u8>, u8), AllocError> {
-        pair_output(alloc, &InFull, self.level, self.first, self.second)
+        pair_output(alloc, &self.how, self.level, self.first, self.second)
     }
 }
 
 // Explains a refusal, and of two CRSs all parts that differ.
-pub(crate) struct InFull;
+impl Telling for Manner {
+    ghost use Rattle.crs_desk.specs.ExplainOutput.{TellsRefusalOf, TellsWhetherSame};
 
-impl Telling for InFull {
-    ghost use Rattle.crs_desk.specs.ExplainOutput.{ExplainsRefusalOf, ExplainsWhetherSame};
+    ghost Refused = { λ s which text written status. TellsRefusalOf s which text written status };
 
-    ghost Refused = { λ s which text written status. ExplainsRefusalOf which text written status };
-
-    ghost Compared = { λ s level a b written status. ExplainsWhetherSame level a b written status };
+    ghost Compared = { λ s level a b written status. TellsWhetherSame s level a b written status };
 
     fn refusal(
         &self,
@@ -167,7 +227,7 @@ impl Telling for InFull {
         text: &[u8],
         refusal: Refusal,
     ) -> Result<Vec<u8>, AllocError> {
-        explained(alloc, which, text, refusal)
+        explained(alloc, *self, which, text, refusal)
     }
 
     fn comparison<'t>(
@@ -177,22 +237,47 @@ impl Telling for InFull {
         a: &Crs<'t>,
         b: &Crs<'t>,
     ) -> Result<(Vec<u8>, u8), AllocError> {
-        differences_output(alloc, level, a, b)
+        differences_output(alloc, *self, level, a, b)
     }
 }
 
 fn differences_output<'t>(
     alloc: Global,
+    how: Manner,
     level: Level,
     a: &Crs<'t>,
     b: &Crs<'t>,
 ) -> Result<(Vec<u8>, u8), AllocError>
-    ensures { IfOk result (λ output. ExplainsWhetherSame level a.now b.now output.0.items output.1) }
+    ensures { IfOk result (λ output. TellsWhetherSame how level a.now b.now output.0.items output.1) }
 {
     if same(a, b, level) {
-        let line = Vec::from_slice(alloc, b"same\n")?;
+        let line = same_line(alloc, how)?;
         return Ok((line, 0));
     }
-    let lines = differences_text(alloc, a, b, level)?;
-    Ok((lines, 1))
+    let parts = differences_told(alloc, how, level, a, b)?;
+    Ok((parts, 1))
+}
+
+fn same_line(alloc: Global, how: Manner) -> Result<Vec<u8>, AllocError>
+    ensures { IfOk result (λ line. line.items ≡ same_told how ++ 10 ∷ []) }
+{
+    match how {
+        Manner::Lines => Vec::from_slice(alloc, b"same\n"),
+        Manner::Objects => Vec::from_slice(alloc, b"{\"same\":true}\n"),
+    }
+}
+
+fn differences_told<'t>(
+    alloc: Global,
+    how: Manner,
+    level: Level,
+    a: &Crs<'t>,
+    b: &Crs<'t>,
+) -> Result<Vec<u8>, AllocError>
+    ensures { IfOk result (λ told. AreDifferencesTold how level a.now b.now told.items) }
+{
+    match how {
+        Manner::Lines => differences_text(alloc, a, b, level),
+        Manner::Objects => difference_objects(alloc, a, b, level),
+    }
 }

@@ -35,7 +35,7 @@ pub(crate) fn answer_input<R: Read + Drop, W: Write>(
     match task {
         FileTask::Canon(level) => answer_text(alloc, &CanonText { level }, prefix, reader, sink),
         FileTask::Check => answer_text(alloc, &CheckText, prefix, reader, sink),
-        FileTask::Explain => answer_text(alloc, &ExplainText, prefix, reader, sink),
+        FileTask::Explain(how) => answer_text(alloc, &ExplainText { how }, prefix, reader, sink),
         FileTask::Group(level, listing) => {
             answer_group(alloc, &Groups { level, listing }, prefix, reader, sink)
         }

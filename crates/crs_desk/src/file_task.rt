@@ -1,4 +1,4 @@
-use crate::{Level, Listing};
+use crate::{Level, Listing, Manner};
 use crs_rules::Rules;
 
 /// What is asked of each of some files.
@@ -8,8 +8,8 @@ pub enum FileTask<'r> {
     Canon(Level),
     /// What `run_check` writes.
     Check,
-    /// What `run_explain` writes.
-    Explain,
+    /// What `run_explain` writes. Of several files an object of JSON too stands behind the name and a colon.
+    Explain(Manner),
     /// What `run_group_listing` writes, at a level, with status 1 where a line was refused.
     Group(Level, Listing),
     /// What `run_canon_lines` writes, at a level.

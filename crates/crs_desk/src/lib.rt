@@ -3,7 +3,9 @@
 
 pub use canon_run::run_canon;
 pub use check_run::run_check;
-pub use crs_command_line::{GroupFlags, LineWord, LineWords, Request, RequestFault, Task, request};
+pub use crs_command_line::{
+    ExplainOptions, GroupFlags, LineWord, LineWords, Request, RequestFault, Task, request,
+};
 pub use crs_explain::append_escaped;
 pub use crs_group::{Listing, PLAIN, Summary, run_group, run_group_listing, run_group_under};
 pub use crs_rules::Rules;
@@ -15,6 +17,7 @@ pub use explain_run::{run_explain, run_explain_pair, run_explain_text};
 pub use file_task::FileTask;
 pub use files_run::{Inputs, run_files};
 pub use lines_run::{run_canon_lines, run_check_lines};
+pub use manner::Manner;
 pub use same_run::run_same;
 pub use text::read_text;
 pub use under_run::{run_explain_pair_under, run_same_under};
@@ -34,6 +37,7 @@ mod line_cutter;
 mod line_output;
 mod line_writer;
 mod lines_run;
+mod manner;
 mod marking;
 mod pair;
 mod pieces;

@@ -1,7 +1,6 @@
 //! What commands write for a text, and for the text of a line.
 ghost use Rattle.std.specs.Prelude.{◌≡◌, ◌∷◌, [], ℕ, List, IfOk};
 
-use crate::Level;
 use crate::answer::Answer;
 use crate::canon_run::CanonAnswer;
 use crate::check_run::CheckAnswer;
@@ -9,6 +8,7 @@ use crate::explain_run::text_output;
 use crate::kind_of_text::{found_in, refusal_in};
 use crate::prefixed::prefixed;
 use crate::print::{line_of, refused_line};
+use crate::{Level, Manner};
 use crs_group::is_blank;
 use crs_rules::{Rules, canon_under};
 use std::alloc::{AllocError, Global};
@@ -84,15 +84,17 @@ impl TextCommand for CheckText {
 
 // `explain`.
 #[derive(Drop)]
-pub(crate) struct ExplainText;
+pub(crate) struct ExplainText {
+    pub(crate) how: Manner,
+}
 
 impl TextCommand for ExplainText {
     ghost use Rattle.crs_desk.specs.ExplainOutput.{IsExplainOutput};
 
-    ghost Output = { λ s text written status. IsExplainOutput text written status };
+    ghost Output = { λ s text written status. IsExplainOutput s.how text written status };
 
     fn output(&self, alloc: Global, text: &[u8]) -> Result<(Vec<u8>, u8), AllocError> {
-        text_output(alloc, text)
+        text_output(alloc, self.how, text)
     }
 }
 

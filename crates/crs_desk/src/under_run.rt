@@ -5,12 +5,11 @@ ghost use Rattle.crs_desk.specs.RulesOutput.{IsExplainUnderOutput, IsExplainedUn
 ghost use Rattle.crs_streams.specs.Streams.{fresh_sink};
 
 use crate::answer::{Answer, write_answer};
-use crate::explain_run::InFull;
 use crate::forms::forms_of;
 use crate::marking::append_marked;
 use crate::pair::pair_output;
 use crate::same_run::InALine;
-use crate::{Level, RunFault, Sink};
+use crate::{Level, Manner, RunFault, Sink};
 use crs_rules::Rules;
 use std::alloc::{AllocError, Global};
 use std::io::Write;
@@ -43,10 +42,11 @@ pub fn run_same_under<W: Write>(
 
 /// Writes whether two texts are the same under rules, at a level: for their forms what `run_explain_pair` writes, and
 /// then, each after `the same by the rules: `, the lines that it writes without rules for the texts, but for those whose
-/// part still differs under the rules; or the refusal of the first text that spells no CRS, explained. Faults are those
-/// of `run_explain_pair`. Profile.
+/// part still differs under the rules; or the refusal of the first text that spells no CRS, explained. In an object of
+/// JSON the mark is a first member, `"same_by_rules":true`. Faults are those of `run_explain_pair`. Profile.
 pub fn run_explain_pair_under<W: Write>(
     alloc: Global,
+    how: Manner,
     level: Level,
     rules: &Rules,
     a: &[u8],
@@ -54,12 +54,13 @@ pub fn run_explain_pair_under<W: Write>(
     w: &mut Sink<W>,
 ) -> Result<u8, RunFault>
     requires { w.old ≡ fresh_sink w.old.contents }
-    ensures answered { IfOk result (IsWritten (IsExplainUnderOutput rules.now level a.now b.now) w.old w.new) }
+    ensures answered { IfOk result (IsWritten (IsExplainUnderOutput how rules.now level a.now b.now) w.old w.new) }
     ensures fault { IfErr result (IsWriteFault w.old w.new) }
     ensures write_failed { IsErrOf result RunFault.WriteFailed ↔ (w.new.failed ≡ true) }
     ensures past_failure { w.new.past_failure ≡ false }
 {
     let answer = ExplainedForms {
+        how,
         level,
         rules,
         first: a,
@@ -102,6 +103,7 @@ impl Answer for SameForms<'_> {
 // Where two texts differ under rules, and where they don't, at this level.
 #[derive(Drop)]
 struct ExplainedForms<'t> {
+    how: Manner,
     level: Level,
     rules: &'t Rules,
     first: &'t [u8],
@@ -112,12 +114,12 @@ impl Answer for ExplainedForms<'_> {
     ghost use Rattle.crs_desk.specs.RulesOutput.{IsExplainUnderOutput};
 
     ghost Output = { λ s written status.
-        IsExplainUnderOutput s.rules.now s.level s.first.now s.second.now written status };
+        IsExplainUnderOutput s.how s.rules.now s.level s.first.now s.second.now written status };
 
     fn output(&self, alloc: Global) -> Result<(Vec<u8>, u8), AllocError> {
         let found = forms_of(
             alloc,
-            &InFull,
+            &self.how,
             self.level,
             self.rules,
             self.first,
@@ -126,6 +128,7 @@ impl Answer for ExplainedForms<'_> {
         match found {
             Ok((a, b)) => explained(
                 alloc,
+                self.how,
                 self.level,
                 self.first,
                 self.second,
@@ -140,18 +143,19 @@ impl Answer for ExplainedForms<'_> {
 // The explanation of two texts, by their forms.
 fn explained(
     alloc: Global,
+    how: Manner,
     level: Level,
     first: &[u8],
     second: &[u8],
     a: &[u8],
     b: &[u8],
 ) -> Result<(Vec<u8>, u8), AllocError>
-    ensures { IfOk result (λ output. IsExplainedUnder level first.now second.now a.now b.now
+    ensures { IfOk result (λ output. IsExplainedUnder how level first.now second.now a.now b.now
         output.0.items output.1) }
 {
-    let (under, status) = pair_output(alloc, &InFull, level, a, b)?;
-    let (plain, _status) = pair_output(alloc, &InFull, level, first, second)?;
+    let (under, status) = pair_output(alloc, &how, level, a, b)?;
+    let (plain, _status) = pair_output(alloc, &how, level, first, second)?;
     let mut lines = Vec::from_slice(alloc, &under)?;
-    append_marked(&mut lines, &under, &plain)?;
+    append_marked(&mut lines, how, &under, &plain)?;
     Ok((lines, status))
 }

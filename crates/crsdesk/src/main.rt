@@ -10,8 +10,8 @@ mod telling;
 mod under;
 
 use crs_desk::{
-    FileTask, GroupFlags, Level, LineWord, Listing, PLAIN, Request, RequestFault, RunFault, Task,
-    request,
+    ExplainOptions, FileTask, GroupFlags, Level, LineWord, Listing, Manner, PLAIN, Request,
+    RequestFault, RunFault, Task, request,
 };
 use fault::Fault;
 use runs::{
@@ -79,16 +79,17 @@ fn answer(rt: &HostRuntime, wanted: &Request) -> Result<u8, Fault> {
         Request::GroupListed(level, flags) => group(rt, level_of(level)?, listing_of(flags)),
         Request::CanonLines(level) => canon_lines(rt, level_of(level)?),
         Request::CheckLines => check_lines(rt),
-        Request::Explain(level) => {
-            level_of(level)?;
-            explain(rt)
+        Request::Explain(options) => {
+            level_of(&options.level)?;
+            explain(rt, manner_of(options))
         }
-        Request::ExplainText(text, level) => {
-            level_of(level)?;
-            explain_text(rt, text)
+        Request::ExplainText(text, options) => {
+            level_of(&options.level)?;
+            explain_text(rt, manner_of(options), text)
         }
-        Request::ExplainPair(first, second, level) => {
-            explain_pair(rt, level_of(level)?, first, second)
+        Request::ExplainPair(first, second, options) => {
+            let level = level_of(&options.level)?;
+            explain_pair(rt, manner_of(options), level, first, second)
         }
         Request::Files(task, names) => answer_files(rt, task, names.as_slice()),
         Request::FilesUnder(task, names, rules) => {
@@ -111,12 +112,15 @@ fn answer_files(rt: &HostRuntime, task: &Task, names: &[LineWord]) -> Result<u8,
         }
         Task::CanonLines(level) => files(rt, FileTask::CanonLines(level_of(level)?), names),
         Task::CheckLines => files(rt, FileTask::CheckLines, names),
-        Task::Explain(level) => {
-            level_of(level)?;
-            files(rt, FileTask::Explain, names)
+        Task::Explain(options) => {
+            level_of(&options.level)?;
+            files(rt, FileTask::Explain(manner_of(options)), names)
         }
         Task::Same(level) => same_files(rt, level_of(level)?, names),
-        Task::ExplainPair(level) => explain_files(rt, level_of(level)?, names),
+        Task::ExplainPair(options) => {
+            let level = level_of(&options.level)?;
+            explain_files(rt, manner_of(options), level, names)
+        }
     }
 }
 
@@ -132,6 +136,14 @@ pub(crate) fn level_of(word: &LineWord) -> Result<Level, Fault> {
         "full" => Ok(Level::Full),
         "definition" => Ok(Level::Definition),
         _ => Err(Fault::Level),
+    }
+}
+
+pub(crate) fn manner_of(options: &ExplainOptions) -> Manner {
+    if options.json {
+        Manner::Objects
+    } else {
+        Manner::Lines
     }
 }
 

@@ -4,7 +4,7 @@ use crate::input::{Input, Opener, tell_fault};
 use crate::output::Output;
 use crate::telling::tell_of;
 use crs_desk::{
-    FileTask, Filling, Level, LineWord, Listing, RunFault, Sink, Source, Stream, read_text,
+    FileTask, Filling, Level, LineWord, Listing, Manner, RunFault, Sink, Source, Stream, read_text,
     run_canon, run_canon_lines, run_check, run_check_lines, run_explain, run_explain_pair,
     run_explain_text, run_files, run_group_listing, run_same,
 };
@@ -79,11 +79,12 @@ pub fn group(rt: &HostRuntime, level: Level, listing: Listing) -> Result<u8, Fau
 }
 
 /// What standard input spells, or why it is refused, explained.
-pub fn explain(rt: &HostRuntime) -> Result<u8, Fault> {
+pub fn explain(rt: &HostRuntime, how: Manner) -> Result<u8, Fault> {
     let mut input = Input::standard(rt);
     let mut output = Output::new(rt);
     let answer = run_explain(
         rt.alloc(),
+        how,
         &mut Source::new(Filling::new(&mut input)),
         &mut Sink::new(&mut output),
     );
@@ -126,32 +127,44 @@ fn same_texts(rt: &HostRuntime, level: Level, a: &[u8], b: &[u8]) -> Result<u8, 
 }
 
 /// What a text spells, or why it is refused, explained.
-pub fn explain_text(rt: &HostRuntime, word: &LineWord) -> Result<u8, Fault> {
+pub fn explain_text(rt: &HostRuntime, how: Manner, word: &LineWord) -> Result<u8, Fault> {
     let text = text_of(rt, word);
     let mut output = Output::new(rt);
-    let answer = run_explain_text(rt.alloc(), text, &mut Sink::new(&mut output));
+    let answer = run_explain_text(rt.alloc(), how, text, &mut Sink::new(&mut output));
     written(answer, &output)
 }
 
 /// All parts in which two texts differ.
 pub fn explain_pair(
     rt: &HostRuntime,
+    how: Manner,
     level: Level,
     first: &LineWord,
     second: &LineWord,
 ) -> Result<u8, Fault> {
-    explain_texts(rt, level, text_of(rt, first), text_of(rt, second))
+    explain_texts(rt, how, level, text_of(rt, first), text_of(rt, second))
 }
 
 /// All parts in which the texts of two files differ.
-pub fn explain_files(rt: &HostRuntime, level: Level, names: &[LineWord]) -> Result<u8, Fault> {
+pub fn explain_files(
+    rt: &HostRuntime,
+    how: Manner,
+    level: Level,
+    names: &[LineWord],
+) -> Result<u8, Fault> {
     let (first, second) = two_texts(rt, names)?;
-    explain_texts(rt, level, &first, &second)
+    explain_texts(rt, how, level, &first, &second)
 }
 
-fn explain_texts(rt: &HostRuntime, level: Level, a: &[u8], b: &[u8]) -> Result<u8, Fault> {
+fn explain_texts(
+    rt: &HostRuntime,
+    how: Manner,
+    level: Level,
+    a: &[u8],
+    b: &[u8],
+) -> Result<u8, Fault> {
     let mut output = Output::new(rt);
-    let answer = run_explain_pair(rt.alloc(), level, a, b, &mut Sink::new(&mut output));
+    let answer = run_explain_pair(rt.alloc(), how, level, a, b, &mut Sink::new(&mut output));
     written(answer, &output)
 }
 

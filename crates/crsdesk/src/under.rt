@@ -3,9 +3,9 @@ use crate::fault::Fault;
 use crate::output::Output;
 use crate::runs::{explain_text, file_text, files, text_of, two_texts, written};
 use crate::telling::tell_refused;
-use crate::{level_of, listing_of};
+use crate::{level_of, listing_of, manner_of};
 use crs_desk::{
-    FileTask, Level, LineWord, PLAIN, Rules, RulesFault, RulesReader, RunFault, Sink, Task,
+    FileTask, Level, LineWord, Manner, PLAIN, Rules, RulesFault, RulesReader, RunFault, Sink, Task,
     run_explain_pair_under, run_same_under,
 };
 
@@ -28,14 +28,14 @@ pub fn files_under(
         }
         Task::CanonLines(_) => files(rt, FileTask::FormLines(level, &rules), names),
         Task::CheckLines => files(rt, FileTask::CheckLines, names),
-        Task::Explain(_) => files(rt, FileTask::Explain, names),
+        Task::Explain(options) => files(rt, FileTask::Explain(manner_of(options)), names),
         Task::Same(_) => {
             let (first, second) = two_texts(rt, names)?;
             same_texts(rt, level, &rules, &first, &second)
         }
-        Task::ExplainPair(_) => {
+        Task::ExplainPair(options) => {
             let (first, second) = two_texts(rt, names)?;
-            explain_texts(rt, level, &rules, &first, &second)
+            explain_texts(rt, manner_of(options), level, &rules, &first, &second)
         }
     }
 }
@@ -53,11 +53,16 @@ pub fn texts_under(
         (Some(first), Some(second)) => {
             let (a, b) = (text_of(rt, first), text_of(rt, second));
             match task {
-                Task::Same(_) => same_texts(rt, level, &rules, a, b),
-                _ => explain_texts(rt, level, &rules, a, b),
+                Task::ExplainPair(options) => {
+                    explain_texts(rt, manner_of(options), level, &rules, a, b)
+                }
+                _ => same_texts(rt, level, &rules, a, b),
             }
         }
-        (Some(text), None) => explain_text(rt, text),
+        (Some(text), None) => match task {
+            Task::Explain(options) => explain_text(rt, manner_of(options), text),
+            _ => Err(Fault::Told),
+        },
         _ => Err(Fault::Told),
     }
 }
@@ -68,9 +73,9 @@ fn task_level(task: &Task) -> Result<Level, Fault> {
         Task::Group(level) => level_of(level),
         Task::GroupListed(level, _) => level_of(level),
         Task::CanonLines(level) => level_of(level),
-        Task::Explain(level) => level_of(level),
+        Task::Explain(options) => level_of(&options.level),
         Task::Same(level) => level_of(level),
-        Task::ExplainPair(level) => level_of(level),
+        Task::ExplainPair(options) => level_of(&options.level),
         Task::Check | Task::CheckLines => Ok(Level::Full),
     }
 }
@@ -106,6 +111,7 @@ fn same_texts(
 
 fn explain_texts(
     rt: &HostRuntime,
+    how: Manner,
     level: Level,
     rules: &Rules,
     a: &[u8],
@@ -114,6 +120,7 @@ fn explain_texts(
     let mut output = Output::new(rt);
     let answer = run_explain_pair_under(
         rt.alloc(),
+        how,
         level,
         rules,
         a,

@@ -2,7 +2,7 @@
 use crate::lines::put_asked;
 use crate::runs::{put_outcome, put_written};
 use crs_desk::{
-    Level, Request, RequestFault, RunFault, Sink, Source, Stream, request, run_canon,
+    Level, Manner, Request, RequestFault, RunFault, Sink, Source, Stream, request, run_canon,
     run_canon_lines, run_check, run_check_lines, run_explain, run_explain_pair, run_same,
 };
 use crs_suite::{Trial, put_text, run_trial, unusable};
@@ -19,8 +19,8 @@ enum Command<'t> {
     CanonLines(&'t [u8]),
     Check(&'t [u8]),
     CheckLines(&'t [u8]),
-    Explain(&'t [u8]),
-    ExplainPair(&'t [u8], &'t [u8]),
+    Explain(Manner, &'t [u8]),
+    ExplainPair(Manner, &'t [u8], &'t [u8]),
     Same(&'t [u8], &'t [u8]),
 }
 
@@ -53,8 +53,12 @@ impl Trial for Run<'_> {
             }
             Command::Check(text) => run_check(alloc, &mut Source::new(text), &mut sink),
             Command::CheckLines(text) => run_check_lines(alloc, &mut Stream::new(text), &mut sink),
-            Command::Explain(text) => run_explain(alloc, &mut Source::new(text), &mut sink),
-            Command::ExplainPair(a, b) => run_explain_pair(alloc, Level::Full, a, b, &mut sink),
+            Command::Explain(how, text) => {
+                run_explain(alloc, how, &mut Source::new(text), &mut sink)
+            }
+            Command::ExplainPair(how, a, b) => {
+                run_explain_pair(alloc, how, Level::Full, a, b, &mut sink)
+            }
             Command::Same(a, b) => run_same(alloc, Level::Full, a, b, &mut sink),
         };
         ended(outcome)
@@ -109,18 +113,19 @@ pub fn try_check_lines(rt: &(impl Print + AllocGlobal), text: &[u8]) -> io::Resu
     run_command(rt, Command::CheckLines(text))
 }
 
-/// `run_explain` over a text.
-pub fn try_explain(rt: &(impl Print + AllocGlobal), text: &[u8]) -> io::Result<()> {
-    run_command(rt, Command::Explain(text))
+/// `run_explain` over a text, in lines or as objects of JSON.
+pub fn try_explain(rt: &(impl Print + AllocGlobal), how: Manner, text: &[u8]) -> io::Result<()> {
+    run_command(rt, Command::Explain(how, text))
 }
 
-/// `run_explain_pair` of two texts.
+/// `run_explain_pair` of two texts, in lines or as objects of JSON.
 pub fn try_explain_pair(
     rt: &(impl Print + AllocGlobal),
+    how: Manner,
     first: &[u8],
     second: &[u8],
 ) -> io::Result<()> {
-    run_command(rt, Command::ExplainPair(first, second))
+    run_command(rt, Command::ExplainPair(how, first, second))
 }
 
 /// `run_same` of two texts.

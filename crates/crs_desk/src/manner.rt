@@ -1,0 +1,8 @@
+/// How `explain` tells. Profile.
+#[derive(Clone, Copy)]
+pub enum Manner {
+    /// In lines for a person.
+    Lines,
+    /// As objects of JSON, each in a line.
+    Objects,
+}
