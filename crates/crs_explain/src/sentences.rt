@@ -150,8 +150,9 @@ fn open_or_meant(
 ) -> Result<Vec<u8>, AllocError> {
     match refusal.number() {
         6 | 7 => still_open(alloc, text, refusal.place()),
+        11 | 21 => did_you_mean(alloc, meant),
         27 => units(alloc, text, refusal.place()),
-        _ => did_you_mean(alloc, meant),
+        _ => Ok(Vec::new(alloc)),
     }
 }
 
