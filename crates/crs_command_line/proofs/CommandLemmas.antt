@@ -11,11 +11,12 @@ use Rattle.clap.specs.declared.parser.matches.ArgMatches.{ArgMatches}
 use Rattle.clap.specs.declared.error.Error.{Error}
 use Rattle.clap.specs.declared.error.kind.ErrorKind.TheVariants as kind
 use Rattle.clap.proofs.WalkLemmas.{both}
-use Rattle.crs_command_line.specs.declared.requests.RequestFault.{RequestFault}
-use Rattle.crs_command_line.specs.declared.requests.RequestFault.TheVariants.{Line, Memory}
+use Rattle.crs_requests.specs.declared.requests.RequestFault.{RequestFault}
+use Rattle.crs_requests.specs.declared.requests.RequestFault.TheVariants.{Line, Memory}
 use Rattle.crs_command_line.proofs.HelpLemmas.{IsFree, answers_help, stops_at_no_help}
 use Rattle.crs_command_line.proofs.OperandLemmas.{same_asks}
-use Rattle.crs_command_line.specs.CommandLine.{HandsOn, IsRefusal, asked, desk, request_of}
+use Rattle.crs_requests.specs.Requests.{request_of}
+use Rattle.crs_command_line.specs.CommandLine.{HandsOn, IsRefusal, asked, desk}
 
 -- the words are a request of the shape, where it answers and takes them
 IsKnown : (Shape → Bool) → List Text → Shape → Type 0

@@ -15,11 +15,12 @@ use Rattle.clap.specs.Takes.{bundle_passes, bundle_step_passes, default_passes, 
 use Rattle.clap.specs.declared.parser.matches.ValueSource.TheVariants.{CommandLine}
 use Rattle.clap.proofs.OnLiterals.{clap_on_literals}
 use Rattle.clap.proofs.WalkLemmas.{both}
-use Rattle.crs_command_line.specs.CommandLine.{asked, canon_of, check_of, desk, explain_of, file_operands, files_flag, group_of, is_plain_word, json_flag, level_option, lines_flag, names_flag, over, plainly, repeated_flag, request_of, rules_of, rules_option, same_of, spare_operand, standard, under}
-use Rattle.crs_command_line.specs.declared.requests.Request.{Request}
-use Rattle.crs_command_line.specs.declared.requests.Request.TheVariants.{Canon, Check, Same, Group, CanonLines, CheckLines, Explain, ExplainText, ExplainPair, GroupListed, Files, FilesUnder, TextsUnder}
-use Rattle.crs_command_line.specs.declared.requests.Task.{Task}
-use Rattle.crs_command_line.specs.declared.requests.Task.TheVariants as task
+use Rattle.crs_requests.specs.Requests.{canon_of, check_of, explain_of, group_of, over, plainly, request_of, rules_of, same_of, standard, under}
+use Rattle.crs_command_line.specs.CommandLine.{asked, desk, file_operands, files_flag, is_plain_word, json_flag, level_option, lines_flag, names_flag, repeated_flag, rules_option, spare_operand}
+use Rattle.crs_requests.specs.declared.requests.Request.{Request}
+use Rattle.crs_requests.specs.declared.requests.Request.TheVariants.{Canon, Check, Same, Group, CanonLines, CheckLines, Explain, ExplainText, ExplainPair, GroupListed, Files, FilesUnder, TextsUnder}
+use Rattle.crs_requests.specs.declared.requests.Task.{Task}
+use Rattle.crs_requests.specs.declared.requests.Task.TheVariants as task
 use Rattle.crs_command_line.proofs.OperandLemmas.{built_same, second_given}
 
 -- ---- after `--`

@@ -1,6 +1,6 @@
 -- Both texts of `same` are there where the command takes the line: no row of its matches is without a value.
-use Rattle.std.proofs.Common.{◌≡◌, ◌≢◌, subst, ℕ, List, [], ◌∷◌, ◌++◌, length, Option, Some, None, IsSome, Bool, true, false, not, ◌&&◌, ◌||◌, cond, refl, codes, zero, suc, drop, is_some, option_and_then, option_map, map, ap, ap₂, sym, ◌∙◌}
-use Rattle.std.specs.Prelude.{find, encode_utf8, slice_get, unwrap_or}
+use Rattle.std.proofs.Common.{◌≡◌, ℕ, List, [], ◌∷◌, ◌++◌, length, Option, Some, None, IsSome, Bool, true, false, not, ◌&&◌, ◌||◌, cond, refl, codes, zero, suc, drop, is_some, option_and_then, option_map}
+use Rattle.std.specs.Prelude.{find, encode_utf8, slice_get}
 use Rattle.std.specs.List.{fold, list_all}
 use Rattle.std.specs.Option.{option_map_or}
 use Rattle.std.specs.Str.{bytes_eq, chars}
@@ -9,18 +9,13 @@ use Rattle.clap.specs.declared.parser.matches.ValueSource.TheVariants.{DefaultVa
 use Rattle.clap.specs.declared.builder.value_parser.Reading.{Reading}
 use Rattle.clap.specs.Facts.{explicit_source}
 use Rattle.clap.specs.Lexer.{long_of, short_of}
-use Rattle.std.specs.Borrow.{Bor}
-use Rattle.clap.specs.declared.parser.matches.Found.{Found}
-use Rattle.clap.specs.Words.{Row, Rule, Shape, Text, first_of, first_value, rows_of}
+use Rattle.clap.specs.Words.{Row, Rule, Shape, Text, first_of}
 use Rattle.clap.specs.Simple.{filled, filled_from, help_rule, new_shape, rows_at, with_index}
 use Rattle.clap.specs.Walk.{Held, Names, Outcome, Step, Waiting, Walk, done, waits, plain, refused, idle, option, positional, next, trailing, subcommand, value, after_flag, after_step, arg_by_id, arg_by_index, arg_by_long, arg_by_short, at_row, attached_value, bundle, bundle_met, bundle_step, default_rows, flag_met, has_row, is_pending, long_met, long_or_other, more_values, nothing_held, option_met, option_word, plain_word, reacted, reading_by, rows_after, settled, settled_rows, short_met, short_or_plain, subcommand_met, subcommand_or_other, takes_several, takes_values, to_positional, used, used_by_id, walk, walk_from, walked, with_default, with_values, without, word_met}
 use Rattle.clap.specs.Takes.{bundle_passes, bundle_step_passes, flag_word_passes, flags_pass, is_given, is_valid, default_passes, level_passes, long_passes, option_passes, other_passes, positional_passes, react_passes, settle_passes, short_passes, step_passes, turn_passes, use_passes, walk_passes, word_passes}
-use Rattle.clap.specs.Matches.{matched_of, raw_values}
-use Rattle.clap.proofs.WalkLemmas.{both, first_value-rows, raw_values-rows}
-use Rattle.crs_command_line.specs.declared.requests.Request.{Request}
-use Rattle.crs_command_line.specs.declared.requests.ExplainOptions.{ExplainOptions}
-use Rattle.crs_command_line.specs.declared.requests.Request.TheVariants.{Explain}
-use Rattle.crs_command_line.specs.CommandLine.{explain_of, explained_operands, files_flag, has_flag, level_of, level_option, operand, options_of, rules_of, rules_option, same_of, same_operands, under, words_of}
+use Rattle.clap.proofs.WalkLemmas.{both}
+use Rattle.crs_command_line.specs.CommandLine.{files_flag, level_option, operand, rules_option}
+use Rattle.crs_requests.specs.Requests.{has_flag, level_of, rules_of, same_of, same_operands, under}
 
 -- ---- rows with values
 
@@ -361,124 +356,3 @@ pub same_asks : (words : List Text) → level_passes built_same [] nothing_held 
     → IsSome (option_map (under (rules_of (rows_at built_same words).1)) (same_of (rows_at built_same words).1))
 same_asks words passes =
     mapped_there (under (rules_of (rows_at built_same words).1)) (same_of (rows_at built_same words).1) (texts_there words passes)
-
--- where a request is there with rules, it is there without
-pub asked_there : {A B : Type 0} (f : A → B) (found : Option A) → IsSome (option_map f found) → IsSome found
-asked_there f None some = cc
-asked_there f (Some x) some = refl
-
--- what is asked under the rules that were read
-pub asked_is_under : (alone : Option Request) (asked : Request) (rules named : List Text) (found : Request)
-    → alone ≡ Some asked → named ≡ rules → found ≡ under named asked → option_map (under rules) alone ≡ Some found
-asked_is_under alone asked rules named found is same made =
-    ap (option_map (under rules)) is ∙ ap (λ names. Some (under names asked)) (sym same) ∙ ap Some (sym made)
-
--- the getters' words are the operands
-same_read : (f : Found) (first second : Option (Bor Text)) → option_map (λ s. s.now) first ≡ first_value f (codes "first")
-    → option_map (λ s. s.now) second ≡ first_value f (codes "second")
-    → same_of (rows_of f) ≡ same_operands (has_flag (codes "files") (rows_of f)) (level_of (rows_of f))
-    (option_map (λ s. s.now) first) (option_map (λ s. s.now) second)
-same_read f first second one other =
-    ap₂ (same_operands (has_flag (codes "files") (rows_of f)) (level_of (rows_of f)))
-    (sym (one ∙ first_value-rows f (codes "first"))) (sym (other ∙ first_value-rows f (codes "second")))
-
-explained_read : (f : Found) (first second : Option (Bor Text)) → option_map (λ s. s.now) first ≡ first_value f (codes "first")
-    → option_map (λ s. s.now) second ≡ first_value f (codes "second")
-    → explain_of (rows_of f) ≡ explained_operands (has_flag (codes "files") (rows_of f)) (options_of (rows_of f))
-    (option_map (λ s. s.now) first) (option_map (λ s. s.now) second)
-explained_read f first second one other =
-    ap₂ (explained_operands (has_flag (codes "files") (rows_of f)) (options_of (rows_of f)))
-    (sym (one ∙ first_value-rows f (codes "first"))) (sym (other ∙ first_value-rows f (codes "second")))
-
-abbrev nows : Option (Bor Text) → Option Text
-nows found = option_map (λ s. s.now) found
-
--- what is compared, by the flag and the level that were read
-pub same_there : (f : Found) (first second : Option (Bor Text)) (a b : Bor Text) (are_files : Bool) (level : Text)
-    → nows first ≡ first_value f (codes "first") → nows second ≡ first_value f (codes "second")
-    → first ≡ Some a → second ≡ Some b → are_files ≡ has_flag (codes "files") (rows_of f) → level ≡ level_of (rows_of f)
-    → same_of (rows_of f) ≡ same_operands are_files level (Some a.now) (Some b.now)
-same_there f first second a b are_files level one other some more flag is =
-    same_read f first second one other
-    ∙ ap₂ (λ (o p : Option (Bor Text)). same_operands (has_flag (codes "files") (rows_of f)) (level_of (rows_of f)) (nows o) (nows p)) some more
-    ∙ ap₂ (λ t l. same_operands t l (Some a.now) (Some b.now)) (sym flag) (sym is)
-
--- what is explained, where no operand is there, one, or two
-pub explained_none : (f : Found) (first second : Option (Bor Text)) (options : ExplainOptions) → nows first ≡ first_value f (codes "first")
-    → nows second ≡ first_value f (codes "second") → first ≡ None → options ≡ options_of (rows_of f)
-    → Explain options ≡ explain_of (rows_of f)
-explained_none f first second options one other none is =
-    ap Explain is ∙ sym (explained_read f first second one other
-    ∙ ap (λ (o : Option (Bor Text)). explained_operands (has_flag (codes "files") (rows_of f)) (options_of (rows_of f)) (nows o) (nows second)) none)
-
-pub explained_one : (f : Found) (first second : Option (Bor Text)) (a : Bor Text) (are_files : Bool) (options : ExplainOptions)
-    → nows first ≡ first_value f (codes "first") → nows second ≡ first_value f (codes "second")
-    → first ≡ Some a → second ≡ None → are_files ≡ has_flag (codes "files") (rows_of f) → options ≡ options_of (rows_of f)
-    → explained_operands are_files options (Some a.now) None ≡ explain_of (rows_of f)
-explained_one f first second a are_files options one other some none flag is =
-    sym (explained_read f first second one other
-    ∙ ap₂ (λ (o p : Option (Bor Text)). explained_operands (has_flag (codes "files") (rows_of f)) (options_of (rows_of f)) (nows o) (nows p)) some none
-    ∙ ap₂ (λ t l. explained_operands t l (Some a.now) None) (sym flag) (sym is))
-
-pub explained_both : (f : Found) (first second : Option (Bor Text)) (a b : Bor Text) (are_files : Bool) (options : ExplainOptions)
-    → nows first ≡ first_value f (codes "first") → nows second ≡ first_value f (codes "second")
-    → first ≡ Some a → second ≡ Some b → are_files ≡ has_flag (codes "files") (rows_of f) → options ≡ options_of (rows_of f)
-    → explained_operands are_files options (Some a.now) (Some b.now) ≡ explain_of (rows_of f)
-explained_both f first second a b are_files options one other some more flag is =
-    sym (explained_read f first second one other
-    ∙ ap₂ (λ (o p : Option (Bor Text)). explained_operands (has_flag (codes "files") (rows_of f)) (options_of (rows_of f)) (nows o) (nows p)) some more
-    ∙ ap₂ (λ t l. explained_operands t l (Some a.now) (Some b.now)) (sym flag) (sym is))
-
-there_both : (are_files : Bool) (level : Text) (first second : Option Text) → IsSome (same_operands are_files level first second)
-    → IsSome first × IsSome second
-there_both are_files level None second some = cc
-there_both are_files level (Some first) None some = cc
-there_both are_files level (Some first) (Some second) some = (refl, refl)
-
-some_there : (found : Option (Bor Text)) → IsSome (option_map (λ s. s.now) found) → found ≢ None
-some_there None some = cc
-some_there (Some text) some = λ none. cc
-
--- where the matches are a request, neither getter answers that nothing is there
-pub neither_missing : (f : Found) (first second : Option (Bor Text)) → option_map (λ s. s.now) first ≡ first_value f (codes "first")
-    → option_map (λ s. s.now) second ≡ first_value f (codes "second") → IsSome (same_of (rows_of f)) → (first ≢ None) × (second ≢ None)
-neither_missing f first second one other some =
-    let both_are = there_both _ _ _ _ (subst IsSome (same_read f first second one other) some) in
-    (some_there first both_are.0, some_there second both_are.1)
-
--- ---- the level
-
-now_or : (found : Option (Bor Text)) (usual : Bor Text) → (unwrap_or found usual).now ≡ unwrap_or (option_map (λ s. s.now) found) usual.now
-now_or None usual = refl
-now_or (Some text) usual = refl
-
--- the getter's text, or `full`, is the level
-pub level_read : (f : Found) (found : Option (Bor Text)) (usual text : Bor Text) → text ≡ unwrap_or found usual
-    → option_map (λ s. s.now) found ≡ first_value f (codes "level") → usual.now ≡ codes "full" → text.now ≡ level_of (rows_of f)
-level_read f found usual text is one full =
-    ap (λ (t : Bor Text). t.now) is ∙ now_or found usual ∙ ap₂ unwrap_or (one ∙ first_value-rows f (codes "level")) full
-
--- the getter's text, or `false`, says whether a flag is there
-pub flag_read : (f : Found) (name : Text) (found : Option (Bor Text)) (usual text : Bor Text) → text ≡ unwrap_or found usual
-    → nows found ≡ first_value f name → usual.now ≡ codes "false"
-    → bytes_eq text.now (codes "true") ≡ has_flag name (rows_of f)
-flag_read f name found usual text is one unset =
-    ap (λ (t : Text). bytes_eq t (codes "true"))
-    (ap (λ (t : Bor Text). t.now) is ∙ now_or found usual ∙ ap₂ unwrap_or (one ∙ first_value-rows f name) unset)
-
--- ---- files, and rules files
-
--- the getter's texts are the words
-pub some_words : (f : Found) (name : Text) (found : Option (Bor (List (Bor Text)))) (words : Bor (List (Bor Text)))
-    → option_map (λ s. map (λ v. v.now) s.now) found ≡ option_map raw_values (matched_of f name)
-    → found ≡ Some words → map (λ (v : Bor Text). v.now) words.now ≡ words_of name (rows_of f)
-some_words f name found words is some =
-    ap (λ o. unwrap_or o [])
-    (sym (ap (option_map (λ (s : Bor (List (Bor Text))). map (λ v. v.now) s.now)) some) ∙ is ∙ raw_values-rows f name)
-
-pub no_words : (f : Found) (name : Text) (found : Option (Bor (List (Bor Text))))
-    → option_map (λ s. map (λ v. v.now) s.now) found ≡ option_map raw_values (matched_of f name)
-    → found ≡ None → [] ≡ words_of name (rows_of f)
-no_words f name found is none =
-    ap (λ o. unwrap_or o [])
-    (sym (ap (option_map (λ (s : Bor (List (Bor Text))). map (λ v. v.now) s.now)) none) ∙ is ∙ raw_values-rows f name)

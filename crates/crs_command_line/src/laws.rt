@@ -2,11 +2,12 @@
 ghost use Rattle.std.specs.Prelude.{◌≡◌, ◌≢◌, ◌<◌, ℕ, [], ◌∷◌, ◌++◌, List, Some, IsSome, true, false, codes};
 ghost use Rattle.std.specs.List.{list_all};
 ghost use Rattle.clap.specs.Words.{Text, takes};
-ghost use Rattle.crs_command_line.specs.CommandLine.{asked, desk, is_plain_word, plainly, standard};
-ghost use Rattle.crs_command_line.specs.declared.requests.Request.TheVariants.{Canon, Check, Same, Group, CanonLines, CheckLines};
-ghost use Rattle.crs_command_line.specs.declared.requests.Request.TheVariants.{Explain, ExplainText, ExplainPair, GroupListed};
-ghost use Rattle.crs_command_line.specs.declared.requests.Request.TheVariants.{Files, FilesUnder, TextsUnder};
-ghost use Rattle.crs_command_line.specs.declared.requests.Task.TheVariants as task;
+ghost use Rattle.crs_requests.specs.Requests.{plainly, standard};
+ghost use Rattle.crs_command_line.specs.CommandLine.{asked, desk, is_plain_word};
+ghost use Rattle.crs_requests.specs.declared.requests.Request.TheVariants.{Canon, Check, Same, Group, CanonLines, CheckLines};
+ghost use Rattle.crs_requests.specs.declared.requests.Request.TheVariants.{Explain, ExplainText, ExplainPair, GroupListed};
+ghost use Rattle.crs_requests.specs.declared.requests.Request.TheVariants.{Files, FilesUnder, TextsUnder};
+ghost use Rattle.crs_requests.specs.declared.requests.Task.TheVariants as task;
 
 /// A line that the command takes asks for something: no text of `same` is missing there.
 #[tactic(auto, using(crate::proofs::CommandLemmas::taken_asks))]

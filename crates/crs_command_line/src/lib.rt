@@ -1,11 +1,10 @@
 //! The command line: which command is asked for, with its texts or files, read by `clap`.
 #![tactic(auto)]
 
+pub use crs_requests::{
+    ExplainOptions, GroupFlags, LineWord, LineWords, Request, RequestFault, Task,
+};
 pub use line::{VERSION, request};
-pub use requests::{ExplainOptions, GroupFlags, Request, RequestFault, Task};
-pub use word::{LineWord, LineWords};
 
 pub mod laws;
 mod line;
-mod requests;
-mod word;

@@ -1,18 +1,19 @@
-ghost use Rattle.std.specs.Prelude.{◌≡◌, ◌∷◌, [], map, IfOk, IfErr, IsSome, Some, false, option_and_then};
-ghost use Rattle.clap.specs.Words.{app_of, fault_of, found_of, rows_of, rule_of, shape_of};
+ghost use Rattle.std.specs.Prelude.{◌≡◌, [], map, IfOk, IfErr, IsSome, Some, false, option_and_then};
+ghost use Rattle.clap.specs.Words.{app_of, fault_of, rule_of, shape_of};
 ghost use Rattle.clap.specs.Words.{subcommand_rows_of, with_subcommand};
 ghost use Rattle.clap.specs.Simple.{new_shape};
 ghost use Rattle.clap.specs.declared.builder.command.Command.TheViews.{out-Command as fields_of};
 ghost use Rattle.crs_command_line.specs.CommandLine.{HandsOn, IsRefusal, asked, desk, input_desk, lone_desk, operand};
-ghost use Rattle.crs_command_line.specs.CommandLine.{canon_of, canon_shape, check_of, check_shape, explain_of, explain_shape};
-ghost use Rattle.crs_command_line.specs.CommandLine.{file_operands, flag, group_flags, group_of, group_shape, has_flag};
-ghost use Rattle.crs_command_line.specs.CommandLine.{command_of, explained_operands, level_of, level_option, options_of, request_of};
-ghost use Rattle.crs_command_line.specs.CommandLine.{rules_option, same_of, same_operands, same_shape};
-ghost use Rattle.crs_command_line.specs.CommandLine.{spare_operand, under, with_listing, with_options, words_of};
+ghost use Rattle.crs_command_line.specs.CommandLine.{canon_shape, check_shape, explain_shape};
+ghost use Rattle.crs_command_line.specs.CommandLine.{file_operands, flag, group_shape};
+ghost use Rattle.crs_command_line.specs.CommandLine.{level_option};
+ghost use Rattle.crs_requests.specs.Requests.{request_of};
+ghost use Rattle.crs_command_line.specs.CommandLine.{rules_option, same_shape};
+ghost use Rattle.crs_command_line.specs.CommandLine.{spare_operand, with_listing, with_options};
 
-use crate::{ExplainOptions, GroupFlags, LineWord, LineWords, Request, RequestFault, Task};
 use clap::error::ErrorKind;
 use clap::{Arg, ArgAction, ArgMatches, Command};
+use crs_requests::{Request, RequestFault, request_of_matches};
 use std::alloc::{AllocError, Global};
 
 /// The version that `--version` prints.
@@ -60,9 +61,6 @@ const LEVEL_HELP: &str =
 // What help says of the option `--rules`.
 const RULES_HELP: &str = "Compares under the rules of a file; given more than once, of all of them";
 
-// The level where the line names none.
-const USUAL_LEVEL: &str = "full";
-
 // What the help of a command says last: its statuses.
 const CANON_STATUS: &str = "Status: 0 and the canonical text, 1 and the refusal, 2 for a fault.";
 
@@ -83,7 +81,7 @@ pub fn request<'a>(alloc: Global, words: &'a [&'a str]) -> Result<Request, Reque
     ensures refused { IfErr result (IsRefusal (map (λ word. word.now) words.entry.now)) }
 {
     let matches = matches_of(alloc, words)?;
-    named(alloc, &matches).map_err(RequestFault::Memory)
+    request_of_matches(alloc, &matches).map_err(RequestFault::Memory)
 }
 
 fn matches_of<'a>(alloc: Global, words: &'a [&'a str]) -> Result<ArgMatches<'a>, RequestFault>
@@ -287,208 +285,4 @@ fn refusal(error: clap::Error) -> RequestFault
         return RequestFault::Memory(AllocError);
     }
     RequestFault::Line(error)
-}
-
-fn named(alloc: Global, matches: &ArgMatches) -> Result<Request, AllocError>
-    requires { IsSome (option_and_then request_of (subcommand_rows_of matches.now)) }
-    ensures { IfOk result (λ found. option_and_then request_of (subcommand_rows_of matches.now) ≡ Some found) }
-{
-    match matches.subcommand() {
-        Some((name, options)) => request_named(alloc, name, options),
-        None => unreachable!(),
-    }
-}
-
-// The request of a command, by its name and its matches.
-fn request_named(alloc: Global, name: &str, options: &ArgMatches) -> Result<Request, AllocError>
-    requires { IsSome (request_of (name.now, rows_of (found_of options.now))) }
-    ensures { IfOk result (λ found. request_of (name.now, rows_of (found_of options.now)) ≡ Some found) }
-{
-    let asked = command_request(alloc, name, options)?;
-    let rules = words_named(alloc, options, "rules")?;
-    under(alloc, rules, asked)
-}
-
-// What a command asks for, but for rules.
-fn command_request(alloc: Global, name: &str, options: &ArgMatches) -> Result<Request, AllocError>
-    requires { IsSome (command_of (name.now, rows_of (found_of options.now))) }
-    ensures { IfOk result (λ found. command_of (name.now, rows_of (found_of options.now)) ≡ Some found) }
-{
-    match name {
-        "canon" => canon_request(alloc, options),
-        "check" => check_request(alloc, options),
-        "same" => same_request(alloc, options),
-        "group" => group_request(alloc, options),
-        "explain" => explain_request(alloc, options),
-        _ => unreachable!(),
-    }
-}
-
-// What is asked, under the rules of these files where there are some.
-fn under(alloc: Global, rules: LineWords, asked: Request) -> Result<Request, AllocError>
-    ensures { IfOk result (λ found. found ≡ under rules asked) }
-{
-    if rules.is_empty() {
-        return Ok(asked);
-    }
-    asked.ruled(alloc, rules)
-}
-
-fn canon_request(alloc: Global, options: &ArgMatches) -> Result<Request, AllocError>
-    ensures { IfOk result (λ found. found ≡ canon_of (rows_of (found_of options.now))) }
-{
-    let level = level_word(alloc, options)?;
-    let files = words_named(alloc, options, "file")?;
-    match (flag_asked(options, "lines"), files.is_empty()) {
-        (false, true) => Ok(Request::Canon(level)),
-        (true, true) => Ok(Request::CanonLines(level)),
-        (false, false) => Ok(Request::Files(Task::Canon(level), files)),
-        (true, false) => Ok(Request::Files(Task::CanonLines(level), files)),
-    }
-}
-
-fn check_request(alloc: Global, options: &ArgMatches) -> Result<Request, AllocError>
-    ensures { IfOk result (λ found. found ≡ check_of (rows_of (found_of options.now))) }
-{
-    let files = words_named(alloc, options, "file")?;
-    match (flag_asked(options, "lines"), files.is_empty()) {
-        (false, true) => Ok(Request::Check),
-        (true, true) => Ok(Request::CheckLines),
-        (false, false) => Ok(Request::Files(Task::Check, files)),
-        (true, false) => Ok(Request::Files(Task::CheckLines, files)),
-    }
-}
-
-fn group_request(alloc: Global, options: &ArgMatches) -> Result<Request, AllocError>
-    ensures { IfOk result (λ found. found ≡ group_of (rows_of (found_of options.now))) }
-{
-    let level = level_word(alloc, options)?;
-    let files = words_named(alloc, options, "file")?;
-    let flags = group_flags(options);
-    match (flags.repeated || flags.names, files.is_empty()) {
-        (false, true) => Ok(Request::Group(level)),
-        (true, true) => Ok(Request::GroupListed(level, flags)),
-        (false, false) => Ok(Request::Files(Task::Group(level), files)),
-        (true, false) => Ok(Request::Files(Task::GroupListed(level, flags), files)),
-    }
-}
-
-fn group_flags(options: &ArgMatches) -> GroupFlags
-    ensures { result ≡ group_flags (rows_of (found_of options.now)) }
-{
-    GroupFlags {
-        repeated: flag_asked(options, "repeated"),
-        names: flag_asked(options, "names"),
-    }
-}
-
-fn same_request(alloc: Global, operands: &ArgMatches) -> Result<Request, AllocError>
-    requires { IsSome (same_of (rows_of (found_of operands.now))) }
-    ensures { IfOk result (λ found. same_of (rows_of (found_of operands.now)) ≡ Some found) }
-{
-    match (operands.get_str("first"), operands.get_str("second")) {
-        (Some(first), Some(second)) => {
-            let level = level_word(alloc, operands)?;
-            same_pair(alloc, flag_asked(operands, "files"), level, first, second)
-        }
-        _ => unreachable!(),
-    }
-}
-
-// Two texts are compared, or two files.
-fn same_pair(
-    alloc: Global,
-    are_files: bool,
-    level: LineWord,
-    first: &str,
-    second: &str,
-) -> Result<Request, AllocError>
-    ensures { IfOk result (λ found. Some found ≡ same_operands are_files level (Some first.now) (Some second.now)) }
-{
-    if are_files {
-        let files = LineWords::of(alloc, &[first, second])?;
-        return Ok(Request::Files(Task::Same(level), files));
-    }
-    let first = LineWord::new(alloc, first)?;
-    let second = LineWord::new(alloc, second)?;
-    Ok(Request::Same(first, second, level))
-}
-
-fn explain_request(alloc: Global, operands: &ArgMatches) -> Result<Request, AllocError>
-    ensures { IfOk result (λ found. found ≡ explain_of (rows_of (found_of operands.now))) }
-{
-    let options = explain_options(alloc, operands)?;
-    let are_files = flag_asked(operands, "files");
-    match (operands.get_str("first"), operands.get_str("second")) {
-        (None, _) => Ok(Request::Explain(options)),
-        (Some(first), None) => explain_one(alloc, are_files, options, first),
-        (Some(first), Some(second)) => explain_two(alloc, are_files, options, first, second),
-    }
-}
-
-fn explain_options(alloc: Global, operands: &ArgMatches) -> Result<ExplainOptions, AllocError>
-    ensures { IfOk result (λ options. options ≡ options_of (rows_of (found_of operands.now))) }
-{
-    let level = level_word(alloc, operands)?;
-    Ok(ExplainOptions {
-        level,
-        json: flag_asked(operands, "json"),
-    })
-}
-
-// A text is explained, or a file.
-fn explain_one(
-    alloc: Global,
-    are_files: bool,
-    options: ExplainOptions,
-    first: &str,
-) -> Result<Request, AllocError>
-    ensures { IfOk result (λ found. found ≡ explained_operands are_files options (Some first.now) None) }
-{
-    if are_files {
-        let files = LineWords::of(alloc, &[first])?;
-        return Ok(Request::Files(Task::Explain(options), files));
-    }
-    Ok(Request::ExplainText(LineWord::new(alloc, first)?, options))
-}
-
-// Two texts are explained, or two files.
-fn explain_two(
-    alloc: Global,
-    are_files: bool,
-    options: ExplainOptions,
-    first: &str,
-    second: &str,
-) -> Result<Request, AllocError>
-    ensures { IfOk result (λ found. found ≡ explained_operands are_files options (Some first.now) (Some second.now)) }
-{
-    if are_files {
-        let files = LineWords::of(alloc, &[first, second])?;
-        return Ok(Request::Files(Task::ExplainPair(options), files));
-    }
-    let first = LineWord::new(alloc, first)?;
-    let second = LineWord::new(alloc, second)?;
-    Ok(Request::ExplainPair(first, second, options))
-}
-
-fn level_word(alloc: Global, matches: &ArgMatches) -> Result<LineWord, AllocError>
-    ensures { IfOk result (λ level. level ≡ level_of (rows_of (found_of matches.now))) }
-{
-    LineWord::new(alloc, matches.get_str("level").unwrap_or(USUAL_LEVEL))
-}
-
-// All words of an operand or an option.
-fn words_named(alloc: Global, matches: &ArgMatches, name: &str) -> Result<LineWords, AllocError>
-    ensures { IfOk result (λ words. words ≡ words_of name.now (rows_of (found_of matches.now))) }
-{
-    match matches.get_strs(name) {
-        Some(words) => LineWords::of(alloc, words),
-        None => Ok(LineWords::new(alloc)),
-    }
-}
-
-fn flag_asked(matches: &ArgMatches, name: &str) -> bool
-    ensures { result ≡ has_flag name.now (rows_of (found_of matches.now)) }
-{
-    matches.get_str(name).unwrap_or("false") == "true"
 }
