@@ -14,11 +14,11 @@ use Rattle.crs_desk.specs.FileAnswers.{Ends, IsAnswerSent, IsFileFault, IsFileSe
 use Rattle.crs_desk.specs.FilesRun.{AreFileOutputs, AreFilesAnswered, IsFileFront, IsFileOutput, IsTaskFront, name_prefix}
 use Rattle.crs_desk.specs.declared.file_task.FileTask.{FileTask}
 use Rattle.crs_desk.specs.declared.file_task.FileTask.TheVariants as task
-use Rattle.crs_desk.specs.Output.{IsCanonOutput, IsCheckOutput}
+use Rattle.crs_runs.specs.Output.{IsCanonOutput, IsCheckOutput}
 use Rattle.crs_desk.specs.RulesOutput.{IsFormOutput}
 use Rattle.crs_desk.specs.LineCutting.{IsHealthy}
 use Rattle.crs_desk.specs.LinesRun.{HasSentAll, IsFrontOutput, IsLineOutput, IsLinesAnswered, IsLinesFault, IsLinesOutput, Outputs}
-use Rattle.crs_desk.specs.Whole.{IsReadFault}
+use Rattle.crs_runs.specs.Whole.{IsReadFault}
 use Rattle.crs_desk.proofs.PrefixedLemmas.{PrefixedOutputs, lines-plain}
 
 pub appends-none : (contents : Option (List ℕ)) → Appends contents contents []

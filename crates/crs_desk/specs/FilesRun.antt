@@ -13,7 +13,7 @@ use Rattle.crs_desk.specs.declared.file_task.FileTask.{FileTask}
 use Rattle.crs_desk.specs.declared.file_task.FileTask.TheVariants as task
 use Rattle.crs_desk.specs.ExplainOutput.{IsExplainOutput}
 use Rattle.crs_desk.specs.LinesRun.{IsFrontOutput, IsLineOutput, IsLinesOutput, Outputs}
-use Rattle.crs_desk.specs.Output.{IsCanonOutput, IsCheckOutput}
+use Rattle.crs_runs.specs.Output.{IsCanonOutput, IsCheckOutput}
 use Rattle.crs_desk.specs.Prefixed.{IsPrefixed, prefixed}
 use Rattle.crs_desk.specs.RulesOutput.{IsFormOutput}
 

@@ -1,12 +1,7 @@
-pub mod Ending
 pub mod ExplainOutput
 pub mod FileAnswers
 pub mod FilesRun
 pub mod LineCutting
 pub mod LinesRun
-pub mod Output
-pub mod Pieces
 pub mod Prefixed
 pub mod RulesOutput
-pub mod SameOutput
-pub mod Whole

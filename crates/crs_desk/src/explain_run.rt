@@ -1,19 +1,17 @@
 //! What a text spells or why it is refused, and all parts in which two texts differ, explained to a person or a program.
 ghost use Rattle.std.specs.Prelude.{◌≡◌, ◌<◌, ◌↔◌, ◌≤◌, ◌++◌, ◌∷◌, [], IfOk, IfErr, IsErrOf, length, true, false};
 ghost use Rattle.crs_value.specs.SpellsText.{Refuses};
-ghost use Rattle.crs_desk.specs.Ending.{IsAnswered, IsRunFault, IsWritten, IsWriteFault};
+ghost use Rattle.crs_runs.specs.Ending.{IsAnswered, IsRunFault, IsWritten, IsWriteFault};
 ghost use Rattle.crs_desk.specs.ExplainOutput.{AreDifferencesTold, IsExplainOutput, IsExplainPairOutput};
 ghost use Rattle.crs_desk.specs.ExplainOutput.{IsRefusalTold, TellsRefusalOf, TellsWhetherSame, kind_told, same_told};
 ghost use Rattle.crs_desk.specs.declared.manner.Manner.TheVariants as manner;
 ghost use Rattle.crs_streams.specs.Streams.{fresh_sink, fresh_source};
 
-use crate::answer::{Answer, write_answer};
-use crate::check_run::{accepted_line, kind_word};
-use crate::kind_of_text::refusal_in;
-use crate::pair::{Telling, pair_output};
-use crate::text::read_text;
 use crate::{Level, Manner, RunFault, Sink, Source};
 use crs_explain::{difference_objects, differences_text, refusal_object, refusal_text};
+use crs_runs::{
+    Answer, Telling, accepted_line, kind_word, pair_output, read_text, refusal_in, write_answer,
+};
 use crs_same::same;
 use crs_text::Refusal;
 use crs_value::{Crs, Kind, laws, read};

@@ -14,9 +14,9 @@ use crate::line_output::{
 };
 use crate::lines_run::run_lines;
 use crate::prefixed::prefixed;
-use crate::text::read_text;
 use crate::{Filling, RunFault, Sink, Source, Stream};
 use crs_group::Summary;
+use crs_runs::read_text;
 use std::alloc::Global;
 use std::io::{Read, Write};
 

@@ -4,10 +4,9 @@ ghost use Rattle.crs_rules.specs.Under.{IsForm};
 ghost use Rattle.crs_desk.specs.RulesOutput.{IsRefusedUnder};
 
 use crate::Level;
-use crate::kind_of_text::refusal_in;
-use crate::pair::Telling;
 use crs_canon::Canon;
 use crs_rules::{Rules, canon_under};
+use crs_runs::{Telling, refusal_in};
 use std::alloc::{AllocError, Global};
 
 // The forms; or the bytes and the status of a refusal.

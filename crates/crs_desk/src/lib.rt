@@ -1,8 +1,6 @@
 //! The program's commands, over any reader and any writer.
 #![tactic(auto)]
 
-pub use canon_run::run_canon;
-pub use check_run::run_check;
 pub use crs_command_line::{
     ExplainOptions, GroupFlags, LineWord, LineWords, Request, RequestFault, Task, request,
 };
@@ -10,6 +8,7 @@ pub use crs_explain::append_escaped;
 pub use crs_group::{Listing, PLAIN, Summary, run_group, run_group_listing, run_group_under};
 pub use crs_rules::Rules;
 pub use crs_rules_file::{RulesFault, RulesReader, RulesRefusal};
+pub use crs_runs::{read_text, run_canon, run_check, run_same};
 pub use crs_streams::{Filling, RunFault, Sink, Source, Stream};
 pub use crs_text::Refusal;
 pub use crs_value::Level;
@@ -18,20 +17,14 @@ pub use file_task::FileTask;
 pub use files_run::{Inputs, run_files};
 pub use lines_run::{run_canon_lines, run_check_lines};
 pub use manner::Manner;
-pub use same_run::run_same;
-pub use text::read_text;
 pub use under_run::{run_explain_pair_under, run_same_under};
 
-mod answer;
-mod canon_run;
-mod check_run;
 mod explain_run;
 mod file_answer;
 mod file_task;
 mod files_run;
 mod forms;
 mod grouping;
-mod kind_of_text;
 pub mod laws;
 mod line_cutter;
 mod line_output;
@@ -39,10 +32,5 @@ mod line_writer;
 mod lines_run;
 mod manner;
 mod marking;
-mod pair;
-mod pieces;
 mod prefixed;
-mod print;
-mod same_run;
-mod text;
 mod under_run;

@@ -1,16 +1,12 @@
 //! What commands write for a text, and for the text of a line.
 ghost use Rattle.std.specs.Prelude.{◌≡◌, ◌∷◌, [], ℕ, List, IfOk};
 
-use crate::answer::Answer;
-use crate::canon_run::CanonAnswer;
-use crate::check_run::CheckAnswer;
 use crate::explain_run::text_output;
-use crate::kind_of_text::{found_in, refusal_in};
 use crate::prefixed::prefixed;
-use crate::print::{line_of, refused_line};
 use crate::{Level, Manner};
 use crs_group::is_blank;
 use crs_rules::{Rules, canon_under};
+use crs_runs::{canon_output, check_output, line_of, refusal_in, refused_line};
 use std::alloc::{AllocError, Global};
 
 // A command that answers a text by some bytes and a status.
@@ -28,16 +24,12 @@ pub(crate) struct CanonText {
 }
 
 impl TextCommand for CanonText {
-    ghost use Rattle.crs_desk.specs.Output.{IsCanonOutput};
+    ghost use Rattle.crs_runs.specs.Output.{IsCanonOutput};
 
     ghost Output = { λ s text written status. IsCanonOutput s.level text written status };
 
     fn output(&self, alloc: Global, text: &[u8]) -> Result<(Vec<u8>, u8), AllocError> {
-        CanonAnswer {
-            level: self.level,
-            text,
-        }
-        .output(alloc)
+        canon_output(alloc, self.level, text)
     }
 }
 
@@ -72,13 +64,12 @@ impl TextCommand for FormText<'_> {
 pub(crate) struct CheckText;
 
 impl TextCommand for CheckText {
-    ghost use Rattle.crs_desk.specs.Output.{IsCheckOutput};
+    ghost use Rattle.crs_runs.specs.Output.{IsCheckOutput};
 
     ghost Output = { λ s text written status. IsCheckOutput text written status };
 
     fn output(&self, alloc: Global, text: &[u8]) -> Result<(Vec<u8>, u8), AllocError> {
-        let found = found_in(alloc, text)?;
-        CheckAnswer { found }.output(alloc)
+        check_output(alloc, text)
     }
 }
 

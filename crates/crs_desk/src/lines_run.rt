@@ -3,7 +3,7 @@ ghost use Rattle.std.specs.Prelude.{◌≡◌, ◌≤◌, ◌^◌, ◌↔◌, []
 ghost use Rattle.crs_streams.specs.Streams.{fresh_sink, fresh_source};
 ghost use Rattle.crs_desk.specs.LineCutting.{IsHealthy, IsReadThrough};
 ghost use Rattle.crs_desk.specs.LinesRun.{IsLineOutput, IsLinesAnswered, IsLinesFault};
-ghost use Rattle.crs_desk.specs.Output.{IsCanonOutput, IsCheckOutput};
+ghost use Rattle.crs_runs.specs.Output.{IsCanonOutput, IsCheckOutput};
 
 use crate::line_cutter::LineCutter;
 use crate::line_output::{CanonText, CheckText, OfLine, TextCommand};

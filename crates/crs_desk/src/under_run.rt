@@ -1,16 +1,14 @@
 //! Two texts under rules: they are compared, and their difference is explained, by their forms.
 ghost use Rattle.std.specs.Prelude.{◌≡◌, ◌↔◌, IfOk, IfErr, IsErrOf, false, true};
-ghost use Rattle.crs_desk.specs.Ending.{IsWritten, IsWriteFault};
+ghost use Rattle.crs_runs.specs.Ending.{IsWritten, IsWriteFault};
 ghost use Rattle.crs_desk.specs.RulesOutput.{IsExplainUnderOutput, IsExplainedUnder, IsSameUnderOutput};
 ghost use Rattle.crs_streams.specs.Streams.{fresh_sink};
 
-use crate::answer::{Answer, write_answer};
 use crate::forms::forms_of;
 use crate::marking::append_marked;
-use crate::pair::pair_output;
-use crate::same_run::InALine;
 use crate::{Level, Manner, RunFault, Sink};
 use crs_rules::Rules;
+use crs_runs::{Answer, InALine, pair_output, write_answer};
 use std::alloc::{AllocError, Global};
 use std::io::Write;
 

@@ -1,6 +1,5 @@
 use Rattle.std.proofs.Common.{inl, inr, refl}
 use Rattle.crs_desk.specs.ExplainOutput.{IsExplainOutput}
-use Rattle.crs_desk.proofs.JudgedLemmas.{refused-text}
 use Rattle.crs_desk.proofs.explain_run.text_output.Goals as goal
 
 pub returns-in_ok-line-in-Ok : goal.returns-in_ok-line-in-Ok
@@ -20,4 +19,4 @@ returns-in_ok-told-in-Err c = inr c.in_ok-told-in-Err.ensures
 pub explained-requires : goal.explained-requires
 explained-requires c =
     let fault = rw c.in-Err.is at c.read.ensures in
-    refused-text c.args.text.now c.in-Err.fault c.in_ok-refusal_in-in-Err.field-0 fault c.in_ok-refusal_in-in-Err.ensures
+    c.in_ok-refusal_in-in-Err.ensures.refuses c.args.text.now fault

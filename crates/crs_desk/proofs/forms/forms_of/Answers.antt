@@ -1,7 +1,6 @@
 use Rattle.std.proofs.Common.{codes, inl}
 use Rattle.std.proofs.lemmas.Result.{IfOk-weaker}
 use Rattle.crs_desk.proofs.FormsLemmas.{second-formed}
-use Rattle.crs_desk.proofs.JudgedLemmas.{refused-text}
 use Rattle.crs_desk.proofs.forms.forms_of.Goals as goal
 
 pub returns-in-Ok : goal.returns-in-Ok
@@ -15,8 +14,7 @@ returns-in-Ok g c =
 
 pub refusal-requires : goal.refusal-requires
 refusal-requires g c =
-    refused-text c.args.first.now c.in-Err.fault c.in_ok-refusal_in-in-Err.field-0 c.in-Err.ensures.answer
-    c.in_ok-refusal_in-in-Err.ensures
+    c.in_ok-refusal_in-in-Err.ensures.refuses c.args.first.now c.in-Err.ensures.answer
 
 pub returns-in_ok-line-in-Err : goal.returns-in_ok-line-in-Err
 returns-in_ok-line-in-Err g c = inl c.in_ok-line-in-Err.ensures

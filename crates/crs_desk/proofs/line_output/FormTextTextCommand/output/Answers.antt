@@ -1,6 +1,5 @@
 use Rattle.std.proofs.Common.{◌∙◌, ◌++◌, ◌∷◌, [], ap, inl, inr, refl}
 use Rattle.crs_desk.specs.RulesOutput.{IsFormOutput}
-use Rattle.crs_desk.proofs.JudgedLemmas.{refused-text}
 use Rattle.crs_desk.proofs.line_output.FormTextTextCommand.output.Goals as goal
 
 pub returns-in_ok-line-in-Ok : goal.returns-in_ok-line-in-Ok
@@ -18,6 +17,5 @@ returns-in_ok-line-in-Ok c =
 pub returns-in_ok-line-in-Err : goal.returns-in_ok-line-in-Err
 unfolding IsFormOutput
 returns-in_ok-line-in-Err c =
-    let refused = refused-text c.args.text.now c.in-Err.fault c.in_ok-refusal_in-in-Err.field-0 c.in-Err.ensures.answer
-    c.in_ok-refusal_in-in-Err.ensures in
+    let refused = c.in_ok-refusal_in-in-Err.ensures.refuses c.args.text.now c.in-Err.ensures.answer in
     inr (c.in_ok-refusal_in-in-Err.field-0, refused, record { line = c.in_ok-line-in-Err.ensures; is_status = refl })

@@ -1,0 +1,5 @@
+mod CheckLemmas
+mod JudgedLemmas
+mod KnownText
+mod PieceLemmas
+pub mod SameOutputLemmas

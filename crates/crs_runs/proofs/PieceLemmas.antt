@@ -1,0 +1,89 @@
+-- What a feeder holds of a text: from piece to piece, and what it answers at the end.
+use Rattle.std.proofs.Common.{◌≡◌, ◌++◌, ◌≤◌, ℕ, Bool, true, false, List, Some, inl, inr, subst, sym, arith, take, length, length-append, length-take, Result, Ok, Err}
+use Rattle.std.specs.Prelude.{MatchResult}
+use Rattle.std.specs.Io.{ReadsAtMost}
+use Rattle.std.specs.Io.KnownBytes.{ReadConsumes}
+use Rattle.std.proofs.KnownBytes.{Consumes-trans}
+use Rattle.crs_text.specs.Fault.{refusal_of}
+use Rattle.crs_text.specs.Items.{Item}
+use Rattle.crs_text.specs.Refusal.{RefusedAt}
+use Rattle.crs_text.specs.Settled.{IsSettledRefusal}
+use Rattle.crs_text.specs.TextFault.{SpellsNode, RefusesText, IsTextFault}
+use Rattle.crs_text.specs.declared.fault.Fault.{Fault}
+use Rattle.crs_text.specs.declared.fault.Fault.TheVariants as faults
+use Rattle.crs_value.specs.declared.values.crs.Crs.{Crs}
+use Rattle.crs_value.specs.declared.values.crs.Kind.{Kind}
+use Rattle.crs_value.specs.ReadsCrs.{kind_of}
+use Rattle.crs_value.specs.Spells.{SpellsCrs, RefusesCrs}
+use Rattle.crs_value.specs.SpellsText.{SpellsKind, Refuses}
+use Rattle.crs_streams.specs.Given.{HasGiven}
+use Rattle.crs_streams.specs.Streams.{CountsRead, SourceState}
+use Rattle.crs_runs.specs.Pieces.{IsHeld, IsWholeHeld}
+
+-- what a source has given, with one more read
+pub given-read : {E : Type 0} (old now new : SourceState) (text room : List ℕ) (answer : Result ℕ E) (count : ℕ)
+    → HasGiven old now text → ReadConsumes now.remaining new.remaining answer room → CountsRead now new answer
+    → ReadsAtMost answer room → answer ≡ Ok count → HasGiven old new (text ++ take count room)
+given-read old now new text room answer count given consumed counted bound got =
+    let gone = subst (λ r. ReadConsumes now.remaining new.remaining r room) got consumed in
+    let more = (subst (CountsRead now new) got counted).bytes in
+    let fits = subst (λ r. ReadsAtMost r room) got bound in
+    let within : count ≤ length room = fits.0 in record {
+      is_counted = omega (arith, length-append text (take count room), length-take count room, given.is_counted, more.0);
+      is_first = Consumes-trans old.remaining now.remaining new.remaining text (take count room) given.is_first gone.0;
+    }
+
+-- at the end what is held is the text, or its front
+pub whole-held : (refused : Bool) (text held : List ℕ) → IsHeld refused text held → IsWholeHeld text held
+whole-held false text held whole = inl whole
+whole-held true text held front = inr front
+
+-- ---- what is held answers for the text
+
+abbrev pub SettledRefuses : Type 0
+SettledRefuses = (bytes : List ℕ) (n place : ℕ) → IsSettledRefusal bytes n place → RefusesText bytes n place
+
+abbrev pub SettledStays : Type 0
+SettledStays = (bytes more : List ℕ) (n place : ℕ) → IsSettledRefusal bytes n place →
+    IsSettledRefusal (bytes ++ more) n place × RefusesText (bytes ++ more) n place
+
+abbrev pub RefusedOnce : Type 0
+RefusedOnce = (bytes : List ℕ) (n m place other : ℕ) → RefusesText bytes n place → RefusesText bytes m other →
+    (n ≡ m) × (place ≡ other)
+
+abbrev pub NodeOrRefused : Type 0
+NodeOrRefused = (bytes : List ℕ) (item : Item) (n place : ℕ) → SpellsNode bytes item → ¬ (RefusesText bytes n place)
+
+pub held-spells : SettledRefuses → NodeOrRefused → (text held : List ℕ) (item : Item) → IsWholeHeld text held
+    → SpellsNode held item → SpellsNode text item
+held-spells refuses apart text held item (inl whole) spells = subst (λ bytes. SpellsNode bytes item) whole spells
+held-spells refuses apart text held item (inr front) spells =
+    absurd (apart held item front.number front.place spells (refuses held front.number front.place front.is_settled))
+
+pub held-refused : SettledRefuses → SettledStays → RefusedOnce → (text held : List ℕ) (number place : ℕ)
+    → IsWholeHeld text held → RefusesText held number place → RefusesText text number place
+held-refused refuses lasts once text held number place (inl whole) refused =
+    subst (λ bytes. RefusesText bytes number place) whole refused
+held-refused refuses lasts once text held number place (inr front) refused =
+    let same = once held front.number number front.place place (refuses held front.number front.place front.is_settled) refused in
+    let whole = subst (λ bytes. RefusesText bytes front.number front.place) (sym front.is_front)
+    (lasts held front.behind front.number front.place front.is_settled).1 in
+    subst (λ p. RefusesText text number p) same.1 (subst (λ n. RefusesText text n front.place) same.0 whole)
+
+-- the kind of the items that are held is that of the text
+pub found-items : SettledRefuses → NodeOrRefused → (text held : List ℕ) (item : Item) (found : Result Kind RefusedAt)
+    → SpellsNode held item
+    → MatchResult found (λ kind. (value : Crs) × SpellsCrs item value × (kind ≡ kind_of value)) (RefusesCrs item)
+    → IsWholeHeld text held → MatchResult found (SpellsKind text) (Refuses text)
+found-items refuses apart text held item (Ok kind) node spells whole =
+    (spells.0, (item, (held-spells refuses apart text held item whole node, spells.1)), spells.2)
+found-items refuses apart text held item (Err refusal) node refused whole =
+    inr (item, (held-spells refuses apart text held item whole node, refused))
+
+-- the refusal of what is held is that of the text
+pub found-refusal : SettledRefuses → SettledStays → RefusedOnce → (text held : List ℕ) (fault : Fault) (refusal : RefusedAt)
+    → IsTextFault held fault → Some refusal ≡ refusal_of fault → IsWholeHeld text held → Refuses text refusal
+found-refusal refuses lasts once text held (faults.Refused other) refusal refused is whole =
+    let same : other ≡ refusal = cc in
+    subst (Refuses text) same (inl (held-refused refuses lasts once text held other.number other.place whole refused))
+found-refusal refuses lasts once text held (faults.Memory error) refusal refused is whole = cc

@@ -1,0 +1,9 @@
+use Rattle.std.proofs.lemmas.Result.{IfOk-weaker}
+use Rattle.crs_runs.proofs.CheckLemmas.{found-written}
+use Rattle.crs_runs.proofs.check_run.check_output.Goals as goal
+
+pub returns : goal.returns
+returns c =
+    IfOk-weaker c.found_output.result _ _
+    (λ output. found-written c.args.text.now c.in_ok-found.found output.0.items output.1 c.in_ok-found.ensures)
+    c.found_output.ensures

@@ -1,0 +1,23 @@
+use Rattle.std.proofs.lemmas.Result.{IfOk-weaker}
+use Rattle.crs_runs.proofs.SameOutputLemmas.{first-refused, second-answered}
+use Rattle.crs_runs.proofs.pair.pair_output.Goals as goal
+
+pub returns-in-Ok : goal.returns-in-Ok
+returns-in-Ok g c =
+    let spelled = rw c.in-Ok.is at c.read.ensures in
+    let Refused = g.T.Telling.Refused c.args.told.now in
+    let Compared = g.T.Telling.Compared c.args.told.now c.args.level in
+    IfOk-weaker c.second_output.result _ _
+    (λ output. second-answered Refused Compared c.in-Ok.crs c.args.first.now c.args.second.now spelled output.0.items output.1)
+    c.second_output.ensures
+
+pub refusal-requires : goal.refusal-requires
+refusal-requires g c =
+    let fault = rw c.in-Err.is at c.read.ensures in
+    c.in_ok-refusal_in-in-Err.ensures.refuses c.args.first.now fault
+
+pub returns-in_ok-line-in-Err : goal.returns-in_ok-line-in-Err
+returns-in_ok-line-in-Err g c =
+    let Refused = g.T.Telling.Refused c.args.told.now in
+    let Compared = g.T.Telling.Compared c.args.told.now c.args.level in
+    first-refused Refused Compared c.args.first.now c.args.second.now c.in_ok-line-in-Err.line.items c.in_ok-line-in-Err.ensures

@@ -1,0 +1,23 @@
+//! The runs over one text or two, over any reader and any writer, and what other runs take of them.
+#![tactic(auto)]
+
+pub use answer::{Answer, write_answer};
+pub use canon_run::{canon_output, run_canon};
+pub use check_run::{accepted_line, check_output, kind_word, run_check};
+use crs_streams::{RunFault, Sink, Source};
+use crs_value::Level;
+pub use kind_of_text::refusal_in;
+pub use pair::{Telling, pair_output};
+pub use print::{line_of, refused_line};
+pub use same_run::{InALine, run_same};
+pub use text::read_text;
+
+mod answer;
+mod canon_run;
+mod check_run;
+mod kind_of_text;
+mod pair;
+mod pieces;
+mod print;
+mod same_run;
+mod text;

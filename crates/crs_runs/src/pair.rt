@@ -1,0 +1,82 @@
+//! What is written for two texts: one of them is refused, or their CRSs are compared.
+ghost use Rattle.std.specs.Prelude.{ℕ, List, IfOk};
+ghost use Rattle.crs_value.specs.declared.values.crs.Crs.{Crs};
+ghost use Rattle.crs_value.specs.declared.values.level.Level.{Level};
+ghost use Rattle.crs_value.specs.SpellsText.{Refuses};
+ghost use Rattle.crs_runs.specs.SameOutput.{IsPairOutput, IsSecondOutput};
+
+use crate::Level;
+use crate::kind_of_text::refusal_in;
+use crs_text::Refusal;
+use crs_value::{Crs, read};
+use std::alloc::{AllocError, Global};
+
+/// How a refusal is written, and how two CRSs are compared. Profile.
+pub trait Telling {
+    // What is written for the refusal of a text, after the word that says which text it is.
+    ghost Refused: { Self → List ℕ → List ℕ → List ℕ → ℕ → Type 0 };
+
+    // What is written for two CRSs at a level.
+    ghost Compared: { Self → Level → Crs → Crs → List ℕ → ℕ → Type 0 };
+
+    /// What is written for the refusal of a text. `AllocError`: memory ran out.
+    fn refusal(
+        &self,
+        alloc: Global,
+        which: &[u8],
+        text: &[u8],
+        refusal: Refusal,
+    ) -> Result<Vec<u8>, AllocError>
+        requires { Refuses text.now refusal }
+        ensures { IfOk result (λ told. Refused self.now which.now text.now told.items 1) };
+
+    /// What is written for two CRSs at a level, and the status. `AllocError`: memory ran out.
+    fn comparison<'t>(
+        &self,
+        alloc: Global,
+        level: Level,
+        a: &Crs<'t>,
+        b: &Crs<'t>,
+    ) -> Result<(Vec<u8>, u8), AllocError>
+        ensures { IfOk result (λ output. Compared self.now level a.now b.now output.0.items output.1) };
+}
+
+/// What is written for two texts at a level, and the status. `AllocError`: memory ran out. Profile.
+pub fn pair_output<'t, T: Telling>(
+    alloc: Global,
+    told: &T,
+    level: Level,
+    first: &'t [u8],
+    second: &'t [u8],
+) -> Result<(Vec<u8>, u8), AllocError>
+    ensures { IfOk result (λ output. IsPairOutput (T.Refused told.now) (T.Compared told.now level)
+        first.now second.now output.0.items output.1) }
+{
+    match read(alloc, first) {
+        Ok(crs) => second_output(alloc, told, level, &crs, second),
+        Err(fault) => {
+            let line = told.refusal(alloc, b"first ", first, refusal_in(fault)?)?;
+            Ok((line, 1))
+        }
+    }
+}
+
+// The second text, where the first spells a CRS.
+fn second_output<'t, T: Telling>(
+    alloc: Global,
+    told: &T,
+    level: Level,
+    first: &Crs<'t>,
+    second: &'t [u8],
+) -> Result<(Vec<u8>, u8), AllocError>
+    ensures { IfOk result (λ output. IsSecondOutput (T.Refused told.now) (T.Compared told.now level first.now)
+        second.now output.0.items output.1) }
+{
+    match read(alloc, second) {
+        Ok(crs) => told.comparison(alloc, level, first, &crs),
+        Err(fault) => {
+            let line = told.refusal(alloc, b"second ", second, refusal_in(fault)?)?;
+            Ok((line, 1))
+        }
+    }
+}

@@ -1,0 +1,121 @@
+ghost use Rattle.std.specs.Prelude.{◌≡◌, ◌↔◌, ◌++◌, ◌∷◌, [], IfOk, IfErr, IsErrOf, codes, false, true};
+ghost use Rattle.crs_same.specs.Paths.{path_text};
+ghost use Rattle.crs_runs.specs.Ending.{IsWritten, IsWriteFault};
+ghost use Rattle.crs_runs.specs.SameOutput.{IsSameOutput, WritesPart};
+ghost use Rattle.crs_streams.specs.Streams.{fresh_sink};
+
+use crate::answer::{Answer, write_answer};
+use crate::pair::{Telling, pair_output};
+use crate::print::refused_line;
+use crate::{Level, RunFault, Sink};
+use crs_same::{Path, first_part};
+use crs_text::Refusal;
+use crs_value::Crs;
+use std::alloc::{AllocError, Global};
+use std::io::Write;
+
+/// Writes whether two texts spell the same CRS at a level: `same`, with status 0; or, with status 1, `different` and
+/// the path of the first part that differs, or `first` or `second` and the refusal of the first text that spells no
+/// CRS. `WriteFailed` where the sink has failed, `Memory` where memory ran out, and then nothing was written. Profile.
+pub fn run_same<W: Write>(
+    alloc: Global,
+    level: Level,
+    a: &[u8],
+    b: &[u8],
+    w: &mut Sink<W>,
+) -> Result<u8, RunFault>
+    requires { w.old ≡ fresh_sink w.old.contents }
+    ensures answered { IfOk result (IsWritten (IsSameOutput level a.now b.now) w.old w.new) }
+    ensures fault { IfErr result (IsWriteFault w.old w.new) }
+    ensures write_failed { IsErrOf result RunFault.WriteFailed ↔ (w.new.failed ≡ true) }
+    ensures past_failure { w.new.past_failure ≡ false }
+{
+    let answer = SameAnswer {
+        level,
+        first: a,
+        second: b,
+    };
+    write_answer(alloc, &answer, w)
+}
+
+// Whether two texts spell the same CRS, at this level.
+#[derive(Drop)]
+struct SameAnswer<'t> {
+    level: Level,
+    first: &'t [u8],
+    second: &'t [u8],
+}
+
+impl Answer for SameAnswer<'_> {
+    ghost use Rattle.crs_runs.specs.SameOutput.{IsSameOutput};
+
+    ghost Output = { λ s written status. IsSameOutput s.level s.first.now s.second.now written status };
+
+    fn output(&self, alloc: Global) -> Result<(Vec<u8>, u8), AllocError> {
+        pair_output(alloc, &InALine, self.level, self.first, self.second)
+    }
+}
+
+/// A refusal, and the first part in which two CRSs differ, are a line each. Profile.
+pub struct InALine;
+
+impl Telling for InALine {
+    ghost use Rattle.crs_runs.specs.SameOutput.{WritesRefusalOf, WritesWhetherSame};
+
+    ghost Refused = { λ s which text written status. WritesRefusalOf which text written status };
+
+    ghost Compared = { λ s level a b written status. WritesWhetherSame level a b written status };
+
+    fn refusal(
+        &self,
+        alloc: Global,
+        which: &[u8],
+        _text: &[u8],
+        refusal: Refusal,
+    ) -> Result<Vec<u8>, AllocError> {
+        refused_line(alloc, which, refusal)
+    }
+
+    fn comparison<'t>(
+        &self,
+        alloc: Global,
+        level: Level,
+        a: &Crs<'t>,
+        b: &Crs<'t>,
+    ) -> Result<(Vec<u8>, u8), AllocError> {
+        part_output(alloc, first_part(a, b, level))
+    }
+}
+
+fn part_output(alloc: Global, found: Option<Path>) -> Result<(Vec<u8>, u8), AllocError>
+    ensures { IfOk result (λ output. WritesPart found output.0.items output.1) }
+{
+    match found {
+        None => {
+            let line = Vec::from_slice(alloc, b"same\n")?;
+            Ok((line, 0))
+        }
+        Some(path) => {
+            let line = different_line(alloc, &path)?;
+            Ok((line, 1))
+        }
+    }
+}
+
+// `different PATH` and a line end.
+fn different_line(alloc: Global, path: &Path) -> Result<Vec<u8>, AllocError>
+    ensures { IfOk result (λ line. line.items ≡ (codes "different " ++ path_text path.now) ++ 10 ∷ []) }
+{
+    let mut line = Vec::new(alloc);
+    append_different(&mut line, path)?;
+    Ok(line)
+}
+
+fn append_different(line: &mut Vec<u8>, path: &Path) -> Result<(), AllocError>
+    requires { line.old.items ≡ [] }
+    ensures { IfOk result (λ _. line.new.items ≡ (codes "different " ++ path_text path.now) ++ 10 ∷ []) }
+{
+    line.extend_from_slice(b"different ")?;
+    path.write(line)?;
+    line.push(b'\n').map_err(AllocError::from)
+}

@@ -1,0 +1,54 @@
+ghost use Rattle.std.specs.Prelude.{◌≡◌, ◌≤◌, [], IfOk, IfErr, false, vec_len};
+ghost use Rattle.crs_streams.specs.Streams.{fresh_source};
+ghost use Rattle.crs_runs.specs.Whole.{IsWhole, IsReadFault};
+
+use crate::{RunFault, Source};
+use crs_streams::{MAX_READS, make_room};
+use std::alloc::Global;
+use std::io::Read;
+
+pub(crate) const MAX_BYTES: usize = 1_048_576;
+
+/// The whole text of a source, at most 1,048,576 bytes. `ReadFailed` where the source has failed, `TooLong(0)` for more
+/// bytes, `TooManyReads` where 1,048,576 reads have not shown the end, `Memory` where memory ran out. Profile.
+pub fn read_text<R: Read>(alloc: Global, source: &mut Source<R>) -> Result<Vec<u8>, RunFault>
+    requires { source.old ≡ fresh_source source.old.remaining }
+    ensures ok { IfOk result (λ text. IsWhole source.old source.new text.items) }
+    ensures reads { source.new.reads ≤ 1048576 }
+    ensures past_end { source.new.past_end ≡ false }
+    ensures err { IfErr result (IsReadFault source.new) }
+{
+    let mut room = make_room(alloc).map_err(|_| RunFault::Memory)?;
+    let mut text = Vec::new(alloc);
+    read_into(&mut text, source, &mut room)?;
+    Ok(text)
+}
+
+fn read_into<R: Read>(
+    text: &mut Vec<u8>,
+    source: &mut Source<R>,
+    room: &mut Vec<u8>,
+) -> Result<(), RunFault>
+    requires source { source.old ≡ fresh_source source.old.remaining }
+    requires text { text.old.items ≡ [] }
+    requires room { vec_len room.old ≡ 65536 }
+    ensures ok { IfOk result (λ _. IsWhole source.old source.new text.new.items) }
+    ensures reads { source.new.reads ≤ 1048576 }
+    ensures past_end { source.new.past_end ≡ false }
+    ensures err { IfErr result (IsReadFault source.new) }
+{
+    for turn in 0..MAX_READS {
+        let count = source
+            .read(room.as_mut_slice())
+            .map_err(|_| RunFault::ReadFailed)?;
+        if count == 0 {
+            return Ok(());
+        }
+        if count > MAX_BYTES - text.len() {
+            return Err(RunFault::TooLong(0));
+        }
+        text.extend_from_slice(&room[..count])
+            .map_err(|_| RunFault::Memory)?;
+    }
+    Err(RunFault::TooManyReads)
+}
