@@ -45,16 +45,48 @@ fn entry_of<'t>(alloc: Global, stage: Stage, text: &'t [u8]) -> Result<Entry<'t>
         | Stage::CheckText
         | Stage::CanonText
         | Stage::SameText
-        | Stage::Group => Ok(entry_with(text, None, None)),
-        Stage::Shape | Stage::Judge | Stage::Value => {
-            Ok(entry_with(text, accepted(read_items(alloc, text))?, None))
-        }
-        Stage::Same | Stage::Canon => Ok(entry_with(text, None, accepted(read(alloc, text))?)),
+        | Stage::Group => Ok(bare(text)),
+        Stage::Shape | Stage::Judge | Stage::Value => with_items(text, read_items(alloc, text)),
+        Stage::Same | Stage::Canon => with_value(text, read(alloc, text)),
     }
 }
 
-fn entry_with<'t>(text: &'t [u8], items: Option<Items<'t>>, crs: Option<Crs<'t>>) -> Entry<'t> {
-    Entry { text, items, crs }
+// A text alone.
+fn bare(text: &[u8]) -> Entry<'_> {
+    Entry {
+        text,
+        items: None,
+        crs: None,
+    }
+}
+
+// A text with its items.
+fn with_items<'t>(
+    text: &'t [u8],
+    answer: Result<Items<'t>, Fault>,
+) -> Result<Entry<'t>, AllocError> {
+    match answer {
+        Ok(items) => Ok(Entry {
+            text,
+            items: Some(items),
+            crs: None,
+        }),
+        Err(Fault::Refused(_)) => Ok(bare(text)),
+        Err(Fault::Memory(error)) => Err(error),
+    }
+}
+
+// A text with its value.
+fn with_value<'t>(text: &'t [u8], answer: Result<Crs<'t>, Fault>) -> Result<Entry<'t>, AllocError> {
+    match answer {
+        Ok(crs) => Ok(Entry {
+            text,
+            items: None,
+            crs: Some(crs),
+        }),
+        Err(Fault::Refused(_)) => Ok(bare(text)),
+        Err(Fault::Memory(error)) => Err(error),
+    }
 }
 
 /// What is accepted; None where it is refused.

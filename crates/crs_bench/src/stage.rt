@@ -176,18 +176,22 @@ fn judged(entry: &Entry<'_>) -> Outcome {
 
 fn valued(alloc: Global, entry: &Entry<'_>) -> Result<Outcome, AllocError> {
     match &entry.items {
-        Some(items) => match accepted(value_of(alloc, items))? {
-            Some(_crs) => Ok(Outcome::Accepted(size(items))),
-            None => Ok(Outcome::Refused),
-        },
+        Some(items) => dropped(value_of(alloc, items), size(items)),
         None => Ok(Outcome::Refused),
     }
 }
 
 fn whole(alloc: Global, text: &[u8]) -> Result<Outcome, AllocError> {
-    match accepted(read(alloc, text))? {
-        Some(_crs) => Ok(Outcome::Accepted(1)),
-        None => Ok(Outcome::Refused),
+    dropped(read(alloc, text), 1)
+}
+
+// An answer that counts for so much where it is accepted. It alone owns a value, whose type it doesn't know: a function
+// that owns a CRS is slow to prove.
+fn dropped<T: Drop>(answer: Result<T, Fault>, count: usize) -> Result<Outcome, AllocError> {
+    match answer {
+        Ok(_accepted) => Ok(Outcome::Accepted(count)),
+        Err(Fault::Refused(_)) => Ok(Outcome::Refused),
+        Err(Fault::Memory(error)) => Err(error),
     }
 }
 
@@ -237,16 +241,48 @@ fn checked(alloc: Global, text: &[u8]) -> Result<Outcome, AllocError> {
 }
 
 fn matched<'t>(alloc: Global, text: &'t [u8], next: &'t [u8]) -> Result<Outcome, AllocError> {
-    match accepted(read(alloc, text))? {
-        Some(crs) => matched_with(alloc, &crs, next),
-        None => Ok(Outcome::Refused),
+    first_of_two(alloc, read(alloc, text), next)
+}
+
+// What is compared with the value of another text.
+trait Comparable<'t>: Sized {
+    // Comparable with the value of this text.
+    fn with_text(&self, alloc: Global, next: &'t [u8]) -> Result<Outcome, AllocError>;
+
+    // Whether both are the same.
+    fn is_same(&self, other: &Self) -> bool;
+}
+
+impl<'t> Comparable<'t> for Crs<'t> {
+    fn with_text(&self, alloc: Global, next: &'t [u8]) -> Result<Outcome, AllocError> {
+        second_of_two(self, read(alloc, next))
+    }
+
+    fn is_same(&self, other: &Self) -> bool {
+        same(self, other, Level::Full)
     }
 }
 
-fn matched_with<'t>(alloc: Global, crs: &Crs<'t>, next: &'t [u8]) -> Result<Outcome, AllocError> {
-    match accepted(read(alloc, next))? {
-        Some(other) => Ok(Outcome::Accepted(usize::from(same(crs, &other, Level::Full)))),
-        None => Ok(Outcome::Refused),
+fn first_of_two<'t, T: Comparable<'t> + Drop>(
+    alloc: Global,
+    answer: Result<T, Fault>,
+    next: &'t [u8],
+) -> Result<Outcome, AllocError> {
+    match answer {
+        Ok(first) => first.with_text(alloc, next),
+        Err(Fault::Refused(_)) => Ok(Outcome::Refused),
+        Err(Fault::Memory(error)) => Err(error),
+    }
+}
+
+fn second_of_two<'t, T: Comparable<'t> + Drop>(
+    first: &T,
+    answer: Result<T, Fault>,
+) -> Result<Outcome, AllocError> {
+    match answer {
+        Ok(second) => Ok(Outcome::Accepted(usize::from(first.is_same(&second)))),
+        Err(Fault::Refused(_)) => Ok(Outcome::Refused),
+        Err(Fault::Memory(error)) => Err(error),
     }
 }
 
