@@ -1,11 +1,16 @@
 """The cases of .rows files, and what a program answers to them.
 
 A file holds cases, with an empty line between two. A case is a line 'case NAME', whose name is unique in its file,
-a line '# REASON' or more, and then, each in its own line and in this order, as far as needed:
+a line '# REASON' or more, and then, each in its own line and as far as needed:
 
     word TEXT        a word of the command line, without the program's name
+    words TEXT ..    some of them, each up to the next space
+    commands TEXT .. these go before the words, one in each of as many cases, at the end of whose names it is
+    exchanged        the case is there once more with its last two words in the other order, '-exchanged' at the end of
+                     its name, and in its output the first text's part and the second's exchanged
     input TEXT       a part of standard input; no line end is added
     times N TEXT     the same, N times over
+    pieces N TEXT    the same in parts of N bytes each, the last of which may have fewer
     input-file PATH  the same of a file of the repository
     input-by-lines   a read gives one line of standard input, as a pipe does that is written slowly
     input-in-turn    each line of standard input is written when a line of output has come for the one before
@@ -13,6 +18,7 @@ a line '# REASON' or more, and then, each in its own line and in this order, as 
     file NAME TEXT   a part of a file in the working folder, which is one of its own then; no line end is added
     file-times NAME N TEXT  the same, N times over
     output TEXT      a line of standard output, with its LF; none: nothing is written
+    output-times N TEXT  the same, N times over
     output-any       standard output isn't compared
     output-full      standard output is a device on which a write fails
     output-closed    standard output is a pipe that nobody reads
@@ -25,9 +31,16 @@ In place of words and a status a case may have one call of the library, for a pr
     call WORDS       the call, whose inputs are the parts and whose answer is the output
     no-growth        it takes no memory; without this line it must take some
 
+Cases of one form are rows of a table. It begins with a line 'table COLUMN | COLUMN | ..' and with the lines that all its
+rows have. A row is a line 'case NAME | FIELD | FIELD | ..': a case with these lines and, for each field, with the line of
+its column and the field; a column '#' is the reason. Lines of its own may be below a row. A reason above a row is that of
+the rows below it too, up to an empty line.
+
+A line 'let NAME TEXT' gives a text a name in the rest of its file: there \\{NAME} stands for it in each TEXT; \\{} is empty.
+
 TEXT is UTF-8 and everything after the one space, with these escapes: \\n LF, \\r CR, \\t tab, \\\\ a backslash, and
-\\xHH the byte HH; so is NAME, but that it has no space. The input is the parts in their order. The program runs at the
-root of the repository.
+\\xHH the byte HH; so is the NAME of a file, but that it has no space. In a field | between two spaces is \\x7c. The input
+is the parts in their order. The program runs at the root of the repository.
 """
 from __future__ import annotations
 
@@ -40,34 +53,35 @@ import socket
 import subprocess
 import tempfile
 import threading
-from typing import Any, BinaryIO, Dict, List, Optional
+from typing import Any, BinaryIO, Dict, Iterator, List, Optional, Set, Tuple
 
 HERE = pathlib.Path(__file__).resolve().parent
 ROOT = HERE.parent
 SECONDS = 600
 SECONDS_IN_TURN = 60
-ESCAPE = re.compile(rb"\\(?:x([0-9a-f]{2})|(.))")
+ESCAPE = re.compile(rb"\\(?:x([0-9a-f]{2})|\{([^}]*)\}|(.))")
 PLAIN = {b"n": b"\n", b"r": b"\r", b"t": b"\t", b"\\": b"\\"}
+FLAGS = set(
+    b"exchanged input-by-lines input-in-turn input-unreadable output-any output-full output-closed error-none no-growth".split()
+)
+OTHER_SIDE = {b"first": b"second", b"second": b"first"}
 
 
 @dataclasses.dataclass
 class Case:
-    """A case, and its place: its file's name and its line."""
+    """A case, and its place: its file's name and its line; and the named texts of the file up to there."""
 
     place: str
     name: str
+    texts: Dict[bytes, bytes] = dataclasses.field(repr=False)
     has_reason: bool = False
+    commands: List[bytes] = dataclasses.field(default_factory=list)
     words: List[bytes] = dataclasses.field(default_factory=list)
     call: bytes = b""
-    grows: bool = True
     parts: List[bytes] = dataclasses.field(default_factory=list)
     files: Dict[bytes, bytes] = dataclasses.field(default_factory=dict)
-    is_by_lines: bool = False
-    is_in_turn: bool = False
-    is_unreadable: bool = False
+    flags: Set[bytes] = dataclasses.field(default_factory=set)
     output: Optional[bytes] = b""
-    is_full: bool = False
-    is_closed: bool = False
     status: Optional[int] = None
     error: Optional[bytes] = None
 
@@ -78,71 +92,155 @@ class Case:
     def input(self) -> bytes:
         return b"".join(self.parts)
 
-    def add_file(self, name: bytes, text: bytes) -> None:
-        self.files[name] = self.files.get(name, b"") + text
+    @property
+    def asks(self) -> bool:
+        """Whether it asks a command for an answer, and not for a fault or for help."""
+        is_answer = self.error is None and self.output is not None and b"input-unreadable" not in self.flags
+        return is_answer and self.status != 2 and bool(self.words)
 
-    def add(self, key: bytes, rest: bytes) -> None:
+    @property
+    def level(self) -> Tuple[str, List[bytes]]:
+        """The level that its words name, or nothing, and its other words."""
+        for index, word in enumerate(self.words):
+            if word == b"--":
+                break
+            if word == b"--level":
+                return self.words[index + 1].decode(), self.words[:index] + self.words[index + 2 :]
+            if word.startswith(b"--level="):
+                return word[8:].decode(), self.words[:index] + self.words[index + 1 :]
+        return "", [word for word in self.words if word != b"--"]
+
+    def text(self, text: bytes) -> bytes:
+        return text_of(text, self.texts)
+
+    def times(self, rest: bytes) -> bytes:
+        count, text = rest.split(b" ", 1)
+        return self.text(text) * int(count)
+
+    def add(self, line: bytes) -> None:
         """Adds what a line says."""
+        key, _, rest = line.partition(b" ")
         if key == b"word":
-            self.words.append(bytes_of(rest))
+            self.words.append(self.text(rest))
+        elif key == b"words":
+            self.words += map(self.text, rest.split(b" "))
+        elif key == b"commands":
+            self.commands = rest.split(b" ")
         elif key == b"call":
             self.call, self.status = rest, 0
-        elif key == b"no-growth":
-            self.grows = False
         elif key == b"input":
-            self.parts.append(bytes_of(rest))
+            self.parts.append(self.text(rest))
         elif key == b"times":
-            count, text = rest.split(b" ", 1)
-            self.parts.append(bytes_of(text) * int(count))
+            self.parts.append(self.times(rest))
+        elif key == b"pieces":
+            size, _, text = rest.partition(b" ")
+            self.parts += re.findall(b".{1,%d}" % int(size), self.text(text), flags=re.DOTALL)
         elif key == b"input-file":
             self.parts.append((ROOT / os.fsdecode(rest)).read_bytes())
-        elif key == b"input-by-lines":
-            self.is_by_lines = True
-        elif key == b"input-in-turn":
-            self.is_in_turn = True
-        elif key == b"input-unreadable":
-            self.is_unreadable = True
-        elif key == b"file":
+        elif key in (b"file", b"file-times"):
             name, _, text = rest.partition(b" ")
-            self.add_file(bytes_of(name), bytes_of(text))
-        elif key == b"file-times":
-            name, count, text = rest.split(b" ", 2)
-            self.add_file(bytes_of(name), bytes_of(text) * int(count))
+            name = self.text(name)
+            self.files[name] = self.files.get(name, b"") + (self.text(text) if key == b"file" else self.times(text))
         elif key == b"output":
-            self.output = (self.output or b"") + bytes_of(rest) + b"\n"
-        elif key in (b"output-any", b"output-full", b"output-closed"):
-            self.output, self.is_full, self.is_closed = None, key == b"output-full", key == b"output-closed"
+            self.output = (self.output or b"") + self.text(rest) + b"\n"
+        elif key == b"output-times":
+            count, _, text = rest.partition(b" ")
+            self.output = (self.output or b"") + (self.text(text) + b"\n") * int(count)
+        elif key == b"error":
+            self.error = (self.error or b"") + self.text(rest) + b"\n"
         elif key == b"status":
             self.status = int(rest)
-        elif key == b"error":
-            self.error = (self.error or b"") + bytes_of(rest) + b"\n"
-        elif key == b"error-none":
-            self.error = b""
         elif key == b"#":
             self.has_reason = True
+        elif key in FLAGS:
+            self.flags.add(key)
+            if key.startswith(b"output-"):
+                self.output = None
+            elif key == b"error-none":
+                self.error = b""
         else:
             raise ValueError(f"no such key: {key.decode()}")
 
+    def all(self) -> Iterator[Case]:
+        """The case by each of its commands, and with its texts exchanged."""
+        for command in self.commands:
+            name = f"{self.name}-{command.decode()}"
+            yield from dataclasses.replace(self, name=name, commands=[], words=[command, *self.words]).all()
+        if not self.commands:
+            yield self
+            if b"exchanged" in self.flags:
+                words = [*self.words[:-2], self.words[-1], self.words[-2]]
+                output = exchanged(self.output or b"")
+                yield dataclasses.replace(self, name=f"{self.name}-exchanged", words=words, output=output)
 
-def bytes_of(text: bytes) -> bytes:
-    return ESCAPE.sub(lambda match: bytes([int(match[1], 16)]) if match[1] else PLAIN[match[2]], text)
+
+class Table:
+    """A table's columns, and the lines of its head."""
+
+    def __init__(self, columns: bytes) -> None:
+        self.columns, self.head = columns.split(b" | "), list[bytes]()
+
+    def lines_of(self, fields: List[bytes]) -> List[bytes]:
+        if len(fields) > len(self.columns):
+            raise ValueError("more fields than columns")
+        return [*self.head, *(column + b" " + field for column, field in zip(self.columns, fields))]
 
 
-def cases_of(path: pathlib.Path) -> List[Case]:
-    """The cases of a file; a ValueError with the line where it isn't one."""
-    cases: List[Case] = []
+def text_of(text: bytes, names: Dict[bytes, bytes]) -> bytes:
+    """What a TEXT is, with the texts that have names."""
+
+    def unescaped(match: re.Match[bytes]) -> bytes:
+        code, name, plain = match.groups()
+        return bytes([int(code, 16)]) if code else PLAIN[plain] if plain else names[name]
+
+    return ESCAPE.sub(unescaped, text)
+
+
+def exchanged(output: bytes) -> bytes:
+    """What is said of two texts, as it is said of the second and the first."""
+    output = re.sub(rb"\A(first|second)(?= refused )", lambda match: OTHER_SIDE[match[1]], output)
+    return re.sub(rb"^(.*?: )(.*) \| (.*)$", rb"\1\3 | \2", output, flags=re.MULTILINE)
+
+
+def read_cases(path: pathlib.Path) -> Iterator[Case]:
+    """The cases of a file as they stand there; a ValueError with the line where one doesn't."""
+    case: Optional[Case] = None
+    table: Optional[Table] = None
+    names = {b"": b""}
+    has_reason = False
     for number, line in enumerate(path.read_bytes().split(b"\n"), 1):
         place = f"{path.name}:{number}"
         key, _, rest = line.partition(b" ")
+        has_reason = line != b"" and (has_reason or key == b"#")
         try:
-            if key == b"case":
-                cases.append(Case(place, rest.decode()))
-            elif line and cases:
-                cases[-1].add(key, rest)
+            if key in (b"case", b"table") and case:
+                yield case
+                case = None
+            if key == b"let":
+                name, _, text = rest.partition(b" ")
+                names[name] = text_of(text, names)
+            elif key == b"table":
+                table = Table(rest)
+            elif key == b"case":
+                name, *fields = rest.split(b" | ")
+                case = Case(place, name.decode(), names, has_reason)
+                for it in table.lines_of(fields) if table and fields else ():
+                    case.add(it)
+            elif case and line:
+                case.add(line)
+            elif table and line and key != b"#":
+                table.head.append(line)
             elif line and key != b"#":
                 raise ValueError("a line before the first case")
         except (ValueError, KeyError) as error:
             raise ValueError(f"{place}: {error}") from error
+    if case:
+        yield case
+
+
+def cases_of(path: pathlib.Path) -> List[Case]:
+    """All cases of a file."""
+    cases = [it for case in read_cases(path) for it in case.all()]
     names = [case.name for case in cases]
     for case in cases:
         if case.status is None or not case.has_reason:
@@ -157,8 +255,12 @@ def all_cases(folder: pathlib.Path = HERE) -> List[Case]:
     return [case for path in sorted(folder.glob("*.rows")) for case in cases_of(path)]
 
 
-def run_by_lines(command: List[bytes], lines: List[bytes]) -> "subprocess.CompletedProcess[bytes]":
-    """Runs a command whose reads give a line each: a socket of this kind keeps what is sent apart."""
+# How a program is run.
+
+
+@contextlib.contextmanager
+def sent_by_lines(lines: List[bytes]) -> Iterator[int]:
+    """What gives a line a read: a socket of this kind keeps what is sent apart."""
     ours, theirs = socket.socketpair(socket.AF_UNIX, socket.SOCK_SEQPACKET)
 
     def send() -> None:
@@ -170,11 +272,16 @@ def run_by_lines(command: List[bytes], lines: List[bytes]) -> "subprocess.Comple
     sender.start()
     try:
         with theirs:
-            return subprocess.run(
-                command, stdin=theirs.fileno(), capture_output=True, timeout=SECONDS, cwd=ROOT, check=False
-            )
+            yield theirs.fileno()
     finally:
         sender.join()
+
+
+def closed_pipe() -> BinaryIO:
+    """The end for writing of a pipe that nobody reads."""
+    reading, writing = os.pipe()
+    os.close(reading)
+    return os.fdopen(writing, "wb")
 
 
 def run_in_turn(folder: pathlib.Path, command: List[bytes], lines: List[bytes]) -> "subprocess.CompletedProcess[bytes]":
@@ -196,39 +303,24 @@ def run_in_turn(folder: pathlib.Path, command: List[bytes], lines: List[bytes]) 
             timer.cancel()
 
 
-def closed_pipe() -> BinaryIO:
-    """The end for writing of a pipe that nobody reads."""
-    reading, writing = os.pipe()
-    os.close(reading)
-    return os.fdopen(writing, "wb")
-
-
-def run_in(folder: pathlib.Path, command: List[bytes], case: Case) -> "subprocess.CompletedProcess[bytes]":
-    with closed_pipe() if case.is_closed else open("/dev/full" if case.is_full else os.devnull, "wb") as sink:
-        unreadable = os.open(HERE, os.O_RDONLY)
-        try:
-            given: Dict[str, Any] = {"stdin": unreadable} if case.is_unreadable else {"input": case.input}
-            given["stdout"] = sink if case.is_full or case.is_closed else subprocess.PIPE
-            return subprocess.run(command, stderr=subprocess.PIPE, cwd=folder, timeout=SECONDS, check=False, **given)
-        finally:
-            os.close(unreadable)
-
-
 def run(program: pathlib.Path, case: Case) -> "subprocess.CompletedProcess[bytes]":
     """Runs a program as a case says."""
-    command = [os.fsencode(program), *case.words]
-    if case.is_by_lines:
-        return run_by_lines(command, case.input.splitlines(keepends=True))
-    if not case.files:
-        return run_there(ROOT, command, case)
-    with tempfile.TemporaryDirectory() as folder:
-        for name, text in case.files.items():
-            with open(os.path.join(os.fsencode(folder), name), "wb") as file:
-                file.write(text)
-        return run_there(pathlib.Path(folder), command, case)
-
-
-def run_there(folder: pathlib.Path, command: List[bytes], case: Case) -> "subprocess.CompletedProcess[bytes]":
-    if case.is_in_turn:
-        return run_in_turn(folder, command, case.input.splitlines(keepends=True))
-    return run_in(folder, command, case)
+    command, lines = [os.fsencode(program), *case.words], case.input.splitlines(keepends=True)
+    settings: Dict[str, Any] = {"input": case.input, "stdout": subprocess.PIPE, "cwd": ROOT}
+    with contextlib.ExitStack() as stack:
+        if case.files:
+            settings["cwd"] = folder = pathlib.Path(stack.enter_context(tempfile.TemporaryDirectory()))
+            for name, text in case.files.items():
+                (folder / os.fsdecode(name)).write_bytes(text)
+        if b"input-in-turn" in case.flags:
+            return run_in_turn(settings["cwd"], command, lines)
+        if b"input-by-lines" in case.flags:
+            settings |= {"input": None, "stdin": stack.enter_context(sent_by_lines(lines))}
+        elif b"input-unreadable" in case.flags:
+            settings |= {"input": None, "stdin": os.open(HERE, os.O_RDONLY)}
+            stack.callback(os.close, settings["stdin"])
+        if b"output-full" in case.flags:
+            settings["stdout"] = stack.enter_context(open("/dev/full", "wb"))
+        elif b"output-closed" in case.flags:
+            settings["stdout"] = stack.enter_context(closed_pipe())
+        return subprocess.run(command, stderr=subprocess.PIPE, timeout=SECONDS, check=False, **settings)

@@ -40,28 +40,17 @@ class Dialect(NamedTuple):
     set_limit: Callable[[int], str]
 
 
-def level_of(words: List[bytes]) -> Tuple[List[str], List[bytes]]:
-    """A command line's level as arguments of SQL, and its other words."""
-    rest = [word for word in words if word != b"--"]
-    if b"--level" in rest[:-1]:
-        place = rest.index(b"--level")
-        return [f"'{rest[place + 1].decode()}'"], rest[:place] + rest[place + 2 :]
-    for word in rest:
-        if word.startswith(b"--level="):
-            return [f"'{word[8:].decode()}'"], [it for it in rest if it is not word]
-    return [], rest
-
-
 def of_case(case: rows.Case, is_blob: bool, dialect: Dialect) -> Iterator[Statement]:
     """The statements that ask a row, each with its answer; none of a text that the database hasn't."""
-    if case.error is not None or case.output is None or case.is_unreadable or case.status == 2 or not case.words:
+    if not case.asks:
         return
-    level, words = level_of(case.words)
+    named, words = case.level
+    level = [f"'{named}'"] if named else []
     given = [dialect.literal(it, is_blob) for it in (words[1:] if len(words) == 3 else [case.input])]
     texts = [it for it in given if it is not None]
     if len(texts) < len(given):
         return
-    wanted = case.output[:-1]
+    wanted = (case.output or b"")[:-1]
     refusal = wanted.decode(errors="replace") if b"refused" in wanted else ""
     if words == [b"canon"]:
         canonical = "" if refusal else wanted.hex().upper()

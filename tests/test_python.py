@@ -58,29 +58,20 @@ def without_proj(monkeypatch: pytest.MonkeyPatch) -> None:
 # The rows.
 
 
-def level_of(words: List[bytes]) -> Tuple[Any, List[bytes]]:
-    """A command line's level, and its other words."""
-    for index, word in enumerate(words):
-        if word == b"--":
-            break
-        if word == b"--level":
-            return words[index + 1].decode(), words[:index] + words[index + 2 :]
-        if word.startswith(b"--level="):
-            return word[8:].decode(), words[:index] + words[index + 1 :]
-    return "full", [word for word in words if word != b"--"]
-
-
 def is_asked(case: Case) -> bool:
-    """Whether a case asks for an answer, and not for a fault or for help."""
-    if case.error is not None or case.output is None or case.is_unreadable or case.status == 2 or not case.words:
-        return False
-    words = level_of(case.words)[1]
-    return len(words) == {b"canon": 1, b"check": 1, b"group": 1, b"same": 3}.get(words[0], -1)
+    """Whether a case asks for an answer that a call of the package gives."""
+    counts = {b"canon": 1, b"check": 1, b"group": 1, b"same": 3}
+    return case.asks and len(case.level[1]) == counts.get(case.level[1][0])
+
+
+def level_of(case: Case) -> Tuple[Any, List[bytes]]:
+    named, words = case.level
+    return named or "full", words
 
 
 def answer(case: Case) -> bytes:
     """What the command prints for a case, made of the package's answers."""
-    level, words = level_of(case.words)
+    level, words = level_of(case)
     try:
         if words[0] == b"canon":
             return canon(case.input, level).encode() + b"\n"
@@ -113,7 +104,7 @@ ASKED = [case for case in rows.all_cases() if is_asked(case)]
 def test_row(case: Case) -> None:
     got = answer(case)
     assert got == case.output
-    level, words = level_of(case.words)
+    level, words = level_of(case)
     if words[0] == b"same" and b"refused" not in got:
         hold_pair(words[1], words[2], level)
     if words[0] == b"canon" and not got.startswith(b"refused"):
