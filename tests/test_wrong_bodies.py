@@ -38,6 +38,25 @@ def test_folders() -> None:
     assert max(Counter(it.parent for it in FILES if it.parent.name != FURTHER).values()) <= MOST
 
 
+@pytest.mark.parametrize(
+    "told, is_of_names",
+    [
+        ("record .. has no field stripped (nearest: .short ..)", True),
+        ("no clause zeros here (nearest: .digits)", True),
+        ("`stripped` is not in scope", True),
+        ("the two sides differ: 1 and 2", False),
+    ],
+)
+def test_reason(told: str, is_of_names: bool) -> None:
+    """A function whose answer names what isn't there is told apart from one that has a reason of its own."""
+    trial = wrong_bodies.Trial(wrong_bodies.build.needed(["crs_decimal"])[-1], [])
+    said = f"./proofs/short/write/Answers.antt:3:5 error: {told}"
+    assert trial.reason("short::write", {"short::write": "not proved"}, {}, said) == (
+        f"short::write: {told}",
+        is_of_names,
+    )
+
+
 @pytest.mark.gate
 @pytest.mark.parametrize("name", sorted({it.parent.parent.name for it in FILES if it.parent.name == GATE}))
 def test_refused(name: str) -> None:

@@ -50,7 +50,7 @@ BLOCK = re.compile(
 )
 # What the prover says of a function that rests on another, and of an answer that names what a body took away.
 RESTS = re.compile(r"which (is|are) not proved")
-NAMES = re.compile(r"has no field|is not in scope|has no `|was not admitted")
+NAMES = re.compile(r"has no field|is not in scope|has no `|was not admitted|\(nearest: ")
 # A goal that isn't proved; a function's goals stand before the line of its verdict.
 GOAL = re.compile(r"note: (src/\S+ it is not proved .*)")
 
