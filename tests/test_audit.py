@@ -197,6 +197,9 @@ def test_data_has_the_refusals() -> None:
         assert bool(refused["expected"]) == (11 <= refused["number"] <= 13)
         assert refused["meaning"] not in (refused["hint"] or "") and ": found " not in (refused["hint"] or "")
     hints = {it["number"]: it["hint"] for it in audited().data["refused"]}
+    causes = {(it["number"], it["byte"]): it["cause"] for it in audited().data["refused"]}
+    assert (causes[11, 0], causes[1, 4], causes[2, 0]) == ("WKT1", "code", "PROJ string")
+    assert sum(it["texts"] for it in audited().data["summary"]["causes"]) == len(audited().data["refused"])
     assert "WKT1" in hints[11] and "PROJ string" in hints[2] and "code" in hints[1] and hints[23] is None
 
 

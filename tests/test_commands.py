@@ -125,8 +125,8 @@ def test_lines(files: Files) -> None:
     old = files.run("canon", "--lines", "-", source=b'\n\nGEOGCS["A"]\n')[2]
     assert old.startswith("-:3: refused 11") and '"$(sed -n 3p FILE)"' in old
     for case in ASKED:
-        if level_of(case.words)[1] == [b"group"]:
-            level = level_of(case.words)[0]
+        level, words = level_of(case)
+        if words == [b"group"]:
             status, output, _ = files.run("group", f"--level={level}", "--lines", "-", source=case.input)
             assert (status, output.encode()) == (case.status, case.output), case.name
 

@@ -163,6 +163,10 @@ def test_refusal_is_told() -> None:
     assert lines[1].index("#") == lines[2].index("^") and lines[2].strip() == "^"
     assert refused.summary == "refused 1 BadCharacter at 29" and refused.which is None
     assert repr(refused) == "Refused(number=1, name='BadCharacter', place=29)"
+    keywords = [
+        refusal_of(text).keyword for text in ('TIMECRS["T"]', 'VERTCSR["H"]', HEIGHT[:-1], f"{HEIGHT[:-1]},FOO[1]]")
+    ]
+    assert keywords == ["TIMECRS", "", "", "FOO"], "a keyword that is nowhere read there"
 
 
 def test_caret_is_under_the_place() -> None:

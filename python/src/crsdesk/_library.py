@@ -339,9 +339,9 @@ def explained(text: bytes, number: int, place: int) -> Optional[Told]:
         raise out_of_memory()
     if code == OK or (where.refusal.number, where.refusal.place) != (number, place):
         return None
-    piece, line, _, _, *sentences = pieces[:7]
+    piece, line, _, at_place, *sentences = pieces[:7]
     shown = piece.rstrip("\n"), line.rstrip("\n"), tuple(pieces[7:])
-    return Told(where.line, where.column, *shown, *sentences)
+    return Told(where.line, where.column, *shown, *sentences, at_place)
 
 
 @functools.lru_cache(maxsize=None)

@@ -18,9 +18,10 @@ class Told(NamedTuple):
     open_or_meant: str
     meaning: str
     hints: str
+    found: str
 
 
-NOTHING = Told(0, 0, "", "", (), "", "", "")
+NOTHING = Told(0, 0, "", "", (), "", "", "", "")
 
 
 class Refused(ValueError):
@@ -100,6 +101,12 @@ class Refused(ValueError):
         """What could stand at the place: for 11 to 13 keywords, ``a number``, ``a text in quotes``, ``a word``, and ``its
         closing delimiter`` where the node may end; for 21 the words that are known; for 25 the dimension. Else empty."""
         return self._parts.expected
+
+    @property
+    def keyword(self) -> str:
+        """The keyword at the place, in capitals, where no CRS that is read has a node of this name there, such as
+        ``BOUNDCRS``; nothing where it is misspelt, and where the number isn't 11."""
+        return self._parts.found if self.number == 11 and not self._parts.open_or_meant else ""
 
     @property
     def meaning(self) -> str:

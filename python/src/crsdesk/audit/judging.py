@@ -51,7 +51,7 @@ class Refusal:
     """Why a text is refused, in the words of ``Refused``: ``place`` is its byte, ``piece`` the line with a caret below,
     ``expected`` what could stand there, ``hint`` what the text most likely is and what to do, or nothing, ``doubts`` why
     what PROJ reads the text as isn't taken, where that was tried. ``form`` is that of a text that PROJ is asked for, as
-    ``WKT1``, damaged or not; nothing of any other."""
+    ``WKT1``, damaged or not; nothing of any other. ``keyword`` is one that is nowhere read there, as ``TIMECRS``."""
 
     number: int
     name: str
@@ -64,6 +64,7 @@ class Refusal:
     hint: str
     doubts: Tuple[str, ...] = ()
     form: str = ""
+    keyword: str = ""
 
 
 class Judged(NamedTuple):
@@ -188,6 +189,7 @@ def refusal_of(refused: Refused, line: int, form: str) -> Refusal:
         refused.meaning,
         hint,
         form=form,
+        keyword=refused.keyword,
     )
 
 

@@ -4,7 +4,6 @@ from __future__ import annotations
 
 import collections
 import functools
-import re
 from dataclasses import dataclass, field
 from typing import Dict, Iterable, Iterator, List, NamedTuple, Optional, Protocol, Sequence, Set, Tuple
 
@@ -513,13 +512,7 @@ def count(report: Report) -> None:
     summary.registry = {verdict.value: counts[verdict] for verdict in Verdict if counts[verdict]}
 
 
-# What a hint says that a text is, such as "This is WKT1, of a .prj file".
-IS_SOMETHING = re.compile(r"This is (?:an? )?([^,:.;]+)")
-ISNT_READ = re.compile(r"(?:An? )?(\w+) (?:isn't|aren't) read")
-
-
 def cause_of(refusal: Refusal) -> str:
-    """Why a text is refused, in a word or two: what it is instead, or the refusal's name."""
-    match = IS_SOMETHING.match(refusal.hint) or ISNT_READ.match(refusal.hint)
-    name = refusal.form.replace("a ", "") or (match[1] if match else refusal.name)
+    """Why a text is refused, in a word or two: what it is instead, a keyword that isn't read, or the refusal's name."""
+    name = refusal.form.removeprefix("a ") or refusal.keyword or refusal.name
     return f"{name}, damaged or not known to PROJ" if refusal.doubts else name
