@@ -21,9 +21,17 @@ from typing import Any, Dict, Iterator, List, NamedTuple, Optional, Set, Tuple
 
 sys.dont_write_bytecode = True
 from big_catalogue import respelled
+from gdal_data import make_raster, make_vector, reference_of
 
 FILES = 1000
 ZONES = 40
+# What GDAL writes: the driver and the code of the CRS, by the file's suffix.
+BY_GDAL = {
+    "tif": ("GTiff", 32631),
+    "nc": ("netCDF", 3035),
+    "fgb": ("FlatGeobuf", 2154),
+    "shp": ("ESRI Shapefile", 28992),
+}
 CATALOGUES = 25
 
 
@@ -223,21 +231,14 @@ class Archive:
 
     def add_by_gdal(self, kind: str) -> None:
         """A data set of one of GDAL's formats, each with its own CRS."""
-        from osgeo import gdal, ogr, osr
+        from osgeo import gdal
 
-        reference = osr.SpatialReference()
-        reference.ImportFromEPSG({"tif": 32631, "nc": 3035, "fgb": 2154, "shp": 28992}[kind])
+        driver, code = BY_GDAL[kind]
         path = self.path(f"data{self.files}.{kind}")
         if kind in ("tif", "nc"):
-            driver = gdal.GetDriverByName({"tif": "GTiff", "nc": "netCDF"}[kind])
-            data_set = driver.Create(str(path), 2, 2, 1, gdal.GDT_Byte)
-            data_set.SetSpatialRef(reference)
-            data_set.SetGeoTransform((400000, 10, 0, 500000, 0, -10))
+            make_raster(path, driver, reference_of(code))
         else:
-            driver = gdal.GetDriverByName({"fgb": "FlatGeobuf", "shp": "ESRI Shapefile"}[kind])
-            data_set = driver.Create(str(path), 0, 0, 0, gdal.GDT_Unknown)
-            data_set.CreateLayer(path.stem, reference, ogr.wkbPoint)
-        data_set = None
+            make_vector(path, driver, reference_of(code))
         name = f"data of .{kind}"
         text = text_of(gdal.OpenEx(str(path)))
         self.state(Known(text, name, name), path, "" if kind in ("tif", "nc") else path.stem)
@@ -275,7 +276,7 @@ def kinds(archive: Archive, has_gdal: bool) -> Iterator[Tuple[int, Any]]:
     yield 40, lambda: archive.add_database(".gpkg")
     yield 25, lambda: archive.add_database(".sqlite")
     yield 30, archive.add_zip
-    for kind in ("tif", "nc", "fgb", "shp") if has_gdal else ():
+    for kind in BY_GDAL if has_gdal else ():
         yield 20, lambda kind=kind: archive.add_by_gdal(kind)
 
 

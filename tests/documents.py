@@ -14,6 +14,7 @@ repository. A link to a file of the repository must lead to one, and to a headin
 """
 from __future__ import annotations
 
+import doctest
 import functools
 import importlib.util
 import os
@@ -21,7 +22,7 @@ import pathlib
 import re
 import shutil
 import subprocess
-from typing import Iterator, List, NamedTuple, Optional
+from typing import Iterable, Iterator, List, NamedTuple, Optional
 
 from support import ROOT
 
@@ -100,6 +101,19 @@ def printed(command: Command, **environment: str) -> str:
         words, cwd=ROOT, env={**os.environ, **environment}, stdout=subprocess.PIPE, timeout=600, check=False
     )
     return done.stdout.decode("utf-8", "replace")
+
+
+def hold_session(blocks: Iterable[Block], least: int = 1, flags: int = 0) -> None:
+    """The blocks are a session of Python at the root of the repository, of so many examples at least."""
+    blocks, before = list(blocks), os.getcwd()
+    text = "".join(f"{it.text}\n" for it in blocks)
+    os.chdir(ROOT)
+    try:
+        test = doctest.DocTestParser().get_doctest(text, {}, blocks[0].path.name, None, 0)
+        found = doctest.DocTestRunner(optionflags=doctest.ELLIPSIS | flags).run(test)
+    finally:
+        os.chdir(before)
+    assert found.attempted >= least and found.failed == 0, found
 
 
 def names_itself(program: str) -> str:

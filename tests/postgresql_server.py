@@ -45,19 +45,7 @@ class Server:
             nobody = pwd.getpwnam("nobody")
             self.user = {"user": nobody.pw_uid, "group": nobody.pw_gid, "extra_groups": []}
             os.chown(folder, nobody.pw_uid, nobody.pw_gid)
-        words = [
-            self.own / "initdb",
-            "-D",
-            folder / "data",
-            "-U",
-            USER,
-            "-A",
-            "trust",
-            "-E",
-            "UTF8",
-            "--no-locale",
-            "-N",
-        ]
+        words = [self.own / "initdb", "-D", folder / "data", *f"-U {USER} -A trust -E UTF8 --no-locale -N".split()]
         succeed(words, cwd=folder, env={**os.environ, "LC_ALL": "C"}, **self.user)
         self.environment = {
             **{key: value for key, value in os.environ.items() if not key.startswith("PG")},
@@ -118,13 +106,7 @@ class Server:
             timeout=SECONDS,
             check=False,
         )
-        lines, found = done.stdout.decode(errors="replace").split("\n"), []
-        begin = 0
-        for index in range(len(statements)):
-            end = lines.index(f"-- {index}", begin) if f"-- {index}" in lines[begin:] else len(lines)
-            found.append("\n".join(lines[begin:end]).replace("ERROR:  ", "Error: "))
-            begin = end + 1
-        return [*found, "\n".join(lines[begin:])]
+        return sql_rows.answers_of(statements, done.stdout.replace(b"ERROR:  ", b"Error: "))
 
     def hold(self, statements: List[Statement], database: str = "postgres", first: str = "") -> None:
         *answers, rest = self.printed(statements, database, first)

@@ -312,8 +312,6 @@ def run(program: pathlib.Path, case: Case) -> "subprocess.CompletedProcess[bytes
             settings["cwd"] = folder = pathlib.Path(stack.enter_context(tempfile.TemporaryDirectory()))
             for name, text in case.files.items():
                 (folder / os.fsdecode(name)).write_bytes(text)
-        if b"input-in-turn" in case.flags:
-            return run_in_turn(settings["cwd"], command, lines)
         if b"input-by-lines" in case.flags:
             settings |= {"input": None, "stdin": stack.enter_context(sent_by_lines(lines))}
         elif b"input-unreadable" in case.flags:
@@ -323,4 +321,8 @@ def run(program: pathlib.Path, case: Case) -> "subprocess.CompletedProcess[bytes
             settings["stdout"] = stack.enter_context(open("/dev/full", "wb"))
         elif b"output-closed" in case.flags:
             settings["stdout"] = stack.enter_context(closed_pipe())
-        return subprocess.run(command, stderr=subprocess.PIPE, timeout=SECONDS, check=False, **settings)
+        if b"input-in-turn" in case.flags:
+            done = run_in_turn(settings["cwd"], command, lines)
+        else:
+            done = subprocess.run(command, stderr=subprocess.PIPE, timeout=SECONDS, check=False, **settings)
+    return done

@@ -3,7 +3,7 @@ and what they promise alike. A database's own spelling of it is a Dialect."""
 
 from __future__ import annotations
 
-from typing import Callable, Iterable, Iterator, List, NamedTuple, Optional, Tuple
+from typing import Callable, Iterable, Iterator, List, NamedTuple, Optional, Sequence, Tuple
 
 import rows
 from support import CANONICAL_HEIGHT, HEIGHT, NOTED
@@ -108,6 +108,16 @@ def all_rows(dialect: Dialect) -> Iterator[Statement]:
     for case in rows.all_cases():
         for is_blob in (False, True):
             yield from of_case(case, is_blob, dialect)
+
+
+def answers_of(statements: Sequence[Statement], output: bytes) -> List[str]:
+    """What was printed for each statement, and after all of them, where its number was printed after each."""
+    lines, found = output.decode(errors="replace").split("\n"), []
+    for index in range(len(statements)):
+        end = lines.index(f"-- {index}") if f"-- {index}" in lines else len(lines)
+        found.append("\n".join(lines[:end]))
+        lines = lines[end + 1 :]
+    return [*found, "\n".join(lines)]
 
 
 def hold(statements: Iterable[Statement], answers: Iterable[str]) -> None:

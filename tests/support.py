@@ -6,7 +6,8 @@ import os
 import pathlib
 import shutil
 import subprocess
-from typing import Any, Dict, Iterable
+import sys
+from typing import Any, Dict, Iterable, Optional, Tuple
 
 import pytest
 
@@ -44,6 +45,22 @@ def succeed(words: Iterable[object], **more: Any) -> str:
     done = run(words, **{"stderr": subprocess.STDOUT, **more})
     assert done.returncode == 0, done.stdout[-3000:]
     return str(done.stdout)
+
+
+def package(
+    *words: object, cwd: Optional[pathlib.Path] = None, source: bytes = b"", **more: str
+) -> Tuple[int, str, str]:
+    """The status of `python3 -m crsdesk`, and what it writes to output and error; with more of an environment."""
+    done = subprocess.run(
+        [sys.executable, "-m", "crsdesk", *map(str, words)],
+        cwd=cwd or "/",
+        env={**os.environ, **more},
+        input=source,
+        capture_output=True,
+        timeout=SECONDS,
+        check=False,
+    )
+    return done.returncode, done.stdout.decode(), done.stderr.decode()
 
 
 def found(file: pathlib.Path, how: str) -> pathlib.Path:

@@ -27,7 +27,8 @@ from typing import Any, Dict, FrozenSet, Iterator, List, Optional, Tuple
 import audit_archive
 import big_catalogue
 import pytest
-from support import HEIGHT, ROOT, need
+from gdal_data import make_raster, make_vector, reference_of
+from support import HEIGHT, ROOT, need, package
 
 pytest.importorskip("jinja2")
 pytest.importorskip("rich")
@@ -41,17 +42,16 @@ Places = FrozenSet[Tuple[str, str, int]]
 Partition = FrozenSet[FrozenSet[Places]]
 
 
-def audit(*words: object, cwd: Optional[pathlib.Path] = None, **more: str) -> Tuple[int, str, str]:
-    """The status of the command, and what it writes; with more of an environment."""
-    done = subprocess.run(
-        [sys.executable, "-m", "crsdesk", "audit", *map(str, words)],
-        cwd=cwd or "/",
-        env={**os.environ, **more},
-        capture_output=True,
-        timeout=300,
-        check=False,
-    )
-    return done.returncode, done.stdout.decode(), done.stderr.decode()
+audit = functools.partial(package, "audit")
+
+
+def audited_data(*words: object, cwd: Optional[pathlib.Path] = None) -> Tuple[int, str, str, Any]:
+    """The status of an audit, what it writes to output and error, and its data."""
+    out = folder() / "data.json"
+    out.unlink(missing_ok=True)
+    status, output, error = audit("--json", out, *words, cwd=cwd)
+    assert "Traceback" not in error, error
+    return status, output, error, json.loads(out.read_text(encoding="utf-8"))
 
 
 @functools.lru_cache(maxsize=None)
@@ -467,10 +467,8 @@ def test_a_log_is_read_and_nothing_is_made() -> None:
     path = folder() / "logged" / "a.sqlite"
     make_logged_database(path)
     before = everything_below(path.parent)
-    out = folder() / "logged.json"
-    status, output, error = audit("--json", out, path)
+    status, _, error, data = audited_data(path)
     assert status == 2 and error == f"crsdesk: {path} (lost): there is no entry 8 for the layer\n", error
-    data = json.loads(out.read_text())
     assert data["definitions"][0]["variants"][0]["places"] == [{"file": str(path), "layer": "roads"}]
     assert [(it["place"]["layer"], it["why"]) for it in data["without"]] == [("none", "the layer has no CRS")]
     assert everything_below(path.parent) == before
@@ -479,38 +477,24 @@ def test_a_log_is_read_and_nothing_is_made() -> None:
 def test_what_gdal_reads() -> None:
     """Layers, subdatasets, archives and folders that are data sets; no file is made beside them."""
     need("python3:osgeo")
-    from osgeo import gdal, ogr, osr
+    from osgeo import gdal
 
     gdal.UseExceptions()
     place = folder() / "gdal"
     (place / "in").mkdir(parents=True)
-    wgs84, utm = osr.SpatialReference(), osr.SpatialReference()
-    wgs84.ImportFromEPSG(4326)
-    utm.ImportFromEPSG(32631)
     for name, driver in (("two.gml", "GML"), ("two.gdb", "OpenFileGDB"), ("two.gpkg", "GPKG"), ("two.kml", "KML")):
-        path = place / "in" / name
-        data_set = gdal.GetDriverByName(driver).Create(str(path), 0, 0, 0, gdal.GDT_Unknown)
-        for layer in ("one", "other"):
-            made = data_set.CreateLayer(layer, wgs84, ogr.wkbPoint)
-            feature = ogr.Feature(made.GetLayerDefn())
-            feature.SetGeometry(ogr.CreateGeometryFromWkt("POINT (1 2)"))
-            made.CreateFeature(feature)
-        data_set = made = feature = None
+        make_vector(place / "in" / name, driver, reference_of(4326), "one", "other", has_points=True)
     for path in (place / "in").glob("*.xsd"):
         path.unlink()
-    data_set = gdal.GetDriverByName("GTiff").Create(str(place / "a.tif"), 2, 2, 1, gdal.GDT_Byte)
-    data_set.SetSpatialRef(utm)
-    data_set = None
-    data_set = gdal.GetDriverByName("GTiff").Create(str(place / "in" / "none.TIF"), 2, 2, 1, gdal.GDT_Byte)
-    data_set = None
+    make_raster(place / "a.tif", "GTiff", reference_of(32631))
+    make_raster(place / "in" / "none.TIF", "GTiff", None)
     with zipfile.ZipFile(place / "in" / "packed}.zip", "w") as archive:
         archive.write(place / "a.tif", "below/a.tif")
         archive.write(place / "in" / "two.gpkg", "two.gpkg")
     before = everything_below(place / "in")
-    status, output, error = audit("--json", place / "out.json", "in", cwd=place)
+    _, _, error, data = audited_data("in", cwd=place)
     assert everything_below(place / "in") == before, set(everything_below(place / "in")) ^ set(before)
     assert error == "", error
-    data = json.loads((place / "out.json").read_text())
     places = {(it["file"], it.get("layer")) for d in data["definitions"] for v in d["variants"] for it in v["places"]}
     places |= {(it["place"]["file"], it["place"].get("layer")) for it in data["refused"]}
     wanted = {(f"in/two.{suffix}", layer) for suffix in ("gml", "gdb", "gpkg", "kml") for layer in ("one", "other")}

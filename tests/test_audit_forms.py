@@ -3,7 +3,6 @@ one data set; and of what kind differences are."""
 from __future__ import annotations
 
 import importlib.util
-import json
 import os
 import pathlib
 import random
@@ -11,8 +10,9 @@ import re
 from typing import Any, Dict, List, Optional, Tuple
 
 import pytest
+from gdal_data import make_vector, reference_of
 from support import HEIGHT, ROOT, need
-from test_audit import audit, folder
+from test_audit import audit, audited_data, folder
 from test_audit_hostile import server
 
 from crsdesk import Crs, Difference
@@ -35,10 +35,8 @@ def text_of(name: str) -> str:
 
 def data_of(place: pathlib.Path, *words: object) -> Tuple[int, str, Any]:
     """The status of an audit of a folder, what it writes, and its data."""
-    out = folder() / "forms.json"
-    status, output, error = audit("--json", out, *words, place)
-    assert "Traceback" not in error, error
-    return status, output, json.loads(out.read_text(encoding="utf-8"))
+    status, output, _, data = audited_data(*words, place)
+    return status, output, data
 
 
 def written(name: str, texts: Dict[str, str]) -> pathlib.Path:
@@ -107,11 +105,9 @@ def test_the_order_of_conversions_changes_nothing() -> None:
     paths = [str(place / name) for name in forms()]
     reports = []
     for number, jobs in enumerate((1, 1, 4)):
-        out = folder() / "shuffled.json"
         order = random.Random(number).sample(paths, len(paths))
-        status, _, error = audit("--convert", "--registry", "--jobs", jobs, "--json", out, *order)
+        status, _, error, data = audited_data("--convert", "--registry", "--jobs", jobs, *order)
         assert (status, error) == (0, ""), error
-        data = json.loads(out.read_text())
         variants = [(one["transformation"], it) for one in data["definitions"] for it in one["variants"]]
         reports.append({it["file"]: (way, v["text"], v["registered"]) for way, v in variants for it in v["places"]})
     assert reports[0] == reports[1] == reports[2]
@@ -213,21 +209,15 @@ def test_what_isnt_there_is_told() -> None:
 def test_texts_of_one_data_set_are_compared() -> None:
     """A shapefile, its .prj, and a .qpj that says another zone; one that is sound; and texts that stand alone."""
     need("python3:osgeo")
-    from osgeo import gdal, ogr, osr
+    from osgeo import gdal
 
     gdal.UseExceptions()
     place = folder() / "sets"
     place.mkdir()
-    references = {code: osr.SpatialReference() for code in (32631, 32632)}
-    for code, reference in references.items():
-        reference.ImportFromEPSG(code)
-    for name in ("sound", "odd"):
-        data_set = gdal.GetDriverByName("ESRI Shapefile").Create(str(place / f"{name}.shp"), 0, 0, 0, gdal.GDT_Unknown)
-        data_set.CreateLayer(name, references[32631], ogr.wkbPoint)
-        data_set = None
-        code = 32631 if name == "sound" else 32632
-        (place / f"{name}.qpj").write_text(references[code].ExportToWkt(["FORMAT=WKT1_GDAL"]))
-    (place / "alone.prj").write_text(references[32631].ExportToWkt(["FORMAT=WKT1_ESRI"]))
+    for name, code in (("sound", 32631), ("odd", 32632)):
+        make_vector(place / f"{name}.shp", "ESRI Shapefile", reference_of(32631))
+        (place / f"{name}.qpj").write_text(reference_of(code).ExportToWkt(["FORMAT=WKT1_GDAL"]))
+    (place / "alone.prj").write_text(reference_of(32631).ExportToWkt(["FORMAT=WKT1_ESRI"]))
     status, output, data = data_of(place, "--convert")
     assert status == 0 and data["summary"]["data_sets"] == 2 and data["summary"]["disagreeing"] == 1
     odd, sound = data["data_sets"]

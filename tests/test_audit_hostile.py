@@ -18,8 +18,9 @@ import urllib.request
 import zipfile
 from typing import Any, Dict, Iterator, List, Tuple
 
+from gdal_data import make_raster, make_vector, reference_of
 from support import HEIGHT, need
-from test_audit import audit, folder
+from test_audit import audit, audited_data, folder
 
 HAS_GDAL = importlib.util.find_spec("osgeo") is not None
 POINT = {"type": "Feature", "properties": {}, "geometry": {"type": "Point", "coordinates": [1, 2]}}
@@ -92,10 +93,8 @@ VECTORS = {"shp": "ESRI Shapefile", "fgb": "FlatGeobuf", "tab": "MapInfo File", 
 
 def make_linked_rasters(place: pathlib.Path, address: str) -> int:
     """A raster of each driver that writes one, with a file beside it that names an address as its CRS; how many."""
-    from osgeo import gdal, osr
+    from osgeo import gdal
 
-    reference = osr.SpatialReference()
-    reference.ImportFromEPSG(32631)
     made = 0
     for suffix, name in RASTERS.items():
         driver = gdal.GetDriverByName(name)
@@ -106,7 +105,7 @@ def make_linked_rasters(place: pathlib.Path, address: str) -> int:
         )
         raster.SetGeoTransform((0, 1, 0, 0, 0, -1))
         if suffix in ("bag", "grb"):
-            raster.SetSpatialRef(reference)
+            raster.SetSpatialRef(reference_of(32631))
         driver.CreateCopy(str(place / f"raster.{suffix}"), raster)
         (place / f"raster.{suffix}.aux.xml").write_text(f"<PAMDataset><SRS>{address}/{suffix}</SRS></PAMDataset>")
         made += 1
@@ -115,17 +114,15 @@ def make_linked_rasters(place: pathlib.Path, address: str) -> int:
 
 def make_linked_vectors(place: pathlib.Path, address: str) -> None:
     """Data sets of layers whose text of the CRS is an address, where that can be written."""
-    from osgeo import gdal, ogr, osr
+    from osgeo import gdal, ogr
 
-    reference = osr.SpatialReference()
-    reference.ImportFromEPSG(32631)
     for suffix, name in VECTORS.items():
         driver = gdal.GetDriverByName(name)
         if driver is None:
             continue
         path = place / f"vector.{suffix}"
         data_set = driver.Create(str(path), 0, 0, 0, gdal.GDT_Unknown)
-        layer = data_set.CreateLayer("vector", None if suffix == "dxf" else reference, ogr.wkbPoint)
+        layer = data_set.CreateLayer("vector", None if suffix == "dxf" else reference_of(32631), ogr.wkbPoint)
         if suffix == "tab":
             layer.CreateField(ogr.FieldDefn("n", ogr.OFTInteger))
         data_set = layer = None
@@ -217,10 +214,8 @@ def test_the_order_changes_nothing() -> None:
     for number, jobs in ((1, 1), (2, 2), (3, 4)):
         orders.append((random.Random(number).sample(paths, len(paths)), jobs))
     for order, jobs in orders:
-        out = folder() / "order.json"
-        status, _, error = audit("--jobs", jobs, "--json", out, *order)
+        status, _, error, data = audited_data("--jobs", jobs, *order)
         assert status in (0, 1) and error == "", (status, error)
-        data = json.loads(out.read_text())
         variants = [variant for it in data["definitions"] for variant in it["variants"]]
         refused = {it["place"]["file"]: it["piece"] for it in data["refused"]}
         reports.append({**{place["file"]: it["text"] for it in variants for place in it["places"]}, **refused})
@@ -232,27 +227,17 @@ def test_the_order_changes_nothing() -> None:
 
 def make_alike(place: pathlib.Path) -> List[str]:
     """Layers, and then rasters, whose CRSs have parts in common."""
-    from osgeo import gdal, ogr, osr
+    from osgeo import gdal
 
     gdal.UseExceptions()
-    references = {code: osr.SpatialReference() for code in (4326, 4979, 32631, 3857, 28992, 4258, 25832, 3035)}
     layers, rasters = [], []
-    for code, reference in references.items():
-        reference.ImportFromEPSG(code)
+    for code in (4326, 4979, 32631, 3857, 28992, 4258, 25832, 3035):
         for suffix, name in (("gml", "GML"), ("geojson", "GeoJSON"), ("fgb", "FlatGeobuf")):
             layers.append(place / f"{code}.{suffix}")
-            data_set = gdal.GetDriverByName(name).Create(str(layers[-1]), 0, 0, 0, gdal.GDT_Unknown)
-            layer = data_set.CreateLayer("one", reference, ogr.wkbPoint)
-            feature = ogr.Feature(layer.GetLayerDefn())
-            feature.SetGeometry(ogr.CreateGeometryFromWkt("POINT (1 2)"))
-            layer.CreateFeature(feature)
-            data_set = layer = feature = None
+            make_vector(layers[-1], name, reference_of(code), "one", has_points=True)
         for suffix, name in (("img", "HFA"), ("tif", "GTiff")):
-            raster = gdal.GetDriverByName("MEM").Create("", 20, 20, 1, gdal.GDT_Byte)
-            raster.SetSpatialRef(reference)
-            raster.SetGeoTransform((400000, 10, 0, 500000, 0, -10))
             rasters.append(place / f"{code}.{suffix}")
-            gdal.GetDriverByName(name).CreateCopy(str(rasters[-1]), raster)
+            make_raster(rasters[-1], name, reference_of(code))
     return list(map(str, layers + rasters))
 
 
@@ -269,10 +254,8 @@ def test_damage_is_told() -> None:
         for path in sorted(place.iterdir()):
             archive.write(path, path.name)
     (folder() / "damage.zip").rename(place / "all.zip")
-    out = folder() / "damage.json"
-    status, _, error = audit("--json", out, place)
-    data = json.loads(out.read_text())
-    assert status == 2 and "Traceback" not in error, error
+    status, _, _, data = audited_data(place)
+    assert status == 2
     unread = {}
     for it in data["unread"]:
         file, layer = it["place"]["file"], it["place"]["layer"]
@@ -293,13 +276,7 @@ def test_damage_is_told() -> None:
 
 def make_damaged_shapefiles(place: pathlib.Path) -> Dict[str, str]:
     """A sound shapefile, and copies with a damaged .prj; what is told of these."""
-    from osgeo import gdal, ogr, osr
-
-    reference = osr.SpatialReference()
-    reference.ImportFromEPSG(28992)
-    data_set = gdal.GetDriverByName("ESRI Shapefile").Create(str(place / "sound.shp"), 0, 0, 0, gdal.GDT_Unknown)
-    data_set.CreateLayer("sound", reference, ogr.wkbPoint)
-    data_set = None
+    make_vector(place / "sound.shp", "ESRI Shapefile", reference_of(28992))
     sound = (place / "sound.prj").read_text()
     damaged = {
         "comma": (sound.replace("6377397.155", "6377397,155"), "corrupt data"),

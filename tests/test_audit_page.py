@@ -8,15 +8,13 @@ import functools
 import pathlib
 import re
 import shutil
-import subprocess
-import sys
 import time
 from typing import Any, Callable, Iterator, List, NamedTuple
 
 import audit_archive
 import big_catalogue
 import pytest
-from test_audit import folder
+from test_audit import audit, folder
 
 pytestmark = pytest.mark.needs("chromium", "chromedriver", "python3:selenium")
 DRIVER = "chromedriver"
@@ -51,9 +49,8 @@ def browser(*words: str, has_scripts: bool = True, size: str = "1200,1000") -> I
 def audited(name: str, *words: object) -> pathlib.Path:
     """The page of an audit."""
     page = folder() / name
-    command = [sys.executable, "-m", "crsdesk", "audit", "--lines", "--html", page, *words]
-    done = subprocess.run(list(map(str, command)), capture_output=True, check=False)
-    assert done.returncode == 1, done.stderr[-2000:]
+    status, _, error = audit("--lines", "--html", page, *words)
+    assert status == 1, error[-2000:]
     return page
 
 

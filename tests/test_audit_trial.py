@@ -19,13 +19,14 @@ import os
 import pathlib
 import random
 import re
-import subprocess
 import sys
 import tempfile
 import zipfile
 from typing import Any, Callable, Dict, Iterable, Iterator, List, NamedTuple, Tuple
 
 import pytest
+from gdal_data import make_raster, make_vector, reference_of
+from support import package
 
 GEOGRAPHIC = (4326, 4258, 4269, 4267, 4289, 4314, 4230, 4283, 4167, 4807)
 PROJECTED = (
@@ -101,14 +102,6 @@ DAMAGES: Tuple[Tuple[str, int, Callable[[str], str]], ...] = (
 )
 
 
-def reference_of(code: int) -> Any:
-    from osgeo import osr
-
-    reference = osr.SpatialReference()
-    reference.ImportFromEPSG(code)
-    return reference
-
-
 def text_of(code: int, form: str) -> str:
     return str(reference_of(code).ExportToWkt([f"FORMAT={form}", "MULTILINE=NO"]))
 
@@ -139,12 +132,8 @@ class Archive:
         self.state(path, "", str(code))
 
     def add_shapefile(self, code: int, with_qpj: bool) -> pathlib.Path:
-        from osgeo import gdal, ogr
-
         path = self.path(f"{code}_{self.files}.shp")
-        data_set = gdal.GetDriverByName("ESRI Shapefile").Create(str(path), 0, 0, 0, gdal.GDT_Unknown)
-        data_set.CreateLayer(path.stem, reference_of(code), ogr.wkbPoint)
-        data_set = None
+        make_vector(path, "ESRI Shapefile", reference_of(code))
         self.state(path, path.stem, str(code))
         path.with_suffix(".prj").write_text(text_of(code, "WKT1_ESRI"))
         self.state(path.with_suffix(".prj"), "", str(code))
@@ -154,29 +143,17 @@ class Archive:
         return path
 
     def add_raster(self, code: int, suffix: str) -> pathlib.Path:
-        from osgeo import gdal
-
         suffix = "tif" if code in NOT_IN_NETCDF else suffix
         path = self.path(f"{code} {self.files}.{suffix}")
-        driver = gdal.GetDriverByName({"tif": "GTiff", "nc": "netCDF"}[suffix])
-        data_set = driver.Create(str(path), 2, 2, 1, gdal.GDT_Byte)
-        data_set.SetSpatialRef(reference_of(code))
-        data_set.SetGeoTransform((1, 0.1, 0, 2, 0, -0.1))
-        data_set = None
+        driver = {"tif": "GTiff", "nc": "netCDF"}[suffix]
+        make_raster(path, driver, reference_of(code), (1, 0.1, 0, 2, 0, -0.1))
         self.state(path, "", str(code))
         return path
 
     def add_layer(self, code: int, suffix: str) -> None:
-        from osgeo import gdal, ogr
-
         path = self.path(f"{code} {self.files}.{suffix}")
-        driver = gdal.GetDriverByName({"gpkg": "GPKG", "geojson": "GeoJSON"}[suffix])
-        data_set = driver.Create(str(path), 0, 0, 0, gdal.GDT_Unknown)
-        layer = data_set.CreateLayer("roads", reference_of(code), ogr.wkbPoint)
-        feature = ogr.Feature(layer.GetLayerDefn())
-        feature.SetGeometry(ogr.CreateGeometryFromWkt("POINT (1 2)"))
-        layer.CreateFeature(feature)
-        data_set = layer = feature = None
+        driver = {"gpkg": "GPKG", "geojson": "GeoJSON"}[suffix]
+        make_vector(path, driver, reference_of(code), "roads", has_points=True)
         self.state(path, "roads", str(code))
 
     def add_zip(self, code: int) -> None:
@@ -273,9 +250,8 @@ def forms_of(archive: Archive) -> Iterator[Callable[[int], Any]]:
 def audited(folder: pathlib.Path, *words: str) -> Dict[str, Any]:
     with tempfile.TemporaryDirectory() as place:
         out = pathlib.Path(place, "out.json")
-        command = [sys.executable, "-m", "crsdesk", "audit", "--json", str(out), *words, str(folder)]
-        done = subprocess.run(command, capture_output=True, text=True, check=False)
-        assert out.exists(), done.stderr[-2000:]
+        _, _, error = package("audit", "--json", out, *words, folder)
+        assert out.exists(), error[-2000:]
         return dict(json.loads(out.read_text(encoding="utf-8")))
 
 

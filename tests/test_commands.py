@@ -8,7 +8,7 @@ import sys
 from typing import Tuple
 
 import pytest
-from support import CANONICAL_HEIGHT, HEIGHT, need
+from support import CANONICAL_HEIGHT, HEIGHT, need, package
 from test_python import ASKED, level_of
 
 import crsdesk
@@ -32,11 +32,7 @@ class Files:
         (self.folder / name).write_bytes(text.encode())
 
     def run(self, *words: str, source: bytes = b"", **more: str) -> Tuple[int, str, str]:
-        """The status of a command, and what it writes; with more of an environment."""
-        command = [sys.executable, "-m", "crsdesk", *words]
-        environment = {**os.environ, **more}
-        done = subprocess.run(command, cwd=self.folder, env=environment, input=source, capture_output=True, timeout=600)
-        return done.returncode, done.stdout.decode(), done.stderr.decode()
+        return package(*words, cwd=self.folder, source=source, **more)
 
 
 @pytest.fixture(name="files")
@@ -125,8 +121,8 @@ def test_lines(files: Files) -> None:
     old = files.run("canon", "--lines", "-", source=b'\n\nGEOGCS["A"]\n')[2]
     assert old.startswith("-:3: refused 11") and '"$(sed -n 3p FILE)"' in old
     for case in ASKED:
-        level, words = level_of(case)
-        if words == [b"group"]:
+        level, asked = level_of(case)
+        if asked == [b"group"]:
             status, output, _ = files.run("group", f"--level={level}", "--lines", "-", source=case.input)
             assert (status, output.encode()) == (case.status, case.output), case.name
 

@@ -122,13 +122,10 @@ def hold_answer(name: str, got: List[Standing], wanted: List[Standing]) -> None:
     assert len(got) == len(wanted), name
 
 
-def test_document(monkeypatch: pytest.MonkeyPatch) -> None:
+def test_document() -> None:
     """The session of docs/CLUSTER.md, before there is a cluster here that its collections would take."""
-    monkeypatch.chdir(ROOT)
-    text = "".join(it.text for it in documents.blocks_of(ROOT / "docs" / "CLUSTER.md") if it.kind == "pycon")
-    runner = doctest.DocTestRunner(optionflags=doctest.ELLIPSIS | doctest.NORMALIZE_WHITESPACE)
-    found = runner.run(doctest.DocTestParser().get_doctest(text, {}, "CLUSTER.md", None, 0))
-    assert found.attempted and not found.failed
+    blocks = [it for it in documents.blocks_of(ROOT / "docs" / "CLUSTER.md") if it.kind == "pycon"]
+    documents.hold_session(blocks, flags=doctest.NORMALIZE_WHITESPACE)
 
 
 def test_small() -> None:

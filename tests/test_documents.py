@@ -7,7 +7,7 @@ from typing import Tuple
 
 import pytest
 from documents import Block, Command, blocks_of, commands_of, leads, links_of, printed
-from support import ROOT, run
+from support import HERE, ROOT, succeed
 
 EXAMPLES = ROOT / "crates" / "crs_examples" / "src"
 DOCUMENTS = [ROOT / "README.md", ROOT / "python" / "README.md", *sorted((ROOT / "docs").glob("*.md"))]
@@ -17,12 +17,11 @@ CODE = [block for block in BLOCKS if block.kind == "rust" or " of=" in block.hea
 # The documents whose sessions of Python test_python.py and test_dask.py run.
 ELSEWHERE = ("PYTHON.md", "CLUSTER.md")
 SESSIONS = [path for path in DOCUMENTS if path.name not in ELSEWHERE and "```pycon" in path.read_text(encoding="utf-8")]
-# Runs a session, whose text is standard input.
+# Runs the session of a document, as far as what its blocks need is there.
 SESSION = """
-import doctest, sys
-test = doctest.DocTestParser().get_doctest(sys.stdin.read(), {}, sys.argv[1], None, 0)
-found = doctest.DocTestRunner(optionflags=doctest.ELLIPSIS).run(test)
-sys.exit(found.failed > 0 or found.attempted == 0)
+import pathlib, sys
+from documents import blocks_of, hold_session
+hold_session(it for it in blocks_of(pathlib.Path(sys.argv[1])) if it.kind == "pycon" and not it.lacks)
 """
 
 
@@ -38,11 +37,9 @@ def test_command(command: Command, program: pathlib.Path, sqlite_extension: path
 
 @pytest.mark.parametrize("path", SESSIONS, ids=lambda it: str(it.name))
 def test_session(path: pathlib.Path, library: pathlib.Path) -> None:
-    text = "".join(f"{it.text}\n" for it in blocks_of(path) if it.kind == "pycon" and not it.lacks)
-    if not text:
+    if all(it.lacks for it in blocks_of(path) if it.kind == "pycon"):
         pytest.skip("what its blocks need isn't there")
-    done = run([sys.executable, "-c", SESSION, path.name], input=text, cwd=ROOT)
-    assert done.returncode == 0, done.stdout + done.stderr
+    succeed([sys.executable, "-c", SESSION, path], cwd=HERE)
 
 
 @pytest.mark.parametrize("block", CODE, ids=str)

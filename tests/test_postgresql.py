@@ -16,6 +16,7 @@ import subprocess
 import tempfile
 from typing import Dict, Iterator, Optional
 
+import build
 import build_postgresql
 import documents
 import pytest
@@ -139,12 +140,10 @@ def test_symbols(stage: pathlib.Path) -> None:
     assert re.findall(r"\(NEEDED\).*\[(.*)\]", succeed(["readelf", "-d", module])) == ["libc.so.6"]
 
 
-def test_version(server: Server, prefix: pathlib.Path) -> None:
+def test_version(server: Server) -> None:
     """crs_version is the library's that the extension holds; the extension's own version is that of its scripts."""
-    told = (prefix / "lib" / "pkgconfig" / "crsdesk.pc").read_text(encoding="utf-8").split("\n")
-    wanted = next(line.partition(": ")[2] for line in told if line.startswith("Version: "))
     asked = "SELECT crs_version(), extversion FROM pg_extension WHERE extname = 'crsdesk';"
-    server.hold([("the version", asked, f"{wanted}|{VERSION}")])
+    server.hold([("the version", asked, f"{build.version()}|{VERSION}")])
 
 
 # All functions of the extension as they are declared.

@@ -1064,15 +1064,8 @@ def test_examples_of_the_docstrings() -> None:
 def hold_examples(needs: str = "") -> None:
     """The blocks of docs/PYTHON.md that begin with ```pycon, and need nothing, or a package or program."""
     asked = ["pycon", f"pycon needs={needs}"] if needs else ["pycon"]
-    text = "".join(it.text for it in documents.blocks_of(ROOT / "docs" / "PYTHON.md") if it.head in asked)
-    before = os.getcwd()
-    os.chdir(ROOT)
-    try:
-        runner = doctest.DocTestRunner(optionflags=doctest.ELLIPSIS)
-        found = runner.run(doctest.DocTestParser().get_doctest(text, {}, "PYTHON.md", None, 0))
-    finally:
-        os.chdir(before)
-    assert found.attempted > (30 if needs == "pyproj" else 10) and found.failed == 0, found
+    blocks = documents.blocks_of(ROOT / "docs" / "PYTHON.md")
+    documents.hold_session((it for it in blocks if it.head in asked), 31 if needs == "pyproj" else 11)
 
 
 def test_examples_of_the_document() -> None:

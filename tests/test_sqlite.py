@@ -17,6 +17,7 @@ import sys
 from concurrent.futures import ThreadPoolExecutor
 from typing import Iterator, List, NamedTuple
 
+import build
 import build_sqlite
 import pytest
 import rows
@@ -141,13 +142,7 @@ def printed(extension: pathlib.Path, statements: List[Statement], first: str, pr
         timeout=SECONDS,
         check=False,
     )
-    lines, found = done.stdout.decode(errors="replace").split("\n"), []
-    begin = 0
-    for index in range(len(statements)):
-        end = lines.index(f"-- {index}", begin)
-        found.append("\n".join(lines[begin:end]))
-        begin = end + 1
-    return [*found, "\n".join(lines[begin:])]
+    return sql_rows.answers_of(statements, done.stdout)
 
 
 def plain_error(text: str) -> str:
@@ -304,12 +299,10 @@ def test_room(extension: pathlib.Path) -> None:
     assert found == ["1|1|1", ""], "room for differences"
 
 
-def test_version(prefix: pathlib.Path, extension: pathlib.Path) -> None:
+def test_version(extension: pathlib.Path) -> None:
     """It answers the version of the library that it holds."""
-    told = (prefix / "lib" / "pkgconfig" / "crsdesk.pc").read_text(encoding="utf-8").split("\n")
-    wanted = next(line.partition(": ")[2] for line in told if line.startswith("Version: "))
     found = printed(extension, [("the version", "SELECT crs_version(), typeof(crs_version());", "")], "", "")
-    assert found == [f"{wanted}|text", ""], "crs_version"
+    assert found == [f"{build.version()}|text", ""], "crs_version"
 
 
 class Connection:

@@ -8,6 +8,7 @@ from collections import Counter
 
 import pytest
 import wrong_bodies
+from build import needed
 from support import ROOT
 from wrong_bodies import FURTHER, GATE, MOST, WHOLE
 
@@ -49,7 +50,7 @@ def test_folders() -> None:
 )
 def test_reason(told: str, is_of_names: bool) -> None:
     """A function whose answer names what isn't there is told apart from one that has a reason of its own."""
-    trial = wrong_bodies.Trial(wrong_bodies.build.needed(["crs_decimal"])[-1], [])
+    trial = wrong_bodies.Trial(needed(["crs_decimal"])[-1], [])
     said = f"./proofs/short/write/Answers.antt:3:5 error: {told}"
     assert trial.reason("short::write", {"short::write": "not proved"}, {}, said) == (
         f"short::write: {told}",

@@ -341,7 +341,7 @@ def explained(text: bytes, number: int, place: int) -> Optional[Told]:
         return None
     piece, line, _, at_place, *sentences = pieces[:7]
     shown = piece.rstrip("\n"), line.rstrip("\n"), tuple(pieces[7:])
-    return Told(where.line, where.column, *shown, *sentences, at_place)
+    return Told(where.line, where.column, *shown, at_place, *sentences)
 
 
 @functools.lru_cache(maxsize=None)

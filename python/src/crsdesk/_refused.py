@@ -15,10 +15,10 @@ class Told(NamedTuple):
     piece: str
     expected_line: str
     expected: Tuple[str, ...]
+    found: str
     open_or_meant: str
     meaning: str
     hints: str
-    found: str
 
 
 NOTHING = Told(0, 0, "", "", (), "", "", "", "")
