@@ -20,6 +20,8 @@ PROGRAM = ROOT / "crates" / "crsdesk" / "out" / "crsdesk"
 SECONDS = 1800
 # ./test sets this variable: what rt ci has built must be there.
 GATE = "CRSDESK_GATE"
+# What runs a program as another user, where that can be; else it is run as this one.
+NOBODY: Dict[str, Any] = {"user": 65534, "group": 65534, "extra_groups": []} if os.geteuid() == 0 else {}
 # A height, its canonical text, the same with a remark, and the same spelled otherwise.
 HEIGHT = 'VERTCRS["H",VDATUM["D"],CS[vertical,1],AXIS["h",up,LENGTHUNIT["metre",1]]]'
 CANONICAL_HEIGHT = 'VERTCRS["H",VDATUM["D"],CS[vertical,1],AXIS["h",up,ORDER[1],LENGTHUNIT["metre",1]]]'
@@ -27,17 +29,12 @@ NOTED = HEIGHT[:-1] + ',REMARK["r"]]'
 TWIN = HEIGHT.replace("[", "(").replace("]", ")")
 
 
-def run(words: Iterable[object], **more: Any) -> "subprocess.CompletedProcess[str]":
+def run(words: Iterable[object], **more: Any) -> "subprocess.CompletedProcess[Any]":
     """Runs a command, whose output and error are kept as texts; more is what subprocess.run takes."""
-    settings: Dict[str, Any] = {
-        "stdin": subprocess.DEVNULL,
-        "stdout": subprocess.PIPE,
-        "stderr": subprocess.PIPE,
-        **more,
-    }
-    if "input" in more:
-        del settings["stdin"]
-    return subprocess.run([str(it) for it in words], text=True, timeout=SECONDS, check=False, **settings)
+    settings: Dict[str, Any] = {"stdout": subprocess.PIPE, "stderr": subprocess.PIPE, "text": True, **more}
+    if "input" not in more:
+        settings.setdefault("stdin", subprocess.DEVNULL)
+    return subprocess.run([str(it) for it in words], timeout=SECONDS, check=False, **settings)
 
 
 def succeed(words: Iterable[object], **more: Any) -> str:
@@ -51,16 +48,15 @@ def package(
     *words: object, cwd: Optional[pathlib.Path] = None, source: bytes = b"", **more: str
 ) -> Tuple[int, str, str]:
     """The status of `python3 -m crsdesk`, and what it writes to output and error; with more of an environment."""
-    done = subprocess.run(
-        [sys.executable, "-m", "crsdesk", *map(str, words)],
-        cwd=cwd or "/",
-        env={**os.environ, **more},
-        input=source,
-        capture_output=True,
-        timeout=SECONDS,
-        check=False,
-    )
+    command = [sys.executable, "-m", "crsdesk", *words]
+    done = run(command, cwd=cwd or "/", env={**os.environ, **more}, input=source, text=False)
     return done.returncode, done.stdout.decode(), done.stderr.decode()
+
+
+def outside(**more: str) -> Dict[str, str]:
+    """The environment without the repository's package and library, and with more."""
+    own = ("CRSDESK_LIBRARY", "DESTDIR", "PYTHONPATH")
+    return {**{key: value for key, value in os.environ.items() if key not in own}, **more}
 
 
 def found(file: pathlib.Path, how: str) -> pathlib.Path:

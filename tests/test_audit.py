@@ -28,7 +28,7 @@ import audit_archive
 import big_catalogue
 import pytest
 from gdal_data import make_raster, make_vector, reference_of
-from support import HEIGHT, ROOT, need, package
+from support import HEIGHT, NOBODY, ROOT, need, package, run
 
 pytest.importorskip("jinja2")
 pytest.importorskip("rich")
@@ -575,21 +575,19 @@ def test_what_may_not_be_read_is_told() -> None:
     shutil.copytree(package, place / "package" / "crsdesk")
     library = os.environ.get("CRSDESK_LIBRARY") or package / "libcrsdesk.so"
     shutil.copyfile(library, place / "package" / "crsdesk" / "libcrsdesk.so")
-    more: Dict[str, Any] = {"user": 65534, "group": 65534, "extra_groups": []} if os.geteuid() == 0 else {}
     environment = {"PATH": os.environ["PATH"], "PYTHONPATH": str(place / "package"), "PYTHONDONTWRITEBYTECODE": "1"}
     folder().chmod(0o755)
 
-    def run(*words: str) -> "subprocess.CompletedProcess[str]":
-        command = [sys.executable, *words]
-        return subprocess.run(command, cwd=place, env=environment, capture_output=True, text=True, check=False, **more)
+    def by_another(*words: str) -> "subprocess.CompletedProcess[str]":
+        return run([sys.executable, *words], cwd=place, env=environment, **NOBODY)
 
     try:
-        is_able = run("-c", "import crsdesk, jinja2, rich").returncode == 0
+        is_able = by_another("-c", "import crsdesk, jinja2, rich").returncode == 0
     except OSError:
         is_able = False
     if not is_able:
         pytest.skip("another user has no Python here")
-    done = run("-m", "crsdesk", "audit", "--json", "out/a.json", "in")
+    done = by_another("-m", "crsdesk", "audit", "--json", "out/a.json", "in")
     (place / "in" / "shut").chmod(0o700)
     closed = {f"crsdesk: in/{name}: Permission denied" for name in ("b.wkt", "c.gpkg", "shut")}
     assert (done.returncode, set(done.stderr.splitlines())) == (2, closed), done.stderr
@@ -801,7 +799,7 @@ def test_what_isnt_installed_is_told() -> None:
     program = (
         "import sys; sys.modules['jinja2'] = None; from crsdesk.__main__ import main; sys.exit(main(sys.argv[1:]))"
     )
-    done = subprocess.run([sys.executable, "-c", program, "audit", "x"], capture_output=True, text=True, check=False)
+    done = run([sys.executable, "-c", program, "audit", "x"])
     assert (done.returncode, done.stdout) == (2, "")
     assert done.stderr == "crsdesk: audit needs jinja2: pip install jinja2 (or crsdesk[audit])\n", done.stderr
     (place / "jinja2" / "__init__.py").unlink()
@@ -823,7 +821,7 @@ def test_what_isnt_installed_is_told() -> None:
 
 def test_importing_the_package_imports_nothing_of_it() -> None:
     program = "import sys, crsdesk; print([it for it in sys.modules if it.split('.')[0] in ('jinja2', 'rich', 'sqlite3', 'multiprocessing') or 'audit' in it])"
-    done = subprocess.run([sys.executable, "-c", program], capture_output=True, text=True, check=False)
+    done = run([sys.executable, "-c", program])
     assert done.stdout == "[]\n", done
 
 

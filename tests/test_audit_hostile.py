@@ -11,7 +11,6 @@ import random
 import re
 import shutil
 import sqlite3
-import subprocess
 import sys
 import threading
 import urllib.request
@@ -19,7 +18,7 @@ import zipfile
 from typing import Any, Dict, Iterator, List, Tuple
 
 from gdal_data import make_raster, make_vector, reference_of
-from support import HEIGHT, need
+from support import HEIGHT, NOBODY, need, run
 from test_audit import audit, audited_data, folder
 
 HAS_GDAL = importlib.util.find_spec("osgeo") is not None
@@ -163,7 +162,7 @@ def test_nothing_is_fetched() -> None:
         )
         command = [sys.executable, "-c", program, str(place)]
         environment = {**os.environ, "no_proxy": "*", "NO_PROXY": "*", "PROJ_NETWORK": "ON"}
-        done = subprocess.run(command, env=environment, capture_output=True, text=True, timeout=300, check=False)
+        done = run(command, env=environment)
         assert done.returncode == 0 and 10 < len(done.stdout.splitlines()) < files, done
         assert asked == [], asked
         # It is there to be asked.
@@ -181,17 +180,15 @@ def test_a_process_leaves_the_network() -> None:
         "open(sys.argv[1], 'w').close()\n"
         "code = socket.socket().connect_ex(('127.0.0.1', int(sys.argv[2]))); print(left, code == 0)"
     )
-    users: List[Dict[str, Any]] = [{}]
-    if os.geteuid() == 0:
-        users.append({"user": 65534, "group": 65534, "extra_groups": []})
     with server() as (address, _):
+        users: List[Dict[str, Any]] = [{}, NOBODY]
         for number, user in enumerate(users):
             place = folder() / f"leaves{number}"
             place.mkdir(mode=0o777)
             place.chmod(0o777)
             folder().chmod(0o755)
             command = [sys.executable, "-c", program, str(place / "a"), address.rpartition(":")[2]]
-            done = subprocess.run(command, capture_output=True, text=True, check=False, **user)
+            done = run(command, **user)
             if user and ("ModuleNotFoundError" in done.stderr or "PermissionError" in done.stderr):
                 continue  # another user has no Python here
             assert done.stdout in ("True False\n", "False True\n"), done
@@ -333,7 +330,7 @@ def audit_writing_little(*words: object) -> Tuple[int, str, str, Any]:
         "sys.exit(main(sys.argv[1:]))"
     )
     command = [sys.executable, "-c", program, "audit", "--jobs", "1", "--json", str(out), *map(str, words)]
-    done = subprocess.run(command, capture_output=True, text=True, timeout=600, check=False)
+    done = run(command)
     return done.returncode, done.stdout, done.stderr, json.loads(out.read_text()) if out.exists() else None
 
 

@@ -1,14 +1,14 @@
 """The commands of `python -m crsdesk` over files."""
 from __future__ import annotations
 
-import os
 import pathlib
 import subprocess
 import sys
 from typing import Tuple
 
 import pytest
-from support import CANONICAL_HEIGHT, HEIGHT, need, package
+from rows import closed_pipe
+from support import CANONICAL_HEIGHT, HEIGHT, need, package, run
 from test_python import ASKED, level_of
 
 import crsdesk
@@ -140,7 +140,7 @@ def test_names(files: Files) -> None:
     assert files.run("check", "d\n.wkt")[2] == "crsdesk: $'d\\n.wkt': No such file or directory\n"
     need("bash")
     words = ["bash", "-c", f"printf %s {first}"]
-    assert subprocess.run(words, capture_output=True, check=True).stdout.decode() == names[0]
+    assert run(words).stdout == names[0]
 
 
 PEAK = """
@@ -162,10 +162,10 @@ def test_lines_are_read_in_bounded_memory(files: Files) -> None:
                 file.write(line.encode())
         for words in (["canon"], ["check"], ["group", "--level=definition"]):
             command = [sys.executable, "-c", PEAK, *words, "--lines", "many.txt"]
-            done = subprocess.run(command, cwd=files.folder, capture_output=True, timeout=600, check=True)
-            peak, status = done.stderr.split(b"\n")[-2].split()
+            done = run(command, cwd=files.folder)
+            peak, status = done.stderr.split("\n")[-2].split()
             peaks.append(int(peak))
-            assert status == b"1" and done.stderr.count(b"This is WKT1") == times, words
+            assert status == "1" and done.stderr.count("This is WKT1") == times, words
     # A group has the numbers of its lines, and each refused line its refusal's.
     assert peaks[3] < peaks[0] + 8000 and peaks[4] < peaks[1] + 8000 and peaks[5] < peaks[2] + 20_000, peaks
 
@@ -200,9 +200,8 @@ def test_faults(files: Files) -> None:
         assert (status, output) == (2, "") and error.startswith("usage: python -m crsdesk"), words
     assert files.run("--version") == (0, f"crsdesk {crsdesk.__version__}\n", "")
     with open("/dev/full", "wb") as full:
-        command = [sys.executable, "-m", "crsdesk", "check", "height.wkt"]
-        done = subprocess.run(command, cwd=files.folder, stdout=full, stderr=subprocess.PIPE, timeout=600, check=False)
-    assert (done.returncode, done.stderr) == (2, b"crsdesk: write failed: No space left on device\n")
+        done = run([sys.executable, "-m", "crsdesk", "check", "height.wkt"], cwd=files.folder, stdout=full)
+    assert (done.returncode, done.stderr) == (2, "crsdesk: write failed: No space left on device\n")
 
 
 # What a shell does with the streams of a command, the command's words, its status and what it tells then.
@@ -231,14 +230,9 @@ def test_streams(files: Files) -> None:
     files.write("many.txt", f"{HEIGHT}\n" * 3_000)
     for streams, words, status, error in STREAMS:
         shell = ["sh", "-c", f'exec "$@" {streams}', "sh", sys.executable, "-m", "crsdesk", *words.split()]
-        done = subprocess.run(shell, cwd=files.folder, capture_output=True, text=True, timeout=600, check=False)
+        done = run(shell, cwd=files.folder)
         assert (done.returncode, done.stderr) == (status, error), (streams, words, done)
     for words in UNREAD:
-        reader, writer = os.pipe()
-        os.close(reader)
-        command = [sys.executable, "-m", "crsdesk", *words.split()]
-        with os.fdopen(writer, "wb") as pipe:
-            done = subprocess.run(
-                command, cwd=files.folder, stdout=pipe, stderr=subprocess.PIPE, text=True, timeout=600, check=False
-            )
+        with closed_pipe() as pipe:
+            done = run([sys.executable, "-m", "crsdesk", *words.split()], cwd=files.folder, stdout=pipe)
         assert (done.returncode, done.stderr) == (2, ""), (words, done)

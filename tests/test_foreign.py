@@ -9,14 +9,13 @@ import pathlib
 import pickle
 import random
 import re
-import subprocess
 import sys
 import tempfile
 from concurrent.futures import ThreadPoolExecutor
 from typing import Any, Callable, List
 
 import pytest
-from support import CANONICAL_HEIGHT, EXAMPLES, HEIGHT, HERE, need, succeed
+from support import CANONICAL_HEIGHT, EXAMPLES, HEIGHT, HERE, need, run, succeed
 from test_commands import Files
 from test_python import hold_examples, is_accepted, refusal_of, wants
 
@@ -36,23 +35,21 @@ def test_what_projinfo_does_with_a_hint(tmp_path: pathlib.Path) -> None:
     old = (EXAMPLES / "exports" / "wgs84_esri.prj").read_text(encoding="utf-8")
     for text, is_damaged in ((old, False), (old.replace("6378137.0", "6378137,0"), True)):
         (tmp_path / "FILE").write_text(text, encoding="utf-8")
-        done = subprocess.run(["sh", "-c", command[1]], cwd=tmp_path, capture_output=True, check=True)
+        done = run(["sh", "-c", command[1]], cwd=tmp_path, text=False)
         assert not done.stderr and is_accepted(done.stdout) != is_damaged, done.stdout
     code = re.search(r"\((projinfo .*)\)", refusal_of("EPSG:28992").hint or "")
     assert code
-    done = subprocess.run(["sh", "-c", code[1]], capture_output=True, check=True)
-    assert check(done.stdout) == "projected"
+    assert check(run(["sh", "-c", code[1]], text=False).stdout) == "projected"
 
 
 @pytest.mark.needs("gdalsrsinfo", "gdal_create")
 def test_what_gdalsrsinfo_does_with_a_hint(tmp_path: pathlib.Path) -> None:
     words = "gdal_create -q -of GTiff -outsize 2 2 -bands 1 -a_srs EPSG:32631 -a_ullr 3 50 4 49 FILE".split()
-    subprocess.run(words, cwd=tmp_path, capture_output=True, check=True)
+    succeed(words, cwd=tmp_path)
     hint = refusal_of((tmp_path / "FILE").read_bytes()).hint or ""
     command = re.search(r"\((gdalsrsinfo .*)\)", hint)
     assert command, hint
-    done = subprocess.run(["sh", "-c", command[1]], cwd=tmp_path, capture_output=True, check=True)
-    assert check(done.stdout) == "projected"
+    assert check(run(["sh", "-c", command[1]], cwd=tmp_path, text=False).stdout) == "projected"
 
 
 # Other forms, as PROJ reads them.
@@ -300,7 +297,7 @@ def json_is_read_whole() -> None:
         "+proj=utm +zone=31 +ellps=bessel +towgs84=1,2,3",
     ):
         words = ["projinfo", "-q", "-o", "PROJJSON", code + (" +type=crs" if code[0] == "+" else "")]
-        text = subprocess.run(words, capture_output=True, text=True, check=True).stdout
+        text = succeed(words)
         crs = Crs.from_user(text)
         assert crs == Crs.from_user(code) and crs.read_by, code
         names = [match for match in re.finditer(r'"(\w+)": ', text) if match[1] != "type"]

@@ -9,15 +9,16 @@ import shutil
 import subprocess
 import sys
 import tempfile
-from typing import List, NamedTuple, Set, Tuple
+from typing import Iterable, List, NamedTuple, Set, Tuple
 
 import build
 import pytest
+import support
 from documents import leads, links_of
-from support import EXAMPLES, ROOT, need
+from rows import closed_pipe
+from support import EXAMPLES, NOBODY, ROOT, need, outside
 
 pytestmark = pytest.mark.xdist_group("install")
-SECONDS = 3600
 SYSTEM = "/usr/bin/python3"
 FILES = {
     "bin/crsdesk",
@@ -55,20 +56,9 @@ class Installed(NamedTuple):
     stderr: str
 
 
-def run(words: List[object], **more: str) -> "subprocess.CompletedProcess[str]":
+def run(words: Iterable[object], **more: str) -> "subprocess.CompletedProcess[str]":
     """Runs a command outside the repository, with more of an environment."""
-    own = ("DESTDIR", "CRSDESK_LIBRARY", "PYTHONPATH")
-    environment = {key: value for key, value in os.environ.items() if key not in own}
-    return subprocess.run(
-        [str(word) for word in words],
-        cwd="/",
-        env={**environment, **more},
-        stdin=subprocess.DEVNULL,
-        capture_output=True,
-        text=True,
-        timeout=SECONDS,
-        check=False,
-    )
+    return support.run(words, cwd="/", env=outside(**more))
 
 
 def documents() -> Set[str]:
@@ -393,11 +383,9 @@ def test_closed_pipe(tmp_path: pathlib.Path) -> None:
     """Where what reads the answer has ended, help ends quietly, and an installation goes on to its end."""
     prefix = tmp_path / "unread"
     for words in (["--help"], [str(prefix)], [str(prefix), "--uninstall"]):
-        reader, writer = os.pipe()
-        os.close(reader)
-        with os.fdopen(writer, "w") as closed:
-            done = subprocess.run([ROOT / "install", *words], stdout=closed, stderr=subprocess.PIPE, check=False)
-        told = done.stderr.decode()
+        with closed_pipe() as closed:
+            done = support.run([ROOT / "install", *words], stdout=closed)
+        told = done.stderr
         assert (done.returncode, "Broken" in told, "Error" in told) == (
             0,
             False,
@@ -413,14 +401,13 @@ def test_without_leave() -> None:
     # Another user may not reach a Python of this user's.
     python = SYSTEM if os.access(SYSTEM, os.X_OK) else sys.executable
     # For root each folder may be written to, so the case is that of another user.
-    other = 65534 if os.geteuid() == 0 else None
     with tempfile.TemporaryDirectory() as name:
         folder, closed = pathlib.Path(name), pathlib.Path(name, "closed")
         closed.mkdir(mode=0o555)
         folder.chmod(0o755)
         words = [python, str(ROOT / "install"), str(closed / "prefix")]
         try:
-            done = subprocess.run(words, cwd="/", capture_output=True, text=True, check=False, user=other)
+            done = support.run(words, cwd="/", **NOBODY)
         except PermissionError:
             pytest.skip("another user may not run this Python")
     if "Permission denied" in done.stderr:

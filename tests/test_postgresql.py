@@ -571,7 +571,7 @@ def test_rights(server: Server) -> None:
 def test_geopackage(server: Server, tmp_path: pathlib.Path) -> None:
     """The queries of docs/SQL.md over a GeoPackage's entries, as far as they apply, over a copy of them."""
     file = tmp_path / "layers.gpkg"
-    subprocess.run(["sh", ROOT / "examples" / "layers.sh", file], check=True, timeout=SECONDS, capture_output=True)
+    succeed(["sh", ROOT / "examples" / "layers.sh", file])
     tables = {
         "gpkg_spatial_ref_sys": "srs_id, organization, organization_coordsys_id, definition, definition_12_063",
         "gpkg_contents": "table_name, srs_id",

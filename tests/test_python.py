@@ -14,7 +14,6 @@ import random
 import re
 import shlex
 import sqlite3
-import subprocess
 import sys
 import threading
 import time
@@ -26,7 +25,7 @@ import documents
 import pytest
 import rows
 from rows import Case
-from support import CANONICAL_HEIGHT, EXAMPLES, HEIGHT, ROOT
+from support import CANONICAL_HEIGHT, EXAMPLES, HEIGHT, HERE, ROOT, run
 
 import crsdesk
 from crsdesk import (
@@ -409,9 +408,7 @@ def test_what_the_hints_of_files_do(tmp_path: pathlib.Path) -> None:
         assert command, part
         path = tmp_path / "a.wkt"
         path.write_bytes(text.encode() if isinstance(text, str) else text)
-        done = subprocess.run(
-            command[1].replace("FILE", shlex.quote(str(path))), shell=True, capture_output=True, check=True
-        )
+        done = run(["sh", "-c", command[1].replace("FILE", shlex.quote(str(path)))], text=False)
         assert is_accepted(done.stdout) or b"\xc3\xa9" in done.stdout, (part, done.stdout)
 
 
@@ -1009,9 +1006,7 @@ print(check(sys.argv[1]))
 
 def test_out_of_memory() -> None:
     """A call to which memory is refused says so, and the next call is answered."""
-    done = subprocess.run(
-        [sys.executable, "-c", SCARCE, HEIGHT], capture_output=True, text=True, timeout=600, check=False
-    )
+    done = run([sys.executable, "-c", SCARCE, HEIGHT])
     told = "crsdesk: memory was refused; the same call may be made again\n"
     assert (done.stdout, done.stderr) == (2 * told + "vertical\n", ""), (done.stdout, done.stderr)
 
@@ -1173,8 +1168,9 @@ HOSTILE_RULES: Dict[str, Optional[Tuple[int, Optional[bytes]]]] = {
 
 
 def hostile_rules(kind: str, size: int) -> bytes:
-    words = [sys.executable, str(ROOT / "tests" / "hostile_texts.py"), kind, str(size)]
-    return subprocess.run(words, capture_output=True, timeout=600, check=True).stdout
+    done = run([sys.executable, HERE / "hostile_texts.py", kind, size], text=False)
+    assert done.returncode == 0, done.stderr
+    return bytes(done.stdout)
 
 
 def rules_or_refusal(text: bytes) -> Optional[Tuple[int, Optional[bytes]]]:
@@ -1341,12 +1337,10 @@ def test_rules_of_a_database(tmp_path: pathlib.Path) -> None:
         ((), ['DATUM["B"],DATUM["D_B"]', 'DATUM["D_C"],DATUM["c"]']),
         (("--join",), ['DATUM["B"],DATUM["D_B"]', 'DATUM["C"],DATUM["D_C"],DATUM["c"]']),
     ):
-        words = [sys.executable, str(program), "--database", str(database), *more]
-        done = subprocess.run(words, capture_output=True, text=True, timeout=600, check=True)
+        done = run([sys.executable, program, "--database", database, *more])
         rest = [line for line in done.stdout.split("\n") if line and not line.startswith("#")]
         wanted.append('DATUM["Frame ""1"""],DATUM["Frame_1"]')
         assert rest == [f"SAME[{it}]" for it in wanted], rest
         Rules(done.stdout)
-    words = [sys.executable, str(program), "--database", f"{tmp_path}/missing"]
-    done = subprocess.run(words, capture_output=True, text=True, timeout=600, check=False)
+    done = run([sys.executable, program, "--database", tmp_path / "missing"])
     assert done.returncode == 2 and "Traceback" not in done.stderr, done.stderr

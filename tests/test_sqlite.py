@@ -10,6 +10,7 @@ import ctypes
 import ctypes.util
 import os
 import pathlib
+import re
 import resource
 import sqlite3
 import subprocess
@@ -23,7 +24,7 @@ import pytest
 import rows
 import sql_rows
 from sql_rows import Statement
-from support import CANONICAL_HEIGHT, HEIGHT, NOTED, ROOT, TWIN, succeed
+from support import CANONICAL_HEIGHT, HEIGHT, NOTED, ROOT, TWIN, run, succeed
 
 pytestmark = [pytest.mark.needs("sqlite3"), pytest.mark.xdist_group("sqlite")]
 SECONDS = 600
@@ -260,10 +261,7 @@ def test_growths_refused(extension: pathlib.Path, refusing: pathlib.Path) -> Non
     unloaded = refused = 0
     for number in range(1, MOST_GROWTHS):
         more = {"LD_PRELOAD": str(refusing), "REFUSE": str(number), "REFUSE_FROM": "start"}
-        words = ["sqlite3", "-batch", ":memory:"]
-        done = subprocess.run(
-            words, input=script, capture_output=True, text=True, env={**os.environ, **more}, check=False
-        )
+        done = run(["sqlite3", "-batch", ":memory:"], input=script, env={**os.environ, **more})
         if "refused 0" in done.stderr:
             break
         if "error during initialization" in done.stderr:
@@ -277,11 +275,9 @@ def test_growths_refused(extension: pathlib.Path, refusing: pathlib.Path) -> Non
 
 def test_symbols(extension: pathlib.Path) -> None:
     """It shows one name, and needs the C library alone."""
-    shown = subprocess.run(["nm", "-D", "--defined-only", extension], capture_output=True, check=True).stdout.split()
-    assert shown[2::3] == [b"sqlite3_crsdesksqlite_init"], "its names"
-    needs = subprocess.run(["readelf", "-d", extension], capture_output=True, check=True).stdout.decode()
-    found = [line.split("[")[1] for line in needs.split("\n") if "(NEEDED)" in line]
-    assert found == ["libc.so.6]"], "what it needs"
+    shown = succeed(["nm", "-D", "--defined-only", extension]).split()
+    assert shown[2::3] == ["sqlite3_crsdesksqlite_init"], "its names"
+    assert re.findall(r"\(NEEDED\).*\[(.*)\]", succeed(["readelf", "-d", extension])) == ["libc.so.6"], "what it needs"
 
 
 def test_room(extension: pathlib.Path) -> None:
@@ -353,7 +349,7 @@ def test_threads(extension: pathlib.Path) -> None:
 @pytest.mark.needs("ogr2ogr")
 def test_geopackage(extension: pathlib.Path, tmp_path: pathlib.Path) -> None:
     file = tmp_path / "layers.gpkg"
-    subprocess.run(["sh", ROOT / "examples" / "layers.sh", file], check=True, timeout=SECONDS)
+    succeed(["sh", ROOT / "examples" / "layers.sh", file])
     for level, wanted in (
         ("definition", "heights\nwells\ntiles roads parcels"),
         ("full", "heights\nparcels\nwells\ntiles roads"),
@@ -362,9 +358,8 @@ def test_geopackage(extension: pathlib.Path, tmp_path: pathlib.Path) -> None:
             "SELECT group_concat(table_name, ' ') FROM gpkg_contents JOIN gpkg_spatial_ref_sys USING (srs_id) "
             f"GROUP BY coalesce(crs_canon(definition_12_063, '{level}'), srs_id)"
         )
-        words = ["sqlite3", str(file), "-cmd", f".load {extension}", statement]
-        done = subprocess.run(words, stdout=subprocess.PIPE, timeout=SECONDS, check=True).stdout.decode()
-        assert sorted(done.split("\n")) == sorted([*wanted.split("\n"), ""]), f"a GeoPackage at {level}"
+        told = succeed(["sqlite3", file, "-cmd", f".load {extension}", statement])
+        assert sorted(told.split("\n")) == sorted([*wanted.split("\n"), ""]), f"a GeoPackage at {level}"
 
 
 # Entries of a GeoPackage as examples/fill_wkt2.py meets them: srs_id, organization, code, definition, WKT2 before, and
@@ -383,7 +378,7 @@ ENTRIES = [
 @pytest.mark.needs("projinfo")
 def test_filling(tmp_path: pathlib.Path) -> None:
     """Whether examples/fill_wkt2.py fills what it says, with and without the column, and takes no repaired text."""
-    script = [sys.executable, str(ROOT / "examples" / "fill_wkt2.py")]
+    script = [sys.executable, ROOT / "examples" / "fill_wkt2.py"]
     for has_column in (False, True):
         file = tmp_path / f"{has_column}.gpkg"
         with contextlib.closing(sqlite3.connect(file)) as table:
@@ -396,7 +391,7 @@ def test_filling(tmp_path: pathlib.Path) -> None:
                 row = ["", srs_id, organization, code, definition] + [before] * has_column
                 table.execute(f"INSERT INTO gpkg_spatial_ref_sys VALUES ({', '.join('?' * len(row))})", row)
             table.commit()
-        done = subprocess.run([*script, str(file)], capture_output=True, text=True, check=False, timeout=SECONDS)
+        done = run([*script, file])
         assert (done.returncode, done.stdout.split()) == (
             1,
             " ".join(it[5] for it in entries).split(),
@@ -416,7 +411,7 @@ def test_filling(tmp_path: pathlib.Path) -> None:
         table.execute("CREATE TABLE t (a)")
     before_it = other.read_bytes()
     for name in (other, ROOT / "README.md", tmp_path / "missing"):
-        done = subprocess.run([*script, str(name)], capture_output=True, text=True, check=False, timeout=SECONDS)
+        done = run([*script, name])
         assert (done.returncode, done.stdout, "Traceback" in done.stderr) == (
             2,
             "",

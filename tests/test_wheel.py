@@ -11,7 +11,7 @@ from typing import Set
 
 import pytest
 from documents import Command, blocks_of, commands_of, printed
-from support import EXAMPLES, ROOT, run, succeed
+from support import EXAMPLES, ROOT, outside, run, succeed
 
 pytestmark = [
     pytest.mark.needs("python3:pip", "python3:ensurepip", "python3:setuptools", "python3:wheel"),
@@ -20,7 +20,6 @@ pytestmark = [
 PACKAGE = ROOT / "python"
 EXTRAS = {"jinja2; extra == 'audit'", "rich; extra == 'audit'", "dask[dataframe,distributed]; extra == 'dask'"}
 SDIST = "import sys; from setuptools import build_meta; build_meta.build_sdist(sys.argv[1])"
-OUTSIDE = ("CRSDESK_LIBRARY", "PYTHONPATH")
 
 
 def made_wheel(folder: pathlib.Path, source: pathlib.Path = PACKAGE) -> pathlib.Path:
@@ -49,13 +48,8 @@ def fresh(wheel: pathlib.Path, tmp_path_factory: pytest.TempPathFactory) -> path
     folder = tmp_path_factory.mktemp("fresh")
     succeed([sys.executable, "-m", "venv", folder])
     python = folder / "bin" / "python"
-    succeed([python, "-m", "pip", "install", "-q", "--no-index", "--disable-pip-version-check", wheel], env=own())
+    succeed([python, "-m", "pip", "install", "-q", "--no-index", "--disable-pip-version-check", wheel], env=outside())
     return python
-
-
-def own(**more: str) -> "dict[str, str]":
-    """The environment without the repository's package, and with more."""
-    return {**{key: value for key, value in os.environ.items() if key not in OUTSIDE}, **more}
 
 
 def sources() -> Set[pathlib.Path]:
@@ -102,18 +96,18 @@ def test_names(wheel: pathlib.Path) -> None:
 
 def test_version(wheel: pathlib.Path, fresh: pathlib.Path) -> None:
     """The library's version is the wheel's."""
-    told = succeed([fresh, "-c", "import crsdesk; print(crsdesk.__version__)"], env=own(), cwd="/")
+    told = succeed([fresh, "-c", "import crsdesk; print(crsdesk.__version__)"], env=outside(), cwd="/")
     assert told == wheel.name.split("-")[1] + "\n"
 
 
 def test_it_depends_on_nothing(fresh: pathlib.Path) -> None:
-    succeed([fresh, "-m", "pip", "check"], env=own())
+    succeed([fresh, "-m", "pip", "check"], env=outside())
 
 
 @pytest.mark.parametrize("kind", ["module", "script"])
 def test_command(kind: str, fresh: pathlib.Path) -> None:
     front = [fresh, "-m", "crsdesk"] if kind == "module" else [fresh.with_name("crsdesk-py")]
-    assert succeed([*front, "check", EXAMPLES / "wgs84.wkt"], env=own()) == "accepted geographic\n"
+    assert succeed([*front, "check", EXAMPLES / "wgs84.wkt"], env=outside()) == "accepted geographic\n"
 
 
 @pytest.mark.parametrize(
@@ -128,7 +122,7 @@ def test_command(kind: str, fresh: pathlib.Path) -> None:
     ids=["missing", "other"],
 )
 def test_another_library(other: str, parts: "list[str]", fresh: pathlib.Path) -> None:
-    done = run([fresh, "-c", "import crsdesk"], env=own(CRSDESK_LIBRARY=other), cwd="/")
+    done = run([fresh, "-c", "import crsdesk"], env=outside(CRSDESK_LIBRARY=other), cwd="/")
     assert done.returncode == 1 and "ImportError: " in done.stderr and all(it in done.stderr for it in parts)
 
 
