@@ -295,31 +295,26 @@ def test_own_promises(server: Server) -> None:
     server.hold(list(promises()), "utf8")
 
 
-def test_encodings(server: Server) -> None:
+def of_encodings() -> Iterator[Statement]:
     """Answers are those of the characters, whatever bytes the server keeps of them."""
     accented = HEIGHT.replace('"H"', '"é"')
     euro = f"'\\x{HEIGHT.replace(chr(34) + 'H', chr(34) + '€').encode().hex()}'::bytea"
-    server.hold(
-        [
-            ("bytes of a text", f"SELECT octet_length('{accented}') - char_length('{accented}');", "0"),
-            (
-                "rules",
-                f"SELECT crs_canon('{HEIGHT}', 'full', 'SAME[VDATUM[\"é\"],VDATUM[\"D\"]]');",
-                CANONICAL_HEIGHT.replace('"D"', '"é"'),
-            ),
-            ("a text", f"SELECT crs_canon('{accented}');", CANONICAL_HEIGHT.replace('"H"', '"é"')),
-            ("a place", f"SELECT crs_refusal('{accented}x');", f"refused 6 Unexpected at {len(HEIGHT) + 1}"),
-            ("text and bytes", f"SELECT crs_same('{accented}', '\\x{accented.encode().hex()}'::bytea);", "t"),
-            ("its own bytes", f"SELECT crs_refusal(convert_to('{accented}', 'LATIN1'));", "refused 4 NotUtf8 at 9"),
-            ("what it can't say", f"SELECT crs_kind({euro});", "vertical"),
-            (
-                "what it can't say",
-                f"SELECT crs_canon({euro});",
-                'Error: character with byte sequence 0xe2 0x82 0xac in encoding "UTF8" has no equivalent in encoding "LATIN1"',
-            ),
-        ],
-        "latin1",
+    yield "bytes of a text", f"SELECT octet_length('{accented}') - char_length('{accented}');", "0"
+    asked = f"SELECT crs_canon('{HEIGHT}', 'full', 'SAME[VDATUM[\"é\"],VDATUM[\"D\"]]');"
+    yield "rules", asked, CANONICAL_HEIGHT.replace('"D"', '"é"')
+    yield "a text", f"SELECT crs_canon('{accented}');", CANONICAL_HEIGHT.replace('"H"', '"é"')
+    yield "a place", f"SELECT crs_refusal('{accented}x');", f"refused 6 Unexpected at {len(HEIGHT) + 1}"
+    yield "text and bytes", f"SELECT crs_same('{accented}', '\\x{accented.encode().hex()}'::bytea);", "t"
+    yield "its own bytes", f"SELECT crs_refusal(convert_to('{accented}', 'LATIN1'));", "refused 4 NotUtf8 at 9"
+    yield "what it can't say", f"SELECT crs_kind({euro});", "vertical"
+    wanted = (
+        'Error: character with byte sequence 0xe2 0x82 0xac in encoding "UTF8" has no equivalent in encoding "LATIN1"'
     )
+    yield "what it can't say", f"SELECT crs_canon({euro});", wanted
+
+
+def test_encodings(server: Server) -> None:
+    server.hold(list(of_encodings()), "latin1")
 
 
 PARALLEL = """SELECT count(*), count(crs_canon(wkt)), count(crs_refusal(wkt)),
@@ -333,15 +328,9 @@ FROM generate_series(1, 1000000) AS n; ANALYZE million;"""
 def test_parallel(million: Server) -> None:
     """A plan of several workers has the answers of a plan of one."""
     workers = "SET max_parallel_workers_per_gather = "
-    found = million.printed(
-        [
-            ("", f"{workers}2; EXPLAIN (COSTS OFF) {PARALLEL};", ""),
-            ("", f"{PARALLEL};", ""),
-            ("", f"{workers}0; EXPLAIN (COSTS OFF) {PARALLEL};", ""),
-            ("", f"{PARALLEL};", ""),
-        ],
-        "utf8",
-    )
+    plans = [f"{workers}{count}; EXPLAIN (COSTS OFF) {PARALLEL};" for count in (2, 0)]
+    asked = [("", it, "") for plan in plans for it in (plan, f"{PARALLEL};")]
+    found = million.printed(asked, "utf8")
     plan, answers, plan_of_one, answers_of_one, rest = found
     assert "Gather" in plan and "Parallel Seq Scan on million" in plan and "Gather" not in plan_of_one
     assert answers == answers_of_one and rest == ""
@@ -350,14 +339,12 @@ def test_parallel(million: Server) -> None:
     # A setting before the first call of a session, and in each worker.
     padded = "SELECT count(crs_kind(rpad(wkt, 200))) FROM million;"
     explained = f"EXPLAIN (COSTS OFF) {padded}"
-    *found, rest = million.printed(
-        [
-            ("", f"SET crsdesk.max_text_length = 199; {workers}2; {explained}", ""),
-            ("", padded, ""),
-            ("", f"SET crsdesk.max_text_length = '200B'; {padded}", ""),
-        ],
-        "utf8",
+    limits = (
+        f"SET crsdesk.max_text_length = 199; {workers}2; {explained}",
+        padded,
+        f"SET crsdesk.max_text_length = '200B'; {padded}",
     )
+    *found, rest = million.printed([("", it, "") for it in limits], "utf8")
     assert "Gather" in found[0]
     wanted = [sql_rows.too_long(200, 199, dialect_of("UTF8")), "800000", ""]
     assert [*found[1:], rest] == wanted, "a limit in workers"
@@ -367,32 +354,21 @@ def test_parallel(million: Server) -> None:
 LIMITED, UNLIMITED = "SET statement_timeout = 200;", "SET statement_timeout = 0;"
 
 
-def test_cancel(million: Server) -> None:
+def of_cancelled() -> Iterator[Statement]:
     """A query ends between two texts, and the connection goes on."""
-    million.hold(
-        [
-            ("a cancelled query", "SET max_parallel_workers_per_gather = 0;", ""),
-            (
-                "a cancelled query",
-                f"{LIMITED} SELECT count(crs_canon(a.wkt)) FROM million AS a, generate_series(1, 1000);",
-                "Error: canceling statement due to statement timeout",
-            ),
-            ("a cancelled query of workers", f"{UNLIMITED} SET max_parallel_workers_per_gather = 2;", ""),
-            (
-                "a cancelled query of workers",
-                f"{LIMITED} SELECT count(crs_canon(a.wkt)) FROM million AS a, generate_series(1, 1000);",
-                "Error: canceling statement due to statement timeout",
-            ),
-            ("a cancelled query under rules", f"{UNLIMITED} SET max_parallel_workers_per_gather = 0;", ""),
-            (
-                "a cancelled query under rules",
-                f"{LIMITED} SELECT count(crs_canon(a.wkt, 'full', '{sql_rows.RULES}')) FROM million AS a, generate_series(1, 1000);",
-                "Error: canceling statement due to statement timeout",
-            ),
-            ("after it", f"{UNLIMITED} SELECT crs_kind('{HEIGHT}');", "vertical"),
-        ],
-        "utf8",
-    )
+    for name, workers, call in (
+        ("a cancelled query", 0, "crs_canon(a.wkt)"),
+        ("a cancelled query of workers", 2, "crs_canon(a.wkt)"),
+        ("a cancelled query under rules", 0, f"crs_canon(a.wkt, 'full', '{sql_rows.RULES}')"),
+    ):
+        yield name, f"{UNLIMITED} SET max_parallel_workers_per_gather = {workers};", ""
+        asked = f"{LIMITED} SELECT count({call}) FROM million AS a, generate_series(1, 1000);"
+        yield name, asked, "Error: canceling statement due to statement timeout"
+    yield "after it", f"{UNLIMITED} SELECT crs_kind('{HEIGHT}');", "vertical"
+
+
+def test_cancel(million: Server) -> None:
+    million.hold(list(of_cancelled()), "utf8")
 
 
 # The bytes of memory that a backend has for itself.
@@ -428,15 +404,16 @@ def test_leaks_of_rules(server: Server) -> None:
     read = f"DO $$BEGIN FOR n IN 1..2000 LOOP PERFORM crs_canon('{HEIGHT}', 'full', '{names}# ' || n % 2); END LOOP; END$$;"
     rows = f"SELECT count(crs_canon('{HEIGHT}', 'full', '{names}# ' || n)) FROM generate_series(1, 2000) AS n;"
     refused = f"DO $$BEGIN FOR n IN 1..2000 LOOP BEGIN PERFORM crs_canon('x', 'full', '{names}x' || n); EXCEPTION WHEN invalid_parameter_value THEN NULL; END; END LOOP; END$$;"
-    before, *found = [
-        int(it)
-        for it in server.printed(
-            [("", f"{it} {KEPT}", "") for it in (f"{read} {refused}", read, refused, f"CREATE TEMP TABLE n AS {rows}")],
-            "utf8",
-        )[:-1]
-    ]
+    asked = [("", f"{it} {KEPT}", "") for it in (f"{read} {refused}", read, refused, f"CREATE TEMP TABLE n AS {rows}")]
+    before, *found = map(int, server.printed(asked, "utf8")[:-1])
     grown = max(found) - before
     assert grown < 4_000_000, f"grew by {grown} bytes: {before}, {found}"
+
+
+KEPT_TABLE = """CREATE EXTENSION crsdesk;
+CREATE TABLE kept (wkt text CHECK (crs_kind(wkt) IS NOT NULL), crs text GENERATED ALWAYS AS (crs_canon(wkt, 'definition')) STORED);
+CREATE INDEX kept_by_crs ON kept (crs_canon(wkt));
+CREATE INDEX kept_hashed ON kept USING hash (crs_canon(wkt));"""
 
 
 def test_dump(server: Server, tmp_path: pathlib.Path) -> None:
@@ -444,22 +421,7 @@ def test_dump(server: Server, tmp_path: pathlib.Path) -> None:
     server.make("before")
     server.make("after")
     rows = ", ".join(f"('{text}')" for text in (HEIGHT, NOTED, TWIN))
-    server.hold(
-        [
-            (
-                "a table",
-                "CREATE EXTENSION crsdesk; CREATE TABLE kept (wkt text CHECK (crs_kind(wkt) IS NOT NULL), crs text GENERATED ALWAYS AS (crs_canon(wkt, 'definition')) STORED);",
-                "",
-            ),
-            (
-                "an index",
-                "CREATE INDEX kept_by_crs ON kept (crs_canon(wkt)); CREATE INDEX kept_hashed ON kept USING hash (crs_canon(wkt));",
-                "",
-            ),
-            ("rows", f"INSERT INTO kept (wkt) VALUES {rows};", ""),
-        ],
-        "before",
-    )
+    server.hold([], "before", f"{KEPT_TABLE}\nINSERT INTO kept (wkt) VALUES {rows};")
     file = tmp_path / "dump.sql"
     with file.open("w", encoding="utf-8") as out:
         done = subprocess.run(["pg_dump", "before"], env=server.environment, stdout=out, check=False, timeout=SECONDS)
@@ -482,43 +444,29 @@ def test_dump(server: Server, tmp_path: pathlib.Path) -> None:
     )
 
 
-def test_dropped(server: Server) -> None:
+TABLE = f"CREATE TABLE t (wkt text); CREATE INDEX ON t (crs_canon(wkt)); INSERT INTO t VALUES ('{HEIGHT}');"
+BY_INDEX = f"SET enable_seqscan = off; SELECT count(*) FROM t WHERE crs_canon(wkt) = crs_canon('{TWIN}');"
+MADE = "SELECT extversion FROM pg_extension WHERE extname = 'crsdesk';"
+
+
+def of_dropped() -> Iterator[Statement]:
     """An index keeps the extension; without what depends on it, it goes, and can be made in another schema."""
-    made = "SELECT extversion FROM pg_extension WHERE extname = 'crsdesk';"
+    yield "its version", f"CREATE EXTENSION crsdesk; {MADE}", VERSION
+    yield "a table", TABLE, ""
+    yield "an update to what it is", f"ALTER EXTENSION crsdesk UPDATE; {MADE}", VERSION
+    yield "the index", BY_INDEX, "1"
+    wanted = "Error: cannot drop extension crsdesk because other objects depend on it"
+    yield "what depends on it", "DROP EXTENSION crsdesk;", wanted
+    gone = "DROP TABLE t; DROP EXTENSION crsdesk; SELECT count(*) FROM pg_proc WHERE proname LIKE 'crs%';"
+    yield "without what depends", gone, "0"
+    moved = "CREATE SCHEMA maps; CREATE EXTENSION crsdesk SCHEMA maps; ALTER EXTENSION crsdesk SET SCHEMA public;"
+    yield "another schema", f"{moved} {MADE}", VERSION
+    yield "another schema", f"SELECT crs_kind('{HEIGHT}');", "vertical"
+
+
+def test_dropped(server: Server) -> None:
     server.make("dropped")
-    server.hold(
-        [
-            ("its version", f"CREATE EXTENSION crsdesk; {made}", VERSION),
-            (
-                "a table",
-                f"CREATE TABLE t (wkt text); CREATE INDEX ON t (crs_canon(wkt)); INSERT INTO t VALUES ('{HEIGHT}');",
-                "",
-            ),
-            ("an update to what it is", f"ALTER EXTENSION crsdesk UPDATE; {made}", VERSION),
-            (
-                "the index",
-                f"SET enable_seqscan = off; SELECT count(*) FROM t WHERE crs_canon(wkt) = crs_canon('{TWIN}');",
-                "1",
-            ),
-            (
-                "what depends on it",
-                "DROP EXTENSION crsdesk;",
-                "Error: cannot drop extension crsdesk because other objects depend on it",
-            ),
-            (
-                "without what depends",
-                "DROP TABLE t; DROP EXTENSION crsdesk; SELECT count(*) FROM pg_proc WHERE proname LIKE 'crs%';",
-                "0",
-            ),
-            (
-                "another schema",
-                f"CREATE SCHEMA maps; CREATE EXTENSION crsdesk SCHEMA maps; ALTER EXTENSION crsdesk SET SCHEMA public; {made}",
-                VERSION,
-            ),
-            ("another schema", f"SELECT crs_kind('{HEIGHT}');", "vertical"),
-        ],
-        "dropped",
-    )
+    server.hold(list(of_dropped()), "dropped")
 
 
 def test_update(server: Server) -> None:
@@ -530,21 +478,9 @@ def test_update(server: Server) -> None:
         server.make(database)
         steps = [
             ("an older version", f"CREATE EXTENSION crsdesk VERSION '{version}';", ""),
-            (
-                "a table",
-                f"CREATE TABLE t (wkt text); CREATE INDEX ON t (crs_canon(wkt)); INSERT INTO t VALUES ('{HEIGHT}');",
-                "",
-            ),
-            (
-                "an update",
-                "ALTER EXTENSION crsdesk UPDATE; SELECT extversion FROM pg_extension WHERE extname = 'crsdesk';",
-                VERSION,
-            ),
-            (
-                "its index",
-                f"SET enable_seqscan = off; SELECT count(*) FROM t WHERE crs_canon(wkt) = crs_canon('{TWIN}');",
-                "1",
-            ),
+            ("a table", TABLE, ""),
+            ("an update", f"ALTER EXTENSION crsdesk UPDATE; {MADE}", VERSION),
+            ("its index", BY_INDEX, "1"),
             ("without it", "DROP TABLE t;", ""),
         ]
         server.hold(steps, database)
