@@ -5,9 +5,9 @@ a line '# REASON' or more, and then, each in its own line and as far as needed:
 
     word TEXT        a word of the command line, without the program's name
     words TEXT ..    some of them, each up to the next space
-    commands TEXT .. these go before the words, one in each of as many cases, at the end of whose names it is
-    exchanged        the case is there once more with its last two words in the other order, '-exchanged' at the end of
-                     its name, and in its output the first text's part and the second's exchanged
+    commands TEXT .. each makes a case of its own, of which it is the first word, and whose name ends in it
+    exchanged        makes a case more, in which the last two words are exchanged, and in the output first and second, or
+                     the values of a difference; its name ends in '-exchanged'
     input TEXT       a part of standard input; no line end is added
     times N TEXT     the same, N times over
     pieces N TEXT    the same in parts of N bytes each, the last of which may have fewer
@@ -61,15 +61,14 @@ SECONDS = 600
 SECONDS_IN_TURN = 60
 ESCAPE = re.compile(rb"\\(?:x([0-9a-f]{2})|\{([^}]*)\}|(.))")
 PLAIN = {b"n": b"\n", b"r": b"\r", b"t": b"\t", b"\\": b"\\"}
-FLAGS = set(
-    b"exchanged input-by-lines input-in-turn input-unreadable output-any output-full output-closed error-none no-growth".split()
-)
+FLAGS = set(b"exchanged input-by-lines input-in-turn input-unreadable output-any output-full output-closed".split())
+FLAGS |= {b"error-none", b"no-growth"}
 OTHER_SIDE = {b"first": b"second", b"second": b"first"}
 
 
 @dataclasses.dataclass
 class Case:
-    """A case, and its place: its file's name and its line; and the named texts of the file up to there."""
+    """A case, its place, which is its file's name and its line, and the texts that have names there."""
 
     place: str
     name: str
