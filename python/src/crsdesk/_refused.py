@@ -99,7 +99,8 @@ class Refused(ValueError):
     @property
     def expected(self) -> Tuple[str, ...]:
         """What could stand at the place: for 11 to 13 keywords, ``a number``, ``a text in quotes``, ``a word``, and ``its
-        closing delimiter`` where the node may end; for 21 the words that are known; for 25 the dimension. Else empty."""
+        closing delimiter`` where the node may end; for 21 the words that are known; for 25 the dimension. Else empty.
+        """
         return self._parts.expected
 
     @property
