@@ -245,19 +245,23 @@ fn matched<'t>(alloc: Global, text: &'t [u8], next: &'t [u8]) -> Result<Outcome,
 }
 
 // What is compared with the value of another text.
-trait Comparable<'t>: Sized {
-    // Comparable with the value of this text.
+trait Comparable<'t> {
+    // Compared with the value of this text.
     fn with_text(&self, alloc: Global, next: &'t [u8]) -> Result<Outcome, AllocError>;
-
-    // Whether both are the same.
-    fn is_same(&self, other: &Self) -> bool;
 }
 
 impl<'t> Comparable<'t> for Crs<'t> {
     fn with_text(&self, alloc: Global, next: &'t [u8]) -> Result<Outcome, AllocError> {
         second_of_two(self, read(alloc, next))
     }
+}
 
+// What may be the same as another of its type.
+trait Alike: Sized {
+    fn is_same(&self, other: &Self) -> bool;
+}
+
+impl Alike for Crs<'_> {
     fn is_same(&self, other: &Self) -> bool {
         same(self, other, Level::Full)
     }
@@ -275,7 +279,7 @@ fn first_of_two<'t, T: Comparable<'t> + Drop>(
     }
 }
 
-fn second_of_two<'t, T: Comparable<'t> + Drop>(
+fn second_of_two<T: Alike + Drop>(
     first: &T,
     answer: Result<T, Fault>,
 ) -> Result<Outcome, AllocError> {
