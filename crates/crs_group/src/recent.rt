@@ -12,7 +12,7 @@ use std::marker::Model;
 // choose, the line that was there moves to the second, and the one there is forgotten.
 const PLACES: usize = 256;
 
-// A longer line isn't remembered, so all of them take at most a mebibyte.
+// A longer line isn't remembered, so all of them have at most a mebibyte.
 const LONGEST: usize = 4096;
 
 // A line, and the place of its group, from 0. None: there is no line here.
