@@ -7,7 +7,7 @@ use Rattle.crs_value.specs.Reads.{ReadsUnit}
 use Rattle.crs_value.specs.Sound.{IsUnit}
 use Rattle.crs_value.specs.Values.{UnitParts}
 use Rattle.crs_value.specs.declared.values.level.Level.{Level}
-use Rattle.crs_same.specs.SameUnits.{SameUnit}
+use Rattle.crs_matching.specs.SameUnits.{SameUnit}
 use Rattle.crs_normal.specs.PartSpellings.{IsSpelledUnit, unit_class}
 use Rattle.crs_normal.specs.SpelledAs.{IsSpelledAs}
 use Rattle.crs_normal.specs.SpelledUnits.{norm_unit}

@@ -6,7 +6,7 @@ use Rattle.crs_value.specs.SpellsText.{Spells, Refuses}
 use Rattle.crs_value.specs.declared.values.crs.Crs.{Crs}
 use Rattle.crs_value.specs.declared.values.level.Level.{Level}
 use Rattle.crs_same.specs.SameCrs.{SameCrs}
-use Rattle.crs_same.specs.Sameness.{IsSamenessOf}
+use Rattle.crs_matching.specs.Sameness.{IsSamenessOf}
 use Rattle.crs_writer.specs.Canonical.{CanonicalText, IsCanonicalOf, IsCanonicalText}
 use Rattle.crs_canon.specs.MainTheorem.{IsAccepted, IsItsRefusal, MainTheorem, SpellSame}
 

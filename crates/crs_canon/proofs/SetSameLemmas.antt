@@ -2,7 +2,7 @@
 -- same.
 use Rattle.std.proofs.Common.{◌≡◌, ◌↔◌, ◌⊎◌, ℕ, List, [], ◌∷◌, ◌++◌, inl, inr, refl, sym, ◌∙◌, ap, subst}
 use Rattle.crs_value.specs.Sound.{Each}
-use Rattle.crs_same.specs.Sets.{AllHaveSame, HasSame, SameSet}
+use Rattle.crs_matching.specs.Sets.{AllHaveSame, HasSame, SameSet}
 use Rattle.crs_normal.specs.Ascending.{Ascends, IsIn}
 use Rattle.crs_normal.specs.CanonicalForm.{IsCanonicalForm}
 use Rattle.crs_normal.specs.Closed.{IsClosed}

@@ -10,12 +10,12 @@ use Rattle.crs_value.specs.SoundUsages.{IsUsage}
 use Rattle.crs_value.specs.Values.{SystemParts}
 use Rattle.crs_value.specs.Kept.{kept}
 use Rattle.crs_value.specs.declared.values.level.Level.{Level}
-use Rattle.crs_same.specs.SameConversions.{SameGeoidModel, SameParameter}
+use Rattle.crs_matching.specs.SameConversions.{SameGeoidModel, SameParameter}
 use Rattle.crs_same.specs.SameCrs.{SameCrs}
-use Rattle.crs_same.specs.SameFrames.{SameMember}
-use Rattle.crs_same.specs.SameIdents.{SameIdents}
-use Rattle.crs_same.specs.SameUsages.{SameUsage}
-use Rattle.crs_same.specs.Sets.{SameSet}
+use Rattle.crs_matching.specs.SameFrames.{SameMember}
+use Rattle.crs_matching.specs.SameIdents.{SameIdents}
+use Rattle.crs_matching.specs.SameUsages.{SameUsage}
+use Rattle.crs_matching.specs.Sets.{SameSet}
 use Rattle.crs_normal.specs.SpelledConversions.{set_geoid_models, set_parameters}
 use Rattle.crs_normal.specs.SpelledCrs.{norm_crs}
 use Rattle.crs_normal.specs.SpelledFrames.{set_members}

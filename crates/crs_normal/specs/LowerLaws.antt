@@ -8,8 +8,8 @@ use Rattle.crs_decimal.specs.Spelling.{Parts, SpellsNumber, AreDigits}
 use Rattle.crs_decimal.specs.Value.{Value, IsNormal, exact}
 use Rattle.crs_value.specs.SoundSystem.{IsSystem}
 use Rattle.crs_value.specs.Values.{AxisParts, SystemParts}
-use Rattle.crs_same.specs.SameSystems.{HasAt}
-use Rattle.crs_same.specs.SameUnits.{SameValue}
+use Rattle.crs_matching.specs.SameSystems.{HasAt}
+use Rattle.crs_matching.specs.SameUnits.{SameValue}
 
 -- numbers have one form and one plain spelling, normal values are equal where their numbers are,
 -- and each position of a coordinate system has one axis

@@ -35,16 +35,16 @@ use Rattle.crs_same.specs.PartsOfCrs.{parts_of_geodetic, parts_of_projected, par
 use Rattle.crs_same.specs.PartsOfCrs.{parts_of_compound}
 use Rattle.crs_same.specs.PartsOfFrames.{parts_of_ellipsoid, parts_of_given, parts_of_datum}
 use Rattle.crs_same.specs.PartsOfFrames.{parts_of_ensemble}
-use Rattle.crs_same.specs.SameConversions.{SameGeoidModel}
+use Rattle.crs_matching.specs.SameConversions.{SameGeoidModel}
 use Rattle.crs_same.specs.SameCrs.{SameDynamic}
-use Rattle.crs_same.specs.SameConversions.{SameParameter}
+use Rattle.crs_matching.specs.SameConversions.{SameParameter}
 pub use Rattle.crs_same.specs.SameCrs.{IsHorizontalPart}
-use Rattle.crs_same.specs.SameDynamic.{SameDeformationModel}
-use Rattle.crs_same.specs.SameFrames.{SameMember}
-use Rattle.crs_same.specs.SameIdents.{SameIdent}
-use Rattle.crs_same.specs.SameSystems.{SameAxisMeridian}
-use Rattle.crs_same.specs.SameUnits.{SameUnit}
-use Rattle.crs_same.specs.SameUsages.{SameBox, SameExtent, SameUsage}
+use Rattle.crs_matching.specs.SameDynamic.{SameDeformationModel}
+use Rattle.crs_matching.specs.SameFrames.{SameMember}
+use Rattle.crs_matching.specs.SameIdents.{SameIdent}
+use Rattle.crs_matching.specs.SameSystems.{SameAxisMeridian}
+use Rattle.crs_matching.specs.SameUnits.{SameUnit}
+use Rattle.crs_matching.specs.SameUsages.{SameBox, SameExtent, SameUsage}
 use Rattle.crs_normal.specs.CrsClass.{geodetic_class}
 use Rattle.crs_normal.specs.SpelledAs.{IsSpelledAs}
 

@@ -9,7 +9,7 @@ use Rattle.crs_shape.specs.Words.{unit_word}
 use Rattle.crs_value.specs.Values.{IdentParts, UnitParts}
 use Rattle.crs_value.specs.Kept.{kept}
 use Rattle.crs_value.specs.declared.values.level.Level.{Level}
-use Rattle.crs_same.specs.SameUnits.{kind_as}
+use Rattle.crs_matching.specs.SameUnits.{kind_as}
 use Rattle.crs_normal.specs.Ordered.{in_order}
 use Rattle.crs_normal.specs.SpelledItems.{code_item, each, node_of, number_item, opt, text_item}
 use Rattle.crs_normal.specs.SpelledItems.{text_node}

@@ -8,8 +8,8 @@ use Rattle.crs_value.specs.declared.values.crs.Crs.{Crs}
 use Rattle.crs_value.specs.declared.values.level.Level.{Level}
 use Rattle.crs_value.specs.declared.values.level.Level.TheVariants as levels
 use Rattle.crs_same.specs.SameCrs.{SameCrs}
-use Rattle.crs_same.specs.SameSystems.{SameAxisAlone}
-use Rattle.crs_same.specs.Sameness.{IsSamenessOf}
+use Rattle.crs_matching.specs.SameSystems.{SameAxisAlone}
+use Rattle.crs_matching.specs.Sameness.{IsSamenessOf}
 use Rattle.crs_normal.specs.AxisAlone.{IsSpelledAxis}
 use Rattle.crs_normal.specs.PartTexts.{axis_text}
 use Rattle.crs_normal.specs.WrittenForm.{IsWrittenForm}

@@ -31,7 +31,7 @@ use Rattle.crs_normal.specs.SpelledFrames.{is_zero, norm_meridian}
 use Rattle.crs_normal.specs.SpelledSystems.{norm_system}
 use Rattle.crs_normal.specs.SpelledUnits.{item_ident, norm_length, norm_units}
 use Rattle.crs_normal.specs.SpelledUsages.{item_usage, norm_extent, norm_tail, norm_usage, set_usages}
-use Rattle.crs_same.specs.SameUsages.{usages_of}
+use Rattle.crs_matching.specs.SameUsages.{usages_of}
 use Rattle.crs_rules.specs.LowerLaws.{SetLaws}
 use Rattle.crs_rules.specs.Rewritten.{across, arranged, arranged_compound, arranged_crs, arranged_geodetic, arranged_projected, arranged_vertical, base, compound, counted, extent, geodetic, has_own_unit, is_idle, meridian, named, parameter, projected, renamed, rewritten, system, tail, units, usage, vertical}
 use Rattle.crs_rules.specs.Rules.{Meaning}

@@ -1,16 +1,8 @@
--- The search for the axis at a position: what is left decides.
-use Rattle.std.proofs.Common.{◌≡◌, ℕ, ◌+◌, drop, List, [], ◌∷◌, inl, inr, refl, sym, subst}
+-- The axes at a position.
+use Rattle.std.proofs.Common.{◌≡◌, ℕ, ◌+◌, List, [], ◌∷◌, inl, inr, refl, sym, subst}
 use Rattle.std.specs.Prelude.{⊤}
 use Rattle.crs_value.specs.Values.{AxisParts}
-use Rattle.crs_same.specs.SameSystems.{HasAt}
-
--- the axes from this index on, the first of which is written at this place, are searched still
-pub record IsLeft (position place index : ℕ) (axes : List AxisParts) : Type 0 where
-  pub counted : place ≡ index + 1
-  pub found : (axis : AxisParts) → HasAt position (λ x. x ≡ axis) place (drop index axes) → HasAt position (λ x. x ≡ axis) 1 axes
-  pub all : HasAt position (λ x. ⊤) 1 axes → HasAt position (λ x. ⊤) place (drop index axes)
-
--- ---- the axes at a position
+use Rattle.crs_matching.specs.SameSystems.{HasAt}
 
 has-mapped : (P Q : AxisParts → Type 0) (position place : ℕ) (axes : List AxisParts) → ((axis : AxisParts) → P axis → Q axis) →
     HasAt position P place axes → HasAt position Q place axes

@@ -18,13 +18,13 @@ use Rattle.crs_same.specs.Parts.{◌▸◌, Parts, PartsOf, AllSame}
 use Rattle.crs_same.specs.PartsOfCrs.{parts_of_method, parts_of_conversion, parts_of_dynamic, parts_of_tail, parts_of_geodetic, parts_of_base, parts_of_projected, parts_of_vertical, parts_of_horizontal, parts_of_compound}
 use Rattle.crs_same.specs.PartsOfFrames.{parts_of_ellipsoid, parts_of_ellipsoids, parts_of_given, unit_of, or_greenwich, parts_of_meridian, parts_of_datum, parts_of_ensemble, parts_of_frame}
 use Rattle.crs_same.specs.PartsOfSystems.{parts_of_axis, parts_at, parts_of_axes, parts_of_system}
-use Rattle.crs_same.specs.SameConversions.{SameParameter, SameGeoidModel}
+use Rattle.crs_matching.specs.SameConversions.{SameParameter, SameGeoidModel}
 use Rattle.crs_same.specs.SameCrs.{SameCrs}
-use Rattle.crs_same.specs.SameDynamic.{SameDeformationModel}
-use Rattle.crs_same.specs.SameFrames.{SameMember}
-use Rattle.crs_same.specs.SameSystems.{SameAxisMeridian, own_or}
-use Rattle.crs_same.specs.SameUnits.{SameUnitAsked, SameLength, or_metre}
-use Rattle.crs_same.specs.Sets.{BothOrNeither, HasSame, AllHaveSame, SameSet}
+use Rattle.crs_matching.specs.SameDynamic.{SameDeformationModel}
+use Rattle.crs_matching.specs.SameFrames.{SameMember}
+use Rattle.crs_matching.specs.SameSystems.{SameAxisMeridian, own_or}
+use Rattle.crs_matching.specs.SameUnits.{SameUnitAsked, SameLength, or_metre}
+use Rattle.crs_matching.specs.Sets.{BothOrNeither, HasSame, AllHaveSame, SameSet}
 use Rattle.crs_same.specs.SingleParts.{nodes}
 
 -- ---- what may be missing, and sets

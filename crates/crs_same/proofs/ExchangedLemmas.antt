@@ -31,13 +31,13 @@ use Rattle.crs_same.specs.Parts.{◌▸◌, Parts, none, part, ◌⨾◌, Differ
 use Rattle.crs_same.specs.PartsOfCrs.{kind_word, horizontal_word, parts_of_method, parts_of_conversion, parts_of_dynamic, parts_of_tail, parts_of_geodetic, parts_of_base, parts_of_projected, parts_of_vertical, parts_of_horizontal, parts_of_compound, parts_of_crs}
 use Rattle.crs_same.specs.PartsOfFrames.{datum_word, unit_of, parts_of_ellipsoid, parts_of_ellipsoids, parts_of_given, or_greenwich, parts_of_meridian, parts_of_datum, parts_of_ensemble, parts_of_frame}
 use Rattle.crs_same.specs.PartsOfSystems.{parts_of_axis, parts_at, parts_of_axes, parts_of_system}
-use Rattle.crs_same.specs.SameConversions.{SameParameter, SameGeoidModel}
-use Rattle.crs_same.specs.SameFrames.{SameMember}
-use Rattle.crs_same.specs.SameIdents.{SameNamed}
-use Rattle.crs_same.specs.SameSystems.{SameAxisMeridian, own_or}
-use Rattle.crs_same.specs.SameUnits.{SameValue, SameUnitAsked, or_metre}
-use Rattle.crs_same.specs.SameUsages.{SameUsage, usages_of}
-use Rattle.crs_same.specs.Sets.{BothOrNeither, SameSet}
+use Rattle.crs_matching.specs.SameConversions.{SameParameter, SameGeoidModel}
+use Rattle.crs_matching.specs.SameFrames.{SameMember}
+use Rattle.crs_matching.specs.SameIdents.{SameNamed}
+use Rattle.crs_matching.specs.SameSystems.{SameAxisMeridian, own_or}
+use Rattle.crs_matching.specs.SameUnits.{SameValue, SameUnitAsked, or_metre}
+use Rattle.crs_matching.specs.SameUsages.{SameUsage, usages_of}
+use Rattle.crs_matching.specs.Sets.{BothOrNeither, SameSet}
 use Rattle.crs_same.specs.SingleParts.{texts, optional_texts, words, unlike, numbers, optional, optional_numbers, units, sets, identifiers, nodes}
 
 -- what differs among these parts does so among those, with its values exchanged

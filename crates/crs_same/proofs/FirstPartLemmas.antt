@@ -25,8 +25,8 @@ use Rattle.crs_same.specs.Parts.{◌▸◌, Parts, none, part, ◌⨾◌, First}
 use Rattle.crs_same.specs.PartsOfCrs.{parts_of_method, parts_of_conversion, parts_of_dynamic, parts_of_tail, parts_of_geodetic, parts_of_base, parts_of_projected, parts_of_vertical, parts_of_horizontal, parts_of_compound, parts_of_crs, FirstInCrs}
 use Rattle.crs_same.specs.PartsOfFrames.{parts_of_ellipsoid, parts_of_ellipsoids, parts_of_given, or_greenwich, parts_of_meridian, parts_of_datum, parts_of_ensemble, parts_of_frame}
 use Rattle.crs_same.specs.PartsOfSystems.{parts_of_axis, parts_at, parts_of_axes, parts_of_system}
-use Rattle.crs_same.specs.SameIdents.{SameIdents}
-use Rattle.crs_same.specs.SameUsages.{usages_of, SameUsages, SameRemark}
+use Rattle.crs_matching.specs.SameIdents.{SameIdents}
+use Rattle.crs_matching.specs.SameUsages.{usages_of, SameUsages, SameRemark}
 use Rattle.crs_same.specs.SingleParts.{nodes}
 
 infixr 10 ◌⨟◌

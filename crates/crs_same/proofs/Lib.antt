@@ -9,15 +9,12 @@ mod FirstPartLemmas
 mod FrontLemmas
 mod KeptLemmas
 mod NumberLemmas
-mod OnceLemmas
 mod PositionLemmas
-mod SamenessLemmas
 mod SamenessOfCrsLemmas
 mod SamenessOfDynamicLemmas
 mod SamenessOfFramesLemmas
 mod SamenessOfPartsLemmas
 mod SamenessOfSystemsLemmas
-mod SetLemmas
 mod SettledLemmas
 mod WalkedLemmas
 mod WordLemmas

@@ -6,8 +6,8 @@ use Rattle.crs_value.specs.BadOrder.{IsPosition}
 use Rattle.crs_value.specs.Sound.{Each, IsAxis}
 use Rattle.crs_value.specs.SoundSystem.{AreOrders, AreDistinct, IsSystem}
 use Rattle.crs_value.specs.Values.{AxisParts, SystemParts}
-use Rattle.crs_same.specs.SameSystems.{IsPositionOf, HasAt}
-use Rattle.crs_same.specs.SameUnits.{SameValue}
+use Rattle.crs_matching.specs.SameSystems.{IsPositionOf, HasAt}
+use Rattle.crs_matching.specs.SameUnits.{SameValue}
 use Rattle.crs_same.proofs.CountLemmas.{Within, Among, Lacks, Apart, among-or-lacks, each-stands}
 use Rattle.crs_same.proofs.NumberLemmas.{wholes-same}
 

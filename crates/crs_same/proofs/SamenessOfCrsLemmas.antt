@@ -10,13 +10,13 @@ use Rattle.crs_value.specs.SoundCompound.{IsHorizontal, IsCompound}
 use Rattle.crs_value.specs.SoundCrs.{IsCrs}
 use Rattle.crs_value.specs.SoundSingle.{IsGeodetic, IsProjected, IsVertical}
 use Rattle.crs_value.specs.SoundSystem.{IsSystem}
-use Rattle.crs_same.specs.Sameness.{IsSameness, IsSamenessOf}
+use Rattle.crs_matching.specs.Sameness.{IsSameness, IsSamenessOf}
 use Rattle.crs_same.specs.Agreement.{AgreeConversion, AgreeGeodetic, AgreeBase, AgreeProjected, AgreeVertical, AgreeHorizontal, AgreeCompound, AgreeParts, AgreeCrs, AgreeDynamic, AgreeMeridian, AgreeFrame, AgreeSystem, AgreeTail}
-use Rattle.crs_same.specs.SameConversions.{SameGeoidModel}
+use Rattle.crs_matching.specs.SameConversions.{SameGeoidModel}
 use Rattle.crs_same.specs.SameCrs.{IsHorizontalPart}
-use Rattle.crs_same.specs.SameIdents.{SameIdents}
-use Rattle.crs_same.specs.SameUnits.{SameUnit}
-use Rattle.crs_same.proofs.SamenessLemmas.{equal-by, by, ◌⊗◌, in-words, over, of, optional, set}
+use Rattle.crs_matching.specs.SameIdents.{SameIdents}
+use Rattle.crs_matching.specs.SameUnits.{SameUnit}
+use Rattle.crs_matching.specs.SamenessLaws.{equal-by, by, ◌⊗◌, in-words, over, of, optional, set}
 
 pub base : (level : Level) → IsSameness (AgreeDynamic level) → IsSameness (AgreeFrame level) → IsSameness (AgreeMeridian level) →
     IsSameness (SameUnit kinds.Angle level) →

@@ -5,14 +5,14 @@ use Rattle.crs_value.specs.declared.values.frame.Frame.{Frame}
 use Rattle.crs_value.specs.declared.values.frame.Frame.TheVariants as frame
 use Rattle.crs_value.specs.declared.values.level.Level.{Level}
 use Rattle.crs_value.specs.Values.{MeridianParts}
-use Rattle.crs_same.specs.Sameness.{IsSameness}
+use Rattle.crs_matching.specs.Sameness.{IsSameness}
 use Rattle.crs_same.specs.Agreement.{AgreeEllipsoid, AgreeGiven, AgreeMeridian, AgreeDatum, AgreeEnsemble, AgreeFrame}
 use Rattle.crs_same.specs.PartsOfFrames.{or_greenwich}
-use Rattle.crs_same.specs.SameFrames.{IsZero, SameMember}
-use Rattle.crs_same.specs.SameIdents.{SameIdents}
-use Rattle.crs_same.specs.SameUnits.{SameValue, SameUnit, SameLength}
-use Rattle.crs_same.specs.Sets.{BothOrNeither}
-use Rattle.crs_same.proofs.SamenessLemmas.{equal-by, by, ◌⊗◌, in-words, optional, set}
+use Rattle.crs_matching.specs.SameFrames.{IsZero, SameMember}
+use Rattle.crs_matching.specs.SameIdents.{SameIdents}
+use Rattle.crs_matching.specs.SameUnits.{SameValue, SameUnit, SameLength}
+use Rattle.crs_matching.specs.Sets.{BothOrNeither}
+use Rattle.crs_matching.specs.SamenessLaws.{equal-by, by, ◌⊗◌, in-words, optional, set}
 use Rattle.crs_same.proofs.SamenessOfPartsLemmas.{whole}
 
 pub ellipsoid : (level : Level) → IsSameness SameValue → IsSameness (SameLength level) → IsSameness (SameIdents level) →
@@ -79,12 +79,6 @@ module _ (level : Level) (number : IsSameness SameValue) (angle : IsSameness (Sa
   meridian identifiers = by or_greenwich (given identifiers)
 
 -- ---- frames
-
-pub member : (level : Level) → IsSameness (SameIdents level) → IsSameness (SameMember level)
-member level identifiers =
-    in-words (equal-by (λ a. a.name) ⊗ by (λ a. a.identifiers) identifiers)
-    (λ a b s. (s.name, s.identifiers))
-    (λ a b p. record { name = p.0; identifiers = p.1 })
 
 pub datum : (level : Level) → IsSameness SameValue → IsSameness (AgreeEllipsoid level) → IsSameness (SameIdents level) →
     IsSameness (AgreeDatum level)

@@ -1,28 +1,20 @@
--- The sameness of axes and of coordinate systems, position by position.
+-- The sameness of axes with their units and of coordinate systems, position by position.
 use Rattle.std.proofs.Common.{◌≡◌, ◌∙◌, refl, sym, ap, subst, ℕ, ◌≤◌, length, Option}
 use Rattle.std.specs.Prelude.{⊤}
 use Rattle.crs_shape.specs.declared.unit_kind.UnitKind.{UnitKind}
-use Rattle.crs_shape.specs.declared.unit_kind.UnitKind.TheVariants as kinds
 use Rattle.crs_shape.specs.UnitKinds.{asked_kind}
 use Rattle.crs_value.specs.declared.values.level.Level.{Level}
 use Rattle.crs_value.specs.SoundSystem.{IsSystem}
 use Rattle.crs_value.specs.Values.{UnitParts, AxisParts, SystemParts}
-use Rattle.crs_same.specs.Sameness.{IsSameness, IsSamenessOf}
-use Rattle.crs_same.specs.SameIdents.{SameIdents}
+use Rattle.crs_matching.specs.Sameness.{IsSameness, IsSamenessOf}
+use Rattle.crs_matching.specs.SameIdents.{SameIdents}
 use Rattle.crs_same.specs.Agreement.{AgreeAxisIn, AgreeAxis, AgreeAxes, AgreeSystem}
-use Rattle.crs_same.specs.SameSystems.{SameAxisMeridian, own_or, SameAxisAlone, HasAt}
-use Rattle.crs_same.specs.SameUnits.{SameValue, SameUnit}
+use Rattle.crs_matching.specs.SameSystems.{SameAxisMeridian, own_or, HasAt}
+use Rattle.crs_matching.specs.SameUnits.{SameValue, SameUnit}
 use Rattle.crs_same.proofs.AxisLemmas.{which, at-both, which-both}
-use Rattle.crs_same.proofs.SamenessLemmas.{equal-by, by, ◌⊗◌, in-words, optional}
+use Rattle.crs_matching.specs.SamenessLaws.{equal-by, by, ◌⊗◌, in-words, optional}
 
 -- ---- axes
-
-pub axis-meridian : (level : Level) → IsSameness SameValue → IsSameness (SameUnit kinds.Angle level) →
-    IsSameness (SameAxisMeridian level)
-axis-meridian level number angle =
-    in-words (by (λ a. a.longitude) number ⊗ by (λ a. a.unit) angle)
-    (λ a b s. (s.longitude, s.unit))
-    (λ a b p. record { longitude = p.0; unit = p.1 })
 
 module _ (level : Level) (along : IsSameness (SameAxisMeridian level)) (identifiers : IsSameness (SameIdents level)) where
   -- the sameness of axes with their units
@@ -34,21 +26,6 @@ module _ (level : Level) (along : IsSameness (SameAxisMeridian level)) (identifi
       ⊗ by (λ x. x.1) (optional unit) ⊗ by (λ x. x.0.identifiers) identifiers)
       (λ x y s. (s.name, (s.direction, (s.meridian, (s.unit, s.identifiers)))))
       (λ x y p. record { name = p.0; direction = p.1.0; meridian = p.1.1.0; unit = p.1.1.1.0; identifiers = p.1.1.1.1 })
-
-  pub axis-alone : IsSameness SameValue → IsSameness (SameUnit kinds.Plain level) → IsSameness (SameAxisAlone level)
-  axis-alone number one =
-      in-words
-      (equal-by (λ a. a.name) ⊗ equal-by (λ a. a.direction) ⊗ by (λ a. a.meridian) (optional along)
-      ⊗ by (λ a. a.order) (optional number) ⊗ by (λ a. a.unit) (optional one) ⊗ by (λ a. a.identifiers) identifiers)
-      (λ a b s. (s.name, (s.direction, (s.meridian, (s.order, (s.unit, s.identifiers))))))
-      (λ a b p. record {
-        name = p.0;
-        direction = p.1.0;
-        meridian = p.1.1.0;
-        order = p.1.1.1.0;
-        unit = p.1.1.1.1.0;
-        identifiers = p.1.1.1.1.1;
-      })
 
 module _ (level : Level) (along : IsSameness (SameAxisMeridian level)) (identifiers : IsSameness (SameIdents level))
     (units : (asked : UnitKind) → IsSameness (SameUnit asked level)) where

@@ -11,8 +11,8 @@ use Rattle.crs_same.specs.declared.step.Step.TheVariants as step
 use Rattle.crs_same.specs.Parts.{◌▸◌, Parts, none, part, ◌⨾◌, within, First}
 use Rattle.crs_same.specs.PartsOfFrames.{parts_of_given, or_greenwich}
 use Rattle.crs_same.specs.PartsOfSystems.{parts_at, parts_of_axes}
-use Rattle.crs_same.specs.SameIdents.{SameIdents}
-use Rattle.crs_same.specs.SameUnits.{SameValue}
+use Rattle.crs_matching.specs.SameIdents.{SameIdents}
+use Rattle.crs_matching.specs.SameUnits.{SameValue}
 use Rattle.crs_same.specs.Walked.{IsDone, IsRefused, Walks, TellsOf, Told, Walked}
 
 -- over no part

@@ -28,15 +28,15 @@ use Rattle.crs_same.specs.PartsOfCrs.{parts_of_vertical, parts_of_horizontal, pa
 use Rattle.crs_same.specs.PartsOfFrames.{parts_of_ellipsoid, parts_of_given, or_greenwich, parts_of_meridian}
 use Rattle.crs_same.specs.PartsOfFrames.{parts_of_datum, parts_of_ensemble, parts_of_frame}
 use Rattle.crs_same.specs.PartsOfSystems.{parts_of_system}
-use Rattle.crs_same.specs.SameConversions.{SameParameter, SameGeoidModel}
+use Rattle.crs_matching.specs.SameConversions.{SameParameter, SameGeoidModel}
 use Rattle.crs_same.specs.SameCrs.{SameCrs, SameDynamic, IsHorizontalPart}
-use Rattle.crs_same.specs.SameDynamic.{SameDeformationModel}
-use Rattle.crs_same.specs.SameFrames.{IsZero, SameMember}
-use Rattle.crs_same.specs.SameIdents.{SameIdents}
-use Rattle.crs_same.specs.SameSystems.{SameAxisMeridian, HasAt, own_or}
-use Rattle.crs_same.specs.SameUnits.{SameValue, SameUnit, SameLength}
-use Rattle.crs_same.specs.SameUsages.{SameUsages, SameRemark}
-use Rattle.crs_same.specs.Sets.{SameSet, BothOrNeither}
+use Rattle.crs_matching.specs.SameDynamic.{SameDeformationModel}
+use Rattle.crs_matching.specs.SameFrames.{IsZero, SameMember}
+use Rattle.crs_matching.specs.SameIdents.{SameIdents}
+use Rattle.crs_matching.specs.SameSystems.{SameAxisMeridian, HasAt, own_or}
+use Rattle.crs_matching.specs.SameUnits.{SameValue, SameUnit, SameLength}
+use Rattle.crs_matching.specs.SameUsages.{SameUsages, SameRemark}
+use Rattle.crs_matching.specs.Sets.{SameSet, BothOrNeither}
 
 -- ---- conversions
 

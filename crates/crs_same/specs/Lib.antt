@@ -6,15 +6,6 @@ pub mod PartsOfCrs
 pub mod PartsOfFrames
 pub mod PartsOfSystems
 pub mod Paths
-pub mod SameConversions
 pub mod SameCrs
-pub mod SameDynamic
-pub mod SameFrames
-pub mod SameIdents
-pub mod SameSystems
-pub mod SameUnits
-pub mod SameUsages
-pub mod Sameness
-pub mod Sets
 pub mod SingleParts
 pub mod Walked

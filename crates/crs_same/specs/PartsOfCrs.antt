@@ -22,9 +22,9 @@ use Rattle.crs_same.specs.declared.step.Step.TheVariants as step
 use Rattle.crs_same.specs.PartsOfFrames.{parts_of_meridian, parts_of_frame}
 use Rattle.crs_same.specs.PartsOfSystems.{parts_of_system}
 use Rattle.crs_same.specs.Parts.{◌▸◌, Parts, PartsOf, ◌⨾◌, First, DifferenceParts, Differences}
-use Rattle.crs_same.specs.SameConversions.{SameParameter, SameGeoidModel}
-use Rattle.crs_same.specs.SameDynamic.{SameDeformationModel}
-use Rattle.crs_same.specs.SameUsages.{SameUsage, usages_of}
+use Rattle.crs_matching.specs.SameConversions.{SameParameter, SameGeoidModel}
+use Rattle.crs_matching.specs.SameDynamic.{SameDeformationModel}
+use Rattle.crs_matching.specs.SameUsages.{SameUsage, usages_of}
 use Rattle.crs_same.specs.SingleParts.{texts, optional_texts, words, unlike, optional, optional_numbers, units}
 use Rattle.crs_same.specs.SingleParts.{sets, identifiers}
 

@@ -1,5 +1,5 @@
 -- The parts of coordinate systems, in order.
-use Rattle.std.specs.Prelude.{◌≡◌, ℕ, zero, suc, max, length, List, Option, Some, None, ⊤}
+use Rattle.std.specs.Prelude.{ℕ, zero, suc, max, length, List}
 use Rattle.crs_shape.specs.UnitKinds.{asked_kind}
 use Rattle.crs_shape.specs.Words.{direction_word, system_word}
 use Rattle.crs_value.specs.declared.values.level.Level.{Level}
@@ -8,7 +8,7 @@ use Rattle.crs_same.specs.declared.content.Content.TheVariants as content
 use Rattle.crs_same.specs.declared.step.Step.{Step}
 use Rattle.crs_same.specs.declared.step.Step.TheVariants as step
 use Rattle.crs_same.specs.Parts.{◌▸◌, Parts, PartsOf, none, ◌⨾◌, within}
-use Rattle.crs_same.specs.SameSystems.{SameAxisMeridian, own_or, HasAt}
+use Rattle.crs_matching.specs.SameSystems.{SameAxisMeridian, own_or, StandsAt}
 use Rattle.crs_same.specs.SingleParts.{texts, words, numbers, optional, units, identifiers, nodes}
 
 -- the parts of two axes of two coordinate systems: name, direction, meridian, unit, identifiers
@@ -20,11 +20,6 @@ parts_of_axis at level a b x y =
     ⨾ units (at ▸ step.Unit) level (asked_kind a.system_type x.direction)
     (asked_kind b.system_type y.direction) (own_or x.unit a.unit) (own_or y.unit b.unit)
     ⨾ identifiers (at ▸ step.Id) level x.identifiers y.identifiers
-
--- this axis, of these, is at this position, or none is
-abbrev pub StandsAt : ℕ → List AxisParts → Option AxisParts → Type 0
-StandsAt position axes None = ¬ HasAt position (λ other. ⊤) 1 axes
-StandsAt position axes (Some axis) = HasAt position (λ other. other ≡ axis) 1 axes
 
 -- the parts of the axes that are at this position, of which each may be missing
 abbrev pub parts_at : List Step → Level → SystemParts → SystemParts → ℕ → Parts

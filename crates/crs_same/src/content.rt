@@ -3,7 +3,7 @@ ghost use Rattle.std.specs.Prelude.{◌≡◌};
 ghost use Rattle.std.specs.Option.{option_copied};
 ghost use Rattle.crs_same.specs.declared.content.Content.TheVariants as content;
 ghost use Rattle.crs_same.specs.Contents.{given, length_unit};
-ghost use Rattle.crs_same.specs.SameUsages.{with_bare};
+ghost use Rattle.crs_matching.specs.SameUsages.{with_bare};
 
 use crs_decimal::Decimal;
 use crs_value::{
@@ -110,7 +110,7 @@ impl<'b, 'a> Model for Usages<'b, 'a> {
     ghost use Rattle.std.specs.Prelude.{List};
     ghost use Rattle.std.specs.Option.{option_copied};
     ghost use Rattle.crs_value.specs.Values.{UsageParts};
-    ghost use Rattle.crs_same.specs.SameUsages.{with_bare};
+    ghost use Rattle.crs_matching.specs.SameUsages.{with_bare};
 
     ghost Value = { List UsageParts };
 

@@ -1,50 +1,20 @@
 //! Dynamic parts of CRSs.
 ghost use Rattle.std.specs.Prelude.{◌≡◌, ◌<◌, ◌≤◌, ◌↔◌, IsTrue, None, length};
 ghost use Rattle.crs_same.specs.declared.content.Content.TheVariants as content;
-ghost use Rattle.crs_same.specs.declared.step.Step.TheVariants as step;
-ghost use Rattle.crs_same.specs.Parts.{◌▸◌};
 ghost use Rattle.std.specs.Option.{option_and_then, option_copied, option_map};
 ghost use Rattle.crs_same.specs.PartsOfCrs.{parts_of_dynamic};
 ghost use Rattle.crs_same.specs.SameCrs.{SameDynamic};
-ghost use Rattle.crs_same.specs.SameDynamic.{SameDeformationModel};
+ghost use Rattle.crs_matching.specs.SameDynamic.{SameDeformationModel};
 ghost use Rattle.crs_same.specs.SingleParts.{optional};
 ghost use Rattle.crs_same.specs.Walked.{Walked};
-ghost use Rattle.crs_same.specs.Sets.{BothOrNeither};
 
 use crate::content::Content;
 use crate::found::Found;
-use crate::idents::same_idents;
-use crate::numbers::same_value;
 use crate::path::Path;
 use crate::step::Step;
-use crate::texts::same_text;
 use crs_decimal::Decimal;
+use crs_matching::{same_models, same_value};
 use crs_value::{DeformationModel, Dynamic, Level};
-
-/// Whether two deformation models are the same: name and identifiers. ISO 19162:2019, "Deformation model".
-pub fn same_deformation_model<'a>(
-    a: &DeformationModel<'a>,
-    b: &DeformationModel<'a>,
-    level: Level,
-) -> bool
-    ensures { IsTrue result ↔ SameDeformationModel level a.now b.now }
-{
-    same_text(a.name, b.name) && same_idents(&a.identifiers, &b.identifiers, level)
-}
-
-fn same_models<'a>(
-    a: Option<&DeformationModel<'a>>,
-    b: Option<&DeformationModel<'a>>,
-    level: Level,
-) -> bool
-    ensures { IsTrue result ↔ BothOrNeither (SameDeformationModel level) (option_copied a.entry) (option_copied b.entry) }
-{
-    match (a, b) {
-        (None, None) => true,
-        (Some(x), Some(y)) => same_deformation_model(x, y, level),
-        (None, Some(_)) | (Some(_), None) => false,
-    }
-}
 
 /// Whether two dynamic parts are the same: epoch, and the models in both or in neither. ISO 19162:2019, "Dynamic
 /// coordinate reference systems".

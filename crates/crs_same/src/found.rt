@@ -4,23 +4,22 @@ ghost use Rattle.std.specs.Option.{option_copied};
 ghost use Rattle.crs_value.specs.Kept.{kept};
 ghost use Rattle.crs_same.specs.declared.content.Content.TheVariants as content;
 ghost use Rattle.crs_same.specs.declared.step.Step.{Step};
-ghost use Rattle.crs_same.specs.declared.step.Step.TheVariants as step;
 ghost use Rattle.crs_same.specs.declared.found.Found.TheVariants as found;
 ghost use Rattle.crs_same.specs.Contents.{length_unit};
 ghost use Rattle.crs_same.specs.Parts.{◌▸◌, part};
 ghost use Rattle.crs_same.specs.SingleParts.{texts, optional_texts, unlike, numbers, optional_numbers, units};
 ghost use Rattle.crs_same.specs.SingleParts.{identifiers};
-ghost use Rattle.crs_same.specs.SameUnits.{SameLength};
+ghost use Rattle.crs_matching.specs.SameUnits.{SameLength};
 ghost use Rattle.crs_same.specs.Walked.{IsDone, IsOfAll, Told, Walked};
 
 use crate::content::{Content, Members};
-use crate::idents::{same_idents, same_kept_idents};
-use crate::numbers::{same_optional_value, same_value};
 use crate::path::Path;
 use crate::step::Step;
-use crate::texts::{same_optional_text, same_text};
-use crate::units::{same_length, same_units_asked};
 use crs_decimal::Decimal;
+use crs_matching::{
+    same_idents, same_kept_idents, same_length, same_optional_text, same_optional_value, same_text,
+    same_units_asked, same_value,
+};
 use crs_value::{Guesses, Ident, Level, List, Unit, UnitKind};
 use std::alloc::{AllocError, Global};
 use std::marker::Model;

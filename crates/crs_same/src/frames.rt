@@ -4,28 +4,22 @@ ghost use Rattle.std.specs.Option.{option_copied};
 ghost use Rattle.crs_shape.specs.declared.unit_kind.UnitKind.TheVariants as kinds;
 ghost use Rattle.crs_value.specs.declared.values.frame.Frame.TheVariants as frame;
 ghost use Rattle.crs_same.specs.declared.content.Content.TheVariants as content;
-ghost use Rattle.crs_same.specs.declared.step.Step.TheVariants as step;
 ghost use Rattle.crs_same.specs.PartsOfFrames.{parts_of_ellipsoid, parts_of_ellipsoids, parts_of_given, datum_word};
 ghost use Rattle.crs_same.specs.PartsOfFrames.{unit_of, or_greenwich, parts_of_meridian};
 ghost use Rattle.crs_same.specs.PartsOfFrames.{parts_of_datum, parts_of_ensemble, parts_of_frame};
 ghost use Rattle.crs_same.specs.SingleParts.{units, sets};
 ghost use Rattle.crs_same.specs.Walked.{Walked};
-ghost use Rattle.crs_same.specs.Sets.{SameSet};
 ghost use Rattle.crs_same.specs.Parts.{AreSame};
-ghost use Rattle.crs_same.specs.SameFrames.{SameMember};
+ghost use Rattle.crs_matching.specs.SameFrames.{SameMember};
 
 use crate::content::{Content, Members};
 use crate::found::Found;
-use crate::idents::same_idents;
-use crate::laws;
 use crate::path::Path;
-use crate::sets::{Member as SetMember, same_set};
 use crate::step::Step;
-use crate::texts::same_text;
 use crs_decimal::Decimal;
+use crs_matching::same_members;
 use crs_value::{
-    Datum, Ellipsoid, Ensemble, Frame, Guesses, Ident, Level, List, Member, Meridian, Unit,
-    UnitKind,
+    Datum, Ellipsoid, Ensemble, Frame, Guesses, Ident, Level, Member, Meridian, Unit, UnitKind,
 };
 
 fn walk_ellipsoid<'b, 'a>(
@@ -197,33 +191,6 @@ pub fn same_meridian<'a>(a: &Meridian<'a>, b: &Meridian<'a>, level: Level) -> bo
     ensures { IsTrue result ↔ AreSame parts_of_given level a.now b.now }
 {
     walk_given(Found::first(), Path::start(), a, b, level).is_same()
-}
-
-impl SetMember for Member<'_> {
-    ghost use Rattle.crs_same.specs.SameFrames.{SameMember};
-
-    ghost Same = { λ level a b. SameMember level a b };
-
-    fn is_same(&self, other: &Self, level: Level) -> bool {
-        same_member(self, other, level)
-    }
-
-    fn same_is_equivalence(&self) {
-        laws::same_member_is_equivalence();
-    }
-}
-
-/// Whether two members of an ensemble are the same: name and identifiers. ISO 19162:2019, "Datum ensemble".
-pub fn same_member<'a>(a: &Member<'a>, b: &Member<'a>, level: Level) -> bool
-    ensures { IsTrue result ↔ SameMember level a.now b.now }
-{
-    same_text(a.name, b.name) && same_idents(&a.identifiers, &b.identifiers, level)
-}
-
-fn same_members<'a>(a: &[Member<'a>], b: &[Member<'a>], guesses: Guesses<'_>, level: Level) -> bool
-    ensures { IsTrue result ↔ SameSet (SameMember level) a.now b.now }
-{
-    same_set(a, b, guesses, level)
 }
 
 #[tactic(auto, using(crate::proofs::WalkedLemmas::part_rules))]

@@ -1,6 +1,5 @@
 //! Laws of the definitions, as contracts of functions that do nothing.
 ghost use Rattle.std.specs.Prelude.{◌≡◌, ◌≤◌, ◌↔◌, ◌⊎◌, ◌∷◌, ℕ, ⊤, List, [], None, Option, Some, length, map};
-ghost use Rattle.crs_shape.specs.declared.unit_kind.UnitKind.{UnitKind};
 ghost use Rattle.crs_shape.specs.UnitKinds.{asked_kind};
 ghost use Rattle.crs_value.specs.declared.values.crs.Crs.{Crs};
 ghost use Rattle.crs_value.specs.declared.values.level.Level.{Level};
@@ -23,17 +22,19 @@ ghost use Rattle.crs_same.specs.PartsOfFrames.{parts_of_ensemble, parts_of_frame
 ghost use Rattle.crs_same.specs.PartsOfSystems.{parts_of_axis, parts_of_system};
 ghost use Rattle.crs_same.specs.Parts.{◌▸◌, AreSame, DifferenceParts, First, exchanged};
 ghost use Rattle.crs_same.specs.Paths.{path_text};
-ghost use Rattle.crs_same.specs.Sameness.{IsSameness, IsSamenessOf};
-ghost use Rattle.crs_same.specs.SameConversions.{SameParameter, SameGeoidModel};
+ghost use Rattle.crs_matching.specs.Sameness.{IsSameness, IsSamenessOf};
 ghost use Rattle.crs_same.specs.SameCrs.{SameCrs, SameDynamic, IsHorizontalPart};
-ghost use Rattle.crs_same.specs.SameDynamic.{SameDeformationModel};
-ghost use Rattle.crs_same.specs.SameFrames.{SameMember};
-ghost use Rattle.crs_same.specs.SameIdents.{SameIdent, SameIdents};
-ghost use Rattle.crs_same.specs.SameSystems.{SameAxisMeridian, SameAxisAlone, HasAt};
-ghost use Rattle.crs_same.specs.SameUnits.{SameValue, SameUnit, SameLength};
-ghost use Rattle.crs_same.specs.SameUsages.{SameBox, SameExtent, SameUsage};
+ghost use Rattle.crs_matching.specs.SameSystems.{HasAt};
+ghost use Rattle.crs_matching.specs.SameUnits.{SameValue};
 
 use crs_decimal::laws;
+pub use crs_matching::laws::{
+    same_axis_is_equivalence, same_axis_meridian_is_equivalence, same_box_is_equivalence,
+    same_deformation_model_is_equivalence, same_extent_is_equivalence,
+    same_geoid_model_is_equivalence, same_ident_is_equivalence, same_idents_is_equivalence,
+    same_length_is_equivalence, same_member_is_equivalence, same_parameter_is_equivalence,
+    same_unit_is_equivalence, same_usage_is_equivalence, same_value_is_equivalence,
+};
 
 /// Each position of a coordinate system, from 1 to the number of its axes, has one axis.
 pub fn one_axis_each()
@@ -48,7 +49,7 @@ pub fn one_axis_each()
 }
 
 /// Coordinate systems of one dimension have as many axes.
-#[tactic(auto, unfolding(crate::specs::SameUnits::SameValue))]
+#[tactic(auto, unfolding(crs_matching::specs::SameUnits::SameValue))]
 pub fn as_many_axes()
     ensures { (a b : SystemParts) → IsSystem a → IsSystem b → SameValue a.dimension b.dimension →
         length a.axes ≡ length b.axes }
@@ -66,54 +67,11 @@ pub fn parts_agree_where_same()
 
 // ---- sameness is an equivalence
 
-/// Being the same number is an equivalence on decimals.
-pub fn same_value_is_equivalence()
-    ensures { IsSameness SameValue }
-{
-    laws::same_number_is_equivalence();
-}
-
-/// Sameness of identifiers is an equivalence.
-pub fn same_ident_is_equivalence()
-    ensures { IsSameness SameIdent }
-{}
-
-/// Sameness of sets of identifiers is an equivalence.
-pub fn same_idents_is_equivalence()
-    ensures { (level : Level) → IsSameness (SameIdents level) }
-{
-    same_ident_is_equivalence();
-}
-
-/// Sameness of units is an equivalence, whichever kind is asked.
-pub fn same_unit_is_equivalence()
-    ensures { (asked : UnitKind) (level : Level) → IsSameness (SameUnit asked level) }
-{
-    same_value_is_equivalence();
-    same_idents_is_equivalence();
-}
-
-/// Sameness of units of length, of which a missing one is the metre, is an equivalence.
-pub fn same_length_is_equivalence()
-    ensures { (level : Level) → IsSameness (SameLength level) }
-{
-    same_unit_is_equivalence();
-}
-
 /// Sameness of methods is an equivalence.
 pub fn same_method_is_equivalence()
     ensures { (level : Level) → IsSameness (AreSame parts_of_method level) }
 {
     parts_agree_where_same();
-    same_idents_is_equivalence();
-}
-
-/// Sameness of parameters is an equivalence.
-pub fn same_parameter_is_equivalence()
-    ensures { (level : Level) → IsSameness (SameParameter level) }
-{
-    same_value_is_equivalence();
-    same_unit_is_equivalence();
     same_idents_is_equivalence();
 }
 
@@ -125,36 +83,6 @@ pub fn same_conversion_is_equivalence()
     same_method_is_equivalence();
     same_parameter_is_equivalence();
     same_idents_is_equivalence();
-}
-
-/// Sameness of geoid models is an equivalence.
-pub fn same_geoid_model_is_equivalence()
-    ensures { (level : Level) → IsSameness (SameGeoidModel level) }
-{
-    same_idents_is_equivalence();
-}
-
-/// Sameness of bounding boxes is an equivalence.
-pub fn same_box_is_equivalence()
-    ensures { IsSameness SameBox }
-{
-    same_value_is_equivalence();
-}
-
-/// Sameness of vertical extents is an equivalence.
-pub fn same_extent_is_equivalence()
-    ensures { (level : Level) → IsSameness (SameExtent level) }
-{
-    same_value_is_equivalence();
-    same_length_is_equivalence();
-}
-
-/// Sameness of usages is an equivalence.
-pub fn same_usage_is_equivalence()
-    ensures { IsSameness SameUsage }
-{
-    same_box_is_equivalence();
-    same_extent_is_equivalence();
 }
 
 /// Sameness of the ends of CRSs is an equivalence.
@@ -184,13 +112,6 @@ pub fn same_meridian_is_equivalence()
     parts_agree_where_same();
     same_value_is_equivalence();
     same_unit_is_equivalence();
-    same_idents_is_equivalence();
-}
-
-/// Sameness of members of ensembles is an equivalence.
-pub fn same_member_is_equivalence()
-    ensures { (level : Level) → IsSameness (SameMember level) }
-{
     same_idents_is_equivalence();
 }
 
@@ -224,13 +145,6 @@ pub fn same_frame_is_equivalence()
     same_ensemble_is_equivalence();
 }
 
-/// Sameness of deformation models is an equivalence.
-pub fn same_deformation_model_is_equivalence()
-    ensures { (level : Level) → IsSameness (SameDeformationModel level) }
-{
-    same_idents_is_equivalence();
-}
-
 /// Sameness of dynamic parts is an equivalence.
 pub fn same_dynamic_is_equivalence()
     ensures { (level : Level) → IsSameness (SameDynamic level) }
@@ -238,24 +152,6 @@ pub fn same_dynamic_is_equivalence()
     parts_agree_where_same();
     same_value_is_equivalence();
     same_deformation_model_is_equivalence();
-}
-
-/// Sameness of the meridians of axes is an equivalence.
-pub fn same_axis_meridian_is_equivalence()
-    ensures { (level : Level) → IsSameness (SameAxisMeridian level) }
-{
-    same_value_is_equivalence();
-    same_unit_is_equivalence();
-}
-
-/// Sameness of axes by themselves is an equivalence.
-pub fn same_axis_is_equivalence()
-    ensures { (level : Level) → IsSameness (SameAxisAlone level) }
-{
-    same_value_is_equivalence();
-    same_axis_meridian_is_equivalence();
-    same_unit_is_equivalence();
-    same_idents_is_equivalence();
 }
 
 /// Sameness of coordinate systems is an equivalence.

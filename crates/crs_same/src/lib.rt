@@ -8,16 +8,11 @@ mod crs;
 mod dynamic;
 mod found;
 mod frames;
-mod idents;
 pub mod laws;
-mod numbers;
 pub mod parts;
 mod path;
-mod sets;
 mod step;
 mod systems;
-mod texts;
-mod units;
 mod usages;
 
 pub use content::{Borrowed, Content, Members, Text, Usages};

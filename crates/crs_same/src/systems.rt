@@ -7,48 +7,16 @@ ghost use Rattle.crs_same.specs.declared.step.Step.TheVariants as step;
 ghost use Rattle.crs_same.specs.Parts.{◌▸◌};
 ghost use Rattle.crs_same.specs.SingleParts.{words, optional, nodes};
 ghost use Rattle.crs_same.specs.Walked.{Walked};
-ghost use Rattle.crs_same.specs.Sets.{BothOrNeither};
-ghost use Rattle.crs_same.specs.PartsOfSystems.{parts_of_axis, StandsAt, parts_at, parts_of_axes};
+ghost use Rattle.crs_same.specs.PartsOfSystems.{parts_of_axis, parts_at, parts_of_axes};
 ghost use Rattle.crs_same.specs.PartsOfSystems.{parts_of_system};
-ghost use Rattle.crs_same.specs.SameSystems.{SameAxisMeridian, SameAxisAlone, IsPositionOf};
+ghost use Rattle.crs_matching.specs.SameSystems.{SameAxisMeridian};
 
 use crate::content::Content;
 use crate::found::Found;
-use crate::idents::same_idents;
-use crate::numbers::{same_optional_value, same_value};
 use crate::path::Path;
 use crate::step::Step;
-use crate::texts::same_text;
-use crate::units::{same_unit_as, same_units_as};
-use crs_decimal::Decimal;
-use crs_value::{Axis, AxisMeridian, Direction, Level, System, SystemType, UnitKind};
-
-/// Whether the meridians of two axes are the same: longitude and unit. ISO 19162:2019, "Axis direction".
-pub fn same_axis_meridian<'a>(a: &AxisMeridian<'a>, b: &AxisMeridian<'a>, level: Level) -> bool
-    ensures { IsTrue result ↔ SameAxisMeridian level a.now b.now }
-{
-    same_value(&a.longitude, &b.longitude) && same_unit_as(UnitKind::Angle, &a.unit, &b.unit, level)
-}
-
-fn same_axis_meridians<'a>(
-    a: &Option<AxisMeridian<'a>>,
-    b: &Option<AxisMeridian<'a>>,
-    level: Level,
-) -> bool
-    ensures { IsTrue result ↔ BothOrNeither (SameAxisMeridian level) a.now b.now }
-{
-    match (a, b) {
-        (None, None) => true,
-        (Some(x), Some(y)) => same_axis_meridian(x, y, level),
-        (None, Some(_)) | (Some(_), None) => false,
-    }
-}
-
-fn same_direction(a: Direction, b: Direction) -> bool
-    ensures { IsTrue result ↔ (a ≡ b) }
-{
-    a == b
-}
+use crs_matching::{axis_at, same_axis_meridians, same_direction};
+use crs_value::{Axis, AxisMeridian, Direction, Level, System, SystemType};
 
 fn same_type(a: SystemType, b: SystemType) -> bool
     ensures { IsTrue result ↔ (a ≡ b) }
@@ -145,30 +113,6 @@ fn walk_axis<'b, 'a>(
     found.identifiers(&at, Step::Id, level, &x.identifiers, &y.identifiers)
 }
 
-// Whether an axis that is written at this place, from 1 on, has this position.
-fn is_at(position: u64, place: u64, order: Option<Decimal>) -> bool
-    ensures { IsTrue result ↔ IsPositionOf position place order }
-{
-    match order {
-        None => place == position,
-        Some(order) => order.is_whole(position),
-    }
-}
-
-// The axis at this position, if there is one.
-fn axis_at<'b, 'a>(axes: &'b [Axis<'a>], position: u64) -> Option<&'b Axis<'a>>
-    ensures { StandsAt position axes.entry.now (option_copied result) }
-{
-    let mut place = 1;
-    for axis in axes {
-        if is_at(position, place, axis.order) {
-            return Some(axis);
-        }
-        place += 1;
-    }
-    None
-}
-
 // The parts of two axes of which each may be missing.
 fn walk_both<'b, 'a>(
     found: Found<'b, 'a>,
@@ -247,17 +191,4 @@ pub(crate) fn walk_system<'b, 'a>(
     let found = found.number(&at, Step::Dimension, &a.dimension, &b.dimension);
     let found = found.identifiers(&at, Step::Id, level, &a.identifiers, &b.identifiers);
     walk_axes(found, at, a, b, level)
-}
-
-/// Whether two axes by themselves are the same: name, direction, identifiers, and meridian, order and unit, each in
-/// both or in neither; `UNIT` is a kind of its own. ISO 19162:2019, "Axis"; order and unit: profile.
-pub fn same_axis<'a>(a: &Axis<'a>, b: &Axis<'a>, level: Level) -> bool
-    ensures { IsTrue result ↔ SameAxisAlone level a.now b.now }
-{
-    same_text(a.name, b.name)
-        && same_direction(a.direction, b.direction)
-        && same_axis_meridians(&a.meridian, &b.meridian, level)
-        && same_optional_value(a.order, b.order)
-        && same_units_as(UnitKind::Plain, a.unit.as_ref(), b.unit.as_ref(), level)
-        && same_idents(&a.identifiers, &b.identifiers, level)
 }

@@ -16,7 +16,7 @@ use Rattle.crs_value.specs.declared.values.frame.Frame.{Frame}
 use Rattle.crs_value.specs.declared.values.frame.Frame.TheVariants as frame
 use Rattle.crs_value.specs.declared.values.level.Level.{Level}
 use Rattle.crs_value.specs.declared.values.level.Level.TheVariants as levels
-use Rattle.crs_same.specs.SameUsages.{with_bare}
+use Rattle.crs_matching.specs.SameUsages.{with_bare}
 use Rattle.crs_normal.specs.SpelledFrames.{item_ensemble, item_frame, norm_ensemble, norm_frame}
 use Rattle.crs_normal.specs.SpelledItems.{each, opt}
 use Rattle.crs_normal.specs.SpelledUnits.{item_ident, item_unit, norm_unit, norm_units, set_idents}

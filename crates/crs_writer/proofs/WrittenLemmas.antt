@@ -7,7 +7,7 @@ use Rattle.crs_value.specs.Values.{IdentParts, MemberParts, UsageParts}
 use Rattle.crs_value.specs.Kept.{kept, kept_one}
 use Rattle.crs_value.specs.KeptLaws.{kept-joined}
 use Rattle.crs_value.specs.declared.values.level.Level.{Level}
-use Rattle.crs_same.specs.SameUsages.{with_bare}
+use Rattle.crs_matching.specs.SameUsages.{with_bare}
 use Rattle.crs_normal.specs.SpelledConversions.{item_geoid_model, item_parameter, norm_geoid_model, norm_parameter, set_geoid_models, set_parameters}
 use Rattle.crs_normal.specs.SpelledFrames.{item_member, norm_member, set_members}
 use Rattle.crs_normal.specs.SpelledItems.{each}

@@ -6,7 +6,7 @@ ghost use Rattle.crs_shape.specs.declared.unit_kind.UnitKind.TheVariants as kind
 ghost use Rattle.crs_shape.specs.UnitKinds.{asked_kind};
 ghost use Rattle.crs_shape.specs.Words.{direction_word};
 ghost use Rattle.crs_value.specs.Sound.{IsAxis, IsAxisMeridian};
-ghost use Rattle.crs_same.specs.SameSystems.{own_or, SameAxisAlone, SameAxisMeridian};
+ghost use Rattle.crs_matching.specs.SameSystems.{own_or, SameAxisAlone, SameAxisMeridian};
 ghost use Rattle.crs_normal.specs.AxisAlone.{IsSpelledAxis};
 ghost use Rattle.crs_normal.specs.PartSpellings.{IsSpelledAxisMeridian};
 ghost use Rattle.crs_normal.specs.PartTexts.{axis_meridian_text, axis_text};

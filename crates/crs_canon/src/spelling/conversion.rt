@@ -6,7 +6,7 @@ ghost use Rattle.crs_shape.specs.declared.unit_kind.UnitKind.TheVariants as kind
 ghost use Rattle.crs_value.specs.SoundConversion.{IsConversion, IsGeoidModel, IsMethod, IsParameter};
 ghost use Rattle.crs_same.specs.Parts.{AreSame};
 ghost use Rattle.crs_same.specs.PartsOfCrs.{parts_of_conversion, parts_of_method};
-ghost use Rattle.crs_same.specs.SameConversions.{SameGeoidModel, SameParameter};
+ghost use Rattle.crs_matching.specs.SameConversions.{SameGeoidModel, SameParameter};
 ghost use Rattle.crs_normal.specs.PartSpellings.{IsSpelledConversion, IsSpelledGeoidModel, IsSpelledMethod};
 ghost use Rattle.crs_normal.specs.PartSpellings.{IsSpelledParameter};
 ghost use Rattle.crs_normal.specs.PartTexts.{conversion_text, geoid_model_text, method_text, parameter_text};

@@ -5,7 +5,7 @@ ghost use Rattle.crs_text.specs.Items.{End};
 ghost use Rattle.crs_text.specs.Written.{item_text, others_text};
 ghost use Rattle.crs_value.specs.SoundDynamic.{IsDeformationModel, IsDynamic};
 ghost use Rattle.crs_same.specs.SameCrs.{SameDynamic};
-ghost use Rattle.crs_same.specs.SameDynamic.{SameDeformationModel};
+ghost use Rattle.crs_matching.specs.SameDynamic.{SameDeformationModel};
 ghost use Rattle.crs_normal.specs.PartSpellings.{IsSpelledDeformationModel, IsSpelledDynamic};
 ghost use Rattle.crs_normal.specs.PartTexts.{deformation_model_text, dynamic_text};
 ghost use Rattle.crs_normal.specs.SpelledDynamic.{item_deformation_model, item_dynamic, norm_deformation_model};

@@ -6,7 +6,7 @@ ghost use Rattle.crs_text.specs.Written.{item_text, others_text};
 ghost use Rattle.crs_value.specs.SoundFrames.{IsDatum, IsEnsemble, IsMember};
 ghost use Rattle.crs_same.specs.Parts.{AreSame};
 ghost use Rattle.crs_same.specs.PartsOfFrames.{parts_of_datum, parts_of_ensemble, parts_of_frame};
-ghost use Rattle.crs_same.specs.SameFrames.{SameMember};
+ghost use Rattle.crs_matching.specs.SameFrames.{SameMember};
 ghost use Rattle.crs_normal.specs.PartSpellings.{IsFrame, IsSpelledDatum, IsSpelledEnsemble, IsSpelledFrame};
 ghost use Rattle.crs_normal.specs.PartSpellings.{IsSpelledMember};
 ghost use Rattle.crs_normal.specs.PartTexts.{datum_text, ensemble_text, frame_text, member_text};

@@ -4,7 +4,7 @@ ghost use Rattle.std.specs.Option.{option_copied};
 ghost use Rattle.crs_text.specs.Items.{End};
 ghost use Rattle.crs_text.specs.Written.{item_text, others_text};
 ghost use Rattle.crs_value.specs.Sound.{IsIdent};
-ghost use Rattle.crs_same.specs.SameIdents.{SameIdent};
+ghost use Rattle.crs_matching.specs.SameIdents.{SameIdent};
 ghost use Rattle.crs_normal.specs.PartSpellings.{IsSpelledIdent};
 ghost use Rattle.crs_normal.specs.PartTexts.{ident_text};
 ghost use Rattle.crs_normal.specs.SpelledItems.{code_item, each, opt, text_node};

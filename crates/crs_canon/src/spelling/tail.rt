@@ -4,7 +4,7 @@ ghost use Rattle.std.specs.Option.{option_copied};
 ghost use Rattle.crs_text.specs.Items.{End};
 ghost use Rattle.crs_text.specs.Written.{item_text, others_text};
 ghost use Rattle.crs_value.specs.Kept.{kept_one};
-ghost use Rattle.crs_same.specs.SameUsages.{usages_of, with_bare};
+ghost use Rattle.crs_matching.specs.SameUsages.{usages_of, with_bare};
 ghost use Rattle.crs_normal.specs.SpelledItems.{each, opt, text_node};
 ghost use Rattle.crs_normal.specs.SpelledUnits.{item_ident, set_idents};
 ghost use Rattle.crs_normal.specs.SpelledUsages.{item_usage, norm_tail, norm_usage, set_usages};

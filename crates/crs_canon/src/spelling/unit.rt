@@ -6,7 +6,7 @@ ghost use Rattle.crs_text.specs.Written.{item_text, others_text};
 ghost use Rattle.crs_shape.specs.declared.unit_kind.UnitKind.TheVariants as kinds;
 ghost use Rattle.crs_shape.specs.Words.{unit_word};
 ghost use Rattle.crs_value.specs.Sound.{IsUnit};
-ghost use Rattle.crs_same.specs.SameUnits.{SameUnit};
+ghost use Rattle.crs_matching.specs.SameUnits.{SameUnit};
 ghost use Rattle.crs_normal.specs.PartSpellings.{IsSpelledUnit};
 ghost use Rattle.crs_normal.specs.PartTexts.{unit_text};
 ghost use Rattle.crs_normal.specs.SpelledItems.{each, number_item, opt};

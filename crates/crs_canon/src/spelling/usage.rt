@@ -5,7 +5,7 @@ ghost use Rattle.crs_text.specs.Items.{End, More};
 ghost use Rattle.crs_text.specs.Written.{item_text, others_text};
 ghost use Rattle.crs_value.specs.SoundUsages.{IsBox, IsExtent, IsUsage};
 ghost use Rattle.crs_value.specs.declared.values.level.Level.TheVariants as levels;
-ghost use Rattle.crs_same.specs.SameUsages.{SameBox, SameExtent, SameUsage};
+ghost use Rattle.crs_matching.specs.SameUsages.{SameBox, SameExtent, SameUsage};
 ghost use Rattle.crs_normal.specs.PartSpellings.{IsSpelledBox, IsSpelledExtent, IsSpelledUsage};
 ghost use Rattle.crs_normal.specs.PartTexts.{box_text, extent_text, usage_text};
 ghost use Rattle.crs_normal.specs.SpelledItems.{number_item, opt, text_node};

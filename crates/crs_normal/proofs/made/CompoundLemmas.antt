@@ -25,7 +25,7 @@ use Rattle.crs_value.specs.SoundCompound.{IsCompound, IsHorizontal, IsPlane}
 use Rattle.crs_value.specs.SoundSingle.{IsGeodetic, IsProjected, IsVertical}
 use Rattle.crs_value.specs.SoundUsages.{IsTail}
 use Rattle.crs_value.specs.Values.{TailParts}
-use Rattle.crs_same.specs.SameUsages.{usages_of}
+use Rattle.crs_matching.specs.SameUsages.{usages_of}
 use Rattle.crs_normal.specs.DecimalLaws.{DecimalLaws}
 use Rattle.crs_normal.specs.CrsClass.{geodetic_class}
 use Rattle.crs_normal.specs.AcceptedNormal.{IsAcceptedNormal}

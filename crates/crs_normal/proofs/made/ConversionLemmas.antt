@@ -13,7 +13,7 @@ use Rattle.crs_value.specs.declared.values.level.Level.{Level}
 use Rattle.crs_value.specs.Sound.{Each, IsUnit}
 use Rattle.crs_value.specs.SoundConversion.{IsConversion, IsParameter}
 use Rattle.crs_value.specs.Values.{UnitParts}
-use Rattle.crs_same.specs.SameUnits.{kind_as}
+use Rattle.crs_matching.specs.SameUnits.{kind_as}
 use Rattle.crs_normal.specs.PartSpellings.{unit_class}
 use Rattle.crs_normal.specs.DecimalLaws.{DecimalLaws}
 use Rattle.crs_normal.specs.AcceptedNormal.{IsKindIn, IsAcceptedNormal}

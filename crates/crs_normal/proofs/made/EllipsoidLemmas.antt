@@ -19,7 +19,7 @@ use Rattle.crs_value.specs.Reading.{those}
 use Rattle.crs_value.specs.Sound.{Each, IsUnit, IsUnitOf}
 use Rattle.crs_value.specs.SoundFrames.{IsEllipsoid}
 use Rattle.crs_value.specs.Values.{EllipsoidParts, IdentParts, UnitParts}
-use Rattle.crs_same.specs.SameUnits.{kind_as}
+use Rattle.crs_matching.specs.SameUnits.{kind_as}
 use Rattle.crs_normal.specs.DecimalLaws.{DecimalLaws}
 use Rattle.crs_normal.specs.AcceptedNormal.{IsKindIn, IsAcceptedNormal}
 use Rattle.crs_normal.specs.SpelledFrames.{item_ellipsoid, norm_ellipsoid}

@@ -14,7 +14,7 @@ use Rattle.crs_value.specs.CrsValues.{BaseParts, ProjectedParts}
 use Rattle.crs_value.specs.declared.values.level.Level.{Level}
 use Rattle.crs_value.specs.Reading.{those}
 use Rattle.crs_value.specs.SoundSingle.{IsBase, IsProjected}
-use Rattle.crs_same.specs.SameUsages.{usages_of}
+use Rattle.crs_matching.specs.SameUsages.{usages_of}
 use Rattle.crs_normal.specs.DecimalLaws.{DecimalLaws}
 use Rattle.crs_normal.specs.AcceptedNormal.{IsAcceptedNormal, geodetic_frame_class}
 use Rattle.crs_normal.specs.SpelledConversions.{item_conversion, norm_conversion}

@@ -26,7 +26,7 @@ use Rattle.crs_value.specs.Reads.{ReadsType}
 use Rattle.crs_value.specs.Sound.{Each, IsAxis, IsAxisUnit, Suits}
 use Rattle.crs_value.specs.SoundSystem.{HasUnits, IsSystem, SuitsAxis}
 use Rattle.crs_value.specs.Values.{AxisParts, SystemParts, UnitParts}
-use Rattle.crs_same.specs.SameSystems.{HasAt, IsPositionOf, own_or}
+use Rattle.crs_matching.specs.SameSystems.{HasAt, IsPositionOf, own_or}
 use Rattle.crs_normal.specs.DecimalLaws.{DecimalLaws}
 use Rattle.crs_normal.specs.AcceptedNormal.{IsAcceptedNormal}
 use Rattle.crs_normal.specs.SpelledItems.{each, number_item, word_item}

@@ -19,7 +19,7 @@ use Rattle.crs_value.specs.RepeatedPart.{IsRepeated, RepeatsAny}
 use Rattle.crs_value.specs.Sound.{Each, IsText}
 use Rattle.crs_value.specs.SoundUsages.{IsTail, IsUsage}
 use Rattle.crs_value.specs.Values.{TailParts, UsageParts}
-use Rattle.crs_same.specs.SameUsages.{usages_of, with_bare}
+use Rattle.crs_matching.specs.SameUsages.{usages_of, with_bare}
 use Rattle.crs_normal.specs.DecimalLaws.{DecimalLaws}
 use Rattle.crs_normal.specs.AcceptedNormal.{IsAcceptedNormal}
 use Rattle.crs_normal.specs.NormalOwn.{Ascend, HasTail}

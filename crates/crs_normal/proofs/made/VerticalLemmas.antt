@@ -19,7 +19,7 @@ use Rattle.crs_value.specs.declared.values.level.Level.{Level}
 use Rattle.crs_value.specs.Sound.{Each}
 use Rattle.crs_value.specs.SoundConversion.{IsGeoidModel}
 use Rattle.crs_value.specs.SoundSingle.{IsVertical}
-use Rattle.crs_same.specs.SameUsages.{usages_of}
+use Rattle.crs_matching.specs.SameUsages.{usages_of}
 use Rattle.crs_normal.specs.DecimalLaws.{DecimalLaws}
 use Rattle.crs_normal.specs.AcceptedNormal.{IsAcceptedNormal, vertical_frame_class}
 use Rattle.crs_normal.specs.NormalOwn.{Ascend}

@@ -17,8 +17,8 @@ use Rattle.crs_value.specs.Reading.{ReadsFirst, ReadsIfAny, ReadsOptional}
 use Rattle.crs_value.specs.Reads.{ReadsText, ReadsTextOf, single_of, ReadsIdent}
 use Rattle.crs_value.specs.Sound.{Each, IsText, IsIdent}
 use Rattle.crs_value.specs.Values.{IdentParts}
-use Rattle.crs_same.specs.SameIdents.{SameIdent, SameIdents}
-use Rattle.crs_same.specs.Sets.{SameSet}
+use Rattle.crs_matching.specs.SameIdents.{SameIdent, SameIdents}
+use Rattle.crs_matching.specs.Sets.{SameSet}
 use Rattle.crs_normal.specs.FormedWithin.{IsFormedWithin}
 use Rattle.crs_normal.specs.Ordered.{in_order}
 use Rattle.crs_normal.specs.SpelledItems.{code_item, is_short, node_of, opt, text_item, text_node}

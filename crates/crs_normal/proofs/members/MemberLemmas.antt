@@ -10,8 +10,8 @@ use Rattle.crs_value.specs.NamedValues.{NamedParts}
 use Rattle.crs_value.specs.declared.values.level.Level.{Level}
 use Rattle.crs_value.specs.ReadsNamed.{ReadsNamed}
 use Rattle.crs_value.specs.Sound.{Each, IsNamed}
-use Rattle.crs_same.specs.SameIdents.{SameNamed}
-use Rattle.crs_same.specs.Sets.{SameSet}
+use Rattle.crs_matching.specs.SameIdents.{SameNamed}
+use Rattle.crs_matching.specs.Sets.{SameSet}
 use Rattle.crs_normal.specs.FormedWithin.{IsFormedWithin}
 use Rattle.crs_normal.specs.SpelledConversions.{item_geoid_model, set_geoid_models}
 use Rattle.crs_normal.specs.SpelledFrames.{item_member, norm_member, set_members}

@@ -19,8 +19,8 @@ use Rattle.crs_value.specs.ReadsConversion.{ReadsAsUnit, ReadsParameter, ReadsUn
 use Rattle.crs_value.specs.Sound.{Each, IsIdent, IsUnit}
 use Rattle.crs_value.specs.SoundConversion.{IsParameter}
 use Rattle.crs_value.specs.Values.{IdentParts, UnitParts}
-use Rattle.crs_same.specs.SameConversions.{SameParameter}
-use Rattle.crs_same.specs.Sets.{SameSet}
+use Rattle.crs_matching.specs.SameConversions.{SameParameter}
+use Rattle.crs_matching.specs.Sets.{SameSet}
 use Rattle.crs_normal.specs.PartSpellings.{unit_class}
 use Rattle.crs_normal.specs.FormedWithin.{IsFormedWithin}
 use Rattle.crs_normal.specs.SpelledConversions.{item_parameter, norm_parameter, set_parameters}

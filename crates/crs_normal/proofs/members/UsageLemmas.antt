@@ -13,8 +13,8 @@ use Rattle.crs_value.specs.Reads.{ReadsBox, ReadsExtent, ReadsTextOf, ReadsUsage
 use Rattle.crs_value.specs.Sound.{Each, IsText}
 use Rattle.crs_value.specs.SoundUsages.{IsBox, IsExtent, IsUsage}
 use Rattle.crs_value.specs.Values.{BoxParts, ExtentParts, SaysSome, UsageParts}
-use Rattle.crs_same.specs.SameUsages.{SameUsage}
-use Rattle.crs_same.specs.Sets.{SameSet}
+use Rattle.crs_matching.specs.SameUsages.{SameUsage}
+use Rattle.crs_matching.specs.Sets.{SameSet}
 use Rattle.crs_normal.specs.FormedWithin.{IsFormedWithin}
 use Rattle.crs_normal.specs.SpelledItems.{node_from, opt, text_node}
 use Rattle.crs_normal.specs.SpelledUsages.{item_box, item_extent, item_usage, norm_extent, norm_usage, set_usages}

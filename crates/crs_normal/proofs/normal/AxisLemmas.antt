@@ -17,7 +17,7 @@ use Rattle.crs_value.specs.Reading.{those, ReadsFirst, ReadsOptional}
 use Rattle.crs_value.specs.Reads.{ReadsAxis, ReadsAxisMeridian, ReadsDirection, ReadsNumber, ReadsNumberOf, ReadsText, ReadsType, ReadsUnit}
 use Rattle.crs_value.specs.Values.{AxisMeridianParts, AxisParts, SystemParts, UnitParts}
 use Rattle.crs_value.specs.declared.values.level.Level.{Level}
-use Rattle.crs_same.specs.SameSystems.{own_or}
+use Rattle.crs_matching.specs.SameSystems.{own_or}
 use Rattle.crs_normal.specs.WithoutPlaces.{without_places}
 use Rattle.crs_normal.specs.Normal.{IsNormalIn, IsWordIn}
 use Rattle.crs_normal.specs.NormalOwn.{Has, HasOneOrder, numbers_in}

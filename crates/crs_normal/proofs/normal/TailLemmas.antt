@@ -11,7 +11,7 @@ use Rattle.crs_value.specs.Values.{SaysSome, TailParts, UsageParts}
 use Rattle.crs_value.specs.Kept.{kept}
 use Rattle.crs_value.specs.KeptLaws.{kept-where_none-one}
 use Rattle.crs_value.specs.declared.values.level.Level.{Level}
-use Rattle.crs_same.specs.SameUsages.{usages_of, with_bare}
+use Rattle.crs_matching.specs.SameUsages.{usages_of, with_bare}
 use Rattle.crs_normal.specs.NormalOwn.{HasSets, HasTail, Rise}
 use Rattle.crs_value.specs.Sound.{Each}
 use Rattle.crs_normal.specs.Ordered.{in_order}

@@ -13,7 +13,7 @@ use Rattle.crs_value.specs.Reads.{ReadsIdent, ReadsNumber, ReadsText, ReadsUnit}
 use Rattle.crs_value.specs.Values.{IdentParts}
 use Rattle.crs_value.specs.Kept.{kept}
 use Rattle.crs_value.specs.declared.values.level.Level.{Level}
-use Rattle.crs_same.specs.SameUnits.{kind_as}
+use Rattle.crs_matching.specs.SameUnits.{kind_as}
 use Rattle.crs_normal.specs.Normal.{IsFirstKeyword}
 use Rattle.crs_normal.specs.NormalOwn.{Ascend}
 use Rattle.crs_value.specs.Sound.{Each}

@@ -8,7 +8,7 @@ use Rattle.crs_shape.specs.Keywords.{is_keyword}
 use Rattle.crs_shape.specs.Slots.{class_named}
 use Rattle.crs_value.specs.Reads.{IsUnitClass, ReadsUnit}
 use Rattle.crs_value.specs.declared.values.level.Level.{Level}
-use Rattle.crs_same.specs.SameUnits.{kind_as}
+use Rattle.crs_matching.specs.SameUnits.{kind_as}
 use Rattle.crs_normal.specs.AcceptedNormal.{IsKindIn}
 use Rattle.crs_normal.specs.OneForm.{IsItsForm}
 use Rattle.crs_normal.specs.PartSpellings.{unit_class}

@@ -15,7 +15,7 @@ use Rattle.crs_value.specs.SoundConversion.{IsConversion, IsGeoidModel, IsMethod
 use Rattle.crs_value.specs.SoundSystem.{IsSystem}
 use Rattle.crs_value.specs.SoundUsages.{IsTail, IsUsage}
 use Rattle.crs_value.specs.Values.{SystemParts, TailParts, UsageParts}
-use Rattle.crs_same.specs.SameUsages.{usages_of}
+use Rattle.crs_matching.specs.SameUsages.{usages_of}
 use Rattle.crs_normal.specs.SpelledConversions.{item_conversion, item_geoid_model, item_method, item_parameter, norm_conversion, norm_geoid_model, norm_method, norm_parameter, set_geoid_models, set_parameters}
 use Rattle.crs_normal.specs.SpelledItems.{text_node}
 use Rattle.crs_normal.specs.SpelledSystems.{axes_from, item_axis, item_head, norm_system}

@@ -16,8 +16,8 @@ use Rattle.crs_value.specs.Reads.{ReadsAxis, ReadsAxisMeridian, ReadsHead, Reads
 use Rattle.crs_value.specs.Sound.{Each, IsAxis, IsAxisMeridian, IsAxisUnit, IsIdent}
 use Rattle.crs_value.specs.SoundSystem.{IsSystem}
 use Rattle.crs_value.specs.Values.{AxisMeridianParts, AxisParts, SystemParts, UnitParts}
-use Rattle.crs_same.specs.SameSystems.{own_or}
-use Rattle.crs_same.specs.SameUnits.{kind_as}
+use Rattle.crs_matching.specs.SameSystems.{own_or}
+use Rattle.crs_matching.specs.SameUnits.{kind_as}
 use Rattle.crs_normal.specs.PartTexts.{norm_axis_alone}
 use Rattle.crs_normal.specs.SpelledItems.{number_node}
 use Rattle.crs_normal.specs.SpelledSystems.{axes_from, axis_at, is_at, item_axis, item_axis_meridian, item_head, norm_axis, norm_axis_meridian, norm_axis_meridians, norm_system, with_axis}

@@ -13,9 +13,9 @@ use Rattle.crs_value.specs.Sound.{Each, IsAxis, IsAxisMeridian, IsAxisUnit, IsUn
 use Rattle.crs_value.specs.Values.{AxisMeridianParts, AxisParts, SystemParts, UnitParts}
 use Rattle.crs_value.specs.declared.values.level.Level.{Level}
 use Rattle.crs_same.specs.Agreement.{AgreeAxis}
-use Rattle.crs_same.specs.SameSystems.{HasAt, IsPositionOf, SameAxisAlone, SameAxisMeridian, own_or}
-use Rattle.crs_same.specs.SameUnits.{SameUnit, SameValue}
-use Rattle.crs_same.specs.Sets.{BothOrNeither}
+use Rattle.crs_matching.specs.SameSystems.{HasAt, IsPositionOf, SameAxisAlone, SameAxisMeridian, own_or}
+use Rattle.crs_matching.specs.SameUnits.{SameUnit, SameValue}
+use Rattle.crs_matching.specs.Sets.{BothOrNeither}
 use Rattle.crs_normal.specs.Decides.{FormDecides, Maybe, SetsDecide}
 use Rattle.crs_normal.specs.LowerLaws.{LowerLaws}
 use Rattle.crs_normal.specs.PartTexts.{norm_axis_alone}

@@ -5,7 +5,7 @@ use Rattle.crs_value.specs.ConversionValues.{ConversionParts, MethodParts, Param
 use Rattle.crs_value.specs.SoundConversion.{IsConversion, IsMethod, IsParameter}
 use Rattle.crs_value.specs.declared.values.level.Level.{Level}
 use Rattle.crs_same.specs.Agreement.{AgreeConversion, AgreeMethod}
-use Rattle.crs_same.specs.SameConversions.{SameParameter}
+use Rattle.crs_matching.specs.SameConversions.{SameParameter}
 use Rattle.crs_normal.specs.Decides.{FormDecides, SetsDecide}
 use Rattle.crs_normal.specs.LowerLaws.{LowerLaws}
 use Rattle.crs_normal.specs.SpelledConversions.{norm_conversion, norm_method, norm_parameter}

@@ -8,8 +8,8 @@ use Rattle.crs_value.specs.declared.values.frame.Frame.{Frame}
 use Rattle.crs_value.specs.declared.values.frame.Frame.TheVariants as frame
 use Rattle.crs_value.specs.declared.values.level.Level.{Level}
 use Rattle.crs_same.specs.Agreement.{AgreeDynamic}
-use Rattle.crs_same.specs.SameDynamic.{SameDeformationModel}
-use Rattle.crs_same.specs.Sets.{BothOrNeither}
+use Rattle.crs_matching.specs.SameDynamic.{SameDeformationModel}
+use Rattle.crs_matching.specs.Sets.{BothOrNeither}
 use Rattle.crs_normal.specs.Decides.{FormDecides, Maybe, SetsDecide}
 use Rattle.crs_normal.specs.LowerLaws.{LowerLaws}
 use Rattle.crs_normal.specs.SpelledDynamic.{norm_deformation_model, norm_dynamic}

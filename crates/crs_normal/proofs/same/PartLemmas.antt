@@ -2,8 +2,8 @@
 use Rattle.std.proofs.Common.{◌≡◌, ◌↔◌, ◌∙◌, Option, Some, None, refl, sym, ap}
 use Rattle.crs_decimal.specs.Number.{SameNumber}
 use Rattle.crs_decimal.specs.Value.{Value, IsNormal, exact}
-use Rattle.crs_same.specs.SameUnits.{SameValue}
-use Rattle.crs_same.specs.Sets.{BothOrNeither}
+use Rattle.crs_matching.specs.SameUnits.{SameValue}
+use Rattle.crs_matching.specs.Sets.{BothOrNeither}
 use Rattle.crs_normal.specs.Decides.{FormDecides, Maybe}
 
 -- numbers decide which normal values are equal

@@ -5,9 +5,9 @@ use Rattle.std.specs.Prelude.{⊤}
 use Rattle.std.proofs.lemmas.Bool.{cases_lt}
 use Rattle.crs_value.specs.Values.{AxisParts, SystemParts}
 use Rattle.crs_value.specs.declared.values.level.Level.{Level}
-use Rattle.crs_same.specs.SameIdents.{SameIdents}
+use Rattle.crs_matching.specs.SameIdents.{SameIdents}
 use Rattle.crs_same.specs.Agreement.{AgreeAt, AgreeAxes, AgreeAxis, AgreeSystem}
-use Rattle.crs_same.specs.SameUnits.{SameValue}
+use Rattle.crs_matching.specs.SameUnits.{SameValue}
 use Rattle.crs_normal.specs.Decides.{FormDecides, IsNumbered, SetsDecide}
 use Rattle.crs_normal.specs.LowerLaws.{LowerLaws}
 use Rattle.crs_normal.specs.SpelledSystems.{axes_from, norm_axis, norm_system, with_axis}

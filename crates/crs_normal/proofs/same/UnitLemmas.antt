@@ -9,9 +9,9 @@ use Rattle.crs_value.specs.NamedValues.{NamedParts}
 use Rattle.crs_value.specs.Values.{UnitParts}
 use Rattle.crs_value.specs.KeptLaws.{kept-none}
 use Rattle.crs_value.specs.declared.values.level.Level.{Level}
-use Rattle.crs_same.specs.SameIdents.{SameIdents, SameNamed}
-use Rattle.crs_same.specs.SameUnits.{SameLength, SameUnit, or_metre, kind_as}
-use Rattle.crs_same.specs.Sets.{BothOrNeither}
+use Rattle.crs_matching.specs.SameIdents.{SameIdents, SameNamed}
+use Rattle.crs_matching.specs.SameUnits.{SameLength, SameUnit, or_metre, kind_as}
+use Rattle.crs_matching.specs.Sets.{BothOrNeither}
 use Rattle.crs_normal.specs.Decides.{FormDecides, Maybe}
 use Rattle.crs_normal.specs.LowerLaws.{LowerLaws}
 use Rattle.crs_normal.specs.SpelledFrames.{norm_member}

@@ -23,7 +23,7 @@ ghost use Rattle.crs_value.specs.SoundSingle.{IsVerticalFrame};
 ghost use Rattle.crs_value.specs.SoundUsages.{IsBox, IsExtent, IsUsage};
 ghost use Rattle.crs_value.specs.Values.{AxisMeridianParts, BoxParts, EllipsoidParts, ExtentParts, IdentParts};
 ghost use Rattle.crs_value.specs.Values.{MemberParts, MeridianParts, UnitParts, UsageParts};
-ghost use Rattle.crs_same.specs.SameUnits.{kind_as};
+ghost use Rattle.crs_matching.specs.SameUnits.{kind_as};
 ghost use Rattle.crs_normal.specs.DecimalLaws.{DecimalLaws};
 ghost use Rattle.crs_normal.specs.CrsClass.{crs_class, geodetic_class};
 ghost use Rattle.crs_normal.specs.AcceptedNormal.{IsKindIn, IsAcceptedNormal, geodetic_frame_class, vertical_frame_class};

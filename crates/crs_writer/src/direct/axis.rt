@@ -7,7 +7,7 @@ ghost use Rattle.crs_shape.specs.UnitKinds.{asked_kind};
 ghost use Rattle.crs_value.specs.Reading.{item_at, those, ReadsFirst, ReadsIfAny};
 ghost use Rattle.crs_value.specs.Reads.{ReadsAxis, ReadsAxisMeridian, ReadsDirection, ReadsUnit};
 ghost use Rattle.crs_value.specs.Values.{AxisParts, SystemParts, UnitParts};
-ghost use Rattle.crs_same.specs.SameSystems.{own_or};
+ghost use Rattle.crs_matching.specs.SameSystems.{own_or};
 ghost use Rattle.crs_normal.specs.SpelledItems.{opt};
 ghost use Rattle.crs_normal.specs.SpelledSystems.{item_axis, item_axis_meridian, norm_axis, norm_axis_meridians};
 ghost use Rattle.crs_normal.specs.SpelledUnits.{item_unit, norm_units};

@@ -6,7 +6,7 @@ ghost use Rattle.crs_value.specs.Kept.{kept_one};
 ghost use Rattle.crs_value.specs.Reading.{item_at, those, ReadsAll, ReadsIfAny};
 ghost use Rattle.crs_value.specs.Reads.{LacksUsage, ReadsBare, ReadsTail, ReadsTextOf, ReadsUsage};
 ghost use Rattle.crs_value.specs.Values.{UsageParts};
-ghost use Rattle.crs_same.specs.SameUsages.{usages_of, with_bare};
+ghost use Rattle.crs_matching.specs.SameUsages.{usages_of, with_bare};
 ghost use Rattle.crs_normal.specs.SpelledItems.{each, opt, text_node};
 ghost use Rattle.crs_normal.specs.SpelledUsages.{item_usage, norm_tail, norm_usage, set_usages, tail_items};
 ghost use Rattle.crs_writer.specs.Direct.{IsRead, Writes};

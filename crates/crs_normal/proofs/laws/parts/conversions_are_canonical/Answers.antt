@@ -4,7 +4,7 @@ use Rattle.crs_value.specs.ReadsConversion.{ReadsConversion, ReadsGeoidModel, Re
 use Rattle.crs_value.specs.SoundConversion.{IsConversion, IsGeoidModel, IsMethod, IsParameter}
 use Rattle.crs_same.specs.Parts.{AreSame}
 use Rattle.crs_same.specs.PartsOfCrs.{parts_of_method, parts_of_conversion}
-use Rattle.crs_same.specs.SameConversions.{SameGeoidModel, SameParameter}
+use Rattle.crs_matching.specs.SameConversions.{SameGeoidModel, SameParameter}
 use Rattle.crs_normal.specs.SpelledConversions.{item_conversion, item_geoid_model, item_method, item_parameter, norm_conversion, norm_geoid_model, norm_method, norm_parameter}
 use Rattle.crs_normal.proofs.parts.PartLemmas.{canonical-of, unbroken-form}
 use Rattle.crs_normal.proofs.laws.parts.conversions_are_canonical.Goals as goal

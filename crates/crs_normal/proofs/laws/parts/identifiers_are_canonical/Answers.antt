@@ -3,7 +3,7 @@ use Rattle.crs_shape.specs.declared.class.Class.TheVariants as class
 use Rattle.crs_value.specs.Reads.{ReadsIdent}
 use Rattle.crs_value.specs.Sound.{IsIdent}
 use Rattle.crs_value.specs.declared.values.level.Level.TheVariants as levels
-use Rattle.crs_same.specs.SameIdents.{SameIdent}
+use Rattle.crs_matching.specs.SameIdents.{SameIdent}
 use Rattle.crs_normal.specs.SpelledUnits.{item_ident}
 use Rattle.crs_normal.proofs.members.IdentLemmas.{ident-agrees}
 use Rattle.crs_normal.proofs.parts.PartLemmas.{canonical-form, made-stands, sound-form, unbroken-form}

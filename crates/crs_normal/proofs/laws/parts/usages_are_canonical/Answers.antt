@@ -3,7 +3,7 @@ use Rattle.crs_shape.specs.declared.class.Class.TheVariants as class
 use Rattle.crs_value.specs.Reads.{ReadsUsage}
 use Rattle.crs_value.specs.SoundUsages.{IsUsage}
 use Rattle.crs_value.specs.declared.values.level.Level.TheVariants as levels
-use Rattle.crs_same.specs.SameUsages.{SameUsage}
+use Rattle.crs_matching.specs.SameUsages.{SameUsage}
 use Rattle.crs_normal.specs.SpelledUsages.{item_usage, norm_usage}
 use Rattle.crs_normal.proofs.parts.PartLemmas.{canonical-of, unbroken-form}
 use Rattle.crs_normal.proofs.laws.parts.usages_are_canonical.Goals as goal

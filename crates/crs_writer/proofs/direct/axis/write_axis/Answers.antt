@@ -8,7 +8,7 @@ use Rattle.std.proofs.lemmas.Result.{on_ok_weaker}
 use Rattle.crs_text.specs.Items.{End, More, Siblings}
 use Rattle.crs_text.specs.Written.{item_text, others_text}
 use Rattle.crs_normal.specs.SpelledItems.{each, number_node, opt, word_item}
-use Rattle.crs_same.specs.SameSystems.{own_or}
+use Rattle.crs_matching.specs.SameSystems.{own_or}
 use Rattle.crs_normal.specs.SpelledUnits.{item_ident, item_unit, norm_units, set_idents, whole_value}
 use Rattle.crs_normal.specs.SpelledSystems.{item_axis, item_axis_meridian, norm_axis, norm_axis_meridians}
 use Rattle.crs_writer.proofs.PieceLemmas.{then-more, then-opt}

@@ -2,7 +2,7 @@ use Rattle.std.proofs.Common.{codes}
 use Rattle.std.proofs.lemmas.Result.{on_ok_weaker}
 use Rattle.crs_text.specs.Items.{End, Siblings}
 use Rattle.crs_normal.specs.SpelledItems.{each, opt, text_node}
-use Rattle.crs_same.specs.SameUsages.{usages_of}
+use Rattle.crs_matching.specs.SameUsages.{usages_of}
 use Rattle.crs_value.specs.Kept.{kept_one}
 use Rattle.crs_normal.specs.SpelledUnits.{item_ident, set_idents}
 use Rattle.crs_normal.specs.SpelledUsages.{item_usage, set_usages}

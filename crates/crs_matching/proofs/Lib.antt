@@ -1,0 +1,4 @@
+mod OnceLemmas
+mod SamenessOfPartsLemmas
+mod SearchLemmas
+mod SetLemmas

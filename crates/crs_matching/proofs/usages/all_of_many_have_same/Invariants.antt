@@ -1,0 +1,12 @@
+use Rattle.std.proofs.Common.{◌≡◌, take}
+use Rattle.std.specs.Option.{option_copied}
+use Rattle.crs_matching.specs.Sets.{AllHaveSame}
+use Rattle.crs_matching.specs.SameUsages.{SameUsage, with_bare}
+use Rattle.crs_matching.proofs.usages.all_of_many_have_same.Given as goal
+
+abbrev pub invariant-loop-usage : goal.invariant-loop-usage
+invariant-loop-usage l =
+    record {
+      at : l.at ≡ l.usage-index;
+      before : AllHaveSame SameUsage (take l.usage-index l.usages) (with_bare (option_copied l.bare) l.others);
+    }

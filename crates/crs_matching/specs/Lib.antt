@@ -1,0 +1,10 @@
+pub mod SameConversions
+pub mod SameDynamic
+pub mod SameFrames
+pub mod SameIdents
+pub mod SameSystems
+pub mod SameUnits
+pub mod SameUsages
+pub mod Sameness
+pub mod SamenessLaws
+pub mod Sets

@@ -1,0 +1,119 @@
+//! Laws of the definitions, as contracts of functions that do nothing.
+ghost use Rattle.std.specs.Prelude.{length};
+ghost use Rattle.crs_shape.specs.declared.unit_kind.UnitKind.{UnitKind};
+ghost use Rattle.crs_value.specs.declared.values.level.Level.{Level};
+ghost use Rattle.crs_matching.specs.Sameness.{IsSameness};
+ghost use Rattle.crs_matching.specs.SameConversions.{SameParameter, SameGeoidModel};
+ghost use Rattle.crs_matching.specs.SameDynamic.{SameDeformationModel};
+ghost use Rattle.crs_matching.specs.SameFrames.{SameMember};
+ghost use Rattle.crs_matching.specs.SameIdents.{SameIdent, SameIdents};
+ghost use Rattle.crs_matching.specs.SameSystems.{SameAxisMeridian, SameAxisAlone};
+ghost use Rattle.crs_matching.specs.SameUnits.{SameValue, SameUnit, SameLength};
+ghost use Rattle.crs_matching.specs.SameUsages.{SameBox, SameExtent, SameUsage};
+
+use crs_decimal::laws;
+
+/// Being the same number is an equivalence on decimals.
+pub fn same_value_is_equivalence()
+    ensures { IsSameness SameValue }
+{
+    laws::same_number_is_equivalence();
+}
+
+/// Sameness of identifiers is an equivalence.
+pub fn same_ident_is_equivalence()
+    ensures { IsSameness SameIdent }
+{}
+
+/// Sameness of sets of identifiers is an equivalence.
+pub fn same_idents_is_equivalence()
+    ensures { (level : Level) → IsSameness (SameIdents level) }
+{
+    same_ident_is_equivalence();
+}
+
+/// Sameness of units is an equivalence, whichever kind is asked.
+pub fn same_unit_is_equivalence()
+    ensures { (asked : UnitKind) (level : Level) → IsSameness (SameUnit asked level) }
+{
+    same_value_is_equivalence();
+    same_idents_is_equivalence();
+}
+
+/// Sameness of units of length, of which a missing one is the metre, is an equivalence.
+pub fn same_length_is_equivalence()
+    ensures { (level : Level) → IsSameness (SameLength level) }
+{
+    same_unit_is_equivalence();
+}
+
+/// Sameness of parameters is an equivalence.
+pub fn same_parameter_is_equivalence()
+    ensures { (level : Level) → IsSameness (SameParameter level) }
+{
+    same_value_is_equivalence();
+    same_unit_is_equivalence();
+    same_idents_is_equivalence();
+}
+
+/// Sameness of geoid models is an equivalence.
+pub fn same_geoid_model_is_equivalence()
+    ensures { (level : Level) → IsSameness (SameGeoidModel level) }
+{
+    same_idents_is_equivalence();
+}
+
+/// Sameness of bounding boxes is an equivalence.
+pub fn same_box_is_equivalence()
+    ensures { IsSameness SameBox }
+{
+    same_value_is_equivalence();
+}
+
+/// Sameness of vertical extents is an equivalence.
+pub fn same_extent_is_equivalence()
+    ensures { (level : Level) → IsSameness (SameExtent level) }
+{
+    same_value_is_equivalence();
+    same_length_is_equivalence();
+}
+
+/// Sameness of usages is an equivalence.
+pub fn same_usage_is_equivalence()
+    ensures { IsSameness SameUsage }
+{
+    same_box_is_equivalence();
+    same_extent_is_equivalence();
+}
+
+/// Sameness of members of ensembles is an equivalence.
+pub fn same_member_is_equivalence()
+    ensures { (level : Level) → IsSameness (SameMember level) }
+{
+    same_idents_is_equivalence();
+}
+
+/// Sameness of deformation models is an equivalence.
+pub fn same_deformation_model_is_equivalence()
+    ensures { (level : Level) → IsSameness (SameDeformationModel level) }
+{
+    same_idents_is_equivalence();
+}
+
+/// Sameness of the meridians of axes is an equivalence.
+pub fn same_axis_meridian_is_equivalence()
+    ensures { (level : Level) → IsSameness (SameAxisMeridian level) }
+{
+    same_value_is_equivalence();
+    same_unit_is_equivalence();
+}
+
+/// Sameness of axes by themselves is an equivalence.
+pub fn same_axis_is_equivalence()
+    ensures { (level : Level) → IsSameness (SameAxisAlone level) }
+{
+    same_value_is_equivalence();
+    same_axis_meridian_is_equivalence();
+    same_unit_is_equivalence();
+    same_idents_is_equivalence();
+}

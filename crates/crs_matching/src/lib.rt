@@ -1,0 +1,26 @@
+//! How the single parts of two values are matched: texts, numbers, identifiers, units and sets, and axes by their
+//! positions. A single part is the same or not: no path leads into it.
+#![tactic(auto)]
+
+mod axes;
+mod idents;
+pub mod laws;
+mod named;
+mod numbers;
+mod parameters;
+mod sets;
+mod texts;
+mod units;
+mod usages;
+
+pub use axes::{axis_at, same_axis, same_axis_meridian, same_axis_meridians, same_direction};
+pub use idents::{same_ident, same_idents, same_kept_idents};
+pub use named::{
+    same_deformation_model, same_geoid_model, same_geoid_models, same_member, same_members,
+    same_models,
+};
+pub use numbers::{same_optional_value, same_value};
+pub use parameters::{same_parameter, same_parameters};
+pub use texts::{same_optional_text, same_text};
+pub use units::{same_length, same_unit, same_unit_as, same_units_as, same_units_asked};
+pub use usages::{same_box, same_extent, same_usage, same_usage_set};

@@ -1,0 +1,105 @@
+//! What has a name and identifiers alone: members of ensembles, geoid models and deformation models.
+ghost use Rattle.std.specs.Prelude.{◌↔◌, IsTrue, None};
+ghost use Rattle.std.specs.Option.{option_copied};
+ghost use Rattle.crs_matching.specs.Sets.{BothOrNeither, SameSet};
+ghost use Rattle.crs_matching.specs.SameConversions.{SameGeoidModel};
+ghost use Rattle.crs_matching.specs.SameDynamic.{SameDeformationModel};
+ghost use Rattle.crs_matching.specs.SameFrames.{SameMember};
+
+use crate::idents::same_idents;
+use crate::laws;
+use crate::sets::{Member as SetMember, same_set};
+use crate::texts::same_text;
+use crs_value::{DeformationModel, GeoidModel, Guesses, Level, Member};
+
+impl SetMember for Member<'_> {
+    ghost use Rattle.crs_matching.specs.SameFrames.{SameMember};
+
+    ghost Same = { λ level a b. SameMember level a b };
+
+    fn is_same(&self, other: &Self, level: Level) -> bool {
+        same_member(self, other, level)
+    }
+
+    fn same_is_equivalence(&self) {
+        laws::same_member_is_equivalence();
+    }
+}
+
+/// Whether two members of an ensemble are the same: name and identifiers. ISO 19162:2019, "Datum ensemble".
+pub fn same_member<'a>(a: &Member<'a>, b: &Member<'a>, level: Level) -> bool
+    ensures { IsTrue result ↔ SameMember level a.now b.now }
+{
+    same_text(a.name, b.name) && same_idents(&a.identifiers, &b.identifiers, level)
+}
+
+/// Whether two lists of members are the same set. Profile.
+pub fn same_members<'a>(
+    a: &[Member<'a>],
+    b: &[Member<'a>],
+    guesses: Guesses<'_>,
+    level: Level,
+) -> bool
+    ensures { IsTrue result ↔ SameSet (SameMember level) a.now b.now }
+{
+    same_set(a, b, guesses, level)
+}
+
+impl SetMember for GeoidModel<'_> {
+    ghost use Rattle.crs_matching.specs.SameConversions.{SameGeoidModel};
+
+    ghost Same = { λ level a b. SameGeoidModel level a b };
+
+    fn is_same(&self, other: &Self, level: Level) -> bool {
+        same_geoid_model(self, other, level)
+    }
+
+    fn same_is_equivalence(&self) {
+        laws::same_geoid_model_is_equivalence();
+    }
+}
+
+/// Whether two geoid models are the same: name and identifiers. ISO 19162:2019, "Geoid model".
+pub fn same_geoid_model<'a>(a: &GeoidModel<'a>, b: &GeoidModel<'a>, level: Level) -> bool
+    ensures { IsTrue result ↔ SameGeoidModel level a.now b.now }
+{
+    same_text(a.name, b.name) && same_idents(&a.identifiers, &b.identifiers, level)
+}
+
+/// Whether two lists of geoid models are the same set. Profile.
+pub fn same_geoid_models<'a>(
+    a: &[GeoidModel<'a>],
+    b: &[GeoidModel<'a>],
+    guesses: Guesses<'_>,
+    level: Level,
+) -> bool
+    ensures { IsTrue result ↔ SameSet (SameGeoidModel level) a.now b.now }
+{
+    same_set(a, b, guesses, level)
+}
+
+/// Whether two deformation models are the same: name and identifiers. ISO 19162:2019, "Deformation model".
+pub fn same_deformation_model<'a>(
+    a: &DeformationModel<'a>,
+    b: &DeformationModel<'a>,
+    level: Level,
+) -> bool
+    ensures { IsTrue result ↔ SameDeformationModel level a.now b.now }
+{
+    same_text(a.name, b.name) && same_idents(&a.identifiers, &b.identifiers, level)
+}
+
+/// Whether two deformation models are the same, or both are missing. Profile.
+pub fn same_models<'a>(
+    a: Option<&DeformationModel<'a>>,
+    b: Option<&DeformationModel<'a>>,
+    level: Level,
+) -> bool
+    ensures { IsTrue result ↔ BothOrNeither (SameDeformationModel level) (option_copied a.entry) (option_copied b.entry) }
+{
+    match (a, b) {
+        (None, None) => true,
+        (Some(x), Some(y)) => same_deformation_model(x, y, level),
+        (None, Some(_)) | (Some(_), None) => false,
+    }
+}

@@ -1,0 +1,227 @@
+//! Usages, one by one and as sets.
+ghost use Rattle.std.specs.Prelude.{◌≤◌, ◌↔◌, IsTrue, None, length, take};
+ghost use Rattle.std.specs.Option.{option_copied};
+ghost use Rattle.crs_matching.specs.Sets.{BothOrNeither, HasSame, AllHaveSame, SameSet};
+ghost use Rattle.crs_matching.specs.SameUsages.{SameBox, SameExtent, SameUsage, with_bare};
+
+use crate::laws;
+use crate::numbers::same_value;
+use crate::sets::{Member, has_same, is_found, is_same_at};
+use crate::texts::same_optional_text;
+use crate::units::same_length;
+use crs_value::{BoundingBox, Extent, Guesses, Level, Usage};
+
+/// Whether two bounding boxes are the same: south, west, north and east. A box is compared alike at every level.
+/// ISO 19162:2019, "Geographic bounding box".
+pub fn same_box(a: &BoundingBox, b: &BoundingBox, _level: Level) -> bool
+    ensures { IsTrue result ↔ SameBox a.now b.now }
+{
+    same_value(&a.south, &b.south)
+        && same_value(&a.west, &b.west)
+        && same_value(&a.north, &b.north)
+        && same_value(&a.east, &b.east)
+}
+
+fn same_boxes(a: &Option<BoundingBox>, b: &Option<BoundingBox>) -> bool
+    ensures { IsTrue result ↔ BothOrNeither SameBox a.now b.now }
+{
+    match (a, b) {
+        (None, None) => true,
+        (Some(x), Some(y)) => same_box(x, y, Level::Full),
+        (None, Some(_)) | (Some(_), None) => false,
+    }
+}
+
+/// Whether two vertical extents are the same: minimum, maximum and unit. A missing unit is the metre.
+/// ISO 19162:2019, "Vertical extent"; unit: profile.
+pub fn same_extent<'a>(a: &Extent<'a>, b: &Extent<'a>, level: Level) -> bool
+    ensures { IsTrue result ↔ SameExtent level a.now b.now }
+{
+    same_value(&a.minimum, &b.minimum)
+        && same_value(&a.maximum, &b.maximum)
+        && same_length(&a.unit, &b.unit, level)
+}
+
+fn same_extents<'a>(a: &Option<Extent<'a>>, b: &Option<Extent<'a>>, level: Level) -> bool
+    ensures { IsTrue result ↔ BothOrNeither (SameExtent level) a.now b.now }
+{
+    match (a, b) {
+        (None, None) => true,
+        (Some(x), Some(y)) => same_extent(x, y, level),
+        (None, Some(_)) | (Some(_), None) => false,
+    }
+}
+
+/// Whether two usages are the same: scope, area, bounding box and vertical extent, each in both or in neither. A usage
+/// by itself is compared alike at every level. ISO 19162:2019, "Scope and extent".
+pub fn same_usage<'a>(a: &Usage<'a>, b: &Usage<'a>, _level: Level) -> bool
+    ensures { IsTrue result ↔ SameUsage a.now b.now }
+{
+    same_optional_text(a.scope, b.scope)
+        && same_optional_text(a.area, b.area)
+        && same_boxes(&a.bbox, &b.bbox)
+        && same_extents(&a.extent, &b.extent, Level::Full)
+}
+
+impl Member for Usage<'_> {
+    ghost use Rattle.crs_matching.specs.SameUsages.{SameUsage};
+
+    ghost Same = { λ level a b. SameUsage a b };
+
+    fn is_same(&self, other: &Self, level: Level) -> bool {
+        same_usage(self, other, level)
+    }
+
+    fn same_is_equivalence(&self) {
+        laws::same_usage_is_equivalence();
+    }
+}
+
+fn has_same_usage<'a>(usage: &Usage<'a>, others: &[Usage<'a>]) -> bool
+    ensures { IsTrue result ↔ HasSame SameUsage usage.now others.now }
+{
+    has_same(usage, others, Level::Full)
+}
+
+// Among these and the bare one, if there is one.
+fn has_same_in<'a>(usage: &Usage<'a>, bare: Option<&Usage<'a>>, others: &[Usage<'a>]) -> bool
+    ensures { IsTrue result ↔ HasSame SameUsage usage.now (with_bare (option_copied bare.entry) others.now) }
+{
+    match bare {
+        None => has_same_usage(usage, others),
+        Some(bare) => same_usage(usage, bare, Level::Full) || has_same_usage(usage, others),
+    }
+}
+
+fn all_have_same<'a>(
+    usages: &[Usage<'a>],
+    bare: Option<&Usage<'a>>,
+    others: &[Usage<'a>],
+    guesses: Guesses<'_>,
+) -> bool
+    ensures { IsTrue result ↔ AllHaveSame SameUsage usages.now (with_bare (option_copied bare.entry) others.now) }
+{
+    if guesses.are_known() {
+        return all_of_many_have_same(usages, bare, others, guesses);
+    }
+    for usage in usages {
+        if !has_same_in(usage, bare, others) {
+            return false;
+        }
+    }
+    true
+}
+
+// Whether each of many usages has a same one among many others.
+fn all_of_many_have_same<'a>(
+    usages: &[Usage<'a>],
+    bare: Option<&Usage<'a>>,
+    others: &[Usage<'a>],
+    guesses: Guesses<'_>,
+) -> bool
+    ensures { IsTrue result ↔ AllHaveSame SameUsage usages.now (with_bare (option_copied bare.entry) others.now) }
+{
+    let mut at: usize = 0;
+    for usage in usages {
+        if !is_met_in(usage, at, usages, bare, others, guesses) {
+            return false;
+        }
+        at += 1;
+    }
+    true
+}
+
+// Whether a usage has a same one, as all before it have.
+fn is_met_in<'a>(
+    usage: &Usage<'a>,
+    at: usize,
+    usages: &[Usage<'a>],
+    bare: Option<&Usage<'a>>,
+    others: &[Usage<'a>],
+    guesses: Guesses<'_>,
+) -> bool
+    requires there { at ≤ length usages.now }
+    requires before { AllHaveSame SameUsage (take at usages.now) (with_bare (option_copied bare) others.now) }
+    ensures { IsTrue result ↔ HasSame SameUsage usage.now (with_bare (option_copied bare.entry) others.now) }
+{
+    if is_same_in(usage, bare, others, at) {
+        return true;
+    }
+    laws::same_usage_is_equivalence();
+    let guess = guesses.of(at);
+    is_same_usage_at(usage, &usages[..at], guess.before)
+        || is_found_in(usage, bare, others, guess.other)
+}
+
+fn is_same_in<'a>(
+    usage: &Usage<'a>,
+    bare: Option<&Usage<'a>>,
+    others: &[Usage<'a>],
+    place: usize,
+) -> bool
+    ensures { IsTrue result → HasSame SameUsage usage.now (with_bare (option_copied bare.entry) others.now) }
+{
+    match bare {
+        None => is_same_usage_at(usage, others, place),
+        Some(_) => is_same_usage_at(usage, others, place),
+    }
+}
+
+fn is_found_in<'a>(
+    usage: &Usage<'a>,
+    bare: Option<&Usage<'a>>,
+    others: &[Usage<'a>],
+    place: usize,
+) -> bool
+    ensures { IsTrue result ↔ HasSame SameUsage usage.now (with_bare (option_copied bare.entry) others.now) }
+{
+    match bare {
+        None => is_found_usage(usage, others, place),
+        Some(bare) => same_usage(usage, bare, Level::Full) || is_found_usage(usage, others, place),
+    }
+}
+
+fn is_same_usage_at<'a>(usage: &Usage<'a>, usages: &[Usage<'a>], place: usize) -> bool
+    ensures { IsTrue result → HasSame SameUsage usage.now usages.now }
+{
+    is_same_at(usage, usages, place, Level::Full)
+}
+
+fn is_found_usage<'a>(usage: &Usage<'a>, others: &[Usage<'a>], place: usize) -> bool
+    ensures { IsTrue result ↔ HasSame SameUsage usage.now others.now }
+{
+    is_found(usage, others, place, Level::Full)
+}
+
+fn all_have_same_in<'a>(
+    one: Option<&Usage<'a>>,
+    usages: &[Usage<'a>],
+    bare: Option<&Usage<'a>>,
+    others: &[Usage<'a>],
+    guesses: Guesses<'_>,
+) -> bool
+    ensures { IsTrue result ↔ AllHaveSame SameUsage (with_bare (option_copied one.entry) usages.now)
+        (with_bare (option_copied bare.entry) others.now) }
+{
+    match one {
+        None => all_have_same(usages, bare, others, guesses),
+        Some(one) => {
+            has_same_in(one, bare, others) && all_have_same(usages, bare, others, guesses)
+        }
+    }
+}
+
+/// Whether two lists of usages, each with one whose parts are bare, if there is one, are the same set. Profile.
+pub fn same_usage_set<'a>(
+    one: Option<&Usage<'a>>,
+    usages: &[Usage<'a>],
+    bare: Option<&Usage<'a>>,
+    others: &[Usage<'a>],
+    guesses: Guesses<'_>,
+) -> bool
+    ensures { IsTrue result ↔ SameSet SameUsage (with_bare (option_copied one.entry) usages.now)
+        (with_bare (option_copied bare.entry) others.now) }
+{
+    all_have_same_in(one, usages, bare, others, guesses)
+        && all_have_same_in(bare, others, one, usages, guesses.turned())
+}

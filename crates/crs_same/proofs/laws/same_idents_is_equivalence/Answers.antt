@@ -1,5 +1,0 @@
-use Rattle.crs_same.proofs.SamenessOfPartsLemmas.{idents}
-use Rattle.crs_same.proofs.laws.same_idents_is_equivalence.Goals as goal
-
-pub returns : goal.returns
-returns c level = idents level c.same_ident_is_equivalence.ensures

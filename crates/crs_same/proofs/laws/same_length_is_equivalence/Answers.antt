@@ -1,7 +1,0 @@
-use Rattle.crs_shape.specs.declared.unit_kind.UnitKind.TheVariants as kinds
-use Rattle.crs_same.proofs.SamenessOfPartsLemmas.{length}
-use Rattle.crs_same.proofs.laws.same_length_is_equivalence.Goals as goal
-
-pub returns : goal.returns
-returns c level =
-    length level (c.same_unit_is_equivalence.ensures kinds.Length level)

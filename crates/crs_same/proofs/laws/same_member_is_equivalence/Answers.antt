@@ -1,5 +1,0 @@
-use Rattle.crs_same.proofs.SamenessOfFramesLemmas.{member}
-use Rattle.crs_same.proofs.laws.same_member_is_equivalence.Goals as goal
-
-pub returns : goal.returns
-returns c level = member level (c.same_idents_is_equivalence.ensures level)

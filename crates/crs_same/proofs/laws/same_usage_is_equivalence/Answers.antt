@@ -1,6 +1,0 @@
-use Rattle.crs_value.specs.declared.values.level.Level.TheVariants as levels
-use Rattle.crs_same.proofs.SamenessOfPartsLemmas.{usage}
-use Rattle.crs_same.proofs.laws.same_usage_is_equivalence.Goals as goal
-
-pub returns : goal.returns
-returns c = usage c.same_box_is_equivalence.ensures (c.same_extent_is_equivalence.ensures levels.Full)

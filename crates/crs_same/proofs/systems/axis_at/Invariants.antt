@@ -1,5 +1,0 @@
-use Rattle.crs_same.proofs.AxisLemmas.{IsLeft}
-use Rattle.crs_same.proofs.systems.axis_at.Given as goal
-
-abbrev pub invariant-loop-axis : goal.invariant-loop-axis
-invariant-loop-axis l = IsLeft l.position l.place l.axis-index l.axes
