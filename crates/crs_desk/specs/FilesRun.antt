@@ -2,7 +2,7 @@
 use Rattle.std.specs.Prelude.{◌≡◌, ◌⊎◌, ◌==◌, ◌++◌, ◌∷◌, [], ℕ, List, Option, IfSome, codes, max}
 use Rattle.std.specs.Prelude.{false, true, if◌then◌else◌}
 use Rattle.std.specs.Io.KnownBytes.{Appends}
-use Rattle.crs_explain.specs.Escaped.{escaped}
+use Rattle.crs_streams.specs.Escaped.{escaped}
 use Rattle.crs_group.specs.GroupOutput.{IsGroupOutput, IsGroupOutputUnder}
 use Rattle.crs_group.specs.declared.summary.Summary.{Summary}
 use Rattle.crs_streams.specs.Streams.{SinkState}

@@ -8,7 +8,7 @@ ghost use Rattle.crs_desk.specs.LineCutting.{IsHealthy};
 use crate::file_answer::answer_input;
 use crate::file_task::FileTask;
 use crate::{LineWord, RunFault, Sink};
-use crs_explain::append_escaped;
+use crs_streams::append_escaped;
 use std::alloc::{AllocError, Global};
 use std::io::{Read, Write};
 

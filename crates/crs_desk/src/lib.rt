@@ -4,12 +4,11 @@
 pub use crs_command_line::{
     ExplainOptions, GroupFlags, LineWord, LineWords, Request, RequestFault, Task, request,
 };
-pub use crs_explain::append_escaped;
 pub use crs_group::{Listing, PLAIN, Summary, run_group, run_group_listing, run_group_under};
 pub use crs_rules::Rules;
 pub use crs_rules_file::{RulesFault, RulesReader, RulesRefusal};
 pub use crs_runs::{read_text, run_canon, run_check, run_same};
-pub use crs_streams::{Filling, RunFault, Sink, Source, Stream};
+pub use crs_streams::{Filling, RunFault, Sink, Source, Stream, append_escaped};
 pub use crs_text::Refusal;
 pub use crs_value::Level;
 pub use explain_run::{run_explain, run_explain_pair, run_explain_text};

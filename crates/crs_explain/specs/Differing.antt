@@ -7,7 +7,12 @@ use Rattle.crs_same.specs.Parts.{DifferenceParts}
 use Rattle.crs_same.specs.PartsOfCrs.{DifferencesInCrs}
 use Rattle.crs_same.specs.Paths.{path_text}
 use Rattle.crs_canon.specs.ContentText.{IsContentText}
-use Rattle.crs_explain.specs.Escaped.{shown}
+use Rattle.crs_streams.specs.Escaped.{escaped}
+
+-- the value of a part as a line shows it: `none` where there is nothing
+abbrev pub shown : List ℕ → List ℕ
+shown [] = codes "none"
+shown (b ∷ bytes) = escaped (b ∷ bytes)
 
 -- a part that differs as texts: its path, and its value in the first CRS and in the second, which
 -- are empty where there is nothing

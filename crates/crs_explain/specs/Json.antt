@@ -9,7 +9,7 @@ use Rattle.crs_value.specs.declared.values.level.Level.{Level}
 use Rattle.crs_text.specs.Refusal.{RefusedAt, name_of}
 use Rattle.crs_text.specs.declared.position.Position.{Position}
 use Rattle.crs_explain.specs.Differing.{AreDifferenceTexts, PartTexts}
-use Rattle.crs_explain.specs.Escaped.{hex_byte, steers}
+use Rattle.crs_streams.specs.Escaped.{hex_byte, steers}
 use Rattle.crs_explain.specs.Expectation.{Expectation}
 use Rattle.crs_explain.specs.Explained.{Explanation, Explains, Sentences}
 use Rattle.crs_explain.specs.Found.{word_of}

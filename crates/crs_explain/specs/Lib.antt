@@ -1,7 +1,6 @@
 pub mod Around
 pub mod Cut
 pub mod Differing
-pub mod Escaped
 pub mod Expectation
 pub mod Expected
 pub mod ExpectedAxes

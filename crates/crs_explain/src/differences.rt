@@ -1,11 +1,11 @@
 //! All parts in which two CRSs differ, for a person to read and for a program to use.
 ghost use Rattle.std.specs.Prelude.{◌≡◌, ◌++◌, IfOk, OnOk};
 ghost use Rattle.std.specs.List.{flat_map};
-ghost use Rattle.crs_explain.specs.Differing.{AreDifferencePieces, IsDifferencesText, difference_line, part_pieces};
+ghost use Rattle.crs_explain.specs.Differing.{AreDifferencePieces, IsDifferencesText, difference_line, part_pieces, shown};
 
 use crate::difference_texts::{DifferenceTexts, difference_texts};
-use crate::escape::append_value;
 use crate::pieces::Pieces;
+use crs_streams::append_escaped;
 use crs_value::{Crs, Level};
 use std::alloc::{AllocError, Global};
 
@@ -84,4 +84,14 @@ fn append_part(difference: &DifferenceTexts, out: &mut Pieces) -> Result<(), All
     out.push(&difference.path)?;
     out.push(&difference.first)?;
     out.push(&difference.second)
+}
+
+// `none` where there are no bytes.
+fn append_value(bytes: &[u8], out: &mut Vec<u8>) -> Result<(), AllocError>
+    ensures { OnOk result (out.new.items ≡ out.old.items ++ shown bytes.now) }
+{
+    if bytes.is_empty() {
+        return out.extend_from_slice(b"none");
+    }
+    append_escaped(bytes, out)
 }

@@ -3,14 +3,14 @@ ghost use Rattle.std.specs.Prelude.{◌≡◌, ◌++◌, OnOk};
 ghost use Rattle.std.specs.List.{flat_map};
 ghost use Rattle.std.specs.Str.{is_utf8};
 ghost use Rattle.bstr.specs.Utf8.{lossy_chars};
-ghost use Rattle.crs_explain.specs.Escaped.{hex_byte};
+ghost use Rattle.crs_streams.specs.Escaped.{hex_byte};
 ghost use Rattle.crs_explain.specs.Json.{json_array, json_bytes, json_char, json_more, json_string, json_text};
 ghost use Rattle.crs_explain.specs.Json.{json_value, key, number_member, text_member, value_member};
 
-use crate::escape::{append_code, append_hex, steers};
 use crate::names::Name;
 use crate::number::append_number;
 use bstr::{ByteSlice, ByteVec};
+use crs_streams::{append_code, append_hex, steers};
 use std::alloc::AllocError;
 
 /// Appends a text as a string, in which a quote and a backslash have a backslash before them, and what steers a terminal,

@@ -9,7 +9,6 @@ mod axes;
 mod class_names;
 mod difference_texts;
 mod differences;
-mod escape;
 mod excerpt;
 mod expected;
 mod expected_texts;
@@ -29,7 +28,6 @@ mod units;
 mod unknown_word;
 
 pub use differences::{difference_pieces, differences_text};
-pub use escape::append_escaped;
 pub use objects::{difference_objects, refusal_object};
 pub use pieces::Pieces;
 pub use refusal::{ExplanationPieces, refusal_pieces, refusal_text};

@@ -4,7 +4,7 @@ use Rattle.std.specs.Prelude.{decimal, length, if◌then◌else◌}
 use Rattle.std.specs.List.{flat_map}
 use Rattle.crs_text.specs.Refusal.{RefusedAt, refused_text}
 use Rattle.crs_value.specs.declared.values.level.Level.{Level}
-use Rattle.crs_explain.specs.Escaped.{escaped}
+use Rattle.crs_streams.specs.Escaped.{escaped}
 use Rattle.crs_writer.specs.Canonical.{IsCanonicalOf}
 use Rattle.crs_rules.specs.Rules.{RulesParts}
 use Rattle.crs_rules.specs.Under.{IsForm}

@@ -7,8 +7,7 @@ ghost use Rattle.crs_group.specs.GroupOutput.{labelled, labels_text, listed_line
 
 use crate::names::Names;
 use crate::{Catalogue, Listing};
-use crs_explain::append_escaped;
-use crs_streams::append_refusal;
+use crs_streams::{append_escaped, append_refusal};
 use crs_text::Refusal;
 use itoa::Buffer;
 use std::alloc::AllocError;

@@ -1,4 +1,5 @@
 pub mod EndedLines
+pub mod Escaped
 pub mod Filled
 pub mod Given
 pub mod Lines

@@ -1,7 +1,8 @@
 //! The streams of a run: a source, a stream and a sink that remember failures, and count their reads, the lines of
-//! bytes, the line that tells a refusal, and the fault with which a run ends.
+//! bytes, texts as one line shows them, the line that tells a refusal, and the fault with which a run ends.
 #![tactic(auto)]
 
+mod escape;
 mod fault;
 mod filling;
 pub mod laws;
@@ -11,6 +12,7 @@ mod sink;
 mod source;
 mod stream;
 
+pub use escape::{append_code, append_escaped, append_hex, steers};
 pub use fault::RunFault;
 pub use filling::Filling;
 pub use line::{MAX_LINE, append_bytes, split_line, text_of};

@@ -1,6 +1,6 @@
 use Rattle.std.proofs.Common.{◌≡◌, ◌++◌, drop}
 use Rattle.std.specs.List.{flat_map}
-use Rattle.crs_explain.specs.Escaped.{hex_byte}
+use Rattle.crs_streams.specs.Escaped.{hex_byte}
 use Rattle.crs_explain.proofs.json.append_digits.Given as goal
 
 abbrev pub invariant-loop-byte : goal.invariant-loop-byte

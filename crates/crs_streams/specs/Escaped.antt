@@ -28,8 +28,3 @@ shown_char c =
 -- a text as a line shows it
 abbrev pub escaped : List ℕ → List ℕ
 escaped bytes = flat_map shown_char (lossy_chars bytes)
-
--- the value of a part as a line shows it: `none` where there is nothing
-abbrev pub shown : List ℕ → List ℕ
-shown [] = codes "none"
-shown (b ∷ bytes) = escaped (b ∷ bytes)
