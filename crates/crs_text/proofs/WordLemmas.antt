@@ -13,8 +13,8 @@ use Rattle.std.proofs.lemmas.Bool.{agree_below, agree_below_at, leb-true}
 use Rattle.std.specs.List.{list_all, prefix_len}
 use Rattle.crs_text.specs.declared.keyword.Keyword.{Keyword}
 use Rattle.crs_text.specs.Keywords.{spelling_of, every_keyword, keyword_of}
-use Rattle.crs_text.specs.KeywordTable.{spelled, of_length, first_among, is_capital, AreCapitals, AreSpellings, AreSameWithin, IsSuspect, AreSuspects}
-use Rattle.crs_text.proofs.KeywordLemmas.{and-left, and-right, keyword-spelled, keyword_of-table}
+use Rattle.crs_text.specs.KeywordTable.{spelled, of_length, first_among, is_capital, AreCapitals, AreSpellings, AreSameWithin, IsNamed, IsSuspect, AreSuspects}
+use Rattle.crs_text.proofs.KeywordLemmas.{and-left, and-right, keyword-spelled, keyword_of-table, same-keyword_of}
 
 same-lists : (xs ys : List ℕ) → length xs ≡ length ys → ((k : ℕ) → k < length xs → get_or xs k 0 ≡ get_or ys k 0) → xs ≡ ys
 same-lists [] [] e at = refl
@@ -150,13 +150,18 @@ suspect_at [] i d all less = absurd (omega arith)
 suspect_at (s ∷ ss) zero d all less = all.0
 suspect_at (s ∷ ss) (suc i) d all less = suspect_at ss i d all.1 (omega arith)
 
+named : (o : Option Keyword) (word : List ℕ) → IsNamed o word → keyword_of word ≡ o
+named None word e = e
+named (Some k) word e = (keyword-spelled k word).0 ((bytes_eq-Decides (str_to_ascii_lowercase (spelling_of k)) (str_to_ascii_lowercase word)).1 (ap str_to_ascii_lowercase (sym e)))
+
 -- the word in front whose block is that of a suspect
 pub suspect_is : (s : Suspect) (left : List ℕ) (n : ℕ) → IsSuspect s → s.length ≡ n → n ≤ 16 →
     (IsTrue (list_all is_capital (take n (take 16 s.letters.now))) → map to_ascii_lowercase (take n (take 16 s.letters.now)) ≡ map to_ascii_lowercase (take n (take 16 left))) →
-    keyword_of (take n left) ≡ Some s.keyword
+    keyword_of (take n left) ≡ s.keyword
 suspect_is s left n is e few same =
     let whole : take 16 s.letters.now ≡ s.letters.now = take_all 16 s.letters.now (omega (arith, is.1)) in
-    let spelled : take n (take 16 s.letters.now) ≡ spelling_of s.keyword = ap (take n) whole ∙ ap (λ k. take k s.letters.now) (sym e) ∙ is.0 in
+    let word : take n (take 16 s.letters.now) ≡ take s.length s.letters.now = ap (take n) whole ∙ ap (λ k. take k s.letters.now) (sym e) in
     let front : take n (take 16 left) ≡ take n left = take-take n 16 left few in
-    let letters = sym (ap (map to_ascii_lowercase) spelled) ∙ same (subst (λ l. list_all is_capital l ≡ true) (sym spelled) is.2) ∙ ap (map to_ascii_lowercase) front in
-    (keyword-spelled s.keyword (take n left)).0 ((bytes_eq-Decides (str_to_ascii_lowercase (spelling_of s.keyword)) (str_to_ascii_lowercase (take n left))).1 letters)
+    let letters : map to_ascii_lowercase (take s.length s.letters.now) ≡ map to_ascii_lowercase (take n left) =
+    sym (ap (map to_ascii_lowercase) word) ∙ same (subst (λ l. list_all is_capital l ≡ true) (sym word) is.2) ∙ ap (map to_ascii_lowercase) front in
+    sym (same-keyword_of (take s.length s.letters.now) (take n left) letters) ∙ named s.keyword (take s.length s.letters.now) is.0

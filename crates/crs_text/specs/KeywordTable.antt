@@ -5,7 +5,7 @@ use Rattle.std.specs.List.{list_all}
 use Rattle.std.specs.Prelude.{Option, Some, None, List, [], ◌∷◌, if◌then◌else◌}
 use Rattle.std.specs.Char.{to_ascii_lowercase}
 use Rattle.std.specs.Str.{str_eq_ignore_ascii_case}
-use Rattle.crs_text.specs.Keywords.{spelling_of, every_keyword}
+use Rattle.crs_text.specs.Keywords.{spelling_of, every_keyword, keyword_of}
 use Rattle.crs_text.specs.declared.keyword.Keyword.{Keyword}
 use Rattle.crs_text.specs.declared.keyword.Spelling.{Spelling}
 use Rattle.crs_text.specs.declared.keyword.Suspect.{Suspect}
@@ -52,11 +52,16 @@ AreSameWithin letters word low high =
     (k : ℕ) → low ≤ k → k < high →
     to_ascii_lowercase (slice_index letters k) ≡ to_ascii_lowercase (slice_index word k)
 
--- a keyword's spelling in capitals, which more bytes may follow
+-- the word is spelled as this keyword, or is none
+abbrev pub IsNamed : Option Keyword → List ℕ → Type 0
+IsNamed None word = keyword_of word ≡ None
+IsNamed (Some k) word = word ≡ spelling_of k
+
+-- a word of capitals, which more bytes may follow, and the keyword that it is, if it is one
 abbrev pub IsSuspect : Suspect → Type 0
 IsSuspect s =
-    (take s.length s.letters.now ≡ spelling_of s.keyword) × (length s.letters.now ≡ 16)
-    × IsTrue (list_all is_capital (spelling_of s.keyword))
+    IsNamed s.keyword (take s.length s.letters.now) × (length s.letters.now ≡ 16)
+    × IsTrue (list_all is_capital (take s.length s.letters.now))
 
 abbrev pub AreSuspects : List Suspect → Type 0
 AreSuspects [] = Unit {0}

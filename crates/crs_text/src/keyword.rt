@@ -1,5 +1,5 @@
 //! Keywords: the words that the grammar of well-known text gives a meaning, found by their spelling.
-ghost use Rattle.std.specs.Prelude.{◌≡◌, ℕ, ◌+◌, ◌≤◌, ◌<◌, ◌↔◌, IsTrue, IfSome, Some, length, map, take};
+ghost use Rattle.std.specs.Prelude.{◌≡◌, ℕ, ◌+◌, ◌≤◌, ◌<◌, ◌↔◌, IsTrue, IfSome, length, map, take};
 ghost use Rattle.std.specs.Char.{to_ascii_lowercase};
 ghost use Rattle.std.specs.Str.{str_eq_ignore_ascii_case};
 ghost use Rattle.crs_text.specs.Keywords.{keyword_of, spelling_of};
@@ -245,171 +245,191 @@ impl Keyword {
 /// How many bytes a keyword has at most, and how many of a word are looked at at once.
 const LANES: usize = 16;
 
-// A keyword, its letters in capitals with spaces behind them, and how many letters it has.
+// A word in capitals with spaces behind it, how many letters it has, and the keyword that it is, if it is one.
 #[derive(Clone, Copy)]
 struct Suspect {
     letters: &'static [u8],
     length: usize,
-    keyword: Keyword,
+    keyword: Option<Keyword>,
 }
 
-// rows of keywords, each with its length and its letters
+// rows of words, each with the keyword that it is, its length and its letters
 macro_rules! by_fingerprint {
-    ($($keyword:ident: $length:literal $letters:literal),* $(,)?) => {
-        &[$(Suspect { letters: $letters, length: $length, keyword: Keyword::$keyword }),*]
+    ($($keyword:expr => $length:literal $letters:literal),* $(,)?) => {
+        &[$(Suspect { letters: $letters, length: $length, keyword: $keyword }),*]
     };
 }
 
-// For each fingerprint the keyword that has it; `ID` where none has.
+// For each fingerprint the keyword that has it, or a word that is none and comes often; `ID` where there is neither.
 #[inline(always)]
 fn suspects() -> &'static [Suspect]
     ensures rows { AreSuspects result.now }
     ensures count { length result.now ≡ 128 }
 {
     by_fingerprint! {
-        Id: 2 b"ID              ",
-        Meridian: 8 b"MERIDIAN        ",
-        Method: 6 b"METHOD          ",
-        Id: 2 b"ID              ",
-        Cs: 2 b"CS              ",
-        Id: 2 b"ID              ",
-        Model: 5 b"MODEL           ",
-        PrimeM: 6 b"PRIMEM          ",
-        Id: 2 b"ID              ",
-        VelocityGrid: 12 b"VELOCITYGRID    ",
-        Id: 2 b"ID              ",
-        Id: 2 b"ID              ",
-        Id: 2 b"ID              ",
-        Id: 2 b"ID              ",
-        Id: 2 b"ID              ",
-        GeogCrs: 7 b"GEOGCRS         ",
-        Id: 2 b"ID              ",
-        Id: 2 b"ID              ",
-        ProjCrs: 7 b"PROJCRS         ",
-        VerticalExtent: 14 b"VERTICALEXTENT  ",
-        Id: 2 b"ID              ",
-        Id: 2 b"ID              ",
-        Id: 2 b"ID              ",
-        Id: 2 b"ID              ",
-        Usage: 5 b"USAGE           ",
-        Id: 2 b"ID              ",
-        Id: 2 b"ID              ",
-        Id: 2 b"ID              ",
-        Order: 5 b"ORDER           ",
-        Id: 2 b"ID              ",
-        Id: 2 b"ID              ",
-        Id: 2 b"ID              ",
-        Id: 2 b"ID              ",
-        Id: 2 b"ID              ",
-        Conversion: 10 b"CONVERSION      ",
-        Id: 2 b"ID              ",
-        Ensemble: 8 b"ENSEMBLE        ",
-        GeodeticCrs: 11 b"GEODETICCRS     ",
-        Id: 2 b"ID              ",
-        Trf: 3 b"TRF             ",
-        EnsembleAccuracy: 16 b"ENSEMBLEACCURACY",
-        Id: 2 b"ID              ",
-        Id: 2 b"ID              ",
-        Id: 2 b"ID              ",
-        Id: 2 b"ID              ",
-        Id: 2 b"ID              ",
-        Id: 2 b"ID              ",
-        BBox: 4 b"BBOX            ",
-        VerticalCrs: 11 b"VERTICALCRS     ",
-        Spheroid: 8 b"SPHEROID        ",
-        Remark: 6 b"REMARK          ",
-        Id: 2 b"ID              ",
-        Id: 2 b"ID              ",
-        Id: 2 b"ID              ",
-        GeodCrs: 7 b"GEODCRS         ",
-        Id: 2 b"ID              ",
-        PlainUnit: 4 b"UNIT            ",
-        Id: 2 b"ID              ",
-        Datum: 5 b"DATUM           ",
-        Id: 2 b"ID              ",
-        Id: 2 b"ID              ",
-        Id: 2 b"ID              ",
-        Area: 4 b"AREA            ",
-        Id: 2 b"ID              ",
-        Id: 2 b"ID              ",
-        Axis: 4 b"AXIS            ",
-        Id: 2 b"ID              ",
-        Ellipsoid: 9 b"ELLIPSOID       ",
-        BaseGeogCrs: 11 b"BASEGEOGCRS     ",
-        Id: 2 b"ID              ",
-        ScaleUnit: 9 b"SCALEUNIT       ",
-        Id: 2 b"ID              ",
-        Id: 2 b"ID              ",
-        Vrf: 3 b"VRF             ",
-        Id: 2 b"ID              ",
-        Id: 2 b"ID              ",
-        Scope: 5 b"SCOPE           ",
-        Id: 2 b"ID              ",
-        Id: 2 b"ID              ",
-        Parameter: 9 b"PARAMETER       ",
-        AnchorEpoch: 11 b"ANCHOREPOCH     ",
-        Id: 2 b"ID              ",
-        Id: 2 b"ID              ",
-        Id: 2 b"ID              ",
-        Id: 2 b"ID              ",
-        Id: 2 b"ID              ",
-        GeographicCrs: 13 b"GEOGRAPHICCRS   ",
-        Id: 2 b"ID              ",
-        Id: 2 b"ID              ",
-        Id: 2 b"ID              ",
-        ProjectedCrs: 12 b"PROJECTEDCRS    ",
-        Projection: 10 b"PROJECTION      ",
-        Member: 6 b"MEMBER          ",
-        Id: 2 b"ID              ",
-        AngleUnit: 9 b"ANGLEUNIT       ",
-        Id: 2 b"ID              ",
-        Citation: 8 b"CITATION        ",
-        Id: 2 b"ID              ",
-        Id: 2 b"ID              ",
-        Id: 2 b"ID              ",
-        FrameEpoch: 10 b"FRAMEEPOCH      ",
-        Id: 2 b"ID              ",
-        Id: 2 b"ID              ",
-        VertCrs: 7 b"VERTCRS         ",
-        Id: 2 b"ID              ",
-        Id: 2 b"ID              ",
-        Id: 2 b"ID              ",
-        BaseGeodCrs: 11 b"BASEGEODCRS     ",
-        Id: 2 b"ID              ",
-        Id: 2 b"ID              ",
-        VDatum: 6 b"VDATUM          ",
-        VerticalDatum: 13 b"VERTICALDATUM   ",
-        GeodeticDatum: 13 b"GEODETICDATUM   ",
-        Id: 2 b"ID              ",
-        GeoidModel: 10 b"GEOIDMODEL      ",
-        PrimeMeridian: 13 b"PRIMEMERIDIAN   ",
-        Id: 2 b"ID              ",
-        Id: 2 b"ID              ",
-        Id: 2 b"ID              ",
-        Id: 2 b"ID              ",
-        Uri: 3 b"URI             ",
-        LengthUnit: 10 b"LENGTHUNIT      ",
-        Dynamic: 7 b"DYNAMIC         ",
-        Id: 2 b"ID              ",
-        CompoundCrs: 11 b"COMPOUNDCRS     ",
-        Anchor: 6 b"ANCHOR          ",
-        Id: 2 b"ID              ",
-        Id: 2 b"ID              ",
+        Some(Keyword::Id) => 2 b"ID              ",
+        Some(Keyword::Id) => 2 b"ID              ",
+        Some(Keyword::Id) => 2 b"ID              ",
+        Some(Keyword::Id) => 2 b"ID              ",
+        Some(Keyword::LengthUnit) => 10 b"LENGTHUNIT      ",
+        Some(Keyword::Id) => 2 b"ID              ",
+        Some(Keyword::Id) => 2 b"ID              ",
+        Some(Keyword::BaseGeogCrs) => 11 b"BASEGEOGCRS     ",
+        Some(Keyword::Id) => 2 b"ID              ",
+        Some(Keyword::ProjectedCrs) => 12 b"PROJECTEDCRS    ",
+        None => 11 b"GEOCENTRICX     ",
+        Some(Keyword::Id) => 2 b"ID              ",
+        Some(Keyword::Id) => 2 b"ID              ",
+        Some(Keyword::Id) => 2 b"ID              ",
+        Some(Keyword::Id) => 2 b"ID              ",
+        Some(Keyword::Id) => 2 b"ID              ",
+        None => 8 b"VERTICAL        ",
+        Some(Keyword::Id) => 2 b"ID              ",
+        Some(Keyword::BaseGeodCrs) => 11 b"BASEGEODCRS     ",
+        Some(Keyword::Id) => 2 b"ID              ",
+        Some(Keyword::AnchorEpoch) => 11 b"ANCHOREPOCH     ",
+        Some(Keyword::BBox) => 4 b"BBOX            ",
+        Some(Keyword::GeodCrs) => 7 b"GEODCRS         ",
+        Some(Keyword::VerticalCrs) => 11 b"VERTICALCRS     ",
+        Some(Keyword::VelocityGrid) => 12 b"VELOCITYGRID    ",
+        Some(Keyword::Id) => 2 b"ID              ",
+        Some(Keyword::Id) => 2 b"ID              ",
+        Some(Keyword::Id) => 2 b"ID              ",
+        Some(Keyword::CompoundCrs) => 11 b"COMPOUNDCRS     ",
+        None => 4 b"WEST            ",
+        Some(Keyword::Id) => 2 b"ID              ",
+        Some(Keyword::VerticalExtent) => 14 b"VERTICALEXTENT  ",
+        Some(Keyword::Projection) => 10 b"PROJECTION      ",
+        Some(Keyword::GeogCrs) => 7 b"GEOGCRS         ",
+        Some(Keyword::Id) => 2 b"ID              ",
+        Some(Keyword::Trf) => 3 b"TRF             ",
+        Some(Keyword::Id) => 2 b"ID              ",
+        None => 11 b"ELLIPSOIDAL     ",
+        Some(Keyword::Id) => 2 b"ID              ",
+        Some(Keyword::Method) => 6 b"METHOD          ",
+        Some(Keyword::Id) => 2 b"ID              ",
+        Some(Keyword::Id) => 2 b"ID              ",
+        Some(Keyword::Id) => 2 b"ID              ",
+        Some(Keyword::Id) => 2 b"ID              ",
+        None => 9 b"SPHERICAL       ",
+        Some(Keyword::Parameter) => 9 b"PARAMETER       ",
+        Some(Keyword::Usage) => 5 b"USAGE           ",
+        Some(Keyword::Id) => 2 b"ID              ",
+        Some(Keyword::GeodeticCrs) => 11 b"GEODETICCRS     ",
+        Some(Keyword::Id) => 2 b"ID              ",
+        Some(Keyword::GeographicCrs) => 13 b"GEOGRAPHICCRS   ",
+        Some(Keyword::FrameEpoch) => 10 b"FRAMEEPOCH      ",
+        Some(Keyword::Id) => 2 b"ID              ",
+        Some(Keyword::Id) => 2 b"ID              ",
+        Some(Keyword::Ensemble) => 8 b"ENSEMBLE        ",
+        Some(Keyword::Id) => 2 b"ID              ",
+        Some(Keyword::Member) => 6 b"MEMBER          ",
+        Some(Keyword::Id) => 2 b"ID              ",
+        Some(Keyword::Id) => 2 b"ID              ",
+        Some(Keyword::Id) => 2 b"ID              ",
+        Some(Keyword::Datum) => 5 b"DATUM           ",
+        None => 2 b"UP              ",
+        Some(Keyword::Id) => 2 b"ID              ",
+        Some(Keyword::Id) => 2 b"ID              ",
+        Some(Keyword::Id) => 2 b"ID              ",
+        None => 9 b"CARTESIAN       ",
+        Some(Keyword::ScaleUnit) => 9 b"SCALEUNIT       ",
+        Some(Keyword::VDatum) => 6 b"VDATUM          ",
+        Some(Keyword::Scope) => 5 b"SCOPE           ",
+        Some(Keyword::Spheroid) => 8 b"SPHEROID        ",
+        Some(Keyword::Id) => 2 b"ID              ",
+        Some(Keyword::VerticalDatum) => 13 b"VERTICALDATUM   ",
+        Some(Keyword::Id) => 2 b"ID              ",
+        Some(Keyword::Conversion) => 10 b"CONVERSION      ",
+        Some(Keyword::PrimeMeridian) => 13 b"PRIMEMERIDIAN   ",
+        Some(Keyword::ProjCrs) => 7 b"PROJCRS         ",
+        Some(Keyword::Axis) => 4 b"AXIS            ",
+        Some(Keyword::Citation) => 8 b"CITATION        ",
+        None => 4 b"DOWN            ",
+        Some(Keyword::Id) => 2 b"ID              ",
+        Some(Keyword::PrimeM) => 6 b"PRIMEM          ",
+        None => 5 b"NORTH           ",
+        Some(Keyword::Vrf) => 3 b"VRF             ",
+        Some(Keyword::Id) => 2 b"ID              ",
+        Some(Keyword::Id) => 2 b"ID              ",
+        Some(Keyword::Id) => 2 b"ID              ",
+        Some(Keyword::Area) => 4 b"AREA            ",
+        Some(Keyword::Id) => 2 b"ID              ",
+        Some(Keyword::Id) => 2 b"ID              ",
+        Some(Keyword::Id) => 2 b"ID              ",
+        None => 4 b"EAST            ",
+        Some(Keyword::Id) => 2 b"ID              ",
+        Some(Keyword::Id) => 2 b"ID              ",
+        Some(Keyword::Id) => 2 b"ID              ",
+        Some(Keyword::Id) => 2 b"ID              ",
+        Some(Keyword::Id) => 2 b"ID              ",
+        Some(Keyword::GeodeticDatum) => 13 b"GEODETICDATUM   ",
+        Some(Keyword::Id) => 2 b"ID              ",
+        Some(Keyword::Cs) => 2 b"CS              ",
+        Some(Keyword::VertCrs) => 7 b"VERTCRS         ",
+        Some(Keyword::Id) => 2 b"ID              ",
+        Some(Keyword::Id) => 2 b"ID              ",
+        Some(Keyword::Id) => 2 b"ID              ",
+        Some(Keyword::Id) => 2 b"ID              ",
+        Some(Keyword::Uri) => 3 b"URI             ",
+        Some(Keyword::Id) => 2 b"ID              ",
+        Some(Keyword::Id) => 2 b"ID              ",
+        Some(Keyword::Dynamic) => 7 b"DYNAMIC         ",
+        Some(Keyword::Id) => 2 b"ID              ",
+        Some(Keyword::Anchor) => 6 b"ANCHOR          ",
+        Some(Keyword::Id) => 2 b"ID              ",
+        Some(Keyword::AngleUnit) => 9 b"ANGLEUNIT       ",
+        Some(Keyword::Id) => 2 b"ID              ",
+        Some(Keyword::Id) => 2 b"ID              ",
+        Some(Keyword::Model) => 5 b"MODEL           ",
+        Some(Keyword::PlainUnit) => 4 b"UNIT            ",
+        Some(Keyword::EnsembleAccuracy) => 16 b"ENSEMBLEACCURACY",
+        None => 5 b"SOUTH           ",
+        Some(Keyword::Ellipsoid) => 9 b"ELLIPSOID       ",
+        Some(Keyword::Remark) => 6 b"REMARK          ",
+        Some(Keyword::Meridian) => 8 b"MERIDIAN        ",
+        Some(Keyword::Id) => 2 b"ID              ",
+        Some(Keyword::Order) => 5 b"ORDER           ",
+        Some(Keyword::Id) => 2 b"ID              ",
+        Some(Keyword::Id) => 2 b"ID              ",
+        Some(Keyword::Id) => 2 b"ID              ",
+        Some(Keyword::Id) => 2 b"ID              ",
+        Some(Keyword::GeoidModel) => 10 b"GEOIDMODEL      ",
     }
 }
 
+// By the length of a word the bits of its first eight letters that tell one from another, letter case aside.
+const KEPT: [u64; 17] = [
+    0x0000_0000_0000_0000,
+    0x0000_0000_0000_001f,
+    0x0000_0000_0000_1f1f,
+    0x0000_0000_001f_1f1f,
+    0x0000_0000_1f1f_1f1f,
+    0x0000_001f_1f1f_1f1f,
+    0x0000_1f1f_1f1f_1f1f,
+    0x001f_1f1f_1f1f_1f1f,
+    0x1f1f_1f1f_1f1f_1f1f,
+    0x1f1f_1f1f_1f1f_1f1f,
+    0x1f1f_1f1f_1f1f_1f1f,
+    0x1f1f_1f1f_1f1f_1f1f,
+    0x1f1f_1f1f_1f1f_1f1f,
+    0x1f1f_1f1f_1f1f_1f1f,
+    0x1f1f_1f1f_1f1f_1f1f,
+    0x1f1f_1f1f_1f1f_1f1f,
+    0x1f1f_1f1f_1f1f_1f1f,
+];
+
 // A number for the word of so many bytes in front, letter case aside, which differs from keyword to keyword: it is made
-// of the first two letters, the fourth from the end, and the length.
+// of the first eight letters and the length.
 #[inline(always)]
 fn fingerprint(left: &[u8], count: usize) -> usize
     requires within { count ≤ 16 }
     requires room { 16 ≤ length left.now }
     ensures { result < 128 }
 {
-    let third = left[count.max(4) - 4];
-    let letters = u32::from(left[0]) | u32::from(left[1]) << 8 | u32::from(third) << 16;
-    let bits = (letters | (count as u32) << 24) & 0x1f1f_1f1f;
-    (bits.wrapping_mul(0xbbab_e631) >> 25) as usize % 128
+    let front = u64x2::from_le_bytes(u8x16::from_slice(left))[0];
+    let letters = (front & KEPT[count]).wrapping_add(count as u64);
+    (letters.wrapping_mul(0xaf8b_4907_579f_89a3) >> 57) as usize % 128
 }
 
 // How many lanes come before the first where the bytes aren't these capitals, letter case aside.
@@ -426,7 +446,7 @@ fn is_suspect(suspect: &Suspect, left: &[u8], count: usize) -> bool
     requires suspect { IsSuspect suspect.now }
     requires within { count ≤ 16 }
     requires room { 16 ≤ length left.now }
-    ensures { IsTrue result → keyword_of (take count left.now) ≡ Some suspect.now.keyword }
+    ensures { IsTrue result → keyword_of (take count left.now) ≡ suspect.now.keyword }
 {
     if suspect.length != count {
         return false;
@@ -434,10 +454,10 @@ fn is_suspect(suspect: &Suspect, left: &[u8], count: usize) -> bool
     same_lanes(u8x16::from_slice(left), u8x16::from_slice(suspect.letters)) >= count
 }
 
-// The keyword that the word of so many bytes in front is, where that is seen at one look.
+// The keyword that the word of so many bytes in front is, or that it is none, where that is seen at one look.
 #[inline(always)]
-fn suspected(left: &[u8], count: usize) -> Option<Keyword>
-    ensures { IfSome result (λ k. keyword_of (take count left.now) ≡ Some k) }
+fn suspected(left: &[u8], count: usize) -> Option<Option<Keyword>>
+    ensures { IfSome result (λ found. keyword_of (take count left.now) ≡ found) }
 {
     if left.len() < LANES {
         return None;
@@ -471,7 +491,7 @@ pub(crate) fn front_keyword(left: &[u8], count: usize) -> Option<Keyword>
         return None;
     }
     match suspected(left, count) {
-        Some(keyword) => Some(keyword),
+        Some(found) => found,
         None => any_keyword(front_of(left, count)),
     }
 }
