@@ -3,17 +3,19 @@ use Rattle.std.proofs.Common.{◌≡◌, ℕ, suc, ◌+◌, ◌-◌, nat_lt, Boo
 use Rattle.std.specs.Option.{option_map}
 use Rattle.std.proofs.Math.ListN.{set}
 use Rattle.std.proofs.Math.Seq.{get_or-append_seam, set-append_seam}
+use Rattle.std.proofs.lemmas.Bool.{lt-ltb}
 use Rattle.std.proofs.lemmas.List.{append-nil}
 use Rattle.crs_text.specs.Tokens.{Kind, number, text, word, Token, single, comma, opening, closing}
 use Rattle.crs_text.specs.Items.{Item, leaf, Siblings, End, More, count}
 use Rattle.crs_text.specs.State.{Frame, State, wants, worded, after, gather, only_if, same_square, behind_leaf, behind_item, step}
-use Rattle.crs_text.specs.Table.{Flat, item_kind, leaf_row, no_row, flat_step, flat_comma, flat_open, flat_close, with_leaf, with_open, with_close}
+use Rattle.crs_text.specs.Table.{Flat, item_kind, leaf_row, no_row, may_begin, counted, flat_step, flat_single, flat_comma, flat_open, flat_close, with_first, with_leaf, with_open, with_opened, with_close, IsNodeBegun}
 use Rattle.crs_text.specs.Rows.{node_rows, rows, rows_of_items, rows_before, open_row, rows_of_frames, opens_of, flat}
 use Rattle.crs_text.specs.declared.items.ItemKind.TheVariants.{Word, Node}
 use Rattle.crs_text.specs.declared.table.Row.{Row}
 use Rattle.crs_text.specs.declared.table.Open.{Open}
 use Rattle.crs_text.specs.declared.table.Position.{Position}
 use Rattle.crs_text.specs.declared.table.Position.TheVariants.{BeforeItem, AfterWord, AfterItem}
+use Rattle.crs_text.proofs.TableLemmas.{length-counted}
 
 pub length-opens_of : (fs : List Frame) → length (opens_of fs) ≡ length fs
 length-opens_of [] = refl
@@ -144,3 +146,25 @@ flat-step (after item fs) comma = flat-comma item fs AfterItem (λ e. cc)
 flat-step (after item []) (opening square) = refl
 flat-step (after item (f ∷ fs)) (opening square) = refl
 flat-step (after item fs) (closing p square) = flat-close item fs AfterItem p square (λ e. cc)
+
+-- a table that takes a word and then a square delimiter
+may_begin-word : (os : List Open) → may_begin BeforeItem os Word ≡ true
+may_begin-word [] = refl
+may_begin-word (o ∷ os) = refl
+
+begun_is : (f : Flat) (place : ℕ) (raw : List ℕ) → with_open (with_leaf f Word place raw) true ≡ with_opened (with_first f Node true place raw) (length f.rows)
+begun_is f place raw =
+    let r = leaf_row Word place raw (length f.opens) in
+    let len : length (f.rows ++ r ∷ []) - 1 ≡ length f.rows = omega (arith, length-append f.rows (r ∷ [])) in
+    let get = get_or-append_seam f.rows r [] no_row in
+    let put = set-append_seam f.rows r [] (record r { kind = Node; square = true }) in
+    rw (len, get, put) refl
+
+pub word_begun : (f g : Flat) (place : ℕ) (raw : List ℕ) → IsNodeBegun f place raw g → flat_single f Word place raw ≡ Some (with_leaf f Word place raw)
+word_begun f g place raw begun =
+    ap (λ b. if b then Some (with_leaf f Word place raw) else None) (ap (λ p. may_begin p f.opens Word) begun.0 ∙ may_begin-word f.opens)
+
+pub delimiter_begun : (f g : Flat) (place : ℕ) (raw : List ℕ) → IsNodeBegun f place raw g → flat_open (with_leaf f Word place raw) true ≡ Some g
+delimiter_begun f g place raw begun =
+    let few : nat_lt (length (counted f.opens)) 12 ≡ true = lt-ltb _ _ (omega (arith, length-counted f.opens, begun.1)) in
+    ap (λ b. if b then Some (with_open (with_leaf f Word place raw) true) else None) few ∙ ap Some (begun_is f place raw ∙ sym begun.2)

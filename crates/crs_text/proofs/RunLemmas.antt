@@ -12,9 +12,11 @@ use Rattle.std.specs.Str.{IsAscii}
 use Rattle.std.specs.Char.{is_ascii}
 use Rattle.std.specs.List.{prefix_len}
 use lib.Lanes.{chunk, zip2, mask_l, top, Each1}
+use Rattle.crs_text.specs.Tokens.{is_letter, is_word_byte}
 use Rattle.crs_text.specs.Quoted.{IsShutAt, StopsAt, is_plain, is_quote}
 use Rattle.crs_text.specs.Runs.{first_set, is_plain_ascii, IsClosing}
 use Rattle.crs_text.proofs.QuotedLemmas.{shut_at, within_at}
+use Rattle.crs_text.proofs.TokenLemmas.{letter_in_word}
 use Rattle.crs_text.proofs.Utf8Lemmas.{IsUtf8-at_quote}
 
 -- ---- lanes
@@ -69,6 +71,19 @@ run_stops q d at n room short =
     let c = chunk at n d in
     let some : prefix_len q c ≡ length c → ⊥ = λ e. omega (arith, e, length-chunk at n d room) in
     split q d at n ∙ ap (λ b. cond b (length c + prefix_len q (drop (at + n) d)) (prefix_len q c)) (ne_eqb _ _ some)
+
+-- ---- words
+
+-- letters up to a byte that is in no word are the word
+pub letters_are_word : (xs : List ℕ) → StopsAt is_word_byte (drop (prefix_len is_letter xs) xs) → prefix_len is_letter xs ≡ prefix_len is_word_byte xs
+letters_are_word [] e = refl
+letters_are_word (x ∷ xs) e =
+    elim (is_letter x) as (λ v. is_letter x ≡ v → StopsAt is_word_byte (drop (cond v (1 + prefix_len is_letter xs) 0) (x ∷ xs)) → cond v (1 + prefix_len is_letter xs) 0 ≡ prefix_len is_word_byte (x ∷ xs)) [
+      | true ↦ λ t h.
+          let f : StopsAt is_word_byte (drop (prefix_len is_letter xs) xs) = rw one-add at h in
+          ap₂ (λ b n. cond b (1 + n) 0) (sym (letter_in_word x t)) (letters_are_word xs f)
+      | false ↦ λ t h. sym (ap (λ b. cond b (1 + prefix_len is_word_byte xs) 0) h)
+    ] refl e
 
 -- ---- quoted ASCII
 

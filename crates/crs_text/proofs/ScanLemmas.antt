@@ -7,7 +7,7 @@ use Rattle.crs_text.specs.Tokens as tokens
 use Rattle.crs_text.specs.Tokens.{Kind, Token, single, comma, opening, closing, opening_byte, closing_byte, is_white, Forms, Fronts, IsAfterWhite}
 use Rattle.crs_text.specs.Items.{Item}
 use Rattle.crs_text.specs.TextFault.{reason_number, IsFlaw, IsStop, IsTextFault, RefusesText, SpellsNode}
-use Rattle.crs_text.specs.Table.{Flat, flat_step, IsStep, IsOpened, is_whole}
+use Rattle.crs_text.specs.Table.{Flat, flat_step, with_leaf, IsStep, IsOpened, IsNodeBegun, is_whole}
 use Rattle.crs_text.specs.Rows.{Shows, flat}
 use Rattle.crs_text.specs.State.{start, after}
 use Rattle.crs_text.specs.Lexing.{IsLexed, StandsBefore}
@@ -21,6 +21,7 @@ use Rattle.crs_text.specs.declared.items.ItemKind.TheVariants as kinds
 use Rattle.crs_text.specs.declared.lexing.Lexed.TheVariants as lexed
 use Rattle.crs_text.specs.declared.table.Opened.TheVariants as opened
 use Rattle.crs_text.proofs.LexedLemmas.{prefix_taken, prefix_ends}
+use Rattle.crs_text.proofs.FlatLemmas.{word_begun, delimiter_begun}
 use Rattle.crs_text.proofs.FrontsLemmas.{fronts_more, forms_shorter}
 use Rattle.crs_text.proofs.ShowsLemmas.{shows_start, viable_from_shows, shows_more, not_viable_from_shows, deep_from_shows, none_from_deep, refused_from_shows, none_from_refused, whole_from_shows, not_whole_from_shows}
 
@@ -197,6 +198,21 @@ pub passed_on : (text : List ℕ) (at n : ℕ) (before behind : Flat) → IsPass
 passed_on text at n before behind p none t =
     let e : at + prefix_len is_white (drop at text) ≡ at = omega (arith, none) in
     passed_next text at n before behind (subst (IsReached text before) e p.0) t
+
+-- a word and the square delimiter right behind it are passed
+pub passed_node : (text : List ℕ) (at n : ℕ) (before behind : Flat) → at + n < length text → IsReached text before at → IsLexed (drop at text) (lexed.Word n)
+    → Forms (length text) (opening true) (drop (at + n) text) (drop (at + n + 1) text) → IsNodeBegun before at (take n (drop at text)) behind → IsPassed text behind (at + n + 1)
+passed_node text at n before behind lt reached word bracket begun =
+    let raw = take n (drop at text) in
+    let between = with_leaf before kinds.Word at raw in
+    let named : IsTaken text at before between n = record {
+      token = single tokens.word at raw;
+      forms = single_at text at (omega arith) tokens.word raw n word.0;
+      step = word_begun before behind at raw begun;
+      within = omega arith;
+    } in
+    let opened : IsTaken text (at + n) between behind 1 = record { token = opening true; forms = bracket; step = delimiter_begun before behind at raw begun; within = omega arith } in
+    passed_on text (at + n) 1 between behind (passed_next text at n before between reached named) (ap (prefix_len is_white) bracket.spelled) opened
 
 pub refused_at : (text : List ℕ) (at : ℕ) (table : Flat) (r : RefusedAt) → IsReached text table at → IsStopped text at table r → RefusesText text r.number r.place
 refused_at text at table r reached s = record {

@@ -1,5 +1,5 @@
 -- The open nodes, read from the array.
-use Rattle.std.proofs.Common.{◌≡◌, ℕ, zero, suc, ◌+◌, ◌-◌, ◌≤◌, ◌<◌, Bool, List, [], ◌∷◌, length, get_or, ◌≢◌, refl, ap, arith, get_or-set_same, get_or-set_other}
+use Rattle.std.proofs.Common.{◌≡◌, ℕ, zero, suc, ◌+◌, ◌-◌, ◌≤◌, ◌<◌, Bool, true, List, [], ◌∷◌, length, length-append, get_or, ◌≢◌, refl, ap, arith, get_or-set_same, get_or-set_other}
 use Rattle.std.proofs.Math.ListN.{set, length-set}
 use Rattle.crs_text.specs.declared.table.Open.{Open}
 use Rattle.crs_text.specs.declared.table.Row.{Row}
@@ -52,6 +52,20 @@ roomy_counted n m [] h lt = tt
 roomy_counted n m (o ∷ os) h lt = (omega arith, roomy_more n m os h.1 (omega arith))
 
 pub ruleset held_rules = (held-top, held-none, length-held, held-set_top, held-push, roomy_more, roomy_counted)
+
+pub length-counted : (os : List Open) → length (counted os) ≡ length os
+length-counted [] = refl
+length-counted (o ∷ os) = refl
+
+pub ruleset begun_rules = (length-counted, length-held, length-append)
+
+-- the table still fits once its last row is that of an open node
+pub begun_keeps : (rows : List Row) (os : List Open) (depth row : ℕ) (position : Position) → IsRoomy (record { rows = rows; opens = held depth os; position = position }) →
+    row + 1 ≡ length rows → depth < 12 → length os ≡ 12 →
+    (depth + 1 ≤ 12) × IsRoomy (record { rows = rows; opens = held (depth + 1) (set os depth (record { row = row; square = true; count = 0 })); position = BeforeItem })
+begun_keeps rows os depth row position h last lt twelve =
+    let fits : depth < length os = omega arith in
+    (omega arith, record { opens = rw held-push (omega arith, h.opens); word = λ no. cc })
 
 -- a new open node at the last row
 pub roomy_push : (n m depth : ℕ) (os : List Open) (square : Bool) → AreRoomy n (held depth os) → m ≡ n → 0 < n → depth < length os →

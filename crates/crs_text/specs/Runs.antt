@@ -4,7 +4,6 @@ use Rattle.std.specs.Prelude.{Option, [], IsTrue}
 use Rattle.std.specs.Int.{w64, trailing_zeros}
 use Rattle.std.specs.Char.{is_ascii}
 use Rattle.crs_decimal.specs.Spelling.{Sign, sign_text, fraction_text, fraction_digits, AreDigits, is_digit, is_run_byte}
-use Rattle.crs_text.specs.Tokens.{is_word_byte}
 use Rattle.crs_text.specs.Quoted.{StopsAt, is_plain, is_quote}
 
 -- an ASCII byte that isn't a quote
@@ -23,11 +22,6 @@ IsClosing bytes = (bytes ≡ 34 ∷ drop 1 bytes) × StopsAt is_quote (drop 1 by
 abbrev pub IsOneDigit : List ℕ → Type 0
 IsOneDigit [] = ⊥
 IsOneDigit (b ∷ rest) = IsTrue (is_digit b) × StopsAt is_run_byte rest
-
--- a byte comes first, and then none of a word
-abbrev pub IsOneByte : List ℕ → Type 0
-IsOneByte [] = ⊥
-IsOneByte (b ∷ rest) = StopsAt is_word_byte rest
 
 -- a sign of so many bytes comes first; it has none where none is written
 abbrev pub IsSigned : List ℕ → ℕ → Type 0

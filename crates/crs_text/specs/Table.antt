@@ -44,11 +44,11 @@ abbrev pub held : ℕ → List Open → List Open
 held zero opens = []
 held (suc depth) opens = slice_index_or opens depth no_open ∷ held depth opens
 
--- the row of a single item, with `depth` delimiters open around it
-abbrev pub leaf_row : ItemKind → ℕ → List ℕ → ℕ → Row
-leaf_row kind place raw depth = record {
+-- the row of an item that begins, with `depth` delimiters open around it
+abbrev pub first_row : ItemKind → Bool → ℕ → List ℕ → ℕ → Row
+first_row kind square place raw depth = record {
   kind = kind;
-  square = false;
+  square = square;
   depth = depth;
   place = place;
   length = length raw;
@@ -57,6 +57,10 @@ leaf_row kind place raw depth = record {
   size = 1;
   keyword = keyword_at kind raw;
 }
+
+-- the row of a single item
+abbrev pub leaf_row : ItemKind → ℕ → List ℕ → ℕ → Row
+leaf_row kind place raw depth = first_row kind false place raw depth
 
 -- the kind of item that a single token is
 abbrev pub item_kind : Kind → ItemKind
@@ -90,13 +94,17 @@ abbrev pub counted : List Open → List Open
 counted [] = []
 counted (o ∷ os) = record o { count = o.count + 1 } ∷ os
 
--- the table with a row for a single item, as one argument more
-abbrev pub with_leaf : Flat → ItemKind → ℕ → List ℕ → Flat
-with_leaf f kind place raw = record {
-  rows = f.rows ++ leaf_row kind place raw (length f.opens) ∷ [];
+-- the table with a row for an item that begins, as one argument more
+abbrev pub with_first : Flat → ItemKind → Bool → ℕ → List ℕ → Flat
+with_first f kind square place raw = record {
+  rows = f.rows ++ first_row kind square place raw (length f.opens) ∷ [];
   opens = counted f.opens;
   position = position_after kind;
 }
+
+-- the table with a row for a single item
+abbrev pub with_leaf : Flat → ItemKind → ℕ → List ℕ → Flat
+with_leaf f kind place raw = with_first f kind false place raw
 
 -- the table after a number, a text or a word; none where it isn't allowed
 abbrev pub flat_single : Flat → ItemKind → ℕ → List ℕ → Option Flat
@@ -187,6 +195,20 @@ IsOpened before square Taken behind = flat_open before square ≡ Some behind
 IsOpened before square TooDeep behind =
     (before.position ≡ AfterWord) × (length before.opens ≡ 12) × (behind ≡ before)
 IsOpened before square Refused behind = (before.position ≡ AfterWord → ⊥) × (behind ≡ before)
+
+-- the table with this row as that of an open node with a square delimiter
+abbrev pub with_opened : Flat → ℕ → Flat
+with_opened f row = record {
+  rows = f.rows;
+  opens = record { row = row; square = true; count = 0 } ∷ f.opens;
+  position = BeforeItem;
+}
+
+-- the table takes a word and then a square delimiter
+abbrev pub IsNodeBegun : Flat → ℕ → List ℕ → Flat → Type 0
+IsNodeBegun before place raw behind =
+    (before.position ≡ BeforeItem) × (length before.opens < 12)
+    × (behind ≡ with_opened (with_first before Node true place raw) (length before.rows))
 
 -- the tokens are those of one whole node
 abbrev pub is_whole : Flat → Bool

@@ -5,10 +5,12 @@ ghost use Rattle.crs_text.specs.Quoted.{BeginsWith, IsInside, IsShutAt, StopsAt,
 ghost use Rattle.crs_text.specs.Tokens as tokens;
 ghost use Rattle.crs_decimal.specs.Spelling as spelling;
 ghost use Rattle.crs_text.specs.Lexing.{IsLexed};
-ghost use Rattle.crs_text.specs.Runs.{IsClosing, IsOneByte, IsOneDigit, IsSigned, IsFractional};
+ghost use Rattle.crs_text.specs.Runs.{IsClosing, IsOneDigit, IsSigned, IsFractional};
 
 use crate::refusal::Reason;
-use crate::runs::{digit_length, ends_run, is_digit, plain_ascii_length, run_length, word_length};
+use crate::runs::{
+    digit_length, ends_run, is_digit, letters_length, plain_ascii_length, run_length, word_length,
+};
 use crate::utf8::{Utf8Form, judge};
 use bstr::ByteSlice;
 use crs_decimal::{Decimal, NumberFault};
@@ -260,27 +262,13 @@ pub(crate) fn plain_number_length(left: &[u8]) -> Option<usize>
     }
 }
 
-// Whether one byte comes first, and then one that is behind most words of one letter.
+/// The length of the word that begins what is left, if it is of fewer than sixteen letters alone, as most are.
 #[inline(always)]
-fn is_one_byte(left: &[u8]) -> bool
-    ensures { IsTrue result → IsOneByte left.now }
-{
-    match left {
-        [_, b',' | b'[' | b']', ..] => true,
-        _ => false,
-    }
-}
-
-/// The length of the word that begins what is left.
-#[inline(always)]
-pub(crate) fn single_word_length(left: &[u8]) -> usize
+pub(crate) fn plain_word_length(left: &[u8]) -> Option<usize>
     requires { BeginsWith tokens.is_letter left.now }
-    ensures { IsLexed left.now (Lexed.Word result) }
+    ensures { IfSome result (λ n. IsLexed left.now (Lexed.Word n)) }
 {
-    if is_one_byte(left) {
-        return 1;
-    }
-    word_length(left)
+    letters_length(left)
 }
 
 #[inline(always)]
@@ -288,7 +276,7 @@ fn single_word(left: &[u8]) -> Lexed
     requires { BeginsWith tokens.is_letter left.now }
     ensures { IsLexed left.now result }
 {
-    let length = single_word_length(left);
+    let length = word_length(left);
     Lexed::Word { length }
 }
 

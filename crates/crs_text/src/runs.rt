@@ -1,5 +1,5 @@
 //! How far runs of bytes go, sixteen bytes at a time.
-ghost use Rattle.std.specs.Prelude.{◌≡◌, ◌≤◌, length, IsTrue};
+ghost use Rattle.std.specs.Prelude.{◌≡◌, ◌≤◌, length, IsTrue, IsFalse, IfSome};
 ghost use Rattle.std.specs.List.{prefix_len};
 ghost use Rattle.crs_text.specs.Quoted.{StopsAt};
 ghost use Rattle.crs_text.specs.Runs.{first_set, is_plain_ascii};
@@ -78,6 +78,14 @@ fn word_lanes(block: u8x16) -> usize
 }
 
 #[inline(always)]
+fn letter_lanes(block: u8x16) -> usize
+    ensures { result ≡ prefix_len tokens.is_letter block }
+{
+    let letters = (block | u8x16::splat(0x20)) - u8x16::splat(b'a');
+    first_set(letters.simd_ge(u8x16::splat(26)).to_bitmask())
+}
+
+#[inline(always)]
 fn run_lanes(block: u8x16) -> usize
     ensures { result ≡ prefix_len spelling.is_run_byte block }
 {
@@ -139,6 +147,36 @@ fn last_plain_ascii_length(left: &[u8]) -> usize
     ensures { result ≡ prefix_len is_plain_ascii left.now }
 {
     left.iter().take_while(|b| is_plain_ascii(**b)).count()
+}
+
+#[inline(always)]
+fn ends_word(byte: u8) -> bool
+    ensures { IsTrue result → IsFalse (tokens.is_word_byte byte) }
+{
+    match byte {
+        // Most words end at one of these.
+        b'[' | b',' => true,
+        _ => !is_word_byte(byte),
+    }
+}
+
+/// How many bytes of a word come first, if they are fewer than sixteen and letters alone.
+#[inline(always)]
+pub(crate) fn letters_length(left: &[u8]) -> Option<usize>
+    ensures { IfSome result (λ n. n ≡ prefix_len tokens.is_word_byte left.now) }
+{
+    if left.len() < LANES {
+        return None;
+    }
+    let count = letter_lanes(u8x16::from_slice(left));
+    if count >= LANES {
+        return None;
+    }
+    if ends_word(left[count]) {
+        Some(count)
+    } else {
+        None
+    }
 }
 
 /// How many bytes of a word come first.

@@ -1,6 +1,8 @@
 //! One pass over the text: each token is found, and the table takes it or refuses it.
 ghost use Rattle.std.specs.Prelude.{◌≡◌, ◌+◌, ◌≤◌, ◌<◌, ◌∷◌, length, drop, true, MatchResult, MatchBool};
-ghost use Rattle.crs_text.specs.Tokens.{Forms, comma, opening, closing, is_white};
+ghost use Rattle.std.specs.Prelude.{IsTrue};
+ghost use Rattle.crs_text.specs.Tokens.{Forms, comma, opening, closing, is_letter, is_white};
+ghost use Rattle.crs_text.specs.Quoted.{BeginsWith};
 ghost use Rattle.std.specs.List.{prefix_len};
 ghost use Rattle.crs_text.specs.TextFault.{reason_number, IsFlaw, IsTextFault};
 ghost use Rattle.crs_text.specs.Scan.{IsReached, IsPassed, IsTaken, IsStoppedBy, IsSingleAt, IsScanned};
@@ -14,10 +16,10 @@ use crate::fault::Fault;
 use crate::items::ItemKind;
 use crate::keyword::{Keyword, front_keyword};
 use crate::lexing::{
-    Lexed, front_of, plain_number_length, plain_text_length, rest_of, single_word_length, token_at,
+    Lexed, front_of, plain_number_length, plain_text_length, plain_word_length, rest_of, token_at,
 };
 use crate::refusal::Reason;
-use crate::runs::{is_letter, is_white, white_length};
+use crate::runs::{is_digit, is_letter, is_white, white_length};
 use crate::table::{Opened, Table};
 
 fn unexpected(at: usize) -> Fault
@@ -201,111 +203,6 @@ pub(crate) fn take_lexed(
     }
 }
 
-// The token at this place, if the table takes it, whatever it is.
-#[inline(never)]
-fn take_any(table: &mut Table, text: &[u8], at: usize, taken: &mut usize) -> Result<(), Fault>
-    requires { at < length text.now }
-    ensures { MatchResult result (λ _. IsTaken text.now at table.old table.new taken.new)
-        (IsStoppedBy text.now at table.old) }
-{
-    take_lexed(table, text, at, token_at(rest_of(text, at)), taken)
-}
-
-// The same with a count of its own, so that the count of common tokens can stay in a register.
-#[inline(always)]
-fn take_other(table: &mut Table, text: &[u8], at: usize, taken: &mut usize) -> Result<(), Fault>
-    requires { at < length text.now }
-    ensures { MatchResult result (λ _. IsTaken text.now at table.old table.new taken.new)
-        (IsStoppedBy text.now at table.old) }
-{
-    let mut count = 0;
-    match take_any(table, text, at, &mut count) {
-        Ok(()) => {
-            *taken = count;
-            Ok(())
-        }
-        Err(fault) => Err(fault),
-    }
-}
-
-#[inline(always)]
-fn take_quoted(table: &mut Table, text: &[u8], at: usize, taken: &mut usize) -> Result<(), Fault>
-    requires within { at < length text.now }
-    requires quote { drop at text.now ≡ 34 ∷ drop 1 (drop at text.now) }
-    ensures { MatchResult result (λ _. IsTaken text.now at table.old table.new taken.new)
-        (IsStoppedBy text.now at table.old) }
-{
-    match plain_text_length(rest_of(text, at)) {
-        Some(count) => take_text(table, text, at, count, taken),
-        None => take_other(table, text, at, taken),
-    }
-}
-
-#[inline(always)]
-fn take_run(table: &mut Table, text: &[u8], at: usize, taken: &mut usize) -> Result<(), Fault>
-    requires { at < length text.now }
-    ensures { MatchResult result (λ _. IsTaken text.now at table.old table.new taken.new)
-        (IsStoppedBy text.now at table.old) }
-{
-    match plain_number_length(rest_of(text, at)) {
-        Some(count) => take_number(table, text, at, count, taken),
-        None => take_other(table, text, at, taken),
-    }
-}
-
-// What often comes right behind a token, and is then taken with it.
-#[derive(Clone, Copy)]
-enum Behind {
-    Nothing,
-    Comma,
-    OpeningOrComma,
-}
-
-// The token at this place, if the table takes it: by tests in a row, which are predicted better than one jump to many
-// places, and without telling what it is before it is taken. `behind` is a hint.
-#[inline(always)]
-fn take_token(
-    table: &mut Table,
-    text: &[u8],
-    at: usize,
-    taken: &mut usize,
-    behind: &mut Behind,
-) -> Result<(), Fault>
-    requires { at < length text.now }
-    ensures { MatchResult result (λ _. IsTaken text.now at table.old table.new taken.new)
-        (IsStoppedBy text.now at table.old) }
-{
-    let first = text[at];
-    if first == b'"' {
-        *behind = Behind::Comma;
-        return take_quoted(table, text, at, taken);
-    }
-    if is_letter(first) {
-        *behind = Behind::OpeningOrComma;
-        let count = single_word_length(rest_of(text, at));
-        return take_word(table, text, at, count, taken);
-    }
-    if first == b']' {
-        *behind = Behind::Comma;
-        return take_closing(table, text, at, true, taken);
-    }
-    if first == b',' {
-        return take_comma(table, text, at, taken);
-    }
-    if first == b'(' {
-        return take_opening(table, text, at, false, taken);
-    }
-    if first == b')' {
-        *behind = Behind::Comma;
-        return take_closing(table, text, at, false, taken);
-    }
-    if first == b'[' {
-        return take_opening(table, text, at, true, taken);
-    }
-    *behind = Behind::Comma;
-    take_run(table, text, at, taken)
-}
-
 /// Where the white space that begins at `end` has an end.
 #[inline(always)]
 pub(crate) fn after_white(text: &[u8], end: usize) -> usize
@@ -331,19 +228,6 @@ fn takes_comma(table: &mut Table, text: &[u8], at: usize) -> bool
     table.comma()
 }
 
-#[inline(always)]
-fn takes_opening(table: &mut Table, text: &[u8], at: usize) -> bool
-    requires within { at < length text.now }
-    requires forms { Forms (length text.now) (opening true) (drop at text.now) (drop (at + 1) text.now) }
-    ensures { MatchBool result (IsTaken text.now at table.old table.new 1) (table.new ≡ table.old) }
-{
-    match table.open(true) {
-        Opened::Taken => true,
-        Opened::TooDeep => false,
-        Opened::Refused => false,
-    }
-}
-
 // The place behind a comma that comes here, if the table takes it.
 #[inline(always)]
 fn past_comma(table: &mut Table, text: &[u8], at: usize) -> usize
@@ -364,63 +248,211 @@ fn past_comma(table: &mut Table, text: &[u8], at: usize) -> usize
     }
 }
 
-// The place behind a square delimiter or a comma that comes here, if the table takes it.
+// Moves the place past a token of so many bytes that was taken, and past a comma right behind it and white space.
 #[inline(always)]
-fn past_opening(table: &mut Table, text: &[u8], at: usize) -> usize
-    requires { IsPassed text.now table.old at }
-    ensures passed { IsPassed text.now table.new result }
-    ensures further { at ≤ result }
+fn go_on(table: &mut Table, text: &[u8], at: &mut usize, taken: usize)
+    requires { IsPassed text.now table.old (at.old + taken) }
+    ensures reached { IsReached text.now table.new at.new }
+    ensures further { at.old + taken ≤ at.new }
 {
-    if at == text.len() {
-        return at;
-    }
-    if text[at] != b'[' {
-        return past_comma(table, text, at);
-    }
-    if takes_opening(table, text, at) {
-        at + 1
-    } else {
-        at
-    }
+    let end = past_comma(table, text, *at + taken);
+    *at = after_white(text, end);
 }
 
+// Takes this token, which begins here, and a comma right behind it; moves the place past them and white space. What it
+// is is known where this is called, so that each kind has code of its own.
 #[inline(always)]
-fn past(table: &mut Table, text: &[u8], at: usize, behind: Behind) -> usize
-    requires { IsPassed text.now table.old at }
-    ensures passed { IsPassed text.now table.new result }
-    ensures further { at ≤ result }
-{
-    match behind {
-        Behind::Nothing => at,
-        Behind::Comma => past_comma(table, text, at),
-        Behind::OpeningOrComma => past_opening(table, text, at),
-    }
-}
-
-/// Takes the token at this place, and a comma or a delimiter right behind it; moves the place past them and white space.
-#[inline(always)]
-pub(crate) fn advance(table: &mut Table, text: &[u8], at: &mut usize) -> Result<(), Fault>
+fn pass(table: &mut Table, text: &[u8], at: &mut usize, lexed: Lexed) -> Result<(), Fault>
     requires more { at.old < length text.now }
     requires reached { IsReached text.now table.old at.old }
+    requires lexed { IsLexed (drop at.old text.now) lexed }
     ensures { MatchResult result
         (λ _. IsReached text.now table.new at.new × (at.old < at.new))
         (IsTextFault text.now) }
 {
-    let start = *at;
     let mut taken = 0;
-    let mut behind = Behind::Nothing;
-    match take_token(table, text, start, &mut taken, &mut behind) {
+    match take_lexed(table, text, *at, lexed, &mut taken) {
         Ok(()) => {
-            let end = past(table, text, start + taken, behind);
-            *at = after_white(text, end);
+            go_on(table, text, at, taken);
             Ok(())
         }
         Err(fault) => Err(fault),
     }
 }
 
-/// Reads the rest of the text, from this place on: Ok where all its tokens are one whole node.
-pub(crate) fn scan_from(table: &mut Table, text: &[u8], from: usize) -> Result<(), Fault>
+// Whatever is here.
+#[inline(never)]
+fn pass_any(table: &mut Table, text: &[u8], at: &mut usize) -> Result<(), Fault>
+    requires more { at.old < length text.now }
+    requires reached { IsReached text.now table.old at.old }
+    ensures { MatchResult result
+        (λ _. IsReached text.now table.new at.new × (at.old < at.new))
+        (IsTextFault text.now) }
+{
+    let lexed = token_at(rest_of(text, *at));
+    pass(table, text, at, lexed)
+}
+
+// The same with a place and an answer of its own, so that those of the common tokens can stay in registers.
+#[inline(always)]
+fn pass_else(table: &mut Table, text: &[u8], at: &mut usize) -> Result<(), Fault>
+    requires more { at.old < length text.now }
+    requires reached { IsReached text.now table.old at.old }
+    ensures { MatchResult result
+        (λ _. IsReached text.now table.new at.new × (at.old < at.new))
+        (IsTextFault text.now) }
+{
+    let mut place = *at;
+    match pass_any(table, text, &mut place) {
+        Ok(()) => {
+            *at = place;
+            Ok(())
+        }
+        Err(fault) => Err(fault),
+    }
+}
+
+#[inline(always)]
+fn pass_quoted(table: &mut Table, text: &[u8], at: &mut usize) -> Result<(), Fault>
+    requires more { at.old < length text.now }
+    requires reached { IsReached text.now table.old at.old }
+    requires quote { drop at.old text.now ≡ 34 ∷ drop 1 (drop at.old text.now) }
+    ensures { MatchResult result
+        (λ _. IsReached text.now table.new at.new × (at.old < at.new))
+        (IsTextFault text.now) }
+{
+    match plain_text_length(rest_of(text, *at)) {
+        Some(length) => pass(table, text, at, Lexed::Text { length }),
+        None => pass_else(table, text, at),
+    }
+}
+
+#[inline(always)]
+fn pass_number(table: &mut Table, text: &[u8], at: &mut usize) -> Result<(), Fault>
+    requires more { at.old < length text.now }
+    requires reached { IsReached text.now table.old at.old }
+    ensures { MatchResult result
+        (λ _. IsReached text.now table.new at.new × (at.old < at.new))
+        (IsTextFault text.now) }
+{
+    match plain_number_length(rest_of(text, *at)) {
+        Some(length) => pass(table, text, at, Lexed::Number { length }),
+        None => pass_else(table, text, at),
+    }
+}
+
+// Whether a square delimiter comes here.
+#[inline(always)]
+fn is_opening(text: &[u8], at: usize) -> bool
+    requires { at ≤ length text.now }
+    ensures { IsTrue result → (at < length text.now)
+        × Forms (length text.now) (opening true) (drop at text.now) (drop (at + 1) text.now) }
+{
+    if at == text.len() {
+        return false;
+    }
+    text[at] == b'['
+}
+
+// A word of so many bytes at this place with the square delimiter right behind it.
+#[inline(always)]
+fn pass_node(table: &mut Table, text: &[u8], at: &mut usize, count: usize) -> Result<(), Fault>
+    requires within { at.old + count < length text.now }
+    requires reached { IsReached text.now table.old at.old }
+    requires lexed { IsLexed (drop at.old text.now) (Lexed.Word count) }
+    requires opening { Forms (length text.now) (opening true) (drop (at.old + count) text.now)
+        (drop (at.old + count + 1) text.now) }
+    ensures { MatchResult result
+        (λ _. IsReached text.now table.new at.new × (at.old < at.new))
+        (IsTextFault text.now) }
+{
+    let start = *at;
+    let left = rest_of(text, start);
+    let keyword = front_keyword(left, count);
+    match table.node(start, front_of(left, count), keyword) {
+        Ok(true) => {
+            *at = after_white(text, start + count + 1);
+            Ok(())
+        }
+        Ok(false) => pass_else(table, text, at),
+        Err(refused) => Err(Fault::Memory(refused)),
+    }
+}
+
+// A word of so many bytes at this place.
+#[inline(always)]
+fn pass_letters(table: &mut Table, text: &[u8], at: &mut usize, count: usize) -> Result<(), Fault>
+    requires more { at.old < length text.now }
+    requires reached { IsReached text.now table.old at.old }
+    requires lexed { IsLexed (drop at.old text.now) (Lexed.Word count) }
+    ensures { MatchResult result
+        (λ _. IsReached text.now table.new at.new × (at.old < at.new))
+        (IsTextFault text.now) }
+{
+    if is_opening(text, *at + count) {
+        pass_node(table, text, at, count)
+    } else {
+        pass(table, text, at, Lexed::Word { length: count })
+    }
+}
+
+// A word at this place: most begin a node.
+#[inline(always)]
+fn pass_word(table: &mut Table, text: &[u8], at: &mut usize) -> Result<(), Fault>
+    requires more { at.old < length text.now }
+    requires reached { IsReached text.now table.old at.old }
+    requires letter { BeginsWith is_letter (drop at.old text.now) }
+    ensures { MatchResult result
+        (λ _. IsReached text.now table.new at.new × (at.old < at.new))
+        (IsTextFault text.now) }
+{
+    match plain_word_length(rest_of(text, *at)) {
+        Some(length) => pass_letters(table, text, at, length),
+        None => pass_else(table, text, at),
+    }
+}
+
+// Takes the token at this place, and a comma or a delimiter right behind it; moves the place past them and white space.
+// By tests in a row, which are predicted better than one jump to many places.
+#[inline(always)]
+fn advance(table: &mut Table, text: &[u8], at: &mut usize) -> Result<(), Fault>
+    requires more { at.old < length text.now }
+    requires reached { IsReached text.now table.old at.old }
+    ensures { MatchResult result
+        (λ _. IsReached text.now table.new at.new × (at.old < at.new))
+        (IsTextFault text.now) }
+{
+    let first = text[*at];
+    if first == b'"' {
+        return pass_quoted(table, text, at);
+    }
+    if first == b']' {
+        return pass(table, text, at, Lexed::Closing { square: true });
+    }
+    if is_letter(first) {
+        return pass_word(table, text, at);
+    }
+    if is_digit(first) {
+        return pass_number(table, text, at);
+    }
+    if first == b',' {
+        return pass(table, text, at, Lexed::Comma);
+    }
+    if first == b'(' {
+        return pass(table, text, at, Lexed::Opening { square: false });
+    }
+    if first == b')' {
+        return pass(table, text, at, Lexed::Closing { square: false });
+    }
+    if first == b'[' {
+        return pass(table, text, at, Lexed::Opening { square: true });
+    }
+    pass_number(table, text, at)
+}
+
+// Reads the last bytes of the text, from this place on: Ok where all tokens are one whole node.
+#[inline(never)]
+fn scan_last(table: &mut Table, text: &[u8], from: usize) -> Result<(), Fault>
     requires { IsReached text.now table.old from }
     ensures { MatchResult result
         (λ _. IsScanned text.now table.new)
@@ -435,6 +467,23 @@ pub(crate) fn scan_from(table: &mut Table, text: &[u8], from: usize) -> Result<(
     } else {
         Err(Fault::Refused(Reason::UnexpectedEnd.at(text.len())))
     }
+}
+
+// With so many bytes left a token's first bytes are looked at with no further test for the end of the text.
+const ROOM: usize = 32;
+
+/// Reads the rest of the text, from this place on: Ok where all its tokens are one whole node.
+pub(crate) fn scan_from(table: &mut Table, text: &[u8], from: usize) -> Result<(), Fault>
+    requires { IsReached text.now table.old from }
+    ensures { MatchResult result
+        (λ _. IsScanned text.now table.new)
+        (IsTextFault text.now) }
+{
+    let mut at = from;
+    while text.len() - at >= ROOM {
+        advance(table, text, &mut at)?;
+    }
+    scan_last(table, text, at)
 }
 
 /// Reads the text into the table: Ok where its tokens are one whole node.

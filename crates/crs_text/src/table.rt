@@ -1,9 +1,10 @@
-ghost use Rattle.std.specs.Prelude.{◌≡◌, ◌+◌, ◌-◌, ◌<◌, ◌≤◌, ◌&&◌, true, IsSome, IfOk, OnOk, OnErr};
+ghost use Rattle.std.specs.Prelude.{◌≡◌, ◌+◌, ◌-◌, ◌<◌, ◌≤◌, ◌&&◌, true, IsSome, IfOk, OnOk, OnErr, MatchBool};
 ghost use Rattle.std.specs.Prelude.{[], length};
-ghost use Rattle.crs_text.specs.Table.{position_after, may_begin, with_leaf};
+ghost use Rattle.crs_text.specs.Table.{position_after, may_begin, with_first, with_opened};
 ghost use Rattle.crs_text.specs.Table.{flat_single, may_go_on, flat_comma, with_open, has_square};
-ghost use Rattle.crs_text.specs.Table.{with_close, flat_close, IsStep, IsOpened, is_whole};
+ghost use Rattle.crs_text.specs.Table.{with_close, flat_close, IsStep, IsOpened, IsNodeBegun, is_whole};
 ghost use Rattle.crs_text.specs.Items.{keyword_at};
+ghost use Rattle.crs_text.specs.Keywords.{keyword_of};
 ghost use Rattle.crs_text.specs.State.{start};
 ghost use Rattle.crs_text.specs.declared.table.Position.TheVariants.{AfterWord};
 ghost use Rattle.crs_text.specs.Rows.{flat};
@@ -132,25 +133,25 @@ impl Table {
         }
     }
 
-    // A number, text or word that is allowed.
+    // A number, a text, a word, or a node by its word and its delimiter.
     #[tactic(auto, using(crate::proofs::TableLemmas::held_rules))]
     #[inline(always)]
     fn begin(
         &mut self,
         kind: ItemKind,
+        square: bool,
         place: usize,
         raw: &[u8],
         keyword: Option<Keyword>,
     ) -> Result<(), AllocError>
-        requires allowed { may_begin self.old.position self.old.opens kind ≡ true }
-        requires keyword { keyword ≡ keyword_at kind raw.now }
-        ensures ok { OnOk result (self.new ≡ with_leaf self.old kind place raw.now) }
+        requires { keyword ≡ keyword_at kind raw.now }
+        ensures ok { OnOk result (self.new ≡ with_first self.old kind square place raw.now) }
         ensures err { OnErr result (self.new ≡ self.old) }
     {
         let depth = self.depth;
         self.rows.push(Row {
             kind,
-            square: false,
+            square,
             depth: depth as u32,
             place,
             length: raw.len(),
@@ -182,7 +183,7 @@ impl Table {
         if !self.may_begin(kind) {
             return Ok(false);
         }
-        self.begin(kind, place, raw, keyword)?;
+        self.begin(kind, false, place, raw, keyword)?;
         Ok(true)
     }
 
@@ -244,6 +245,48 @@ impl Table {
         }
         self.open_last(square);
         Opened::Taken
+    }
+
+    // The last row, which is a node's, is that of an open node.
+    #[tactic(auto, using(crate::proofs::TableLemmas::held_rules))]
+    #[inline(always)]
+    fn open_begun(&mut self, row: usize)
+        requires last { row + 1 ≡ length self.old.rows }
+        requires room { length self.old.opens < 12 }
+        ensures { self.new ≡ with_opened self.old row }
+    {
+        let open = &mut self.opens[self.depth];
+        open.row = row;
+        open.count = 0;
+        open.square = true;
+        self.depth += 1;
+        self.position = Position::BeforeItem;
+    }
+
+    /// A word, the keyword that it is, and a square delimiter right behind it: whether both are allowed, and then the
+    /// row of a node is there. It is made at once, not a word's row first.
+    #[tactic(auto, using(crate::proofs::TableLemmas::begun_rules))]
+    #[inline(always)]
+    pub(crate) fn node(
+        &mut self,
+        place: usize,
+        raw: &[u8],
+        keyword: Option<Keyword>,
+    ) -> Result<bool, AllocError>
+        requires { keyword ≡ keyword_of raw.now }
+        ensures { IfOk result (λ taken. MatchBool taken (IsNodeBegun self.old place raw.now self.new)
+            (self.new ≡ self.old)) }
+    {
+        if self.position != Position::BeforeItem {
+            return Ok(false);
+        }
+        if self.depth == LIMIT {
+            return Ok(false);
+        }
+        let row = self.rows.len();
+        self.begin(ItemKind::Node, true, place, raw, keyword)?;
+        self.open_begun(row);
+        Ok(true)
     }
 
     fn may_close(&self, square: bool) -> bool

@@ -1,4 +1,4 @@
-use Rattle.std.proofs.Common.{None, refl, ap, ◌∙◌, drop}
+use Rattle.std.proofs.Common.{None, refl, ap, ◌∙◌}
 use Rattle.std.specs.List.{prefix_len}
 use Rattle.crs_decimal.specs.Spelling.{is_digit}
 use Rattle.crs_text.proofs.PlainNumberLemmas.{fraction_front}

@@ -1,4 +1,4 @@
-use Rattle.std.proofs.Common.{refl, ap, ◌∙◌, drop, subst, arith}
+use Rattle.std.proofs.Common.{ap, ◌∙◌, drop, subst, arith}
 use Rattle.std.specs.List.{prefix_len}
 use Rattle.crs_decimal.specs.Spelling.{is_digit, is_run_byte}
 use Rattle.crs_text.specs.Quoted.{StopsAt}

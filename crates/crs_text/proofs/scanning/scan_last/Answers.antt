@@ -1,6 +1,6 @@
 use Rattle.std.proofs.Common.{sym, ◌∙◌}
 use Rattle.crs_text.proofs.ScanLemmas.{refused_end, spelled_whole}
-use Rattle.crs_text.proofs.scanning.scan_from.Goals as goal
+use Rattle.crs_text.proofs.scanning.scan_last.Goals as goal
 
 pub returns-then-is_whole : goal.returns-then-is_whole
 returns-then-is_whole c =

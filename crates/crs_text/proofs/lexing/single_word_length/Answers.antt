@@ -1,5 +1,0 @@
-use Rattle.crs_text.proofs.LexedLemmas.{lexed_word}
-use Rattle.crs_text.proofs.lexing.single_word_length.Goals as goal
-
-pub returns : goal.returns
-returns c = lexed_word c.args.left.now c.word_length.result c.word_length.ensures c.requires
