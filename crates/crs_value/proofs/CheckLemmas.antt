@@ -49,7 +49,7 @@ checked-on B tree parent c whole least next one id at so here-least is found =
           subst P (sym is) (least-more B so.done (item_at tree id) least one so.is_least here-least);
     }
 
-append-none : (list : List Item) → list ++ [] ≡ list
+pub append-none : (list : List Item) → list ++ [] ≡ list
 append-none [] = refl
 append-none (v ∷ list) = ap (λ vs. v ∷ vs) (append-none list)
 

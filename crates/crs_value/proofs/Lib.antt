@@ -1,4 +1,5 @@
 pub mod ArgumentLemmas
+pub mod AxesLemmas
 pub mod BreakLemmas
 pub mod CheckLemmas
 pub mod ComponentLemmas

@@ -15,7 +15,7 @@ use crs_shape::{Class, Direction, SystemType, UnitKind};
 use crs_text::{ItemId, Items, Refusal};
 
 // The direction of an axis; None where its word is no direction.
-fn direction_of(items: &Items<'_>, axis: ItemId) -> Option<Direction>
+pub(crate) fn direction_of(items: &Items<'_>, axis: ItemId) -> Option<Direction>
     requires has { HasId items.now axis }
     requires shaped { Shaped Class.Axis (item_at items.now axis) }
     ensures { IsReading (ReadsFirst ReadsDirection (those Class.Axis Class.Word (arguments

@@ -72,7 +72,7 @@ const NOWHERE: Places = Places {
 };
 
 // No axis was seen yet.
-const NONE: Axes = Axes {
+pub(crate) const NONE: Axes = Axes {
     count: 0,
     places: Some(NOWHERE),
     orderless: true,
@@ -256,7 +256,7 @@ fn same_kind(a: UnitKind, b: UnitKind) -> bool
 }
 
 // One axis more.
-fn noted(items: &Items<'_>, system_type: SystemType, seen: Seen, axes: Axes) -> Axes
+pub(crate) fn noted(items: &Items<'_>, system_type: SystemType, seen: Seen, axes: Axes) -> Axes
     requires order { IsShaped items.now Class.Order seen.order }
     requires unit { IsShaped items.now Class.AxisUnit seen.unit }
     requires bound { axes.count + 1 < 2 ^ 64 }
@@ -286,7 +286,7 @@ fn noted(items: &Items<'_>, system_type: SystemType, seen: Seen, axes: Axes) -> 
 }
 
 // No CRS has more axes.
-const MOST: usize = 3;
+pub(crate) const MOST: usize = 3;
 
 // The axes from this one on; None where this one isn't clean, or where there are more than a CRS has.
 pub(crate) fn run_of(items: &Items<'_>, first: ItemId, system_type: SystemType) -> Option<Run>

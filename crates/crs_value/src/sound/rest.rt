@@ -64,7 +64,7 @@ fn is_within(most: usize, count: usize) -> bool
 }
 
 // Whether the orders of the axes fit one another.
-fn is_ordered(axes: Axes) -> bool
+pub(crate) fn is_ordered(axes: Axes) -> bool
     ensures { IsTrue result → AreOrdered axes }
 {
     if axes.orderless {
@@ -88,7 +88,7 @@ fn fits_all(items: &Items<'_>, unit: ItemId, all: bool, kind: UnitKind) -> bool
 }
 
 // Whether the units of the axes fit, with the one that they share.
-fn units_fit(items: &Items<'_>, axes: Axes, shared: Option<ItemId>) -> bool
+pub(crate) fn units_fit(items: &Items<'_>, axes: Axes, shared: Option<ItemId>) -> bool
     requires { Holds items.now shared }
     ensures { IsTrue result → UnitsFit items.now axes shared }
 {

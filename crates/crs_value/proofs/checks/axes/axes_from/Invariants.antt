@@ -1,0 +1,11 @@
+use Rattle.std.proofs.Common.{length}
+use Rattle.crs_shape.specs.declared.class.Class.TheVariants as class
+use Rattle.crs_value.specs.FoundArguments.{from_found}
+use Rattle.crs_value.proofs.AxesLemmas.{Noting}
+use Rattle.crs_value.proofs.checks.axes.axes_from.Given as goal
+
+abbrev pub invariant-loop-at : goal.invariant-loop-at
+invariant-loop-at l = Noting l.items l.class l.system_type (from_found l.items l.class class.Axis l.fn.from) l.axes l.at
+
+abbrev pub decreases-loop-at : goal.decreases-loop-at
+decreases-loop-at l = length (from_found l.items l.class class.Axis l.at)
