@@ -168,7 +168,8 @@ fn is_known(items: &Items<'_>, id: ItemId) -> bool
     known_by(items.keyword(id))
 }
 
-fn misplaced(items: &Items<'_>, id: ItemId) -> Refusal
+/// The refusal of an item that isn't allowed where it is: 11 if it is a node whose keyword is unknown, else 12. Profile.
+pub fn misplaced(items: &Items<'_>, id: ItemId) -> Refusal
     requires { HasId items.now id }
     ensures { result ≡ misplaced (first_of (here items.now id)) }
 {

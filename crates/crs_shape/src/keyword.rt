@@ -7,16 +7,14 @@ ghost use Rattle.crs_shape.specs.Shape.{has_class};
 
 use crate::class::Class;
 use crate::keyword_classes::classes_by;
-use crate::rows::rows;
+use crate::rows::{row, rows};
 use crate::slot::has;
 use crs_text::{Keyword, laws};
 
 // the keywords of a class
 macro_rules! keywords_of {
-    ($class:expr; $($($of:ident[$($keyword:ident),*]),+ { $($count:ident($($part:ident),+))* })*) => {
-        match $class {
-            $($(Class::$of => &[$(Keyword::$keyword),*],)+)*
-        }
+    (() [$($keyword:ident),*] $($count:ident($($part:ident),+))*) => {
+        &[$(Keyword::$keyword),*]
     };
 }
 

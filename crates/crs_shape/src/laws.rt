@@ -1,5 +1,5 @@
 //! The laws of shapes.
-ghost use Rattle.std.specs.Prelude.{◌≡◌, ◌<◌, ◌≤◌, ◌↔◌, ◌⊎◌, ℕ, Bool, IsTrue, List, Some, length};
+ghost use Rattle.std.specs.Prelude.{◌≡◌, ◌<◌, ◌≤◌, ◌↔◌, ◌⊎◌, ℕ, Bool, IsTrue, List, None, Some, length};
 ghost use Rattle.std.specs.List.{find};
 ghost use Rattle.crs_text.specs.Items.{Item, HasId, first_of, here, kind_of_item, keyword_in};
 ghost use Rattle.crs_text.specs.Refusal.{RefusedAt};
@@ -8,10 +8,11 @@ ghost use Rattle.crs_shape.specs.declared.class.Class.{Class};
 ghost use Rattle.crs_shape.specs.Counts.{how_many, least, most, is_bounded};
 ghost use Rattle.crs_shape.specs.Expected.{ExpectedParts, ExpectedAtRoot};
 ghost use Rattle.crs_shape.specs.FaultPlace.{IsPlaceIn, IsShapeNumber};
+ghost use Rattle.crs_shape.specs.FirstFault.{first_inside};
 ghost use Rattle.crs_shape.specs.KeywordTable.{classes_by, is_among, is_part};
 ghost use Rattle.crs_shape.specs.RefusedItem.{AreAlike, IsRefusedThere};
 ghost use Rattle.crs_shape.specs.Shape.{Allowed, AllFilled, joined, is_apart};
-ghost use Rattle.crs_shape.specs.ShapeFault.{IsFree, Inside, AtRoot, class_in, class_of_root, is_of};
+ghost use Rattle.crs_shape.specs.ShapeFault.{IsFree, IsOnly, Inside, AtRoot, class_in, class_of_root, is_of};
 ghost use Rattle.crs_shape.specs.Shaped.{Shaped};
 ghost use Rattle.crs_shape.specs.Slots.{SlotParts, slots_of};
 
@@ -33,6 +34,16 @@ pub fn fits_one_way()
 /// list, each without a fault.
 pub fn no_fault_is_shape()
     ensures { (class : Class) (item : Item) → IsFree (Inside class item) ↔ Shaped class item }
+{}
+
+/// What a walk over the slots finds first is the one fault of an item, and an item in which it finds none is shaped; an
+/// item of a class in its parent is one that may have that class.
+pub fn walk_finds_the_fault()
+    ensures none { (class : Class) (item : Item) → first_inside class item ≡ None → Shaped class item }
+    ensures some { (class : Class) (item : Item) (fault : RefusedAt) → first_inside class item ≡ Some fault →
+        IsOnly (Inside class item) fault }
+    ensures named { (parent : Class) (class : Class) (item : Item) → class_in parent item ≡ Some class →
+        IsTrue (is_of class item) }
 {}
 
 /// In a parent the keyword of a node names the first of the classes that have it and are allowed there, and a node is

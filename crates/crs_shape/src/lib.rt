@@ -23,7 +23,7 @@ pub use class::Class;
 pub use direction::Direction;
 pub use expectation::{Expected, classes};
 pub use expecting::expected;
-pub use fitting::{class_at_root, class_in, fit, fit_root};
+pub use fitting::{class_at_root, class_in, fit, fit_root, misplaced};
 pub use keyword::{keywords, known, root_class};
 pub use near::nearest;
 pub use seeking::{Sought, stands_as};

@@ -6,14 +6,12 @@ ghost use Rattle.crs_shape.specs.KeywordTable.{is_part, argument_classes};
 
 use crate::class::Class;
 use crate::class_set::{ClassSet, set};
-use crate::rows::rows;
+use crate::rows::{row, rows};
 
 // the classes of a class's slots
 macro_rules! parts_of {
-    ($class:expr; $($($of:ident[$($keyword:ident),*]),+ { $($count:ident($($part:ident),+))* })*) => {
-        match $class {
-            $($(Class::$of)|+ => set!($($($part),+),*),)*
-        }
+    (() [$($keyword:ident),*] $($count:ident($($part:ident),+))*) => {
+        set!($($($part),+),*)
     };
 }
 

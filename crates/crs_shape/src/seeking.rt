@@ -7,7 +7,7 @@ ghost use Rattle.crs_shape.specs.Slots.{is_class};
 ghost use Rattle.crs_shape.specs.Sought.{kind_for};
 
 use crate::class::Class;
-use crate::rows::rows;
+use crate::rows::{row, rows};
 use crate::table::{class_by, is_class};
 use crs_text::{ItemId, ItemKind, Items, Keyword, laws};
 use std::marker::Model;
@@ -117,10 +117,8 @@ impl KeywordSet {
 
 // the sets of the keywords of classes
 macro_rules! keyword_sets {
-    ($class:expr; $($($of:ident[$($keyword:ident),*]),+ { $($count:ident($($part:ident),+))* })*) => {
-        match $class {
-            $($(Class::$of => KeywordSet { bits: 0 $(| 1 << Keyword::$keyword as u64)* },)+)*
-        }
+    (() [$($keyword:ident),*] $($count:ident($($part:ident),+))*) => {
+        KeywordSet { bits: 0 $(| 1 << Keyword::$keyword as u64)* }
     };
 }
 

@@ -10,7 +10,7 @@ use crate::class_set::{ClassSet, set};
 use crate::keyword::has_keyword;
 use crate::keyword_classes::classes_by;
 use crate::part::is_part;
-use crate::rows::rows;
+use crate::rows::{row, rows};
 use crate::slot::Slot;
 use crs_text::{Keyword, laws};
 
@@ -32,10 +32,8 @@ macro_rules! slot {
 
 // the slots of a class
 macro_rules! slots_of {
-    ($class:expr; $($($of:ident[$($keyword:ident),*]),+ { $($count:ident($($part:ident),+))* })*) => {
-        match $class {
-            $($(Class::$of)|+ => &[$(slot!($count, $($part),+)),*],)*
-        }
+    (() [$($keyword:ident),*] $($count:ident($($part:ident),+))*) => {
+        &[$(slot!($count, $($part),+)),*]
     };
 }
 
