@@ -11,10 +11,13 @@ pub mod EitherLemmas
 pub mod FillingLemmas
 pub mod FrameLemmas
 pub mod IdentLemmas
+pub mod JudgedLemmas
 pub mod KindLemmas
 pub mod KnownLemmas
+pub mod LayoutLemmas
 pub mod LeastLemmas
 pub mod LeavesLemmas
+pub mod LeftLemmas
 mod MemberLemmas
 pub mod NodeLemmas
 pub mod FirstArgumentsLemmas
@@ -28,6 +31,7 @@ pub mod PlaceLemmas
 pub mod QuietLemmas
 pub mod ReadyLemmas
 pub mod RestLemmas
+pub mod RootLemmas
 pub mod RunLemmas
 pub mod SeenLemmas
 pub mod SignLemmas

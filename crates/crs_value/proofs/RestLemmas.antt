@@ -364,7 +364,7 @@ crs-quiet dims c item repeats systems none f (inl h) = repeats f h
 crs-quiet dims c item repeats systems none f (inr (inl h)) = systems f h
 crs-quiet dims c item repeats systems none f (inr (inr h)) = let P : List Item → Type 0 = λ xs. AnyOf IsUnsteady xs f in subst P none h.1
 
-own-quiet : (c : Class) (item : Item) → HasSystem c → IsQuiet c (arguments item) → those c class.Dynamic (arguments item) ≡ [] → (f : RefusedAt) → Own c item f → ⊥
+pub own-quiet : (c : Class) (item : Item) → HasSystem c → IsQuiet c (arguments item) → those c class.Dynamic (arguments item) ≡ [] → (f : RefusedAt) → Own c item f → ⊥
 unfolding Own
 own-quiet class.GeodeticCrs item s q none f h = crs-quiet (dimensions_of class.GeodeticCrs) class.GeodeticCrs item q.repeats q.systems none f h
 own-quiet class.GeographicCrs item s q none f h = crs-quiet (dimensions_of class.GeographicCrs) class.GeographicCrs item q.repeats q.systems none f h

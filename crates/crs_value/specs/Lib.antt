@@ -17,6 +17,7 @@ pub mod FirstArguments
 pub mod FirstByte
 pub mod FoundArguments
 pub mod Fronts
+pub mod Judged
 pub mod Kept
 pub mod KeptLaws
 pub mod Least

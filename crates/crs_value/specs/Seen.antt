@@ -1,7 +1,9 @@
 -- A bridge: what one walk sees of axes beside one another, and of a CRS from its node `CS` on.
 use Rattle.std.specs.Prelude.{◌≡◌, ◌≢◌, ℕ, ◌+◌, ◌<◌, ◌≤◌, length, ◌⊎◌, true, false}
-use Rattle.std.specs.Prelude.{List, [], ◌∷◌, ◌++◌, Option, Some, None}
+use Rattle.std.specs.Prelude.{List, [], ◌∷◌, ◌++◌, Option, Some, None, Bool, not}
+use Rattle.std.specs.List.{list_any, list_all}
 use Rattle.crs_text.specs.Items.{Item, Siblings, arguments, HasId}
+use Rattle.crs_text.specs.Refusal.{RefusedAt}
 use Rattle.crs_text.specs.declared.keyword.Keyword.TheVariants as keyword
 use Rattle.crs_shape.specs.declared.class.Class.{Class}
 use Rattle.crs_shape.specs.declared.class.Class.TheVariants as class
@@ -11,6 +13,7 @@ use Rattle.crs_shape.specs.Shaped.{Shaped}
 use Rattle.crs_shape.specs.Slots.{SlotParts, one, optional, some, any, takes, is_class}
 use Rattle.crs_shape.specs.Dimensions.{dimensions_of}
 use Rattle.crs_shape.specs.UnitKinds.{asked_kind}
+use Rattle.crs_value.specs.declared.judging.quiet.Layout.{Layout}
 use Rattle.crs_value.specs.declared.sound.axes.Axes.{Axes}
 use Rattle.crs_value.specs.declared.sound.axes.Places.{Places}
 use Rattle.crs_value.specs.declared.sound.axes.Run.{Run}
@@ -21,7 +24,8 @@ use Rattle.crs_value.specs.Break.{IsLeast}
 use Rattle.crs_value.specs.Checks.{once, BadSystems}
 use Rattle.crs_value.specs.Filling.{Fill, Leaves, stand}
 use Rattle.crs_value.specs.FoundArguments.{HasPlace}
-use Rattle.crs_value.specs.Reading.{Each, item_at, ahead, is_same, those, ReadsFirst}
+use Rattle.crs_value.specs.Judged.{Walked}
+use Rattle.crs_value.specs.Reading.{Each, item_at, ahead, is_same, those, Holds, ReadsFirst}
 use Rattle.crs_value.specs.Reads.{HasType, ReadsDirection}
 use Rattle.crs_value.specs.RepeatedPart.{RepeatsAny}
 
@@ -189,3 +193,45 @@ abbrev pub Climbs : ℕ → Option Class → ℕ → Type 0
 Climbs last found next =
     (last ≤ next)
     × ((d : Class) → 1 ≤ rank d → is_class d found ≡ true → (last < rank d) × (rank d ≤ next))
+
+-- where the parts of a CRS begin that its checks ask for: from there on are all of their class,
+-- and behind them none
+pub record IsLaid (tree : Item) (c : Class) (items : Siblings) (layout : Layout) : Type 0 where
+  pub system : those c class.CoordinateSystem items
+      ≡ those c class.CoordinateSystem (ahead tree layout.system)
+  pub no_system : those c class.CoordinateSystem (ahead tree layout.axes) ≡ []
+  pub axes : those c class.Axis items ≡ those c class.Axis (ahead tree layout.axes)
+  pub no_axes : those c class.Axis (ahead tree layout.unit) ≡ []
+  pub unit : those c class.AxisUnit items ≡ those c class.AxisUnit (ahead tree layout.unit)
+  pub no_unit : those c class.AxisUnit (ahead tree layout.tail) ≡ []
+  pub single : Each (λ d. those c d items ≡ those c d (ahead tree layout.tail)) once
+
+-- whether none of these slots takes any of these classes
+abbrev pub are_free : List SlotParts → List Class → Bool
+are_free slots ds = list_all (λ d. not (list_any (λ s. takes s d) slots)) ds
+
+-- whether slots may be before a node `CS`: none takes what the checks ask for from there on
+abbrev pub is_head : List SlotParts → Bool
+is_head slots =
+    are_free slots (class.CoordinateSystem ∷ class.Axis ∷ class.AxisUnit ∷ once)
+
+-- whether a slot may be at an end: it takes neither coordinate systems nor axes nor their units
+abbrev pub is_tail : SlotParts → Bool
+is_tail slot =
+    are_free (slot ∷ []) (class.CoordinateSystem ∷ class.Axis ∷ class.AxisUnit ∷ [])
+
+-- the tree has what the layout names
+pub record IsHeld (tree : Item) (layout : Layout) : Type 0 where
+  pub system : Holds tree layout.system
+  pub axes : Holds tree layout.axes
+  pub unit : Holds tree layout.unit
+  pub tail : Holds tree layout.tail
+
+-- the arguments from one on are judged against a CRS's slots, and its parts are told where there is
+-- no fault of shape
+abbrev pub Laid : Item → Class → ℕ → List SlotParts → Option ℕ → Option RefusedAt →
+    Option Layout → Option RefusedAt → Type 0
+Laid tree c close slots at old None new = Walked tree c close slots at old false new
+Laid tree c close slots at old (Some layout) new =
+    Walked tree c close slots at old true new
+    × (IsLaid tree c (ahead tree at) layout × IsHeld tree layout)

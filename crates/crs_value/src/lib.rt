@@ -3,6 +3,7 @@
 #![tactic(auto)]
 
 mod checks;
+mod judging;
 pub mod laws;
 mod reading;
 mod sound;

@@ -20,7 +20,7 @@ use crs_shape::{Class, SystemType};
 use crs_text::{ItemId, Items};
 
 // What an axis has; None where its word is no direction.
-fn seen_of(items: &Items<'_>, axis: ItemId) -> Option<Seen>
+pub(crate) fn seen_of(items: &Items<'_>, axis: ItemId) -> Option<Seen>
     requires has { HasId items.now axis }
     requires shaped { Shaped Class.Axis (item_at items.now axis) }
     ensures { IfSome result (λ seen. Has items.now (item_at items.now axis) seen) }

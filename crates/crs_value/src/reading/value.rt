@@ -6,11 +6,10 @@ ghost use Rattle.crs_value.specs.ReadsCrs.{kind_of};
 ghost use Rattle.crs_value.specs.Spells.{SpellsCrs, IsFaultOf, RefusesCrs};
 ghost use Rattle.crs_value.specs.SpellsText.{Spells, IsFaultOfText};
 
-use crate::checks::own::first_break;
+use crate::judging::root::root_judged;
 use crate::reading::whole::{kind_of_root, read_crs};
-use crate::sound::crs::sound_root;
 use crate::values::crs::{Crs, Kind};
-use crs_shape::{Class, fit_root};
+use crs_shape::{Class, class_at_root, misplaced};
 use crs_text::{Fault, Items, Refusal, read_items};
 use std::alloc::Global;
 
@@ -22,30 +21,19 @@ pub fn judge(items: &Items<'_>) -> Result<Class, Refusal>
     ensures answer { MatchResult result (λ _. (value : Crs) × SpellsCrs items.now value) (RefusesCrs items.now) }
     ensures class { IfOk result (λ class. class_of_root items.now ≡ Some class) }
 {
+    crs_shape::laws::keywords_name_classes();
     crs_shape::laws::no_fault_is_shape();
     crs_shape::laws::slots_count();
+    crs_shape::laws::walk_finds_the_fault();
     crs_decimal::laws::denotes_some();
     let root = items.root();
     items.formed(root);
-    match sound_root(items) {
-        Some(class) => Ok(class),
-        None => judge_in_full(items),
-    }
-}
-
-// The same by two walks, one for the shape and one for the checks, which find the first fault.
-#[inline(never)]
-fn judge_in_full(items: &Items<'_>) -> Result<Class, Refusal>
-    ensures answer { MatchResult result (λ _. (value : Crs) × SpellsCrs items.now value) (RefusesCrs items.now) }
-    ensures class { IfOk result (λ class. class_of_root items.now ≡ Some class) }
-{
-    crs_shape::laws::no_fault_is_shape();
-    crs_shape::laws::slots_count();
-    crs_decimal::laws::denotes_some();
-    let root = items.root();
-    items.formed(root);
-    let class = fit_root(items)?;
-    match first_break(items, root, class) {
+    let Some(class) = class_at_root(items, root) else {
+        return Err(misplaced(items, root));
+    };
+    let mut found = None;
+    root_judged(items, root, class, &mut found);
+    match found {
         None => Ok(class),
         Some(refusal) => Err(refusal),
     }

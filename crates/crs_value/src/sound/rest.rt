@@ -26,7 +26,7 @@ use crs_shape::{Class, SystemType, UnitKind, class_in};
 use crs_text::{ItemId, Items};
 
 // Whether a CRS of this class may have a coordinate system of this type and its dimension, which is the number of axes.
-fn head_fits(
+pub(crate) fn head_fits(
     items: &Items<'_>,
     cs: ItemId,
     class: Class,
@@ -133,7 +133,7 @@ fn climbed(last: u8, class: Option<Class>) -> Option<u8>
 }
 
 // Whether what may stand but once follows one another by rank, so that nothing is repeated.
-fn is_ascending(items: &Items<'_>, from: Option<ItemId>, parent: Class) -> bool
+pub(crate) fn is_ascending(items: &Items<'_>, from: Option<ItemId>, parent: Class) -> bool
     requires { Holds items.now from }
     ensures { IsTrue result → IsLeast (RepeatsAny parent (ahead items.now from) once) None }
 {

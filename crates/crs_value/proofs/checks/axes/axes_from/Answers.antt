@@ -16,4 +16,3 @@ loop-at-preserved c =
     let P : Option ℕ → Type 0 = λ at. Noting tree c.args.class c.args.system_type whole c.loop-at.axes at in
     noting-on tree c.args.class c.args.system_type whole c.in-Some-seen_of.seen c.loop-at.axes c.noted-axes.result c.in-Some.axis c.later-at.result
     (subst P c.in-Some.is c.loop-at.invariant) c.in-Some-seen_of.ensures c.noted-axes.ensures c.later-at.ensures
-

@@ -1,15 +1,30 @@
-use Rattle.std.proofs.Common.{ap}
-use Rattle.crs_text.specs.Items.{first_of}
+use Rattle.std.proofs.Common.{sym, ap, subst, ◌≡◌, Some}
+use Rattle.crs_text.specs.Items.{Item, first_of}
+use Rattle.crs_shape.specs.ShapeFault.{class_of_root}
 use Rattle.crs_value.specs.Reading.{item_at}
 use Rattle.crs_value.proofs.EitherLemmas.{judged-spells}
-use Rattle.crs_value.proofs.FillingLemmas.{root-free, clean-unbroken}
+use Rattle.crs_value.proofs.RootLemmas.{root-misplaced, root-unbroken, root-broken}
+use Rattle.crs_value.proofs.SpellsLemmas.{root-among}
 use Rattle.crs_value.proofs.reading.value.judge.Goals as goal
 
-pub returns-in-Some-clause-answer : goal.returns-in-Some-clause-answer
-returns-in-Some-clause-answer c =
+pub returns-in_default-clause-answer : goal.returns-in_default-clause-answer
+returns-in_default-clause-answer c =
     let tree = c.args.items.now in
+    root-misplaced tree (item_at tree c.root-root.result) c.misplaced.result (ap first_of c.root-root.ensures.root) (sym c.in_default.ensures) c.misplaced.ensures
+
+pub root_judged-requires-clause-of : goal.root_judged-requires-clause-of
+root_judged-requires-clause-of c =
+    c.keywords_name_classes.ensures.root c.in-Some.class (item_at c.args.items.now c.root-root.result) (sym c.in-Some.ensures)
+
+pub root_judged-requires-clause-root : goal.root_judged-requires-clause-root
+root_judged-requires-clause-root c = root-among (item_at c.args.items.now c.root-root.result) c.in-Some.class (sym c.in-Some.ensures)
+
+pub returns-in-None-clause-answer : goal.returns-in-None-clause-answer
+returns-in-None-clause-answer c =
+    let tree = c.args.items.now in
+    let item = item_at tree c.root-root.result in
     let same = ap first_of c.root-root.ensures.root in
-    let found = c.in-Some.ensures in
-    judged-spells c.denotes_some.ensures c.slots_count.ensures.least c.no_fault_is_shape.ensures tree (item_at tree c.root-root.result) c.in-Some.class same found.0
-    (root-free c.no_fault_is_shape.ensures tree c.in-Some.class found.0 found.1.shaped) c.formed.ensures
-    (clean-unbroken tree (item_at tree c.root-root.result) c.in-Some.class same found.1)
+    let P : Item → Type 0 = λ i. class_of_root i ≡ Some c.in-Some.class in
+    let root = subst P same (sym c.in-Some.ensures) in
+    let judged = root-unbroken c.walk_finds_the_fault.ensures.none c.no_fault_is_shape.ensures tree item c.in-Some.class c.root_judged.result same root c.in-None.ensures in
+    judged-spells c.denotes_some.ensures c.slots_count.ensures.least c.no_fault_is_shape.ensures tree item c.in-Some.class same root judged.0 c.formed.ensures judged.1

@@ -1,0 +1,10 @@
+use Rattle.crs_text.specs.Items.{count}
+use Rattle.crs_value.specs.Reading.{ahead}
+use Rattle.crs_value.proofs.LayoutLemmas.{Noted}
+use Rattle.crs_value.proofs.judging.quiet.axes_until.Given as goal
+
+abbrev pub invariant-loop-at : goal.invariant-loop-at
+invariant-loop-at l = Noted l.items l.class l.system_type l.fn.from l.axes l.at
+
+abbrev pub decreases-loop-at : goal.decreases-loop-at
+decreases-loop-at l = count (ahead l.items l.at)

@@ -1,0 +1,16 @@
+use Rattle.crs_text.specs.Items.{count}
+use Rattle.crs_shape.specs.Slots.{any_of}
+use Rattle.crs_value.specs.Filling.{Leaves}
+use Rattle.crs_value.specs.Reading.{ahead, Holds}
+use Rattle.crs_value.proofs.JudgedLemmas.{Reaches}
+use Rattle.crs_value.proofs.judging.slots.AnySlot.pass.Given as goal
+
+abbrev pub invariant-loop-next : goal.invariant-loop-next
+invariant-loop-next g l = record {
+  holds : Holds l.items l.next;
+  leaves : Leaves l.items l.fn.parent (any_of g.P.Part.classes) l.fn.at l.next;
+  reaches : Reaches l.items l.fn.parent l.fn._close (any_of g.P.Part.classes) l.fn.at l.fn.found l.next l.found;
+}
+
+abbrev pub decreases-loop-next : goal.decreases-loop-next
+decreases-loop-next g l = count (ahead l.items l.next)

@@ -1,0 +1,185 @@
+//! A node as one of a class, whose arguments are walked over and then its own checks are made.
+ghost use Rattle.std.specs.Prelude.{◌≡◌, ◌⊎◌, IsTrue, true, [], ◌∷◌, ◌++◌};
+ghost use Rattle.crs_text.specs.Items.{HasId, arguments};
+ghost use Rattle.crs_shape.specs.ShapeFault.{is_of};
+ghost use Rattle.crs_shape.specs.Shaped.{Shaped};
+ghost use Rattle.crs_shape.specs.Slots.{any_of, slots_of};
+ghost use Rattle.crs_value.specs.Break.{IsLeast};
+ghost use Rattle.crs_value.specs.Checks.{BreaksAmong, HasSystem, Own};
+ghost use Rattle.crs_value.specs.Judged.{Answers, Judged};
+ghost use Rattle.crs_value.specs.Reading.{item_at, Holds};
+ghost use Rattle.crs_value.specs.Seen.{is_head, is_tail, rest_slots, IsHeld, IsLaid, Laid};
+
+use crate::checks::lesser;
+use crate::checks::own::{own, own_of_part};
+use crate::judging::named::AxisUnit;
+use crate::judging::quiet::{Layout, is_quiet};
+use crate::judging::slots::{Any, End, Found, Front, One, OneOrMore, Optional, Part, Slot, Slots};
+use crate::judging::system::{Axis, CoordinateSystem};
+use crs_shape::{Class, laws, stands_as};
+use crs_text::{ItemId, Items, Refusal};
+
+// Whether an item that may be of this class, which has these slots, has no fault of shape as one; what it breaks joins
+// what was found.
+#[inline(always)]
+pub(crate) fn judged<S: Slots>(
+    items: &Items<'_>,
+    id: ItemId,
+    class: Class,
+    found: &mut Found,
+) -> bool
+    requires has { HasId items.now id }
+    requires of { IsTrue (is_of class (item_at items.now id)) }
+    requires slots { slots_of class ≡ S.slots }
+    requires part { ¬ (HasSystem class) }
+    ensures { Judged class (item_at items.now id) found.old result found.new }
+{
+    laws::walk_finds_the_fault();
+    let Some(close) = items.close(id) else {
+        return true
+    };
+    if !S::walk(items, items.arg(id, 0), class, close, found) {
+        return false;
+    }
+    *found = lesser(*found, own_of_part(items, id, class));
+    true
+}
+
+// Where the parts of a CRS begin, by its slots before its coordinate system and what its last slot takes; None where a
+// fault of shape was found. What its arguments break joins what was found.
+#[inline(always)]
+fn laid<H: Front, T: Part>(
+    items: &Items<'_>,
+    at: Option<ItemId>,
+    class: Class,
+    close: usize,
+    found: &mut Found,
+) -> Option<Layout>
+    requires holds { Holds items.now at }
+    requires head { is_head H.front ≡ true }
+    requires tail { is_tail (any_of T.classes) ≡ true }
+    ensures { Laid items.now class close (H.front ++ rest_slots (any_of T.classes)) at found.old result found.new }
+{
+    let Some(system) = H::front(items, at, class, close, found) else {
+        return None;
+    };
+    let Some(axes) = One::<CoordinateSystem>::pass(items, system, class, close, found) else {
+        return None;
+    };
+    let Some(unit) = OneOrMore::<Axis>::pass(items, axes, class, close, found) else {
+        return None;
+    };
+    let Some(tail) = Optional::<AxisUnit>::pass(items, unit, class, close, found) else {
+        return None;
+    };
+    let Some(end) = Any::<T>::pass(items, tail, class, close, found) else {
+        return None;
+    };
+    if !End::walk(items, end, class, close, found) {
+        return None;
+    }
+    Some(Layout {
+        system,
+        axes,
+        unit,
+        tail,
+    })
+}
+
+// The least of what a CRS of the right shape breaks, within it and by itself. Mostly its own checks are seen at once to
+// hold.
+#[inline(always)]
+fn whole(
+    items: &Items<'_>,
+    id: ItemId,
+    class: Class,
+    layout: Layout,
+    inside: Option<Refusal>,
+) -> Option<Refusal>
+    requires has { HasId items.now id }
+    requires shaped { Shaped class (item_at items.now id) }
+    requires system { HasSystem class }
+    requires held { IsHeld items.now layout }
+    requires laid { IsLaid items.now class (arguments (item_at items.now id)) layout }
+    requires inside { IsLeast (BreaksAmong class (arguments (item_at items.now id))) inside }
+    ensures { IsLeast (λ f. BreaksAmong class (arguments (item_at items.now id)) f
+        ⊎ Own class (item_at items.now id) f) result }
+{
+    if is_quiet(items, id, class, layout) {
+        return inside;
+    }
+    own(items, id, class, inside)
+}
+
+// Whether an item that may be a CRS of this class, which has a coordinate system, has no fault of shape as one; what it
+// breaks joins what was found.
+pub(crate) fn crs_judged<H: Front, T: Part>(
+    items: &Items<'_>,
+    id: ItemId,
+    class: Class,
+    found: &mut Found,
+) -> bool
+    requires has { HasId items.now id }
+    requires of { IsTrue (is_of class (item_at items.now id)) }
+    requires slots { slots_of class ≡ H.front ++ rest_slots (any_of T.classes) }
+    requires head { is_head H.front ≡ true }
+    requires tail { is_tail (any_of T.classes) ≡ true }
+    requires system { HasSystem class }
+    ensures { Judged class (item_at items.now id) found.old result found.new }
+{
+    laws::walk_finds_the_fault();
+    let Some(close) = items.close(id) else {
+        return true
+    };
+    let mut inside = None;
+    let Some(layout) = laid::<H, T>(items, items.arg(id, 0), class, close, &mut inside) else {
+        *found = inside;
+        return false;
+    };
+    *found = lesser(*found, whole(items, id, class, layout, inside));
+    true
+}
+
+// An argument as one of a class without a coordinate system, which has these slots; None where it is of another.
+#[inline(always)]
+pub(crate) fn part<S: Slots>(
+    items: &Items<'_>,
+    id: ItemId,
+    parent: Class,
+    class: Class,
+    found: &mut Found,
+) -> Option<bool>
+    requires has { HasId items.now id }
+    requires slots { slots_of class ≡ S.slots }
+    requires part { ¬ (HasSystem class) }
+    ensures { Answers parent (class ∷ []) (item_at items.now id) found.old result found.new }
+{
+    laws::walk_finds_the_fault();
+    if !stands_as(items, id, parent, class) {
+        return None;
+    }
+    Some(judged::<S>(items, id, class, found))
+}
+
+// An argument as a CRS of a class with a coordinate system; None where it is of another.
+#[inline(always)]
+pub(crate) fn crs<H: Front, T: Part>(
+    items: &Items<'_>,
+    id: ItemId,
+    parent: Class,
+    class: Class,
+    found: &mut Found,
+) -> Option<bool>
+    requires has { HasId items.now id }
+    requires slots { slots_of class ≡ H.front ++ rest_slots (any_of T.classes) }
+    requires head { is_head H.front ≡ true }
+    requires tail { is_tail (any_of T.classes) ≡ true }
+    requires system { HasSystem class }
+    ensures { Answers parent (class ∷ []) (item_at items.now id) found.old result found.new }
+{
+    laws::walk_finds_the_fault();
+    if !stands_as(items, id, parent, class) {
+        return None;
+    }
+    Some(crs_judged::<H, T>(items, id, class, found))
+}

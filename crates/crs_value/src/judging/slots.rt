@@ -1,0 +1,365 @@
+//! A walk over the arguments of a node, slot by slot.
+ghost use Rattle.std.specs.Prelude.{◌≡◌, IfSome, List, Some};
+ghost use Rattle.crs_text.specs.Items.{HasId};
+ghost use Rattle.crs_shape.specs.declared.class.Class.{Class};
+ghost use Rattle.crs_shape.specs.ShapeFault.{misplaced, missing};
+ghost use Rattle.crs_shape.specs.Slots.{SlotParts};
+ghost use Rattle.crs_value.specs.Filling.{Leaves};
+ghost use Rattle.crs_value.specs.Judged.{AllLeave, AllPassed, Answers, Passed, Walked};
+ghost use Rattle.crs_value.specs.Reading.{item_at, Holds};
+
+use crs_shape::{Class, misplaced};
+use crs_text::{ItemId, Items, Refusal};
+
+// what a slot takes, as a type
+macro_rules! taken {
+    ($part:ident) => { $part };
+    ($part:ident, $($more:ident),+) => { Either<$part, taken!($($more),+)> };
+}
+
+// the slots of a class, as a type
+macro_rules! chain {
+    () => { End };
+    (one($($part:ident),+) $($slots:tt)*) => { Then<One<taken!($($part),+)>, chain!($($slots)*)> };
+    (optional($($part:ident),+) $($slots:tt)*) => { Then<Optional<taken!($($part),+)>, chain!($($slots)*)> };
+    (any($($part:ident),+) $($slots:tt)*) => { Then<Any<taken!($($part),+)>, chain!($($slots)*)> };
+    (some($($part:ident),+) $($slots:tt)*) => { Then<OneOrMore<taken!($($part),+)>, chain!($($slots)*)> };
+}
+
+// an argument as one of a class, by the class's row
+macro_rules! judge {
+    (($how:ident, $class:ident, $items:ident, $id:ident, $parent:ident, $found:ident) [$($keyword:ident),*] $($slots:tt)*) => {
+        $how::<chain!($($slots)*)>($items, $id, $parent, Class::$class, $found)
+    };
+}
+
+// the same of a CRS with a coordinate system, whose slots before that are told apart
+macro_rules! judge_crs {
+    (($how:ident, $class:ident, $items:ident, $id:ident, $parent:ident, $found:ident) [$($keyword:ident),*] $($slots:tt)*) => {
+        judge_crs!(@ ($how, $class, $items, $id, $parent, $found) [] $($slots)*)
+    };
+    (@ ($how:ident, $class:ident, $items:ident, $id:ident, $parent:ident, $found:ident) [$($head:tt)*]
+        one(CoordinateSystem) some(Axis) optional(AxisUnit) any($($part:ident),+)) => {
+        $how::<chain!($($head)*), taken!($($part),+)>($items, $id, $parent, Class::$class, $found)
+    };
+    (@ $with:tt [$($head:tt)*] $count:ident $parts:tt $($slots:tt)*) => {
+        judge_crs!(@ $with [$($head)* $count $parts] $($slots)*)
+    };
+}
+
+pub(crate) use chain;
+pub(crate) use judge;
+pub(crate) use judge_crs;
+pub(crate) use taken;
+
+// The first fault that was found, if any was.
+pub(crate) type Found = Option<Refusal>;
+
+// What a slot takes.
+pub(crate) trait Part {
+    ghost classes: { List Class };
+
+    // Whether an argument has no fault of shape; what it breaks joins what was found. None where it is of none of
+    // these classes.
+    fn judge(items: &Items<'_>, id: ItemId, parent: Class, found: &mut Found) -> Option<bool>
+        requires has { HasId items.now id }
+        ensures { Answers parent classes (item_at items.now id) found.old result found.new };
+}
+
+// A slot.
+pub(crate) trait Slot {
+    ghost slot: { SlotParts };
+
+    // The arguments behind those of the slot; what these break joins what was found. None where a fault of shape was
+    // found.
+    fn pass(
+        items: &Items<'_>,
+        at: Option<ItemId>,
+        parent: Class,
+        close: usize,
+        found: &mut Found,
+    ) -> Option<Option<ItemId>>
+        requires { Holds items.now at }
+        ensures holds { IfSome result (λ next. Holds items.now next) }
+        ensures leaves { IfSome result (λ next. Leaves items.now parent slot at next) }
+        ensures passed { Passed items.now parent close slot at found.old result found.new };
+}
+
+// The slots of a node from one on.
+pub(crate) trait Slots {
+    ghost slots: { List SlotParts };
+
+    // Whether the arguments have no fault of shape; what they break joins what was found.
+    fn walk(
+        items: &Items<'_>,
+        at: Option<ItemId>,
+        parent: Class,
+        close: usize,
+        found: &mut Found,
+    ) -> bool
+        requires { Holds items.now at }
+        ensures { Walked items.now parent close slots at found.old result found.new };
+}
+
+// The slots of a node before others.
+pub(crate) trait Front {
+    ghost front: { List SlotParts };
+
+    // The arguments behind those of these slots, as `pass` of one slot.
+    fn front(
+        items: &Items<'_>,
+        at: Option<ItemId>,
+        parent: Class,
+        close: usize,
+        found: &mut Found,
+    ) -> Option<Option<ItemId>>
+        requires { Holds items.now at }
+        ensures holds { IfSome result (λ next. Holds items.now next) }
+        ensures leaves { IfSome result (λ next. AllLeave items.now parent front at next) }
+        ensures passed { AllPassed items.now parent close front at found.old result found.new };
+}
+
+// The walk stops where an argument is missing.
+#[cold]
+fn stop_short(close: usize, found: &mut Found)
+    ensures { found.new ≡ Some (missing close) }
+{
+    *found = Some(Refusal::new(13, close).unwrap());
+}
+
+// The walk stops at an argument that isn't allowed where it is.
+#[cold]
+fn stop_at(items: &Items<'_>, id: ItemId, found: &mut Found)
+    requires { HasId items.now id }
+    ensures { found.new ≡ Some (misplaced (item_at items.now id)) }
+{
+    *found = Some(misplaced(items, id));
+}
+
+// One argument.
+pub(crate) struct One<P> {
+    _part: P,
+}
+
+impl<P: Part> Slot for One<P> {
+    ghost use Rattle.crs_shape.specs.Slots.{one_of};
+
+    ghost slot = { one_of P.classes };
+
+    #[inline(always)]
+    fn pass(
+        items: &Items<'_>,
+        at: Option<ItemId>,
+        parent: Class,
+        close: usize,
+        found: &mut Found,
+    ) -> Option<Option<ItemId>> {
+        let Some(id) = at else {
+            stop_short(close, found);
+            return None;
+        };
+        match P::judge(items, id, parent, found) {
+            None => {
+                stop_at(items, id, found);
+                None
+            }
+            Some(false) => None,
+            Some(true) => Some(items.next(id)),
+        }
+    }
+}
+
+// None or one argument.
+pub(crate) struct Optional<P> {
+    _part: P,
+}
+
+impl<P: Part> Slot for Optional<P> {
+    ghost use Rattle.crs_shape.specs.Slots.{optional_of};
+
+    ghost slot = { optional_of P.classes };
+
+    #[inline(always)]
+    fn pass(
+        items: &Items<'_>,
+        at: Option<ItemId>,
+        parent: Class,
+        _close: usize,
+        found: &mut Found,
+    ) -> Option<Option<ItemId>> {
+        let Some(id) = at else { return Some(None) };
+        match P::judge(items, id, parent, found) {
+            None => Some(Some(id)),
+            Some(false) => None,
+            Some(true) => Some(items.next(id)),
+        }
+    }
+}
+
+// Any number of arguments.
+pub(crate) struct Any<P> {
+    _part: P,
+}
+
+impl<P: Part> Slot for Any<P> {
+    ghost use Rattle.crs_shape.specs.Slots.{any_of};
+
+    ghost slot = { any_of P.classes };
+
+    #[inline(always)]
+    fn pass(
+        items: &Items<'_>,
+        at: Option<ItemId>,
+        parent: Class,
+        _close: usize,
+        found: &mut Found,
+    ) -> Option<Option<ItemId>> {
+        let mut next = at;
+        while let Some(id) = next {
+            match P::judge(items, id, parent, found) {
+                None => return Some(Some(id)),
+                Some(false) => return None,
+                Some(true) => next = items.next(id),
+            }
+        }
+        Some(None)
+    }
+}
+
+// One argument or more.
+pub(crate) struct OneOrMore<P> {
+    _part: P,
+}
+
+impl<P: Part> Slot for OneOrMore<P> {
+    ghost use Rattle.crs_shape.specs.Slots.{some_of};
+
+    ghost slot = { some_of P.classes };
+
+    #[inline(always)]
+    fn pass(
+        items: &Items<'_>,
+        at: Option<ItemId>,
+        parent: Class,
+        close: usize,
+        found: &mut Found,
+    ) -> Option<Option<ItemId>> {
+        let Some(id) = at else {
+            stop_short(close, found);
+            return None;
+        };
+        match P::judge(items, id, parent, found) {
+            None => {
+                stop_at(items, id, found);
+                None
+            }
+            Some(false) => None,
+            Some(true) => Any::<P>::pass(items, items.next(id), parent, close, found),
+        }
+    }
+}
+
+// A slot before others.
+pub(crate) struct Then<A, S> {
+    _slot: A,
+    _slots: S,
+}
+
+impl<A: Slot, S: Slots> Slots for Then<A, S> {
+    ghost use Rattle.std.specs.Prelude.{◌∷◌};
+
+    ghost slots = { A.slot ∷ S.slots };
+
+    #[inline(always)]
+    fn walk(
+        items: &Items<'_>,
+        at: Option<ItemId>,
+        parent: Class,
+        close: usize,
+        found: &mut Found,
+    ) -> bool {
+        match A::pass(items, at, parent, close, found) {
+            None => false,
+            Some(next) => S::walk(items, next, parent, close, found),
+        }
+    }
+}
+
+impl<A: Slot, S: Front> Front for Then<A, S> {
+    ghost use Rattle.std.specs.Prelude.{◌∷◌};
+
+    ghost front = { A.slot ∷ S.front };
+
+    #[inline(always)]
+    fn front(
+        items: &Items<'_>,
+        at: Option<ItemId>,
+        parent: Class,
+        close: usize,
+        found: &mut Found,
+    ) -> Option<Option<ItemId>> {
+        match A::pass(items, at, parent, close, found) {
+            None => None,
+            Some(next) => S::front(items, next, parent, close, found),
+        }
+    }
+}
+
+// No slots.
+pub(crate) struct End;
+
+impl Front for End {
+    ghost use Rattle.std.specs.Prelude.{[]};
+
+    ghost front = { [] };
+
+    #[inline(always)]
+    fn front(
+        _items: &Items<'_>,
+        at: Option<ItemId>,
+        _parent: Class,
+        _close: usize,
+        _found: &mut Found,
+    ) -> Option<Option<ItemId>> {
+        Some(at)
+    }
+}
+
+impl Slots for End {
+    ghost use Rattle.std.specs.Prelude.{[]};
+
+    ghost slots = { [] };
+
+    #[inline(always)]
+    fn walk(
+        items: &Items<'_>,
+        at: Option<ItemId>,
+        _parent: Class,
+        _close: usize,
+        found: &mut Found,
+    ) -> bool {
+        let Some(id) = at else { return true };
+        stop_at(items, id, found);
+        false
+    }
+}
+
+// An argument of one of two sets of classes.
+pub(crate) struct Either<A, B> {
+    _first: A,
+    _second: B,
+}
+
+impl<A: Part, B: Part> Part for Either<A, B> {
+    ghost use Rattle.std.specs.Prelude.{◌++◌};
+
+    ghost classes = { A.classes ++ B.classes };
+
+    #[inline(always)]
+    fn judge(items: &Items<'_>, id: ItemId, parent: Class, found: &mut Found) -> Option<bool> {
+        match A::judge(items, id, parent, found) {
+            None => B::judge(items, id, parent, found),
+            Some(ok) => Some(ok),
+        }
+    }
+}
