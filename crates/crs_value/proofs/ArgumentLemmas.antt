@@ -27,6 +27,9 @@ pub holds_at : (tree : Item) (items : Siblings) (at : Option ℕ) → IsAt tree 
 holds_at tree items None e = tt
 holds_at tree items (Some id) h = h.1
 
+pub has-some : (tree : Item) (at : Option ℕ) (id : ℕ) → at ≡ Some id → Holds tree at → HasId tree id
+has-some tree at id e h = subst (Holds tree) e h
+
 pub count-first : (items : Siblings) → items ≢ End → count items ≡ suc (count (rest_of items))
 count-first End some = absurd (some refl)
 count-first (More item items) some = refl

@@ -15,7 +15,7 @@ use Rattle.crs_value.specs.Break.{IsLeast}
 use Rattle.crs_value.specs.Checks.{AtClass, Own, Breaks, BreaksAmong}
 use Rattle.crs_value.specs.Judged.{is_in, Gives, Judged, Walked, Passed, Answers}
 use Rattle.crs_value.specs.Least.{lesser}
-use Rattle.crs_value.specs.Reading.{ahead, item_at}
+use Rattle.crs_value.specs.Reading.{item_at}
 use Rattle.crs_value.proofs.ArgumentLemmas.{ahead_at}
 use Rattle.crs_value.proofs.LeastLemmas.{IsFirst, first-self, first-trans, least-either, least-same}
 

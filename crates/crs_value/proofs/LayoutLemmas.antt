@@ -1,6 +1,6 @@
 -- A CRS whose parts were found by the walk for its shape: what is seen of its coordinate system.
-use Rattle.std.proofs.Common.{◌≡◌, ◌≢◌, ℕ, ◌||◌, Bool, true, false, not, inl, inr, ◌⊎◌, length, Option, Some, None, List, [], ◌∷◌, ◌++◌, refl, sym, ◌∙◌, ap, subst, append_assoc}
-use Rattle.std.specs.List.{list_all, list_any}
+use Rattle.std.proofs.Common.{◌≡◌, ◌≢◌, ℕ, ◌||◌, Bool, true, false, not, length, Option, Some, None, List, [], ◌∷◌, ◌++◌, refl, sym, ◌∙◌, ap, subst, append_assoc}
+use Rattle.std.specs.List.{list_any}
 use Rattle.crs_text.specs.Items.{Item, Siblings, End, More, arguments, rest_of, here, HasId, IsAt}
 use Rattle.crs_text.specs.Refusal.{RefusedAt}
 use Rattle.crs_shape.specs.declared.class.Class.{Class}
@@ -11,27 +11,28 @@ use Rattle.crs_shape.specs.FirstFault.{first_in_arguments}
 use Rattle.crs_shape.specs.Shaped.{Shaped}
 use Rattle.crs_shape.specs.Slots.{SlotParts, takes, one, some, optional}
 use Rattle.crs_value.specs.declared.judging.quiet.Layout.{Layout}
-use Rattle.crs_value.specs.declared.sound.axes.Axes.{Axes}
-use Rattle.crs_value.specs.declared.sound.axes.Seen.{Seen}
+use Rattle.crs_value.specs.declared.judging.axes.Axes.{Axes}
+use Rattle.crs_value.specs.declared.judging.axes.Seen.{Seen}
 use Rattle.crs_value.specs.Break.{IsLeast}
-use Rattle.crs_value.specs.Checks.{once, BadSystems, BreaksAmong, OfHead, Own}
-use Rattle.crs_value.specs.Filling.{Leaves}
+use Rattle.crs_value.specs.Checks.{once, BadSystems, BreaksAmong, OfHead}
 use Rattle.crs_value.specs.FoundArguments.{AllShaped}
-use Rattle.crs_value.specs.Judged.{AllLeave, Gives, Walked}
-use Rattle.crs_value.specs.Reading.{Each, item_at, is_a, ahead, those, Holds, IsFound}
+use Rattle.crs_value.specs.Judged.{AllLeave, Gives, Leaves, Walked}
+use Rattle.crs_value.specs.Reading.{Each, item_at, is_a, ahead, those, Holds}
 use Rattle.crs_value.specs.Reads.{HasType}
 use Rattle.crs_value.specs.RepeatedPart.{RepeatsAny}
 use Rattle.crs_value.specs.Seen.{are_free, is_head, is_tail, the_one, AreOrdered, Has, IsLaid, IsNoted, IsQuiet, IsSeen, UnitsFit}
 use Rattle.crs_value.proofs.ArgumentLemmas.{ahead_at, all-shaped, arguments-shaped, holds_at, those-first}
 use Rattle.crs_value.proofs.CheckLemmas.{DenotesOne, append-none}
 use Rattle.crs_value.proofs.JudgedLemmas.{end-first}
-use Rattle.crs_value.proofs.LeastLemmas.{least-same}
 use Rattle.crs_value.proofs.PlacedLemmas.{Symmetric, Transitive}
-use Rattle.crs_value.proofs.QuietLemmas.{and-both}
 use Rattle.crs_value.proofs.RestLemmas.{once-back, ordered-none, systems-none, units-none}
 use Rattle.crs_value.proofs.RunLemmas.{seen-on}
 
 -- ---- where the parts of a CRS begin
+
+and-both : (a b : Bool) → (a && b) ≡ true → (a ≡ true) × (b ≡ true)
+and-both true b e = (refl, e)
+and-both false b e = cc
 
 not-so : (b : Bool) → not b ≡ true → b ≡ false
 not-so true e = cc
@@ -47,11 +48,13 @@ or-left : (b : Bool) → (b || false) ≡ false → b ≡ false
 or-left true e = cc
 or-left false e = refl
 
+pub walked-as : (tree : Item) (c : Class) (close : ℕ) (slots : List SlotParts) (at : Option ℕ) (old new : Option RefusedAt) (ok is : Bool) → ok ≡ is → Walked tree c close slots at old ok new →
+    Walked tree c close slots at old is new
+walked-as tree c close slots at old new ok is e walked = let P : Bool → Type 0 = λ b. Walked tree c close slots at old b new in subst P e walked
+
 -- nothing is behind slots that give no fault of shape
 pub walked-end : (tree : Item) (c : Class) (close : ℕ) (at : Option ℕ) (old new : Option RefusedAt) (ok : Bool) → ok ≡ true → Walked tree c close [] at old ok new → ahead tree at ≡ End
-walked-end tree c close at old new ok yes walked =
-    let P : Bool → Type 0 = λ b. Gives (first_in_arguments c close [] (ahead tree at)) old (BreaksAmong c (ahead tree at)) b new in
-    by (ahead tree at) (subst P yes walked)
+walked-end tree c close at old new ok yes walked = by (ahead tree at) (walked-as tree c close [] at old new ok true yes walked)
   where
     stopped : (w : Option RefusedAt) (fault : RefusedAt) (B : RefusedAt → Type 0) → w ≡ Some fault → Gives w old B true new → ⊥
     stopped w fault B e h = let Q : Option RefusedAt → Type 0 = λ o. Gives o old B true new in subst Q e h
@@ -159,9 +162,6 @@ pub noted-end : (tree : Item) (c : Class) (of : SystemType) (from : Option ℕ) 
 noted-end tree c of from axes at so none =
     subst (IsSeen of axes) (sym (so.are ∙ ap (λ xs. so.before ++ xs) none ∙ append-none so.before)) so.seen
 
-pub found-none : (tree : Item) (c d : Class) (items : List Item) (at : Option ℕ) → at ≡ None → IsFound tree c d items at → items ≡ []
-found-none tree c d items at none found = let P : Option ℕ → Type 0 = λ o. IsFound tree c d items o in subst P none found
-
 -- ---- the parts of a CRS have their shapes
 
 pub axes-shaped : (tree : Item) (c : Class) (item : Item) (layout : Layout) → Shaped c item → IsLaid tree c (arguments item) layout →
@@ -210,13 +210,3 @@ laid-quiet law symmetric transitive tree c items layout cs of axes shared laid a
         systems-none (dimensions_of c) (those c class.CoordinateSystem items) (those c class.Axis items) (the_one tree shared) (item_at tree cs) system
         (head (those c class.Axis items) (sym seen.count)) (ordered-none law symmetric transitive of axes (those c class.Axis items) seen ordered)
         (units-none tree (item_at tree cs) of axes (those c class.Axis items) shared typed seen fit)
-
--- where a CRS breaks nothing by itself, what is broken within it is all
-pub quiet-whole : (c : Class) (item : Item) (inside : Option RefusedAt) → IsLeast (BreaksAmong c (arguments item)) inside → IsLeast (Own c item) None →
-    IsLeast (λ f. BreaksAmong c (arguments item) f ⊎ Own c item f) inside
-quiet-whole c item inside least none =
-    least-same (BreaksAmong c (arguments item)) (λ f. BreaksAmong c (arguments item) f ⊎ Own c item f) inside (λ f h. inl h) back least
-  where
-    back : (f : RefusedAt) → BreaksAmong c (arguments item) f ⊎ Own c item f → BreaksAmong c (arguments item) f
-    back f (inl h) = h
-    back f (inr h) = absurd (none f h)

@@ -1,5 +1,5 @@
 -- Arguments that are judged in a slot, or in some slots: which of a class are from there on.
-use Rattle.std.proofs.Common.{◌≡◌, ℕ, ◌||◌, Bool, true, false, Option, Some, None, List, [], ◌∷◌, ◌++◌, refl, sym, ◌∙◌, ap, subst}
+use Rattle.std.proofs.Common.{◌≡◌, ℕ, ◌||◌, Bool, true, false, Option, Some, None, List, ◌∷◌, ◌++◌, refl, sym, ◌∙◌, ap, subst}
 use Rattle.std.specs.List.{list_any}
 use Rattle.std.specs.Prelude.{IfSome}
 use denote.Enum.Bare.{sameb}
@@ -9,12 +9,19 @@ use Rattle.crs_shape.specs.contracts.class.Class.{the_type}
 use Rattle.crs_shape.specs.declared.class.Class.{Class}
 use Rattle.crs_shape.specs.Slots.{SlotParts, is_class, takes}
 use Rattle.crs_shape.specs.Walk.{again}
-use Rattle.crs_value.specs.Filling.{Leaves}
-use Rattle.crs_value.specs.Judged.{AllLeave, AllPassed, Answers, Passed, Walked}
-use Rattle.crs_value.specs.Reading.{item_at, is_a, ahead, those}
+use Rattle.crs_value.specs.Judged.{AllLeave, AllPassed, Answers, Leaves, Passed}
+use Rattle.crs_value.specs.Reading.{item_at, is_a, those}
 use Rattle.crs_value.proofs.ArgumentLemmas.{ahead_at, same_class, those-later}
 use Rattle.crs_value.proofs.JudgedLemmas.{answer-is}
-use Rattle.crs_value.proofs.LeavesLemmas.{leaves-at}
+
+pub leaves-none : (tree : Item) (c : Class) (slot : SlotParts) (at : Option ℕ) → Leaves tree c slot at at
+leaves-none tree c slot at d none = refl
+
+pub leaves-at : (tree : Item) (c : Class) (slot : SlotParts) (at other next : Option ℕ) → at ≡ other → Leaves tree c slot other next → Leaves tree c slot at next
+leaves-at tree c slot at other next e h = let P : Option ℕ → Type 0 = λ o. Leaves tree c slot o next in subst P (sym e) h
+
+pub leaves-to : (tree : Item) (c : Class) (slot : SlotParts) (at next other : Option ℕ) → next ≡ other → Leaves tree c slot at next → Leaves tree c slot at other
+leaves-to tree c slot at next other e h = let P : Option ℕ → Type 0 = λ o. Leaves tree c slot at o in subst P e h
 
 -- a class that a slot takes isn't one that it doesn't take
 other-class : (d e : Class) (slot : SlotParts) → takes slot e ≡ true → takes slot d ≡ false → sameb the_type e d ≡ false

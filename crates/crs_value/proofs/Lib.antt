@@ -1,6 +1,5 @@
 pub mod ArgumentLemmas
 pub mod AxesLemmas
-pub mod BreakLemmas
 pub mod CheckLemmas
 pub mod ComponentLemmas
 pub mod ConversionLemmas
@@ -8,7 +7,6 @@ pub mod CrsLemmas
 pub mod DecideLemmas
 pub mod DynamicLemmas
 pub mod EitherLemmas
-pub mod FillingLemmas
 pub mod FrameLemmas
 pub mod IdentLemmas
 pub mod JudgedLemmas
@@ -16,7 +14,6 @@ pub mod KindLemmas
 pub mod KnownLemmas
 pub mod LayoutLemmas
 pub mod LeastLemmas
-pub mod LeavesLemmas
 pub mod LeftLemmas
 mod MemberLemmas
 pub mod NodeLemmas
@@ -28,12 +25,10 @@ pub mod OrderLemmas
 pub mod OwnLemmas
 pub mod PlacedLemmas
 pub mod PlaceLemmas
-pub mod QuietLemmas
 pub mod ReadyLemmas
 pub mod RestLemmas
 pub mod RootLemmas
 pub mod RunLemmas
-pub mod SeenLemmas
 pub mod SignLemmas
 pub mod SomeCrsLemmas
 pub mod SomeLeastLemmas
@@ -50,6 +45,5 @@ pub mod SoundUsageLemmas
 pub mod SpellsLemmas
 pub mod SystemLemmas
 pub mod TextLemmas
-pub mod UnitFillingLemmas
 pub mod UnitLemmas
 pub mod WhetherLemmas

@@ -1,37 +1,33 @@
--- A CRS from its node `CS` on, of which one walk sees that it breaks no check.
+-- What is checked of a CRS as a whole: orders, units, dimensions and repeated parts.
 use Rattle.std.proofs.Common.{◌≡◌, ℕ, ◌+◌, ◌<◌, ◌≤◌, length, drop, Bool, true, false, inl, inr, ◌⊎◌, Option, Some, None, List, [], ◌∷◌, ◌++◌, refl, sym, ◌∙◌, ap, subst, arith}
 use Rattle.crs_decimal.specs.Number.{SameNumber, whole_number}
 use Rattle.crs_decimal.specs.Value.{Value, exact}
-use Rattle.crs_text.specs.Items.{Item, Siblings, arguments, kind_of_item, rest_of, here, HasId, IsAt}
+use Rattle.crs_text.specs.Items.{Item, Siblings, arguments, rest_of, here, HasId, IsAt}
 use Rattle.crs_text.specs.Refusal.{RefusedAt}
-use Rattle.crs_text.specs.declared.items.ItemKind.TheVariants as item_kinds
-use Rattle.crs_text.specs.declared.keyword.Keyword.TheVariants as keyword
 use Rattle.crs_shape.specs.declared.class.Class.{Class}
 use Rattle.crs_shape.specs.declared.class.Class.TheVariants as class
 use Rattle.crs_shape.specs.declared.system_type.SystemType.{SystemType}
 use Rattle.crs_shape.specs.declared.unit_kind.UnitKind.{UnitKind}
 use Rattle.crs_shape.specs.declared.unit_kind.UnitKind.TheVariants as kinds
-use Rattle.crs_shape.specs.ShapeFault.{class_in, is_of}
-use Rattle.crs_shape.specs.Slots.{SlotParts, slots_of, one, optional, some, any, tail, vertical_tail, takes, is_class}
+use Rattle.crs_shape.specs.ShapeFault.{class_in}
+use Rattle.crs_shape.specs.Slots.{is_class}
 use Rattle.crs_shape.specs.Dimensions.{IsOneOf, dimensions_of}
-use Rattle.crs_value.specs.declared.sound.axes.Axes.{Axes}
-use Rattle.crs_value.specs.declared.sound.axes.Places.{Places}
-use Rattle.crs_value.specs.declared.sound.axes.Run.{Run}
-use Rattle.crs_value.specs.BadDynamic.{IsUnsteady}
+use Rattle.crs_value.specs.declared.judging.axes.Axes.{Axes}
+use Rattle.crs_value.specs.declared.judging.axes.Places.{Places}
+use Rattle.crs_value.specs.BadDynamic.{BadDynamic}
 use Rattle.crs_value.specs.BadOrder.{orders_in, ReadsOrder, OneHas, LacksOrder, SomeHasOrder, IsBadOrder, BadOrders, BadOrder}
 use Rattle.crs_value.specs.BadUnit.{units_in, Asks, Fits, AllAsk, IsSuperfluous, HasOwnUnit, BadOwnUnit, BadUnit}
 use Rattle.crs_value.specs.Break.{AnyOf, IsLeast}
-use Rattle.crs_value.specs.Checks.{once, HasSystem, OfHead, BadSystems, OfCrs, Own}
-use Rattle.crs_value.specs.Filling.{Fill, IsClean, IsTaken, Leaves, Passes, stand, is_unit}
+use Rattle.crs_value.specs.Checks.{once, BreaksAmong, HasSystem, OfHead, BadSystems, OfCrs, Own}
 use Rattle.crs_value.specs.FoundArguments.{HasPlace}
-use Rattle.crs_value.specs.Reading.{Each, item_at, is_same, is_a, ahead, those, ReadsFirst}
+use Rattle.crs_value.specs.Least.{lesser}
+use Rattle.crs_value.specs.Reading.{Each, item_at, is_a, ahead, those, ReadsFirst}
 use Rattle.crs_value.specs.Reads.{HasType, HasDimension}
 use Rattle.crs_value.specs.RepeatedPart.{IsRepeated, RepeatsAny}
-use Rattle.crs_value.specs.Seen.{the_one, Only, HasAxes, Marks, IsAmong, Differ, AllDiffer, AreAmong, AreWithin, AreOrdered, IsSeen, IsRun, UnitsFit, rest_slots, IsTail, IsQuiet, rank, Climbs}
+use Rattle.crs_value.specs.Seen.{the_one, Marks, IsAmong, Differ, AllDiffer, AreAmong, AreWithin, AreOrdered, IsSeen, UnitsFit, IsQuiet, rank, Climbs}
 use Rattle.crs_value.proofs.ArgumentLemmas.{ahead_at, same_class, those-first, those-later}
 use Rattle.crs_value.proofs.CheckLemmas.{DenotesOne}
-use Rattle.crs_value.proofs.FillingLemmas.{fill-skip, fill-none, node-clean, passes-one, passes-at}
-use Rattle.crs_value.proofs.LeavesLemmas.{leaves-one, leaves-at, taken-first}
+use Rattle.crs_value.proofs.LeastLemmas.{either-is, least-same}
 use Rattle.crs_value.proofs.OrderLemmas.{wrong-none}
 use Rattle.crs_value.proofs.PlacedLemmas.{Symmetric, Transitive, place-one}
 use Rattle.crs_value.proofs.SystemLemmas.{system-none, count-none}
@@ -248,140 +244,42 @@ climbs-past last c none = (omega arith, λ d high is. let e : rank c ≡ rank d 
 pub climbs-on : (last : ℕ) (c : Class) (now : ℕ) → now ≡ rank c → last < now → Climbs last (Some c) now
 climbs-on last c now e above = (omega (arith, above), λ d high is. let k : rank c ≡ rank d = ap rank (same_class c d is) in (omega (arith, e, k, above), omega (arith, e, k)))
 
--- ---- the whole
-
-pub rest-fills : (tree : Item) (c : Class) (slot : SlotParts) (of : SystemType) (cs : ℕ) (at : Option ℕ) (first : ℕ) (run : Run) (later end : Option ℕ) → at ≡ Some cs → HasId tree cs →
-    IsAt tree (rest_of (here tree cs)) (Some first) → IsTaken c (one class.CoordinateSystem) (item_at tree cs) → IsRun tree c of first run →
-    Passes tree c (optional class.AxisUnit) run.next later → Passes tree c slot later end → end ≡ None → Fill c (rest_slots slot) (ahead tree at)
-rest-fills tree c slot of cs at first run later end e has is taken seen unit ends ended =
-    passes-at tree c (one class.CoordinateSystem) at (Some cs) (Some first) e (passes-one tree c (one class.CoordinateSystem) cs (Some first) has is taken)
-    (some class.Axis ∷ optional class.AxisUnit ∷ slot ∷ [])
-    (seen.passes (optional class.AxisUnit ∷ slot ∷ [])
-    (fill-skip c (any class.Axis) (optional class.AxisUnit ∷ slot ∷ []) (ahead tree run.next) refl (unit (slot ∷ []) (ends [] (fill-none tree c end ended)))))
-
-append-nil : (xs : List Item) → xs ++ [] ≡ xs
-append-nil [] = refl
-append-nil (x ∷ xs) = ap (λ ys. x ∷ ys) (append-nil xs)
-
-pub rest-quiet : DenotesOne → Symmetric → Transitive → (tree : Item) (c : Class) (slot : SlotParts) (of : SystemType) (cs : ℕ) (at : Option ℕ) (first : ℕ) (run : Run)
-    (shared later end : Option ℕ) → at ≡ Some cs → HasId tree cs → IsAt tree (rest_of (here tree cs)) (Some first) →
-    IsTaken c (one class.CoordinateSystem) (item_at tree cs) → HasType (item_at tree cs) of → IsRun tree c of first run →
-    Leaves tree c (optional class.AxisUnit) run.next later → Only tree c (optional class.AxisUnit) run.next shared later → Leaves tree c slot later end → end ≡ None → IsTail slot →
-    ((axes : List Item) → length axes ≡ run.axes.count → IsLeast (OfHead (dimensions_of c) axes (item_at tree cs)) None) → AreOrdered run.axes → UnitsFit tree run.axes shared →
-    IsLeast (RepeatsAny c (ahead tree later) once) None → IsQuiet c (ahead tree at)
-rest-quiet law symmetric transitive tree c slot of cs at first run shared later end e has is taken typed seen unit only ends ended free head ordered fit repeats = record {
-  repeats = once-back c (ahead tree at) (ahead tree later)
-      (record {
-        scope = same class.Scope refl refl refl;
-        area = same class.Area refl refl refl;
-        bbox = same class.BoundingBox refl refl refl;
-        extent = same class.VerticalExtent refl refl refl;
-        remark = same class.Remark refl refl refl;
-      }) repeats;
-  systems = subst OfUnits (sym units) (subst OfAxes (sym axes) none);
-}
-  where
-    front : (d : Class) → takes (one class.CoordinateSystem) d ≡ false → those c d (ahead tree at) ≡ those c d (ahead tree (Some first))
-    front d a = leaves-at tree c (one class.CoordinateSystem) at (Some cs) (Some first) e (leaves-one tree c (one class.CoordinateSystem) cs (Some first) has is taken) d a
-
-    same : (d : Class) → takes (one class.CoordinateSystem) d ≡ false → takes (some class.Axis) d ≡ false → takes (optional class.AxisUnit) d ≡ false →
-        those c d (ahead tree at) ≡ those c d (ahead tree later)
-    same d a b u = front d a ∙ seen.leaves d b ∙ unit d u
-
-    last : (d : Class) → takes slot d ≡ false → those c d (ahead tree later) ≡ []
-    last d gone = ends d gone ∙ ap (λ o. those c d (ahead tree o)) ended
-
-    systems : those c class.CoordinateSystem (ahead tree at) ≡ item_at tree cs ∷ []
-    systems =
-        ap (λ o. those c class.CoordinateSystem (ahead tree o)) e ∙ taken-first tree c class.CoordinateSystem (one class.CoordinateSystem) cs (Some first) has is taken refl
-        ∙ ap (λ xs. item_at tree cs ∷ xs) (seen.leaves class.CoordinateSystem refl ∙ unit class.CoordinateSystem refl ∙ last class.CoordinateSystem free.system)
-
-    axes : those c class.Axis (ahead tree at) ≡ seen.before
-    axes =
-        front class.Axis refl ∙ seen.are ∙ ap (λ xs. seen.before ++ xs) (unit class.Axis refl ∙ last class.Axis free.axis)
-        ∙ append-nil seen.before
-
-    units : those c class.AxisUnit (ahead tree at) ≡ the_one tree shared
-    units = front class.AxisUnit refl ∙ seen.leaves class.AxisUnit refl ∙ (only class.AxisUnit refl (last class.AxisUnit free.unit)).0
-
-    OfAxes : List Item → Type 0
-    OfAxes xs = IsLeast (BadSystems (dimensions_of c) (those c class.CoordinateSystem (ahead tree at)) xs (the_one tree shared)) None
-
-    OfUnits : List Item → Type 0
-    OfUnits us = IsLeast (BadSystems (dimensions_of c) (those c class.CoordinateSystem (ahead tree at)) (those c class.Axis (ahead tree at)) us) None
-
-    none : OfAxes seen.before
-    none =
-        systems-none (dimensions_of c) (those c class.CoordinateSystem (ahead tree at)) seen.before (the_one tree shared) (item_at tree cs) systems
-        (head seen.before (sym seen.seen.count)) (ordered-none law symmetric transitive of run.axes seen.before seen.seen ordered)
-        (units-none tree (item_at tree cs) of run.axes seen.before shared typed seen.seen fit)
-
--- ---- the classes that have a coordinate system
-
-pub system-stands : (c : Class) → HasSystem c → stand (keyword.Cs ∷ []) (is_same class.CoordinateSystem) c (one class.CoordinateSystem) ≡ true
-system-stands class.GeodeticCrs h = refl
-system-stands class.GeographicCrs h = refl
-system-stands class.ProjectedCrs h = refl
-system-stands class.VerticalCrs h = refl
-system-stands other h = absurd h
-
-pub axes-stand : (c : Class) → HasSystem c → HasAxes c
-axes-stand class.GeodeticCrs h = (refl, refl)
-axes-stand class.GeographicCrs h = (refl, refl)
-axes-stand class.ProjectedCrs h = (refl, refl)
-axes-stand class.VerticalCrs h = (refl, refl)
-axes-stand other h = absurd h
-
-pub unit-stands : (c : Class) → HasSystem c → stand (keyword.LengthUnit ∷ keyword.AngleUnit ∷ keyword.PlainUnit ∷ []) is_unit c (optional class.AxisUnit) ≡ true
-unit-stands class.GeodeticCrs h = refl
-unit-stands class.GeographicCrs h = refl
-unit-stands class.ProjectedCrs h = refl
-unit-stands class.VerticalCrs h = refl
-unit-stands other h = absurd h
-
 -- ---- a whole CRS
 
-pub quiet-back : (c : Class) (xs ys : Siblings) → those c class.CoordinateSystem xs ≡ those c class.CoordinateSystem ys → those c class.Axis xs ≡ those c class.Axis ys →
-    those c class.AxisUnit xs ≡ those c class.AxisUnit ys → SameOnce c xs ys → IsQuiet c ys → IsQuiet c xs
-quiet-back c xs ys systems axes units same quiet = record {
-  repeats = once-back c xs ys same quiet.repeats;
-  systems = subst P (sym systems) (subst Q (sym axes) (subst R (sym units) quiet.systems));
-}
-  where
-    R : List Item → Type 0
-    R us = IsLeast (BadSystems (dimensions_of c) (those c class.CoordinateSystem ys) (those c class.Axis ys) us) None
-
-    Q : List Item → Type 0
-    Q zs = IsLeast (BadSystems (dimensions_of c) (those c class.CoordinateSystem ys) zs (those c class.AxisUnit xs)) None
-
-    P : List Item → Type 0
-    P zs = IsLeast (BadSystems (dimensions_of c) zs (those c class.Axis xs) (those c class.AxisUnit xs)) None
-
-crs-quiet : (dims : SystemType → List ℕ) (c : Class) (item : Item) → IsLeast (RepeatsAny c (arguments item) once) None →
+crs-dynamic : (dims : SystemType → List ℕ) (c : Class) (item : Item) → IsLeast (RepeatsAny c (arguments item) once) None →
     IsLeast (BadSystems dims (those c class.CoordinateSystem (arguments item)) (those c class.Axis (arguments item)) (those c class.AxisUnit (arguments item))) None →
-    those c class.Dynamic (arguments item) ≡ [] → (f : RefusedAt) → OfCrs dims c item f → ⊥
-crs-quiet dims c item repeats systems none f (inl h) = repeats f h
-crs-quiet dims c item repeats systems none f (inr (inl h)) = systems f h
-crs-quiet dims c item repeats systems none f (inr (inr h)) = let P : List Item → Type 0 = λ xs. AnyOf IsUnsteady xs f in subst P none h.1
+    (f : RefusedAt) → OfCrs dims c item f → BadDynamic c item f
+crs-dynamic dims c item repeats systems f (inl h) = absurd (repeats f h)
+crs-dynamic dims c item repeats systems f (inr (inl h)) = absurd (systems f h)
+crs-dynamic dims c item repeats systems f (inr (inr h)) = h
 
-pub own-quiet : (c : Class) (item : Item) → HasSystem c → IsQuiet c (arguments item) → those c class.Dynamic (arguments item) ≡ [] → (f : RefusedAt) → Own c item f → ⊥
+own-dynamic : (c : Class) (item : Item) → HasSystem c → IsQuiet c (arguments item) → (f : RefusedAt) → Own c item f → BadDynamic c item f
 unfolding Own
-own-quiet class.GeodeticCrs item s q none f h = crs-quiet (dimensions_of class.GeodeticCrs) class.GeodeticCrs item q.repeats q.systems none f h
-own-quiet class.GeographicCrs item s q none f h = crs-quiet (dimensions_of class.GeographicCrs) class.GeographicCrs item q.repeats q.systems none f h
-own-quiet class.ProjectedCrs item s q none f h = crs-quiet (dimensions_of class.ProjectedCrs) class.ProjectedCrs item q.repeats q.systems none f h
-own-quiet class.VerticalCrs item s q none f h = crs-quiet (dimensions_of class.VerticalCrs) class.VerticalCrs item q.repeats q.systems none f h
-own-quiet other item s q none f h = absurd s
+own-dynamic class.GeodeticCrs item s q f h = crs-dynamic (dimensions_of class.GeodeticCrs) class.GeodeticCrs item q.repeats q.systems f h
+own-dynamic class.GeographicCrs item s q f h = crs-dynamic (dimensions_of class.GeographicCrs) class.GeographicCrs item q.repeats q.systems f h
+own-dynamic class.ProjectedCrs item s q f h = crs-dynamic (dimensions_of class.ProjectedCrs) class.ProjectedCrs item q.repeats q.systems f h
+own-dynamic class.VerticalCrs item s q f h = crs-dynamic (dimensions_of class.VerticalCrs) class.VerticalCrs item q.repeats q.systems f h
+own-dynamic other item s q f h = absurd s
 
-pub quiet-clean : (c : Class) (item : Item) → HasSystem c → kind_of_item item ≡ item_kinds.Node → is_of c item ≡ true → Fill c (slots_of c) (arguments item) → IsQuiet c (arguments item) →
-    those c class.Dynamic (arguments item) ≡ [] → IsClean c item
-quiet-clean c item s kind own fill quiet none = node-clean c item kind own fill (own-quiet c item s quiet none)
+dynamic-own : (c : Class) (item : Item) → HasSystem c → (f : RefusedAt) → BadDynamic c item f → Own c item f
+unfolding Own
+dynamic-own class.GeodeticCrs item s f h = inr (inr h)
+dynamic-own class.GeographicCrs item s f h = inr (inr h)
+dynamic-own class.ProjectedCrs item s f h = inr (inr h)
+dynamic-own class.VerticalCrs item s f h = inr (inr h)
+dynamic-own other item s f h = absurd s
 
-pub tail-is : IsTail tail
-tail-is = record { required = refl; many = refl; system = refl; axis = refl; unit = refl }
+-- what such a CRS breaks, within it and by itself
+pub quiet-whole : (c : Class) (item : Item) (inside dynamic whole : Option RefusedAt) → HasSystem c → IsQuiet c (arguments item) → IsLeast (BreaksAmong c (arguments item)) inside →
+    IsLeast (BadDynamic c item) dynamic → whole ≡ lesser inside dynamic → IsLeast (λ f. BreaksAmong c (arguments item) f ⊎ Own c item f) whole
+quiet-whole c item inside dynamic whole system quiet within bad is =
+    least-same (λ f. BreaksAmong c (arguments item) f ⊎ BadDynamic c item f) (λ f. BreaksAmong c (arguments item) f ⊎ Own c item f) whole to back
+    (either-is (BreaksAmong c (arguments item)) (BadDynamic c item) inside dynamic whole is within bad)
+  where
+    to : (f : RefusedAt) → BreaksAmong c (arguments item) f ⊎ BadDynamic c item f → BreaksAmong c (arguments item) f ⊎ Own c item f
+    to f (inl h) = inl h
+    to f (inr h) = inr (dynamic-own c item system f h)
 
-pub vertical-tail-is : IsTail vertical_tail
-vertical-tail-is = record { required = refl; many = refl; system = refl; axis = refl; unit = refl }
-
-pub either-class : (P : Class → Type 0) → P class.GeodeticCrs → P class.GeographicCrs → (c : Class) → (c ≡ class.GeodeticCrs) ⊎ (c ≡ class.GeographicCrs) → P c
-either-class P p q c (inl e) = subst P (sym e) p
-either-class P p q c (inr e) = subst P (sym e) q
+    back : (f : RefusedAt) → BreaksAmong c (arguments item) f ⊎ Own c item f → BreaksAmong c (arguments item) f ⊎ BadDynamic c item f
+    back f (inl h) = inl h
+    back f (inr h) = inr (own-dynamic c item system quiet f h)

@@ -1,5 +1,5 @@
 -- The judge of a whole text: what it answers of the root.
-use Rattle.std.proofs.Common.{◌≡◌, Bool, true, false, inl, inr, Option, Some, None, refl, subst}
+use Rattle.std.proofs.Common.{◌≡◌, Bool, true, false, inl, inr, Option, Some, None, refl, sym, ◌∙◌, subst}
 use Rattle.crs_text.specs.Items.{Item}
 use Rattle.crs_text.specs.Refusal.{RefusedAt}
 use Rattle.crs_shape.specs.declared.class.Class.{Class}
@@ -10,12 +10,20 @@ use Rattle.crs_value.specs.Break.{IsLeast}
 use Rattle.crs_value.specs.Checks.{Breaks}
 use Rattle.crs_value.specs.Judged.{Gives, Judged}
 use Rattle.crs_value.specs.Spells.{RefusesCrs}
-use Rattle.crs_value.proofs.FillingLemmas.{root-free}
 use Rattle.crs_value.proofs.JudgedLemmas.{fresh-least}
 use Rattle.crs_value.proofs.SpellsLemmas.{NoFaultIsShape}
 
 abbrev NoneIsShape : Type 0
 NoneIsShape = (c : Class) (item : Item) → first_inside c item ≡ None → Shaped c item
+
+pub root-free : NoFaultIsShape → (item : Item) (c : Class) → class_of_root item ≡ Some c → Shaped c item → IsFree (AtRoot item)
+root-free law item c e shaped fault (inl h) = let k : None ≡ Some c = sym h.0 ∙ e in cc
+root-free law item c e shaped fault (inr (d, h)) =
+    let P : Class → Type 0 = λ x. Inside x item fault in
+    (law c item).1 shaped fault (subst P (one (sym h.0 ∙ e)) h.1)
+  where
+    one : {a b : Class} → Some a ≡ Some b → a ≡ b
+    one k = cc
 
 pub root-misplaced : (tree item : Item) (refusal : RefusedAt) → item ≡ tree → class_of_root item ≡ None → refusal ≡ misplaced item → RefusesCrs tree refusal
 root-misplaced tree item refusal same none is = let P : Item → Type 0 = λ i. RefusesCrs i refusal in subst P same (inl (inl (none, is)))

@@ -1,23 +1,17 @@
 -- Axes one after another, with what is seen of them.
 use Rattle.std.proofs.Common.{◌≡◌, ℕ, ◌+◌, length, true, false, Option, Some, None, List, [], ◌∷◌, ◌++◌, refl, sym, ◌∙◌, ap, subst, arith}
-use Rattle.crs_text.specs.Items.{Item, rest_of, here, HasId, IsAt}
-use Rattle.crs_shape.specs.declared.class.Class.{Class}
-use Rattle.crs_shape.specs.declared.class.Class.TheVariants as class
+use Rattle.crs_text.specs.Items.{Item}
 use Rattle.crs_shape.specs.declared.system_type.SystemType.{SystemType}
 use Rattle.crs_shape.specs.declared.unit_kind.UnitKind.TheVariants as kinds
-use Rattle.crs_shape.specs.Slots.{SlotParts, some, any}
-use Rattle.crs_value.specs.declared.sound.axes.Axes.{Axes}
-use Rattle.crs_value.specs.declared.sound.axes.Places.{Places}
-use Rattle.crs_value.specs.declared.sound.axes.Seen.{Seen}
+use Rattle.crs_value.specs.declared.judging.axes.Axes.{Axes}
+use Rattle.crs_value.specs.declared.judging.axes.Places.{Places}
+use Rattle.crs_value.specs.declared.judging.axes.Seen.{Seen}
 use Rattle.crs_value.specs.BadOrder.{orders_in}
 use Rattle.crs_value.specs.BadUnit.{units_in, Asks, BadOwnUnit}
 use Rattle.crs_value.specs.Break.{IsLeast}
-use Rattle.crs_value.specs.Filling.{Fill, IsTaken}
 use Rattle.crs_value.specs.FoundArguments.{HasPlace}
-use Rattle.crs_value.specs.Reading.{Each, item_at, ahead, those}
-use Rattle.crs_value.specs.Seen.{the_one, axes_from, Has, Marks, IsMarked, ArePlaced, IsNoted, IsAmong, Differ, AllDiffer, AreAmong, IsSeen, IsRun}
-use Rattle.crs_value.proofs.FillingLemmas.{passes-more}
-use Rattle.crs_value.proofs.LeavesLemmas.{leaves-one, taken-first}
+use Rattle.crs_value.specs.Reading.{Each}
+use Rattle.crs_value.specs.Seen.{the_one, Has, Marks, IsMarked, ArePlaced, IsNoted, IsAmong, Differ, AllDiffer, AreAmong, IsSeen}
 
 pub each-on : {V : Type 0} → (P : V → Type 0) → (xs : List V) (x : V) → Each P xs → P x → Each P (xs ++ x ∷ [])
 each-on P [] x h p = (p, tt)
@@ -26,10 +20,6 @@ each-on P (y ∷ ys) x h p = (h.0, each-on P ys x h.1 p)
 length-on : {V : Type 0} → (xs : List V) (x : V) → length (xs ++ x ∷ []) ≡ length xs + 1
 length-on [] x = refl
 length-on (y ∷ ys) x = let e = length-on ys x in omega (arith, e)
-
-append-on : {V : Type 0} → (xs : List V) (x : V) (ys : List V) → xs ++ x ∷ ys ≡ (xs ++ x ∷ []) ++ ys
-append-on [] x ys = refl
-append-on (y ∷ xs) x ys = ap (λ zs. y ∷ zs) (append-on xs x ys)
 
 -- ---- orders
 
@@ -88,30 +78,3 @@ pub nothing-seen : (of : SystemType) → IsSeen of (record {
   angles = true;
 }) []
 nothing-seen of = record { count = refl; places = (tt, tt); none = λ e. tt; fit = λ e cs t. tt; free = λ e. tt; long = λ e cs t. tt; turned = λ e cs t. tt }
-
--- ---- one axis after another
-
-pub run-first : (tree : Item) (c : Class) (of : SystemType) (id : ℕ) (next : Option ℕ) (seen : Seen) (old new : Axes) → HasId tree id → IsAt tree (rest_of (here tree id)) next →
-    IsTaken c (some class.Axis) (item_at tree id) → Has tree (item_at tree id) seen → IsNoted tree of seen old new → IsSeen of old [] →
-    IsRun tree c of id (record { axes = new; next = next })
-run-first tree c of id next seen old new has at is parts noted none = record {
-  passes = λ slots h. passes-more tree c (some class.Axis) id next has at refl is slots h;
-  leaves = leaves-one tree c (some class.Axis) id next has at is;
-  before = item_at tree id ∷ [];
-  are = taken-first tree c class.Axis (some class.Axis) id next has at is refl;
-  seen = seen-on tree of seen old new [] (item_at tree id) noted parts none;
-}
-
-pub run-on : (tree : Item) (c : Class) (of : SystemType) (first id : ℕ) (at next : Option ℕ) (seen : Seen) (old new : Axes) → at ≡ Some id → HasId tree id →
-    IsAt tree (rest_of (here tree id)) next → IsTaken c (any class.Axis) (item_at tree id) → Has tree (item_at tree id) seen → IsNoted tree of seen old new →
-    IsRun tree c of first (record { axes = old; next = at }) → IsRun tree c of first (record { axes = new; next = next })
-run-on tree c of first id at next seen old new same has is-at is parts noted run =
-    let F : List SlotParts → Option ℕ → Type 0 = λ slots o. Fill c (any class.Axis ∷ slots) (ahead tree o) in
-    record {
-      passes = λ slots h. run.passes slots (subst (F slots) (sym same) (passes-more tree c (any class.Axis) id next has is-at refl is slots h));
-      leaves = λ d none. run.leaves d none ∙ ap (λ o. those c d (ahead tree o)) same ∙ leaves-one tree c (any class.Axis) id next has is-at is d none;
-      before = run.before ++ item_at tree id ∷ [];
-      are = run.are ∙ ap (λ o. run.before ++ axes_from tree c o) same ∙ ap (λ xs. run.before ++ xs) (taken-first tree c class.Axis (any class.Axis) id next has is-at is refl)
-          ∙ append-on run.before (item_at tree id) (axes_from tree c next);
-      seen = seen-on tree of seen old new run.before (item_at tree id) noted parts run.seen;
-    }

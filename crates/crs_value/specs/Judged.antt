@@ -1,6 +1,6 @@
 -- A bridge: what a walk over items answers: whether it found no fault of shape, and the first fault so far:
 -- that of shape where there is one, else the least of the checks that are broken.
-use Rattle.std.specs.Prelude.{◌≡◌, ℕ, ◌⊎◌, Bool, true, false, Option, Some, None, List, [], ◌∷◌, ◌++◌}
+use Rattle.std.specs.Prelude.{◌≡◌, ℕ, ◌⊎◌, Bool, true, false, Option, Some, None, List, ◌∷◌, ◌++◌}
 use Rattle.std.specs.List.{list_any}
 use denote.Enum.Bare.{sameb}
 use Rattle.crs_text.specs.Items.{Item}
@@ -58,7 +58,12 @@ AllPassed tree c close front at old (Some next) new =
     Walked tree c close slots next new ok last → Walked tree c close (front ++ slots) at old ok last
 
 -- the arguments from `at` on have the same ones as those from
--- `next` on, of each class that none of the slots takes
+-- `next` on, of each class that the slot doesn't take
+abbrev pub Leaves : Item → Class → SlotParts → Option ℕ → Option ℕ → Type 0
+Leaves tree c slot at next =
+    (d : Class) → takes slot d ≡ false → those c d (ahead tree at) ≡ those c d (ahead tree next)
+
+-- the same of the classes that none of some slots takes
 abbrev pub AllLeave : Item → Class → List SlotParts → Option ℕ → Option ℕ → Type 0
 AllLeave tree c front at next =
     (d : Class) → list_any (λ s. takes s d) front ≡ false →

@@ -12,7 +12,6 @@ pub mod ConversionValues
 pub mod CrsValues
 pub mod DynamicValues
 pub mod EnsembleFrames
-pub mod Filling
 pub mod FirstArguments
 pub mod FirstByte
 pub mod FoundArguments

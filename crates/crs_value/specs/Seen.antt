@@ -1,31 +1,28 @@
 -- A bridge: what one walk sees of axes beside one another, and of a CRS from its node `CS` on.
 use Rattle.std.specs.Prelude.{◌≡◌, ◌≢◌, ℕ, ◌+◌, ◌<◌, ◌≤◌, length, ◌⊎◌, true, false}
-use Rattle.std.specs.Prelude.{List, [], ◌∷◌, ◌++◌, Option, Some, None, Bool, not}
+use Rattle.std.specs.Prelude.{List, [], ◌∷◌, Option, Some, None, Bool, not}
 use Rattle.std.specs.List.{list_any, list_all}
 use Rattle.crs_text.specs.Items.{Item, Siblings, arguments, HasId}
 use Rattle.crs_text.specs.Refusal.{RefusedAt}
-use Rattle.crs_text.specs.declared.keyword.Keyword.TheVariants as keyword
 use Rattle.crs_shape.specs.declared.class.Class.{Class}
 use Rattle.crs_shape.specs.declared.class.Class.TheVariants as class
 use Rattle.crs_shape.specs.declared.system_type.SystemType.{SystemType}
 use Rattle.crs_shape.specs.declared.unit_kind.UnitKind.TheVariants as kinds
 use Rattle.crs_shape.specs.Shaped.{Shaped}
-use Rattle.crs_shape.specs.Slots.{SlotParts, one, optional, some, any, takes, is_class}
+use Rattle.crs_shape.specs.Slots.{SlotParts, one, optional, some, takes, is_class}
 use Rattle.crs_shape.specs.Dimensions.{dimensions_of}
 use Rattle.crs_shape.specs.UnitKinds.{asked_kind}
+use Rattle.crs_value.specs.declared.judging.axes.Axes.{Axes}
+use Rattle.crs_value.specs.declared.judging.axes.Places.{Places}
+use Rattle.crs_value.specs.declared.judging.axes.Seen.{Seen}
 use Rattle.crs_value.specs.declared.judging.quiet.Layout.{Layout}
-use Rattle.crs_value.specs.declared.sound.axes.Axes.{Axes}
-use Rattle.crs_value.specs.declared.sound.axes.Places.{Places}
-use Rattle.crs_value.specs.declared.sound.axes.Run.{Run}
-use Rattle.crs_value.specs.declared.sound.axes.Seen.{Seen}
 use Rattle.crs_value.specs.BadOrder.{orders_in}
 use Rattle.crs_value.specs.BadUnit.{units_in, Asks, Fits, BadOwnUnit}
 use Rattle.crs_value.specs.Break.{IsLeast}
 use Rattle.crs_value.specs.Checks.{once, BadSystems}
-use Rattle.crs_value.specs.Filling.{Fill, Leaves, stand}
 use Rattle.crs_value.specs.FoundArguments.{HasPlace}
 use Rattle.crs_value.specs.Judged.{Walked}
-use Rattle.crs_value.specs.Reading.{Each, item_at, ahead, is_same, those, Holds, ReadsFirst}
+use Rattle.crs_value.specs.Reading.{Each, item_at, ahead, those, Holds, ReadsFirst}
 use Rattle.crs_value.specs.Reads.{HasType, ReadsDirection}
 use Rattle.crs_value.specs.RepeatedPart.{RepeatsAny}
 
@@ -39,13 +36,6 @@ abbrev pub IsShaped : Item → Class → Option ℕ → Type 0
 IsShaped tree c None = Unit {0}
 IsShaped tree c (Some id) = HasId tree id × Shaped c (item_at tree id)
 
--- where the arguments from `next` on have none of the one class that
--- the slot takes, those from `at` on have the found one alone
-abbrev pub Only : Item → Class → SlotParts → Option ℕ → Option ℕ → Option ℕ → Type 0
-Only tree c slot at found next =
-    (d : Class) → slot.classes ≡ d ∷ [] → those c d (ahead tree next) ≡ [] →
-    (those c d (ahead tree at) ≡ the_one tree found) × IsShaped tree d found
-
 -- ---- axes
 
 -- an axis's direction, and its only order and its only unit, where it has them
@@ -55,16 +45,6 @@ pub record Has (tree axis : Item) (seen : Seen) : Type 0 where
   pub order : IsShaped tree class.Order seen.order
   pub units : units_in axis ≡ the_one tree seen.unit
   pub unit : IsShaped tree class.AxisUnit seen.unit
-
--- a node of this class has axes in a slot of theirs
-abbrev pub HasAxes : Class → Type 0
-HasAxes c =
-    (stand (keyword.Axis ∷ []) (is_same class.Axis) c (some class.Axis) ≡ true)
-    × (stand (keyword.Axis ∷ []) (is_same class.Axis) c (any class.Axis) ≡ true)
-
--- the axes from one argument of a node on
-abbrev pub axes_from : Item → Class → Option ℕ → List Item
-axes_from tree c at = those c class.Axis (ahead tree at)
 
 -- a number is among these
 abbrev pub Marks : Places → ℕ → Type 0
@@ -131,15 +111,6 @@ pub record IsSeen (of : SystemType) (axes : Axes) (before : List Item) : Type 0 
   pub turned : axes.angles ≡ true → (cs : Item) → HasType cs of →
       Each (λ a. Asks cs a kinds.Angle) before
 
--- the axes from this one to the arguments behind, of which some may be axes too
-pub record IsRun (tree : Item) (c : Class) (of : SystemType) (first : ℕ) (run : Run) : Type 0 where
-  pub passes : (slots : List SlotParts) → Fill c (any class.Axis ∷ slots) (ahead tree run.next) →
-      Fill c (some class.Axis ∷ slots) (ahead tree (Some first))
-  pub leaves : Leaves tree c (some class.Axis) (Some first) run.next
-  pub before : List Item
-  pub are : axes_from tree c (Some first) ≡ before ++ axes_from tree c run.next
-  pub seen : IsSeen of run.axes before
-
 -- ---- from the node `CS` on
 
 -- orders were seen, and they are among those from 1 to this number
@@ -163,14 +134,6 @@ UnitsFit tree axes (Some unit) =
 abbrev pub rest_slots : SlotParts → List SlotParts
 rest_slots slot =
     one class.CoordinateSystem ∷ some class.Axis ∷ optional class.AxisUnit ∷ slot ∷ []
-
--- a slot of what may be at an end, with neither coordinate system nor axes nor their units
-pub record IsTail (slot : SlotParts) : Type 0 where
-  pub required : slot.required ≡ false
-  pub many : slot.many ≡ true
-  pub system : takes slot class.CoordinateSystem ≡ false
-  pub axis : takes slot class.Axis ≡ false
-  pub unit : takes slot class.AxisUnit ≡ false
 
 -- these arguments break no check of a CRS but perhaps that of dynamic parts
 pub record IsQuiet (c : Class) (items : Siblings) : Type 0 where

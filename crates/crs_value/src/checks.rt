@@ -1,5 +1,4 @@
 //! Checks of items of the right shape: which is broken first.
-pub(crate) mod axes;
 pub(crate) mod component;
 pub(crate) mod crs;
 pub(crate) mod dynamic;

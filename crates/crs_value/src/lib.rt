@@ -6,7 +6,6 @@ mod checks;
 mod judging;
 pub mod laws;
 mod reading;
-mod sound;
 mod values;
 
 pub use crs_shape::{Direction, SystemType, UnitKind};

@@ -10,7 +10,6 @@ ghost use Rattle.crs_value.specs.FirstArguments.{AreFirsts};
 ghost use Rattle.crs_value.specs.RepeatedPart.{RepeatsAny};
 ghost use Rattle.crs_value.specs.Reading.{item_at, those, TakesOne};
 
-use crate::checks::axes::axes_are_right;
 use crate::checks::dynamic::bad_dynamic;
 use crate::checks::order::bad_order;
 use crate::checks::repeats::repeats_once;
@@ -110,38 +109,6 @@ fn of_head(items: &Items<'_>, id: ItemId, class: Class, firsts: &Firsts) -> Opti
     )
 }
 
-// 26 and 27: the orders and units of the axes. Mostly they are right.
-fn orders_and_units(items: &Items<'_>, id: ItemId, class: Class, firsts: &Firsts) -> Option<Refusal>
-    requires has { HasId items.now id }
-    requires shaped { Shaped class (item_at items.now id) }
-    requires once { TakesOne class Class.CoordinateSystem }
-    requires firsts { AreFirsts items.now class (arguments (item_at items.now id)) firsts.now }
-    ensures { IsLeast (OfAxes (those class Class.CoordinateSystem (arguments (item_at items.now id)))
-        (those class Class.Axis (arguments (item_at items.now id)))
-        (those class Class.AxisUnit (arguments (item_at items.now id)))) result }
-{
-    if axes_are_right(items, id, class, firsts) {
-        return None;
-    }
-    let units = UnitsOf {
-        crs: id,
-        class,
-        axis: firsts.axis,
-        unit: firsts.unit,
-    };
-    lesser(
-        bad_order(items, id, class, firsts),
-        only_from(
-            &units,
-            items,
-            id,
-            class,
-            Class::CoordinateSystem,
-            firsts.system,
-        ),
-    )
-}
-
 // 26, 27 and 29: the axes and their units, and dynamic parts.
 fn of_axes(items: &Items<'_>, id: ItemId, class: Class, firsts: &Firsts) -> Option<Refusal>
     requires has { HasId items.now id }
@@ -153,10 +120,24 @@ fn of_axes(items: &Items<'_>, id: ItemId, class: Class, firsts: &Firsts) -> Opti
         (those class Class.AxisUnit (arguments (item_at items.now id))) f
         ⊎ BadDynamic class (item_at items.now id) f) result }
 {
-    lesser(
-        orders_and_units(items, id, class, firsts),
-        bad_dynamic(items, id, class, firsts.dynamic),
-    )
+    let units = UnitsOf {
+        crs: id,
+        class,
+        axis: firsts.axis,
+        unit: firsts.unit,
+    };
+    let axes = lesser(
+        bad_order(items, id, class, firsts),
+        only_from(
+            &units,
+            items,
+            id,
+            class,
+            Class::CoordinateSystem,
+            firsts.system,
+        ),
+    );
+    lesser(axes, bad_dynamic(items, id, class, firsts.dynamic))
 }
 
 // The refusal, if its number goes before those of the axes.

@@ -48,7 +48,7 @@ fn first_telling(bytes: &[u8]) -> Option<u8>
 
 // Whether a digit that isn't 0 comes first, or after zeros, a period and a plus alone: then the number is above zero,
 // and needn't be read.
-pub(crate) fn begins_above_zero(items: &Items<'_>, id: ItemId) -> bool
+fn begins_above_zero(items: &Items<'_>, id: ItemId) -> bool
     requires { HasId items.now id }
     ensures { IsTrue result → IsLeast (NotAbove (item_at items.now id)) None }
 {

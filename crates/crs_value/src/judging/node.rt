@@ -10,8 +10,10 @@ ghost use Rattle.crs_value.specs.Judged.{Answers, Judged};
 ghost use Rattle.crs_value.specs.Reading.{item_at, Holds};
 ghost use Rattle.crs_value.specs.Seen.{is_head, is_tail, rest_slots, IsHeld, IsLaid, Laid};
 
+use crate::checks::crs::whole_crs;
+use crate::checks::dynamic::bad_dynamic_in;
 use crate::checks::lesser;
-use crate::checks::own::{own, own_of_part};
+use crate::checks::own::own_of_part;
 use crate::judging::named::AxisUnit;
 use crate::judging::quiet::{Layout, is_quiet};
 use crate::judging::slots::{Any, End, Found, Front, One, OneOrMore, Optional, Part, Slot, Slots};
@@ -106,9 +108,9 @@ fn whole(
         ⊎ Own class (item_at items.now id) f) result }
 {
     if is_quiet(items, id, class, layout) {
-        return inside;
+        return lesser(inside, bad_dynamic_in(items, id, class));
     }
-    own(items, id, class, inside)
+    whole_crs(items, id, class, inside)
 }
 
 // Whether an item that may be a CRS of this class, which has a coordinate system, has no fault of shape as one; what it

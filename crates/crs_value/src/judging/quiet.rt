@@ -1,20 +1,15 @@
 //! Whether the checks of a CRS by itself are seen at once to hold, as they mostly do, where the walk for its shape has
 //! told where its parts begin.
-ghost use Rattle.std.specs.Prelude.{◌≡◌, IfSome, IsTrue, None, [], ◌∷◌};
+ghost use Rattle.std.specs.Prelude.{◌≡◌, IfSome, IsTrue, [], ◌∷◌};
 ghost use Rattle.crs_text.specs.Items.{HasId, arguments, here};
 ghost use Rattle.crs_shape.specs.Shaped.{Shaped};
-ghost use Rattle.crs_value.specs.Break.{IsLeast};
-ghost use Rattle.crs_value.specs.Checks.{HasSystem, Own};
 ghost use Rattle.crs_value.specs.FoundArguments.{AllShaped};
 ghost use Rattle.crs_value.specs.Reading.{item_at, ahead, those, Holds};
-ghost use Rattle.crs_value.specs.Seen.{the_one, IsHeld, IsLaid, IsSeen};
+ghost use Rattle.crs_value.specs.Seen.{the_one, IsHeld, IsLaid, IsQuiet, IsSeen};
 
-use crate::checks::axes::seen_of;
 use crate::checks::system::type_of;
-use crate::reading::arguments::first;
-use crate::sound::axes::{Axes, MOST, NONE, noted};
-use crate::sound::rest::{head_fits, is_ascending, is_ordered, units_fit};
-use crate::sound::walk::is_end;
+use crate::judging::axes::{Axes, MOST, NONE, noted, seen_of};
+use crate::judging::rest::{head_fits, is_ascending, is_ordered, units_fit};
 use crs_decimal::laws;
 use crs_shape::{Class, SystemType, stands_as};
 use crs_text::{ItemId, Items};
@@ -105,14 +100,14 @@ fn shared_unit(
     }
 }
 
-// Whether a CRS of this class is seen to break no check by itself; one that breaks none may still be told of.
+// Whether a CRS of this class is seen to break no check by itself but perhaps that of dynamic parts; one that breaks
+// none may still be told of.
 pub(crate) fn is_quiet(items: &Items<'_>, id: ItemId, class: Class, layout: Layout) -> bool
     requires has { HasId items.now id }
     requires shaped { Shaped class (item_at items.now id) }
-    requires system { HasSystem class }
     requires held { IsHeld items.now layout }
     requires laid { IsLaid items.now class (arguments (item_at items.now id)) layout }
-    ensures { IsTrue result → IsLeast (Own class (item_at items.now id)) None }
+    ensures { IsTrue result → IsQuiet class (arguments (item_at items.now id)) }
 {
     laws::denotes_one();
     laws::same_number_is_equivalence();
@@ -140,9 +135,5 @@ pub(crate) fn is_quiet(items: &Items<'_>, id: ItemId, class: Class, layout: Layo
     if !units_fit(items, axes, shared) {
         return false;
     }
-    if !is_ascending(items, layout.tail, class) {
-        return false;
-    }
-    // A dynamic part may break a check.
-    is_end(first(items, id, class, Class::Dynamic))
+    is_ascending(items, layout.tail, class)
 }

@@ -1,8 +1,6 @@
 use Rattle.crs_text.specs.Items.{arguments}
-use Rattle.crs_shape.specs.declared.class.Class.TheVariants as class
-use Rattle.crs_value.specs.Reading.{item_at, those}
-use Rattle.crs_value.proofs.LayoutLemmas.{axes-shaped, found-none, laid-quiet, system-shaped}
-use Rattle.crs_value.proofs.RestLemmas.{own-quiet}
+use Rattle.crs_value.specs.Reading.{item_at}
+use Rattle.crs_value.proofs.LayoutLemmas.{axes-shaped, laid-quiet, system-shaped}
 use Rattle.crs_value.proofs.judging.quiet.is_quiet.Goals as goal
 
 pub type_of-requires-clause-shaped : goal.type_of-requires-clause-shaped
@@ -21,11 +19,7 @@ head_fits-requires-clause-shaped c =
 pub returns : goal.returns
 returns c = λ yes.
     let tree = c.args.items.now in
-    let item = item_at tree c.args.id in
-    let d = c.args.class in
-    own-quiet d item c.requires.system
-    (laid-quiet c.denotes_one.ensures c.same_number_is_equivalence.ensures.symmetric c.same_number_is_equivalence.ensures.transitive tree d (arguments item) c.args.layout c.in-Some.cs
-    c.in-Some-type_of.system_type c.in-Some-axes_until.axes c.in-Some-shared_unit.shared c.requires.laid c.in-Some.is (c.is_only.ensures c.if-not-is_only.false) c.in-Some-type_of.ensures
-    c.in-Some-axes_until.ensures c.in-Some-shared_unit.ensures.unit (c.head_fits.ensures c.if-not-head_fits.false) (c.is_ordered.ensures c.if-not-is_ordered.false)
-    (c.units_fit.ensures c.if-not-units_fit.false) (c.is_ascending.ensures c.if-not-is_ascending.false))
-    (found-none tree d class.Dynamic (those d class.Dynamic (arguments item)) c.first.result (c.is_end.ensures yes) c.first.ensures)
+    laid-quiet c.denotes_one.ensures c.same_number_is_equivalence.ensures.symmetric c.same_number_is_equivalence.ensures.transitive tree c.args.class (arguments (item_at tree c.args.id))
+    c.args.layout c.in-Some.cs c.in-Some-type_of.system_type c.in-Some-axes_until.axes c.in-Some-shared_unit.shared c.requires.laid c.in-Some.is (c.is_only.ensures c.if-not-is_only.false)
+    c.in-Some-type_of.ensures c.in-Some-axes_until.ensures c.in-Some-shared_unit.ensures.unit (c.head_fits.ensures c.if-not-head_fits.false) (c.is_ordered.ensures c.if-not-is_ordered.false)
+    (c.units_fit.ensures c.if-not-units_fit.false) (c.is_ascending.ensures yes)

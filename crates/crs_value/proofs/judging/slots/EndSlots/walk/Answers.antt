@@ -1,5 +1,5 @@
 use Rattle.std.proofs.Common.{refl, false}
-use Rattle.crs_value.proofs.FillingLemmas.{has-some}
+use Rattle.crs_value.proofs.ArgumentLemmas.{has-some}
 use Rattle.crs_value.proofs.JudgedLemmas.{end-none, end-some}
 use Rattle.crs_value.proofs.judging.slots.EndSlots.walk.Goals as goal
 

@@ -1,6 +1,6 @@
-use Rattle.std.proofs.Common.{refl, ap, None, Some, true, false}
+use Rattle.std.proofs.Common.{refl, ap, None, Some}
 use Rattle.crs_shape.specs.Slots.{some_of}
-use Rattle.crs_value.proofs.FillingLemmas.{has-some}
+use Rattle.crs_value.proofs.ArgumentLemmas.{has-some}
 use Rattle.crs_value.proofs.JudgedLemmas.{passed-short, passed-wrong, passed-more, passed-stop}
 use Rattle.crs_value.proofs.LeftLemmas.{leaves-judged, leaves-again}
 use Rattle.crs_value.proofs.judging.slots.OneOrMoreSlot.pass.Goals as goal

@@ -1,6 +1,6 @@
-use Rattle.std.proofs.Common.{refl, ap, None, Some, true, false}
+use Rattle.std.proofs.Common.{refl, ap, None, Some}
 use Rattle.crs_shape.specs.Slots.{one_of}
-use Rattle.crs_value.proofs.FillingLemmas.{has-some}
+use Rattle.crs_value.proofs.ArgumentLemmas.{has-some}
 use Rattle.crs_value.proofs.JudgedLemmas.{passed-short, passed-wrong, passed-one, passed-stop}
 use Rattle.crs_value.proofs.LeftLemmas.{leaves-judged}
 use Rattle.crs_value.proofs.judging.slots.OneSlot.pass.Goals as goal

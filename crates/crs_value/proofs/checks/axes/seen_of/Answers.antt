@@ -1,8 +1,0 @@
-use Rattle.crs_value.specs.Reading.{item_at}
-use Rattle.crs_value.proofs.AxesLemmas.{axis-has}
-use Rattle.crs_value.proofs.checks.axes.seen_of.Goals as goal
-
-pub returns : goal.returns
-returns c =
-    axis-has c.slots_count.ensures.most c.args.items.now (item_at c.args.items.now c.args.axis) _ c.requires.shaped c.in-Some.ensures c.first.ensures
-    c.first-2.ensures

@@ -1,0 +1,18 @@
+use Rattle.crs_text.specs.Items.{rest_of, here}
+use Rattle.crs_value.specs.Reading.{ahead}
+use Rattle.crs_value.proofs.ArgumentLemmas.{has-some, holds_at}
+use Rattle.crs_value.proofs.RestLemmas.{climbing-first, climbing-on}
+use Rattle.crs_value.proofs.judging.rest.is_ascending.Goals as goal
+
+pub loop-at-init : goal.loop-at-init
+loop-at-init c = record { holds = c.requires; climbing = climbing-first c.args.parent (ahead c.args.items.now c.args.from) }
+
+pub loop-at-preserved : goal.loop-at-preserved
+loop-at-preserved c =
+    let tree = c.args.items.now in
+    let id = c.in-Some.id in
+    record {
+      holds = holds_at tree (rest_of (here tree id)) c.next-at.result c.next-at.ensures;
+      climbing = climbing-on tree c.args.parent (ahead tree c.args.from) c.loop-at.at id c.next-at.result c.loop-at.last c.in-Some-climbed.next c.class_in.result c.in-Some.is
+          (has-some tree c.loop-at.at id c.in-Some.is c.loop-at.invariant.holds) c.next-at.ensures c.class_in.ensures c.in-Some-climbed.ensures c.loop-at.invariant.climbing;
+    }

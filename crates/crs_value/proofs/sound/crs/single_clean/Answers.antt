@@ -1,4 +1,0 @@
-use Rattle.crs_value.proofs.sound.crs.single_clean.Goals as goal
-
-pub is_clean-requires-clause-fills : goal.is_clean-requires-clause-fills
-is_clean-requires-clause-fills c = c.fills_single.ensures c.if-not-fills_single.false

@@ -1,9 +1,0 @@
-use Rattle.crs_shape.specs.Dimensions.{dimensions_of}
-use Rattle.crs_value.specs.Reading.{item_at}
-use Rattle.crs_value.proofs.RestLemmas.{head-none}
-use Rattle.crs_value.proofs.sound.rest.head_fits.Goals as goal
-
-pub returns : goal.returns
-returns c = λ yes axes e.
-    head-none c.denotes_one.ensures (dimensions_of c.args.class) (item_at c.args.items.now c.args.cs) c.args.system_type c.number-dimension.result axes c.args.count c.requires.type_read
-    c.number-dimension.ensures (c.is_allowed.ensures.0 c.if-not-is_allowed.false) (c.is_whole.ensures.0 yes) e

@@ -1,0 +1,186 @@
+//! What is seen of the axes of a CRS, one after another: their orders and units.
+ghost use Rattle.std.specs.Prelude.{◌≡◌, ◌+◌, ◌^◌, ◌<◌, IfSome, IsTrue, None};
+ghost use Rattle.crs_text.specs.Items.{Item, HasId};
+ghost use Rattle.crs_shape.specs.declared.class.Class.{Class};
+ghost use Rattle.crs_shape.specs.Shaped.{Shaped};
+ghost use Rattle.crs_value.specs.BadUnit.{Asks, BadOwnUnit, units_in};
+ghost use Rattle.crs_value.specs.Break.{IsLeast};
+ghost use Rattle.crs_value.specs.Reading.{item_at};
+ghost use Rattle.crs_value.specs.Seen.{the_one, ArePlaced, Has, IsMarked, IsNoted, IsShaped};
+
+use crate::checks::unit::{direction_of, fits};
+use crate::reading::arguments::first;
+use crate::reading::node::number;
+use crs_shape::{Class, Direction, SystemType, UnitKind};
+use crs_text::{ItemId, Items};
+
+// What an axis has that is checked beside the others: its direction, and its order and unit where they are written.
+#[derive(Clone, Copy)]
+pub(crate) struct Seen {
+    pub(crate) direction: Direction,
+    pub(crate) order: Option<ItemId>,
+    pub(crate) unit: Option<ItemId>,
+}
+
+// Whether 1, 2 and 3 are among some orders.
+#[derive(Clone, Copy)]
+pub(crate) struct Places {
+    pub(crate) first: bool,
+    pub(crate) second: bool,
+    pub(crate) third: bool,
+}
+
+// How many axes there are; their orders, where each has one, and they differ; whether none has an order; whether each
+// has a unit that fits; whether none has a unit; and whether each asks for a length, or for an angle.
+#[derive(Clone, Copy)]
+pub(crate) struct Axes {
+    pub(crate) count: usize,
+    pub(crate) places: Option<Places>,
+    pub(crate) orderless: bool,
+    pub(crate) own: bool,
+    pub(crate) alone: bool,
+    pub(crate) lengths: bool,
+    pub(crate) angles: bool,
+}
+
+// No order was seen yet.
+const NOWHERE: Places = Places {
+    first: false,
+    second: false,
+    third: false,
+};
+
+// No axis was seen yet.
+pub(crate) const NONE: Axes = Axes {
+    count: 0,
+    places: Some(NOWHERE),
+    orderless: true,
+    own: true,
+    alone: true,
+    lengths: true,
+    angles: true,
+};
+
+// No CRS has more axes.
+pub(crate) const MOST: usize = 3;
+
+// What an axis has; None where its word is no direction.
+pub(crate) fn seen_of(items: &Items<'_>, axis: ItemId) -> Option<Seen>
+    requires has { HasId items.now axis }
+    requires shaped { Shaped Class.Axis (item_at items.now axis) }
+    ensures { IfSome result (λ seen. Has items.now (item_at items.now axis) seen) }
+{
+    crs_shape::laws::slots_count();
+    let Some(direction) = direction_of(items, axis) else {
+        return None;
+    };
+    Some(Seen {
+        direction,
+        order: first(items, axis, Class::Axis, Class::Order),
+        unit: first(items, axis, Class::Axis, Class::AxisUnit),
+    })
+}
+
+// Whether there is none.
+pub(crate) fn is_none(at: Option<ItemId>) -> bool
+    ensures { IsTrue result → at ≡ None }
+{
+    at.is_none()
+}
+
+// Whether this is still so with one axis more.
+#[inline(always)]
+fn still(before: bool, now: bool) -> bool
+    ensures { IsTrue result → IsTrue before × IsTrue now }
+{
+    before && now
+}
+
+// One order more; None where it is none of 1 to 3, or is among the others.
+fn with_place(places: Places, place: u64) -> Option<Places>
+    ensures { IfSome result (λ more. IsMarked place places more) }
+{
+    if place == 1 && !places.first {
+        return Some(Places {
+            first: true,
+            second: places.second,
+            third: places.third,
+        });
+    }
+    if place == 2 && !places.second {
+        return Some(Places {
+            first: places.first,
+            second: true,
+            third: places.third,
+        });
+    }
+    if place == 3 && !places.third {
+        return Some(Places {
+            first: places.first,
+            second: places.second,
+            third: true,
+        });
+    }
+    None
+}
+
+// The orders with that of one axis more.
+fn placed(items: &Items<'_>, places: Option<Places>, order: Option<ItemId>) -> Option<Places>
+    requires { IsShaped items.now Class.Order order }
+    ensures { ArePlaced items.now order places result }
+{
+    let Some(old) = places else { return None };
+    let Some(order) = order else { return None };
+    let Some(place) = number(items, order, Class::Order).whole() else {
+        return None;
+    };
+    with_place(old, place)
+}
+
+// Whether the unit of an axis fits where this kind is asked.
+fn fits_own(items: &Items<'_>, unit: Option<ItemId>, kind: UnitKind) -> bool
+    requires { IsShaped items.now Class.AxisUnit unit }
+    ensures { IsTrue result → (cs : Item) → (axis : Item) → Asks cs axis kind → units_in axis ≡ the_one items.now unit →
+        IsLeast (BadOwnUnit cs axis) None }
+{
+    match unit {
+        None => false,
+        Some(unit) => fits(items, unit, kind),
+    }
+}
+
+fn same_kind(a: UnitKind, b: UnitKind) -> bool
+    ensures { IsTrue result → a ≡ b }
+{
+    a == b
+}
+
+// One axis more.
+pub(crate) fn noted(items: &Items<'_>, system_type: SystemType, seen: Seen, axes: Axes) -> Axes
+    requires order { IsShaped items.now Class.Order seen.order }
+    requires unit { IsShaped items.now Class.AxisUnit seen.unit }
+    requires bound { axes.count + 1 < 2 ^ 64 }
+    ensures { IsNoted items.now system_type seen axes result }
+{
+    let kind = system_type.asked_kind(seen.direction);
+    let places = placed(items, axes.places, seen.order);
+    let no_order = is_none(seen.order);
+    let orderless = still(axes.orderless, no_order);
+    let fit = fits_own(items, seen.unit, kind);
+    let own = still(axes.own, fit);
+    let no_unit = is_none(seen.unit);
+    let alone = still(axes.alone, no_unit);
+    let long = same_kind(kind, UnitKind::Length);
+    let lengths = still(axes.lengths, long);
+    let turned = same_kind(kind, UnitKind::Angle);
+    let angles = still(axes.angles, turned);
+    Axes {
+        count: axes.count + 1,
+        places,
+        orderless,
+        own,
+        alone,
+        lengths,
+        angles,
+    }
+}
