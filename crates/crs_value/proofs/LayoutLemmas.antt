@@ -1,5 +1,5 @@
 -- A CRS whose parts were found by the walk for its shape: what is seen of its coordinate system.
-use Rattle.std.proofs.Common.{◌≡◌, ◌≢◌, ℕ, ◌||◌, Bool, true, false, not, length, Option, Some, None, List, [], ◌∷◌, ◌++◌, refl, sym, ◌∙◌, ap, subst, append_assoc}
+use Rattle.std.proofs.Common.{◌≡◌, ◌≢◌, ℕ, ◌&&◌, ◌||◌, Bool, true, false, not, length, Option, Some, None, List, [], ◌∷◌, ◌++◌, refl, sym, ◌∙◌, ap, subst, append_assoc}
 use Rattle.std.specs.List.{list_any}
 use Rattle.crs_text.specs.Items.{Item, Siblings, End, More, arguments, rest_of, here, HasId, IsAt}
 use Rattle.crs_text.specs.Refusal.{RefusedAt}
