@@ -15,7 +15,7 @@ use crate::checks::dynamic::bad_dynamic_in;
 use crate::checks::lesser;
 use crate::checks::own::own_of_part;
 use crate::judging::named::AxisUnit;
-use crate::judging::quiet::{Layout, is_quiet};
+use crate::judging::quiet::{Layout, NOWHERE, is_quiet};
 use crate::judging::slots::{Any, End, Found, Front, One, OneOrMore, Optional, Part, Slot, Slots};
 use crate::judging::system::{Axis, CoordinateSystem};
 use crs_shape::{Class, laws, stands_as};
@@ -65,27 +65,26 @@ fn laid<H: Front, T: Part>(
     let Some(system) = H::front(items, at, class, close, found) else {
         return None;
     };
-    let Some(axes) = One::<CoordinateSystem>::pass(items, system, class, close, found) else {
+    let layout = Layout { system, ..NOWHERE };
+    let Some(axes) = One::<CoordinateSystem>::pass(items, layout.system, class, close, found) else {
         return None;
     };
-    let Some(unit) = OneOrMore::<Axis>::pass(items, axes, class, close, found) else {
+    let layout = Layout { axes, ..layout };
+    let Some(unit) = OneOrMore::<Axis>::pass(items, layout.axes, class, close, found) else {
         return None;
     };
-    let Some(tail) = Optional::<AxisUnit>::pass(items, unit, class, close, found) else {
+    let layout = Layout { unit, ..layout };
+    let Some(tail) = Optional::<AxisUnit>::pass(items, layout.unit, class, close, found) else {
         return None;
     };
-    let Some(end) = Any::<T>::pass(items, tail, class, close, found) else {
+    let layout = Layout { tail, ..layout };
+    let Some(end) = Any::<T>::pass(items, layout.tail, class, close, found) else {
         return None;
     };
     if !End::walk(items, end, class, close, found) {
         return None;
     }
-    Some(Layout {
-        system,
-        axes,
-        unit,
-        tail,
-    })
+    Some(layout)
 }
 
 // The least of what a CRS of the right shape breaks, within it and by itself. Mostly its own checks are seen at once to

@@ -23,10 +23,18 @@ pub(crate) struct Layout {
     pub(crate) tail: Option<ItemId>,
 }
 
-fn same_place(a: Option<ItemId>, b: Option<ItemId>) -> bool
-    ensures { IsTrue result → a ≡ b }
+// No part was found yet.
+pub(crate) const NOWHERE: Layout = Layout {
+    system: None,
+    axes: None,
+    unit: None,
+    tail: None,
+};
+
+fn same_place(a: &Option<ItemId>, b: &Option<ItemId>) -> bool
+    ensures { IsTrue result → a.now ≡ b.now }
 {
-    a == b
+    *a == *b
 }
 
 // Whether an argument is seen to be the only one of its class from there on.
@@ -38,7 +46,8 @@ fn is_only(items: &Items<'_>, id: ItemId, parent: Class, class: Class, next: Opt
     if !stands_as(items, id, parent, class) {
         return false;
     }
-    same_place(items.next(id), next)
+    let behind = items.next(id);
+    same_place(&behind, &next)
 }
 
 // What the axes from one argument to another have; None where a direction isn't known, or where they are more than a CRS
@@ -58,7 +67,7 @@ fn axes_until(
     let mut axes = NONE;
     let mut at = from;
     while let Some(axis) = at {
-        if same_place(at, until) {
+        if same_place(&at, &until) {
             return Some(axes);
         }
         if axes.count >= MOST {
@@ -89,7 +98,7 @@ fn shared_unit(
     ensures holds { IfSome result (λ shared. Holds items.now shared) }
     ensures unit { IfSome result (λ shared. those class Class.AxisUnit (ahead items.now at) ≡ the_one items.now shared) }
 {
-    if same_place(at, next) {
+    if same_place(&at, &next) {
         return Some(None);
     }
     let Some(id) = at else { return None };

@@ -14,7 +14,7 @@ pub returns-in-None-clause-passed : goal.returns-in-None-clause-passed
 returns-in-None-clause-passed g c =
     let tree = c.args.items.now in
     let slot = any_of g.P.Part.classes in
-    reaches-end tree c.args.parent c.args._close slot c.args.at c.loop-next.next c.args.found.now c.loop-next.found _ c.judge.new.found c.loop-next.invariant.reaches
+    reaches-end tree c.args.parent c.args._close slot c.args.at c.loop-next.next c.args.found.now c.loop-next.found (Some (Some c.in-Some.id)) c.judge.new.found c.loop-next.invariant.reaches
     (passed-skip tree c.args.parent c.args._close slot c.loop-next.next c.in-Some.id c.loop-next.found c.judge.new.found None refl c.in-Some.is
     (has-some tree c.loop-next.next c.in-Some.id c.in-Some.is c.loop-next.invariant.holds) refl c.in-None.ensures)
 
