@@ -78,6 +78,7 @@ pub(crate) fn any_from<C: Check>(
 }
 
 // The break of a node's argument of a class that it may have once, which was found where there is one.
+#[inline(always)]
 pub(crate) fn only_from<C: Check>(
     check: &C,
     items: &Items<'_>,
@@ -102,6 +103,7 @@ pub(crate) fn only_from<C: Check>(
 }
 
 // The break of a node's argument of a class that it may have once, which is looked for here.
+#[inline(always)]
 pub(crate) fn only_of<C: Check>(
     check: &C,
     items: &Items<'_>,

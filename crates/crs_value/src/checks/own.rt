@@ -31,6 +31,7 @@ fn ellipsoid(items: &Items<'_>, id: ItemId) -> Option<Refusal>
 
 // The checks that a node of a class without a coordinate system breaks by itself.
 #[tactic(auto, unfolding(crate::specs::Checks::Own))]
+#[inline(always)]
 pub(crate) fn own_of_part(items: &Items<'_>, id: ItemId, class: Class) -> Option<Refusal>
     requires has { HasId items.now id }
     requires shaped { Shaped class (item_at items.now id) }

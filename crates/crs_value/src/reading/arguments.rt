@@ -6,6 +6,7 @@ use crs_shape::{Class, Sought};
 use crs_text::{ItemId, Items};
 
 // The first argument of this class from this one on.
+#[inline(always)]
 fn found(items: &Items<'_>, from: Option<ItemId>, parent: Class, class: Class) -> Option<ItemId>
     requires { Holds items.now from }
     ensures { IsFound items.now parent class (those parent class (ahead items.now from)) result }
@@ -22,6 +23,7 @@ fn found(items: &Items<'_>, from: Option<ItemId>, parent: Class, class: Class) -
 }
 
 // The first argument of this class.
+#[inline(always)]
 pub(crate) fn first(items: &Items<'_>, id: ItemId, parent: Class, class: Class) -> Option<ItemId>
     requires { HasId items.now id }
     ensures { IsFound items.now parent class (those parent class (arguments
@@ -31,6 +33,7 @@ pub(crate) fn first(items: &Items<'_>, id: ItemId, parent: Class, class: Class) 
 }
 
 // The next argument of this class after this one.
+#[inline(always)]
 pub(crate) fn later(items: &Items<'_>, id: ItemId, parent: Class, class: Class) -> Option<ItemId>
     requires { HasId items.now id }
     ensures { IsFound items.now parent class (those parent class (rest_of (here items.now id))) result }

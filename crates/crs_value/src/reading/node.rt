@@ -30,6 +30,7 @@ pub(crate) trait Node<'a>: Sized + Drop {
 }
 
 // The argument of this class that the slots require.
+#[inline(always)]
 pub(crate) fn required(items: &Items<'_>, id: ItemId, parent: Class, class: Class) -> ItemId
     requires has { HasId items.now id }
     requires shaped { Shaped parent (item_at items.now id) }

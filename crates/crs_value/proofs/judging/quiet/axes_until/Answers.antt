@@ -13,7 +13,7 @@ pub returns-then-same_place : goal.returns-then-same_place
 returns-then-same_place c =
     let tree = c.args.items.now in
     noted-end tree c.args.class c.args.system_type c.args.from c.loop-at.axes c.loop-at.at c.loop-at.invariant
-    (ap (λ o. those c.args.class class.Axis (ahead tree o)) (c.same_place.ensures c.if-same_place.true) ∙ c.requires.none)
+    (ap (λ o. those c.args.class class.Axis (ahead tree o)) (c.in-Some.is ∙ c.same_place.ensures c.if-same_place.true) ∙ c.requires.none)
 
 pub seen_of-requires-clause-shaped : goal.seen_of-requires-clause-shaped
 seen_of-requires-clause-shaped c =
