@@ -54,7 +54,7 @@ walked-as tree c close slots at old new ok is e walked = let P : Bool → Type 0
 
 -- nothing is behind slots that give no fault of shape
 pub walked-end : (tree : Item) (c : Class) (close : ℕ) (at : Option ℕ) (old new : Option RefusedAt) (ok : Bool) → ok ≡ true → Walked tree c close [] at old ok new → ahead tree at ≡ End
-walked-end tree c close at old new ok yes walked = by (ahead tree at) (walked-as tree c close [] at old new ok true yes walked)
+walked-end tree c close at old new ok e walked = by (ahead tree at) (walked-as tree c close [] at old new ok true e walked)
   where
     stopped : (w : Option RefusedAt) (fault : RefusedAt) (B : RefusedAt → Type 0) → w ≡ Some fault → Gives w old B true new → ⊥
     stopped w fault B e h = let Q : Option RefusedAt → Type 0 = λ o. Gives o old B true new in subst Q e h

@@ -1,6 +1,8 @@
-use Rattle.std.proofs.Common.{sym, ap, subst, ◌≡◌, Some}
+use Rattle.std.proofs.Common.{sym, ap, subst, ◌≡◌, Option, None, Some}
 use Rattle.crs_text.specs.Items.{Item, first_of}
+use Rattle.crs_text.specs.Refusal.{RefusedAt}
 use Rattle.crs_shape.specs.ShapeFault.{class_of_root}
+use Rattle.crs_value.specs.Judged.{Judged}
 use Rattle.crs_value.specs.Reading.{item_at}
 use Rattle.crs_value.proofs.EitherLemmas.{judged-spells}
 use Rattle.crs_value.proofs.RootLemmas.{root-misplaced, root-unbroken, root-broken}
@@ -25,6 +27,18 @@ returns-in-None-clause-answer c =
     let item = item_at tree c.root-root.result in
     let same = ap first_of c.root-root.ensures.root in
     let P : Item → Type 0 = λ i. class_of_root i ≡ Some c.in-Some.class in
+    let Q : Option RefusedAt → Type 0 = λ o. Judged c.in-Some.class item None c.root_judged.result o in
     let root = subst P same (sym c.in-Some.ensures) in
-    let judged = root-unbroken c.walk_finds_the_fault.ensures.none c.no_fault_is_shape.ensures tree item c.in-Some.class c.root_judged.result same root c.in-None.ensures in
+    let judged = root-unbroken c.walk_finds_the_fault.ensures.none c.no_fault_is_shape.ensures tree item c.in-Some.class c.root_judged.result same root
+    (subst Q c.in-None.is c.root_judged.ensures) in
     judged-spells c.denotes_some.ensures c.slots_count.ensures.least c.no_fault_is_shape.ensures tree item c.in-Some.class same root judged.0 c.formed.ensures judged.1
+
+pub returns-in-Some-found-clause-answer : goal.returns-in-Some-found-clause-answer
+returns-in-Some-found-clause-answer c =
+    let tree = c.args.items.now in
+    let item = item_at tree c.root-root.result in
+    let same = ap first_of c.root-root.ensures.root in
+    let P : Item → Type 0 = λ i. class_of_root i ≡ Some c.in-Some.class in
+    let Q : Option RefusedAt → Type 0 = λ o. Judged c.in-Some.class item None c.root_judged.result o in
+    root-broken c.walk_finds_the_fault.ensures.none c.walk_finds_the_fault.ensures.some c.no_fault_is_shape.ensures tree item c.in-Some.class c.root_judged.result c.in-Some-found.refusal same
+    (subst P same (sym c.in-Some.ensures)) (subst Q c.in-Some-found.is c.root_judged.ensures)
