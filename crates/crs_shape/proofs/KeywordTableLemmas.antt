@@ -1,5 +1,5 @@
 -- What the table of keywords says, row by row, by computation.
-use Rattle.std.proofs.Common.{◌≡◌, ℕ, Bool, true, false, List, length, Option, Some, None, ◌==◌, ◌||◌, [], ◌∷◌, ap, sym, ◌∙◌, refl, rules}
+use Rattle.std.proofs.Common.{◌≡◌, ℕ, Bool, true, false, not, List, length, Option, Some, None, ◌==◌, ◌&&◌, ◌||◌, [], ◌∷◌, if◌then◌else◌, ap, subst, sym, ◌∙◌, refl, rules}
 use Rattle.std.specs.List.{list_all, list_any, find}
 use Rattle.std.proofs.lemmas.Bool.{agree_below_at}
 use denote.Enum.Bare.{sameb, same_true}
@@ -10,8 +10,8 @@ use Rattle.crs_text.specs.declared.keyword.Keyword.{Keyword}
 use Rattle.crs_text.specs.Keywords.{spelling_of, every_keyword}
 use Rattle.crs_shape.specs.contracts.class.Class as classes
 use Rattle.crs_shape.specs.declared.class.Class.{Class}
-use Rattle.crs_shape.specs.Keywords.{every_class, is_keyword, root_named}
-use Rattle.crs_shape.specs.KeywordTable.{classes_of, is_among, is_part, is_root}
+use Rattle.crs_shape.specs.Keywords.{every_class, has_keyword, is_keyword, root_named}
+use Rattle.crs_shape.specs.KeywordTable.{classes_of, is_among, is_part, is_root, rivals_of, IsClear}
 use Rattle.crs_shape.specs.Slots.{class_named}
 use Rattle.crs_shape.proofs.BoolLemmas.{and-left, and-right}
 
@@ -89,3 +89,55 @@ all_named_root = refl
 pub named_root : (k : Keyword) → find is_root (classes_of k) ≡ root_named (spelling_of k)
 named_root k =
     same_class-true (find is_root (classes_of k)) (root_named (spelling_of k)) (every-keyword is_named_root all_named_root k)
+
+-- whether all that go before a class among some are its rivals
+abbrev is_settled : Class → List Class → Bool
+is_settled c [] = true
+is_settled c (d ∷ ds) = sameb classes.the_type d c || (is_among d (rivals_of c) && is_settled c ds)
+
+-- so they are among the classes of each of its keywords
+abbrev is_settled_by : Keyword → Class → Bool
+is_settled_by k c = not (has_keyword c k) || is_settled c (classes_of k)
+
+all_settled : list_all (λ k. list_all (is_settled_by k) every_class) every_keyword ≡ true
+all_settled = refl
+
+settled : (c : Class) (k : Keyword) → has_keyword c k ≡ true → is_settled c (classes_of k) ≡ true
+settled c k has =
+    unless (has_keyword c k) (is_settled c (classes_of k)) has
+    (every-class (is_settled_by k) (every-keyword (λ j. list_all (is_settled_by j) every_class) all_settled k) c)
+  where
+    unless : (a b : Bool) → a ≡ true → (not a || b) ≡ true → b ≡ true
+    unless true b e f = f
+    unless false b e f = cc
+
+-- where none of some classes passes, each of them doesn't
+none-passes : (test : Class → Bool) (cs : List Class) (d : Class) → find test cs ≡ None → is_among d cs ≡ true → test d ≡ false
+none-passes test [] d none among = cc
+none-passes test (c ∷ cs) d none among =
+    elim (test c) as (λ b. test c ≡ b → (if b then Some c else find test cs) ≡ None → test d ≡ false) [
+      | true ↦ λ e n. cc
+      | false ↦ λ e n.
+          elim (sameb classes.the_type c d) as (λ b. sameb classes.the_type c d ≡ b → (b || is_among d cs) ≡ true → test d ≡ false) [
+            | true ↦ λ f a. ap test (sym (same_true classes.the_type (search rules) c d f)) ∙ e
+            | false ↦ λ f a. none-passes test cs d n a
+          ] refl among
+    ] refl none
+
+first-settled : (test : Class → Bool) (c : Class) (cs : List Class) → is_among c cs ≡ true → is_settled c cs ≡ true → test c ≡ true → find test (rivals_of c) ≡ None →
+    find test cs ≡ Some c
+first-settled test c [] among settled own none = cc
+first-settled test c (d ∷ ds) among settled own none =
+    elim (sameb classes.the_type d c)
+    as (λ b. sameb classes.the_type d c ≡ b → (b || is_among c ds) ≡ true → (b || (is_among d (rivals_of c) && is_settled c ds)) ≡ true → (if test d then Some d else find test ds) ≡ Some c) [
+      | true ↦ λ e a s.
+          let P : Class → Type 0 = λ x. (if test x then Some x else find test ds) ≡ Some c in
+          subst P (sym (same_true classes.the_type (search rules) d c e)) (ap (λ b. if b then Some c else find test ds) own)
+      | false ↦ λ e a s.
+          ap (λ b. if b then Some d else find test ds) (none-passes test (rivals_of c) d none (and-left (is_among d (rivals_of c)) (is_settled c ds) s))
+          ∙ first-settled test c ds a (and-right (is_among d (rivals_of c)) (is_settled c ds) s) own none
+    ] refl among settled
+
+-- a keyword of a class names it where it is clear
+pub clear-named : (parent c : Class) (k : Keyword) → has_keyword c k ≡ true → is_among c (classes_of k) ≡ true → IsClear parent c → find (is_part parent) (classes_of k) ≡ Some c
+clear-named parent c k has among clear = first-settled (is_part parent) c (classes_of k) among (settled c k has) clear.0 clear.1

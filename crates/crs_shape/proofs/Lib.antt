@@ -1,6 +1,7 @@
 pub mod BoolLemmas
 pub mod ClassSetLemmas
 pub mod CountLemmas
+pub mod DimensionLemmas
 pub mod ExpectedLemmas
 pub mod FaultLemmas
 pub mod FitLemmas

@@ -1,7 +1,7 @@
 -- What isn't of the kind of a class, or has none of its keywords, isn't of the class.
 use Rattle.std.proofs.Common.{◌≡◌, ◌≢◌, ℕ, true, false, ◌==◌, List, map, Option, Some, refl, sym, ◌∙◌, ap, rules}
 use Rattle.std.specs.List.{find}
-use denote.Enum.Bare.{sameb, same_true}
+use denote.Enum.Bare.{sameb, same_true, true_same}
 use Rattle.crs_text.specs.contracts.items.ItemKind as kinds
 use Rattle.crs_text.specs.declared.items.ItemKind.{ItemKind}
 use Rattle.crs_text.specs.declared.items.ItemKind.TheVariants as kind
@@ -14,13 +14,14 @@ use Rattle.crs_shape.specs.declared.class.Class.{Class}
 use Rattle.crs_shape.specs.declared.class.Class.TheVariants as class
 use Rattle.crs_shape.specs.ClassSet.{has_bit, keyword_bit, keyword_set}
 use Rattle.crs_shape.specs.Keywords.{is_keyword, keywords_of}
-use Rattle.crs_shape.specs.KeywordTable.{classes_of, classes_by, is_among, is_part}
+use Rattle.crs_shape.specs.KeywordTable.{classes_of, classes_by, is_among, is_part, IsClear}
 use Rattle.crs_shape.specs.ShapeFault.{class_in}
 use Rattle.crs_shape.specs.Slots.{is_class}
 use Rattle.crs_shape.specs.Sought.{kind_for}
 use Rattle.crs_shape.proofs.ClassSetLemmas.{has_bit-word_of}
 use Rattle.crs_shape.proofs.ItemLemmas.{class_in-node, not-among}
 use Rattle.crs_shape.proofs.KeywordLemmas.{among-classes_of, class_named-table, is_keyword-table}
+use Rattle.crs_shape.proofs.KeywordTableLemmas.{clear-named}
 use Rattle.crs_shape.proofs.ListLemmas.{list_any-map}
 
 -- ---- the kind
@@ -99,3 +100,10 @@ other_keyword law parent c (leaf word place raw) k is e none = cc
 other_keyword law parent c (node place spelled square first others close) k is e none =
     sym (not-among c (is_part parent) (classes_of k) (sym (has_bit-keyword_set c k) ∙ none))
     ∙ node_named law parent c (node place spelled square first others close) (Some k) is e
+
+-- a keyword of a class that is clear in the parent
+pub own_keyword : AreSpelled → (parent c : Class) (item : Item) (k : Keyword) → kind.Node ≡ kind_of_item item → Some k ≡ keyword_in item → has_bit (keyword_set c) (keyword_bit k) ≡ true →
+    IsClear parent c → true ≡ is_class c (class_in parent item)
+own_keyword law parent c item k is e has clear =
+    let among : is_among c (classes_of k) ≡ true = sym (has_bit-keyword_set c k) ∙ has in
+    sym (true_same the_type c c refl) ∙ ap (is_class c) (sym (clear-named parent c k (sym (among-classes_of c k) ∙ among) among clear)) ∙ node_named law parent c item (Some k) is e

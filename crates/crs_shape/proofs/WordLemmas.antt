@@ -1,6 +1,9 @@
 -- No two directions and no two types have one word, letter case aside.
 use Rattle.std.proofs.Common.{◌≡◌, ℕ, List, [], ◌∷◌, Option, Some, find, get_or, ◌<◌, lit<, refl, sym, ap, ◌∙◌}
 use Rattle.std.specs.Str.{bytes_eq, str_to_ascii_lowercase}
+use Rattle.std.proofs.lemmas.Slice.Eq.{bytes_eq-Decides}
+use Rattle.crs_text.specs.declared.keyword.Keyword.{Keyword}
+use Rattle.crs_text.specs.Keywords.{spelling_of, keyword_of, AreSpelled}
 use Rattle.crs_shape.specs.Words.{SpellsWord, direction_word, system_word, unit_word}
 use Rattle.crs_shape.specs.declared.unit_kind.UnitKind.{UnitKind}
 use Rattle.crs_shape.specs.declared.unit_kind.UnitKind.TheVariants as kinds
@@ -116,3 +119,9 @@ kind_placed other = refl
 pub kind_within : (k : UnitKind) → kind_place k < 4
 kind_within kinds.Length = lit< tt
 kind_within other = lit< tt
+
+-- ---- words that are keywords
+
+pub keyword-spells : AreSpelled → (k keyword : Keyword) → keyword ≡ k → (word : List ℕ) → keyword_of word ≡ Some keyword → SpellsWord word (spelling_of k)
+keyword-spells law k keyword is word e =
+    sym ((bytes_eq-Decides (str_to_ascii_lowercase (spelling_of k)) (str_to_ascii_lowercase word)).0 ((law k word).1 (e ∙ ap Some is)))

@@ -1,10 +1,11 @@
 -- A bridge: the table of keywords: the classes that have each keyword.
-use Rattle.std.specs.Prelude.{Bool, Option, Some, None, List, [], filter}
-use Rattle.std.specs.List.{list_any, flat_map}
+use Rattle.std.specs.Prelude.{◌≡◌, Bool, true, Option, Some, None, List, [], ◌∷◌, filter}
+use Rattle.std.specs.List.{find, list_any, flat_map}
 use denote.Enum.Bare.{sameb}
 use Rattle.crs_text.specs.declared.keyword.Keyword.{Keyword}
 use Rattle.crs_shape.specs.contracts.class.Class.{the_type}
 use Rattle.crs_shape.specs.declared.class.Class.{Class}
+use Rattle.crs_shape.specs.declared.class.Class.TheVariants as class
 use Rattle.crs_shape.specs.Keywords.{every_class, has_keyword, root_classes}
 use Rattle.crs_shape.specs.Slots.{slots_of, takes}
 
@@ -32,3 +33,15 @@ argument_classes parent = flat_map (λ s. s.classes) (slots_of parent)
 -- whether it is a class of a whole text
 abbrev pub is_root : Class → Bool
 is_root c = is_among c root_classes
+
+-- the classes that go before a class where it shares a keyword with them
+abbrev pub rivals_of : Class → List Class
+rivals_of class.VerticalEnsemble = class.GeodeticEnsemble ∷ []
+rivals_of class.LengthUnit = class.PlainUnit ∷ []
+rivals_of class.AngleUnit = class.PlainUnit ∷ class.LengthUnit ∷ []
+rivals_of class.AxisUnit = class.PlainUnit ∷ class.LengthUnit ∷ class.AngleUnit ∷ []
+rivals_of other = []
+
+-- each keyword of a class names it in a parent: it is allowed there, and none that goes before it
+abbrev pub IsClear : Class → Class → Type 0
+IsClear parent c = (is_part parent c ≡ true) × (find (is_part parent) (rivals_of c) ≡ None)

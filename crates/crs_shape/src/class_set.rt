@@ -19,6 +19,7 @@ pub(crate) struct ClassSet {
 
 impl ClassSet {
     // Whether the class is one of the set.
+    #[inline(always)]
     pub(crate) fn has(self, class: Class) -> bool
         ensures { result ≡ has_bit self.bits (bit_of class) }
     {

@@ -2,6 +2,8 @@ ghost use Rattle.std.specs.Prelude.{◌≡◌, IfSome};
 ghost use Rattle.crs_shape.specs.Choice.{IsReading};
 ghost use Rattle.crs_shape.specs.Words.{direction_word, SpellsWord};
 
+use crate::spelled::is_spelled;
+
 /// The direction of an axis. ISO 19162:2019, "Axis direction".
 #[derive(Clone, Copy, Debug, PartialEq, Eq)]
 pub enum Direction {
@@ -82,7 +84,7 @@ const DIRECTIONS: [Direction; 22] = [
 fn if_spelled(word: &[u8], direction: Direction) -> Option<Direction>
     ensures { IfSome result (λ value. SpellsWord word.now (direction_word value)) }
 {
-    if direction.word().as_bytes().eq_ignore_ascii_case(word) {
+    if is_spelled(direction.word().as_bytes(), word) {
         Some(direction)
     } else {
         None

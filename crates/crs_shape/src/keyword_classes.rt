@@ -1,6 +1,6 @@
 //! The classes of each keyword.
 ghost use Rattle.std.specs.Prelude.{◌≡◌};
-ghost use Rattle.crs_shape.specs.KeywordTable.{classes_of, classes_by};
+ghost use Rattle.crs_shape.specs.KeywordTable.{classes_of, classes_by, rivals_of};
 
 use crate::class::Class;
 use crs_text::Keyword;
@@ -67,5 +67,19 @@ pub(crate) fn classes_by(keyword: Option<Keyword>) -> &'static [Class]
     match keyword {
         None => &[],
         Some(keyword) => classes_of(keyword),
+    }
+}
+
+// The classes that go before a class where it shares a keyword with them.
+#[inline(always)]
+pub(crate) fn rivals_of(class: Class) -> &'static [Class]
+    ensures { result.now ≡ rivals_of class }
+{
+    match class {
+        Class::VerticalEnsemble => classes!(GeodeticEnsemble),
+        Class::LengthUnit => classes!(PlainUnit),
+        Class::AngleUnit => classes!(PlainUnit, LengthUnit),
+        Class::AxisUnit => classes!(PlainUnit, LengthUnit, AngleUnit),
+        _ => &[],
     }
 }

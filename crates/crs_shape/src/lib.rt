@@ -15,6 +15,7 @@ mod part;
 mod rows;
 mod seeking;
 mod slot;
+mod spelled;
 mod system_type;
 mod table;
 mod unit_kind;

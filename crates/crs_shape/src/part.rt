@@ -16,6 +16,7 @@ macro_rules! parts_of {
 }
 
 // Whether arguments of this class are allowed in a parent of that class.
+#[inline(always)]
 pub(crate) fn is_part(parent: Class, class: Class) -> bool
     ensures { result ≡ is_part parent class }
 {
@@ -23,6 +24,7 @@ pub(crate) fn is_part(parent: Class, class: Class) -> bool
 }
 
 // The classes of the arguments that are allowed in a parent of this class.
+#[inline(always)]
 fn parts(parent: Class) -> ClassSet
     ensures { result.bits ≡ set_of (argument_classes parent) }
 {

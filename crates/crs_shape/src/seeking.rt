@@ -8,7 +8,7 @@ ghost use Rattle.crs_shape.specs.Sought.{kind_for};
 
 use crate::class::Class;
 use crate::rows::{row, rows};
-use crate::table::{class_by, is_class};
+use crate::table::{class_by, is_class, is_clear};
 use crs_text::{ItemId, ItemKind, Items, Keyword, laws};
 use std::marker::Model;
 
@@ -43,6 +43,7 @@ impl Model for Sought {
 
 impl Sought {
     /// An argument of this class in a parent of that one.
+    #[inline(always)]
     pub fn new(parent: Class, class: Class) -> Sought
         ensures { result ≡ record { parent = parent; class = class } }
     {
@@ -73,12 +74,16 @@ impl Sought {
         if !self.keywords.has(keyword) {
             return false;
         }
+        if is_clear(self.parent, self.class) {
+            return true;
+        }
         is_class(class_by(self.parent, Some(keyword)), self.class)
     }
 }
 
 /// Whether an item is of that class in a parent of this class; a cheaper test than `class_in`. To test many items,
 /// build one `Sought`. Profile.
+#[inline(always)]
 pub fn stands_as(items: &Items<'_>, id: ItemId, parent: Class, class: Class) -> bool
     requires { HasId items.now id }
     ensures { result ≡ is_class class (class_in parent (first_of (here items.now id))) }
@@ -87,6 +92,7 @@ pub fn stands_as(items: &Items<'_>, id: ItemId, parent: Class, class: Class) -> 
 }
 
 // What an item of this class is.
+#[inline(always)]
 fn kind_for(class: Class) -> ItemKind
     ensures { result ≡ kind_for class }
 {
@@ -108,6 +114,7 @@ struct KeywordSet {
 }
 
 impl KeywordSet {
+    #[inline(always)]
     fn has(self, keyword: Keyword) -> bool
         ensures { result ≡ has_bit self.bits (keyword_bit keyword) }
     {
@@ -123,6 +130,7 @@ macro_rules! keyword_sets {
 }
 
 // The keywords of a class; none for an item that isn't a node.
+#[inline(always)]
 fn keywords_of(class: Class) -> KeywordSet
     ensures { result.bits ≡ keyword_set class }
 {

@@ -1,13 +1,14 @@
-ghost use Rattle.std.specs.Prelude.{◌≡◌, ◌↔◌, IsTrue, [], ◌∷◌};
-ghost use Rattle.crs_shape.specs.Choice.{IsReading};
+ghost use Rattle.std.specs.Prelude.{◌≡◌, ◌↔◌, IfSome, IsTrue, [], ◌∷◌};
+ghost use Rattle.crs_shape.specs.Choice.{IsReading, OneIs};
 ghost use Rattle.crs_shape.specs.Dimensions.{IsOneOf, dimensions_of};
 ghost use Rattle.crs_shape.specs.UnitKinds.{asked_kind};
 ghost use Rattle.crs_shape.specs.Words.{system_word, SpellsWord};
 
 use crate::class::Class;
 use crate::direction::Direction;
+use crate::spelled::is_spelled;
 use crate::unit_kind::UnitKind;
-use crs_decimal::Decimal;
+use crs_decimal::{Decimal, laws};
 
 /// The type of a coordinate system. ISO 19162:2019, "Coordinate system".
 #[derive(Clone, Copy, Debug, PartialEq, Eq)]
@@ -29,10 +30,34 @@ const SYSTEM_TYPES: [SystemType; 4] = [
     SystemType::Vertical,
 ];
 
-fn is_two_or_three(value: &Decimal) -> bool
-    ensures { IsTrue result ↔ IsOneOf value.now (2 ∷ 3 ∷ []) }
+// The type, if the word spells it.
+#[inline(always)]
+fn if_spelled(word: &[u8], system_type: SystemType) -> Option<SystemType>
+    ensures { IfSome result (λ value. SpellsWord word.now (system_word value)) }
 {
-    value.is_whole(2) || value.is_whole(3)
+    if is_spelled(system_type.word().as_bytes(), word) {
+        Some(system_type)
+    } else {
+        None
+    }
+}
+
+// The type that a word spells, if it is the one with its first letter.
+fn by_letter(word: &[u8]) -> Option<SystemType>
+    ensures { IfSome result (λ value. SpellsWord word.now (system_word value)) }
+{
+    match word.first()? {
+        b'c' | b'C' => if_spelled(word, SystemType::Cartesian),
+        b'e' | b'E' => if_spelled(word, SystemType::Ellipsoidal),
+        b's' | b'S' => if_spelled(word, SystemType::Spherical),
+        _ => if_spelled(word, SystemType::Vertical),
+    }
+}
+
+fn is_two_or_three(dimension: u64) -> bool
+    ensures { IsTrue result ↔ OneIs (λ n. dimension ≡ n) (2 ∷ 3 ∷ []) }
+{
+    dimension == 2 || dimension == 3
 }
 
 impl SystemType {
@@ -63,17 +88,28 @@ impl SystemType {
 
     /// Whether a CRS of this class may have a coordinate system of this type and dimension. ISO 19162:2019, "Coordinate
     /// system".
-    pub fn is_allowed(self, class: Class, dimension: &Decimal) -> bool
-        ensures { IsTrue result ↔ IsOneOf dimension.now (dimensions_of class self) }
+    pub fn has_dimension(self, class: Class, dimension: u64) -> bool
+        ensures { IsTrue result ↔ OneIs (λ n. dimension ≡ n) (dimensions_of class self) }
     {
         match (class, self) {
-            (Class::GeodeticCrs, SystemType::Cartesian) => dimension.is_whole(3),
+            (Class::GeodeticCrs, SystemType::Cartesian) => dimension == 3,
             (Class::GeodeticCrs, SystemType::Ellipsoidal) => is_two_or_three(dimension),
             (Class::GeodeticCrs, SystemType::Spherical) => is_two_or_three(dimension),
             (Class::GeographicCrs, SystemType::Ellipsoidal) => is_two_or_three(dimension),
             (Class::ProjectedCrs, SystemType::Cartesian) => is_two_or_three(dimension),
-            (Class::VerticalCrs, SystemType::Vertical) => dimension.is_whole(1),
+            (Class::VerticalCrs, SystemType::Vertical) => dimension == 1,
             _ => false,
+        }
+    }
+
+    /// The same of a dimension as it is read, which may not be whole.
+    pub fn is_allowed(self, class: Class, dimension: &Decimal) -> bool
+        ensures { IsTrue result ↔ IsOneOf dimension.now (dimensions_of class self) }
+    {
+        laws::same_number_is_equivalence();
+        match dimension.whole() {
+            None => false,
+            Some(whole) => self.has_dimension(class, whole),
         }
     }
 
@@ -81,8 +117,18 @@ impl SystemType {
     pub fn read(word: &[u8]) -> Option<SystemType>
         ensures { IsReading (λ value. SpellsWord word.now (system_word value)) result }
     {
+        match by_letter(word) {
+            Some(system_type) => Some(system_type),
+            None => SystemType::sought(word),
+        }
+    }
+
+    // the same, each type being compared
+    fn sought(word: &[u8]) -> Option<SystemType>
+        ensures { IsReading (λ value. SpellsWord word.now (system_word value)) result }
+    {
         for system_type in SYSTEM_TYPES {
-            if system_type.word().as_bytes().eq_ignore_ascii_case(word) {
+            if is_spelled(system_type.word().as_bytes(), word) {
                 return Some(system_type);
             }
         }

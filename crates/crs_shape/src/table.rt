@@ -1,14 +1,14 @@
 //! The slots of each class.
-ghost use Rattle.std.specs.Prelude.{◌≡◌, All, map};
+ghost use Rattle.std.specs.Prelude.{◌≡◌, All, IsTrue, map};
 ghost use Rattle.std.specs.List.{find};
 ghost use Rattle.crs_shape.specs.ClassSet.{HasSet};
-ghost use Rattle.crs_shape.specs.KeywordTable.{classes_by, is_part};
+ghost use Rattle.crs_shape.specs.KeywordTable.{classes_by, is_part, IsClear};
 ghost use Rattle.crs_shape.specs.Slots.{shown, slots_of, class_named, is_class};
 
 use crate::class::Class;
 use crate::class_set::{ClassSet, set};
 use crate::keyword::has_keyword;
-use crate::keyword_classes::classes_by;
+use crate::keyword_classes::{classes_by, rivals_of};
 use crate::part::is_part;
 use crate::rows::{row, rows};
 use crate::slot::Slot;
@@ -70,6 +70,7 @@ pub(crate) fn class_by(parent: Class, keyword: Option<Keyword>) -> Option<Class>
     first_part(parent, classes_by(keyword))
 }
 
+#[inline(always)]
 fn first_part(parent: Class, classes: &[Class]) -> Option<Class>
     ensures { result ≡ find (is_part parent) classes.now }
 {
@@ -79,6 +80,21 @@ fn first_part(parent: Class, classes: &[Class]) -> Option<Class>
         }
     }
     None
+}
+
+// Whether each keyword of a class names it in a parent of this class: it is allowed there, and no class that goes before
+// it is. Where both classes are constants, so is the answer.
+#[inline(always)]
+pub(crate) fn is_clear(parent: Class, class: Class) -> bool
+    ensures { IsTrue result → IsClear parent class }
+{
+    if !is_part(parent, class) {
+        return false;
+    }
+    match first_part(parent, rivals_of(class)) {
+        None => true,
+        Some(_) => false,
+    }
 }
 
 /// Whether this keyword names that class in a parent of this class; a cheaper test than `class_of` where the

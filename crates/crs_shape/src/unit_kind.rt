@@ -1,8 +1,12 @@
 //! The kinds of unit.
-ghost use Rattle.std.specs.Prelude.{◌≡◌};
+ghost use Rattle.std.specs.Prelude.{◌≡◌, ℕ, IfSome, List, Some};
+ghost use Rattle.crs_text.specs.Keywords.{keyword_of};
 ghost use Rattle.crs_shape.specs.Choice.{IsReading};
 ghost use Rattle.crs_shape.specs.UnitKinds.{kind_as};
 ghost use Rattle.crs_shape.specs.Words.{SpellsWord, unit_word};
+
+use crate::spelled::is_spelled;
+use crs_text::{Keyword, laws};
 
 /// The kind of a unit, as its keyword says it. ISO 19162:2019, "Units".
 #[derive(Clone, Copy, Debug, PartialEq, Eq)]
@@ -52,10 +56,25 @@ impl UnitKind {
         ensures { IsReading (λ value. SpellsWord word.now (unit_word value)) result }
     {
         for kind in UNIT_KINDS {
-            if kind.keyword().as_bytes().eq_ignore_ascii_case(word) {
+            if is_spelled(kind.keyword().as_bytes(), word) {
                 return Some(kind);
             }
         }
         None
+    }
+
+    /// The kind that a keyword says; None where it is none of units. It needs no look at the keyword's bytes, as `read`
+    /// does. ISO 19162:2019, "Units".
+    pub fn of(keyword: Keyword) -> Option<UnitKind>
+        ensures { IfSome result (λ kind. (word : List ℕ) → keyword_of word ≡ Some keyword → SpellsWord word (unit_word kind)) }
+    {
+        laws::keywords_are_spelled();
+        match keyword {
+            Keyword::LengthUnit => Some(UnitKind::Length),
+            Keyword::AngleUnit => Some(UnitKind::Angle),
+            Keyword::ScaleUnit => Some(UnitKind::Scale),
+            Keyword::PlainUnit => Some(UnitKind::Plain),
+            _ => None,
+        }
     }
 }

@@ -77,6 +77,7 @@ laid-parts tree c front tail at end layout head ends first past-system past-axes
   no_axes = past-unit class.Axis refl ∙ behind class.Axis tails.1.0;
   unit = first class.AxisUnit heads.1.1.0 ∙ past-system class.AxisUnit refl ∙ past-axes class.AxisUnit refl;
   no_unit = behind class.AxisUnit tails.1.1.0;
+  no_dynamic = past-system class.Dynamic refl ∙ past-axes class.Dynamic refl ∙ past-unit class.Dynamic refl ∙ behind class.Dynamic tails.1.1.1.0;
   single = (
     past class.Scope singles.0 refl refl refl,
     (
@@ -95,8 +96,8 @@ laid-parts tree c front tail at end layout head ends first past-system past-axes
     singles : Each (λ d. list_any (λ s. takes s d) front ≡ false) once
     singles = heads.1.1.1
 
-    tails : Each (λ d. list_any (λ s. takes s d) (tail ∷ []) ≡ false) (class.CoordinateSystem ∷ class.Axis ∷ class.AxisUnit ∷ [])
-    tails = free-of (tail ∷ []) (class.CoordinateSystem ∷ class.Axis ∷ class.AxisUnit ∷ []) ends
+    tails : Each (λ d. list_any (λ s. takes s d) (tail ∷ []) ≡ false) (class.CoordinateSystem ∷ class.Axis ∷ class.AxisUnit ∷ class.Dynamic ∷ [])
+    tails = free-of (tail ∷ []) (class.CoordinateSystem ∷ class.Axis ∷ class.AxisUnit ∷ class.Dynamic ∷ []) ends
 
     behind : (d : Class) → list_any (λ s. takes s d) (tail ∷ []) ≡ false → those c d (ahead tree layout.tail) ≡ []
     behind d free = last d (or-left (takes tail d) free) ∙ ap (those c d) none

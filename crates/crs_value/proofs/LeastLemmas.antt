@@ -107,6 +107,10 @@ first-both a b p q = by (first-precedes a b p) (first-precedes b a q)
     by (inr x) (inl y) = absurd (omega arith)
     by (inr x) (inr y) = equal a.number b.number a.place b.place x.0 (omega arith)
 
+pub lesser-none : (a : Option RefusedAt) → lesser a None ≡ a
+lesser-none None = refl
+lesser-none (Some f) = refl
+
 -- the first of either set is the lesser of their first ones
 pub least-either : (P Q : RefusedAt → Type 0) (a b : Option RefusedAt) → IsLeast P a → IsLeast Q b → IsLeast (λ f. P f ⊎ Q f) (lesser a b)
 least-either P Q None None p q = λ f h. none f h

@@ -47,3 +47,4 @@ pub mod SystemLemmas
 pub mod TextLemmas
 pub mod UnitLemmas
 pub mod WhetherLemmas
+pub mod WholeNumberLemmas

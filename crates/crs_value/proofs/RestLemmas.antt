@@ -1,9 +1,11 @@
 -- What is checked of a CRS as a whole: orders, units, dimensions and repeated parts.
 use Rattle.std.proofs.Common.{◌≡◌, ℕ, ◌+◌, ◌<◌, ◌≤◌, length, drop, Bool, true, false, inl, inr, ◌⊎◌, Option, Some, None, List, [], ◌∷◌, ◌++◌, refl, sym, ◌∙◌, ap, subst, arith}
+use denote.Enum.Bare.{true_same}
 use Rattle.crs_decimal.specs.Number.{SameNumber, whole_number}
 use Rattle.crs_decimal.specs.Value.{Value, exact}
 use Rattle.crs_text.specs.Items.{Item, Siblings, arguments, rest_of, here, HasId, IsAt}
 use Rattle.crs_text.specs.Refusal.{RefusedAt}
+use Rattle.crs_shape.specs.contracts.class.Class.{the_type}
 use Rattle.crs_shape.specs.declared.class.Class.{Class}
 use Rattle.crs_shape.specs.declared.class.Class.TheVariants as class
 use Rattle.crs_shape.specs.declared.system_type.SystemType.{SystemType}
@@ -11,7 +13,7 @@ use Rattle.crs_shape.specs.declared.unit_kind.UnitKind.{UnitKind}
 use Rattle.crs_shape.specs.declared.unit_kind.UnitKind.TheVariants as kinds
 use Rattle.crs_shape.specs.ShapeFault.{class_in}
 use Rattle.crs_shape.specs.Slots.{is_class}
-use Rattle.crs_shape.specs.Dimensions.{IsOneOf, dimensions_of}
+use Rattle.crs_shape.specs.Dimensions.{dimensions_of}
 use Rattle.crs_value.specs.declared.judging.axes.Axes.{Axes}
 use Rattle.crs_value.specs.declared.judging.axes.Places.{Places}
 use Rattle.crs_value.specs.BadDynamic.{BadDynamic}
@@ -21,10 +23,12 @@ use Rattle.crs_value.specs.Break.{AnyOf, IsLeast}
 use Rattle.crs_value.specs.Checks.{once, BreaksAmong, HasSystem, OfHead, BadSystems, OfCrs, Own}
 use Rattle.crs_value.specs.FoundArguments.{HasPlace}
 use Rattle.crs_value.specs.Least.{lesser}
-use Rattle.crs_value.specs.Reading.{Each, item_at, is_a, ahead, those, ReadsFirst}
-use Rattle.crs_value.specs.Reads.{HasType, HasDimension}
+use Rattle.crs_value.specs.Reading.{Each, OneIs, item_at, is_a, ahead, those, ReadsFirst}
+use Rattle.crs_value.specs.Reads.{HasType}
 use Rattle.crs_value.specs.RepeatedPart.{IsRepeated, RepeatsAny}
 use Rattle.crs_value.specs.Seen.{the_one, Marks, IsAmong, Differ, AllDiffer, AreAmong, AreWithin, AreOrdered, IsSeen, UnitsFit, IsQuiet, rank, Climbs}
+use Rattle.crs_value.specs.WholeNumbers.{IsWholeOf}
+use Rattle.crs_shape.proofs.DimensionLemmas.{as-whole}
 use Rattle.crs_value.proofs.ArgumentLemmas.{ahead_at, same_class, those-first, those-later}
 use Rattle.crs_value.proofs.CheckLemmas.{DenotesOne}
 use Rattle.crs_value.proofs.LeastLemmas.{either-is, least-same}
@@ -34,12 +38,12 @@ use Rattle.crs_value.proofs.SystemLemmas.{system-none, count-none}
 
 -- ---- the node `CS`
 
-pub head-none : DenotesOne → (dims : SystemType → List ℕ) (cs : Item) (t : SystemType) (v : Value) (axes : List Item) (n : ℕ) → HasType cs t → HasDimension cs v →
-    IsOneOf v (dims t) → SameNumber (exact v) (whole_number n) → length axes ≡ n → IsLeast (OfHead dims axes cs) None
-head-none law dims cs t v axes n ht hv is same e f (inl h) = system-none law dims cs t v ht hv is f h
-head-none law dims cs t v axes n ht hv is same e f (inr h) =
+pub head-none : DenotesOne → (dims : SystemType → List ℕ) (cs : Item) (t : SystemType) (dimension : ℕ) (axes : List Item) (n : ℕ) → HasType cs t →
+    IsWholeOf class.CoordinateSystem cs dimension → OneIs (λ m. dimension ≡ m) (dims t) → dimension ≡ n → length axes ≡ n → IsLeast (OfHead dims axes cs) None
+head-none law dims cs t dimension axes n ht (v, (hv, same)) is all e f (inl h) = system-none law dims cs t v ht hv (as-whole v dimension same (dims t) is) f h
+head-none law dims cs t dimension axes n ht (v, (hv, same)) is all e f (inr h) =
     let P : ℕ → Type 0 = λ m. SameNumber (exact v) (whole_number m) in
-    count-none law (length axes) cs v hv (subst P (sym e) same) f h
+    count-none law (length axes) cs v hv (subst P (all ∙ sym e) same) f h
 
 -- ---- orders
 
@@ -197,15 +201,33 @@ pub record Climbing (c : Class) (from at : Siblings) (last : ℕ) : Type 0 where
 pub climbing-first : (c : Class) (items : Siblings) → Climbing c items items 0
 climbing-first c items = record { unseen = λ d high below. omega arith; few = λ d high. omega arith }
 
+class-is : (c : Class) (o : Option Class) → is_class c o ≡ true → o ≡ Some c
+class-is c None e = cc
+class-is c (Some d) e = ap Some (same_class d c e)
+
+-- an argument of a class is of no other
+pub once-some : (p : Class) (item : Item) (c : Class) → is_a p c item ≡ true → (d : Class) → 1 ≤ rank d → is_a p d item ≡ true → Some c ≡ Some d
+once-some p item c is d high also = sym (class-is c (class_in p item) is) ∙ class-is d (class_in p item) also
+
+-- one of none of the classes that may stand but once
+pub once-none : (p : Class) (item : Item) → is_a p class.Scope item ≡ false → is_a p class.Area item ≡ false → is_a p class.BoundingBox item ≡ false →
+    is_a p class.VerticalExtent item ≡ false → is_a p class.Remark item ≡ false → (d : Class) → 1 ≤ rank d → is_a p d item ≡ true → ⊥
+once-none p item a b e f g class.Scope high is = let k : true ≡ false = sym is ∙ a in cc
+once-none p item a b e f g class.Area high is = let k : true ≡ false = sym is ∙ b in cc
+once-none p item a b e f g class.BoundingBox high is = let k : true ≡ false = sym is ∙ e in cc
+once-none p item a b e f g class.VerticalExtent high is = let k : true ≡ false = sym is ∙ f in cc
+once-none p item a b e f g class.Remark high is = let k : true ≡ false = sym is ∙ g in cc
+once-none p item a b e f g other high is = absurd (omega (arith, high))
+
 -- one argument more
 pub climbing-on : (tree : Item) (c : Class) (from : Siblings) (at : Option ℕ) (id : ℕ) (next : Option ℕ) (last now : ℕ) (found : Option Class) → at ≡ Some id → HasId tree id →
-    IsAt tree (rest_of (here tree id)) next → found ≡ class_in c (item_at tree id) → Climbs last found now → Climbing c from (ahead tree at) last →
+    IsAt tree (rest_of (here tree id)) next → ((d : Class) → 1 ≤ rank d → is_a c d (item_at tree id) ≡ true → found ≡ Some d) → Climbs last found now → Climbing c from (ahead tree at) last →
     Climbing c from (ahead tree next) now
 climbing-on tree c from at id next last now found same has is named climbs h = record {
-  unseen = λ d high below. by d high (is_a c d (item_at tree id)) refl (λ is-so. let k = (climbs.1 d high (is_as d is-so)).1 in absurd (omega (arith, k, below)))
+  unseen = λ d high below. by d high (is_a c d (item_at tree id)) refl (λ is-so. let k = (climbs.1 d high (is_as d high is-so)).1 in absurd (omega (arith, k, below)))
       (λ e. let u = h.unseen d high (below-last d below) in let q = here-is d in omega (arith, u, q, e));
   few = λ d high. by d high (is_a c d (item_at tree id)) refl
-      (λ is-so. let k = (climbs.1 d high (is_as d is-so)).0 in let u = h.unseen d high k in let q = here-is d in let e = ap length (those-first c d (here tree id) has is-so ∙ past d) in omega (arith, u, q, e))
+      (λ is-so. let k = (climbs.1 d high (is_as d high is-so)).0 in let u = h.unseen d high k in let q = here-is d in let e = ap length (those-first c d (here tree id) has is-so ∙ past d) in omega (arith, u, q, e))
       (λ e. let u = h.few d high in let q = here-is d in omega (arith, u, q, e));
 }
   where
@@ -215,8 +237,8 @@ climbing-on tree c from at id next last now found same has is named climbs h = r
     past : (d : Class) → item_at tree id ∷ those c d (rest_of (here tree id)) ≡ item_at tree id ∷ those c d (ahead tree next)
     past d = ap (λ xs. item_at tree id ∷ those c d xs) (sym (ahead_at tree (rest_of (here tree id)) next is))
 
-    is_as : (d : Class) → is_a c d (item_at tree id) ≡ true → is_class d found ≡ true
-    is_as d is-so = ap (is_class d) named ∙ is-so
+    is_as : (d : Class) → 1 ≤ rank d → is_a c d (item_at tree id) ≡ true → is_class d found ≡ true
+    is_as d high is-so = ap (is_class d) (named d high is-so) ∙ true_same the_type d d refl
 
     below-last : (d : Class) → now < rank d → last < rank d
     below-last d below = let k = climbs.0 in omega (arith, k, below)

@@ -1,6 +1,9 @@
 -- The checks of the units of a coordinate system.
 use Rattle.std.proofs.Common.{◌≡◌, ℕ, inl, inr, Option, Some, None, List, [], ◌∷◌, sym, ◌∙◌, ap, subst}
-use Rattle.crs_text.specs.Items.{Item, arguments, raw_of, rest_of, here}
+use Rattle.crs_text.specs.Items.{Item, leaf, node, arguments, keyword_in, raw_of, rest_of, here}
+use Rattle.crs_text.specs.Tokens.{number, text, word}
+use Rattle.crs_text.specs.declared.keyword.Keyword.{Keyword}
+use Rattle.crs_text.specs.Keywords.{keyword_of}
 use Rattle.crs_text.specs.Refusal.{RefusedAt}
 use Rattle.crs_shape.specs.declared.class.Class.{Class}
 use Rattle.crs_shape.specs.declared.class.Class.TheVariants as class
@@ -13,12 +16,22 @@ use Rattle.crs_value.specs.BadUnit.{Asks, Fits, units_in, Misfits, BadOwnUnit, H
 use Rattle.crs_value.specs.Break.{at, AnyOf, IsLeast}
 use Rattle.crs_value.specs.FoundArguments.{from_found, AllShaped}
 use Rattle.crs_value.specs.Least.{lesser}
-use Rattle.crs_value.specs.Reading.{item_at, those, Holds, IsFound}
-use Rattle.crs_value.specs.Reads.{ReadsDirection}
+use Rattle.crs_value.specs.Reading.{item_at, those, Holds, IsFound, IsReading}
+use Rattle.crs_value.specs.Reads.{ReadsDirection, ReadsKind}
 use Rattle.crs_value.proofs.ArgumentLemmas.{found-is, found-holds, found-shaped, all-shaped}
 use Rattle.crs_value.proofs.LeastLemmas.{least-same, least-at, either-is}
 use Rattle.crs_value.proofs.SystemLemmas.{first-one, type-is-one}
 use Rattle.crs_shape.proofs.WordLemmas.{direction_one}
+
+-- the keyword that a unit was read with is that of its bytes
+pub keyword-raw : (item : Item) (k : Keyword) → Some k ≡ keyword_in item → keyword_of (raw_of item) ≡ Some k
+keyword-raw (leaf number place raw) k e = cc
+keyword-raw (leaf text place raw) k e = cc
+keyword-raw (leaf word place raw) k e = sym e
+keyword-raw (node place spelled square first others close) k e = sym e
+
+pub kind-read : (unit : Item) (raw : List ℕ) (found : Option UnitKind) → raw ≡ raw_of unit → IsReading (λ kind. SpellsWord raw (unit_word kind)) found → IsReading (ReadsKind unit) found
+kind-read unit raw found e reads = let P : List ℕ → Type 0 = λ r. IsReading (λ kind. SpellsWord r (unit_word kind)) found in subst P e reads
 
 pub fits-none : (unit : Item) (raw : List ℕ) (kind : UnitKind) → raw ≡ raw_of unit → ((k : UnitKind) → ¬ (SpellsWord raw (unit_word k))) → Fits unit kind → ⊥
 fits-none unit raw kind e none (inl h) = let P : List ℕ → Type 0 = λ r. SpellsWord r (unit_word kinds.Plain) in none kinds.Plain (subst P (sym e) h)

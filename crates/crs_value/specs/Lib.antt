@@ -44,3 +44,4 @@ pub mod Spells
 pub mod SpellsText
 pub mod UnknownWord
 pub mod Values
+pub mod WholeNumbers

@@ -2,7 +2,7 @@
 use Rattle.std.specs.Prelude.{◌≡◌, ◌≢◌, ℕ, ◌+◌, ◌<◌, ◌≤◌, length, ◌⊎◌, true, false}
 use Rattle.std.specs.Prelude.{List, [], ◌∷◌, Option, Some, None, Bool, not}
 use Rattle.std.specs.List.{list_any, list_all}
-use Rattle.crs_text.specs.Items.{Item, Siblings, arguments, HasId}
+use Rattle.crs_text.specs.Items.{Item, Siblings, arguments, rest_of, here, HasId}
 use Rattle.crs_text.specs.Refusal.{RefusedAt}
 use Rattle.crs_shape.specs.declared.class.Class.{Class}
 use Rattle.crs_shape.specs.declared.class.Class.TheVariants as class
@@ -37,6 +37,14 @@ IsShaped tree c None = Unit {0}
 IsShaped tree c (Some id) = HasId tree id × Shaped c (item_at tree id)
 
 -- ---- axes
+
+-- the second argument of an axis is the first word of it, and its orders and units are behind that
+pub record IsBehindName (tree axis : Item) (word : ℕ) : Type 0 where
+  pub has : HasId tree word
+  pub words : those class.Axis class.Word (arguments axis)
+      ≡ item_at tree word ∷ those class.Axis class.Word (rest_of (here tree word))
+  pub orders : orders_in axis ≡ those class.Axis class.Order (rest_of (here tree word))
+  pub units : units_in axis ≡ those class.Axis class.AxisUnit (rest_of (here tree word))
 
 -- an axis's direction, and its only order and its only unit, where it has them
 pub record Has (tree axis : Item) (seen : Seen) : Type 0 where
@@ -167,6 +175,7 @@ pub record IsLaid (tree : Item) (c : Class) (items : Siblings) (layout : Layout)
   pub no_axes : those c class.Axis (ahead tree layout.unit) ≡ []
   pub unit : those c class.AxisUnit items ≡ those c class.AxisUnit (ahead tree layout.unit)
   pub no_unit : those c class.AxisUnit (ahead tree layout.tail) ≡ []
+  pub no_dynamic : those c class.Dynamic (ahead tree layout.system) ≡ []
   pub single : Each (λ d. those c d items ≡ those c d (ahead tree layout.tail)) once
 
 -- whether none of these slots takes any of these classes
@@ -178,10 +187,11 @@ abbrev pub is_head : List SlotParts → Bool
 is_head slots =
     are_free slots (class.CoordinateSystem ∷ class.Axis ∷ class.AxisUnit ∷ once)
 
--- whether a slot may be at an end: it takes neither coordinate systems nor axes nor their units
+-- whether a slot may be at an end: it takes neither coordinate systems nor axes nor their units, and
+-- no dynamic parts
 abbrev pub is_tail : SlotParts → Bool
 is_tail slot =
-    are_free (slot ∷ []) (class.CoordinateSystem ∷ class.Axis ∷ class.AxisUnit ∷ [])
+    are_free (slot ∷ []) (class.CoordinateSystem ∷ class.Axis ∷ class.AxisUnit ∷ class.Dynamic ∷ [])
 
 -- the tree has what the layout names
 pub record IsHeld (tree : Item) (layout : Layout) : Type 0 where

@@ -4,12 +4,14 @@ ghost use Rattle.crs_text.specs.Items.{HasId, arguments};
 ghost use Rattle.crs_shape.specs.Shaped.{Shaped};
 ghost use Rattle.crs_value.specs.BadComponent.{IsNotEllipsoidal, IsNotPlane, IsNotHorizontal, BadComponent};
 ghost use Rattle.crs_value.specs.Break.{AnyOf, IsLeast, FirstIs};
-ghost use Rattle.crs_value.specs.Checks.{OfCompound};
+ghost use Rattle.crs_value.specs.Checks.{OfCompound, once};
+ghost use Rattle.crs_value.specs.RepeatedPart.{RepeatsAny};
 ghost use Rattle.crs_value.specs.Reading.{item_at, those, Requires, TakesOne};
 
 use crate::checks::repeats::repeats_once;
 use crate::checks::system::type_of;
 use crate::checks::{Check, lesser, only_of, refusal_at};
+use crate::judging::rest::is_ascending;
 use crate::reading::firsts::firsts_of;
 use crate::reading::node::{number, required};
 use crs_decimal::laws;
@@ -99,6 +101,19 @@ fn bad_part(items: &Items<'_>, id: ItemId, class: Class) -> Option<Refusal>
     only_of(&Component { class }, items, id, Class::CompoundCrs, class)
 }
 
+// What is repeated at the end of a compound CRS. Mostly it is seen at once that nothing is.
+fn repeated(items: &Items<'_>, id: ItemId) -> Option<Refusal>
+    requires has { HasId items.now id }
+    requires shaped { Shaped Class.CompoundCrs (item_at items.now id) }
+    ensures { IsLeast (RepeatsAny Class.CompoundCrs (arguments (item_at items.now id)) once) result }
+{
+    if is_ascending(items, items.arg(id, 0), Class::CompoundCrs) {
+        return None;
+    }
+    let firsts = firsts_of(items, id, Class::CompoundCrs);
+    repeats_once(items, id, Class::CompoundCrs, &firsts)
+}
+
 // The checks of a compound CRS: what may not be repeated, and its horizontal part.
 pub(crate) fn compound(items: &Items<'_>, id: ItemId) -> Option<Refusal>
     requires has { HasId items.now id }
@@ -108,9 +123,5 @@ pub(crate) fn compound(items: &Items<'_>, id: ItemId) -> Option<Refusal>
     let projected = lesser(bad_part(items, id, Class::ProjectedCrs), None);
     let geographic = lesser(bad_part(items, id, Class::GeographicCrs), projected);
     let geodetic = lesser(bad_part(items, id, Class::GeodeticCrs), geographic);
-    let firsts = firsts_of(items, id, Class::CompoundCrs);
-    lesser(
-        repeats_once(items, id, Class::CompoundCrs, &firsts),
-        geodetic,
-    )
+    lesser(repeated(items, id), geodetic)
 }

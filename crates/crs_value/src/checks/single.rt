@@ -141,6 +141,7 @@ impl Check for AboveZero {
 
     ghost Broken = { λ s tree item f. NotAbove item f };
 
+    #[inline(always)]
     fn check(&self, items: &Items<'_>, id: ItemId, _class: Class) -> Option<Refusal> {
         if begins_above_zero(items, id) {
             return None;

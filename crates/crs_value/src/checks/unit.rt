@@ -5,7 +5,7 @@ ghost use Rattle.crs_shape.specs.Shaped.{Shaped};
 ghost use Rattle.crs_value.specs.BadUnit.{Asks, Fits, AllAsk, SharedFits, BadShared, BadUnit};
 ghost use Rattle.crs_value.specs.Break.{IsLeast};
 ghost use Rattle.crs_value.specs.Reading.{item_at, those, IsFound, IsReading, ReadsFirst};
-ghost use Rattle.crs_value.specs.Reads.{HasType, ReadsDirection};
+ghost use Rattle.crs_value.specs.Reads.{HasType, ReadsDirection, ReadsKind};
 
 use crate::checks::system::type_of;
 use crate::checks::{Check, any_from, lesser, only_from, only_of, refusal_at};
@@ -42,12 +42,25 @@ fn asked(
     Some(system_type.asked_kind(direction))
 }
 
+// The kind of a unit, which mostly its keyword tells.
+fn kind_of(items: &Items<'_>, unit: ItemId) -> Option<UnitKind>
+    requires { HasId items.now unit }
+    ensures { IsReading (ReadsKind (item_at items.now unit)) result }
+{
+    if let Some(keyword) = items.keyword(unit) {
+        if let Some(kind) = UnitKind::of(keyword) {
+            return Some(kind);
+        }
+    }
+    UnitKind::read(items.raw(unit))
+}
+
 // Whether a unit fits where this kind is asked.
 pub(crate) fn fits(items: &Items<'_>, unit: ItemId, kind: UnitKind) -> bool
     requires { HasId items.now unit }
     ensures { IsTrue result ↔ Fits (item_at items.now unit) kind }
 {
-    match UnitKind::read(items.raw(unit)) {
+    match kind_of(items, unit) {
         None => false,
         Some(read) => read == UnitKind::Plain || read == kind,
     }

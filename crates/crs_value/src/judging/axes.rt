@@ -6,12 +6,12 @@ ghost use Rattle.crs_shape.specs.Shaped.{Shaped};
 ghost use Rattle.crs_value.specs.BadUnit.{Asks, BadOwnUnit, units_in};
 ghost use Rattle.crs_value.specs.Break.{IsLeast};
 ghost use Rattle.crs_value.specs.Reading.{item_at};
-ghost use Rattle.crs_value.specs.Seen.{the_one, ArePlaced, Has, IsMarked, IsNoted, IsShaped};
+ghost use Rattle.crs_value.specs.Seen.{the_one, ArePlaced, Has, IsBehindName, IsMarked, IsNoted, IsShaped};
 
-use crate::checks::unit::{direction_of, fits};
-use crate::reading::arguments::first;
-use crate::reading::node::number;
-use crs_shape::{Class, Direction, SystemType, UnitKind};
+use crate::checks::unit::fits;
+use crate::reading::arguments::later;
+use crate::reading::node::whole_of;
+use crs_shape::{Class, Direction, SystemType, UnitKind, stands_as};
 use crs_text::{ItemId, Items};
 
 // What an axis has that is checked beside the others: its direction, and its order and unit where they are written.
@@ -71,14 +71,37 @@ pub(crate) fn seen_of(items: &Items<'_>, axis: ItemId) -> Option<Seen>
     ensures { IfSome result (λ seen. Has items.now (item_at items.now axis) seen) }
 {
     crs_shape::laws::slots_count();
-    let Some(direction) = direction_of(items, axis) else {
+    let Some(word) = word_behind_name(items, axis) else {
+        return None;
+    };
+    let Some(direction) = Direction::read(items.raw(word)) else {
         return None;
     };
     Some(Seen {
         direction,
-        order: first(items, axis, Class::Axis, Class::Order),
-        unit: first(items, axis, Class::Axis, Class::AxisUnit),
+        order: later(items, word, Class::Axis, Class::Order),
+        unit: later(items, word, Class::Axis, Class::AxisUnit),
     })
+}
+
+// The word that an axis has behind its name, as its slots ask for.
+fn word_behind_name(items: &Items<'_>, axis: ItemId) -> Option<ItemId>
+    requires { HasId items.now axis }
+    ensures { IfSome result (IsBehindName items.now (item_at items.now axis)) }
+{
+    let Some(name) = items.arg(axis, 0) else {
+        return None;
+    };
+    if !stands_as(items, name, Class::Axis, Class::Text) {
+        return None;
+    }
+    let Some(word) = items.next(name) else {
+        return None;
+    };
+    if !stands_as(items, word, Class::Axis, Class::Word) {
+        return None;
+    }
+    Some(word)
 }
 
 // Whether there is none.
@@ -131,7 +154,7 @@ fn placed(items: &Items<'_>, places: Option<Places>, order: Option<ItemId>) -> O
 {
     let Some(old) = places else { return None };
     let Some(order) = order else { return None };
-    let Some(place) = number(items, order, Class::Order).whole() else {
+    let Some(place) = whole_of(items, order, Class::Order) else {
         return None;
     };
     with_place(old, place)

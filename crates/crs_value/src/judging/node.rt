@@ -1,28 +1,65 @@
 //! A node as one of a class, whose arguments are walked over and then its own checks are made.
-ghost use Rattle.std.specs.Prelude.{◌≡◌, ◌⊎◌, IsTrue, true, [], ◌∷◌, ◌++◌};
-ghost use Rattle.crs_text.specs.Items.{HasId, arguments};
+ghost use Rattle.std.specs.Prelude.{◌≡◌, ◌⊎◌, IsTrue, Some, true, [], ◌∷◌, ◌++◌};
+ghost use Rattle.crs_text.specs.Items.{HasId, arguments, close_of};
 ghost use Rattle.crs_shape.specs.ShapeFault.{is_of};
 ghost use Rattle.crs_shape.specs.Shaped.{Shaped};
 ghost use Rattle.crs_shape.specs.Slots.{any_of, slots_of};
 ghost use Rattle.crs_value.specs.Break.{IsLeast};
 ghost use Rattle.crs_value.specs.Checks.{BreaksAmong, HasSystem, Own};
 ghost use Rattle.crs_value.specs.Judged.{Answers, Judged};
+ghost use Rattle.crs_value.specs.Least.{lesser};
 ghost use Rattle.crs_value.specs.Reading.{item_at, Holds};
 ghost use Rattle.crs_value.specs.Seen.{is_head, is_tail, rest_slots, IsHeld, IsLaid, Laid};
 
 use crate::checks::crs::whole_crs;
-use crate::checks::dynamic::bad_dynamic_in;
+use crate::checks::dynamic::bad_dynamic;
 use crate::checks::lesser;
 use crate::checks::own::own_of_part;
 use crate::judging::named::AxisUnit;
 use crate::judging::quiet::{Layout, NOWHERE, is_quiet};
 use crate::judging::slots::{Any, End, Found, Front, One, OneOrMore, Optional, Part, Slot, Slots};
 use crate::judging::system::{Axis, CoordinateSystem};
+use crate::reading::arguments::first_before;
 use crs_shape::{Class, laws, stands_as};
 use crs_text::{ItemId, Items, Refusal};
 
-// Whether an item that may be of this class, which has these slots, has no fault of shape as one; what it breaks joins
+// What was found is joined by what a node breaks by itself, which mostly is nothing: then nothing is written.
+#[inline(always)]
+fn join(found: &mut Found, own: Option<Refusal>)
+    ensures { found.new ≡ lesser found.old own }
+{
+    match own {
+        None => {}
+        Some(_) => *found = lesser(*found, own),
+    }
+}
+
+// Whether a node that may be of this class, which has these slots, has no fault of shape as one; what it breaks joins
 // what was found.
+#[inline(never)]
+fn node_judged<S: Slots>(
+    items: &Items<'_>,
+    id: ItemId,
+    class: Class,
+    close: usize,
+    found: &mut Found,
+) -> bool
+    requires has { HasId items.now id }
+    requires of { IsTrue (is_of class (item_at items.now id)) }
+    requires close { close_of (item_at items.now id) ≡ Some close }
+    requires slots { slots_of class ≡ S.slots }
+    requires part { ¬ (HasSystem class) }
+    ensures { Judged class (item_at items.now id) found.old result found.new }
+{
+    laws::walk_finds_the_fault();
+    if !S::walk(items, items.arg(id, 0), class, close, found) {
+        return false;
+    }
+    join(found, own_of_part(items, id, class));
+    true
+}
+
+// The same of any item, so that what isn't a node needs no call.
 #[inline(always)]
 pub(crate) fn judged<S: Slots>(
     items: &Items<'_>,
@@ -36,15 +73,10 @@ pub(crate) fn judged<S: Slots>(
     requires part { ¬ (HasSystem class) }
     ensures { Judged class (item_at items.now id) found.old result found.new }
 {
-    laws::walk_finds_the_fault();
-    let Some(close) = items.close(id) else {
-        return true
-    };
-    if !S::walk(items, items.arg(id, 0), class, close, found) {
-        return false;
+    match items.close(id) {
+        None => true,
+        Some(close) => node_judged::<S>(items, id, class, close, found),
     }
-    *found = lesser(*found, own_of_part(items, id, class));
-    true
 }
 
 // Where the parts of a CRS begin, by its slots before its coordinate system and what its last slot takes; None where a
@@ -107,7 +139,8 @@ fn whole(
         ⊎ Own class (item_at items.now id) f) result }
 {
     if is_quiet(items, id, class, layout) {
-        return lesser(inside, bad_dynamic_in(items, id, class));
+        let dynamic = first_before(items, id, layout.system, class, Class::Dynamic);
+        return lesser(inside, bad_dynamic(items, id, class, dynamic));
     }
     whole_crs(items, id, class, inside)
 }
@@ -137,7 +170,7 @@ pub(crate) fn crs_judged<H: Front, T: Part>(
         *found = inside;
         return false;
     };
-    *found = lesser(*found, whole(items, id, class, layout, inside));
+    join(found, whole(items, id, class, layout, inside));
     true
 }
 

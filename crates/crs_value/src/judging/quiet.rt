@@ -10,6 +10,7 @@ ghost use Rattle.crs_value.specs.Seen.{the_one, IsHeld, IsLaid, IsQuiet, IsSeen}
 use crate::checks::system::type_of;
 use crate::judging::axes::{Axes, MOST, NONE, noted, seen_of};
 use crate::judging::rest::{head_fits, is_ascending, is_ordered, units_fit};
+use crate::reading::arguments::same_place;
 use crs_decimal::laws;
 use crs_shape::{Class, SystemType, stands_as};
 use crs_text::{ItemId, Items};
@@ -30,12 +31,6 @@ pub(crate) const NOWHERE: Layout = Layout {
     unit: None,
     tail: None,
 };
-
-fn same_place(a: &Option<ItemId>, b: &Option<ItemId>) -> bool
-    ensures { IsTrue result → a.now ≡ b.now }
-{
-    *a == *b
-}
 
 // Whether an argument is seen to be the only one of its class from there on.
 fn is_only(items: &Items<'_>, id: ItemId, parent: Class, class: Class, next: Option<ItemId>) -> bool

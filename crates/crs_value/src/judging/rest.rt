@@ -1,21 +1,22 @@
 //! What is checked of a CRS as a whole, where its parts were found.
-ghost use Rattle.std.specs.Prelude.{◌≡◌, ◌≤◌, ℕ, IfSome, IsTrue, None, true, length, List};
+ghost use Rattle.std.specs.Prelude.{◌≡◌, ◌≤◌, ℕ, IfSome, IsTrue, None, Some, true, length, List};
 ghost use Rattle.crs_text.specs.Items.{Item, HasId};
+ghost use Rattle.crs_shape.specs.declared.class.Class.{Class};
 ghost use Rattle.crs_shape.specs.Dimensions.{dimensions_of};
 ghost use Rattle.crs_shape.specs.Shaped.{Shaped};
 ghost use Rattle.crs_value.specs.BadUnit.{Fits};
 ghost use Rattle.crs_value.specs.Break.{IsLeast};
 ghost use Rattle.crs_value.specs.Checks.{OfHead, once};
-ghost use Rattle.crs_value.specs.Reading.{item_at, ahead, Holds};
+ghost use Rattle.crs_value.specs.Reading.{item_at, is_a, ahead, Holds};
 ghost use Rattle.crs_value.specs.Reads.{HasType};
 ghost use Rattle.crs_value.specs.RepeatedPart.{RepeatsAny};
 ghost use Rattle.crs_value.specs.Seen.{rank, AreOrdered, Climbs, Marks, UnitsFit};
 
 use crate::checks::unit::fits;
 use crate::judging::axes::{Axes, Places};
-use crate::reading::node::number;
+use crate::reading::node::whole_of;
 use crs_decimal::laws;
-use crs_shape::{Class, SystemType, UnitKind, class_in};
+use crs_shape::{Class, SystemType, UnitKind, stands_as};
 use crs_text::{ItemId, Items};
 
 // Whether a CRS of this class may have a coordinate system of this type and its dimension, which is the number of axes.
@@ -33,11 +34,19 @@ pub(crate) fn head_fits(
         IsLeast (OfHead (dimensions_of class) axes (item_at items.now cs)) None }
 {
     laws::denotes_one();
-    let dimension = number(items, cs, Class::CoordinateSystem);
-    if !system_type.is_allowed(class, &dimension) {
+    let Some(dimension) = whole_of(items, cs, Class::CoordinateSystem) else {
+        return false;
+    };
+    if !system_type.has_dimension(class, dimension) {
         return false;
     }
-    dimension.is_whole(count as u64)
+    is_count(dimension, count)
+}
+
+fn is_count(dimension: u64, count: usize) -> bool
+    ensures { IsTrue result → dimension ≡ count }
+{
+    dimension == count as u64
 }
 
 // The highest of these orders; 1 where there is none.
@@ -125,6 +134,30 @@ fn climbed(last: u8, class: Option<Class>) -> Option<u8>
     if next <= last { None } else { Some(next) }
 }
 
+// The class of an argument, if it is one that may stand but once at a CRS's end.
+#[inline(always)]
+fn once_in(items: &Items<'_>, id: ItemId, parent: Class) -> Option<Class>
+    requires { HasId items.now id }
+    ensures { (d : Class) → 1 ≤ rank d → is_a parent d (item_at items.now id) ≡ true → result ≡ Some d }
+{
+    if stands_as(items, id, parent, Class::Scope) {
+        return Some(Class::Scope);
+    }
+    if stands_as(items, id, parent, Class::Area) {
+        return Some(Class::Area);
+    }
+    if stands_as(items, id, parent, Class::BoundingBox) {
+        return Some(Class::BoundingBox);
+    }
+    if stands_as(items, id, parent, Class::VerticalExtent) {
+        return Some(Class::VerticalExtent);
+    }
+    if stands_as(items, id, parent, Class::Remark) {
+        return Some(Class::Remark);
+    }
+    None
+}
+
 // Whether what may stand but once follows one another by rank, so that nothing is repeated.
 pub(crate) fn is_ascending(items: &Items<'_>, from: Option<ItemId>, parent: Class) -> bool
     requires { Holds items.now from }
@@ -133,7 +166,7 @@ pub(crate) fn is_ascending(items: &Items<'_>, from: Option<ItemId>, parent: Clas
     let mut last = 0;
     let mut at = from;
     while let Some(id) = at {
-        match climbed(last, class_in(items, id, parent)) {
+        match climbed(last, once_in(items, id, parent)) {
             None => return false,
             Some(next) => last = next,
         }

@@ -1,19 +1,37 @@
 //! The arguments of a node, by their class.
+ghost use Rattle.std.specs.Prelude.{◌≡◌, IsTrue, []};
 ghost use Rattle.crs_text.specs.Items.{arguments, rest_of, here, HasId};
 ghost use Rattle.crs_value.specs.Reading.{item_at, ahead, Holds, those, IsFound};
 
 use crs_shape::{Class, Sought};
 use crs_text::{ItemId, Items};
 
-// The first argument of this class from this one on.
 #[inline(always)]
-fn found(items: &Items<'_>, from: Option<ItemId>, parent: Class, class: Class) -> Option<ItemId>
-    requires { Holds items.now from }
+pub(crate) fn same_place(a: &Option<ItemId>, b: &Option<ItemId>) -> bool
+    ensures { IsTrue result → a.now ≡ b.now }
+{
+    *a == *b
+}
+
+// The first argument of this class from this one on; from another one on there is none.
+#[inline(always)]
+fn found(
+    items: &Items<'_>,
+    from: Option<ItemId>,
+    until: Option<ItemId>,
+    parent: Class,
+    class: Class,
+) -> Option<ItemId>
+    requires holds { Holds items.now from }
+    requires none { those parent class (ahead items.now until) ≡ [] }
     ensures { IsFound items.now parent class (those parent class (ahead items.now from)) result }
 {
     let sought = Sought::new(parent, class);
     let mut at = from;
     while let Some(id) = at {
+        if same_place(&at, &until) {
+            return None;
+        }
         if sought.is(items, id) {
             return Some(id);
         }
@@ -29,7 +47,24 @@ pub(crate) fn first(items: &Items<'_>, id: ItemId, parent: Class, class: Class) 
     ensures { IsFound items.now parent class (those parent class (arguments
         (item_at items.now id))) result }
 {
-    found(items, items.arg(id, 0), parent, class)
+    found(items, items.arg(id, 0), None, parent, class)
+}
+
+// The first argument of this class, of which there is none from another argument on.
+#[inline(always)]
+pub(crate) fn first_before(
+    items: &Items<'_>,
+    id: ItemId,
+    until: Option<ItemId>,
+    parent: Class,
+    class: Class,
+) -> Option<ItemId>
+    requires has { HasId items.now id }
+    requires none { those parent class (ahead items.now until) ≡ [] }
+    ensures { IsFound items.now parent class (those parent class (arguments
+        (item_at items.now id))) result }
+{
+    found(items, items.arg(id, 0), until, parent, class)
 }
 
 // The next argument of this class after this one.
@@ -38,5 +73,5 @@ pub(crate) fn later(items: &Items<'_>, id: ItemId, parent: Class, class: Class) 
     requires { HasId items.now id }
     ensures { IsFound items.now parent class (those parent class (rest_of (here items.now id))) result }
 {
-    found(items, items.next(id), parent, class)
+    found(items, items.next(id), None, parent, class)
 }

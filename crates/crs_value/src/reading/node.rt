@@ -1,17 +1,18 @@
 //! Readers: values from the arguments of a node that has its shape and breaks no check.
-ghost use Rattle.std.specs.Prelude.{IfOk, Some};
+ghost use Rattle.std.specs.Prelude.{◌≡◌, ◌-◌, ◌≤◌, IfOk, IfSome, Some, [], ◌∷◌};
 ghost use Rattle.std.specs.Option.{option_copied};
-ghost use Rattle.crs_text.specs.Items.{Item, arguments, HasId};
+ghost use Rattle.crs_text.specs.Items.{Item, arguments, raw_of, HasId};
 ghost use Rattle.crs_shape.specs.declared.class.Class.{Class};
 ghost use Rattle.crs_shape.specs.Shaped.{Shaped};
 ghost use Rattle.crs_value.specs.Checks.{IsSound};
 ghost use Rattle.crs_value.specs.Reading.{item_at, Requires, those, IsFound, ReadsOne, ReadsIfAny, ReadsAll};
 ghost use Rattle.crs_value.specs.Reads.{ReadsNumber, ReadsTextOf, ReadsNumberOf, ReadsNumberAt};
+ghost use Rattle.crs_value.specs.WholeNumbers.{IsWhole, IsWholeOf};
 
 use crate::reading::arguments::{first, later};
 use crate::values::key::Keyed;
 use crate::values::list::List;
-use crs_decimal::Decimal;
+use crs_decimal::{Decimal, laws as numbers};
 use crs_shape::{Class, laws};
 use crs_text::{ItemId, Items};
 use std::alloc::{AllocError, Global};
@@ -262,4 +263,63 @@ pub(crate) fn decimal_of(items: &Items<'_>, id: ItemId) -> Decimal
         Some(value) => value,
         None => unreachable!(),
     }
+}
+
+// The byte, if there is but one.
+#[inline(always)]
+fn only_byte(bytes: &[u8]) -> Option<u8>
+    ensures { IfSome result (λ byte. bytes.now ≡ byte ∷ []) }
+{
+    match bytes {
+        [byte] => Some(*byte),
+        _ => None,
+    }
+}
+
+#[inline(always)]
+fn digit_value(byte: u8) -> Option<u64>
+    ensures { IfSome result (λ value. (48 ≤ byte) × ((byte ≤ 57) × (value ≡ byte - 48))) }
+{
+    if b'0' <= byte && byte <= b'9' {
+        Some(u64::from(byte - b'0'))
+    } else {
+        None
+    }
+}
+
+// The whole number below 10 that bytes spell, if they are one digit.
+#[inline(always)]
+fn small_whole(bytes: &[u8]) -> Option<u64>
+    ensures { IfSome result (IsWhole bytes.now) }
+{
+    numbers::digits_alone();
+    numbers::one_form();
+    numbers::denotes_some();
+    numbers::same_number_is_equivalence();
+    match only_byte(bytes) {
+        None => None,
+        Some(byte) => digit_value(byte),
+    }
+}
+
+// A number by itself as a whole one below 2^64, if it is one. Mostly it is one digit, which needn't be read as a decimal.
+fn whole_at(items: &Items<'_>, id: ItemId) -> Option<u64>
+    requires has { HasId items.now id }
+    requires shaped { Shaped Class.Number (item_at items.now id) }
+    ensures { IfSome result (IsWhole (raw_of (item_at items.now id))) }
+{
+    match small_whole(items.raw(id)) {
+        Some(value) => Some(value),
+        None => decimal_of(items, id).whole(),
+    }
+}
+
+// The number of a node, as `whole_at` of it.
+pub(crate) fn whole_of(items: &Items<'_>, id: ItemId, class: Class) -> Option<u64>
+    requires has { HasId items.now id }
+    requires shaped { Shaped class (item_at items.now id) }
+    requires enough { Requires class Class.Number 0 }
+    ensures { IfSome result (IsWholeOf class (item_at items.now id)) }
+{
+    whole_at(items, required(items, id, class, Class::Number))
 }

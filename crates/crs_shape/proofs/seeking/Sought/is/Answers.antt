@@ -6,7 +6,7 @@ use Rattle.crs_shape.specs.ClassSet.{has_bit, keyword_bit}
 use Rattle.crs_shape.specs.ShapeFault.{class_in}
 use Rattle.crs_shape.specs.Slots.{is_class}
 use Rattle.crs_shape.proofs.BoolLemmas.{not-true, turned}
-use Rattle.crs_shape.proofs.SoughtLemmas.{other_kind, is_node, node_named, other_keyword}
+use Rattle.crs_shape.proofs.SoughtLemmas.{other_kind, is_node, node_named, other_keyword, own_keyword}
 use Rattle.crs_shape.proofs.seeking.Sought.is.Goals as goal
 
 pub returns-then-ne : goal.returns-then-ne
@@ -28,6 +28,15 @@ returns-then-not-has c =
     (is_node _ _ _ c.kind.ensures (turned _ (sym c.ne.ensures ∙ c.if-ne.false)) (turned _ (sym c.ne-2.ensures ∙ c.if-ne-2.false)))
     c.in-Some.ensures
     (ap (λ set. has_bit set (keyword_bit c.in-Some.keyword)) (sym c.self.invariant.0) ∙ sym c.has.ensures ∙ c.if-not-has.true)
+    ∙ ap (λ s. is_class s.class (class_in s.parent (first_of (here c.args.items.now c.args.id)))) c.self.view_is
+
+pub returns-then-is_clear : goal.returns-then-is_clear
+returns-then-is_clear c =
+    own_keyword c.keywords_are_spelled.ensures _ _ (first_of (here c.args.items.now c.args.id)) c.in-Some.keyword
+    (is_node _ _ _ c.kind.ensures (turned _ (sym c.ne.ensures ∙ c.if-ne.false)) (turned _ (sym c.ne-2.ensures ∙ c.if-ne-2.false)))
+    c.in-Some.ensures
+    (ap (λ set. has_bit set (keyword_bit c.in-Some.keyword)) (sym c.self.invariant.0) ∙ sym c.has.ensures ∙ c.if-not-has.false)
+    (c.is_clear.ensures c.if-is_clear.true)
     ∙ ap (λ s. is_class s.class (class_in s.parent (first_of (here c.args.items.now c.args.id)))) c.self.view_is
 
 pub returns : goal.returns

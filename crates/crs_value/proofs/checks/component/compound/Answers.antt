@@ -22,4 +22,4 @@ returns c =
     either-is (One class.GeographicCrs) (All (class.ProjectedCrs ∷ [])) _ _ _ c.lesser-geographic.ensures c.bad_part-2.ensures p in
     let d : IsLeast (All horizontal_classes) c.lesser-geodetic.result =
     either-is (One class.GeodeticCrs) (All (class.GeographicCrs ∷ class.ProjectedCrs ∷ [])) _ _ _ c.lesser-geodetic.ensures c.bad_part-3.ensures g in
-    either-is (λ f. RepeatsAny class.CompoundCrs items once f) (All horizontal_classes) _ _ _ c.lesser.ensures c.repeats_once.ensures d
+    either-is (λ f. RepeatsAny class.CompoundCrs items once f) (All horizontal_classes) _ _ _ c.lesser.ensures c.repeated.ensures d

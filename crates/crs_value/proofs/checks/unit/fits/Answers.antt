@@ -1,7 +1,10 @@
+use Rattle.std.proofs.Common.{refl}
+use Rattle.crs_text.specs.Items.{raw_of}
 use Rattle.crs_value.specs.Reading.{item_at}
 use Rattle.crs_value.proofs.UnitLemmas.{fits-none}
 use Rattle.crs_value.proofs.checks.unit.fits.Goals as goal
 
 pub returns-in-None : goal.returns-in-None
 returns-in-None c =
-    (λ e. absurd cc, λ h. absurd (fits-none (item_at c.args.items.now c.args.unit) c.raw.result.now c.args.kind c.raw.ensures c.in-None.ensures h))
+    let item = item_at c.args.items.now c.args.unit in
+    (λ e. absurd cc, λ h. absurd (fits-none item (raw_of item) c.args.kind refl c.in-None.ensures h))

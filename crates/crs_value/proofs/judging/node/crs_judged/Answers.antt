@@ -47,6 +47,6 @@ pub returns : goal.returns
 returns g c =
     let tree = c.args.items.now in
     let item = item_at tree c.args.id in
-    with-whole c.args.class item c.in-Some.close c.args.found.now c.laid.new.found c.whole.result c.lesser.result (sym c.in-Some.ensures)
+    with-whole c.args.class item c.in-Some.close c.args.found.now c.laid.new.found c.whole.result c.join.new.found (sym c.in-Some.ensures)
     (walked-all tree c.args.class c.in-Some.close (g.H.Front.front ++ rest_slots (any_of g.T.Part.classes)) item c.arg.result None c.laid.new.found true true c.requires.of
-    (sym c.in-Some.ensures) c.arg.ensures c.requires.slots refl c.in-Some-laid.ensures.0) c.whole.ensures c.lesser.ensures
+    (sym c.in-Some.ensures) c.arg.ensures c.requires.slots refl c.in-Some-laid.ensures.0) c.whole.ensures c.join.ensures

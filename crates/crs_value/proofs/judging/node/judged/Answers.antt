@@ -1,36 +1,10 @@
-use Rattle.std.proofs.Common.{sym, true, false}
-use Rattle.crs_text.specs.Items.{arguments}
+use Rattle.std.proofs.Common.{sym}
 use Rattle.crs_value.specs.Reading.{item_at}
-use Rattle.crs_value.proofs.ArgumentLemmas.{holds_at}
-use Rattle.crs_value.proofs.JudgedLemmas.{leaf-judged, shaped-by, walked-all, with-fault, with-own}
+use Rattle.crs_value.proofs.JudgedLemmas.{leaf-judged}
 use Rattle.crs_value.proofs.judging.node.judged.Goals as goal
 
-pub walk-requires : goal.walk-requires
-walk-requires g c = holds_at c.args.items.now (arguments (item_at c.args.items.now c.args.id)) c.arg.result c.arg.ensures
+pub returns-in-None : goal.returns-in-None
+returns-in-None g c = leaf-judged c.args.class (item_at c.args.items.now c.args.id) c.args.found.now c.requires.of (sym c.in-None.ensures)
 
-pub returns-in_default : goal.returns-in_default
-returns-in_default g c = leaf-judged c.args.class (item_at c.args.items.now c.args.id) c.args.found.now c.requires.of (sym c.in_default.ensures)
-
-pub returns-then-not-walk : goal.returns-then-not-walk
-returns-then-not-walk g c =
-    let tree = c.args.items.now in
-    let item = item_at tree c.args.id in
-    with-fault c.args.class item c.args.found.now c.args.found.now c.walk.new.found
-    (walked-all tree c.args.class c.in-Some.close g.S.Slots.slots item c.arg.result c.args.found.now c.walk.new.found c.walk.result false c.requires.of (sym c.in-Some.ensures) c.arg.ensures
-    c.requires.slots c.if-not-walk.true c.walk.ensures)
-
-pub own_of_part-requires-clause-shaped : goal.own_of_part-requires-clause-shaped
-own_of_part-requires-clause-shaped g c =
-    let tree = c.args.items.now in
-    let item = item_at tree c.args.id in
-    shaped-by c.walk_finds_the_fault.ensures.none c.args.class item c.args.found.now c.walk.new.found
-    (walked-all tree c.args.class c.in-Some.close g.S.Slots.slots item c.arg.result c.args.found.now c.walk.new.found c.walk.result true c.requires.of (sym c.in-Some.ensures) c.arg.ensures
-    c.requires.slots c.if-not-walk.false c.walk.ensures)
-
-pub returns : goal.returns
-returns g c =
-    let tree = c.args.items.now in
-    let item = item_at tree c.args.id in
-    with-own c.args.class item c.in-Some.close c.args.found.now c.walk.new.found c.own_of_part.result c.lesser.result (sym c.in-Some.ensures)
-    (walked-all tree c.args.class c.in-Some.close g.S.Slots.slots item c.arg.result c.args.found.now c.walk.new.found c.walk.result true c.requires.of (sym c.in-Some.ensures) c.arg.ensures
-    c.requires.slots c.if-not-walk.false c.walk.ensures) c.own_of_part.ensures c.lesser.ensures
+pub node_judged-requires-clause-close : goal.node_judged-requires-clause-close
+node_judged-requires-clause-close g c = sym c.in-Some.ensures

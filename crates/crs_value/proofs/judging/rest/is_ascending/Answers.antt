@@ -13,6 +13,6 @@ loop-at-preserved c =
     let id = c.in-Some.id in
     record {
       holds = holds_at tree (rest_of (here tree id)) c.next-at.result c.next-at.ensures;
-      climbing = climbing-on tree c.args.parent (ahead tree c.args.from) c.loop-at.at id c.next-at.result c.loop-at.last c.in-Some-climbed.next c.class_in.result c.in-Some.is
-          (has-some tree c.loop-at.at id c.in-Some.is c.loop-at.invariant.holds) c.next-at.ensures c.class_in.ensures c.in-Some-climbed.ensures c.loop-at.invariant.climbing;
+      climbing = climbing-on tree c.args.parent (ahead tree c.args.from) c.loop-at.at id c.next-at.result c.loop-at.last c.in-Some-climbed.next c.once_in.result c.in-Some.is
+          (has-some tree c.loop-at.at id c.in-Some.is c.loop-at.invariant.holds) c.next-at.ensures c.once_in.ensures c.in-Some-climbed.ensures c.loop-at.invariant.climbing;
     }
