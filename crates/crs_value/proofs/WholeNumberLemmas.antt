@@ -1,9 +1,9 @@
 -- Whole numbers that are read: of one digit at sight, and others as decimals.
-use Rattle.std.proofs.Common.{◌≡◌, ℕ, ◌+◌, ◌-◌, ◌*◌, ◌<◌, ◌≤◌, nat_le, ◌&&◌, Bool, true, false, Option, Some, None, List, [], ◌∷◌, length, refl, sym, subst, arith, le-leb}
+use Rattle.std.proofs.Common.{◌≡◌, ◌⊎◌, inl, inr, ap, ℕ, ◌+◌, ◌-◌, ◌*◌, ◌<◌, ◌≤◌, nat_le, ◌&&◌, Bool, true, false, Option, Some, None, List, [], ◌∷◌, length, refl, sym, subst, arith, le-leb}
 use Rattle.std.specs.Prelude.{IfSome, MatchOption}
-use Rattle.crs_decimal.specs.Bounds.{IsInBounds, Denotes, number_of}
+use Rattle.crs_decimal.specs.Bounds.{IsBounded, IsInBounds, Denotes, number_of}
 use Rattle.crs_decimal.specs.Number.{Number, SameNumber, whole_number}
-use Rattle.crs_decimal.specs.Spelling.{unsigned, Parts, SpellsNumber, AreDigits}
+use Rattle.crs_decimal.specs.Spelling.{Sign, unsigned, plus, Parts, IsForm, SpellsNumber, AreDigits}
 use Rattle.crs_decimal.specs.Value.{Value, IsNormal, exact}
 use Rattle.crs_text.specs.Items.{Item, arguments, raw_of, rest_of, here}
 use Rattle.crs_shape.specs.declared.class.Class.{Class}
@@ -24,9 +24,9 @@ DenotesSome = (bytes : List ℕ) → IsInBounds bytes → (v : Value) × (IsNorm
 abbrev Symmetric : Type 0
 Symmetric = (a b : Number) → SameNumber a b → SameNumber b a
 
--- a digit alone
-abbrev digit_parts : ℕ → Parts
-digit_parts b = record { sign = unsigned; whole = b ∷ []; fraction = None; exponent = None }
+-- a digit alone, or after a sign
+abbrev digit_parts : Sign → ℕ → Parts
+digit_parts s b = record { sign = s; whole = b ∷ []; fraction = None; exponent = None }
 
 digit-alone : (b : ℕ) → 48 ≤ b → b ≤ 57 → AreDigits (b ∷ [])
 digit-alone b low high = both (nat_le 48 b) (nat_le b 57) (le-leb 48 b low) (le-leb b 57 high)
@@ -36,29 +36,56 @@ digit-alone b low high = both (nat_le 48 b) (nat_le b 57) (le-leb 48 b low) (le-
     both true false p q = cc
     both false y p q = cc
 
-digit-spells : (b : ℕ) → AreDigits (b ∷ []) → SpellsNumber (b ∷ []) (digit_parts b)
-digit-spells b digits = (refl, record { digits = digits; some = omega arith; exponent = tt })
+digit-form : (s : Sign) (b : ℕ) → AreDigits (b ∷ []) → IsForm (digit_parts s b)
+digit-form s b digits = record { digits = digits; some = omega arith; exponent = tt }
 
-digit-whole : DigitsAlone → OneForm → DenotesSome → Symmetric → (b : ℕ) → AreDigits (b ∷ []) → IsWhole (b ∷ []) (b - 48)
-digit-whole alone one some symmetric b digits = by (some (b ∷ []) (alone (b ∷ []) digits (omega arith) (omega arith)))
+digit-bounded : DigitsAlone → OneForm → (b : ℕ) → AreDigits (b ∷ []) → IsBounded (digit_parts unsigned b)
+digit-bounded alone one b digits = by (alone (b ∷ []) digits (omega arith) (omega arith))
   where
-    plain : 0 * 10 + (b - 48) ≡ b - 48
-    plain = omega arith
+    by : IsInBounds (b ∷ []) → IsBounded (digit_parts unsigned b)
+    by h = subst IsBounded (one (b ∷ []) h.0 (digit_parts unsigned b) h.1 (refl, digit-form unsigned b digits)) h.2
 
-    by : (v : Value) × (IsNormal v × Denotes (b ∷ []) (exact v)) → IsWhole (b ∷ []) (b - 48)
+plus-bounded : (b : ℕ) → IsBounded (digit_parts unsigned b) → IsBounded (digit_parts plus b)
+plus-bounded b h = record { mantissa_digits = h.mantissa_digits; exponent_digits = h.exponent_digits; measured = h.measured }
+
+-- the value of a digit in bounds that has no minus
+value-of : OneForm → DenotesSome → Symmetric → (bytes : List ℕ) (p : Parts) (n : ℕ) → SpellsNumber bytes p → IsBounded p → number_of p ≡ whole_number n → IsWhole bytes n
+value-of one some symmetric bytes p n spells bounded is = by (some bytes (p, spells, bounded))
+  where
+    by : (v : Value) × (IsNormal v × Denotes bytes (exact v)) → IsWhole bytes n
     by (v, (normal, denotes)) =
         let P : Parts → Type 0 = λ q. SameNumber (number_of q) (exact v) in
-        let Q : ℕ → Type 0 = λ n. SameNumber (whole_number n) (exact v) in
-        let mine : SameNumber (number_of (digit_parts b)) (exact v) = subst P (one (b ∷ []) denotes.0 (digit_parts b) denotes.1 (digit-spells b digits)) denotes.3 in
-        (v, ((normal, denotes), symmetric (whole_number (b - 48)) (exact v) (subst Q plain mine)))
+        let Q : Number → Type 0 = λ m. SameNumber m (exact v) in
+        let mine : SameNumber (number_of p) (exact v) = subst P (one bytes denotes.0 p denotes.1 spells) denotes.3 in
+        (v, ((normal, denotes), symmetric (whole_number n) (exact v) (subst Q is mine)))
 
-pub digit-read : DigitsAlone → OneForm → DenotesSome → Symmetric → (raw : List ℕ) (b : ℕ) (found : Option ℕ) → raw ≡ b ∷ [] →
+digit-number : (b : ℕ) → number_of (digit_parts unsigned b) ≡ whole_number (b - 48)
+digit-number b =
+    let plain : 0 * 10 + (b - 48) ≡ b - 48 = omega arith in
+    ap (λ n. whole_number n) plain
+
+digit-whole : DigitsAlone → OneForm → DenotesSome → Symmetric → (b : ℕ) → AreDigits (b ∷ []) → IsWhole (b ∷ []) (b - 48)
+digit-whole alone one some symmetric b digits =
+    value-of one some symmetric (b ∷ []) (digit_parts unsigned b) (b - 48) (refl, digit-form unsigned b digits) (digit-bounded alone one b digits) (digit-number b)
+
+plus-whole : DigitsAlone → OneForm → DenotesSome → Symmetric → (b : ℕ) → AreDigits (b ∷ []) → IsWhole (43 ∷ b ∷ []) (b - 48)
+plus-whole alone one some symmetric b digits =
+    value-of one some symmetric (43 ∷ b ∷ []) (digit_parts plus b) (b - 48) (refl, digit-form plus b digits) (plus-bounded b (digit-bounded alone one b digits)) (digit-number b)
+
+pub digit-read : DigitsAlone → OneForm → DenotesSome → Symmetric → (raw : List ℕ) (b : ℕ) (found : Option ℕ) → (raw ≡ b ∷ []) ⊎ (raw ≡ 43 ∷ b ∷ []) →
     IfSome found (λ n. (48 ≤ b) × ((b ≤ 57) × (n ≡ b - 48))) → IfSome found (IsWhole raw)
 digit-read alone one some symmetric raw b None same h = h
 digit-read alone one some symmetric raw b (Some n) same (low, (high, is)) =
-    let P : ℕ → Type 0 = λ k. IsWhole (b ∷ []) k in
-    let Q : List ℕ → Type 0 = λ bytes. IsWhole bytes n in
-    subst Q (sym same) (subst P (sym is) (digit-whole alone one some symmetric b (digit-alone b low high)))
+    let digits = digit-alone b low high in
+    let Q : ℕ → Type 0 = λ k. IsWhole raw k in
+    subst Q (sym is) (by same digits)
+  where
+    P : List ℕ → Type 0
+    P bytes = IsWhole bytes (b - 48)
+
+    by : (raw ≡ b ∷ []) ⊎ (raw ≡ 43 ∷ b ∷ []) → AreDigits (b ∷ []) → IsWhole raw (b - 48)
+    by (inl e) digits = subst P (sym e) (digit-whole alone one some symmetric b digits)
+    by (inr e) digits = subst P (sym e) (plus-whole alone one some symmetric b digits)
 
 pub decimal-read : (raw : List ℕ) (v : Value) (Not : Type 0) (found : Option ℕ) → IsNormal v × Denotes raw (exact v) →
     MatchOption found Not (λ n. SameNumber (exact v) (whole_number n)) → IfSome found (IsWhole raw)

@@ -1,5 +1,5 @@
 //! Readers: values from the arguments of a node that has its shape and breaks no check.
-ghost use Rattle.std.specs.Prelude.{◌≡◌, ◌-◌, ◌≤◌, IfOk, IfSome, Some, [], ◌∷◌};
+ghost use Rattle.std.specs.Prelude.{◌≡◌, ◌-◌, ◌≤◌, ◌⊎◌, IfOk, IfSome, Some, [], ◌∷◌};
 ghost use Rattle.std.specs.Option.{option_copied};
 ghost use Rattle.crs_text.specs.Items.{Item, arguments, raw_of, HasId};
 ghost use Rattle.crs_shape.specs.declared.class.Class.{Class};
@@ -265,13 +265,14 @@ pub(crate) fn decimal_of(items: &Items<'_>, id: ItemId) -> Decimal
     }
 }
 
-// The byte, if there is but one.
+// The byte, if there is but one, or one after a plus.
 #[inline(always)]
 fn only_byte(bytes: &[u8]) -> Option<u8>
-    ensures { IfSome result (λ byte. bytes.now ≡ byte ∷ []) }
+    ensures { IfSome result (λ byte. (bytes.now ≡ byte ∷ []) ⊎ (bytes.now ≡ 43 ∷ byte ∷ [])) }
 {
     match bytes {
         [byte] => Some(*byte),
+        [b'+', byte] => Some(*byte),
         _ => None,
     }
 }
@@ -287,7 +288,7 @@ fn digit_value(byte: u8) -> Option<u64>
     }
 }
 
-// The whole number below 10 that bytes spell, if they are one digit.
+// The whole number below 10 that bytes spell, if they are one digit, or one after a plus.
 #[inline(always)]
 fn small_whole(bytes: &[u8]) -> Option<u64>
     ensures { IfSome result (IsWhole bytes.now) }
