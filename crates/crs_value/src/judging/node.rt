@@ -8,7 +8,7 @@ ghost use Rattle.crs_value.specs.Break.{IsLeast};
 ghost use Rattle.crs_value.specs.Checks.{BreaksAmong, HasSystem, Own};
 ghost use Rattle.crs_value.specs.Judged.{Answers, Judged};
 ghost use Rattle.crs_value.specs.Least.{lesser};
-ghost use Rattle.crs_value.specs.Reading.{item_at, Holds};
+ghost use Rattle.crs_value.specs.Reading.{item_at, ahead, those, Holds, IsFound};
 ghost use Rattle.crs_value.specs.Seen.{is_head, is_tail, rest_slots, IsHeld, IsLaid, Laid};
 
 use crate::checks::crs::whole_crs;
@@ -119,6 +119,17 @@ fn laid<H: Front, T: Part>(
     Some(layout)
 }
 
+// The first dynamic part of a CRS, which is before its coordinate system.
+#[inline(always)]
+fn first_dynamic(items: &Items<'_>, id: ItemId, class: Class, layout: &Layout) -> Option<ItemId>
+    requires has { HasId items.now id }
+    requires none { those class Class.Dynamic (ahead items.now layout.now.system) ≡ [] }
+    ensures { IsFound items.now class Class.Dynamic (those class Class.Dynamic (arguments
+        (item_at items.now id))) result }
+{
+    first_before(items, id, layout.system, class, Class::Dynamic)
+}
+
 // The least of what a CRS of the right shape breaks, within it and by itself. Mostly its own checks are seen at once to
 // hold.
 #[inline(always)]
@@ -138,8 +149,8 @@ fn whole(
     ensures { IsLeast (λ f. BreaksAmong class (arguments (item_at items.now id)) f
         ⊎ Own class (item_at items.now id) f) result }
 {
+    let dynamic = first_dynamic(items, id, class, &layout);
     if is_quiet(items, id, class, layout) {
-        let dynamic = first_before(items, id, layout.system, class, Class::Dynamic);
         return lesser(inside, bad_dynamic(items, id, class, dynamic));
     }
     whole_crs(items, id, class, inside)

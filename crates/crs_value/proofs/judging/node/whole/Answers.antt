@@ -3,8 +3,8 @@ use Rattle.crs_value.proofs.OwnLemmas.{own-crs}
 use Rattle.crs_value.proofs.RestLemmas.{quiet-whole}
 use Rattle.crs_value.proofs.judging.node.whole.Goals as goal
 
-pub first_before-requires-clause-none : goal.first_before-requires-clause-none
-first_before-requires-clause-none c = c.requires.laid.no_dynamic
+pub first_dynamic-requires-clause-none : goal.first_dynamic-requires-clause-none
+first_dynamic-requires-clause-none c = c.requires.laid.no_dynamic
 
 pub returns-then-is_quiet : goal.returns-then-is_quiet
 returns-then-is_quiet c =
