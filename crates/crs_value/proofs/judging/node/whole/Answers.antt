@@ -3,9 +3,6 @@ use Rattle.crs_value.proofs.OwnLemmas.{own-crs}
 use Rattle.crs_value.proofs.RestLemmas.{quiet-whole}
 use Rattle.crs_value.proofs.judging.node.whole.Goals as goal
 
-pub first_dynamic-requires-clause-none : goal.first_dynamic-requires-clause-none
-first_dynamic-requires-clause-none c = c.requires.laid.no_dynamic
-
 pub returns-then-is_quiet : goal.returns-then-is_quiet
 returns-then-is_quiet c =
     quiet-whole c.args.class (item_at c.args.items.now c.args.id) c.args.inside c.bad_dynamic.result c.lesser.result c.requires.system (c.is_quiet.ensures c.if-is_quiet.true)
