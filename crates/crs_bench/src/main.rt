@@ -5,13 +5,17 @@
 
 mod catalogue;
 mod entry;
+mod items_stage;
+mod pair;
 mod stage;
 mod tally;
+mod text_stage;
 mod timing;
+mod value_stage;
 
 use anyhow::{Context, Result, ensure};
 use catalogue::texts_of;
-use entry::{Entry, entries_of};
+use entry::{Entry, Measure, entries_of};
 use stage::{STAGES, Stage};
 use std::io::Read;
 use std::{env, io};
@@ -57,31 +61,42 @@ fn stages(rt: &HostRuntime) -> Result<Vec<Stage>> {
 }
 
 fn report(rt: &HostRuntime, stage: Stage, rounds: u32, texts: &[&[u8]]) -> io::Result<()> {
-    let entries = entries_of(rt.alloc(), stage, texts)?;
-    report_all(rt, stage, rounds, &entries)
+    match stage {
+        Stage::Text(measure) => report_by(rt, stage, measure, rounds, texts),
+        Stage::Items(measure) => report_by(rt, stage, measure, rounds, texts),
+        Stage::Value(measure) => report_by(rt, stage, measure, rounds, texts),
+    }
 }
 
-fn report_all(
+fn report_by<'t, T: Drop, M: Measure<'t, T> + Copy>(
     rt: &HostRuntime,
     stage: Stage,
+    measure: M,
     rounds: u32,
-    entries: &[Entry<'_>],
+    texts: &[&'t [u8]],
 ) -> io::Result<()> {
+    let entries = entries_of(rt.alloc(), measure, texts)?;
     if stage.grows() {
         for smaller in SMALLER {
             match entries.get(..smaller) {
                 Some(first) if first.len() < entries.len() => {
-                    report_of(rt, stage, rounds, first)?
+                    report_of(rt, stage, measure, rounds, first)?
                 }
                 _ => {}
             }
         }
     }
-    report_of(rt, stage, rounds, entries)
+    report_of(rt, stage, measure, rounds, &entries)
 }
 
-fn report_of(rt: &HostRuntime, stage: Stage, rounds: u32, entries: &[Entry<'_>]) -> io::Result<()> {
-    let timing = timed(rt, stage, rounds, entries)?;
+fn report_of<'t, T: Drop, M: Measure<'t, T> + Copy>(
+    rt: &HostRuntime,
+    stage: Stage,
+    measure: M,
+    rounds: u32,
+    entries: &[Entry<'t, T>],
+) -> io::Result<()> {
+    let timing = timed(rt, measure, rounds, entries)?;
     let name = stage.name();
     let tally = timing.tally();
     let count = tally.counted();

@@ -1,8 +1,7 @@
 //! How long a stage takes.
 
-use crate::entry::Entry;
-use crate::stage::Stage;
-use crate::tally::Tally;
+use crate::entry::{Entry, Measure};
+use crate::tally::{Outcome, Tally};
 use crs_group::Catalogue;
 use crs_value::Level;
 use std::alloc::{AllocError, Global};
@@ -18,17 +17,17 @@ pub struct Timing {
     time: Duration,
 }
 
-/// Runs the stage over all entries so many times.
-pub fn timed(
+/// Runs a stage over all entries so many times.
+pub fn timed<'t, T: Drop, M: Measure<'t, T> + Copy>(
     rt: &(impl Clock + AllocGlobal),
-    stage: Stage,
+    measure: M,
     rounds: u32,
-    entries: &[Entry<'_>],
+    entries: &[Entry<'t, T>],
 ) -> io::Result<Timing> {
     let start = Instant::now(rt)?;
     let mut tally = Tally::EMPTY;
     for round in 0..rounds {
-        tally = one_round(rt.alloc(), stage, entries)?;
+        tally = one_round(rt.alloc(), measure, entries)?;
     }
     let time = start.elapsed(rt)?;
     Ok(Timing {
@@ -38,14 +37,34 @@ pub fn timed(
     })
 }
 
-fn one_round(alloc: Global, stage: Stage, entries: &[Entry<'_>]) -> Result<Tally, AllocError> {
+fn one_round<'t, T: Drop, M: Measure<'t, T> + Copy>(
+    alloc: Global,
+    measure: M,
+    entries: &[Entry<'t, T>],
+) -> Result<Tally, AllocError> {
     let mut tally = Tally::EMPTY;
     let mut before = Catalogue::new(alloc, Level::Full);
     for (index, entry) in entries.iter().enumerate() {
         let next = entries.get(index.saturating_add(1)).unwrap_or(entry);
-        tally.add(entry.text, stage.outcome(alloc, entry, next, &mut before)?);
+        tally.add(
+            entry.text,
+            outcome_of(alloc, measure, entry, next, &mut before)?,
+        );
     }
     Ok(tally)
+}
+
+fn outcome_of<'t, T: Drop, M: Measure<'t, T> + Copy>(
+    alloc: Global,
+    measure: M,
+    entry: &Entry<'t, T>,
+    next: &Entry<'t, T>,
+    before: &mut Catalogue,
+) -> Result<Outcome, AllocError> {
+    match &entry.given {
+        Some(given) => measure.outcome(alloc, entry.text, given, next, before),
+        None => Ok(Outcome::Refused),
+    }
 }
 
 impl Timing {

@@ -40,25 +40,3 @@ pub fn text_of<T: Drop, W: Wording<T> + Copy>(
         Err(error) => Err(error),
     }
 }
-
-/// Two values that are compared.
-#[derive(Drop)]
-pub struct Pair<T> {
-    pub first: T,
-    pub second: T,
-}
-
-/// Both values, or the fault of the first one that has one.
-pub fn both<T: Drop>(first: Result<T, Fault>, second: Result<T, Fault>) -> Result<Pair<T>, Fault> {
-    match first {
-        Ok(first) => with_second(first, second),
-        Err(fault) => Err(fault),
-    }
-}
-
-fn with_second<T: Drop>(first: T, second: Result<T, Fault>) -> Result<Pair<T>, Fault> {
-    match second {
-        Ok(second) => Ok(Pair { first, second }),
-        Err(fault) => Err(fault),
-    }
-}

@@ -1,10 +1,10 @@
 //! The calls that compare CRSs.
-use crate::questions::{Pair, Question, Wording, both, put_answer, text_of};
+use crate::questions::{Question, Wording, put_answer, text_of};
 use crs_canon::write_content;
 use crs_same::parts::same_axis;
 use crs_same::{Difference, Differences, Path, differences, first_part, same};
-use crs_suite::{put_text, split_line};
-use crs_value::{Axis, Crs, Level, read};
+use crs_suite::{Pair, ReadCrs, made_of_both, put_text, split_line};
+use crs_value::{Axis, Crs, Level};
 use std::alloc::{AllocError, Global};
 
 /// What is asked of two CRSs.
@@ -32,7 +32,7 @@ pub fn put_comparison(
     input: &[u8],
 ) -> Result<(), AllocError> {
     let (first, second) = split_line(input);
-    let pair = both(read(alloc, first), read(alloc, second));
+    let pair = made_of_both(alloc, ReadCrs, first, second);
     put_answer(out, alloc, pair, Compared { comparison, level })
 }
 

@@ -2,6 +2,7 @@
 //! slow to prove.
 use crate::refusals::is_refused;
 use crate::tally::Tally;
+use crs_suite::{Make, Pair, made_of_both};
 use crs_text::Fault;
 use std::alloc::Global;
 
@@ -51,24 +52,13 @@ pub fn count_made<T: Drop, C: Calls<T> + Copy>(
     }
 }
 
-/// Two values that are compared.
-#[derive(Drop)]
-pub struct Pair<T> {
-    pub first: T,
-    pub second: T,
-}
-
-/// Both values, or the fault of the first one that has one.
-pub fn both<T: Drop>(first: Result<T, Fault>, second: Result<T, Fault>) -> Result<Pair<T>, Fault> {
-    match first {
-        Ok(first) => with_second(first, second),
-        Err(fault) => Err(fault),
-    }
-}
-
-fn with_second<T: Drop>(first: T, second: Result<T, Fault>) -> Result<Pair<T>, Fault> {
-    match second {
-        Ok(second) => Ok(Pair { first, second }),
-        Err(fault) => Err(fault),
-    }
+/// Whether values of two texts were made of which the claim holds.
+pub fn is_made_of_both<'t, T: Drop, M: Make<'t, T> + Copy, C: Claim<Pair<T>> + Copy>(
+    alloc: Global,
+    by: M,
+    first: &'t [u8],
+    second: &'t [u8],
+    claim: C,
+) -> bool {
+    is_made(alloc, made_of_both(alloc, by, first, second), claim)
 }

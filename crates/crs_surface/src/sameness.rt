@@ -1,24 +1,30 @@
 //! Sameness, and the first part that differs.
-use crate::made::{Calls, Claim, Pair, both, count_made, is_made};
+use crate::made::{Claim, is_made_of_both};
 use crate::tally::Tally;
 use crate::texts::Texts;
 use crs_same::{Path, Step, first_part, same};
-use crs_value::{Crs, Level, read};
+use crs_suite::{Pair, ReadCrs};
+use crs_value::{Crs, Level};
 use std::alloc::{AllocError, Global};
 
 pub fn check(alloc: Global, tally: &mut Tally<'_>, texts: Texts<'_>) {
     tally.count("crs_same::same", is_same(alloc, texts));
     tally.count("crs_same::first_part", has_none(alloc, texts));
-    let first = read(alloc, texts.named("paris"));
-    let second = read(alloc, texts.named("paris_in_grads"));
-    count_made(alloc, tally, "crs_same::Path", both(first, second), PathTo);
+    tally.count(
+        "crs_same::Path::steps",
+        is_found(alloc, texts, PathTo::Steps),
+    );
+    tally.count(
+        "crs_same::Path::write",
+        is_found(alloc, texts, PathTo::Text),
+    );
 }
 
 // Identifiers don't count at the level of definition.
 fn is_same(alloc: Global, texts: Texts<'_>) -> bool {
-    let first = read(alloc, texts.named("height"));
-    let second = read(alloc, texts.named("identified"));
-    is_made(alloc, both(first, second), AreByDefinition)
+    let first = texts.named("height");
+    let second = texts.named("identified");
+    is_made_of_both(alloc, ReadCrs, first, second, AreByDefinition)
 }
 
 // Two CRSs are the same by definition alone.
@@ -34,9 +40,9 @@ impl<'a> Claim<Pair<Crs<'a>>> for AreByDefinition {
 
 // Two CRSs that are the same differ in no part.
 fn has_none(alloc: Global, texts: Texts<'_>) -> bool {
-    let first = read(alloc, texts.named("geographic"));
-    let second = read(alloc, texts.named("greenwich"));
-    is_made(alloc, both(first, second), AreSame)
+    let first = texts.named("geographic");
+    let second = texts.named("greenwich");
+    is_made_of_both(alloc, ReadCrs, first, second, AreSame)
 }
 
 // Two CRSs are the same.
@@ -54,30 +60,34 @@ fn is_none(path: Option<Path>) -> bool {
     path.is_none()
 }
 
-// The path to the first part in which two CRSs differ.
+// What is asked of the path to the first part in which two CRSs differ.
 #[derive(Clone, Copy)]
-struct PathTo;
+enum PathTo {
+    Steps,
+    Text,
+}
 
-impl<'a> Calls<Pair<Crs<'a>>> for PathTo {
-    fn count(self, alloc: Global, tally: &mut Tally<'_>, pair: &Pair<Crs<'a>>) {
-        check_found(
-            alloc,
-            tally,
-            first_part(&pair.first, &pair.second, Level::Full),
-        );
+// Whether the path is that to the meridian's unit.
+fn is_found(alloc: Global, texts: Texts<'_>, asked: PathTo) -> bool {
+    let first = texts.named("paris");
+    let second = texts.named("paris_in_grads");
+    is_made_of_both(alloc, ReadCrs, first, second, asked)
+}
+
+impl<'a> Claim<Pair<Crs<'a>>> for PathTo {
+    fn holds(self, alloc: Global, pair: &Pair<Crs<'a>>) -> bool {
+        self.is_answered(alloc, first_part(&pair.first, &pair.second, Level::Full))
     }
 }
 
-fn check_found(alloc: Global, tally: &mut Tally<'_>, found: Option<Path>) {
-    match &found {
-        Some(path) => check_path(alloc, tally, path),
-        None => tally.count("crs_same::Path", false),
+impl PathTo {
+    fn is_answered(self, alloc: Global, found: Option<Path>) -> bool {
+        match (self, &found) {
+            (_, None) => false,
+            (PathTo::Steps, Some(path)) => has_steps(path),
+            (PathTo::Text, Some(path)) => is_written(alloc, path),
+        }
     }
-}
-
-fn check_path(alloc: Global, tally: &mut Tally<'_>, path: &Path) {
-    tally.count("crs_same::Path::steps", has_steps(path));
-    tally.count("crs_same::Path::write", is_written(alloc, path));
 }
 
 fn has_steps(path: &Path) -> bool {

@@ -1,10 +1,9 @@
 //! Calls that append to a vector.
-use crate::questions::{Pair, both};
 use crate::trials::attempts::{Attempt, try_with};
 use crs_canon::{Canonical, Set};
 use crs_decimal::Decimal;
 use crs_same::{Path, first_part};
-use crs_suite::{Trial, put_text, run_trial, unusable};
+use crs_suite::{Pair, ReadCrs, Trial, made_of_both, put_text, run_trial, unusable};
 use crs_value::{Axis, Crs, Ident, Level, Tail, Vertical, read};
 use std::alloc::{AllocError, Global};
 use std::io;
@@ -96,7 +95,7 @@ pub fn try_path<'a>(
     first: &'a [u8],
     second: &'a [u8],
 ) -> io::Result<()> {
-    let pair = both(read(rt.alloc(), first), read(rt.alloc(), second));
+    let pair = made_of_both(rt.alloc(), ReadCrs, first, second);
     try_with(rt, pair, FirstPath)
 }
 

@@ -1,12 +1,11 @@
 //! Calls that make the value of a text, or its canonical text, and that compare values.
-use crate::questions::{Pair, both};
 use crate::sameness::paths_text;
 use crate::texts::{answered, put_refusal};
 use crate::trials::attempts::{Attempt, Call, run_reading, try_with};
 use crate::values::kind_word;
 use crs_canon::{Canon, canon, canon_of};
 use crs_same::differences;
-use crs_suite::put_text;
+use crs_suite::{Pair, ReadCrs, made_of_both, put_text};
 use crs_text::{Items, Refusal, read_items};
 use crs_value::{Crs, Level, read, value_of};
 use std::alloc::{AllocError, Global};
@@ -179,7 +178,7 @@ pub fn try_differences<'t>(
     first: &'t [u8],
     second: &'t [u8],
 ) -> io::Result<()> {
-    let pair = both(read(rt.alloc(), first), read(rt.alloc(), second));
+    let pair = made_of_both(rt.alloc(), ReadCrs, first, second);
     try_with(rt, pair, WithPair)
 }
 

@@ -1,0 +1,72 @@
+//! Stages that are given the value of a text.
+
+use crate::entry::{Entry, Measure};
+use crate::tally::Outcome;
+use crs_canon::canon_of;
+use crs_group::Catalogue;
+use crs_same::same;
+use crs_text::Fault;
+use crs_value::{Crs, Level, read};
+use std::alloc::{AllocError, Global};
+
+#[derive(Clone, Copy)]
+pub enum ValueStage {
+    /// The value compared with itself and with that of the next text.
+    Same,
+    /// The canonical text.
+    Canon,
+}
+
+impl ValueStage {
+    pub fn name(self) -> &'static str {
+        match self {
+            ValueStage::Same => "same",
+            ValueStage::Canon => "canon",
+        }
+    }
+
+    pub fn counted(self) -> &'static str {
+        match self {
+            ValueStage::Same => "same",
+            ValueStage::Canon => "bytes",
+        }
+    }
+}
+
+impl<'t> Measure<'t, Crs<'t>> for ValueStage {
+    fn given(self, alloc: Global, text: &'t [u8]) -> Result<Crs<'t>, Fault> {
+        read(alloc, text)
+    }
+
+    fn outcome(
+        self,
+        alloc: Global,
+        _text: &'t [u8],
+        given: &Crs<'t>,
+        next: &Entry<'t, Crs<'t>>,
+        _before: &mut Catalogue,
+    ) -> Result<Outcome, AllocError> {
+        match self {
+            ValueStage::Same => Ok(compared(given, next)),
+            ValueStage::Canon => spelled(alloc, given),
+        }
+    }
+}
+
+fn compared<'t>(crs: &Crs<'t>, next: &Entry<'t, Crs<'t>>) -> Outcome {
+    let itself = usize::from(same(crs, crs, Level::Full));
+    Outcome::Accepted(itself.saturating_add(matches(crs, next)))
+}
+
+// 1 where the next text spells the same CRS, 0 where it spells another or none.
+fn matches<'t>(crs: &Crs<'t>, next: &Entry<'t, Crs<'t>>) -> usize {
+    match &next.given {
+        Some(other) => usize::from(same(crs, other, Level::Full)),
+        None => 0,
+    }
+}
+
+fn spelled(alloc: Global, crs: &Crs<'_>) -> Result<Outcome, AllocError> {
+    let canon = canon_of(alloc, crs, Level::Full)?;
+    Ok(Outcome::Accepted(canon.bytes().len()))
+}
