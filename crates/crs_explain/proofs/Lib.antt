@@ -1,6 +1,5 @@
 pub mod ArgumentLemmas
 pub mod ExcerptLemmas
-pub mod JsonLemmas
 pub mod LineLemmas
 pub mod PieceLemmas
 pub mod ListedLemmas

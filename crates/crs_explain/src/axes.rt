@@ -6,7 +6,7 @@ ghost use Rattle.crs_explain.specs.ExpectedAxes.{axes_among, axes_expectation, a
 
 use crate::around::{crs_around, is_called, part_around};
 use crate::expected_texts::{ExpectedTexts, texts_of_one};
-use crate::number::append_number;
+use crs_streams::append_number;
 use crs_text::{ItemId, Items, Keyword};
 use std::alloc::{AllocError, Global};
 

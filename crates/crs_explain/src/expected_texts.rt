@@ -4,9 +4,9 @@ ghost use Rattle.crs_explain.specs.Expectation.{expected_line, listed, node_at, 
 ghost use Rattle.crs_explain.specs.Found.{named_by};
 
 use crate::names::{Name, append_listed, push_each, push_name};
-use crate::number::append_number;
 use crate::pieces::Pieces;
 use crate::place::append_name;
+use crs_streams::append_number;
 use std::alloc::{AllocError, Global};
 use std::marker::Model;
 

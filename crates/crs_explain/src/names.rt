@@ -1,8 +1,10 @@
-//! Names of what could stand at a place, each by itself and listed.
+//! Names of what could stand at a place, each by itself, listed, and as an array of JSON.
 ghost use Rattle.std.specs.Prelude.{◌≡◌, ◌++◌, ◌∷◌, [], OnOk, codes, drop, length, ◌<◌};
 ghost use Rattle.crs_explain.specs.Expectation.{listed};
+ghost use Rattle.crs_streams.specs.Json.{json_array, json_more};
 
 use crate::pieces::Pieces;
+use crs_streams::json::append_text;
 use std::alloc::{AllocError, Global};
 use std::marker::Model;
 
@@ -86,6 +88,32 @@ pub(crate) fn push_each(names: &[Name], out: &mut Pieces) -> Result<(), AllocErr
 {
     for name in names {
         out.push(name.bytes())?;
+    }
+    Ok(())
+}
+
+/// Appends an array of texts.
+pub(crate) fn append_array(names: &[Name], out: &mut Vec<u8>) -> Result<(), AllocError>
+    ensures { OnOk result (out.new.items ≡ out.old.items ++ json_array names.now) }
+{
+    match names {
+        [] => out.extend_from_slice(b"[]"),
+        [first, others @ ..] => {
+            out.extend_from_slice(b"[")?;
+            append_text(first.bytes(), out)?;
+            append_more(others, out)?;
+            out.extend_from_slice(b"]")
+        }
+    }
+}
+
+// Texts, each after a comma.
+fn append_more(names: &[Name], out: &mut Vec<u8>) -> Result<(), AllocError>
+    ensures { OnOk result (out.new.items ≡ out.old.items ++ json_more names.now) }
+{
+    for name in names {
+        out.extend_from_slice(b",")?;
+        append_text(name.bytes(), out)?;
     }
     Ok(())
 }

@@ -3,18 +3,18 @@ ghost use Rattle.std.specs.Prelude.{◌≡◌, ◌++◌, ◌≤◌, IfOk, OnOk, 
 ghost use Rattle.std.specs.List.{flat_map};
 ghost use Rattle.crs_text.specs.Refusal.{name_of};
 ghost use Rattle.crs_explain.specs.Json.{AreDifferenceObjects, IsRefusalObject, difference_object, expected_members};
-ghost use Rattle.crs_explain.specs.Json.{place_members, refusal_object, sentence_members, text_member, value_member};
-ghost use Rattle.crs_explain.specs.Json.{which_member};
+ghost use Rattle.crs_explain.specs.Json.{place_members, refusal_object, sentence_members, which_member};
+ghost use Rattle.crs_streams.specs.Json.{text_member, value_member};
 
 use crate::difference_texts::{DifferenceTexts, difference_texts};
 use crate::expected_texts::ExpectedTexts;
 use crate::explanation::{ExplanationOf, explanation};
-use crate::json::{
-    append_array, append_key, append_number_member, append_text, append_text_member,
-    append_value_member,
-};
+use crate::names::append_array;
 use crate::place::word_at;
 use crate::sentences::SentenceTexts;
+use crs_streams::json::{
+    append_key, append_number_member, append_text, append_text_member, append_value_member,
+};
 use crs_text::{Position, Refusal};
 use crs_value::{Crs, Level};
 use itoa::Buffer;

@@ -4,9 +4,9 @@ ghost use Rattle.crs_value.specs.Reading.{Holds};
 
 use crate::around::{around, crs_around, is_called, part_around};
 use crate::axes::raw_at;
-use crate::number::append_number;
 use crate::place::append_name;
 use crs_shape::{Direction, SystemType};
+use crs_streams::append_number;
 use crs_text::{Fault, ItemId, Items, Keyword, read_items};
 use std::alloc::{AllocError, Global};
 

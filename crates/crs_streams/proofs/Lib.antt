@@ -1,4 +1,5 @@
 pub mod FeedLemmas
 pub mod GivenLemmas
+pub mod JsonLemmas
 pub mod LineLemmas
 pub mod SplitLemmas

@@ -2,6 +2,7 @@ pub mod EndedLines
 pub mod Escaped
 pub mod Filled
 pub mod Given
+pub mod Json
 pub mod Lines
 pub mod LongLines
 pub mod Streams

@@ -1,12 +1,14 @@
 //! The streams of a run: a source, a stream and a sink that remember failures, and count their reads, the lines of
-//! bytes, texts as one line shows them, the line that tells a refusal, and the fault with which a run ends.
+//! bytes, texts as one line shows them and in JSON, the line that tells a refusal, and the fault with which a run ends.
 #![tactic(auto)]
 
 mod escape;
 mod fault;
 mod filling;
+pub mod json;
 pub mod laws;
 mod line;
+mod number;
 mod refusal;
 mod sink;
 mod source;
@@ -16,6 +18,7 @@ pub use escape::{append_code, append_escaped, append_hex, steers};
 pub use fault::RunFault;
 pub use filling::Filling;
 pub use line::{MAX_LINE, append_bytes, split_line, text_of};
+pub use number::append_number;
 pub use refusal::append_refusal;
 pub use sink::Sink;
 pub use source::{MAX_READS, Source, make_room};

@@ -1,6 +1,6 @@
 use Rattle.std.proofs.Common.{◌≡◌, ◌++◌, drop}
-use Rattle.crs_explain.specs.Json.{json_more}
-use Rattle.crs_explain.proofs.json.append_more.Given as goal
+use Rattle.crs_streams.specs.Json.{json_more}
+use Rattle.crs_explain.proofs.names.append_more.Given as goal
 
 abbrev pub invariant-loop-name : goal.invariant-loop-name
 invariant-loop-name l = l.out.items ++ json_more (drop l.name-index l.names) ≡ l.fn.out.items ++ json_more l.names

@@ -1,6 +1,6 @@
 -- Tests of one fact, and the name of a member that is appended.
 use Rattle.std.proofs.Common.{◌≡◌, ◌↔◌, ◌∙◌, ◌++◌, ℕ, List, Bool, true, false, IsTrue, append_assoc, codes, refl, sym}
-use Rattle.crs_explain.specs.Json.{key}
+use Rattle.crs_streams.specs.Json.{key}
 
 -- two tests of one fact are the same
 pub same_test : {P : Type 0} (one other : Bool) → IsTrue one ↔ P → (P → other ≡ true) → (other ≡ true → P) → one ≡ other

@@ -1,16 +1,15 @@
-//! Texts in JSON (RFC 8259), in one line.
+//! Texts and members of objects in JSON (RFC 8259), in one line.
 ghost use Rattle.std.specs.Prelude.{◌≡◌, ◌++◌, OnOk};
 ghost use Rattle.std.specs.List.{flat_map};
 ghost use Rattle.std.specs.Str.{is_utf8};
 ghost use Rattle.bstr.specs.Utf8.{lossy_chars};
 ghost use Rattle.crs_streams.specs.Escaped.{hex_byte};
-ghost use Rattle.crs_explain.specs.Json.{json_array, json_bytes, json_char, json_more, json_string, json_text};
-ghost use Rattle.crs_explain.specs.Json.{json_value, key, number_member, text_member, value_member};
+ghost use Rattle.crs_streams.specs.Json.{json_bytes, json_char, json_string, json_text, json_value, key};
+ghost use Rattle.crs_streams.specs.Json.{number_member, text_member, value_member};
 
-use crate::names::Name;
+use crate::escape::{append_code, append_hex, steers};
 use crate::number::append_number;
 use bstr::{ByteSlice, ByteVec};
-use crs_streams::{append_code, append_hex, steers};
 use std::alloc::AllocError;
 
 /// Appends a text as a string, in which a quote and a backslash have a backslash before them, and what steers a terminal,
@@ -40,9 +39,11 @@ pub fn append_text_or_null(bytes: &[u8], out: &mut Vec<u8>) -> Result<(), AllocE
     append_text(bytes, out)
 }
 
-/// Appends the name of a further member of an object.
+/// Appends the name of a further member of an object, as `,"name":`. Profile.
+///
+/// `AllocError`: there is no memory for it.
 #[tactic(auto, using(crate::proofs::JsonLemmas::key_appended))]
-pub(crate) fn append_key(name: &[u8], out: &mut Vec<u8>) -> Result<(), AllocError>
+pub fn append_key(name: &[u8], out: &mut Vec<u8>) -> Result<(), AllocError>
     ensures { OnOk result (out.new.items ≡ out.old.items ++ key name.now) }
 {
     out.extend_from_slice(b",\"")?;
@@ -50,66 +51,34 @@ pub(crate) fn append_key(name: &[u8], out: &mut Vec<u8>) -> Result<(), AllocErro
     out.extend_from_slice(b"\":")
 }
 
-/// Appends a further member that is a number.
-pub(crate) fn append_number_member(
-    name: &[u8],
-    number: usize,
-    out: &mut Vec<u8>,
-) -> Result<(), AllocError>
+/// Appends a further member that is a number. Profile.
+///
+/// `AllocError`: there is no memory for it.
+pub fn append_number_member(name: &[u8], number: usize, out: &mut Vec<u8>) -> Result<(), AllocError>
     ensures { OnOk result (out.new.items ≡ out.old.items ++ number_member name.now number) }
 {
     append_key(name, out)?;
     append_number(number, out)
 }
 
-/// Appends one that is a text.
-pub(crate) fn append_text_member(
-    name: &[u8],
-    text: &[u8],
-    out: &mut Vec<u8>,
-) -> Result<(), AllocError>
+/// Appends a further member that is a text. Profile.
+///
+/// `AllocError`: there is no memory for it.
+pub fn append_text_member(name: &[u8], text: &[u8], out: &mut Vec<u8>) -> Result<(), AllocError>
     ensures { OnOk result (out.new.items ≡ out.old.items ++ text_member name.now text.now) }
 {
     append_key(name, out)?;
     append_text(text, out)
 }
 
-/// Appends one that is a text, or `null` where there are no bytes.
-pub(crate) fn append_value_member(
-    name: &[u8],
-    text: &[u8],
-    out: &mut Vec<u8>,
-) -> Result<(), AllocError>
+/// Appends a further member that is a text, or `null` where there are no bytes. Profile.
+///
+/// `AllocError`: there is no memory for it.
+pub fn append_value_member(name: &[u8], text: &[u8], out: &mut Vec<u8>) -> Result<(), AllocError>
     ensures { OnOk result (out.new.items ≡ out.old.items ++ value_member name.now text.now) }
 {
     append_key(name, out)?;
     append_text_or_null(text, out)
-}
-
-/// Appends an array of texts.
-pub(crate) fn append_array(names: &[Name], out: &mut Vec<u8>) -> Result<(), AllocError>
-    ensures { OnOk result (out.new.items ≡ out.old.items ++ json_array names.now) }
-{
-    match names {
-        [] => out.extend_from_slice(b"[]"),
-        [first, others @ ..] => {
-            out.extend_from_slice(b"[")?;
-            append_text(first.bytes(), out)?;
-            append_more(others, out)?;
-            out.extend_from_slice(b"]")
-        }
-    }
-}
-
-// Texts, each after a comma.
-fn append_more(names: &[Name], out: &mut Vec<u8>) -> Result<(), AllocError>
-    ensures { OnOk result (out.new.items ≡ out.old.items ++ json_more names.now) }
-{
-    for name in names {
-        out.extend_from_slice(b",")?;
-        append_text(name.bytes(), out)?;
-    }
-    Ok(())
 }
 
 fn is_utf8(bytes: &[u8]) -> bool

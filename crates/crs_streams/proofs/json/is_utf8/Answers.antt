@@ -1,7 +1,7 @@
 use Rattle.std.specs.Str.{is_utf8}
 use Rattle.std.proofs.lemmas.Str.{IsUtf8-from_is_utf8, is_utf8-from_IsUtf8}
-use Rattle.crs_explain.proofs.JsonLemmas.{same_test}
-use Rattle.crs_explain.proofs.json.is_utf8.Goals as goal
+use Rattle.crs_streams.proofs.JsonLemmas.{same_test}
+use Rattle.crs_streams.proofs.json.is_utf8.Goals as goal
 
 pub returns : goal.returns
 returns c =
