@@ -24,7 +24,7 @@ abbrev pub expected_members : Option Expectation → List ℕ
 expected_members None = codes ",\"node\":null,\"node_place\":null,\"found\":null,\"expected\":[]"
 expected_members (Some e) =
     value_member (codes "node") e.node ++ number_member (codes "node_place") e.place
-    ++ text_member (codes "found") e.found ++ key (codes "expected") ++ json_array e.names
+    ++ text_member (codes "found") e.found ++ key (codes "expected") ++ json_array json_text e.names
 
 -- what is open, was meant or is asked for; what the number means; and hints
 abbrev pub sentence_members : Sentences → List ℕ

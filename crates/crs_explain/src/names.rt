@@ -1,7 +1,7 @@
 //! Names of what could stand at a place, each by itself, listed, and as an array of JSON.
 ghost use Rattle.std.specs.Prelude.{◌≡◌, ◌++◌, ◌∷◌, [], OnOk, codes, drop, length, ◌<◌};
 ghost use Rattle.crs_explain.specs.Expectation.{listed};
-ghost use Rattle.crs_streams.specs.Json.{json_array, json_more};
+ghost use Rattle.crs_streams.specs.Json.{json_array, json_more, json_text};
 
 use crate::pieces::Pieces;
 use crs_streams::json::append_text;
@@ -94,7 +94,7 @@ pub(crate) fn push_each(names: &[Name], out: &mut Pieces) -> Result<(), AllocErr
 
 /// Appends an array of texts.
 pub(crate) fn append_array(names: &[Name], out: &mut Vec<u8>) -> Result<(), AllocError>
-    ensures { OnOk result (out.new.items ≡ out.old.items ++ json_array names.now) }
+    ensures { OnOk result (out.new.items ≡ out.old.items ++ json_array json_text names.now) }
 {
     match names {
         [] => out.extend_from_slice(b"[]"),
@@ -109,7 +109,7 @@ pub(crate) fn append_array(names: &[Name], out: &mut Vec<u8>) -> Result<(), Allo
 
 // Texts, each after a comma.
 fn append_more(names: &[Name], out: &mut Vec<u8>) -> Result<(), AllocError>
-    ensures { OnOk result (out.new.items ≡ out.old.items ++ json_more names.now) }
+    ensures { OnOk result (out.new.items ≡ out.old.items ++ json_more json_text names.now) }
 {
     for name in names {
         out.extend_from_slice(b",")?;

@@ -9,6 +9,7 @@ use Rattle.crs_writer.specs.Canonical.{IsCanonicalOf}
 use Rattle.crs_rules.specs.Rules.{RulesParts}
 use Rattle.crs_rules.specs.Under.{IsForm}
 use Rattle.crs_group.specs.Catalogue.{CatalogueParts, GroupParts, Line, line_of}
+use Rattle.crs_group.specs.GroupObjects.{group_object, refused_object}
 use Rattle.crs_group.specs.GroupTexts.{IsCatalogueOfBy}
 use Rattle.crs_group.specs.Names.{name_at, names_in, texts_in}
 use Rattle.crs_group.specs.Partition.{PlacedLine, ShareWhereSame}
@@ -17,9 +18,9 @@ use Rattle.crs_streams.specs.Lines.{AreLines, blank_in}
 use Rattle.crs_group.specs.declared.listing.Listing.{Listing}
 use Rattle.crs_group.specs.declared.summary.Summary.{Summary}
 
--- every group is listed, and lines are written by their numbers
+-- every group is listed, in a line, and lines are written by their numbers
 abbrev pub plain : Listing
-plain = record { repeated = false; names = false }
+plain = record { repeated = false; names = false; json = false }
 
 -- what stands for a line: its number, or its name, in which what steers a terminal is escaped
 abbrev pub label : Listing → List (List ℕ) → ℕ → List ℕ
@@ -50,10 +51,22 @@ refused_line listing names (line, refusal) =
 abbrev pub is_listed : Listing → List ℕ → Bool
 is_listed listing lines = if listing.repeated then nat_lt 1 (length lines) else true
 
--- the line of a group, if it is listed
+-- a group as it is written: an object of JSON, or a line
+abbrev pub group_written : Listing → List (List ℕ) → ℕ → GroupParts → List ℕ
+group_written listing names number group =
+    if listing.json then group_object listing names number group.lines group.canon.bytes
+    else group_line listing names number group
+
+-- a refused line as it is written
+abbrev pub refused_written : Listing → List (List ℕ) → ℕ × RefusedAt → List ℕ
+refused_written listing names refused =
+    if listing.json then refused_object listing names refused
+    else refused_line listing names refused
+
+-- what is written of a group, if it is listed
 abbrev pub listed_line : Listing → List (List ℕ) → ℕ → GroupParts → List ℕ
 listed_line listing names number group =
-    if is_listed listing group.lines then group_line listing names number group else []
+    if is_listed listing group.lines then group_written listing names number group else []
 
 -- the groups that are listed, from this number on; each has its number among all
 abbrev pub group_lines : Listing → List (List ℕ) → ℕ → List GroupParts → List ℕ
@@ -65,7 +78,7 @@ group_lines listing names number (group ∷ groups) =
 abbrev pub catalogue_text : Listing → List (List ℕ) → CatalogueParts → List ℕ
 catalogue_text listing names catalogue =
     group_lines listing names 1 catalogue.groups
-    ++ flat_map (refused_line listing names) catalogue.refused
+    ++ flat_map (refused_written listing names) catalogue.refused
 
 -- lines are numbered in order, from this number on
 abbrev pub numbered : ℕ → List (List ℕ) → List Line

@@ -1,6 +1,7 @@
 pub mod Catalogue
 pub mod Entries
 pub mod GroupCutting
+pub mod GroupObjects
 pub mod GroupOutput
 pub mod GroupReading
 pub mod GroupRun

@@ -45,8 +45,9 @@ pub fn run_group<R: Read, W: Write>(
 
 /// Writes what `run_group` writes, without the groups that aren't listed: the others have their numbers among all, and
 /// the summary counts all. Where lines have names, `group N:` and each name after a tab, and `line NAME:`; in a name
-/// control characters, marks of direction and backslashes are escaped, and what is no UTF-8 is U+FFFD. Faults as there:
-/// a name counts to its line. Profile.
+/// control characters, marks of direction and backslashes are escaped, and what is no UTF-8 is U+FFFD. As objects of
+/// JSON, each in a line, a group is its number, the numbers of its lines, their names and its text, and a refused line
+/// its number, its name and the refusal. Faults as there: a name counts to its line. Profile.
 pub fn run_group_listing<R: Read, W: Write>(
     alloc: Global,
     level: Level,

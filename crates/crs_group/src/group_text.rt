@@ -2,9 +2,10 @@
 ghost use Rattle.std.specs.Prelude.{◌≡◌, ◌++◌, OnOk, Some};
 ghost use Rattle.std.specs.List.{flat_map};
 ghost use Rattle.crs_group.specs.Catalogue.{GroupParts, nth};
-ghost use Rattle.crs_group.specs.GroupOutput.{catalogue_text, group_line, group_lines, is_listed, label};
-ghost use Rattle.crs_group.specs.GroupOutput.{labelled, labels_text, listed_line, refused_line};
+ghost use Rattle.crs_group.specs.GroupOutput.{catalogue_text, group_line, group_lines, group_written, is_listed};
+ghost use Rattle.crs_group.specs.GroupOutput.{label, labelled, labels_text, listed_line, refused_line, refused_written};
 
+use crate::group_objects::{write_group_object, write_refused_object};
 use crate::names::Names;
 use crate::{Catalogue, Listing};
 use crs_streams::{append_escaped, append_refusal};
@@ -50,9 +51,10 @@ fn write_numbered(
     ensures { (group : GroupParts) → nth number catalogue.now.groups ≡ Some group →
         OnOk result (out.new.items ≡ out.old.items ++ listed_line listing names.now number group) }
 {
-    match catalogue.lines(number) {
-        Some(lines) => write_if_listed(out, listing, names, number, lines),
-        None => Ok(()),
+    match (catalogue.lines(number), catalogue.text(number)) {
+        (Some(lines), Some(text)) => write_if_listed(out, listing, names, number, lines, text),
+        (None, _) => Ok(()),
+        (Some(_), None) => Ok(()),
     }
 }
 
@@ -62,12 +64,13 @@ fn write_if_listed(
     names: &Names,
     number: usize,
     lines: &[u64],
+    text: &[u8],
 ) -> Result<(), AllocError>
-    ensures { (group : GroupParts) → group.lines ≡ lines.now →
+    ensures { (group : GroupParts) → group.lines ≡ lines.now → group.canon.bytes ≡ text.now →
         OnOk result (out.new.items ≡ out.old.items ++ listed_line listing names.now number group) }
 {
     if is_listed(listing, lines) {
-        write_group(out, listing, names, number, lines)
+        write_group(out, listing, names, number, lines, text)
     } else {
         Ok(())
     }
@@ -80,8 +83,26 @@ fn is_listed(listing: Listing, lines: &[u64]) -> bool
     !listing.repeated || lines.len() > 1
 }
 
-// `group N: L1 L2 ..` and a line end.
+// The group of this number, which has these lines and this text, as an object or a line.
 fn write_group(
+    out: &mut Vec<u8>,
+    listing: Listing,
+    names: &Names,
+    number: usize,
+    lines: &[u64],
+    text: &[u8],
+) -> Result<(), AllocError>
+    ensures { (group : GroupParts) → group.lines ≡ lines.now → group.canon.bytes ≡ text.now →
+        OnOk result (out.new.items ≡ out.old.items ++ group_written listing names.now number group) }
+{
+    if listing.json {
+        return write_group_object(out, listing, names, number, lines, text);
+    }
+    write_group_line(out, listing, names, number, lines)
+}
+
+// `group N: L1 L2 ..` and a line end.
+fn write_group_line(
     out: &mut Vec<u8>,
     listing: Listing,
     names: &Names,
@@ -149,12 +170,28 @@ fn write_refused_lines(
     names: &Names,
     refused: &[(u64, Refusal)],
 ) -> Result<(), AllocError>
-    ensures { OnOk result (out.new.items ≡ out.old.items ++ flat_map (refused_line listing names.now) refused.now) }
+    ensures { OnOk result (out.new.items ≡ out.old.items ++ flat_map (refused_written listing names.now) refused.now) }
 {
     for (line, refusal) in refused {
-        write_refused_line(out, listing, names, *line, *refusal)?;
+        write_refused(out, listing, names, *line, *refusal)?;
     }
     Ok(())
+}
+
+// A refused line, as an object or a line.
+fn write_refused(
+    out: &mut Vec<u8>,
+    listing: Listing,
+    names: &Names,
+    line: u64,
+    refusal: Refusal,
+) -> Result<(), AllocError>
+    ensures { OnOk result (out.new.items ≡ out.old.items ++ refused_written listing names.now (line, refusal)) }
+{
+    if listing.json {
+        return write_refused_object(out, listing, names, line, refusal);
+    }
+    write_refused_line(out, listing, names, line, refusal)
 }
 
 // `line L: refused N NAME at P` and a line end.

@@ -5,6 +5,7 @@
 mod adding;
 mod catalogue;
 mod group_cutter;
+mod group_objects;
 mod group_run;
 mod group_text;
 mod groups;

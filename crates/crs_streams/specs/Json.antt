@@ -35,14 +35,15 @@ abbrev pub json_value : List ℕ → List ℕ
 json_value [] = codes "null"
 json_value (b ∷ bytes) = json_text (b ∷ bytes)
 
--- texts, each after a comma
-abbrev pub json_more : List (List ℕ) → List ℕ
-json_more texts = flat_map (λ text. codes "," ++ json_text text) texts
+-- members of an array, each after a comma
+abbrev pub json_more : {A : Type 0} → (A → List ℕ) → List A → List ℕ
+json_more spelled members = flat_map (λ member. codes "," ++ spelled member) members
 
--- an array of texts
-abbrev pub json_array : List (List ℕ) → List ℕ
-json_array [] = codes "[]"
-json_array (text ∷ texts) = codes "[" ++ json_text text ++ json_more texts ++ codes "]"
+-- an array of members, each spelled so
+abbrev pub json_array : {A : Type 0} → (A → List ℕ) → List A → List ℕ
+json_array spelled [] = codes "[]"
+json_array spelled (member ∷ members) =
+    codes "[" ++ spelled member ++ json_more spelled members ++ codes "]"
 
 -- the name of a further member of an object
 unfoldable pub key : List ℕ → List ℕ
