@@ -19,7 +19,7 @@ _crsdesk() {
     elif [[ $word == -* ]]; then
         case ${COMP_WORDS[1]} in
         canon) words='--level --lines --rules -h --help' ;;
-        group) words='--level --rules --repeated --names -h --help' ;;
+        group) words='--level --rules --json --repeated --names -h --help' ;;
         same) words='--files --level --rules -h --help' ;;
         explain) words='--files --json --level --rules -h --help' ;;
         check) words='--lines -h --help' ;;

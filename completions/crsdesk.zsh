@@ -31,7 +31,7 @@ _crsdesk() {
     case $command in
         canon) _arguments $level $rules $lines $help '*:file:_files' ;;
         check) _arguments $lines $help '*:file:_files' ;;
-        group) _arguments $level $rules $repeated $names $help '*:file:_files' ;;
+        group) _arguments $level $rules $json $repeated $names $help '*:file:_files' ;;
         same) _arguments $files $level $rules $help '1:first:_files' '2:second:_files' ;;
         explain) _arguments $files $json $level $rules $help '1:first:_files' '2:second:_files' ;;
         help) _describe command commands ;;

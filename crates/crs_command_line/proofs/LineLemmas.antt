@@ -557,7 +557,7 @@ abbrev built_check : Shape
 built_check = built_with (codes "check") (lines_flag ∷ file_operands ∷ help_rule ∷ [])
 
 abbrev built_group : Shape
-built_group = built_with (codes "group") (level_option ∷ rules_option ∷ repeated_flag ∷ names_flag ∷ file_operands ∷ help_rule ∷ [])
+built_group = built_with (codes "group") (level_option ∷ rules_option ∷ json_flag ∷ repeated_flag ∷ names_flag ∷ file_operands ∷ help_rule ∷ [])
 
 abbrev built_explain : Shape
 built_explain =
@@ -685,22 +685,27 @@ with_repeated h = record {
 }
 
 pub group_repeated : (program : Text) → asked (program ∷ codes "group" ∷ codes "--repeated" ∷ [])
-    ≡ Some (GroupListed (codes "full") (record { repeated = true; names = false }))
+    ≡ Some (GroupListed (codes "full") (record { repeated = true; names = false; json = false }))
 unfolding clap_on_literals
 group_repeated program = refl
 
 pub group_names : (program : Text) → asked (program ∷ codes "group" ∷ codes "--names" ∷ [])
-    ≡ Some (GroupListed (codes "full") (record { repeated = false; names = true }))
+    ≡ Some (GroupListed (codes "full") (record { repeated = false; names = true; json = false }))
 unfolding clap_on_literals
 group_names program = refl
 
+pub group_json : (program : Text) → asked (program ∷ codes "group" ∷ codes "--json" ∷ [])
+    ≡ Some (GroupListed (codes "full") (record { repeated = false; names = false; json = true }))
+unfolding clap_on_literals
+group_json program = refl
+
 pub group_both : (program : Text) → asked (program ∷ codes "group" ∷ codes "--names" ∷ codes "--repeated" ∷ [])
-    ≡ Some (GroupListed (codes "full") (record { repeated = true; names = true }))
+    ≡ Some (GroupListed (codes "full") (record { repeated = true; names = true; json = false }))
 unfolding clap_on_literals
 group_both program = refl
 
 pub repeated_first : (program text : Text) → is_plain_word text ≡ true
-    → asked (program ∷ codes "group" ∷ codes "--repeated" ∷ codes "--level" ∷ text ∷ []) ≡ Some (GroupListed text (record { repeated = true; names = false }))
+    → asked (program ∷ codes "group" ∷ codes "--repeated" ∷ codes "--level" ∷ text ∷ []) ≡ Some (GroupListed text (record { repeated = true; names = false; json = false }))
 unfolding clap_on_literals
 repeated_first program text usual =
     let s = built_group in
@@ -714,7 +719,7 @@ repeated_first program text usual =
     (goes_on s wants to to text [] (plain_turn s (wants_level s h) (option (codes "level")) 1 text refl usual) (stays s to)))) refl
 
 pub repeated_last : (program text : Text) → is_plain_word text ≡ true
-    → asked (program ∷ codes "group" ∷ codes "--level" ∷ text ∷ codes "--repeated" ∷ []) ≡ Some (GroupListed text (record { repeated = true; names = false }))
+    → asked (program ∷ codes "group" ∷ codes "--level" ∷ text ∷ codes "--repeated" ∷ []) ≡ Some (GroupListed text (record { repeated = true; names = false; json = false }))
 unfolding clap_on_literals
 repeated_last program text usual =
     let s = built_group in

@@ -77,10 +77,10 @@ check_shape = record (new_shape (codes "check")) { rules = lines_flag ∷ file_o
 abbrev pub with_listing : Shape → Shape
 with_listing s = record s { rules = s.rules ++ repeated_flag ∷ names_flag ∷ file_operands ∷ [] }
 
--- `group`, which takes a level, rules, those flags and files
+-- `group`, which takes a level, rules, the flags `--json`, `--repeated` and `--names`, and files
 abbrev pub group_shape : Shape
 group_shape = with_listing (record (new_shape (codes "group")) {
-  rules = level_option ∷ rules_option ∷ [];
+  rules = level_option ∷ rules_option ∷ json_flag ∷ [];
 })
 
 -- with the options of the commands that compare two texts: a level, rules and the flag `--files`

@@ -45,20 +45,22 @@ pub fn canon_and_group_have_a_level()
 {}
 
 /// With `--repeated`, before the level or after it, `group` writes the groups of two lines or more; with `--names` it
-/// writes names for numbers.
+/// writes names for numbers, with `--json` objects.
 pub fn group_has_flags()
     ensures repeated { (program : Text) → asked (program ∷ codes "group" ∷ codes "--repeated" ∷ [])
-        ≡ Some (GroupListed (codes "full") (record { repeated = true; names = false })) }
+        ≡ Some (GroupListed (codes "full") (record { repeated = true; names = false; json = false })) }
     ensures names { (program : Text) → asked (program ∷ codes "group" ∷ codes "--names" ∷ [])
-        ≡ Some (GroupListed (codes "full") (record { repeated = false; names = true })) }
+        ≡ Some (GroupListed (codes "full") (record { repeated = false; names = true; json = false })) }
+    ensures json { (program : Text) → asked (program ∷ codes "group" ∷ codes "--json" ∷ [])
+        ≡ Some (GroupListed (codes "full") (record { repeated = false; names = false; json = true })) }
     ensures both { (program : Text) → asked (program ∷ codes "group" ∷ codes "--names" ∷ codes "--repeated" ∷ [])
-        ≡ Some (GroupListed (codes "full") (record { repeated = true; names = true })) }
+        ≡ Some (GroupListed (codes "full") (record { repeated = true; names = true; json = false })) }
     ensures before { (program level : Text) → is_plain_word level ≡ true →
         asked (program ∷ codes "group" ∷ codes "--repeated" ∷ codes "--level" ∷ level ∷ [])
-        ≡ Some (GroupListed level (record { repeated = true; names = false })) }
+        ≡ Some (GroupListed level (record { repeated = true; names = false; json = false })) }
     ensures after { (program level : Text) → is_plain_word level ≡ true →
         asked (program ∷ codes "group" ∷ codes "--level" ∷ level ∷ codes "--repeated" ∷ [])
-        ≡ Some (GroupListed level (record { repeated = true; names = false })) }
+        ≡ Some (GroupListed level (record { repeated = true; names = false; json = false })) }
 {}
 
 /// `canon` and `group` alone are at the level `full`.

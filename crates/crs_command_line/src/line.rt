@@ -155,7 +155,8 @@ fn group_command<'a>(alloc: Global) -> Result<Command<'a>, AllocError>
 {
     let command = lone_command(alloc, "group", GROUP_ABOUT, GROUP_STATUS)
         .arg(level_argument(alloc))?
-        .arg(rules_argument(alloc))?;
+        .arg(rules_argument(alloc))?
+        .arg(flag_argument(alloc, "json", JSON_HELP))?;
     with_listing(alloc, command)
 }
 

@@ -98,6 +98,9 @@ fn put_listed(out: &mut String, level: &LineWord, flags: GroupFlags) -> Result<(
     if flags.names {
         out.push_str(" names")?;
     }
+    if flags.json {
+        out.push_str(" json")?;
+    }
     put_word(out, level)
 }
 

@@ -19,6 +19,7 @@ use Rattle.crs_desk.specs.RulesOutput.{IsFormOutput}
 use Rattle.crs_desk.specs.LineCutting.{IsHealthy}
 use Rattle.crs_desk.specs.LinesRun.{HasSentAll, IsFrontOutput, IsLineOutput, IsLinesAnswered, IsLinesFault, IsLinesOutput, Outputs}
 use Rattle.crs_runs.specs.Whole.{IsReadFault}
+use Rattle.crs_desk.specs.Prefixed.{PrefixParts}
 use Rattle.crs_desk.proofs.PrefixedLemmas.{PrefixedOutputs, lines-plain}
 
 pub appends-none : (contents : Option (List ℕ)) → Appends contents contents []
@@ -28,15 +29,15 @@ appends-none (Some held) = sym (append-nil held)
 -- ---- a task over the whole text
 
 -- nothing of a file was answered
-no-front : (prefix : List ℕ) (known : Option (List ℕ)) → IsFileFront NoFront prefix known []
+no-front : (prefix : PrefixParts) (known : Option (List ℕ)) → IsFileFront NoFront prefix known []
 no-front prefix None = ([], [], tt, [], refl, refl)
 no-front prefix (Some all) = ([], all, refl, [], refl, refl)
 
-pub none-sent : (prefix : List ℕ) (known : Option (List ℕ)) (sink : SinkState) → IsHealthy sink → IsFrontSent NoFront prefix known sink sink
+pub none-sent : (prefix : PrefixParts) (known : Option (List ℕ)) (sink : SinkState) → IsHealthy sink → IsFrontSent NoFront prefix known sink sink
 none-sent prefix known sink healthy = ([], no-front prefix known, appends-none sink.contents, healthy)
 
 -- nothing was written before the fault
-pub unread-file : (prefix : List ℕ) (known : Option (List ℕ)) (sink : SinkState) (fault : RunFault)
+pub unread-file : (prefix : PrefixParts) (known : Option (List ℕ)) (sink : SinkState) (fault : RunFault)
     → IsHealthy sink → IsNoWriteFault fault → IsFileFault NoFront prefix known sink sink fault
 unread-file prefix known sink ReadFailed healthy is = none-sent prefix known sink healthy
 unread-file prefix known sink WriteFailed healthy is = absurd is
@@ -53,7 +54,7 @@ read-no-write source Memory is = tt
 
 -- ---- a task over lines
 
-pub lines-sent : (Output : Outputs) → Ends Output → (prefix : List ℕ) (known : Option (List ℕ)) (old new : SourceState)
+pub lines-sent : (Output : Outputs) → Ends Output → (prefix : PrefixParts) (known : Option (List ℕ)) (old new : SourceState)
     (before after : SinkState) (status : ℕ) → old ≡ fresh_source known
     → IsLinesAnswered (PrefixedOutputs prefix Output) old new before after status → after.past_failure ≡ false
     → IsAnswerSent (IsLinesOutput Output) prefix known before after status
@@ -79,7 +80,7 @@ given-front (Some all) None bytes more is = absurd is
 given-front (Some all) (Some left) bytes more is = (more ++ left, is ∙ append_assoc bytes more left)
 
 -- whole lines were answered
-front-sent : (Output : Outputs) → Ends Output → (prefix : List ℕ) (known left : Option (List ℕ)) (lines more : List ℕ)
+front-sent : (Output : Outputs) → Ends Output → (prefix : PrefixParts) (known left : Option (List ℕ)) (lines more : List ℕ)
     (before after : SinkState) → Consumes known left (lines ++ more) → (lines ≡ []) ⊎ EndsInFeed lines
     → HasSentAll (PrefixedOutputs prefix Output) lines before after → IsHealthy after
     → IsFrontSent (FrontOf Output) prefix known before after
@@ -110,7 +111,7 @@ front-sent Output ends prefix known left lines more before after given begins se
     whole (inl none) = inl none
     whole (inr feed) = inr (inl feed)
 
-lines-stopped : (Output : Outputs) → Ends Output → (prefix : List ℕ) (old new : SourceState) (before after : SinkState) (fault : RunFault)
+lines-stopped : (Output : Outputs) → Ends Output → (prefix : PrefixParts) (old new : SourceState) (before after : SinkState) (fault : RunFault)
     → IsLinesFault (PrefixedOutputs prefix Output) old new before after fault → after.past_failure ≡ false
     → IsFileFault (FrontOf Output) prefix old.remaining before after fault
 lines-stopped Output ends prefix old new before after ReadFailed (failed, healthy, (bytes, lines, given, short, (last, split, begins, plain), sent)) first =
@@ -125,7 +126,7 @@ lines-stopped Output ends prefix old new before after TooManyReads (healthy, sou
     (subst (Consumes old.remaining new.remaining) split given.is_first) begins sent (sound, first)
 lines-stopped Output ends prefix old new before after Memory (healthy, sound, more) first = (sound, first)
 
-pub lines-failed : (Output : Outputs) → Ends Output → (prefix : List ℕ) (known : Option (List ℕ)) (old new : SourceState)
+pub lines-failed : (Output : Outputs) → Ends Output → (prefix : PrefixParts) (known : Option (List ℕ)) (old new : SourceState)
     (before after : SinkState) (fault : RunFault) → old ≡ fresh_source known
     → IsLinesFault (PrefixedOutputs prefix Output) old new before after fault → after.past_failure ≡ false
     → IsFileFault (FrontOf Output) prefix known before after fault
@@ -136,7 +137,7 @@ lines-failed Output ends prefix known old new before after fault fresh stopped f
 -- ---- files one after another
 
 -- a file more was answered
-pub file-more : (asked : FileTask) (prefix : List ℕ → List ℕ) (known : List ℕ → Option (List ℕ)) (names rest left : List (List ℕ))
+pub file-more : (asked : FileTask) (prefix : List ℕ → PrefixParts) (known : List ℕ → Option (List ℕ)) (names rest left : List (List ℕ))
     (name one : List ℕ) (so-far own : ℕ) (before now after : SinkState) (written : List ℕ)
     → left ≡ name ∷ rest → IsFileOutput asked (prefix name) (known name) one own
     → Appends before.contents now.contents written → Appends now.contents after.contents one
@@ -162,14 +163,14 @@ file-more asked prefix known names rest left name one so-far own before now afte
 -- all files were answered
 pub files-done : (asked : FileTask) (known : List ℕ → Option (List ℕ)) (names left : List (List ℕ)) (status : ℕ)
     (before after : SinkState) (written : List ℕ) → left ≡ [] → Appends before.contents after.contents written → IsHealthy after
-    → ((more : List ℕ) (others : ℕ) → AreFileOutputs asked (name_prefix names) known left more others
-    → AreFileOutputs asked (name_prefix names) known names (written ++ more) (max status others))
+    → ((more : List ℕ) (others : ℕ) → AreFileOutputs asked (name_prefix asked names) known left more others
+    → AreFileOutputs asked (name_prefix asked names) known names (written ++ more) (max status others))
     → AreFilesAnswered asked known names before after status
 files-done asked known names left status before after written none sent healthy goes =
-    let all = goes [] 0 (subst (λ l. AreFileOutputs asked (name_prefix names) known l [] 0) (sym none) (refl, refl)) in (
+    let all = goes [] 0 (subst (λ l. AreFileOutputs asked (name_prefix asked names) known l [] 0) (sym none) (refl, refl)) in (
       written,
-      subst (λ n. AreFileOutputs asked (name_prefix names) known names written n) (max-zero status)
-          (subst (λ l. AreFileOutputs asked (name_prefix names) known names l (max status 0)) (append-nil written) all),
+      subst (λ n. AreFileOutputs asked (name_prefix asked names) known names written n) (max-zero status)
+          (subst (λ l. AreFileOutputs asked (name_prefix asked names) known names l (max status 0)) (append-nil written) all),
       sent,
       healthy.0,
     )
@@ -197,23 +198,23 @@ nothing-fronts (task.Form level rules) = refl
 nothing-fronts (task.FormGroup level listing rules) = refl
 nothing-fronts (task.FormLines level rules) = front-none (IsLineOutput (IsFormOutput rules.now level))
 
-unopened-front : (asked : FileTask) (prefix : List ℕ) (known : Option (List ℕ)) → IsFileFront (IsTaskFront asked) prefix known []
+unopened-front : (asked : FileTask) (prefix : PrefixParts) (known : Option (List ℕ)) → IsFileFront (IsTaskFront asked) prefix known []
 unopened-front asked prefix None = ([], [], tt, [], nothing-fronts asked, refl)
 unopened-front asked prefix (Some all) = ([], all, refl, [], nothing-fronts asked, refl)
 
 -- a file that can't be opened
-pub unopened : (asked : FileTask) (prefix : List ℕ) (known : Option (List ℕ)) (sink : SinkState) → IsHealthy sink
+pub unopened : (asked : FileTask) (prefix : PrefixParts) (known : Option (List ℕ)) (sink : SinkState) → IsHealthy sink
     → IsFileSent asked prefix known sink sink 2
 unopened asked prefix known sink healthy =
     ([], inr (unopened-front asked prefix known, refl), appends-none sink.contents, healthy)
 
 -- what was sent of a file that failed
-pub failed-file : (asked : FileTask) (prefix : List ℕ) (known : Option (List ℕ)) (before after : SinkState)
+pub failed-file : (asked : FileTask) (prefix : PrefixParts) (known : Option (List ℕ)) (before after : SinkState)
     → IsFrontSent (IsTaskFront asked) prefix known before after → IsFileSent asked prefix known before after 2
 failed-file asked prefix known before after (written, front, sent, healthy) = (written, inr (front, refl), sent, healthy)
 
 -- a file that failed, beside which the others go on
-pub file-failed : (asked : FileTask) (prefix : List ℕ) (left known : Option (List ℕ)) (before after : SinkState) (fault : RunFault)
+pub file-failed : (asked : FileTask) (prefix : PrefixParts) (left known : Option (List ℕ)) (before after : SinkState) (fault : RunFault)
     → left ≡ known → is_of_file fault ≡ true → IsFileFault (IsTaskFront asked) prefix left before after fault
     → IsFileSent asked prefix known before after 2
 file-failed asked prefix left known before after ReadFailed same is front =

@@ -1,41 +1,27 @@
 -- Lines after a prefix, one after another.
-use Rattle.std.proofs.Common.{◌≡◌, ◌∙◌, ◌++◌, ◌∷◌, [], ℕ, List, Bool, true, false, ap, ap₂, append_assoc, inl, inr, refl, sym}
+use Rattle.std.proofs.Common.{◌≡◌, ◌∙◌, ◌++◌, ◌∷◌, [], ℕ, List, Bool, true, ap, ap₂, append-nil, append_assoc, inl, inr, refl, sym}
 use Rattle.std.specs.Prelude.{◌==◌, codes, if◌then◌else◌}
 use Rattle.crs_value.specs.declared.values.level.Level.{Level}
 use Rattle.crs_desk.specs.FileAnswers.{Ends}
 use Rattle.crs_desk.specs.LinesRun.{AreOutputs, IsLineOutput, IsLinesOutput, Outputs}
 use Rattle.crs_text.specs.Refusal.{refused_text}
 use Rattle.crs_runs.specs.Output.{IsCanonOutput, IsCheckOutput, kind_word}
-use Rattle.crs_desk.specs.Prefixed.{IsPrefixed, prefixed, prefixed_from}
+use Rattle.crs_desk.specs.Prefixed.{IsPrefixed, PrefixParts, begun, prefixed, prefixed_from}
 use Rattle.crs_desk.specs.RulesOutput.{IsFormOutput}
 use Rattle.crs_rules.specs.Rules.{RulesParts}
 
--- a byte further
-pub prefixed-step : (out prefix rest : List ℕ) (begins : Bool) (b : ℕ)
-    → ((out ++ (if begins then prefix else [])) ++ b ∷ []) ++ prefixed_from (b == 10) prefix rest
-    ≡ out ++ prefixed_from begins prefix (b ∷ rest)
-prefixed-step out prefix rest begins b =
-    let front : List ℕ = if begins then prefix else [] in
-    append_assoc (out ++ front) (b ∷ []) (prefixed_from (b == 10) prefix rest)
-    ∙ append_assoc out front (b ∷ prefixed_from (b == 10) prefix rest)
-
 -- after a line feed a line begins
-prefixed-ended : (begins : Bool) (prefix front rest : List ℕ)
+prefixed-ended : (begins : Bool) (prefix : PrefixParts) (front rest : List ℕ)
     → prefixed_from begins prefix ((front ++ 10 ∷ []) ++ rest)
     ≡ prefixed_from begins prefix (front ++ 10 ∷ []) ++ prefixed_from true prefix rest
 prefixed-ended begins prefix [] rest =
-    sym (append_assoc (if begins then prefix else []) (10 ∷ []) (prefixed_from true prefix rest))
+    let own : List ℕ = if begins then begun prefix 10 else 10 ∷ [] in
+    sym (ap (λ l. l ++ prefixed_from true prefix rest) (append-nil own))
 prefixed-ended begins prefix (b ∷ front) rest =
-    let own : List ℕ = if begins then prefix else [] in
+    let own : List ℕ = if begins then begun prefix b else b ∷ [] in
     let more : List ℕ = prefixed_from (b == 10) prefix (front ++ 10 ∷ []) in
-    ap (λ l. own ++ b ∷ l) (prefixed-ended (b == 10) prefix front rest)
-    ∙ sym (append_assoc own (b ∷ more) (prefixed_from true prefix rest))
-
--- no prefix changes nothing
-pub no-prefix : (begins : Bool) (bytes : List ℕ) → prefixed_from begins [] bytes ≡ bytes
-no-prefix begins [] = refl
-no-prefix true (b ∷ bytes) = ap (λ l. b ∷ l) (no-prefix (b == 10) bytes)
-no-prefix false (b ∷ bytes) = ap (λ l. b ∷ l) (no-prefix (b == 10) bytes)
+    ap (λ l. own ++ l) (prefixed-ended (b == 10) prefix front rest)
+    ∙ sym (append_assoc own more (prefixed_from true prefix rest))
 
 pub canon-ends : (level : Level) → Ends (IsCanonOutput level)
 unfolding Ends IsCanonOutput
@@ -57,11 +43,11 @@ unfolding Ends
 line-ends Output ends text line status (inl (blank, is)) = ([], is.line)
 line-ends Output ends text line status (inr (plain, is)) = ends text line status is
 
-abbrev pub PrefixedOutputs : List ℕ → Outputs → Outputs
+abbrev pub PrefixedOutputs : PrefixParts → Outputs → Outputs
 PrefixedOutputs prefix Output = λ text written status. IsPrefixed prefix (Output text) written status
 
 -- what is written for texts, without the prefix
-outputs-plain : (Output : Outputs) → Ends Output → (prefix : List ℕ) (texts : List (List ℕ)) (written : List ℕ) (status : ℕ)
+outputs-plain : (Output : Outputs) → Ends Output → (prefix : PrefixParts) (texts : List (List ℕ)) (written : List ℕ) (status : ℕ)
     → AreOutputs (PrefixedOutputs prefix Output) texts written status
     → (plain : List ℕ) × AreOutputs Output texts plain status × (written ≡ prefixed prefix plain)
 unfolding Ends
@@ -76,7 +62,7 @@ outputs-plain Output ends prefix (text ∷ texts) written status (line, rest, fi
           ∙ (sym (prefixed-ended true prefix end.0 below.0) ∙ ap (λ l. prefixed prefix (l ++ below.0)) (sym end.1)))),
     )
 
-pub lines-plain : (Output : Outputs) → Ends Output → (prefix bytes written : List ℕ) (status : ℕ)
+pub lines-plain : (Output : Outputs) → Ends Output → (prefix : PrefixParts) (bytes written : List ℕ) (status : ℕ)
     → IsLinesOutput (PrefixedOutputs prefix Output) bytes written status → IsPrefixed prefix (IsLinesOutput Output bytes) written status
 lines-plain Output ends prefix bytes written status lines =
     let plain = outputs-plain Output ends prefix lines.texts written status lines.are_outputs in (

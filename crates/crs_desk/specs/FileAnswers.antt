@@ -9,6 +9,7 @@ use Rattle.crs_streams.specs.declared.fault.RunFault.TheVariants.{TooManyReads, 
 use Rattle.crs_desk.specs.FilesRun.{IsFileAnswer, IsFileFront, IsFileOutput}
 use Rattle.crs_desk.specs.LineCutting.{IsHealthy}
 use Rattle.crs_desk.specs.LinesRun.{Outputs}
+use Rattle.crs_desk.specs.Prefixed.{PrefixParts}
 use Rattle.crs_desk.specs.declared.file_task.FileTask.{FileTask}
 
 -- all that is written ends in a line feed
@@ -21,20 +22,20 @@ abbrev pub NoFront : List ℕ → List ℕ → Type 0
 NoFront bytes written = written ≡ []
 
 -- the sink got the answer
-abbrev pub IsAnswerSent : Outputs → List ℕ → Option (List ℕ) → SinkState → SinkState → ℕ → Type 0
+abbrev pub IsAnswerSent : Outputs → PrefixParts → Option (List ℕ) → SinkState → SinkState → ℕ → Type 0
 IsAnswerSent Output prefix known before after status =
     (written : List ℕ) × IsFileAnswer Output prefix known written status
     × Appends before.contents after.contents written × IsHealthy after
 
 -- the sink got what is written for a file that fails
-abbrev pub IsFrontSent : (List ℕ → List ℕ → Type 0) → List ℕ → Option (List ℕ) → SinkState →
+abbrev pub IsFrontSent : (List ℕ → List ℕ → Type 0) → PrefixParts → Option (List ℕ) → SinkState →
     SinkState → Type 0
 IsFrontSent Front prefix known before after =
     (written : List ℕ) × IsFileFront Front prefix known written
     × Appends before.contents after.contents written × IsHealthy after
 
 -- what the fault of a file says
-abbrev pub IsFileFault : (List ℕ → List ℕ → Type 0) → List ℕ → Option (List ℕ) → SinkState →
+abbrev pub IsFileFault : (List ℕ → List ℕ → Type 0) → PrefixParts → Option (List ℕ) → SinkState →
     SinkState → RunFault → Type 0
 IsFileFault Front prefix known before after WriteFailed =
     (after.failed ≡ true) × (after.past_failure ≡ false)
@@ -46,7 +47,7 @@ IsFileFault Front prefix known before after TooManyReads =
     IsFrontSent Front prefix known before after
 
 -- the sink got the output of a file
-abbrev pub IsFileSent : FileTask → List ℕ → Option (List ℕ) → SinkState → SinkState → ℕ → Type 0
+abbrev pub IsFileSent : FileTask → PrefixParts → Option (List ℕ) → SinkState → SinkState → ℕ → Type 0
 IsFileSent asked prefix known before after status =
     (written : List ℕ) × IsFileOutput asked prefix known written status
     × Appends before.contents after.contents written × IsHealthy after

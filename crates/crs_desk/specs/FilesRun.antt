@@ -1,8 +1,9 @@
 -- What a run over files writes, and its status.
-use Rattle.std.specs.Prelude.{◌≡◌, ◌⊎◌, ◌==◌, ◌++◌, ◌∷◌, [], ℕ, List, Option, IfSome, codes, max}
+use Rattle.std.specs.Prelude.{◌≡◌, ◌⊎◌, ◌==◌, ◌++◌, ◌∷◌, [], ℕ, Bool, List, Option, IfSome, codes, max}
 use Rattle.std.specs.Prelude.{false, true, if◌then◌else◌}
 use Rattle.std.specs.Io.KnownBytes.{Appends}
 use Rattle.crs_streams.specs.Escaped.{escaped}
+use Rattle.crs_streams.specs.Json.{json_text}
 use Rattle.crs_group.specs.GroupOutput.{IsGroupOutput, IsGroupOutputUnder}
 use Rattle.crs_group.specs.declared.summary.Summary.{Summary}
 use Rattle.crs_streams.specs.Streams.{SinkState}
@@ -11,10 +12,12 @@ use Rattle.crs_streams.specs.declared.fault.RunFault.TheVariants.{ReadFailed, Wr
 use Rattle.crs_streams.specs.declared.fault.RunFault.TheVariants.{TooManyReads, Memory}
 use Rattle.crs_desk.specs.declared.file_task.FileTask.{FileTask}
 use Rattle.crs_desk.specs.declared.file_task.FileTask.TheVariants as task
+use Rattle.crs_desk.specs.declared.manner.Manner.{Manner}
+use Rattle.crs_desk.specs.declared.manner.Manner.TheVariants as manner
 use Rattle.crs_desk.specs.ExplainOutput.{IsExplainOutput}
 use Rattle.crs_desk.specs.LinesRun.{IsFrontOutput, IsLineOutput, IsLinesOutput, Outputs}
 use Rattle.crs_runs.specs.Output.{IsCanonOutput, IsCheckOutput}
-use Rattle.crs_desk.specs.Prefixed.{IsPrefixed, prefixed}
+use Rattle.crs_desk.specs.Prefixed.{IsPrefixed, PrefixParts, prefixed}
 use Rattle.crs_desk.specs.RulesOutput.{IsFormOutput}
 
 -- what `group` writes for some bytes, by what its run writes; the status is 1 where a line was
@@ -49,33 +52,53 @@ IsTaskFront (task.FormLines level rules) bytes written =
     IsFrontOutput (IsLineOutput (IsFormOutput rules.now level)) bytes false written
 IsTaskFront other bytes written = written ≡ []
 
--- what stands before each line of a file's answer: nothing where there is one file, else its name,
--- escaped as a line shows it, and a colon
-abbrev pub name_prefix : List (List ℕ) → List ℕ → List ℕ
-name_prefix (one ∷ []) name = []
-name_prefix names name = escaped name ++ codes ":"
+-- whether `explain` writes objects of JSON
+abbrev pub are_objects : Manner → Bool
+are_objects manner.Lines = false
+are_objects manner.Objects = true
+
+-- whether each line of a file's answer is an object of JSON
+abbrev pub is_json : FileTask → Bool
+is_json (task.Explain how) = are_objects how
+is_json (task.Group level listing) = listing.json
+is_json (task.FormGroup level listing rules) = listing.json
+is_json other = false
+
+-- a file's name before a line, escaped as a line shows it, and a colon
+abbrev pub line_prefix : List ℕ → PrefixParts
+line_prefix name = record { bytes = escaped name ++ codes ":"; in_object = false }
+
+-- a file's name as the first member of an object
+abbrev pub object_prefix : List ℕ → PrefixParts
+object_prefix name =
+    record { bytes = codes "{\"file\":" ++ json_text name ++ codes ","; in_object = true }
+
+-- what stands before each line of a file's answer: nothing where there is one file, else its name
+abbrev pub name_prefix : FileTask → List (List ℕ) → List ℕ → PrefixParts
+name_prefix asked (one ∷ []) name = record { bytes = []; in_object = false }
+name_prefix asked names name = if is_json asked then object_prefix name else line_prefix name
 
 -- the answer for all the bytes of a file, which are these where they are known
-abbrev pub IsFileAnswer : Outputs → List ℕ → Option (List ℕ) → List ℕ → ℕ → Type 0
+abbrev pub IsFileAnswer : Outputs → PrefixParts → Option (List ℕ) → List ℕ → ℕ → Type 0
 IsFileAnswer Output prefix known written status =
     (bytes : List ℕ) × IfSome known (λ all. bytes ≡ all)
     × IsPrefixed prefix (Output bytes) written status
 
 -- what was written for a file that can't be opened, or read to its end
-abbrev pub IsFileFront : (List ℕ → List ℕ → Type 0) → List ℕ → Option (List ℕ) → List ℕ → Type 0
+abbrev pub IsFileFront : (List ℕ → List ℕ → Type 0) → PrefixParts → Option (List ℕ) → List ℕ → Type 0
 IsFileFront Front prefix known written =
     (bytes : List ℕ) × (rest : List ℕ) × IfSome known (λ all. all ≡ bytes ++ rest)
     × (plain : List ℕ) × Front bytes plain × (written ≡ prefixed prefix plain)
 
 -- a file is answered, or fails, with status 2
-abbrev pub IsFileOutput : FileTask → List ℕ → Option (List ℕ) → List ℕ → ℕ → Type 0
+abbrev pub IsFileOutput : FileTask → PrefixParts → Option (List ℕ) → List ℕ → ℕ → Type 0
 IsFileOutput asked prefix known written status =
     IsFileAnswer (IsTaskOutput asked) prefix known written status
     ⊎ (IsFileFront (IsTaskFront asked) prefix known written × (status ≡ 2))
 
 -- what is written for files one after another, by the prefix of each name and the bytes of the file
 -- where they are known; and the greatest status
-abbrev pub AreFileOutputs : FileTask → (List ℕ → List ℕ) → (List ℕ → Option (List ℕ)) →
+abbrev pub AreFileOutputs : FileTask → (List ℕ → PrefixParts) → (List ℕ → Option (List ℕ)) →
     List (List ℕ) → List ℕ → ℕ → Type 0
 AreFileOutputs asked prefix known [] written status = (written ≡ []) × (status ≡ 0)
 AreFileOutputs asked prefix known (name ∷ names) written status =
@@ -88,7 +111,7 @@ AreFileOutputs asked prefix known (name ∷ names) written status =
 abbrev pub AreFilesAnswered : FileTask → (List ℕ → Option (List ℕ)) → List (List ℕ) → SinkState →
     SinkState → ℕ → Type 0
 AreFilesAnswered asked known names before after status =
-    (written : List ℕ) × AreFileOutputs asked (name_prefix names) known names written status
+    (written : List ℕ) × AreFileOutputs asked (name_prefix asked names) known names written status
     × Appends before.contents after.contents written × (after.failed ≡ false)
 
 -- a run over files ends before the last of them where a write failed or memory ran out

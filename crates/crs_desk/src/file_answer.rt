@@ -13,7 +13,7 @@ use crate::line_output::{
     CanonText, CheckText, ExplainText, FormText, OfLine, Prefixed, TextCommand,
 };
 use crate::lines_run::run_lines;
-use crate::prefixed::prefixed;
+use crate::prefixed::{Prefix, prefixed};
 use crate::{Filling, RunFault, Sink, Source, Stream};
 use crs_group::Summary;
 use crs_runs::read_text;
@@ -24,7 +24,7 @@ use std::io::{Read, Write};
 pub(crate) fn answer_input<R: Read + Drop, W: Write>(
     alloc: Global,
     task: FileTask<'_>,
-    prefix: &[u8],
+    prefix: &Prefix,
     reader: R,
     sink: &mut Sink<W>,
 ) -> Result<u8, RunFault>
@@ -64,7 +64,7 @@ pub(crate) fn answer_input<R: Read + Drop, W: Write>(
 fn answer_text<C: TextCommand, R: Read + Drop, W: Write>(
     alloc: Global,
     command: &C,
-    prefix: &[u8],
+    prefix: &Prefix,
     reader: R,
     sink: &mut Sink<W>,
 ) -> Result<u8, RunFault>
@@ -82,7 +82,7 @@ fn answer_text<C: TextCommand, R: Read + Drop, W: Write>(
 fn answer_group<G: Grouping, R: Read + Drop, W: Write>(
     alloc: Global,
     grouping: &G,
-    prefix: &[u8],
+    prefix: &Prefix,
     reader: R,
     sink: &mut Sink<W>,
 ) -> Result<u8, RunFault>
@@ -129,7 +129,7 @@ fn status_of(summary: &Summary) -> u8
 fn answer_lines<C: TextCommand + Drop, R: Read + Drop, W: Write>(
     alloc: Global,
     command: C,
-    prefix: &[u8],
+    prefix: &Prefix,
     reader: R,
     sink: &mut Sink<W>,
 ) -> Result<u8, RunFault>
@@ -153,7 +153,7 @@ fn answer_lines<C: TextCommand + Drop, R: Read + Drop, W: Write>(
 // Writes these bytes, each line after a prefix.
 fn send<W: Write>(
     alloc: Global,
-    prefix: &[u8],
+    prefix: &Prefix,
     plain: &[u8],
     sink: &mut Sink<W>,
 ) -> Result<(), RunFault>

@@ -8,7 +8,7 @@ pub enum FileTask<'r> {
     Canon(Level),
     /// What `run_check` writes.
     Check,
-    /// What `run_explain` writes. Of several files an object of JSON too stands behind the name and a colon.
+    /// What `run_explain` writes.
     Explain(Manner),
     /// What `run_group_listing` writes, at a level, with status 1 where a line was refused.
     Group(Level, Listing),

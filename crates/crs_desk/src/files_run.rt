@@ -1,14 +1,17 @@
 //! A run over files: what a command writes for each of them, in their order.
-ghost use Rattle.std.specs.Prelude.{◌≡◌, ℕ, List, Option, IfErr, IfOk, IfSome, false};
+ghost use Rattle.std.specs.Prelude.{◌≡◌, [], ℕ, List, Option, IfErr, IfOk, IfSome, false, if◌then◌else◌};
 ghost use Rattle.crs_streams.specs.Streams.{fresh_sink};
 ghost use Rattle.crs_desk.specs.FileAnswers.{IsFileSent, is_of_file};
-ghost use Rattle.crs_desk.specs.FilesRun.{AreFilesAnswered, IsFilesFault, name_prefix};
+ghost use Rattle.crs_desk.specs.FilesRun.{AreFilesAnswered, IsFilesFault, are_objects, is_json, line_prefix, name_prefix};
+ghost use Rattle.crs_desk.specs.FilesRun.{object_prefix};
 ghost use Rattle.crs_desk.specs.LineCutting.{IsHealthy};
 
 use crate::file_answer::answer_input;
 use crate::file_task::FileTask;
-use crate::{LineWord, RunFault, Sink};
+use crate::prefixed::Prefix;
+use crate::{LineWord, Manner, RunFault, Sink};
 use crs_streams::append_escaped;
+use crs_streams::json::append_text;
 use std::alloc::{AllocError, Global};
 use std::io::{Read, Write};
 
@@ -32,8 +35,8 @@ pub trait Inputs {
 }
 
 /// Writes for each file in its turn what is asked of it; where there are several, each line begins with the file's name,
-/// in which control characters, ends of lines, marks of direction and backslashes are escaped, and a colon. A file that
-/// can't be opened, or not be read to its end within the bounds of its task, is told to the user, has status 2, and the
+/// in which control characters, ends of lines, marks of direction and backslashes are escaped, and a colon, and an object
+/// of JSON has the name as its first member, `"file"`. A file that can't be opened, or not be read to its end within the bounds of its task, is told to the user, has status 2, and the
 /// others go on; of its answer nothing was written, or where each line is a text that of whole lines, the first of all.
 /// The status is the greatest of all. `WriteFailed` where the sink has failed, `Memory` where memory ran out. Profile.
 pub fn run_files<I: Inputs, W: Write>(
@@ -50,7 +53,7 @@ pub fn run_files<I: Inputs, W: Write>(
 {
     let mut status = 0;
     for name in names {
-        let prefix = prefix_of(alloc, names, name).map_err(|_| RunFault::Memory)?;
+        let prefix = prefix_of(alloc, task, names, name).map_err(|_| RunFault::Memory)?;
         let own = answer_file(alloc, task, &prefix, name, files, w)?;
         status = status.max(own);
     }
@@ -58,22 +61,94 @@ pub fn run_files<I: Inputs, W: Write>(
 }
 
 // What stands before each line of a file's answer.
-fn prefix_of(alloc: Global, names: &[LineWord], name: &LineWord) -> Result<Vec<u8>, AllocError>
-    ensures { IfOk result (λ prefix. prefix.items ≡ name_prefix names.now name.now) }
+fn prefix_of(
+    alloc: Global,
+    task: FileTask<'_>,
+    names: &[LineWord],
+    name: &LineWord,
+) -> Result<Prefix, AllocError>
+    ensures { IfOk result (λ prefix. prefix ≡ name_prefix task.entry names.now name.now) }
 {
-    let mut prefix = Vec::new(alloc);
-    if names.len() != 1 {
-        append_escaped(name.as_str().as_bytes(), &mut prefix)?;
-        prefix.push(b':')?;
+    if names.len() == 1 {
+        return Ok(no_prefix(alloc));
     }
-    Ok(prefix)
+    named_prefix(alloc, task, name)
+}
+
+// The name of a file before each line of its answer, or in each object.
+fn named_prefix(alloc: Global, task: FileTask<'_>, name: &LineWord) -> Result<Prefix, AllocError>
+    ensures { IfOk result (λ prefix. prefix ≡ (if is_json task.entry then object_prefix name.now else line_prefix name.now)) }
+{
+    if is_json(task) {
+        return object_prefix(alloc, name);
+    }
+    line_prefix(alloc, name)
+}
+
+// Whether each line of a file's answer is an object of JSON.
+fn is_json(task: FileTask<'_>) -> bool
+    ensures { result ≡ is_json task.entry }
+{
+    match task {
+        FileTask::Explain(how) => are_objects(how),
+        FileTask::Group(_, listing) => listing.json,
+        FileTask::FormGroup(_, listing, _) => listing.json,
+        FileTask::Canon(_) | FileTask::Check | FileTask::CanonLines(_) | FileTask::CheckLines => {
+            false
+        }
+        FileTask::Form(_, _) | FileTask::FormLines(_, _) => false,
+    }
+}
+
+fn are_objects(how: Manner) -> bool
+    ensures { result ≡ are_objects how }
+{
+    match how {
+        Manner::Lines => false,
+        Manner::Objects => true,
+    }
+}
+
+fn no_prefix(alloc: Global) -> Prefix
+    ensures { result ≡ record { bytes = []; in_object = false } }
+{
+    Prefix {
+        bytes: Vec::new(alloc),
+        in_object: false,
+    }
+}
+
+// The name before a line, and a colon.
+fn line_prefix(alloc: Global, name: &LineWord) -> Result<Prefix, AllocError>
+    ensures { IfOk result (λ prefix. prefix ≡ line_prefix name.now) }
+{
+    let mut bytes = Vec::new(alloc);
+    append_escaped(name.as_str().as_bytes(), &mut bytes)?;
+    bytes.extend_from_slice(b":")?;
+    Ok(Prefix {
+        bytes,
+        in_object: false,
+    })
+}
+
+// The name as the first member of an object.
+fn object_prefix(alloc: Global, name: &LineWord) -> Result<Prefix, AllocError>
+    ensures { IfOk result (λ prefix. prefix ≡ object_prefix name.now) }
+{
+    let mut bytes = Vec::from_slice(alloc, b"{\"file\":")?;
+    append_text(name.as_str().as_bytes(), &mut bytes)?;
+    bytes.extend_from_slice(b",")?;
+    Ok(Prefix {
+        bytes,
+        in_object: true,
+    })
 }
 
 // Writes the answer of a file.
 fn answer_file<I: Inputs, W: Write>(
     alloc: Global,
     task: FileTask<'_>,
-    prefix: &[u8],
+    prefix: &Prefix,
     name: &LineWord,
     files: &I,
     sink: &mut Sink<W>,

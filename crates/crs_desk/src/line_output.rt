@@ -2,7 +2,7 @@
 ghost use Rattle.std.specs.Prelude.{◌≡◌, ◌∷◌, [], ℕ, List, IfOk};
 
 use crate::explain_run::text_output;
-use crate::prefixed::prefixed;
+use crate::prefixed::{Prefix, prefixed};
 use crate::{Level, Manner};
 use crs_group::is_blank;
 use crs_rules::{Rules, canon_under};
@@ -112,7 +112,7 @@ impl<C: TextCommand> TextCommand for OfLine<C> {
 // A command each of whose lines is written after a prefix.
 #[derive(Drop)]
 pub(crate) struct Prefixed<'p, C: TextCommand> {
-    pub(crate) prefix: &'p [u8],
+    pub(crate) prefix: &'p Prefix,
     pub(crate) command: C,
 }
 

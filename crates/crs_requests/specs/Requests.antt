@@ -52,13 +52,20 @@ check_of rows =
 
 -- the flags of `group` among its matches
 abbrev pub group_flags : List Row → GroupFlags
-group_flags rows =
-    record { repeated = has_flag (codes "repeated") rows; names = has_flag (codes "names") rows }
+group_flags rows = record {
+  repeated = has_flag (codes "repeated") rows;
+  names = has_flag (codes "names") rows;
+  json = has_flag (codes "json") rows;
+}
+
+-- whether a flag of `group` is there
+abbrev pub is_flagged : GroupFlags → Bool
+is_flagged flags = (flags.repeated || flags.names) || flags.json
 
 -- the groups at a level, as the flags say where there is one
 abbrev pub group_of : List Row → Request
 group_of rows =
-    if has_flag (codes "repeated") rows || has_flag (codes "names") rows
+    if is_flagged (group_flags rows)
     then over (GroupListed (level_of rows) (group_flags rows))
     (task.GroupListed (level_of rows) (group_flags rows)) (files_of rows)
     else over (Group (level_of rows)) (task.Group (level_of rows)) (files_of rows)

@@ -3,7 +3,7 @@ ghost use Rattle.std.specs.Prelude.{◌≡◌, IfOk, IsSome, Some, false, option
 ghost use Rattle.clap.specs.Words.{found_of, rows_of};
 ghost use Rattle.clap.specs.Words.{subcommand_rows_of};
 ghost use Rattle.crs_requests.specs.Requests.{canon_of, check_of, explain_of};
-ghost use Rattle.crs_requests.specs.Requests.{group_flags, group_of, has_flag};
+ghost use Rattle.crs_requests.specs.Requests.{group_flags, group_of, has_flag, is_flagged};
 ghost use Rattle.crs_requests.specs.Requests.{command_of, explained_operands, level_of, options_of, request_of};
 ghost use Rattle.crs_requests.specs.Requests.{same_of, same_operands};
 ghost use Rattle.crs_requests.specs.Requests.{under, words_of};
@@ -92,7 +92,7 @@ fn group_request(alloc: Global, options: &ArgMatches) -> Result<Request, AllocEr
     let level = level_word(alloc, options)?;
     let files = words_named(alloc, options, "file")?;
     let flags = group_flags(options);
-    match (flags.repeated || flags.names, files.is_empty()) {
+    match (is_flagged(flags), files.is_empty()) {
         (false, true) => Ok(Request::Group(level)),
         (true, true) => Ok(Request::GroupListed(level, flags)),
         (false, false) => Ok(Request::Files(Task::Group(level), files)),
@@ -106,7 +106,14 @@ fn group_flags(options: &ArgMatches) -> GroupFlags
     GroupFlags {
         repeated: flag_asked(options, "repeated"),
         names: flag_asked(options, "names"),
+        json: flag_asked(options, "json"),
     }
+}
+
+fn is_flagged(flags: GroupFlags) -> bool
+    ensures { result ≡ is_flagged flags }
+{
+    flags.repeated || flags.names || flags.json
 }
 
 fn same_request(alloc: Global, operands: &ArgMatches) -> Result<Request, AllocError>

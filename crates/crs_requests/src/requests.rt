@@ -15,6 +15,8 @@ pub struct GroupFlags {
     pub repeated: bool,
     /// Lines begin with a name and a tab, and their names stand for their numbers.
     pub names: bool,
+    /// Objects of JSON.
+    pub json: bool,
 }
 
 /// What `explain` is asked for. Profile.

@@ -128,7 +128,7 @@ pub(crate) fn listing_of(flags: &GroupFlags) -> Listing {
     Listing {
         repeated: flags.repeated,
         names: flags.names,
-        json: false,
+        json: flags.json,
     }
 }
 

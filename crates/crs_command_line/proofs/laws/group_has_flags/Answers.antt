@@ -1,4 +1,4 @@
-use Rattle.crs_command_line.proofs.LineLemmas.{group_both, group_names, group_repeated, repeated_first, repeated_last}
+use Rattle.crs_command_line.proofs.LineLemmas.{group_both, group_json, group_names, group_repeated, repeated_first, repeated_last}
 use Rattle.crs_command_line.proofs.laws.group_has_flags.Goals as goal
 
 pub returns-clause-repeated : goal.returns-clause-repeated
@@ -6,6 +6,9 @@ returns-clause-repeated c = group_repeated
 
 pub returns-clause-names : goal.returns-clause-names
 returns-clause-names c = group_names
+
+pub returns-clause-json : goal.returns-clause-json
+returns-clause-json c = group_json
 
 pub returns-clause-both : goal.returns-clause-both
 returns-clause-both c = group_both

@@ -4,6 +4,7 @@ use Rattle.std.specs.Io.KnownBytes.{Appends}
 use Rattle.std.proofs.lemmas.Grind.{common_steps}
 use Rattle.crs_desk.specs.FileAnswers.{IsFileSent}
 use Rattle.crs_desk.specs.FilesRun.{AreFileOutputs, name_prefix}
+use Rattle.crs_desk.specs.Prefixed.{PrefixParts}
 use Rattle.crs_desk.proofs.FileLemmas.{file-more, files-done}
 use Rattle.crs_desk.proofs.files_run.run_files.Goals as goal
 
@@ -15,8 +16,8 @@ loop-name-preserved g c =
     let so-far = c.loop-name.invariant.sent in
     let here : drop c.loop-name.name-index names ≡ name ∷ drop (c.loop-name.name-index + 1) names =
     grind (arith, common_steps, c.name-item.is, c.loop-name-test.true) in
-    let prefix : c.deref.result.now ≡ name_prefix names name = search rules in
-    let file = subst (λ (p : List ℕ). IsFileSent c.args.task p (known name) c.loop-name.w c.answer_file.new.sink c.in_ok-own.own) prefix
+    let prefix : c.in_ok-prefix.prefix ≡ name_prefix c.args.task names name = search rules in
+    let file = subst (λ (p : PrefixParts). IsFileSent c.args.task p (known name) c.loop-name.w c.answer_file.new.sink c.in_ok-own.own) prefix
     c.in_ok-own.ensures.answered in
     let greatest : c.max-status.result ≡ max c.loop-name.status c.in_ok-own.own = search rules in
     record {
@@ -24,10 +25,10 @@ loop-name-preserved g c =
       sent = subst
           (λ status. (all : List ℕ) × Appends c.args.w.now.contents c.answer_file.new.sink.contents all
           × ((more : List ℕ) (others : ℕ)
-          → AreFileOutputs c.args.task (name_prefix names) known (drop (c.loop-name.name-index + 1) names) more others
-          → AreFileOutputs c.args.task (name_prefix names) known names (all ++ more)
+          → AreFileOutputs c.args.task (name_prefix c.args.task names) known (drop (c.loop-name.name-index + 1) names) more others
+          → AreFileOutputs c.args.task (name_prefix c.args.task names) known names (all ++ more)
           (max status others))) (sym greatest)
-          (file-more c.args.task (name_prefix names) known names (drop (c.loop-name.name-index + 1) names)
+          (file-more c.args.task (name_prefix c.args.task names) known names (drop (c.loop-name.name-index + 1) names)
           (drop c.loop-name.name-index names) name file.0 c.loop-name.status c.in_ok-own.own c.args.w.now c.loop-name.w
           c.answer_file.new.sink so-far.0 here file.1 so-far.1 file.2 so-far.2);
     }
