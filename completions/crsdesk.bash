@@ -4,8 +4,8 @@
 _crsdesk() {
     local word=${COMP_WORDS[COMP_CWORD]} before=${COMP_WORDS[COMP_CWORD - 1]} words=
 
-    # bash cuts --level=WORD at its equals sign.
-    if [[ $word == = && $before == --level ]]; then
+    # bash cuts --level=WORD and --first=WORDS at their equals signs.
+    if [[ $word == = && ($before == --level || $before == --first) ]]; then
         word=
     elif [[ $before == = ]]; then
         before=${COMP_WORDS[COMP_CWORD - 2]}
@@ -14,6 +14,8 @@ _crsdesk() {
         words='canon check group same explain help -h --help -V --version'
     elif [[ $before == --level ]]; then
         words='full definition'
+    elif [[ $before == --first ]]; then
+        words='axis base conversion datum ellipsoid geoid id meridian name parameters remark system unit usage'
     elif [[ ${COMP_WORDS[1]} == help ]]; then
         ((COMP_CWORD == 2)) && words='canon check group same explain help'
     elif [[ $word == -* ]]; then
@@ -21,7 +23,7 @@ _crsdesk() {
         canon) words='--level --lines --rules -h --help' ;;
         group) words='--level --rules --json --repeated --names -h --help' ;;
         same) words='--files --level --rules -h --help' ;;
-        explain) words='--files --json --level --rules -h --help' ;;
+        explain) words='--files --first --json --level --rules -h --help' ;;
         check) words='--lines -h --help' ;;
         esac
     fi

@@ -18,5 +18,6 @@ complete -c crsdesk -n '__fish_seen_subcommand_from canon check' -l lines -d 'Ta
 complete -c crsdesk -n '__fish_seen_subcommand_from group' -l repeated -d 'Write the groups of two lines or more alone'
 complete -c crsdesk -n '__fish_seen_subcommand_from group' -l names -d 'Take names from the fronts of lines, and write them for numbers'
 complete -c crsdesk -n '__fish_seen_subcommand_from same explain' -l files -d 'Take the operands as names of files'
+complete -c crsdesk -n '__fish_seen_subcommand_from explain' -l first -x -a 'axis base conversion datum ellipsoid geoid id meridian name parameters remark system unit usage' -d 'Tell the parts first whose paths have these words'
 complete -c crsdesk -n '__fish_seen_subcommand_from group explain' -l json -d 'Write objects of JSON, one a line'
 complete -c crsdesk -n '__fish_seen_subcommand_from help' -f -a "$commands"

@@ -2,7 +2,7 @@
 # Completion of crsdesk's command line for zsh.
 
 _crsdesk() {
-    local -a commands level rules lines repeated names files json help
+    local -a commands level rules lines repeated names files json first help
     commands=(
         'canon:write the canonical text'
         'check:tell what kind of CRS a text spells, or where it is refused'
@@ -18,6 +18,7 @@ _crsdesk() {
     names=('--names[take names from the fronts of lines, and write them for numbers]')
     files=('--files[take the operands as names of files]')
     json=('--json[write objects of JSON, one a line]')
+    first=('*--first=[tell the parts first whose paths have these words]:words:_values -s , word axis base conversion datum ellipsoid geoid id meridian name parameters remark system unit usage')
     help=('(- *)'{-h,--help}'[print help]')
 
     if (( CURRENT == 2 )); then
@@ -33,7 +34,7 @@ _crsdesk() {
         check) _arguments $lines $help '*:file:_files' ;;
         group) _arguments $level $rules $json $repeated $names $help '*:file:_files' ;;
         same) _arguments $files $level $rules $help '1:first:_files' '2:second:_files' ;;
-        explain) _arguments $files $json $level $rules $help '1:first:_files' '2:second:_files' ;;
+        explain) _arguments $files $first $json $level $rules $help '1:first:_files' '2:second:_files' ;;
         help) _describe command commands ;;
     esac
 }

@@ -16,7 +16,7 @@ use Rattle.clap.specs.declared.parser.matches.ValueSource.TheVariants.{CommandLi
 use Rattle.clap.proofs.OnLiterals.{clap_on_literals}
 use Rattle.clap.proofs.WalkLemmas.{both}
 use Rattle.crs_requests.specs.Requests.{canon_of, check_of, explain_of, group_of, over, plainly, request_of, rules_of, same_of, standard, under}
-use Rattle.crs_command_line.specs.CommandLine.{asked, desk, file_operands, files_flag, is_plain_word, json_flag, level_option, lines_flag, names_flag, repeated_flag, rules_option, spare_operand}
+use Rattle.crs_command_line.specs.CommandLine.{asked, desk, file_operands, files_flag, first_option, is_plain_word, json_flag, level_option, lines_flag, names_flag, repeated_flag, rules_option, spare_operand}
 use Rattle.crs_requests.specs.declared.requests.Request.{Request}
 use Rattle.crs_requests.specs.declared.requests.Request.TheVariants.{Canon, Check, Same, Group, CanonLines, CheckLines, Explain, ExplainText, ExplainPair, GroupListed, Files, FilesUnder, TextsUnder}
 use Rattle.crs_requests.specs.declared.requests.Task.{Task}
@@ -562,7 +562,7 @@ built_group = built_with (codes "group") (level_option ∷ rules_option ∷ json
 abbrev built_explain : Shape
 built_explain =
     built_with (codes "explain")
-    (spare_operand (codes "first") ∷ spare_operand (codes "second") ∷ json_flag ∷ level_option ∷ rules_option ∷ files_flag ∷ help_rule ∷ [])
+    (spare_operand (codes "first") ∷ spare_operand (codes "second") ∷ json_flag ∷ first_option ∷ level_option ∷ rules_option ∷ files_flag ∷ help_rule ∷ [])
 
 abbrev asked_canon : List Row → Option Request
 asked_canon rows = Some (under (rules_of rows) (canon_of rows))
@@ -743,9 +743,20 @@ unfolding clap_on_literals
 explain_alone program = refl
 
 pub explain_json : (program : Text) → asked (program ∷ codes "explain" ∷ codes "--json" ∷ [])
-    ≡ Some (Explain (record { level = codes "full"; json = true }))
+    ≡ Some (Explain (record { level = codes "full"; json = true; first = [] }))
 unfolding clap_on_literals
 explain_json program = refl
+
+pub first_once : (program word : Text) → asked (program ∷ codes "explain" ∷ (codes "--first=" ++ word) ∷ [])
+    ≡ Some (Explain (record { level = codes "full"; json = false; first = word ∷ [] }))
+unfolding clap_on_literals
+first_once program word = refl
+
+pub first_twice : (program one other : Text)
+    → asked (program ∷ codes "explain" ∷ (codes "--first=" ++ one) ∷ (codes "--first=" ++ other) ∷ [])
+    ≡ Some (Explain (record { level = codes "full"; json = false; first = one ∷ other ∷ [] }))
+unfolding clap_on_literals
+first_twice program one other = refl
 
 pub explain_one : (program first : Text) → is_plain_word first ≡ true
     → asked (program ∷ codes "explain" ∷ first ∷ []) ≡ Some (ExplainText first (plainly (codes "full")))

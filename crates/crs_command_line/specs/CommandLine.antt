@@ -35,6 +35,14 @@ rules_option = record (new_rule (codes "rules")) {
   action = Some Append;
 }
 
+-- the option `--first`, which takes one word each time that it stands
+abbrev pub first_option : Rule
+first_option = record (new_rule (codes "order")) {
+  long = Some (codes "first");
+  value_names = 1;
+  action = Some Append;
+}
+
 -- a flag of this name, which takes no word
 abbrev pub flag : Text → Rule
 flag name = record (new_rule name) { long = Some name; action = Some SetTrue }
@@ -93,11 +101,12 @@ same_shape = with_options (record (new_shape (codes "same")) {
   rules = operand (codes "first") ∷ operand (codes "second") ∷ [];
 })
 
--- `explain`, which may have a first operand and a second, and takes the flag `--json` and those
--- options
+-- `explain`, which may have a first operand and a second, and takes the flag `--json`, the option
+-- `--first` and those options
 abbrev pub explain_shape : Shape
 explain_shape = with_options (record (new_shape (codes "explain")) {
-  rules = spare_operand (codes "first") ∷ spare_operand (codes "second") ∷ json_flag ∷ [];
+  rules = spare_operand (codes "first") ∷ spare_operand (codes "second") ∷ json_flag
+      ∷ first_option ∷ [];
 })
 
 -- `crsdesk` alone; it has a version, and needs one of its commands

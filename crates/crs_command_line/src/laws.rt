@@ -128,7 +128,16 @@ pub fn explain_has_a_level()
 /// With `--json` `explain` is asked for JSON.
 pub fn explain_has_json()
     ensures { (program : Text) → asked (program ∷ codes "explain" ∷ codes "--json" ∷ [])
-        ≡ Some (Explain (record { level = codes "full"; json = true })) }
+        ≡ Some (Explain (record { level = codes "full"; json = true; first = [] })) }
+{}
+
+/// The words after each `--first=` say which parts `explain` is to tell first.
+pub fn explain_has_an_order()
+    ensures once { (program word : Text) → asked (program ∷ codes "explain" ∷ (codes "--first=" ++ word) ∷ [])
+        ≡ Some (Explain (record { level = codes "full"; json = false; first = word ∷ [] })) }
+    ensures twice { (program one other : Text) →
+        asked (program ∷ codes "explain" ∷ (codes "--first=" ++ one) ∷ (codes "--first=" ++ other) ∷ [])
+        ≡ Some (Explain (record { level = codes "full"; json = false; first = one ∷ other ∷ [] })) }
 {}
 
 /// The words after `canon`, `check` and `group` are files, however many they are, where no word is a flag. The level is

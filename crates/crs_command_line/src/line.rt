@@ -5,7 +5,7 @@ ghost use Rattle.clap.specs.Simple.{new_shape};
 ghost use Rattle.clap.specs.declared.builder.command.Command.TheViews.{out-Command as fields_of};
 ghost use Rattle.crs_command_line.specs.CommandLine.{HandsOn, IsRefusal, asked, desk, input_desk, lone_desk, operand};
 ghost use Rattle.crs_command_line.specs.CommandLine.{canon_shape, check_shape, explain_shape};
-ghost use Rattle.crs_command_line.specs.CommandLine.{file_operands, flag, group_shape};
+ghost use Rattle.crs_command_line.specs.CommandLine.{file_operands, first_option, flag, group_shape};
 ghost use Rattle.crs_command_line.specs.CommandLine.{level_option};
 ghost use Rattle.crs_requests.specs.Requests.{request_of};
 ghost use Rattle.crs_command_line.specs.CommandLine.{rules_option, same_shape};
@@ -57,6 +57,10 @@ const FILES_HELP: &str = "Takes A and B as names of files; `-` is standard input
 // What help says of the option `--level`.
 const LEVEL_HELP: &str =
     "What counts: full, or definition, without identifiers, usages and remarks [default: full]";
+
+// What help says of the option `--first`.
+const ORDER_HELP: &str =
+    "Tells the parts first whose paths have these words, with commas between them: axis,datum";
 
 // What help says of the option `--rules`.
 const RULES_HELP: &str = "Compares under the rules of a file; given more than once, of all of them";
@@ -207,7 +211,8 @@ fn explain_command<'a>(alloc: Global) -> Result<Command<'a>, AllocError>
     let command = lone_command(alloc, "explain", EXPLAIN_ABOUT, EXPLAIN_STATUS)
         .arg(spare_word(alloc, "first", "A", SPARE_FIRST_HELP))?
         .arg(spare_word(alloc, "second", "B", SECOND_HELP))?
-        .arg(flag_argument(alloc, "json", JSON_HELP))?;
+        .arg(flag_argument(alloc, "json", JSON_HELP))?
+        .arg(first_argument(alloc))?;
     with_options(alloc, command)
 }
 
@@ -266,6 +271,17 @@ fn level_argument<'a>(alloc: Global) -> Arg<'a>
         .long("level")
         .value_name("LEVEL")
         .help(LEVEL_HELP)
+}
+
+fn first_argument<'a>(alloc: Global) -> Arg<'a>
+    ensures rule { rule_of result ≡ first_option }
+    ensures local { result.global ≡ false }
+{
+    Arg::new(alloc, "order")
+        .long("first")
+        .value_name("WORDS")
+        .action(ArgAction::Append)
+        .help(ORDER_HELP)
 }
 
 fn rules_argument<'a>(alloc: Global) -> Arg<'a>

@@ -111,7 +111,7 @@ fn put_words(out: &mut String, words: &[LineWord]) -> Result<(), AllocError> {
     Ok(())
 }
 
-// The command, the level in brackets, `json` where it is asked for, and the words.
+// The command, the level in brackets, `json` and what is told `first` where they are asked for, and the words.
 fn put_explain(
     out: &mut String,
     name: &str,
@@ -121,6 +121,10 @@ fn put_explain(
     put_command(out, name, &[&options.level])?;
     if options.json {
         out.push_str(" json")?;
+    }
+    if !options.first.as_slice().is_empty() {
+        out.push_str(" first")?;
+        put_words(out, options.first.as_slice())?;
     }
     for word in words {
         put_word(out, word)?;

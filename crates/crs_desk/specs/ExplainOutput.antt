@@ -7,8 +7,8 @@ use Rattle.crs_value.specs.declared.values.level.Level.{Level}
 use Rattle.crs_value.specs.SpellsText.{Refuses, SpellsKind}
 use Rattle.crs_same.specs.SameCrs.{SameCrs}
 use Rattle.crs_explain.specs.Explained.{IsExplained}
-use Rattle.crs_explain.specs.Differing.{IsDifferencesText}
-use Rattle.crs_explain.specs.Json.{AreDifferenceObjects, IsRefusalObject}
+use Rattle.crs_explain.specs.InOrder.{AreOrderedObjects, IsOrderedText}
+use Rattle.crs_explain.specs.Json.{IsRefusalObject}
 use Rattle.crs_runs.specs.Output.{IsLine, kind_word}
 use Rattle.crs_runs.specs.SameOutput.{IsPairOutput}
 use Rattle.crs_desk.specs.declared.manner.Manner.{Manner}
@@ -32,10 +32,12 @@ abbrev pub same_told : Manner → List ℕ
 same_told manner.Lines = codes "same"
 same_told manner.Objects = codes "{\"same\":true}"
 
--- the parts in which two CRSs differ at a level are told in a line each, or as an object each
-abbrev pub AreDifferencesTold : Manner → Level → Crs → Crs → List ℕ → Type 0
-AreDifferencesTold manner.Lines level a b written = IsDifferencesText level a b written
-AreDifferencesTold manner.Objects level a b written = AreDifferenceObjects level a b written
+-- the parts in which two CRSs differ at a level are told in the order of some words, in a line each,
+-- or as an object each
+abbrev pub AreDifferencesTold : Manner → List (List ℕ) → Level → Crs → Crs → List ℕ → Type 0
+AreDifferencesTold manner.Lines words level a b written = IsOrderedText words level a b written
+AreDifferencesTold manner.Objects words level a b written =
+    AreOrderedObjects words level a b written
 
 -- the kind of the CRS that a text spells is told, with status 0
 abbrev pub TellsKind : Manner → List ℕ → List ℕ → ℕ → Type 0
@@ -55,11 +57,13 @@ IsExplainOutput how text written status =
 
 -- it is told that two CRSs are the same, with status 0, or each part in which they differ, with
 -- status 1
-abbrev pub TellsWhetherSame : Manner → Level → Crs → Crs → List ℕ → ℕ → Type 0
-TellsWhetherSame how level a b written status =
+abbrev pub TellsWhetherSame : Manner → List (List ℕ) → Level → Crs → Crs → List ℕ → ℕ → Type 0
+TellsWhetherSame how words level a b written status =
     (SameCrs level a b × IsLine (same_told how) 0 written status)
-    ⊎ ((¬ SameCrs level a b) × AreDifferencesTold how level a b written × (status ≡ 1))
+    ⊎ ((¬ SameCrs level a b) × AreDifferencesTold how words level a b written × (status ≡ 1))
 
--- what `explain` writes for two texts, and its status
-abbrev pub IsExplainPairOutput : Manner → Level → List ℕ → List ℕ → List ℕ → ℕ → Type 0
-IsExplainPairOutput how level = IsPairOutput (TellsRefusalOf how) (TellsWhetherSame how level)
+-- what `explain` writes for two texts, with the parts in the order of some words, and its status
+abbrev pub IsExplainPairOutput : Manner → List (List ℕ) → Level → List ℕ → List ℕ → List ℕ → ℕ →
+    Type 0
+IsExplainPairOutput how words level =
+    IsPairOutput (TellsRefusalOf how) (TellsWhetherSame how words level)

@@ -96,15 +96,17 @@ marked how others lines = flat_map (marked_line how others) lines
 
 -- what `explain` writes for the forms of two texts: what it writes for them without rules, and then,
 -- with a mark, each line that it writes for the texts and whose path no line for the forms has
-abbrev pub IsExplainedUnder : Manner → Level → List ℕ → List ℕ → List ℕ → List ℕ → List ℕ → ℕ → Type 0
-IsExplainedUnder how level first second a b written status =
+abbrev pub IsExplainedUnder : Manner → List (List ℕ) → Level → List ℕ → List ℕ → List ℕ → List ℕ →
+    List ℕ → ℕ → Type 0
+IsExplainedUnder how words level first second a b written status =
     (under : List ℕ) × (plain : List ℕ) × (other : ℕ)
-    × IsExplainPairOutput how level a b under status
-    × IsExplainPairOutput how level first second plain other
+    × IsExplainPairOutput how words level a b under status
+    × IsExplainPairOutput how words level first second plain other
     × (written ≡ under ++ marked how (lines_in under) (lines_in plain))
 
 -- what `explain` writes for two texts under rules
-abbrev pub IsExplainUnderOutput : Manner → RulesParts → Level → List ℕ → List ℕ → List ℕ → ℕ →
-    Type 0
-IsExplainUnderOutput how rules level first second =
-    IsPairUnder rules level (TellsRefusalOf how) (IsExplainedUnder how level first second) first second
+abbrev pub IsExplainUnderOutput : Manner → List (List ℕ) → RulesParts → Level → List ℕ → List ℕ →
+    List ℕ → ℕ → Type 0
+IsExplainUnderOutput how words rules level first second =
+    IsPairUnder rules level (TellsRefusalOf how) (IsExplainedUnder how words level first second)
+    first second

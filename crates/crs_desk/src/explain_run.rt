@@ -8,7 +8,9 @@ ghost use Rattle.crs_desk.specs.declared.manner.Manner.TheVariants as manner;
 ghost use Rattle.crs_streams.specs.Streams.{fresh_sink, fresh_source};
 
 use crate::{Level, Manner, RunFault, Sink, Source};
-use crs_explain::{difference_objects, differences_text, refusal_object, refusal_text};
+use crs_explain::{
+    StepWord, difference_objects, ordered_differences_text, refusal_object, refusal_text,
+};
 use crs_runs::{
     Answer, Telling, accepted_line, kind_word, pair_output, read_text, refusal_in, write_answer,
 };
@@ -63,24 +65,26 @@ pub fn run_explain_text<W: Write>(
 
 /// Writes whether two texts spell the same CRS at a level: `same`, with status 0; or, with status 1, a line for each
 /// part in which they differ, with both values, or `first` or `second` and the refusal of the first text that spells no
-/// CRS, explained; as objects of JSON `{"same":true}`, or an object for each part, or the refusal in one. `WriteFailed`
+/// CRS, explained; as objects of JSON `{"same":true}`, or an object for each part, or the refusal in one. First come the
+/// parts whose path has the first of some words, then those with the next, and so on, then the others. `WriteFailed`
 /// where the sink has failed, `Memory` where memory ran out, and then nothing was written. Profile.
 pub fn run_explain_pair<W: Write>(
     alloc: Global,
     how: Manner,
+    words: &[StepWord],
     level: Level,
     a: &[u8],
     b: &[u8],
     w: &mut Sink<W>,
 ) -> Result<u8, RunFault>
     requires { w.old ≡ fresh_sink w.old.contents }
-    ensures answered { IfOk result (IsWritten (IsExplainPairOutput how level a.now b.now) w.old w.new) }
+    ensures answered { IfOk result (IsWritten (IsExplainPairOutput how words.now level a.now b.now) w.old w.new) }
     ensures fault { IfErr result (IsWriteFault w.old w.new) }
     ensures write_failed { IsErrOf result RunFault.WriteFailed ↔ (w.new.failed ≡ true) }
     ensures past_failure { w.new.past_failure ≡ false }
 {
     let answer = PairAnswer {
-        how,
+        told: Told { how, words },
         level,
         first: a,
         second: b,
@@ -193,7 +197,7 @@ fn refusal_lines(
 // What two texts are, at this level.
 #[derive(Drop)]
 struct PairAnswer<'t> {
-    how: Manner,
+    told: Told<'t>,
     level: Level,
     first: &'t [u8],
     second: &'t [u8],
@@ -203,20 +207,26 @@ impl Answer for PairAnswer<'_> {
     ghost use Rattle.crs_desk.specs.ExplainOutput.{IsExplainPairOutput};
 
     ghost Output = { λ s written status.
-        IsExplainPairOutput s.how s.level s.first.now s.second.now written status };
+        IsExplainPairOutput s.told.how s.told.words.now s.level s.first.now s.second.now written status };
 
     fn output(&self, alloc: Global) -> Result<(Vec<u8>, u8), AllocError> {
-        pair_output(alloc, &self.how, self.level, self.first, self.second)
+        pair_output(alloc, &self.told, self.level, self.first, self.second)
     }
 }
 
-// Explains a refusal, and of two CRSs all parts that differ.
-impl Telling for Manner {
+// Explains a refusal, and of two CRSs all parts that differ, in the order of words.
+#[derive(Drop)]
+pub(crate) struct Told<'t> {
+    pub(crate) how: Manner,
+    pub(crate) words: &'t [StepWord],
+}
+
+impl Telling for Told<'_> {
     ghost use Rattle.crs_desk.specs.ExplainOutput.{TellsRefusalOf, TellsWhetherSame};
 
-    ghost Refused = { λ s which text written status. TellsRefusalOf s which text written status };
+    ghost Refused = { λ s which text written status. TellsRefusalOf s.how which text written status };
 
-    ghost Compared = { λ s level a b written status. TellsWhetherSame s level a b written status };
+    ghost Compared = { λ s level a b written status. TellsWhetherSame s.how s.words.now level a b written status };
 
     fn refusal(
         &self,
@@ -225,7 +235,7 @@ impl Telling for Manner {
         text: &[u8],
         refusal: Refusal,
     ) -> Result<Vec<u8>, AllocError> {
-        explained(alloc, *self, which, text, refusal)
+        explained(alloc, self.how, which, text, refusal)
     }
 
     fn comparison<'t>(
@@ -235,24 +245,25 @@ impl Telling for Manner {
         a: &Crs<'t>,
         b: &Crs<'t>,
     ) -> Result<(Vec<u8>, u8), AllocError> {
-        differences_output(alloc, *self, level, a, b)
+        differences_output(alloc, self.how, self.words, level, a, b)
     }
 }
 
 fn differences_output<'t>(
     alloc: Global,
     how: Manner,
+    words: &[StepWord],
     level: Level,
     a: &Crs<'t>,
     b: &Crs<'t>,
 ) -> Result<(Vec<u8>, u8), AllocError>
-    ensures { IfOk result (λ output. TellsWhetherSame how level a.now b.now output.0.items output.1) }
+    ensures { IfOk result (λ output. TellsWhetherSame how words.now level a.now b.now output.0.items output.1) }
 {
     if same(a, b, level) {
         let line = same_line(alloc, how)?;
         return Ok((line, 0));
     }
-    let parts = differences_told(alloc, how, level, a, b)?;
+    let parts = differences_told(alloc, how, words, level, a, b)?;
     Ok((parts, 1))
 }
 
@@ -268,14 +279,15 @@ fn same_line(alloc: Global, how: Manner) -> Result<Vec<u8>, AllocError>
 fn differences_told<'t>(
     alloc: Global,
     how: Manner,
+    words: &[StepWord],
     level: Level,
     a: &Crs<'t>,
     b: &Crs<'t>,
 ) -> Result<Vec<u8>, AllocError>
-    ensures { IfOk result (λ told. AreDifferencesTold how level a.now b.now told.items) }
+    ensures { IfOk result (λ told. AreDifferencesTold how words.now level a.now b.now told.items) }
 {
     match how {
-        Manner::Lines => differences_text(alloc, a, b, level),
-        Manner::Objects => difference_objects(alloc, a, b, level),
+        Manner::Lines => ordered_differences_text(alloc, words, a, b, level),
+        Manner::Objects => difference_objects(alloc, words, a, b, level),
     }
 }

@@ -4,6 +4,7 @@
 pub use crs_command_line::{
     ExplainOptions, GroupFlags, LineWord, LineWords, Request, RequestFault, Task, request,
 };
+pub use crs_explain::StepWord;
 pub use crs_group::{Listing, PLAIN, Summary, run_group, run_group_listing, run_group_under};
 pub use crs_rules::Rules;
 pub use crs_rules_file::{RulesFault, RulesReader, RulesRefusal};

@@ -4,9 +4,11 @@ ghost use Rattle.crs_runs.specs.Ending.{IsWritten, IsWriteFault};
 ghost use Rattle.crs_desk.specs.RulesOutput.{IsExplainUnderOutput, IsExplainedUnder, IsSameUnderOutput};
 ghost use Rattle.crs_streams.specs.Streams.{fresh_sink};
 
+use crate::explain_run::Told;
 use crate::forms::forms_of;
 use crate::marking::append_marked;
 use crate::{Level, Manner, RunFault, Sink};
+use crs_explain::StepWord;
 use crs_rules::Rules;
 use crs_runs::{Answer, InALine, pair_output, write_answer};
 use std::alloc::{AllocError, Global};
@@ -45,6 +47,7 @@ pub fn run_same_under<W: Write>(
 pub fn run_explain_pair_under<W: Write>(
     alloc: Global,
     how: Manner,
+    words: &[StepWord],
     level: Level,
     rules: &Rules,
     a: &[u8],
@@ -52,13 +55,13 @@ pub fn run_explain_pair_under<W: Write>(
     w: &mut Sink<W>,
 ) -> Result<u8, RunFault>
     requires { w.old ≡ fresh_sink w.old.contents }
-    ensures answered { IfOk result (IsWritten (IsExplainUnderOutput how rules.now level a.now b.now) w.old w.new) }
+    ensures answered { IfOk result (IsWritten (IsExplainUnderOutput how words.now rules.now level a.now b.now) w.old w.new) }
     ensures fault { IfErr result (IsWriteFault w.old w.new) }
     ensures write_failed { IsErrOf result RunFault.WriteFailed ↔ (w.new.failed ≡ true) }
     ensures past_failure { w.new.past_failure ≡ false }
 {
     let answer = ExplainedForms {
-        how,
+        told: Told { how, words },
         level,
         rules,
         first: a,
@@ -101,7 +104,7 @@ impl Answer for SameForms<'_> {
 // Where two texts differ under rules, and where they don't, at this level.
 #[derive(Drop)]
 struct ExplainedForms<'t> {
-    how: Manner,
+    told: Told<'t>,
     level: Level,
     rules: &'t Rules,
     first: &'t [u8],
@@ -112,12 +115,12 @@ impl Answer for ExplainedForms<'_> {
     ghost use Rattle.crs_desk.specs.RulesOutput.{IsExplainUnderOutput};
 
     ghost Output = { λ s written status.
-        IsExplainUnderOutput s.how s.rules.now s.level s.first.now s.second.now written status };
+        IsExplainUnderOutput s.told.how s.told.words.now s.rules.now s.level s.first.now s.second.now written status };
 
     fn output(&self, alloc: Global) -> Result<(Vec<u8>, u8), AllocError> {
         let found = forms_of(
             alloc,
-            &self.how,
+            &self.told,
             self.level,
             self.rules,
             self.first,
@@ -126,7 +129,7 @@ impl Answer for ExplainedForms<'_> {
         match found {
             Ok((a, b)) => explained(
                 alloc,
-                self.how,
+                &self.told,
                 self.level,
                 self.first,
                 self.second,
@@ -141,19 +144,19 @@ impl Answer for ExplainedForms<'_> {
 // The explanation of two texts, by their forms.
 fn explained(
     alloc: Global,
-    how: Manner,
+    told: &Told<'_>,
     level: Level,
     first: &[u8],
     second: &[u8],
     a: &[u8],
     b: &[u8],
 ) -> Result<(Vec<u8>, u8), AllocError>
-    ensures { IfOk result (λ output. IsExplainedUnder how level first.now second.now a.now b.now
+    ensures { IfOk result (λ output. IsExplainedUnder told.now.how told.now.words.now level first.now second.now a.now b.now
         output.0.items output.1) }
 {
-    let (under, status) = pair_output(alloc, &how, level, a, b)?;
-    let (plain, _status) = pair_output(alloc, &how, level, first, second)?;
+    let (under, status) = pair_output(alloc, told, level, a, b)?;
+    let (plain, _status) = pair_output(alloc, told, level, first, second)?;
     let mut lines = Vec::from_slice(alloc, &under)?;
-    append_marked(&mut lines, how, &under, &plain)?;
+    append_marked(&mut lines, told.how, &under, &plain)?;
     Ok((lines, status))
 }

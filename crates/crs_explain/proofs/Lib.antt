@@ -5,3 +5,4 @@ pub mod PieceLemmas
 pub mod ListedLemmas
 pub mod PartLemmas
 pub mod DifferingLemmas
+pub mod OrderLemmas

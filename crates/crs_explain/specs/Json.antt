@@ -1,12 +1,9 @@
 -- Refusals and parts that differ in JSON (RFC 8259), each object in a line.
 use Rattle.std.specs.Prelude.{◌≡◌, ◌++◌, ◌∷◌, [], ℕ, List, Option, Some, None, codes, decimal}
-use Rattle.std.specs.List.{flat_map}
-use Rattle.crs_value.specs.declared.values.crs.Crs.{Crs}
-use Rattle.crs_value.specs.declared.values.level.Level.{Level}
 use Rattle.crs_text.specs.Refusal.{RefusedAt, name_of}
 use Rattle.crs_text.specs.declared.position.Position.{Position}
 use Rattle.crs_streams.specs.Json.{json_array, json_text, key, number_member, text_member, value_member}
-use Rattle.crs_explain.specs.Differing.{AreDifferenceTexts, PartTexts}
+use Rattle.crs_explain.specs.Differing.{PartTexts}
 use Rattle.crs_explain.specs.Expectation.{Expectation}
 use Rattle.crs_explain.specs.Explained.{Explanation, Explains, Sentences}
 use Rattle.crs_explain.specs.Found.{word_of}
@@ -55,8 +52,3 @@ abbrev pub difference_object : PartTexts → List ℕ
 difference_object part =
     codes "{\"path\":" ++ json_text part.path ++ value_member (codes "first") part.first
     ++ value_member (codes "second") part.second ++ codes "}\n"
-
--- the objects of all parts in which two CRSs differ at a level, in order
-abbrev pub AreDifferenceObjects : Level → Crs → Crs → List ℕ → Type 0
-AreDifferenceObjects level a b text =
-    (parts : List PartTexts) × AreDifferenceTexts level a b parts × (text ≡ flat_map difference_object parts)

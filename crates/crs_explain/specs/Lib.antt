@@ -9,6 +9,7 @@ pub mod ExpectedWords
 pub mod Explained
 pub mod Excerpt
 pub mod Found
+pub mod InOrder
 pub mod Json
 pub mod Lines
 pub mod Meant

@@ -2,7 +2,9 @@
 ghost use Rattle.std.specs.Prelude.{◌≡◌, ◌++◌, List, IfOk, OnOk};
 ghost use Rattle.crs_canon.specs.ContentText.{IsContentText};
 ghost use Rattle.crs_explain.specs.Differing.{AreDifferenceTexts, AreTexts, AreTextsOf, PartTexts};
+ghost use Rattle.crs_explain.specs.InOrder.{AreOrderedTexts};
 
+use crate::order::{StepWord, put_in_order};
 use crs_canon::write_content;
 use crs_same::{Content, Difference, differences};
 use crs_value::{Crs, Level};
@@ -37,6 +39,21 @@ pub(crate) fn difference_texts<'a>(
 {
     let differences = differences(alloc, a, b, level)?;
     texts_of(alloc, level, differences.as_slice())
+}
+
+/// The same, in the order of some words.
+pub(crate) fn ordered_texts<'a>(
+    alloc: Global,
+    words: &[StepWord],
+    a: &Crs<'a>,
+    b: &Crs<'a>,
+    level: Level,
+) -> Result<Vec<DifferenceTexts>, AllocError>
+    ensures { IfOk result (λ texts. AreOrderedTexts words.now level a.now b.now texts.items) }
+{
+    let mut texts = difference_texts(alloc, a, b, level)?;
+    put_in_order(words, &mut texts)?;
+    Ok(texts)
 }
 
 fn texts_of(

@@ -2,8 +2,10 @@
 ghost use Rattle.std.specs.Prelude.{◌≡◌, ◌++◌, IfOk, OnOk};
 ghost use Rattle.std.specs.List.{flat_map};
 ghost use Rattle.crs_explain.specs.Differing.{AreDifferencePieces, IsDifferencesText, difference_line, part_pieces, shown};
+ghost use Rattle.crs_explain.specs.InOrder.{IsOrderedText};
 
-use crate::difference_texts::{DifferenceTexts, difference_texts};
+use crate::difference_texts::{DifferenceTexts, difference_texts, ordered_texts};
+use crate::order::StepWord;
 use crate::pieces::Pieces;
 use crs_streams::append_escaped;
 use crs_value::{Crs, Level};
@@ -30,8 +32,27 @@ pub fn differences_text<'a>(
     Ok(lines)
 }
 
-/// The same as data: three texts for each part in which two CRSs differ, its path, and the values of the first CRS and
-/// of the second, with nothing escaped and no bytes where there is no value. Profile.
+/// The same lines in the order of some words: first those whose path has the first word, then those whose path has the
+/// next, and so on, then the others; those of one word in the order of the canonical text. Profile.
+///
+/// `AllocError`: there is no memory for it.
+pub fn ordered_differences_text<'a>(
+    alloc: Global,
+    words: &[StepWord],
+    a: &Crs<'a>,
+    b: &Crs<'a>,
+    level: Level,
+) -> Result<Vec<u8>, AllocError>
+    ensures { IfOk result (λ text. IsOrderedText words.now level a.now b.now text.items) }
+{
+    let differences = ordered_texts(alloc, words, a, b, level)?;
+    let mut lines = Vec::new(alloc);
+    append_lines(&differences, &mut lines)?;
+    Ok(lines)
+}
+
+/// As data: three texts for each part in which two CRSs differ at a level, in the order of the canonical text, its path,
+/// and the values of the first CRS and of the second, with nothing escaped and no bytes where there is no value. Profile.
 ///
 /// `AllocError`: there is no memory for it.
 pub fn difference_pieces<'a>(

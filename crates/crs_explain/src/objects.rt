@@ -2,14 +2,16 @@
 ghost use Rattle.std.specs.Prelude.{◌≡◌, ◌++◌, ◌≤◌, IfOk, OnOk, Some, codes, decimal, length};
 ghost use Rattle.std.specs.List.{flat_map};
 ghost use Rattle.crs_text.specs.Refusal.{name_of};
-ghost use Rattle.crs_explain.specs.Json.{AreDifferenceObjects, IsRefusalObject, difference_object, expected_members};
+ghost use Rattle.crs_explain.specs.InOrder.{AreOrderedObjects};
+ghost use Rattle.crs_explain.specs.Json.{IsRefusalObject, difference_object, expected_members};
 ghost use Rattle.crs_explain.specs.Json.{place_members, refusal_object, sentence_members, which_member};
 ghost use Rattle.crs_streams.specs.Json.{text_member, value_member};
 
-use crate::difference_texts::{DifferenceTexts, difference_texts};
+use crate::difference_texts::{DifferenceTexts, ordered_texts};
 use crate::expected_texts::ExpectedTexts;
 use crate::explanation::{ExplanationOf, explanation};
 use crate::names::append_array;
+use crate::order::StepWord;
 use crate::place::word_at;
 use crate::sentences::SentenceTexts;
 use crs_streams::json::{
@@ -40,20 +42,22 @@ pub fn refusal_object(
     Ok(object)
 }
 
-/// An object of JSON and a line feed for each part in which two CRSs differ at a level, in the order of the canonical
-/// text; none exactly where they are the same: its path, and the values of the first and of the second, `null` for what
-/// has none. Profile.
+/// An object of JSON and a line feed for each part in which two CRSs differ at a level; none exactly where they are the
+/// same: its path, and the values of the first and of the second, `null` for what has none. First come those whose path
+/// has the first of some words, then those whose path has the next, and so on, then the others; those of one word are in
+/// the order of the canonical text. Profile.
 ///
 /// `AllocError`: there is no memory for it.
 pub fn difference_objects<'a>(
     alloc: Global,
+    words: &[StepWord],
     a: &Crs<'a>,
     b: &Crs<'a>,
     level: Level,
 ) -> Result<Vec<u8>, AllocError>
-    ensures { IfOk result (λ text. AreDifferenceObjects level a.now b.now text.items) }
+    ensures { IfOk result (λ text. AreOrderedObjects words.now level a.now b.now text.items) }
 {
-    let differences = difference_texts(alloc, a, b, level)?;
+    let differences = ordered_texts(alloc, words, a, b, level)?;
     let mut objects = Vec::new(alloc);
     append_differences(&differences, &mut objects)?;
     Ok(objects)

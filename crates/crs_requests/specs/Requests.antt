@@ -85,11 +85,15 @@ same_of rows =
 
 -- the options of `explain` among its matches
 abbrev pub options_of : List Row → ExplainOptions
-options_of rows = record { level = level_of rows; json = has_flag (codes "json") rows }
+options_of rows = record {
+  level = level_of rows;
+  json = has_flag (codes "json") rows;
+  first = words_of (codes "order") rows;
+}
 
 -- those where a level alone is named
 abbrev pub plainly : Text → ExplainOptions
-plainly level = record { level = level; json = false }
+plainly level = record { level = level; json = false; first = [] }
 
 -- two operands are explained where both are there, the first alone, or the text on standard input;
 -- they are files, or else texts

@@ -164,9 +164,11 @@ fn explain_options(alloc: Global, operands: &ArgMatches) -> Result<ExplainOption
     ensures { IfOk result (λ options. options ≡ options_of (rows_of (found_of operands.now))) }
 {
     let level = level_word(alloc, operands)?;
+    let first = words_named(alloc, operands, "order")?;
     Ok(ExplainOptions {
         level,
         json: flag_asked(operands, "json"),
+        first,
     })
 }
 

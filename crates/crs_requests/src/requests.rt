@@ -26,11 +26,17 @@ pub struct ExplainOptions {
     pub level: LineWord,
     /// Whether it is to write JSON.
     pub json: bool,
+    /// The words after each `--first`, whatever words they are. They have a bearing on two texts alone.
+    pub first: LineWords,
 }
 
 impl Drop for ExplainOptions {
     fn drop(self) {
-        let ExplainOptions { level: _, json: _ } = self;
+        let ExplainOptions {
+            level: _,
+            json: _,
+            first: _,
+        } = self;
     }
 }
 

@@ -13,6 +13,9 @@ pub enum Fault {
     /// The word after `--level` names no level.
     #[error("no such level")]
     Level,
+    /// A word after `--first` is in no path.
+    #[error("no such part")]
+    Part,
     /// A read of standard input failed, for this reason.
     #[error("read failed")]
     Read(io::Error),

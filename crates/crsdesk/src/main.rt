@@ -4,6 +4,7 @@
 
 mod fault;
 mod input;
+mod order;
 mod output;
 mod runs;
 mod telling;
@@ -14,6 +15,7 @@ use crs_desk::{
     RequestFault, RunFault, Task, request,
 };
 use fault::Fault;
+use order::{WORDS, order_of};
 use runs::{
     canon, canon_lines, check, check_lines, explain, explain_files, explain_pair, explain_text,
     files, group, same, same_files,
@@ -80,17 +82,14 @@ fn answer(rt: &HostRuntime, wanted: &Request) -> Result<u8, Fault> {
         Request::CanonLines(level) => canon_lines(rt, level_of(level)?),
         Request::CheckLines => check_lines(rt),
         Request::Explain(options) => {
-            level_of(&options.level)?;
+            judge(rt, options)?;
             explain(rt, manner_of(options))
         }
         Request::ExplainText(text, options) => {
-            level_of(&options.level)?;
+            judge(rt, options)?;
             explain_text(rt, manner_of(options), text)
         }
-        Request::ExplainPair(first, second, options) => {
-            let level = level_of(&options.level)?;
-            explain_pair(rt, manner_of(options), level, first, second)
-        }
+        Request::ExplainPair(first, second, options) => explain_pair(rt, options, first, second),
         Request::Files(task, names) => answer_files(rt, task, names.as_slice()),
         Request::FilesUnder(task, names, rules) => {
             files_under(rt, task, names.as_slice(), rules.as_slice())
@@ -113,15 +112,19 @@ fn answer_files(rt: &HostRuntime, task: &Task, names: &[LineWord]) -> Result<u8,
         Task::CanonLines(level) => files(rt, FileTask::CanonLines(level_of(level)?), names),
         Task::CheckLines => files(rt, FileTask::CheckLines, names),
         Task::Explain(options) => {
-            level_of(&options.level)?;
+            judge(rt, options)?;
             files(rt, FileTask::Explain(manner_of(options)), names)
         }
         Task::Same(level) => same_files(rt, level_of(level)?, names),
-        Task::ExplainPair(options) => {
-            let level = level_of(&options.level)?;
-            explain_files(rt, manner_of(options), level, names)
-        }
+        Task::ExplainPair(options) => explain_files(rt, options, names),
     }
+}
+
+// Judges the words that have no bearing on one text.
+pub(crate) fn judge(rt: &HostRuntime, options: &ExplainOptions) -> Result<(), Fault> {
+    level_of(&options.level)?;
+    order_of(rt.alloc(), options)?;
+    Ok(())
 }
 
 pub(crate) fn listing_of(flags: &GroupFlags) -> Listing {
@@ -156,6 +159,9 @@ fn report(rt: &HostRuntime, fault: &Fault) -> u8 {
     let _ = eprintln!(rt; "crsdesk: {fault}");
     match fault {
         Fault::Word => tell_bad_words(rt),
+        Fault::Part => {
+            let _ = eprintln!(rt; "crsdesk: --first takes words of paths: {WORDS}");
+        }
         Fault::Read(error) => {
             let _ = eprintln!(rt; "crsdesk: standard input: {error}");
         }

@@ -1,12 +1,14 @@
 //! The runs of the commands, over standard input and output, and over files.
 use crate::fault::Fault;
 use crate::input::{Input, Opener, tell_fault};
+use crate::order::order_of;
 use crate::output::Output;
 use crate::telling::tell_of;
+use crate::{judge, level_of, manner_of};
 use crs_desk::{
-    FileTask, Filling, Level, LineWord, Listing, Manner, RunFault, Sink, Source, Stream, read_text,
-    run_canon, run_canon_lines, run_check, run_check_lines, run_explain, run_explain_pair,
-    run_explain_text, run_files, run_group_listing, run_same,
+    ExplainOptions, FileTask, Filling, Level, LineWord, Listing, Manner, RunFault, Sink, Source,
+    Stream, read_text, run_canon, run_canon_lines, run_check, run_check_lines, run_explain,
+    run_explain_pair, run_explain_text, run_files, run_group_listing, run_same,
 };
 use std::path::Path;
 
@@ -137,34 +139,43 @@ pub fn explain_text(rt: &HostRuntime, how: Manner, word: &LineWord) -> Result<u8
 /// All parts in which two texts differ.
 pub fn explain_pair(
     rt: &HostRuntime,
-    how: Manner,
-    level: Level,
+    options: &ExplainOptions,
     first: &LineWord,
     second: &LineWord,
 ) -> Result<u8, Fault> {
-    explain_texts(rt, how, level, text_of(rt, first), text_of(rt, second))
+    judge(rt, options)?;
+    explain_texts(rt, options, text_of(rt, first), text_of(rt, second))
 }
 
 /// All parts in which the texts of two files differ.
 pub fn explain_files(
     rt: &HostRuntime,
-    how: Manner,
-    level: Level,
+    options: &ExplainOptions,
     names: &[LineWord],
 ) -> Result<u8, Fault> {
+    judge(rt, options)?;
     let (first, second) = two_texts(rt, names)?;
-    explain_texts(rt, how, level, &first, &second)
+    explain_texts(rt, options, &first, &second)
 }
 
 fn explain_texts(
     rt: &HostRuntime,
-    how: Manner,
-    level: Level,
+    options: &ExplainOptions,
     a: &[u8],
     b: &[u8],
 ) -> Result<u8, Fault> {
+    let level = level_of(&options.level)?;
+    let order = order_of(rt.alloc(), options)?;
     let mut output = Output::new(rt);
-    let answer = run_explain_pair(rt.alloc(), how, level, a, b, &mut Sink::new(&mut output));
+    let answer = run_explain_pair(
+        rt.alloc(),
+        manner_of(options),
+        &order,
+        level,
+        a,
+        b,
+        &mut Sink::new(&mut output),
+    );
     written(answer, &output)
 }
 

@@ -1,12 +1,13 @@
 //! The commands under rules, of which the files are read first.
 use crate::fault::Fault;
+use crate::order::order_of;
 use crate::output::Output;
 use crate::runs::{explain_text, file_text, files, text_of, two_texts, written};
 use crate::telling::tell_refused;
-use crate::{level_of, listing_of, manner_of};
+use crate::{judge, level_of, listing_of, manner_of};
 use crs_desk::{
-    FileTask, Level, LineWord, Manner, PLAIN, Rules, RulesFault, RulesReader, RunFault, Sink, Task,
-    run_explain_pair_under, run_same_under,
+    ExplainOptions, FileTask, Level, LineWord, PLAIN, Rules, RulesFault, RulesReader, RunFault,
+    Sink, Task, run_explain_pair_under, run_same_under,
 };
 
 /// What is asked of files under the rules of others. The level is judged before anything is read.
@@ -16,7 +17,7 @@ pub fn files_under(
     names: &[LineWord],
     rules: &[LineWord],
 ) -> Result<u8, Fault> {
-    let level = task_level(task)?;
+    let level = judged_level(rt, task)?;
     let rules = rules_of(rt, rules)?;
     match task {
         Task::Canon(_) => files(rt, FileTask::Form(level, &rules), names),
@@ -35,7 +36,7 @@ pub fn files_under(
         }
         Task::ExplainPair(options) => {
             let (first, second) = two_texts(rt, names)?;
-            explain_texts(rt, manner_of(options), level, &rules, &first, &second)
+            explain_texts(rt, options, level, &rules, &first, &second)
         }
     }
 }
@@ -47,15 +48,13 @@ pub fn texts_under(
     texts: &[LineWord],
     rules: &[LineWord],
 ) -> Result<u8, Fault> {
-    let level = task_level(task)?;
+    let level = judged_level(rt, task)?;
     let rules = rules_of(rt, rules)?;
     match (texts.first(), texts.get(1)) {
         (Some(first), Some(second)) => {
             let (a, b) = (text_of(rt, first), text_of(rt, second));
             match task {
-                Task::ExplainPair(options) => {
-                    explain_texts(rt, manner_of(options), level, &rules, a, b)
-                }
+                Task::ExplainPair(options) => explain_texts(rt, options, level, &rules, a, b),
                 _ => same_texts(rt, level, &rules, a, b),
             }
         }
@@ -65,6 +64,14 @@ pub fn texts_under(
         },
         _ => Err(Fault::Told),
     }
+}
+
+// The level of a task, of which the words are judged.
+fn judged_level(rt: &HostRuntime, task: &Task) -> Result<Level, Fault> {
+    if let Task::Explain(options) | Task::ExplainPair(options) = task {
+        judge(rt, options)?;
+    }
+    task_level(task)
 }
 
 fn task_level(task: &Task) -> Result<Level, Fault> {
@@ -111,16 +118,18 @@ fn same_texts(
 
 fn explain_texts(
     rt: &HostRuntime,
-    how: Manner,
+    options: &ExplainOptions,
     level: Level,
     rules: &Rules,
     a: &[u8],
     b: &[u8],
 ) -> Result<u8, Fault> {
+    let order = order_of(rt.alloc(), options)?;
     let mut output = Output::new(rt);
     let answer = run_explain_pair_under(
         rt.alloc(),
-        how,
+        manner_of(options),
+        &order,
         level,
         rules,
         a,

@@ -57,7 +57,7 @@ impl Trial for Run<'_> {
                 run_explain(alloc, how, &mut Source::new(text), &mut sink)
             }
             Command::ExplainPair(how, a, b) => {
-                run_explain_pair(alloc, how, Level::Full, a, b, &mut sink)
+                run_explain_pair(alloc, how, &[], Level::Full, a, b, &mut sink)
             }
             Command::Same(a, b) => run_same(alloc, Level::Full, a, b, &mut sink),
         };

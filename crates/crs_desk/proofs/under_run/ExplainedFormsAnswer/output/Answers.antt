@@ -10,8 +10,8 @@ returns-in-Ok c =
     let self = c.args.self.now in
     let found : c.in_ok-found.found ≡ Ok (c.in-Ok.a, c.in-Ok.b) = search rules in
     IfOk-weaker c.explained.result _ _
-    (λ output. pair-formed self.rules.now self.level (TellsRefusalOf self.how)
-    (IsExplainedUnder self.how self.level self.first.now self.second.now) self.first.now self.second.now
+    (λ output. pair-formed self.rules.now self.level (TellsRefusalOf self.told.how)
+    (IsExplainedUnder self.told.how self.told.words.now self.level self.first.now self.second.now) self.first.now self.second.now
     c.in-Ok.a c.in-Ok.b c.bytes.result.now c.bytes-in-Ok.result.now output.0.items output.1 (formed-found c.in_ok-found.found _ _ (c.in-Ok.a, c.in-Ok.b) found c.in_ok-found.ensures) c.bytes.ensures
     c.bytes-in-Ok.ensures)
     c.explained.ensures
