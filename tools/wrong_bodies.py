@@ -270,7 +270,7 @@ class Trial:
         changed = {it for _, functions in batch for it in functions}
         is_lone = len(batch) == 1 and (batch[0][0].named or batch[0][0].is_of_definitions())
         for name, words in told.items():
-            if words != "proved" and not RESTS.search(words) and name not in changed and not is_lone:
+            if not words.startswith("proved") and not RESTS.search(words) and name not in changed and not is_lone:
                 self.faults.append(f"{self.crate.name}: no body changed {name}, and it isn't proved: {words}")
         settled = 0
         goals = goals_by_function(self.crate.name, said)
@@ -310,7 +310,7 @@ class Trial:
         """Why a function isn't proved, and whether only since answers name what a body took away; None where it is proved,
         or where what it calls isn't."""
         words = told.get(name, "proved")
-        if words == "proved" or RESTS.search(words) or not words.startswith(("not proved", "no proof")):
+        if RESTS.search(words) or not words.startswith(("not proved", "no proof")):
             return None
         if goals.get(name):
             return f"{name}: {goals[name][0]}", False
