@@ -1,29 +1,11 @@
 -- What is expected at a word that isn't known: the type of a coordinate system or the direction of an axis.
-use Rattle.std.specs.Prelude.{◌∷◌, [], ℕ, List, map, drop, if◌then◌else◌}
+use Rattle.std.specs.Prelude.{ℕ, List, map, drop, if◌then◌else◌}
 use Rattle.crs_text.specs.Items.{Item, raw_of, place_of}
 use Rattle.crs_text.specs.declared.keyword.Keyword.TheVariants as keyword
-use Rattle.crs_shape.specs.declared.direction.Direction.{Direction}
-use Rattle.crs_shape.specs.declared.direction.Direction.TheVariants as direction
-use Rattle.crs_shape.specs.declared.system_type.SystemType.{SystemType}
-use Rattle.crs_shape.specs.declared.system_type.SystemType.TheVariants as types
-use Rattle.crs_shape.specs.Words.{direction_word, system_word}
+use Rattle.crs_shape.specs.Words.{direction_word, every_direction, every_type, system_word}
 use Rattle.crs_explain.specs.Around.{is_called, part_around}
 use Rattle.crs_explain.specs.Expectation.{Expectation}
 use Rattle.crs_explain.specs.Found.{named_by, word_of, word_shown}
-
--- the types of coordinate systems
-unfoldable pub every_type : List SystemType
-every_type = types.Cartesian ∷ types.Ellipsoidal ∷ types.Spherical ∷ types.Vertical ∷ []
-
--- the directions of axes
-unfoldable pub every_direction : List Direction
-every_direction =
-    direction.North ∷ direction.NorthNorthEast ∷ direction.NorthEast ∷ direction.EastNorthEast
-    ∷ direction.East ∷ direction.EastSouthEast ∷ direction.SouthEast ∷ direction.SouthSouthEast
-    ∷ direction.South ∷ direction.SouthSouthWest ∷ direction.SouthWest ∷ direction.WestSouthWest
-    ∷ direction.West ∷ direction.WestNorthWest ∷ direction.NorthWest ∷ direction.NorthNorthWest
-    ∷ direction.GeocentricX ∷ direction.GeocentricY ∷ direction.GeocentricZ ∷ direction.Up
-    ∷ direction.Down ∷ direction.Unspecified ∷ []
 
 -- in the `CS` around the place the word is found, and those of all types are expected; in an `AXIS` those
 -- of all directions

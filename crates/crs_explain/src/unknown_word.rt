@@ -1,7 +1,7 @@
 //! A word that is no type of a coordinate system, or no direction of an axis.
 ghost use Rattle.std.specs.Prelude.{◌≡◌, ◌++◌, IfOk, OnOk, if◌then◌else◌, map};
-ghost use Rattle.crs_shape.specs.Words.{direction_word, system_word};
-ghost use Rattle.crs_explain.specs.ExpectedWords.{every_direction, every_type, word_expectation};
+ghost use Rattle.crs_shape.specs.Words.{direction_word, every_direction, every_type, system_word};
+ghost use Rattle.crs_explain.specs.ExpectedWords.{word_expectation};
 
 use crate::around::{is_called, part_around};
 use crate::expected_texts::{ExpectedTexts, texts_of};
@@ -11,38 +11,6 @@ use crate::place::{append_shown, rest_of, word_at};
 use crs_shape::{Direction, SystemType};
 use crs_text::{Items, Keyword};
 use std::alloc::{AllocError, Global};
-
-const TYPES: [SystemType; 4] = [
-    SystemType::Cartesian,
-    SystemType::Ellipsoidal,
-    SystemType::Spherical,
-    SystemType::Vertical,
-];
-
-const DIRECTIONS: [Direction; 22] = [
-    Direction::North,
-    Direction::NorthNorthEast,
-    Direction::NorthEast,
-    Direction::EastNorthEast,
-    Direction::East,
-    Direction::EastSouthEast,
-    Direction::SouthEast,
-    Direction::SouthSouthEast,
-    Direction::South,
-    Direction::SouthSouthWest,
-    Direction::SouthWest,
-    Direction::WestSouthWest,
-    Direction::West,
-    Direction::WestNorthWest,
-    Direction::NorthWest,
-    Direction::NorthNorthWest,
-    Direction::GeocentricX,
-    Direction::GeocentricY,
-    Direction::GeocentricZ,
-    Direction::Up,
-    Direction::Down,
-    Direction::Unspecified,
-];
 
 /// What is expected at a word that isn't known: in its `CS` or `AXIS` the word is found, and all that are known there
 /// are expected.
@@ -77,24 +45,10 @@ fn push_known(alloc: Global, is_type: bool, out: &mut Vec<Name>) -> Result<(), A
         ++ (if is_type then map system_word every_type else map direction_word every_direction)) }
 {
     if is_type {
-        push_every_type(alloc, out)
+        push_types(alloc, SystemType::every(), out)
     } else {
-        push_every_direction(alloc, out)
+        push_directions(alloc, Direction::every(), out)
     }
-}
-
-#[tactic(auto, unfolding(crate::specs::ExpectedWords::every_type))]
-fn push_every_type(alloc: Global, out: &mut Vec<Name>) -> Result<(), AllocError>
-    ensures { OnOk result (out.new.items ≡ out.old.items ++ map system_word every_type) }
-{
-    push_types(alloc, &TYPES, out)
-}
-
-#[tactic(auto, unfolding(crate::specs::ExpectedWords::every_direction))]
-fn push_every_direction(alloc: Global, out: &mut Vec<Name>) -> Result<(), AllocError>
-    ensures { OnOk result (out.new.items ≡ out.old.items ++ map direction_word every_direction) }
-{
-    push_directions(alloc, &DIRECTIONS, out)
 }
 
 fn push_types(alloc: Global, types: &[SystemType], out: &mut Vec<Name>) -> Result<(), AllocError>

@@ -4,7 +4,7 @@ use Rattle.std.specs.Str.{bytes_eq, str_to_ascii_lowercase}
 use Rattle.std.proofs.lemmas.Slice.Eq.{bytes_eq-Decides}
 use Rattle.crs_text.specs.declared.keyword.Keyword.{Keyword}
 use Rattle.crs_text.specs.Keywords.{spelling_of, keyword_of, AreSpelled}
-use Rattle.crs_shape.specs.Words.{SpellsWord, direction_word, system_word, unit_word}
+use Rattle.crs_shape.specs.Words.{SpellsWord, direction_word, every_direction, every_type, system_word, unit_word}
 use Rattle.crs_shape.specs.declared.unit_kind.UnitKind.{UnitKind}
 use Rattle.crs_shape.specs.declared.unit_kind.UnitKind.TheVariants as kinds
 use Rattle.crs_shape.specs.declared.direction.Direction.{Direction}
@@ -12,24 +12,20 @@ use Rattle.crs_shape.specs.declared.direction.Direction.TheVariants.{North, Nort
 use Rattle.crs_shape.specs.declared.system_type.SystemType.{SystemType}
 use Rattle.crs_shape.specs.declared.system_type.SystemType.TheVariants.{Cartesian, Ellipsoidal, Spherical, Vertical}
 
-abbrev pub directions : List Direction
-directions = North ∷ East ∷ Up ∷ GeocentricX ∷ GeocentricY ∷ GeocentricZ ∷ South ∷ West ∷ Down ∷ NorthNorthEast ∷ NorthEast ∷ EastNorthEast ∷ EastSouthEast ∷ SouthEast ∷ SouthSouthEast ∷ SouthSouthWest ∷ SouthWest ∷ WestSouthWest ∷ WestNorthWest ∷ NorthWest ∷ NorthNorthWest ∷ Unspecified ∷ []
-
-abbrev pub types : List SystemType
-types = Cartesian ∷ Ellipsoidal ∷ Spherical ∷ Vertical ∷ []
-
 -- the direction whose word these small letters spell
 abbrev pub direction_of : List ℕ → Option Direction
-direction_of small = find (λ d. bytes_eq (str_to_ascii_lowercase (direction_word d)) small) directions
+direction_of small = find (λ d. bytes_eq (str_to_ascii_lowercase (direction_word d)) small) every_direction
 
 abbrev pub type_of : List ℕ → Option SystemType
-type_of small = find (λ t. bytes_eq (str_to_ascii_lowercase (system_word t)) small) types
+type_of small = find (λ t. bytes_eq (str_to_ascii_lowercase (system_word t)) small) every_type
 
 pub direction_known : (d : Direction) → direction_of (str_to_ascii_lowercase (direction_word d)) ≡ Some d
+unfolding every_direction
 direction_known North = refl
 direction_known other = refl
 
 pub type_known : (t : SystemType) → type_of (str_to_ascii_lowercase (system_word t)) ≡ Some t
+unfolding every_type
 type_known Cartesian = refl
 type_known other = refl
 
@@ -47,29 +43,30 @@ type_one raw t u p q =
 
 abbrev pub direction_place : Direction → ℕ
 direction_place North = 0
-direction_place NorthNorthEast = 9
-direction_place NorthEast = 10
-direction_place EastNorthEast = 11
-direction_place East = 1
-direction_place EastSouthEast = 12
-direction_place SouthEast = 13
-direction_place SouthSouthEast = 14
-direction_place South = 6
-direction_place SouthSouthWest = 15
-direction_place SouthWest = 16
-direction_place WestSouthWest = 17
-direction_place West = 7
-direction_place WestNorthWest = 18
-direction_place NorthWest = 19
-direction_place NorthNorthWest = 20
-direction_place GeocentricX = 3
-direction_place GeocentricY = 4
-direction_place GeocentricZ = 5
-direction_place Up = 2
-direction_place Down = 8
+direction_place NorthNorthEast = 1
+direction_place NorthEast = 2
+direction_place EastNorthEast = 3
+direction_place East = 4
+direction_place EastSouthEast = 5
+direction_place SouthEast = 6
+direction_place SouthSouthEast = 7
+direction_place South = 8
+direction_place SouthSouthWest = 9
+direction_place SouthWest = 10
+direction_place WestSouthWest = 11
+direction_place West = 12
+direction_place WestNorthWest = 13
+direction_place NorthWest = 14
+direction_place NorthNorthWest = 15
+direction_place GeocentricX = 16
+direction_place GeocentricY = 17
+direction_place GeocentricZ = 18
+direction_place Up = 19
+direction_place Down = 20
 direction_place Unspecified = 21
 
-pub direction_placed : (d : Direction) → get_or directions (direction_place d) d ≡ d
+pub direction_placed : (d : Direction) → get_or every_direction (direction_place d) d ≡ d
+unfolding every_direction
 direction_placed North = refl
 direction_placed other = refl
 
@@ -83,7 +80,8 @@ type_place Ellipsoidal = 1
 type_place Spherical = 2
 type_place Vertical = 3
 
-pub type_placed : (t : SystemType) → get_or types (type_place t) t ≡ t
+pub type_placed : (t : SystemType) → get_or every_type (type_place t) t ≡ t
+unfolding every_type
 type_placed Cartesian = refl
 type_placed other = refl
 

@@ -1,6 +1,6 @@
 -- Words: those of coordinate system types, axis directions and
 -- units, and how bytes spell a word in either case.
-use Rattle.std.specs.Prelude.{◌≡◌, ℕ, List, codes}
+use Rattle.std.specs.Prelude.{◌≡◌, ◌∷◌, [], ℕ, List, codes}
 use Rattle.std.specs.Str.{str_to_ascii_lowercase}
 use Rattle.crs_shape.specs.declared.direction.Direction.{Direction}
 use Rattle.crs_shape.specs.declared.direction.Direction.TheVariants.{North, NorthNorthEast}
@@ -61,6 +61,18 @@ system_word Cartesian = codes "Cartesian"
 system_word Ellipsoidal = codes "ellipsoidal"
 system_word Spherical = codes "spherical"
 system_word Vertical = codes "vertical"
+
+-- the directions of axes
+unfoldable pub every_direction : List Direction
+every_direction =
+    North ∷ NorthNorthEast ∷ NorthEast ∷ EastNorthEast ∷ East ∷ EastSouthEast ∷ SouthEast
+    ∷ SouthSouthEast ∷ South ∷ SouthSouthWest ∷ SouthWest ∷ WestSouthWest ∷ West ∷ WestNorthWest
+    ∷ NorthWest ∷ NorthNorthWest ∷ GeocentricX ∷ GeocentricY ∷ GeocentricZ ∷ Up ∷ Down ∷ Unspecified
+    ∷ []
+
+-- the types of coordinate systems
+unfoldable pub every_type : List SystemType
+every_type = Cartesian ∷ Ellipsoidal ∷ Spherical ∷ Vertical ∷ []
 
 -- the keyword of a unit of this kind
 abbrev pub unit_word : UnitKind → List ℕ

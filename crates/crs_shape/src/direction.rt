@@ -1,6 +1,6 @@
 ghost use Rattle.std.specs.Prelude.{◌≡◌, IfSome};
 ghost use Rattle.crs_shape.specs.Choice.{IsReading};
-ghost use Rattle.crs_shape.specs.Words.{direction_word, SpellsWord};
+ghost use Rattle.crs_shape.specs.Words.{direction_word, every_direction, SpellsWord};
 
 use crate::spelled::is_spelled;
 
@@ -53,29 +53,28 @@ pub enum Direction {
     Unspecified,
 }
 
-// The most frequent directions go first, since a word is compared with one after another.
 const DIRECTIONS: [Direction; 22] = [
     Direction::North,
-    Direction::East,
-    Direction::Up,
-    Direction::GeocentricX,
-    Direction::GeocentricY,
-    Direction::GeocentricZ,
-    Direction::South,
-    Direction::West,
-    Direction::Down,
     Direction::NorthNorthEast,
     Direction::NorthEast,
     Direction::EastNorthEast,
+    Direction::East,
     Direction::EastSouthEast,
     Direction::SouthEast,
     Direction::SouthSouthEast,
+    Direction::South,
     Direction::SouthSouthWest,
     Direction::SouthWest,
     Direction::WestSouthWest,
+    Direction::West,
     Direction::WestNorthWest,
     Direction::NorthWest,
     Direction::NorthNorthWest,
+    Direction::GeocentricX,
+    Direction::GeocentricY,
+    Direction::GeocentricZ,
+    Direction::Up,
+    Direction::Down,
     Direction::Unspecified,
 ];
 
@@ -118,6 +117,14 @@ fn geocentric(word: &[u8]) -> Option<Direction>
 }
 
 impl Direction {
+    /// All directions. ISO 19162:2019, "Axis direction".
+    #[tactic(auto, unfolding(crate::specs::Words::every_direction))]
+    pub fn every() -> &'static [Direction]
+        ensures { result.now ≡ every_direction }
+    {
+        &DIRECTIONS
+    }
+
     /// The word that a text has for the direction, as it is written.
     pub fn word(&self) -> &'static str
         ensures { result.now ≡ direction_word self.now }

@@ -2,7 +2,7 @@ ghost use Rattle.std.specs.Prelude.{◌≡◌, ◌↔◌, IfSome, IsTrue, [], �
 ghost use Rattle.crs_shape.specs.Choice.{IsReading, OneIs};
 ghost use Rattle.crs_shape.specs.Dimensions.{IsOneOf, dimensions_of};
 ghost use Rattle.crs_shape.specs.UnitKinds.{asked_kind};
-ghost use Rattle.crs_shape.specs.Words.{system_word, SpellsWord};
+ghost use Rattle.crs_shape.specs.Words.{every_type, system_word, SpellsWord};
 
 use crate::class::Class;
 use crate::direction::Direction;
@@ -61,6 +61,14 @@ fn is_two_or_three(dimension: u64) -> bool
 }
 
 impl SystemType {
+    /// All types. ISO 19162:2019, "Coordinate system".
+    #[tactic(auto, unfolding(crate::specs::Words::every_type))]
+    pub fn every() -> &'static [SystemType]
+        ensures { result.now ≡ every_type }
+    {
+        &SYSTEM_TYPES
+    }
+
     /// The word that a text has for the type, as it is written.
     pub fn word(&self) -> &'static str
         ensures { result.now ≡ system_word self.now }

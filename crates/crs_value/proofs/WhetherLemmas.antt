@@ -11,10 +11,10 @@ use Rattle.crs_shape.specs.declared.system_type.SystemType.TheVariants as types
 use Rattle.crs_shape.specs.declared.unit_kind.UnitKind.{UnitKind}
 use Rattle.crs_shape.specs.declared.unit_kind.UnitKind.TheVariants as kinds
 use Rattle.crs_shape.specs.Dimensions.{IsOneOf}
-use Rattle.crs_shape.specs.Words.{SpellsWord, direction_word, system_word}
+use Rattle.crs_shape.specs.Words.{SpellsWord, direction_word, every_direction, system_word}
 use Rattle.crs_value.specs.BadValue.{IsAboveZero}
 use Rattle.crs_value.specs.BadOrder.{IsPosition}
-use Rattle.crs_shape.proofs.WordLemmas.{directions, direction_place, direction_placed, direction_within}
+use Rattle.crs_shape.proofs.WordLemmas.{direction_place, direction_placed, direction_within}
 
 abbrev pub Decided : Type 0 → Type 0
 Decided C = C ⊎ (¬ C)
@@ -112,9 +112,9 @@ among raw [] = inr (λ k d within h. absurd (omega arith))
 among raw (d ∷ ds) = more-among raw d ds (decided-word raw (direction_word d)) (among raw ds)
 
 pub direction-known : (raw : List ℕ) → Known (λ d. SpellsWord raw (direction_word d))
-direction-known raw = by (among raw directions)
+direction-known raw = by (among raw every_direction)
   where
-    by : Among raw directions → Known (λ d. SpellsWord raw (direction_word d))
+    by : Among raw every_direction → Known (λ d. SpellsWord raw (direction_word d))
     by (inl found) = inl found
     by (inr none) = inr (λ d h.
         let P : Direction → Type 0 = λ e. SpellsWord raw (direction_word e) in
