@@ -7,7 +7,7 @@ use Rattle.crs_decimal.specs.Plain.{plain}
 use Rattle.crs_shape.specs.declared.class.Class.{Class}
 use Rattle.crs_shape.specs.declared.unit_kind.UnitKind.{UnitKind}
 use Rattle.crs_shape.specs.contracts.unit_kind.UnitKind.{the_type}
-use Rattle.crs_value.proofs.ArgumentLemmas.{same_class}
+use Rattle.crs_value.proofs.found.ArgumentLemmas.{same_class}
 use Rattle.crs_value.specs.Reading.{is_same}
 use Rattle.crs_value.specs.Values.{UnitParts}
 use Rattle.crs_rules.specs.Rules.{NameAliasParts, UnitAliasParts, is_name_alias, is_unit_alias}

@@ -9,7 +9,7 @@ use Rattle.crs_value.specs.Reading.{item_at, those, Holds, IsFound, ReadsEach}
 use Rattle.crs_value.specs.Values.{AxisParts, SystemParts}
 use Rattle.crs_value.specs.declared.values.level.Level.{Level}
 use Rattle.crs_normal.specs.SpelledItems.{each}
-use Rattle.crs_value.proofs.ArgumentLemmas.{found-is, found-holds}
+use Rattle.crs_value.proofs.found.ArgumentLemmas.{found-is, found-holds}
 use Rattle.crs_normal.specs.SpelledSystems.{axes_from, axis_at, is_at, item_axis}
 use Rattle.crs_writer.specs.Direct.{IsReadAt}
 

@@ -9,7 +9,7 @@ use Rattle.std.proofs.lemmas.List.{append-nil}
 use Rattle.crs_writer.specs.Direct.{IsRead, Writes}
 use Rattle.crs_writer.specs.Members.{set_text}
 use Rattle.crs_writer.specs.SetText.{commas}
-use Rattle.crs_value.proofs.ArgumentLemmas.{found-is, found-holds}
+use Rattle.crs_value.proofs.found.ArgumentLemmas.{found-is, found-holds}
 
 -- the members up to this one are among those that are gathered
 pub record Gathering {V : Type 0} (R : Item → V → Type 0) (spell : V → List ℕ) (tree : Item) (parent c : Class)

@@ -9,7 +9,7 @@ use Rattle.crs_value.specs.Reads.{LacksUsage, ReadsBare, ReadsDatum, ReadsEnsemb
 use Rattle.crs_value.specs.ReadsConversion.{ReadsAsUnit}
 use Rattle.crs_value.specs.ReadsCrs.{ReadsAsDatum, ReadsAsEnsemble}
 use Rattle.crs_value.specs.declared.values.frame.Frame.TheVariants as frame
-use Rattle.crs_value.proofs.ArgumentLemmas.{found-is}
+use Rattle.crs_value.proofs.found.ArgumentLemmas.{found-is}
 use Rattle.crs_value.specs.ReadsCrs.{IsGeodeticClass, ReadsAsHorizontal, ReadsCompound, ReadsCrs, ReadsGeodetic, ReadsProjected, ReadsVertical}
 use Rattle.crs_value.specs.Spells.{SpellsCrs}
 use Rattle.crs_value.specs.declared.values.compound.Horizontal.TheVariants as horizontal

@@ -1,6 +1,6 @@
 use Rattle.std.proofs.Common.{Option, ℕ, subst}
 use Rattle.crs_value.specs.FoundArguments.{from_found}
-use Rattle.crs_value.proofs.CheckLemmas.{Checked, checked-on}
+use Rattle.crs_value.proofs.checked.CheckLemmas.{Checked, checked-on}
 use Rattle.crs_value.proofs.checks.any_from.Goals as goal
 
 pub loop-at-preserved : goal.loop-at-preserved

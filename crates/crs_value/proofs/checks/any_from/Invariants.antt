@@ -1,6 +1,6 @@
 use Rattle.std.proofs.Common.{length}
 use Rattle.crs_value.specs.FoundArguments.{from_found}
-use Rattle.crs_value.proofs.CheckLemmas.{Checked}
+use Rattle.crs_value.proofs.checked.CheckLemmas.{Checked}
 use Rattle.crs_value.proofs.checks.any_from.Given as goal
 
 abbrev pub invariant-loop-at : goal.invariant-loop-at

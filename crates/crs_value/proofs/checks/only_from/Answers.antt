@@ -2,8 +2,8 @@ use Rattle.crs_text.specs.Items.{arguments}
 use Rattle.crs_value.specs.Reading.{item_at, those}
 use Rattle.std.proofs.Common.{arith, subst}
 use Rattle.crs_value.specs.Reading.{IsFound}
-use Rattle.crs_value.proofs.ArgumentLemmas.{arguments-few, first-shaped}
-use Rattle.crs_value.proofs.CheckLemmas.{only-one}
+use Rattle.crs_value.proofs.found.ArgumentLemmas.{arguments-few, first-shaped}
+use Rattle.crs_value.proofs.checked.CheckLemmas.{only-one}
 use Rattle.crs_value.proofs.checks.only_from.Goals as goal
 
 pub check-requires-clause-shaped : goal.check-requires-clause-shaped

@@ -1,5 +1,5 @@
-use Rattle.crs_value.proofs.OneLemmas.{ident-one, unit-one, named-one, extent-one, usage-one}
-use Rattle.crs_value.proofs.OneCrsLemmas.{parameter-one}
+use Rattle.crs_value.proofs.one.ValueLemmas.{ident-one, unit-one, named-one, extent-one, usage-one}
+use Rattle.crs_value.proofs.one.CrsLemmas.{parameter-one}
 use Rattle.crs_value.proofs.laws.members_read_once.Goals as goal
 
 pub returns-clause-ident : goal.returns-clause-ident

@@ -1,6 +1,6 @@
-use Rattle.crs_value.proofs.EitherLemmas.{text-answer}
-use Rattle.crs_value.proofs.NumberLemmas.{refused-within}
-use Rattle.crs_value.proofs.TextLemmas.{text-one, text-refused-one, text-apart}
+use Rattle.crs_value.proofs.some.AnswerLemmas.{text-answer}
+use Rattle.crs_value.proofs.checked.NumberLemmas.{refused-within}
+use Rattle.crs_value.proofs.one.TextLemmas.{text-one, text-refused-one, text-apart}
 use Rattle.crs_value.proofs.laws.one_answer.Goals as goal
 
 pub returns-clause-value : goal.returns-clause-value

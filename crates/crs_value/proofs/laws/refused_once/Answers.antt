@@ -1,4 +1,4 @@
-use Rattle.crs_value.proofs.TextLemmas.{item-refused-one}
+use Rattle.crs_value.proofs.one.TextLemmas.{item-refused-one}
 use Rattle.crs_value.proofs.laws.refused_once.Goals as goal
 
 pub returns : goal.returns

@@ -1,4 +1,4 @@
-use Rattle.crs_value.proofs.SoundCompoundLemmas.{spelled-sound}
+use Rattle.crs_value.proofs.sound.CompoundLemmas.{spelled-sound}
 use Rattle.crs_value.proofs.laws.spelled_is_sound.Goals as goal
 
 pub returns : goal.returns

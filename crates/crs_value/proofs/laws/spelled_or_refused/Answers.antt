@@ -1,4 +1,4 @@
-use Rattle.crs_value.proofs.SpellsLemmas.{spelled-not-refused}
+use Rattle.crs_value.proofs.one.RootLemmas.{spelled-not-refused}
 use Rattle.crs_value.proofs.laws.spelled_or_refused.Goals as goal
 
 pub returns : goal.returns

@@ -1,4 +1,4 @@
-use Rattle.crs_value.proofs.SpellsLemmas.{spelled-one}
+use Rattle.crs_value.proofs.one.RootLemmas.{spelled-one}
 use Rattle.crs_value.proofs.laws.spells_one.Goals as goal
 
 pub returns : goal.returns

@@ -8,7 +8,7 @@ use Rattle.crs_value.specs.Break.{AnyOf, IsLeast}
 use Rattle.crs_value.specs.Checks.{horizontal_classes, once}
 use Rattle.crs_value.specs.RepeatedPart.{RepeatsAny}
 use Rattle.crs_value.specs.Reading.{item_at, those}
-use Rattle.crs_value.proofs.LeastLemmas.{either-is}
+use Rattle.crs_value.proofs.checked.LeastLemmas.{either-is}
 use Rattle.crs_value.proofs.checks.component.compound.Goals as goal
 
 pub returns : goal.returns

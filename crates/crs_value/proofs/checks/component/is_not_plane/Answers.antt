@@ -1,5 +1,5 @@
 use Rattle.crs_value.specs.Reading.{item_at}
-use Rattle.crs_value.proofs.ComponentLemmas.{plane-test}
+use Rattle.crs_value.proofs.checked.ComponentLemmas.{plane-test}
 use Rattle.crs_value.proofs.checks.component.is_not_plane.Goals as goal
 
 pub returns : goal.returns

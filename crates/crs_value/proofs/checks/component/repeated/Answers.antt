@@ -5,7 +5,7 @@ use Rattle.crs_value.specs.Break.{IsLeast}
 use Rattle.crs_value.specs.Checks.{once}
 use Rattle.crs_value.specs.RepeatedPart.{RepeatsAny}
 use Rattle.crs_value.specs.Reading.{item_at}
-use Rattle.crs_value.proofs.ArgumentLemmas.{ahead_at, holds_at}
+use Rattle.crs_value.proofs.found.ArgumentLemmas.{ahead_at, holds_at}
 use Rattle.crs_value.proofs.checks.component.repeated.Goals as goal
 
 pub is_ascending-requires : goal.is_ascending-requires

@@ -7,7 +7,7 @@ use Rattle.crs_value.specs.BadUnit.{BadUnit}
 use Rattle.crs_value.specs.Break.{AnyOf}
 use Rattle.crs_value.specs.Checks.{OfAxes}
 use Rattle.crs_value.specs.Reading.{item_at, those}
-use Rattle.crs_value.proofs.LeastLemmas.{either-is}
+use Rattle.crs_value.proofs.checked.LeastLemmas.{either-is}
 use Rattle.crs_value.proofs.checks.crs.of_axes.Goals as goal
 
 pub returns : goal.returns

@@ -1,5 +1,5 @@
 use Rattle.crs_value.specs.Reading.{item_at}
-use Rattle.crs_value.proofs.CrsLemmas.{crs-early, crs-whole}
+use Rattle.crs_value.proofs.checked.CrsLemmas.{crs-early, crs-whole}
 use Rattle.crs_value.proofs.checks.crs.whole_crs.Goals as goal
 
 pub returns-in-Some : goal.returns-in-Some

@@ -2,9 +2,9 @@ use Rattle.crs_text.specs.Items.{arguments}
 use Rattle.crs_shape.specs.declared.class.Class.TheVariants as class
 use Rattle.crs_value.specs.BadDynamic.{IsUnsteady}
 use Rattle.crs_value.specs.Reading.{item_at, those}
-use Rattle.crs_value.proofs.ArgumentLemmas.{found-shaped}
-use Rattle.crs_value.proofs.CheckLemmas.{found-any}
-use Rattle.crs_value.proofs.DynamicLemmas.{bad-beside}
+use Rattle.crs_value.proofs.found.ArgumentLemmas.{found-shaped}
+use Rattle.crs_value.proofs.checked.CheckLemmas.{found-any}
+use Rattle.crs_value.proofs.checked.DynamicLemmas.{bad-beside}
 use Rattle.crs_value.proofs.checks.dynamic.bad_dynamic.Goals as goal
 
 pub any_from-requires-clause-shaped : goal.any_from-requires-clause-shaped

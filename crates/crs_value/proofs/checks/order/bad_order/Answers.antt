@@ -4,10 +4,10 @@ use Rattle.crs_shape.specs.declared.class.Class.TheVariants as class
 use Rattle.crs_value.specs.BadOrder.{LacksOrder, BadOrder}
 use Rattle.crs_value.specs.Break.{IsLeast}
 use Rattle.crs_value.specs.Reading.{item_at, those}
-use Rattle.crs_value.proofs.ArgumentLemmas.{found-is, found-holds, found-shaped}
-use Rattle.crs_value.proofs.CheckLemmas.{found-any}
-use Rattle.crs_value.proofs.OrderLemmas.{order-all}
-use Rattle.crs_value.proofs.PlacedLemmas.{placed-none}
+use Rattle.crs_value.proofs.found.ArgumentLemmas.{found-is, found-holds, found-shaped}
+use Rattle.crs_value.proofs.checked.CheckLemmas.{found-any}
+use Rattle.crs_value.proofs.checked.OrderLemmas.{order-all}
+use Rattle.crs_value.proofs.checked.PlacedLemmas.{placed-none}
 use Rattle.crs_value.proofs.checks.order.bad_order.Goals as goal
 
 pub any_from-requires-clause-shaped : goal.any_from-requires-clause-shaped

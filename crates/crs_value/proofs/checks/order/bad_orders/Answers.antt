@@ -2,8 +2,8 @@ use Rattle.std.proofs.Common.{ℕ, Option, subst, arith}
 use Rattle.crs_text.specs.Items.{arguments}
 use Rattle.crs_shape.specs.declared.class.Class.TheVariants as class
 use Rattle.crs_value.specs.Reading.{item_at, those}
-use Rattle.crs_value.proofs.OrderLemmas.{Ordering, more-are-left, ordering-first, ordering-on}
-use Rattle.crs_value.proofs.SystemLemmas.{those-few}
+use Rattle.crs_value.proofs.checked.OrderLemmas.{Ordering, more-are-left, ordering-first, ordering-on}
+use Rattle.crs_value.proofs.checked.SystemLemmas.{those-few}
 use Rattle.crs_value.proofs.checks.order.bad_orders.Goals as goal
 
 pub loop-at-init : goal.loop-at-init

@@ -3,7 +3,7 @@ use Rattle.crs_text.specs.Items.{arguments}
 use Rattle.crs_shape.specs.declared.class.Class.TheVariants as class
 use Rattle.crs_value.specs.FoundArguments.{from_found}
 use Rattle.crs_value.specs.Reading.{item_at, those}
-use Rattle.crs_value.proofs.OrderLemmas.{Ordering}
+use Rattle.crs_value.proofs.checked.OrderLemmas.{Ordering}
 use Rattle.crs_value.proofs.checks.order.bad_orders.Given as goal
 
 abbrev pub invariant-loop-at : goal.invariant-loop-at

@@ -1,7 +1,7 @@
 use Rattle.std.proofs.Common.{refl}
 use Rattle.crs_shape.specs.declared.class.Class.TheVariants as class
 use Rattle.crs_value.specs.FoundArguments.{from_found}
-use Rattle.crs_value.proofs.OrderLemmas.{order-some, order-none}
+use Rattle.crs_value.proofs.checked.OrderLemmas.{order-some, order-none}
 use Rattle.crs_value.proofs.checks.order.beside.Goals as goal
 
 pub returns-then-some_has_order : goal.returns-then-some_has_order

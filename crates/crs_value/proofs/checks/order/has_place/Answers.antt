@@ -1,7 +1,7 @@
 use Rattle.crs_shape.specs.declared.class.Class.TheVariants as class
 use Rattle.crs_value.specs.Reading.{item_at}
-use Rattle.crs_value.proofs.ArgumentLemmas.{first-shaped}
-use Rattle.crs_value.proofs.PlacedLemmas.{place-has}
+use Rattle.crs_value.proofs.found.ArgumentLemmas.{first-shaped}
+use Rattle.crs_value.proofs.checked.PlacedLemmas.{place-has}
 use Rattle.crs_value.proofs.checks.order.has_place.Goals as goal
 
 pub number-requires-clause-shaped : goal.number-requires-clause-shaped

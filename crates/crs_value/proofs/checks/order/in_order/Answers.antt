@@ -1,7 +1,7 @@
 use Rattle.std.proofs.Common.{ℕ, Option, subst}
 use Rattle.crs_shape.specs.declared.class.Class.TheVariants as class
 use Rattle.crs_value.specs.FoundArguments.{from_found}
-use Rattle.crs_value.proofs.PlacedLemmas.{Placing, placing-first, placing-on}
+use Rattle.crs_value.proofs.checked.PlacedLemmas.{Placing, placing-first, placing-on}
 use Rattle.crs_value.proofs.checks.order.in_order.Goals as goal
 
 pub loop-at-init : goal.loop-at-init

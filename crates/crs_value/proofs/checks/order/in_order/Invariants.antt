@@ -1,7 +1,7 @@
 use Rattle.std.proofs.Common.{length}
 use Rattle.crs_shape.specs.declared.class.Class.TheVariants as class
 use Rattle.crs_value.specs.FoundArguments.{from_found}
-use Rattle.crs_value.proofs.PlacedLemmas.{Placing}
+use Rattle.crs_value.proofs.checked.PlacedLemmas.{Placing}
 use Rattle.crs_value.proofs.checks.order.in_order.Given as goal
 
 abbrev pub invariant-loop-at : goal.invariant-loop-at

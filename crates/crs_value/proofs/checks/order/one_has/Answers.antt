@@ -1,7 +1,7 @@
 use Rattle.std.proofs.Common.{ℕ, Option, refl, subst}
 use Rattle.crs_shape.specs.declared.class.Class.TheVariants as class
 use Rattle.crs_value.specs.FoundArguments.{from_found}
-use Rattle.crs_value.proofs.OrderLemmas.{Seeking, seek-first, seek-on, seek-here, seek-there}
+use Rattle.crs_value.proofs.checked.OrderLemmas.{Seeking, seek-first, seek-on, seek-here, seek-there}
 use Rattle.crs_value.proofs.checks.order.one_has.Goals as goal
 
 pub loop-step-init : goal.loop-step-init

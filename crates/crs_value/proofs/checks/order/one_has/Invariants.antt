@@ -1,6 +1,6 @@
 use Rattle.crs_shape.specs.declared.class.Class.TheVariants as class
 use Rattle.crs_value.specs.FoundArguments.{from_found}
-use Rattle.crs_value.proofs.OrderLemmas.{Seeking}
+use Rattle.crs_value.proofs.checked.OrderLemmas.{Seeking}
 use Rattle.crs_value.proofs.checks.order.one_has.Given as goal
 
 abbrev pub invariant-loop-step : goal.invariant-loop-step

@@ -1,7 +1,7 @@
 use Rattle.std.proofs.Common.{ℕ, Option, subst}
 use Rattle.crs_shape.specs.declared.class.Class.TheVariants as class
 use Rattle.crs_value.specs.FoundArguments.{from_found}
-use Rattle.crs_value.proofs.OrderLemmas.{Some-left, some-on}
+use Rattle.crs_value.proofs.checked.OrderLemmas.{Some-left, some-on}
 use Rattle.crs_value.proofs.checks.order.some_has_order.Goals as goal
 
 pub loop-at-preserved : goal.loop-at-preserved

@@ -4,9 +4,9 @@ use Rattle.crs_shape.specs.declared.class.Class.TheVariants as class
 use Rattle.crs_value.specs.BadValue.{NotAbove, IsNegative}
 use Rattle.crs_value.specs.Break.{AnyOf}
 use Rattle.crs_value.specs.Reading.{item_at, those}
-use Rattle.crs_value.proofs.ArgumentLemmas.{first-shaped}
-use Rattle.crs_value.proofs.CheckLemmas.{later-shaped, any-first, any-later}
-use Rattle.crs_value.proofs.LeastLemmas.{either-is}
+use Rattle.crs_value.proofs.found.ArgumentLemmas.{first-shaped}
+use Rattle.crs_value.proofs.checked.CheckLemmas.{later-shaped, any-first, any-later}
+use Rattle.crs_value.proofs.checked.LeastLemmas.{either-is}
 use Rattle.crs_value.proofs.checks.own.ellipsoid.Goals as goal
 
 pub check-requires-clause-shaped : goal.check-requires-clause-shaped

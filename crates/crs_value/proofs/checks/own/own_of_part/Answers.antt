@@ -1,6 +1,6 @@
 use Rattle.std.proofs.Common.{rules}
 use Rattle.crs_value.specs.Reading.{item_at}
-use Rattle.crs_value.proofs.OwnLemmas.{own-base, own-compound, own-frame, own-unit, own-system, own-axis}
+use Rattle.crs_value.proofs.checked.OwnLemmas.{own-base, own-compound, own-frame, own-unit, own-system, own-axis}
 use Rattle.crs_value.proofs.checks.own.own_of_part.Goals as goal
 
 pub returns-in-CompoundCrs : goal.returns-in-CompoundCrs

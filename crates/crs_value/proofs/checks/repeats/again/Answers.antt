@@ -3,7 +3,7 @@ use Rattle.crs_text.specs.Items.{Item, arguments}
 use Rattle.crs_value.specs.Break.{AnyOf, IsLeast}
 use Rattle.crs_value.specs.RepeatedPart.{IsRepeated}
 use Rattle.crs_value.specs.Reading.{item_at, those, IsFound}
-use Rattle.crs_value.proofs.ArgumentLemmas.{found-shaped}
+use Rattle.crs_value.proofs.found.ArgumentLemmas.{found-shaped}
 use Rattle.crs_value.proofs.checks.repeats.again.Goals as goal
 
 pub behind-requires-clause-shaped : goal.behind-requires-clause-shaped

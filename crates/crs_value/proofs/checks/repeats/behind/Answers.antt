@@ -1,8 +1,8 @@
 use Rattle.crs_text.specs.Items.{rest_of, here}
 use Rattle.crs_value.specs.RepeatedPart.{IsRepeated}
 use Rattle.crs_value.specs.Reading.{those}
-use Rattle.crs_value.proofs.ArgumentLemmas.{found-is, all-shaped}
-use Rattle.crs_value.proofs.CheckLemmas.{found-any}
+use Rattle.crs_value.proofs.found.ArgumentLemmas.{found-is, all-shaped}
+use Rattle.crs_value.proofs.checked.CheckLemmas.{found-any}
 use Rattle.crs_value.proofs.checks.repeats.behind.Goals as goal
 
 pub any_from-requires-clause-shaped : goal.any_from-requires-clause-shaped

@@ -6,7 +6,7 @@ use Rattle.crs_shape.specs.declared.class.Class.TheVariants as class
 use Rattle.crs_value.specs.Break.{IsLeast}
 use Rattle.crs_value.specs.RepeatedPart.{Repeats, RepeatsAny}
 use Rattle.crs_value.specs.Reading.{item_at}
-use Rattle.crs_value.proofs.LeastLemmas.{either-is}
+use Rattle.crs_value.proofs.checked.LeastLemmas.{either-is}
 use Rattle.crs_value.proofs.checks.repeats.repeats_once.Goals as goal
 
 pub returns : goal.returns

@@ -2,7 +2,7 @@ use Rattle.std.proofs.Common.{◌∙◌, ap, sym}
 use Rattle.std.specs.List.{find}
 use Rattle.crs_value.specs.FirstByte.{is_telling}
 use Rattle.crs_value.specs.Reading.{item_at}
-use Rattle.crs_value.proofs.SignLemmas.{above-sure}
+use Rattle.crs_value.proofs.checked.SignLemmas.{above-sure}
 use Rattle.crs_value.proofs.checks.single.begins_above_zero.Goals as goal
 
 pub returns-in-Some : goal.returns-in-Some

@@ -1,7 +1,7 @@
 use Rattle.std.proofs.Common.{◌∙◌, ap}
 use Rattle.crs_value.specs.FirstByte.{first_byte}
 use Rattle.crs_value.specs.Reading.{item_at}
-use Rattle.crs_value.proofs.SignLemmas.{below-sure}
+use Rattle.crs_value.proofs.checked.SignLemmas.{below-sure}
 use Rattle.crs_value.proofs.checks.single.begins_without_minus.Goals as goal
 
 pub returns : goal.returns

@@ -1,5 +1,5 @@
 use Rattle.crs_value.specs.Reading.{item_at}
-use Rattle.crs_value.proofs.UnitLemmas.{asking-first}
+use Rattle.crs_value.proofs.checked.UnitLemmas.{asking-first}
 use Rattle.crs_value.proofs.checks.unit.all_ask.Goals as goal
 
 pub loop-at-init : goal.loop-at-init

@@ -2,7 +2,7 @@ use Rattle.std.proofs.Common.{subst}
 use Rattle.crs_shape.specs.declared.unit_kind.UnitKind.{UnitKind}
 use Rattle.crs_value.specs.BadUnit.{Asks}
 use Rattle.crs_value.specs.Reading.{item_at}
-use Rattle.crs_value.proofs.UnitLemmas.{asks-one}
+use Rattle.crs_value.proofs.checked.UnitLemmas.{asks-one}
 use Rattle.crs_value.proofs.checks.unit.asks.Goals as goal
 
 pub returns-in-None : goal.returns-in-None

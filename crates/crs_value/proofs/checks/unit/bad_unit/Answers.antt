@@ -3,9 +3,9 @@ use Rattle.crs_text.specs.Items.{arguments}
 use Rattle.crs_shape.specs.declared.class.Class.TheVariants as class
 use Rattle.crs_value.specs.BadUnit.{BadOwnUnit, HasOwnUnit}
 use Rattle.crs_value.specs.Reading.{item_at, those, IsFound}
-use Rattle.crs_value.proofs.ArgumentLemmas.{found-shaped}
-use Rattle.crs_value.proofs.CheckLemmas.{found-any}
-use Rattle.crs_value.proofs.UnitLemmas.{unit-none, unit-some}
+use Rattle.crs_value.proofs.found.ArgumentLemmas.{found-shaped}
+use Rattle.crs_value.proofs.checked.CheckLemmas.{found-any}
+use Rattle.crs_value.proofs.checked.UnitLemmas.{unit-none, unit-some}
 use Rattle.crs_value.proofs.checks.unit.bad_unit.Goals as goal
 
 pub any_from-requires-clause-shaped : goal.any_from-requires-clause-shaped

@@ -1,7 +1,7 @@
 use Rattle.std.proofs.Common.{refl}
 use Rattle.crs_text.specs.Items.{raw_of}
 use Rattle.crs_value.specs.Reading.{item_at}
-use Rattle.crs_value.proofs.UnitLemmas.{fits-none}
+use Rattle.crs_value.proofs.checked.UnitLemmas.{fits-none}
 use Rattle.crs_value.proofs.checks.unit.fits.Goals as goal
 
 pub returns-in-None : goal.returns-in-None

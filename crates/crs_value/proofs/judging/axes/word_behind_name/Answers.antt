@@ -1,6 +1,6 @@
 use Rattle.std.proofs.Common.{sym, ◌∙◌}
 use Rattle.crs_value.specs.Reading.{item_at}
-use Rattle.crs_value.proofs.AxesLemmas.{behind-name}
+use Rattle.crs_value.proofs.walk.AxesLemmas.{behind-name}
 use Rattle.crs_value.proofs.judging.axes.word_behind_name.Goals as goal
 
 pub returns : goal.returns

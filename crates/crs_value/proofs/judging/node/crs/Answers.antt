@@ -1,6 +1,6 @@
 use Rattle.std.proofs.Common.{sym, ◌∙◌}
 use Rattle.crs_value.specs.Reading.{item_at}
-use Rattle.crs_value.proofs.JudgedLemmas.{named-of, single-is, single-not}
+use Rattle.crs_value.proofs.walk.JudgedLemmas.{named-of, single-is, single-not}
 use Rattle.crs_value.proofs.judging.node.crs.Goals as goal
 
 pub returns-then-not-stands_as : goal.returns-then-not-stands_as

@@ -3,9 +3,9 @@ use Rattle.crs_text.specs.Items.{arguments}
 use Rattle.crs_shape.specs.Slots.{any_of}
 use Rattle.crs_value.specs.Reading.{item_at}
 use Rattle.crs_value.specs.Seen.{rest_slots}
-use Rattle.crs_value.proofs.ArgumentLemmas.{holds_at}
-use Rattle.crs_value.proofs.JudgedLemmas.{inside-least, leaf-judged, shaped-by, walked-all, with-fault, with-whole}
-use Rattle.crs_value.proofs.LayoutLemmas.{laid-arguments}
+use Rattle.crs_value.proofs.found.ArgumentLemmas.{holds_at}
+use Rattle.crs_value.proofs.walk.JudgedLemmas.{inside-least, leaf-judged, shaped-by, walked-all, with-fault, with-whole}
+use Rattle.crs_value.proofs.walk.LayoutLemmas.{laid-arguments}
 use Rattle.crs_value.proofs.judging.node.crs_judged.Goals as goal
 
 pub returns-in_default : goal.returns-in_default

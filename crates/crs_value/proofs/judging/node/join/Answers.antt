@@ -1,6 +1,6 @@
 use Rattle.std.proofs.Common.{sym, ◌∙◌, ap}
 use Rattle.crs_value.specs.Least.{lesser}
-use Rattle.crs_value.proofs.LeastLemmas.{lesser-none}
+use Rattle.crs_value.proofs.checked.LeastLemmas.{lesser-none}
 use Rattle.crs_value.proofs.judging.node.join.Goals as goal
 
 pub returns-in-None : goal.returns-in-None

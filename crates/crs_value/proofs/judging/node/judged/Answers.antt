@@ -1,6 +1,6 @@
 use Rattle.std.proofs.Common.{sym}
 use Rattle.crs_value.specs.Reading.{item_at}
-use Rattle.crs_value.proofs.JudgedLemmas.{leaf-judged}
+use Rattle.crs_value.proofs.walk.JudgedLemmas.{leaf-judged}
 use Rattle.crs_value.proofs.judging.node.judged.Goals as goal
 
 pub returns-in-None : goal.returns-in-None

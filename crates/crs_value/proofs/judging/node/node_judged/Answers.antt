@@ -1,8 +1,8 @@
 use Rattle.std.proofs.Common.{true, false}
 use Rattle.crs_text.specs.Items.{arguments}
 use Rattle.crs_value.specs.Reading.{item_at}
-use Rattle.crs_value.proofs.ArgumentLemmas.{holds_at}
-use Rattle.crs_value.proofs.JudgedLemmas.{shaped-by, walked-all, with-fault, with-own}
+use Rattle.crs_value.proofs.found.ArgumentLemmas.{holds_at}
+use Rattle.crs_value.proofs.walk.JudgedLemmas.{shaped-by, walked-all, with-fault, with-own}
 use Rattle.crs_value.proofs.judging.node.node_judged.Goals as goal
 
 pub walk-requires : goal.walk-requires

@@ -1,6 +1,6 @@
 use Rattle.crs_value.specs.Reading.{item_at}
-use Rattle.crs_value.proofs.OwnLemmas.{own-crs}
-use Rattle.crs_value.proofs.RestLemmas.{quiet-whole}
+use Rattle.crs_value.proofs.checked.OwnLemmas.{own-crs}
+use Rattle.crs_value.proofs.walk.RestLemmas.{quiet-whole}
 use Rattle.crs_value.proofs.judging.node.whole.Goals as goal
 
 pub returns-then-is_quiet : goal.returns-then-is_quiet

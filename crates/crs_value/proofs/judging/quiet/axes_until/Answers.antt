@@ -1,9 +1,9 @@
 use Rattle.std.proofs.Common.{sym, ◌∙◌, ap}
 use Rattle.crs_shape.specs.declared.class.Class.TheVariants as class
 use Rattle.crs_value.specs.Reading.{ahead, those}
-use Rattle.crs_value.proofs.ArgumentLemmas.{has-some}
-use Rattle.crs_value.proofs.LayoutLemmas.{noted-end, noted-first, noted-on, noted-shaped}
-use Rattle.crs_value.proofs.RunLemmas.{nothing-seen}
+use Rattle.crs_value.proofs.found.ArgumentLemmas.{has-some}
+use Rattle.crs_value.proofs.walk.LayoutLemmas.{noted-end, noted-first, noted-on, noted-shaped}
+use Rattle.crs_value.proofs.walk.RunLemmas.{nothing-seen}
 use Rattle.crs_value.proofs.judging.quiet.axes_until.Goals as goal
 
 pub loop-at-init : goal.loop-at-init

@@ -1,5 +1,5 @@
 use Rattle.std.proofs.Common.{sym, ◌∙◌}
-use Rattle.crs_value.proofs.LayoutLemmas.{only-here}
+use Rattle.crs_value.proofs.walk.LayoutLemmas.{only-here}
 use Rattle.crs_value.proofs.judging.quiet.is_only.Goals as goal
 
 pub returns : goal.returns

@@ -1,7 +1,7 @@
 use Rattle.crs_text.specs.Items.{rest_of, here}
 use Rattle.crs_value.specs.Reading.{ahead}
-use Rattle.crs_value.proofs.ArgumentLemmas.{has-some, holds_at}
-use Rattle.crs_value.proofs.RestLemmas.{climbing-first, climbing-on}
+use Rattle.crs_value.proofs.found.ArgumentLemmas.{has-some, holds_at}
+use Rattle.crs_value.proofs.walk.RestLemmas.{climbing-first, climbing-on}
 use Rattle.crs_value.proofs.judging.rest.is_ascending.Goals as goal
 
 pub loop-at-init : goal.loop-at-init

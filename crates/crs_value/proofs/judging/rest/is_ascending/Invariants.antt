@@ -1,6 +1,6 @@
 use Rattle.crs_text.specs.Items.{count}
 use Rattle.crs_value.specs.Reading.{ahead, Holds}
-use Rattle.crs_value.proofs.RestLemmas.{Climbing}
+use Rattle.crs_value.proofs.walk.RestLemmas.{Climbing}
 use Rattle.crs_value.proofs.judging.rest.is_ascending.Given as goal
 
 abbrev pub invariant-loop-at : goal.invariant-loop-at

@@ -1,7 +1,7 @@
 use Rattle.std.proofs.Common.{sym, ◌∙◌}
 use Rattle.crs_shape.specs.declared.class.Class.TheVariants as class
 use Rattle.crs_value.specs.Reading.{item_at}
-use Rattle.crs_value.proofs.RestLemmas.{once-none, once-some}
+use Rattle.crs_value.proofs.walk.RestLemmas.{once-none, once-some}
 use Rattle.crs_value.proofs.judging.rest.once_in.Goals as goal
 
 pub returns-then-stands_as : goal.returns-then-stands_as

@@ -1,5 +1,5 @@
-use Rattle.crs_value.proofs.SoundCompoundLemmas.{compound-tells}
-use Rattle.crs_value.proofs.SoundCrsLemmas.{geodetic-tells, projected-tells, vertical-tells}
+use Rattle.crs_value.proofs.sound.CompoundLemmas.{compound-tells}
+use Rattle.crs_value.proofs.sound.CrsLemmas.{geodetic-tells, projected-tells, vertical-tells}
 use Rattle.crs_value.proofs.laws.parts.kinds_are_sound.Goals as goal
 
 pub returns-clause-geodetic : goal.returns-clause-geodetic

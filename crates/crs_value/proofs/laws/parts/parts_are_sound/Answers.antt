@@ -1,12 +1,12 @@
 use Rattle.std.proofs.Common.{refl, arith}
 use Rattle.crs_shape.specs.declared.class.Class.TheVariants as class
-use Rattle.crs_value.proofs.SoundAxisLemmas.{axis-meridian-tells, axis-tells}
-use Rattle.crs_value.proofs.SoundConversionLemmas.{conversion-tells, parameter-tells}
-use Rattle.crs_value.proofs.SoundCrsLemmas.{base-tells, has-ellipsoid, no-ellipsoid}
-use Rattle.crs_value.proofs.SoundDynamicLemmas.{dynamic-tells}
-use Rattle.crs_value.proofs.SoundFrameLemmas.{datum-tells, ellipsoid-tells, ensemble-tells, meridian-tells}
-use Rattle.crs_value.proofs.SoundLemmas.{ident-tells, named-tells, unit-tells}
-use Rattle.crs_value.proofs.SoundUsageLemmas.{box-tells, extent-tells, says-some, usage-tells}
+use Rattle.crs_value.proofs.sound.AxisLemmas.{axis-meridian-tells, axis-tells}
+use Rattle.crs_value.proofs.sound.ConversionLemmas.{conversion-tells, parameter-tells}
+use Rattle.crs_value.proofs.sound.CrsLemmas.{base-tells, has-ellipsoid, no-ellipsoid}
+use Rattle.crs_value.proofs.sound.DynamicLemmas.{dynamic-tells}
+use Rattle.crs_value.proofs.sound.FrameLemmas.{datum-tells, ellipsoid-tells, ensemble-tells, meridian-tells}
+use Rattle.crs_value.proofs.sound.PartLemmas.{ident-tells, named-tells, unit-tells}
+use Rattle.crs_value.proofs.sound.UsageLemmas.{box-tells, extent-tells, says-some, usage-tells}
 use Rattle.crs_value.proofs.laws.parts.parts_are_sound.Goals as goal
 
 pub returns-clause-ident : goal.returns-clause-ident

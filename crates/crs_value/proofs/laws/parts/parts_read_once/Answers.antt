@@ -1,5 +1,5 @@
-use Rattle.crs_value.proofs.OneLemmas.{axis-one, axis_meridian-one, box-one, datum-one, ellipsoid-one, ensemble-one, meridian-one, named-one}
-use Rattle.crs_value.proofs.OneCrsLemmas.{base-one, compound-one, conversion-one, dynamic-one, geodetic-one, projected-one, vertical-one}
+use Rattle.crs_value.proofs.one.ValueLemmas.{axis-one, axis_meridian-one, box-one, datum-one, ellipsoid-one, ensemble-one, meridian-one, named-one}
+use Rattle.crs_value.proofs.one.CrsLemmas.{base-one, compound-one, conversion-one, dynamic-one, geodetic-one, projected-one, vertical-one}
 use Rattle.crs_value.proofs.laws.parts.parts_read_once.Goals as goal
 
 pub returns-clause-along : goal.returns-clause-along

@@ -2,8 +2,8 @@ use Rattle.std.proofs.Common.{Option, ℕ, subst, sym, ◌∙◌, arith}
 use Rattle.crs_text.specs.Items.{arguments}
 use Rattle.crs_shape.specs.declared.class.Class.TheVariants as class
 use Rattle.crs_value.specs.Reading.{item_at}
-use Rattle.crs_value.proofs.FirstArgumentsLemmas.{Seen, axis-among, seen-on, seen-past}
-use Rattle.crs_value.proofs.SystemLemmas.{those-few}
+use Rattle.crs_value.proofs.found.FirstArgumentsLemmas.{Seen, axis-among, seen-on, seen-past}
+use Rattle.crs_value.proofs.checked.SystemLemmas.{those-few}
 use Rattle.crs_value.proofs.reading.firsts.firsts_of.Goals as goal
 use Rattle.crs_value.proofs.reading.firsts.firsts_of.Goals.{in-Some-class_in, in_default-class_in}
 

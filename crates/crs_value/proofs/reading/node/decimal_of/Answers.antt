@@ -1,5 +1,5 @@
 use Rattle.crs_value.specs.Reading.{item_at}
-use Rattle.crs_value.proofs.ArgumentLemmas.{shaped-number}
+use Rattle.crs_value.proofs.found.ArgumentLemmas.{shaped-number}
 use Rattle.crs_value.proofs.reading.node.decimal_of.Goals as goal
 
 pub unreachable-requires : goal.unreachable-requires

@@ -1,7 +1,7 @@
 use Rattle.std.proofs.Common.{Option, ℕ, subst}
 use Rattle.crs_text.specs.Items.{arguments}
 use Rattle.crs_value.specs.Reading.{item_at, those}
-use Rattle.crs_value.proofs.NodeLemmas.{Going, going-first, going-end}
+use Rattle.crs_value.proofs.found.NodeLemmas.{Going, going-first, going-end}
 use Rattle.crs_value.proofs.reading.node.many_from.Goals as goal
 
 pub loop-at-init : goal.loop-at-init

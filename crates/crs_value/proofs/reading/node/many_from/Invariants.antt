@@ -2,7 +2,7 @@ use Rattle.std.proofs.Common.{length}
 use Rattle.crs_text.specs.Items.{arguments}
 use Rattle.crs_value.specs.Reading.{item_at, those}
 use Rattle.crs_value.specs.FoundArguments.{from_found}
-use Rattle.crs_value.proofs.NodeLemmas.{Going}
+use Rattle.crs_value.proofs.found.NodeLemmas.{Going}
 use Rattle.crs_value.proofs.reading.node.many_from.Given as goal
 
 abbrev pub invariant-loop-at : goal.invariant-loop-at

@@ -2,7 +2,7 @@ use Rattle.std.proofs.Common.{ℕ, drop, Option, subst, arith}
 use Rattle.crs_text.specs.Items.{arguments}
 use Rattle.crs_shape.specs.declared.class.Class.TheVariants as class
 use Rattle.crs_value.specs.Reading.{item_at, those, IsFound}
-use Rattle.crs_value.proofs.NodeLemmas.{number-shaped, number-there, number-next}
+use Rattle.crs_value.proofs.found.NodeLemmas.{number-shaped, number-there, number-next}
 use Rattle.crs_value.proofs.reading.node.number_at.Goals as goal
 
 pub unreachable-requires : goal.unreachable-requires

@@ -1,5 +1,5 @@
 use Rattle.crs_value.specs.Reading.{item_at}
-use Rattle.crs_value.proofs.ArgumentLemmas.{first-shaped}
+use Rattle.crs_value.proofs.found.ArgumentLemmas.{first-shaped}
 use Rattle.crs_value.proofs.reading.node.optional_number.Goals as goal
 
 pub number-requires-clause-shaped : goal.number-requires-clause-shaped

@@ -1,7 +1,7 @@
 use Rattle.std.proofs.Common.{ℕ, Option, subst}
 use Rattle.crs_text.specs.Items.{arguments}
 use Rattle.crs_value.specs.Reading.{item_at, those, IsFound}
-use Rattle.crs_value.proofs.ArgumentLemmas.{first-sound}
+use Rattle.crs_value.proofs.found.ArgumentLemmas.{first-sound}
 use Rattle.crs_value.proofs.reading.node.optional_text_from.Goals as goal
 
 pub text-requires-clause-sound : goal.text-requires-clause-sound

@@ -1,5 +1,5 @@
 use Rattle.crs_value.specs.Reading.{item_at}
-use Rattle.crs_value.proofs.ArgumentLemmas.{not-none, first-sound, first-shaped}
+use Rattle.crs_value.proofs.found.ArgumentLemmas.{not-none, first-sound, first-shaped}
 use Rattle.crs_value.proofs.reading.node.required.Goals as goal
 
 pub unreachable-requires : goal.unreachable-requires

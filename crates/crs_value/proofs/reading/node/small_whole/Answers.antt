@@ -1,4 +1,4 @@
-use Rattle.crs_value.proofs.WholeNumberLemmas.{digit-read}
+use Rattle.crs_value.proofs.walk.WholeNumberLemmas.{digit-read}
 use Rattle.crs_value.proofs.reading.node.small_whole.Goals as goal
 
 pub returns-in-Some : goal.returns-in-Some

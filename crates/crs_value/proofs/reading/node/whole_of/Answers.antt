@@ -1,5 +1,5 @@
 use Rattle.crs_value.specs.Reading.{item_at}
-use Rattle.crs_value.proofs.WholeNumberLemmas.{first-whole}
+use Rattle.crs_value.proofs.walk.WholeNumberLemmas.{first-whole}
 use Rattle.crs_value.proofs.reading.node.whole_of.Goals as goal
 
 pub returns : goal.returns

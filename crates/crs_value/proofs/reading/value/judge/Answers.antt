@@ -4,9 +4,9 @@ use Rattle.crs_text.specs.Refusal.{RefusedAt}
 use Rattle.crs_shape.specs.ShapeFault.{class_of_root}
 use Rattle.crs_value.specs.Judged.{Judged}
 use Rattle.crs_value.specs.Reading.{item_at}
-use Rattle.crs_value.proofs.EitherLemmas.{judged-spells}
-use Rattle.crs_value.proofs.RootLemmas.{root-misplaced, root-unbroken, root-broken}
-use Rattle.crs_value.proofs.SpellsLemmas.{root-among}
+use Rattle.crs_value.proofs.some.AnswerLemmas.{judged-spells}
+use Rattle.crs_value.proofs.walk.RootLemmas.{root-misplaced, root-unbroken, root-broken}
+use Rattle.crs_value.proofs.one.RootLemmas.{root-among}
 use Rattle.crs_value.proofs.reading.value.judge.Goals as goal
 
 pub returns-in_default-clause-answer : goal.returns-in_default-clause-answer

@@ -1,7 +1,7 @@
 use Rattle.std.proofs.Common.{ap}
 use Rattle.crs_text.specs.Items.{first_of}
 use Rattle.crs_value.specs.Reading.{item_at}
-use Rattle.crs_value.proofs.SpellsLemmas.{root-among, spelled-sound}
+use Rattle.crs_value.proofs.one.RootLemmas.{root-among, spelled-sound}
 use Rattle.crs_value.proofs.reading.value.kind_of.Goals as goal
 
 pub kind_of_root-requires-clause-sound : goal.kind_of_root-requires-clause-sound

@@ -1,7 +1,7 @@
 use Rattle.std.proofs.Common.{rules, ◌∙◌}
 use Rattle.crs_value.specs.Reading.{item_at}
 use Rattle.crs_value.specs.ReadsCrs.{IsGeodeticClass}
-use Rattle.crs_value.proofs.KindLemmas.{geodetic-kind}
+use Rattle.crs_value.proofs.found.KindLemmas.{geodetic-kind}
 use Rattle.crs_value.proofs.reading.whole.kind_of_root.Goals as goal
 
 pub returns-in-GeodeticCrs : goal.returns-in-GeodeticCrs

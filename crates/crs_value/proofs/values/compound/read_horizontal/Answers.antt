@@ -1,8 +1,8 @@
 use Rattle.std.proofs.Common.{[], ◌∷◌, arith}
 use Rattle.crs_shape.specs.declared.class.Class.TheVariants as class
 use Rattle.crs_value.specs.Reading.{item_at}
-use Rattle.crs_value.proofs.ArgumentLemmas.{first-sound}
-use Rattle.crs_value.proofs.FrameLemmas.{one-there}
+use Rattle.crs_value.proofs.found.ArgumentLemmas.{first-sound}
+use Rattle.crs_value.proofs.found.FrameLemmas.{one-there}
 use Rattle.crs_value.proofs.values.compound.read_horizontal.Goals as goal
 
 pub read_geodetic-requires-clause-sound : goal.read_geodetic-requires-clause-sound

@@ -1,7 +1,7 @@
 use Rattle.crs_shape.specs.declared.class.Class.TheVariants as class
 use Rattle.crs_value.specs.Reading.{item_at}
-use Rattle.crs_value.proofs.ArgumentLemmas.{first-sound}
-use Rattle.crs_value.proofs.ConversionLemmas.{chosen, none-chosen}
+use Rattle.crs_value.proofs.found.ArgumentLemmas.{first-sound}
+use Rattle.crs_value.proofs.found.ConversionLemmas.{chosen, none-chosen}
 use Rattle.crs_value.proofs.values.conversion.parameter_unit.Goals as goal
 
 pub read-requires-clause-sound : goal.read-requires-clause-sound

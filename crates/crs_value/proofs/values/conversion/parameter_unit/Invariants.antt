@@ -1,5 +1,5 @@
 use Rattle.crs_value.specs.Reading.{item_at}
-use Rattle.crs_value.proofs.ConversionLemmas.{Choosing}
+use Rattle.crs_value.proofs.found.ConversionLemmas.{Choosing}
 use Rattle.crs_value.proofs.values.conversion.parameter_unit.Given as goal
 
 abbrev pub invariant-loop-class : goal.invariant-loop-class

@@ -1,7 +1,7 @@
 use Rattle.std.proofs.Common.{[], ◌∷◌}
 use Rattle.crs_value.specs.Reading.{item_at}
-use Rattle.crs_value.proofs.ArgumentLemmas.{first-sound}
-use Rattle.crs_value.proofs.FrameLemmas.{one-there}
+use Rattle.crs_value.proofs.found.ArgumentLemmas.{first-sound}
+use Rattle.crs_value.proofs.found.FrameLemmas.{one-there}
 use Rattle.crs_value.proofs.values.crs_frame.read_frame.Goals as goal
 
 pub read-requires-clause-sound : goal.read-requires-clause-sound

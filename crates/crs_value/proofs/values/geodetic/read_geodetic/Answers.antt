@@ -1,5 +1,5 @@
 use Rattle.crs_value.specs.Reading.{item_at}
-use Rattle.crs_value.proofs.SoundCrsLemmas.{geodetic-tells}
+use Rattle.crs_value.proofs.sound.CrsLemmas.{geodetic-tells}
 use Rattle.crs_value.proofs.values.geodetic.read_geodetic.Goals as goal
 
 pub invariant_of-result : goal.invariant_of-result

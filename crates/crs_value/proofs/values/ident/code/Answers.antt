@@ -1,8 +1,8 @@
 use Rattle.crs_text.specs.Items.{arguments, skip}
 use Rattle.crs_value.specs.Reading.{item_at}
 use Rattle.crs_value.specs.Reads.{ReadsText, single_of}
-use Rattle.crs_value.proofs.IdentLemmas.{code-there}
-use Rattle.crs_value.proofs.NodeLemmas.{none-empty}
+use Rattle.crs_value.proofs.found.IdentLemmas.{code-there}
+use Rattle.crs_value.proofs.found.NodeLemmas.{none-empty}
 use Rattle.crs_value.proofs.values.ident.code.Goals as goal
 
 pub unreachable-requires : goal.unreachable-requires

@@ -1,6 +1,6 @@
 use Rattle.std.proofs.Common.{◌≡◌, ◌+◌, ◌++◌, ◌∷◌, [], rules, subst, sym, take}
 use Rattle.crs_value.specs.Members.{AreIn, IsIn}
-use Rattle.crs_value.proofs.MemberLemmas.{are-front, are-one-more, in-end, in-index, in-over, taken-more}
+use Rattle.crs_value.proofs.found.MemberLemmas.{are-front, are-one-more, in-end, in-index, in-over, taken-more}
 use Rattle.crs_value.proofs.values.ident.each_once.Goals as goal
 use Rattle.crs_value.proofs.values.ident.each_once.Goals.{then-not-is_equal_at+in_ok-push, else-not-is_equal_at}
 

@@ -1,7 +1,7 @@
 use Rattle.std.proofs.Common.{◌≡◌, ◌<◌, Some, length, refl, sym, slice_get}
 use Rattle.std.proofs.lemmas.Bool.{ltb-true}
 use Rattle.std.proofs.lemmas.Option.{slice_get_read}
-use Rattle.crs_value.proofs.MemberLemmas.{in-at}
+use Rattle.crs_value.proofs.found.MemberLemmas.{in-at}
 use Rattle.crs_value.proofs.values.ident.is_equal_at.Goals as goal
 
 pub returns-in-Some : goal.returns-in-Some

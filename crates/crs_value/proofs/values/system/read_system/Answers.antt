@@ -2,8 +2,8 @@ use Rattle.crs_text.specs.Items.{arguments}
 use Rattle.crs_shape.specs.declared.class.Class.TheVariants as class
 use Rattle.crs_value.specs.Reading.{item_at, those}
 use Rattle.crs_value.specs.Reads.{ReadsHead}
-use Rattle.crs_value.proofs.NodeLemmas.{reads-first}
-use Rattle.crs_value.proofs.SoundSystemLemmas.{system-tells}
+use Rattle.crs_value.proofs.found.NodeLemmas.{reads-first}
+use Rattle.crs_value.proofs.sound.SystemLemmas.{system-tells}
 use Rattle.crs_value.proofs.values.system.read_system.Goals as goal
 
 pub invariant_of-result : goal.invariant_of-result

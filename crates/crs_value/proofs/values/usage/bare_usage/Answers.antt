@@ -1,6 +1,6 @@
 use Rattle.std.proofs.Common.{refl}
 use Rattle.crs_value.specs.Reading.{item_at}
-use Rattle.crs_value.proofs.SoundUsageLemmas.{usage-tells}
+use Rattle.crs_value.proofs.sound.UsageLemmas.{usage-tells}
 use Rattle.crs_value.proofs.values.usage.bare_usage.Goals as goal
 
 pub invariant_of-result : goal.invariant_of-result

@@ -1,5 +1,5 @@
 use Rattle.crs_value.specs.Reading.{item_at}
-use Rattle.crs_value.proofs.SoundUsageLemmas.{tail-tells}
+use Rattle.crs_value.proofs.sound.UsageLemmas.{tail-tells}
 use Rattle.crs_value.proofs.values.usage.read_tail.Goals as goal
 
 pub invariant_of-result : goal.invariant_of-result

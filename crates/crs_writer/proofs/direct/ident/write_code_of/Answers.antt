@@ -1,5 +1,5 @@
 use Rattle.crs_value.specs.Reads.{ReadsText}
-use Rattle.crs_value.proofs.NodeLemmas.{none-empty}
+use Rattle.crs_value.proofs.found.NodeLemmas.{none-empty}
 use Rattle.crs_writer.proofs.ReadLemmas.{none-first}
 use Rattle.crs_writer.proofs.direct.ident.write_code_of.Goals as goal
 

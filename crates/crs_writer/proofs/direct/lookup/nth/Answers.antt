@@ -1,7 +1,7 @@
 use Rattle.std.proofs.Common.{ℕ, drop, Option, subst, arith}
 use Rattle.crs_text.specs.Items.{arguments}
 use Rattle.crs_value.specs.Reading.{item_at, those, IsFound}
-use Rattle.crs_value.proofs.NodeLemmas.{number-next}
+use Rattle.crs_value.proofs.found.NodeLemmas.{number-next}
 use Rattle.crs_writer.proofs.DirectLemmas.{drop-past}
 use Rattle.crs_writer.proofs.direct.lookup.nth.Goals as goal
 

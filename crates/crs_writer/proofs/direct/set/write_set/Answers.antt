@@ -3,7 +3,7 @@ use Rattle.crs_value.specs.Reading.{item_at, those, IsFound}
 use Rattle.std.proofs.Common.{ℕ, Option, refl, subst}
 use Rattle.crs_writer.proofs.DirectSetLemmas.{none-written}
 use Rattle.crs_writer.proofs.ReadLemmas.{each-read, others-read}
-use Rattle.crs_value.proofs.ArgumentLemmas.{found-holds}
+use Rattle.crs_value.proofs.found.ArgumentLemmas.{found-holds}
 use Rattle.crs_writer.proofs.direct.set.write_set.Goals as goal
 
 pub returns-in-None : goal.returns-in-None

@@ -3,7 +3,7 @@ use Rattle.crs_text.specs.Items.{arguments}
 use Rattle.crs_shape.specs.declared.class.Class.TheVariants as class
 use Rattle.crs_value.specs.Reading.{item_at, those}
 use Rattle.crs_value.specs.Reads.{ReadsAxis}
-use Rattle.crs_value.proofs.SystemLemmas.{those-few}
+use Rattle.crs_value.proofs.checked.SystemLemmas.{those-few}
 use Rattle.crs_writer.proofs.DirectAxisLemmas.{Seeking, counting-less, seeking-first, seeking-on}
 use Rattle.crs_writer.proofs.direct.system.axis_at.Goals as goal
 

@@ -6,7 +6,7 @@ use Rattle.crs_text.specs.Items.{Item}
 use Rattle.crs_shape.specs.declared.class.Class.TheVariants as class
 use Rattle.crs_value.specs.Reading.{ReadsEach}
 use Rattle.crs_value.specs.Reads.{ReadsUsage}
-use Rattle.crs_value.proofs.ArgumentLemmas.{found-holds, found-is}
+use Rattle.crs_value.proofs.found.ArgumentLemmas.{found-holds, found-is}
 use Rattle.crs_writer.specs.Direct.{IsRead}
 use Rattle.crs_writer.proofs.ReadLemmas.{bare-read}
 use Rattle.crs_writer.proofs.direct.tail.write_all_usages.Goals as goal

@@ -2,7 +2,7 @@ use Rattle.crs_shape.specs.Dimensions.{dimensions_of}
 use Rattle.crs_value.specs.AxisCount.{AxisCount}
 use Rattle.crs_value.specs.BadSystem.{BadSystem}
 use Rattle.crs_value.specs.Reading.{item_at}
-use Rattle.crs_value.proofs.LeastLemmas.{either-is}
+use Rattle.crs_value.proofs.checked.LeastLemmas.{either-is}
 use Rattle.crs_value.proofs.checks.crs.HeadOfCheck.check.Goals as goal
 
 pub returns : goal.returns

@@ -3,8 +3,8 @@ use Rattle.crs_text.specs.Items.{Item, arguments}
 use Rattle.crs_shape.specs.declared.class.Class.TheVariants as class
 use Rattle.crs_value.specs.BadOrder.{OneHas}
 use Rattle.crs_value.specs.Reading.{item_at, those}
-use Rattle.crs_value.proofs.ArgumentLemmas.{found-is, found-shaped}
-use Rattle.crs_value.proofs.OrderLemmas.{wrong-again, wrong-none}
+use Rattle.crs_value.proofs.found.ArgumentLemmas.{found-is, found-shaped}
+use Rattle.crs_value.proofs.checked.OrderLemmas.{wrong-again, wrong-none}
 use Rattle.crs_value.proofs.checks.order.PositionCheck.check.Goals as goal
 
 pub one_has-requires-clause-shaped : goal.one_has-requires-clause-shaped

@@ -1,6 +1,6 @@
 use Rattle.std.proofs.Common.{refl}
 use Rattle.crs_value.specs.Reading.{item_at}
-use Rattle.crs_value.proofs.CheckLemmas.{above-none}
+use Rattle.crs_value.proofs.checked.CheckLemmas.{above-none}
 use Rattle.crs_value.proofs.checks.single.AboveZeroCheck.check.Goals as goal
 
 pub returns-then-is_above_zero : goal.returns-then-is_above_zero

@@ -1,6 +1,6 @@
 use Rattle.std.proofs.Common.{sym}
 use Rattle.crs_value.specs.Reading.{item_at}
-use Rattle.crs_value.proofs.CheckLemmas.{negative-none}
+use Rattle.crs_value.proofs.checked.CheckLemmas.{negative-none}
 use Rattle.crs_value.proofs.checks.single.NotNegativeCheck.check.Goals as goal
 
 pub returns-else-is_negative : goal.returns-else-is_negative

@@ -1,6 +1,6 @@
 use Rattle.std.proofs.Common.{refl}
 use Rattle.crs_value.specs.Reading.{item_at}
-use Rattle.crs_value.proofs.UnitLemmas.{misfit-none, misfit-unknown}
+use Rattle.crs_value.proofs.checked.UnitLemmas.{misfit-none, misfit-unknown}
 use Rattle.crs_value.proofs.checks.unit.MisfitCheck.check.Goals as goal
 
 pub returns-in_err-kind : goal.returns-in_err-kind

@@ -2,7 +2,7 @@ use Rattle.std.proofs.Common.{subst}
 use Rattle.crs_shape.specs.declared.class.Class.{Class}
 use Rattle.crs_shape.specs.Shaped.{Shaped}
 use Rattle.crs_value.specs.Reading.{item_at}
-use Rattle.crs_value.proofs.UnitLemmas.{own-some}
+use Rattle.crs_value.proofs.checked.UnitLemmas.{own-some}
 use Rattle.crs_value.proofs.checks.unit.OwnUnitCheck.check.Goals as goal
 
 pub only_from-requires-clause-shaped : goal.only_from-requires-clause-shaped

@@ -2,7 +2,7 @@ use Rattle.crs_text.specs.Items.{count}
 use Rattle.crs_shape.specs.Slots.{any_of}
 use Rattle.crs_value.specs.Judged.{Leaves}
 use Rattle.crs_value.specs.Reading.{ahead, Holds}
-use Rattle.crs_value.proofs.JudgedLemmas.{Reaches}
+use Rattle.crs_value.proofs.walk.JudgedLemmas.{Reaches}
 use Rattle.crs_value.proofs.judging.slots.AnySlot.pass.Given as goal
 
 abbrev pub invariant-loop-next : goal.invariant-loop-next

@@ -1,5 +1,5 @@
 use Rattle.crs_value.specs.Reading.{item_at}
-use Rattle.crs_value.proofs.JudgedLemmas.{the-first, the-other}
+use Rattle.crs_value.proofs.walk.JudgedLemmas.{the-first, the-other}
 use Rattle.crs_value.proofs.judging.slots.EitherPart.judge.Goals as goal
 
 pub returns-in-None : goal.returns-in-None

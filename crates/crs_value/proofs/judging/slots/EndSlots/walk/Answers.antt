@@ -1,6 +1,6 @@
 use Rattle.std.proofs.Common.{refl, false}
-use Rattle.crs_value.proofs.ArgumentLemmas.{has-some}
-use Rattle.crs_value.proofs.JudgedLemmas.{end-none, end-some}
+use Rattle.crs_value.proofs.found.ArgumentLemmas.{has-some}
+use Rattle.crs_value.proofs.walk.JudgedLemmas.{end-none, end-some}
 use Rattle.crs_value.proofs.judging.slots.EndSlots.walk.Goals as goal
 
 pub returns-in_default : goal.returns-in_default

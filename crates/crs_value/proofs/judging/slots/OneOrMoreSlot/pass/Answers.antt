@@ -1,8 +1,8 @@
 use Rattle.std.proofs.Common.{refl, ap, None, Some}
 use Rattle.crs_shape.specs.Slots.{some_of}
-use Rattle.crs_value.proofs.ArgumentLemmas.{has-some}
-use Rattle.crs_value.proofs.JudgedLemmas.{passed-short, passed-wrong, passed-more, passed-stop}
-use Rattle.crs_value.proofs.LeftLemmas.{leaves-judged, leaves-again}
+use Rattle.crs_value.proofs.found.ArgumentLemmas.{has-some}
+use Rattle.crs_value.proofs.walk.JudgedLemmas.{passed-short, passed-wrong, passed-more, passed-stop}
+use Rattle.crs_value.proofs.walk.LeftLemmas.{leaves-judged, leaves-again}
 use Rattle.crs_value.proofs.judging.slots.OneOrMoreSlot.pass.Goals as goal
 
 pub returns-in_default-clause-passed : goal.returns-in_default-clause-passed

@@ -1,8 +1,8 @@
 use Rattle.std.proofs.Common.{refl, ap, None, Some}
 use Rattle.crs_shape.specs.Slots.{optional_of}
-use Rattle.crs_value.proofs.ArgumentLemmas.{has-some}
-use Rattle.crs_value.proofs.JudgedLemmas.{passed-free, passed-skip, passed-one, passed-stop}
-use Rattle.crs_value.proofs.LeftLemmas.{leaves-at, leaves-judged, leaves-none}
+use Rattle.crs_value.proofs.found.ArgumentLemmas.{has-some}
+use Rattle.crs_value.proofs.walk.JudgedLemmas.{passed-free, passed-skip, passed-one, passed-stop}
+use Rattle.crs_value.proofs.walk.LeftLemmas.{leaves-at, leaves-judged, leaves-none}
 use Rattle.crs_value.proofs.judging.slots.OptionalSlot.pass.Goals as goal
 
 pub returns-in_default-clause-leaves : goal.returns-in_default-clause-leaves

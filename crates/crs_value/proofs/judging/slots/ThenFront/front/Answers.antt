@@ -1,5 +1,5 @@
 use Rattle.std.proofs.Common.{◌++◌}
-use Rattle.crs_value.proofs.LeftLemmas.{all-leave-on, all-passed-on}
+use Rattle.crs_value.proofs.walk.LeftLemmas.{all-leave-on, all-passed-on}
 use Rattle.crs_value.proofs.judging.slots.ThenFront.front.Goals as goal
 
 pub returns-in-None-clause-passed : goal.returns-in-None-clause-passed

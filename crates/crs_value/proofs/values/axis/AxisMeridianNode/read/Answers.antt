@@ -1,5 +1,5 @@
 use Rattle.crs_value.specs.Reading.{item_at}
-use Rattle.crs_value.proofs.SoundAxisLemmas.{axis-meridian-tells}
+use Rattle.crs_value.proofs.sound.AxisLemmas.{axis-meridian-tells}
 use Rattle.crs_value.proofs.values.axis.AxisMeridianNode.read.Goals as goal
 
 pub invariant_of-result : goal.invariant_of-result

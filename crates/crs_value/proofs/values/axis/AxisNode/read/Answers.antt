@@ -4,7 +4,7 @@ use Rattle.crs_shape.specs.declared.class.Class.{Class}
 use Rattle.crs_shape.specs.declared.class.Class.TheVariants as class
 use Rattle.crs_value.specs.Reads.{ReadsDirection}
 use Rattle.crs_value.specs.Reading.{item_at, those, ReadsFirst}
-use Rattle.crs_value.proofs.SoundAxisLemmas.{axis-tells}
+use Rattle.crs_value.proofs.sound.AxisLemmas.{axis-tells}
 use Rattle.crs_value.proofs.values.axis.AxisNode.read.Goals as goal
 
 pub invariant_of-result : goal.invariant_of-result

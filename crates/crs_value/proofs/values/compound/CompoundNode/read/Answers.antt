@@ -3,9 +3,9 @@ use Rattle.crs_shape.specs.declared.class.Class.{Class}
 use Rattle.crs_shape.specs.declared.class.Class.TheVariants as class
 use Rattle.crs_value.specs.ReadsCrs.{ReadsCompound, ReadsHorizontal}
 use Rattle.crs_value.specs.SoundCompound.{IsCompound}
-use Rattle.crs_value.proofs.SoundLemmas.{tells-as}
+use Rattle.crs_value.proofs.sound.PartLemmas.{tells-as}
 use Rattle.crs_value.specs.Reading.{item_at}
-use Rattle.crs_value.proofs.SoundCompoundLemmas.{compound-tells}
+use Rattle.crs_value.proofs.sound.CompoundLemmas.{compound-tells}
 use Rattle.crs_value.proofs.values.compound.CompoundNode.read.Goals as goal
 
 pub invariant_of-result : goal.invariant_of-result

@@ -2,7 +2,7 @@ use Rattle.std.proofs.Common.{sym, subst}
 use Rattle.crs_shape.specs.declared.class.Class.{Class}
 use Rattle.crs_value.specs.ReadsConversion.{ReadsUnitOf, parameter_units}
 use Rattle.crs_value.specs.Reading.{item_at}
-use Rattle.crs_value.proofs.SoundConversionLemmas.{parameter-tells}
+use Rattle.crs_value.proofs.sound.ConversionLemmas.{parameter-tells}
 use Rattle.crs_value.proofs.values.conversion.ParameterNode.read.Goals as goal
 
 pub invariant_of-result : goal.invariant_of-result

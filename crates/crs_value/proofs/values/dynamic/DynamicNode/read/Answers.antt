@@ -1,5 +1,5 @@
 use Rattle.crs_value.specs.Reading.{item_at}
-use Rattle.crs_value.proofs.SoundDynamicLemmas.{dynamic-tells}
+use Rattle.crs_value.proofs.sound.DynamicLemmas.{dynamic-tells}
 use Rattle.crs_value.proofs.values.dynamic.DynamicNode.read.Goals as goal
 
 pub invariant_of-result : goal.invariant_of-result

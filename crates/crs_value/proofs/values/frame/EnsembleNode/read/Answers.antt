@@ -1,5 +1,5 @@
 use Rattle.crs_value.specs.Reading.{item_at}
-use Rattle.crs_value.proofs.SoundFrameLemmas.{ensemble-tells}
+use Rattle.crs_value.proofs.sound.FrameLemmas.{ensemble-tells}
 use Rattle.crs_value.proofs.values.frame.EnsembleNode.read.Goals as goal
 
 pub invariant_of-result : goal.invariant_of-result

@@ -1,5 +1,5 @@
 use Rattle.crs_value.specs.Reading.{item_at}
-use Rattle.crs_value.proofs.SoundLemmas.{named-tells}
+use Rattle.crs_value.proofs.sound.PartLemmas.{named-tells}
 use Rattle.crs_value.proofs.values.frame.MemberNode.read.Goals as goal
 
 pub invariant_of-result : goal.invariant_of-result

@@ -1,5 +1,5 @@
 use Rattle.crs_value.specs.Reading.{item_at}
-use Rattle.crs_value.proofs.SoundLemmas.{ident-tells}
+use Rattle.crs_value.proofs.sound.PartLemmas.{ident-tells}
 use Rattle.crs_value.proofs.values.ident.IdentNode.read.Goals as goal
 
 pub invariant_of-result : goal.invariant_of-result

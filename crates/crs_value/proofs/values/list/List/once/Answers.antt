@@ -1,4 +1,4 @@
-use Rattle.crs_value.proofs.MemberLemmas.{are-all}
+use Rattle.crs_value.proofs.found.MemberLemmas.{are-all}
 use Rattle.crs_value.proofs.values.list.List.once.Goals as goal
 
 pub returns-in_default : goal.returns-in_default

@@ -1,5 +1,5 @@
 use Rattle.crs_value.specs.Reading.{item_at}
-use Rattle.crs_value.proofs.SoundFrameLemmas.{meridian-tells}
+use Rattle.crs_value.proofs.sound.FrameLemmas.{meridian-tells}
 use Rattle.crs_value.proofs.values.meridian.MeridianNode.read.Goals as goal
 
 pub invariant_of-result : goal.invariant_of-result

@@ -2,8 +2,8 @@ use Rattle.crs_shape.specs.declared.class.Class.TheVariants as class
 use Rattle.crs_value.specs.Reading.{item_at}
 use Rattle.crs_value.specs.ReadsCrs.{ReadsBase}
 use Rattle.crs_value.specs.SoundSingle.{IsBase}
-use Rattle.crs_value.proofs.SoundCrsLemmas.{base-tells}
-use Rattle.crs_value.proofs.SoundLemmas.{tells-as}
+use Rattle.crs_value.proofs.sound.CrsLemmas.{base-tells}
+use Rattle.crs_value.proofs.sound.PartLemmas.{tells-as}
 use Rattle.crs_value.proofs.values.projected.BaseNode.read.Goals as goal
 
 pub invariant_of-result : goal.invariant_of-result

@@ -1,9 +1,9 @@
 use Rattle.crs_shape.specs.declared.class.Class.TheVariants as class
 use Rattle.crs_value.specs.ReadsCrs.{ReadsProjected}
 use Rattle.crs_value.specs.SoundSingle.{IsProjected}
-use Rattle.crs_value.proofs.SoundLemmas.{tells-as}
+use Rattle.crs_value.proofs.sound.PartLemmas.{tells-as}
 use Rattle.crs_value.specs.Reading.{item_at}
-use Rattle.crs_value.proofs.SoundCrsLemmas.{projected-tells}
+use Rattle.crs_value.proofs.sound.CrsLemmas.{projected-tells}
 use Rattle.crs_value.proofs.values.projected.ProjectedNode.read.Goals as goal
 
 pub invariant_of-result : goal.invariant_of-result

@@ -1,5 +1,5 @@
 use Rattle.crs_value.specs.Reading.{item_at}
-use Rattle.crs_value.proofs.SoundUsageLemmas.{extent-tells}
+use Rattle.crs_value.proofs.sound.UsageLemmas.{extent-tells}
 use Rattle.crs_value.proofs.values.usage.ExtentNode.read.Goals as goal
 
 pub invariant_of-result : goal.invariant_of-result

@@ -1,0 +1,127 @@
+-- A check over the items of one class, one after another.
+use Rattle.std.proofs.Common.{◌≡◌, ℕ, ◌≤◌, length, true, false, Option, Some, None, inl, inr, take, drop, List, [], ◌∷◌, ◌++◌, refl, sym, ◌∙◌, ap, subst, arith, append_assoc}
+use Rattle.crs_decimal.specs.Bounds.{Denotes}
+use Rattle.crs_decimal.specs.Value.{Value, IsNormal, exact}
+use Rattle.crs_text.specs.Items.{Item, arguments, rest_of, raw_of, here}
+use Rattle.crs_text.specs.Refusal.{RefusedAt}
+use Rattle.crs_shape.specs.declared.class.Class.{Class}
+use Rattle.crs_shape.specs.Shaped.{Shaped}
+use Rattle.crs_value.specs.BadValue.{IsAboveZero, NotAbove, IsNegative}
+use Rattle.crs_value.specs.Break.{AnyOf, IsLeast}
+use Rattle.crs_value.specs.FoundArguments.{from_found, AllShaped}
+use Rattle.crs_value.specs.Least.{lesser}
+use Rattle.crs_value.specs.Reading.{item_at, those, Holds, IsFound}
+use Rattle.crs_value.specs.Reads.{ReadsNumber}
+use Rattle.crs_value.proofs.found.ArgumentLemmas.{found-is, found-holds, all-shaped, found-shaped, nothing}
+use Rattle.crs_value.proofs.checked.LeastLemmas.{least-more, least-same}
+
+-- the first break among those before
+pub record Checked (B : Item → RefusedAt → Type 0) (tree : Item) (parent c : Class) (whole : List Item) (least : Option RefusedAt) (at : Option ℕ) : Type 0 where
+  pub done : List Item
+  pub parts : whole ≡ done ++ from_found tree parent c at
+  pub holds : Holds tree at
+  pub shaped : AllShaped c (from_found tree parent c at)
+  pub is_least : IsLeast (AnyOf B done) least
+
+pub checked-first : (B : Item → RefusedAt → Type 0) (tree : Item) (parent c : Class) (at : Option ℕ) → Holds tree at → AllShaped c (from_found tree parent c at) →
+    Checked B tree parent c (from_found tree parent c at) None at
+checked-first B tree parent c at holds shaped = record {
+  done = [];
+  parts = refl;
+  holds = holds;
+  shaped = shaped;
+  is_least = λ f h. h;
+}
+
+pub checked-on : (B : Item → RefusedAt → Type 0) (tree : Item) (parent c : Class) (whole : List Item) (least next one : Option RefusedAt) (id : ℕ) (at : Option ℕ) →
+    Checked B tree parent c whole least (Some id) → IsLeast (B (item_at tree id)) one → next ≡ lesser least one →
+    IsFound tree parent c (those parent c (rest_of (here tree id))) at → Checked B tree parent c whole next at
+checked-on B tree parent c whole least next one id at so here-least is found =
+    let e = found-is tree parent c (those parent c (rest_of (here tree id))) at found in
+    let more : List Item = item_at tree id ∷ [] in
+    record {
+      done = so.done ++ item_at tree id ∷ [];
+      parts = so.parts ∙ ap (λ xs. so.done ++ item_at tree id ∷ xs) e ∙ sym (append_assoc so.done (item_at tree id ∷ []) (from_found tree parent c at));
+      holds = found-holds tree parent c (those parent c (rest_of (here tree id))) at found;
+      shaped = all-shaped c _ _ e so.shaped.1;
+      is_least =
+          let P : Option RefusedAt → Type 0 = λ o. IsLeast (AnyOf B (so.done ++ item_at tree id ∷ [])) o in
+          subst P (sym is) (least-more B so.done (item_at tree id) least one so.is_least here-least);
+    }
+
+pub append-none : (list : List Item) → list ++ [] ≡ list
+append-none [] = refl
+append-none (v ∷ list) = ap (λ vs. v ∷ vs) (append-none list)
+
+pub checked-end : (B : Item → RefusedAt → Type 0) (tree : Item) (parent c : Class) (whole : List Item) (least : Option RefusedAt) (at : Option ℕ) →
+    Checked B tree parent c whole least at → at ≡ None → IsLeast (AnyOf B whole) least
+checked-end B tree parent c whole least at so none =
+    let e : whole ≡ so.done = so.parts ∙ ap (λ o. so.done ++ from_found tree parent c o) none ∙ append-none so.done in
+    let P : List Item → Type 0 = λ xs. IsLeast (AnyOf B xs) least in
+    subst P (sym e) so.is_least
+
+-- ---- numbers
+
+abbrev pub DenotesOne : Type 0
+DenotesOne = (bytes : List ℕ) (a b : Value) → IsNormal a → IsNormal b → Denotes bytes (exact a) → Denotes bytes (exact b) → a ≡ b
+
+pub number-one : DenotesOne → (item : Item) (a b : Value) → ReadsNumber item a → ReadsNumber item b → a ≡ b
+number-one law item a b p q = law (raw_of item) a b p.0 q.0 p.1 q.1
+
+pub above-none : DenotesOne → (item : Item) (value : Value) → ReadsNumber item value → IsAboveZero value → IsLeast (NotAbove item) None
+above-none law item value reads above = λ f h.
+    let e = number-one law item value h.1.0 reads h.1.1.0 in
+    let P : Value → Type 0 = IsAboveZero in
+    h.1.1.1 (subst P e above)
+
+pub negative-none : DenotesOne → (item : Item) (value : Value) → ReadsNumber item value → value.negative ≡ false → IsLeast (IsNegative item) None
+negative-none law item value reads not_below = λ f h.
+    let e = number-one law item value h.1.0 reads h.1.1.0 in
+    let n : value.negative ≡ true = ap (λ (v : Value). v.negative) e ∙ h.1.1.1 in
+    let k : true ≡ false = sym n ∙ not_below in
+    cc
+
+-- ---- the first one and those after it
+
+pub later-shaped : (tree : Item) (parent c : Class) (item : Item) (id : ℕ) (at : Option ℕ) → Shaped parent item → IsFound tree parent c (those parent c (arguments item)) (Some id) →
+    IsFound tree parent c (those parent c (rest_of (here tree id))) at → AllShaped c (from_found tree parent c at)
+later-shaped tree parent c item id at shaped found next =
+    all-shaped c _ _ (found-is tree parent c _ at next) (found-shaped tree parent c item (Some id) shaped found).1
+
+pub any-later : (B : Item → RefusedAt → Type 0) (tree : Item) (parent c : Class) (items : List Item) (id : ℕ) (at : Option ℕ) (o : Option RefusedAt) →
+    IsFound tree parent c items (Some id) → IsFound tree parent c (those parent c (rest_of (here tree id))) at → IsLeast (AnyOf B (from_found tree parent c at)) o →
+    IsLeast (λ f. AnyOf B (drop 1 items) f) o
+any-later B tree parent c items id at o found next h =
+    let P : List Item → Type 0 = λ xs. IsLeast (AnyOf B xs) o in
+    let Q : List Item → Type 0 = λ xs. IsLeast (AnyOf B (drop 1 xs)) o in
+    subst Q (sym found.0) (subst P (sym (found-is tree parent c _ at next)) h)
+
+pub any-first : (B : Item → RefusedAt → Type 0) (tree : Item) (parent c : Class) (items : List Item) (id : ℕ) (o : Option RefusedAt) →
+    IsFound tree parent c items (Some id) → IsLeast (B (item_at tree id)) o → IsLeast (λ f. AnyOf B (take 1 items) f) o
+any-first B tree parent c items id o found h =
+    let Q : List Item → Type 0 = λ xs. IsLeast (AnyOf B (take 1 xs)) o in
+    subst Q (sym found.0) (least-same (B (item_at tree id)) (λ f. AnyOf B (item_at tree id ∷ []) f) o (λ f k. inl k) back h)
+  where
+    back : (f : RefusedAt) → AnyOf B (item_at tree id ∷ []) f → B (item_at tree id) f
+    back f (inl k) = k
+    back f (inr k) = absurd k
+
+-- where there is no more than the one
+pub only-one : (B : Item → RefusedAt → Type 0) (tree : Item) (parent c : Class) (items : List Item) (id : ℕ) (o : Option RefusedAt) → length items ≤ 1 →
+    IsFound tree parent c items (Some id) → IsLeast (B (item_at tree id)) o → IsLeast (AnyOf B items) o
+only-one B tree parent c items id o few found h =
+    let rest = those parent c (rest_of (here tree id)) in
+    let none : rest ≡ [] = nothing rest (omega (arith, few, ap length found.0)) in
+    let P : List Item → Type 0 = λ xs. IsLeast (AnyOf B xs) o in
+    subst P (sym (found.0 ∙ ap (λ xs. item_at tree id ∷ xs) none)) (least-same (B (item_at tree id)) (λ f. AnyOf B (item_at tree id ∷ []) f) o (λ f k. inl k) back h)
+  where
+    back : (f : RefusedAt) → AnyOf B (item_at tree id ∷ []) f → B (item_at tree id) f
+    back f (inl k) = k
+    back f (inr k) = absurd k
+
+-- those from the first found one on are all of the class
+pub found-any : (B : Item → RefusedAt → Type 0) (tree : Item) (parent c : Class) (items : List Item) (at : Option ℕ) (o : Option RefusedAt) →
+    IsFound tree parent c items at → IsLeast (AnyOf B (from_found tree parent c at)) o → IsLeast (AnyOf B items) o
+found-any B tree parent c items at o found h =
+    let P : List Item → Type 0 = λ xs. IsLeast (AnyOf B xs) o in
+    subst P (sym (found-is tree parent c items at found)) h

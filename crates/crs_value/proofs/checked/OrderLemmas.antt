@@ -1,0 +1,325 @@
+-- The checks of the orders of axes.
+use Rattle.std.proofs.Common.{◌≡◌, ◌≢◌, ℕ, zero, suc, ◌+◌, ◌<◌, ◌≤◌, length, take, drop, Bool, IsTrue, ◌↔◌, inl, inr, ◌⊎◌, Option, Some, None, List, [], ◌∷◌, ◌++◌, refl, sym, ◌∙◌, ap, subst, append_assoc, length-append, arith}
+use Rattle.crs_decimal.specs.Number.{Number, SameNumber, whole_number}
+use Rattle.crs_decimal.specs.Value.{Value, exact}
+use Rattle.crs_text.specs.Items.{Item, arguments, rest_of, here}
+use Rattle.crs_text.specs.Refusal.{RefusedAt}
+use Rattle.crs_shape.specs.declared.class.Class.{Class}
+use Rattle.crs_shape.specs.declared.class.Class.TheVariants as class
+use Rattle.crs_shape.specs.Shaped.{Shaped}
+use Rattle.crs_value.specs.BadOrder.{orders_in, SomeHasOrder, AllHaveOrder, LacksOrder, ReadsOrder, IsPosition, HasThis, OneHas, IsWrongOrder, IsBadOrder, BadOrders, BadOrder}
+use Rattle.crs_value.specs.Break.{at, AnyOf, IsLeast}
+use Rattle.crs_value.specs.FoundArguments.{from_found, AllShaped}
+use Rattle.crs_value.specs.Least.{lesser}
+use Rattle.crs_value.specs.Reading.{item_at, those, Holds, IsFound, ReadsFirst}
+use Rattle.crs_value.specs.Reads.{ReadsNumber}
+use Rattle.crs_value.proofs.found.ArgumentLemmas.{found-is, found-holds, found-shaped, all-shaped}
+use Rattle.crs_value.proofs.checked.CheckLemmas.{DenotesOne, number-one}
+use Rattle.crs_value.proofs.checked.LeastLemmas.{least-same, least-at, least-either}
+use Rattle.crs_value.proofs.checked.SystemLemmas.{first-one, wholes-same}
+
+pub position-test : ((a b : Number) → SameNumber a b → SameNumber b a) → ((a b c : Number) → SameNumber a b → SameNumber b c → SameNumber a c) →
+    (v : Value) (m n : ℕ) (b : Bool) → SameNumber (exact v) (whole_number m) → (IsTrue b ↔ ((1 ≤ m) × (m ≤ n))) → IsTrue b ↔ IsPosition n v
+position-test symmetric transitive v m n b same test = (forth, back)
+  where
+    forth : IsTrue b → IsPosition n v
+    forth e = let h = test.0 e in (m, (h.0, h.1, same))
+
+    back : IsPosition n v → IsTrue b
+    back (k, h) =
+        let e : m ≡ k = wholes-same m k (transitive (whole_number m) (exact v) (whole_number k) (symmetric (exact v) (whole_number m) same) h.2) in
+        test.1 (omega (arith, h.0), omega (arith, h.1))
+
+pub order-one : DenotesOne → (order : Item) (a b : Value) → ReadsOrder order a → ReadsOrder order b → a ≡ b
+order-one law order a b p q = first-one ReadsNumber (λ i x y. number-one law i x y) (those class.Order class.Number (arguments order)) a b p q
+
+pub this-test : DenotesOne → (tree axis : Item) (order : ℕ) (number value : Value) (b : Bool) → IsFound tree class.Axis class.Order (orders_in axis) (Some order) →
+    ReadsOrder (item_at tree order) number → (IsTrue b ↔ (number ≡ value)) → IsTrue b ↔ HasThis value axis
+this-test law tree axis order number value b found reads test = (forth, back)
+  where
+    forth : IsTrue b → HasThis value axis
+    forth e =
+        let P : List Item → Type 0 = λ xs. ReadsFirst ReadsOrder xs value in
+        let Q : Value → Type 0 = λ v. ReadsOrder (item_at tree order) v in
+        subst P (sym found.0) (subst Q (test.0 e) reads)
+
+    back : HasThis value axis → IsTrue b
+    back h =
+        let P : List Item → Type 0 = λ xs. ReadsFirst ReadsOrder xs value in
+        test.1 (order-one law (item_at tree order) number value reads (subst P found.0 h))
+
+pub this-none : (axis : Item) (value : Value) → orders_in axis ≡ [] → HasThis value axis → ⊥
+this-none axis value e h = let P : List Item → Type 0 = λ xs. ReadsFirst ReadsOrder xs value in subst P e h
+
+-- ---- one of the first axes has an order
+
+has-at : (v : Value) (xs : List Item) (i k : ℕ) (x : Item) (ys : List Item) → drop i xs ≡ x ∷ ys → i < k → HasThis v x → OneHas v (take k xs)
+has-at v [] zero k x ys e lt h = cc
+has-at v [] (suc i) k x ys e lt h = cc
+has-at v (z ∷ xs) zero zero x ys e lt h = absurd (omega arith)
+has-at v (z ∷ xs) zero (suc k) x ys e lt h =
+    let same : x ≡ z = cc in
+    let P : Item → Type 0 = λ i. HasThis v i in inl (subst P same h)
+has-at v (z ∷ xs) (suc i) zero x ys e lt h = absurd (omega arith)
+has-at v (z ∷ xs) (suc i) (suc k) x ys e lt h = inr (has-at v xs i k x ys e (omega arith) h)
+
+has-split : (v : Value) (xs : List Item) (i : ℕ) (x : Item) (ys : List Item) → drop i xs ≡ x ∷ ys → OneHas v (take (suc i) xs) → OneHas v (take i xs) ⊎ HasThis v x
+has-split v [] zero x ys e h = cc
+has-split v [] (suc i) x ys e h = cc
+has-split v (z ∷ xs) zero x ys e (inl h) = let same : z ≡ x = cc in let P : Item → Type 0 = λ i. HasThis v i in inr (subst P same h)
+has-split v (z ∷ xs) zero x ys e (inr h) = absurd (none-has v xs h)
+  where
+    none-has : (v : Value) (xs : List Item) → OneHas v (take 0 xs) → ⊥
+    none-has v [] h = h
+    none-has v (x ∷ xs) h = h
+has-split v (z ∷ xs) (suc i) x ys e (inl h) = inl (inl h)
+has-split v (z ∷ xs) (suc i) x ys e (inr h) = more (has-split v xs i x ys e h)
+  where
+    more : OneHas v (take i xs) ⊎ HasThis v x → OneHas v (take (suc i) (z ∷ xs)) ⊎ HasThis v x
+    more (inl k) = inl (inr k)
+    more (inr k) = inr k
+
+drop-tail : (xs : List Item) (i : ℕ) (x : Item) (ys : List Item) → drop i xs ≡ x ∷ ys → drop (suc i) xs ≡ ys
+drop-tail [] zero x ys e = cc
+drop-tail [] (suc k) x ys e = cc
+drop-tail (i ∷ xs) zero x ys e = cc
+drop-tail (i ∷ xs) (suc k) x ys e = drop-tail xs k x ys e
+
+drop-end : (xs : List Item) (i : ℕ) → drop i xs ≡ [] → length xs ≤ i
+drop-end [] i e = omega arith
+drop-end (x ∷ xs) zero e = cc
+drop-end (x ∷ xs) (suc i) e = omega (arith, drop-end xs i e)
+
+pub record Seeking (tree : Item) (parent : Class) (whole : List Item) (v : Value) (i : ℕ) (at : Option ℕ) : Type 0 where
+  pub rest : drop i whole ≡ from_found tree parent class.Axis at
+  pub holds : Holds tree at
+  pub shaped : AllShaped class.Axis (from_found tree parent class.Axis at)
+  pub none : OneHas v (take i whole) → ⊥
+
+pub seek-first : (tree : Item) (parent : Class) (v : Value) (at : Option ℕ) → Holds tree at → AllShaped class.Axis (from_found tree parent class.Axis at) →
+    Seeking tree parent (from_found tree parent class.Axis at) v 0 at
+seek-first tree parent v at holds shaped = record { rest = refl; holds = holds; shaped = shaped; none = λ h. h }
+
+pub seek-on : (tree : Item) (parent : Class) (whole : List Item) (v : Value) (i id : ℕ) (at : Option ℕ) → Seeking tree parent whole v i (Some id) → (HasThis v (item_at tree id) → ⊥) →
+    IsFound tree parent class.Axis (those parent class.Axis (rest_of (here tree id))) at → Seeking tree parent whole v (i + 1) at
+seek-on tree parent whole v i id at so other found =
+    let e = found-is tree parent class.Axis (those parent class.Axis (rest_of (here tree id))) at found in
+    let P : ℕ → Type 0 = λ k. Seeking tree parent whole v k at in
+    let more : suc i ≡ i + 1 = omega arith in
+    let next : Seeking tree parent whole v (suc i) at = record {
+      rest = drop-tail whole i (item_at tree id) (those parent class.Axis (rest_of (here tree id))) so.rest ∙ e;
+      holds = found-holds tree parent class.Axis _ at found;
+      shaped = all-shaped class.Axis _ _ e so.shaped.1;
+      none = λ h. none (has-split v whole i (item_at tree id) (those parent class.Axis (rest_of (here tree id))) so.rest h);
+    } in
+    subst P more next
+  where
+    none : OneHas v (take i whole) ⊎ HasThis v (item_at tree id) → ⊥
+    none (inl h) = so.none h
+    none (inr h) = other h
+
+pub seek-here : (tree : Item) (parent : Class) (whole : List Item) (v : Value) (i k id : ℕ) → Seeking tree parent whole v i (Some id) → i < k → HasThis v (item_at tree id) → OneHas v (take k whole)
+seek-here tree parent whole v i k id so lt h = has-at v whole i k (item_at tree id) (those parent class.Axis (rest_of (here tree id))) so.rest lt h
+
+pub seek-there : (tree : Item) (parent : Class) (whole : List Item) (v : Value) (i k : ℕ) (at : Option ℕ) → Seeking tree parent whole v i at → at ≡ None → i < k → k ≤ length whole → ⊥
+seek-there tree parent whole v i k at so none lt le =
+    let e : drop i whole ≡ [] = so.rest ∙ ap (from_found tree parent class.Axis) none in
+    omega (arith, drop-end whole i e)
+
+-- ---- some axis has an order
+
+pub record Some-left (tree : Item) (parent : Class) (whole : List Item) (at : Option ℕ) : Type 0 where
+  pub forth : SomeHasOrder (from_found tree parent class.Axis at) → SomeHasOrder whole
+  pub back : SomeHasOrder whole → SomeHasOrder (from_found tree parent class.Axis at)
+  pub holds : Holds tree at
+
+pub some-first : (tree : Item) (parent : Class) (at : Option ℕ) → Holds tree at → Some-left tree parent (from_found tree parent class.Axis at) at
+some-first tree parent at holds = record { forth = λ h. h; back = λ h. h; holds = holds }
+
+pub some-on : (tree : Item) (parent : Class) (whole : List Item) (id : ℕ) (at : Option ℕ) → Some-left tree parent whole (Some id) → ((orders_in (item_at tree id) ≢ []) → ⊥) →
+    IsFound tree parent class.Axis (those parent class.Axis (rest_of (here tree id))) at → Some-left tree parent whole at
+some-on tree parent whole id at so other found =
+    let e = found-is tree parent class.Axis (those parent class.Axis (rest_of (here tree id))) at found in
+    record {
+      forth = λ h. so.forth (inr (subst SomeHasOrder (sym e) h));
+      back = λ h. subst SomeHasOrder e (later (so.back h));
+      holds = found-holds tree parent class.Axis _ at found;
+    }
+  where
+    later : SomeHasOrder (from_found tree parent class.Axis (Some id)) → SomeHasOrder (those parent class.Axis (rest_of (here tree id)))
+    later (inl h) = absurd (other h)
+    later (inr h) = h
+
+pub some-end : (tree : Item) (parent : Class) (whole : List Item) (at : Option ℕ) → Some-left tree parent whole at → at ≡ None → SomeHasOrder whole → ⊥
+some-end tree parent whole at so none h =
+    let P : Option ℕ → Type 0 = λ o. SomeHasOrder (from_found tree parent class.Axis o) in subst P none (so.back h)
+
+-- ---- an order by itself
+
+not-wrong : (n : ℕ) (before : List Item) (value other : Value) → value ≡ other → IsPosition n value → (OneHas value before → ⊥) →
+    (¬ (IsPosition n other)) ⊎ OneHas other before → ⊥
+not-wrong n before value other e position one (inl h) = let P : Value → Type 0 = λ v. IsPosition n v in h (subst P e position)
+not-wrong n before value other e position one (inr h) = let P : Value → Type 0 = λ v. OneHas v before in one (subst P (sym e) h)
+
+pub wrong-none : DenotesOne → (n : ℕ) (before : List Item) (order : Item) (value : Value) → ReadsOrder order value → IsPosition n value → (OneHas value before → ⊥) →
+    IsLeast (IsBadOrder n before order) None
+wrong-none law n before order value reads position one = λ f h.
+    not-wrong n before value h.1.0 (order-one law order value h.1.0 reads h.1.1.0) position one h.1.1.1
+
+pub wrong-position : (n : ℕ) (before : List Item) (order : Item) (value : Value) (r : RefusedAt) → r ≡ at 26 order → ReadsOrder order value → (IsPosition n value → ⊥) →
+    IsLeast (IsBadOrder n before order) (Some r)
+wrong-position n before order value r e reads position = least-at (at 26 order) r (IsWrongOrder n before order) e (value, (reads, inl position))
+
+pub wrong-again : (n : ℕ) (before : List Item) (order : Item) (value : Value) (r : RefusedAt) → r ≡ at 26 order → ReadsOrder order value → OneHas value before →
+    IsLeast (IsBadOrder n before order) (Some r)
+wrong-again n before order value r e reads one = least-at (at 26 order) r (IsWrongOrder n before order) e (value, (reads, inr one))
+
+-- ---- the orders of all axes
+
+bad-left : (n : ℕ) (b xs ys : List Item) (f : RefusedAt) → BadOrders n b xs f → BadOrders n b (xs ++ ys) f
+bad-left n b [] ys f h = absurd h
+bad-left n b (x ∷ xs) ys f (inl h) = inl h
+bad-left n b (x ∷ xs) ys f (inr h) = inr (bad-left n (b ++ x ∷ []) xs ys f h)
+
+append-none : (list : List Item) → list ++ [] ≡ list
+append-none [] = refl
+append-none (v ∷ list) = ap (λ vs. v ∷ vs) (append-none list)
+
+bad-right : (n : ℕ) (b xs ys : List Item) (f : RefusedAt) → BadOrders n (b ++ xs) ys f → BadOrders n b (xs ++ ys) f
+bad-right n b [] ys f h = let P : List Item → Type 0 = λ c. BadOrders n c ys f in subst P (append-none b) h
+bad-right n b (x ∷ xs) ys f h =
+    let P : List Item → Type 0 = λ c. BadOrders n c ys f in
+    inr (bad-right n (b ++ x ∷ []) xs ys f (subst P (sym (append_assoc b (x ∷ []) xs)) h))
+
+bad-split : (n : ℕ) (b xs ys : List Item) (f : RefusedAt) → BadOrders n b (xs ++ ys) f → BadOrders n b xs f ⊎ BadOrders n (b ++ xs) ys f
+bad-split n b [] ys f h = let P : List Item → Type 0 = λ c. BadOrders n c ys f in inr (subst P (sym (append-none b)) h)
+bad-split n b (x ∷ xs) ys f (inl h) = inl (inl h)
+bad-split n b (x ∷ xs) ys f (inr h) = more (bad-split n (b ++ x ∷ []) xs ys f h)
+  where
+    more : BadOrders n (b ++ x ∷ []) xs f ⊎ BadOrders n ((b ++ x ∷ []) ++ xs) ys f → BadOrders n b (x ∷ xs) f ⊎ BadOrders n (b ++ (x ∷ xs)) ys f
+    more (inl k) = inl (inr k)
+    more (inr k) = let P : List Item → Type 0 = λ c. BadOrders n c ys f in inr (subst P (append_assoc b (x ∷ []) xs) k)
+
+bad-more : (n : ℕ) (done : List Item) (axis : Item) (a b r : Option RefusedAt) → r ≡ lesser a b → IsLeast (BadOrders n [] done) a → IsLeast (AnyOf (IsBadOrder n done) (orders_in axis)) b →
+    IsLeast (BadOrders n [] (done ++ axis ∷ [])) r
+bad-more n done axis a b r e p q =
+    let P : Option RefusedAt → Type 0 = λ o. IsLeast (BadOrders n [] (done ++ axis ∷ [])) o in
+    subst P (sym e) (least-same (λ f. BadOrders n [] done f ⊎ AnyOf (IsBadOrder n done) (orders_in axis) f) (BadOrders n [] (done ++ axis ∷ [])) (lesser a b) to back
+    (least-either (BadOrders n [] done) (AnyOf (IsBadOrder n done) (orders_in axis)) a b p q))
+  where
+    to : (f : RefusedAt) → BadOrders n [] done f ⊎ AnyOf (IsBadOrder n done) (orders_in axis) f → BadOrders n [] (done ++ axis ∷ []) f
+    to f (inl h) = bad-left n [] done (axis ∷ []) f h
+    to f (inr h) = bad-right n [] done (axis ∷ []) f (inl h)
+
+    one : (f : RefusedAt) → BadOrders n [] done f ⊎ BadOrders n ([] ++ done) (axis ∷ []) f → BadOrders n [] done f ⊎ AnyOf (IsBadOrder n done) (orders_in axis) f
+    one f (inl h) = inl h
+    one f (inr (inl h)) = inr h
+    one f (inr (inr h)) = absurd h
+
+    back : (f : RefusedAt) → BadOrders n [] (done ++ axis ∷ []) f → BadOrders n [] done f ⊎ AnyOf (IsBadOrder n done) (orders_in axis) f
+    back f h = one f (bad-split n [] done (axis ∷ []) f h)
+
+pub record Ordering (tree : Item) (parent : Class) (whole : List Item) (count before : ℕ) (least : Option RefusedAt) (at : Option ℕ) : Type 0 where
+  pub done : List Item
+  pub parts : whole ≡ done ++ from_found tree parent class.Axis at
+  pub many : before ≡ length done
+  pub all : count ≡ length whole
+  pub holds : Holds tree at
+  pub shaped : AllShaped class.Axis (from_found tree parent class.Axis at)
+  pub is_least : IsLeast (BadOrders (length whole) [] done) least
+
+-- where an axis is left, those before it aren't all
+pub more-are-left : (tree : Item) (parent : Class) (whole : List Item) (count before : ℕ) (least : Option RefusedAt) (id : ℕ) → Ordering tree parent whole count before least (Some id) →
+    before + 1 ≤ length whole
+more-are-left tree parent whole count before least id so =
+    omega (arith, so.many, ap length so.parts, length-append so.done (from_found tree parent class.Axis (Some id)))
+
+pub ordering-first : (tree : Item) (parent : Class) (item : Item) (count : ℕ) (at : Option ℕ) → Shaped parent item → count ≡ length (those parent class.Axis (arguments item)) →
+    IsFound tree parent class.Axis (those parent class.Axis (arguments item)) at → Ordering tree parent (those parent class.Axis (arguments item)) count 0 None at
+ordering-first tree parent item count at shaped is found = record {
+  done = [];
+  parts = found-is tree parent class.Axis (those parent class.Axis (arguments item)) at found;
+  many = refl;
+  all = is;
+  holds = found-holds tree parent class.Axis _ at found;
+  shaped = found-shaped tree parent class.Axis item at shaped found;
+  is_least = λ f h. h;
+}
+
+length-done : (done : List Item) (x : Item) (ys : List Item) → length (done ++ x ∷ ys) ≡ length done + suc (length ys)
+length-done [] x ys = omega arith
+length-done (d ∷ done) x ys = omega (arith, length-done done x ys)
+
+take-done : (done ys : List Item) → take (length done) (done ++ ys) ≡ done
+take-done [] [] = refl
+take-done [] (y ∷ ys) = refl
+take-done (d ∷ done) ys = ap (λ xs. d ∷ xs) (take-done done ys)
+
+pub ordering-within : (tree : Item) (parent : Class) (whole : List Item) (count before : ℕ) (least : Option RefusedAt) (id : ℕ) → Ordering tree parent whole count before least (Some id) →
+    before < length whole
+ordering-within tree parent whole count before least id so =
+    let e : length whole ≡ length so.done + suc (length (those parent class.Axis (rest_of (here tree id)))) =
+    ap length so.parts ∙ length-done so.done (item_at tree id) (those parent class.Axis (rest_of (here tree id))) in
+    let m = so.many in
+    omega (arith, e, m)
+
+length-one : (done : List Item) (x : Item) → length (done ++ x ∷ []) ≡ length done + 1
+length-one [] x = refl
+length-one (d ∷ done) x = omega (arith, length-one done x)
+
+pub ordering-on : (tree : Item) (parent : Class) (whole : List Item) (count before : ℕ) (least one next : Option RefusedAt) (id : ℕ) (at : Option ℕ) →
+    Ordering tree parent whole count before least (Some id) → IsLeast (AnyOf (IsBadOrder count (take before whole)) (orders_in (item_at tree id))) one → next ≡ lesser least one →
+    IsFound tree parent class.Axis (those parent class.Axis (rest_of (here tree id))) at → Ordering tree parent whole count (before + 1) next at
+ordering-on tree parent whole count before least one next id at so here-least e found =
+    let f = found-is tree parent class.Axis (those parent class.Axis (rest_of (here tree id))) at found in
+    let t : take before whole ≡ so.done = ap (λ k. take k whole) so.many ∙ ap (take (length so.done)) so.parts ∙ take-done so.done (from_found tree parent class.Axis (Some id)) in
+    let P : List Item → Type 0 = λ xs. IsLeast (AnyOf (IsBadOrder count xs) (orders_in (item_at tree id))) one in
+    let Q : ℕ → Type 0 = λ n. IsLeast (AnyOf (IsBadOrder n so.done) (orders_in (item_at tree id))) one in
+    record {
+      done = so.done ++ item_at tree id ∷ [];
+      parts = so.parts ∙ ap (λ xs. so.done ++ item_at tree id ∷ xs) f ∙ sym (append_assoc so.done (item_at tree id ∷ []) (from_found tree parent class.Axis at));
+      many = ap (λ k. k + 1) so.many ∙ sym (length-one so.done (item_at tree id));
+      all = so.all;
+      holds = found-holds tree parent class.Axis _ at found;
+      shaped = all-shaped class.Axis _ _ f so.shaped.1;
+      is_least = bad-more (length whole) so.done (item_at tree id) least one next e so.is_least (subst Q so.all (subst P t here-least));
+    }
+
+pub ordering-end : (tree : Item) (parent : Class) (whole : List Item) (count before : ℕ) (least : Option RefusedAt) (at : Option ℕ) → Ordering tree parent whole count before least at → at ≡ None →
+    IsLeast (BadOrders (length whole) [] whole) least
+ordering-end tree parent whole count before least at so none =
+    let e : whole ≡ so.done = so.parts ∙ ap (λ o. so.done ++ from_found tree parent class.Axis o) none ∙ append-none so.done in
+    let P : List Item → Type 0 = λ xs. IsLeast (BadOrders (length whole) [] xs) least in
+    subst P (sym e) so.is_least
+
+-- ---- the two cases
+
+all-have : (axes : List Item) → ((f : RefusedAt) → ¬ (AnyOf LacksOrder axes f)) → AllHaveOrder axes
+all-have [] none = tt
+all-have (axis ∷ axes) none = (λ e. none (at 26 axis) (inl (refl, e)), all-have axes (λ f h. none f (inr h)))
+
+not-all : (axes : List Item) (f : RefusedAt) → AnyOf LacksOrder axes f → AllHaveOrder axes → ⊥
+not-all [] f h all = h
+not-all (axis ∷ axes) f (inl h) all = all.0 h.1
+not-all (axis ∷ axes) f (inr h) all = not-all axes f h all.1
+
+pub order-all : (axes : List Item) (o : Option RefusedAt) → IsLeast (AnyOf LacksOrder axes) None → IsLeast (BadOrders (length axes) [] axes) o → IsLeast (BadOrder axes) o
+order-all axes o none h = least-same (BadOrders (length axes) [] axes) (BadOrder axes) o (λ f k. inr (all-have axes none, k)) back h
+  where
+    back : (f : RefusedAt) → BadOrder axes f → BadOrders (length axes) [] axes f
+    back f (inl k) = absurd (none f k.1)
+    back f (inr k) = k.1
+
+pub order-some : (axes : List Item) (g : RefusedAt) → IsLeast (AnyOf LacksOrder axes) (Some g) → SomeHasOrder axes → IsLeast (BadOrder axes) (Some g)
+order-some axes g h some = least-same (AnyOf LacksOrder axes) (BadOrder axes) (Some g) (λ f k. inl (some, k)) back h
+  where
+    back : (f : RefusedAt) → BadOrder axes f → AnyOf LacksOrder axes f
+    back f (inl k) = k.1
+    back f (inr k) = absurd (not-all axes g h.0 k.0)
+
+pub order-none : (axes : List Item) (g : RefusedAt) → IsLeast (AnyOf LacksOrder axes) (Some g) → (SomeHasOrder axes → ⊥) → IsLeast (BadOrder axes) None
+order-none axes g h other = back
+  where
+    back : (f : RefusedAt) → BadOrder axes f → ⊥
+    back f (inl k) = other k.0
+    back f (inr k) = not-all axes g h.0 k.0

@@ -1,0 +1,125 @@
+-- The checks of the units of a coordinate system.
+use Rattle.std.proofs.Common.{◌≡◌, ℕ, inl, inr, Option, Some, None, List, [], ◌∷◌, sym, ◌∙◌, ap, subst}
+use Rattle.crs_text.specs.Items.{Item, leaf, node, arguments, keyword_in, raw_of, rest_of, here}
+use Rattle.crs_text.specs.Tokens.{number, text, word}
+use Rattle.crs_text.specs.declared.keyword.Keyword.{Keyword}
+use Rattle.crs_text.specs.Keywords.{keyword_of}
+use Rattle.crs_text.specs.Refusal.{RefusedAt}
+use Rattle.crs_shape.specs.declared.class.Class.{Class}
+use Rattle.crs_shape.specs.declared.class.Class.TheVariants as class
+use Rattle.crs_shape.specs.declared.unit_kind.UnitKind.{UnitKind}
+use Rattle.crs_shape.specs.declared.unit_kind.UnitKind.TheVariants as kinds
+use Rattle.crs_shape.specs.UnitKinds.{asked_kind}
+use Rattle.crs_shape.specs.Words.{SpellsWord, unit_word}
+use Rattle.crs_shape.specs.Shaped.{Shaped}
+use Rattle.crs_value.specs.BadUnit.{Asks, Fits, units_in, Misfits, BadOwnUnit, HasOwnUnit, BadShared, BadUnit, AllAsk}
+use Rattle.crs_value.specs.Break.{at, AnyOf, IsLeast}
+use Rattle.crs_value.specs.FoundArguments.{from_found, AllShaped}
+use Rattle.crs_value.specs.Least.{lesser}
+use Rattle.crs_value.specs.Reading.{item_at, those, Holds, IsFound, IsReading}
+use Rattle.crs_value.specs.Reads.{ReadsDirection, ReadsKind}
+use Rattle.crs_value.proofs.found.ArgumentLemmas.{found-is, found-holds, found-shaped, all-shaped}
+use Rattle.crs_value.proofs.checked.LeastLemmas.{least-same, least-at, either-is}
+use Rattle.crs_value.proofs.checked.SystemLemmas.{first-one, type-is-one}
+use Rattle.crs_shape.proofs.WordLemmas.{direction_one}
+
+-- the keyword that a unit was read with is that of its bytes
+pub keyword-raw : (item : Item) (k : Keyword) → Some k ≡ keyword_in item → keyword_of (raw_of item) ≡ Some k
+keyword-raw (leaf number place raw) k e = cc
+keyword-raw (leaf text place raw) k e = cc
+keyword-raw (leaf word place raw) k e = sym e
+keyword-raw (node place spelled square first others close) k e = sym e
+
+pub kind-read : (unit : Item) (raw : List ℕ) (found : Option UnitKind) → raw ≡ raw_of unit → IsReading (λ kind. SpellsWord raw (unit_word kind)) found → IsReading (ReadsKind unit) found
+kind-read unit raw found e reads = let P : List ℕ → Type 0 = λ r. IsReading (λ kind. SpellsWord r (unit_word kind)) found in subst P e reads
+
+pub fits-none : (unit : Item) (raw : List ℕ) (kind : UnitKind) → raw ≡ raw_of unit → ((k : UnitKind) → ¬ (SpellsWord raw (unit_word k))) → Fits unit kind → ⊥
+fits-none unit raw kind e none (inl h) = let P : List ℕ → Type 0 = λ r. SpellsWord r (unit_word kinds.Plain) in none kinds.Plain (subst P (sym e) h)
+fits-none unit raw kind e none (inr h) = let P : List ℕ → Type 0 = λ r. SpellsWord r (unit_word kind) in none kind (subst P (sym e) h)
+
+pub asks-one : (cs axis : Item) (a b : UnitKind) → Asks cs axis a → Asks cs axis b → a ≡ b
+asks-one cs axis a b p q =
+    let t = type-is-one cs p.0 q.0 p.1.1.0 q.1.1.0 in
+    let d = first-one ReadsDirection (λ i x y. direction_one (raw_of i) x y) (those class.Axis class.Word (arguments axis)) p.1.0 q.1.0 p.1.1.1 q.1.1.1 in
+    p.1.1.2 ∙ ap (λ x. asked_kind x p.1.0) t ∙ ap (λ x. asked_kind q.0 x) d ∙ sym q.1.1.2
+
+pub misfit-none : (cs axis unit : Item) (kind : UnitKind) → Asks cs axis kind → Fits unit kind → IsLeast (Misfits cs axis unit) None
+misfit-none cs axis unit kind asks fits = λ f h.
+    let P : UnitKind → Type 0 = λ k. Fits unit k in
+    h.1.1.1 (subst P (asks-one cs axis kind h.1.0 asks h.1.1.0) fits)
+
+pub misfit-unknown : (cs axis unit : Item) (r : Option RefusedAt) → ((k : UnitKind) → ¬ (Asks cs axis k)) → r ≡ None → IsLeast (Misfits cs axis unit) r
+misfit-unknown cs axis unit r none e =
+    let P : Option RefusedAt → Type 0 = λ o. IsLeast (Misfits cs axis unit) o in subst P (sym e) (λ f h. none h.1.0 h.1.1.0)
+
+-- what is left of the axes is asked for one kind exactly where all are
+pub record Asking (tree : Item) (parent : Class) (cs : Item) (whole : List Item) (kind : UnitKind) (at : Option ℕ) : Type 0 where
+  pub forth : AllAsk cs (from_found tree parent class.Axis at) kind → AllAsk cs whole kind
+  pub back : AllAsk cs whole kind → AllAsk cs (from_found tree parent class.Axis at) kind
+  pub holds : Holds tree at
+  pub shaped : AllShaped class.Axis (from_found tree parent class.Axis at)
+
+pub asking-first : (tree : Item) (parent : Class) (cs item : Item) (kind : UnitKind) (at : Option ℕ) → Shaped parent item → IsFound tree parent class.Axis (those parent class.Axis (arguments item)) at →
+    Asking tree parent cs (those parent class.Axis (arguments item)) kind at
+asking-first tree parent cs item kind at shaped found =
+    let e = found-is tree parent class.Axis (those parent class.Axis (arguments item)) at found in
+    let P : List Item → Type 0 = λ xs. AllAsk cs xs kind in
+    record {
+      forth = λ h. subst P (sym e) h;
+      back = λ h. subst P e h;
+      holds = found-holds tree parent class.Axis _ at found;
+      shaped = found-shaped tree parent class.Axis item at shaped found;
+    }
+
+pub asking-on : (tree : Item) (parent : Class) (cs : Item) (whole : List Item) (kind : UnitKind) (id : ℕ) (at : Option ℕ) → Asking tree parent cs whole kind (Some id) →
+    Asks cs (item_at tree id) kind → IsFound tree parent class.Axis (those parent class.Axis (rest_of (here tree id))) at → Asking tree parent cs whole kind at
+asking-on tree parent cs whole kind id at so asks found =
+    let e = found-is tree parent class.Axis (those parent class.Axis (rest_of (here tree id))) at found in
+    let P : List Item → Type 0 = λ xs. AllAsk cs xs kind in
+    record {
+      forth = λ h. so.forth (asks, subst P (sym e) h);
+      back = λ h. subst P e (so.back h).1;
+      holds = found-holds tree parent class.Axis _ at found;
+      shaped = all-shaped class.Axis _ _ e so.shaped.1;
+    }
+
+pub asking-none : (tree : Item) (parent : Class) (cs : Item) (whole : List Item) (kind : UnitKind) (id : ℕ) → Asking tree parent cs whole kind (Some id) →
+    (Asks cs (item_at tree id) kind → ⊥) → AllAsk cs whole kind → ⊥
+asking-none tree parent cs whole kind id so other all = other (so.back all).0
+
+pub asking-end : (tree : Item) (parent : Class) (cs : Item) (whole : List Item) (kind : UnitKind) (at : Option ℕ) → Asking tree parent cs whole kind at → at ≡ None → AllAsk cs whole kind
+asking-end tree parent cs whole kind at so none =
+    let P : Option ℕ → Type 0 = λ o. AllAsk cs (from_found tree parent class.Axis o) kind in so.forth (subst P (sym none) tt)
+
+-- an axis without a unit, or with one
+pub own-none : (cs axis : Item) (r : RefusedAt) → r ≡ at 27 axis → units_in axis ≡ [] → IsLeast (BadOwnUnit cs axis) (Some r)
+own-none cs axis r e none =
+    least-same (λ f. (f ≡ at 27 axis) × (units_in axis ≡ [])) (BadOwnUnit cs axis) (Some r) (λ f h. inl h) back (least-at (at 27 axis) r (units_in axis ≡ []) e none)
+  where
+    back : (f : RefusedAt) → BadOwnUnit cs axis f → (f ≡ at 27 axis) × (units_in axis ≡ [])
+    back f (inl h) = h
+    back f (inr h) = let P : List Item → Type 0 = λ xs. AnyOf (Misfits cs axis) xs f in absurd (subst P none h)
+
+pub own-some : (tree cs axis : Item) (id : ℕ) (o : Option RefusedAt) → IsFound tree class.Axis class.AxisUnit (units_in axis) (Some id) →
+    IsLeast (AnyOf (Misfits cs axis) (units_in axis)) o → IsLeast (BadOwnUnit cs axis) o
+own-some tree cs axis id o found h = least-same (AnyOf (Misfits cs axis) (units_in axis)) (BadOwnUnit cs axis) o (λ f k. inr k) back h
+  where
+    back : (f : RefusedAt) → BadOwnUnit cs axis f → AnyOf (Misfits cs axis) (units_in axis) f
+    back f (inl k) = let e : [] ≡ item_at tree id ∷ those class.Axis class.AxisUnit (rest_of (here tree id)) = sym k.1 ∙ found.0 in absurd cc
+    back f (inr k) = k
+
+-- a kind that is none of the others
+pub last-kind : (P : UnitKind → Type 0) → (P kinds.Length → ⊥) → (P kinds.Angle → ⊥) → (P kinds.Scale → ⊥) → ((k : UnitKind) × P k) → P kinds.Plain
+last-kind P a b c (kinds.Length, h) = absurd (a h)
+last-kind P a b c (kinds.Angle, h) = absurd (b h)
+last-kind P a b c (kinds.Scale, h) = absurd (c h)
+last-kind P a b c (kinds.Plain, h) = h
+
+pub unit-none : (axes units : List Item) (cs : Item) (o : Option RefusedAt) → units ≡ [] → IsLeast (AnyOf (BadOwnUnit cs) axes) o → IsLeast (BadUnit axes units cs) o
+unit-none axes units cs o e h = let P : List Item → Type 0 = λ us. IsLeast (BadUnit axes us cs) o in subst P (sym e) h
+
+pub unit-some : (axes units more : List Item) (cs unit : Item) (a b r : Option RefusedAt) → units ≡ unit ∷ more → IsLeast (AnyOf HasOwnUnit axes) a → IsLeast (BadShared cs axes unit) b →
+    r ≡ lesser a b → IsLeast (BadUnit axes units cs) r
+unit-some axes units more cs unit a b r e p q is =
+    let P : List Item → Type 0 = λ us. IsLeast (BadUnit axes us cs) r in
+    subst P (sym e) (either-is (AnyOf HasOwnUnit axes) (BadShared cs axes unit) a b r is p q)

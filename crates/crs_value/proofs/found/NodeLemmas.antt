@@ -1,0 +1,113 @@
+-- Loops over the arguments of one class: what has been read so far.
+use Rattle.std.proofs.Common.{◌≡◌, ℕ, zero, suc, ◌+◌, ◌<◌, ◌≤◌, length, drop, Option, Some, None, List, [], ◌∷◌, ◌++◌, refl, sym, ◌∙◌, ap, subst, append_assoc, add-one, arith}
+use Rattle.crs_text.specs.Items.{Item, arguments, rest_of, here}
+use Rattle.crs_shape.specs.declared.class.Class.{Class}
+use Rattle.crs_shape.specs.Counts.{least}
+use Rattle.crs_shape.specs.Slots.{slots_of}
+use Rattle.crs_shape.specs.Shaped.{Shaped}
+use Rattle.crs_value.specs.FoundArguments.{from_found, AllShaped}
+use Rattle.crs_value.specs.Checks.{IsSound}
+use Rattle.crs_value.specs.Reading.{item_at, is_same, those, Holds, IsFound, ReadsFirst, ReadsOptional, ReadsEach}
+use Rattle.crs_value.proofs.found.ArgumentLemmas.{AllSound, SlotsCount, arguments-many, found-is, found-holds, all-sound, arguments-sound, all-shaped, arguments-shaped}
+
+-- the list holds the values of those before; with the values of the rest it is that of all
+pub record Going {V : Type 0} (R : Item → V → Type 0) (tree : Item) (parent c : Class) (whole : List Item) (list : List V) (at : Option ℕ) : Type 0 where
+  pub holds : Holds tree at
+  pub sound : AllSound c (from_found tree parent c at)
+  pub reads : (values : List V) → ReadsEach R (from_found tree parent c at) values → ReadsEach R whole (list ++ values)
+
+pub going-first : {V : Type 0} (R : Item → V → Type 0) (tree : Item) (parent c : Class) (item : Item) (list : List V) (at : Option ℕ) → IsSound parent item → list ≡ [] →
+    IsFound tree parent c (those parent c (arguments item)) at → Going R tree parent c (those parent c (arguments item)) list at
+going-first {V = V} R tree parent c item list at sound empty found =
+    let e = found-is tree parent c (those parent c (arguments item)) at found in
+    record {
+      holds = found-holds tree parent c (those parent c (arguments item)) at found;
+      sound = all-sound c _ _ e (arguments-sound parent c item sound);
+      reads = λ values h.
+          let P : List Item → Type 0 = λ xs. ReadsEach R xs values in
+          let Q : List V → Type 0 = λ vs. ReadsEach R (those parent c (arguments item)) (vs ++ values) in
+          subst Q (sym empty) (subst P (sym e) h);
+    }
+
+pub going-on : {V : Type 0} (R : Item → V → Type 0) (tree : Item) (parent c : Class) (whole : List Item) (list next : List V) (id : ℕ) (value : V) (at : Option ℕ) →
+    Going R tree parent c whole list (Some id) → R (item_at tree id) value → next ≡ list ++ value ∷ [] →
+    IsFound tree parent c (those parent c (rest_of (here tree id))) at → Going R tree parent c whole next at
+going-on {V = V} R tree parent c whole list next id value at going reads pushed found =
+    let e = found-is tree parent c (those parent c (rest_of (here tree id))) at found in
+    record {
+      holds = found-holds tree parent c (those parent c (rest_of (here tree id))) at found;
+      sound = all-sound c _ _ e going.sound.1;
+      reads = λ values h.
+          let P : List Item → Type 0 = λ xs. ReadsEach R xs values in
+          let all : ReadsEach R whole (list ++ value ∷ values) = going.reads (value ∷ values) (reads, subst P (sym e) h) in
+          let same : list ++ value ∷ values ≡ next ++ values = sym (append_assoc list (value ∷ []) values) ∙ ap (λ vs. vs ++ values) (sym pushed) in
+          let Q : List V → Type 0 = λ vs. ReadsEach R whole vs in
+          subst Q same all;
+    }
+
+append-none : {V : Type 0} (list : List V) → list ++ [] ≡ list
+append-none [] = refl
+append-none (v ∷ list) = ap (λ vs. v ∷ vs) (append-none list)
+
+pub going-end : {V : Type 0} (R : Item → V → Type 0) (tree : Item) (parent c : Class) (whole : List Item) (list : List V) →
+    Going R tree parent c whole list None → ReadsEach R whole list
+going-end {V = V} R tree parent c whole list going =
+    let Q : List V → Type 0 = λ vs. ReadsEach R whole vs in subst Q (append-none list) (going.reads [] tt)
+
+pub going-less : (tree : Item) (parent c : Class) (id : ℕ) (at : Option ℕ) → IsFound tree parent c (those parent c (rest_of (here tree id))) at →
+    length (from_found tree parent c at) < length (from_found tree parent c (Some id))
+going-less tree parent c id at found =
+    let e : length (those parent c (rest_of (here tree id))) ≡ length (from_found tree parent c at) = ap length (found-is tree parent c _ at found) in
+    omega (arith, e)
+
+-- ---- the value in an option
+
+pub reads-none : {V : Type 0} (R : Item → V → Type 0) (items : List Item) → items ≡ [] → ReadsOptional R items None
+reads-none {V = V} R items e = let P : List Item → Type 0 = λ xs. ReadsOptional R xs None in subst P (sym e) tt
+
+pub reads-some : {V : Type 0} (R : Item → V → Type 0) (item : Item) (items more : List Item) (value : V) → items ≡ item ∷ more → R item value → ReadsOptional R items (Some value)
+reads-some {V = V} R item items more value e h = let P : List Item → Type 0 = λ xs. ReadsOptional R xs (Some value) in subst P (sym e) h
+
+pub reads-first : {V : Type 0} (R : Item → V → Type 0) (item : Item) (items more : List Item) (value : V) → items ≡ item ∷ more → R item value → ReadsFirst R items value
+reads-first {V = V} R item items more value e h = let P : List Item → Type 0 = λ xs. ReadsFirst R xs value in subst P (sym e) h
+
+-- ---- number k of a list
+
+pub drop-more : (xs : List Item) (k : ℕ) (x : Item) (ys : List Item) → drop k xs ≡ x ∷ ys → drop (suc k) xs ≡ ys
+drop-more [] zero x ys e = cc
+drop-more [] (suc k) x ys e = cc
+drop-more (i ∷ xs) zero x ys e = cc
+drop-more (i ∷ xs) (suc k) x ys e = drop-more xs k x ys e
+
+pub drop-short : (xs : List Item) (k : ℕ) → drop k xs ≡ [] → length xs ≤ k
+drop-short [] k e = omega arith
+drop-short (i ∷ xs) zero e = cc
+drop-short (i ∷ xs) (suc k) e = omega (arith, drop-short xs k e)
+
+drop-shaped : (c : Class) (items : List Item) (k : ℕ) → AllShaped c items → AllShaped c (drop k items)
+drop-shaped c [] zero shaped = tt
+drop-shaped c [] (suc k) shaped = tt
+drop-shaped c (item ∷ items) zero shaped = shaped
+drop-shaped c (item ∷ items) (suc k) shaped = drop-shaped c items k shaped.1
+
+pub number-shaped : (tree : Item) (parent c : Class) (item : Item) (k id : ℕ) → Shaped parent item → IsFound tree parent c (drop k (those parent c (arguments item))) (Some id) →
+    Shaped c (item_at tree id)
+number-shaped tree parent c item k id shaped found =
+    (all-shaped c _ _ found.0 (drop-shaped c (those parent c (arguments item)) k (arguments-shaped parent c item shaped))).0
+
+pub number-there : SlotsCount → (tree : Item) (parent c : Class) (item : Item) (k n : ℕ) → Shaped parent item → n < least (is_same c) (slots_of parent) → k ≤ n →
+    drop k (those parent c (arguments item)) ≡ [] → ⊥
+number-there law tree parent c item k n shaped enough less none =
+    let many = arguments-many law parent c item shaped (omega arith) in
+    let short = drop-short (those parent c (arguments item)) k none in
+    omega (arith, many, short)
+
+pub number-next : (tree : Item) (parent c : Class) (xs : List Item) (k id : ℕ) (at : Option ℕ) → IsFound tree parent c (drop k xs) (Some id) →
+    IsFound tree parent c (those parent c (rest_of (here tree id))) at → IsFound tree parent c (drop (k + 1) xs) at
+number-next tree parent c xs k id at found next =
+    let P : List Item → Type 0 = λ ys. IsFound tree parent c ys at in
+    rw add-one (subst P (sym (drop-more xs k (item_at tree id) (those parent c (rest_of (here tree id))) found.0)) next)
+
+pub none-empty : {V : Type 0} (R : Item → V → Type 0) (items : List Item) → ReadsOptional R items None → items ≡ []
+none-empty R [] h = refl
+none-empty R (item ∷ items) h = absurd h

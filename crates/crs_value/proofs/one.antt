@@ -1,0 +1,4 @@
+pub mod CrsLemmas
+pub mod RootLemmas
+pub mod TextLemmas
+pub mod ValueLemmas

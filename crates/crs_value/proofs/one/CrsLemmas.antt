@@ -1,0 +1,171 @@
+-- Uniqueness of coordinate reference systems: an item reads as at most one.
+use Rattle.std.proofs.Common.{◌≡◌, Some, None, List, [], ◌∷◌, refl, sym, ◌∙◌, ap, subst}
+use Rattle.crs_text.specs.Items.{Item, arguments}
+use Rattle.crs_shape.specs.declared.class.Class.{Class}
+use Rattle.crs_shape.specs.declared.class.Class.TheVariants as class
+use Rattle.crs_value.specs.declared.values.compound.Horizontal.{Horizontal}
+use Rattle.crs_value.specs.declared.values.compound.Horizontal.TheVariants as horizontals
+use Rattle.crs_value.specs.declared.values.crs.Crs.TheVariants as crs
+use Rattle.crs_value.specs.declared.values.frame.Frame.TheVariants as frames
+use Rattle.crs_value.specs.Reading.{those, ReadsFirst, ReadsElse}
+use Rattle.crs_value.specs.Reads.{ReadsNumberOf, ReadsUnit, ReadsMeridian}
+use Rattle.crs_value.specs.ReadsNamed.{ReadsIdent, ReadsNamed}
+use Rattle.crs_value.specs.ReadsConversion.{ReadsAsUnit, ReadsUnitOf, parameter_units, ReadsParameter, ReadsConversion}
+use Rattle.crs_value.specs.ReadsDynamic.{ReadsDynamic}
+use Rattle.crs_value.specs.ReadsCrs.{IsGeodeticClass, ReadsAsDatum, ReadsAsEnsemble, ReadsFrame, ReadsGeodetic, ReadsBase, ReadsProjected, ReadsVertical, ReadsAsHorizontal, ReadsHorizontal, ReadsCompound, ReadsCrs}
+use Rattle.crs_value.proofs.checked.CheckLemmas.{DenotesOne}
+use Rattle.crs_value.proofs.one.ValueLemmas.{IsOne, one-first, one-optional, one-each, text-of-one, number-of-one, ident-one, named-one, unit-one, meridian-one, datum-one, ensemble-one, tail-one, system-one}
+
+one-else : {V : Type 0} (R : Item → V → Type 0) (Other : V → Type 0) → IsOne R → ((a b : V) → Other a → Other b → a ≡ b) → (items : List Item) (a b : V) →
+    ReadsElse R items Other a → ReadsElse R items Other b → a ≡ b
+one-else R Other one other [] a b p q = other a b p q
+one-else R Other one other (i ∷ items) a b p q = one i a b p q
+
+as_unit-one : DenotesOne → (d : Class) → IsOne (ReadsAsUnit d)
+as_unit-one law d item None b p q = absurd p
+as_unit-one law d item (Some a) None p q = absurd q
+as_unit-one law d item (Some a) (Some b) p q = ap (λ x. Some x) (unit-one law d item a b p q)
+
+unit_of-one : DenotesOne → (ds : List Class) (c : Class) → IsOne (ReadsUnitOf ds c)
+unit_of-one law [] c item None None p q = refl
+unit_of-one law [] c item None (Some b) p q = absurd q
+unit_of-one law [] c item (Some a) b p q = absurd p
+unit_of-one law (d ∷ ds) c item a b p q =
+    one-else (ReadsAsUnit d) (ReadsUnitOf ds c item) (as_unit-one law d) (unit_of-one law ds c item) (those c d (arguments item)) a b p q
+
+pub parameter-one : DenotesOne → (c : Class) → IsOne (ReadsParameter c)
+parameter-one law c item a b p q = λ i. record {
+  name = text-of-one c item a.name b.name p.name q.name i;
+  value = number-of-one law c item a.value b.value p.value q.value i;
+  unit = unit_of-one law parameter_units c item a.unit b.unit p.unit q.unit i;
+  identifiers = one-each (ReadsIdent class.Identifier) (ident-one class.Identifier) (those c class.Identifier (arguments item)) a.identifiers b.identifiers p.identifiers q.identifiers i;
+}
+
+pub conversion-one : DenotesOne → (c : Class) → IsOne (ReadsConversion c)
+conversion-one law c item a b p q = λ i. record {
+  name = text-of-one c item a.name b.name p.name q.name i;
+  method = one-first (ReadsNamed class.Method) (named-one class.Method) (those c class.Method (arguments item)) a.method b.method p.method q.method i;
+  parameters = one-each (ReadsParameter class.Parameter) (parameter-one law class.Parameter) (those c class.Parameter (arguments item)) a.parameters b.parameters p.parameters q.parameters i;
+  identifiers = one-each (ReadsIdent class.Identifier) (ident-one class.Identifier) (those c class.Identifier (arguments item)) a.identifiers b.identifiers p.identifiers q.identifiers i;
+}
+
+as_datum-one : DenotesOne → (d : Class) → IsOne (ReadsAsDatum d)
+as_datum-one law d item (frames.Datum a) (frames.Datum b) p q = ap (λ x. frames.Datum x) (datum-one law d item a b p q)
+as_datum-one law d item (frames.Datum a) (frames.Ensemble b) p q = absurd q
+as_datum-one law d item (frames.Ensemble a) b p q = absurd p
+
+as_ensemble-one : DenotesOne → (d : Class) → IsOne (ReadsAsEnsemble d)
+as_ensemble-one law d item (frames.Ensemble a) (frames.Ensemble b) p q = ap (λ x. frames.Ensemble x) (ensemble-one law d item a b p q)
+as_ensemble-one law d item (frames.Ensemble a) (frames.Datum b) p q = absurd q
+as_ensemble-one law d item (frames.Datum a) b p q = absurd p
+
+frame-one : DenotesOne → (d e c : Class) → IsOne (ReadsFrame d e c)
+frame-one law d e c item a b p q =
+    one-else (ReadsAsDatum d) (ReadsFirst (ReadsAsEnsemble e) (those c e (arguments item))) (as_datum-one law d)
+    (one-first (ReadsAsEnsemble e) (as_ensemble-one law e) (those c e (arguments item))) (those c d (arguments item)) a b p q
+
+pub dynamic-one : DenotesOne → (c : Class) → IsOne (ReadsDynamic c)
+dynamic-one law c item a b p q = λ i. record {
+  epoch = one-first (ReadsNumberOf class.FrameEpoch) (number-of-one law class.FrameEpoch) (those c class.FrameEpoch (arguments item)) a.epoch b.epoch p.epoch q.epoch i;
+  model = one-optional (ReadsNamed class.DeformationModel) (named-one class.DeformationModel) (those c class.DeformationModel (arguments item)) a.model b.model p.model q.model i;
+}
+
+pub geodetic-one : DenotesOne → (c : Class) → IsOne (ReadsGeodetic c)
+geodetic-one law c item a b p q = λ i. record {
+  name = text-of-one c item a.name b.name p.name q.name i;
+  dynamic = one-optional (ReadsDynamic class.Dynamic) (dynamic-one law class.Dynamic) (those c class.Dynamic (arguments item)) a.dynamic b.dynamic p.dynamic q.dynamic i;
+  frame = frame-one law class.GeodeticFrame class.GeodeticEnsemble c item a.frame b.frame p.frame q.frame i;
+  meridian = one-optional (ReadsMeridian class.PrimeMeridian) (meridian-one law class.PrimeMeridian) (those c class.PrimeMeridian (arguments item)) a.meridian b.meridian p.meridian q.meridian i;
+  system = system-one law c item a.system b.system p.system q.system i;
+  tail = tail-one law c item a.tail b.tail p.tail q.tail i;
+}
+
+pub base-one : DenotesOne → (c : Class) → IsOne (ReadsBase c)
+base-one law c item a b p q = λ i. record {
+  name = text-of-one c item a.name b.name p.name q.name i;
+  dynamic = one-optional (ReadsDynamic class.Dynamic) (dynamic-one law class.Dynamic) (those c class.Dynamic (arguments item)) a.dynamic b.dynamic p.dynamic q.dynamic i;
+  frame = frame-one law class.GeodeticFrame class.GeodeticEnsemble c item a.frame b.frame p.frame q.frame i;
+  meridian = one-optional (ReadsMeridian class.PrimeMeridian) (meridian-one law class.PrimeMeridian) (those c class.PrimeMeridian (arguments item)) a.meridian b.meridian p.meridian q.meridian i;
+  unit = one-optional (ReadsUnit class.AngleUnit) (unit-one law class.AngleUnit) (those c class.AngleUnit (arguments item)) a.unit b.unit p.unit q.unit i;
+  identifiers = one-each (ReadsIdent class.Identifier) (ident-one class.Identifier) (those c class.Identifier (arguments item)) a.identifiers b.identifiers p.identifiers q.identifiers i;
+}
+
+pub projected-one : DenotesOne → (c : Class) → IsOne (ReadsProjected c)
+projected-one law c item a b p q = λ i. record {
+  name = text-of-one c item a.name b.name p.name q.name i;
+  base = one-first (ReadsBase class.BaseCrs) (base-one law class.BaseCrs) (those c class.BaseCrs (arguments item)) a.base b.base p.base q.base i;
+  conversion = one-first (ReadsConversion class.Conversion) (conversion-one law class.Conversion) (those c class.Conversion (arguments item)) a.conversion b.conversion p.conversion q.conversion i;
+  system = system-one law c item a.system b.system p.system q.system i;
+  tail = tail-one law c item a.tail b.tail p.tail q.tail i;
+}
+
+pub vertical-one : DenotesOne → (c : Class) → IsOne (ReadsVertical c)
+vertical-one law c item a b p q = λ i. record {
+  name = text-of-one c item a.name b.name p.name q.name i;
+  dynamic = one-optional (ReadsDynamic class.Dynamic) (dynamic-one law class.Dynamic) (those c class.Dynamic (arguments item)) a.dynamic b.dynamic p.dynamic q.dynamic i;
+  frame = frame-one law class.VerticalFrame class.VerticalEnsemble c item a.frame b.frame p.frame q.frame i;
+  system = system-one law c item a.system b.system p.system q.system i;
+  geoid_models = one-each (ReadsNamed class.GeoidModel) (named-one class.GeoidModel) (those c class.GeoidModel (arguments item)) a.geoid_models b.geoid_models p.geoid_models q.geoid_models i;
+  tail = tail-one law c item a.tail b.tail p.tail q.tail i;
+}
+
+-- a geodetic class is no other
+geodetic-no : (c d : Class) → IsGeodeticClass c → (IsGeodeticClass d → ⊥) → c ≡ d → ⊥
+geodetic-no c d is other e = let P : Class → Type 0 = IsGeodeticClass in other (subst P e is)
+
+as_horizontal-one : DenotesOne → (c : Class) → IsOne (ReadsAsHorizontal c)
+as_horizontal-one law c item (horizontals.Geodetic a) (horizontals.Geodetic b) p q = ap (λ x. horizontals.Geodetic x) (geodetic-one law c item a b p.1 q.1)
+as_horizontal-one law c item (horizontals.Geodetic a) (horizontals.Projected b) p q = absurd (geodetic-no c class.ProjectedCrs p.0 (λ h. h) q.0)
+as_horizontal-one law c item (horizontals.Projected a) (horizontals.Geodetic b) p q = absurd (geodetic-no c class.ProjectedCrs q.0 (λ h. h) p.0)
+as_horizontal-one law c item (horizontals.Projected a) (horizontals.Projected b) p q = ap (λ x. horizontals.Projected x) (projected-one law c item a b p.1 q.1)
+
+horizontal-one : DenotesOne → (c : Class) → IsOne (ReadsHorizontal c)
+horizontal-one law c item a b p q =
+    one-else (ReadsAsHorizontal class.GeodeticCrs) Geographic (as_horizontal-one law class.GeodeticCrs) geographic (those c class.GeodeticCrs (arguments item)) a b p q
+  where
+    Projected : Horizontal → Type 0
+    Projected value = ReadsFirst (ReadsAsHorizontal class.ProjectedCrs) (those c class.ProjectedCrs (arguments item)) value
+
+    Geographic : Horizontal → Type 0
+    Geographic value = ReadsElse (ReadsAsHorizontal class.GeographicCrs) (those c class.GeographicCrs (arguments item)) Projected value
+
+    geographic : (x y : Horizontal) → Geographic x → Geographic y → x ≡ y
+    geographic x y r t =
+        one-else (ReadsAsHorizontal class.GeographicCrs) Projected (as_horizontal-one law class.GeographicCrs)
+        (one-first (ReadsAsHorizontal class.ProjectedCrs) (as_horizontal-one law class.ProjectedCrs) (those c class.ProjectedCrs (arguments item)))
+        (those c class.GeographicCrs (arguments item)) x y r t
+
+pub compound-one : DenotesOne → (c : Class) → IsOne (ReadsCompound c)
+compound-one law c item a b p q = λ i. record {
+  name = text-of-one c item a.name b.name p.name q.name i;
+  horizontal = horizontal-one law c item a.horizontal b.horizontal p.horizontal q.horizontal i;
+  vertical = one-first (ReadsVertical class.VerticalCrs) (vertical-one law class.VerticalCrs) (those c class.VerticalCrs (arguments item)) a.vertical b.vertical p.vertical q.vertical i;
+  tail = tail-one law c item a.tail b.tail p.tail q.tail i;
+}
+
+apart-pv : class.ProjectedCrs ≡ class.VerticalCrs → ⊥
+apart-pv e = cc
+
+apart-pc : class.ProjectedCrs ≡ class.CompoundCrs → ⊥
+apart-pc e = cc
+
+apart-vc : class.VerticalCrs ≡ class.CompoundCrs → ⊥
+apart-vc e = cc
+
+pub crs-one : DenotesOne → (c : Class) → IsOne (ReadsCrs c)
+crs-one law c item (crs.Geodetic a) (crs.Geodetic b) p q = ap (λ x. crs.Geodetic x) (geodetic-one law c item a b p.1 q.1)
+crs-one law c item (crs.Geodetic a) (crs.Projected b) p q = absurd (geodetic-no c class.ProjectedCrs p.0 (λ h. h) q.0)
+crs-one law c item (crs.Geodetic a) (crs.Vertical b) p q = absurd (geodetic-no c class.VerticalCrs p.0 (λ h. h) q.0)
+crs-one law c item (crs.Geodetic a) (crs.Compound b) p q = absurd (geodetic-no c class.CompoundCrs p.0 (λ h. h) q.0)
+crs-one law c item (crs.Projected a) (crs.Geodetic b) p q = absurd (geodetic-no c class.ProjectedCrs q.0 (λ h. h) p.0)
+crs-one law c item (crs.Projected a) (crs.Projected b) p q = ap (λ x. crs.Projected x) (projected-one law c item a b p.1 q.1)
+crs-one law c item (crs.Projected a) (crs.Vertical b) p q = absurd (apart-pv (sym p.0 ∙ q.0))
+crs-one law c item (crs.Projected a) (crs.Compound b) p q = absurd (apart-pc (sym p.0 ∙ q.0))
+crs-one law c item (crs.Vertical a) (crs.Geodetic b) p q = absurd (geodetic-no c class.VerticalCrs q.0 (λ h. h) p.0)
+crs-one law c item (crs.Vertical a) (crs.Projected b) p q = absurd (apart-pv (sym q.0 ∙ p.0))
+crs-one law c item (crs.Vertical a) (crs.Vertical b) p q = ap (λ x. crs.Vertical x) (vertical-one law c item a b p.1 q.1)
+crs-one law c item (crs.Vertical a) (crs.Compound b) p q = absurd (apart-vc (sym p.0 ∙ q.0))
+crs-one law c item (crs.Compound a) (crs.Geodetic b) p q = absurd (geodetic-no c class.CompoundCrs q.0 (λ h. h) p.0)
+crs-one law c item (crs.Compound a) (crs.Projected b) p q = absurd (apart-pc (sym q.0 ∙ p.0))
+crs-one law c item (crs.Compound a) (crs.Vertical b) p q = absurd (apart-vc (sym q.0 ∙ p.0))
+crs-one law c item (crs.Compound a) (crs.Compound b) p q = ap (λ x. crs.Compound x) (compound-one law c item a b p.1 q.1)

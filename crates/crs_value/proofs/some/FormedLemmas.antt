@@ -1,0 +1,75 @@
+-- Items of their shape whose tokens are well formed: the same holds for their arguments, and their numbers
+-- have values.
+use Rattle.std.proofs.Common.{◌≡◌, ℕ, zero, suc, drop, Bool, true, false, if◌then◌else◌, inr, List, [], ◌∷◌, ◌++◌}
+use Rattle.crs_decimal.specs.Bounds.{IsInBounds, Denotes}
+use Rattle.crs_decimal.specs.Value.{Value, IsNormal, exact}
+use Rattle.crs_text.specs.Tokens.{number, text, word}
+use Rattle.crs_text.specs.Items.{Item, leaf, node, Siblings, End, More, arguments}
+use Rattle.crs_text.specs.Written.{AreFormed, AreAllFormed}
+use Rattle.crs_text.specs.declared.items.ItemKind.TheVariants as item_kinds
+use Rattle.crs_shape.specs.declared.class.Class.{Class}
+use Rattle.crs_shape.specs.declared.class.Class.TheVariants as class
+use Rattle.crs_shape.specs.Shaped.{Shaped}
+use Rattle.crs_value.specs.FoundArguments.{AllShaped}
+use Rattle.crs_value.specs.Reading.{is_a, those, ReadsFirst}
+use Rattle.crs_value.specs.Reads.{ReadsNumber}
+use Rattle.crs_value.proofs.found.ArgumentLemmas.{arguments-shaped, shaped-number}
+use Rattle.crs_value.proofs.some.DecisionLemmas.{Known}
+
+abbrev pub Numbers : Type 0
+Numbers = (bytes : List ℕ) → IsInBounds bytes → (v : Value) × (IsNormal v × Denotes bytes (exact v))
+
+abbrev pub Ready : Class → Item → Type 0
+Ready c item = Shaped c item × AreFormed item
+
+abbrev pub AllReady : Class → List Item → Type 0
+AllReady c [] = Unit {0}
+AllReady c (item ∷ items) = Ready c item × AllReady c items
+
+abbrev pub AllFormed : List Item → Type 0
+AllFormed [] = Unit {0}
+AllFormed (item ∷ items) = AreFormed item × AllFormed items
+
+if-formed : (b : Bool) (item : Item) (items : List Item) → AreFormed item → AllFormed items → AllFormed (if b then item ∷ items else items)
+if-formed true item items h rest = (h, rest)
+if-formed false item items h rest = rest
+
+those-formed : (parent c : Class) (items : Siblings) → AreAllFormed items → AllFormed (those parent c items)
+those-formed parent c End h = tt
+those-formed parent c (More item items) h = if-formed (is_a parent c item) item (those parent c items) h.0 (those-formed parent c items h.1)
+
+arguments-formed : (item : Item) → AreFormed item → AreAllFormed (arguments item)
+arguments-formed (leaf kind place raw) h = tt
+arguments-formed (node place keyword square first others close) h = (h.1, h.2)
+
+pub inner-formed : (parent c : Class) (item : Item) → AreFormed item → AllFormed (those parent c (arguments item))
+inner-formed parent c item h = those-formed parent c (arguments item) (arguments-formed item h)
+
+both-ready : (c : Class) (items : List Item) → AllShaped c items → AllFormed items → AllReady c items
+both-ready c [] shaped formed = tt
+both-ready c (item ∷ items) shaped formed = ((shaped.0, formed.0), both-ready c items shaped.1 formed.1)
+
+pub those-ready : (parent c : Class) (item : Item) → Ready parent item → AllReady c (those parent c (arguments item))
+those-ready parent c item h = both-ready c (those parent c (arguments item)) (arguments-shaped parent c item h.0) (inner-formed parent c item h.1)
+
+pub append-ready : (c : Class) (xs : List Item) (item : Item) → AllReady c xs → Ready c item → AllReady c (xs ++ item ∷ [])
+append-ready c [] item h last = (last, tt)
+append-ready c (x ∷ xs) item h last = (h.0, append-ready c xs item h.1 last)
+
+pub drop-ready : (c : Class) (n : ℕ) (items : List Item) → AllReady c items → AllReady c (drop n items)
+drop-ready c zero [] h = tt
+drop-ready c (suc n) [] h = tt
+drop-ready c zero (item ∷ items) h = h
+drop-ready c (suc n) (item ∷ items) h = drop-ready c n items h.1
+
+pub number-some : Numbers → (item : Item) → Ready class.Number item → (v : Value) × ReadsNumber item v
+number-some law (leaf number place raw) h = let v = law raw h.1.2 in (v.0, v.1)
+number-some law (leaf text place raw) h = let e : item_kinds.Text ≡ item_kinds.Number = shaped-number (leaf text place raw) h.0 in absurd cc
+number-some law (leaf word place raw) h = let e : item_kinds.Word ≡ item_kinds.Number = shaped-number (leaf word place raw) h.0 in absurd cc
+number-some law (node place keyword square first others close) h =
+    let e : item_kinds.Node ≡ item_kinds.Number = shaped-number (node place keyword square first others close) h.0 in absurd cc
+
+-- what is read from the first of some items, if it is known of each
+pub first-known : {V : Type 0} (R : Item → V → Type 0) (c : Class) → ((item : Item) → Ready c item → Known (R item)) → (items : List Item) → AllReady c items → Known (ReadsFirst R items)
+first-known R c known [] h = inr (λ v x. x)
+first-known R c known (item ∷ items) h = known item h.0

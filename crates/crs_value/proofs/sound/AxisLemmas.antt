@@ -1,0 +1,34 @@
+-- What sound axes say is sound.
+use Rattle.crs_text.specs.Items.{arguments}
+use Rattle.crs_decimal.specs.Value.{IsNormal}
+use Rattle.crs_shape.specs.declared.class.Class.{Class}
+use Rattle.crs_shape.specs.declared.class.Class.TheVariants as class
+use Rattle.crs_shape.specs.declared.unit_kind.UnitKind.TheVariants as kinds
+use Rattle.crs_value.specs.Reading.{those}
+use Rattle.crs_value.specs.Reads.{ReadsNumberOf, ReadsUnit, ReadsAxisMeridian, ReadsAxis}
+use Rattle.crs_value.specs.Sound.{IsUnitOf, IsAxisUnit, IsAxisMeridian, IsAxis}
+use Rattle.crs_value.proofs.found.ArgumentLemmas.{arguments-sound}
+use Rattle.crs_value.proofs.sound.PartLemmas.{Tells, first-tells, optional-tells, text-of-tells, number-of-tells, identifiers-tell, angle-tells, axis-unit-tells}
+
+pub axis-meridian-tells : (c : Class) → Tells c (ReadsAxisMeridian c) IsAxisMeridian
+axis-meridian-tells c item value sound reads = record {
+  longitude = number-of-tells c item value.longitude sound reads.longitude;
+  unit =
+      first-tells (ReadsUnit class.AngleUnit) (IsUnitOf kinds.Angle) class.AngleUnit angle-tells (those c class.AngleUnit (arguments item)) value.unit
+      (arguments-sound c class.AngleUnit item sound) reads.unit;
+}
+
+pub axis-tells : (c : Class) → Tells c (ReadsAxis c) IsAxis
+axis-tells c item value sound reads = record {
+  name = text-of-tells c item value.name sound reads.name;
+  meridian =
+      optional-tells (ReadsAxisMeridian class.AxisMeridian) IsAxisMeridian class.AxisMeridian (axis-meridian-tells class.AxisMeridian) (those c class.AxisMeridian (arguments item)) value.meridian
+      (arguments-sound c class.AxisMeridian item sound) reads.meridian;
+  order =
+      optional-tells (ReadsNumberOf class.Order) IsNormal class.Order (number-of-tells class.Order) (those c class.Order (arguments item)) value.order
+      (arguments-sound c class.Order item sound) reads.order;
+  unit =
+      optional-tells (ReadsUnit class.AxisUnit) IsAxisUnit class.AxisUnit axis-unit-tells (those c class.AxisUnit (arguments item)) value.unit
+      (arguments-sound c class.AxisUnit item sound) reads.unit;
+  identifiers = identifiers-tell c item value.identifiers sound reads.identifiers;
+}

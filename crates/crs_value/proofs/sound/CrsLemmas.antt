@@ -1,0 +1,180 @@
+-- What sound geodetic, projected and vertical CRSs say is sound.
+use Rattle.std.proofs.Common.{◌≡◌, IsTrue, inl, inr, Option, Some, List, [], ◌∷◌, refl, sym, subst, arith}
+use Rattle.std.specs.Prelude.{IsSome, IsNone}
+use Rattle.crs_decimal.specs.Value.{Value}
+use Rattle.crs_text.specs.Items.{Item, arguments}
+use Rattle.crs_text.specs.Refusal.{RefusedAt}
+use Rattle.crs_shape.specs.declared.class.Class.{Class}
+use Rattle.crs_shape.specs.declared.class.Class.TheVariants as class
+use Rattle.crs_shape.specs.declared.system_type.SystemType.{SystemType}
+use Rattle.crs_shape.specs.declared.system_type.SystemType.TheVariants as types
+use Rattle.crs_shape.specs.declared.unit_kind.UnitKind.TheVariants as kinds
+use Rattle.crs_shape.specs.Counts.{most, is_bounded}
+use Rattle.crs_shape.specs.Slots.{slots_of}
+use Rattle.crs_shape.specs.Dimensions.{IsOneOf, dimensions_of}
+use Rattle.crs_value.specs.declared.values.frame.Frame.{Frame}
+use Rattle.crs_value.specs.declared.values.frame.Frame.TheVariants as frames
+use Rattle.crs_value.specs.BadDynamic.{BadDynamic}
+use Rattle.crs_value.specs.Checks.{HasSystem, IsSound, Own}
+use Rattle.crs_value.specs.Reading.{is_same, those, Requires, ReadsFirst, ReadsOptional, ReadsElse}
+use Rattle.crs_value.specs.Reads.{ReadsUnit, ReadsEllipsoid, ReadsMeridian, ReadsDatum, ReadsEnsemble, ReadsSystem}
+use Rattle.crs_value.specs.ReadsConversion.{ReadsConversion}
+use Rattle.crs_value.specs.ReadsNamed.{ReadsNamed}
+use Rattle.crs_value.specs.ReadsCrs.{ReadsAsDatum, ReadsAsEnsemble, ReadsGeodeticFrame, ReadsVerticalFrame, IsGeodeticClass, ReadsGeodetic, ReadsBase, ReadsProjected, ReadsVertical}
+use Rattle.crs_value.specs.Sound.{IsUnitOf}
+use Rattle.crs_value.specs.Sound.{IsNamed}
+use Rattle.crs_value.specs.SoundConversion.{IsConversion}
+use Rattle.crs_value.specs.SoundFrames.{IsMeridian}
+use Rattle.crs_value.specs.SoundSingle.{IsGeodeticFrame, IsVerticalFrame, IsGeodetic, IsBase, IsProjected, IsVertical}
+use Rattle.crs_value.specs.Values.{SystemParts, EllipsoidParts, DatumParts, EnsembleParts}
+use Rattle.crs_value.proofs.found.ArgumentLemmas.{SlotsBound, AllSound, SlotsCount, arguments-sound, not-none}
+use Rattle.crs_value.proofs.sound.ConversionLemmas.{conversion-tells}
+use Rattle.crs_value.proofs.sound.DynamicLemmas.{dynamic-of-tells}
+use Rattle.crs_value.proofs.sound.FrameLemmas.{datum-tells, ensemble-tells, meridian-tells}
+use Rattle.crs_value.proofs.sound.PartLemmas.{Tells, first-tells, optional-tells, each-tells, text-of-tells, identifiers-tell, angle-tells, named-tells}
+use Rattle.crs_value.proofs.sound.SystemLemmas.{own-of-crs, read-none, read-there, system-allowed, system-free, system-tells}
+use Rattle.crs_value.proofs.sound.UsageLemmas.{arguments-none, tail-tells}
+
+-- ---- frames
+
+some-there : {V : Type 0} (o : Option V) → ((value : V) × (o ≡ Some value)) → IsSome o
+some-there {V = V} o h = let P : Option V → Type 0 = λ x. IsSome x in subst P (sym h.1) refl
+
+pub has-ellipsoid : SlotsCount → (c : Class) (item : Item) (value : Option EllipsoidParts) → Requires c class.Ellipsoid 0 → IsSound c item →
+    ReadsOptional (ReadsEllipsoid class.Ellipsoid) (those c class.Ellipsoid (arguments item)) value → IsSome value
+has-ellipsoid law c item value enough sound reads =
+    some-there value (read-there (ReadsEllipsoid class.Ellipsoid) (those c class.Ellipsoid (arguments item)) value reads
+    (λ none. not-none law c class.Ellipsoid item sound.shaped enough none))
+
+pub no-ellipsoid : SlotsBound → (c : Class) (item : Item) (value : Option EllipsoidParts) → IsTrue (is_bounded (is_same class.Ellipsoid) (slots_of c)) →
+    most (is_same class.Ellipsoid) (slots_of c) ≡ 0 → IsSound c item → ReadsOptional (ReadsEllipsoid class.Ellipsoid) (those c class.Ellipsoid (arguments item)) value → IsNone value
+no-ellipsoid bound c item value bounded none sound reads =
+    let P : Option EllipsoidParts → Type 0 = λ x. IsNone x in
+    subst P (sym (read-none (ReadsEllipsoid class.Ellipsoid) (those c class.Ellipsoid (arguments item)) value reads (arguments-none bound c class.Ellipsoid item bounded none sound.shaped))) refl
+
+-- a frame is a reference frame of the one class, or an ensemble of the other
+frame-tells : (d e : Class) (P : Frame → Type 0) → ((item : Item) (datum : DatumParts) → IsSound d item → ReadsDatum d item datum → P (frames.Datum datum)) →
+    ((item : Item) (ensemble : EnsembleParts) → IsSound e item → ReadsEnsemble e item ensemble → P (frames.Ensemble ensemble)) →
+    (data_ ensembles : List Item) (value : Frame) → AllSound d data_ → AllSound e ensembles →
+    ReadsElse (ReadsAsDatum d) data_ (ReadsFirst (ReadsAsEnsemble e) ensembles) value → P value
+frame-tells d e P first second [] [] value sound others reads = absurd reads
+frame-tells d e P first second [] (item ∷ items) (frames.Datum datum) sound others reads = absurd reads
+frame-tells d e P first second [] (item ∷ items) (frames.Ensemble ensemble) sound others reads = second item ensemble others.0 reads
+frame-tells d e P first second (item ∷ items) ensembles (frames.Datum datum) sound others reads = first item datum sound.0 reads
+frame-tells d e P first second (item ∷ items) ensembles (frames.Ensemble ensemble) sound others reads = absurd reads
+
+geodetic-frame-tells : SlotsCount → (c : Class) → Tells c (ReadsGeodeticFrame c) IsGeodeticFrame
+geodetic-frame-tells law c item value sound reads =
+    frame-tells class.GeodeticFrame class.GeodeticEnsemble IsGeodeticFrame
+    (λ i datum s r. (datum-tells class.GeodeticFrame i datum s r, has-ellipsoid law class.GeodeticFrame i datum.ellipsoid (omega arith) s r.ellipsoid))
+    (λ i ensemble s r.
+    (ensemble-tells law class.GeodeticEnsemble (omega arith) i ensemble s r, has-ellipsoid law class.GeodeticEnsemble i ensemble.ellipsoid (omega arith) s r.ellipsoid))
+    (those c class.GeodeticFrame (arguments item)) (those c class.GeodeticEnsemble (arguments item)) value
+    (arguments-sound c class.GeodeticFrame item sound) (arguments-sound c class.GeodeticEnsemble item sound) reads
+
+vertical-frame-tells : SlotsCount → SlotsBound → (c : Class) → Tells c (ReadsVerticalFrame c) IsVerticalFrame
+vertical-frame-tells law bound c item value sound reads =
+    frame-tells class.VerticalFrame class.VerticalEnsemble IsVerticalFrame
+    (λ i datum s r. (datum-tells class.VerticalFrame i datum s r, no-ellipsoid bound class.VerticalFrame i datum.ellipsoid refl refl s r.ellipsoid))
+    (λ i ensemble s r.
+    (ensemble-tells law class.VerticalEnsemble (omega arith) i ensemble s r, no-ellipsoid bound class.VerticalEnsemble i ensemble.ellipsoid refl refl s r.ellipsoid))
+    (those c class.VerticalFrame (arguments item)) (those c class.VerticalEnsemble (arguments item)) value
+    (arguments-sound c class.VerticalFrame item sound) (arguments-sound c class.VerticalEnsemble item sound) reads
+
+-- ---- geodetic and geographic CRSs
+
+geodetic-system : (c : Class) → IsGeodeticClass c → HasSystem c
+geodetic-system class.GeodeticCrs is = tt
+geodetic-system class.GeographicCrs is = tt
+geodetic-system other is = absurd is
+
+geodetic-axis : (c : Class) → IsGeodeticClass c → Requires c class.Axis 0
+geodetic-axis class.GeodeticCrs is = omega arith
+geodetic-axis class.GeographicCrs is = omega arith
+geodetic-axis other is = absurd is
+
+-- what a CRS that is called geographic allows, each geodetic one allows
+allowed-geodetic : (c : Class) (system_type : SystemType) (value : Value) → IsGeodeticClass c → IsOneOf value (dimensions_of c system_type) →
+    IsOneOf value (dimensions_of class.GeodeticCrs system_type)
+allowed-geodetic class.GeodeticCrs system_type value is h = h
+allowed-geodetic class.GeographicCrs types.Cartesian value is h = absurd h
+allowed-geodetic class.GeographicCrs types.Ellipsoidal value is h = h
+allowed-geodetic class.GeographicCrs types.Spherical value is h = absurd h
+allowed-geodetic class.GeographicCrs types.Vertical value is h = absurd h
+allowed-geodetic other system_type value is h = absurd is
+
+-- the type and dimension of a sound CRS's system are allowed
+allowed-by : (c : Class) (item : Item) (system : SystemParts) → HasSystem c → IsSound c item → ReadsSystem c item system → IsOneOf system.dimension (dimensions_of c system.system_type)
+allowed-by c item system has sound reads =
+    let free = system-free c item system has sound reads in
+    system-allowed (dimensions_of c) (those c class.Axis (arguments item)) system (those c class.CoordinateSystem (arguments item)) (λ fault h. free fault (inl h)) reads.head
+
+pub geodetic-tells : SlotsCount → SlotsBound → (c : Class) → IsGeodeticClass c → Tells c (ReadsGeodetic c) IsGeodetic
+geodetic-tells law bound c is item value sound reads =
+    let has = geodetic-system c is in
+    record {
+      name = text-of-tells c item value.name sound reads.name;
+      dynamic =
+          dynamic-of-tells class.GeodeticFrame class.GeodeticEnsemble c item value.frame value.dynamic sound (λ fault bad. own-of-crs c item fault has (inr (inr bad))) (λ some. inl some)
+          reads.frame reads.dynamic;
+      frame = geodetic-frame-tells law c item value.frame sound reads.frame;
+      meridian =
+          optional-tells (ReadsMeridian class.PrimeMeridian) IsMeridian class.PrimeMeridian (meridian-tells class.PrimeMeridian) (those c class.PrimeMeridian (arguments item)) value.meridian
+          (arguments-sound c class.PrimeMeridian item sound) reads.meridian;
+      system = system-tells law c has (geodetic-axis c is) item value.system sound reads.system;
+      dimension = allowed-geodetic c value.system.system_type value.system.dimension is (allowed-by c item value.system has sound reads.system);
+      tail = tail-tells bound c item value.tail sound reads.tail;
+    }
+
+-- ---- base and projected CRSs
+
+own-of-base : (item : Item) (fault : RefusedAt) → BadDynamic class.BaseCrs item fault → Own class.BaseCrs item fault
+unfolding Own
+own-of-base item fault bad = bad
+
+pub base-tells : SlotsCount → Tells class.BaseCrs (ReadsBase class.BaseCrs) IsBase
+base-tells law item value sound reads = let c = class.BaseCrs in record {
+  name = text-of-tells c item value.name sound reads.name;
+  dynamic =
+      dynamic-of-tells class.GeodeticFrame class.GeodeticEnsemble c item value.frame value.dynamic sound (own-of-base item) (λ some. inl some)
+      reads.frame reads.dynamic;
+  frame = geodetic-frame-tells law c item value.frame sound reads.frame;
+  meridian =
+      optional-tells (ReadsMeridian class.PrimeMeridian) IsMeridian class.PrimeMeridian (meridian-tells class.PrimeMeridian) (those c class.PrimeMeridian (arguments item)) value.meridian
+      (arguments-sound c class.PrimeMeridian item sound) reads.meridian;
+  unit =
+      optional-tells (ReadsUnit class.AngleUnit) (IsUnitOf kinds.Angle) class.AngleUnit angle-tells (those c class.AngleUnit (arguments item)) value.unit
+      (arguments-sound c class.AngleUnit item sound) reads.unit;
+  identifiers = identifiers-tell c item value.identifiers sound reads.identifiers;
+}
+
+pub projected-tells : SlotsCount → SlotsBound → Tells class.ProjectedCrs (ReadsProjected class.ProjectedCrs) IsProjected
+projected-tells law bound item value sound reads = record {
+  name = text-of-tells class.ProjectedCrs item value.name sound reads.name;
+  base =
+      first-tells (ReadsBase class.BaseCrs) IsBase class.BaseCrs (base-tells law) (those class.ProjectedCrs class.BaseCrs (arguments item)) value.base
+      (arguments-sound class.ProjectedCrs class.BaseCrs item sound) reads.base;
+  conversion =
+      first-tells (ReadsConversion class.Conversion) IsConversion class.Conversion (conversion-tells class.Conversion) (those class.ProjectedCrs class.Conversion (arguments item)) value.conversion
+      (arguments-sound class.ProjectedCrs class.Conversion item sound) reads.conversion;
+  system = system-tells law class.ProjectedCrs tt (omega arith) item value.system sound reads.system;
+  dimension = allowed-by class.ProjectedCrs item value.system tt sound reads.system;
+  tail = tail-tells bound class.ProjectedCrs item value.tail sound reads.tail;
+}
+
+-- ---- vertical CRSs
+
+pub vertical-tells : SlotsCount → SlotsBound → Tells class.VerticalCrs (ReadsVertical class.VerticalCrs) IsVertical
+vertical-tells law bound item value sound reads = record {
+  name = text-of-tells class.VerticalCrs item value.name sound reads.name;
+  dynamic =
+      dynamic-of-tells class.VerticalFrame class.VerticalEnsemble class.VerticalCrs item value.frame value.dynamic sound
+      (λ fault bad. own-of-crs class.VerticalCrs item fault tt (inr (inr bad))) (λ some. inr some) reads.frame reads.dynamic;
+  frame = vertical-frame-tells law bound class.VerticalCrs item value.frame sound reads.frame;
+  system = system-tells law class.VerticalCrs tt (omega arith) item value.system sound reads.system;
+  dimension = allowed-by class.VerticalCrs item value.system tt sound reads.system;
+  geoid_models =
+      each-tells (ReadsNamed class.GeoidModel) IsNamed class.GeoidModel (named-tells class.GeoidModel) (those class.VerticalCrs class.GeoidModel (arguments item)) value.geoid_models
+      (arguments-sound class.VerticalCrs class.GeoidModel item sound) reads.geoid_models;
+  tail = tail-tells bound class.VerticalCrs item value.tail sound reads.tail;
+}

@@ -1,0 +1,111 @@
+-- What sound ellipsoids, prime meridians, reference frames and ensembles say is sound.
+use Rattle.std.proofs.Common.{◌≡◌, false, inl, inr, take, drop, List, [], ◌∷◌, refl, subst}
+use Rattle.std.proofs.lemmas.Bool.{false_from_ne_true}
+use Rattle.crs_decimal.specs.Value.{Value, IsNormal}
+use Rattle.crs_text.specs.Items.{Item, leaf, node, More, arguments}
+use Rattle.crs_text.specs.Refusal.{RefusedAt}
+use Rattle.crs_shape.specs.declared.class.Class.{Class}
+use Rattle.crs_shape.specs.declared.class.Class.TheVariants as class
+use Rattle.crs_shape.specs.declared.unit_kind.UnitKind.TheVariants as kinds
+use Rattle.crs_value.specs.BadValue.{IsAboveZero, NotAbove, IsNegative}
+use Rattle.crs_value.specs.Break.{at, AnyOf}
+use Rattle.crs_value.specs.Checks.{OfEllipsoid, Own, IsSound}
+use Rattle.crs_value.specs.Reading.{those, Requires, ReadsFirst, ReadsEach}
+use Rattle.crs_value.specs.Reads.{ReadsNumber, ReadsNumberAt, ReadsNumberOf, ReadsUnit, ReadsEllipsoid, ReadsMeridian, ReadsDatum, ReadsEnsemble}
+use Rattle.crs_value.specs.ReadsNamed.{ReadsNamed}
+use Rattle.crs_value.specs.Sound.{IsNamed, IsUnitOf}
+use Rattle.crs_value.specs.SoundFrames.{IsEllipsoid, IsMeridian, IsDatum, IsEnsemble}
+use Rattle.crs_value.proofs.found.ArgumentLemmas.{SlotsCount, arguments-sound, not-none}
+use Rattle.crs_value.proofs.sound.PartLemmas.{Tells, first-tells, optional-tells, each-tells, text-of-tells, optional-text-tells, number-first, number-of-tells, identifiers-tell, named-tells, above-not-not, length-tells, angle-tells}
+
+-- ---- ellipsoids
+
+own-ellipsoid : (item : Item) (fault : RefusedAt) → OfEllipsoid (those class.Ellipsoid class.Number (arguments item)) fault → Own class.Ellipsoid item fault
+unfolding Own
+own-ellipsoid item fault h = h
+
+above-take : (items : List Item) (value : Value) → ((fault : RefusedAt) → AnyOf NotAbove (take 1 items) fault → ⊥) → ReadsFirst ReadsNumber (drop 0 items) value → IsAboveZero value
+above-take [] value free reads = absurd reads
+above-take (item ∷ items) value free reads = above-not-not value (λ no. free (at 28 item) (inl (refl, (value, (reads, no)))))
+
+below-first : (items : List Item) (value : Value) → ((fault : RefusedAt) → AnyOf IsNegative items fault → ⊥) → ReadsFirst ReadsNumber items value → value.negative ≡ false
+below-first [] value free reads = absurd reads
+below-first (item ∷ items) value free reads = false_from_ne_true value.negative (λ e. free (at 28 item) (inl (refl, (value, (reads, e)))))
+
+axis-above : (item : Item) (value : Value) → IsSound class.Ellipsoid item → ReadsNumberAt 0 class.Ellipsoid item value → IsAboveZero value
+axis-above (leaf kind place raw) value sound reads = absurd reads
+axis-above (node place keyword square first others close) value sound reads =
+    above-take (those class.Ellipsoid class.Number (More first others)) value
+    (λ fault broken. sound.unbroken fault (inl (own-ellipsoid (node place keyword square first others close) fault (inl broken)))) reads
+
+flattening-not-negative : (item : Item) (value : Value) → IsSound class.Ellipsoid item → ReadsNumberAt 1 class.Ellipsoid item value → value.negative ≡ false
+flattening-not-negative (leaf kind place raw) value sound reads = absurd reads
+flattening-not-negative (node place keyword square first others close) value sound reads =
+    below-first (drop 1 (those class.Ellipsoid class.Number (More first others))) value
+    (λ fault broken. sound.unbroken fault (inl (own-ellipsoid (node place keyword square first others close) fault (inr broken)))) reads
+
+pub ellipsoid-tells : (c : Class) → c ≡ class.Ellipsoid → Tells c (ReadsEllipsoid c) IsEllipsoid
+ellipsoid-tells c same item value sound reads =
+    let S : Class → Type 0 = λ d. IsSound d item in
+    let A : Class → Type 0 = λ d. ReadsNumberAt 0 d item value.semi_major_axis in
+    let F : Class → Type 0 = λ d. ReadsNumberAt 1 d item value.inverse_flattening in
+    record {
+      name = text-of-tells c item value.name sound reads.name;
+      semi_major_axis = number-first (drop 0 (those c class.Number (arguments item))) value.semi_major_axis reads.semi_major_axis;
+      above_zero = axis-above item value.semi_major_axis (subst S same sound) (subst A same reads.semi_major_axis);
+      inverse_flattening = number-first (drop 1 (those c class.Number (arguments item))) value.inverse_flattening reads.inverse_flattening;
+      not_negative = flattening-not-negative item value.inverse_flattening (subst S same sound) (subst F same reads.inverse_flattening);
+      unit =
+          optional-tells (ReadsUnit class.LengthUnit) (IsUnitOf kinds.Length) class.LengthUnit length-tells (those c class.LengthUnit (arguments item)) value.unit
+          (arguments-sound c class.LengthUnit item sound) reads.unit;
+      identifiers = identifiers-tell c item value.identifiers sound reads.identifiers;
+    }
+
+-- ---- prime meridians and members
+
+pub meridian-tells : (c : Class) → Tells c (ReadsMeridian c) IsMeridian
+meridian-tells c item value sound reads = record {
+  name = text-of-tells c item value.name sound reads.name;
+  longitude = number-of-tells c item value.longitude sound reads.longitude;
+  unit =
+      optional-tells (ReadsUnit class.AngleUnit) (IsUnitOf kinds.Angle) class.AngleUnit angle-tells (those c class.AngleUnit (arguments item)) value.unit
+      (arguments-sound c class.AngleUnit item sound) reads.unit;
+  identifiers = identifiers-tell c item value.identifiers sound reads.identifiers;
+}
+
+-- ---- frames
+
+pub datum-tells : (c : Class) → Tells c (ReadsDatum c) IsDatum
+datum-tells c item value sound reads = record {
+  name = text-of-tells c item value.name sound reads.name;
+  ellipsoid =
+      optional-tells (ReadsEllipsoid class.Ellipsoid) IsEllipsoid class.Ellipsoid (ellipsoid-tells class.Ellipsoid refl) (those c class.Ellipsoid (arguments item)) value.ellipsoid
+      (arguments-sound c class.Ellipsoid item sound) reads.ellipsoid;
+  anchor = optional-text-tells c class.Anchor item value.anchor sound reads.anchor;
+  anchor_epoch =
+      optional-tells (ReadsNumberOf class.AnchorEpoch) IsNormal class.AnchorEpoch (number-of-tells class.AnchorEpoch) (those c class.AnchorEpoch (arguments item)) value.anchor_epoch
+      (arguments-sound c class.AnchorEpoch item sound) reads.anchor_epoch;
+  identifiers = identifiers-tell c item value.identifiers sound reads.identifiers;
+}
+
+none-read : {V : Type 0} (R : Item → V → Type 0) (items : List Item) (values : List V) → ReadsEach R items values → values ≡ [] → items ≡ []
+none-read R [] values reads e = refl
+none-read R (item ∷ items) [] reads e = absurd reads
+none-read R (item ∷ items) (value ∷ values) reads e = cc
+
+pub ensemble-tells : SlotsCount → (c : Class) → Requires c class.Member 0 → Tells c (ReadsEnsemble c) IsEnsemble
+ensemble-tells law c enough item value sound reads = record {
+  name = text-of-tells c item value.name sound reads.name;
+  some = λ none.
+      not-none law c class.Member item sound.shaped enough (none-read (ReadsNamed class.Member) (those c class.Member (arguments item)) value.members reads.members none);
+  members =
+      each-tells (ReadsNamed class.Member) IsNamed class.Member (named-tells class.Member) (those c class.Member (arguments item)) value.members
+      (arguments-sound c class.Member item sound) reads.members;
+  ellipsoid =
+      optional-tells (ReadsEllipsoid class.Ellipsoid) IsEllipsoid class.Ellipsoid (ellipsoid-tells class.Ellipsoid refl) (those c class.Ellipsoid (arguments item)) value.ellipsoid
+      (arguments-sound c class.Ellipsoid item sound) reads.ellipsoid;
+  accuracy =
+      first-tells (ReadsNumberOf class.EnsembleAccuracy) IsNormal class.EnsembleAccuracy (number-of-tells class.EnsembleAccuracy)
+      (those c class.EnsembleAccuracy (arguments item)) value.accuracy (arguments-sound c class.EnsembleAccuracy item sound) reads.accuracy;
+  identifiers = identifiers-tell c item value.identifiers sound reads.identifiers;
+}

@@ -1,0 +1,142 @@
+-- What sound usages and ends of CRSs say is sound.
+use Rattle.std.proofs.Common.{◌≡◌, ℕ, ◌+◌, ◌≤◌, Bool, true, false, ◌||◌, not, IsTrue, inl, inr, drop, Option, Some, None, List, [], ◌∷◌, refl, ◌∙◌, ap, arith}
+use Rattle.std.specs.Prelude.{IfSome, IsSome}
+use Rattle.std.proofs.lemmas.Bool.{or_cases}
+use Rattle.crs_text.specs.Items.{Item, leaf, node, More, arguments}
+use Rattle.crs_text.specs.Tokens.{number, text, word}
+use Rattle.crs_shape.specs.declared.class.Class.{Class}
+use Rattle.crs_shape.specs.declared.class.Class.TheVariants as class
+use Rattle.crs_shape.specs.Counts.{one_if, how_many, most, is_bounded}
+use Rattle.crs_shape.specs.Shape.{Allowed}
+use Rattle.crs_shape.specs.Shaped.{Shaped}
+use Rattle.crs_shape.specs.Slots.{slots_of}
+use Rattle.crs_shape.specs.declared.unit_kind.UnitKind.TheVariants as kinds
+use Rattle.crs_shape.specs.Slots.{is_class}
+use Rattle.crs_value.specs.Reading.{is_same, those, ReadsOptional}
+use Rattle.crs_value.specs.Reads.{ReadsTextOf, ReadsUnit, LacksUsage, ReadsBare, ReadsBox, ReadsExtent, ReadsUsage, ReadsTail}
+use Rattle.crs_value.specs.Sound.{IsUnitOf}
+use Rattle.crs_value.specs.Checks.{IsSound}
+use Rattle.crs_value.specs.SoundUsages.{IsBox, IsExtent, IsUsage, IsTail}
+use Rattle.crs_value.specs.Values.{UsageParts, SaysSome}
+use Rattle.crs_value.proofs.found.ArgumentLemmas.{SlotsBound, arguments-few, arguments-sound, nothing, those-first}
+use Rattle.crs_value.proofs.sound.PartLemmas.{Tells, tells-as, optional-tells, each-tells, optional-text-tells, number-first, identifiers-tell, length-tells}
+
+pub box-tells : (c : Class) → Tells c (ReadsBox c) IsBox
+box-tells c item value sound reads =
+    let numbers = those c class.Number (arguments item) in
+    record {
+      south = number-first (drop 0 numbers) value.south reads.south;
+      west = number-first (drop 1 numbers) value.west reads.west;
+      north = number-first (drop 2 numbers) value.north reads.north;
+      east = number-first (drop 3 numbers) value.east reads.east;
+    }
+
+pub extent-tells : (c : Class) → Tells c (ReadsExtent c) IsExtent
+extent-tells c item value sound reads = record {
+  minimum = number-first (drop 0 (those c class.Number (arguments item))) value.minimum reads.minimum;
+  maximum = number-first (drop 1 (those c class.Number (arguments item))) value.maximum reads.maximum;
+  unit =
+      optional-tells (ReadsUnit class.LengthUnit) (IsUnitOf kinds.Length) class.LengthUnit length-tells (those c class.LengthUnit (arguments item)) value.unit
+      (arguments-sound c class.LengthUnit item sound) reads.unit;
+}
+
+pub usage-tells : (c : Class) (item : Item) (value : UsageParts) → IsSound c item → ReadsUsage c item value →
+    SaysSome value → IsUsage value
+usage-tells c item value sound reads some = record {
+  scope = optional-text-tells c class.Scope item value.scope sound reads.scope;
+  area = optional-text-tells c class.Area item value.area sound reads.area;
+  bbox =
+      optional-tells (ReadsBox class.BoundingBox) IsBox class.BoundingBox (box-tells class.BoundingBox) (those c class.BoundingBox (arguments item)) value.bbox
+      (arguments-sound c class.BoundingBox item sound) reads.bbox;
+  extent =
+      optional-tells (ReadsExtent class.VerticalExtent) IsExtent class.VerticalExtent (extent-tells class.VerticalExtent) (those c class.VerticalExtent (arguments item)) value.extent
+      (arguments-sound c class.VerticalExtent item sound) reads.extent;
+  some = some;
+}
+
+-- ---- a node `USAGE` has an argument, which is one of its four parts
+
+-- a node has no arguments of a class that none of its slots takes
+pub arguments-none : SlotsBound → (parent c : Class) (item : Item) → IsTrue (is_bounded (is_same c) (slots_of parent)) → most (is_same c) (slots_of parent) ≡ 0 →
+    Shaped parent item → those parent c (arguments item) ≡ []
+arguments-none law parent c item bounded none shaped =
+    nothing (those parent c (arguments item)) (omega (arith, arguments-few law parent c item bounded shaped, none))
+
+abbrev is_part : Class → Bool
+is_part d = is_same class.Scope d || is_same class.Area d || is_same class.BoundingBox d || is_same class.VerticalExtent d
+
+abbrev is_other : Class → Bool
+is_other d = not (is_part d)
+
+no-other : (b : Bool) (n : ℕ) → one_if (not b) + n ≤ 0 → b ≡ true
+no-other true n h = refl
+no-other false n h = absurd (omega (arith, h))
+
+first-part : SlotsBound → (d : Class) (ds : List Class) → Allowed (slots_of class.Usage) (d ∷ ds) → is_part d ≡ true
+first-part law d ds allowed = no-other (is_part d) (how_many is_other ds) (law is_other (slots_of class.Usage) (d ∷ ds) refl allowed)
+
+some-read : {V : Type 0} (R : Item → V → Type 0) (item : Item) (items more : List Item) (value : Option V) → items ≡ item ∷ more → ReadsOptional R items value → IsSome value
+some-read R item items more (Some value) e reads = refl
+some-read R item [] more None e reads = cc
+some-read R item (other ∷ items) more None e reads = absurd reads
+
+pub says-some : SlotsBound → Tells class.Usage (ReadsUsage class.Usage) SaysSome
+says-some law (leaf number place raw) value sound reads = let h = sound.shaped in cc
+says-some law (leaf text place raw) value sound reads = let h = sound.shaped in cc
+says-some law (leaf word place raw) value sound reads = let h = sound.shaped in cc
+says-some law (node place keyword square first others close) value sound reads =
+    let shape = sound.shaped.1 in
+    let d = shape.0 in
+    let scope = is_same class.Scope d in
+    let area = is_same class.Area d in
+    let box = is_same class.BoundingBox d in
+    let extent = is_same class.VerticalExtent d in
+    elim (or_cases (scope || area || box) extent (first-part law d shape.1.0 shape.1.1.1.1.1)) [
+      | inl h ↦ elim (or_cases (scope || area) box h) [
+        | inl i ↦ elim (or_cases scope area i) [
+          | inl e ↦ inl (some-read (ReadsTextOf class.Scope) first _ _ value.scope (stands class.Scope e) reads.scope)
+          | inr e ↦ inr (inl (some-read (ReadsTextOf class.Area) first _ _ value.area (stands class.Area e) reads.area))
+        ]
+        | inr e ↦ inr (inr (inl (some-read (ReadsBox class.BoundingBox) first _ _ value.bbox (stands class.BoundingBox e) reads.bbox)))
+      ]
+      | inr e ↦ inr (inr (inr (some-read (ReadsExtent class.VerticalExtent) first _ _ value.extent (stands class.VerticalExtent e) reads.extent)))
+    ]
+  where
+    stands : (c : Class) → is_same c sound.shaped.1.0 ≡ true → those class.Usage c (More first others) ≡ first ∷ those class.Usage c others
+    stands c e = those-first class.Usage c (More first others) (λ n. cc) (ap (is_class c) sound.shaped.1.1.1.0 ∙ e)
+
+pub node-tells : SlotsBound → (c : Class) → c ≡ class.Usage → Tells c (ReadsUsage c) IsUsage
+node-tells law c same =
+    tells-as ReadsUsage IsUsage c class.Usage same
+    (λ item value sound reads. usage-tells class.Usage item value sound reads (says-some law item value sound reads))
+
+-- ---- what is bare
+
+unread : {V : Type 0} (R : Item → V → Type 0) (items : List Item) → ReadsOptional R items None → items ≡ []
+unread R [] reads = refl
+unread R (item ∷ items) reads = absurd reads
+
+pub bare-none : (c : Class) (item : Item) →
+    ReadsUsage c item (record { scope = None; area = None; bbox = None; extent = None }) → LacksUsage c item
+bare-none c item reads = record {
+  scope = unread (ReadsTextOf class.Scope) (those c class.Scope (arguments item)) reads.scope;
+  area = unread (ReadsTextOf class.Area) (those c class.Area (arguments item)) reads.area;
+  bbox = unread (ReadsBox class.BoundingBox) (those c class.BoundingBox (arguments item)) reads.bbox;
+  extent = unread (ReadsExtent class.VerticalExtent) (those c class.VerticalExtent (arguments item)) reads.extent;
+}
+
+bare-tells : (c : Class) (item : Item) (bare : Option UsageParts) → IsSound c item → ReadsBare c item bare →
+    IfSome bare IsUsage
+bare-tells c item None sound reads = tt
+bare-tells c item (Some value) sound reads = usage-tells c item value sound reads.0 reads.1
+
+pub tail-tells : SlotsBound → (c : Class) → Tells c (ReadsTail c) IsTail
+tail-tells law c item value sound reads =
+    let usages = those c class.Usage (arguments item) in
+    let all = arguments-sound c class.Usage item sound in
+    record {
+      usages = each-tells (ReadsUsage class.Usage) IsUsage class.Usage (node-tells law class.Usage refl) usages value.usages all reads.usages;
+      bare_parts = bare-tells c item value.bare_parts sound reads.bare_parts;
+      identifiers = identifiers-tell c item value.identifiers sound reads.identifiers;
+      remark = optional-text-tells c class.Remark item value.remark sound reads.remark;
+    }

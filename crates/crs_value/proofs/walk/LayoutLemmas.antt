@@ -1,0 +1,213 @@
+-- A CRS whose parts were found by the walk for its shape: what is seen of its coordinate system.
+use Rattle.std.proofs.Common.{◌≡◌, ◌≢◌, ℕ, ◌&&◌, ◌||◌, Bool, true, false, not, length, Option, Some, None, List, [], ◌∷◌, ◌++◌, refl, sym, ◌∙◌, ap, subst, append_assoc}
+use Rattle.std.specs.List.{list_any}
+use Rattle.crs_text.specs.Items.{Item, Siblings, End, More, arguments, rest_of, here, HasId, IsAt}
+use Rattle.crs_text.specs.Refusal.{RefusedAt}
+use Rattle.crs_shape.specs.declared.class.Class.{Class}
+use Rattle.crs_shape.specs.declared.class.Class.TheVariants as class
+use Rattle.crs_shape.specs.declared.system_type.SystemType.{SystemType}
+use Rattle.crs_shape.specs.Dimensions.{dimensions_of}
+use Rattle.crs_shape.specs.FirstFault.{first_in_arguments}
+use Rattle.crs_shape.specs.Shaped.{Shaped}
+use Rattle.crs_shape.specs.Slots.{SlotParts, takes, one, some, optional}
+use Rattle.crs_value.specs.declared.judging.quiet.Layout.{Layout}
+use Rattle.crs_value.specs.declared.judging.axes.Axes.{Axes}
+use Rattle.crs_value.specs.declared.judging.axes.Seen.{Seen}
+use Rattle.crs_value.specs.Break.{IsLeast}
+use Rattle.crs_value.specs.Checks.{once, BadSystems, BreaksAmong, OfHead}
+use Rattle.crs_value.specs.FoundArguments.{AllShaped}
+use Rattle.crs_value.specs.Judged.{AllLeave, Gives, Leaves, Walked}
+use Rattle.crs_value.specs.Reading.{Each, item_at, is_a, ahead, those, Holds}
+use Rattle.crs_value.specs.Reads.{HasType}
+use Rattle.crs_value.specs.RepeatedPart.{RepeatsAny}
+use Rattle.crs_value.specs.Seen.{are_free, is_head, is_tail, the_one, AreOrdered, Has, IsLaid, IsNoted, IsQuiet, IsSeen, UnitsFit}
+use Rattle.crs_value.proofs.found.ArgumentLemmas.{ahead_at, all-shaped, arguments-shaped, holds_at, those-first}
+use Rattle.crs_value.proofs.checked.CheckLemmas.{DenotesOne, append-none}
+use Rattle.crs_value.proofs.walk.JudgedLemmas.{end-first}
+use Rattle.crs_value.proofs.checked.PlacedLemmas.{Symmetric, Transitive}
+use Rattle.crs_value.proofs.walk.RestLemmas.{once-back, ordered-none, systems-none, units-none}
+use Rattle.crs_value.proofs.walk.RunLemmas.{seen-on}
+
+-- ---- where the parts of a CRS begin
+
+and-both : (a b : Bool) → (a && b) ≡ true → (a ≡ true) × (b ≡ true)
+and-both true b e = (refl, e)
+and-both false b e = cc
+
+not-so : (b : Bool) → not b ≡ true → b ≡ false
+not-so true e = cc
+not-so false e = refl
+
+free-of : (slots : List SlotParts) (ds : List Class) → are_free slots ds ≡ true → Each (λ d. list_any (λ s. takes s d) slots ≡ false) ds
+free-of slots [] e = tt
+free-of slots (d ∷ ds) e =
+    let both = and-both (not (list_any (λ s. takes s d) slots)) (are_free slots ds) e in
+    (not-so (list_any (λ s. takes s d) slots) both.0, free-of slots ds both.1)
+
+or-left : (b : Bool) → (b || false) ≡ false → b ≡ false
+or-left true e = cc
+or-left false e = refl
+
+pub walked-as : (tree : Item) (c : Class) (close : ℕ) (slots : List SlotParts) (at : Option ℕ) (old new : Option RefusedAt) (ok is : Bool) → ok ≡ is → Walked tree c close slots at old ok new →
+    Walked tree c close slots at old is new
+walked-as tree c close slots at old new ok is e walked = let P : Bool → Type 0 = λ b. Walked tree c close slots at old b new in subst P e walked
+
+-- nothing is behind slots that give no fault of shape
+pub walked-end : (tree : Item) (c : Class) (close : ℕ) (at : Option ℕ) (old new : Option RefusedAt) (ok : Bool) → ok ≡ true → Walked tree c close [] at old ok new → ahead tree at ≡ End
+walked-end tree c close at old new ok e walked = by (ahead tree at) (walked-as tree c close [] at old new ok true e walked)
+  where
+    stopped : (w : Option RefusedAt) (fault : RefusedAt) (B : RefusedAt → Type 0) → w ≡ Some fault → Gives w old B true new → ⊥
+    stopped w fault B e h = let Q : Option RefusedAt → Type 0 = λ o. Gives o old B true new in subst Q e h
+
+    more-some : (item : Item) (items : Siblings) → More item items ≢ End
+    more-some item items e = cc
+
+    by : (items : Siblings) → Gives (first_in_arguments c close [] items) old (BreaksAmong c items) true new → items ≡ End
+    by End h = refl
+    by (More item items) h =
+        absurd (stopped (first_in_arguments c close [] (More item items)) _ (BreaksAmong c (More item items)) (end-first c close (More item items) (more-some item items)) h)
+
+pub laid-parts : (tree : Item) (c : Class) (front : List SlotParts) (tail : SlotParts) (at end : Option ℕ) (layout : Layout) → is_head front ≡ true → is_tail tail ≡ true →
+    AllLeave tree c front at layout.system → Leaves tree c (one class.CoordinateSystem) layout.system layout.axes → Leaves tree c (some class.Axis) layout.axes layout.unit →
+    Leaves tree c (optional class.AxisUnit) layout.unit layout.tail → Leaves tree c tail layout.tail end → ahead tree end ≡ End → IsLaid tree c (ahead tree at) layout
+laid-parts tree c front tail at end layout head ends first past-system past-axes past-unit last none = record {
+  system = first class.CoordinateSystem heads.0;
+  no_system = past-axes class.CoordinateSystem refl ∙ past-unit class.CoordinateSystem refl ∙ behind class.CoordinateSystem tails.0;
+  axes = first class.Axis heads.1.0 ∙ past-system class.Axis refl;
+  no_axes = past-unit class.Axis refl ∙ behind class.Axis tails.1.0;
+  unit = first class.AxisUnit heads.1.1.0 ∙ past-system class.AxisUnit refl ∙ past-axes class.AxisUnit refl;
+  no_unit = behind class.AxisUnit tails.1.1.0;
+  no_dynamic = past-system class.Dynamic refl ∙ past-axes class.Dynamic refl ∙ past-unit class.Dynamic refl ∙ behind class.Dynamic tails.1.1.1.0;
+  single = (
+    past class.Scope singles.0 refl refl refl,
+    (
+      past class.Area singles.1.0 refl refl refl,
+      (
+        past class.BoundingBox singles.1.1.0 refl refl refl,
+        (past class.VerticalExtent singles.1.1.1.0 refl refl refl, (past class.Remark singles.1.1.1.1.0 refl refl refl, tt)),
+      ),
+    ),
+  );
+}
+  where
+    heads : Each (λ d. list_any (λ s. takes s d) front ≡ false) (class.CoordinateSystem ∷ class.Axis ∷ class.AxisUnit ∷ once)
+    heads = free-of front (class.CoordinateSystem ∷ class.Axis ∷ class.AxisUnit ∷ once) head
+
+    singles : Each (λ d. list_any (λ s. takes s d) front ≡ false) once
+    singles = heads.1.1.1
+
+    tails : Each (λ d. list_any (λ s. takes s d) (tail ∷ []) ≡ false) (class.CoordinateSystem ∷ class.Axis ∷ class.AxisUnit ∷ class.Dynamic ∷ [])
+    tails = free-of (tail ∷ []) (class.CoordinateSystem ∷ class.Axis ∷ class.AxisUnit ∷ class.Dynamic ∷ []) ends
+
+    behind : (d : Class) → list_any (λ s. takes s d) (tail ∷ []) ≡ false → those c d (ahead tree layout.tail) ≡ []
+    behind d free = last d (or-left (takes tail d) free) ∙ ap (those c d) none
+
+    past : (d : Class) → list_any (λ s. takes s d) front ≡ false → takes (one class.CoordinateSystem) d ≡ false → takes (some class.Axis) d ≡ false →
+        takes (optional class.AxisUnit) d ≡ false → those c d (ahead tree at) ≡ those c d (ahead tree layout.tail)
+    past d free a b u = first d free ∙ past-system d a ∙ past-axes d b ∙ past-unit d u
+
+-- from the first argument on
+pub laid-arguments : (tree : Item) (c : Class) (item : Item) (start : Option ℕ) (layout : Layout) → IsAt tree (arguments item) start → IsLaid tree c (ahead tree start) layout →
+    IsLaid tree c (arguments item) layout
+laid-arguments tree c item start layout at laid =
+    let P : Siblings → Type 0 = λ items. IsLaid tree c items layout in subst P (ahead_at tree (arguments item) start at) laid
+
+-- ---- the parts one by one
+
+-- the first of some arguments, of this class, and those behind it
+those-here : (tree : Item) (c d : Class) (id : ℕ) (next : Option ℕ) → HasId tree id → IsAt tree (rest_of (here tree id)) next → is_a c d (item_at tree id) ≡ true →
+    those c d (here tree id) ≡ item_at tree id ∷ those c d (ahead tree next)
+those-here tree c d id next has at is =
+    those-first c d (here tree id) has is ∙ ap (λ xs. item_at tree id ∷ xs) (ap (those c d) (sym (ahead_at tree (rest_of (here tree id)) next at)))
+
+pub only-here : (tree : Item) (c d : Class) (id : ℕ) (next last : Option ℕ) → HasId tree id → IsAt tree (rest_of (here tree id)) next → is_a c d (item_at tree id) ≡ true → next ≡ last →
+    those c d (ahead tree last) ≡ [] → those c d (here tree id) ≡ item_at tree id ∷ []
+only-here tree c d id next last has at is same none =
+    those-here tree c d id next has at is ∙ ap (λ xs. item_at tree id ∷ xs) (ap (λ o. those c d (ahead tree o)) same ∙ none)
+
+-- ---- one axis after another
+
+each-here : {V : Type 0} → (P : V → Type 0) → (xs : List V) (y : V) (ys : List V) → Each P (xs ++ y ∷ ys) → P y
+each-here P [] y ys h = h.0
+each-here P (x ∷ xs) y ys h = each-here P xs y ys h.1
+
+pub record Noted (tree : Item) (c : Class) (of : SystemType) (from : Option ℕ) (axes : Axes) (at : Option ℕ) : Type 0 where
+  pub holds : Holds tree at
+  pub before : List Item
+  pub are : those c class.Axis (ahead tree from) ≡ before ++ those c class.Axis (ahead tree at)
+  pub seen : IsSeen of axes before
+
+pub noted-first : (tree : Item) (c : Class) (of : SystemType) (none : Axes) (from : Option ℕ) → IsSeen of none [] → Holds tree from → Noted tree c of from none from
+noted-first tree c of none from seen holds = record { holds = holds; before = []; are = refl; seen = seen }
+
+pub noted-shaped : (tree : Item) (c : Class) (of : SystemType) (from : Option ℕ) (axes : Axes) (at : Option ℕ) (id : ℕ) → at ≡ Some id → HasId tree id →
+    is_a c class.Axis (item_at tree id) ≡ true → AllShaped class.Axis (those c class.Axis (ahead tree from)) → Noted tree c of from axes at → Shaped class.Axis (item_at tree id)
+noted-shaped tree c of from axes at id same has is shaped so =
+    each-here (Shaped class.Axis) so.before (item_at tree id) (those c class.Axis (rest_of (here tree id)))
+    (subst (AllShaped class.Axis)
+    (so.are ∙ ap (λ xs. so.before ++ xs) (ap (λ o. those c class.Axis (ahead tree o)) same ∙ those-first c class.Axis (here tree id) has is)) shaped)
+
+pub noted-on : (tree : Item) (c : Class) (of : SystemType) (from : Option ℕ) (seen : Seen) (old new : Axes) (at : Option ℕ) (id : ℕ) (next : Option ℕ) → at ≡ Some id → HasId tree id →
+    IsAt tree (rest_of (here tree id)) next → is_a c class.Axis (item_at tree id) ≡ true → Has tree (item_at tree id) seen → IsNoted tree of seen old new →
+    Noted tree c of from old at → Noted tree c of from new next
+noted-on tree c of from seen old new at id next same has is-at is parts noted so = record {
+  holds = holds_at tree (rest_of (here tree id)) next is-at;
+  before = so.before ++ item_at tree id ∷ [];
+  are = so.are ∙ ap (λ xs. so.before ++ xs) (ap (λ o. those c class.Axis (ahead tree o)) same ∙ those-here tree c class.Axis id next has is-at is)
+      ∙ sym (append_assoc so.before (item_at tree id ∷ []) (those c class.Axis (ahead tree next)));
+  seen = seen-on tree of seen old new so.before (item_at tree id) noted parts so.seen;
+}
+
+pub noted-end : (tree : Item) (c : Class) (of : SystemType) (from : Option ℕ) (axes : Axes) (at : Option ℕ) → Noted tree c of from axes at → those c class.Axis (ahead tree at) ≡ [] →
+    IsSeen of axes (those c class.Axis (ahead tree from))
+noted-end tree c of from axes at so none =
+    subst (IsSeen of axes) (sym (so.are ∙ ap (λ xs. so.before ++ xs) none ∙ append-none so.before)) so.seen
+
+-- ---- the parts of a CRS have their shapes
+
+pub axes-shaped : (tree : Item) (c : Class) (item : Item) (layout : Layout) → Shaped c item → IsLaid tree c (arguments item) layout →
+    AllShaped class.Axis (those c class.Axis (ahead tree layout.axes))
+axes-shaped tree c item layout shaped laid = all-shaped class.Axis _ _ laid.axes (arguments-shaped c class.Axis item shaped)
+
+pub system-shaped : (tree : Item) (c : Class) (item : Item) (layout : Layout) (cs : ℕ) → Shaped c item → IsLaid tree c (arguments item) layout → layout.system ≡ Some cs →
+    those c class.CoordinateSystem (here tree cs) ≡ item_at tree cs ∷ [] → Shaped class.CoordinateSystem (item_at tree cs)
+system-shaped tree c item layout cs shaped laid at only =
+    (all-shaped class.CoordinateSystem _ _ (laid.system ∙ ap (λ o. those c class.CoordinateSystem (ahead tree o)) at ∙ only)
+    (arguments-shaped c class.CoordinateSystem item shaped)).0
+
+-- ---- the whole
+
+pub laid-quiet : DenotesOne → Symmetric → Transitive → (tree : Item) (c : Class) (items : Siblings) (layout : Layout) (cs : ℕ) (of : SystemType) (axes : Axes) (shared : Option ℕ) →
+    IsLaid tree c items layout → layout.system ≡ Some cs → those c class.CoordinateSystem (here tree cs) ≡ item_at tree cs ∷ [] → HasType (item_at tree cs) of →
+    IsSeen of axes (those c class.Axis (ahead tree layout.axes)) → those c class.AxisUnit (ahead tree layout.unit) ≡ the_one tree shared →
+    ((list : List Item) → length list ≡ axes.count → IsLeast (OfHead (dimensions_of c) list (item_at tree cs)) None) → AreOrdered axes → UnitsFit tree axes shared →
+    IsLeast (RepeatsAny c (ahead tree layout.tail) once) None → IsQuiet c items
+laid-quiet law symmetric transitive tree c items layout cs of axes shared laid at only typed noted unit head ordered fit repeats = record {
+  repeats = once-back c items (ahead tree layout.tail)
+      (record {
+        scope = laid.single.0;
+        area = laid.single.1.0;
+        bbox = laid.single.1.1.0;
+        extent = laid.single.1.1.1.0;
+        remark = laid.single.1.1.1.1.0;
+      }) repeats;
+  systems = subst OfUnits (sym units) none;
+}
+  where
+    system : those c class.CoordinateSystem items ≡ item_at tree cs ∷ []
+    system = laid.system ∙ ap (λ o. those c class.CoordinateSystem (ahead tree o)) at ∙ only
+
+    units : those c class.AxisUnit items ≡ the_one tree shared
+    units = laid.unit ∙ unit
+
+    seen : IsSeen of axes (those c class.Axis items)
+    seen = subst (IsSeen of axes) (sym laid.axes) noted
+
+    OfUnits : List Item → Type 0
+    OfUnits us = IsLeast (BadSystems (dimensions_of c) (those c class.CoordinateSystem items) (those c class.Axis items) us) None
+
+    none : OfUnits (the_one tree shared)
+    none =
+        systems-none (dimensions_of c) (those c class.CoordinateSystem items) (those c class.Axis items) (the_one tree shared) (item_at tree cs) system
+        (head (those c class.Axis items) (sym seen.count)) (ordered-none law symmetric transitive of axes (those c class.Axis items) seen ordered)
+        (units-none tree (item_at tree cs) of axes (those c class.Axis items) shared typed seen fit)

@@ -1,0 +1,307 @@
+-- What is checked of a CRS as a whole: orders, units, dimensions and repeated parts.
+use Rattle.std.proofs.Common.{◌≡◌, ℕ, ◌+◌, ◌<◌, ◌≤◌, length, drop, Bool, true, false, inl, inr, ◌⊎◌, Option, Some, None, List, [], ◌∷◌, ◌++◌, refl, sym, ◌∙◌, ap, subst, arith}
+use denote.Enum.Bare.{true_same}
+use Rattle.crs_decimal.specs.Number.{SameNumber, whole_number}
+use Rattle.crs_decimal.specs.Value.{Value, exact}
+use Rattle.crs_text.specs.Items.{Item, Siblings, arguments, rest_of, here, HasId, IsAt}
+use Rattle.crs_text.specs.Refusal.{RefusedAt}
+use Rattle.crs_shape.specs.contracts.class.Class.{the_type}
+use Rattle.crs_shape.specs.declared.class.Class.{Class}
+use Rattle.crs_shape.specs.declared.class.Class.TheVariants as class
+use Rattle.crs_shape.specs.declared.system_type.SystemType.{SystemType}
+use Rattle.crs_shape.specs.declared.unit_kind.UnitKind.{UnitKind}
+use Rattle.crs_shape.specs.declared.unit_kind.UnitKind.TheVariants as kinds
+use Rattle.crs_shape.specs.ShapeFault.{class_in}
+use Rattle.crs_shape.specs.Slots.{is_class}
+use Rattle.crs_shape.specs.Dimensions.{dimensions_of}
+use Rattle.crs_value.specs.declared.judging.axes.Axes.{Axes}
+use Rattle.crs_value.specs.declared.judging.axes.Places.{Places}
+use Rattle.crs_value.specs.BadDynamic.{BadDynamic}
+use Rattle.crs_value.specs.BadOrder.{orders_in, ReadsOrder, OneHas, LacksOrder, SomeHasOrder, IsBadOrder, BadOrders, BadOrder}
+use Rattle.crs_value.specs.BadUnit.{units_in, Asks, Fits, AllAsk, IsSuperfluous, HasOwnUnit, BadOwnUnit, BadUnit}
+use Rattle.crs_value.specs.Break.{AnyOf, IsLeast}
+use Rattle.crs_value.specs.Checks.{once, BreaksAmong, HasSystem, OfHead, BadSystems, OfCrs, Own}
+use Rattle.crs_value.specs.FoundArguments.{HasPlace}
+use Rattle.crs_value.specs.Least.{lesser}
+use Rattle.crs_value.specs.Reading.{Each, OneIs, item_at, is_a, ahead, those, ReadsFirst}
+use Rattle.crs_value.specs.Reads.{HasType}
+use Rattle.crs_value.specs.RepeatedPart.{IsRepeated, RepeatsAny}
+use Rattle.crs_value.specs.Seen.{the_one, Marks, IsAmong, Differ, AllDiffer, AreAmong, AreWithin, AreOrdered, IsSeen, UnitsFit, IsQuiet, rank, Climbs}
+use Rattle.crs_value.specs.WholeNumbers.{IsWholeOf}
+use Rattle.crs_shape.proofs.DimensionLemmas.{as-whole}
+use Rattle.crs_value.proofs.found.ArgumentLemmas.{ahead_at, same_class, those-first, those-later}
+use Rattle.crs_value.proofs.checked.CheckLemmas.{DenotesOne}
+use Rattle.crs_value.proofs.checked.LeastLemmas.{either-is, least-same}
+use Rattle.crs_value.proofs.checked.OrderLemmas.{wrong-none}
+use Rattle.crs_value.proofs.checked.PlacedLemmas.{Symmetric, Transitive, place-one}
+use Rattle.crs_value.proofs.checked.SystemLemmas.{system-none, count-none}
+
+-- ---- the node `CS`
+
+pub head-none : DenotesOne → (dims : SystemType → List ℕ) (cs : Item) (t : SystemType) (dimension : ℕ) (axes : List Item) (n : ℕ) → HasType cs t →
+    IsWholeOf class.CoordinateSystem cs dimension → OneIs (λ m. dimension ≡ m) (dims t) → dimension ≡ n → length axes ≡ n → IsLeast (OfHead dims axes cs) None
+head-none law dims cs t dimension axes n ht (v, (hv, same)) is all e f (inl h) = system-none law dims cs t v ht hv (as-whole v dimension same (dims t) is) f h
+head-none law dims cs t dimension axes n ht (v, (hv, same)) is all e f (inr h) =
+    let P : ℕ → Type 0 = λ m. SameNumber (exact v) (whole_number m) in
+    count-none law (length axes) cs v hv (subst P (all ∙ sym e) same) f h
+
+-- ---- orders
+
+none-has : (axes : List Item) → Each (λ a. orders_in a ≡ []) axes → (n : ℕ) (before : List Item) (f : RefusedAt) → BadOrders n before axes f → ⊥
+none-has [] h n before f k = k
+none-has (axis ∷ axes) h n before f (inl k) = let P : List Item → Type 0 = λ xs. AnyOf (IsBadOrder n before) xs f in subst P h.0 k
+none-has (axis ∷ axes) h n before f (inr k) = none-has axes h.1 n (before ++ axis ∷ []) f k
+
+-- the number in an axis's order is one
+place-is : DenotesOne → Symmetric → Transitive → (j k : ℕ) (axis : Item) → HasPlace j axis → (p : HasPlace k axis) → j ≡ k
+place-is law symmetric transitive j k axis q p =
+    let P : List Item → Type 0 = λ xs. ReadsFirst ReadsOrder xs p.value in
+    place-one law symmetric transitive j k axis p.value q (subst P (sym p.only) p.reads) p.same
+
+-- none of the axes before has the order of one that differs from each
+none-same : DenotesOne → Symmetric → Transitive → (k : ℕ) (axis : Item) → (p : HasPlace k axis) → (before : List Item) → Each (λ b. Differ b axis) before →
+    OneHas p.value before → ⊥
+none-same law symmetric transitive k axis p [] h has = has
+none-same law symmetric transitive k axis p (b ∷ before) h (inl has) =
+    let d = h.0 in
+    let same : d.0 ≡ k = place-one law symmetric transitive d.0 k b p.value d.1.1.0 has p.same in
+    let other : d.1.0 ≡ k = place-is law symmetric transitive d.1.0 k axis d.1.1.1.0 p in
+    d.1.1.1.1 (same ∙ sym other)
+none-same law symmetric transitive k axis p (b ∷ before) h (inr has) = none-same law symmetric transitive k axis p before h.1 has
+
+both-on : (axis : Item) (axes before : List Item) → Each (λ b. Each (Differ b) (axis ∷ axes)) before → Each (Differ axis) axes →
+    Each (λ b. Each (Differ b) axes) (before ++ axis ∷ [])
+both-on axis axes [] h d = (d, tt)
+both-on axis axes (b ∷ before) h d = (h.0.1, both-on axis axes before h.1 d)
+
+firsts : (axis : Item) (axes before : List Item) → Each (λ b. Each (Differ b) (axis ∷ axes)) before → Each (λ b. Differ b axis) before
+firsts axis axes [] h = tt
+firsts axis axes (b ∷ before) h = (h.0.0, firsts axis axes before h.1)
+
+among-none : DenotesOne → Symmetric → Transitive → (n : ℕ) (places : Places) → ((k : ℕ) → Marks places k → (1 ≤ k) × (k ≤ n)) → (axes before : List Item) →
+    Each (IsAmong places) axes → AllDiffer axes → Each (λ b. Each (Differ b) axes) before → (f : RefusedAt) → BadOrders n before axes f → ⊥
+among-none law symmetric transitive n places within [] before among differ others f h = h
+among-none law symmetric transitive n places within (axis ∷ axes) before among differ others f (inl h) =
+    let P : List Item → Type 0 = λ xs. AnyOf (IsBadOrder n before) xs f in
+    last (subst P among.0.1.0.only h)
+  where
+    last : AnyOf (IsBadOrder n before) (among.0.1.0.order ∷ []) f → ⊥
+    last (inl k) =
+        let p = among.0.1.0 in
+        let w = within among.0.0 among.0.1.1 in
+        wrong-none law n before p.order p.value p.reads (among.0.0, (w.0, w.1, p.same))
+        (none-same law symmetric transitive among.0.0 axis p before (firsts axis axes before others)) f k
+    last (inr k) = k
+among-none law symmetric transitive n places within (axis ∷ axes) before among differ others f (inr h) =
+    among-none law symmetric transitive n places within axes (before ++ axis ∷ []) among.1 differ.1 (both-on axis axes before others differ.0) f h
+
+some-lacks : (places : Places) (axes : List Item) → Each (IsAmong places) axes → (f : RefusedAt) → AnyOf LacksOrder axes f → ⊥
+some-lacks places [] h f k = k
+some-lacks places (axis ∷ axes) h f (inl k) = let e : [] ≡ h.0.1.0.order ∷ [] = sym k.1 ∙ h.0.1.0.only in cc
+some-lacks places (axis ∷ axes) h f (inr k) = some-lacks places axes h.1 f k
+
+some-has : (axes : List Item) → Each (λ a. orders_in a ≡ []) axes → SomeHasOrder axes → ⊥
+some-has [] h k = k
+some-has (axis ∷ axes) h (inl k) = k h.0
+some-has (axis ∷ axes) h (inr k) = some-has axes h.1 k
+
+pub ordered-none : DenotesOne → Symmetric → Transitive → (of : SystemType) (seen : Axes) (axes : List Item) → IsSeen of seen axes → AreOrdered seen → IsLeast (BadOrder axes) None
+ordered-none law symmetric transitive of seen axes s (inl e) f (inl h) = some-has axes (s.none e) h.0
+ordered-none law symmetric transitive of seen axes s (inl e) f (inr h) = none-has axes (s.none e) (length axes) [] f h.1
+ordered-none law symmetric transitive of seen axes s (inr w) f h = by seen.places w s.places h
+  where
+    by : (o : Option Places) → AreWithin seen.count o → AreAmong o axes → BadOrder axes f → ⊥
+    by None w among h = w
+    by (Some places) w among (inl h) = some-lacks places axes among.0 f h.1
+    by (Some places) w among (inr h) =
+        among-none law symmetric transitive (length axes) places
+        (λ k m. let b = w k m in (b.0, let e = s.count in let q = b.1 in omega (arith, e, q))) axes [] among.0 among.1 tt f h.1
+
+-- ---- units
+
+own-none : (cs : Item) (axes : List Item) → Each (λ a. IsLeast (BadOwnUnit cs a) None) axes → (f : RefusedAt) → AnyOf (BadOwnUnit cs) axes f → ⊥
+own-none cs [] h f k = k
+own-none cs (axis ∷ axes) h f (inl k) = h.0 f k
+own-none cs (axis ∷ axes) h f (inr k) = own-none cs axes h.1 f k
+
+alone-none : (axes : List Item) → Each (λ a. units_in a ≡ []) axes → (f : RefusedAt) → AnyOf HasOwnUnit axes f → ⊥
+alone-none [] h f k = k
+alone-none (axis ∷ axes) h f (inl k) = let P : List Item → Type 0 = λ xs. AnyOf IsSuperfluous xs f in subst P h.0 k
+alone-none (axis ∷ axes) h f (inr k) = alone-none axes h.1 f k
+
+all-ask : (cs : Item) (kind : UnitKind) (axes : List Item) → Each (λ a. Asks cs a kind) axes → AllAsk cs axes kind
+all-ask cs kind [] h = tt
+all-ask cs kind (axis ∷ axes) h = (h.0, all-ask cs kind axes h.1)
+
+pub units-none : (tree cs : Item) (of : SystemType) (seen : Axes) (axes : List Item) (shared : Option ℕ) → HasType cs of → IsSeen of seen axes → UnitsFit tree seen shared →
+    IsLeast (BadUnit axes (the_one tree shared) cs) None
+units-none tree cs of seen axes None t s fit f h = own-none cs axes (s.fit fit cs t) f h
+units-none tree cs of seen axes (Some unit) t s fit f (inl h) = alone-none axes (s.free fit.0) f h
+units-none tree cs of seen axes (Some unit) t s fit f (inr h) = h.1 (by fit.1)
+  where
+    by : ((seen.lengths ≡ true) × Fits (item_at tree unit) kinds.Length) ⊎ ((seen.angles ≡ true) × Fits (item_at tree unit) kinds.Angle) →
+        (kind : UnitKind) × (AllAsk cs axes kind × Fits (item_at tree unit) kind)
+    by (inl k) = (kinds.Length, (all-ask cs kinds.Length axes (s.long k.0 cs t), k.1))
+    by (inr k) = (kinds.Angle, (all-ask cs kinds.Angle axes (s.turned k.0 cs t), k.1))
+
+pub systems-none : (dims : SystemType → List ℕ) (systems axes units : List Item) (cs : Item) → systems ≡ cs ∷ [] → IsLeast (OfHead dims axes cs) None → IsLeast (BadOrder axes) None →
+    IsLeast (BadUnit axes units cs) None → IsLeast (BadSystems dims systems axes units) None
+systems-none dims systems axes units cs e head orders fit = subst (λ xs. IsLeast (BadSystems dims xs axes units) None) (sym e) by
+  where
+    by : (f : RefusedAt) → BadSystems dims (cs ∷ []) axes units f → ⊥
+    by f (inl (inl h)) = head f h
+    by f (inl (inr h)) = h
+    by f (inr (inl h)) = orders f h
+    by f (inr (inr (inl h))) = fit f h
+    by f (inr (inr (inr h))) = h
+
+-- ---- what is repeated
+
+again-none : (xs : List Item) (f : RefusedAt) → length xs ≤ 1 → AnyOf IsRepeated (drop 1 xs) f → ⊥
+again-none [] f few h = h
+again-none (x ∷ []) f few h = h
+again-none (x ∷ y ∷ ys) f few h = absurd (omega (arith, few))
+
+pub few-repeats : (c : Class) (items : Siblings) → ((d : Class) → 1 ≤ rank d → length (those c d items) ≤ 1) → IsLeast (RepeatsAny c items once) None
+few-repeats c items few f (inl h) = again-none (those c class.Scope items) f (few class.Scope (omega arith)) h
+few-repeats c items few f (inr (inl h)) = again-none (those c class.Area items) f (few class.Area (omega arith)) h
+few-repeats c items few f (inr (inr (inl h))) = again-none (those c class.BoundingBox items) f (few class.BoundingBox (omega arith)) h
+few-repeats c items few f (inr (inr (inr (inl h)))) = again-none (those c class.VerticalExtent items) f (few class.VerticalExtent (omega arith)) h
+few-repeats c items few f (inr (inr (inr (inr (inl h))))) = again-none (those c class.Remark items) f (few class.Remark (omega arith)) h
+few-repeats c items few f (inr (inr (inr (inr (inr h))))) = h
+
+-- the same ones of the classes that may stand but once
+pub record SameOnce (c : Class) (xs ys : Siblings) : Type 0 where
+  pub scope : those c class.Scope xs ≡ those c class.Scope ys
+  pub area : those c class.Area xs ≡ those c class.Area ys
+  pub bbox : those c class.BoundingBox xs ≡ those c class.BoundingBox ys
+  pub extent : those c class.VerticalExtent xs ≡ those c class.VerticalExtent ys
+  pub remark : those c class.Remark xs ≡ those c class.Remark ys
+
+pub once-back : (c : Class) (xs ys : Siblings) → SameOnce c xs ys → IsLeast (RepeatsAny c ys once) None → IsLeast (RepeatsAny c xs once) None
+once-back c xs ys same none f h = none f (by h)
+  where
+    again : RefusedAt → List Item → Type 0
+    again g zs = AnyOf IsRepeated (drop 1 zs) g
+
+    by : RepeatsAny c xs once f → RepeatsAny c ys once f
+    by (inl k) = inl (subst (again f) same.scope k)
+    by (inr (inl k)) = inr (inl (subst (again f) same.area k))
+    by (inr (inr (inl k))) = inr (inr (inl (subst (again f) same.bbox k)))
+    by (inr (inr (inr (inl k)))) = inr (inr (inr (inl (subst (again f) same.extent k))))
+    by (inr (inr (inr (inr (inl k))))) = inr (inr (inr (inr (inl (subst (again f) same.remark k)))))
+    by (inr (inr (inr (inr (inr k))))) = absurd k
+
+-- ---- ranks
+
+pub record Climbing (c : Class) (from at : Siblings) (last : ℕ) : Type 0 where
+  pub unseen : (d : Class) → 1 ≤ rank d → last < rank d → length (those c d from) ≤ length (those c d at)
+  pub few : (d : Class) → 1 ≤ rank d → length (those c d from) ≤ length (those c d at) + 1
+
+pub climbing-first : (c : Class) (items : Siblings) → Climbing c items items 0
+climbing-first c items = record { unseen = λ d high below. omega arith; few = λ d high. omega arith }
+
+class-is : (c : Class) (o : Option Class) → is_class c o ≡ true → o ≡ Some c
+class-is c None e = cc
+class-is c (Some d) e = ap Some (same_class d c e)
+
+-- an argument of a class is of no other
+pub once-some : (p : Class) (item : Item) (c : Class) → is_a p c item ≡ true → (d : Class) → 1 ≤ rank d → is_a p d item ≡ true → Some c ≡ Some d
+once-some p item c is d high also = sym (class-is c (class_in p item) is) ∙ class-is d (class_in p item) also
+
+-- one of none of the classes that may stand but once
+pub once-none : (p : Class) (item : Item) → is_a p class.Scope item ≡ false → is_a p class.Area item ≡ false → is_a p class.BoundingBox item ≡ false →
+    is_a p class.VerticalExtent item ≡ false → is_a p class.Remark item ≡ false → (d : Class) → 1 ≤ rank d → is_a p d item ≡ true → ⊥
+once-none p item a b e f g class.Scope high is = let k : true ≡ false = sym is ∙ a in cc
+once-none p item a b e f g class.Area high is = let k : true ≡ false = sym is ∙ b in cc
+once-none p item a b e f g class.BoundingBox high is = let k : true ≡ false = sym is ∙ e in cc
+once-none p item a b e f g class.VerticalExtent high is = let k : true ≡ false = sym is ∙ f in cc
+once-none p item a b e f g class.Remark high is = let k : true ≡ false = sym is ∙ g in cc
+once-none p item a b e f g other high is = absurd (omega (arith, high))
+
+-- one argument more
+pub climbing-on : (tree : Item) (c : Class) (from : Siblings) (at : Option ℕ) (id : ℕ) (next : Option ℕ) (last now : ℕ) (found : Option Class) → at ≡ Some id → HasId tree id →
+    IsAt tree (rest_of (here tree id)) next → ((d : Class) → 1 ≤ rank d → is_a c d (item_at tree id) ≡ true → found ≡ Some d) → Climbs last found now → Climbing c from (ahead tree at) last →
+    Climbing c from (ahead tree next) now
+climbing-on tree c from at id next last now found same has is named climbs h = record {
+  unseen = λ d high below. by d high (is_a c d (item_at tree id)) refl (λ is-so. let k = (climbs.1 d high (is_as d high is-so)).1 in absurd (omega (arith, k, below)))
+      (λ e. let u = h.unseen d high (below-last d below) in let q = here-is d in omega (arith, u, q, e));
+  few = λ d high. by d high (is_a c d (item_at tree id)) refl
+      (λ is-so. let k = (climbs.1 d high (is_as d high is-so)).0 in let u = h.unseen d high k in let q = here-is d in let e = ap length (those-first c d (here tree id) has is-so ∙ past d) in omega (arith, u, q, e))
+      (λ e. let u = h.few d high in let q = here-is d in omega (arith, u, q, e));
+}
+  where
+    here-is : (d : Class) → length (those c d (ahead tree at)) ≡ length (those c d (here tree id))
+    here-is d = ap (λ o. length (those c d (ahead tree o))) same
+
+    past : (d : Class) → item_at tree id ∷ those c d (rest_of (here tree id)) ≡ item_at tree id ∷ those c d (ahead tree next)
+    past d = ap (λ xs. item_at tree id ∷ those c d xs) (sym (ahead_at tree (rest_of (here tree id)) next is))
+
+    is_as : (d : Class) → 1 ≤ rank d → is_a c d (item_at tree id) ≡ true → is_class d found ≡ true
+    is_as d high is-so = ap (is_class d) (named d high is-so) ∙ true_same the_type d d refl
+
+    below-last : (d : Class) → now < rank d → last < rank d
+    below-last d below = let k = climbs.0 in omega (arith, k, below)
+
+    by : {P : Type 0} → (d : Class) → 1 ≤ rank d → (b : Bool) → is_a c d (item_at tree id) ≡ b → (is_a c d (item_at tree id) ≡ true → P) →
+        (length (those c d (here tree id)) ≡ length (those c d (ahead tree next)) → P) → P
+    by d high true e then-so then-not = then-so e
+    by d high false e then-so then-not = then-not (ap length (those-later c d (here tree id) has e) ∙ ap (λ xs. length (those c d xs)) (sym (ahead_at tree (rest_of (here tree id)) next is)))
+
+pub climbing-end : (tree : Item) (c : Class) (from : Siblings) (at : Option ℕ) (last : ℕ) → at ≡ None → Climbing c from (ahead tree at) last → IsLeast (RepeatsAny c from once) None
+climbing-end tree c from at last none h = few-repeats c from by
+  where
+    by : (d : Class) → 1 ≤ rank d → length (those c d from) ≤ 1
+    by d high =
+        let k = h.few d high in
+        let e : length (those c d (ahead tree at)) ≡ 0 = ap (λ o. length (those c d (ahead tree o))) none in
+        omega (arith, k, e)
+
+pub climbs-none : (last now : ℕ) → now ≡ last → Climbs last None now
+climbs-none last now e = (omega (arith, e), λ d high is. let k : false ≡ true = is in cc)
+
+pub climbs-past : (last : ℕ) (c : Class) → rank c ≡ 0 → Climbs last (Some c) last
+climbs-past last c none = (omega arith, λ d high is. let e : rank c ≡ rank d = ap rank (same_class c d is) in absurd (omega (arith, e, none, high)))
+
+pub climbs-on : (last : ℕ) (c : Class) (now : ℕ) → now ≡ rank c → last < now → Climbs last (Some c) now
+climbs-on last c now e above = (omega (arith, above), λ d high is. let k : rank c ≡ rank d = ap rank (same_class c d is) in (omega (arith, e, k, above), omega (arith, e, k)))
+
+-- ---- a whole CRS
+
+crs-dynamic : (dims : SystemType → List ℕ) (c : Class) (item : Item) → IsLeast (RepeatsAny c (arguments item) once) None →
+    IsLeast (BadSystems dims (those c class.CoordinateSystem (arguments item)) (those c class.Axis (arguments item)) (those c class.AxisUnit (arguments item))) None →
+    (f : RefusedAt) → OfCrs dims c item f → BadDynamic c item f
+crs-dynamic dims c item repeats systems f (inl h) = absurd (repeats f h)
+crs-dynamic dims c item repeats systems f (inr (inl h)) = absurd (systems f h)
+crs-dynamic dims c item repeats systems f (inr (inr h)) = h
+
+own-dynamic : (c : Class) (item : Item) → HasSystem c → IsQuiet c (arguments item) → (f : RefusedAt) → Own c item f → BadDynamic c item f
+unfolding Own
+own-dynamic class.GeodeticCrs item s q f h = crs-dynamic (dimensions_of class.GeodeticCrs) class.GeodeticCrs item q.repeats q.systems f h
+own-dynamic class.GeographicCrs item s q f h = crs-dynamic (dimensions_of class.GeographicCrs) class.GeographicCrs item q.repeats q.systems f h
+own-dynamic class.ProjectedCrs item s q f h = crs-dynamic (dimensions_of class.ProjectedCrs) class.ProjectedCrs item q.repeats q.systems f h
+own-dynamic class.VerticalCrs item s q f h = crs-dynamic (dimensions_of class.VerticalCrs) class.VerticalCrs item q.repeats q.systems f h
+own-dynamic other item s q f h = absurd s
+
+dynamic-own : (c : Class) (item : Item) → HasSystem c → (f : RefusedAt) → BadDynamic c item f → Own c item f
+unfolding Own
+dynamic-own class.GeodeticCrs item s f h = inr (inr h)
+dynamic-own class.GeographicCrs item s f h = inr (inr h)
+dynamic-own class.ProjectedCrs item s f h = inr (inr h)
+dynamic-own class.VerticalCrs item s f h = inr (inr h)
+dynamic-own other item s f h = absurd s
+
+-- what such a CRS breaks, within it and by itself
+pub quiet-whole : (c : Class) (item : Item) (inside dynamic whole : Option RefusedAt) → HasSystem c → IsQuiet c (arguments item) → IsLeast (BreaksAmong c (arguments item)) inside →
+    IsLeast (BadDynamic c item) dynamic → whole ≡ lesser inside dynamic → IsLeast (λ f. BreaksAmong c (arguments item) f ⊎ Own c item f) whole
+quiet-whole c item inside dynamic whole system quiet within bad is =
+    least-same (λ f. BreaksAmong c (arguments item) f ⊎ BadDynamic c item f) (λ f. BreaksAmong c (arguments item) f ⊎ Own c item f) whole to back
+    (either-is (BreaksAmong c (arguments item)) (BadDynamic c item) inside dynamic whole is within bad)
+  where
+    to : (f : RefusedAt) → BreaksAmong c (arguments item) f ⊎ BadDynamic c item f → BreaksAmong c (arguments item) f ⊎ Own c item f
+    to f (inl h) = inl h
+    to f (inr h) = inr (dynamic-own c item system f h)
+
+    back : (f : RefusedAt) → BreaksAmong c (arguments item) f ⊎ Own c item f → BreaksAmong c (arguments item) f ⊎ BadDynamic c item f
+    back f (inl h) = inl h
+    back f (inr h) = inr (own-dynamic c item system quiet f h)
