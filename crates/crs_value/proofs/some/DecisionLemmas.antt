@@ -11,10 +11,11 @@ use Rattle.crs_shape.specs.declared.system_type.SystemType.TheVariants as types
 use Rattle.crs_shape.specs.declared.unit_kind.UnitKind.{UnitKind}
 use Rattle.crs_shape.specs.declared.unit_kind.UnitKind.TheVariants as kinds
 use Rattle.crs_shape.specs.Dimensions.{IsOneOf}
-use Rattle.crs_shape.specs.Words.{SpellsWord, direction_word, every_direction, system_word}
+use Rattle.crs_shape.specs.Words.{SpellsWord, direction_word, every_direction, every_type, system_word}
 use Rattle.crs_value.specs.BadValue.{IsAboveZero}
 use Rattle.crs_value.specs.BadOrder.{IsPosition}
-use Rattle.crs_shape.proofs.WordLemmas.{direction_place, direction_placed, direction_within}
+use Rattle.crs_value.specs.Sound.{Each, Suits}
+use Rattle.crs_shape.proofs.WordLemmas.{direction_place, direction_placed, direction_within, kind_place, kind_placed, kind_within, kinds_list, type_place, type_placed, type_within}
 
 abbrev pub Decided : Type 0 → Type 0
 Decided C = C ⊎ (¬ C)
@@ -43,6 +44,11 @@ decided-either {A = A} {B = B} (inr fails) (inr lacks) = inr neither
 pub decided-not : {A : Type 0} → Decided A → Decided (¬ A)
 decided-not (inl a) = inr (λ f. f a)
 decided-not (inr fails) = inl fails
+
+-- what isn't false is true
+pub stable : {A : Type 0} → Decided A → ¬ (¬ A) → A
+stable (inl a) twice = a
+stable (inr fails) twice = absurd (twice fails)
 
 -- a condition on the one value that is read
 pub decided-some : {V : Type 0} (R C : V → Type 0) → ((a b : V) → R a → R b → a ≡ b) → Known R → ((v : V) → R v → Decided (C v)) → Decided ((v : V) × (R v × C v))
@@ -74,91 +80,78 @@ decided-word raw name =
     test : (bytes_eq (str_to_ascii_lowercase raw) (str_to_ascii_lowercase name) ≡ true) ↔ SpellsWord raw name
     test = bytes_eq-Decides (str_to_ascii_lowercase raw) (str_to_ascii_lowercase name)
 
+-- a property of some of these, or of none of them
+abbrev Among : {V : Type 0} → (V → Type 0) → List V → Type 0
+Among {V = V} P vs = ((v : V) × P v) ⊎ ((k : ℕ) (v : V) → k < length vs → ¬ (P (get_or vs k v)))
+
+more-among : {V : Type 0} (P : V → Type 0) (v : V) (vs : List V) → Decided (P v) → Among P vs → Among P (v ∷ vs)
+more-among P v vs (inl h) rest = inl (v, h)
+more-among P v vs (inr fails) (inl found) = inl found
+more-among {V = V} P v vs (inr fails) (inr none) = inr at
+  where
+    at : (k : ℕ) (w : V) → k < length (v ∷ vs) → ¬ (P (get_or (v ∷ vs) k w))
+    at zero w within h = fails h
+    at (suc k) w within h = none k w (omega arith) h
+
+among : {V : Type 0} (P : V → Type 0) → ((v : V) → Decided (P v)) → (vs : List V) → Among P vs
+among P dec [] = inr (λ k v within h. absurd (omega arith))
+among P dec (v ∷ vs) = more-among P v vs (dec v) (among P dec vs)
+
+-- a property of some value or of none, where each value has its place in a list
+known-in : {V : Type 0} (P : V → Type 0) → ((v : V) → Decided (P v)) → (vs : List V) (place : V → ℕ) →
+    ((v : V) → place v < length vs) → ((v : V) → get_or vs (place v) v ≡ v) → Known P
+known-in P dec vs place within placed = by (among P dec vs)
+  where
+    by : Among P vs → Known P
+    by (inl found) = inl found
+    by (inr none) = inr (λ v h. none (place v) v (within v) (subst P (sym (placed v)) h))
+
 pub type-known : (raw : List ℕ) → Known (λ t. SpellsWord raw (system_word t))
+unfolding every_type
 type-known raw =
-    by (decided-word raw (system_word types.Cartesian)) (decided-word raw (system_word types.Ellipsoidal)) (decided-word raw (system_word types.Spherical))
-    (decided-word raw (system_word types.Vertical))
-  where
-    Is : SystemType → Type 0
-    Is t = SpellsWord raw (system_word t)
-
-    none : (Is types.Cartesian → ⊥) → (Is types.Ellipsoidal → ⊥) → (Is types.Spherical → ⊥) → (Is types.Vertical → ⊥) → (t : SystemType) → Is t → ⊥
-    none a b c d types.Cartesian h = a h
-    none a b c d types.Ellipsoidal h = b h
-    none a b c d types.Spherical h = c h
-    none a b c d types.Vertical h = d h
-
-    by : Decided (Is types.Cartesian) → Decided (Is types.Ellipsoidal) → Decided (Is types.Spherical) → Decided (Is types.Vertical) → Known Is
-    by (inl a) b c d = inl (types.Cartesian, a)
-    by (inr a) (inl b) c d = inl (types.Ellipsoidal, b)
-    by (inr a) (inr b) (inl c) d = inl (types.Spherical, c)
-    by (inr a) (inr b) (inr c) (inl d) = inl (types.Vertical, d)
-    by (inr a) (inr b) (inr c) (inr d) = inr (none a b c d)
-
-abbrev Among : List ℕ → List Direction → Type 0
-Among raw ds = ((d : Direction) × SpellsWord raw (direction_word d)) ⊎ ((k : ℕ) (d : Direction) → k < length ds → ¬ (SpellsWord raw (direction_word (get_or ds k d))))
-
-more-among : (raw : List ℕ) (d : Direction) (ds : List Direction) → Decided (SpellsWord raw (direction_word d)) → Among raw ds → Among raw (d ∷ ds)
-more-among raw d ds (inl h) rest = inl (d, h)
-more-among raw d ds (inr fails) (inl found) = inl found
-more-among raw d ds (inr fails) (inr none) = inr at
-  where
-    at : (k : ℕ) (e : Direction) → k < length (d ∷ ds) → ¬ (SpellsWord raw (direction_word (get_or (d ∷ ds) k e)))
-    at zero e within h = fails h
-    at (suc k) e within h = none k e (omega arith) h
-
-among : (raw : List ℕ) (ds : List Direction) → Among raw ds
-among raw [] = inr (λ k d within h. absurd (omega arith))
-among raw (d ∷ ds) = more-among raw d ds (decided-word raw (direction_word d)) (among raw ds)
+    known-in (λ t. SpellsWord raw (system_word t)) (λ t. decided-word raw (system_word t)) every_type type_place type_within type_placed
 
 pub direction-known : (raw : List ℕ) → Known (λ d. SpellsWord raw (direction_word d))
-direction-known raw = by (among raw every_direction)
-  where
-    by : Among raw every_direction → Known (λ d. SpellsWord raw (direction_word d))
-    by (inl found) = inl found
-    by (inr none) = inr (λ d h.
-        let P : Direction → Type 0 = λ e. SpellsWord raw (direction_word e) in
-        none (direction_place d) d (direction_within d) (subst P (sym (direction_placed d)) h))
-
-pub decided-kind : (a b : UnitKind) → Decided (a ≡ b)
-decided-kind kinds.Length kinds.Length = inl refl
-decided-kind kinds.Length kinds.Angle = inr (λ e. cc)
-decided-kind kinds.Length kinds.Scale = inr (λ e. cc)
-decided-kind kinds.Length kinds.Plain = inr (λ e. cc)
-decided-kind kinds.Angle kinds.Length = inr (λ e. cc)
-decided-kind kinds.Angle kinds.Angle = inl refl
-decided-kind kinds.Angle kinds.Scale = inr (λ e. cc)
-decided-kind kinds.Angle kinds.Plain = inr (λ e. cc)
-decided-kind kinds.Scale kinds.Length = inr (λ e. cc)
-decided-kind kinds.Scale kinds.Angle = inr (λ e. cc)
-decided-kind kinds.Scale kinds.Scale = inl refl
-decided-kind kinds.Scale kinds.Plain = inr (λ e. cc)
-decided-kind kinds.Plain kinds.Length = inr (λ e. cc)
-decided-kind kinds.Plain kinds.Angle = inr (λ e. cc)
-decided-kind kinds.Plain kinds.Scale = inr (λ e. cc)
-decided-kind kinds.Plain kinds.Plain = inl refl
+unfolding every_direction
+direction-known raw =
+    known-in (λ d. SpellsWord raw (direction_word d)) (λ d. decided-word raw (direction_word d)) every_direction direction_place direction_within direction_placed
 
 pub decided-kinds : (P : UnitKind → Type 0) → ((k : UnitKind) → Decided (P k)) → Decided ((k : UnitKind) × P k)
-decided-kinds P dec = by (dec kinds.Length) (dec kinds.Angle) (dec kinds.Scale) (dec kinds.Plain)
+decided-kinds P dec = by (known-in P dec kinds_list kind_place kind_within kind_placed)
   where
-    none : (P kinds.Length → ⊥) → (P kinds.Angle → ⊥) → (P kinds.Scale → ⊥) → (P kinds.Plain → ⊥) → (k : UnitKind) → P k → ⊥
-    none a b c d kinds.Length h = a h
-    none a b c d kinds.Angle h = b h
-    none a b c d kinds.Scale h = c h
-    none a b c d kinds.Plain h = d h
+    by : Known P → Decided ((k : UnitKind) × P k)
+    by (inl found) = inl found
+    by (inr none) = inr (λ h. none h.0 h.1)
 
-    by : Decided (P kinds.Length) → Decided (P kinds.Angle) → Decided (P kinds.Scale) → Decided (P kinds.Plain) → Decided ((k : UnitKind) × P k)
-    by (inl a) b c d = inl (kinds.Length, a)
-    by (inr a) (inl b) c d = inl (kinds.Angle, b)
-    by (inr a) (inr b) (inl c) d = inl (kinds.Scale, c)
-    by (inr a) (inr b) (inr c) (inl d) = inl (kinds.Plain, d)
-    by (inr a) (inr b) (inr c) (inr d) = inr (λ h. none a b c d h.0 h.1)
+abbrev kind_at : ℕ → UnitKind
+kind_at n = get_or kinds_list n kinds.Plain
 
-pub not-ellipsoidal : (t : SystemType) → Decided (t ≢ types.Ellipsoidal)
-not-ellipsoidal types.Cartesian = inl (λ e. cc)
-not-ellipsoidal types.Ellipsoidal = inr (λ f. f refl)
-not-ellipsoidal types.Spherical = inl (λ e. cc)
-not-ellipsoidal types.Vertical = inl (λ e. cc)
+kind-back : (k : UnitKind) → kind_at (kind_place k) ≡ k
+kind-back kinds.Length = refl
+kind-back other = refl
+
+pub decided-kind : (a b : UnitKind) → Decided (a ≡ b)
+decided-kind a b =
+    decided-as (λ e. sym (kind-back a) ∙ ap kind_at e ∙ kind-back b) (λ e. ap kind_place e) (cases_eq (kind_place a) (kind_place b))
+
+pub decided-suits : (asked kind : UnitKind) → Decided (Suits asked kind)
+decided-suits asked kind = decided-either (decided-kind kind asked) (decided-kind kind kinds.Plain)
+
+pub whether-ellipsoidal : (t : SystemType) → Decided (t ≡ types.Ellipsoidal)
+whether-ellipsoidal types.Ellipsoidal = inl refl
+whether-ellipsoidal types.Cartesian = inr (λ e. cc)
+whether-ellipsoidal types.Spherical = inr (λ e. cc)
+whether-ellipsoidal types.Vertical = inr (λ e. cc)
+
+-- ---- lists
+
+pub decided-none : {V : Type 0} (vs : List V) → Decided (vs ≡ [])
+decided-none [] = inl refl
+decided-none (v ∷ vs) = inr (λ e. cc)
+
+pub decided-each : {V : Type 0} (P : V → Type 0) → ((v : V) → Decided (P v)) → (vs : List V) → Decided (Each P vs)
+decided-each P dec [] = inl tt
+decided-each P dec (v ∷ vs) = decided-both (dec v) (decided-each P dec vs)
 
 -- ---- numbers
 
@@ -182,15 +175,9 @@ decided-int (pos m) (negsuc n) = inr (λ e. cc)
 decided-int (negsuc m) (pos n) = inr (λ e. cc)
 decided-int (negsuc m) (negsuc n) = decided-as (λ e. ap negsuc e) (λ e. cc) (decided-nat m n)
 
-abbrev value-made : Bool → ℕ → ℤ → Value
-value-made negative digits power = record { negative = negative; digits = digits; power = power }
-
-value-equal : (a b : Bool) (m n : ℕ) (p q : ℤ) → a ≡ b → m ≡ n → p ≡ q → value-made a m p ≡ value-made b n q
-value-equal a b m n p q d e f = cc
-
 pub decided-value : (a b : Value) → Decided (a ≡ b)
 decided-value a b =
-    decided-as (λ h. value-equal a.negative b.negative a.digits b.digits a.power b.power h.0 h.1.0 h.1.1)
+    decided-as (λ h. λ i. record { negative = h.0 i; digits = h.1.0 i; power = h.1.1 i })
     (λ e. (ap (λ v. v.negative) e, (ap (λ v. v.digits) e, ap (λ v. v.power) e)))
     (decided-both (decided-bool a.negative b.negative) (decided-both (decided-nat a.digits b.digits) (decided-int a.power b.power)))
 

@@ -31,7 +31,7 @@ use Rattle.crs_value.specs.Least.{lesser}
 use Rattle.crs_value.specs.Reading.{those, ReadsFirst}
 use Rattle.crs_value.specs.Reads.{HasType, HasDimension, ReadsNumber, ReadsType, ReadsDirection}
 use Rattle.crs_value.proofs.checked.CheckLemmas.{DenotesOne, number-one}
-use Rattle.crs_value.proofs.some.DecisionLemmas.{Decided, Known, decided-as, decided-both, decided-either, decided-not, decided-some, decided-this, decided-word, type-known, direction-known, decided-kind, decided-kinds, not-ellipsoidal, decided-bool, decided-same, decided-value, decided-one-of, decided-position, decided-above}
+use Rattle.crs_value.proofs.some.DecisionLemmas.{Decided, Known, decided-as, decided-both, decided-either, decided-not, decided-some, decided-this, decided-word, type-known, direction-known, decided-kind, decided-kinds, decided-none, whether-ellipsoidal, decided-bool, decided-same, decided-value, decided-one-of, decided-position, decided-above}
 use Rattle.crs_value.proofs.checked.LeastLemmas.{least-same, least-either, least-one, least-not, least-is}
 use Rattle.crs_value.proofs.some.FormedLemmas.{Numbers, Ready, AllReady, those-ready, append-ready, drop-ready, number-some, first-known}
 use Rattle.crs_value.proofs.checked.SystemLemmas.{first-one, type-is-one, dimension-is-one}
@@ -65,10 +65,6 @@ any-least B c one (item ∷ items) h = either-least (B item) (AnyOf B items) (on
 decided-first : (P : Item → Type 0) (c : Class) → ((item : Item) → Ready c item → Decided (P item)) → (items : List Item) → AllReady c items → Decided (FirstIs P items)
 decided-first P c one [] h = inr (λ x. x)
 decided-first P c one (item ∷ items) h = one item h.0
-
-decided-none : (items : List Item) → Decided (items ≡ [])
-decided-none [] = inl refl
-decided-none (item ∷ items) = inr (λ e. cc)
 
 -- ---- words
 
@@ -129,7 +125,7 @@ module _ (numbers : Numbers) (one : DenotesOne) where
       decided-some (HasDimension cs) (λ v. ¬ (SameNumber (exact v) (whole_number 2))) (dimension-is-one one cs) (dimension cs h) (λ v x. decided-not (decided-same (exact v) (whole_number 2)))
 
   decided-ellipsoidal : (cs : Item) → Ready class.CoordinateSystem cs → Decided (IsNotEllipsoidal cs)
-  decided-ellipsoidal cs h = decided-some (HasType cs) (λ t. t ≢ types.Ellipsoidal) (type-is-one cs) (system-type cs h) (λ t x. not-ellipsoidal t)
+  decided-ellipsoidal cs h = decided-some (HasType cs) (λ t. t ≢ types.Ellipsoidal) (type-is-one cs) (system-type cs h) (λ t x. decided-not (whether-ellipsoidal t))
 
   decided-horizontal : (c : Class) (cs : Item) → Ready class.CoordinateSystem cs → Decided (IsNotHorizontal c cs)
   decided-horizontal class.GeodeticCrs cs h = decided-either (decided-ellipsoidal cs h) (decided-plane cs h)

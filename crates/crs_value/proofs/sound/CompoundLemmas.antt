@@ -22,7 +22,7 @@ use Rattle.crs_value.specs.SoundSingle.{IsProjected, IsVertical}
 use Rattle.crs_value.specs.Spells.{SpellsCrs}
 use Rattle.crs_value.specs.Values.{SystemParts}
 use Rattle.crs_value.proofs.found.ArgumentLemmas.{SlotsBound, AllSound, SlotsCount, arguments-sound}
-use Rattle.crs_value.proofs.some.DecidedLemmas.{stable, same-either, ellipsoidal-either}
+use Rattle.crs_value.proofs.some.DecisionLemmas.{stable, decided-same, whether-ellipsoidal}
 use Rattle.crs_value.proofs.sound.CrsLemmas.{geodetic-tells, projected-tells, vertical-tells}
 use Rattle.crs_value.proofs.sound.PartLemmas.{Tells, tells-as, first-tells, text-of-tells}
 use Rattle.crs_value.proofs.sound.UsageLemmas.{tail-tells}
@@ -34,13 +34,13 @@ plane : (d : Class) → ((cs : Item) → IsNotPlane cs → IsNotHorizontal d cs)
     ReadsFirst ReadsHead systems system → IsPlane system
 plane d bad [] system free reads = absurd reads
 plane d bad (cs ∷ more) system free reads =
-    stable _ (same-either system.dimension 2) (λ never. free (bad cs (system.dimension, (reads.dimension, never))))
+    stable (decided-same _ _) (λ never. free (bad cs (system.dimension, (reads.dimension, never))))
 
 ellipsoidal : (d : Class) → ((cs : Item) → IsNotEllipsoidal cs → IsNotHorizontal d cs) → (systems : List Item) (system : SystemParts) →
     (FirstIs (IsNotHorizontal d) systems → ⊥) → ReadsFirst ReadsHead systems system → system.system_type ≡ types.Ellipsoidal
 ellipsoidal d bad [] system free reads = absurd reads
 ellipsoidal d bad (cs ∷ more) system free reads =
-    stable _ (ellipsoidal-either system.system_type) (λ never. free (bad cs (system.system_type, (reads.system_type, never))))
+    stable (whether-ellipsoidal system.system_type) (λ never. free (bad cs (system.system_type, (reads.system_type, never))))
 
 -- no part of this class breaks its check
 abbrev Free : Class → List Item → Type 0

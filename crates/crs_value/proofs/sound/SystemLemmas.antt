@@ -22,7 +22,7 @@ use Rattle.crs_value.specs.Sound.{Each, IsIdent, Suits, IsAxisUnit, IsAxis}
 use Rattle.crs_value.specs.SoundSystem.{AreOrders, AreDistinct, HasOrders, SuitsAxis, SuitsAll, HasUnits, IsSystem}
 use Rattle.crs_value.specs.Values.{UnitParts, AxisParts, SystemParts}
 use Rattle.crs_value.proofs.found.ArgumentLemmas.{AllSound, SlotsCount, arguments-sound, not-none}
-use Rattle.crs_value.proofs.some.DecidedLemmas.{Either, stable, both-either, nil-either, same-either, one-of-either, position-either, kind-either, suits-either, each-either, some-kind}
+use Rattle.crs_value.proofs.some.DecisionLemmas.{Decided, stable, decided-both, decided-each, decided-kind, decided-kinds, decided-none, decided-one-of, decided-position, decided-same, decided-suits}
 use Rattle.crs_value.proofs.sound.AxisLemmas.{axis-tells}
 use Rattle.crs_value.proofs.sound.PartLemmas.{Tells, optional-tells, each-tells, number-of-tells, identifiers-tell, axis-unit-tells}
 use Rattle.crs_value.proofs.checked.UnitLemmas.{asks-one}
@@ -63,13 +63,13 @@ module _ (dimensions : SystemType → List ℕ) (axes : List Item) (parts : Syst
       SameNumber (exact parts.dimension) (whole_number (length axes))
   system-count [] free reads = absurd reads
   system-count (cs ∷ more) free reads =
-      stable _ (same-either parts.dimension (length axes)) (λ never. free (at 25 cs) (inl (inr (refl, (parts.dimension, (reads.dimension, never))))))
+      stable (decided-same _ _) (λ never. free (at 25 cs) (inl (inr (refl, (parts.dimension, (reads.dimension, never))))))
 
   pub system-allowed : (systems : List Item) → ((fault : RefusedAt) → AnyOf (OfHead dimensions axes) systems fault → ⊥) → ReadsFirst ReadsHead systems parts →
       IsOneOf parts.dimension (dimensions parts.system_type)
   system-allowed [] free reads = absurd reads
   system-allowed (cs ∷ more) free reads =
-      stable _ (one-of-either parts.dimension (dimensions parts.system_type))
+      stable (decided-one-of parts.dimension (dimensions parts.system_type))
       (λ never. free (at 23 cs) (inl (inl (refl, (parts.system_type, (parts.dimension, (reads.system_type, reads.dimension, never)))))))
 
 -- ---- orders
@@ -79,13 +79,13 @@ none-ordered [] [] reads none = tt
 none-ordered [] (value ∷ values) reads none = absurd reads
 none-ordered (axis ∷ axes) [] reads none = absurd reads
 none-ordered (axis ∷ axes) (value ∷ values) reads none = (
-  read-none (ReadsNumberOf class.Order) (orders_in axis) value.order reads.0.order (stable _ (nil-either (orders_in axis)) (λ some. none (inl some))),
+  read-none (ReadsNumberOf class.Order) (orders_in axis) value.order reads.0.order (stable (decided-none (orders_in axis)) (λ some. none (inl some))),
   none-ordered axes values reads.1 (λ some. none (inr some)),
 )
 
 all-or-lacking : (axes : List Item) → AllHaveOrder axes ⊎ ((fault : RefusedAt) × AnyOf LacksOrder axes fault)
 all-or-lacking [] = inl tt
-all-or-lacking (axis ∷ axes) = elim (nil-either (orders_in axis)) [
+all-or-lacking (axis ∷ axes) = elim (decided-none (orders_in axis)) [
   | inl e ↦ inr (at 26 axis, inl (refl, e))
   | inr some ↦ elim (all-or-lacking axes) [ inl all ↦ inl (some, all) | inr h ↦ inr (h.0, inr h.1) ]
 ]
@@ -135,7 +135,7 @@ module _ (n : ℕ) where
   positions before [] (value ∷ values) (order ∷ orders) free reads are = absurd reads
   positions before (axis ∷ axes) (value ∷ values) (order ∷ orders) free reads are =
       let here = order-here axis value values order orders reads.0 are in (
-        stable _ (position-either n order) (λ never. let bad = bad-order n before (orders_in axis) order here (inl never) in free bad.0 (inl bad.1)),
+        stable (decided-position n order) (λ never. let bad = bad-order n before (orders_in axis) order here (inl never) in free bad.0 (inl bad.1)),
         positions (before ++ axis ∷ []) axes values orders (λ fault h. free fault (inr h)) reads.1 (later-orders value values order orders are),
       )
 
@@ -188,7 +188,7 @@ no-own-units [] (value ∷ values) free reads = absurd reads
 no-own-units (axis ∷ axes) [] free reads = absurd reads
 no-own-units (axis ∷ axes) (value ∷ values) free reads = (
   read-none (ReadsUnit class.AxisUnit) (units_in axis) value.unit reads.0.unit
-      (stable _ (nil-either (units_in axis)) (λ some. let bad = some-superfluous (units_in axis) some in free bad.0 (inl bad.1))),
+      (stable (decided-none (units_in axis)) (λ some. let bad = some-superfluous (units_in axis) some in free bad.0 (inl bad.1))),
   no-own-units axes values (λ fault h. free fault (inr h)) reads.1,
 )
 
@@ -209,16 +209,16 @@ module _ (cs : Item) (system_type : SystemType) (has : HasType cs system_type) w
 
   own-unit-suits : (axis : Item) (value : AxisParts) → ((fault : RefusedAt) → BadOwnUnit cs axis fault → ⊥) → ReadsAxis class.Axis axis value →
       IsSomeAnd value.unit (SuitsAxis system_type value)
-  own-unit-suits axis value free reads = suited (nil-either (units_in axis))
+  own-unit-suits axis value free reads = suited (decided-none (units_in axis))
     where
-      suited : Either (units_in axis ≡ []) → IsSomeAnd value.unit (SuitsAxis system_type value)
+      suited : Decided (units_in axis ≡ []) → IsSomeAnd value.unit (SuitsAxis system_type value)
       suited (inl none) = absurd (free (at 27 axis) (inl (refl, none)))
       suited (inr some) =
           let there = read-there (ReadsUnit class.AxisUnit) (units_in axis) value.unit reads.unit some in
           let first = read-some (ReadsUnit class.AxisUnit) (units_in axis) value.unit there.0 reads.unit there.1 in
           let P : Option UnitParts → Type 0 = λ o. IsSomeAnd o (SuitsAxis system_type value) in
           subst P (sym there.1)
-          (stable _ (suits-either (asked_kind system_type value.direction) there.0.kind)
+          (stable (decided-suits (asked_kind system_type value.direction) there.0.kind)
           (λ never.
           let bad = misfit cs axis (units_in axis) (asked_kind system_type value.direction) there.0 (axis-asks axis value reads) first never in
           free bad.0 (inr bad.1)))
@@ -244,8 +244,8 @@ module _ (cs : Item) (system_type : SystemType) (has : HasType cs system_type) w
   shared-suits axes values item unit twice reads unit_reads =
       let Asked : UnitKind → AxisParts → Type 0 = λ kind axis. asked_kind system_type axis.direction ≡ kind in
       let P : UnitKind → Type 0 = λ kind. Each (Asked kind) values × Suits kind unit.kind in
-      stable _
-      (some-kind P (λ kind. both-either _ _ (each-either (Asked kind) (λ axis. kind-either (asked_kind system_type axis.direction) kind) values) (suits-either kind unit.kind)))
+      stable
+      (decided-kinds P (λ kind. decided-both (decided-each (Asked kind) (λ axis. decided-kind (asked_kind system_type axis.direction) kind) values) (decided-suits kind unit.kind)))
       (λ never. twice (λ fits. never (fits.0, (all-asked axes values fits.0 fits.1.0 reads, suits-fits item fits.0 unit.kind unit_reads.kind fits.1.1))))
 
   units-suit : (axes units : List Item) (values : List AxisParts) (shared : Option UnitParts) → ((fault : RefusedAt) → BadUnit axes units cs fault → ⊥) → ReadAxes axes values →
