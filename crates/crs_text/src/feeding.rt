@@ -39,7 +39,7 @@ pub(crate) struct Held {
 }
 
 // Whether there is a byte that a number wouldn't take.
-#[tactic(auto, using(crate::proofs::FeedingLemmas::run_rules))]
+#[tactic(auto, using(crate::proofs::settled::FeedingLemmas::run_rules))]
 fn is_settled_run(left: &[u8]) -> bool
     ensures { MatchBool result (IsRunSettled left.now) (¬ (IsRunSettled left.now)) }
 {

@@ -59,7 +59,7 @@ impl<'a> Model for Items<'a> {
     ghost invariant = { λ a. IsTable a.source.now a.rows.items (tree_of a.source.now a.rows.items) };
 }
 
-#[tactic(auto, using(crate::proofs::IdLemmas::id_rules))]
+#[tactic(auto, using(crate::proofs::rows::IdLemmas::id_rules))]
 impl<'a> Items<'a> {
     ghost use Rattle.crs_text.specs.Items.{Item};
     ghost use Rattle.crs_text.specs.Tree.{IsTable};

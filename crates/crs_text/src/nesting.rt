@@ -45,7 +45,7 @@ impl Nest {
     }
 
     // An opening delimiter at this place: whether there is room for it.
-    #[tactic(auto, using(crate::proofs::NestingLemmas::places_rules))]
+    #[tactic(auto, using(crate::proofs::rows::NestingLemmas::places_rules))]
     fn open(&mut self, place: usize) -> bool
         ensures { MatchBool result (self.new ≡ place ∷ self.old)
             ((length self.old ≡ 12) × (self.new ≡ self.old)) }
@@ -59,7 +59,7 @@ impl Nest {
     }
 
     // A closing delimiter: the last opened one is closed.
-    #[tactic(auto, using(crate::proofs::NestingLemmas::places_rules))]
+    #[tactic(auto, using(crate::proofs::rows::NestingLemmas::places_rules))]
     fn close(&mut self)
         ensures { self.new ≡ drop 1 self.old }
     {
@@ -68,7 +68,7 @@ impl Nest {
         }
     }
 
-    #[tactic(auto, using(crate::proofs::NestingLemmas::places_rules))]
+    #[tactic(auto, using(crate::proofs::rows::NestingLemmas::places_rules))]
     fn innermost(&self) -> Option<usize>
         ensures { result ≡ innermost_of self.now }
     {

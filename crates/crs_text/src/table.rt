@@ -134,7 +134,7 @@ impl Table {
     }
 
     // A number, a text, a word, or a node by its word and its delimiter.
-    #[tactic(auto, using(crate::proofs::TableLemmas::held_rules))]
+    #[tactic(auto, using(crate::proofs::rows::TableLemmas::held_rules))]
     #[inline(always)]
     fn begin(
         &mut self,
@@ -209,7 +209,7 @@ impl Table {
     }
 
     // The last word becomes a node.
-    #[tactic(auto, using(crate::proofs::TableLemmas::held_rules))]
+    #[tactic(auto, using(crate::proofs::rows::TableLemmas::held_rules))]
     #[inline(always)]
     fn open_last(&mut self, square: bool)
         requires word { self.old.position ≡ AfterWord }
@@ -232,7 +232,7 @@ impl Table {
     }
 
     /// An opening delimiter.
-    #[tactic(auto, using(crate::proofs::TableLemmas::held_rules))]
+    #[tactic(auto, using(crate::proofs::rows::TableLemmas::held_rules))]
     #[inline(always)]
     pub(crate) fn open(&mut self, square: bool) -> Opened
         ensures { IsOpened self.old square result self.new }
@@ -248,7 +248,7 @@ impl Table {
     }
 
     // The last row, which is a node's, is that of an open node.
-    #[tactic(auto, using(crate::proofs::TableLemmas::held_rules))]
+    #[tactic(auto, using(crate::proofs::rows::TableLemmas::held_rules))]
     #[inline(always)]
     fn open_begun(&mut self, row: usize)
         requires last { row + 1 ≡ length self.old.rows }
@@ -265,7 +265,7 @@ impl Table {
 
     /// A word, the keyword that it is, and a square delimiter right behind it: whether both are allowed, and then the
     /// row of a node is there. It is made at once, not a word's row first.
-    #[tactic(auto, using(crate::proofs::TableLemmas::begun_rules))]
+    #[tactic(auto, using(crate::proofs::rows::TableLemmas::begun_rules))]
     #[inline(always)]
     pub(crate) fn node(
         &mut self,

@@ -1,7 +1,7 @@
 use Rattle.std.proofs.Common.{ap, arith}
 use Rattle.std.specs.List.{prefix_len}
 use Rattle.crs_text.specs.Tokens.{is_white}
-use Rattle.crs_text.proofs.FeedingLemmas.{settled_start}
+use Rattle.crs_text.proofs.settled.FeedingLemmas.{settled_start}
 use Rattle.crs_text.proofs.feeder.cut_back.Goals as goal
 
 pub returns-clause-settled : goal.returns-clause-settled

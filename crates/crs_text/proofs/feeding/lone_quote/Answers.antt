@@ -1,4 +1,4 @@
-use Rattle.crs_text.proofs.FeedingLemmas.{lone}
+use Rattle.crs_text.proofs.settled.FeedingLemmas.{lone}
 use Rattle.crs_text.proofs.feeding.lone_quote.Goals as goal
 
 pub returns-then-quote-after : goal.returns-then-quote-after

@@ -1,6 +1,6 @@
 use Rattle.std.proofs.Common.{subst}
 use Rattle.crs_text.specs.Quoted.{IsInside, IsShutAt}
-use Rattle.crs_text.proofs.FeedingLemmas.{open_from, shut_from}
+use Rattle.crs_text.proofs.settled.FeedingLemmas.{open_from, shut_from}
 use Rattle.crs_text.proofs.feeding.open_to.Goals as goal
 
 pub lone_quote-requires : goal.lone_quote-requires

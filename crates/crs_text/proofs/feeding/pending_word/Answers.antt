@@ -1,6 +1,6 @@
 use Rattle.std.proofs.Common.{arith}
 use Rattle.crs_text.specs.Tokens.{is_word_byte}
-use Rattle.crs_text.proofs.FeedingLemmas.{all_full}
+use Rattle.crs_text.proofs.settled.FeedingLemmas.{all_full}
 use Rattle.crs_text.proofs.feeding.pending_word.Goals as goal
 
 pub returns-then-word_length-left : goal.returns-then-word_length-left

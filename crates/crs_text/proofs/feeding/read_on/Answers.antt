@@ -2,7 +2,7 @@ use Rattle.std.proofs.Common.{subst}
 use Rattle.crs_text.specs.Quoted.{StopsAt}
 use Rattle.crs_text.specs.Tokens.{is_white}
 use Rattle.crs_text.specs.Feeding.{IsPendingIn}
-use Rattle.crs_text.proofs.FeedingLemmas.{pending_before, settled_still, settled_behind, so_far_from, held_at_place}
+use Rattle.crs_text.proofs.settled.FeedingLemmas.{pending_before, settled_still, settled_behind, so_far_from, held_at_place}
 use Rattle.crs_text.proofs.feeding.read_on.Goals as goal
 
 pub stays-requires : goal.stays-requires

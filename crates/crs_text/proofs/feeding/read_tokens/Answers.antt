@@ -1,6 +1,6 @@
 use Rattle.std.proofs.Common.{subst}
 use Rattle.crs_text.specs.Feeding.{IsPendingIn}
-use Rattle.crs_text.proofs.FeedingLemmas.{so_far_from}
+use Rattle.crs_text.proofs.settled.FeedingLemmas.{so_far_from}
 use Rattle.crs_text.proofs.feeding.read_tokens.Goals as goal
 
 pub returns-in-Ok : goal.returns-in-Ok

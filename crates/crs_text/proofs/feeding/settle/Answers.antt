@@ -5,8 +5,8 @@ use Rattle.std.specs.List.{prefix_len}
 use Rattle.crs_text.specs.Tokens.{is_white}
 use Rattle.crs_text.specs.Lexing.{IsLexed}
 use Rattle.crs_text.specs.Feeding.{IsLexedSettled, IsSettledTo}
-use Rattle.crs_text.proofs.FeedingLemmas.{all_from_lexed, held_from_lexed, settled_next, settled_fault}
-use Rattle.crs_text.proofs.ScanLemmas.{taken_some}
+use Rattle.crs_text.proofs.settled.FeedingLemmas.{all_from_lexed, held_from_lexed, settled_next, settled_fault}
+use Rattle.crs_text.proofs.tokens.ScanLemmas.{taken_some}
 use Rattle.crs_text.proofs.feeding.settle.Goals as goal
 
 pub returns-then-not-is_settled : goal.returns-then-not-is_settled

@@ -1,4 +1,4 @@
-use Rattle.crs_text.proofs.FeedingLemmas.{pending_longer}
+use Rattle.crs_text.proofs.settled.FeedingLemmas.{pending_longer}
 use Rattle.crs_text.proofs.feeding.stays.Goals as goal
 
 pub stays_open-requires : goal.stays_open-requires

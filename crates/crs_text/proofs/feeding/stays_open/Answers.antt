@@ -1,7 +1,7 @@
 use Rattle.std.proofs.Common.{subst}
 use Rattle.crs_text.specs.Utf8.{IsUtf8Front}
 use Rattle.crs_text.specs.Feeding.{IsOpenTo, IsValidTo}
-use Rattle.crs_text.proofs.FeedingLemmas.{text_stays}
+use Rattle.crs_text.proofs.settled.FeedingLemmas.{text_stays}
 use Rattle.crs_text.proofs.feeding.stays_open.Goals as goal
 
 pub returns-in-Some-valid_to : goal.returns-in-Some-valid_to

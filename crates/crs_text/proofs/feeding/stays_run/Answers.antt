@@ -1,5 +1,5 @@
 use Rattle.std.proofs.Common.{arith}
-use Rattle.crs_text.proofs.FeedingLemmas.{run_stays}
+use Rattle.crs_text.proofs.settled.FeedingLemmas.{run_stays}
 use Rattle.crs_text.proofs.feeding.stays_run.Goals as goal
 
 pub returns-then-run_length-piece : goal.returns-then-run_length-piece

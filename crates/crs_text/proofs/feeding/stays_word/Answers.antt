@@ -1,5 +1,5 @@
 use Rattle.std.proofs.Common.{arith}
-use Rattle.crs_text.proofs.FeedingLemmas.{word_stays}
+use Rattle.crs_text.proofs.settled.FeedingLemmas.{word_stays}
 use Rattle.crs_text.proofs.feeding.stays_word.Goals as goal
 
 pub returns-then-word_length-piece : goal.returns-then-word_length-piece

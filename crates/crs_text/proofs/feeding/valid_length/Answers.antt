@@ -1,5 +1,5 @@
 use Rattle.std.proofs.Common.{sym, ◌∙◌, arith}
-use Rattle.crs_text.proofs.Utf8Lemmas.{IsUtf8Front-cut}
+use Rattle.crs_text.proofs.tokens.Utf8Lemmas.{IsUtf8Front-cut}
 use Rattle.crs_text.proofs.feeding.valid_length.Goals as goal
 
 pub returns-in-None : goal.returns-in-None

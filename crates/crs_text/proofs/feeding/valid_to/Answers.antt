@@ -1,7 +1,7 @@
 use Rattle.std.proofs.Common.{subst}
 use Rattle.crs_text.specs.Utf8.{IsUtf8Front}
 use Rattle.crs_text.specs.Feeding.{IsValidTo}
-use Rattle.crs_text.proofs.FeedingLemmas.{valid_from}
+use Rattle.crs_text.proofs.settled.FeedingLemmas.{valid_from}
 use Rattle.crs_text.proofs.feeding.valid_to.Goals as goal
 
 pub returns-in-Some : goal.returns-in-Some

@@ -1,6 +1,6 @@
 use Rattle.std.proofs.Common.{arith, take}
 use Rattle.std.proofs.lemmas.List.{length-take}
-use Rattle.crs_text.proofs.WordLemmas.{no_keyword}
+use Rattle.crs_text.proofs.words.WordLemmas.{no_keyword}
 use Rattle.crs_text.proofs.keyword.front_keyword.Goals as goal
 
 pub returns-then-count-eq1 : goal.returns-then-count-eq1

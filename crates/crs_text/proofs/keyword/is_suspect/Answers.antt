@@ -1,6 +1,6 @@
 use Rattle.std.proofs.Common.{arith}
 use Rattle.std.proofs.lemmas.Bool.{leb-true}
-use Rattle.crs_text.proofs.WordLemmas.{suspect_is}
+use Rattle.crs_text.proofs.words.WordLemmas.{suspect_is}
 use Rattle.crs_text.proofs.keyword.is_suspect.Goals as goal
 
 pub returns : goal.returns

@@ -1,6 +1,6 @@
 use Rattle.std.proofs.Common.{◌≡◌, ℕ, true, false, cond, eqb, refl, not, arith}
 use lib.Lanes.{top}
-use Rattle.crs_text.proofs.WordLemmas.{paired, same_taken}
+use Rattle.crs_text.proofs.words.WordLemmas.{paired, same_taken}
 use Rattle.crs_text.proofs.keyword.same_lanes.Goals as goal
 
 pub returns : goal.returns

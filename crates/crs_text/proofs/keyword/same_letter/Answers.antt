@@ -1,6 +1,6 @@
 use Rattle.std.proofs.Common.{◌≡◌, ◌↔◌, IsTrue, subst, sym}
 use Rattle.std.specs.Char.{to_ascii_lowercase}
-use Rattle.crs_text.proofs.WordLemmas.{same_letter-byte, tested}
+use Rattle.crs_text.proofs.words.WordLemmas.{same_letter-byte, tested}
 use Rattle.crs_text.proofs.keyword.same_letter.Goals as goal
 
 pub returns : goal.returns

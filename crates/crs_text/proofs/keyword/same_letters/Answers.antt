@@ -1,4 +1,4 @@
-use Rattle.crs_text.proofs.WordLemmas.{same-bytes}
+use Rattle.crs_text.proofs.words.WordLemmas.{same-bytes}
 use Rattle.crs_text.proofs.keyword.same_letters.Goals as goal
 
 pub returns-then-letters-word : goal.returns-then-letters-word

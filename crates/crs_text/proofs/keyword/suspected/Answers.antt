@@ -1,5 +1,5 @@
 use Rattle.std.proofs.Common.{arith}
-use Rattle.crs_text.proofs.WordLemmas.{suspect_at}
+use Rattle.crs_text.proofs.words.WordLemmas.{suspect_at}
 use Rattle.crs_text.proofs.keyword.suspected.Goals as goal
 
 pub is_suspect-requires-clause-suspect : goal.is_suspect-requires-clause-suspect

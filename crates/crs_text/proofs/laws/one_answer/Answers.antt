@@ -1,9 +1,9 @@
 use Rattle.std.proofs.Common.{subst}
 use Rattle.crs_text.specs.Items.{AreNode}
-use Rattle.crs_text.proofs.OneItem.{one_node}
-use Rattle.crs_text.proofs.TextLaws.{tokens_one, spelled_not_refused, refusal_one}
-use Rattle.crs_text.proofs.EitherLemmas.{either}
-use Rattle.crs_text.proofs.ScanLemmas.{refusal_within}
+use Rattle.crs_text.proofs.rows.OneItemLemmas.{one_node}
+use Rattle.crs_text.proofs.texts.OneAnswerLemmas.{tokens_one, spelled_not_refused, refusal_one}
+use Rattle.crs_text.proofs.texts.AnswerLemmas.{either}
+use Rattle.crs_text.proofs.tokens.ScanLemmas.{refusal_within}
 use Rattle.crs_text.proofs.laws.one_answer.Goals as goal
 
 pub returns-clause-tokens : goal.returns-clause-tokens

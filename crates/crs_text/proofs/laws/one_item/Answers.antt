@@ -1,4 +1,4 @@
-use Rattle.crs_text.proofs.OneItem.{item-cancel, one_node}
+use Rattle.crs_text.proofs.rows.OneItemLemmas.{item-cancel, one_node}
 use Rattle.crs_text.proofs.laws.one_item.Goals as goal
 
 pub returns-clause-node : goal.returns-clause-node

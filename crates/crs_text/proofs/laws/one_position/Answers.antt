@@ -1,4 +1,4 @@
-use Rattle.crs_text.proofs.OnePosition.{one_position}
+use Rattle.crs_text.proofs.texts.OnePositionLemmas.{one_position}
 use Rattle.crs_text.proofs.laws.one_position.Goals as goal
 
 pub returns : goal.returns

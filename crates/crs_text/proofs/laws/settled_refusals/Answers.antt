@@ -1,6 +1,6 @@
 use Rattle.std.proofs.Common.{◌++◌}
-use Rattle.crs_text.proofs.SettledLemmas.{refuses_from_settled, settled_one, settled_longer}
-use Rattle.crs_text.proofs.SettledEither.{settled_either}
+use Rattle.crs_text.proofs.settled.StayLemmas.{refuses_from_settled, settled_one, settled_longer}
+use Rattle.crs_text.proofs.settled.RefusalLemmas.{settled_either}
 use Rattle.crs_text.proofs.laws.settled_refusals.Goals as goal
 
 pub returns-clause-refusal : goal.returns-clause-refusal

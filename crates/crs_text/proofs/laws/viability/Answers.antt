@@ -1,7 +1,7 @@
 use Rattle.std.proofs.Common.{[], refl}
 use Rattle.crs_text.specs.State.{start}
-use Rattle.crs_text.proofs.ViableLemmas.{viable_from_run, viable_front}
-use Rattle.crs_text.proofs.AllowedLemmas.{allows_from_viable, viable_from_allows, full_from_deep, deep_from_full}
+use Rattle.crs_text.proofs.tokens.ViableLemmas.{viable_from_run, viable_front}
+use Rattle.crs_text.proofs.tokens.AllowedLemmas.{allows_from_viable, viable_from_allows, full_from_deep, deep_from_full}
 use Rattle.crs_text.proofs.laws.viability.Goals as goal
 
 pub returns-clause-empty : goal.returns-clause-empty

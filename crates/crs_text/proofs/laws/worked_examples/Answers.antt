@@ -1,6 +1,6 @@
 use Rattle.std.proofs.Common.{ℕ, ◌≡◌, [], ◌∷◌, refl, arith}
 use Rattle.crs_text.specs.Items.{here}
-use Rattle.crs_text.proofs.SettledRows as rows
+use Rattle.crs_text.proofs.settled.ExampleLemmas as rows
 use Rattle.crs_text.proofs.laws.worked_examples.Goals as goal
 
 pub returns-clause-numbers : goal.returns-clause-numbers

@@ -1,4 +1,4 @@
-use Rattle.crs_text.proofs.WrittenLemmas as lemmas
+use Rattle.crs_text.proofs.texts.WrittenLemmas as lemmas
 use Rattle.crs_text.proofs.laws.written_items.Goals as goal
 
 pub returns-clause-spells : goal.returns-clause-spells

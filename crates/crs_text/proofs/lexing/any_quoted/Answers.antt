@@ -3,8 +3,8 @@ use Rattle.crs_text.specs.Quoted.{IsInside}
 use Rattle.crs_text.specs.declared.utf8.Utf8Form.TheVariants as Utf8Form
 use Rattle.crs_text.specs.Utf8Form.{HasUtf8Form}
 use Rattle.crs_text.specs.Lexing.{IsLexed}
-use Rattle.crs_text.proofs.LexedLemmas.{flawed_open, unclosed}
-use Rattle.crs_text.proofs.Utf8Lemmas.{IsUtf8Front-from}
+use Rattle.crs_text.proofs.tokens.LexedLemmas.{flawed_open, unclosed}
+use Rattle.crs_text.proofs.tokens.Utf8Lemmas.{IsUtf8Front-from}
 use Rattle.crs_text.proofs.lexing.any_quoted.Goals as goal
 
 pub returns-in-WellFormed : goal.returns-in-WellFormed

@@ -2,7 +2,7 @@ use Rattle.std.proofs.Common.{sym, ap, subst, ◌∙◌, ◌+◌, take}
 use Rattle.crs_text.specs.declared.utf8.Utf8Form.TheVariants as Utf8Form
 use Rattle.crs_text.specs.Utf8Form.{HasUtf8Form}
 use Rattle.crs_text.specs.Lexing.{IsLexed}
-use Rattle.crs_text.proofs.LexedLemmas.{lexed_text, lexed_cut, flawed_inside}
+use Rattle.crs_text.proofs.tokens.LexedLemmas.{lexed_text, lexed_cut, flawed_inside}
 use Rattle.crs_text.proofs.lexing.closed.Goals as goal
 
 pub returns-in-WellFormed : goal.returns-in-WellFormed

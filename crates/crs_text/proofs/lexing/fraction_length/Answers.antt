@@ -1,7 +1,7 @@
 use Rattle.std.proofs.Common.{None, refl, ap, ◌∙◌}
 use Rattle.std.specs.List.{prefix_len}
 use Rattle.crs_decimal.specs.Spelling.{is_digit}
-use Rattle.crs_text.proofs.PlainNumberLemmas.{fraction_front}
+use Rattle.crs_text.proofs.tokens.PlainNumberLemmas.{fraction_front}
 use Rattle.crs_text.proofs.lexing.fraction_length.Goals as goal
 
 pub returns-then-begins_with_point-clause-fraction : goal.returns-then-begins_with_point-clause-fraction

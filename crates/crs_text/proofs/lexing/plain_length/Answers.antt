@@ -1,7 +1,7 @@
 use Rattle.std.proofs.Common.{◌∙◌, arith}
 use Rattle.std.proofs.lemmas.List.Sums.{prefix_len-le-length}
 use Rattle.crs_text.specs.Quoted.{is_plain}
-use Rattle.crs_text.proofs.QuotedLemmas.{plain_first}
+use Rattle.crs_text.proofs.tokens.QuotedLemmas.{plain_first}
 use Rattle.crs_text.proofs.lexing.plain_length.Goals as goal
 
 pub returns-clause-value : goal.returns-clause-value

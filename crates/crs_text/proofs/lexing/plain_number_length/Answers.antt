@@ -3,7 +3,7 @@ use Rattle.std.specs.List.{prefix_len}
 use Rattle.crs_decimal.specs.Spelling.{is_digit, is_run_byte}
 use Rattle.crs_text.specs.Quoted.{StopsAt}
 use Rattle.crs_text.specs.Runs.{IsFractional}
-use Rattle.crs_text.proofs.PlainNumberLemmas.{plain_lexed, one_digit_lexed}
+use Rattle.crs_text.proofs.tokens.PlainNumberLemmas.{plain_lexed, one_digit_lexed}
 use Rattle.crs_text.proofs.lexing.plain_number_length.Goals as goal
 
 pub returns-then-ends_run : goal.returns-then-ends_run

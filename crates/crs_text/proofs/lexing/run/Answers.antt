@@ -5,7 +5,7 @@ use Rattle.crs_decimal.specs.Bounds.{IsInBounds}
 use Rattle.crs_decimal.specs.declared.fault.NumberFault.TheVariants.{Malformed, Range}
 use Rattle.crs_decimal.specs.Fault.{IsFault}
 use Rattle.crs_text.specs.Lexing.{IsLexed}
-use Rattle.crs_text.proofs.LexedLemmas.{lexed_number, flawed_number, flawed_range}
+use Rattle.crs_text.proofs.tokens.LexedLemmas.{lexed_number, flawed_number, flawed_range}
 use Rattle.crs_text.proofs.lexing.run.Goals as goal
 
 pub front_of-requires : goal.front_of-requires

@@ -1,4 +1,4 @@
-use Rattle.crs_text.proofs.LexedLemmas.{lexed_word}
+use Rattle.crs_text.proofs.tokens.LexedLemmas.{lexed_word}
 use Rattle.crs_text.proofs.lexing.single_word.Goals as goal
 
 pub returns : goal.returns

@@ -2,7 +2,7 @@ use Rattle.std.proofs.Common.{◌+◌, ◌<◌, ◌≤◌, min, length, drop, sy
 use Rattle.std.specs.List.{prefix_len}
 use Rattle.crs_text.specs.Tokens.{is_white}
 use Rattle.crs_text.specs.Nesting.{IsNested, IsAnswered}
-use Rattle.crs_text.proofs.NestingLemmas.{nested_start, nested_next, answered_end, answered_halt}
+use Rattle.crs_text.proofs.rows.NestingLemmas.{nested_start, nested_next, answered_end, answered_halt}
 use Rattle.crs_text.proofs.nesting.innermost.Goals as goal
 
 pub loop-at-init : goal.loop-at-init

@@ -1,4 +1,4 @@
-use Rattle.crs_text.proofs.NestingLemmas.{leads_from_refusal, none_open}
+use Rattle.crs_text.proofs.rows.NestingLemmas.{leads_from_refusal, none_open}
 use Rattle.crs_text.proofs.nesting.open_delimiter.Goals as goal
 
 pub returns-clause-refused : goal.returns-clause-refused

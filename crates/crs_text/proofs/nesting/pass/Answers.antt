@@ -2,8 +2,8 @@ use Rattle.std.proofs.Common.{◌+◌, arith, refl, subst, ◌∙◌, take, drop
 use Rattle.crs_text.specs.Tokens.{comma, closing}
 use Rattle.crs_text.specs.Lexing.{IsLexed}
 use Rattle.crs_text.specs.declared.items.ItemKind.TheVariants as kinds
-use Rattle.crs_text.proofs.ScanLemmas.{number_at, text_at, word_at, comma_at, closing_at}
-use Rattle.crs_text.proofs.NestingLemmas.{passed_single, places-closing}
+use Rattle.crs_text.proofs.tokens.ScanLemmas.{number_at, text_at, word_at, comma_at, closing_at}
+use Rattle.crs_text.proofs.rows.NestingLemmas.{passed_single, places-closing}
 use Rattle.crs_text.proofs.nesting.pass.Goals as goal
 
 pub returns-in-Number : goal.returns-in-Number

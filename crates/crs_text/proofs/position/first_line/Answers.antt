@@ -1,5 +1,5 @@
 use Rattle.std.proofs.Common.{arith, length}
-use Rattle.crs_text.proofs.PositionLemmas.{none_before}
+use Rattle.crs_text.proofs.texts.PositionLemmas.{none_before}
 use Rattle.crs_text.proofs.position.first_line.Goals as goal
 
 pub returns-in-Some-clause-one_line : goal.returns-in-Some-clause-one_line

@@ -1,5 +1,5 @@
 use Rattle.std.proofs.Common.{◌+◌, arith}
-use Rattle.crs_text.proofs.PositionLemmas.{no_feed, none_behind}
+use Rattle.crs_text.proofs.texts.PositionLemmas.{no_feed, none_behind}
 use Rattle.crs_text.proofs.position.last_line.Goals as goal
 
 pub returns-in-Some-clause-one_line : goal.returns-in-Some-clause-one_line

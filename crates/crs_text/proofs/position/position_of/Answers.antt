@@ -1,6 +1,6 @@
 use Rattle.std.proofs.Common.{◌≡◌, ◌+◌, ◌≤◌, length, take, drop, refl, ap, subst, ◌∙◌}
 use Rattle.crs_text.specs.Position.{feeds, characters, BeginsLine, EndsLine}
-use Rattle.crs_text.proofs.PositionLemmas.{position}
+use Rattle.crs_text.proofs.texts.PositionLemmas.{position}
 use Rattle.crs_text.proofs.position.position_of.Goals as goal
 
 pub returns-clause-position : goal.returns-clause-position

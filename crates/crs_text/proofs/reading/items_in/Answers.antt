@@ -1,7 +1,7 @@
 use Rattle.std.proofs.Common.{ap, subst, sym}
 use Rattle.crs_text.specs.Table.{Flat}
 use Rattle.crs_text.specs.TextFault.{SpellsNode}
-use Rattle.crs_text.proofs.StandLemmas.{table_of_spelled}
+use Rattle.crs_text.proofs.rows.StandLemmas.{table_of_spelled}
 use Rattle.crs_text.proofs.reading.items_in.Goals as goal
 
 pub from_table-requires : goal.from_table-requires

@@ -2,7 +2,7 @@ use Rattle.std.proofs.Common.{drop, sym, subst, ◌∙◌, arith}
 use Rattle.std.proofs.Math.Seq.{drop-cons}
 use Rattle.crs_text.specs.Quoted.{StopsAt}
 use Rattle.crs_text.specs.Tokens.{is_letter, is_word_byte}
-use Rattle.crs_text.proofs.RunLemmas.{run_stops, letters_are_word}
+use Rattle.crs_text.proofs.tokens.RunLemmas.{run_stops, letters_are_word}
 use Rattle.crs_text.proofs.runs.letters_length.Goals as goal
 
 pub returns-then-ends_word : goal.returns-then-ends_word

@@ -1,7 +1,7 @@
 use Rattle.std.proofs.Common.{ℕ, leb, cond, bit_or, refl}
 use Rattle.std.proofs.lemmas.Simd.{zip2_splat}
 use Rattle.crs_text.specs.Runs.{is_plain_ascii}
-use Rattle.crs_text.proofs.RunLemmas.{joined, splat_is, itself, counted}
+use Rattle.crs_text.proofs.tokens.RunLemmas.{joined, splat_is, itself, counted}
 use Rattle.crs_text.proofs.runs.plain_ascii_lanes.Goals as goal
 
 pub returns : goal.returns

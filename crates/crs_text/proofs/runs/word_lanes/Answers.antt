@@ -1,7 +1,7 @@
 use Rattle.std.proofs.Common.{ℕ, leb, cond, bit_and, refl}
 use Rattle.std.proofs.lemmas.Simd.{zip2_splat}
 use Rattle.crs_text.specs.Tokens.{is_word_byte}
-use Rattle.crs_text.proofs.RunLemmas.{joined, splat_is, counted}
+use Rattle.crs_text.proofs.tokens.RunLemmas.{joined, splat_is, counted}
 use Rattle.crs_text.proofs.runs.word_lanes.Goals as goal
 
 pub returns : goal.returns

@@ -1,7 +1,7 @@
 use Rattle.std.proofs.Common.{arith, ap, ◌∙◌}
 use Rattle.std.specs.List.{prefix_len}
 use Rattle.crs_text.specs.Tokens.{is_word_byte}
-use Rattle.crs_text.proofs.RunLemmas.{run_bound, run_through, run_stops}
+use Rattle.crs_text.proofs.tokens.RunLemmas.{run_bound, run_through, run_stops}
 use Rattle.crs_text.proofs.runs.word_length.Goals as goal
 
 pub returns-then-count-lt-LANES : goal.returns-then-count-lt-LANES

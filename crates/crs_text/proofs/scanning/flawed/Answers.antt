@@ -1,5 +1,5 @@
 use Rattle.std.proofs.Common.{arith}
-use Rattle.crs_text.proofs.ScanLemmas.{place_within}
+use Rattle.crs_text.proofs.tokens.ScanLemmas.{place_within}
 use Rattle.crs_text.proofs.scanning.flawed.Goals as goal
 
 pub overflow_add-at : goal.overflow_add-at

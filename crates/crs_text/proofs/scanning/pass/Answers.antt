@@ -1,5 +1,5 @@
 use Rattle.std.proofs.Common.{arith}
-use Rattle.crs_text.proofs.ScanLemmas.{passed_next, taken_some, fault_of_stop}
+use Rattle.crs_text.proofs.tokens.ScanLemmas.{passed_next, taken_some, fault_of_stop}
 use Rattle.crs_text.proofs.scanning.pass.Goals as goal
 
 pub go_on-requires : goal.go_on-requires

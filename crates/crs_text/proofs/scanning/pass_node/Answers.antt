@@ -1,7 +1,7 @@
 use Rattle.std.proofs.Common.{sym, ap, subst, ◌∙◌, take, arith}
 use Rattle.crs_text.specs.Scan.{IsReached}
 use Rattle.crs_text.specs.Table.{IsNodeBegun}
-use Rattle.crs_text.proofs.ScanLemmas.{passed_node}
+use Rattle.crs_text.proofs.tokens.ScanLemmas.{passed_node}
 use Rattle.crs_text.proofs.scanning.pass_node.Goals as goal
 
 pub returns-in-Ok-true : goal.returns-in-Ok-true

@@ -1,7 +1,7 @@
 use Rattle.std.proofs.Common.{ap, arith}
 use Rattle.std.proofs.lemmas.List.Sums.{prefix_len-drop_no}
 use Rattle.crs_text.specs.Tokens.{is_white}
-use Rattle.crs_text.proofs.ScanLemmas.{passed_on}
+use Rattle.crs_text.proofs.tokens.ScanLemmas.{passed_on}
 use Rattle.crs_text.proofs.scanning.past_comma.Goals as goal
 
 pub returns-then-takes_comma-clause-passed : goal.returns-then-takes_comma-clause-passed

@@ -1,4 +1,4 @@
-use Rattle.crs_text.proofs.ScanLemmas.{reached_first}
+use Rattle.crs_text.proofs.tokens.ScanLemmas.{reached_first}
 use Rattle.crs_text.proofs.scanning.scan.Goals as goal
 
 pub scan_from-requires : goal.scan_from-requires

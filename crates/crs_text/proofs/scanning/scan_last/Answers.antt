@@ -1,5 +1,5 @@
 use Rattle.std.proofs.Common.{sym, ◌∙◌}
-use Rattle.crs_text.proofs.ScanLemmas.{refused_end, spelled_whole}
+use Rattle.crs_text.proofs.tokens.ScanLemmas.{refused_end, spelled_whole}
 use Rattle.crs_text.proofs.scanning.scan_last.Goals as goal
 
 pub returns-then-is_whole : goal.returns-then-is_whole

@@ -1,6 +1,6 @@
 use Rattle.std.proofs.Common.{sym, subst, refl, drop, ◌+◌}
 use Rattle.crs_text.specs.Scan.{IsStoppedBy}
-use Rattle.crs_text.proofs.ScanLemmas.{stopped_closing, not_taken}
+use Rattle.crs_text.proofs.tokens.ScanLemmas.{stopped_closing, not_taken}
 use Rattle.crs_text.proofs.scanning.take_closing.Goals as goal
 
 pub returns-else-close : goal.returns-else-close

@@ -1,6 +1,6 @@
 use Rattle.std.proofs.Common.{sym, subst, refl, drop, ◌+◌}
 use Rattle.crs_text.specs.Scan.{IsStoppedBy}
-use Rattle.crs_text.proofs.ScanLemmas.{stopped_comma, not_taken}
+use Rattle.crs_text.proofs.tokens.ScanLemmas.{stopped_comma, not_taken}
 use Rattle.crs_text.proofs.scanning.take_comma.Goals as goal
 
 pub returns-else-comma : goal.returns-else-comma

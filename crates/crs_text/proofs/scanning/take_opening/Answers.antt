@@ -1,6 +1,6 @@
 use Rattle.std.proofs.Common.{sym, subst, refl, drop, ◌+◌}
 use Rattle.crs_text.specs.Scan.{IsStoppedBy}
-use Rattle.crs_text.proofs.ScanLemmas.{stopped_opening, stopped_too_deep}
+use Rattle.crs_text.proofs.tokens.ScanLemmas.{stopped_opening, stopped_too_deep}
 use Rattle.crs_text.proofs.scanning.take_opening.Goals as goal
 
 pub returns-in-TooDeep : goal.returns-in-TooDeep

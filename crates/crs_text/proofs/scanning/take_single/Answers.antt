@@ -2,7 +2,7 @@ use Rattle.std.proofs.Common.{◌≡◌, None, sym, ap, ◌∙◌, subst, refl, 
 use Rattle.crs_text.specs.Tokens.{single}
 use Rattle.crs_text.specs.Table.{flat_step, flat_single}
 use Rattle.crs_text.specs.Scan.{IsStoppedBy}
-use Rattle.crs_text.proofs.ScanLemmas.{stopped_single, not_taken}
+use Rattle.crs_text.proofs.tokens.ScanLemmas.{stopped_single, not_taken}
 use Rattle.crs_text.proofs.scanning.take_single.Goals as goal
 
 pub returns-in-Ok-false : goal.returns-in-Ok-false

@@ -1,5 +1,5 @@
 use Rattle.std.proofs.Common.{sym, ◌∙◌}
-use Rattle.crs_text.proofs.Utf8Lemmas.{IsUtf8Front-cut, not-IsUtf8Front, IsLongestUtf8-from}
+use Rattle.crs_text.proofs.tokens.Utf8Lemmas.{IsUtf8Front-cut, not-IsUtf8Front, IsLongestUtf8-from}
 use Rattle.crs_text.proofs.utf8.judge.Goals as goal
 
 pub returns-in-None : goal.returns-in-None

@@ -1,7 +1,7 @@
 use Rattle.std.proofs.Common.{subst, sym}
 use Rattle.crs_text.specs.TextFault.{IsTextFault}
 use Rattle.crs_text.specs.Scan.{IsReached}
-use Rattle.crs_text.proofs.FeedingLemmas.{known_fault, fed_none, reached_from_settled}
+use Rattle.crs_text.proofs.settled.FeedingLemmas.{known_fault, fed_none, reached_from_settled}
 use Rattle.crs_text.proofs.feeder.Feeder.finish.Goals as goal
 
 pub finished-requires : goal.finished-requires

@@ -1,4 +1,4 @@
-use Rattle.crs_text.proofs.FeedingLemmas.{fed_start}
+use Rattle.crs_text.proofs.settled.FeedingLemmas.{fed_start}
 use Rattle.crs_text.proofs.feeder.Feeder.new.Goals as goal
 
 pub invariant_of-result : goal.invariant_of-result

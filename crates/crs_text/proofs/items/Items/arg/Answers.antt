@@ -1,6 +1,6 @@
 use Rattle.std.proofs.Common.{subst, arith}
 use Rattle.crs_text.specs.Items.{arguments, first_of, skip, here, IsAt}
-use Rattle.crs_text.proofs.IdLemmas.{skip-past, at_next}
+use Rattle.crs_text.proofs.rows.IdLemmas.{skip-past, at_next}
 use Rattle.crs_text.proofs.items.Items.arg.Goals as goal
 
 pub returns-in_err-at : goal.returns-in_err-at

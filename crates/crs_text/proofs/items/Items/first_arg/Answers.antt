@@ -1,4 +1,4 @@
-use Rattle.crs_text.proofs.IdLemmas.{row-first}
+use Rattle.crs_text.proofs.rows.IdLemmas.{row-first}
 use Rattle.crs_text.proofs.items.Items.first_arg.Goals as goal
 
 pub returns : goal.returns

@@ -1,4 +1,4 @@
-use Rattle.crs_text.proofs.TreeLemmas.{tree_of-rows, table_of_tree}
+use Rattle.crs_text.proofs.rows.TreeLemmas.{tree_of-rows, table_of_tree}
 use Rattle.crs_text.proofs.items.Items.from_table.Goals as goal
 
 pub invariant_of-result : goal.invariant_of-result

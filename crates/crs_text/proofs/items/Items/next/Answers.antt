@@ -1,6 +1,6 @@
 use Rattle.std.proofs.Common.{arith}
 use Rattle.crs_text.specs.Table.{no_row}
-use Rattle.crs_text.proofs.IdLemmas.{row-end, row-next, row-last}
+use Rattle.crs_text.proofs.rows.IdLemmas.{row-end, row-next, row-last}
 use Rattle.crs_text.proofs.items.Items.next.Goals as goal
 
 pub returns-then-at-len : goal.returns-then-at-len

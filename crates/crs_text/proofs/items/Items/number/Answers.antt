@@ -4,7 +4,7 @@ use Rattle.crs_text.specs.Items.{tokens}
 use Rattle.crs_text.specs.Tokens.{IsFormed}
 use Rattle.crs_text.specs.Tree.{EachToken}
 use Rattle.crs_text.specs.declared.items.ItemKind.TheVariants.{Number}
-use Rattle.crs_text.proofs.TreeLemmas.{bounded, no_fault}
+use Rattle.crs_text.proofs.rows.TreeLemmas.{bounded, no_fault}
 use Rattle.crs_text.proofs.items.Items.number.Goals as goal
 
 pub unreachable-requires : goal.unreachable-requires

@@ -1,7 +1,7 @@
 use Rattle.std.proofs.Common.{subst, arith}
 use Rattle.crs_text.specs.Items.{tokens}
 use Rattle.crs_text.specs.Tree.{AllStand}
-use Rattle.crs_text.proofs.TreeLemmas.{raw-within, raw-is}
+use Rattle.crs_text.proofs.rows.TreeLemmas.{raw-within, raw-is}
 use Rattle.crs_text.proofs.items.Items.raw.Goals as goal
 
 pub raw_place-requires : goal.raw_place-requires

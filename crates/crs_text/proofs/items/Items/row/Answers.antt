@@ -1,6 +1,6 @@
 use Rattle.std.proofs.Common.{ap, ◌∙◌, arith}
 use Rattle.crs_text.specs.Rows.{rows}
-use Rattle.crs_text.proofs.IdLemmas.{within_table}
+use Rattle.crs_text.proofs.rows.IdLemmas.{within_table}
 use Rattle.crs_text.proofs.items.Items.row.Goals as goal
 
 pub returns-clause-within : goal.returns-clause-within

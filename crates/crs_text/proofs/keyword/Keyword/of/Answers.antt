@@ -1,7 +1,7 @@
 use Rattle.std.proofs.Common.{◌∙◌, ap, sym, subst, length}
 use Rattle.crs_text.specs.KeywordTable.{first_among, AreSpellings}
-use Rattle.crs_text.proofs.KeywordLemmas.{keyword_of-table}
-use Rattle.crs_text.proofs.WordLemmas.{spellings_of_length}
+use Rattle.crs_text.proofs.words.KeywordLemmas.{keyword_of-table}
+use Rattle.crs_text.proofs.words.WordLemmas.{spellings_of_length}
 use Rattle.crs_text.proofs.keyword.Keyword.of.Goals as goal
 
 pub returns : goal.returns

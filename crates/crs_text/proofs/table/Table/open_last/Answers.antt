@@ -1,5 +1,5 @@
 use Rattle.std.proofs.Common.{◌≡◌, length, ap, ◌∙◌, sym, arith}
-use Rattle.crs_text.proofs.TableLemmas.{open_keeps, length-held}
+use Rattle.crs_text.proofs.rows.TableLemmas.{open_keeps, length-held}
 use Rattle.crs_text.proofs.table.Table.open_last.Goals as goal
 
 pub invariant_of-self : goal.invariant_of-self

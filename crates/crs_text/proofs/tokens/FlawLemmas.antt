@@ -12,8 +12,8 @@ use Rattle.crs_text.specs.Tokens.{number, text, Token, single, is_letter, Forms}
 use Rattle.crs_text.specs.declared.refusal.Reason.{Reason}
 use Rattle.crs_text.specs.declared.refusal.Reason.TheVariants.{BadCharacter, BadNumber, NumberRange, NotUtf8, OpenText, Unexpected, UnexpectedEnd, TooDeep}
 use Rattle.crs_text.specs.TextFault.{begins_token, is_delimiter, BeginsNoToken, IsFirstRun, IsFlaw}
-use Rattle.crs_text.proofs.QuotedLemmas.{same_tail, run_split, shut_one, shut_not_open}
-use Rattle.crs_text.proofs.TokenLemmas.{Shape, a_single, shape_of, shape_at, shape_by, shape_at_start, Forms-shape, Forms-shut}
+use Rattle.crs_text.proofs.tokens.QuotedLemmas.{same_tail, run_split, shut_one, shut_not_open}
+use Rattle.crs_text.proofs.tokens.TokenLemmas.{Shape, a_single, shape_of, shape_at, shape_by, shape_at_start, Forms-shape, Forms-shut}
 
 or_left : (a b : Bool) → (a || b) ≡ false → a ≡ false
 or_left true b e = absurd cc

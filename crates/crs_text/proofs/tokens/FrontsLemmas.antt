@@ -5,8 +5,8 @@ use Rattle.std.proofs.lemmas.List.{length-append}
 use Rattle.crs_decimal.specs.Spelling.{is_run_start}
 use Rattle.crs_text.specs.Quoted.{StopsAt, BeginsWith}
 use Rattle.crs_text.specs.Tokens.{number, text, word, Token, single, comma, opening, closing, is_white, is_letter, IsWord, IsFormed, Forms, IsAfterWhite, Fronts, spelling}
-use Rattle.crs_text.proofs.QuotedLemmas.{run_split}
-use Rattle.crs_text.proofs.TokenLemmas.{Forms-one}
+use Rattle.crs_text.proofs.tokens.QuotedLemmas.{run_split}
+use Rattle.crs_text.proofs.tokens.TokenLemmas.{Forms-one}
 
 -- what is left after white space is one list of bytes
 pub after_white_one : (bytes a b : List ℕ) → IsAfterWhite bytes a → IsAfterWhite bytes b → a ≡ b

@@ -12,14 +12,14 @@ use Rattle.crs_text.specs.declared.refusal.Reason.TheVariants.{BadCharacter, Bad
 use Rattle.crs_text.specs.TextFault.{reason_number, IsFlaw}
 use Rattle.crs_text.specs.Settled.{IsSettled, SettledFronts, IsSettledStop, IsSettledRefusal, IsTakenSoFar}
 use Rattle.crs_text.specs.Feeding.{IsFlawSettled, IsUnsettled}
-use Rattle.crs_text.proofs.QuotedLemmas.{true_not_false}
-use Rattle.crs_text.proofs.FrontsLemmas.{forms_shorter}
-use Rattle.crs_text.proofs.ShowsLemmas.{shows_start, viable_from_shows, shows_more}
-use Rattle.crs_text.proofs.ScanLemmas.{stop_flaw, after_white}
-use Rattle.crs_text.proofs.LeftLemmas.{DecidesNumbers, token_or_flaw}
-use Rattle.crs_text.proofs.EitherLemmas.{IsMisplaced, misplaced, after_white_shorter}
-use Rattle.crs_text.proofs.SettledLemmas.{taken_so_far}
-use Rattle.crs_text.proofs.FeedingLemmas.{AllSettled, token_all, flaw_all, settled_stop, token_held, flaw_held, nothing_held, fronts_more}
+use Rattle.crs_text.proofs.tokens.QuotedLemmas.{true_not_false}
+use Rattle.crs_text.proofs.tokens.FrontsLemmas.{forms_shorter}
+use Rattle.crs_text.proofs.rows.ShowsLemmas.{shows_start, viable_from_shows, shows_more}
+use Rattle.crs_text.proofs.tokens.ScanLemmas.{stop_flaw, after_white}
+use Rattle.crs_text.proofs.tokens.LeftLemmas.{DecidesNumbers, token_or_flaw}
+use Rattle.crs_text.proofs.texts.AnswerLemmas.{IsMisplaced, misplaced, after_white_shorter}
+use Rattle.crs_text.proofs.settled.StayLemmas.{taken_so_far}
+use Rattle.crs_text.proofs.settled.FeedingLemmas.{AllSettled, token_all, flaw_all, settled_stop, token_held, flaw_held, nothing_held, fronts_more}
 
 abbrev pub IsSettledEither : List ℕ → Type 0
 IsSettledEither bytes = ((n place : ℕ) × IsSettledRefusal bytes n place) ⊎ IsTakenSoFar bytes

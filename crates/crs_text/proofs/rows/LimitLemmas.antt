@@ -5,7 +5,7 @@ use Rattle.std.proofs.lemmas.Bool.{ltb-true}
 use Rattle.crs_text.specs.Tokens.{Kind, number, text, word, Token, single, comma, opening, closing}
 use Rattle.crs_text.specs.Items.{Item, leaf, node, Siblings, End, More, depth, depths, IsNode}
 use Rattle.crs_text.specs.State.{Frame, State, wants, worded, after, gather, behind_leaf, behind_item, step, move, run}
-use Rattle.crs_text.proofs.StateLemmas.{only_if-some, fold-none}
+use Rattle.crs_text.proofs.rows.StateLemmas.{only_if-some, fold-none}
 
 abbrev pub EachFits : ℕ → ℕ → List Item → Type 0
 EachFits limit held [] = Unit {0}

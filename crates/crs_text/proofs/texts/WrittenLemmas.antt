@@ -7,7 +7,7 @@ use Rattle.crs_text.specs.Items.{Item, leaf, node, Siblings, End, More, tokens, 
 use Rattle.crs_text.specs.TextFault.{SpellsNode}
 use Rattle.crs_text.specs.Tree.{EachToken}
 use Rattle.crs_text.specs.Written.{item_text, others_text, AreFormed, AreAllFormed, SameItem, SameItems, at_place, at_places, WrittenSpells}
-use Rattle.crs_text.proofs.FrontsLemmas.{dark_start, dark_word, at_once}
+use Rattle.crs_text.proofs.tokens.FrontsLemmas.{dark_start, dark_word, at_once}
 
 -- no token goes on into these bytes
 abbrev IsApart : List ℕ → Type 0

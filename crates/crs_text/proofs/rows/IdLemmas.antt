@@ -8,7 +8,7 @@ use Rattle.std.proofs.lemmas.List.{length-map, get_or-map, get_or_past, drop-dro
 use Rattle.crs_text.specs.Items.{Item, leaf, node, Siblings, End, More, arguments, count, first_of, rest_of, skip, size_of, here, HasId, IsAt}
 use Rattle.crs_text.specs.Rows.{rows, row_of}
 use Rattle.crs_text.specs.declared.table.Row.{Row}
-use Rattle.crs_text.proofs.HereLemmas.{Here, items_at, row_at, heres, Begins, Continues, IsLinked, AreLinked, linked-heres, linked-drop, rows-heres, items-heres}
+use Rattle.crs_text.proofs.rows.HereLemmas.{Here, items_at, row_at, heres, Begins, Continues, IsLinked, AreLinked, linked-heres, linked-drop, rows-heres, items-heres}
 
 -- the item of a number, and what follows it in the order in which the items begin
 record Spot (tree : Item) (id : ℕ) : Type 0 where

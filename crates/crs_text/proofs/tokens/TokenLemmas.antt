@@ -6,7 +6,7 @@ use Rattle.std.proofs.lemmas.Bool.Decides.{nat_tests}
 use Rattle.crs_decimal.specs.Spelling.{is_run_byte, is_run_start}
 use Rattle.crs_text.specs.Quoted.{BeginsWith, IsShut}
 use Rattle.crs_text.specs.Tokens.{Kind, number, text, word, Token, single, comma, opening, closing, is_letter, is_word_byte, IsWord, opening_byte, closing_byte, Forms}
-use Rattle.crs_text.proofs.QuotedLemmas.{same_tail, run_split, shut_one}
+use Rattle.crs_text.proofs.tokens.QuotedLemmas.{same_tail, run_split, shut_one}
 
 -- a token without its place and raw bytes
 pub data Shape : Type 0 where

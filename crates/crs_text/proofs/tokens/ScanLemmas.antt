@@ -20,10 +20,10 @@ use Rattle.crs_text.specs.declared.refusal.Reason.TheVariants.{BadCharacter, Bad
 use Rattle.crs_text.specs.declared.items.ItemKind.TheVariants as kinds
 use Rattle.crs_text.specs.declared.lexing.Lexed.TheVariants as lexed
 use Rattle.crs_text.specs.declared.table.Opened.TheVariants as opened
-use Rattle.crs_text.proofs.LexedLemmas.{prefix_taken, prefix_ends}
-use Rattle.crs_text.proofs.FlatLemmas.{word_begun, delimiter_begun}
-use Rattle.crs_text.proofs.FrontsLemmas.{fronts_more, forms_shorter}
-use Rattle.crs_text.proofs.ShowsLemmas.{shows_start, viable_from_shows, shows_more, not_viable_from_shows, deep_from_shows, none_from_deep, refused_from_shows, none_from_refused, whole_from_shows, not_whole_from_shows}
+use Rattle.crs_text.proofs.tokens.LexedLemmas.{prefix_taken, prefix_ends}
+use Rattle.crs_text.proofs.rows.FlatLemmas.{word_begun, delimiter_begun}
+use Rattle.crs_text.proofs.tokens.FrontsLemmas.{fronts_more, forms_shorter}
+use Rattle.crs_text.proofs.rows.ShowsLemmas.{shows_start, viable_from_shows, shows_more, not_viable_from_shows, deep_from_shows, none_from_deep, refused_from_shows, none_from_refused, whole_from_shows, not_whole_from_shows}
 
 -- ---- why nothing goes on
 

@@ -9,7 +9,7 @@ use Rattle.crs_text.specs.Rows.{rows}
 use Rattle.crs_text.specs.Tree.{StandsAt, TokenStands, AllStand, EachToken, IsTable}
 use Rattle.crs_text.specs.TextFault.{SpellsNode}
 use Rattle.crs_text.specs.declared.table.Row.{Row}
-use Rattle.crs_text.proofs.WrittenLemmas.{fronts_formed}
+use Rattle.crs_text.proofs.texts.WrittenLemmas.{fronts_formed}
 
 -- the bytes end the source
 abbrev EndsIn : List ℕ → List ℕ → Type 0

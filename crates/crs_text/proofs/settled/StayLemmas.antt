@@ -15,14 +15,14 @@ use Rattle.crs_text.specs.declared.refusal.Reason.TheVariants.{BadCharacter, Bad
 use Rattle.crs_text.specs.TextFault.{BeginsNoToken, IsFirstRun, IsFlaw, IsStop, RefusesText}
 use Rattle.crs_text.specs.Settled.{IsSettled, FormsSettled, SettledFronts, IsRunSettled, IsSettledStop, IsSettledRefusal, IsTakenSoFar}
 use Rattle.crs_text.specs.Feeding.{IsUnsettled}
-use Rattle.crs_text.proofs.TokenLemmas.{Forms-one}
-use Rattle.crs_text.proofs.FlawLemmas.{flaw_some}
-use Rattle.crs_text.proofs.QuotedLemmas.{same_head, same_tail, shut_one, shut_not_open}
-use Rattle.crs_text.proofs.Utf8Lemmas.{IsUtf8Front-shorter, IsLongestUtf8-longer}
-use Rattle.crs_text.proofs.LeftLemmas.{shut_or_open}
-use Rattle.crs_text.proofs.FrontsLemmas.{after_white_one, forms_some, at_once}
-use Rattle.crs_text.proofs.ViableLemmas.{viable_front}
-use Rattle.crs_text.proofs.TextLaws.{refusal_one, stop_no_token}
+use Rattle.crs_text.proofs.tokens.TokenLemmas.{Forms-one}
+use Rattle.crs_text.proofs.tokens.FlawLemmas.{flaw_some}
+use Rattle.crs_text.proofs.tokens.QuotedLemmas.{same_head, same_tail, shut_one, shut_not_open}
+use Rattle.crs_text.proofs.tokens.Utf8Lemmas.{IsUtf8Front-shorter, IsLongestUtf8-longer}
+use Rattle.crs_text.proofs.tokens.LeftLemmas.{shut_or_open}
+use Rattle.crs_text.proofs.tokens.FrontsLemmas.{after_white_one, forms_some, at_once}
+use Rattle.crs_text.proofs.tokens.ViableLemmas.{viable_front}
+use Rattle.crs_text.proofs.texts.OneAnswerLemmas.{refusal_one, stop_no_token}
 
 -- ---- what is settled is there
 

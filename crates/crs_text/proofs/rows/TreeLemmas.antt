@@ -13,10 +13,10 @@ use Rattle.crs_text.specs.Rows.{rows, rows_of_items, row_of}
 use Rattle.crs_text.specs.Tree.{part_of, parts, parts_of_items, tree, tree-parts, raw_place, part, tree_of, StandsAt, TokenStands, EachToken, AllStand, IsTable}
 use Rattle.crs_text.specs.declared.items.ItemKind.TheVariants.{Number}
 use Rattle.crs_text.specs.declared.table.Row.{Row}
-use Rattle.crs_text.proofs.HereLemmas.{Here, items_at, heres, heres_in, heres_of}
+use Rattle.crs_text.proofs.rows.HereLemmas.{Here, items_at, heres, heres_in, heres_of}
 use Rattle.crs_text.specs.Written.{AreFormed}
-use Rattle.crs_text.proofs.IdLemmas.{length-heres, items-at, lt_from_has}
-use Rattle.crs_text.proofs.WrittenLemmas.{formed_of}
+use Rattle.crs_text.proofs.rows.IdLemmas.{length-heres, items-at, lt_from_has}
+use Rattle.crs_text.proofs.texts.WrittenLemmas.{formed_of}
 
 pub each_left : (P : Token → Type 0) (a b : List Token) → EachToken P (a ++ b) → EachToken P a
 each_left P [] b h = tt

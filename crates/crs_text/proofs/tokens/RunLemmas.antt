@@ -15,9 +15,9 @@ use lib.Lanes.{chunk, zip2, mask_l, top, Each1}
 use Rattle.crs_text.specs.Tokens.{is_letter, is_word_byte}
 use Rattle.crs_text.specs.Quoted.{IsShutAt, StopsAt, is_plain, is_quote}
 use Rattle.crs_text.specs.Runs.{first_set, is_plain_ascii, IsClosing}
-use Rattle.crs_text.proofs.QuotedLemmas.{shut_at, within_at}
-use Rattle.crs_text.proofs.TokenLemmas.{letter_in_word}
-use Rattle.crs_text.proofs.Utf8Lemmas.{IsUtf8-at_quote}
+use Rattle.crs_text.proofs.tokens.QuotedLemmas.{shut_at, within_at}
+use Rattle.crs_text.proofs.tokens.TokenLemmas.{letter_in_word}
+use Rattle.crs_text.proofs.tokens.Utf8Lemmas.{IsUtf8-at_quote}
 
 -- ---- lanes
 

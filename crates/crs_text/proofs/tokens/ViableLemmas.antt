@@ -8,8 +8,8 @@ use Rattle.crs_text.specs.Tokens.{number, text, word, Token, single, comma, open
 use Rattle.crs_text.specs.Items.{Item, leaf, node, Siblings, End, More, tokens, others_tokens, depth, depths, IsNode, AreNode}
 use Rattle.crs_text.specs.Viable.{IsViable}
 use Rattle.crs_text.specs.State.{Frame, State, wants, worded, after, start, gather, behind_leaf, step, move, run}
-use Rattle.crs_text.proofs.StateLemmas.{same_square-refl, fold-none, unread-run}
-use Rattle.crs_text.proofs.SoundLemmas.{run-cons, sound-run}
+use Rattle.crs_text.proofs.rows.StateLemmas.{same_square-refl, fold-none, unread-run}
+use Rattle.crs_text.proofs.rows.LimitLemmas.{run-cons, sound-run}
 
 abbrev pub IsInPlace : List Frame → Item → Type 0
 IsInPlace [] item = IsNode item

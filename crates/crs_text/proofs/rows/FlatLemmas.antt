@@ -15,7 +15,7 @@ use Rattle.crs_text.specs.declared.table.Row.{Row}
 use Rattle.crs_text.specs.declared.table.Open.{Open}
 use Rattle.crs_text.specs.declared.table.Position.{Position}
 use Rattle.crs_text.specs.declared.table.Position.TheVariants.{BeforeItem, AfterWord, AfterItem}
-use Rattle.crs_text.proofs.TableLemmas.{length-counted}
+use Rattle.crs_text.proofs.rows.TableLemmas.{length-counted}
 
 pub length-opens_of : (fs : List Frame) → length (opens_of fs) ≡ length fs
 length-opens_of [] = refl

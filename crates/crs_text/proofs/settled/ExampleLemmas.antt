@@ -7,11 +7,11 @@ use Rattle.crs_text.specs.Tokens.{Token, single, comma, opening, closing, is_whi
 use Rattle.crs_text.specs.declared.refusal.Reason.TheVariants.{BadCharacter, Unexpected}
 use Rattle.crs_text.specs.Settled.{FormsSettled, SettledFronts, IsSettledRefusal, IsTakenSoFar}
 use Rattle.crs_text.specs.SettledExamples.{begun}
-use Rattle.crs_text.proofs.FrontsLemmas.{at_once}
-use Rattle.crs_text.proofs.ViableLemmas.{viable_from_run}
-use Rattle.crs_text.proofs.AllowedLemmas.{not_viable_from_none}
-use Rattle.crs_text.proofs.SettledLemmas.{taken_so_far}
-use Rattle.crs_text.proofs.FeedingLemmas.{fronts_more, token_held, run_held}
+use Rattle.crs_text.proofs.tokens.FrontsLemmas.{at_once}
+use Rattle.crs_text.proofs.tokens.ViableLemmas.{viable_from_run}
+use Rattle.crs_text.proofs.tokens.AllowedLemmas.{not_viable_from_none}
+use Rattle.crs_text.proofs.settled.StayLemmas.{taken_so_far}
+use Rattle.crs_text.proofs.settled.FeedingLemmas.{fronts_more, token_held, run_held}
 
 -- VERTCRS[
 abbrev opened : List Token

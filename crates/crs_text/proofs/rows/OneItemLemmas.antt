@@ -3,7 +3,7 @@ use Rattle.std.proofs.Common.{◌≡◌, ℕ, Bool, List, [], ◌∷◌, ◌++�
 use Rattle.std.proofs.lemmas.List.{append-nil}
 use Rattle.crs_text.specs.Tokens.{Token, opening, closing}
 use Rattle.crs_text.specs.Items.{Item, leaf, node, Siblings, End, More, tokens, others_tokens, AreNode, BeginsNoNode}
-use Rattle.crs_text.proofs.ViableLemmas.{node_tokens}
+use Rattle.crs_text.proofs.tokens.ViableLemmas.{node_tokens}
 
 behind-others : (items : Siblings) (close : ℕ) (square : Bool) (more : List Token) → BeginsNoNode (others_tokens items ++ closing close square ∷ more)
 behind-others End close square more = tt

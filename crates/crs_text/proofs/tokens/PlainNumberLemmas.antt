@@ -17,7 +17,7 @@ use Rattle.crs_text.specs.Quoted.{StopsAt, BeginsWith}
 use Rattle.crs_text.specs.Runs.{IsOneDigit, IsSigned, IsFractional}
 use Rattle.crs_text.specs.Lexing.{IsLexed}
 use Rattle.crs_text.specs.declared.lexing.Lexed.TheVariants.{Number}
-use Rattle.crs_text.proofs.LexedLemmas.{prefix_taken}
+use Rattle.crs_text.proofs.tokens.LexedLemmas.{prefix_taken}
 
 abbrev IsSmall : ℕ → Type 0
 IsSmall n = (n ≡ 0) ⊎ ((m k : ℕ) × Strips n m k × (m < 10 ^ 38) × (k ≤ 40))

@@ -14,7 +14,7 @@ use Rattle.std.specs.List.{list_all, prefix_len}
 use Rattle.crs_text.specs.declared.keyword.Keyword.{Keyword}
 use Rattle.crs_text.specs.Keywords.{spelling_of, every_keyword, keyword_of}
 use Rattle.crs_text.specs.KeywordTable.{spelled, of_length, first_among, is_capital, AreCapitals, AreSpellings, AreSameWithin, IsNamed, IsSuspect, AreSuspects}
-use Rattle.crs_text.proofs.KeywordLemmas.{and-left, and-right, keyword-spelled, keyword_of-table, same-keyword_of}
+use Rattle.crs_text.proofs.words.KeywordLemmas.{and-left, and-right, keyword-spelled, keyword_of-table, same-keyword_of}
 
 same-lists : (xs ys : List ℕ) → length xs ≡ length ys → ((k : ℕ) → k < length xs → get_or xs k 0 ≡ get_or ys k 0) → xs ≡ ys
 same-lists [] [] e at = refl

@@ -30,14 +30,14 @@ use Rattle.crs_text.specs.declared.refusal.Reason.{Reason}
 use Rattle.crs_text.specs.declared.refusal.Reason.TheVariants.{BadCharacter, BadNumber, NumberRange, NotUtf8, OpenText, Unexpected, UnexpectedEnd, TooDeep}
 use Rattle.crs_text.specs.declared.lexing.Lexed.{Lexed}
 use Rattle.crs_text.specs.declared.lexing.Lexed.TheVariants as lexed
-use Rattle.crs_text.proofs.TokenLemmas.{Shape, a_single, shape_of, shape_at, shape_at_start, Forms-shape, Forms-shut, Forms-one}
-use Rattle.crs_text.proofs.QuotedLemmas.{doubled-append, and_right, true_not_false, same_tail, same_split, shut_one, shut_not_open}
-use Rattle.crs_text.proofs.Utf8Lemmas.{IsUtf8Front-shorter}
-use Rattle.crs_text.proofs.FlawLemmas.{flaw_no_token, flaw_one}
-use Rattle.crs_text.proofs.FrontsLemmas.{forms_some, at_once, dark_start, dark_word}
-use Rattle.crs_text.proofs.ShowsLemmas.{shows_start, viable_from_shows, shows_more}
-use Rattle.crs_text.proofs.ScanLemmas.{reached_first, number_at, word_at, text_at, comma_at, opening_at, closing_at, after_white}
-use Rattle.crs_text.proofs.SettledLemmas.{refuses_from_settled, fronts_from_settled, stop_some, through_front, all_append, fronts_longer, taken_so_far}
+use Rattle.crs_text.proofs.tokens.TokenLemmas.{Shape, a_single, shape_of, shape_at, shape_at_start, Forms-shape, Forms-shut, Forms-one}
+use Rattle.crs_text.proofs.tokens.QuotedLemmas.{doubled-append, and_right, true_not_false, same_tail, same_split, shut_one, shut_not_open}
+use Rattle.crs_text.proofs.tokens.Utf8Lemmas.{IsUtf8Front-shorter}
+use Rattle.crs_text.proofs.tokens.FlawLemmas.{flaw_no_token, flaw_one}
+use Rattle.crs_text.proofs.tokens.FrontsLemmas.{forms_some, at_once, dark_start, dark_word}
+use Rattle.crs_text.proofs.rows.ShowsLemmas.{shows_start, viable_from_shows, shows_more}
+use Rattle.crs_text.proofs.tokens.ScanLemmas.{reached_first, number_at, word_at, text_at, comma_at, opening_at, closing_at, after_white}
+use Rattle.crs_text.proofs.settled.StayLemmas.{refuses_from_settled, fronts_from_settled, stop_some, through_front, all_append, fronts_longer, taken_so_far}
 
 -- ---- runs
 

@@ -14,8 +14,8 @@ use Rattle.crs_text.specs.Lexing.{StandsBefore}
 use Rattle.crs_text.specs.declared.refusal.Reason.{Reason}
 use Rattle.crs_text.specs.declared.refusal.Reason.TheVariants.{BadCharacter, BadNumber, NumberRange, NotUtf8, OpenText}
 use Rattle.crs_text.specs.TextFault.{IsFlaw}
-use Rattle.crs_text.proofs.LexedLemmas.{is_run, lexed_word}
-use Rattle.crs_text.proofs.Utf8Lemmas.{IsUtf8Front-from, IsUtf8Front-cut, not-IsUtf8Front, not-IsUtf8Front-before_quote, not-IsUtf8, IsLongestUtf8-from, IsLongestUtf8-before_quote}
+use Rattle.crs_text.proofs.tokens.LexedLemmas.{is_run, lexed_word}
+use Rattle.crs_text.proofs.tokens.Utf8Lemmas.{IsUtf8Front-from, IsUtf8Front-cut, not-IsUtf8Front, not-IsUtf8Front-before_quote, not-IsUtf8, IsLongestUtf8-from, IsLongestUtf8-before_quote}
 
 -- ---- after an opening quote
 

@@ -13,11 +13,11 @@ use Rattle.crs_text.specs.Tokens.{is_letter, is_word_byte, IsWord}
 use Rattle.crs_decimal.specs.Spelling.{is_run_byte, is_run_start, HasForm}
 use Rattle.crs_decimal.specs.Bounds.{IsInBounds}
 use Rattle.crs_text.specs.TextFault.{IsFirstRun, IsFlaw}
-use Rattle.crs_text.proofs.TokenLemmas.{and_from, letter_in_word}
+use Rattle.crs_text.proofs.tokens.TokenLemmas.{and_from, letter_in_word}
 use Rattle.crs_text.specs.Lexing.{IsLexed}
 use Rattle.crs_text.specs.declared.refusal.Reason.TheVariants.{BadNumber, NumberRange, NotUtf8, OpenText}
 use Rattle.crs_text.specs.declared.lexing.Lexed.TheVariants.{Number, Text, Word}
-use Rattle.crs_text.proofs.Utf8Lemmas.{IsUtf8-before_quote, IsUtf8-from_front_at_quote, IsLongestUtf8-longer}
+use Rattle.crs_text.proofs.tokens.Utf8Lemmas.{IsUtf8-before_quote, IsUtf8-from_front_at_quote, IsLongestUtf8-longer}
 
 pub with_quote : (after : List ℕ) (n : ℕ) → IsShutAt after n → take (n + 1) after ≡ take n after ++ 34 ∷ []
 with_quote after n s =

@@ -17,12 +17,12 @@ use Rattle.crs_text.specs.declared.items.ItemKind.{ItemKind}
 use Rattle.crs_text.specs.Scan.{IsSingleAt}
 use Rattle.crs_text.specs.Innermost.{IsClosed, IsInnermost}
 use Rattle.crs_text.specs.Nesting.{places_held, places_after, innermost_of, IsPassed, IsHalted, AreOpen, LeadsTo, IsAhead, IsNested, IsAnswered}
-use Rattle.crs_text.proofs.TokenLemmas.{Forms-one}
-use Rattle.crs_text.proofs.FlawLemmas.{flaw_no_token}
-use Rattle.crs_text.proofs.FrontsLemmas.{fronts_dark, skip_white, front_token, front_none, fronts_more, forms_shorter}
-use Rattle.crs_text.proofs.AllowedLemmas.{allows_from_viable, opens-item}
-use Rattle.crs_text.proofs.ViableLemmas.{viable_front}
-use Rattle.crs_text.proofs.ScanLemmas.{after_white, fronts_short}
+use Rattle.crs_text.proofs.tokens.TokenLemmas.{Forms-one}
+use Rattle.crs_text.proofs.tokens.FlawLemmas.{flaw_no_token}
+use Rattle.crs_text.proofs.tokens.FrontsLemmas.{fronts_dark, skip_white, front_token, front_none, fronts_more, forms_shorter}
+use Rattle.crs_text.proofs.tokens.AllowedLemmas.{allows_from_viable, opens-item}
+use Rattle.crs_text.proofs.tokens.ViableLemmas.{viable_front}
+use Rattle.crs_text.proofs.tokens.ScanLemmas.{after_white, fronts_short}
 
 -- ---- the places, read from the array
 

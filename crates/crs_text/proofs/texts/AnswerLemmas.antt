@@ -14,11 +14,11 @@ use Rattle.crs_text.specs.declared.refusal.Reason.TheVariants.{Unexpected, Unexp
 use Rattle.crs_text.specs.declared.table.Position.{Position}
 use Rattle.crs_text.specs.declared.table.Position.TheVariants.{AfterWord}
 use Rattle.crs_text.specs.TextFault.{SpellsNode, reason_number, IsStop, RefusesText}
-use Rattle.crs_text.proofs.AllowedLemmas.{deep_from_word}
-use Rattle.crs_text.proofs.FrontsLemmas.{fronts_more, forms_shorter}
-use Rattle.crs_text.proofs.ShowsLemmas.{shows_start, viable_from_shows, shows_more, not_viable_from_shows, refused_from_shows, whole_from_shows, not_whole_from_shows}
-use Rattle.crs_text.proofs.ScanLemmas.{stop_flaw, after_white}
-use Rattle.crs_text.proofs.LeftLemmas.{DecidesNumbers, token_or_flaw}
+use Rattle.crs_text.proofs.tokens.AllowedLemmas.{deep_from_word}
+use Rattle.crs_text.proofs.tokens.FrontsLemmas.{fronts_more, forms_shorter}
+use Rattle.crs_text.proofs.rows.ShowsLemmas.{shows_start, viable_from_shows, shows_more, not_viable_from_shows, refused_from_shows, whole_from_shows, not_whole_from_shows}
+use Rattle.crs_text.proofs.tokens.ScanLemmas.{stop_flaw, after_white}
+use Rattle.crs_text.proofs.tokens.LeftLemmas.{DecidesNumbers, token_or_flaw}
 
 abbrev pub IsEither : List ℕ → Type 0
 IsEither bytes = ((item : Item) × SpellsNode bytes item) ⊎ ((n place : ℕ) × RefusesText bytes n place)

@@ -1,0 +1,11 @@
+pub mod FlatLemmas
+pub mod HereLemmas
+pub mod IdLemmas
+pub mod LimitLemmas
+pub mod NestingLemmas
+pub mod OneItemLemmas
+pub mod ShowsLemmas
+pub mod StandLemmas
+pub mod StateLemmas
+pub mod TableLemmas
+pub mod TreeLemmas

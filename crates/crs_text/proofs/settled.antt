@@ -1,0 +1,4 @@
+pub mod ExampleLemmas
+pub mod FeedingLemmas
+pub mod RefusalLemmas
+pub mod StayLemmas

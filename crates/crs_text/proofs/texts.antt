@@ -1,0 +1,5 @@
+pub mod AnswerLemmas
+pub mod OneAnswerLemmas
+pub mod OnePositionLemmas
+pub mod PositionLemmas
+pub mod WrittenLemmas

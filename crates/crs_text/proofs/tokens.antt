@@ -1,0 +1,13 @@
+pub mod AllowedLemmas
+pub mod FlawLemmas
+pub mod FrontsLemmas
+pub mod LeftLemmas
+pub mod LexedLemmas
+pub mod PlainNumberLemmas
+pub mod QuotedLemmas
+pub mod RunLemmas
+pub mod ScanLemmas
+pub mod TokenLemmas
+pub mod Utf8CutLemmas
+pub mod Utf8Lemmas
+pub mod ViableLemmas

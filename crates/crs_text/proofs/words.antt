@@ -1,0 +1,2 @@
+pub mod KeywordLemmas
+pub mod WordLemmas
