@@ -1,8 +1,9 @@
 //! What comes before a place: a look at delimiters and quoted texts, token by token, which takes no memory.
 ghost use Rattle.std.specs.Prelude.{◌≤◌};
 
-use crate::glance::{back, front, is_of_word, is_one_of, keyword_at, looked_at, rest};
+use crate::glance::{back, front, is_of_word, keyword_at, looked_at, names, names_one_of, rest};
 use crate::hint::Open;
+use crs_shape::{Class, known, root_class};
 
 // A text has at most 12 open delimiters before the place of its refusal, and one may begin there.
 const MOST: usize = 13;
@@ -13,56 +14,19 @@ const NONE: Open<'static> = Open {
     delimiter: b'[',
 };
 
-// Keywords of nodes that only a CRS or a base CRS has.
-const IN_CRS: [&[u8]; 16] = [
-    b"DATUM",
-    b"TRF",
-    b"GEODETICDATUM",
-    b"VDATUM",
-    b"VRF",
-    b"VERTICALDATUM",
-    b"ENSEMBLE",
-    b"DYNAMIC",
-    b"PRIMEM",
-    b"PRIMEMERIDIAN",
-    b"CS",
-    b"AXIS",
-    b"CONVERSION",
-    b"GEOIDMODEL",
-    b"USAGE",
-    b"REMARK",
-];
-
-// Keywords of nodes that hold none of those.
-const HOLDS_NONE: [&[u8]; 28] = [
-    b"DATUM",
-    b"TRF",
-    b"GEODETICDATUM",
-    b"VDATUM",
-    b"VRF",
-    b"VERTICALDATUM",
-    b"ENSEMBLE",
-    b"MEMBER",
-    b"DYNAMIC",
-    b"ELLIPSOID",
-    b"SPHEROID",
-    b"PRIMEM",
-    b"PRIMEMERIDIAN",
-    b"CS",
-    b"AXIS",
-    b"ORDER",
-    b"CONVERSION",
-    b"METHOD",
-    b"PARAMETER",
-    b"LENGTHUNIT",
-    b"ANGLEUNIT",
-    b"SCALEUNIT",
-    b"UNIT",
-    b"USAGE",
-    b"SCOPE",
-    b"AREA",
-    b"BBOX",
-    b"ID",
+// Nodes that only a CRS or a base CRS has.
+const IN_CRS: [Class; 11] = [
+    Class::GeodeticFrame,
+    Class::VerticalFrame,
+    Class::GeodeticEnsemble,
+    Class::Dynamic,
+    Class::PrimeMeridian,
+    Class::CoordinateSystem,
+    Class::Axis,
+    Class::Conversion,
+    Class::GeoidModel,
+    Class::Usage,
+    Class::Remark,
 ];
 
 /// What comes before a place, or begins there.
@@ -158,8 +122,8 @@ impl<'a> Before<'a> {
         }
         if let Some(outer) = self.innermost()
             && self.outside.is_none()
-            && is_one_of(node.keyword, &IN_CRS)
-            && is_one_of(outer.keyword, &HOLDS_NONE)
+            && names_one_of(node.keyword, &IN_CRS)
+            && holds_none(outer.keyword)
         {
             self.outside = Some((node, outer));
         }
@@ -178,6 +142,11 @@ impl<'a> Before<'a> {
         }
         at < place
     }
+}
+
+// Whether it is the keyword of a node that can't have any of `IN_CRS`, since it is neither a CRS nor a base CRS.
+fn holds_none(keyword: &[u8]) -> bool {
+    known(keyword) && root_class(keyword).is_none() && !names(keyword, Class::BaseCrs)
 }
 
 /// The node whose opening delimiter is at a place.

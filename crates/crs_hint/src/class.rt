@@ -1,7 +1,8 @@
 //! What a text is by its first keyword, and keywords that aren't read.
-use crate::glance::{begins, ends, is_one_of};
+use crate::glance::{begins, ends, is_one_of, names, names_one_of};
 use crate::hint::{Filled, Hint, Sentence};
 use crate::refused::NOT_HERE;
+use crs_shape::Class;
 
 /// A keyword, and what to say of its node.
 struct Entry {
@@ -23,27 +24,19 @@ const OLD_CLASSES: [&[u8]; 8] = [
 ];
 
 // Parts of a CRS that are given in place of one.
-const PARTS: [&[u8]; 20] = [
-    b"DATUM",
-    b"TRF",
-    b"GEODETICDATUM",
-    b"VDATUM",
-    b"VRF",
-    b"VERTICALDATUM",
-    b"ENSEMBLE",
-    b"ELLIPSOID",
-    b"SPHEROID",
-    b"PRIMEM",
-    b"PRIMEMERIDIAN",
-    b"CS",
-    b"AXIS",
-    b"CONVERSION",
-    b"BASEGEOGCRS",
-    b"BASEGEODCRS",
-    b"LENGTHUNIT",
-    b"ANGLEUNIT",
-    b"UNIT",
-    b"ID",
+const PARTS: [Class; 12] = [
+    Class::GeodeticFrame,
+    Class::VerticalFrame,
+    Class::GeodeticEnsemble,
+    Class::Ellipsoid,
+    Class::PrimeMeridian,
+    Class::CoordinateSystem,
+    Class::Axis,
+    Class::Conversion,
+    Class::BaseCrs,
+    Class::LengthUnit,
+    Class::AngleUnit,
+    Class::Identifier,
 ];
 
 // Classes of the standard that aren't read.
@@ -159,7 +152,7 @@ pub(crate) fn by_class(keyword: &[u8]) -> Option<Hint<'_>> {
     if is_one_of(keyword, &OLD_CLASSES) {
         return Some(Hint::of(Sentence::Wkt1));
     }
-    if is_one_of(keyword, &PARTS) {
+    if names_one_of(keyword, &PARTS) {
         return Some(Hint::with(Sentence::Part, Filled::Capitals(keyword)));
     }
     entry_of(keyword, &OTHER_CLASSES)
@@ -173,7 +166,7 @@ pub(crate) fn is_of_text(keyword: &[u8]) -> bool {
 
 /// What a node is that isn't allowed where it is, by its keyword.
 pub(crate) fn by_keyword<'a>(number: u8, keyword: &[u8]) -> Option<Hint<'a>> {
-    if number == NOT_HERE && is_one_of(keyword, &[b"BASEGEOGCRS", b"BASEGEODCRS"]) {
+    if number == NOT_HERE && names(keyword, Class::BaseCrs) {
         return Some(Hint::of(Sentence::Derived));
     }
     entry_of(keyword, &OTHER_KEYWORDS).or(entry_of(keyword, &OTHER_CLASSES))

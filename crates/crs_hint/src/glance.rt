@@ -1,4 +1,5 @@
 //! Short looks at bytes.
+use crs_shape::{Class, keywords};
 
 /// How many bytes a hint looks at, from the text's front and from the place on.
 const LOOKED_AT: usize = 400;
@@ -47,6 +48,18 @@ pub(crate) fn is_one_of(word: &[u8], words: &[&[u8]]) -> bool {
         }
     }
     false
+}
+
+/// Whether a word is a keyword of this class, letter case aside.
+pub(crate) fn names(word: &[u8], class: Class) -> bool {
+    keywords(class)
+        .iter()
+        .any(|it| it.spelling().eq_ignore_ascii_case(word))
+}
+
+/// Whether a word is a keyword of one of these classes.
+pub(crate) fn names_one_of(word: &[u8], classes: &[Class]) -> bool {
+    classes.iter().any(|it| names(word, *it))
 }
 
 /// Whether a byte may be part of a word.

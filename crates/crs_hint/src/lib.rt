@@ -14,7 +14,7 @@ mod place;
 mod refused;
 mod sentence;
 mod string;
-mod telling;
+mod writing;
 
 pub use meanings::meaning;
-pub use telling::{hints, opened};
+pub use writing::{hints, opened};
