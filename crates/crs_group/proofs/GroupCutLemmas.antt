@@ -10,7 +10,7 @@ use Rattle.crs_streams.proofs.FeedLemmas.{ended-begins, ended-feeds, ended-fits,
 use Rattle.crs_streams.proofs.SplitLemmas.{plain-append}
 use Rattle.crs_value.specs.declared.values.level.Level.{Level}
 use Rattle.crs_group.specs.Partition.{PlacedLine}
-use Rattle.crs_group.proofs.LedgerLemmas.{none-ledger}
+use Rattle.crs_group.proofs.LineAddedLemmas.{none-ledger}
 
 abbrev pub cutter_of : LedgerParts → List ℕ → CutterParts
 cutter_of ledger partial = record { ledger = ledger; partial = partial }

@@ -4,7 +4,7 @@ pub mod GroupCutLemmas
 pub mod GroupRunLemmas
 pub mod GroupTextLemmas
 pub mod KnownLemmas
-pub mod LedgerLemmas
+pub mod LineAddedLemmas
 pub mod ListLemmas
 pub mod OneCatalogueLemmas
 pub mod PartitionLemmas

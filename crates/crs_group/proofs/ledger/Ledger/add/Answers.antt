@@ -1,6 +1,6 @@
 use Rattle.std.proofs.Common.{◌+◌, ◌∙◌, ap, subst}
 use Rattle.crs_group.specs.GroupCutting.{IsNamed, text_in}
-use Rattle.crs_group.proofs.LedgerLemmas.{ledger-step}
+use Rattle.crs_group.proofs.LineAddedLemmas.{ledger-step}
 use Rattle.crs_group.proofs.ledger.Ledger.add.Goals as goal
 
 pub returns-clause-texts : goal.returns-clause-texts

@@ -1,4 +1,4 @@
-use Rattle.crs_rules_file.proofs.SeenLemmas.{is-added-as}
+use Rattle.crs_rules_file.proofs.NodeAmongLemmas.{is-added-as}
 use Rattle.crs_rules_file.proofs.seen.Seen.add.Goals as goal
 
 pub returns-clause-added : goal.returns-clause-added
