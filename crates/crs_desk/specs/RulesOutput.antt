@@ -1,5 +1,5 @@
 -- What commands write under rules, and their status.
-use Rattle.std.specs.Prelude.{◌≡◌, ◌++◌, ◌∷◌, ◌⊎◌, ◌==◌, [], ℕ, List, Bool, codes, drop, not, take}
+use Rattle.std.specs.Prelude.{◌≡◌, ◌++◌, ◌∷◌, ◌⊎◌, ◌==◌, ◌||◌, [], ℕ, List, Bool, codes, drop, not, take}
 use Rattle.std.specs.Prelude.{if◌then◌else◌}
 use Rattle.std.specs.List.{flat_map, list_any, prefix_len}
 use Rattle.std.specs.Str.{bytes_eq}
@@ -44,18 +44,27 @@ IsPairUnder rules level Refused Compared first second written status =
 abbrev pub IsSameUnderOutput : RulesParts → Level → List ℕ → List ℕ → List ℕ → ℕ → Type 0
 IsSameUnderOutput rules level = IsPairUnder rules level WritesRefusalOf (IsSameOutput level)
 
--- the byte behind the path of a line that `explain` writes: a colon, and in an object a comma
+-- where the path of a line begins that `explain` writes: in an object behind `{"path":"`
+abbrev pub path_start : Manner → ℕ
+path_start manner.Lines = 0
+path_start manner.Objects = 9
+
+-- the byte behind the path of a line: a colon, and in an object a quote
 abbrev pub path_end : Manner → ℕ
 path_end manner.Lines = 58
-path_end manner.Objects = 44
+path_end manner.Objects = 34
 
--- whether a byte belongs to a path
+-- whether a byte belongs to the path to a part: in that to a member of a set a bracket follows
 abbrev pub is_of_path : Manner → ℕ → Bool
-is_of_path how b = not (b == path_end how)
+is_of_path how b = not (b == path_end how || b == 91)
 
--- the path of a line that `explain` writes, with what stands before it in an object
+-- a line from where its path begins
+abbrev pub from_path : Manner → List ℕ → List ℕ
+from_path how line = drop (path_start how) line
+
+-- the path to the part that a line tells
 abbrev pub path_in : Manner → List ℕ → List ℕ
-path_in how line = take (prefix_len (is_of_path how) line) line
+path_in how line = take (prefix_len (is_of_path how) (from_path how line)) (from_path how line)
 
 -- the whole lines of some bytes, where these begin the first
 abbrev pub lines_after : List ℕ → List ℕ → List (List ℕ)

@@ -2,7 +2,7 @@
 ghost use Rattle.std.specs.Prelude.{◌≡◌, ◌≤◌, ◌++◌, ◌∷◌, [], OnOk, drop, length};
 ghost use Rattle.std.specs.List.{prefix_len};
 ghost use Rattle.crs_desk.specs.RulesOutput.{has_path, is_of_path, lines_in, marked, marked_line, path_in};
-ghost use Rattle.crs_desk.specs.RulesOutput.{behind_mark, mark_of, path_end, with_mark};
+ghost use Rattle.crs_desk.specs.RulesOutput.{behind_mark, from_path, mark_of, path_end, with_mark};
 
 use crate::Manner;
 use crs_streams::split_line;
@@ -13,6 +13,9 @@ const MARK: &[u8] = b"the same by the rules: ";
 
 // What stands for the first byte of such an object.
 const OBJECT_MARK: &[u8] = b"{\"same_by_rules\":true,";
+
+// The length of what stands before the path in an object, `{"path":"`.
+const KEY_LENGTH: usize = 9;
 
 // Appends the lines of an explanation, each with the mark, but for those whose path a line of another has.
 #[tactic(auto, using(crate::proofs::MarkLemmas::marked_on, crate::proofs::MarkLemmas::marked_all))]
@@ -98,11 +101,32 @@ fn has_path(how: Manner, bytes: &[u8], path: &[u8]) -> bool
     false
 }
 
-// The path of a line: its bytes before the first colon, or of an object before the first comma.
+// The path to the part that a line tells: up to a colon, in an object up to a quote, or to the bracket before the name of
+// a member.
 fn path_in(how: Manner, line: &[u8]) -> &[u8]
     ensures { result.now ≡ path_in how line.now }
 {
+    let line = from_path(how, line);
     &line[..path_length(how, line)]
+}
+
+fn from_path(how: Manner, line: &[u8]) -> &[u8]
+    ensures { result.now ≡ from_path how line.now }
+{
+    match how {
+        Manner::Lines => line,
+        Manner::Objects => behind_key(line),
+    }
+}
+
+// What stands behind `{"path":"`.
+fn behind_key(line: &[u8]) -> &[u8]
+    ensures { result.now ≡ drop 9 line.now }
+{
+    match line.get(KEY_LENGTH..) {
+        Some(rest) => rest,
+        None => b"",
+    }
 }
 
 fn path_length(how: Manner, line: &[u8]) -> usize
@@ -117,7 +141,7 @@ fn path_length(how: Manner, line: &[u8]) -> usize
 fn is_of_path(how: Manner, byte: u8) -> bool
     ensures { result ≡ is_of_path how byte }
 {
-    byte != path_end(how)
+    byte != path_end(how) && byte != b'['
 }
 
 fn path_end(how: Manner) -> u8
@@ -125,6 +149,6 @@ fn path_end(how: Manner) -> u8
 {
     match how {
         Manner::Lines => b':',
-        Manner::Objects => b',',
+        Manner::Objects => b'"',
     }
 }
