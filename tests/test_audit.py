@@ -174,7 +174,8 @@ def test_data_has_the_near_misses() -> None:
         found.append((miss["by"], miss["value"], frozenset((names_of[pair["first"]], names_of[pair["second"]])), paths))
         texts = [data["definitions"][pair[which] - 1] for which in ("first", "second")]
         assert texts[0]["texts"] >= texts[1]["texts"]
-        wanted = Crs(texts[0]["text"]).differences(texts[1]["text"], "definition")
+        first, second = (it["text"] for it in texts)
+        wanted = kinds.with_whole_sets(Crs(first).differences(second, "definition"), first, second)
         parts = [(it["path"], it["first"], it["second"]) for it in pair["parts"]]
         assert parts == [(it.path, it.first, it.second) for it in kinds.rows_of(wanted)]
         assert {path.partition("/parameters")[0] for path, _, _ in parts} == {

@@ -15,7 +15,7 @@ from support import HEIGHT, ROOT, need
 from test_audit import audit, audited_data, folder
 from test_audit_hostile import server
 
-from crsdesk import Crs, Difference
+from crsdesk import Crs, Difference, canon, differences
 from crsdesk.audit import converting, kinds, marking, names, registry
 from crsdesk.audit.datasets import belongs_to
 
@@ -334,6 +334,18 @@ def test_kinds_of_differences() -> None:
         ("conversion/parameters/a", 'PARAMETER["a",1]', None),
         ("conversion/parameters/b", 'PARAMETER["b",2]', 'PARAMETER["b",3]'),
     ]
+
+
+def test_sets_of_parameters_are_whole() -> None:
+    """The number of a parameter is judged in its unit, though the library tells each by itself."""
+    units = ('LENGTHUNIT["metre",1]', 'LENGTHUNIT["foot",0.3048]')
+    begun = 'PROJCRS["U",BASEGEOGCRS["B",DATUM["D",ELLIPSOID["E",1,0]]],CONVERSION["c",METHOD["m"]'
+    grid = 'CS[Cartesian,2],AXIS["(E)",east],AXIS["(N)",north],LENGTHUNIT["metre",1]]'
+    for numbers, wanted in (((0, 0), kinds.Kind.NAMES), ((1, 1), kinds.Kind.NUMBERS), ((0.3048, 1), kinds.Kind.NAMES)):
+        texts = [f'{begun},PARAMETER["a",{number},{unit}]],{grid}' for number, unit in zip(numbers, units)]
+        first, second = (canon(it) for it in texts)
+        found = kinds.with_whole_sets(differences(first, second), first, second)
+        assert [it.path for it in found] == ["conversion/parameters"] and kinds.kind_of(found) is wanted, found
 
 
 def test_differing_characters_are_marked() -> None:

@@ -12,7 +12,7 @@ from .. import Crs, Difference, Level, Refused, Rules, canon
 from .._facts import boxes_of
 from .._foreign import form_of
 from .converting import converted
-from .kinds import TRANSFORMATION
+from .kinds import TRANSFORMATION, with_whole_sets
 from .reading import File, Skipped, Text, Unread, Way, Without, read
 
 
@@ -204,7 +204,8 @@ class Two(NamedTuple):
 
 def parts_of(two: Two) -> List[Difference]:
     """The parts in which two CRSs differ; their transformations are the last one."""
-    parts = Crs(two.first).differences(two.second, two.level)
+    texts = [canon(text, two.level) for text in (two.first, two.second)]
+    parts = with_whole_sets(Crs(two.first).differences(two.second, two.level), *texts)
     first, second = two.transformations
     if first != second:
         parts.append(Difference(TRANSFORMATION, first or None, second or None))

@@ -12,7 +12,7 @@ from decimal import Decimal, InvalidOperation
 from typing import Dict, Iterator, List, NamedTuple, Optional, Sequence, Tuple
 
 from .. import Difference
-from .._tree import Node, nodes_in, text_of_node, unquoted
+from .._tree import Node, nodes_in, text_of_node, tree_of, unquoted
 
 
 class Kind(enum.IntEnum):
@@ -41,6 +41,8 @@ NEAR = 1e-9
 NEAR_ZERO = 1e-10
 TRANSFORMATION = "transformation"
 WITHOUT_NUMBERS = frozenset(("usage", "id", "remark", "members", "accuracy", "anchor", "anchorepoch", "model"))
+# The path to a set of parameters, and then perhaps the name of one.
+PARAMETERS = re.compile(r'((?:[a-z0-9]+/)*parameters)(?:$|\[")')
 # Names that tools write where they know none.
 PLACEHOLDERS = frozenset(("", "unknown", "unnamed", "undefined", "unknown crs", "custom", "user defined"))
 
@@ -126,6 +128,24 @@ def kind_of_units(part: Difference) -> Kind:
 
 
 # Sets.
+
+
+def with_whole_sets(parts: Sequence[Difference], first: str, second: str) -> List[Difference]:
+    """The parts in which the CRSs of two canonical texts differ, with the set of parameters as one part: the number of a
+    parameter is judged in its unit, whichever of them differs."""
+    found: Dict[str, Difference] = {}
+    for part in parts:
+        of_set = PARAMETERS.match(part.path)
+        whole = whole_set(of_set[1], first, second) if of_set else part
+        found.setdefault(whole.path, whole)
+    return list(found.values())
+
+
+def whole_set(path: str, first: str, second: str) -> Difference:
+    """The parameters of either text that the other one lacks."""
+    sides = [[text_of_node(it) for it in tree_of(text).all() if it.keyword == "PARAMETER"] for text in (first, second)]
+    lacking = [",".join(it for it in these if it not in others) for these, others in (sides, sides[::-1])]
+    return Difference(path, lacking[0] or None, lacking[1] or None)
 
 
 def rows_of_set(part: Difference, is_of_parameters: bool) -> Iterator[Row]:

@@ -10,10 +10,10 @@ import enum
 from dataclasses import dataclass, field
 from typing import List, NamedTuple, Optional, Tuple
 
-from .. import Difference, Refused, Rules, differences
+from .. import Difference, Refused, Rules, canon, differences
 from .._tree import Node, text_of_node, tree_of
 from .judging import rules_of
-from .kinds import Kind, folded, is_placeholder, kind_of
+from .kinds import Kind, folded, is_placeholder, kind_of, with_whole_sets
 from .proj import Candidate, Context, context
 
 
@@ -126,7 +126,8 @@ def compared(proj: Context, asked: Asked, rules: Optional[Rules], its: Candidate
     """The comparison with a CRS of the registry."""
     identifier, confidence, text = its
     try:
-        parts = differences(text, asked.text, "definition", rules)
+        texts = [canon(it, "definition", rules) for it in (text, asked.text)]
+        parts = with_whole_sets(differences(text, asked.text, "definition", rules), *texts)
     except Refused:
         return Registered(Verdict.UNREAD, identifier, "", confidence, is_own)
     name = tree_of(text).name
