@@ -1,3 +1,5 @@
 pub mod ContentText
 pub mod Examples
 pub mod MainTheorem
+pub mod Named
+pub mod PairedNames

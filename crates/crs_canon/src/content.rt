@@ -48,8 +48,10 @@ fn append_number(out: &mut Vec<u8>, number: &Decimal) -> Result<(), AllocError>
     number.write(out)
 }
 
-// Where this kind is asked.
-fn append_unit(
+/// Appends a unit as `write_content` does, where this kind is asked. Profile.
+///
+/// `AllocError`: there is no memory for it, and `out` is as before.
+pub fn append_unit(
     alloc: Global,
     out: &mut Vec<u8>,
     asked: UnitKind,

@@ -47,8 +47,10 @@ pub(crate) fn append_lacking(
     append_members(out, text.as_slice())
 }
 
-// The members that the others lack, where there is memory for them.
-pub(crate) fn append_lacking_members<T: Canonical>(
+/// Appends the members of a set that the others lack, as `write_content` does. Profile.
+///
+/// `AllocError`: there is no memory for them, and `out` is as before.
+pub fn append_lacking_members<T: Canonical>(
     alloc: Global,
     out: &mut Vec<u8>,
     these: &[T],

@@ -1,0 +1,165 @@
+-- Parameters by their names: which stands alone, the names in order, and the spellings of some.
+use Rattle.std.proofs.Common.{◌≡◌, ◌↔◌, ◌∙◌, ◌&&◌, ℕ, Bool, true, false, cond, if◌then◌else◌, Option, Some, None, List, [], ◌∷◌, filter, map, inl, inr, refl, sym, ap, subst, true≢false}
+use Rattle.std.specs.Option.{is_some}
+use Rattle.std.specs.Prelude.{nat_le, length}
+use Rattle.std.specs.Str.{bytes_eq}
+use Rattle.std.proofs.lemmas.Slice.Eq.{bytes_eq-Decides}
+use Rattle.crs_value.specs.ConversionValues.{ParameterParts}
+use Rattle.crs_normal.specs.Ascending.{Ascends, IsIn}
+use Rattle.crs_normal.specs.Ordered.{in_order, put, put_all}
+use Rattle.crs_canon.specs.Named.{ArePairedNames, is_paired, named_once, of_name, only}
+use Rattle.crs_canon.specs.PairedNames.{names_paired}
+use Rattle.crs_writer.specs.Members.{AreSpellingsOf, IsOnlySpelling}
+
+pub never : false ≡ true → ⊥
+never e = absurd (true≢false (sym e))
+
+-- ---- members that pass a test
+
+passed-first : {V : Type 0} (b : Bool) (x y : V) (ys : List V) → x ≡ y → b ≡ true → IsIn x (cond b (y ∷ ys) ys)
+passed-first true x y ys same p = inl same
+passed-first false x y ys same p = absurd (never p)
+
+passed-further : {V : Type 0} (b : Bool) (x y : V) (ys : List V) → IsIn x ys → IsIn x (cond b (y ∷ ys) ys)
+passed-further true x y ys i = inr i
+passed-further false x y ys i = i
+
+pub in-passed : {V : Type 0} (test : V → Bool) (x : V) (xs : List V) → IsIn x xs → test x ≡ true → IsIn x (filter test xs)
+in-passed test x [] i e = absurd i
+in-passed test x (y ∷ xs) (inl same) e = passed-first (test y) x y (filter test xs) same (subst (λ z. test z ≡ true) same e)
+in-passed test x (y ∷ xs) (inr i) e = passed-further (test y) x y (filter test xs) (in-passed test x xs i e)
+
+from-one : {V : Type 0} (test : V → Bool) (b : Bool) (x y : V) (ys xs : List V) → test y ≡ b → IsIn x (cond b (y ∷ ys) ys) →
+    (IsIn x ys → IsIn x xs × (test x ≡ true)) → IsIn x (y ∷ xs) × (test x ≡ true)
+from-one test true x y ys xs e (inl same) f = (inl same, subst (λ z. test z ≡ true) (sym same) e)
+from-one test true x y ys xs e (inr i) f = (inr (f i).0, (f i).1)
+from-one test false x y ys xs e i f = (inr (f i).0, (f i).1)
+
+pub from-passed : {V : Type 0} (test : V → Bool) (x : V) (xs : List V) → IsIn x (filter test xs) → IsIn x xs × (test x ≡ true)
+from-passed test x [] i = absurd i
+from-passed test x (y ∷ xs) i = from-one test (test y) x y (filter test xs) xs refl i (from-passed test x xs)
+
+-- ---- the member of a list that has one alone
+
+-- what was found before what is left
+abbrev pub found_before : Option ParameterParts → List ParameterParts → List ParameterParts
+found_before None left = left
+found_before (Some x) left = x ∷ left
+
+pub other_name : (name : List ℕ) (x : ParameterParts) (xs : List ParameterParts) → bytes_eq x.name name ≡ false →
+    of_name name (x ∷ xs) ≡ of_name name xs
+other_name name x xs e = ap (λ t. cond t (x ∷ of_name name xs) (of_name name xs)) e
+
+pub this_name : (name : List ℕ) (x : ParameterParts) (xs : List ParameterParts) → bytes_eq x.name name ≡ true →
+    of_name name (x ∷ xs) ≡ x ∷ of_name name xs
+this_name name x xs e = ap (λ t. cond t (x ∷ of_name name xs) (of_name name xs)) e
+
+some-one : {V : Type 0} (x y : V) → Some y ≡ Some x → y ≡ x
+some-one x y e = cc
+
+no-one : {V : Type 0} (x : V) → None ≡ Some x → ⊥
+no-one x e = cc
+
+only-in : {V : Type 0} (zs : List V) (x z : V) → only zs ≡ Some x → IsIn z zs → z ≡ x
+only-in [] x z e i = absurd i
+only-in (y ∷ []) x z e (inl same) = same ∙ some-one x y e
+only-in (y ∷ []) x z e (inr i) = absurd i
+only-in (y ∷ w ∷ zs) x z e i = absurd (no-one x e)
+
+only-is : {V : Type 0} (zs : List V) (x : V) → only zs ≡ Some x → IsIn x zs
+only-is [] x e = absurd (no-one x e)
+only-is (y ∷ []) x e = inl (sym (some-one x y e))
+only-is (y ∷ w ∷ zs) x e = absurd (no-one x e)
+
+where-few : {V : Type 0} (b : Bool) (o : Option V) (x : V) → (if b then o else None) ≡ Some x → o ≡ Some x
+where-few true o x e = e
+where-few false o x e = absurd (no-one x e)
+
+once-only : (name : List ℕ) (xs : List ParameterParts) (x : ParameterParts) → named_once name xs ≡ Some x → only (of_name name xs) ≡ Some x
+once-only name xs x e = where-few (nat_le (length xs) 64) (only (of_name name xs)) x e
+
+-- the parameter of a name that stands once is each of this name
+pub is-once : (xs : List ParameterParts) (x z : ParameterParts) → named_once z.name xs ≡ Some x → IsIn z xs → z ≡ x
+is-once xs x z e i =
+    only-in (of_name z.name xs) x z (once-only z.name xs x e)
+    (in-passed (λ p. bytes_eq p.name z.name) z xs i ((bytes_eq-Decides z.name z.name).1 refl))
+
+-- it is one of them, and has the name
+pub of-once : (name : List ℕ) (xs : List ParameterParts) (x : ParameterParts) → named_once name xs ≡ Some x → IsIn x xs × (x.name ≡ name)
+of-once name xs x e =
+    let found = from-passed (λ p. bytes_eq p.name name) x xs (only-is (of_name name xs) x (once-only name xs x e)) in
+    (found.0, (bytes_eq-Decides x.name name).0 found.1)
+
+pub both-some : {V : Type 0} (p q : Option V) → (is_some p && is_some q) ≡ true → (x : V) × (y : V) × (p ≡ Some x) × (q ≡ Some y)
+both-some (Some x) (Some y) e = (x, y, refl, refl)
+both-some (Some x) None e = absurd (never e)
+both-some None q e = absurd (never e)
+
+-- ---- names
+
+name-in : (x : ParameterParts) (xs : List ParameterParts) → IsIn x xs → IsIn x.name (map (λ z. z.name) xs)
+name-in x [] i = absurd i
+name-in x (y ∷ xs) (inl e) = inl (ap (λ z. z.name) e)
+name-in x (y ∷ xs) (inr i) = inr (name-in x xs i)
+
+named-by : (name : List ℕ) (xs : List ParameterParts) → IsIn name (map (λ z. z.name) xs) → (x : ParameterParts) × IsIn x xs × (x.name ≡ name)
+named-by name [] i = absurd i
+named-by name (x ∷ xs) (inl e) = (x, inl refl, sym e)
+named-by name (x ∷ xs) (inr i) = let (z, is, e) = named-by name xs i in (z, inr is, e)
+
+-- the names that are found are those that are paired
+paired-in : (xs ys : List ParameterParts) (name : List ℕ) → IsIn name (names_paired xs ys) ↔ (is_paired xs ys name ≡ true)
+paired-in xs ys name = (
+  λ i.
+      let (x, is, e) = named-by name (filter (λ x. is_paired xs ys x.name) xs) i in
+      subst (λ n. is_paired xs ys n ≡ true) e (from-passed (λ x. is_paired xs ys x.name) x xs is).1,
+  λ p.
+      let (x, y, e, f) = both-some (named_once name xs) (named_once name ys) p in
+      let (is, same) = of-once name xs x e in
+      let passes : is_paired xs ys x.name ≡ true = subst (λ n. is_paired xs ys n ≡ true) (sym same) p in
+      subst (λ n. IsIn n (names_paired xs ys)) same
+      (name-in x (filter (λ z. is_paired xs ys z.name) xs) (in-passed (λ z. is_paired xs ys z.name) x xs is passes)),
+)
+
+pub names-known : (xs ys : List ParameterParts) (before after : List (List ℕ)) → before ≡ [] →
+    ((texts : List (List ℕ)) → Ascends (λ text. text) (in_order (λ text. text) texts)) →
+    ((texts : List (List ℕ)) (text : List ℕ) → IsIn text (in_order (λ text. text) texts) ↔ IsIn text texts) →
+    after ≡ put_all (λ b. b) before (names_paired xs ys) → ArePairedNames xs ys after
+names-known xs ys before after none ascend members e =
+    let texts : List (List ℕ) = names_paired xs ys in
+    let is : after ≡ in_order (λ text. text) texts = e ∙ ap (λ start. put_all (λ b. b) start texts) none in
+    record {
+      ascend = subst (λ names. Ascends (λ name. name) names) (sym is) (ascend texts);
+      same = λ name.
+          let in-texts : IsIn name after ↔ IsIn name texts = subst (λ names. IsIn name names ↔ IsIn name texts) (sym is) (members texts name) in
+          let paired = paired-in xs ys name in
+          (λ i. paired.0 (in-texts.0 i), λ p. in-texts.1 (paired.1 p));
+    }
+
+-- ---- the spellings of those that pass a test
+
+module _ {V : Type 0} (text : V → List ℕ) (test : V → Bool) (x : V) (left further : List V) (before after all : List (List ℕ))
+    (here : left ≡ x ∷ further) (is : put_all (λ b. b) before (map text (filter test left)) ≡ all) where
+  told : (b : Bool) → test x ≡ b →
+      put_all (λ b. b) before (map text (filter test left)) ≡ put_all (λ b. b) before (map text (cond b (x ∷ filter test further) (filter test further)))
+  told b e =
+      ap (λ zs. put_all (λ b. b) before (map text (filter test zs))) here
+      ∙ ap (λ t. put_all (λ b. b) before (map text (cond t (x ∷ filter test further) (filter test further)))) e
+
+  pub put-in : test x ≡ true → after ≡ put (λ b. b) (text x) before → put_all (λ b. b) after (map text (filter test further)) ≡ all
+  put-in e f = ap (λ keys. put_all (λ b. b) keys (map text (filter test further))) f ∙ sym (told true e) ∙ is
+
+  pub left-out : test x ≡ false → after ≡ before → put_all (λ b. b) after (map text (filter test further)) ≡ all
+  left-out e f = ap (λ keys. put_all (λ b. b) keys (map text (filter test further))) f ∙ sym (told false e) ∙ is
+
+module _ {V : Type 0} (IsSpelling : V → List ℕ → Type 0) (text : V → List ℕ) where
+  passed : (test : Bool) (x : V) (xs : List V) → IsOnlySpelling (IsSpelling x) (text x) →
+      AreSpellingsOf IsSpelling xs (map text xs) →
+      AreSpellingsOf IsSpelling (cond test (x ∷ xs) xs) (map text (cond test (x ∷ xs) xs))
+  passed true x xs one all = (one, all)
+  passed false x xs one all = all
+
+  pub spelled-passed : (test : V → Bool) (xs : List V) → AreSpellingsOf IsSpelling xs (map text xs) →
+      AreSpellingsOf IsSpelling (filter test xs) (map text (filter test xs))
+  spelled-passed test [] all = tt
+  spelled-passed test (x ∷ xs) all = passed (test x) x (filter test xs) all.0 (spelled-passed test xs all.1)
