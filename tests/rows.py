@@ -61,6 +61,8 @@ SECONDS = 600
 SECONDS_IN_TURN = 60
 ESCAPE = re.compile(rb"\\(?:x([0-9a-f]{2})|\{([^}]*)\}|(.))")
 PLAIN = {b"n": b"\n", b"r": b"\r", b"t": b"\t", b"\\": b"\\"}
+# A line that tells a difference: its path, in which the name of a member may have any characters, and both values.
+TOLD = re.compile(rb'^([^:\[\n]*(?:\["(?:[^"\n]|"")*"\][^:\n]*)?): (.*) \| (.*)$', re.MULTILINE)
 FLAGS = set(b"exchanged input-by-lines input-in-turn input-unreadable output-any output-full output-closed".split())
 FLAGS |= {b"error-none", b"no-growth"}
 OTHER_SIDE = {b"first": b"second", b"second": b"first"}
@@ -198,7 +200,7 @@ def text_of(text: bytes, names: Dict[bytes, bytes]) -> bytes:
 def exchanged(output: bytes) -> bytes:
     """What is said of two texts, as it is said of the second and the first."""
     output = re.sub(rb"\A(first|second)(?= refused )", lambda match: OTHER_SIDE[match[1]], output)
-    return re.sub(rb"^(.*?: )(.*) \| (.*)$", rb"\1\3 | \2", output, flags=re.MULTILINE)
+    return TOLD.sub(rb"\1: \3 | \2", output)
 
 
 def read_cases(path: pathlib.Path) -> Iterator[Case]:

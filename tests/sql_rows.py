@@ -76,7 +76,9 @@ def of_case(case: rows.Case, is_blob: bool, dialect: Dialect) -> Iterator[Statem
         parts = f"crs_differences({both})"
         first = "" if path == "same" else path
         call = dialect.number(dialect.is_none(parts))
-        yield case.place, f"SELECT {call}, {dialect.part(parts, 'path', 0)};", f"{is_same}|{first}"
+        # The name of a member may follow the path of the first part.
+        begun = f"substr({dialect.part(parts, 'path', 0)}, 1, {len(first)})"
+        yield case.place, f"SELECT {call}, {begun};", f"{is_same}|{first}"
         if refusal:
             which, _, rest = refusal.partition(" ")
             yield case.place, f"SELECT crs_refusal({texts[which == 'second']});", rest
@@ -93,10 +95,10 @@ def of_parts(case: rows.Case, parts: str, dialect: Dialect) -> Iterator[Statemen
     """All parts in which two texts differ, each but for one whose values have escapes or separators."""
     lines = [it for it in (case.output or b"").splitlines() if it != b"same"]
     for index, line in enumerate(lines):
-        path, _, rest = line.partition(b": ")
-        values = rest.split(b" | ")
-        if b"\\" in rest or len(values) != 2:
+        told = rows.TOLD.fullmatch(line)
+        if told is None or b"\\" in line or line.count(b" | ") != 1:
             continue
+        path, *values = told.groups()
         hexes = ", ".join(dialect.hex(dialect.part(parts, key, index)) for key in ("first", "second"))
         wanted = [b"" if it == b"none" else it for it in values]
         asked = f"SELECT {dialect.part(parts, 'path', index)}, {hexes};"

@@ -70,7 +70,7 @@ def lines_of(told: Dict[str, Any]) -> str:
         return "same\n"
     if "path" in told:
         mark = MARK if "same_by_rules" in told else ""
-        return f"{mark}{told['path']}: {shown(told['first'])} | {shown(told['second'])}\n"
+        return f"{mark}{shown(told['path'])}: {shown(told['first'])} | {shown(told['second'])}\n"
     return refusal(told)
 
 

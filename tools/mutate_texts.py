@@ -43,7 +43,7 @@ from mutations import MOST_BYTES, Mutator
 ROOT = pathlib.Path(__file__).resolve().parent.parent
 LEVELS = FULL, DEFINITION = range(2)
 NUMBERS = {*range(1, 9), *range(11, 14), *range(21, 30)}
-PATH = re.compile("[a-z0-9/]+")
+PATH = re.compile(r'[a-z0-9/]+(?:\["(?:[^"]|"")*"\](?:/unit|/id)?)?')
 LEFT_OUT = "id", "usage", "remark"
 # The texts of a round, and how many of those that are accepted are respelled.
 MADE = 16
@@ -158,7 +158,7 @@ class Asker:
         parts, exchanged = (self.parts(*it) for it in (there, back))
         hold("whether nothing differs", not parts, is_same)
         hold("differences in the other order", exchanged, [(path, two, one) for path, one, two in parts])
-        path = parts[0][0] if parts else ""
+        path = parts[0][0].partition("[")[0] if parts else ""
         hold("first_part in both orders", [self.calls.first_part(*it) for it in (there, back)], [path] * 2)
         return is_same, [it[0] for it in parts]
 

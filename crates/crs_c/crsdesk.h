@@ -153,9 +153,16 @@ uint32_t crsdesk_first_part(const char *first, size_t first_length, const char *
 
        datum/ellipsoid/flattening: 298.257223563 | 298.257222101
 
-   A missing value is written `none`; for a set each side has the members that the other lacks. Values are spelled as in the
-   canonical text; control characters, ends of lines, marks of direction and backslashes in quoted texts are escaped, as
-   `\n`, `\x1B`, `\u202E` and `\\`. No lines exactly where the CRSs are the same.
+   A missing value is written `none`; for a set each side has the members that the other lacks. Of the parameters of a
+   conversion those whose name stands once in each text, among at most 64, have a line for their number, unit and
+   identifiers, where these differ, with the name behind the path of the set, in brackets and as the text has it:
+
+       conversion/parameters["False northing"]: 5467000 | 5647000
+       conversion/parameters["Scale factor"]/unit: SCALEUNIT["unity",1] | none
+
+   The line of the set, if others differ, comes after these. Values are spelled as in the canonical text; control
+   characters, ends of lines, marks of direction and backslashes in quoted texts and in names are escaped, as `\n`, `\x1B`,
+   `\u202E` and `\\`. No lines exactly where the CRSs are the same.
 
    CRSDESK_OK: each text spells a CRS; the buffer begins with the lines, *length is their number of bytes.
    CRSDESK_REFUSED: the first spells none; *refusal says why. The second wasn't judged.
@@ -177,7 +184,7 @@ uint32_t crsdesk_differences(const char *first, size_t first_length, const char 
    CRSDESK_NO_MEMORY. */
 uint32_t crsdesk_explain(const char *text, size_t text_length, char *out, size_t room, size_t *length);
 
-/* The parts of crsdesk_differences as PIECES, three for each part: its path, its value in the first and its value in the
+/* The lines of crsdesk_differences as PIECES, three for each: its path, its value in the first and its value in the
    second. Nothing is escaped, and a missing value has no bytes. No pieces exactly where the CRSs are the same.
 
    CRSDESK_OK: each text spells a CRS; the buffers begin with the pieces.

@@ -272,6 +272,9 @@ static uint32_t under(const struct trial *it, struct places *to)
     return code;
 }
 
+#define PROJECTED(parameters)                                                                                              \
+    "PROJCRS[\"U\",BASEGEOGCRS[\"B\",DATUM[\"D\",ELLIPSOID[\"E\",1,0]]],CONVERSION[\"c\",METHOD[\"m\"]," parameters                 \
+    "],CS[Cartesian,2],AXIS[\"(E)\",east],AXIS[\"(N)\",north],LENGTHUNIT[\"metre\",1]]"
 #define NAMES "SAME[VDATUM[\"D\"],VDATUM[\"E\"]]"
 
 static const struct trial trials[] = {
@@ -290,6 +293,8 @@ static const struct trial trials[] = {
     {"first_part, the second refused", first_part, GEOGRAPHIC, VERTICAL},
     {"differences", differences, GEOGRAPHIC, VERTICAL "]"},
     {"differences, a set", differences, VERTICAL ",ID[\"X\",1],REMARK[\"a\\\\\nb\"]]", VERTICAL ",ID[\"X\",2]]"},
+    {"differences, parameters", differences, PROJECTED("PARAMETER[\"a\",1],PARAMETER[\"b\",2,ID[\"X\",1]]"),
+     PROJECTED("PARAMETER[\"a\",3,LENGTHUNIT[\"metre\",1]],PARAMETER[\"c\",2]")},
     {"differences, the same", differences, GEOGRAPHIC, GEOGRAPHIC},
     {"differences, the second refused", differences, GEOGRAPHIC, VERTICAL},
     {"difference_pieces", difference_pieces, GEOGRAPHIC, VERTICAL "]"},

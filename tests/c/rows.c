@@ -541,7 +541,7 @@ static void answer_canon(const struct bytes *text, uint32_t level, struct answer
 }
 
 /* The lines of all parts begin with the first part's path, and each line ends; there are none where the path has no
-   words. The code and the refusal are those of first_part. */
+   words. The name of a member may follow the path. The code and the refusal are those of first_part. */
 static void all_parts(const struct asked *given, uint32_t code, const struct bytes *path,
                       const struct crsdesk_refusal *told, struct answer *answer)
 {
@@ -555,7 +555,8 @@ static void all_parts(const struct asked *given, uint32_t code, const struct byt
         wrong(answer, "differences and first_part don't agree that there are any");
     if (path->length > 0 && lines.length > 0
         && (lines.length < path->length + 2 || memcmp(lines.at, path->at, path->length) != 0
-            || memcmp(lines.at + path->length, ": ", 2) != 0 || lines.at[lines.length - 1] != '\n'))
+            || (memcmp(lines.at + path->length, ": ", 2) != 0 && memcmp(lines.at + path->length, "[\"", 2) != 0)
+            || lines.at[lines.length - 1] != '\n'))
         wrong(answer, "the first of all parts isn't the first part");
     in_pieces(&asked, code, told, &lines, answer);
     without_level(asked, answer);

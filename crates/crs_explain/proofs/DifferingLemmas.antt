@@ -1,14 +1,136 @@
 -- The texts of parts that differ, one after the other.
-use Rattle.std.proofs.Common.{◌≡◌, ◌++◌, ◌∷◌, [], List, refl, ap, ◌∙◌, append_assoc}
+use Rattle.std.proofs.Common.{◌≡◌, ◌↔◌, ◌⊎◌, ◌++◌, ◌∷◌, [], ℕ, Bool, IsTrue, false, true≢false, List, Option, Some, None, inl, inr, refl, sym, subst, ap, ◌∙◌, append_assoc, append-nil}
+use Rattle.crs_value.specs.ConversionValues.{ParameterParts}
 use Rattle.crs_value.specs.declared.values.level.Level.{Level}
-use Rattle.crs_same.specs.Parts.{DifferenceParts}
-use Rattle.crs_explain.specs.Differing.{AreTexts, AreTextsOf, PartTexts}
+use Rattle.crs_same.specs.Parts.{DifferenceParts, Parts, part, ◌⨾◌}
+use Rattle.crs_same.specs.Paths.{further_text}
+use Rattle.crs_same.specs.declared.content.Content.{Content}
+use Rattle.crs_same.specs.declared.content.Content.TheVariants as content
+use Rattle.crs_same.specs.declared.step.Step.{Step}
+use Rattle.crs_canon.specs.Named.{ArePairedNames, unpaired}
+use Rattle.crs_explain.specs.Appended.{AppendsTexts}
+use Rattle.crs_explain.specs.Differing.{AreTextsOf}
+use Rattle.crs_explain.specs.DifferingSets.{AreTextsBehind, AreTextsOfName, AreTextsOfNames, AreTextsOfOthers, AreTextsOfParts, AreTextsOfSet, parameter_path, parts_of_parameter, unless_empty}
+use Rattle.crs_explain.specs.DifferingTexts.{AreTextsAt, AreTextsOfOne, PartTexts}
 
--- the texts of one part in front of others
-pub more-texts : (level : Level) (part : DifferenceParts) (parts all : List DifferenceParts) (one : PartTexts) (rest old begun new : List PartTexts) →
-    AreTextsOf level part one → AreTexts level parts rest → new ≡ begun ++ one ∷ [] →
-    ((after : List PartTexts) → AreTexts level (part ∷ parts) after → (texts : List PartTexts) × AreTexts level all texts × (begun ++ after ≡ old ++ texts)) →
-    (texts : List PartTexts) × AreTexts level all texts × (new ++ rest ≡ old ++ texts)
-more-texts level part parts all one rest old begun new is are e before =
-    let (texts, all_are, same) = before (one ∷ rest) (one, rest, refl, is, are) in
-    (texts, all_are, ap (λ z. z ++ rest) e ∙ append_assoc begun (one ∷ []) rest ∙ same)
+-- some more texts in front of others
+pub more : (Are : List PartTexts → Type 0) (these rest old begun new : List PartTexts) → new ≡ begun ++ these →
+    ((texts : List PartTexts) × Are texts × (begun ++ (these ++ rest) ≡ old ++ texts)) →
+    (texts : List PartTexts) × Are texts × (new ++ rest ≡ old ++ texts)
+more Are these rest old begun new e (texts, are, same) =
+    (texts, are, ap (λ z. z ++ rest) e ∙ append_assoc begun these rest ∙ same)
+
+-- a test that says no
+pub untrue : (test : Bool) (P : Type 0) → test ≡ false → (IsTrue test ↔ P) → P → ⊥
+untrue test P e tells p = true≢false (sym (tells.1 p) ∙ e)
+
+-- ---- the texts of a part
+
+-- of what is no set of parameters
+of-one : (level : Level) (path : List ℕ) (first second : Content) (texts : List PartTexts) →
+    ((xs ys : List ParameterParts) → first ≡ content.Parameters xs ys → ⊥) → AreTextsOfOne level path first second texts →
+    AreTextsOf level path first second texts
+of-one level path content.Nothing second texts other is = is
+of-one level path (content.Word word) second texts other is = is
+of-one level path (content.Text text) second texts other is = is
+of-one level path (content.Number value) second texts other is = is
+of-one level path (content.Unit asked unit) second texts other is = is
+of-one level path content.Metre second texts other is = is
+of-one level path (content.Meridian meridian) second texts other is = is
+of-one level path (content.Model model) second texts other is = is
+of-one level path (content.Identifiers xs ys) second texts other is = is
+of-one level path (content.Usages xs ys) second texts other is = is
+of-one level path (content.Members xs ys) second texts other is = is
+of-one level path (content.Parameters xs ys) second texts other is = absurd (other xs ys refl)
+of-one level path (content.GeoidModels xs ys) second texts other is = is
+
+pub appends-one : (level : Level) (path : List ℕ) (first second : Content) (old new : List PartTexts) →
+    ((xs ys : List ParameterParts) → first ≡ content.Parameters xs ys → ⊥) →
+    AppendsTexts (AreTextsOfOne level path first second) old new → AppendsTexts (AreTextsOf level path first second) old new
+appends-one level path first second old new other (texts, is, e) = (texts, of-one level path first second texts other is, e)
+
+-- ---- the parts of a parameter
+
+module _ (level : Level) (front : List ℕ) where
+  behind : (these others : List DifferenceParts) (texts more : List PartTexts) → AreTextsBehind level front these texts →
+      AreTextsBehind level front others more → AreTextsBehind level front (these ++ others) (texts ++ more)
+  behind [] others texts more e are = subst (AreTextsBehind level front others) (sym (ap (λ t. t ++ more) e)) are
+  behind (d ∷ these) others texts more (one, rest, e, is, are) too =
+      (one, rest ++ more, ap (λ t. t ++ more) e, is, behind these others rest more are too)
+
+  -- some parts, and then others
+  pub both : (these others : Parts) (old between new : List PartTexts) → AppendsTexts (AreTextsOfParts level front these) old between →
+      AppendsTexts (AreTextsOfParts level front others) between new → AppendsTexts (AreTextsOfParts level front (these ⨾ others)) old new
+  both these others old between new (texts, (found, differ, are), e) (more, (further, differ_too, are_too), f) = (
+    texts ++ more,
+    (found ++ further, (found, further, refl, differ, differ_too), behind found further texts more are are_too),
+    f ∙ ap (λ z. z ++ more) e ∙ append_assoc old texts more,
+  )
+
+  -- a part that is the same
+  pub untold : (path : List Step) (Same : Type 0) (first second : Content) (old : List PartTexts) → Same →
+      AppendsTexts (AreTextsOfParts level front (part path Same first second)) old old
+  untold path Same first second old same = ([], ([], same, refl), sym (append-nil old))
+
+  -- the part at the front itself, which differs
+  pub told-here : (Same : Type 0) (first second : Content) (old new : List PartTexts) → ¬ Same →
+      AppendsTexts (AreTextsOfOne level front first second) old new →
+      AppendsTexts (AreTextsOfParts level front (part [] Same first second)) old new
+  told-here Same first second old new differs (texts, (one, is, are), e) = (
+    texts,
+    (
+      record { path = []; first = first; second = second } ∷ [],
+      (differs, refl, refl),
+      (one, [], is, subst (λ p. AreTextsAt level p first second one) (sym (append-nil front)) are, refl),
+    ),
+    e,
+  )
+
+  -- a part that differs
+  pub told : (path : List Step) (Same : Type 0) (first second : Content) (old new : List PartTexts) (at : List ℕ) (one : PartTexts) → ¬ Same →
+      at ≡ front ++ further_text path → AreTextsAt level at first second one → new ≡ old ++ one ∷ [] →
+      AppendsTexts (AreTextsOfParts level front (part path Same first second)) old new
+  told path Same first second old new at one differs here is e = (
+    one ∷ [],
+    (
+      record { path = path; first = first; second = second } ∷ [],
+      (differs, refl, refl),
+      (one, [], refl, subst (λ p. AreTextsAt level p first second one) here is, refl),
+    ),
+    e,
+  )
+
+-- ---- a set of parameters
+
+module _ (level : Level) (path : List ℕ) where
+  -- a name that stands once on either side
+  pub paired : (name : List ℕ) (p q : Option ParameterParts) (x y : ParameterParts) (old new : List PartTexts) → p ≡ Some x → q ≡ Some y →
+      AppendsTexts (AreTextsOfParts level (parameter_path path name) (parts_of_parameter level x y)) old new →
+      AppendsTexts (AreTextsOfName level path name p q) old new
+  paired name p q x y old new e f it =
+      subst (λ o. AppendsTexts (AreTextsOfName level path name o q) old new) (sym e)
+      (subst (λ o. AppendsTexts (AreTextsOfName level path name (Some x) o) old new) (sym f) it)
+
+  -- another name
+  pub alone : (name : List ℕ) (p q : Option ParameterParts) (old : List PartTexts) → (p ≡ None) ⊎ (q ≡ None) →
+      AppendsTexts (AreTextsOfName level path name p q) old old
+  alone name None q old none = ([], refl, sym (append-nil old))
+  alone name (Some x) None old none = ([], refl, sym (append-nil old))
+  alone name (Some x) (Some y) old (inl none) = absurd (cc)
+  alone name (Some x) (Some y) old (inr none) = absurd (cc)
+
+  -- what is left of a set
+  pub others : (xs ys : List ParameterParts) (one : PartTexts) (old new : List PartTexts) →
+      AreTextsAt level path (content.Parameters (unpaired xs ys) (unpaired ys xs)) (content.Parameters (unpaired ys xs) (unpaired xs ys)) one →
+      new ≡ old ++ unless_empty one → AppendsTexts (AreTextsOfOthers level path xs ys) old new
+  others xs ys one old new is e = (unless_empty one, (one, refl, is), e)
+
+  -- a set
+  pub set : (xs ys : List ParameterParts) (names : List (List ℕ)) (old between new : List PartTexts) → ArePairedNames xs ys names →
+      AppendsTexts (AreTextsOfNames level path xs ys names) old between → AppendsTexts (AreTextsOfOthers level path xs ys) between new →
+      AppendsTexts (AreTextsOfSet level path xs ys) old new
+  set xs ys names old between new are_names (these, told, e) (rest, left, f) = (
+    these ++ rest,
+    (names, these, rest, are_names, told, left, refl),
+    f ∙ ap (λ z. z ++ rest) e ∙ append_assoc old these rest,
+  )

@@ -1,5 +1,5 @@
 -- The parts that differ in an order of their own, by words of their paths.
-use Rattle.std.specs.Prelude.{◌≡◌, ◌==◌, ◌&&◌, ◌||◌, [], ◌∷◌, ℕ, List, Bool, false, true, nat_lt, not, take}
+use Rattle.std.specs.Prelude.{◌≡◌, ◌==◌, ◌&&◌, ◌||◌, [], ◌∷◌, ℕ, List, Bool, false, true, if◌then◌else◌, nat_lt, not, take}
 use Rattle.std.specs.List.{flat_map, prefix_len}
 use Rattle.std.specs.List.Sorted.{IsNonDecreasingBy, IsPermutation, IsStableByKey}
 use Rattle.std.specs.Ordering.{nat_cmp}
@@ -9,23 +9,34 @@ use Rattle.crs_value.specs.declared.values.level.Level.{Level}
 use Rattle.crs_explain.specs.Differing.{AreDifferenceTexts, PartTexts, difference_line}
 use Rattle.crs_explain.specs.Json.{difference_object}
 
--- a byte of a word: a slash and the digits of an axis's position are below the letters
+-- a byte of a word: slashes, the digits of an axis's position and the bracket before a name are below
+-- its letters
 abbrev pub is_of_word : ℕ → Bool
-is_of_word b = nat_lt 57 b
+is_of_word b = nat_lt 91 b
 
 -- the word with which some bytes of a path begin
 abbrev pub word_at : List ℕ → List ℕ
 word_at path = take (prefix_len is_of_word path) path
 
--- whether a step of a path has this word, where a step begins or goes on
-abbrev pub has_step_from : Bool → List ℕ → List ℕ → Bool
-has_step_from begins word [] = false
-has_step_from begins word (b ∷ path) =
-    (begins && bytes_eq (word_at (b ∷ path)) word) || has_step_from (b == 47) word path
+-- whether a step begins behind this byte: a slash outside of names
+abbrev pub begins_behind : Bool → ℕ → Bool
+begins_behind is_quoted b = not is_quoted && b == 47
+
+-- whether a name goes on behind this byte: in it quotes are doubled
+abbrev pub is_quoted_behind : Bool → ℕ → Bool
+is_quoted_behind is_quoted b = if b == 34 then not is_quoted else is_quoted
+
+-- whether a step of a path has this word, where a step begins or goes on, and a name of a member does
+-- or doesn't
+abbrev pub has_step_from : (begins is_quoted : Bool) → List ℕ → List ℕ → Bool
+has_step_from begins is_quoted word [] = false
+has_step_from begins is_quoted word (b ∷ path) =
+    (begins && bytes_eq (word_at (b ∷ path)) word)
+    || has_step_from (begins_behind is_quoted b) (is_quoted_behind is_quoted b) word path
 
 -- whether no step of a path has this word
 abbrev pub lacks : List ℕ → List ℕ → Bool
-lacks path word = not (has_step_from true word path)
+lacks path word = not (has_step_from true false word path)
 
 -- how many words come before the first that a step to this part has; all, where it has none
 abbrev pub rank : List (List ℕ) → PartTexts → ℕ

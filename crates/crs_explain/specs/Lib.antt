@@ -1,6 +1,9 @@
+pub mod Appended
 pub mod Around
 pub mod Cut
 pub mod Differing
+pub mod DifferingSets
+pub mod DifferingTexts
 pub mod Expectation
 pub mod Expected
 pub mod ExpectedAxes

@@ -1,17 +1,21 @@
 //! All parts in which two CRSs differ, each as three texts.
-ghost use Rattle.std.specs.Prelude.{◌≡◌, ◌++◌, List, IfOk, OnOk};
+ghost use Rattle.std.specs.Prelude.{IfOk, OnOk};
+ghost use Rattle.crs_same.specs.Paths.{path_text};
 ghost use Rattle.crs_canon.specs.ContentText.{IsContentText};
-ghost use Rattle.crs_explain.specs.Differing.{AreDifferenceTexts, AreTexts, AreTextsOf, PartTexts};
+ghost use Rattle.crs_explain.specs.Appended.{AppendsTexts};
+ghost use Rattle.crs_explain.specs.Differing.{AreDifferenceTexts, AreTexts, AreTextsOf};
+ghost use Rattle.crs_explain.specs.DifferingTexts.{AreTextsAt, AreTextsOfOne};
 ghost use Rattle.crs_explain.specs.InOrder.{AreOrderedTexts};
 
 use crate::order::{StepWord, put_in_order};
+use crate::set_texts::append_set;
 use crs_canon::write_content;
 use crs_same::{Content, Difference, differences};
 use crs_value::{Crs, Level};
 use std::alloc::{AllocError, Global};
 use std::marker::Model;
 
-/// A part in which two CRSs differ: its path, and its value in the first and in the second as the canonical text writes
+/// What differs between two CRSs: its path, and its value in the first and in the second as the canonical text writes
 /// it, no bytes where there is nothing. Profile.
 #[derive(Drop)]
 pub(crate) struct DifferenceTexts {
@@ -21,7 +25,7 @@ pub(crate) struct DifferenceTexts {
 }
 
 impl Model for DifferenceTexts {
-    ghost use Rattle.crs_explain.specs.Differing.{PartTexts};
+    ghost use Rattle.crs_explain.specs.DifferingTexts.{PartTexts};
 
     ghost Value = { PartTexts };
 
@@ -74,27 +78,83 @@ fn append_texts(
     differences: &[Difference<'_, '_>],
     out: &mut Vec<DifferenceTexts>,
 ) -> Result<(), AllocError>
-    ensures { OnOk result ((texts : List PartTexts) × AreTexts level differences.now texts
-        × (out.new.items ≡ out.old.items ++ texts)) }
+    ensures { OnOk result (AppendsTexts (AreTexts level differences.now) out.old.items out.new.items) }
 {
     for difference in differences {
-        let texts = texts_of_part(alloc, level, difference)?;
-        out.push(texts)?;
+        append_part(alloc, level, difference, out)?;
     }
     Ok(())
 }
 
-fn texts_of_part(
+fn append_part(
     alloc: Global,
     level: Level,
     difference: &Difference<'_, '_>,
-) -> Result<DifferenceTexts, AllocError>
-    ensures { IfOk result (AreTextsOf level difference.now) }
+    out: &mut Vec<DifferenceTexts>,
+) -> Result<(), AllocError>
+    ensures { OnOk result (AppendsTexts
+        (AreTextsOf level (path_text difference.now.path) difference.now.first difference.now.second)
+        out.old.items out.new.items) }
 {
     let mut path = Vec::new(alloc);
     difference.path().write(&mut path)?;
-    let first = content_text(alloc, level, difference.first())?;
-    let second = content_text(alloc, level, difference.second())?;
+    append_at(
+        alloc,
+        level,
+        &path,
+        difference.first(),
+        difference.second(),
+        out,
+    )
+}
+
+fn append_at(
+    alloc: Global,
+    level: Level,
+    path: &[u8],
+    first: &Content<'_, '_>,
+    second: &Content<'_, '_>,
+    out: &mut Vec<DifferenceTexts>,
+) -> Result<(), AllocError>
+    ensures { OnOk result (AppendsTexts (AreTextsOf level path.now first.now second.now) out.old.items out.new.items) }
+{
+    match first {
+        Content::Parameters(these, others) => {
+            append_set(alloc, level, path, these.as_slice(), others.as_slice(), out)
+        }
+        _ => append_one(alloc, level, path, first, second, out),
+    }
+}
+
+/// Appends the texts of what is at this path and has these values.
+pub(crate) fn append_one(
+    alloc: Global,
+    level: Level,
+    path: &[u8],
+    first: &Content<'_, '_>,
+    second: &Content<'_, '_>,
+    out: &mut Vec<DifferenceTexts>,
+) -> Result<(), AllocError>
+    ensures { OnOk result (AppendsTexts (AreTextsOfOne level path.now first.now second.now)
+        out.old.items out.new.items) }
+{
+    let one = texts_at(alloc, level, path, first, second)?;
+    out.push(one)?;
+    Ok(())
+}
+
+fn texts_at(
+    alloc: Global,
+    level: Level,
+    path: &[u8],
+    first: &Content<'_, '_>,
+    second: &Content<'_, '_>,
+) -> Result<DifferenceTexts, AllocError>
+    ensures { IfOk result (AreTextsAt level path.now first.now second.now) }
+{
+    let path = Vec::from_slice(alloc, path)?;
+    let first = content_text(alloc, level, first)?;
+    let second = content_text(alloc, level, second)?;
     Ok(DifferenceTexts {
         path,
         first,

@@ -15,7 +15,9 @@ use std::alloc::{AllocError, Global};
 /// they are the same. A line is `PATH: FIRST | SECOND` and a line feed: the values of the first CRS and of the second
 /// as the canonical text writes them, for a set the members that the other CRS lacks, `none` where that is nothing;
 /// control characters, ends of lines, marks of direction and backslashes are escaped, as `\n`, `\x1B`, `\u202E` and
-/// `\\`. Profile.
+/// `\\`. Of parameters those whose name stands once on either side, among at most 64, are told by themselves, in order of
+/// the names, by the number at `conversion/parameters["NAME"]`, the unit at `/unit` and the identifiers at `/id` behind
+/// that, each where it differs; then comes the line of the others. Profile.
 ///
 /// `AllocError`: there is no memory for it.
 pub fn differences_text<'a>(
@@ -51,8 +53,8 @@ pub fn ordered_differences_text<'a>(
     Ok(lines)
 }
 
-/// As data: three texts for each part in which two CRSs differ at a level, in the order of the canonical text, its path,
-/// and the values of the first CRS and of the second, with nothing escaped and no bytes where there is no value. Profile.
+/// The same as data: three texts for each line, its path, and the values of the first CRS and of the second, with
+/// nothing escaped and no bytes where there is no value. Profile.
 ///
 /// `AllocError`: there is no memory for it.
 pub fn difference_pieces<'a>(
@@ -81,7 +83,7 @@ fn append_lines(differences: &[DifferenceTexts], out: &mut Vec<u8>) -> Result<()
 fn append_line(difference: &DifferenceTexts, out: &mut Vec<u8>) -> Result<(), AllocError>
     ensures { OnOk result (out.new.items ≡ out.old.items ++ difference_line difference.now) }
 {
-    out.extend_from_slice(&difference.path)?;
+    append_escaped(&difference.path, out)?;
     out.extend_from_slice(b": ")?;
     append_value(&difference.first, out)?;
     out.extend_from_slice(b" | ")?;

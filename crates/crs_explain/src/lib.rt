@@ -24,6 +24,7 @@ mod place;
 mod printed;
 mod refusal;
 mod sentences;
+mod set_texts;
 mod units;
 mod unknown_word;
 

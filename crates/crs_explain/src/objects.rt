@@ -42,10 +42,10 @@ pub fn refusal_object(
     Ok(object)
 }
 
-/// An object of JSON and a line feed for each part in which two CRSs differ at a level; none exactly where they are the
-/// same: its path, and the values of the first and of the second, `null` for what has none. First come those whose path
-/// has the first of some words, then those whose path has the next, and so on, then the others; those of one word are in
-/// the order of the canonical text. Profile.
+/// An object of JSON and a line feed for each line of `differences_text`; none exactly where the CRSs are the same: its
+/// path, and the values of the first and of the second, `null` for what has none. First come those whose path has the
+/// first of some words, then those whose path has the next, and so on, then the others; those of one word are in the
+/// order of `differences_text`. Profile.
 ///
 /// `AllocError`: there is no memory for it.
 pub fn difference_objects<'a>(

@@ -1,8 +1,9 @@
 //! The order in which parts that differ are told: first those that a user names by words of their paths.
-ghost use Rattle.std.specs.Prelude.{◌≡◌, ◌&&◌, ◌≤◌, IfOk, OnOk, length, true};
+ghost use Rattle.std.specs.Prelude.{◌≡◌, ◌&&◌, ◌≤◌, IfOk, OnOk, false, length, true};
 ghost use Rattle.std.specs.List.{prefix_len};
 ghost use Rattle.std.specs.Str.{bytes_eq};
-ghost use Rattle.crs_explain.specs.InOrder.{AreInOrder, has_step_from, is_of_word, lacks, rank, word_at};
+ghost use Rattle.crs_explain.specs.InOrder.{AreInOrder, begins_behind, has_step_from, is_of_word};
+ghost use Rattle.crs_explain.specs.InOrder.{is_quoted_behind, lacks, rank, word_at};
 
 use crate::difference_texts::DifferenceTexts;
 use std::alloc::{AllocError, Global};
@@ -67,18 +68,35 @@ fn lacks(path: &[u8], word: &StepWord) -> bool
 }
 
 fn has_step(path: &[u8], word: &[u8]) -> bool
-    ensures { result ≡ has_step_from true word.now path.now }
+    ensures { result ≡ has_step_from true false word.now path.now }
 {
     let mut begins = true;
+    let mut is_quoted = false;
     let mut left = path;
     while let [byte, rest @ ..] = left {
         if is_here(begins, left, word) {
             return true;
         }
-        begins = *byte == b'/';
+        begins = begins_behind(is_quoted, *byte);
+        is_quoted = is_quoted_behind(is_quoted, *byte);
         left = rest;
     }
     false
+}
+
+fn begins_behind(is_quoted: bool, byte: u8) -> bool
+    ensures { result ≡ begins_behind is_quoted byte }
+{
+    !is_quoted && byte == b'/'
+}
+
+fn is_quoted_behind(is_quoted: bool, byte: u8) -> bool
+    ensures { result ≡ is_quoted_behind is_quoted byte }
+{
+    if byte == b'"' {
+        return !is_quoted;
+    }
+    is_quoted
 }
 
 // Whether a step begins here, and has this word.
@@ -104,5 +122,5 @@ fn word_length(path: &[u8]) -> usize
 fn is_of_word(byte: u8) -> bool
     ensures { result ≡ is_of_word byte }
 {
-    byte > b'9'
+    byte > b'['
 }

@@ -206,7 +206,8 @@ def differences(first: Text, second: Text, level: Level = "full", rules: Optiona
     """All parts in which the CRSs of two texts differ, in their order; none where they are the same. Under rules they
     are those of their forms.
 
-    The first is that of ``difference``. Raises as ``same`` does.
+    The path of the first begins with that of ``difference``, which a parameter's name may follow. Raises as ``same``
+    does.
     """
     number = number_of(level)
     pieces = _library.difference_pieces(*compared(first, second, number, rules), number)

@@ -14,7 +14,9 @@ NOTHING = "none"
 class Difference:
     """A part in which two CRSs differ.
 
-    ``path``    its steps, such as ``datum/ellipsoid/flattening``; the words are those of docs/SAMENESS.md
+    ``path``    its steps, such as ``datum/ellipsoid/flattening``; the words are those of docs/SAMENESS.md. The number of
+                a parameter is at ``conversion/parameters["False easting"]``, its unit and identifiers are at ``/unit``
+                and ``/id`` behind that; the name is as the text has it, a quote in it doubled
     ``first``   its value in the first CRS as the canonical text writes it; for a set the members that the second CRS's
                 lacks, joined by commas; None where the first has nothing there
     ``second``  the same of the second CRS
@@ -28,7 +30,7 @@ class Difference:
     second: Optional[str]
 
     def __str__(self) -> str:
-        return f"{self.path}: {escaped(self.first or NOTHING)} | {escaped(self.second or NOTHING)}"
+        return f"{escaped(self.path)}: {escaped(self.first or NOTHING)} | {escaped(self.second or NOTHING)}"
 
 
 def differences_of(pieces: Sequence[str]) -> List[Difference]:

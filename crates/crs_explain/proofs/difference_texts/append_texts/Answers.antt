@@ -1,7 +1,7 @@
-use Rattle.std.proofs.Common.{◌≡◌, ◌∷◌, ◌+◌, [], arith, drop, refl, subst, sym, ◌∙◌, append-nil}
+use Rattle.std.proofs.Common.{◌≡◌, ◌∷◌, ◌++◌, ◌+◌, [], arith, drop, refl, subst, sym, ◌∙◌, append-nil}
 use Rattle.std.proofs.lemmas.Grind.{common_steps}
 use Rattle.crs_explain.specs.Differing.{AreTexts}
-use Rattle.crs_explain.proofs.DifferingLemmas.{more-texts}
+use Rattle.crs_explain.proofs.DifferingLemmas.{more}
 use Rattle.crs_explain.proofs.difference_texts.append_texts.Goals as goal
 
 pub loop-difference-preserved : goal.loop-difference-preserved
@@ -10,9 +10,9 @@ loop-difference-preserved c rest are =
     let all = c.args.differences.now in
     let further = drop (c.loop-difference.difference-index + 1) all in
     let here : drop c.loop-difference.difference-index all ≡ c.difference-item.result ∷ further = grind (arith, common_steps, c.difference-item.is, c.loop-difference-test.true) in
-    more-texts level c.difference-item.result further all c.in_ok-texts.texts rest c.args.out.now.items c.loop-difference.out.items c.push.new.self.items
-    c.in_ok-texts.ensures are (grind (arith, common_steps, c.in_ok-push.ensures.items))
-    (λ after all_are. c.loop-difference.invariant after (subst (λ parts. AreTexts level parts after) (sym here) all_are))
+    let (these, is, new) = c.in_ok-append_part.ensures in
+    more (AreTexts level all) these rest c.args.out.now.items c.loop-difference.out.items c.append_part.new.out.items new
+    (c.loop-difference.invariant (these ++ rest) (subst (λ parts. AreTexts level parts (these ++ rest)) (sym here) (these, rest, refl, is, are)))
 
 pub returns : goal.returns
 returns c =

@@ -1,0 +1,15 @@
+use Rattle.std.proofs.Common.{◌≡◌, ◌∙◌, IfOk, ap, subst}
+use Rattle.crs_value.specs.Kept.{kept}
+use Rattle.crs_same.specs.declared.content.Content.TheVariants as content
+use Rattle.crs_canon.specs.ContentText.{IsContentText}
+use Rattle.crs_explain.proofs.set_texts.identifiers_text.Goals as goal
+
+pub returns : goal.returns
+returns c =
+    let level = c.args.level in
+    let result = c.lacking_text.result in
+    let these : c.kept-these.result.now ≡ kept level c.args.these.now = c.kept-these.ensures ∙ ap (kept level) c.as_slice.ensures in
+    let others : c.kept-others.result.now ≡ kept level c.args.others.now = c.kept-others.ensures ∙ ap (kept level) c.as_slice-2.ensures in
+    subst (λ xs. IfOk result (λ text. IsContentText level (content.Identifiers xs (kept level c.args.others.now)) text.items)) these
+    (subst (λ ys. IfOk result (λ text. IsContentText level (content.Identifiers c.kept-these.result.now ys) text.items)) others
+    c.lacking_text.ensures)

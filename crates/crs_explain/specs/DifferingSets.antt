@@ -1,0 +1,76 @@
+-- How a set of parameters that differs is told: of each name that stands once on either side what
+-- differs in its parameter, and then the other parameters that one side lacks.
+use Rattle.std.specs.Prelude.{◌≡◌, ◌++◌, ◌∷◌, [], ℕ, Bool, true, false, if◌then◌else◌, List, Option, Some}
+use Rattle.std.specs.Prelude.{codes}
+use Rattle.crs_shape.specs.declared.unit_kind.UnitKind.TheVariants as kinds
+use Rattle.crs_value.specs.ConversionValues.{ParameterParts}
+use Rattle.crs_value.specs.declared.values.level.Level.{Level}
+use Rattle.crs_same.specs.declared.content.Content.TheVariants as content
+use Rattle.crs_same.specs.declared.step.Step.TheVariants as step
+use Rattle.crs_same.specs.Parts.{◌⨾◌, DifferenceParts, Differences, Parts}
+use Rattle.crs_same.specs.Paths.{further_text}
+use Rattle.crs_same.specs.SingleParts.{identifiers, numbers, units}
+use Rattle.crs_canon.specs.Named.{ArePairedNames, named_once, unpaired}
+use Rattle.crs_explain.specs.DifferingTexts.{AreTextsAt, PartTexts}
+
+-- the parts of two parameters of one name: number, unit, identifiers; `UNIT` is a kind of its own
+abbrev pub parts_of_parameter : Level → ParameterParts → ParameterParts → Parts
+parts_of_parameter level x y =
+    numbers [] x.value y.value
+    ⨾ units (step.Unit ∷ []) level kinds.Plain kinds.Plain x.unit y.unit
+    ⨾ identifiers (step.Id ∷ []) level x.identifiers y.identifiers
+
+-- the path to a parameter: that to its set, and its name in brackets
+abbrev pub parameter_path : List ℕ → List ℕ → List ℕ
+parameter_path path name = path ++ codes "[\"" ++ name ++ codes "\"]"
+
+-- the texts of these parts of a parameter, in order, each at its path behind that of the parameter
+abbrev pub AreTextsBehind : Level → List ℕ → List DifferenceParts → List PartTexts → Type 0
+AreTextsBehind level front [] texts = texts ≡ []
+AreTextsBehind level front (part ∷ parts) texts =
+    (one : PartTexts) × (others : List PartTexts) × (texts ≡ one ∷ others)
+    × AreTextsAt level (front ++ further_text part.path) part.first part.second one
+    × AreTextsBehind level front parts others
+
+-- the texts of those of these parts that differ
+abbrev pub AreTextsOfParts : Level → List ℕ → Parts → List PartTexts → Type 0
+AreTextsOfParts level front parts texts =
+    (found : List DifferenceParts) × Differences parts found × AreTextsBehind level front found texts
+
+-- the texts of what differs in the parameter of a name that stands once on either side
+abbrev pub AreTextsOfName : Level → List ℕ → List ℕ → (x y : Option ParameterParts) → List PartTexts → Type 0
+AreTextsOfName level path name (Some x) (Some y) texts =
+    AreTextsOfParts level (parameter_path path name) (parts_of_parameter level x y) texts
+AreTextsOfName level path name x y texts = texts ≡ []
+
+-- the texts of each of these names, in order
+abbrev pub AreTextsOfNames : Level → List ℕ → (xs ys : List ParameterParts) → List (List ℕ) → List PartTexts →
+    Type 0
+AreTextsOfNames level path xs ys [] texts = texts ≡ []
+AreTextsOfNames level path xs ys (name ∷ names) texts =
+    (these : List PartTexts) × (others : List PartTexts) × (texts ≡ these ++ others)
+    × AreTextsOfName level path name (named_once name xs) (named_once name ys) these
+    × AreTextsOfNames level path xs ys names others
+
+-- whether neither has bytes
+abbrev pub are_empty : (first second : List ℕ) → Bool
+are_empty [] [] = true
+are_empty first second = false
+
+-- texts of which one side at least has a value
+abbrev pub unless_empty : PartTexts → List PartTexts
+unless_empty texts = if are_empty texts.first texts.second then [] else texts ∷ []
+
+-- the texts of the other parameters, of which each side has those that the other lacks
+abbrev pub AreTextsOfOthers : Level → List ℕ → (xs ys : List ParameterParts) → List PartTexts → Type 0
+AreTextsOfOthers level path xs ys texts =
+    (one : PartTexts) × (texts ≡ unless_empty one)
+    × AreTextsAt level path (content.Parameters (unpaired xs ys) (unpaired ys xs))
+    (content.Parameters (unpaired ys xs) (unpaired xs ys)) one
+
+-- the texts of a set of parameters
+abbrev pub AreTextsOfSet : Level → List ℕ → (xs ys : List ParameterParts) → List PartTexts → Type 0
+AreTextsOfSet level path xs ys texts =
+    (names : List (List ℕ)) × (these : List PartTexts) × (others : List PartTexts)
+    × ArePairedNames xs ys names × AreTextsOfNames level path xs ys names these
+    × AreTextsOfOthers level path xs ys others × (texts ≡ these ++ others)
