@@ -1,5 +1,5 @@
 -- What is appended as a text is appended as a spelling, where the text is one.
-use Rattle.std.proofs.Common.{◌≡◌, ◌++◌, ◌∙◌, [], ℕ, List, MatchResult, OnOk, Ok, Err, Result, ap, if◌then◌else◌}
+use Rattle.std.proofs.Common.{◌≡◌, ◌++◌, ◌∙◌, [], ℕ, List, MatchResult, Ok, Err, Result, ap, if◌then◌else◌}
 use Rattle.std.specs.Result.{is_ok}
 use Rattle.crs_writer.specs.Canonical.{AppendsSpelling}
 
@@ -8,10 +8,6 @@ pub appended : {T E : Type 0} (IsSpelling : List ℕ → Type 0) (before after t
     MatchResult r (λ _. AppendsSpelling IsSpelling before after) (λ _. after ≡ before)
 appended IsSpelling before after text (Ok x) e is = record { spelling = text; appended = e; is_spelling = is }
 appended IsSpelling before after text (Err x) e is = e
-
-pub ok-weaker : {T E : Type 0} (P Q : Type 0) (r : Result T E) → OnOk r P → (P → Q) → OnOk r Q
-ok-weaker P Q (Ok x) p f = f p
-ok-weaker P Q (Err x) p f = tt
 
 pub by-result : {T E : Type 0} (r : Result T E) (after done before : List ℕ) →
     after ≡ (if is_ok r then done else before) → MatchResult r (λ _. after ≡ done) (λ _. after ≡ before)

@@ -2,12 +2,11 @@
 ghost use Rattle.std.specs.Prelude.{◌≡◌, [], IfOk};
 ghost use Rattle.crs_writer.specs.Canonical.{IsCanonicalText};
 
-use crate::canonical::Spell;
 use crs_value::laws::crs_is_sound;
 use crs_value::{Crs, Level};
 use crs_writer::Canon;
 use crs_writer::laws::crss_are_canonical;
-use crs_writer::pieces::canon_from;
+use crs_writer::pieces::{Spell, canon_from};
 use std::alloc::{AllocError, Global};
 
 // The room that is taken at first for the text of a CRS whose source isn't known.

@@ -1,24 +1,12 @@
 //! Nodes that are compared and written by themselves.
-ghost use Rattle.std.specs.Prelude.{◌≡◌, ◌↔◌, ◌++◌, ◌∷◌, ℕ, IsTrue, List, MatchResult, OnOk};
+ghost use Rattle.std.specs.Prelude.{◌≡◌, ◌↔◌, ℕ, IsTrue, List, MatchResult};
 ghost use Rattle.crs_value.specs.declared.values.level.Level.{Level};
 ghost use Rattle.crs_normal.specs.CanonicalForm.{IsCanonicalForm};
 ghost use Rattle.crs_writer.specs.Canonical.{AppendsSpelling};
 
 use crs_value::Level;
-use crs_writer::pieces::append;
+use crs_writer::pieces::Spell;
 use std::alloc::{AllocError, Global};
-
-/// A value whose spelling is appended piece by piece. This crate alone has such values.
-pub trait Spell: Sized {
-    /// The spelling of a value.
-    ghost spelling: { Level → Self → List ℕ };
-
-    /// Appends the spelling of the value.
-    ///
-    /// `AllocError`: there is no memory for it, and nothing is said of `out`.
-    fn spell(&self, out: &mut Vec<u8>, level: Level) -> Result<(), AllocError>
-        ensures { OnOk result (out.new.items ≡ out.old.items ++ spelling level self.now) };
-}
 
 /// A node of a CRS, or a CRS, that is compared and written by itself, at a level: an identifier or a usage alike at
 /// every level, a unit or an axis with `UNIT` as a kind of its own, and an axis with the order and unit that it
@@ -59,16 +47,4 @@ pub trait Canonical: Spell {
         ensures value { IsValue self.now }
         ensures form { (level : Level) → IsCanonicalForm IsValue (Same level) (IsSpelling level) }
         ensures written { (level : Level) (value : Self) → IsValue value → IsSpelling level value (Self.spelling level value) };
-}
-
-// A comma, and a node.
-pub(crate) fn write_part<T: Spell>(
-    out: &mut Vec<u8>,
-    node: &T,
-    level: Level,
-) -> Result<(), AllocError>
-    ensures { OnOk result (out.new.items ≡ out.old.items ++ 44 ∷ T.spelling level node.now) }
-{
-    append(out, b",")?;
-    node.spell(out, level)
 }

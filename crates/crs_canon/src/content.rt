@@ -9,14 +9,12 @@ ghost use Rattle.crs_writer.specs.Members.{ArePut, spellings};
 
 use crate::canonical::Canonical;
 use crate::lacking::{append_lacking, append_lacking_members};
-use crate::set::{gather, gather_all};
 use crate::set_view::are_spelled;
-use crate::spelling::unit::write_unit;
 use crs_decimal::Decimal;
 use crs_normal::laws::{parts, sets};
 use crs_same::{Content, Usages};
-use crs_value::{Level, Unit, UnitKind};
-use crs_writer::pieces::open_text;
+use crs_value::{Level, Unit, UnitKind, Usage};
+use crs_writer::pieces::{gather, gather_all, open_text, write_bare_unit};
 use std::alloc::{AllocError, Global};
 use std::collections::BTreeSet;
 
@@ -65,15 +63,15 @@ pub fn append_unit(
     let _name = unit.name;
     parts::units_are_canonical();
     let mut text = Vec::new(alloc);
-    write_unit(&mut text, asked, unit, level)?;
+    write_bare_unit(&mut text, asked, unit, level)?;
     out.extend_from_slice(text.as_slice())
 }
 
 // Puts the spellings of usages among the others.
-fn gather_usages(
+fn gather_usages<'a>(
     alloc: Global,
     sorted: &mut BTreeSet<Vec<u8>>,
-    usages: &Usages<'_, '_>,
+    usages: &Usages<'_, 'a>,
     level: Level,
 ) -> Result<(), AllocError>
     ensures { OnOk result (ArePut (IsSpelledUsage level) usages.now
@@ -82,11 +80,11 @@ fn gather_usages(
     let (bare, others) = usages.parts();
     are_spelled(others);
     match bare {
-        None => gather_all(alloc, sorted, others, level),
+        None => gather_all::<Usage<'a>, &[Usage<'a>]>(alloc, sorted, others, level),
         Some(usage) => {
             usage.laws();
-            gather(alloc, sorted, usage, level)?;
-            gather_all(alloc, sorted, others, level)
+            gather::<Usage<'a>, &Usage<'a>>(alloc, sorted, &usage, level)?;
+            gather_all::<Usage<'a>, &[Usage<'a>]>(alloc, sorted, others, level)
         }
     }
 }

@@ -6,11 +6,10 @@ ghost use Rattle.crs_writer.specs.Members.{lacking, spellings};
 ghost use Rattle.crs_writer.specs.SetText.{commas, comma_separated};
 
 use crate::canonical::Canonical;
-use crate::set::gather_all;
 use crate::set_view::{append_members, are_spelled};
 use crs_normal::laws::sets;
 use crs_value::Level;
-use crs_writer::pieces::append;
+use crs_writer::pieces::{append, gather_all};
 use std::alloc::{AllocError, Global};
 use std::collections::BTreeSet;
 
@@ -65,8 +64,8 @@ pub fn append_lacking_members<T: Canonical>(
     are_spelled(these);
     are_spelled(others);
     let mut sorted = BTreeSet::new(alloc);
-    gather_all(alloc, &mut sorted, these, level)?;
+    gather_all::<T, &[T]>(alloc, &mut sorted, these, level)?;
     let mut other = BTreeSet::new(alloc);
-    gather_all(alloc, &mut other, others, level)?;
+    gather_all::<T, &[T]>(alloc, &mut other, others, level)?;
     append_lacking(alloc, out, &sorted, &other)
 }

@@ -7,7 +7,6 @@ mod content;
 mod lacking;
 pub mod laws;
 mod named;
-mod set;
 mod set_view;
 mod spelling;
 

@@ -11,10 +11,10 @@ ghost use Rattle.crs_canon.specs.Named.{ArePairedNames, is_paired, named_once, o
 ghost use Rattle.crs_canon.specs.PairedNames.{names_paired};
 
 use crate::lacking::append_lacking;
-use crate::set::gather;
 use crate::set_view::are_spelled;
 use crs_normal::laws::sets;
 use crs_value::{Level, Parameter};
+use crs_writer::pieces::gather;
 use std::alloc::{AllocError, Global};
 use std::collections::BTreeSet;
 
@@ -101,6 +101,19 @@ fn is_unpaired<'a>(these: &[Parameter<'a>], others: &[Parameter<'a>], name: &[u8
     !is_paired(these, others, name)
 }
 
+// Puts a parameter's spelling among the others.
+fn gather_parameter<'a>(
+    alloc: Global,
+    sorted: &mut BTreeSet<Vec<u8>>,
+    member: &Parameter<'a>,
+    level: Level,
+) -> Result<(), AllocError>
+    ensures { OnOk result (spellings sorted.new.keys
+        ≡ put (λ b. b) (parameter_text level member.now) (spellings sorted.old.keys)) }
+{
+    gather::<Parameter<'a>, &Parameter<'a>>(alloc, sorted, &member, level)
+}
+
 // Adds the spellings of those whose names aren't paired.
 fn gather_unpaired<'a>(
     alloc: Global,
@@ -114,7 +127,7 @@ fn gather_unpaired<'a>(
 {
     for member in these {
         if is_unpaired(these, others, member.name) {
-            gather(alloc, sorted, member, level)?;
+            gather_parameter(alloc, sorted, member, level)?;
         }
     }
     Ok(())

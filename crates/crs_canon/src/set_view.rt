@@ -9,9 +9,9 @@ ghost use Rattle.crs_writer.specs.Members.{AppendsAll, AreSpellingsOf};
 ghost use Rattle.crs_writer.specs.SetText.{HaveOneTextWhereSame, IsSetText, commas, comma_separated};
 
 use crate::canonical::Canonical;
-use crate::set::write_set;
 use crs_normal::laws::sets;
 use crs_value::Level;
+use crs_writer::pieces::write_set;
 use std::alloc::{AllocError, Global};
 use std::marker::Model;
 
@@ -146,6 +146,6 @@ fn append_set<T: Canonical>(
 {
     are_spelled(members);
     let mut text = Vec::new(alloc);
-    write_set(&mut text, members, level)?;
+    write_set::<T, &[T]>(&mut text, &members, level)?;
     append_members(out, text.as_slice())
 }

@@ -1,15 +1,12 @@
-//! Writers: each appends the text of the one form of a value to `out`. Out of memory, nothing is promised of `out`;
-//! the public calls cut it back.
+//! The nodes of a CRS, and CRSs, as nodes that are compared and written by themselves.
 
-pub(crate) mod axis;
-pub(crate) mod conversion;
-pub(crate) mod crs;
-pub(crate) mod dynamic;
-pub(crate) mod ellipsoid;
-pub(crate) mod frame;
-pub(crate) mod ident;
-pub(crate) mod meridian;
-pub(crate) mod system;
-pub(crate) mod tail;
-pub(crate) mod unit;
-pub(crate) mod usage;
+mod axis;
+mod conversion;
+mod crs;
+mod dynamic;
+mod ellipsoid;
+mod frame;
+mod ident;
+mod meridian;
+mod unit;
+mod usage;

@@ -1,17 +1,13 @@
 -- Nodes of which no argument is a node: nothing is read from nodes in them.
-use Rattle.std.proofs.Common.{◌≡◌, ℕ, ◌-◌, ◌≤◌, false, if◌then◌else◌, List, [], ◌∷◌, ◌++◌, Option, Some, None, codes, refl, sym, ap, subst, ◌∙◌, arith}
-use Rattle.std.proofs.lemmas.List.{append-nil}
+use Rattle.std.proofs.Common.{◌≡◌, ◌-◌, ◌≤◌, false, if◌then◌else◌, [], ◌∷◌, refl, ap, ◌∙◌, arith}
 use denote.Enum.Bare.{sameb}
 use Rattle.crs_text.specs.Items.{Item, Siblings, leaf, node, End, More, arguments, count, size_of, sizes}
 use Rattle.crs_text.specs.Tokens.{Kind, number, text, word}
-use Rattle.crs_text.specs.Written.{others_text}
 use Rattle.crs_shape.specs.ShapeFault.{class_of_kind}
 use Rattle.crs_shape.specs.contracts.class.Class.{the_type}
 use Rattle.crs_shape.specs.declared.class.Class.{Class}
 use Rattle.crs_shape.specs.declared.class.Class.TheVariants as class
-use Rattle.crs_value.specs.Reading.{those, ReadsIfAny, ReadsOptional}
-use Rattle.crs_value.specs.Reads.{ReadsTextOf}
-use Rattle.crs_normal.specs.SpelledItems.{opt, text_node}
+use Rattle.crs_value.specs.Reading.{those}
 use Rattle.crs_writer.specs.Direct.{AreLeaves}
 
 some-size : (item : Item) → 1 ≤ size_of item
@@ -46,26 +42,12 @@ identifier-nodes number = refl
 identifier-nodes text = refl
 identifier-nodes word = refl
 
-citation-nodes : IsOfNodes class.Citation
+pub citation-nodes : IsOfNodes class.Citation
 citation-nodes number = refl
 citation-nodes text = refl
 citation-nodes word = refl
 
-uri-nodes : IsOfNodes class.Uri
+pub uri-nodes : IsOfNodes class.Uri
 uri-nodes number = refl
 uri-nodes text = refl
 uri-nodes word = refl
-
-none-read : {V : Type 0} (R : Item → V → Type 0) (items : List Item) (value : Option V) → items ≡ [] → ReadsOptional R items value → value ≡ None
-none-read R items None e h = refl
-none-read {V = V} R items (Some v) e h = let P : List Item → Type 0 = λ xs. ReadsOptional R xs (Some v) in absurd (subst P e h)
-
-pub no-references : (c : Class) (item : Item) (old : List ℕ) (citation uri : Option (List ℕ)) → AreLeaves (arguments item) →
-    ReadsIfAny ReadsTextOf class.Citation c item citation → ReadsIfAny ReadsTextOf class.Uri c item uri →
-    old ≡ old ++ others_text (opt (text_node (codes "CITATION")) citation (opt (text_node (codes "URI")) uri End))
-no-references c item old citation uri leaves rc ru =
-    let ec : citation ≡ None = none-read (ReadsTextOf class.Citation) _ citation (none-among c class.Citation (arguments item) citation-nodes leaves) rc in
-    let eu : uri ≡ None = none-read (ReadsTextOf class.Uri) _ uri (none-among c class.Uri (arguments item) uri-nodes leaves) ru in
-    sym (append-nil old)
-    ∙ ap (λ u. old ++ others_text (opt (text_node (codes "CITATION")) None (opt (text_node (codes "URI")) u End))) (sym eu)
-    ∙ ap (λ o. old ++ others_text (opt (text_node (codes "CITATION")) o (opt (text_node (codes "URI")) uri End))) (sym ec)

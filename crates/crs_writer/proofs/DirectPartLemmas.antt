@@ -1,29 +1,26 @@
--- What is written of parts that may be missing, of one of several classes, or that a level doesn't keep.
+-- What is written of sets that have no members, of an ensemble in the place of a frame, or where a level doesn't keep a part.
 use Rattle.std.proofs.Common.{◌≡◌, ℕ, List, [], ◌∷◌, ◌++◌, Option, Some, None, true, false, IsSome, inl, inr, map, refl, sym, ap, subst, ◌∙◌}
 use Rattle.std.proofs.lemmas.List.{append-nil}
 use Rattle.crs_text.specs.Items.{Item, End, arguments}
 use Rattle.crs_text.specs.Written.{item_text, others_text}
 use Rattle.crs_shape.specs.declared.class.Class.{Class}
 use Rattle.crs_shape.specs.declared.class.Class.TheVariants as class
-use Rattle.crs_shape.specs.declared.unit_kind.UnitKind.TheVariants as kinds
 use Rattle.crs_value.specs.Kept.{kept, kept_one}
-use Rattle.crs_value.specs.Reading.{those, ReadsElse, ReadsFirst, ReadsOne, ReadsOptional}
-use Rattle.crs_value.specs.Reads.{LacksUsage, ReadsBare, ReadsBox, ReadsEnsemble, ReadsExtent, ReadsTextOf, ReadsUnit, ReadsUsage}
-use Rattle.crs_value.specs.ReadsConversion.{ReadsAsUnit, ReadsUnitOf}
+use Rattle.crs_value.specs.Reading.{those, ReadsEach, ReadsElse, ReadsFirst, ReadsOne, ReadsOptional}
+use Rattle.crs_value.specs.Reads.{LacksUsage, ReadsBare, ReadsBox, ReadsEnsemble, ReadsExtent, ReadsTextOf, ReadsUsage}
 use Rattle.crs_value.specs.ReadsCrs.{ReadsAsDatum, ReadsAsEnsemble, ReadsFrame}
-use Rattle.crs_value.specs.Values.{IdentParts, SaysSome, UnitParts, UsageParts}
+use Rattle.crs_value.specs.Values.{IdentParts, SaysSome, UsageParts}
 use Rattle.crs_value.specs.declared.values.frame.Frame.{Frame}
 use Rattle.crs_value.specs.declared.values.frame.Frame.TheVariants as frame
 use Rattle.crs_value.specs.declared.values.level.Level.{Level}
 use Rattle.crs_value.specs.declared.values.level.Level.TheVariants as levels
 use Rattle.crs_matching.specs.SameUsages.{with_bare}
 use Rattle.crs_normal.specs.SpelledFrames.{item_ensemble, item_frame, norm_ensemble, norm_frame}
-use Rattle.crs_normal.specs.SpelledItems.{each, opt}
-use Rattle.crs_normal.specs.SpelledUnits.{item_ident, item_unit, norm_unit, norm_units, set_idents}
+use Rattle.crs_normal.specs.SpelledItems.{each}
+use Rattle.crs_normal.specs.SpelledUnits.{item_ident, set_idents}
 use Rattle.crs_normal.specs.SpelledUsages.{item_usage, norm_usage, set_usages}
 use Rattle.crs_writer.specs.Direct.{Writes}
 use Rattle.crs_writer.specs.Members.{set_text}
-use Rattle.crs_writer.proofs.DirectSetLemmas.{empty-text}
 use Rattle.crs_writer.proofs.WrittenLemmas.{idents-written, usages-written}
 
 -- the same text in other words
@@ -37,25 +34,21 @@ untold R f old e = record {
   writes = λ value r. sym (append-nil old) ∙ ap (λ (x : List ℕ). old ++ x) (sym (e value r));
 }
 
--- ---- parts that may be missing
+-- ---- sets of no members
 
-optional-found : {A V : Type 0} (R : Item → V → Type 0) (spell : A → Item) (norm : Option V → Option A) (one : V → A) (items rest : List Item) (item : Item)
-    (old new : List ℕ) → ((value : V) → norm (Some value) ≡ Some (one value)) → items ≡ item ∷ rest →
-    Writes (R item) (λ v. 44 ∷ item_text (spell (one v))) old new → (value : Option V) → ReadsOptional R items value →
-    new ≡ old ++ others_text (opt spell (norm value) End)
-optional-found {V = V} R spell norm one items rest item old new n e w None h =
-    let P : List Item → Type 0 = λ xs. ReadsOptional R xs None in absurd (subst P e h)
-optional-found {V = V} R spell norm one items rest item old new n e w (Some v) h =
-    let P : List Item → Type 0 = λ xs. ReadsOptional R xs (Some v) in
-    w.writes v (subst P e h) ∙ ap (λ (x : List ℕ). old ++ 44 ∷ x) (sym (append-nil (item_text (spell (one v)))))
-    ∙ ap (λ o. old ++ others_text (opt spell o End)) (sym (n v))
+none-read : {V : Type 0} (R : Item → V → Type 0) (items : List Item) (values : List V) → items ≡ [] → ReadsEach R items values → values ≡ []
+none-read R items [] e h = refl
+none-read {V = V} R items (v ∷ vs) e h =
+    let P : List Item → Type 0 = λ xs. ReadsEach R xs (v ∷ vs) in absurd (subst P e h)
 
-pub found-written : {A V : Type 0} (R : Item → V → Type 0) (spell : A → Item) (norm : Option V → Option A) (one : V → A) (items rest : List Item) (item : Item)
-    (old new : List ℕ) → ((value : V) → norm (Some value) ≡ Some (one value)) → items ≡ item ∷ rest →
-    Writes (R item) (λ v. 44 ∷ item_text (spell (one v))) old new →
-    Writes (ReadsOptional R items) (λ value. others_text (opt spell (norm value) End)) old new
-found-written R spell norm one items rest item old new n e w =
-    record { writes = optional-found R spell norm one items rest item old new n e w }
+empty-text : set_text [] ≡ []
+unfolding set_text
+empty-text = refl
+
+pub none-written : {V : Type 0} (R : Item → V → Type 0) (spell : V → List ℕ) (items : List Item) (old : List ℕ) → items ≡ [] →
+    Writes (ReadsEach R items) (λ values. set_text (map spell values)) old old
+none-written R spell items old e =
+    untold (ReadsEach R items) _ old (λ values h. ap (λ vs. set_text (map spell vs)) (none-read R items values e h) ∙ empty-text)
 
 -- ---- identifiers and usages that a level keeps
 
@@ -104,41 +97,11 @@ pub without-bare : (c : Class) (item : Item) (old new : List ℕ) (bare : Option
 without-bare c item old new bare usages lacks h e =
     e ∙ ap (λ b. old ++ usages_text b usages) (sym (lacking-none c item bare lacks h))
 
--- ---- the unit of one of several classes
-
-found-unit : (d : Class) (found : Item) (level : Level) (old new : List ℕ) (unit : Option UnitParts) →
-    Writes (ReadsUnit d found) (λ u. 44 ∷ item_text (item_unit (norm_unit level kinds.Plain u))) old new → ReadsAsUnit d found unit →
-    new ≡ old ++ others_text (opt item_unit (norm_units level kinds.Plain unit) End)
-found-unit d found level old new None w h = absurd h
-found-unit d found level old new (Some u) w h =
-    w.writes u h ∙ ap (λ (x : List ℕ). old ++ 44 ∷ x) (sym (append-nil (item_text (item_unit (norm_unit level kinds.Plain u)))))
-
-pub unit-found : (d : Class) (ds : List Class) (c : Class) (item found : Item) (rest : List Item) (level : Level) (old new : List ℕ) →
-    those c d (arguments item) ≡ found ∷ rest →
-    Writes (ReadsUnit d found) (λ u. 44 ∷ item_text (item_unit (norm_unit level kinds.Plain u))) old new →
-    Writes (ReadsUnitOf (d ∷ ds) c item) (λ u. others_text (opt item_unit (norm_units level kinds.Plain u) End)) old new
-unit-found d ds c item found rest level old new e w = record {
-  writes = λ unit h.
-      let P : List Item → Type 0 = λ xs. ReadsElse (ReadsAsUnit d) xs (ReadsUnitOf ds c item) unit in
-      found-unit d found level old new unit w (subst P e h);
-}
-
-pub unit-passed : (d : Class) (ds : List Class) (c : Class) (item : Item) (f : Option UnitParts → List ℕ) (old new : List ℕ) →
-    those c d (arguments item) ≡ [] → Writes (ReadsUnitOf ds c item) f old new → Writes (ReadsUnitOf (d ∷ ds) c item) f old new
-unit-passed d ds c item f old new e w = record {
-  writes = λ unit h.
-      let P : List Item → Type 0 = λ xs. ReadsElse (ReadsAsUnit d) xs (ReadsUnitOf ds c item) unit in
-      w.writes unit (subst P e h);
-}
-
-no-unit : (level : Level) (c : Class) (item : Item) (unit : Option UnitParts) → ReadsUnitOf [] c item unit →
-    others_text (opt item_unit (norm_units level kinds.Plain unit) End) ≡ []
-no-unit level c item None h = refl
-no-unit level c item (Some u) h = absurd h
-
-pub unit-none : (level : Level) (c : Class) (item : Item) (old : List ℕ) →
-    Writes (ReadsUnitOf [] c item) (λ u. others_text (opt item_unit (norm_units level kinds.Plain u) End)) old old
-unit-none level c item old = untold (ReadsUnitOf [] c item) _ old (no-unit level c item)
+-- where a part is bare there is a bare usage
+pub with-some : (c : Class) (item : Item) (old new : List ℕ) (bare : Option UsageParts) (usages : List UsageParts) → ¬ (LacksUsage c item) →
+    ReadsBare c item bare → ((u : UsageParts) → ReadsUsage c item u → new ≡ old ++ usages_text (Some u) usages) → new ≡ old ++ usages_text bare usages
+with-some c item old new None usages some lacks w = absurd (some lacks)
+with-some c item old new (Some u) usages some (reads, says) w = w u reads
 
 -- ---- an ensemble in the place of a frame
 

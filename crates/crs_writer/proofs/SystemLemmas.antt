@@ -1,11 +1,17 @@
 -- Axes as they are looked up and written.
-use Rattle.std.proofs.Common.{◌≡◌, ℕ, suc, ◌+◌, List, [], ◌∷◌, ◌++◌, Option, Some, None, refl, sym, ap, ◌∙◌, subst, append_assoc}
-use Rattle.crs_text.specs.Items.{Siblings, End}
+use Rattle.std.proofs.Common.{◌≡◌, ℕ, suc, ◌+◌, List, [], ◌∷◌, ◌++◌, Option, Some, None, codes, refl, sym, ap, ◌∙◌, subst, append_assoc}
+use Rattle.crs_text.specs.Items.{Siblings, End, More}
 use Rattle.crs_text.specs.Written.{item_text, others_text}
+use Rattle.crs_shape.specs.UnitKinds.{asked_kind}
+use Rattle.crs_shape.specs.Words.{direction_word}
 use Rattle.crs_value.specs.Values.{AxisParts, SystemParts}
 use Rattle.crs_value.specs.declared.values.level.Level.{Level}
-use Rattle.crs_normal.specs.SpelledItems.{each}
-use Rattle.crs_normal.specs.SpelledSystems.{axes_from, axis_at, item_axis, item_head, norm_axis, norm_system, system_items, with_axis}
+use Rattle.crs_matching.specs.SameSystems.{own_or}
+use Rattle.crs_normal.specs.SpelledItems.{each, number_node, opt, word_item}
+use Rattle.crs_normal.specs.SpelledSystems.{axes_from, axis_at, item_axis, item_axis_meridian, item_head, norm_axis, norm_axis_meridians}
+use Rattle.crs_normal.specs.SpelledSystems.{norm_system, system_items, with_axis}
+use Rattle.crs_normal.specs.SpelledUnits.{item_ident, item_unit, norm_units, set_idents, whole_value}
+use Rattle.crs_writer.specs.Openings.{named_node}
 use Rattle.crs_writer.proofs.PieceLemmas.{two}
 use Rattle.crs_writer.proofs.TextLemmas.{each-text}
 
@@ -47,4 +53,12 @@ then-system level system rest old s1 s2 e f =
     ∙ ap (λ (x : List ℕ). old ++ (44 ∷ x))
     (append_assoc head axes (others_text rest) ∙ ap (λ (x : List ℕ). head ++ x) (sym (each-text item_axis s.axes rest)))
 
-pub ruleset system_rules = (then-system)
+-- an axis in its place, in words of its own
+pub placed : (level : Level) (system : SystemParts) (position : ℕ) (axis : AxisParts) (old new : List ℕ) →
+    new ≡ old ++ named_node (codes ",AXIS[\"") axis.name (More (word_item (direction_word axis.direction))
+    (opt item_axis_meridian (norm_axis_meridians level axis.meridian) (opt (number_node (codes "ORDER")) (Some (whole_value position))
+    (opt item_unit (norm_units level (asked_kind system.system_type axis.direction) (own_or axis.unit system.unit))
+    (each item_ident (set_idents level axis.identifiers) End))))) →
+    new ≡ old ++ 44 ∷ item_text (item_axis (norm_axis level system position axis))
+unfolding norm_axis
+placed level system position axis old new e = e

@@ -77,7 +77,3 @@ pub normal_set-written : {A B : Type 0} (spell : B → Item) (norm : A → B) (v
     ≡ set_text (map (λ v. item_text (spell (norm v))) values)
 normal_set-written spell norm values =
     set-written spell (map norm values) ∙ ap set_text (map-twice (λ v. item_text (spell v)) norm values)
-
-pub ruleset text_rules = (opt-text, each-text)
-
-pub ruleset text_node_rules = (text-node)

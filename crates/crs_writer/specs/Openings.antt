@@ -1,5 +1,7 @@
 -- A bridge: pieces of written nodes, as writers append them.
 use Rattle.std.specs.Prelude.{ℕ, List, [], ◌∷◌, ◌++◌, Option, Some, None}
+use Rattle.crs_decimal.specs.Plain.{plain}
+use Rattle.crs_decimal.specs.Value.{Value}
 use Rattle.crs_text.specs.Items.{Siblings, End, More}
 use Rattle.crs_text.specs.Written.{item_text, others_text}
 
@@ -15,6 +17,10 @@ text_behind opening (Some text) = opened opening text ++ 93 ∷ []
 -- a node of a name and of arguments after it
 abbrev pub named_node : List ℕ → List ℕ → Siblings → List ℕ
 named_node opening name others = opened opening name ++ (others_text others ++ 93 ∷ [])
+
+-- a node of a number and of arguments after it
+abbrev pub numbered_node : List ℕ → Value → Siblings → List ℕ
+numbered_node opening value others = (opening ++ plain value) ++ (others_text others ++ 93 ∷ [])
 
 -- arguments in delimiters, where there are any
 abbrev pub enclosed : Siblings → List ℕ

@@ -9,8 +9,9 @@ ghost use Rattle.crs_writer.specs.Canonical.{IsCanonicalOf, IsCanonicalText};
 ghost use Rattle.crs_writer.specs.Direct.{IsRead};
 
 use crate::canon_text::Canon;
-use crate::direct::crs::write_crs;
+use crate::direct::node::Node;
 use crate::laws::crss_are_canonical;
+use crate::spelling::crs::write_crs;
 use crs_shape::Class;
 use crs_text::{Fault, Items, read_items};
 use crs_value::laws::spelled_is_sound;
@@ -109,6 +110,11 @@ fn written_from(
     spelled_is_sound();
     crss_are_canonical();
     bytes.reserve(room)?;
-    write_crs(&mut bytes, items, root, class, level)?;
+    let node = Node {
+        items,
+        id: root,
+        class,
+    };
+    write_crs(&node, &mut bytes, level)?;
     Ok(Canon::new(bytes, level))
 }

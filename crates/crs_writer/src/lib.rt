@@ -5,9 +5,12 @@ mod answer;
 mod canon_text;
 mod direct;
 pub mod laws;
+mod members;
+mod parts;
 pub mod pieces;
 mod set;
 mod spans;
+mod spell;
 mod spelling;
 
 pub use answer::{canon, canon_in};

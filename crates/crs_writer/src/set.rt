@@ -1,10 +1,17 @@
 //! Sets: each spelling once, in ascending order of the bytes.
-ghost use Rattle.std.specs.Prelude.{◌≡◌, ◌++◌, OnOk};
-ghost use Rattle.crs_writer.specs.Members.{spellings};
+ghost use Rattle.std.specs.Prelude.{◌≡◌, ◌∷◌, ◌++◌, [], ℕ, List, map, OnOk};
+ghost use Rattle.crs_normal.specs.Ordered.{put, put_all};
+ghost use Rattle.crs_writer.specs.Direct.{Writes};
+ghost use Rattle.crs_writer.specs.Members.{set_text, spellings};
 ghost use Rattle.crs_writer.specs.SetText.{commas};
+ghost use Rattle.crs_writer.specs.Spans.{AreInOrder, texts_at};
 
+use crate::members::{MemberPart, MembersPart};
+use crate::spans::{Span, write_spans};
+use crate::spell::Spell;
 use crate::spelling::texts::append;
-use std::alloc::AllocError;
+use crs_value::Level;
+use std::alloc::{AllocError, Global};
 use std::collections::BTreeSet;
 
 /// The room that a member's spelling is given at first, which most don't exceed: a vector that grows from nothing is
@@ -17,10 +24,8 @@ pub const FEW: usize = 16;
 /// The room that the spellings of a few members are given at first. Profile.
 pub const FEW_ROOM: usize = 1024;
 
-/// Appends spellings in order, a comma before each. Profile.
-///
-/// `AllocError`: there is no memory for them.
-pub fn write_sorted(out: &mut Vec<u8>, sorted: &BTreeSet<Vec<u8>>) -> Result<(), AllocError>
+// Appends spellings in order, a comma before each.
+fn write_sorted(out: &mut Vec<u8>, sorted: &BTreeSet<Vec<u8>>) -> Result<(), AllocError>
     ensures { OnOk result (out.new.items ≡ out.old.items ++ commas (spellings sorted.now.keys)) }
 {
     for bytes in sorted {
@@ -28,4 +33,158 @@ pub fn write_sorted(out: &mut Vec<u8>, sorted: &BTreeSet<Vec<u8>>) -> Result<(),
         append(out, bytes)?;
     }
     Ok(())
+}
+
+/// Puts a member's spelling among the others. Profile.
+///
+/// `AllocError`: there is no memory for it.
+pub fn gather<T: Spell, P: MemberPart<T>>(
+    alloc: Global,
+    sorted: &mut BTreeSet<Vec<u8>>,
+    member: &P,
+    level: Level,
+) -> Result<(), AllocError>
+    ensures { OnOk result ((value : T) → P.Says member.now value →
+        spellings sorted.new.keys ≡ put (λ b. b) (T.spelling level value) (spellings sorted.old.keys)) }
+{
+    let mut bytes = Vec::with_capacity(alloc, MEMBER_ROOM)?;
+    member.write(&mut bytes, level)?;
+    sorted.insert(bytes)?;
+    Ok(())
+}
+
+/// Puts the spellings of the members among the others. Profile.
+///
+/// `AllocError`: there is no memory for them.
+pub fn gather_all<T: Spell, M: MembersPart<T>>(
+    alloc: Global,
+    sorted: &mut BTreeSet<Vec<u8>>,
+    members: M,
+    level: Level,
+) -> Result<(), AllocError>
+    requires { M.Hold members }
+    ensures { OnOk result ((values : List T) → M.Say members values →
+        spellings sorted.new.keys
+        ≡ put_all (λ b. b) (spellings sorted.old.keys) (map (T.spelling level) values)) }
+{
+    let mut left = members;
+    while let Some((member, others)) = left.next() {
+        gather::<T, M::First>(alloc, sorted, &member, level)?;
+        left = others;
+    }
+    Ok(())
+}
+
+// Puts the spellings of the members among the others.
+fn gather_spans<T: Spell, M: MembersPart<T>>(
+    bytes: &mut Vec<u8>,
+    spans: &mut Vec<Span>,
+    room: &mut Vec<u8>,
+    members: M,
+    level: Level,
+) -> Result<(), AllocError>
+    requires members { M.Hold members }
+    requires order { AreInOrder bytes.old.items spans.old.items }
+    ensures order { OnOk result (AreInOrder bytes.new.items spans.new.items) }
+    ensures texts { OnOk result ((values : List T) → M.Say members values →
+        texts_at bytes.new.items spans.new.items
+        ≡ put_all (λ b. b) (texts_at bytes.old.items spans.old.items) (map (T.spelling level) values)) }
+{
+    let mut left = members;
+    while let Some((member, others)) = left.next() {
+        member.put_among(bytes, spans, room, level)?;
+        left = others;
+    }
+    Ok(())
+}
+
+// A member and a few others.
+fn write_few<T: Spell, P: MemberPart<T>, M: MembersPart<T>>(
+    out: &mut Vec<u8>,
+    first: &P,
+    others: &M,
+    level: Level,
+) -> Result<(), AllocError>
+    requires { M.Hold others.now }
+    ensures { OnOk result ((value : T) (values : List T) → P.Says first.now value → M.Say others.now values →
+        out.new.items ≡ out.old.items ++ set_text (map (T.spelling level) (value ∷ values))) }
+{
+    let alloc = *out.allocator();
+    let mut room = Vec::new(alloc);
+    let mut bytes = Vec::with_capacity(alloc, FEW_ROOM)?;
+    let mut spans = Vec::with_capacity(alloc, FEW)?;
+    first.put_among(&mut bytes, &mut spans, &mut room, level)?;
+    gather_spans::<T, M>(&mut bytes, &mut spans, &mut room, *others, level)?;
+    write_spans(out, &bytes, &spans)
+}
+
+// A member and others.
+fn write_many<T: Spell, P: MemberPart<T>, M: MembersPart<T>>(
+    out: &mut Vec<u8>,
+    first: &P,
+    others: &M,
+    level: Level,
+) -> Result<(), AllocError>
+    requires { M.Hold others.now }
+    ensures { OnOk result ((value : T) (values : List T) → P.Says first.now value → M.Say others.now values →
+        out.new.items ≡ out.old.items ++ set_text (map (T.spelling level) (value ∷ values))) }
+{
+    let alloc = *out.allocator();
+    let mut sorted = BTreeSet::new(alloc);
+    gather::<T, P>(alloc, &mut sorted, first, level)?;
+    gather_all::<T, M>(alloc, &mut sorted, *others, level)?;
+    write_sorted(out, &sorted)
+}
+
+// A member alone.
+#[inline(always)]
+fn write_member<T: Spell, P: MemberPart<T>>(
+    out: &mut Vec<u8>,
+    member: &P,
+    level: Level,
+) -> Result<(), AllocError>
+    ensures { OnOk result (Writes (P.Says member.now) (λ v. commas (T.spelling level v ∷ [])) out.old.items out.new.items) }
+{
+    append(out, b",")?;
+    member.write(out, level)
+}
+
+// A set of a member and others. Most have no others, and need no order.
+pub(crate) fn write_set_with<T: Spell, P: MemberPart<T>, M: MembersPart<T>>(
+    out: &mut Vec<u8>,
+    first: &P,
+    others: &M,
+    level: Level,
+) -> Result<(), AllocError>
+    requires { M.Hold others.now }
+    ensures { OnOk result ((value : T) (values : List T) → P.Says first.now value → M.Say others.now values →
+        out.new.items ≡ out.old.items ++ set_text (map (T.spelling level) (value ∷ values))) }
+{
+    if others.are_none() {
+        write_member::<T, P>(out, first, level)
+    } else if others.are_few() {
+        write_few::<T, P, M>(out, first, others, level)
+    } else {
+        write_many::<T, P, M>(out, first, others, level)
+    }
+}
+
+/// Appends a set, a comma before each member. Profile.
+///
+/// `AllocError`: there is no memory for it.
+#[tactic(auto, unfolding(crate::specs::Members::set_text))]
+#[inline(always)]
+pub fn write_set<T: Spell, M: MembersPart<T>>(
+    out: &mut Vec<u8>,
+    members: &M,
+    level: Level,
+) -> Result<(), AllocError>
+    requires { M.Hold members.now }
+    ensures { OnOk result (Writes (M.Say members.now) (λ values. set_text (map (T.spelling level) values))
+        out.old.items out.new.items) }
+{
+    match members.next() {
+        None => Ok(()),
+        Some((first, others)) => write_set_with::<T, M::First, M>(out, &first, &others, level),
+    }
 }

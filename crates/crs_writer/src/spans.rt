@@ -9,13 +9,11 @@ use crate::spelling::texts::append;
 use std::alloc::AllocError;
 use std::cmp::Ordering;
 
-/// Where a text is among bytes. Profile.
+/// Where a text is among bytes: its first byte, and behind its last. Profile.
 #[derive(Clone, Copy)]
 pub struct Span {
-    /// Its first byte.
-    pub start: usize,
-    /// Behind its last byte.
-    pub end: usize,
+    pub(crate) start: usize,
+    pub(crate) end: usize,
 }
 
 fn text_at(bytes: &[u8], span: Span) -> &[u8]
@@ -51,10 +49,12 @@ fn rest_of(bytes: &[u8], start: usize) -> &[u8]
     &bytes[start..]
 }
 
-/// Puts the text that begins at `start`, and ends with the bytes, among the others. Profile.
-///
-/// `AllocError`: there is no memory for its place.
-pub fn put_last(bytes: &mut Vec<u8>, spans: &mut Vec<Span>, start: usize) -> Result<(), AllocError>
+// Puts the text that begins at `start`, and ends with the bytes, among the others.
+pub(crate) fn put_last(
+    bytes: &mut Vec<u8>,
+    spans: &mut Vec<Span>,
+    start: usize,
+) -> Result<(), AllocError>
     requires start { start ≤ length bytes.old.items }
     requires order { AreInOrder (take start bytes.old.items) spans.old.items }
     ensures { OnOk result (IsPutAmong (drop start bytes.old.items) (take start bytes.old.items) spans.old.items
@@ -78,10 +78,8 @@ pub(crate) fn put(bytes: &mut Vec<u8>, spans: &mut Vec<Span>, text: &[u8]) -> Re
     put_last(bytes, spans, start)
 }
 
-/// Appends the texts in order, a comma before each. Profile.
-///
-/// `AllocError`: there is no memory for them.
-pub fn write_spans(out: &mut Vec<u8>, bytes: &[u8], spans: &[Span]) -> Result<(), AllocError>
+// Appends the texts in order, a comma before each.
+pub(crate) fn write_spans(out: &mut Vec<u8>, bytes: &[u8], spans: &[Span]) -> Result<(), AllocError>
     requires { AreWithin bytes.now spans.now }
     ensures { OnOk result (out.new.items ≡ out.old.items ++ commas (texts_at bytes.now spans.now)) }
 {

@@ -1,10 +1,20 @@
-//! Pieces of canonical texts: each is appended to `out`. Out of memory, nothing is promised of `out`; the public calls cut
-//! it back.
+//! Writers: each appends the text of the one form of a node to `out`, of the node's parts, which are those of a value or
+//! are read from an item. Out of memory, nothing is promised of `out`; the public calls cut it back.
 
 pub(crate) mod axis;
+pub(crate) mod compound;
+pub(crate) mod conversion;
 pub(crate) mod crs;
+pub(crate) mod dynamic;
+pub(crate) mod ellipsoid;
+pub(crate) mod frame;
+pub(crate) mod geodetic;
+pub(crate) mod ident;
 pub(crate) mod meridian;
+pub(crate) mod projected;
 pub(crate) mod system;
+pub(crate) mod tail;
 pub(crate) mod texts;
 pub(crate) mod unit;
 pub(crate) mod usage;
+pub(crate) mod vertical;

@@ -1,17 +1,14 @@
 //! The arguments of a node, by their class.
-ghost use Rattle.std.specs.Prelude.{◌≡◌, ◌∷◌, ◌++◌, IsTrue, OnOk, drop};
+ghost use Rattle.std.specs.Prelude.{◌≡◌, IsTrue, drop};
 ghost use Rattle.crs_text.specs.Items.{arguments, rest_of, here, HasId};
-ghost use Rattle.crs_value.specs.Reading.{item_at, ahead, Holds, those, IsFound, ReadsIfAny};
-ghost use Rattle.crs_value.specs.Reads.{ReadsTextOf};
-ghost use Rattle.crs_writer.specs.Direct.{AreLeaves, IsRead, Writes};
-ghost use Rattle.crs_writer.specs.Openings.{opened, text_behind};
+ghost use Rattle.crs_value.specs.Reading.{item_at, ahead, Holds, those, IsFound};
+ghost use Rattle.crs_writer.specs.Direct.{AreLeaves};
 
-use crate::spelling::texts::{append, open_text};
 use crs_shape::{Class, Sought};
 use crs_text::{ItemId, Items};
-use std::alloc::AllocError;
 
 // Whether no argument of a node is a node, as most are that have no identifiers.
+#[inline(always)]
 pub(crate) fn is_flat(items: &Items<'_>, id: ItemId) -> bool
     requires { HasId items.now id }
     ensures { IsTrue result → AreLeaves (arguments (item_at items.now id)) }
@@ -20,6 +17,7 @@ pub(crate) fn is_flat(items: &Items<'_>, id: ItemId) -> bool
 }
 
 // The first argument of this class from this one on.
+#[inline(always)]
 fn found(items: &Items<'_>, from: Option<ItemId>, parent: Class, class: Class) -> Option<ItemId>
     requires { Holds items.now from }
     ensures { IsFound items.now parent class (those parent class (ahead items.now from)) result }
@@ -36,6 +34,7 @@ fn found(items: &Items<'_>, from: Option<ItemId>, parent: Class, class: Class) -
 }
 
 // The first argument of this class.
+#[inline(always)]
 pub(crate) fn first(items: &Items<'_>, id: ItemId, parent: Class, class: Class) -> Option<ItemId>
     requires { HasId items.now id }
     ensures { IsFound items.now parent class (those parent class (arguments
@@ -45,6 +44,7 @@ pub(crate) fn first(items: &Items<'_>, id: ItemId, parent: Class, class: Class) 
 }
 
 // The next argument of this class after this one.
+#[inline(always)]
 pub(crate) fn later(items: &Items<'_>, id: ItemId, parent: Class, class: Class) -> Option<ItemId>
     requires { HasId items.now id }
     ensures { IsFound items.now parent class (those parent class (rest_of (here items.now id))) result }
@@ -53,6 +53,7 @@ pub(crate) fn later(items: &Items<'_>, id: ItemId, parent: Class, class: Class) 
 }
 
 // Argument number `k` of this class, the first being 0.
+#[inline(always)]
 pub(crate) fn nth(
     items: &Items<'_>,
     id: ItemId,
@@ -74,44 +75,13 @@ pub(crate) fn nth(
     at
 }
 
-// An opening and the text of a node.
-pub(crate) fn open_text_of(
-    out: &mut Vec<u8>,
-    opening: &[u8],
-    items: &Items<'_>,
-    id: ItemId,
-    class: Class,
-) -> Result<(), AllocError>
-    requires has { HasId items.now id }
-    requires reads { IsRead (ReadsTextOf class (item_at items.now id)) }
-    ensures { OnOk result (Writes (ReadsTextOf class (item_at items.now id)) (opened opening.now)
-        out.old.items out.new.items) }
-{
-    match first(items, id, class, Class::Text) {
-        None => unreachable!(),
-        Some(found) => open_text(out, opening, items.raw(found)),
-    }
-}
+// A node of fewer arguments has few members of each set.
+const FEW_ARGUMENTS: usize = 32;
 
-// A node of one text, if there is one; the opening begins with a comma.
-pub(crate) fn write_text_of(
-    out: &mut Vec<u8>,
-    opening: &[u8],
-    items: &Items<'_>,
-    id: ItemId,
-    parent: Class,
-    class: Class,
-) -> Result<(), AllocError>
-    requires has { HasId items.now id }
-    requires reads { IsRead (ReadsIfAny ReadsTextOf class parent (item_at items.now id)) }
-    ensures { OnOk result (Writes (ReadsIfAny ReadsTextOf class parent (item_at items.now id)) (text_behind opening.now)
-        out.old.items out.new.items) }
+// Whether a node has few arguments, so that each of its sets is of a few members.
+#[inline(always)]
+pub(crate) fn are_few(items: &Items<'_>, id: ItemId) -> bool
+    requires { HasId items.now id }
 {
-    match first(items, id, parent, class) {
-        None => Ok(()),
-        Some(found) => {
-            open_text_of(out, opening, items, found, class)?;
-            append(out, b"]")
-        }
-    }
+    items.arg_count(id) < FEW_ARGUMENTS
 }

@@ -1,17 +1,32 @@
-//! Words and orders of axes.
-ghost use Rattle.std.specs.Prelude.{◌≡◌, ◌∷◌, ◌++◌, OnOk, codes};
+//! Axes.
+ghost use Rattle.std.specs.Prelude.{◌≡◌, ◌∷◌, ◌++◌, ℕ, List, OnOk, Option, codes};
+ghost use Rattle.crs_decimal.specs.Plain.{plain};
+ghost use Rattle.crs_decimal.specs.Value.{Value};
+ghost use Rattle.crs_text.specs.Items.{End, More};
 ghost use Rattle.crs_text.specs.Written.{item_text};
 ghost use Rattle.crs_shape.specs.Words.{direction_word};
-ghost use Rattle.crs_decimal.specs.Plain.{plain};
-ghost use Rattle.crs_normal.specs.SpelledItems.{number_node, word_item};
-ghost use Rattle.crs_normal.specs.SpelledUnits.{whole_value};
+ghost use Rattle.crs_shape.specs.declared.direction.Direction.{Direction};
+ghost use Rattle.crs_shape.specs.declared.unit_kind.UnitKind.{UnitKind};
+ghost use Rattle.crs_shape.specs.declared.unit_kind.UnitKind.TheVariants as kinds;
+ghost use Rattle.crs_value.specs.Values.{AxisMeridianParts, IdentParts, UnitParts};
+ghost use Rattle.crs_normal.specs.PartTexts.{axis_meridian_text, axis_text};
+ghost use Rattle.crs_normal.specs.SpelledItems.{each, number_node, opt, word_item};
+ghost use Rattle.crs_normal.specs.SpelledSystems.{item_axis_meridian, norm_axis_meridians};
+ghost use Rattle.crs_normal.specs.SpelledUnits.{item_ident, item_unit, norm_units, set_idents, whole_value};
+ghost use Rattle.crs_writer.specs.Openings.{named_node, numbered_node};
+ghost use Rattle.crs_writer.specs.Parts.{SaysIfAny};
 
-use crate::spelling::texts::append;
-use crs_value::Direction;
+use crate::direct::node::Node;
+use crate::parts::{IdentsPart, NumberPart, Part, UnitPart, write_optional, write_optional_number};
+use crate::spell::Spell;
+use crate::spelling::texts::{append, open_text};
+use crate::spelling::unit::write_optional_unit;
+use crs_shape::Class;
+use crs_value::{Axis, AxisMeridian, Direction, Level, UnitKind};
 use itoa::Buffer;
 use std::alloc::AllocError;
 
-fn write_whole(out: &mut Vec<u8>, number: u64) -> Result<(), AllocError>
+pub(crate) fn write_whole(out: &mut Vec<u8>, number: u64) -> Result<(), AllocError>
     ensures { OnOk result (out.new.items ≡ out.old.items ++ plain (whole_value number)) }
 {
     let mut digits = Buffer::new();
@@ -39,4 +54,92 @@ pub fn write_direction(out: &mut Vec<u8>, direction: Direction) -> Result<(), Al
 {
     append(out, b",")?;
     append(out, direction.word().as_bytes())
+}
+
+// After an opening; with its unit, if there is one.
+#[tactic(auto, using(crate::proofs::FlatLemmas::along_rules))]
+fn write_axis_meridian<N: NumberPart, U: UnitPart>(
+    out: &mut Vec<u8>,
+    opening: &[u8],
+    longitude: N,
+    unit: Option<U>,
+    level: Level,
+) -> Result<(), AllocError>
+    ensures { OnOk result ((l : Value) (u : Option UnitParts) → N.Says longitude l → SaysIfAny U.Says unit u → out.new.items
+        ≡ out.old.items ++ numbered_node opening.now l (opt item_unit (norm_units level kinds.Angle u) End)) }
+{
+    longitude.open(out, opening)?;
+    write_optional_unit(out, UnitKind::Angle, unit, level)?;
+    append(out, b"]")
+}
+
+impl Spell for AxisMeridian<'_> {
+    ghost spelling = { axis_meridian_text };
+
+    fn spell(&self, out: &mut Vec<u8>, level: Level) -> Result<(), AllocError> {
+        write_axis_meridian(out, b"MERIDIAN[", &self.longitude, Some(&self.unit), level)
+    }
+}
+
+impl<'c, 'i, 'a> Part<AxisMeridian<'a>> for &'c Node<'i, 'a> {
+    ghost use Rattle.crs_value.specs.Reads.{ReadsAxisMeridian};
+    ghost use Rattle.crs_writer.specs.Cursor.{item};
+
+    ghost Says = { λ n m. ReadsAxisMeridian n.now.class (item n.now) m };
+
+    fn put(&self, out: &mut Vec<u8>, level: Level) -> Result<(), AllocError> {
+        let unit = self.first(Class::AngleUnit);
+        write_axis_meridian(out, b",MERIDIAN[", self.number(), unit.as_ref(), level)
+    }
+}
+
+// After an opening; with this order, and this unit, where that kind is asked.
+pub(crate) fn write_axis<'a, M: Part<AxisMeridian<'a>>, N: NumberPart, U: UnitPart, I: IdentsPart>(
+    out: &mut Vec<u8>,
+    opening: &[u8],
+    name: &[u8],
+    direction: Direction,
+    meridian: Option<M>,
+    order: Option<N>,
+    asked: UnitKind,
+    unit: Option<U>,
+    ids: I,
+    level: Level,
+) -> Result<(), AllocError>
+    ensures { OnOk result ((n : List ℕ) (d : Direction) (m : Option AxisMeridianParts) (o : Option Value) (k : UnitKind)
+        (u : Option UnitParts) (is : List IdentParts) → n ≡ name.now → d ≡ direction → SaysIfAny M.Says meridian m →
+        SaysIfAny N.Says order o → k ≡ asked → SaysIfAny U.Says unit u → I.Says ids is →
+        out.new.items ≡ out.old.items ++ named_node opening.now n
+        (More (word_item (direction_word d)) (opt item_axis_meridian (norm_axis_meridians level m)
+        (opt (number_node (codes "ORDER")) o (opt item_unit (norm_units level k u)
+        (each item_ident (set_idents level is) End)))))) }
+{
+    open_text(out, opening, name)?;
+    write_direction(out, direction)?;
+    write_optional::<AxisMeridian<'a>, M>(out, meridian, level)?;
+    write_optional_number(out, b",ORDER[", order)?;
+    write_optional_unit(out, asked, unit, level)?;
+    ids.put(out, level)?;
+    append(out, b"]")
+}
+
+// By itself: with its own order and unit, of which `UNIT` is a kind of its own.
+impl Spell for Axis<'_> {
+    ghost spelling = { axis_text };
+
+    #[tactic(auto, using(crate::proofs::FlatLemmas::value_rules))]
+    fn spell(&self, out: &mut Vec<u8>, level: Level) -> Result<(), AllocError> {
+        write_axis(
+            out,
+            b"AXIS[\"",
+            self.name,
+            self.direction,
+            self.meridian.as_ref(),
+            self.order.as_ref(),
+            UnitKind::Plain,
+            self.unit.as_ref(),
+            &self.identifiers,
+            level,
+        )
+    }
 }

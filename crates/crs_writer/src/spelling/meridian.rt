@@ -1,16 +1,122 @@
-//! The prime meridian where none is written.
-ghost use Rattle.std.specs.Prelude.{◌≡◌, ◌∷◌, ◌++◌, OnOk};
-ghost use Rattle.crs_text.specs.Written.{item_text};
-ghost use Rattle.crs_normal.specs.SpelledFrames.{greenwich, item_meridian};
+//! Prime meridians.
+ghost use Rattle.std.specs.Prelude.{◌≡◌, ◌∷◌, ◌++◌, ℕ, List, None, OnOk, Option, if◌then◌else◌};
+ghost use Rattle.crs_decimal.specs.Value.{Value};
+ghost use Rattle.crs_text.specs.Items.{End, More};
+ghost use Rattle.crs_text.specs.Written.{item_text, others_text};
+ghost use Rattle.crs_shape.specs.declared.unit_kind.UnitKind.TheVariants as kinds;
+ghost use Rattle.crs_value.specs.Values.{IdentParts, UnitParts};
+ghost use Rattle.crs_normal.specs.PartTexts.{meridian_text};
+ghost use Rattle.crs_normal.specs.SpelledFrames.{greenwich, is_zero, item_meridian, norm_meridian};
+ghost use Rattle.crs_normal.specs.SpelledItems.{each, number_item, opt};
+ghost use Rattle.crs_normal.specs.SpelledUnits.{item_ident, item_unit, norm_units, set_idents};
+ghost use Rattle.crs_writer.specs.Direct.{Writes};
+ghost use Rattle.crs_writer.specs.Openings.{named_node};
+ghost use Rattle.crs_writer.specs.Parts.{SaysIfAny};
 
-use crate::spelling::texts::append;
+use crate::direct::node::Node;
+use crate::parts::{IdentsPart, NumberPart, Part, UnitPart};
+use crate::spell::Spell;
+use crate::spelling::texts::{append, open_text};
+use crate::spelling::unit::write_optional_unit;
+use crs_shape::Class;
+use crs_value::{Level, Meridian, UnitKind};
 use std::alloc::AllocError;
 
-/// Appends Greenwich after a comma. Profile.
-///
-/// `AllocError`: there is no memory for it.
+// At longitude 0 a unit says nothing.
+#[tactic(auto, using(crate::proofs::FlatLemmas::unit_rules))]
+fn write_unit_of<N: NumberPart, U: UnitPart>(
+    out: &mut Vec<u8>,
+    longitude: N,
+    unit: Option<U>,
+    level: Level,
+) -> Result<(), AllocError>
+    ensures { OnOk result ((l : Value) (u : Option UnitParts) → N.Says longitude l → SaysIfAny U.Says unit u →
+        out.new.items ≡ out.old.items ++ others_text (opt item_unit
+        (if is_zero l then None else norm_units level kinds.Angle u) End)) }
+{
+    if longitude.is_zero() {
+        Ok(())
+    } else {
+        write_optional_unit(out, UnitKind::Angle, unit, level)
+    }
+}
+
+// After an opening.
+fn write_given<N: NumberPart, U: UnitPart, I: IdentsPart>(
+    out: &mut Vec<u8>,
+    opening: &[u8],
+    name: &[u8],
+    longitude: N,
+    unit: Option<U>,
+    ids: I,
+    level: Level,
+) -> Result<(), AllocError>
+    ensures { OnOk result ((n : List ℕ) (l : Value) (u : Option UnitParts) (is : List IdentParts) → n ≡ name.now →
+        N.Says longitude l → SaysIfAny U.Says unit u → I.Says ids is →
+        out.new.items ≡ out.old.items ++ named_node opening.now n (More (number_item l) (opt item_unit
+        (if is_zero l then None else norm_units level kinds.Angle u) (each item_ident (set_idents level is) End)))) }
+{
+    open_text(out, opening, name)?;
+    longitude.open(out, b",")?;
+    write_unit_of(out, longitude, unit, level)?;
+    ids.put(out, level)?;
+    append(out, b"]")
+}
+
+impl Spell for Meridian<'_> {
+    ghost spelling = { meridian_text };
+
+    #[tactic(auto, using(crate::proofs::FlatLemmas::value_rules))]
+    fn spell(&self, out: &mut Vec<u8>, level: Level) -> Result<(), AllocError> {
+        write_given(
+            out,
+            b"PRIMEM[\"",
+            self.name,
+            &self.longitude,
+            self.unit.as_ref(),
+            &self.identifiers,
+            level,
+        )
+    }
+}
+
+impl<'c, 'i, 'a> Part<Meridian<'a>> for &'c Node<'i, 'a> {
+    ghost use Rattle.crs_value.specs.Reads.{ReadsMeridian};
+    ghost use Rattle.crs_writer.specs.Cursor.{item};
+
+    ghost Says = { λ n m. ReadsMeridian n.now.class (item n.now) m };
+
+    fn put(&self, out: &mut Vec<u8>, level: Level) -> Result<(), AllocError> {
+        let unit = self.first(Class::AngleUnit);
+        write_given(
+            out,
+            b",PRIMEM[\"",
+            self.text(),
+            self.number(),
+            unit.as_ref(),
+            *self,
+            level,
+        )
+    }
+}
+
 pub fn write_greenwich(out: &mut Vec<u8>) -> Result<(), AllocError>
     ensures { OnOk result (out.new.items ≡ out.old.items ++ 44 ∷ item_text (item_meridian greenwich)) }
 {
     append(out, b",PRIMEM[\"Greenwich\",0]")
+}
+
+// The prime meridian of a CRS: where none is written, Greenwich.
+pub(crate) fn write_meridian<'a, M: Part<Meridian<'a>>>(
+    out: &mut Vec<u8>,
+    meridian: Option<M>,
+    level: Level,
+) -> Result<(), AllocError>
+    ensures { OnOk result (Writes (SaysIfAny M.Says meridian)
+        (λ m. others_text (opt item_meridian (norm_meridian level m) End)) out.old.items out.new.items) }
+{
+    match meridian {
+        None => write_greenwich(out),
+        Some(meridian) => meridian.put(out, level),
+    }
 }

@@ -1,8 +1,30 @@
-//! Positions of axes.
-ghost use Rattle.std.specs.Prelude.{◌≡◌};
-ghost use Rattle.crs_normal.specs.SpelledSystems.{is_at, is_number};
+//! Coordinate systems: their axes are in order of position.
+ghost use Rattle.std.specs.Prelude.{◌≡◌, ◌∷◌, ◌++◌, [], IfOk, OnOk, Option, length};
+ghost use Rattle.std.specs.Option.{option_copied};
+ghost use Rattle.crs_text.specs.Items.{End};
+ghost use Rattle.crs_text.specs.Written.{item_text, others_text};
+ghost use Rattle.crs_shape.specs.Words.{SpellsWord, system_word};
+ghost use Rattle.crs_shape.specs.declared.system_type.SystemType.{SystemType};
+ghost use Rattle.crs_value.specs.Reading.{ReadsFirst, ReadsIfAny};
+ghost use Rattle.crs_value.specs.Reads.{ReadsAxis, ReadsType, ReadsUnit};
+ghost use Rattle.crs_value.specs.Values.{AxisParts, SystemParts, UnitParts};
+ghost use Rattle.crs_matching.specs.SameSystems.{own_or};
+ghost use Rattle.crs_normal.specs.SpelledItems.{each, number_item};
+ghost use Rattle.crs_normal.specs.SpelledSystems.{axes_from, axis_at, is_at, is_number, item_axis, item_head};
+ghost use Rattle.crs_normal.specs.SpelledSystems.{norm_axis, norm_system, system_items, with_axis};
+ghost use Rattle.crs_writer.specs.Cursor.{args, item};
+ghost use Rattle.crs_writer.specs.Direct.{IsRead, Writes};
+ghost use Rattle.crs_writer.specs.Parts.{SaysIfAny};
 
+use crate::direct::node::Node;
+use crate::direct::system as axes;
+use crate::parts::{IdentsPart, NumberPart};
+use crate::spelling::axis::write_axis;
+use crate::spelling::texts::append;
 use crs_decimal::Decimal;
+use crs_shape::Class;
+use crs_value::{Axis, Level, System, SystemType};
+use std::alloc::AllocError;
 
 fn is_number(value: &Decimal, number: u64) -> bool
     ensures { result ≡ is_number value.now number }
@@ -14,13 +36,292 @@ fn is_number(value: &Decimal, number: u64) -> bool
     value.is_whole(number)
 }
 
-/// Whether an axis that is written at this place, from 1 on, and with this order if it has one, has this position.
-/// Profile.
+// Whether an axis that is written at this place, from 1 on, and with this order if it has one, has this position.
 pub fn is_at(position: u64, place: u64, order: Option<Decimal>) -> bool
     ensures { result ≡ is_at position place order }
 {
     match order {
         None => place == position,
         Some(order) => is_number(&order, position),
+    }
+}
+
+/// The coordinate system of a CRS, which the item of the CRS has.
+pub(crate) trait SystemPart: Copy {
+    ghost Says: { Self → SystemParts → Type 0 };
+
+    fn system_type(&self) -> SystemType
+        ensures { (s : SystemParts) → Says self.now s → s.system_type ≡ result };
+
+    // The node `CS` after a comma; the answer is the system's type.
+    fn put_head(&self, out: &mut Vec<u8>, level: Level) -> Result<SystemType, AllocError>
+        requires { IsRead (Says self.now) }
+        ensures is { IfOk result (λ t. (s : SystemParts) → Says self.now s → s.system_type ≡ t) }
+        ensures head { OnOk result (Writes (Says self.now) (λ s. 44 ∷ item_text (item_head (norm_system level s)))
+            out.old.items out.new.items) };
+
+    fn axis_count(&self) -> usize
+        ensures { (s : SystemParts) → Says self.now s → length s.axes ≡ result };
+
+    // The axis of a system of this type at a position after a comma, if there is one.
+    fn put_axis(
+        &self,
+        out: &mut Vec<u8>,
+        system_type: SystemType,
+        position: u64,
+        level: Level,
+    ) -> Result<(), AllocError>
+        ensures { OnOk result ((s : SystemParts) → s.system_type ≡ system_type → Says self.now s →
+            out.new.items ≡ out.old.items ++ others_text (each item_axis
+            (with_axis level s position (axis_at position 1 s.axes) []) End)) };
+}
+
+fn open_head(out: &mut Vec<u8>, system_type: SystemType) -> Result<(), AllocError>
+    ensures { OnOk result (out.new.items ≡ out.old.items ++ (44 ∷ 67 ∷ 83 ∷ 91 ∷ system_word system_type)) }
+{
+    append(out, b",CS[")?;
+    append(out, system_type.word().as_bytes())
+}
+
+fn write_head<N: NumberPart, I: IdentsPart>(
+    out: &mut Vec<u8>,
+    system_type: SystemType,
+    dimension: N,
+    ids: I,
+    level: Level,
+) -> Result<(), AllocError>
+    ensures { OnOk result ((s : SystemParts) → s.system_type ≡ system_type → N.Says dimension s.dimension →
+        I.Says ids s.identifiers → out.new.items ≡ out.old.items ++ 44 ∷ item_text (item_head (norm_system level s))) }
+{
+    open_head(out, system_type)?;
+    dimension.open(out, b",")?;
+    ids.put(out, level)?;
+    append(out, b"]")
+}
+
+fn write_axes<S: SystemPart>(
+    out: &mut Vec<u8>,
+    system: S,
+    system_type: SystemType,
+    level: Level,
+) -> Result<(), AllocError>
+    ensures { OnOk result ((s : SystemParts) → s.system_type ≡ system_type → S.Says system s →
+        out.new.items ≡ out.old.items ++ others_text (each item_axis (axes_from level s 1 (length s.axes)) End)) }
+{
+    let count = system.axis_count();
+    for index in 0..count {
+        system.put_axis(out, system_type, index as u64 + 1, level)?;
+    }
+    Ok(())
+}
+
+#[tactic(auto, using(crate::proofs::PieceLemmas::then_rules))]
+pub(crate) fn write_system<S: SystemPart>(
+    out: &mut Vec<u8>,
+    system: S,
+    level: Level,
+) -> Result<(), AllocError>
+    requires { IsRead (S.Says system) }
+    ensures { OnOk result (Writes (S.Says system) (λ s. others_text (system_items (norm_system level s) End))
+        out.old.items out.new.items) }
+{
+    let system_type = system.put_head(out, level)?;
+    write_axes(out, system, system_type, level)
+}
+
+// ---- of a value
+
+// The axis at this position.
+fn axis_at<'b, 'a>(axes: &'b [Axis<'a>], position: u64) -> Option<&'b Axis<'a>>
+    ensures { option_copied result ≡ axis_at position 1 axes.entry.now }
+{
+    let mut place = 1;
+    for axis in axes {
+        if is_at(position, place, axis.order) {
+            return Some(axis);
+        }
+        place += 1;
+    }
+    None
+}
+
+// After a comma; the axis of a system at this position.
+fn write_axis_in<'a>(
+    out: &mut Vec<u8>,
+    system: &System<'a>,
+    axis: &Axis<'a>,
+    position: u64,
+    level: Level,
+) -> Result<(), AllocError>
+    ensures { OnOk result (out.new.items
+        ≡ out.old.items ++ 44 ∷ item_text (item_axis (norm_axis level system.now position axis.now))) }
+{
+    let unit = system.unit_of(axis);
+    write_axis(
+        out,
+        b",AXIS[\"",
+        axis.name,
+        axis.direction,
+        axis.meridian.as_ref(),
+        Some(position),
+        system.system_type.asked_kind(axis.direction),
+        unit,
+        &axis.identifiers,
+        level,
+    )
+}
+
+impl<'b, 'a> SystemPart for &'b System<'a> {
+    ghost Says = { λ s v. v ≡ s.now };
+
+    fn system_type(&self) -> SystemType {
+        let system: &'b System<'a> = *self;
+        system.system_type
+    }
+
+    fn put_head(&self, out: &mut Vec<u8>, level: Level) -> Result<SystemType, AllocError> {
+        let system: &'b System<'a> = *self;
+        write_head(
+            out,
+            system.system_type,
+            &system.dimension,
+            &system.identifiers,
+            level,
+        )?;
+        Ok(system.system_type)
+    }
+
+    fn axis_count(&self) -> usize {
+        let system: &'b System<'a> = *self;
+        system.axes.as_slice().len()
+    }
+
+    fn put_axis(
+        &self,
+        out: &mut Vec<u8>,
+        _system_type: SystemType,
+        position: u64,
+        level: Level,
+    ) -> Result<(), AllocError> {
+        let system: &'b System<'a> = *self;
+        match axis_at(system.axes.as_slice(), position) {
+            None => Ok(()),
+            Some(axis) => write_axis_in(out, system, axis, position, level),
+        }
+    }
+}
+
+// ---- of an item
+
+// The type that a word spells, letter case aside, which its first letter tells.
+fn type_by(word: &[u8]) -> SystemType
+    ensures { (value : SystemType) → SpellsWord word.now (system_word value) → value ≡ result }
+{
+    match word {
+        [b'C' | b'c', ..] => SystemType::Cartesian,
+        [b'E' | b'e', ..] => SystemType::Ellipsoidal,
+        [b'S' | b's', ..] => SystemType::Spherical,
+        _ => SystemType::Vertical,
+    }
+}
+
+// The type of a system, of which this is the node `CS`.
+fn type_of(head: &Node<'_, '_>) -> SystemType
+    ensures { (value : SystemType) → ReadsFirst ReadsType (args Class.Word head.now) value → value ≡ result }
+{
+    match head.first(Class::Word) {
+        None => SystemType::Vertical,
+        Some(word) => type_by(word.raw()),
+    }
+}
+
+// The unit that an axis has by itself or shares.
+fn unit_of<'i, 'a>(crs: &Node<'i, 'a>, axis: &Node<'i, 'a>) -> Option<Node<'i, 'a>>
+    ensures { (own shared : Option UnitParts) →
+        ReadsIfAny ReadsUnit Class.AxisUnit axis.now.class (item axis.now) own →
+        ReadsIfAny ReadsUnit Class.AxisUnit crs.now.class (item crs.now) shared →
+        SaysIfAny (λ n u. ReadsUnit n.class (item n) u) result (own_or own shared) }
+{
+    match axis.first(Class::AxisUnit) {
+        None => crs.first(Class::AxisUnit),
+        Some(found) => Some(found),
+    }
+}
+
+// After a comma; the axis of a system of this type at this position.
+fn write_axis_of<'i, 'a>(
+    out: &mut Vec<u8>,
+    crs: &Node<'i, 'a>,
+    axis: &Node<'i, 'a>,
+    system_type: SystemType,
+    position: u64,
+    level: Level,
+) -> Result<(), AllocError>
+    ensures { OnOk result ((s : SystemParts) (a : AxisParts) → s.system_type ≡ system_type →
+        ReadsIfAny ReadsUnit Class.AxisUnit crs.now.class (item crs.now) s.unit →
+        ReadsAxis axis.now.class (item axis.now) a →
+        out.new.items ≡ out.old.items ++ 44 ∷ item_text (item_axis (norm_axis level s position a))) }
+{
+    let direction = axis.direction();
+    let meridian = axis.first(Class::AxisMeridian);
+    let unit = unit_of(crs, axis);
+    write_axis(
+        out,
+        b",AXIS[\"",
+        axis.text(),
+        direction,
+        meridian.as_ref(),
+        Some(position),
+        system_type.asked_kind(direction),
+        unit.as_ref(),
+        axis,
+        level,
+    )
+}
+
+impl<'c, 'i, 'a> SystemPart for &'c Node<'i, 'a> {
+    ghost use Rattle.crs_value.specs.Reads.{ReadsSystem};
+    ghost use Rattle.crs_writer.specs.Cursor.{item};
+
+    ghost Says = { λ n s. ReadsSystem n.now.class (item n.now) s };
+
+    fn system_type(&self) -> SystemType {
+        match self.first(Class::CoordinateSystem) {
+            None => SystemType::Vertical,
+            Some(head) => type_of(&head),
+        }
+    }
+
+    fn put_head(&self, out: &mut Vec<u8>, level: Level) -> Result<SystemType, AllocError> {
+        let head = self.one(Class::CoordinateSystem);
+        let system_type = type_of(&head);
+        write_head(out, system_type, head.number(), &head, level)?;
+        Ok(system_type)
+    }
+
+    fn axis_count(&self) -> usize {
+        axes::axis_count(self.items, self.id, self.class)
+    }
+
+    fn put_axis(
+        &self,
+        out: &mut Vec<u8>,
+        system_type: SystemType,
+        position: u64,
+        level: Level,
+    ) -> Result<(), AllocError> {
+        let items = self.items;
+        let class = Class::Axis;
+        match axes::axis_at(items, self.id, self.class, position) {
+            None => Ok(()),
+            Some(id) => write_axis_of(
+                out,
+                *self,
+                &Node { items, id, class },
+                system_type,
+                position,
+                level,
+            ),
+        }
     }
 }

@@ -1,5 +1,5 @@
 //! Bytes, and items of one token or of one argument.
-ghost use Rattle.std.specs.Prelude.{◌≡◌, ◌∷◌, ◌++◌, OnOk};
+ghost use Rattle.std.specs.Prelude.{◌≡◌, ◌∷◌, ◌++◌, [], OnOk};
 ghost use Rattle.std.specs.List.{list_all};
 ghost use Rattle.std.specs.Option.{option_copied};
 ghost use Rattle.crs_decimal.specs.Plain.{plain};
@@ -15,6 +15,7 @@ use std::alloc::AllocError;
 /// Appends bytes. Profile.
 ///
 /// `AllocError`: there is no memory for them.
+#[inline(always)]
 pub fn append(out: &mut Vec<u8>, bytes: &[u8]) -> Result<(), AllocError>
     ensures { OnOk result (out.new.items ≡ out.old.items ++ bytes.now) }
 {
@@ -24,6 +25,7 @@ pub fn append(out: &mut Vec<u8>, bytes: &[u8]) -> Result<(), AllocError>
 /// Appends a keyword, the opening delimiter and a quoted text; the opening ends with the quote. Profile.
 ///
 /// `AllocError`: there is no memory for them.
+#[inline(always)]
 pub fn open_text(out: &mut Vec<u8>, opening: &[u8], text: &[u8]) -> Result<(), AllocError>
     ensures { OnOk result (out.new.items ≡ out.old.items ++ opened opening.now text.now) }
 {
@@ -32,9 +34,17 @@ pub fn open_text(out: &mut Vec<u8>, opening: &[u8], text: &[u8]) -> Result<(), A
     append(out, b"\"")
 }
 
+fn write_text_node(out: &mut Vec<u8>, opening: &[u8], text: &[u8]) -> Result<(), AllocError>
+    ensures { OnOk result (out.new.items ≡ out.old.items ++ (opened opening.now text.now ++ 93 ∷ [])) }
+{
+    open_text(out, opening, text)?;
+    append(out, b"]")
+}
+
 /// Appends a node of one text, if there is one; the opening begins with a comma. Profile.
 ///
 /// `AllocError`: there is no memory for it.
+#[inline(always)]
 pub fn write_optional_text(
     out: &mut Vec<u8>,
     opening: &[u8],
@@ -44,14 +54,11 @@ pub fn write_optional_text(
 {
     match text {
         None => Ok(()),
-        Some(text) => {
-            open_text(out, opening, text)?;
-            append(out, b"]")
-        }
+        Some(text) => write_text_node(out, opening, text),
     }
 }
 
-fn write_decimal(out: &mut Vec<u8>, value: &Decimal) -> Result<(), AllocError>
+pub(crate) fn write_decimal(out: &mut Vec<u8>, value: &Decimal) -> Result<(), AllocError>
     ensures { OnOk result (out.new.items ≡ out.old.items ++ plain value.now) }
 {
     crs_decimal::laws::plain_is_the_one();
@@ -61,6 +68,7 @@ fn write_decimal(out: &mut Vec<u8>, value: &Decimal) -> Result<(), AllocError>
 /// Appends a keyword, the opening delimiter and a number; the opening ends with the delimiter. Profile.
 ///
 /// `AllocError`: there is no memory for them.
+#[inline(always)]
 pub fn open_number(out: &mut Vec<u8>, opening: &[u8], value: &Decimal) -> Result<(), AllocError>
     ensures { OnOk result (out.new.items ≡ out.old.items ++ (opening.now ++ plain value.now)) }
 {

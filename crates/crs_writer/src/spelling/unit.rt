@@ -1,14 +1,25 @@
-//! How units begin, and the unit where none is written.
-ghost use Rattle.std.specs.Prelude.{◌≡◌, ◌∷◌, ◌++◌, [], OnOk};
-ghost use Rattle.crs_text.specs.Written.{item_text};
+//! Units, and the unit where none is written.
+ghost use Rattle.std.specs.Prelude.{◌≡◌, ◌∷◌, ◌++◌, ℕ, [], List, OnOk, Option, Some};
+ghost use Rattle.crs_decimal.specs.Value.{Value};
+ghost use Rattle.crs_text.specs.Items.{End};
+ghost use Rattle.crs_text.specs.Written.{item_text, others_text};
 ghost use Rattle.crs_shape.specs.Words.{unit_word};
-ghost use Rattle.crs_normal.specs.SpelledUnits.{item_unit, metre};
+ghost use Rattle.crs_value.specs.Values.{IdentParts, UnitParts};
+ghost use Rattle.crs_normal.specs.PartTexts.{unit_text};
+ghost use Rattle.crs_normal.specs.SpelledItems.{opt};
+ghost use Rattle.crs_normal.specs.SpelledUnits.{item_unit, metre, norm_length, norm_unit};
+ghost use Rattle.crs_writer.specs.Direct.{Writes};
+ghost use Rattle.crs_writer.specs.Parts.{SaysIfAny, opt_text};
 
-use crate::spelling::texts::append;
-use crs_value::UnitKind;
+use crate::direct::node::Node;
+use crate::parts::{IdentsPart, NumberPart, UnitPart};
+use crate::spell::Spell;
+use crate::spelling::ident::write_idents;
+use crate::spelling::texts::{append, open_text, write_number};
+use crs_value::{Level, Unit, UnitKind};
 use std::alloc::AllocError;
 
-/// A comma, the keyword of a kind of unit, the opening delimiter and a quote. Profile.
+// A comma, the keyword of a kind of unit, the opening delimiter and a quote.
 pub fn unit_opening(kind: UnitKind) -> &'static str
     ensures { result.now ≡ 44 ∷ (unit_word kind ++ 91 ∷ 34 ∷ []) }
 {
@@ -20,11 +31,130 @@ pub fn unit_opening(kind: UnitKind) -> &'static str
     }
 }
 
-/// Appends the metre after a comma. Profile.
-///
-/// `AllocError`: there is no memory for it.
+// Without the comma.
+fn bare_opening(kind: UnitKind) -> &'static [u8]
+    ensures { result.now ≡ unit_word kind ++ 91 ∷ 34 ∷ [] }
+{
+    match unit_opening(kind).as_bytes() {
+        [] => &[],
+        [_, opening @ ..] => opening,
+    }
+}
+
 pub fn write_metre(out: &mut Vec<u8>) -> Result<(), AllocError>
     ensures { OnOk result (out.new.items ≡ out.old.items ++ 44 ∷ item_text (item_unit metre)) }
 {
     append(out, b",LENGTHUNIT[\"metre\",1]")
+}
+
+// After a comma; where this kind is asked, as which `UNIT` counts.
+fn write_unit<N: NumberPart, I: IdentsPart>(
+    out: &mut Vec<u8>,
+    asked: UnitKind,
+    kind: UnitKind,
+    name: &[u8],
+    factor: N,
+    ids: I,
+    level: Level,
+) -> Result<(), AllocError>
+    ensures { OnOk result ((u : UnitParts) → u.kind ≡ kind → u.name ≡ name.now → N.Says factor u.factor →
+        I.Says ids u.identifiers →
+        out.new.items ≡ out.old.items ++ 44 ∷ item_text (item_unit (norm_unit level asked u))) }
+{
+    open_text(out, unit_opening(kind.as_asked(asked)).as_bytes(), name)?;
+    factor.open(out, b",")?;
+    ids.put(out, level)?;
+    append(out, b"]")
+}
+
+impl<'b, 'a> UnitPart for &'b Unit<'a> {
+    ghost Says = { λ s v. v ≡ s.now };
+
+    fn put(&self, out: &mut Vec<u8>, asked: UnitKind, level: Level) -> Result<(), AllocError> {
+        let unit: &'b Unit<'a> = *self;
+        write_unit(
+            out,
+            asked,
+            unit.kind,
+            unit.name,
+            &unit.factor,
+            &unit.identifiers,
+            level,
+        )
+    }
+}
+
+impl<'c, 'i, 'a> UnitPart for &'c Node<'i, 'a> {
+    ghost use Rattle.crs_value.specs.Reads.{ReadsUnit};
+    ghost use Rattle.crs_writer.specs.Cursor.{item};
+
+    ghost Says = { λ n u. ReadsUnit n.now.class (item n.now) u };
+
+    fn put(&self, out: &mut Vec<u8>, asked: UnitKind, level: Level) -> Result<(), AllocError> {
+        write_unit(
+            out,
+            asked,
+            self.kind(),
+            self.text(),
+            self.number(),
+            *self,
+            level,
+        )
+    }
+}
+
+/// Appends a unit where this kind is asked, as which `UNIT` counts. Profile.
+///
+/// `AllocError`: there is no memory for it.
+pub fn write_bare_unit(
+    out: &mut Vec<u8>,
+    asked: UnitKind,
+    unit: &Unit<'_>,
+    level: Level,
+) -> Result<(), AllocError>
+    ensures { OnOk result (out.new.items ≡ out.old.items ++ item_text (item_unit (norm_unit level asked unit.now))) }
+{
+    open_text(out, bare_opening(unit.kind.as_asked(asked)), unit.name)?;
+    write_number(out, &unit.factor)?;
+    write_idents(out, &unit.identifiers, level)?;
+    append(out, b"]")
+}
+
+impl Spell for Unit<'_> {
+    ghost spelling = { unit_text };
+
+    fn spell(&self, out: &mut Vec<u8>, level: Level) -> Result<(), AllocError> {
+        write_bare_unit(out, UnitKind::Plain, self, level)
+    }
+}
+
+// A unit that may be missing.
+pub(crate) fn write_optional_unit<U: UnitPart>(
+    out: &mut Vec<u8>,
+    asked: UnitKind,
+    unit: Option<U>,
+    level: Level,
+) -> Result<(), AllocError>
+    ensures { OnOk result (Writes (SaysIfAny U.Says unit)
+        (opt_text (λ u. item_text (item_unit (norm_unit level asked u)))) out.old.items out.new.items) }
+{
+    match unit {
+        None => Ok(()),
+        Some(unit) => unit.put(out, asked, level),
+    }
+}
+
+// A length: where none is written, the metre.
+pub(crate) fn write_length<U: UnitPart>(
+    out: &mut Vec<u8>,
+    unit: Option<U>,
+    level: Level,
+) -> Result<(), AllocError>
+    ensures { OnOk result (Writes (SaysIfAny U.Says unit)
+        (λ u. others_text (opt item_unit (Some (norm_length level u)) End)) out.old.items out.new.items) }
+{
+    match unit {
+        None => write_metre(out),
+        Some(unit) => unit.put(out, UnitKind::Length, level),
+    }
 }

@@ -17,7 +17,7 @@ returns c =
     let before = c.args.out.now.items in
     let after = c.extend_from_slice.new.self.items in
     let made : c.as_slice.result.now ≡ text =
-    whole _ text _ _ c.as_slice.ensures.value c.in_ok-write_unit.ensures c.new-text.ensures.items in
+    whole _ text _ _ c.as_slice.ensures.value c.in_ok-write_bare_unit.ensures c.new-text.ensures.items in
     let one : text ≡ unit_text level alone = ap (λ u. item_text (item_unit u)) (sym (asked-alone level c.args.asked unit)) in
     appended (IsContentText level (content.Unit c.args.asked unit)) before after text c.extend_from_slice.result
     (subst (λ s. MatchResult c.extend_from_slice.result (λ _. after ≡ before ++ s) (λ _. after ≡ before)) made

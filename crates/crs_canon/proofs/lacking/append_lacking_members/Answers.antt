@@ -1,4 +1,4 @@
-use Rattle.std.proofs.Common.{◌≡◌, [], rules}
+use Rattle.std.proofs.Common.{◌≡◌, [], refl, rules}
 use Rattle.crs_canon.specs.ContentText.{IsLackingText}
 use Rattle.crs_writer.specs.Members.{lacking, spellings}
 use Rattle.crs_writer.specs.SetText.{comma_separated}
@@ -21,6 +21,6 @@ returns g c =
     appended (IsLackingText Spells these others) c.args.out.now.items c.append_lacking.new.out.items
     (comma_separated (lacking keys other_keys)) c.append_lacking.result c.append_lacking.ensures
     (lacking-text Spells law.ascend law.members these others keys other_keys
-    (all-put Spells text these (spellings c.new-sorted.result.keys) [] keys none (c.are_spelled.ensures c.args.level) c.in_ok-gather_all.ensures)
+    (all-put Spells text these (spellings c.new-sorted.result.keys) [] keys none (c.are_spelled.ensures c.args.level) (c.in_ok-gather_all.ensures these refl))
     (all-put Spells text others (spellings c.new-other.result.keys) [] other_keys none_other (c.are_spelled-2.ensures c.args.level)
-    c.in_ok-gather_all-2.ensures))
+    (c.in_ok-gather_all-2.ensures others refl)))

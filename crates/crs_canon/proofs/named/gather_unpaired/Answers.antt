@@ -6,7 +6,7 @@ use Rattle.crs_writer.specs.Members.{spellings}
 use Rattle.crs_canon.specs.Named.{is_paired}
 use Rattle.crs_canon.proofs.NamedLemmas.{left-out, put-in}
 use Rattle.crs_canon.proofs.named.gather_unpaired.Goals as goal
-use Rattle.crs_canon.proofs.named.gather_unpaired.Goals.{then-is_unpaired+in_ok-gather, else-is_unpaired}
+use Rattle.crs_canon.proofs.named.gather_unpaired.Goals.{then-is_unpaired+in_ok-gather_parameter, else-is_unpaired}
 
 pub loop-member-preserved : goal.loop-member-preserved
 loop-member-preserved c =
@@ -20,7 +20,7 @@ loop-member-preserved c =
     let after = spellings c.if-is_unpaired.sorted.keys in
     let here : drop index these ≡ x ∷ further = grind (arith, common_steps, c.member-item.is, c.loop-member-test.true) in
     elim c.if-is_unpaired.branch [
-      | then-is_unpaired+in_ok-gather w ↦
+      | then-is_unpaired+in_ok-gather_parameter w ↦
           let passes : not (is_paired these others x.name) ≡ true = search rules in
           let more : after ≡ put (λ b. b) (parameter_text level x) before = search rules in
           put-in (parameter_text level) (λ z. not (is_paired these others z.name)) x (drop index these) further before after _ here

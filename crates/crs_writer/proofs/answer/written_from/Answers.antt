@@ -3,12 +3,11 @@ use Rattle.crs_text.specs.Items.{first_of}
 use Rattle.crs_text.specs.Written.{AreFormed}
 use Rattle.crs_value.specs.Reading.{item_at}
 use Rattle.crs_writer.specs.CrsText.{crs_text}
-use Rattle.crs_writer.proofs.DirectCrsLemmas.{from-items}
-use Rattle.crs_writer.proofs.ReadLemmas.{spelled-read}
+use Rattle.crs_writer.proofs.DirectCrsLemmas.{from-items, spelled-read}
 use Rattle.crs_writer.proofs.answer.written_from.Goals as goal
 
-pub write_crs-requires-clause-reads : goal.write_crs-requires-clause-reads
-write_crs-requires-clause-reads c =
+pub write_crs-requires : goal.write_crs-requires
+write_crs-requires c =
     spelled-read c.args.items.now (item_at c.args.items.now c.root-root.result) c.args.class (ap first_of c.root-root.ensures.root)
     c.requires.class c.requires.spells
 

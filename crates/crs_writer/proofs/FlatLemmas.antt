@@ -1,0 +1,144 @@
+-- The rules by which a writer of a node's parts is proved without an answer.
+use Rattle.std.proofs.Common.{◌≡◌, ℕ, List, [], ◌∷◌, ◌++◌, Option, Some, None, map, refl, sym, ap, subst, ◌∙◌, append_assoc}
+use Rattle.std.proofs.lemmas.List.{append-nil}
+use Rattle.std.specs.Option.{option_copied, option_map}
+use denote.Bor.{Bor}
+use Rattle.crs_text.specs.Items.{Item, Siblings, End}
+use Rattle.crs_text.specs.Written.{item_text, others_text}
+use Rattle.crs_shape.specs.declared.unit_kind.UnitKind.{UnitKind}
+use Rattle.crs_decimal.specs.Plain.{plain}
+use Rattle.crs_decimal.specs.Value.{Value}
+use Rattle.crs_value.specs.ConversionValues.{GeoidModelParts, ParameterParts}
+use Rattle.crs_value.specs.Values.{AxisMeridianParts, MemberParts, UnitParts}
+use Rattle.crs_value.specs.declared.values.level.Level.{Level}
+use Rattle.crs_normal.specs.PartTexts.{axis_meridian_text, geoid_model_text, member_text, parameter_text}
+use Rattle.crs_normal.specs.SpelledConversions.{item_geoid_model, item_parameter, set_geoid_models, set_parameters}
+use Rattle.crs_normal.specs.SpelledFrames.{item_member, set_members}
+use Rattle.crs_normal.specs.SpelledItems.{each, number_node, opt}
+use Rattle.crs_normal.specs.SpelledSystems.{item_axis_meridian, norm_axis_meridians}
+use Rattle.crs_normal.specs.SpelledUnits.{item_unit, norm_unit, norm_units}
+use Rattle.crs_writer.specs.Members.{set_text}
+use Rattle.crs_writer.specs.Parts.{SaysIfAny, number_behind, opt_text}
+use Rattle.crs_writer.proofs.DirectLemmas.{closed, keyworded, last-more, last-text, then-text}
+use Rattle.crs_writer.proofs.PieceLemmas.{then-each, then-more, then-opt, three, two}
+use Rattle.crs_writer.proofs.SystemLemmas.{then-system}
+use Rattle.crs_writer.proofs.WrittenLemmas.{geoid_models-written, members-written, parameters-written}
+
+-- ---- parts that may be missing, and then the rest
+
+pub then-plain : {A : Type 0} (spell : A → Item) (value : Option A) (rest : Siblings) (old s1 s2 : List ℕ) →
+    s1 ≡ old ++ opt_text (λ v. item_text (spell v)) value → s2 ≡ s1 ++ others_text rest → s2 ≡ old ++ others_text (opt spell value rest)
+then-plain spell None rest old s1 s2 e f = two old [] (others_text rest) s1 s2 e f
+then-plain spell (Some v) rest old s1 s2 e f = two old (44 ∷ item_text (spell v)) (others_text rest) s1 s2 e f
+
+pub then-part : {A B : Type 0} (spell : B → Item) (norm : A → B) (value : Option A) (rest : Siblings) (old s1 s2 : List ℕ) →
+    s1 ≡ old ++ opt_text (λ v. item_text (spell (norm v))) value → s2 ≡ s1 ++ others_text rest →
+    s2 ≡ old ++ others_text (opt spell (option_map norm value) rest)
+then-part spell norm None rest old s1 s2 e f = two old [] (others_text rest) s1 s2 e f
+then-part spell norm (Some v) rest old s1 s2 e f = two old (44 ∷ item_text (spell (norm v))) (others_text rest) s1 s2 e f
+
+pub then-unit : (level : Level) (asked : UnitKind) (value : Option UnitParts) (rest : Siblings) (old s1 s2 : List ℕ) →
+    s1 ≡ old ++ opt_text (λ v. item_text (item_unit (norm_unit level asked v))) value → s2 ≡ s1 ++ others_text rest →
+    s2 ≡ old ++ others_text (opt item_unit (norm_units level asked value) rest)
+then-unit level asked None rest old s1 s2 e f = two old [] (others_text rest) s1 s2 e f
+then-unit level asked (Some v) rest old s1 s2 e f = two old (44 ∷ item_text (item_unit (norm_unit level asked v))) (others_text rest) s1 s2 e f
+
+pub last-unit : (level : Level) (asked : UnitKind) (value : Option UnitParts) (old s1 : List ℕ) →
+    s1 ≡ old ++ opt_text (λ v. item_text (item_unit (norm_unit level asked v))) value →
+    s1 ≡ old ++ others_text (opt item_unit (norm_units level asked value) End)
+last-unit level asked None old s1 e = e
+last-unit level asked (Some v) old s1 e = e ∙ ap (λ (x : List ℕ). old ++ 44 ∷ x) (sym (append-nil (item_text (item_unit (norm_unit level asked v)))))
+
+pub then-along : (level : Level) (value : Option AxisMeridianParts) (rest : Siblings) (old s1 s2 : List ℕ) →
+    s1 ≡ old ++ opt_text (axis_meridian_text level) value → s2 ≡ s1 ++ others_text rest →
+    s2 ≡ old ++ others_text (opt item_axis_meridian (norm_axis_meridians level value) rest)
+then-along level None rest old s1 s2 e f = two old [] (others_text rest) s1 s2 e f
+then-along level (Some v) rest old s1 s2 e f = two old (44 ∷ axis_meridian_text level v) (others_text rest) s1 s2 e f
+
+pub last-part : {A B : Type 0} (spell : B → Item) (norm : A → B) (value : Option A) (old s1 : List ℕ) →
+    s1 ≡ old ++ opt_text (λ v. item_text (spell (norm v))) value → s1 ≡ old ++ others_text (opt spell (option_map norm value) End)
+last-part spell norm None old s1 e = e
+last-part spell norm (Some v) old s1 e = e ∙ ap (λ (x : List ℕ). old ++ 44 ∷ x) (sym (append-nil (item_text (spell (norm v)))))
+
+number-text : (keyword : List ℕ) (value : Option Value) →
+    number_behind (44 ∷ (keyword ++ 91 ∷ [])) value ≡ others_text (opt (number_node keyword) value End)
+number-text keyword None = refl
+number-text keyword (Some v) = simp (append_assoc, append-nil)
+
+pub then-number : (keyword : List ℕ) (value : Option Value) (rest : Siblings) (old s1 s2 : List ℕ) →
+    s1 ≡ old ++ number_behind (44 ∷ (keyword ++ 91 ∷ [])) value → s2 ≡ s1 ++ others_text rest →
+    s2 ≡ old ++ others_text (opt (number_node keyword) value rest)
+then-number keyword value rest old s1 s2 e f =
+    then-opt (number_node keyword) value rest old s1 s2 (e ∙ ap (λ (x : List ℕ). old ++ x) (number-text keyword value)) f
+
+-- ---- sets, and then the rest
+
+pub then-members : (level : Level) (values : List MemberParts) (rest : Siblings) (old s1 s2 : List ℕ) →
+    s1 ≡ old ++ set_text (map (member_text level) values) → s2 ≡ s1 ++ others_text rest →
+    s2 ≡ old ++ others_text (each item_member (set_members level values) rest)
+then-members level values rest old s1 s2 e f =
+    then-each item_member (set_members level values) rest old s1 s2 (e ∙ ap (λ (x : List ℕ). old ++ x) (sym (members-written level values))) f
+
+pub then-parameters : (level : Level) (values : List ParameterParts) (rest : Siblings) (old s1 s2 : List ℕ) →
+    s1 ≡ old ++ set_text (map (parameter_text level) values) → s2 ≡ s1 ++ others_text rest →
+    s2 ≡ old ++ others_text (each item_parameter (set_parameters level values) rest)
+then-parameters level values rest old s1 s2 e f =
+    then-each item_parameter (set_parameters level values) rest old s1 s2
+    (e ∙ ap (λ (x : List ℕ). old ++ x) (sym (parameters-written level values))) f
+
+pub then-models : (level : Level) (values : List GeoidModelParts) (rest : Siblings) (old s1 s2 : List ℕ) →
+    s1 ≡ old ++ set_text (map (geoid_model_text level) values) → s2 ≡ s1 ++ others_text rest →
+    s2 ≡ old ++ others_text (each item_geoid_model (set_geoid_models level values) rest)
+then-models level values rest old s1 s2 e f =
+    then-each item_geoid_model (set_geoid_models level values) rest old s1 s2
+    (e ∙ ap (λ (x : List ℕ). old ++ x) (sym (geoid_models-written level values))) f
+
+-- ---- what parts say
+
+-- in words of the value, or of what is seen of it
+pub told : {A : Type 0} (text : A → List ℕ) (value seen : A) (old new : List ℕ) → value ≡ seen → new ≡ old ++ text seen → new ≡ old ++ text value
+told text value seen old new e f = f ∙ ap (λ v. old ++ text v) (sym e)
+
+pub as-said : {A : Type 0} (text : A → List ℕ) (seen value : A) (old new : List ℕ) → seen ≡ value → new ≡ old ++ text seen → new ≡ old ++ text value
+as-said text seen value old new e f = f ∙ ap (λ v. old ++ text v) e
+
+-- a part of a value that may be missing
+pub copied : {V : Type 0} (parts : Option (Bor V)) (value : Option V) → option_copied parts ≡ value →
+    SaysIfAny (λ (s : Bor V) v. v ≡ s.now) parts value
+copied None None e = tt
+copied None (Some v) e = let h : ⊥ = cc in h
+copied (Some s) None e = let h : ⊥ = cc in h
+copied (Some s) (Some v) e = let h : v ≡ s.now = cc in h
+
+-- a part that is seen through a reference
+pub through : {P V : Type 0} (Says : P → V → Type 0) (refs : Option (Bor P)) (parts : Option P) (value : Option V) →
+    option_copied refs ≡ parts → SaysIfAny Says parts value → SaysIfAny (λ (s : Bor P) v. Says s.now v) refs value
+through Says None None None e h = tt
+through Says None None (Some v) e h = h
+through Says None (Some s) value e h = let n : ⊥ = cc in absurd n
+through Says (Some r) None value e h = let n : ⊥ = cc in absurd n
+through Says (Some r) (Some s) None e h = h
+through Says (Some r) (Some s) (Some v) e h = let q : s ≡ r.now = cc in subst (λ x. Says x v) q h
+
+-- ---- numbers
+
+-- a node from its opening with a number, its arguments behind that, and its closing delimiter
+pub numbered : (opening : List ℕ) (value : Value) (others : Siblings) (old s1 s2 s3 : List ℕ) → s1 ≡ old ++ (opening ++ plain value) →
+    s2 ≡ s1 ++ others_text others → s3 ≡ s2 ++ 93 ∷ [] → s3 ≡ old ++ ((opening ++ plain value) ++ (others_text others ++ 93 ∷ []))
+numbered opening value others old s1 s2 s3 e f g = three old (opening ++ plain value) (others_text others) (93 ∷ []) s1 s2 s3 e f g
+
+pub ruleset value_rules = (copied)
+
+pub ruleset unit_rules = (last-unit)
+
+pub ruleset flat_rules = (closed, then-opt, then-each, then-more, then-text, then-part, then-number, then-unit)
+
+pub ruleset number_rules = (numbered, then-more, last-more)
+
+pub ruleset along_rules = (numbered, last-unit)
+
+pub ruleset dynamic_rules = (three, last-part)
+
+pub ruleset usage_rules = (then-plain, then-text, last-part)
+
+pub ruleset crs_rules = (closed, keyworded, then-opt, then-more, then-part, then-unit, then-system)

@@ -1,0 +1,13 @@
+use Rattle.std.proofs.lemmas.Result.{on_ok_weaker}
+use Rattle.crs_value.specs.Reads.{ReadsUnit}
+use Rattle.crs_writer.specs.Cursor.{item}
+use Rattle.crs_writer.specs.declared.direct.node.Node.{Node}
+use Rattle.crs_writer.proofs.FlatLemmas.{through}
+use Rattle.crs_writer.proofs.spelling.conversion.ParameterReadAs.write_of.Goals as goal
+
+pub returns : goal.returns
+returns c = on_ok_weaker c.write_parameter.result (λ w. record {
+  writes = λ p r. w p (c.text.ensures p.name r.name) (c.number.ensures p.value r.value)
+      (through (λ (n : Node) u. ReadsUnit n.class (item n) u) _ _ _ c.as_ref.ensures.value (c.parameter_unit-unit.ensures p.unit r.unit))
+      r.identifiers;
+}) c.write_parameter.ensures

@@ -1,0 +1,26 @@
+use Rattle.std.proofs.Common.{◌+◌, ◌-◌, ◌++◌, length, arith}
+use Rattle.crs_text.specs.Items.{End}
+use Rattle.crs_text.specs.Written.{others_text}
+use Rattle.crs_normal.specs.SpelledItems.{each}
+use Rattle.crs_normal.specs.SpelledSystems.{axes_from, item_axis}
+use Rattle.crs_writer.proofs.DirectAxisLemmas.{axes-ended}
+use Rattle.crs_writer.proofs.SystemLemmas.{next-axis}
+use Rattle.crs_writer.proofs.spelling.system.write_axes.Goals as goal
+
+pub loop-index-preserved : goal.loop-index-preserved
+loop-index-preserved g c = λ s type said.
+    let n = length s.axes in
+    let k = c.loop-index.index in
+    let counted = c.axis_count-count.ensures s said in
+    next-axis c.args.level s (k + 1) (n - k) (n - (k + 1)) c.loop-index.out.items c.put_axis.new.out.items
+    (c.args.out.now.items ++ others_text (each item_axis (axes_from c.args.level s 1 n) End))
+    (omega (arith, c.loop-index-test.true, counted)) (c.loop-index.invariant s type said) (c.in_ok-put_axis.ensures s type said)
+
+pub returns : goal.returns
+returns g c = λ s type said.
+    let n = length s.axes in
+    let k = c.loop-index.index in
+    let counted = c.axis_count-count.ensures s said in
+    axes-ended c.args.level s (k + 1) (n - k) c.loop-index.out.items
+    (c.args.out.now.items ++ others_text (each item_axis (axes_from c.args.level s 1 n) End))
+    (omega (arith, c.loop-index-test.false, counted)) (c.loop-index.invariant s type said)

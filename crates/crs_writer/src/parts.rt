@@ -1,0 +1,202 @@
+//! Parts of nodes: those of a value, or those that are read from an item. Of each it is known which values it may say,
+//! and the text of any of them is what is appended.
+ghost use Rattle.std.specs.Prelude.{◌≡◌, ◌∷◌, ◌++◌, [], ℕ, List, OnOk, Option};
+ghost use Rattle.crs_decimal.specs.Plain.{plain};
+ghost use Rattle.crs_decimal.specs.Value.{Value};
+ghost use Rattle.crs_text.specs.Items.{End};
+ghost use Rattle.crs_text.specs.Written.{item_text, others_text};
+ghost use Rattle.crs_value.specs.Values.{IdentParts, UnitParts};
+ghost use Rattle.crs_normal.specs.SpelledFrames.{is_zero};
+ghost use Rattle.crs_normal.specs.SpelledItems.{each};
+ghost use Rattle.crs_normal.specs.SpelledUnits.{item_ident, item_unit, norm_unit, set_idents, whole_value};
+ghost use Rattle.crs_writer.specs.Direct.{IsRead, Writes};
+ghost use Rattle.crs_writer.specs.Parts.{SaysIfAny, number_behind, opt_text};
+
+use crate::direct::number::{decimal_of, write_raw};
+use crate::spell::{Spell, write_part};
+use crate::spelling::axis::write_whole;
+use crate::spelling::texts::{append, open_number};
+use crs_decimal::Decimal;
+use crs_value::{Level, UnitKind};
+use std::alloc::AllocError;
+
+/// A number: a decimal, its bytes, or a position. Profile.
+pub trait NumberPart: Copy {
+    /// The decimals that it may be: one, but where bytes spell none.
+    ghost Says: { Self → Value → Type 0 };
+
+    /// Appends an opening, or a comma, and the number.
+    ///
+    /// `AllocError`: there is no memory for them.
+    fn open(&self, out: &mut Vec<u8>, opening: &[u8]) -> Result<(), AllocError>
+        ensures { OnOk result (Writes (Says self.now) (λ v. opening.now ++ plain v) out.old.items out.new.items) };
+
+    /// Whether it is 0.
+    fn is_zero(&self) -> bool
+        ensures { (value : Value) → Says self.now value → result ≡ is_zero value };
+}
+
+/// The identifiers of a node. Profile.
+pub trait IdentsPart: Copy {
+    /// What they are.
+    ghost Says: { Self → List IdentParts → Type 0 };
+
+    /// Appends those that the level keeps, a comma before each.
+    ///
+    /// `AllocError`: there is no memory for them.
+    fn put(&self, out: &mut Vec<u8>, level: Level) -> Result<(), AllocError>
+        ensures { OnOk result (Writes (Says self.now) (λ ids. others_text (each item_ident (set_idents level ids) End))
+            out.old.items out.new.items) };
+}
+
+/// A unit. Profile.
+pub trait UnitPart: Copy {
+    /// What it is.
+    ghost Says: { Self → UnitParts → Type 0 };
+
+    /// Appends it after a comma, where this kind is asked: `UNIT` counts as that kind.
+    ///
+    /// `AllocError`: there is no memory for it.
+    fn put(&self, out: &mut Vec<u8>, asked: UnitKind, level: Level) -> Result<(), AllocError>
+        ensures { OnOk result (Writes (Says self.now) (λ u. 44 ∷ item_text (item_unit (norm_unit level asked u)))
+            out.old.items out.new.items) };
+}
+
+/// A value that is a part of a node, or the item that it is read from. Profile.
+pub trait Part<T: Spell>: Copy {
+    /// The values that it may be.
+    ghost Says: { Self → T → Type 0 };
+
+    /// Appends it after a comma.
+    ///
+    /// `AllocError`: there is no memory for it.
+    fn put(&self, out: &mut Vec<u8>, level: Level) -> Result<(), AllocError>
+        ensures { OnOk result (Writes (Says self.now) (λ v. 44 ∷ T.spelling level v) out.old.items out.new.items) };
+}
+
+/// A part that a node must have, and in which others must be. Profile.
+pub trait NeededPart<T: Spell>: Copy {
+    /// The values that it may be.
+    ghost Says: { Self → T → Type 0 };
+
+    /// Appends it after a comma.
+    ///
+    /// `AllocError`: there is no memory for it.
+    fn put(&self, out: &mut Vec<u8>, level: Level) -> Result<(), AllocError>
+        requires { IsRead (Says self.now) }
+        ensures { OnOk result (Writes (Says self.now) (λ v. 44 ∷ T.spelling level v) out.old.items out.new.items) };
+}
+
+impl<'b> NumberPart for &'b Decimal {
+    ghost Says = { λ s v. v ≡ s.now };
+
+    #[inline(always)]
+    fn open(&self, out: &mut Vec<u8>, opening: &[u8]) -> Result<(), AllocError> {
+        open_number(out, opening, *self)
+    }
+
+    fn is_zero(&self) -> bool {
+        Decimal::is_zero(*self)
+    }
+}
+
+// As the bytes spell it.
+impl<'b> NumberPart for &'b [u8] {
+    ghost use Rattle.crs_writer.specs.Parts.{IsNumber};
+
+    ghost Says = { λ s v. IsNumber s.now v };
+
+    #[inline(always)]
+    fn open(&self, out: &mut Vec<u8>, opening: &[u8]) -> Result<(), AllocError> {
+        append(out, opening)?;
+        write_raw(out, *self)
+    }
+
+    fn is_zero(&self) -> bool {
+        match decimal_of(*self) {
+            None => false,
+            Some(value) => value.is_zero(),
+        }
+    }
+}
+
+// A position.
+impl NumberPart for u64 {
+    ghost use Rattle.crs_normal.specs.SpelledUnits.{whole_value};
+
+    ghost Says = { λ n v. v ≡ whole_value n };
+
+    #[inline(always)]
+    fn open(&self, out: &mut Vec<u8>, opening: &[u8]) -> Result<(), AllocError> {
+        append(out, opening)?;
+        write_whole(out, *self)
+    }
+
+    fn is_zero(&self) -> bool {
+        *self == 0
+    }
+}
+
+impl<'b, T: Spell> Part<T> for &'b T {
+    ghost Says = { λ s v. v ≡ s.now };
+
+    #[inline(always)]
+    fn put(&self, out: &mut Vec<u8>, level: Level) -> Result<(), AllocError> {
+        write_part(out, *self, level)
+    }
+}
+
+impl<'b, T: Spell> NeededPart<T> for &'b T {
+    ghost Says = { λ s v. v ≡ s.now };
+
+    #[inline(always)]
+    fn put(&self, out: &mut Vec<u8>, level: Level) -> Result<(), AllocError> {
+        write_part(out, *self, level)
+    }
+}
+
+// A part that may be missing.
+#[inline(always)]
+pub(crate) fn write_optional<T: Spell, P: Part<T>>(
+    out: &mut Vec<u8>,
+    part: Option<P>,
+    level: Level,
+) -> Result<(), AllocError>
+    ensures { OnOk result (Writes (SaysIfAny P.Says part) (opt_text (T.spelling level)) out.old.items out.new.items) }
+{
+    match part {
+        None => Ok(()),
+        Some(part) => part.put(out, level),
+    }
+}
+
+// A node of one number inside another, after its opening.
+#[inline(always)]
+pub(crate) fn write_number_node<N: NumberPart>(
+    out: &mut Vec<u8>,
+    opening: &[u8],
+    number: N,
+) -> Result<(), AllocError>
+    ensures { OnOk result (Writes (N.Says number) (λ v. opening.now ++ (plain v ++ 93 ∷ [])) out.old.items out.new.items) }
+{
+    number.open(out, opening)?;
+    append(out, b"]")
+}
+
+// A node of one number that may be missing, after its opening.
+#[inline(always)]
+pub(crate) fn write_optional_number<N: NumberPart>(
+    out: &mut Vec<u8>,
+    opening: &[u8],
+    number: Option<N>,
+) -> Result<(), AllocError>
+    ensures { OnOk result (Writes (SaysIfAny N.Says number) (number_behind opening.now) out.old.items out.new.items) }
+{
+    match number {
+        None => Ok(()),
+        Some(number) => {
+            number.open(out, opening)?;
+            append(out, b"]")
+        }
+    }
+}

@@ -1,0 +1,127 @@
+//! Compound CRSs, and their horizontal parts.
+ghost use Rattle.std.specs.Prelude.{◌≡◌, ◌++◌, OnOk};
+ghost use Rattle.crs_text.specs.Items.{More};
+ghost use Rattle.crs_value.specs.CompoundValues.{CompoundParts};
+ghost use Rattle.crs_value.specs.ReadsCrs.{ReadsCompound, ReadsHorizontal};
+ghost use Rattle.crs_normal.specs.PartTexts.{compound_text, horizontal_text};
+ghost use Rattle.crs_normal.specs.SpelledCrs.{item_horizontal, item_vertical, norm_horizontal, norm_vertical};
+ghost use Rattle.crs_normal.specs.SpelledUsages.{norm_tail, tail_items};
+ghost use Rattle.crs_writer.specs.Cursor.{item};
+ghost use Rattle.crs_writer.specs.Direct.{IsRead, Writes};
+ghost use Rattle.crs_writer.specs.Openings.{named_node};
+
+use crate::direct::node::Node;
+use crate::parts::NeededPart;
+use crate::spell::Spell;
+use crate::spelling::geodetic::write_geodetic_of;
+use crate::spelling::projected::write_projected_of;
+use crate::spelling::tail::TailPart;
+use crate::spelling::texts::{append, open_text};
+use crs_shape::Class;
+use crs_value::{Compound, Horizontal, Level, Vertical};
+use std::alloc::AllocError;
+
+impl Spell for Horizontal<'_> {
+    ghost spelling = { horizontal_text };
+
+    fn spell(&self, out: &mut Vec<u8>, level: Level) -> Result<(), AllocError> {
+        match self {
+            Horizontal::Geodetic(geodetic) => geodetic.spell(out, level),
+            Horizontal::Projected(projected) => projected.spell(out, level),
+        }
+    }
+}
+
+// The horizontal part of a compound CRS.
+fn write_horizontal(node: &Node<'_, '_>, out: &mut Vec<u8>, level: Level) -> Result<(), AllocError>
+    requires { IsRead (ReadsHorizontal node.now.class (item node.now)) }
+    ensures { OnOk result (Writes (ReadsHorizontal node.now.class (item node.now)) (horizontal_text level)
+        out.old.items out.new.items) }
+{
+    if let Some(found) = node.first(Class::GeodeticCrs) {
+        return write_geodetic_of(&found, out, level);
+    }
+    if let Some(found) = node.first(Class::GeographicCrs) {
+        return write_geodetic_of(&found, out, level);
+    }
+    match node.first(Class::ProjectedCrs) {
+        None => unreachable!(),
+        Some(found) => write_projected_of(&found, out, level),
+    }
+}
+
+// In the node of the compound CRS.
+impl<'c, 'i, 'a> NeededPart<Horizontal<'a>> for &'c Node<'i, 'a> {
+    ghost use Rattle.crs_value.specs.ReadsCrs.{ReadsHorizontal};
+    ghost use Rattle.crs_writer.specs.Cursor.{item};
+
+    ghost Says = { λ n h. ReadsHorizontal n.now.class (item n.now) h };
+
+    fn put(&self, out: &mut Vec<u8>, level: Level) -> Result<(), AllocError> {
+        append(out, b",")?;
+        write_horizontal(*self, out, level)
+    }
+}
+
+// After an opening.
+fn write_compound<'a, H: NeededPart<Horizontal<'a>>, V: NeededPart<Vertical<'a>>, T: TailPart>(
+    out: &mut Vec<u8>,
+    opening: &[u8],
+    name: &[u8],
+    horizontal: H,
+    vertical: V,
+    tail: T,
+    level: Level,
+) -> Result<(), AllocError>
+    requires horizontal { IsRead (H.Says horizontal) }
+    requires vertical { IsRead (V.Says vertical) }
+    ensures { OnOk result ((p : CompoundParts) → p.name ≡ name.now → H.Says horizontal p.horizontal →
+        V.Says vertical p.vertical → T.Says tail p.tail → out.new.items ≡ out.old.items ++ named_node opening.now p.name
+        (More (item_horizontal (norm_horizontal level p.horizontal)) (More (item_vertical (norm_vertical level p.vertical))
+        (tail_items (norm_tail level p.tail))))) }
+{
+    open_text(out, opening, name)?;
+    horizontal.put(out, level)?;
+    vertical.put(out, level)?;
+    tail.put(out, level)?;
+    append(out, b"]")
+}
+
+impl Spell for Compound<'_> {
+    ghost spelling = { compound_text };
+
+    fn spell(&self, out: &mut Vec<u8>, level: Level) -> Result<(), AllocError> {
+        write_compound(
+            out,
+            b"COMPOUNDCRS[\"",
+            self.name,
+            &self.horizontal,
+            &self.vertical,
+            &self.tail,
+            level,
+        )
+    }
+}
+
+// Of an item.
+pub(crate) fn write_compound_of(
+    node: &Node<'_, '_>,
+    out: &mut Vec<u8>,
+    level: Level,
+) -> Result<(), AllocError>
+    requires { IsRead (ReadsCompound node.now.class (item node.now)) }
+    ensures { OnOk result (Writes (ReadsCompound node.now.class (item node.now)) (compound_text level)
+        out.old.items out.new.items) }
+{
+    let tail = node;
+    let vertical = node.one(Class::VerticalCrs);
+    write_compound(
+        out,
+        b"COMPOUNDCRS[\"",
+        node.text(),
+        node,
+        &vertical,
+        tail,
+        level,
+    )
+}

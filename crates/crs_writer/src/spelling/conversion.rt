@@ -1,0 +1,180 @@
+//! Conversions and geoid models.
+ghost use Rattle.std.specs.Prelude.{◌≡◌, ◌++◌, OnOk};
+ghost use Rattle.crs_text.specs.Items.{End, More};
+ghost use Rattle.crs_shape.specs.declared.unit_kind.UnitKind.TheVariants as kinds;
+ghost use Rattle.crs_value.specs.ConversionValues.{ConversionParts, ParameterParts};
+ghost use Rattle.crs_normal.specs.PartTexts.{conversion_text, geoid_model_text, method_text, parameter_text};
+ghost use Rattle.crs_normal.specs.SpelledConversions.{item_method, item_parameter, norm_method, set_parameters};
+ghost use Rattle.crs_normal.specs.SpelledItems.{each, number_item, opt};
+ghost use Rattle.crs_normal.specs.SpelledUnits.{item_ident, item_unit, norm_units, set_idents};
+ghost use Rattle.crs_writer.specs.Openings.{named_node};
+ghost use Rattle.crs_writer.specs.Parts.{SaysIfAny};
+
+use crate::direct::chain::ReadAs;
+use crate::direct::node::Node;
+use crate::members::MembersPart;
+use crate::parts::{IdentsPart, NeededPart, NumberPart, Part, UnitPart};
+use crate::set::write_set;
+use crate::spell::Spell;
+use crate::spelling::ident::write_named;
+use crate::spelling::texts::{append, open_text};
+use crate::spelling::unit::write_optional_unit;
+use crs_shape::Class;
+use crs_value::{Conversion, GeoidModel, Level, Method, Parameter, UnitKind};
+use std::alloc::AllocError;
+
+impl Spell for Method<'_> {
+    ghost spelling = { method_text };
+
+    fn spell(&self, out: &mut Vec<u8>, level: Level) -> Result<(), AllocError> {
+        write_named(out, b"METHOD[\"", self.name, &self.identifiers, level)
+    }
+}
+
+impl<'c, 'i, 'a> Part<Method<'a>> for &'c Node<'i, 'a> {
+    ghost use Rattle.crs_value.specs.ReadsConversion.{ReadsMethod};
+    ghost use Rattle.crs_writer.specs.Cursor.{item};
+
+    ghost Says = { λ n m. ReadsMethod n.now.class (item n.now) m };
+
+    fn put(&self, out: &mut Vec<u8>, level: Level) -> Result<(), AllocError> {
+        write_named(out, b",METHOD[\"", self.text(), *self, level)
+    }
+}
+
+// After an opening.
+#[tactic(auto, using(crate::proofs::FlatLemmas::flat_rules))]
+fn write_parameter<N: NumberPart, U: UnitPart, I: IdentsPart>(
+    out: &mut Vec<u8>,
+    opening: &[u8],
+    name: &[u8],
+    value: N,
+    unit: Option<U>,
+    ids: I,
+    level: Level,
+) -> Result<(), AllocError>
+    ensures { OnOk result ((p : ParameterParts) → p.name ≡ name.now → N.Says value p.value →
+        SaysIfAny U.Says unit p.unit → I.Says ids p.identifiers →
+        out.new.items ≡ out.old.items ++ named_node opening.now p.name (More (number_item p.value)
+        (opt item_unit (norm_units level kinds.Plain p.unit) (each item_ident (set_idents level p.identifiers) End)))) }
+{
+    open_text(out, opening, name)?;
+    value.open(out, b",")?;
+    write_optional_unit(out, UnitKind::Plain, unit, level)?;
+    ids.put(out, level)?;
+    append(out, b"]")
+}
+
+impl Spell for Parameter<'_> {
+    ghost spelling = { parameter_text };
+
+    fn spell(&self, out: &mut Vec<u8>, level: Level) -> Result<(), AllocError> {
+        write_parameter(
+            out,
+            b"PARAMETER[\"",
+            self.name,
+            &self.value,
+            self.unit.as_ref(),
+            &self.identifiers,
+            level,
+        )
+    }
+}
+
+impl<'a> ReadAs<'a> for Parameter<'a> {
+    ghost use Rattle.crs_value.specs.ReadsConversion.{ReadsParameter};
+
+    ghost Reads = { λ c item p. ReadsParameter c item p };
+
+    fn write_of(node: &Node<'_, 'a>, out: &mut Vec<u8>, level: Level) -> Result<(), AllocError> {
+        let unit = node.parameter_unit();
+        write_parameter(
+            out,
+            b"PARAMETER[\"",
+            node.text(),
+            node.number(),
+            unit.as_ref(),
+            node,
+            level,
+        )
+    }
+}
+
+// After an opening.
+fn write_conversion<'a, M: Part<Method<'a>>, P: MembersPart<Parameter<'a>>, I: IdentsPart>(
+    out: &mut Vec<u8>,
+    opening: &[u8],
+    name: &[u8],
+    method: M,
+    parameters: &P,
+    ids: I,
+    level: Level,
+) -> Result<(), AllocError>
+    requires { P.Hold parameters.now }
+    ensures { OnOk result ((x : ConversionParts) → x.name ≡ name.now → M.Says method x.method →
+        P.Say parameters.now x.parameters → I.Says ids x.identifiers →
+        out.new.items ≡ out.old.items ++ named_node opening.now x.name (More (item_method (norm_method level x.method))
+        (each item_parameter (set_parameters level x.parameters) (each item_ident (set_idents level x.identifiers) End)))) }
+{
+    open_text(out, opening, name)?;
+    method.put(out, level)?;
+    write_set::<Parameter<'a>, P>(out, parameters, level)?;
+    ids.put(out, level)?;
+    append(out, b"]")
+}
+
+impl<'a> Spell for Conversion<'a> {
+    ghost spelling = { conversion_text };
+
+    fn spell(&self, out: &mut Vec<u8>, level: Level) -> Result<(), AllocError> {
+        let parameters = self.parameters.as_slice();
+        write_conversion(
+            out,
+            b"CONVERSION[\"",
+            self.name,
+            &self.method,
+            &parameters,
+            &self.identifiers,
+            level,
+        )
+    }
+}
+
+impl<'c, 'i, 'a> NeededPart<Conversion<'a>> for &'c Node<'i, 'a> {
+    ghost use Rattle.crs_value.specs.ReadsConversion.{ReadsConversion};
+    ghost use Rattle.crs_writer.specs.Cursor.{item};
+
+    ghost Says = { λ n c. ReadsConversion n.now.class (item n.now) c };
+
+    fn put(&self, out: &mut Vec<u8>, level: Level) -> Result<(), AllocError> {
+        let method = self.one(Class::Method);
+        let parameters = self.all(Class::Parameter);
+        write_conversion(
+            out,
+            b",CONVERSION[\"",
+            self.text(),
+            &method,
+            &parameters,
+            *self,
+            level,
+        )
+    }
+}
+
+impl Spell for GeoidModel<'_> {
+    ghost spelling = { geoid_model_text };
+
+    fn spell(&self, out: &mut Vec<u8>, level: Level) -> Result<(), AllocError> {
+        write_named(out, b"GEOIDMODEL[\"", self.name, &self.identifiers, level)
+    }
+}
+
+impl<'a> ReadAs<'a> for GeoidModel<'a> {
+    ghost use Rattle.crs_value.specs.ReadsConversion.{ReadsGeoidModel};
+
+    ghost Reads = { λ c item g. ReadsGeoidModel c item g };
+
+    fn write_of(node: &Node<'_, 'a>, out: &mut Vec<u8>, level: Level) -> Result<(), AllocError> {
+        write_named(out, b"GEOIDMODEL[\"", node.text(), node, level)
+    }
+}

@@ -1,0 +1,82 @@
+//! Ellipsoids.
+ghost use Rattle.std.specs.Prelude.{◌≡◌, ◌++◌, OnOk, Some};
+ghost use Rattle.crs_text.specs.Items.{End, More};
+ghost use Rattle.crs_value.specs.Values.{EllipsoidParts};
+ghost use Rattle.crs_normal.specs.PartTexts.{ellipsoid_text};
+ghost use Rattle.crs_normal.specs.SpelledItems.{each, number_item, opt};
+ghost use Rattle.crs_normal.specs.SpelledUnits.{item_ident, item_unit, norm_length, set_idents};
+ghost use Rattle.crs_writer.specs.Openings.{named_node};
+ghost use Rattle.crs_writer.specs.Parts.{SaysIfAny};
+
+use crate::direct::node::Node;
+use crate::parts::{IdentsPart, NumberPart, Part, UnitPart};
+use crate::spell::Spell;
+use crate::spelling::texts::{append, open_text};
+use crate::spelling::unit::write_length;
+use crs_shape::Class;
+use crs_value::{Ellipsoid, Level};
+use std::alloc::AllocError;
+
+// After an opening.
+#[tactic(auto, using(crate::proofs::FlatLemmas::flat_rules))]
+fn write_ellipsoid<A: NumberPart, F: NumberPart, U: UnitPart, I: IdentsPart>(
+    out: &mut Vec<u8>,
+    opening: &[u8],
+    name: &[u8],
+    axis: A,
+    flattening: F,
+    unit: Option<U>,
+    ids: I,
+    level: Level,
+) -> Result<(), AllocError>
+    ensures { OnOk result ((e : EllipsoidParts) → e.name ≡ name.now → A.Says axis e.semi_major_axis →
+        F.Says flattening e.inverse_flattening → SaysIfAny U.Says unit e.unit → I.Says ids e.identifiers →
+        out.new.items ≡ out.old.items ++ named_node opening.now e.name
+        (More (number_item e.semi_major_axis) (More (number_item e.inverse_flattening)
+        (opt item_unit (Some (norm_length level e.unit)) (each item_ident (set_idents level e.identifiers) End))))) }
+{
+    open_text(out, opening, name)?;
+    axis.open(out, b",")?;
+    flattening.open(out, b",")?;
+    write_length(out, unit, level)?;
+    ids.put(out, level)?;
+    append(out, b"]")
+}
+
+impl Spell for Ellipsoid<'_> {
+    ghost spelling = { ellipsoid_text };
+
+    fn spell(&self, out: &mut Vec<u8>, level: Level) -> Result<(), AllocError> {
+        write_ellipsoid(
+            out,
+            b"ELLIPSOID[\"",
+            self.name,
+            &self.semi_major_axis,
+            &self.inverse_flattening,
+            self.unit.as_ref(),
+            &self.identifiers,
+            level,
+        )
+    }
+}
+
+impl<'c, 'i, 'a> Part<Ellipsoid<'a>> for &'c Node<'i, 'a> {
+    ghost use Rattle.crs_value.specs.Reads.{ReadsEllipsoid};
+    ghost use Rattle.crs_writer.specs.Cursor.{item};
+
+    ghost Says = { λ n e. ReadsEllipsoid n.now.class (item n.now) e };
+
+    fn put(&self, out: &mut Vec<u8>, level: Level) -> Result<(), AllocError> {
+        let unit = self.first(Class::LengthUnit);
+        write_ellipsoid(
+            out,
+            b",ELLIPSOID[\"",
+            self.text(),
+            self.nth_number(0),
+            self.nth_number(1),
+            unit.as_ref(),
+            *self,
+            level,
+        )
+    }
+}

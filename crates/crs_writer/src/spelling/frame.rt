@@ -1,0 +1,299 @@
+//! Reference frames, ensembles and their members.
+ghost use Rattle.std.specs.Prelude.{◌≡◌, ◌∷◌, ◌++◌, [], OnOk, codes};
+ghost use Rattle.std.specs.Option.{option_copied, option_map};
+ghost use Rattle.crs_text.specs.Items.{End, More};
+ghost use Rattle.crs_text.specs.Written.{item_text};
+ghost use Rattle.crs_value.specs.Reading.{ReadsOne};
+ghost use Rattle.crs_value.specs.Reads.{ReadsDatum, ReadsEnsemble};
+ghost use Rattle.crs_value.specs.Values.{DatumParts, EnsembleParts};
+ghost use Rattle.crs_value.specs.declared.values.frame.Frame.{Frame};
+ghost use Rattle.crs_normal.specs.PartTexts.{datum_text, ensemble_text, frame_text, member_text};
+ghost use Rattle.crs_normal.specs.SpelledFrames.{item_ellipsoid, item_frame, item_member, norm_ellipsoid, norm_frame};
+ghost use Rattle.crs_normal.specs.SpelledFrames.{item_ensemble, norm_ensemble, set_members};
+ghost use Rattle.crs_normal.specs.SpelledItems.{each, number_node, opt, text_node};
+ghost use Rattle.crs_normal.specs.SpelledUnits.{item_ident, set_idents};
+ghost use Rattle.crs_writer.specs.Cursor.{args, item};
+ghost use Rattle.crs_writer.specs.Direct.{IsRead, Writes};
+ghost use Rattle.crs_writer.specs.Openings.{named_node};
+ghost use Rattle.crs_writer.specs.Parts.{SaysIfAny};
+
+use crate::direct::chain::ReadAs;
+use crate::direct::node::Node;
+use crate::members::MembersPart;
+use crate::parts::{
+    IdentsPart, NumberPart, Part, write_number_node, write_optional, write_optional_number,
+};
+use crate::set::write_set;
+use crate::spell::{Spell, write_part};
+use crate::spelling::ident::write_named;
+use crate::spelling::texts::{append, open_text, write_optional_text};
+use crs_shape::Class;
+use crs_value::{Datum, Ellipsoid, Ensemble, Frame, Level, Member};
+use std::alloc::AllocError;
+
+impl Spell for Member<'_> {
+    ghost spelling = { member_text };
+
+    fn spell(&self, out: &mut Vec<u8>, level: Level) -> Result<(), AllocError> {
+        write_named(out, b"MEMBER[\"", self.name, &self.identifiers, level)
+    }
+}
+
+impl<'a> ReadAs<'a> for Member<'a> {
+    ghost use Rattle.crs_value.specs.ReadsNamed.{ReadsNamed};
+
+    ghost Reads = { λ c item m. ReadsNamed c item m };
+
+    fn write_of(node: &Node<'_, 'a>, out: &mut Vec<u8>, level: Level) -> Result<(), AllocError> {
+        write_named(out, b"MEMBER[\"", node.text(), node, level)
+    }
+}
+
+// After an opening.
+#[tactic(auto, using(crate::proofs::FlatLemmas::flat_rules))]
+fn write_datum<'a, E: Part<Ellipsoid<'a>>, N: NumberPart, I: IdentsPart>(
+    out: &mut Vec<u8>,
+    opening: &[u8],
+    name: &[u8],
+    ellipsoid: Option<E>,
+    anchor: Option<&[u8]>,
+    epoch: Option<N>,
+    ids: I,
+    level: Level,
+) -> Result<(), AllocError>
+    ensures { OnOk result ((d : DatumParts) → d.name ≡ name.now → SaysIfAny E.Says ellipsoid d.ellipsoid →
+        d.anchor ≡ option_copied anchor.entry → SaysIfAny N.Says epoch d.anchor_epoch → I.Says ids d.identifiers →
+        out.new.items ≡ out.old.items ++ named_node opening.now d.name
+        (opt item_ellipsoid (option_map (norm_ellipsoid level) d.ellipsoid)
+        (opt (text_node (codes "ANCHOR")) d.anchor
+        (opt (number_node (codes "ANCHOREPOCH")) d.anchor_epoch
+        (each item_ident (set_idents level d.identifiers) End))))) }
+{
+    open_text(out, opening, name)?;
+    write_optional::<Ellipsoid<'a>, E>(out, ellipsoid, level)?;
+    write_optional_text(out, b",ANCHOR[\"", anchor)?;
+    write_optional_number(out, b",ANCHOREPOCH[", epoch)?;
+    ids.put(out, level)?;
+    append(out, b"]")
+}
+
+// Of a value.
+#[tactic(auto, using(crate::proofs::FlatLemmas::value_rules))]
+fn write_datum_in(
+    out: &mut Vec<u8>,
+    opening: &[u8],
+    datum: &Datum<'_>,
+    level: Level,
+) -> Result<(), AllocError>
+    ensures { OnOk result (out.new.items ≡ out.old.items ++ named_node opening.now datum.now.name
+        (opt item_ellipsoid (option_map (norm_ellipsoid level) datum.now.ellipsoid)
+        (opt (text_node (codes "ANCHOR")) datum.now.anchor
+        (opt (number_node (codes "ANCHOREPOCH")) datum.now.anchor_epoch
+        (each item_ident (set_idents level datum.now.identifiers) End))))) }
+{
+    write_datum(
+        out,
+        opening,
+        datum.name,
+        datum.ellipsoid.as_ref(),
+        datum.anchor,
+        datum.anchor_epoch.as_ref(),
+        &datum.identifiers,
+        level,
+    )
+}
+
+// Of an item.
+fn write_datum_of(
+    out: &mut Vec<u8>,
+    opening: &[u8],
+    node: &Node<'_, '_>,
+    level: Level,
+) -> Result<(), AllocError>
+    ensures { OnOk result (Writes (ReadsDatum node.now.class (item node.now)) (λ d. named_node opening.now d.name
+        (opt item_ellipsoid (option_map (norm_ellipsoid level) d.ellipsoid)
+        (opt (text_node (codes "ANCHOR")) d.anchor
+        (opt (number_node (codes "ANCHOREPOCH")) d.anchor_epoch
+        (each item_ident (set_idents level d.identifiers) End))))) out.old.items out.new.items) }
+{
+    let ellipsoid = node.first(Class::Ellipsoid);
+    write_datum(
+        out,
+        opening,
+        node.text(),
+        ellipsoid.as_ref(),
+        node.text_in(Class::Anchor),
+        node.number_in(Class::AnchorEpoch),
+        node,
+        level,
+    )
+}
+
+// By itself: with an ellipsoid it is geodetic, else vertical.
+impl Spell for Datum<'_> {
+    ghost spelling = { datum_text };
+
+    fn spell(&self, out: &mut Vec<u8>, level: Level) -> Result<(), AllocError> {
+        match &self.ellipsoid {
+            Some(_) => write_datum_in(out, b"DATUM[\"", self, level),
+            None => write_datum_in(out, b"VDATUM[\"", self, level),
+        }
+    }
+}
+
+// After an opening.
+fn write_ensemble<
+    'a,
+    M: MembersPart<Member<'a>>,
+    E: Part<Ellipsoid<'a>>,
+    N: NumberPart,
+    I: IdentsPart,
+>(
+    out: &mut Vec<u8>,
+    opening: &[u8],
+    name: &[u8],
+    members: &M,
+    ellipsoid: Option<E>,
+    accuracy: N,
+    ids: I,
+    level: Level,
+) -> Result<(), AllocError>
+    requires { M.Hold members.now }
+    ensures { OnOk result ((e : EnsembleParts) → e.name ≡ name.now → M.Say members.now e.members →
+        SaysIfAny E.Says ellipsoid e.ellipsoid → N.Says accuracy e.accuracy → I.Says ids e.identifiers →
+        out.new.items ≡ out.old.items ++ named_node opening.now e.name (each item_member (set_members level e.members)
+        (opt item_ellipsoid (option_map (norm_ellipsoid level) e.ellipsoid)
+        (More (number_node (codes "ENSEMBLEACCURACY") e.accuracy) (each item_ident (set_idents level e.identifiers) End))))) }
+{
+    open_text(out, opening, name)?;
+    write_set::<Member<'a>, M>(out, members, level)?;
+    write_optional::<Ellipsoid<'a>, E>(out, ellipsoid, level)?;
+    write_number_node(out, b",ENSEMBLEACCURACY[", accuracy)?;
+    ids.put(out, level)?;
+    append(out, b"]")
+}
+
+impl Spell for Ensemble<'_> {
+    ghost spelling = { ensemble_text };
+
+    fn spell(&self, out: &mut Vec<u8>, level: Level) -> Result<(), AllocError> {
+        let members = self.members.as_slice();
+        write_ensemble(
+            out,
+            b"ENSEMBLE[\"",
+            self.name,
+            &members,
+            self.ellipsoid.as_ref(),
+            &self.accuracy,
+            &self.identifiers,
+            level,
+        )
+    }
+}
+
+// Of an item, after a comma.
+fn write_ensemble_in(out: &mut Vec<u8>, node: &Node<'_, '_>, level: Level) -> Result<(), AllocError>
+    ensures { OnOk result (Writes (ReadsEnsemble node.now.class (item node.now))
+        (λ e. 44 ∷ item_text (item_ensemble (norm_ensemble level e))) out.old.items out.new.items) }
+{
+    let ellipsoid = node.first(Class::Ellipsoid);
+    let members = node.all(Class::Member);
+    write_ensemble(
+        out,
+        b",ENSEMBLE[\"",
+        node.text(),
+        &members,
+        ellipsoid.as_ref(),
+        node.one_number(Class::EnsembleAccuracy),
+        node,
+        level,
+    )
+}
+
+impl Spell for Frame<'_> {
+    ghost spelling = { frame_text };
+
+    fn spell(&self, out: &mut Vec<u8>, level: Level) -> Result<(), AllocError> {
+        match self {
+            Frame::Datum(datum) => datum.spell(out, level),
+            Frame::Ensemble(ensemble) => ensemble.spell(out, level),
+        }
+    }
+}
+
+/// The frame of a CRS, which the item of the CRS has. Profile.
+pub(crate) trait FramePart: Copy {
+    ghost SaysGeodetic: { Self → Frame → Type 0 };
+
+    ghost SaysVertical: { Self → Frame → Type 0 };
+
+    // After a comma.
+    fn put_geodetic(&self, out: &mut Vec<u8>, level: Level) -> Result<(), AllocError>
+        requires { IsRead (SaysGeodetic self.now) }
+        ensures { OnOk result (Writes (SaysGeodetic self.now)
+            (λ f. 44 ∷ item_text (item_frame (codes "DATUM") (norm_frame level f))) out.old.items out.new.items) };
+
+    // After a comma.
+    fn put_vertical(&self, out: &mut Vec<u8>, level: Level) -> Result<(), AllocError>
+        requires { IsRead (SaysVertical self.now) }
+        ensures { OnOk result (Writes (SaysVertical self.now)
+            (λ f. 44 ∷ item_text (item_frame (codes "VDATUM") (norm_frame level f))) out.old.items out.new.items) };
+}
+
+impl<'b, 'a> FramePart for &'b Frame<'a> {
+    ghost SaysGeodetic = { λ s v. v ≡ s.now };
+
+    ghost SaysVertical = { λ s v. v ≡ s.now };
+
+    fn put_geodetic(&self, out: &mut Vec<u8>, level: Level) -> Result<(), AllocError> {
+        match *self {
+            Frame::Datum(datum) => write_datum_in(out, b",DATUM[\"", datum, level),
+            Frame::Ensemble(ensemble) => write_part(out, ensemble, level),
+        }
+    }
+
+    fn put_vertical(&self, out: &mut Vec<u8>, level: Level) -> Result<(), AllocError> {
+        match *self {
+            Frame::Datum(datum) => write_datum_in(out, b",VDATUM[\"", datum, level),
+            Frame::Ensemble(ensemble) => write_part(out, ensemble, level),
+        }
+    }
+}
+
+// An ensemble of this class that a node has in the place of a frame.
+fn write_ensemble_of(
+    out: &mut Vec<u8>,
+    node: &Node<'_, '_>,
+    class: Class,
+    level: Level,
+) -> Result<(), AllocError>
+    requires { ¬ (args class node.now ≡ []) }
+    ensures { OnOk result (Writes (ReadsOne ReadsEnsemble class node.now.class (item node.now))
+        (λ e. 44 ∷ item_text (item_ensemble (norm_ensemble level e))) out.old.items out.new.items) }
+{
+    let found = node.one(class);
+    write_ensemble_in(out, &found, level)
+}
+
+impl<'c, 'i, 'a> FramePart for &'c Node<'i, 'a> {
+    ghost use Rattle.crs_value.specs.ReadsCrs.{ReadsGeodeticFrame, ReadsVerticalFrame};
+    ghost use Rattle.crs_writer.specs.Cursor.{item};
+
+    ghost SaysGeodetic = { λ n f. ReadsGeodeticFrame n.now.class (item n.now) f };
+
+    ghost SaysVertical = { λ n f. ReadsVerticalFrame n.now.class (item n.now) f };
+
+    fn put_geodetic(&self, out: &mut Vec<u8>, level: Level) -> Result<(), AllocError> {
+        match self.first(Class::GeodeticFrame) {
+            None => write_ensemble_of(out, *self, Class::GeodeticEnsemble, level),
+            Some(found) => write_datum_of(out, b",DATUM[\"", &found, level),
+        }
+    }
+
+    fn put_vertical(&self, out: &mut Vec<u8>, level: Level) -> Result<(), AllocError> {
+        match self.first(Class::VerticalFrame) {
+            None => write_ensemble_of(out, *self, Class::VerticalEnsemble, level),
+            Some(found) => write_datum_of(out, b",VDATUM[\"", &found, level),
+        }
+    }
+}

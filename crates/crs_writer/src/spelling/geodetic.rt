@@ -1,0 +1,122 @@
+//! Geodetic and geographic CRSs.
+ghost use Rattle.std.specs.Prelude.{◌≡◌, ◌∷◌, ◌++◌, [], ℕ, List, OnOk, Option, codes};
+ghost use Rattle.std.specs.Option.{option_map};
+ghost use Rattle.crs_text.specs.Items.{More};
+ghost use Rattle.crs_text.specs.Written.{item_text};
+ghost use Rattle.crs_value.specs.DynamicValues.{DynamicParts};
+ghost use Rattle.crs_value.specs.ReadsCrs.{ReadsGeodetic};
+ghost use Rattle.crs_value.specs.Values.{MeridianParts, SystemParts, TailParts};
+ghost use Rattle.crs_value.specs.declared.values.frame.Frame.{Frame};
+ghost use Rattle.crs_normal.specs.PartTexts.{geodetic_text};
+ghost use Rattle.crs_normal.specs.SpelledCrs.{geodetic_keyword};
+ghost use Rattle.crs_normal.specs.SpelledDynamic.{item_dynamic, norm_dynamic};
+ghost use Rattle.crs_normal.specs.SpelledFrames.{item_frame, item_meridian, norm_frame, norm_meridian};
+ghost use Rattle.crs_normal.specs.SpelledItems.{node_of, opt, text_item};
+ghost use Rattle.crs_normal.specs.SpelledSystems.{norm_system, system_items};
+ghost use Rattle.crs_normal.specs.SpelledUsages.{norm_tail, tail_items};
+ghost use Rattle.crs_writer.specs.Cursor.{item};
+ghost use Rattle.crs_writer.specs.Direct.{IsRead, Writes};
+ghost use Rattle.crs_writer.specs.Parts.{SaysIfAny};
+
+use crate::direct::node::Node;
+use crate::parts::{Part, write_optional};
+use crate::spell::Spell;
+use crate::spelling::frame::FramePart;
+use crate::spelling::meridian::write_meridian;
+use crate::spelling::system::{SystemPart, write_system};
+use crate::spelling::tail::TailPart;
+use crate::spelling::texts::{append, open_text};
+use crs_shape::Class;
+use crs_value::{Dynamic, Geodetic, Level, Meridian, SystemType};
+use std::alloc::AllocError;
+
+// The keyword of a geodetic CRS whose coordinate system has this type, the opening delimiter and a quote.
+pub fn geodetic_opening(system_type: SystemType) -> &'static str
+    ensures { result.now ≡ geodetic_keyword system_type ++ 91 ∷ 34 ∷ [] }
+{
+    match system_type {
+        SystemType::Ellipsoidal => "GEOGCRS[\"",
+        SystemType::Cartesian | SystemType::Spherical | SystemType::Vertical => "GEODCRS[\"",
+    }
+}
+
+#[tactic(auto, using(crate::proofs::FlatLemmas::crs_rules))]
+fn write_geodetic<
+    'a,
+    D: Part<Dynamic<'a>>,
+    F: FramePart,
+    M: Part<Meridian<'a>>,
+    S: SystemPart,
+    T: TailPart,
+>(
+    out: &mut Vec<u8>,
+    name: &[u8],
+    dynamic: Option<D>,
+    frame: F,
+    meridian: Option<M>,
+    system: S,
+    tail: T,
+    level: Level,
+) -> Result<(), AllocError>
+    requires frame { IsRead (F.SaysGeodetic frame) }
+    requires system { IsRead (S.Says system) }
+    ensures { OnOk result ((n : List ℕ) (d : Option DynamicParts) (f : Frame) (m : Option MeridianParts)
+        (s : SystemParts) (t : TailParts) → n ≡ name.now → SaysIfAny D.Says dynamic d → F.SaysGeodetic frame f →
+        SaysIfAny M.Says meridian m → S.Says system s → T.Says tail t → out.new.items ≡ out.old.items
+        ++ item_text (node_of (geodetic_keyword s.system_type) (text_item n)
+        (opt item_dynamic (option_map (norm_dynamic level) d) (More (item_frame (codes "DATUM") (norm_frame level f))
+        (opt item_meridian (norm_meridian level m)
+        (system_items (norm_system level s) (tail_items (norm_tail level t)))))))) }
+{
+    open_text(out, geodetic_opening(system.system_type()).as_bytes(), name)?;
+    write_optional::<Dynamic<'a>, D>(out, dynamic, level)?;
+    frame.put_geodetic(out, level)?;
+    write_meridian::<M>(out, meridian, level)?;
+    write_system(out, system, level)?;
+    tail.put(out, level)?;
+    append(out, b"]")
+}
+
+impl Spell for Geodetic<'_> {
+    ghost spelling = { geodetic_text };
+
+    #[tactic(auto, using(crate::proofs::FlatLemmas::value_rules))]
+    fn spell(&self, out: &mut Vec<u8>, level: Level) -> Result<(), AllocError> {
+        write_geodetic(
+            out,
+            self.name,
+            self.dynamic.as_ref(),
+            &self.frame,
+            self.meridian.as_ref(),
+            &self.system,
+            &self.tail,
+            level,
+        )
+    }
+}
+
+// Of an item.
+pub(crate) fn write_geodetic_of(
+    node: &Node<'_, '_>,
+    out: &mut Vec<u8>,
+    level: Level,
+) -> Result<(), AllocError>
+    requires { IsRead (ReadsGeodetic node.now.class (item node.now)) }
+    ensures { OnOk result (Writes (ReadsGeodetic node.now.class (item node.now)) (geodetic_text level)
+        out.old.items out.new.items) }
+{
+    let system = node;
+    let tail = node;
+    let dynamic = node.first(Class::Dynamic);
+    let meridian = node.first(Class::PrimeMeridian);
+    write_geodetic(
+        out,
+        node.text(),
+        dynamic.as_ref(),
+        node,
+        meridian.as_ref(),
+        system,
+        tail,
+        level,
+    )
+}

@@ -1,0 +1,187 @@
+//! Identifiers, and nodes that have a name and identifiers alone.
+ghost use Rattle.std.specs.Prelude.{◌≡◌, ◌++◌, ℕ, IsFalse, IsTrue, List, OnOk, Option, codes, map};
+ghost use Rattle.std.specs.Option.{option_copied};
+ghost use Rattle.crs_text.specs.Items.{End, More};
+ghost use Rattle.crs_text.specs.Written.{item_text, others_text};
+ghost use Rattle.crs_value.specs.Reads.{ReadsIds};
+ghost use Rattle.crs_value.specs.Values.{IdentParts};
+ghost use Rattle.crs_value.specs.declared.values.level.Level.TheVariants as levels;
+ghost use Rattle.crs_normal.specs.PartTexts.{ident_text};
+ghost use Rattle.crs_normal.specs.SpelledItems.{code_item, each, opt, text_node};
+ghost use Rattle.crs_normal.specs.SpelledUnits.{item_ident, set_idents};
+ghost use Rattle.crs_writer.specs.Cursor.{item};
+ghost use Rattle.crs_writer.specs.Direct.{Writes};
+ghost use Rattle.crs_writer.specs.Members.{set_text};
+ghost use Rattle.crs_writer.specs.Openings.{named_node};
+
+use crate::direct::chain::{Chain, ReadAs};
+use crate::direct::node::Node;
+use crate::parts::IdentsPart;
+use crate::set::write_set;
+use crate::spell::Spell;
+use crate::spelling::texts::{append, open_text, write_code, write_optional_text};
+use crs_shape::Class;
+use crs_value::{Ident, Level, List};
+use std::alloc::AllocError;
+
+#[inline(always)]
+fn write_version(out: &mut Vec<u8>, version: Option<&[u8]>) -> Result<(), AllocError>
+    ensures { OnOk result (out.new.items
+        ≡ out.old.items ++ others_text (opt code_item (option_copied version.entry) End)) }
+{
+    match version {
+        None => Ok(()),
+        Some(version) => write_code(out, version),
+    }
+}
+
+// After an opening.
+#[inline(always)]
+fn write_ident(
+    out: &mut Vec<u8>,
+    opening: &[u8],
+    authority: &[u8],
+    code: &[u8],
+    version: Option<&[u8]>,
+    references: (Option<&[u8]>, Option<&[u8]>),
+) -> Result<(), AllocError>
+    ensures { OnOk result ((a c : List ℕ) (v r u : Option (List ℕ)) → a ≡ authority.now → c ≡ code.now →
+        v ≡ option_copied version.entry → r ≡ option_copied references.entry.0 → u ≡ option_copied references.entry.1 →
+        out.new.items ≡ out.old.items ++ named_node opening.now a (More (code_item c) (opt code_item v
+        (opt (text_node (codes "CITATION")) r (opt (text_node (codes "URI")) u End))))) }
+{
+    open_text(out, opening, authority)?;
+    write_code(out, code)?;
+    write_version(out, version)?;
+    write_optional_text(out, b",CITATION[\"", references.0)?;
+    write_optional_text(out, b",URI[\"", references.1)?;
+    append(out, b"]")
+}
+
+impl Spell for Ident<'_> {
+    ghost spelling = { ident_text };
+
+    fn spell(&self, out: &mut Vec<u8>, _level: Level) -> Result<(), AllocError> {
+        let references = (self.citation, self.uri);
+        write_ident(
+            out,
+            b"ID[\"",
+            self.authority,
+            self.code,
+            self.version,
+            references,
+        )
+    }
+}
+
+impl<'a> ReadAs<'a> for Ident<'a> {
+    ghost use Rattle.crs_value.specs.Reads.{ReadsIdent};
+
+    ghost Reads = { λ c item i. ReadsIdent c item i };
+
+    fn write_of(node: &Node<'_, 'a>, out: &mut Vec<u8>, _level: Level) -> Result<(), AllocError> {
+        write_ident(
+            out,
+            b"ID[\"",
+            node.text(),
+            node.code(),
+            node.version(),
+            node.references(),
+        )
+    }
+}
+
+// Whether the level keeps identifiers, usages and remarks.
+#[inline(always)]
+pub(crate) fn keeps(level: Level) -> bool
+    ensures full { IsTrue result → level ≡ levels.Full }
+    ensures definition { IsFalse result → level ≡ levels.Definition }
+{
+    matches!(level, Level::Full)
+}
+
+#[inline(always)]
+fn write_ident_set<'a>(out: &mut Vec<u8>, identifiers: &[Ident<'a>]) -> Result<(), AllocError>
+    ensures { OnOk result (out.new.items ≡ out.old.items ++ set_text (map (λ i. item_text (item_ident i)) identifiers.now)) }
+{
+    write_set::<Ident<'a>, &[Ident<'a>]>(out, &identifiers, Level::Full)
+}
+
+// The identifiers that the level keeps of a part.
+#[tactic(auto, using(crate::proofs::WrittenLemmas::written_rules))]
+#[inline(always)]
+pub(crate) fn write_idents(
+    out: &mut Vec<u8>,
+    identifiers: &List<Ident<'_>>,
+    level: Level,
+) -> Result<(), AllocError>
+    ensures { OnOk result (out.new.items
+        ≡ out.old.items ++ others_text (each item_ident (set_idents level identifiers.now) End)) }
+{
+    write_ident_set(out, level.kept(identifiers.as_slice()))
+}
+
+impl<'b, 'a> IdentsPart for &'b List<Ident<'a>> {
+    ghost Says = { λ s v. v ≡ s.now };
+
+    #[inline(always)]
+    fn put(&self, out: &mut Vec<u8>, level: Level) -> Result<(), AllocError> {
+        write_idents(out, *self, level)
+    }
+}
+
+// The identifiers of a node, one after another.
+fn write_chain<'i, 'a>(node: &Node<'i, 'a>, out: &mut Vec<u8>) -> Result<(), AllocError>
+    ensures { OnOk result (Writes (ReadsIds node.now.class (item node.now))
+        (λ ids. set_text (map (λ i. item_text (item_ident i)) ids)) out.old.items out.new.items) }
+{
+    let identifiers = node.all(Class::Identifier);
+    write_set::<Ident<'a>, Chain<'i, 'a>>(out, &identifiers, Level::Full)
+}
+
+// The identifiers of a node.
+#[inline(always)]
+fn write_all_idents(node: &Node<'_, '_>, out: &mut Vec<u8>) -> Result<(), AllocError>
+    ensures { OnOk result (Writes (ReadsIds node.now.class (item node.now))
+        (λ ids. set_text (map (λ i. item_text (item_ident i)) ids)) out.old.items out.new.items) }
+{
+    if node.is_flat() {
+        Ok(())
+    } else {
+        write_chain(node, out)
+    }
+}
+
+impl<'c, 'i, 'a> IdentsPart for &'c Node<'i, 'a> {
+    ghost use Rattle.crs_value.specs.Reads.{ReadsIds};
+    ghost use Rattle.crs_writer.specs.Cursor.{item};
+
+    ghost Says = { λ n ids. ReadsIds n.now.class (item n.now) ids };
+
+    #[inline(always)]
+    fn put(&self, out: &mut Vec<u8>, level: Level) -> Result<(), AllocError> {
+        if keeps(level) {
+            write_all_idents(*self, out)
+        } else {
+            Ok(())
+        }
+    }
+}
+
+// A node of a name and identifiers, after an opening.
+#[tactic(auto, using(crate::proofs::FlatLemmas::flat_rules))]
+#[inline(always)]
+pub(crate) fn write_named<I: IdentsPart>(
+    out: &mut Vec<u8>,
+    opening: &[u8],
+    name: &[u8],
+    ids: I,
+    level: Level,
+) -> Result<(), AllocError>
+    ensures { OnOk result ((n : List ℕ) (is : List IdentParts) → n ≡ name.now → I.Says ids is →
+        out.new.items ≡ out.old.items ++ named_node opening.now n (each item_ident (set_idents level is) End)) }
+{
+    open_text(out, opening, name)?;
+    ids.put(out, level)?;
+    append(out, b"]")
+}

@@ -1,0 +1,126 @@
+//! Vertical CRSs.
+ghost use Rattle.std.specs.Prelude.{◌≡◌, ◌++◌, OnOk, Option, codes};
+ghost use Rattle.std.specs.Option.{option_map};
+ghost use Rattle.crs_text.specs.Items.{More};
+ghost use Rattle.crs_value.specs.CrsValues.{VerticalParts};
+ghost use Rattle.crs_value.specs.ReadsCrs.{ReadsVertical};
+ghost use Rattle.crs_normal.specs.PartTexts.{vertical_text};
+ghost use Rattle.crs_normal.specs.SpelledConversions.{item_geoid_model, set_geoid_models};
+ghost use Rattle.crs_normal.specs.SpelledDynamic.{item_dynamic, norm_dynamic};
+ghost use Rattle.crs_normal.specs.SpelledFrames.{item_frame, norm_frame};
+ghost use Rattle.crs_normal.specs.SpelledItems.{each, opt};
+ghost use Rattle.crs_normal.specs.SpelledSystems.{norm_system, system_items};
+ghost use Rattle.crs_normal.specs.SpelledUsages.{norm_tail, tail_items};
+ghost use Rattle.crs_writer.specs.Cursor.{item};
+ghost use Rattle.crs_writer.specs.Direct.{IsRead, Writes};
+ghost use Rattle.crs_writer.specs.Openings.{named_node};
+ghost use Rattle.crs_writer.specs.Parts.{SaysIfAny};
+
+use crate::direct::node::Node;
+use crate::members::MembersPart;
+use crate::parts::{NeededPart, Part, write_optional};
+use crate::set::write_set;
+use crate::spell::Spell;
+use crate::spelling::frame::FramePart;
+use crate::spelling::system::{SystemPart, write_system};
+use crate::spelling::tail::TailPart;
+use crate::spelling::texts::{append, open_text};
+use crs_shape::Class;
+use crs_value::{Dynamic, GeoidModel, Level, Vertical};
+use std::alloc::AllocError;
+
+// After an opening.
+fn write_vertical<
+    'a,
+    D: Part<Dynamic<'a>>,
+    F: FramePart,
+    S: SystemPart,
+    G: MembersPart<GeoidModel<'a>>,
+    T: TailPart,
+>(
+    out: &mut Vec<u8>,
+    opening: &[u8],
+    name: &[u8],
+    dynamic: Option<D>,
+    frame: F,
+    system: S,
+    models: &G,
+    tail: T,
+    level: Level,
+) -> Result<(), AllocError>
+    requires frame { IsRead (F.SaysVertical frame) }
+    requires system { IsRead (S.Says system) }
+    requires models { G.Hold models.now }
+    ensures { OnOk result ((v : VerticalParts) → v.name ≡ name.now → SaysIfAny D.Says dynamic v.dynamic →
+        F.SaysVertical frame v.frame → S.Says system v.system → G.Say models.now v.geoid_models → T.Says tail v.tail →
+        out.new.items ≡ out.old.items ++ named_node opening.now v.name
+        (opt item_dynamic (option_map (norm_dynamic level) v.dynamic)
+        (More (item_frame (codes "VDATUM") (norm_frame level v.frame)) (system_items (norm_system level v.system)
+        (each item_geoid_model (set_geoid_models level v.geoid_models) (tail_items (norm_tail level v.tail))))))) }
+{
+    open_text(out, opening, name)?;
+    write_optional::<Dynamic<'a>, D>(out, dynamic, level)?;
+    frame.put_vertical(out, level)?;
+    write_system(out, system, level)?;
+    write_set::<GeoidModel<'a>, G>(out, models, level)?;
+    tail.put(out, level)?;
+    append(out, b"]")
+}
+
+impl Spell for Vertical<'_> {
+    ghost spelling = { vertical_text };
+
+    fn spell(&self, out: &mut Vec<u8>, level: Level) -> Result<(), AllocError> {
+        let models = self.geoid_models.as_slice();
+        write_vertical(
+            out,
+            b"VERTCRS[\"",
+            self.name,
+            self.dynamic.as_ref(),
+            &self.frame,
+            &self.system,
+            &models,
+            &self.tail,
+            level,
+        )
+    }
+}
+
+// Of an item.
+pub(crate) fn write_vertical_of(
+    node: &Node<'_, '_>,
+    out: &mut Vec<u8>,
+    level: Level,
+) -> Result<(), AllocError>
+    requires { IsRead (ReadsVertical node.now.class (item node.now)) }
+    ensures { OnOk result (Writes (ReadsVertical node.now.class (item node.now)) (vertical_text level)
+        out.old.items out.new.items) }
+{
+    let system = node;
+    let tail = node;
+    let dynamic = node.first(Class::Dynamic);
+    let models = node.all(Class::GeoidModel);
+    write_vertical(
+        out,
+        b"VERTCRS[\"",
+        node.text(),
+        dynamic.as_ref(),
+        node,
+        system,
+        &models,
+        tail,
+        level,
+    )
+}
+
+impl<'c, 'i, 'a> NeededPart<Vertical<'a>> for &'c Node<'i, 'a> {
+    ghost use Rattle.crs_value.specs.ReadsCrs.{ReadsVertical};
+    ghost use Rattle.crs_writer.specs.Cursor.{item};
+
+    ghost Says = { λ n v. ReadsVertical n.now.class (item n.now) v };
+
+    fn put(&self, out: &mut Vec<u8>, level: Level) -> Result<(), AllocError> {
+        append(out, b",")?;
+        write_vertical_of(*self, out, level)
+    }
+}
