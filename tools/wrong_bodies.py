@@ -46,7 +46,7 @@ GATE, FURTHER, WHOLE = "wrong-bodies", "more-wrong-bodies", "must-fail"
 FUNCTION = re.compile(r'\s*(?:pub(?:\([a-z]+\))? )?(?:const )?(?:unsafe )?(?:extern "C" )?fn (\w+)')
 BLOCK = re.compile(
     r"(?:pub(?:\([a-z]+\))? )?"
-    r"(?:impl(?:<[^>]*>)? (?:(?:\w+::)*(\w+)(?:<.*?>)? for )?&?(?:'\w+ )?(?:\w+::)*(\w+)|trait (\w+))"
+    r"(?:impl(?:<[^>]*>)? (?:(?:\w+::)*(\w+)(?:<.*?>)? for )?(&?)(?:'\w+ )?(?:\w+::)*(\w+)|trait (\w+))"
 )
 # What the prover says of a function that rests on another, and of an answer that names what a body took away.
 RESTS = re.compile(r"which (is|are) not proved")
@@ -73,8 +73,8 @@ def enclosing(path: str, lines: List[str]) -> Optional[str]:
                 if not line.startswith(" "):
                     return "::".join([*names, function])
         elif found := BLOCK.match(line):
-            trait, owner, declared = found.groups()
-            return "::".join([declared or owner + (trait or ""), function])
+            trait, lent, owner, declared = found.groups()
+            return "::".join([declared or ("Ref" if lent else "") + owner + (trait or ""), function])
     return None
 
 
