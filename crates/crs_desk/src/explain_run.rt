@@ -1,10 +1,11 @@
 //! What a text spells or why it is refused, and all parts in which two texts differ, explained to a person or a program.
-ghost use Rattle.std.specs.Prelude.{◌≡◌, ◌<◌, ◌↔◌, ◌≤◌, ◌++◌, ◌∷◌, [], IfOk, IfErr, IsErrOf, length, true, false};
+ghost use Rattle.std.specs.Prelude.{◌≡◌, ◌<◌, ◌↔◌, ◌≤◌, ◌++◌, ◌∷◌, [], IfOk, IfErr, IsErrOf, MatchOption, length, true, false};
 ghost use Rattle.crs_value.specs.SpellsText.{Refuses};
 ghost use Rattle.crs_runs.specs.Ending.{IsAnswered, IsRunFault, IsWritten, IsWriteFault};
 ghost use Rattle.crs_desk.specs.ExplainOutput.{AreDifferencesTold, IsExplainOutput, IsExplainPairOutput};
 ghost use Rattle.crs_desk.specs.ExplainOutput.{IsRefusalTold, TellsRefusalOf, TellsWhetherSame, kind_told, same_told};
 ghost use Rattle.crs_desk.specs.declared.manner.Manner.TheVariants as manner;
+ghost use Rattle.crs_same.specs.SameCrs.{SameCrs};
 ghost use Rattle.crs_streams.specs.Streams.{fresh_sink, fresh_source};
 
 use crate::{Level, Manner, RunFault, Sink, Source};
@@ -14,7 +15,6 @@ use crs_explain::{
 use crs_runs::{
     Answer, Telling, accepted_line, kind_word, pair_output, read_text, refusal_in, write_answer,
 };
-use crs_same::same;
 use crs_text::Refusal;
 use crs_value::{Crs, Kind, laws, read};
 use std::alloc::{AllocError, Global};
@@ -259,11 +259,10 @@ fn differences_output<'t>(
 ) -> Result<(Vec<u8>, u8), AllocError>
     ensures { IfOk result (λ output. TellsWhetherSame how words.now level a.now b.now output.0.items output.1) }
 {
-    if same(a, b, level) {
+    let Some(parts) = differences_told(alloc, how, words, level, a, b)? else {
         let line = same_line(alloc, how)?;
         return Ok((line, 0));
-    }
-    let parts = differences_told(alloc, how, words, level, a, b)?;
+    };
     Ok((parts, 1))
 }
 
@@ -276,6 +275,7 @@ fn same_line(alloc: Global, how: Manner) -> Result<Vec<u8>, AllocError>
     }
 }
 
+// The parts in which two CRSs differ; None where they are the same.
 fn differences_told<'t>(
     alloc: Global,
     how: Manner,
@@ -283,8 +283,9 @@ fn differences_told<'t>(
     level: Level,
     a: &Crs<'t>,
     b: &Crs<'t>,
-) -> Result<Vec<u8>, AllocError>
-    ensures { IfOk result (λ told. AreDifferencesTold how words.now level a.now b.now told.items) }
+) -> Result<Option<Vec<u8>>, AllocError>
+    ensures { IfOk result (λ told. MatchOption told (SameCrs level a.now b.now)
+        (λ parts. (¬ SameCrs level a.now b.now) × AreDifferencesTold how words.now level a.now b.now parts.items)) }
 {
     match how {
         Manner::Lines => ordered_differences_text(alloc, words, a, b, level),

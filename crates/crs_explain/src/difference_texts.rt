@@ -1,6 +1,8 @@
 //! All parts in which two CRSs differ, each as three texts.
-ghost use Rattle.std.specs.Prelude.{IfOk, OnOk};
+ghost use Rattle.std.specs.Prelude.{◌↔◌, IfOk, IsTrue, MatchOption, OnOk};
+ghost use Rattle.crs_same.specs.PartsOfCrs.{DifferencesInCrs};
 ghost use Rattle.crs_same.specs.Paths.{path_text};
+ghost use Rattle.crs_same.specs.SameCrs.{SameCrs};
 ghost use Rattle.crs_canon.specs.ContentText.{IsContentText};
 ghost use Rattle.crs_explain.specs.Appended.{AppendsTexts};
 ghost use Rattle.crs_explain.specs.Differing.{AreDifferenceTexts, AreTexts, AreTextsOf};
@@ -10,7 +12,8 @@ ghost use Rattle.crs_explain.specs.InOrder.{AreOrderedTexts};
 use crate::order::{StepWord, put_in_order};
 use crate::set_texts::append_set;
 use crs_canon::write_content;
-use crs_same::{Content, Difference, differences};
+use crs_same::{Content, Difference, differences, laws};
+use crs_value::laws::crs_is_sound;
 use crs_value::{Crs, Level};
 use std::alloc::{AllocError, Global};
 use std::marker::Model;
@@ -45,19 +48,36 @@ pub(crate) fn difference_texts<'a>(
     texts_of(alloc, level, differences.as_slice())
 }
 
-/// The same, in the order of some words.
+/// The same, in the order of some words; None exactly where the CRSs are the same.
 pub(crate) fn ordered_texts<'a>(
     alloc: Global,
     words: &[StepWord],
     a: &Crs<'a>,
     b: &Crs<'a>,
     level: Level,
-) -> Result<Vec<DifferenceTexts>, AllocError>
-    ensures { IfOk result (λ texts. AreOrderedTexts words.now level a.now b.now texts.items) }
+) -> Result<Option<Vec<DifferenceTexts>>, AllocError>
+    ensures { IfOk result (λ found. MatchOption found (SameCrs level a.now b.now)
+        (λ texts. (¬ SameCrs level a.now b.now) × AreOrderedTexts words.now level a.now b.now texts.items)) }
 {
-    let mut texts = difference_texts(alloc, a, b, level)?;
+    let differences = differences(alloc, a, b, level)?;
+    if are_none(a, b, level, differences.as_slice()) {
+        return Ok(None);
+    }
+    let mut texts = texts_of(alloc, level, differences.as_slice())?;
     put_in_order(words, &mut texts)?;
-    Ok(texts)
+    Ok(Some(texts))
+}
+
+// Whether these are no differences of two CRSs: exactly where the CRSs are the same.
+fn are_none<'a>(a: &Crs<'a>, b: &Crs<'a>, level: Level, differences: &[Difference<'_, '_>]) -> bool
+    requires { DifferencesInCrs level a.now b.now differences.now }
+    ensures { IsTrue result ↔ SameCrs level a.now b.now }
+{
+    laws::first_difference_is_first_part();
+    laws::no_part_differs_where_same();
+    crs_is_sound(a);
+    crs_is_sound(b);
+    differences.is_empty()
 }
 
 fn texts_of(

@@ -1,8 +1,9 @@
 //! All parts in which two CRSs differ, for a person to read and for a program to use.
-ghost use Rattle.std.specs.Prelude.{◌≡◌, ◌++◌, IfOk, OnOk};
+ghost use Rattle.std.specs.Prelude.{◌≡◌, ◌++◌, IfOk, MatchOption, OnOk};
 ghost use Rattle.std.specs.List.{flat_map};
 ghost use Rattle.crs_explain.specs.Differing.{AreDifferencePieces, IsDifferencesText, difference_line, part_pieces, shown};
 ghost use Rattle.crs_explain.specs.InOrder.{IsOrderedText};
+ghost use Rattle.crs_same.specs.SameCrs.{SameCrs};
 
 use crate::difference_texts::{DifferenceTexts, difference_texts, ordered_texts};
 use crate::order::StepWord;
@@ -35,7 +36,8 @@ pub fn differences_text<'a>(
 }
 
 /// The same lines in the order of some words: first those whose path has the first word, then those whose path has the
-/// next, and so on, then the others; those of one word in the order of the canonical text. Profile.
+/// next, and so on, then the others; those of one word in the order of the canonical text. None exactly where the CRSs
+/// are the same. Profile.
 ///
 /// `AllocError`: there is no memory for it.
 pub fn ordered_differences_text<'a>(
@@ -44,13 +46,16 @@ pub fn ordered_differences_text<'a>(
     a: &Crs<'a>,
     b: &Crs<'a>,
     level: Level,
-) -> Result<Vec<u8>, AllocError>
-    ensures { IfOk result (λ text. IsOrderedText words.now level a.now b.now text.items) }
+) -> Result<Option<Vec<u8>>, AllocError>
+    ensures { IfOk result (λ told. MatchOption told (SameCrs level a.now b.now)
+        (λ text. (¬ SameCrs level a.now b.now) × IsOrderedText words.now level a.now b.now text.items)) }
 {
-    let differences = ordered_texts(alloc, words, a, b, level)?;
+    let Some(differences) = ordered_texts(alloc, words, a, b, level)? else {
+        return Ok(None);
+    };
     let mut lines = Vec::new(alloc);
     append_lines(&differences, &mut lines)?;
-    Ok(lines)
+    Ok(Some(lines))
 }
 
 /// The same as data: three texts for each line, its path, and the values of the first CRS and of the second, with

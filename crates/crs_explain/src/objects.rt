@@ -1,10 +1,11 @@
 //! Refusals and parts that differ as objects of JSON, each in a line.
-ghost use Rattle.std.specs.Prelude.{◌≡◌, ◌++◌, ◌≤◌, IfOk, OnOk, Some, codes, decimal, length};
+ghost use Rattle.std.specs.Prelude.{◌≡◌, ◌++◌, ◌≤◌, IfOk, MatchOption, OnOk, Some, codes, decimal, length};
 ghost use Rattle.std.specs.List.{flat_map};
 ghost use Rattle.crs_text.specs.Refusal.{name_of};
 ghost use Rattle.crs_explain.specs.InOrder.{AreOrderedObjects};
 ghost use Rattle.crs_explain.specs.Json.{IsRefusalObject, difference_object, expected_members};
 ghost use Rattle.crs_explain.specs.Json.{place_members, refusal_object, sentence_members, which_member};
+ghost use Rattle.crs_same.specs.SameCrs.{SameCrs};
 ghost use Rattle.crs_streams.specs.Json.{text_member, value_member};
 
 use crate::difference_texts::{DifferenceTexts, ordered_texts};
@@ -42,8 +43,8 @@ pub fn refusal_object(
     Ok(object)
 }
 
-/// An object of JSON and a line feed for each line of `differences_text`; none exactly where the CRSs are the same: its
-/// path, and the values of the first and of the second, `null` for what has none. First come those whose path has the
+/// An object of JSON and a line feed for each line of `differences_text`; None exactly where the CRSs are the same. It has
+/// its path, and the values of the first and of the second, `null` for what has none. First come those whose path has the
 /// first of some words, then those whose path has the next, and so on, then the others; those of one word are in the
 /// order of `differences_text`. Profile.
 ///
@@ -54,13 +55,16 @@ pub fn difference_objects<'a>(
     a: &Crs<'a>,
     b: &Crs<'a>,
     level: Level,
-) -> Result<Vec<u8>, AllocError>
-    ensures { IfOk result (λ text. AreOrderedObjects words.now level a.now b.now text.items) }
+) -> Result<Option<Vec<u8>>, AllocError>
+    ensures { IfOk result (λ told. MatchOption told (SameCrs level a.now b.now)
+        (λ text. (¬ SameCrs level a.now b.now) × AreOrderedObjects words.now level a.now b.now text.items)) }
 {
-    let differences = ordered_texts(alloc, words, a, b, level)?;
+    let Some(differences) = ordered_texts(alloc, words, a, b, level)? else {
+        return Ok(None);
+    };
     let mut objects = Vec::new(alloc);
     append_differences(&differences, &mut objects)?;
-    Ok(objects)
+    Ok(Some(objects))
 }
 
 fn append_differences(differences: &[DifferenceTexts], out: &mut Vec<u8>) -> Result<(), AllocError>
