@@ -45,9 +45,15 @@ impl<'t> Measure<'t, Items<'t>> for ItemsStage {
         match self {
             ItemsStage::Shape => Ok(shaped(given)),
             ItemsStage::Judge => Ok(judged(given)),
-            ItemsStage::Value => dropped(value_of(alloc, given), size(given)),
+            ItemsStage::Value => valued(alloc, given),
         }
     }
+}
+
+// A function clears the memory of its locals when it is entered, so the stages that own no value aren't one with this.
+#[inline(never)]
+fn valued(alloc: Global, items: &Items<'_>) -> Result<Outcome, AllocError> {
+    dropped(value_of(alloc, items), size(items))
 }
 
 fn shaped(items: &Items<'_>) -> Outcome {

@@ -7,6 +7,7 @@ use crs_value::{Crs, Level, read};
 use std::alloc::{AllocError, Global};
 
 /// Whether two texts spell the same CRS; the second isn't read where the first is refused.
+#[inline(never)]
 pub fn matched<'t>(alloc: Global, text: &'t [u8], next: &'t [u8]) -> Result<Outcome, AllocError> {
     matched_by(alloc, ReadCrs, text, next)
 }
