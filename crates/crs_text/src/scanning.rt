@@ -450,7 +450,8 @@ fn advance(table: &mut Table, text: &[u8], at: &mut usize) -> Result<(), Fault>
     pass_number(table, text, at)
 }
 
-// Reads the last bytes of the text, from this place on: Ok where all tokens are one whole node.
+// Reads the last bytes of the text, from this place on: Ok where all tokens are one whole node. `advance` is called in
+// one place alone, since the compiler then makes its code part of the loop there.
 #[inline(never)]
 fn scan_last(table: &mut Table, text: &[u8], from: usize) -> Result<(), Fault>
     requires { IsReached text.now table.old from }
@@ -460,7 +461,7 @@ fn scan_last(table: &mut Table, text: &[u8], from: usize) -> Result<(), Fault>
 {
     let mut at = from;
     while at < text.len() {
-        advance(table, text, &mut at)?;
+        pass_any(table, text, &mut at)?;
     }
     if table.is_whole() {
         Ok(())
