@@ -1,8 +1,8 @@
-# Completion of crsdesk's command line for bash. Words that are neither commands nor options nor levels are left to the
-# shell, which offers files: those of check, canon and group, after --files of same and explain, and after --rules.
+# Completion of crsdesk's command line for bash. Where neither a command nor an option, a level or a word of --first may
+# stand the shell offers files: those of check, canon and group, after --files of same and explain, and after --rules.
 
 _crsdesk() {
-    local word=${COMP_WORDS[COMP_CWORD]} before=${COMP_WORDS[COMP_CWORD - 1]} words=
+    local word=${COMP_WORDS[COMP_CWORD]} before=${COMP_WORDS[COMP_CWORD - 1]} words= front=
 
     # bash cuts --level=WORD and --first=WORDS at their equals signs.
     if [[ $word == = && ($before == --level || $before == --first) ]]; then
@@ -12,10 +12,16 @@ _crsdesk() {
     fi
     if ((COMP_CWORD == 1)); then
         words='canon check group same explain help -h --help -V --version'
+    elif [[ " ${COMP_WORDS[*]:2:COMP_CWORD-2} " == *' -- '* ]]; then
+        : # After -- no word is an option.
     elif [[ $before == --level ]]; then
         words='full definition'
     elif [[ $before == --first ]]; then
-        words='axis base conversion datum ellipsoid geoid id meridian name parameters remark system unit usage'
+        words='accuracy anchor anchorepoch axis base conversion datum dimension direction dynamic ellipsoid epoch flattening'
+        words+=' geoid horizontal id kind longitude members meridian method model name parameters remark semimajor system type'
+        words+=' unit usage vertical'
+        # Of several words, with commas between them, the last one is completed.
+        [[ $word == *,* ]] && front=${word%,*},
     elif [[ ${COMP_WORDS[1]} == help ]]; then
         ((COMP_CWORD == 2)) && words='canon check group same explain help'
     elif [[ $word == -* ]]; then
@@ -27,7 +33,9 @@ _crsdesk() {
         check) words='--lines -h --help' ;;
         esac
     fi
-    mapfile -t COMPREPLY < <(compgen -W "$words" -- "$word")
+    # Where one of these words must stand no files are offered.
+    [[ $words ]] && compopt +o bashdefault +o default
+    mapfile -t COMPREPLY < <(compgen -P "$front" -W "$words" -- "${word#"$front"}")
 }
 
 complete -o bashdefault -o default -F _crsdesk crsdesk

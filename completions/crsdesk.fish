@@ -1,6 +1,9 @@
 # Completion of crsdesk's command line for fish.
 
 set -l commands canon check group same explain help
+set -l words accuracy anchor anchorepoch axis base conversion datum dimension direction dynamic ellipsoid epoch
+set -a words flattening geoid horizontal id kind longitude members meridian method model name parameters remark semimajor
+set -a words system type unit usage vertical
 set -l none "not __fish_seen_subcommand_from $commands"
 
 complete -c crsdesk -n $none -f
@@ -11,6 +14,8 @@ complete -c crsdesk -n $none -a same -d 'Compare two texts'
 complete -c crsdesk -n $none -a explain -d 'Explain a refusal, or all parts in which two texts differ'
 complete -c crsdesk -n $none -a help -d 'Print help'
 complete -c crsdesk -n $none -s V -l version -d 'Print the version'
+# A word that begins with - is a file after -- alone.
+complete -c crsdesk -n "string match -q -- '-*' (commandline -ct); and not contains -- -- (commandline -opc)" -f
 complete -c crsdesk -s h -l help -d 'Print help'
 complete -c crsdesk -n '__fish_seen_subcommand_from canon group same explain' -l level -x -a 'full definition' -d 'What counts'
 complete -c crsdesk -n '__fish_seen_subcommand_from canon group same explain' -l rules -r -d 'Compare under the rules of a file'
@@ -18,6 +23,6 @@ complete -c crsdesk -n '__fish_seen_subcommand_from canon check' -l lines -d 'Ta
 complete -c crsdesk -n '__fish_seen_subcommand_from group' -l repeated -d 'Write the groups of two lines or more alone'
 complete -c crsdesk -n '__fish_seen_subcommand_from group' -l names -d 'Take names from the fronts of lines, and write them for numbers'
 complete -c crsdesk -n '__fish_seen_subcommand_from same explain' -l files -d 'Take the operands as names of files'
-complete -c crsdesk -n '__fish_seen_subcommand_from explain' -l first -x -a 'axis base conversion datum ellipsoid geoid id meridian name parameters remark system unit usage' -d 'Tell the parts first whose paths have these words'
+complete -c crsdesk -n '__fish_seen_subcommand_from explain' -l first -x -a "(__fish_append , $words)" -d 'Tell the parts first whose paths have these words'
 complete -c crsdesk -n '__fish_seen_subcommand_from group explain' -l json -d 'Write objects of JSON, one a line'
 complete -c crsdesk -n '__fish_seen_subcommand_from help' -f -a "$commands"

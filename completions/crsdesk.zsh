@@ -3,6 +3,7 @@
 
 _crsdesk() {
     local -a commands level rules lines repeated names files json first help
+    local file=_files
     commands=(
         'canon:write the canonical text'
         'check:tell what kind of CRS a text spells, or where it is refused'
@@ -18,7 +19,7 @@ _crsdesk() {
     names=('--names[take names from the fronts of lines, and write them for numbers]')
     files=('--files[take the operands as names of files]')
     json=('--json[write objects of JSON, one a line]')
-    first=('*--first=[tell the parts first whose paths have these words]:words:_values -s , word axis base conversion datum ellipsoid geoid id meridian name parameters remark system unit usage')
+    first=('*--first=[tell the parts first whose paths have these words]:words:_sequence compadd - accuracy anchor anchorepoch axis base conversion datum dimension direction dynamic ellipsoid epoch flattening geoid horizontal id kind longitude members meridian method model name parameters remark semimajor system type unit usage vertical')
     help=('(- *)'{-h,--help}'[print help]')
 
     if (( CURRENT == 2 )); then
@@ -29,14 +30,21 @@ _crsdesk() {
     local command=$words[2]
     shift words
     (( CURRENT-- ))
+    # A word that begins with - is a file after -- alone.
+    [[ $PREFIX == -* && ${words[(i)--]} -ge CURRENT ]] && file=false
     case $command in
-        canon) _arguments $level $rules $lines $help '*:file:_files' ;;
-        check) _arguments $lines $help '*:file:_files' ;;
-        group) _arguments $level $rules $json $repeated $names $help '*:file:_files' ;;
-        same) _arguments $files $level $rules $help '1:first:_files' '2:second:_files' ;;
-        explain) _arguments $files $first $json $level $rules $help '1:first:_files' '2:second:_files' ;;
-        help) _describe command commands ;;
+        canon) _arguments -S $level $rules $lines $help '*:file:'$file ;;
+        check) _arguments -S $lines $help '*:file:'$file ;;
+        group) _arguments -S $level $rules $json $repeated $names $help '*:file:'$file ;;
+        same) _arguments -S $files $level $rules $help '1:first:'$file '2:second:'$file ;;
+        explain) _arguments -S $files $first $json $level $rules $help '1:first:'$file '2:second:'$file ;;
+        help) (( CURRENT == 2 )) && _describe command commands ;;
     esac
 }
 
-_crsdesk "$@"
+# compinit loads this file as the function itself; it may be read by source too.
+if [[ $funcstack[1] == _crsdesk ]]; then
+    _crsdesk "$@"
+else
+    compdef _crsdesk crsdesk
+fi
