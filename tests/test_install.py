@@ -41,7 +41,9 @@ COMMANDS = ("canon", "check", "explain", "group", "same")
 # What has its files below the list's own folder and the prefix, which a user has.
 OWN = "share/crsdesk/own.txt"
 # Prints what the words before the last are completed to.
-ASK_COMPLETION = 'source "$1"; shift; COMP_WORDS=(crsdesk "$@"); COMP_CWORD=$#; _crsdesk; echo "${COMPREPLY[*]}"'
+ASK_COMPLETION = (
+    'compopt() { :; }; source "$1"; shift; COMP_WORDS=(crsdesk "$@"); COMP_CWORD=$#; _crsdesk; echo "${COMPREPLY[*]}"'
+)
 # Says how bash completes what the function leaves open.
 ASK_DEFAULT = 'source "$1"; complete -p crsdesk'
 # Prints what fish completes a line to, a word a line.
