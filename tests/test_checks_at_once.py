@@ -24,7 +24,7 @@ ROOMY = {"memory.max": "max", "cpu.max": "max 100000"}
         ({**ROOMY, "cpu.max": "100000 100000"}, 1),
         ({"cpu/cpu.cfs_quota_us": "50000", "cpu/cpu.cfs_period_us": "100000"}, 1),
         ({"cpu/cpu.cfs_quota_us": "-1", "cpu/cpu.cfs_period_us": "100000"}, ALL),
-        ({**ROOMY, "memory.max": "5999999999"}, 1),
+        ({**ROOMY, "memory.max": "7999999999"}, 1),
         ({"memory/memory.limit_in_bytes": "2000000000"}, 1),
     ],
 )

@@ -1,6 +1,6 @@
 #!/usr/bin/env python3
 """Prints how many checks of the prover may run at once on this machine, with one job each: as many as there are processors
-to use, where each check has three gigabytes of free memory, and at least one.
+to use, where each check has four gigabytes of free memory, and at least one.
 
 ./test hands the number to rt as RT_JOBS. rt by itself gives a check up to four jobs, which together take 30 % more processor
 time than one, and has a crate as large as crs_value run alone.
@@ -12,7 +12,7 @@ import pathlib
 import re
 from typing import Iterator, Optional
 
-CHECK_BYTES = 3_000_000_000
+CHECK_BYTES = 4_000_000_000
 GROUP = pathlib.Path("/sys/fs/cgroup")
 
 
