@@ -5,6 +5,7 @@ pub mod Innermost
 pub mod Items
 pub mod KeywordTable
 pub mod Keywords
+pub mod Laid
 pub mod Lexing
 pub mod Nesting
 pub mod Position

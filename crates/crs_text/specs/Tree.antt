@@ -8,6 +8,7 @@ use Rattle.crs_text.specs.Tokens.{IsFormed}
 use Rattle.crs_text.specs.Items.{Item, leaf, node, Siblings, End, More, tokens, arguments, count}
 use Rattle.crs_text.specs.Items.{first_of, skip, only}
 use Rattle.crs_text.specs.Items.{kind_of_item, raw_of, place_of, IsNode}
+use Rattle.crs_text.specs.Laid.{AreLaid}
 use Rattle.crs_text.specs.Rows.{rows, square_of, close_place}
 use Rattle.crs_text.specs.declared.items.ItemKind.{ItemKind}
 use Rattle.crs_text.specs.declared.items.ItemKind.TheVariants.{Number, Text, Word, Node}
@@ -225,4 +226,5 @@ pub record IsTable (source : List ℕ) (table : List Row) (item : Item) : Type 0
   pub rows : table ≡ rows 0 item
   pub stand : AllStand source (tokens item)
   pub formed : EachToken IsFormed (tokens item)
+  pub laid : AreLaid source (tokens item)
   pub node : IsNode item

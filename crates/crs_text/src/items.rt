@@ -1,11 +1,12 @@
-ghost use Rattle.std.specs.Prelude.{◌≡◌, ℕ, ◌+◌, ◌^◌, ◌<◌, ◌≤◌, ◌↔◌, IsTrue, Option, length, take, drop};
+ghost use Rattle.std.specs.Prelude.{◌≡◌, ℕ, ◌+◌, ◌^◌, ◌<◌, ◌≤◌, ◌↔◌, IfSome, IsTrue, Option, length, take, drop};
 ghost use Rattle.std.specs.Prelude.{slice_index_or};
 ghost use Rattle.crs_text.specs.Items.{More, End, arguments, count, first_of, rest_of, skip, kind_of_item, raw_of, place_of};
 ghost use Rattle.crs_text.specs.Items.{keyword_in, close_of, size_of, here, HasId, IsAt, IsNumberOf};
 ghost use Rattle.crs_text.specs.Table.{no_row};
 ghost use Rattle.crs_text.specs.Rows.{rows, row_of};
 ghost use Rattle.crs_text.specs.Tree.{raw_place};
-ghost use Rattle.crs_text.specs.Written.{AreFormed};
+ghost use Rattle.crs_text.specs.Written.{AreFormed, item_text};
+ghost use Rattle.crs_text.specs.Laid.{AreSquare, IsSquare, bytes_beside, bytes_of_rows};
 
 use crate::keyword::Keyword;
 use crate::table::{Row, Table};
@@ -169,6 +170,25 @@ impl<'a> Items<'a> {
         self.row(id).keyword
     }
 
+    /// The bytes of a node, from its keyword to its closing delimiter, if they are its written form: it and all nodes in
+    /// it have square delimiters, and there is no white space but in quoted texts. `None` for other items. Profile.
+    pub fn written(&self, id: ItemId) -> Option<&'a [u8]>
+        requires { HasId self.now id }
+        ensures { IfSome result (λ bytes. bytes.now ≡ item_text (first_of (here self.now id))) }
+    {
+        let source = self.source;
+        let row = self.row(id);
+        if row.kind != ItemKind::Node {
+            return None;
+        }
+        let length = written_length(rows_of(&self.rows, id.0, row.size))?;
+        if row.place + length == row.close + 1 {
+            Some(part_of(source, row.place, length))
+        } else {
+            None
+        }
+    }
+
     /// Each single token and each keyword in the item is well formed: a call that does nothing, and whose
     /// contract is the law. Profile.
     pub fn formed(&self, _id: ItemId)
@@ -243,6 +263,49 @@ fn raw_place(kind: ItemKind, place: usize) -> usize
         ItemKind::Text => place + 1,
         ItemKind::Number | ItemKind::Word | ItemKind::Node => place,
     }
+}
+
+fn rows_of(rows: &[Row], start: usize, count: usize) -> &[Row]
+    requires { start + count ≤ length rows.now }
+    ensures { result.now ≡ take count (drop start rows.now) }
+{
+    &rows[start..start + count]
+}
+
+fn has_square(row: &Row) -> bool
+    ensures { IsTrue result → IsSquare row.now.kind row.now.square }
+{
+    match row.kind {
+        ItemKind::Node => row.square,
+        ItemKind::Number | ItemKind::Text | ItemKind::Word => true,
+    }
+}
+
+fn bytes_beside(kind: ItemKind, count: usize) -> usize
+    requires { bytes_beside kind count < 2 ^ 64 }
+    ensures { result ≡ bytes_beside kind count }
+{
+    match kind {
+        ItemKind::Text => 2,
+        ItemKind::Number | ItemKind::Word => 0,
+        ItemKind::Node => count + 1,
+    }
+}
+
+// How many bytes the written items of these rows have, if all their delimiters are square.
+fn written_length(rows: &[Row]) -> Option<usize>
+    requires { bytes_of_rows rows.now < 2 ^ 64 }
+    ensures length { IfSome result (λ n. n ≡ bytes_of_rows rows.now) }
+    ensures square { IfSome result (λ n. AreSquare rows.now) }
+{
+    let mut length = 0;
+    for row in rows {
+        if !has_square(row) {
+            return None;
+        }
+        length += row.length + bytes_beside(row.kind, row.count);
+    }
+    Some(length)
 }
 
 fn part_of(source: &[u8], start: usize, count: usize) -> &[u8]

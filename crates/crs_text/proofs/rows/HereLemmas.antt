@@ -68,7 +68,7 @@ leaf-row_of text place raw depth = refl
 leaf-row_of word place raw depth = refl
 
 mutual
-  rows-heres_in : (item : Item) (depth : ℕ) → rows depth item ≡ row_of depth item ∷ map row_at (heres_in depth item)
+  pub rows-heres_in : (item : Item) (depth : ℕ) → rows depth item ≡ row_of depth item ∷ map row_at (heres_in depth item)
   rows-heres_in (leaf kind place raw) depth = ap (λ r. r ∷ []) (leaf-row_of kind place raw depth)
   rows-heres_in (node place keyword square first others close) depth =
       let a = map-append row_at (heres_in (suc depth) first) (heres_of (suc depth) others) in
@@ -104,7 +104,13 @@ Continues depth End (h ∷ hs) = h.depth < depth
 Continues depth (More item items) [] = ⊥
 Continues depth (More item items) (h ∷ hs) = (h.depth ≡ depth) × (items_at h ≡ More item items)
 
+-- what follows an item begins with what is in it
+pub record IsFollowed (h : Here) (hs : List Here) : Type 0 where
+  pub behind : List Here
+  pub is : hs ≡ heres_in h.depth h.item ++ behind
+
 pub record IsLinked (h : Here) (hs : List Here) : Type 0 where
+  pub inside : IsFollowed h hs
   pub within : size_of h.item ≤ suc (length hs)
   pub first : Begins (arguments h.item) hs
   pub next : Continues h.depth h.later (drop (size_of h.item) (h ∷ hs))
@@ -166,6 +172,7 @@ linked-item item later depth hs less linked =
     let e : drop (size_of item) (h ∷ (heres_in depth item ++ (heres_of depth later ++ hs))) ≡ heres_of depth later ++ hs =
     rw (← size) (drop-append_seam (heres_in depth item) (heres_of depth later ++ hs)) in (
       record {
+        inside = record { behind = heres_of depth later ++ hs; is = refl };
         within = omega (arith, size, len);
         first = begins-heres_in item depth (heres_of depth later ++ hs);
         next = subst (Continues depth later) (sym e) (continues-heres_of later depth hs less);

@@ -1,14 +1,14 @@
 -- What the row at an item's number says of the tree.
-use Rattle.std.proofs.Common.{◌≡◌, ◌≢◌, ℕ, zero, suc, ◌+◌, ◌≤◌, ◌<◌, Bool, true, false, Option, Some, List, [], ◌∷◌, length, get_or, drop, map, refl, sym, ◌∙◌, ap, subst, arith}
+use Rattle.std.proofs.Common.{◌≡◌, ◌≢◌, ℕ, zero, suc, ◌+◌, ◌≤◌, ◌<◌, Bool, true, false, Option, Some, List, [], ◌∷◌, ◌++◌, length, get_or, take, drop, map, refl, sym, ◌∙◌, ap, subst, arith}
 use Rattle.std.proofs.Math.ListN.{drop_of_length-le}
-use Rattle.std.proofs.Math.Seq.{drop-cons}
+use Rattle.std.proofs.Math.Seq.{drop-cons, take-append_seam}
 use Rattle.std.proofs.Common.{nat_lt, length-drop}
 use Rattle.std.proofs.lemmas.Bool.{ltb-true, ltb-false}
-use Rattle.std.proofs.lemmas.List.{length-map, get_or-map, get_or_past, drop-drop}
+use Rattle.std.proofs.lemmas.List.{length-map, map-append, get_or-map, get_or_past, drop-drop, drop-map}
 use Rattle.crs_text.specs.Items.{Item, leaf, node, Siblings, End, More, arguments, count, first_of, rest_of, skip, size_of, here, HasId, IsAt}
 use Rattle.crs_text.specs.Rows.{rows, row_of}
 use Rattle.crs_text.specs.declared.table.Row.{Row}
-use Rattle.crs_text.proofs.rows.HereLemmas.{Here, items_at, row_at, heres, Begins, Continues, IsLinked, AreLinked, linked-heres, linked-drop, rows-heres, items-heres}
+use Rattle.crs_text.proofs.rows.HereLemmas.{Here, items_at, row_at, heres, heres_in, Begins, Continues, IsLinked, AreLinked, length-rows, linked-heres, linked-drop, rows-heres, rows-heres_in, items-heres}
 
 -- the item of a number, and what follows it in the order in which the items begin
 record Spot (tree : Item) (id : ℕ) : Type 0 where
@@ -40,6 +40,23 @@ spot tree id lt =
 
 linked : (tree : Item) (id : ℕ) (s : Spot tree id) → IsLinked s.it s.behind
 linked tree id s = (subst AreLinked s.is (linked-drop id (heres tree) (linked-heres tree))).0
+
+-- the rows of an item come one after another from its number on
+pub rows_here : (tree : Item) (id : ℕ) → id < length (rows 0 tree) →
+    (depth : ℕ) × (take (size_of (first_of (here tree id))) (drop id (rows 0 tree)) ≡ rows depth (first_of (here tree id)))
+rows_here tree id lt =
+    let s = spot tree id lt in
+    let inside = (linked tree id s).inside in
+    let own = rows s.it.depth s.it.item in
+    let later = map row_at inside.behind in
+    let item : s.it.item ≡ first_of (here tree id) = sym (ap first_of s.items) in
+    let from : drop id (rows 0 tree) ≡ own ++ later =
+    ap (drop id) (rows-heres tree) ∙ drop-map row_at id (heres tree) ∙ ap (map row_at) s.is ∙ ap (λ hs. row_at s.it ∷ map row_at hs) inside.is
+    ∙ ap (λ rs. row_at s.it ∷ rs) (map-append row_at (heres_in s.it.depth s.it.item) inside.behind)
+    ∙ ap (λ rs. rs ++ later) (sym (rows-heres_in s.it.item s.it.depth)) in
+    let front : take (size_of s.it.item) (drop id (rows 0 tree)) ≡ own =
+    ap (take (size_of s.it.item)) from ∙ ap (λ n. take n (own ++ later)) (sym (length-rows s.it.item s.it.depth)) ∙ take-append_seam own later in
+    (s.it.depth, subst (λ i. take (size_of i) (drop id (rows 0 tree)) ≡ rows s.it.depth i) item front)
 
 pub has_from_lt : (tree : Item) (id : ℕ) → id < length (rows 0 tree) → HasId tree id
 has_from_lt tree id lt = let s = spot tree id lt in λ e. let k : items_at s.it ≡ End = sym s.items ∙ e in cc

@@ -5,20 +5,17 @@ use Rattle.std.proofs.Math.Seq.{take-append_seam}
 use Rattle.crs_text.specs.Tokens as tokens
 use Rattle.crs_text.specs.Tokens.{Token, single, comma, opening, closing, spelling, IsFormed, Forms, Fronts}
 use Rattle.crs_text.specs.Items.{Item}
+use Rattle.crs_text.specs.Laid.{AreLaid, EndsIn}
 use Rattle.crs_text.specs.Rows.{rows}
 use Rattle.crs_text.specs.Tree.{StandsAt, TokenStands, AllStand, EachToken, IsTable}
 use Rattle.crs_text.specs.TextFault.{SpellsNode}
 use Rattle.crs_text.specs.declared.table.Row.{Row}
 use Rattle.crs_text.proofs.texts.WrittenLemmas.{fronts_formed}
 
--- the bytes end the source
-abbrev EndsIn : List ℕ → List ℕ → Type 0
-EndsIn source bytes = (front : List ℕ) × (source ≡ front ++ bytes)
-
-cut_front : (source bytes white rest : List ℕ) → EndsIn source bytes → bytes ≡ white ++ rest → EndsIn source rest
+pub cut_front : (source bytes white rest : List ℕ) → EndsIn source bytes → bytes ≡ white ++ rest → EndsIn source rest
 cut_front source bytes white rest (front, e) f = (front ++ white, e ∙ ap (λ z. front ++ z) f ∙ sym (append_assoc front white rest))
 
-stands_at : (source front raw rest : List ℕ) (place : ℕ) → source ≡ front ++ (raw ++ rest) → place ≡ length front → StandsAt source place raw
+pub stands_at : (source front raw rest : List ℕ) (place : ℕ) → source ≡ front ++ (raw ++ rest) → place ≡ length front → StandsAt source place raw
 stands_at source front raw rest place e p = record {
   within = omega (arith, ap length e, length-append front (raw ++ rest), length-append raw rest, p);
   bytes = sym (ap (λ z. take (length raw) z) (ap (drop place) e ∙ drop_at front (raw ++ rest) place (sym p)) ∙ take-append_seam raw rest);
@@ -48,5 +45,6 @@ table_of_spelled source table item s e = record {
   rows = e;
   stand = subst (AllStand source) s.2.are (all_stand source s.0 source [] ([], refl) s.1);
   formed = subst (EachToken IsFormed) s.2.are (fronts_formed (length source) source [] s.0 s.1);
+  laid = subst (AreLaid source) s.2.are (record { bytes = source; left = []; ends = ([], refl); fronts = s.1 });
   node = s.2.is_node;
 }

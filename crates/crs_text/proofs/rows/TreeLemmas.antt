@@ -6,7 +6,7 @@ use Rattle.crs_decimal.specs.Bounds.{IsInBounds}
 use Rattle.crs_decimal.specs.Fault.{IsFault}
 use Rattle.crs_decimal.specs.declared.fault.NumberFault.{NumberFault}
 use Rattle.crs_decimal.specs.declared.fault.NumberFault.TheVariants.{Malformed, Range}
-use Rattle.crs_text.specs.Tokens.{Kind, number, text, word, Token, single, closing, IsFormed}
+use Rattle.crs_text.specs.Tokens.{Kind, number, text, word, Token, single, comma, opening, closing, IsFormed}
 use Rattle.crs_text.specs.Items.{Item, leaf, node, Siblings, End, More, tokens, others_tokens, first_of, kind_of_item, raw_of, place_of, here, HasId}
 use Rattle.crs_text.specs.Table.{item_kind, leaf_row}
 use Rattle.crs_text.specs.Rows.{rows, rows_of_items, row_of}
@@ -73,27 +73,31 @@ all-append : (Q : Item → Type 0) (a b : List Here) → AllHere Q a → AllHere
 all-append Q [] b h k = k
 all-append Q (x ∷ a) b h k = (h.0, all-append Q a b h.1 k)
 
--- what each token of a tree has, and so each item whose tokens have it, each item in the tree has
-module _ (P : Token → Type 0) (Q : Item → Type 0) (own : (item : Item) → EachToken P (tokens item) → Q item) where
+-- what holds of the tokens of a tree, and so of some of them that come one after another, and so of each item whose tokens
+-- it holds of, holds of each item in the tree
+module _ (Holds : List Token → Type 0) (cut_left : (a b : List Token) → Holds (a ++ b) → Holds a) (cut_right : (a b : List Token) → Holds (a ++ b) → Holds b)
+    (Q : Item → Type 0) (own : (item : Item) → Holds (tokens item) → Q item) where
   mutual
-    all-heres_in : (item : Item) (depth : ℕ) → EachToken P (tokens item) → AllHere Q (heres_in depth item)
+    all-heres_in : (item : Item) (depth : ℕ) → Holds (tokens item) → AllHere Q (heres_in depth item)
     all-heres_in (leaf kind place raw) depth h = tt
     all-heres_in (node place keyword square first others close) depth h =
-        let left = each_left P (tokens first ++ others_tokens others) (closing close square ∷ []) h.1.1 in
-        let one = each_left P (tokens first) (others_tokens others) left in
+        let inner = cut_right (single word place keyword ∷ opening square ∷ []) (tokens first ++ others_tokens others ++ closing close square ∷ []) h in
+        let left = cut_left (tokens first ++ others_tokens others) (closing close square ∷ []) inner in
+        let one = cut_left (tokens first) (others_tokens others) left in
         let a = all-heres_in first (suc depth) one in
-        let b = all-heres_of others (suc depth) (each_right P (tokens first) (others_tokens others) left) in
+        let b = all-heres_of others (suc depth) (cut_right (tokens first) (others_tokens others) left) in
         (own first one, all-append Q (heres_in (suc depth) first) (heres_of (suc depth) others) a b)
 
-    all-heres_of : (items : Siblings) (depth : ℕ) → EachToken P (others_tokens items) → AllHere Q (heres_of depth items)
+    all-heres_of : (items : Siblings) (depth : ℕ) → Holds (others_tokens items) → AllHere Q (heres_of depth items)
     all-heres_of End depth h = tt
     all-heres_of (More item items) depth h =
-        let one = each_left P (tokens item) (others_tokens items) h.1 in
+        let left = cut_right (comma ∷ []) (tokens item ++ others_tokens items) h in
+        let one = cut_left (tokens item) (others_tokens items) left in
         let a = all-heres_in item depth one in
-        let b = all-heres_of items depth (each_right P (tokens item) (others_tokens items) h.1) in
+        let b = all-heres_of items depth (cut_right (tokens item) (others_tokens items) left) in
         (own item one, all-append Q (heres_in depth item) (heres_of depth items) a b)
 
-  all-heres : (tree : Item) → EachToken P (tokens tree) → AllHere Q (heres tree)
+  all-heres : (tree : Item) → Holds (tokens tree) → AllHere Q (heres tree)
   all-heres tree h = (own tree h, all-heres_in tree 0 h)
 
 all-get : (Q : Item → Type 0) (hs : List Here) (i : ℕ) (d : Here) → AllHere Q hs → i < length hs → Q (get_or hs i d).item
@@ -101,14 +105,19 @@ all-get Q [] i d h lt = absurd (omega arith)
 all-get Q (x ∷ hs) zero d h lt = h.0
 all-get Q (x ∷ hs) (suc i) d h lt = all-get Q hs i d h.1 (omega arith)
 
-pub each_item : (P : Token → Type 0) (Q : Item → Type 0) → ((item : Item) → EachToken P (tokens item) → Q item) → (tree : Item) (id : ℕ) → EachToken P (tokens tree) →
+pub item_of : (Holds : List Token → Type 0) → ((a b : List Token) → Holds (a ++ b) → Holds a) → ((a b : List Token) → Holds (a ++ b) → Holds b) →
+    (Q : Item → Type 0) → ((item : Item) → Holds (tokens item) → Q item) → (tree : Item) (id : ℕ) → Holds (tokens tree) →
     id < length (rows 0 tree) → Q (first_of (here tree id))
-each_item P Q own tree id h lt =
+item_of Holds cut_left cut_right Q own tree id h lt =
     let none : Here = record { depth = 0; item = tree; later = End } in
     let len = length-heres tree in
     let inner : id < length (heres tree) = omega arith in
     let items : here tree id ≡ items_at (get_or (heres tree) id none) = items-at tree id ∙ get_or-map items_at (heres tree) id none End inner in
-    subst Q (sym (ap first_of items)) (all-get Q (heres tree) id none (all-heres P Q own tree h) inner)
+    subst Q (sym (ap first_of items)) (all-get Q (heres tree) id none (all-heres Holds cut_left cut_right Q own tree h) inner)
+
+pub each_item : (P : Token → Type 0) (Q : Item → Type 0) → ((item : Item) → EachToken P (tokens item) → Q item) → (tree : Item) (id : ℕ) → EachToken P (tokens tree) →
+    id < length (rows 0 tree) → Q (first_of (here tree id))
+each_item P Q own tree id h lt = item_of (EachToken P) (each_left P) (each_right P) Q own tree id h lt
 
 abbrev pub StandsHere : List ℕ → Item → Type 0
 StandsHere source item = StandsAt source (raw_place (kind_of_item item) (place_of item)) (raw_of item)

@@ -1,0 +1,234 @@
+-- A node that lies in a source with no white space between its tokens, and with square delimiters, is there in its written
+-- form.
+use Rattle.std.proofs.Common.{◌≡◌, ℕ, zero, suc, ◌+◌, ◌≤◌, ◌<◌, Bool, true, false, List, [], ◌∷◌, ◌++◌, length, get_or, take, drop, refl, sym, ap, subst, ◌∙◌, append_assoc, arith}
+use Rattle.std.proofs.lemmas.List.{append-nil, length-append}
+use Rattle.std.proofs.Math.Seq.{drop-cons}
+use Rattle.crs_text.specs.Tokens.{number, text, word, Token, single, comma, opening, closing, spelling, closing_byte, IsAfterWhite, Forms, Fronts}
+use Rattle.crs_text.specs.Items.{Item, leaf, node, Siblings, End, More, tokens, others_tokens, count, first_of, size_of, here, HasId}
+use Rattle.crs_text.specs.Laid.{AreLaid, AreSquare, EndsIn, bytes_beside, bytes_of, bytes_of_rows}
+use Rattle.crs_text.specs.Rows.{rows, rows_of_items, row_of}
+use Rattle.crs_text.specs.Tree.{StandsAt}
+use Rattle.crs_text.specs.Written.{item_text, others_text}
+use Rattle.crs_text.specs.declared.items.ItemKind.TheVariants.{Number, Text, Word, Node}
+use Rattle.crs_text.specs.declared.table.Row.{Row}
+use Rattle.crs_text.proofs.tokens.FrontsLemmas.{at_once}
+use Rattle.crs_text.proofs.rows.IdLemmas.{lt_from_has, rows_here}
+use Rattle.crs_text.proofs.rows.StandLemmas.{cut_front, stands_at}
+use Rattle.crs_text.proofs.rows.TreeLemmas.{item_of}
+
+-- ---- some tokens of those that are laid
+
+cut : (source : List ℕ) (a b : List Token) (bytes left : List ℕ) → EndsIn source bytes → Fronts (length source) bytes (a ++ b) left →
+    (mid : List ℕ) × EndsIn source mid × Fronts (length source) bytes a mid × Fronts (length source) mid b left
+cut source [] [] bytes left ends p = (left, cut_front source bytes p.white left ends p.parts, p, at_once left p.ends)
+cut source [] (u ∷ us) bytes left ends p =
+    (p.0, cut_front source bytes p.2.white p.0 ends p.2.parts, p.2, (p.0, p.1, at_once p.0 p.2.ends, p.3, p.4))
+cut source (t ∷ a) b bytes left ends p =
+    let at = cut_front source bytes p.2.white p.0 ends p.2.parts in
+    let r = cut source a b p.1 left (cut_front source p.0 (spelling t) p.1 at p.3.spelled) p.4 in
+    (r.0, r.1, (p.0, p.1, p.2, p.3, r.2), r.3)
+
+laid_left : (source : List ℕ) (a b : List Token) → AreLaid source (a ++ b) → AreLaid source a
+laid_left source a b h =
+    let r = cut source a b h.bytes h.left h.ends h.fronts in record { bytes = h.bytes; left = r.0; ends = h.ends; fronts = r.2 }
+
+laid_right : (source : List ℕ) (a b : List Token) → AreLaid source (a ++ b) → AreLaid source b
+laid_right source a b h =
+    let r = cut source a b h.bytes h.left h.ends h.fronts in record { bytes = r.0; left = h.left; ends = r.1; fronts = r.3 }
+
+-- ---- up to a closing delimiter
+
+-- the bytes up to behind the delimiter at this place, which are the tokens' alone where they are no more than those
+record IsSpan (total : ℕ) (bytes : List ℕ) (ts : List Token) (close : ℕ) : Type 0 where
+  front : List ℕ
+  rest : List ℕ
+  parts : bytes ≡ front ++ rest
+  end : length rest + close + 1 ≡ total
+  least : length (bytes_of ts) ≤ length front
+  whole : length front ≡ length (bytes_of ts) → front ≡ bytes_of ts
+
+none_by_length : (xs : List ℕ) → length xs ≡ 0 → xs ≡ []
+none_by_length [] e = refl
+none_by_length (x ∷ xs) e = absurd (omega (arith, e))
+
+span_more : (total close : ℕ) (t : Token) (ts : List Token) (bytes at rest : List ℕ) → IsAfterWhite bytes at → Forms total t at rest →
+    IsSpan total rest ts close → IsSpan total bytes (t ∷ ts) close
+span_more total close t ts bytes at rest w f s = record {
+  front = w.white ++ (spelling t ++ s.front);
+  rest = s.rest;
+  parts = w.parts ∙ ap (λ z. w.white ++ z) (f.spelled ∙ ap (λ z. spelling t ++ z) s.parts ∙ sym (append_assoc (spelling t) s.front s.rest))
+      ∙ sym (append_assoc w.white (spelling t ++ s.front) s.rest);
+  end = s.end;
+  least = omega (arith, s.least, length-append w.white (spelling t ++ s.front), length-append (spelling t) s.front, length-append (spelling t) (bytes_of ts));
+  whole = λ e.
+      let a = length-append w.white (spelling t ++ s.front) in
+      let b = length-append (spelling t) s.front in
+      let c = length-append (spelling t) (bytes_of ts) in
+      let none : length w.white ≡ 0 = omega (arith, e, a, b, c, s.least) in
+      let same : length s.front ≡ length (bytes_of ts) = omega (arith, e, a, b, c, s.least) in
+      ap (λ z. z ++ (spelling t ++ s.front)) (none_by_length w.white none) ∙ ap (λ z. spelling t ++ z) (s.whole same);
+}
+
+span_end : (total close : ℕ) (square : Bool) (at rest : List ℕ) → Forms total (closing close square) at rest → IsSpan total rest [] close
+span_end total close square at rest f = record {
+  front = [];
+  rest = rest;
+  parts = refl;
+  end = omega (arith, f.placed, ap length f.spelled, length-append (closing_byte square ∷ []) rest);
+  least = omega arith;
+  whole = λ e. refl;
+}
+
+span : (total close : ℕ) (square : Bool) (ts : List Token) (bytes left : List ℕ) → Fronts total bytes (ts ++ closing close square ∷ []) left →
+    IsSpan total bytes (ts ++ closing close square ∷ []) close
+span total close square [] bytes left p =
+    span_more total close (closing close square) [] bytes p.0 p.1 p.2 p.3 (span_end total close square p.0 p.1 p.3)
+span total close square (t ∷ ts) bytes left p =
+    span_more total close t (ts ++ closing close square ∷ []) bytes p.0 p.1 p.2 p.3 (span total close square ts p.1 left p.4)
+
+-- a node's bytes, if there is no white space between its tokens
+pub record IsSpanned (source : List ℕ) (place close : ℕ) (ts : List Token) : Type 0 where
+  pub within : place + length (bytes_of ts) ≤ length source
+  pub closed : close + 1 ≤ length source
+  pub stands : place + length (bytes_of ts) ≡ close + 1 → StandsAt source place (bytes_of ts)
+
+abbrev pub IsHere : List ℕ → Item → Type 0
+IsHere source (leaf kind place raw) = Unit {0}
+IsHere source (node place keyword square first others close) =
+    IsSpanned source place close (tokens (node place keyword square first others close))
+
+here_laid : (source : List ℕ) (item : Item) → AreLaid source (tokens item) → IsHere source item
+here_laid source (leaf kind place raw) h = tt
+here_laid source (node place keyword square first others close) h =
+    let p = h.fronts in
+    let ts = single word place keyword ∷ opening square ∷ (tokens first ++ others_tokens others) in
+    let ends = cut_front source h.bytes p.2.white p.0 h.ends p.2.parts in
+    let s = span (length source) close square ts p.0 h.left (p.0, p.1, at_once p.0 p.2.ends, p.3, p.4) in
+    let whole : length source ≡ length ends.0 + length p.0 = ap length ends.1 ∙ length-append ends.0 p.0 in
+    let inner : length p.0 ≡ length s.front + length s.rest = ap length s.parts ∙ length-append s.front s.rest in
+    let placed : place + length p.0 ≡ length source = p.3.placed in
+    record {
+      within = omega (arith, placed, inner, s.least);
+      closed = omega (arith, s.end);
+      stands = λ e.
+          let same : length s.front ≡ length (bytes_of (ts ++ closing close square ∷ [])) = omega (arith, e, placed, inner, s.end) in
+          subst (StandsAt source place) (s.whole same)
+          (stands_at source ends.0 s.front s.rest place (ends.1 ∙ ap (λ z. ends.0 ++ z) s.parts) (omega (arith, whole, placed)));
+    }
+
+spanned : (source : List ℕ) (tree : Item) (id : ℕ) → AreLaid source (tokens tree) → HasId tree id → IsHere source (first_of (here tree id))
+spanned source tree id h has =
+    item_of (AreLaid source) (laid_left source) (laid_right source) (IsHere source) (here_laid source) tree id h (lt_from_has tree id has)
+
+-- ---- rows
+
+rows-append : (a b : List Row) → bytes_of_rows (a ++ b) ≡ bytes_of_rows a + bytes_of_rows b
+rows-append [] b = omega arith
+rows-append (r ∷ a) b = omega (arith, rows-append a b)
+
+bytes-append : (a b : List Token) → bytes_of (a ++ b) ≡ bytes_of a ++ bytes_of b
+bytes-append [] b = refl
+bytes-append (t ∷ a) b = ap (λ z. spelling t ++ z) (bytes-append a b) ∙ sym (append_assoc (spelling t) (bytes_of a) (bytes_of b))
+
+length-both : (a b : List Token) → length (bytes_of (a ++ b)) ≡ length (bytes_of a) + length (bytes_of b)
+length-both a b = ap length (bytes-append a b) ∙ length-append (bytes_of a) (bytes_of b)
+
+mutual
+  rows-length : (item : Item) (depth : ℕ) → bytes_of_rows (rows depth item) ≡ length (bytes_of (tokens item))
+  rows-length (leaf number place raw) depth = omega (arith, length-append raw [])
+  rows-length (leaf text place raw) depth = omega (arith, length-append (34 ∷ raw ++ 34 ∷ []) [], length-append (34 ∷ raw) (34 ∷ []))
+  rows-length (leaf word place raw) depth = omega (arith, length-append raw [])
+  rows-length (node place keyword square first others close) depth =
+      let a = rows-length first (suc depth) in
+      let b = rows-length_of others (suc depth) in
+      let r = rows-append (rows (suc depth) first) (rows_of_items (suc depth) others) in
+      let k = length-append keyword (bytes_of (opening square ∷ (tokens first ++ others_tokens others ++ closing close square ∷ []))) in
+      let t = length-both (tokens first ++ others_tokens others) (closing close square ∷ []) in
+      let u = length-both (tokens first) (others_tokens others) in
+      omega (arith, a, b, r, k, t, u)
+
+  rows-length_of : (items : Siblings) (depth : ℕ) → bytes_of_rows (rows_of_items depth items) + count items ≡ length (bytes_of (others_tokens items))
+  rows-length_of End depth = refl
+  rows-length_of (More item items) depth =
+      let a = rows-length item depth in
+      let b = rows-length_of items depth in
+      let r = rows-append (rows depth item) (rows_of_items depth items) in
+      let u = length-both (tokens item) (others_tokens items) in
+      omega (arith, a, b, r, u)
+
+-- what is counted of one of the rows fits where all does
+pub beside-fits : (table : List Row) (i n m : ℕ) (d : Row) → i < length table → n + bytes_of_rows (drop i table) ≡ bytes_of_rows table →
+    bytes_of_rows table < m → bytes_beside (get_or table i d).kind (get_or table i d).count < m
+beside-fits table i n m d lt e fits = omega (arith, e, fits, ap bytes_of_rows (drop-cons table i d lt))
+
+square_left : (a b : List Row) → AreSquare (a ++ b) → AreSquare a
+square_left [] b h = tt
+square_left (r ∷ a) b h = (h.0, square_left a b h.1)
+
+square_right : (a b : List Row) → AreSquare (a ++ b) → AreSquare b
+square_right [] b h = h
+square_right (r ∷ a) b h = square_right a b h.1
+
+node_bytes : (first others : List ℕ) → (first ++ others) ++ ((93 ∷ []) ++ []) ≡ first ++ (others ++ 93 ∷ [])
+node_bytes first others = simp (append_assoc, append-nil)
+
+mutual
+  square_text : (item : Item) (depth : ℕ) → AreSquare (rows depth item) → bytes_of (tokens item) ≡ item_text item
+  square_text (leaf number place raw) depth h = append-nil raw
+  square_text (leaf text place raw) depth h = append-nil (34 ∷ raw ++ 34 ∷ [])
+  square_text (leaf word place raw) depth h = append-nil raw
+  square_text (node place keyword false first others close) depth h = absurd cc
+  square_text (node place keyword true first others close) depth h =
+      let a : bytes_of (tokens first) ≡ item_text first =
+      square_text first (suc depth) (square_left (rows (suc depth) first) (rows_of_items (suc depth) others) h.1) in
+      let b : bytes_of (others_tokens others) ≡ others_text others =
+      square_texts others (suc depth) (square_right (rows (suc depth) first) (rows_of_items (suc depth) others) h.1) in
+      let t = bytes-append (tokens first ++ others_tokens others) (closing close true ∷ []) in
+      let u = bytes-append (tokens first) (others_tokens others) in
+      ap (λ (z : List ℕ). keyword ++ 91 ∷ z)
+      (t ∙ ap (λ z. z ++ ((93 ∷ []) ++ [])) u ∙ ap (λ z. (z ++ bytes_of (others_tokens others)) ++ ((93 ∷ []) ++ [])) a
+      ∙ ap (λ z. (item_text first ++ z) ++ ((93 ∷ []) ++ [])) b ∙ node_bytes (item_text first) (others_text others))
+
+  square_texts : (items : Siblings) (depth : ℕ) → AreSquare (rows_of_items depth items) → bytes_of (others_tokens items) ≡ others_text items
+  square_texts End depth h = refl
+  square_texts (More item items) depth h =
+      let a : bytes_of (tokens item) ≡ item_text item = square_text item depth (square_left (rows depth item) (rows_of_items depth items) h) in
+      let b : bytes_of (others_tokens items) ≡ others_text items = square_texts items depth (square_right (rows depth item) (rows_of_items depth items) h) in
+      let t = bytes-append (tokens item) (others_tokens items) in
+      ap (λ (z : List ℕ). 44 ∷ z) (t ∙ ap (λ z. z ++ bytes_of (others_tokens items)) a ∙ ap (λ z. item_text item ++ z) b)
+
+-- ---- a row of a node, and the rows of what is in it
+
+span_of : (source : List ℕ) (item : Item) (row : Row) → IsHere source item → row ≡ row_of row.depth item → row.kind ≡ Node →
+    IsSpanned source row.place row.close (tokens item)
+span_of source (leaf number place raw) row h is k = let e : Number ≡ Node = sym (ap (λ r. r.kind) is) ∙ k in absurd cc
+span_of source (leaf text place raw) row h is k = let e : Text ≡ Node = sym (ap (λ r. r.kind) is) ∙ k in absurd cc
+span_of source (leaf word place raw) row h is k = let e : Word ≡ Node = sym (ap (λ r. r.kind) is) ∙ k in absurd cc
+span_of source (node place keyword square first others close) row h is k =
+    let ts = tokens (node place keyword square first others close) in
+    subst (λ p. IsSpanned source p row.close ts) (sym (ap (λ r. r.place) is))
+    (subst (λ c. IsSpanned source place c ts) (sym (ap (λ r. r.close) is)) h)
+
+module _ (source : List ℕ) (tree : Item) (id : ℕ) (row : Row) (laid : AreLaid source (tokens tree)) (has : HasId tree id)
+    (is : row ≡ row_of row.depth (first_of (here tree id))) where
+  own-rows : (part table : List Row) (at : ℕ) → part ≡ take row.size (drop at table) → at ≡ id → table ≡ rows 0 tree →
+      (depth : ℕ) × (part ≡ rows depth (first_of (here tree id)))
+  own-rows part table at p a t =
+      let r = rows_here tree id (lt_from_has tree id has) in (
+        r.0,
+        p ∙ ap (λ n. take row.size (drop n table)) a ∙ ap (λ rs. take row.size (drop id rs)) t
+            ∙ ap (λ n. take n (drop id (rows 0 tree))) (ap (λ r. r.size) is) ∙ r.1,
+      )
+
+  pub own-length : (part table : List Row) (at : ℕ) → part ≡ take row.size (drop at table) → at ≡ id → table ≡ rows 0 tree →
+      bytes_of_rows part ≡ length (bytes_of (tokens (first_of (here tree id))))
+  own-length part table at p a t =
+      let r = own-rows part table at p a t in ap bytes_of_rows r.1 ∙ rows-length (first_of (here tree id)) r.0
+
+  pub own-text : (part table : List Row) (at : ℕ) → part ≡ take row.size (drop at table) → at ≡ id → table ≡ rows 0 tree → AreSquare part →
+      bytes_of (tokens (first_of (here tree id))) ≡ item_text (first_of (here tree id))
+  own-text part table at p a t h =
+      let r = own-rows part table at p a t in square_text (first_of (here tree id)) r.0 (subst AreSquare r.1 h)
+
+  pub own-span : row.kind ≡ Node → IsSpanned source row.place row.close (tokens (first_of (here tree id)))
+  own-span k = span_of source (first_of (here tree id)) row (spanned source tree id laid has) is k
