@@ -1,4 +1,8 @@
 pub mod ChainLemmas
+pub mod CopiedAxisLemmas
+pub mod CopiedDatumLemmas
+pub mod CopiedLemmas
+pub mod CopiedUsageLemmas
 pub mod CursorLemmas
 pub mod DirectAxisLemmas
 pub mod DirectCrsLemmas

@@ -2,6 +2,7 @@
 //! numbers that are copied.
 
 pub(crate) mod chain;
+pub(crate) mod copied;
 pub(crate) mod lookup;
 pub(crate) mod node;
 pub(crate) mod number;

@@ -82,6 +82,22 @@ fn is_below_zero(rest: &[u8]) -> bool
     rest.len() > 1 && is_unsigned(rest)
 }
 
+// Whether these bytes are a plain spelling, as is told at a glance of most that are.
+pub(crate) fn is_plain(raw: &[u8]) -> bool
+    ensures { IsTrue result → IsPlain raw.now }
+{
+    match raw.split_first() {
+        None => false,
+        Some((sign, rest)) => {
+            if *sign == b'-' {
+                is_below_zero(rest)
+            } else {
+                is_unsigned(raw)
+            }
+        }
+    }
+}
+
 // Up to where a fraction's last digit is that isn't a zero.
 fn kept_len(fraction: &[u8]) -> usize
     ensures bound { result ≤ length fraction.now }

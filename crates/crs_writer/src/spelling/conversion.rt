@@ -11,13 +11,14 @@ ghost use Rattle.crs_writer.specs.Openings.{named_node};
 ghost use Rattle.crs_writer.specs.Parts.{SaysIfAny};
 
 use crate::direct::chain::ReadAs;
+use crate::direct::copied;
 use crate::direct::node::Node;
 use crate::members::MembersPart;
 use crate::parts::{IdentsPart, NeededPart, NumberPart, Part, UnitPart};
 use crate::set::write_set;
 use crate::spell::Spell;
 use crate::spelling::ident::write_named;
-use crate::spelling::texts::{append, open_text};
+use crate::spelling::texts::{append, append_item, open_text};
 use crate::spelling::unit::write_optional_unit;
 use crs_shape::Class;
 use crs_value::{Conversion, GeoidModel, Level, Method, Parameter, UnitKind};
@@ -38,7 +39,10 @@ impl<'c, 'i, 'a> Part<Method<'a>> for &'c Node<'i, 'a> {
     ghost Says = { λ n m. ReadsMethod n.now.class (item n.now) m };
 
     fn put(&self, out: &mut Vec<u8>, level: Level) -> Result<(), AllocError> {
-        write_named(out, b",METHOD[\"", self.text(), *self, level)
+        match copied::method(*self, level) {
+            Some(bytes) => append_item(out, bytes),
+            None => write_named(out, b",METHOD[\"", self.text(), *self, level),
+        }
     }
 }
 
@@ -87,6 +91,9 @@ impl<'a> ReadAs<'a> for Parameter<'a> {
     ghost Reads = { λ c item p. ReadsParameter c item p };
 
     fn write_of(node: &Node<'_, 'a>, out: &mut Vec<u8>, level: Level) -> Result<(), AllocError> {
+        if let Some(bytes) = copied::parameter(node, level) {
+            return append(out, bytes);
+        }
         let unit = node.parameter_unit();
         write_parameter(
             out,

@@ -9,7 +9,7 @@ ghost use Rattle.crs_value.specs.Values.{DatumParts, EnsembleParts};
 ghost use Rattle.crs_value.specs.declared.values.frame.Frame.{Frame};
 ghost use Rattle.crs_normal.specs.PartTexts.{datum_text, ensemble_text, frame_text, member_text};
 ghost use Rattle.crs_normal.specs.SpelledFrames.{item_ellipsoid, item_frame, item_member, norm_ellipsoid, norm_frame};
-ghost use Rattle.crs_normal.specs.SpelledFrames.{item_ensemble, norm_ensemble, set_members};
+ghost use Rattle.crs_normal.specs.SpelledFrames.{item_datum, item_ensemble, norm_datum, norm_ensemble, set_members};
 ghost use Rattle.crs_normal.specs.SpelledItems.{each, number_node, opt, text_node};
 ghost use Rattle.crs_normal.specs.SpelledUnits.{item_ident, set_idents};
 ghost use Rattle.crs_writer.specs.Cursor.{args, item};
@@ -18,6 +18,7 @@ ghost use Rattle.crs_writer.specs.Openings.{named_node};
 ghost use Rattle.crs_writer.specs.Parts.{SaysIfAny};
 
 use crate::direct::chain::ReadAs;
+use crate::direct::copied;
 use crate::direct::node::Node;
 use crate::members::MembersPart;
 use crate::parts::{
@@ -26,7 +27,7 @@ use crate::parts::{
 use crate::set::write_set;
 use crate::spell::{Spell, write_part};
 use crate::spelling::ident::write_named;
-use crate::spelling::texts::{append, open_text, write_optional_text};
+use crate::spelling::texts::{append, append_item, open_text, write_optional_text};
 use crs_shape::Class;
 use crs_value::{Datum, Ellipsoid, Ensemble, Frame, Level, Member};
 use std::alloc::AllocError;
@@ -127,6 +128,21 @@ fn write_datum_of(
         node,
         level,
     )
+}
+
+// Of an item, after a comma, as a geodetic one.
+fn write_geodetic_datum(
+    out: &mut Vec<u8>,
+    node: &Node<'_, '_>,
+    level: Level,
+) -> Result<(), AllocError>
+    ensures { OnOk result (Writes (ReadsDatum node.now.class (item node.now))
+        (λ d. 44 ∷ item_text (item_datum (codes "DATUM") (norm_datum level d))) out.old.items out.new.items) }
+{
+    match copied::datum(node, level) {
+        Some(bytes) => append_item(out, bytes),
+        None => write_datum_of(out, b",DATUM[\"", node, level),
+    }
 }
 
 // By itself: with an ellipsoid it is geodetic, else vertical.
@@ -286,7 +302,7 @@ impl<'c, 'i, 'a> FramePart for &'c Node<'i, 'a> {
     fn put_geodetic(&self, out: &mut Vec<u8>, level: Level) -> Result<(), AllocError> {
         match self.first(Class::GeodeticFrame) {
             None => write_ensemble_of(out, *self, Class::GeodeticEnsemble, level),
-            Some(found) => write_datum_of(out, b",DATUM[\"", &found, level),
+            Some(found) => write_geodetic_datum(out, &found, level),
         }
     }
 

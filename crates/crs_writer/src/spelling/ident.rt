@@ -15,6 +15,7 @@ ghost use Rattle.crs_writer.specs.Members.{set_text};
 ghost use Rattle.crs_writer.specs.Openings.{named_node};
 
 use crate::direct::chain::{Chain, ReadAs};
+use crate::direct::copied;
 use crate::direct::node::Node;
 use crate::parts::IdentsPart;
 use crate::set::write_set;
@@ -80,6 +81,9 @@ impl<'a> ReadAs<'a> for Ident<'a> {
     ghost Reads = { λ c item i. ReadsIdent c item i };
 
     fn write_of(node: &Node<'_, 'a>, out: &mut Vec<u8>, _level: Level) -> Result<(), AllocError> {
+        if let Some(bytes) = copied::ident(node) {
+            return append(out, bytes);
+        }
         write_ident(
             out,
             b"ID[\"",

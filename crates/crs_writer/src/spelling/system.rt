@@ -17,10 +17,10 @@ ghost use Rattle.crs_writer.specs.Direct.{IsRead, Writes};
 ghost use Rattle.crs_writer.specs.Parts.{SaysIfAny};
 
 use crate::direct::node::Node;
-use crate::direct::system as axes;
+use crate::direct::{copied, system as axes};
 use crate::parts::{IdentsPart, NumberPart};
 use crate::spelling::axis::write_axis;
-use crate::spelling::texts::append;
+use crate::spelling::texts::{append, append_item};
 use crs_decimal::Decimal;
 use crs_shape::Class;
 use crs_value::{Axis, Level, System, SystemType};
@@ -262,6 +262,9 @@ fn write_axis_of<'i, 'a>(
         ReadsAxis axis.now.class (item axis.now) a →
         out.new.items ≡ out.old.items ++ 44 ∷ item_text (item_axis (norm_axis level s position a))) }
 {
+    if let Some(bytes) = copied::axis(axis, position, level) {
+        return append_item(out, bytes);
+    }
     let direction = axis.direction();
     let meridian = axis.first(Class::AxisMeridian);
     let unit = unit_of(crs, axis);

@@ -22,6 +22,14 @@ pub fn append(out: &mut Vec<u8>, bytes: &[u8]) -> Result<(), AllocError>
     out.extend_from_slice(bytes)
 }
 
+// A comma, and the bytes of an item.
+pub(crate) fn append_item(out: &mut Vec<u8>, bytes: &[u8]) -> Result<(), AllocError>
+    ensures { OnOk result (out.new.items ≡ out.old.items ++ 44 ∷ bytes.now) }
+{
+    append(out, b",")?;
+    append(out, bytes)
+}
+
 /// Appends a keyword, the opening delimiter and a quoted text; the opening ends with the quote. Profile.
 ///
 /// `AllocError`: there is no memory for them.
@@ -93,7 +101,7 @@ pub(crate) fn are_digits(raw: &[u8]) -> bool
 }
 
 // Whether a code is written without quotes.
-fn is_short(raw: &[u8]) -> bool
+pub(crate) fn is_short(raw: &[u8]) -> bool
     ensures { result ≡ is_short raw.now }
 {
     are_digits(raw) && 1 <= raw.len() && raw.len() <= 18

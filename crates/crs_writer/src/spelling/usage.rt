@@ -14,6 +14,7 @@ ghost use Rattle.crs_writer.specs.Openings.{enclosed, numbered_node};
 ghost use Rattle.crs_writer.specs.Parts.{SaysIfAny};
 
 use crate::direct::chain::ReadAs;
+use crate::direct::copied;
 use crate::direct::node::Node;
 use crate::parts::{NumberPart, Part, UnitPart, write_optional};
 use crate::spell::Spell;
@@ -213,7 +214,10 @@ impl<'a> ReadAs<'a> for Usage<'a> {
 
     ghost Reads = { λ c item u. ReadsUsage c item u };
 
-    fn write_of(node: &Node<'_, 'a>, out: &mut Vec<u8>, _level: Level) -> Result<(), AllocError> {
+    fn write_of(node: &Node<'_, 'a>, out: &mut Vec<u8>, level: Level) -> Result<(), AllocError> {
+        if let Some(bytes) = copied::usage(node, level) {
+            return append(out, bytes);
+        }
         let bbox = node.first(Class::BoundingBox);
         let extent = node.first(Class::VerticalExtent);
         let scope = node.text_in(Class::Scope);

@@ -1,4 +1,4 @@
-use Rattle.std.proofs.Common.{Some, ap, refl, sym, ◌∙◌}
+use Rattle.std.proofs.Common.{◌++◌, ◌∷◌, ℕ, List, Some, ap, refl, sym, ◌∙◌}
 use Rattle.std.proofs.lemmas.Result.{on_ok_weaker}
 use Rattle.crs_shape.specs.UnitKinds.{asked_kind}
 use Rattle.crs_shape.specs.declared.class.Class.TheVariants as class
@@ -11,6 +11,10 @@ use Rattle.crs_writer.proofs.CursorLemmas.{first-said}
 use Rattle.crs_writer.proofs.FlatLemmas.{through}
 use Rattle.crs_writer.proofs.SystemLemmas.{placed}
 use Rattle.crs_writer.proofs.spelling.system.write_axis_of.Goals as goal
+
+pub returns-in-Some : goal.returns-in-Some
+returns-in-Some c = on_ok_weaker c.append_item.result
+    (λ e s a type shared r. e ∙ ap (λ (x : List ℕ). c.args.out.now.items ++ 44 ∷ x) (c.in-Some.ensures s a r)) c.append_item.ensures
 
 pub returns : goal.returns
 returns c = on_ok_weaker c.write_axis.result (λ w s a type shared r.

@@ -2,8 +2,12 @@ use Rattle.std.proofs.lemmas.Result.{on_ok_weaker}
 use Rattle.crs_value.specs.Reads.{ReadsUnit}
 use Rattle.crs_writer.specs.Cursor.{item}
 use Rattle.crs_writer.specs.declared.direct.node.Node.{Node}
+use Rattle.crs_writer.proofs.CopiedLemmas.{copy-writes}
 use Rattle.crs_writer.proofs.FlatLemmas.{through}
 use Rattle.crs_writer.proofs.spelling.conversion.ParameterReadAs.write_of.Goals as goal
+
+pub returns-in-Some : goal.returns-in-Some
+returns-in-Some c = on_ok_weaker c.append.result (λ e. copy-writes _ _ _ _ _ c.in-Some.ensures e) c.append.ensures
 
 pub returns : goal.returns
 returns c = on_ok_weaker c.write_parameter.result (λ w. record {
