@@ -8,12 +8,13 @@ after the pairs before it. The function that the text stands in is the one that 
 `in: FUNCTION` names, for an edit of a constant.
 
 Functions are proved each against the contracts of those that it calls. So the bodies of a crate are put into one copy of
-it, as many as stand in different functions, and the prover checks these functions alone, with what they call. A body is
-refused where a function of its own isn't proved, for a reason of its own: all that it calls is proved. Bodies above
-others that were refused wait for the next round. A function that no body changed must be proved, or call one that isn't.
+it, as many as stand in different functions, and the prover checks these functions alone. The crate as it stands is
+proved, so what no body changed is taken by its contract: its proof in the copy is a hole. A body is refused where a
+function of its own isn't proved, for a reason of its own: a goal that isn't proved, or an answer that is refused. Where
+one has none, and calls others that were refused, it waits for the next round.
 
-A reason of its own is a goal that isn't proved. A body whose function fails only since an answer names a step that the
-body took away shows nothing of the contract, and is a failure of the body.
+A body whose function fails only since an answer names a step that the body took away shows nothing of the contract, and
+is a failure of the body.
 
 Crates have wrong-bodies/, which the gate tries, at most twelve each, and more-wrong-bodies/, which --all tries too. The
 crates below are proved first, as tools/build.py does it; with --over-gate they are taken as rt ci has left them. With
@@ -25,6 +26,7 @@ from __future__ import annotations
 
 import argparse
 import concurrent.futures
+import json
 import pathlib
 import re
 import shutil
@@ -48,9 +50,18 @@ BLOCK = re.compile(
     r"(?:pub(?:\([a-z]+\))? )?"
     r"(?:impl(?:<[^>]*>)? (?:(?:\w+::)*(\w+)(?:<.*?>)? for )?(&?)(?:'\w+ )?(?:\w+::)*(\w+)|trait (\w+))"
 )
-# What the prover says of a function that rests on another, and of an answer that names what a body took away.
-RESTS = re.compile(r"which (is|are) not proved")
+# What the prover says of a function that rests on others, and of an answer that names what a body took away.
+RESTS = re.compile(r"; it calls .*which (is|are) not proved")
 NAMES = re.compile(r"has no field|is not in scope|has no `|was not admitted|\(nearest: ")
+# What it says of a function that is proved: over holes, or without.
+PROVED = ("proved", "no holes", "depends on a hole")
+HOLE = """use {module}.Statement.{{statement}}
+
+pub {name}_spec : {{M : Type 1}} → statement M
+{name}_spec = ?
+"""
+# How it names a closure: by its function, and the call that takes it.
+CLOSURE = re.compile(r"(^|::)fn::((?:[A-Z]\w*::)?\w+)::.*")
 # A goal that isn't proved; a function's goals stand before the line of its verdict.
 GOAL = re.compile(r"note: (src/\S+ it is not proved .*)")
 
@@ -184,11 +195,45 @@ def applies() -> Tuple[int, List[str]]:
     return passed, faults
 
 
+def functions_of(crate: Crate) -> List[str]:
+    """The functions of a crate that is proved as it stands, by their paths; none where it isn't."""
+    if crate.is_program or not crate.is_current():
+        return []
+    listed = json.loads((crate.made / "toolchain" / "mir.json").read_text(encoding="utf-8"))
+    paths = [name.removeprefix(f"{crate.name}::") for name, _ in listed if not name.endswith("+decl")]
+    return [it for it in paths if "++" not in it]
+
+
+def is_of(path: str, ends: Iterable[str]) -> bool:
+    """Whether a function is one of some that are given by the ends of their paths."""
+    return f"::{path}".endswith(tuple(f"::{end}" for end in ends))
+
+
+def owner_of(path: str) -> str:
+    """The function that a closure stands in, or the function itself."""
+    return CLOSURE.sub(r"\1\2", path)
+
+
+def leave_hole(crate: str, proofs: pathlib.Path, path: str) -> None:
+    """Has the prover take a function by its contract. One that calls itself is proved, since its proof is of a cycle."""
+    *modules, name = path.split("::")
+    folder = proofs.joinpath(*modules)
+    if (folder / f"+{name}").is_dir():
+        return
+    folder = folder / name
+    folder.mkdir(parents=True, exist_ok=True)
+    for it in ("Answers.antt", "Invariants.antt"):
+        (folder / it).unlink(missing_ok=True)
+    module = ".".join([f"Rattle.{crate}.proofs", *modules, name])
+    (folder / "Proof.antt").write_text(HOLE.format(module=module, name=name), encoding="utf-8")
+
+
 class Trial:
     """The trial of a crate's bodies."""
 
     def __init__(self, crate: Crate, bodies: List[Body]) -> None:
         self.crate = crate
+        self.proved_already = functions_of(crate)
         self.left = bodies
         self.passed, self.faults = 0, list[str]()
         # For a body that was tried: those that its function calls, and which were refused or not tried yet.
@@ -231,16 +276,21 @@ class Trial:
             return self.batch()
         return batch, texts
 
-    def check(self, functions: List[str], texts: Dict[str, str]) -> str:
-        """What the prover says of these functions, with these texts in place of the crate's."""
+    def check(self, functions: List[str], texts: Dict[str, str], is_lone: bool) -> str:
+        """What the prover says of these functions, with these texts in place of the crate's. The others are taken by their
+        contracts, but for a lone body, which may change what they say."""
         with tempfile.TemporaryDirectory(prefix="wrong-bodies-") as room:
             for part in build.PARTS:
                 if (self.crate.folder / part).is_dir():
                     shutil.copytree(self.crate.folder / part, f"{room}/{part}")
             for path, text in texts.items():
                 pathlib.Path(room, path).write_text(text, encoding="utf-8")
+            holes = [] if is_lone else [it for it in self.proved_already if not is_of(owner_of(it), functions)]
+            for path in holes:
+                leave_hole(self.crate.name, pathlib.Path(room, "proofs"), path)
             words = [
                 *self.crate.words_to_check(1),
+                *["--allow-holes", "--short-goals"] * bool(holes),
                 "--incremental",
                 self.proved,
                 *(it for name in functions for it in ("--only", name)),
@@ -258,19 +308,17 @@ class Trial:
 
     def try_batch(self, batch: Batch, texts: Dict[str, str]) -> None:
         began = time.monotonic()
-        said = self.check([it for _, functions in batch for it in functions], texts)
+        is_lone = len(batch) == 1 and (batch[0][0].named is not None or batch[0][0].is_of_definitions())
+        said = self.check([it for _, functions in batch for it in functions], texts, is_lone)
         print(f"{self.crate.name}: {len(batch)} tried in {time.monotonic() - began:.0f} s", flush=True)
         told = dict(re.findall(rf"^fn {self.crate.name}::(\S+): (.*)$", said, re.M))
         if not told:
             self.halve(batch, said)
             return
-        batch = [
-            (body, [it for it in told if f"::{it}".endswith(tuple(f"::{end}" for end in ends))]) for body, ends in batch
-        ]
+        batch = [(body, [it for it in told if is_of(it, ends)]) for body, ends in batch]
         changed = {it for _, functions in batch for it in functions}
-        is_lone = len(batch) == 1 and (batch[0][0].named or batch[0][0].is_of_definitions())
         for name, words in told.items():
-            if not words.startswith("proved") and not RESTS.search(words) and name not in changed and not is_lone:
+            if not words.startswith(PROVED) and not RESTS.search(words) and name not in changed and not is_lone:
                 self.faults.append(f"{self.crate.name}: no body changed {name}, and it isn't proved: {words}")
         settled = 0
         goals = goals_by_function(self.crate.name, said)
@@ -308,9 +356,9 @@ class Trial:
         self, name: str, told: Dict[str, str], goals: Dict[str, List[str]], said: str
     ) -> Optional[Tuple[str, bool]]:
         """Why a function isn't proved, and whether only since answers name what a body took away; None where it is proved,
-        or where what it calls isn't."""
+        or only what it calls isn't."""
         words = told.get(name, "proved")
-        if RESTS.search(words) or not words.startswith(("not proved", "no proof")):
+        if RESTS.sub("", words) == "not proved" != words or not words.startswith(("not proved", "no proof")):
             return None
         if goals.get(name):
             return f"{name}: {goals[name][0]}", False
@@ -350,7 +398,12 @@ def proved_below(names: List[str], is_over_gate: bool) -> List[Crate]:
     crates = build.needed(names)
     below = [it for it in crates if any(it in other.below for other in crates if other.name in names)]
     build.prove(below, "what wrong bodies rest on", below if is_over_gate else ())
-    return [it for it in crates if it.name in names]
+    tried = [it for it in crates if it.name in names]
+    for crate in tried:
+        left = crate.folder / "out" / "rlib" / f"{crate.name}.rlib"
+        if is_over_gate and crate not in below and left.is_dir():
+            crate.made = left
+    return tried
 
 
 def try_all(names: List[str], parts: Iterable[str], is_over_gate: bool) -> Tuple[int, List[str]]:
