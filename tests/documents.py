@@ -7,10 +7,11 @@ as python3:MODULE a module of Python, as $NAME a variable of the environment, or
 has a slash. TOOL=VERSION asks for a version that begins so, of a module by its __version__, of a program by what it prints
 of itself: what other tools answer changes with their versions.
 
-The blocks of a document that begin with ```pycon are one session of Python, whose answers must be those shown; needs= is
-as above. A block that begins with ```rust is code that must be found, line by line, in a file of crates/crs_examples/src,
-which the gate proves and runs; one that begins with ```LANGUAGE of=FILE is code that must be found so in that file of the
-repository. A link to a file of the repository must lead to one, and to a heading of it where it names one.
+The blocks of a document that begin with ```pycon are one session of Python, whose answers must be those shown; needs=
+is as above. A block that begins with ```rust is code that must be found, line by line, in a file of
+crates/crs_surface/src/examples, which the gate proves and runs; one that begins with ```LANGUAGE of=FILE is code that
+must be found so in that file of the repository. A link to a file of the repository must lead to one, and to a heading
+of it where it names one.
 """
 from __future__ import annotations
 

@@ -9,7 +9,7 @@ import pytest
 from documents import Block, Command, blocks_of, commands_of, leads, links_of, printed
 from support import HERE, ROOT, succeed
 
-EXAMPLES = ROOT / "crates" / "crs_examples" / "src"
+EXAMPLES = ROOT / "crates" / "crs_surface" / "src" / "examples"
 DOCUMENTS = [ROOT / "README.md", ROOT / "python" / "README.md", *sorted((ROOT / "docs").glob("*.md"))]
 BLOCKS = [block for path in DOCUMENTS for block in blocks_of(path)]
 COMMANDS = [command for block in BLOCKS if block.kind == "console" for command in commands_of(block)]

@@ -1,6 +1,7 @@
 //! Every item that the specified surface has, called by its specified path with a text whose answer is known: an item
 //! that is moved, renamed or changed no longer compiles, or its name is printed. Values are taken apart by patterns
-//! with all their fields and variants. The last line counts the items.
+//! with all their fields and variants. The last line counts the items; before it stands what the examples of
+//! `docs/CALLING.md` answer for the lines of standard input.
 #![tactic(auto)]
 
 mod bounds;
@@ -8,6 +9,7 @@ mod canonical;
 mod catalogues;
 mod decimals;
 mod desk;
+mod examples;
 mod feeders;
 mod items;
 mod made;
@@ -28,6 +30,7 @@ use tally::Tally;
 use texts::Texts;
 
 fn main(rt: HostRuntime) -> io::Result<()> {
+    examples::print_all(&rt)?;
     let lines = fs::read_to_string(&rt, "texts.lines")?;
     let catalogue = fs::read(&rt, "catalogue.lines")?;
     let answer = fs::read(&rt, "groups.lines")?;

@@ -1,6 +1,5 @@
 //! The library's calls, task by task, over the lines of standard input, a text each. `docs/CALLING.md` shows
 //! functions of the other files as they are here.
-#![tactic(auto)]
 
 mod catalogue;
 mod difference;
@@ -18,18 +17,19 @@ use std::alloc::Global;
 use std::io;
 use std::io::Read;
 
-fn main(rt: HostRuntime) -> io::Result<()> {
+/// Prints what each example answers for the lines of standard input.
+pub fn print_all(rt: &HostRuntime) -> io::Result<()> {
     let mut bytes = Vec::new(rt.alloc());
     rt.stdin().read_to_end(&mut bytes)?;
     let mut lines = Vec::new(rt.alloc());
     for line in bytes.as_slice().lines() {
         lines.push(line)?;
     }
-    print_keys(&rt, &lines)?;
-    print_differences(&rt, &lines)?;
-    print_ellipsoids(&rt, &lines)?;
-    print_kinds(&rt, &lines)?;
-    print_groups(&rt, &bytes)
+    print_keys(rt, &lines)?;
+    print_differences(rt, &lines)?;
+    print_ellipsoids(rt, &lines)?;
+    print_kinds(rt, &lines)?;
+    print_groups(rt, &bytes)
 }
 
 fn print_keys(rt: &HostRuntime, lines: &[&[u8]]) -> io::Result<()> {
