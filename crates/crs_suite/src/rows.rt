@@ -150,9 +150,9 @@ impl<'t> Row<'t> {
 
 // A call and its level, which is Full where no level follows it.
 fn split_level(call: &str) -> (&str, Level) {
-    match call.strip_suffix(" at definition") {
-        Some(call) => (call, Level::Definition),
-        None => (call, Level::Full),
+    match call.rsplit_once(" at ") {
+        Some((call, "definition")) => (call, Level::Definition),
+        _ => (call, Level::Full),
     }
 }
 
