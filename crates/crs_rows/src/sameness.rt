@@ -230,11 +230,12 @@ impl Values {
         difference: &Difference<'_, '_>,
         is_second: bool,
     ) -> Result<(), AllocError> {
-        if is_second {
-            write_content(difference.second(), alloc, self.level, text)
+        let content = if is_second {
+            difference.second()
         } else {
-            write_content(difference.first(), alloc, self.level, text)
-        }
+            difference.first()
+        };
+        write_content(content, alloc, self.level, text)
     }
 }
 

@@ -75,15 +75,22 @@ fn judged_level(rt: &HostRuntime, task: &Task) -> Result<Level, Fault> {
 }
 
 fn task_level(task: &Task) -> Result<Level, Fault> {
+    match level_word(task) {
+        Some(word) => level_of(word),
+        None => Ok(Level::Full),
+    }
+}
+
+// The word of a task's level; None where it has none.
+fn level_word(task: &Task) -> Option<&LineWord> {
     match task {
-        Task::Canon(level) => level_of(level),
-        Task::Group(level) => level_of(level),
-        Task::GroupListed(level, _) => level_of(level),
-        Task::CanonLines(level) => level_of(level),
-        Task::Explain(options) => level_of(&options.level),
-        Task::Same(level) => level_of(level),
-        Task::ExplainPair(options) => level_of(&options.level),
-        Task::Check | Task::CheckLines => Ok(Level::Full),
+        Task::Canon(level)
+        | Task::CanonLines(level)
+        | Task::Group(level)
+        | Task::GroupListed(level, _)
+        | Task::Same(level) => Some(level),
+        Task::Explain(options) | Task::ExplainPair(options) => Some(&options.level),
+        Task::Check | Task::CheckLines => None,
     }
 }
 

@@ -58,7 +58,8 @@ pub fn try_add(rt: &(impl Print + AllocGlobal), lines: &[&[u8]]) -> io::Result<(
     let Some((text, others)) = lines.split_last() else {
         return Err(unusable());
     };
-    let catalogue = catalogue_of(rt.alloc(), others)?;
+    let mut catalogue = Catalogue::new(rt.alloc(), Level::Full);
+    add_all(&mut catalogue, others)?;
     let before = told(rt.alloc(), &catalogue)?;
     let mut add = Add {
         catalogue,
@@ -69,12 +70,11 @@ pub fn try_add(rt: &(impl Print + AllocGlobal), lines: &[&[u8]]) -> io::Result<(
     run_trial(rt, &mut add)
 }
 
-fn catalogue_of(alloc: Global, lines: &[&[u8]]) -> Result<Catalogue, AllocError> {
-    let mut catalogue = Catalogue::new(alloc, Level::Full);
+fn add_all(catalogue: &mut Catalogue, lines: &[&[u8]]) -> Result<(), AllocError> {
     for (index, line) in lines.iter().enumerate() {
         catalogue.add((index as u64).saturating_add(1), line)?;
     }
-    Ok(catalogue)
+    Ok(())
 }
 
 fn number_behind(lines: &[&[u8]]) -> u64 {
