@@ -56,7 +56,7 @@ def audited(name: str, *words: object) -> pathlib.Path:
 
 @functools.lru_cache(maxsize=None)
 def page_of_archive() -> pathlib.Path:
-    archive = folder() / "archive"
+    archive = folder() / "archive_of_page"
     archive.mkdir()
     audit_archive.make(archive)
     return audited("archive.html", archive)
