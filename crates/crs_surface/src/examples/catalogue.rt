@@ -17,15 +17,19 @@ pub fn groups_of(alloc: Global, text: &[u8]) -> Result<String, AllocError> {
 fn told(alloc: Global, catalogue: &Catalogue) -> Result<String, AllocError> {
     let mut told = String::new(alloc);
     for group in 1..=catalogue.groups() {
-        write!(told, "group {group}:")?;
-        for line in catalogue.lines(group).unwrap_or(&[]) {
-            write!(told, " {line}")?;
-        }
-        told.push('\n')?;
+        tell_group(&mut told, group, catalogue.lines(group).unwrap_or(&[]))?;
     }
     for (line, refusal) in catalogue.refused() {
         let (number, place) = (refusal.number(), refusal.place());
         writeln!(told, "line {line}: refused {number} at {place}")?;
     }
     Ok(told)
+}
+
+fn tell_group(told: &mut String, group: usize, lines: &[u64]) -> Result<(), AllocError> {
+    write!(told, "group {group}:")?;
+    for line in lines {
+        write!(told, " {line}")?;
+    }
+    told.push('\n')
 }
