@@ -196,10 +196,11 @@ def applies() -> Tuple[int, List[str]]:
 
 
 def functions_of(crate: Crate) -> List[str]:
-    """The functions of a crate that is proved as it stands, by their paths; none where it isn't."""
-    if crate.is_program or not crate.is_current():
+    """The functions of a library that is proved as it stands, by their paths; none where it isn't."""
+    file = crate.made / "toolchain" / "mir.json"
+    if not crate.is_current() or not file.is_file():
         return []
-    listed = json.loads((crate.made / "toolchain" / "mir.json").read_text(encoding="utf-8"))
+    listed = json.loads(file.read_text(encoding="utf-8"))
     paths = [name.removeprefix(f"{crate.name}::") for name, _ in listed if not name.endswith("+decl")]
     return [it for it in paths if "++" not in it]
 
@@ -400,9 +401,8 @@ def proved_below(names: List[str], is_over_gate: bool) -> List[Crate]:
     build.prove(below, "what wrong bodies rest on", below if is_over_gate else ())
     tried = [it for it in crates if it.name in names]
     for crate in tried:
-        left = crate.folder / "out" / "rlib" / f"{crate.name}.rlib"
-        if is_over_gate and crate not in below and left.is_dir():
-            crate.made = left
+        if is_over_gate and not crate.is_current():
+            crate.made = crate.folder / "out" / "rlib" / f"{crate.name}.rlib"
     return tried
 
 

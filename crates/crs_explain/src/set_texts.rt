@@ -1,5 +1,5 @@
 //! What differs in a set of parameters: in those of one name, and then in the others.
-ghost use Rattle.std.specs.Prelude.{◌≡◌, ◌++◌, ◌∷◌, [], IfOk, OnOk, map};
+ghost use Rattle.std.specs.Prelude.{◌≡◌, ◌++◌, ◌∷◌, [], IfOk, OnOk, codes, map};
 ghost use Rattle.std.specs.Option.{option_copied};
 ghost use Rattle.crs_shape.specs.declared.unit_kind.UnitKind.TheVariants as kinds;
 ghost use Rattle.crs_value.specs.Kept.{kept};
@@ -84,10 +84,17 @@ fn parameter_path(alloc: Global, path: &[u8], name: &[u8]) -> Result<Vec<u8>, Al
     ensures { IfOk result (λ text. text.items ≡ parameter_path path.now name.now) }
 {
     let mut text = Vec::from_slice(alloc, path)?;
-    text.extend_from_slice(b"[\"")?;
-    text.extend_from_slice(name)?;
-    text.extend_from_slice(b"\"]")?;
+    append_named(name, &mut text)?;
     Ok(text)
+}
+
+// The name in brackets and quotes.
+fn append_named(name: &[u8], out: &mut Vec<u8>) -> Result<(), AllocError>
+    ensures { OnOk result (out.new.items ≡ out.old.items ++ codes "[\"" ++ name.now ++ codes "\"]") }
+{
+    out.extend_from_slice(b"[\"")?;
+    out.extend_from_slice(name)?;
+    out.extend_from_slice(b"\"]")
 }
 
 fn append_parameter<'a>(
