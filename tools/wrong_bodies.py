@@ -51,10 +51,12 @@ BLOCK = re.compile(
     r"(?:impl(?:<[^>]*>)? (?:(?:\w+::)*(\w+)(?:<.*?>)? for )?(&?)(?:'\w+ )?(?:\w+::)*(\w+)|trait (\w+))"
 )
 # What the prover says of a function that rests on others, and of an answer that names what a body took away.
-RESTS = re.compile(r"; it calls .*which (is|are) not proved")
+RESTS = re.compile(r"[;:] it calls .*which (is|are) not proved")
 NAMES = re.compile(r"has no field|is not in scope|has no `|was not admitted|\(nearest: ")
 # What it says of a function that is proved: over holes, or without.
 PROVED = ("proved", "no holes", "depends on a hole")
+# What it says first of one that isn't.
+VERDICTS = ("not proved", "no proof")
 HOLE = """use {module}.Statement.{{statement}}
 
 pub {name}_spec : {{M : Type 1}} → statement M
@@ -359,7 +361,8 @@ class Trial:
         """Why a function isn't proved, and whether only since answers name what a body took away; None where it is proved,
         or only what it calls isn't."""
         words = told.get(name, "proved")
-        if RESTS.sub("", words) == "not proved" != words or not words.startswith(("not proved", "no proof")):
+        own = RESTS.sub("", words)
+        if own != words and own in VERDICTS or not words.startswith(VERDICTS):
             return None
         if goals.get(name):
             return f"{name}: {goals[name][0]}", False
