@@ -32,7 +32,7 @@ use std::alloc::{AllocError, Global};
 fn same_geodetic_kind(a: SystemType, b: SystemType) -> bool
     ensures { IsTrue result ↔ (kind_by a ≡ kind_by b) }
 {
-    (a == SystemType::Ellipsoidal) == (b == SystemType::Ellipsoidal)
+    geodetic_kind(a) == geodetic_kind(b)
 }
 
 // The keyword of a CRS of this kind.
