@@ -1,4 +1,4 @@
-use Rattle.std.proofs.Common.{◌≡◌, rules}
+use Rattle.std.proofs.Common.{◌≡◌}
 use Rattle.std.proofs.lemmas.Result.{IfOk-weaker}
 use Rattle.clap.specs.Words.{rule_of}
 use Rattle.crs_command_line.specs.CommandLine.{file_operands, names_flag, repeated_flag}
@@ -7,9 +7,9 @@ use Rattle.crs_command_line.proofs.line.with_listing.Goals as goal
 
 pub returns-clause-shape : goal.returns-clause-shape
 returns-clause-shape c =
-    let repeated : rule_of c.flag_argument.result ≡ repeated_flag = search rules in
-    let names : rule_of c.flag_argument-2.result ≡ names_flag = search rules in
-    let files : rule_of c.file_argument.result ≡ file_operands = search rules in
+    let repeated : rule_of c.flag_argument.result ≡ repeated_flag = c.flag_argument.ensures.rule in
+    let names : rule_of c.flag_argument-2.result ≡ names_flag = c.flag_argument-2.ensures.rule in
+    let files : rule_of c.file_argument.result ≡ file_operands = c.file_argument.ensures.rule in
     IfOk-weaker c.arg-3.result _ _
     (λ whole adds. adds-three c.args.command c.in_ok-arg.field-0 c.in_ok-arg-2.field-0 whole c.flag_argument.result
     c.flag_argument-2.result c.file_argument.result repeated_flag names_flag file_operands c.in_ok-arg.ensures
