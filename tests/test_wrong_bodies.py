@@ -58,6 +58,40 @@ def test_reason(told: str, is_of_names: bool) -> None:
     )
 
 
+@pytest.mark.parametrize(
+    "words, has_own",
+    [
+        ("proved", False),
+        ("depends on a hole in `Rattle.crs_decimal.proofs.cutting.read.Proof.read_spec`", False),
+        ("not proved; it calls `crs_decimal::cutting::read`, which is not proved", False),
+        (
+            "no proof: it calls `crs_decimal::cutting::read` and `crs_decimal::short::plain`, which are not proved",
+            False,
+        ),
+        ("not proved; it stands on `Answers.returns`, which antt refuses; it calls `a`, which is not proved", True),
+        ("no proof: `search` did not prove `returns`; it calls `a`, which is not proved", True),
+        ("not proved", True),
+    ],
+)
+def test_rests(words: str, has_own: bool) -> None:
+    """A function that isn't proved only since what it calls isn't has no reason of its own."""
+    trial = wrong_bodies.Trial(needed(["crs_decimal"])[-1], [])
+    assert (trial.reason("short::write", {"short::write": words}, {}, "") is not None) == has_own
+
+
+@pytest.mark.parametrize(
+    "path, owner",
+    [
+        ("cutting::fn::digits_len::take_while+FnMut::call_mut", "cutting::digits_len"),
+        ("values::places::fn::Places::rank::partition_point", "values::places::Places::rank"),
+        ("cutting::read", "cutting::read"),
+    ],
+)
+def test_owner(path: str, owner: str) -> None:
+    """A closure is changed with the function that it stands in."""
+    assert wrong_bodies.owner_of(path) == owner
+
+
 @pytest.mark.gate
 @pytest.mark.parametrize("name", sorted({it.parent.parent.name for it in FILES if it.parent.name == GATE}))
 def test_refused(name: str) -> None:

@@ -8,8 +8,8 @@ after the pairs before it. The function that the text stands in is the one that 
 `in: FUNCTION` names, for an edit of a constant.
 
 Functions are proved each against the contracts of those that it calls. So the bodies of a crate are put into one copy of
-it, as many as stand in different functions, and the prover checks these functions alone. The crate as it stands is
-proved, so what no body changed is taken by its contract: its proof in the copy is a hole. A body is refused where a
+it, as many as stand in different functions, and the prover checks these functions alone. Where the crate as it stands
+was proved, what no body changed is taken by its contract: its proof in the copy is a hole. A body is refused where a
 function of its own isn't proved, for a reason of its own: a goal that isn't proved, or an answer that is refused. Where
 one has none, and calls others that were refused, it waits for the next round.
 
