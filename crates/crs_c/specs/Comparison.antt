@@ -1,28 +1,31 @@
--- What is found of a text, compared with a CRS.
-use Rattle.std.specs.Prelude.{List, ℕ, Option, Result, MatchResult}
-use Rattle.crs_text.specs.declared.fault.Fault.{Fault}
+-- What is made of the CRSs of two texts, and why nothing is made.
+use Rattle.std.specs.Prelude.{◌≡◌, ◌⊎◌, List, ℕ}
+use Rattle.crs_text.specs.Refusal.{RefusedAt}
 use Rattle.crs_value.specs.declared.values.crs.Crs.{Crs}
-use Rattle.crs_value.specs.declared.values.level.Level.{Level}
-use Rattle.crs_value.specs.SpellsText.{Spells, IsFaultOfText}
-use Rattle.crs_same.specs.declared.step.Step.{Step}
-use Rattle.crs_explain.specs.Differing.{AreDifferencePieces, IsDifferencesText}
-use Rattle.crs_c.specs.FirstPart.{DiffersFirst}
+use Rattle.crs_value.specs.SpellsText.{Spells, Refuses}
+use Rattle.crs_c.specs.declared.refused.Refused.{Refused}
+use Rattle.crs_c.specs.Refusals.{place_and_number}
 
--- the text spells a CRS that differs from this one there first; the words are none exactly where
--- the CRSs are the same
-abbrev pub DiffersAt : Level → Crs → List ℕ → Option (List Step) → Type 0
-DiffersAt level a second path =
-    (b : Crs) × Spells second b × DiffersFirst level a b path
+-- made of the CRS that a text spells
+abbrev pub IsMadeBehind : {M : Type 0} → (Crs → M → Type 0) → List ℕ → M → Type 0
+IsMadeBehind Like second made = (b : Crs) × Spells second b × Like b made
 
--- where it differs, or its fault
-abbrev pub IsFoundBehind : Level → List ℕ → Crs → Result (Option (List Step)) Fault → Type 0
-IsFoundBehind level second a found =
-    MatchResult found (DiffersAt level a second) (IsFaultOfText second)
+-- made of the CRSs that two texts spell
+abbrev pub IsMadeOfBoth : {M : Type 0} → (Crs → Crs → M → Type 0) → List ℕ → List ℕ → M → Type 0
+IsMadeOfBoth Like first second made = (a : Crs) × Spells first a × IsMadeBehind (Like a) second made
 
--- the lines of all parts in which a CRS and that of a text differ
-abbrev pub AreLinesBehind : Level → List ℕ → Crs → List ℕ → Type 0
-AreLinesBehind level second a lines = (b : Crs) × Spells second b × IsDifferencesText level a b lines
+-- the text is refused, and the refusal is told with this code
+abbrev pub IsRefusalTold : ℕ → List ℕ → Refused → Refused → ℕ → Type 0
+IsRefusalTold refusing text old new code =
+    (refusal : RefusedAt) × Refuses text refusal × (code ≡ refusing) × (new ≡ place_and_number refusal)
 
--- the pieces of all parts in which a CRS and that of a text differ
-abbrev pub ArePiecesBehind : Level → List ℕ → Crs → List (List ℕ) → Type 0
-ArePiecesBehind level second a pieces = (b : Crs) × Spells second b × AreDifferencePieces level a b pieces
+-- a second text is refused, with code 2; or memory was, with code 3
+abbrev pub IsSecondFault : List ℕ → Refused → Refused → ℕ → Type 0
+IsSecondFault second old new code = IsRefusalTold 2 second old new code ⊎ ((code ≡ 3) × (new ≡ old))
+
+-- the first text is refused, with code 1; or it spells a CRS and the second is refused; or memory was
+abbrev pub IsPairFault : List ℕ → List ℕ → Refused → Refused → ℕ → Type 0
+IsPairFault first second old new code =
+    IsRefusalTold 1 first old new code
+    ⊎ ((a : Crs) × Spells first a × IsSecondFault second old new code)
+    ⊎ ((code ≡ 3) × (new ≡ old))

@@ -1,19 +1,16 @@
 //! All parts in which two texts differ, as data.
-ghost use Rattle.std.specs.Prelude.{MatchResult};
-ghost use Rattle.crs_value.specs.SpellsText.{IsFaultOfText};
-ghost use Rattle.crs_c.specs.Comparison.{ArePiecesBehind};
 ghost use Rattle.crs_c.specs.ExplainPieces.{IsDifferencePiecesAnswer};
 ghost use Rattle.crs_c.specs.PieceBuffers.{GivesPieces, buffers_of};
 ghost use Rattle.crs_explain.specs.Differing.{AreDifferencePieces};
-ghost use Rattle.crs_c.specs.Pairs.{IsPairAnswer, IsSecondAnswer};
+ghost use Rattle.crs_c.specs.Pairs.{IsPairAnswer};
 
-use crate::codes::{NO_LEVEL, REFUSED, SECOND_REFUSED, level_numbered};
+use crate::codes::{NO_LEVEL, level_numbered};
+use crate::comparison::{Comparing, made_of_both};
 use crate::piece_buffers::give_pieces;
-use crate::refused::{Refused, tell};
+use crate::refused::Refused;
 use crs_explain::{Pieces, difference_pieces};
-use crs_text::Fault;
-use crs_value::{Crs, Level, read};
-use std::alloc::Global;
+use crs_value::{Crs, Level};
+use std::alloc::{AllocError, Global};
 
 /// All parts in which the CRSs of two texts differ at a level, three pieces each: the path, and the values in the first
 /// and in the second, with nothing escaped and no bytes where there is no value. No pieces exactly where they are the
@@ -49,7 +46,6 @@ pub extern "C" fn crsdesk_difference_pieces(
     }
 }
 
-#[tactic(auto, unfolding(crate::specs::Pairs::IsPairAnswer))]
 fn pieces_at<'t>(
     alloc: Global,
     first: &'t [u8],
@@ -66,50 +62,24 @@ fn pieces_at<'t>(
         (record { answer = buffers_of out.new length.new ends.new count.new; refused = refused.new })
         result }
 {
-    match read(alloc, first) {
-        Ok(crs) => second_pieces(
-            alloc, &crs, second, level, out, length, ends, count, refused,
-        ),
-        Err(fault) => tell(fault, REFUSED, refused),
-    }
-}
-
-// The second text, where the first spells a CRS.
-#[tactic(auto, unfolding(crate::specs::Pairs::IsSecondAnswer))]
-fn second_pieces<'t>(
-    alloc: Global,
-    first: &Crs<'t>,
-    second: &'t [u8],
-    level: Level,
-    out: &mut [u8],
-    length: &mut usize,
-    ends: &mut [usize],
-    count: &mut usize,
-    refused: &mut Refused,
-) -> u32
-    ensures { IsSecondAnswer (λ b. GivesPieces (AreDifferencePieces level first.now b)) second.now
-        (record { answer = buffers_of out.old length.old ends.old count.old; refused = refused.old })
-        (record { answer = buffers_of out.new length.new ends.new count.new; refused = refused.new })
-        result }
-{
-    match pieces_with(alloc, first, second, level) {
+    match made_of_both(alloc, &DifferencePieces(level), first, second, refused) {
         Ok(pieces) => give_pieces(&pieces, out, length, ends, count),
-        Err(fault) => tell(fault, SECOND_REFUSED, refused),
+        Err(code) => code,
     }
 }
 
-// The pieces of a CRS and of a text that spells another or the same.
-fn pieces_with<'t>(
-    alloc: Global,
-    first: &Crs<'t>,
-    second: &'t [u8],
-    level: Level,
-) -> Result<Pieces, Fault>
-    ensures { MatchResult result (ArePiecesBehind level second.now first.now) (IsFaultOfText second.now) }
-{
-    let crs = read(alloc, second)?;
-    match difference_pieces(alloc, first, &crs, level) {
-        Ok(pieces) => Ok(pieces),
-        Err(error) => Err(Fault::Memory(error)),
+// The pieces of all parts in which two CRSs differ at a level.
+#[derive(Drop)]
+struct DifferencePieces(Level);
+
+impl Comparing for DifferencePieces {
+    ghost use Rattle.crs_explain.specs.Differing.{AreDifferencePieces};
+
+    type Made = Pieces;
+
+    ghost Like = { λ s a b pieces. AreDifferencePieces s.0 a b pieces };
+
+    fn compare<'t>(&self, alloc: Global, a: &Crs<'t>, b: &Crs<'t>) -> Result<Pieces, AllocError> {
+        difference_pieces(alloc, a, b, self.0)
     }
 }

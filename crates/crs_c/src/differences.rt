@@ -1,19 +1,16 @@
 //! All parts in which two texts differ.
-ghost use Rattle.std.specs.Prelude.{MatchResult};
-ghost use Rattle.crs_value.specs.SpellsText.{IsFaultOfText};
-ghost use Rattle.crs_c.specs.Comparison.{AreLinesBehind};
 ghost use Rattle.crs_c.specs.Buffers.{Gives};
 ghost use Rattle.crs_c.specs.Explain.{IsDifferencesAnswer};
 ghost use Rattle.crs_explain.specs.Differing.{IsDifferencesText};
-ghost use Rattle.crs_c.specs.Pairs.{IsPairAnswer, IsSecondAnswer};
+ghost use Rattle.crs_c.specs.Pairs.{IsPairAnswer};
 
 use crate::buffer::give;
-use crate::codes::{NO_LEVEL, REFUSED, SECOND_REFUSED, level_numbered};
-use crate::refused::{Refused, tell};
+use crate::codes::{NO_LEVEL, level_numbered};
+use crate::comparison::{Comparing, made_of_both};
+use crate::refused::Refused;
 use crs_explain::differences_text;
-use crs_text::Fault;
-use crs_value::{Crs, Level, read};
-use std::alloc::Global;
+use crs_value::{Crs, Level};
+use std::alloc::{AllocError, Global};
 
 /// All parts in which the CRSs of two texts differ at a level, a line each: the path, and the values in the first and
 /// in the second. No lines exactly where they are the same.
@@ -43,7 +40,6 @@ pub extern "C" fn crsdesk_differences(
     }
 }
 
-#[tactic(auto, unfolding(crate::specs::Pairs::IsPairAnswer))]
 fn differences_at<'t>(
     alloc: Global,
     first: &'t [u8],
@@ -58,47 +54,24 @@ fn differences_at<'t>(
         (record { answer = record { items = out.new; told = length.new }; refused = refused.new })
         result }
 {
-    match read(alloc, first) {
-        Ok(crs) => second_differences(alloc, &crs, second, level, out, length, refused),
-        Err(fault) => tell(fault, REFUSED, refused),
-    }
-}
-
-// The second text, where the first spells a CRS.
-#[tactic(auto, unfolding(crate::specs::Pairs::IsSecondAnswer))]
-fn second_differences<'t>(
-    alloc: Global,
-    first: &Crs<'t>,
-    second: &'t [u8],
-    level: Level,
-    out: &mut [u8],
-    length: &mut usize,
-    refused: &mut Refused,
-) -> u32
-    ensures { IsSecondAnswer (λ b. Gives (IsDifferencesText level first.now b)) second.now
-        (record { answer = record { items = out.old; told = length.old }; refused = refused.old })
-        (record { answer = record { items = out.new; told = length.new }; refused = refused.new })
-        result }
-{
-    match lines_with(alloc, first, second, level) {
+    match made_of_both(alloc, &Lines(level), first, second, refused) {
         Ok(lines) => give(&lines, out, length),
-        Err(fault) => tell(fault, SECOND_REFUSED, refused),
+        Err(code) => code,
     }
 }
 
-// The lines of a CRS and of a text that spells another or the same.
-fn lines_with<'t>(
-    alloc: Global,
-    first: &Crs<'t>,
-    second: &'t [u8],
-    level: Level,
-) -> Result<Vec<u8>, Fault>
-    ensures { MatchResult result (λ lines. AreLinesBehind level second.now first.now lines.items)
-        (IsFaultOfText second.now) }
-{
-    let crs = read(alloc, second)?;
-    match differences_text(alloc, first, &crs, level) {
-        Ok(lines) => Ok(lines),
-        Err(error) => Err(Fault::Memory(error)),
+// The lines of all parts in which two CRSs differ at a level.
+#[derive(Drop)]
+struct Lines(Level);
+
+impl Comparing for Lines {
+    ghost use Rattle.crs_explain.specs.Differing.{IsDifferencesText};
+
+    type Made = Vec<u8>;
+
+    ghost Like = { λ s a b lines. IsDifferencesText s.0 a b lines.items };
+
+    fn compare<'t>(&self, alloc: Global, a: &Crs<'t>, b: &Crs<'t>) -> Result<Vec<u8>, AllocError> {
+        differences_text(alloc, a, b, self.0)
     }
 }

@@ -1,15 +1,15 @@
 //! The first part in which two texts differ.
 ghost use Rattle.std.specs.Prelude.{Some};
-ghost use Rattle.crs_c.specs.FirstPart.{GivesPart, IsPartAnswer, IsPathGiven};
-ghost use Rattle.crs_c.specs.Pairs.{IsPairAnswer, IsSecondAnswer};
+ghost use Rattle.crs_c.specs.FirstPart.{DiffersFirst, GivesPart, IsPartAnswer, IsPathGiven};
+ghost use Rattle.crs_c.specs.Pairs.{IsPairAnswer};
 
 use crate::buffer::give;
-use crate::codes::{NO_LEVEL, NO_MEMORY, REFUSED, SECOND_REFUSED, level_numbered};
-use crate::comparison::compared_with;
-use crate::refused::{Refused, tell};
-use crs_same::Path;
-use crs_value::{Crs, Level, read};
-use std::alloc::Global;
+use crate::codes::{NO_LEVEL, NO_MEMORY, level_numbered};
+use crate::comparison::{Comparing, made_of_both};
+use crate::refused::Refused;
+use crs_same::{Path, first_part, laws};
+use crs_value::{Crs, Level};
+use std::alloc::{AllocError, Global};
 
 /// The first part in which the CRSs of two texts differ at a level: the words of its path, with `/` between them; no
 /// words exactly where they are the same.
@@ -39,7 +39,6 @@ pub extern "C" fn crsdesk_first_part(
     }
 }
 
-#[tactic(auto, unfolding(crate::specs::Pairs::IsPairAnswer))]
 fn part_at<'t>(
     alloc: Global,
     first: &'t [u8],
@@ -54,32 +53,39 @@ fn part_at<'t>(
         (record { answer = record { items = out.new; told = length.new }; refused = refused.new })
         result }
 {
-    match read(alloc, first) {
-        Ok(crs) => second_part(alloc, &crs, second, level, out, length, refused),
-        Err(fault) => tell(fault, REFUSED, refused),
+    match made_of_both(alloc, &FirstPart(level), first, second, refused) {
+        Ok(found) => give_path(alloc, found, out, length),
+        Err(code) => code,
     }
 }
 
-// The second text, where the first spells a CRS.
-#[tactic(auto, unfolding(crate::specs::Pairs::IsSecondAnswer, crate::specs::FirstPart::IsPathGiven))]
-fn second_part<'t>(
-    alloc: Global,
-    first: &Crs<'t>,
-    second: &'t [u8],
-    level: Level,
-    out: &mut [u8],
-    length: &mut usize,
-    refused: &mut Refused,
-) -> u32
-    ensures { IsSecondAnswer (GivesPart level first.now) second.now
-        (record { answer = record { items = out.old; told = length.old }; refused = refused.old })
-        (record { answer = record { items = out.new; told = length.new }; refused = refused.new })
-        result }
-{
-    match compared_with(alloc, first, second, level) {
-        Ok(found) => give_path(alloc, found, out, length),
-        Err(fault) => tell(fault, SECOND_REFUSED, refused),
+// The first part in which two CRSs differ at a level.
+#[derive(Drop)]
+pub(crate) struct FirstPart(pub(crate) Level);
+
+impl Comparing for FirstPart {
+    ghost use Rattle.crs_c.specs.FirstPart.{DiffersFirst};
+
+    type Made = Option<Path>;
+
+    ghost Like = { λ s a b found. DiffersFirst s.0 a b found };
+
+    fn compare<'t>(
+        &self,
+        _alloc: Global,
+        a: &Crs<'t>,
+        b: &Crs<'t>,
+    ) -> Result<Option<Path>, AllocError> {
+        Ok(part_of(a, b, self.0))
     }
+}
+
+// It has words exactly where the CRSs differ.
+fn part_of<'t>(a: &Crs<'t>, b: &Crs<'t>, level: Level) -> Option<Path>
+    ensures { DiffersFirst level a.now b.now result }
+{
+    laws::paths_have_words();
+    first_part(a, b, level)
 }
 
 #[tactic(auto, unfolding(crate::specs::FirstPart::IsPathGiven))]

@@ -1,11 +1,14 @@
 //! Whether two texts spell the same CRS, and where they differ.
-ghost use Rattle.crs_c.specs.Pairs.{IsPairAnswer, IsSecondAnswer};
+ghost use Rattle.std.specs.Prelude.{◌≡◌, ◌↔◌, None, IsTrue};
+ghost use Rattle.crs_c.specs.Pairs.{IsPairAnswer};
 ghost use Rattle.crs_c.specs.Same.{IsSameAnswer, TellsSame};
 
-use crate::codes::{NO_LEVEL, OK, REFUSED, SECOND_REFUSED, level_numbered};
-use crate::comparison::{compared_with, is_nothing};
-use crate::refused::{Refused, tell};
-use crs_value::{Crs, Level, read};
+use crate::codes::{NO_LEVEL, OK, level_numbered};
+use crate::comparison::made_of_both;
+use crate::first_part::FirstPart;
+use crate::refused::Refused;
+use crs_same::Path;
+use crs_value::Level;
 use std::alloc::Global;
 
 /// Whether two texts spell the same CRS at a level.
@@ -33,7 +36,6 @@ pub extern "C" fn crsdesk_same(
     }
 }
 
-#[tactic(auto, unfolding(crate::specs::Pairs::IsPairAnswer))]
 fn same_at<'t>(
     alloc: Global,
     first: &'t [u8],
@@ -47,32 +49,17 @@ fn same_at<'t>(
         (record { answer = is_same.new; refused = refused.new })
         result }
 {
-    match read(alloc, first) {
-        Ok(crs) => second_same(alloc, &crs, second, level, is_same, refused),
-        Err(fault) => tell(fault, REFUSED, refused),
-    }
-}
-
-// The second text, where the first spells a CRS.
-#[tactic(auto, unfolding(crate::specs::Pairs::IsSecondAnswer))]
-fn second_same<'t>(
-    alloc: Global,
-    first: &Crs<'t>,
-    second: &'t [u8],
-    level: Level,
-    is_same: &mut u32,
-    refused: &mut Refused,
-) -> u32
-    ensures { IsSecondAnswer (TellsSame level first.now) second.now
-        (record { answer = is_same.old; refused = refused.old })
-        (record { answer = is_same.new; refused = refused.new })
-        result }
-{
-    match compared_with(alloc, first, second, level) {
+    match made_of_both(alloc, &FirstPart(level), first, second, refused) {
         Ok(found) => {
             *is_same = u32::from(is_nothing(&found));
             OK
         }
-        Err(fault) => tell(fault, SECOND_REFUSED, refused),
+        Err(code) => code,
     }
+}
+
+fn is_nothing(found: &Option<Path>) -> bool
+    ensures { IsTrue result ↔ (found.now ≡ None) }
+{
+    found.is_none()
 }
