@@ -9,7 +9,6 @@ use crate::values::vertical::Vertical;
 use crs_shape::SystemType;
 
 /// A coordinate reference system. ISO 19162:2019, "Coordinate reference systems".
-#[derive(Drop)]
 pub enum Crs<'a> {
     /// A geodetic or geographic CRS.
     Geodetic(Geodetic<'a>),
@@ -19,6 +18,18 @@ pub enum Crs<'a> {
     Vertical(Vertical<'a>),
     /// A compound CRS.
     Compound(Compound<'a>),
+}
+
+// Hand-written: a derived drop is expanded wherever a value is dropped, which slows the proofs.
+impl Drop for Crs<'_> {
+    fn drop(self) {
+        match self {
+            Crs::Geodetic(_) => {}
+            Crs::Projected(_) => {}
+            Crs::Vertical(_) => {}
+            Crs::Compound(_) => {}
+        }
+    }
 }
 
 /// What a coordinate reference system is. ISO 19162:2019, "Coordinate reference systems".
