@@ -8,99 +8,90 @@ use crs_value::{Crs, Level};
 use std::alloc::{AllocError, Global};
 
 pub fn check(alloc: Global, tally: &mut Tally<'_>, texts: Texts<'_>) {
-    tally.count("crs_same::same", is_same(alloc, texts));
-    tally.count("crs_same::first_part", has_none(alloc, texts));
-    tally.count(
-        "crs_same::Path::steps",
-        is_found(alloc, texts, PathTo::Steps),
-    );
-    tally.count(
-        "crs_same::Path::write",
-        is_found(alloc, texts, PathTo::Text),
-    );
+    let by_definition = ("height", "identified", Sameness::ByDefinition);
+    tally.count("crs_same::same", holds(alloc, texts, by_definition));
+    let in_no_part = ("geographic", "greenwich", Sameness::InNoPart);
+    tally.count("crs_same::first_part", holds(alloc, texts, in_no_part));
+    let steps = ("paris", "paris_in_grads", Sameness::UnitBySteps);
+    tally.count("crs_same::Path::steps", holds(alloc, texts, steps));
+    let text = ("paris", "paris_in_grads", Sameness::UnitByText);
+    tally.count("crs_same::Path::write", holds(alloc, texts, text));
+}
+
+// What is asked of two CRSs.
+#[derive(Clone, Copy)]
+enum Sameness {
+    // they are the same by definition alone
+    ByDefinition,
+    // they are the same, and differ in no part
+    InNoPart,
+    // the steps to the first part that differs are those to the meridian's unit
+    UnitBySteps,
+    // the words of the path to it are those
+    UnitByText,
+}
+
+// Whether this is so of the CRSs of two texts, which are named.
+fn holds(alloc: Global, texts: Texts<'_>, (first, second, asked): (&str, &str, Sameness)) -> bool {
+    is_made_of_both(
+        alloc,
+        ReadCrs,
+        texts.named(first),
+        texts.named(second),
+        asked,
+    )
+}
+
+impl<'a> Claim<Pair<Crs<'a>>> for Sameness {
+    fn holds(self, alloc: Global, pair: &Pair<Crs<'a>>) -> bool {
+        self.is_so(alloc, &pair.first, &pair.second)
+    }
+}
+
+impl Sameness {
+    fn is_so<'a>(self, alloc: Global, first: &Crs<'a>, second: &Crs<'a>) -> bool {
+        match self {
+            Sameness::ByDefinition => are_same_by_definition(first, second),
+            Sameness::InNoPart => are_same(first, second),
+            Sameness::UnitBySteps => has_steps(&first_part(first, second, Level::Full)),
+            Sameness::UnitByText => is_written(alloc, &first_part(first, second, Level::Full)),
+        }
+    }
 }
 
 // Identifiers don't count at the level of definition.
-fn is_same(alloc: Global, texts: Texts<'_>) -> bool {
-    let first = texts.named("height");
-    let second = texts.named("identified");
-    is_made_of_both(alloc, ReadCrs, first, second, AreByDefinition)
+fn are_same_by_definition<'a>(first: &Crs<'a>, second: &Crs<'a>) -> bool {
+    same(first, second, Level::Definition) && !same(first, second, Level::Full)
 }
 
-// Two CRSs are the same by definition alone.
-#[derive(Clone, Copy)]
-struct AreByDefinition;
-
-impl<'a> Claim<Pair<Crs<'a>>> for AreByDefinition {
-    fn holds(self, _alloc: Global, pair: &Pair<Crs<'a>>) -> bool {
-        same(&pair.first, &pair.second, Level::Definition)
-            && !same(&pair.first, &pair.second, Level::Full)
-    }
-}
-
-// Two CRSs that are the same differ in no part.
-fn has_none(alloc: Global, texts: Texts<'_>) -> bool {
-    let first = texts.named("geographic");
-    let second = texts.named("greenwich");
-    is_made_of_both(alloc, ReadCrs, first, second, AreSame)
-}
-
-// Two CRSs are the same.
-#[derive(Clone, Copy)]
-struct AreSame;
-
-impl<'a> Claim<Pair<Crs<'a>>> for AreSame {
-    fn holds(self, _alloc: Global, pair: &Pair<Crs<'a>>) -> bool {
-        same(&pair.first, &pair.second, Level::Full)
-            && is_none(first_part(&pair.first, &pair.second, Level::Full))
-    }
+fn are_same<'a>(first: &Crs<'a>, second: &Crs<'a>) -> bool {
+    same(first, second, Level::Full) && is_none(first_part(first, second, Level::Full))
 }
 
 fn is_none(path: Option<Path>) -> bool {
     path.is_none()
 }
 
-// What is asked of the path to the first part in which two CRSs differ.
-#[derive(Clone, Copy)]
-enum PathTo {
-    Steps,
-    Text,
-}
-
-// Whether the path is that to the meridian's unit.
-fn is_found(alloc: Global, texts: Texts<'_>, asked: PathTo) -> bool {
-    let first = texts.named("paris");
-    let second = texts.named("paris_in_grads");
-    is_made_of_both(alloc, ReadCrs, first, second, asked)
-}
-
-impl<'a> Claim<Pair<Crs<'a>>> for PathTo {
-    fn holds(self, alloc: Global, pair: &Pair<Crs<'a>>) -> bool {
-        self.is_answered(alloc, first_part(&pair.first, &pair.second, Level::Full))
+fn has_steps(found: &Option<Path>) -> bool {
+    match found {
+        Some(path) => are_to_unit(path.steps()),
+        None => false,
     }
 }
 
-impl PathTo {
-    fn is_answered(self, alloc: Global, found: Option<Path>) -> bool {
-        match (self, &found) {
-            (_, None) => false,
-            (PathTo::Steps, Some(path)) => has_steps(path),
-            (PathTo::Text, Some(path)) => is_written(alloc, path),
-        }
-    }
-}
-
-fn has_steps(path: &Path) -> bool {
-    let steps: &[Step] = path.steps();
+fn are_to_unit(steps: &[Step]) -> bool {
     match steps {
         [first, second] => step_word(first) == "meridian" && step_word(second) == "unit",
         _ => false,
     }
 }
 
-fn is_written(alloc: Global, path: &Path) -> bool {
+fn is_written(alloc: Global, found: &Option<Path>) -> bool {
     let mut out = Vec::new(alloc);
-    let written: Result<(), AllocError> = path.write(&mut out);
+    let written: Result<(), AllocError> = match found {
+        Some(path) => path.write(&mut out),
+        None => Ok(()),
+    };
     written.is_ok() && out.as_slice() == b"meridian/unit".as_slice()
 }
 

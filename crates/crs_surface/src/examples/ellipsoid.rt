@@ -1,8 +1,9 @@
 //! A text read, and a look at its ellipsoid.
 
+use crs_decimal::Decimal;
 use crs_text::Fault;
 use crs_value::{Crs, Ellipsoid, Frame, Horizontal, read};
-use std::alloc::Global;
+use std::alloc::{AllocError, Global};
 
 /// The ellipsoid of a CRS; None for a vertical one.
 pub fn ellipsoid_of<'c, 'a>(crs: &'c Crs<'a>) -> Option<&'c Ellipsoid<'a>> {
@@ -27,14 +28,15 @@ fn ellipsoid_in<'c, 'a>(frame: &'c Frame<'a>) -> Option<&'c Ellipsoid<'a>> {
 /// The inverse flattening of a text's ellipsoid with all its digits; None for a vertical CRS.
 pub fn flattening_of(alloc: Global, text: &[u8]) -> Result<Option<String>, Fault> {
     let crs = read(alloc, text)?;
-    let Some(ellipsoid) = ellipsoid_of(&crs) else {
-        return Ok(None);
-    };
+    match ellipsoid_of(&crs) {
+        Some(ellipsoid) => digits_of(alloc, &ellipsoid.inverse_flattening).map_err(Fault::Memory),
+        None => Ok(None),
+    }
+}
+
+fn digits_of(alloc: Global, number: &Decimal) -> Result<Option<String>, AllocError> {
     let mut digits = Vec::new(alloc);
-    ellipsoid
-        .inverse_flattening
-        .write(&mut digits)
-        .map_err(Fault::Memory)?;
-    let text = String::from_utf8_lossy(alloc, &digits).map_err(Fault::Memory)?;
+    number.write(&mut digits)?;
+    let text = String::from_utf8_lossy(alloc, &digits)?;
     Ok(Some(text))
 }

@@ -2,8 +2,8 @@
 use super::{check_first, check_node, check_optional};
 use crate::tally::Tally;
 use crs_value::{
-    Axis, Base, Compound, Conversion, Datum, Dynamic, Ensemble, Frame, Geodetic, Method, Parameter,
-    Projected, Usage, Vertical,
+    Axis, Base, Compound, Conversion, Datum, Dynamic, Ensemble, Frame, Geodetic, Horizontal,
+    Method, Parameter, Projected, Usage, Vertical,
 };
 
 pub fn walk_projected(tally: &mut Tally<'_>, crs: &Projected<'_>) {
@@ -182,13 +182,17 @@ pub fn walk_compound(tally: &mut Tally<'_>, crs: &Compound<'_>) {
         "crs_canon::Canonical for Compound",
         crs,
     );
+    walk_horizontal(tally, &crs.horizontal);
+    walk_height(tally, &crs.vertical);
+}
+
+fn walk_horizontal(tally: &mut Tally<'_>, crs: &Horizontal<'_>) {
     check_node(
         tally,
         "crs_same::parts::same_horizontal",
         "crs_canon::Canonical for Horizontal",
-        &crs.horizontal,
+        crs,
     );
-    walk_height(tally, &crs.vertical);
 }
 
 fn walk_height(tally: &mut Tally<'_>, crs: &Vertical<'_>) {
