@@ -4,8 +4,8 @@ The programs are run with refuse_growth.c preloaded: with ample memory, then wit
 until a run meets no refusal. A growth is a call of malloc, realloc or aligned_alloc; a program's are counted from its
 beginning, a call's while it is made. Each answer must be out of memory or the answer that comes with ample memory.
 
-growths/calls.rows has calls of crates/crs_rows and growths/command_calls.rows those of crates/crs_command_rows, which with
-the word `trial` make one call. After out of memory, in the same process, all that the call was handed must be as before,
+growths/calls.rows has calls of the library and growths/command_calls.rows those of commands, of which crates/crs_tests
+makes one with the word `call` or `command`. After out of memory, in the same process, all that the call was handed must be as before,
 and the same call made again must give the answer that comes with ample memory. growths/commands.rows has command lines of
 the program, which must do the same as with ample memory, or write nothing but 'crsdesk: out of memory' on standard error,
 with status 2.
@@ -29,8 +29,8 @@ MOST = 10_000
 Answer = Tuple[int, bytes, bytes]
 WANT: Answer = (2, b"", b"crsdesk: out of memory\n")
 CALLS = [
-    (crate, case)
-    for crate, name in (("crs_rows", "calls.rows"), ("crs_command_rows", "command_calls.rows"))
+    (kind, case)
+    for kind, name in (("call", "calls.rows"), ("command", "command_calls.rows"))
     for case in rows.cases_of(GROWTHS / name)
 ]
 COMMANDS = rows.cases_of(GROWTHS / "commands.rows")
@@ -70,14 +70,14 @@ def growths_tried(
     raise AssertionError(f"more than {MOST} growths")
 
 
-@pytest.mark.parametrize("crate, case", CALLS, ids=[str(case) for _, case in CALLS])
-def test_call(crate: str, case: rows.Case, refusing: pathlib.Path) -> None:
-    program = left_by_gate(ROOT / "crates" / crate / "out" / crate)
+@pytest.mark.parametrize("kind, case", CALLS, ids=[str(case) for _, case in CALLS])
+def test_call(kind: str, case: rows.Case, refusing: pathlib.Path) -> None:
+    program = left_by_gate(ROOT / "crates" / "crs_tests" / "out" / "crs_tests")
     head, answer = b"call\nanswered\nanswer ", case.output or b""
     ample, want = (0, head + answer, b""), (0, head + b"memory\nkept yes\nagain " + answer, b"")
     given = case.call + b"\n" + b"\0".join(case.parts)
     preloaded = {"LD_PRELOAD": str(refusing), "REFUSE_FROM": ""}
-    growths = growths_tried([os.fsencode(program), b"trial"], given, ample, want, preloaded)
+    growths = growths_tried([os.fsencode(program), os.fsencode(kind)], given, ample, want, preloaded)
     assert (b"no-growth" in case.flags) == (growths == 0)
 
 

@@ -1,10 +1,9 @@
 //! The calls that write canonical texts.
-use crate::questions::{Question, put_answer};
-use crate::texts::put_fault;
+use crate::texts::{put_asked, put_fault};
 use crs_canon::{Canon, Canonical, canon, canon_of};
-use crs_suite::{put_text, split_line};
+use crs_suite::{AboutCrs, about_crs, put_text, split_line};
 use crs_text::Fault;
-use crs_value::{Crs, Level, read};
+use crs_value::{Crs, Level};
 use std::alloc::{AllocError, Global};
 
 /// `text` and the canonical text of a text, or its refusal; `another text` where the text's value has another one, or
@@ -31,33 +30,46 @@ fn put_agreed(
     if !is_of_text(alloc, text.bytes(), text)? {
         return out.push_str("another text");
     }
-    put_answer(out, alloc, read(alloc, input), Spelled { level, text })
+    let question = Spelled {
+        out: &mut *out,
+        level,
+        text,
+    };
+    let asked = about_crs(alloc, input, question);
+    put_asked(out, asked)
 }
 
 // A canonical text, and the level at which it must be that of a CRS.
-#[derive(Clone, Copy)]
-struct Spelled<'c> {
+#[derive(Drop)]
+struct Spelled<'o, 'c> {
+    out: &'o mut String,
     level: Level,
     text: &'c Canon,
 }
 
-impl<'a> Question<Crs<'a>> for Spelled<'_> {
-    fn put(self, out: &mut String, alloc: Global, crs: &Crs<'a>) -> Result<(), AllocError> {
-        if !self.is_text(canon_of(alloc, crs, self.level))?
-            || !appends(alloc, self.level, crs, self.text.bytes())?
+impl AboutCrs for Spelled<'_, '_> {
+    type Answer = Result<(), AllocError>;
+
+    fn answer(self, alloc: Global, crs: &Crs<'_>) -> Result<(), AllocError> {
+        let text = self.text;
+        if !is_text(canon_of(alloc, crs, self.level), self.level, text)?
+            || !appends(alloc, self.level, crs, text.bytes())?
         {
-            return out.push_str("another text");
+            return self.out.push_str("another text");
         }
-        out.push_str("text ")?;
-        put_text(out, self.text.bytes())
+        put_spelling(self.out, text)
     }
 }
 
-impl Spelled<'_> {
-    fn is_text(self, own: Result<Canon, AllocError>) -> Result<bool, AllocError> {
-        let own = own?;
-        Ok(own.level() == self.level && own.same(self.text))
-    }
+fn is_text(own: Result<Canon, AllocError>, level: Level, text: &Canon) -> Result<bool, AllocError> {
+    let own = own?;
+    Ok(own.level() == level && own.same(text))
+}
+
+/// `text` and a canonical text.
+pub fn put_spelling(out: &mut String, text: &Canon) -> Result<(), AllocError> {
+    out.push_str("text ")?;
+    put_text(out, text.bytes())
 }
 
 // Whether a node by itself appends this text, and no other.

@@ -1,8 +1,8 @@
 //! What parts of a vertical CRS append by themselves, and a set of them.
-use crate::questions::{Question, put_answer};
+use crate::texts::put_asked;
 use crs_canon::{Canonical, Set};
-use crs_suite::put_text;
-use crs_value::{Crs, Dynamic, Ident, Level, Tail, Usage, Vertical, read};
+use crs_suite::{AboutCrs, about_crs, put_text};
+use crs_value::{Crs, Dynamic, Ident, Level, Tail, Usage, Vertical};
 use std::alloc::{AllocError, Global};
 
 /// A part of a vertical CRS.
@@ -48,22 +48,33 @@ pub fn put_part(
     part: Part,
     input: &[u8],
 ) -> Result<(), AllocError> {
-    put_answer(out, alloc, read(alloc, input), Appended { part, level })
+    let question = Appended {
+        out: &mut *out,
+        part,
+        level,
+    };
+    let asked = about_crs(alloc, input, question);
+    put_asked(out, asked)
 }
 
 // What a part of a vertical CRS appends at a level.
-#[derive(Clone, Copy)]
-struct Appended {
+#[derive(Drop)]
+struct Appended<'o> {
+    out: &'o mut String,
     part: Part,
     level: Level,
 }
 
-impl<'a> Question<Crs<'a>> for Appended {
-    fn put(self, out: &mut String, alloc: Global, crs: &Crs<'a>) -> Result<(), AllocError> {
+impl AboutCrs for Appended<'_> {
+    type Answer = Result<(), AllocError>;
+
+    fn answer(self, alloc: Global, crs: &Crs<'_>) -> Result<(), AllocError> {
         match crs {
-            Crs::Vertical(vertical) => put_part_of(out, alloc, self.level, self.part, vertical),
+            Crs::Vertical(vertical) => {
+                put_part_of(self.out, alloc, self.level, self.part, vertical)
+            }
             Crs::Geodetic(_) | Crs::Projected(_) | Crs::Compound(_) => {
-                out.push_str(self.part.absent())
+                self.out.push_str(self.part.absent())
             }
         }
     }

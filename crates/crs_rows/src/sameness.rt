@@ -1,9 +1,9 @@
 //! The calls that compare CRSs.
-use crate::questions::{Question, Wording, put_answer, text_of};
+use crate::texts::put_asked;
 use crs_canon::write_content;
 use crs_same::parts::same_axis;
-use crs_same::{Difference, Differences, Path, differences, first_part, same};
-use crs_suite::{Pair, ReadCrs, made_of_both, put_text, split_line};
+use crs_same::{Difference, Path, differences, first_part, same};
+use crs_suite::{AboutBoth, about_both, put_text, split_line};
 use crs_value::{Axis, Crs, Level};
 use std::alloc::{AllocError, Global};
 
@@ -32,26 +32,38 @@ pub fn put_comparison(
     input: &[u8],
 ) -> Result<(), AllocError> {
     let (first, second) = split_line(input);
-    let pair = made_of_both(alloc, ReadCrs, first, second);
-    put_answer(out, alloc, pair, Compared { comparison, level })
+    let question = Compared {
+        out: &mut *out,
+        comparison,
+        level,
+    };
+    let asked = about_both(alloc, first, second, question);
+    put_asked(out, asked)
 }
 
-#[derive(Clone, Copy)]
-struct Compared {
+#[derive(Drop)]
+struct Compared<'o> {
+    out: &'o mut String,
     comparison: Comparison,
     level: Level,
 }
 
-impl<'a> Question<Pair<Crs<'a>>> for Compared {
-    fn put(self, out: &mut String, alloc: Global, pair: &Pair<Crs<'a>>) -> Result<(), AllocError> {
-        match self.comparison {
-            Comparison::Same => put_same(out, alloc, self.level, &pair.first, &pair.second),
-            Comparison::Differences => {
-                put_differences(out, alloc, self.level, &pair.first, &pair.second)
-            }
-            Comparison::Values => put_values(out, alloc, self.level, &pair.first, &pair.second),
-            Comparison::Axes => out.push_str(axes_of(&pair.first, &pair.second, self.level)),
-        }
+impl AboutBoth for Compared<'_> {
+    type Answer = Result<(), AllocError>;
+
+    fn answer<'t>(
+        self,
+        alloc: Global,
+        first: &Crs<'t>,
+        second: &Crs<'t>,
+    ) -> Result<(), AllocError> {
+        let told = match self.comparison {
+            Comparison::Same => return put_same(self.out, alloc, self.level, first, second),
+            Comparison::Axes => return self.out.push_str(axes_of(first, second, self.level)),
+            Comparison::Differences => Told::Paths,
+            Comparison::Values => Told::Values,
+        };
+        put_differences(self.out, alloc, self.level, told, first, second)
     }
 }
 
@@ -106,34 +118,66 @@ fn put_path(out: &mut String, alloc: Global, path: &Path) -> Result<(), AllocErr
     put_text(out, &words)
 }
 
+/// What is told of parts that differ.
+#[derive(Clone, Copy)]
+pub enum Told {
+    /// The paths.
+    Paths,
+    /// The paths, and the value in the first and in the second CRS.
+    Values,
+    /// The paths, and the value in the second and in the first CRS.
+    TurnedValues,
+}
+
+impl Told {
+    // The same of the two CRSs in the other order.
+    fn turned(self) -> Told {
+        match self {
+            Told::Paths => Told::Paths,
+            Told::Values => Told::TurnedValues,
+            Told::TurnedValues => Told::Values,
+        }
+    }
+}
+
 fn put_differences<'a>(
     out: &mut String,
     alloc: Global,
     level: Level,
+    told: Told,
     first: &Crs<'a>,
     second: &Crs<'a>,
 ) -> Result<(), AllocError> {
-    let forth = paths_between(alloc, first, second, level);
-    let back = paths_between(alloc, second, first, level);
+    let forth = differing(alloc, level, told, first, second);
+    let back = differing(alloc, level, told.turned(), second, first);
     put_one_way_or(out, forth, back)
 }
 
-fn paths_between<'a>(
+/// What is told of the parts in which two CRSs differ, with a semicolon between two.
+pub fn differing<'a>(
     alloc: Global,
+    level: Level,
+    told: Told,
     a: &Crs<'a>,
     b: &Crs<'a>,
-    level: Level,
 ) -> Result<Vec<u8>, AllocError> {
-    text_of(alloc, differences(alloc, a, b, level), Paths)
+    match differences(alloc, a, b, level) {
+        Ok(found) => text_of(alloc, level, told, found.as_slice()),
+        Err(error) => Err(error),
+    }
 }
 
-#[derive(Clone, Copy)]
-struct Paths;
-
-impl<'v, 'a> Wording<Differences<'v, 'a>> for Paths {
-    fn text(self, alloc: Global, found: &Differences<'v, 'a>) -> Result<Vec<u8>, AllocError> {
-        paths_text(alloc, found)
+fn text_of(
+    alloc: Global,
+    level: Level,
+    told: Told,
+    found: &[Difference<'_, '_>],
+) -> Result<Vec<u8>, AllocError> {
+    let mut text = Vec::new(alloc);
+    for difference in found {
+        put_difference(&mut text, alloc, level, told, difference)?;
     }
+    Ok(text)
 }
 
 fn put_one_way_or(
@@ -149,16 +193,6 @@ fn put_one_way_or(
     put_text(out, if forth.is_empty() { b"none" } else { &forth })
 }
 
-/// The words of the paths, with a semicolon between two.
-pub fn paths_text(alloc: Global, differences: &Differences<'_, '_>) -> Result<Vec<u8>, AllocError> {
-    let mut words = Vec::new(alloc);
-    for difference in differences.as_slice() {
-        put_semicolon(&mut words)?;
-        difference.path().write(&mut words)?;
-    }
-    Ok(words)
-}
-
 // Before each but the first.
 fn put_semicolon(text: &mut Vec<u8>) -> Result<(), AllocError> {
     if text.is_empty() {
@@ -168,75 +202,48 @@ fn put_semicolon(text: &mut Vec<u8>) -> Result<(), AllocError> {
     Ok(())
 }
 
-fn put_values<'a>(
-    out: &mut String,
+fn put_difference(
+    text: &mut Vec<u8>,
     alloc: Global,
     level: Level,
-    first: &Crs<'a>,
-    second: &Crs<'a>,
+    told: Told,
+    difference: &Difference<'_, '_>,
 ) -> Result<(), AllocError> {
-    let forth = values_between(alloc, first, second, level, false);
-    let back = values_between(alloc, second, first, level, true);
-    put_one_way_or(out, forth, back)
+    put_semicolon(text)?;
+    difference.path().write(text)?;
+    match told {
+        Told::Paths => Ok(()),
+        Told::Values => put_sides(text, alloc, level, difference, false),
+        Told::TurnedValues => put_sides(text, alloc, level, difference, true),
+    }
 }
 
-fn values_between<'a>(
+fn put_sides(
+    text: &mut Vec<u8>,
     alloc: Global,
-    a: &Crs<'a>,
-    b: &Crs<'a>,
     level: Level,
+    difference: &Difference<'_, '_>,
     is_turned: bool,
-) -> Result<Vec<u8>, AllocError> {
-    let values = Values { level, is_turned };
-    text_of(alloc, differences(alloc, a, b, level), values)
+) -> Result<(), AllocError> {
+    text.extend_from_slice(b": ")?;
+    put_side(text, alloc, level, difference, is_turned)?;
+    text.extend_from_slice(b" | ")?;
+    put_side(text, alloc, level, difference, !is_turned)
 }
 
-// The value in the second CRS comes first where they are turned.
-#[derive(Clone, Copy)]
-struct Values {
+fn put_side(
+    text: &mut Vec<u8>,
+    alloc: Global,
     level: Level,
-    is_turned: bool,
-}
-
-impl<'v, 'a> Wording<Differences<'v, 'a>> for Values {
-    fn text(self, alloc: Global, found: &Differences<'v, 'a>) -> Result<Vec<u8>, AllocError> {
-        let mut text = Vec::new(alloc);
-        for difference in found.as_slice() {
-            self.put_value(&mut text, alloc, difference)?;
-        }
-        Ok(text)
-    }
-}
-
-impl Values {
-    fn put_value(
-        self,
-        text: &mut Vec<u8>,
-        alloc: Global,
-        difference: &Difference<'_, '_>,
-    ) -> Result<(), AllocError> {
-        put_semicolon(text)?;
-        difference.path().write(text)?;
-        text.extend_from_slice(b": ")?;
-        self.put_side(text, alloc, difference, self.is_turned)?;
-        text.extend_from_slice(b" | ")?;
-        self.put_side(text, alloc, difference, !self.is_turned)
-    }
-
-    fn put_side(
-        self,
-        text: &mut Vec<u8>,
-        alloc: Global,
-        difference: &Difference<'_, '_>,
-        is_second: bool,
-    ) -> Result<(), AllocError> {
-        let content = if is_second {
-            difference.second()
-        } else {
-            difference.first()
-        };
-        write_content(content, alloc, self.level, text)
-    }
+    difference: &Difference<'_, '_>,
+    is_second: bool,
+) -> Result<(), AllocError> {
+    let content = if is_second {
+        difference.second()
+    } else {
+        difference.first()
+    };
+    write_content(content, alloc, level, text)
 }
 
 fn axes_of<'a>(first: &Crs<'a>, second: &Crs<'a>, level: Level) -> &'static str {

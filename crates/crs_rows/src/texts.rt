@@ -125,6 +125,17 @@ pub fn put_fault(out: &mut String, fault: Fault) -> Result<(), AllocError> {
     }
 }
 
+/// What putting an answer came to, or the refusal of the text that was to be asked about.
+pub fn put_asked(
+    out: &mut String,
+    asked: Result<Result<(), AllocError>, Fault>,
+) -> Result<(), AllocError> {
+    match asked {
+        Ok(put) => put,
+        Err(fault) => put_fault(out, fault),
+    }
+}
+
 /// `refused`, the number, the name and the place.
 pub fn put_refusal(out: &mut String, refusal: Refusal) -> Result<(), AllocError> {
     let number = refusal.number();

@@ -1,16 +1,17 @@
 //! The calls on the values of texts.
 use crate::numbers::put_spelling;
 use crate::pieces::agree;
-use crate::questions::{Question, put_answer};
+use crate::texts::{put_asked, put_fault};
 use crs_decimal::Decimal;
-use crs_suite::put_text;
+use crs_suite::{AboutCrs, about_crs, about_items, put_text};
 use crs_text::{Items, read_items};
-use crs_value::{Axis, Crs, Kind, Unit, read, value_of};
+use crs_value::{Axis, Crs, Kind, Unit};
 use std::alloc::{AllocError, Global};
 
 /// `kind` and the kind of the CRS that a text spells, or its refusal.
 pub fn put_read(out: &mut String, alloc: Global, input: &[u8]) -> Result<(), AllocError> {
-    put_answer(out, alloc, read(alloc, input), KindOfCrs)
+    let asked = about_crs(alloc, input, KindOf { out: &mut *out });
+    put_asked(out, asked)
 }
 
 /// The kind of the CRS that a text's items spell, or the refusal; `another answer in pieces` where a cut into pieces gives one.
@@ -18,24 +19,32 @@ pub fn put_value_of(out: &mut String, alloc: Global, input: &[u8]) -> Result<(),
     if !agree(alloc, input)? {
         return out.push_str("another answer in pieces");
     }
-    put_answer(out, alloc, read_items(alloc, input), KindOfItems)
-}
-
-#[derive(Clone, Copy)]
-struct KindOfCrs;
-
-impl<'a> Question<Crs<'a>> for KindOfCrs {
-    fn put(self, out: &mut String, _alloc: Global, crs: &Crs<'a>) -> Result<(), AllocError> {
-        put_kind(out, crs.kind())
+    match read_items(alloc, input) {
+        Ok(items) => put_value_of_items(out, alloc, &items),
+        Err(fault) => put_fault(out, fault),
     }
 }
 
-#[derive(Clone, Copy)]
-struct KindOfItems;
+fn put_value_of_items(
+    out: &mut String,
+    alloc: Global,
+    items: &Items<'_>,
+) -> Result<(), AllocError> {
+    let asked = about_items(alloc, items, KindOf { out: &mut *out });
+    put_asked(out, asked)
+}
 
-impl<'a> Question<Items<'a>> for KindOfItems {
-    fn put(self, out: &mut String, alloc: Global, items: &Items<'a>) -> Result<(), AllocError> {
-        put_answer(out, alloc, value_of(alloc, items), KindOfCrs)
+// Its kind.
+#[derive(Drop)]
+struct KindOf<'o> {
+    out: &'o mut String,
+}
+
+impl AboutCrs for KindOf<'_> {
+    type Answer = Result<(), AllocError>;
+
+    fn answer(self, _alloc: Global, crs: &Crs<'_>) -> Result<(), AllocError> {
+        put_kind(self.out, crs.kind())
     }
 }
 
@@ -58,17 +67,23 @@ pub fn kind_word(kind: Kind) -> &'static str {
 /// The name, the order and the unit's name of the first axis of a vertical CRS, as they are written; `no axis` for
 /// another CRS.
 pub fn put_axis(out: &mut String, alloc: Global, input: &[u8]) -> Result<(), AllocError> {
-    put_answer(out, alloc, read(alloc, input), FirstAxis)
+    let asked = about_crs(alloc, input, FirstAxis { out: &mut *out });
+    put_asked(out, asked)
 }
 
-#[derive(Clone, Copy)]
-struct FirstAxis;
+// Its first axis.
+#[derive(Drop)]
+struct FirstAxis<'o> {
+    out: &'o mut String,
+}
 
-impl<'a> Question<Crs<'a>> for FirstAxis {
-    fn put(self, out: &mut String, _alloc: Global, crs: &Crs<'a>) -> Result<(), AllocError> {
+impl AboutCrs for FirstAxis<'_> {
+    type Answer = Result<(), AllocError>;
+
+    fn answer(self, _alloc: Global, crs: &Crs<'_>) -> Result<(), AllocError> {
         match crs {
-            Crs::Vertical(vertical) => put_first_axis(out, vertical.system.axes.as_slice()),
-            Crs::Geodetic(_) | Crs::Projected(_) | Crs::Compound(_) => out.push_str("no axis"),
+            Crs::Vertical(vertical) => put_first_axis(self.out, vertical.system.axes.as_slice()),
+            Crs::Geodetic(_) | Crs::Projected(_) | Crs::Compound(_) => self.out.push_str("no axis"),
         }
     }
 }

@@ -3,7 +3,8 @@
 use crate::escapes::put_bytes;
 use crs_value::Level;
 use std::alloc::{AllocError, Global};
-use std::io;
+use std::rt::Files;
+use std::{fs, io};
 
 /// The calls that a suite makes.
 pub trait Calls {
@@ -54,8 +55,21 @@ enum Step<'t> {
     Unknown,
 }
 
-/// Runs the rows of a file, and prints those that differ, and then a count.
-pub fn run_rows<C: Calls>(
+/// Runs the rows of files of these names, each in `NAME.rows`, and prints those that differ, and then a count for the file.
+pub fn run_files<C: Calls>(
+    rt: &(impl Files + Print + AllocGlobal),
+    names: &[&str],
+    calls: &C,
+) -> io::Result<()> {
+    for name in names {
+        let path = format!(in rt.alloc(); "{name}.rows")?;
+        let text = fs::read_to_string(rt, path.as_str())?;
+        run_rows(rt, name, text.as_str(), calls)?;
+    }
+    Ok(())
+}
+
+fn run_rows<C: Calls>(
     rt: &(impl Print + AllocGlobal),
     name: &str,
     text: &str,

@@ -1,33 +1,36 @@
 //! Canonical texts, and sets.
 use crate::bounds::{are_equal, hash_of};
-use crate::made::{Calls, Claim, count_made, is_made, is_refused_at};
+use crate::made::{is_refused_at, is_so};
 use crate::tally::Tally;
 use crate::texts::Texts;
 use crs_canon::{Canon, Set, canon, canon_of};
+use crs_suite::{AboutCrs, about_crs};
 use crs_text::Fault;
-use crs_value::{Crs, Ident, Level, read};
+use crs_value::{Crs, Ident, Level};
 use std::alloc::{AllocError, Global};
 
-pub fn check(alloc: Global, tally: &mut Tally<'_>, texts: Texts<'_>) {
+pub fn check(alloc: Global, tally: &mut Tally, texts: Texts<'_>) {
     tally.count("crs_canon::canon", refuses(alloc));
     tally.count("crs_canon::canon_of", writes_value(alloc, texts));
     check_canon(alloc, tally, texts);
     check_codes(alloc, tally, texts);
 }
 
-fn check_canon(alloc: Global, tally: &mut Tally<'_>, texts: Texts<'_>) {
+fn check_canon(alloc: Global, tally: &mut Tally, texts: Texts<'_>) {
     match canon(alloc, texts.named("height"), Level::Full) {
         Ok(text) => check_text(alloc, tally, texts, &text),
         Err(_fault) => tally.count("crs_canon::Canon", false),
     }
 }
 
-fn check_codes(alloc: Global, tally: &mut Tally<'_>, texts: Texts<'_>) {
-    let read = read(alloc, texts.named("codes"));
+fn check_codes(alloc: Global, tally: &mut Tally, texts: Texts<'_>) {
     let set = SetOfCodes {
+        tally: &mut *tally,
         text: texts.named("set_of_codes"),
     };
-    count_made(alloc, tally, "crs_canon::Set", read, set);
+    if !is_so(&about_crs(alloc, texts.named("codes"), set)) {
+        tally.count("crs_canon::Set", false);
+    }
 }
 
 fn refuses(alloc: Global) -> bool {
@@ -39,7 +42,7 @@ fn writes_value(alloc: Global, texts: Texts<'_>) -> bool {
     let spelled = Spelled {
         text: texts.named("height_canonical"),
     };
-    is_made(alloc, read(alloc, texts.named("height")), spelled)
+    is_so(&about_crs(alloc, texts.named("height"), spelled))
 }
 
 // A CRS has this canonical text.
@@ -48,8 +51,10 @@ struct Spelled<'t> {
     text: &'t [u8],
 }
 
-impl<'a> Claim<Crs<'a>> for Spelled<'_> {
-    fn holds(self, alloc: Global, crs: &Crs<'a>) -> bool {
+impl AboutCrs for Spelled<'_> {
+    type Answer = bool;
+
+    fn answer(self, alloc: Global, crs: &Crs<'_>) -> bool {
         is_text(canon_of(alloc, crs, Level::Full), self.text)
     }
 }
@@ -61,7 +66,7 @@ fn is_text(answer: Result<Canon, AllocError>, expected: &[u8]) -> bool {
     }
 }
 
-fn check_text(alloc: Global, tally: &mut Tally<'_>, texts: Texts<'_>, text: &Canon) {
+fn check_text(alloc: Global, tally: &mut Tally, texts: Texts<'_>, text: &Canon) {
     let bytes: &[u8] = text.bytes();
     tally.count(
         "crs_canon::Canon::bytes",
@@ -92,28 +97,35 @@ fn is_equal(text: &Canon, other: Result<Canon, Fault>) -> bool {
 }
 
 // The set of a vertical CRS's identifiers, which has this text.
-#[derive(Clone, Copy)]
-struct SetOfCodes<'t> {
-    text: &'t [u8],
+#[derive(Drop)]
+struct SetOfCodes<'t, 'x> {
+    tally: &'t mut Tally,
+    text: &'x [u8],
 }
 
-impl<'a> Calls<Crs<'a>> for SetOfCodes<'_> {
-    fn count(self, alloc: Global, tally: &mut Tally<'_>, crs: &Crs<'a>) {
+impl AboutCrs for SetOfCodes<'_, '_> {
+    type Answer = bool;
+
+    fn answer(self, alloc: Global, crs: &Crs<'_>) -> bool {
         match crs {
-            Crs::Vertical(crs) => self.count_set(alloc, tally, crs.tail.identifiers.as_slice()),
-            Crs::Geodetic(_) | Crs::Projected(_) | Crs::Compound(_) => {
-                tally.count("crs_canon::Set", false)
+            Crs::Vertical(crs) => {
+                count_set(
+                    alloc,
+                    self.tally,
+                    self.text,
+                    crs.tail.identifiers.as_slice(),
+                );
+                true
             }
+            Crs::Geodetic(_) | Crs::Projected(_) | Crs::Compound(_) => false,
         }
     }
 }
 
-impl SetOfCodes<'_> {
-    fn count_set(self, alloc: Global, tally: &mut Tally<'_>, members: &[Ident<'_>]) {
-        tally.count("crs_canon::Set::same", set_is_same(members));
-        let agrees = set_is_written(alloc, members, self.text);
-        tally.count("crs_canon::Set::write", agrees);
-    }
+fn count_set(alloc: Global, tally: &mut Tally, text: &[u8], members: &[Ident<'_>]) {
+    tally.count("crs_canon::Set::same", set_is_same(members));
+    let agrees = set_is_written(alloc, members, text);
+    tally.count("crs_canon::Set::write", agrees);
 }
 
 fn set_is_same(members: &[Ident<'_>]) -> bool {

@@ -7,7 +7,7 @@ use crs_text::Refusal;
 use crs_value::Level;
 use std::alloc::{AllocError, Global};
 
-pub fn check(alloc: Global, tally: &mut Tally<'_>, texts: Texts<'_>) {
+pub fn check(alloc: Global, tally: &mut Tally, texts: Texts<'_>) {
     let mut catalogue: Catalogue = Catalogue::new(alloc, Level::Full);
     let is_new = catalogue.groups() == 0 && catalogue.refused().is_empty();
     tally.count("crs_group::Catalogue::new", is_new);
@@ -50,7 +50,7 @@ fn is_group(number: usize, expected: &str) -> bool {
     }
 }
 
-fn check_groups(tally: &mut Tally<'_>, texts: Texts<'_>, catalogue: &Catalogue) {
+fn check_groups(tally: &mut Tally, texts: Texts<'_>, catalogue: &Catalogue) {
     let groups: usize = catalogue.groups();
     tally.count("crs_group::Catalogue::groups", groups == 2);
     tally.count("crs_group::Catalogue::lines", has_lines(catalogue));

@@ -4,7 +4,7 @@ use crate::tally::Tally;
 use crs_decimal::{Decimal, NumberFault};
 use std::alloc::{AllocError, Global};
 
-pub fn check(alloc: Global, tally: &mut Tally<'_>) {
+pub fn check(alloc: Global, tally: &mut Tally) {
     tally.count("crs_decimal::Decimal", is_value());
     tally.count("crs_decimal::Decimal::parse", is_parsed());
     tally.count("crs_decimal::NumberFault", is_fault_told());

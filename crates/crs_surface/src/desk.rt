@@ -6,7 +6,7 @@ use crs_group::{RunFault, Sink, Source};
 use crs_value::Level;
 use std::alloc::{AllocError, Global};
 
-pub fn check(alloc: Global, tally: &mut Tally<'_>, texts: Texts<'_>) {
+pub fn check(alloc: Global, tally: &mut Tally, texts: Texts<'_>) {
     tally.count("crs_desk::run_canon", writes_canon(alloc, texts));
     tally.count("crs_desk::run_check", writes_kind(alloc, texts));
     tally.count("crs_desk::run_same", writes_part(alloc, texts));

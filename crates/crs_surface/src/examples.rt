@@ -1,4 +1,4 @@
-//! The library's calls, task by task, over the lines of standard input, a text each. `docs/CALLING.md` shows
+//! The library's calls, task by task, over lines, a text each. `docs/CALLING.md` shows
 //! functions of the other files as they are here.
 
 mod catalogue;
@@ -15,24 +15,21 @@ use crs_value::Kind;
 use indexmap::IndexMap;
 use std::alloc::Global;
 use std::io;
-use std::io::Read;
 
-/// Prints what each example answers for the lines of standard input.
-pub fn print_all(rt: &HostRuntime) -> io::Result<()> {
-    let mut bytes = Vec::new(rt.alloc());
-    rt.stdin().read_to_end(&mut bytes)?;
+/// Prints what each example answers for the lines of these bytes.
+pub fn print_all(rt: &(impl Print + AllocGlobal), bytes: &[u8]) -> io::Result<()> {
     let mut lines = Vec::new(rt.alloc());
-    for line in bytes.as_slice().lines() {
+    for line in bytes.lines() {
         lines.push(line)?;
     }
     print_keys(rt, &lines)?;
     print_differences(rt, &lines)?;
     print_ellipsoids(rt, &lines)?;
     print_kinds(rt, &lines)?;
-    print_groups(rt, &bytes)
+    print_groups(rt, bytes)
 }
 
-fn print_keys(rt: &HostRuntime, lines: &[&[u8]]) -> io::Result<()> {
+fn print_keys(rt: &(impl Print + AllocGlobal), lines: &[&[u8]]) -> io::Result<()> {
     let mut cache: IndexMap<Canon, usize> = IndexMap::new(rt.alloc());
     for line in lines {
         let text = match key::number_of(rt.alloc(), &mut cache, line) {
@@ -45,7 +42,7 @@ fn print_keys(rt: &HostRuntime, lines: &[&[u8]]) -> io::Result<()> {
 }
 
 // Each line beside the next.
-fn print_differences(rt: &HostRuntime, lines: &[&[u8]]) -> io::Result<()> {
+fn print_differences(rt: &(impl Print + AllocGlobal), lines: &[&[u8]]) -> io::Result<()> {
     for (line, next) in lines.iter().zip(lines.iter().skip(1)) {
         let text = match difference::difference(rt.alloc(), line, next) {
             Ok(text) => text,
@@ -56,7 +53,7 @@ fn print_differences(rt: &HostRuntime, lines: &[&[u8]]) -> io::Result<()> {
     Ok(())
 }
 
-fn print_ellipsoids(rt: &HostRuntime, lines: &[&[u8]]) -> io::Result<()> {
+fn print_ellipsoids(rt: &(impl Print + AllocGlobal), lines: &[&[u8]]) -> io::Result<()> {
     for line in lines {
         let text = match ellipsoid::flattening_of(rt.alloc(), line) {
             Ok(Some(text)) => text,
@@ -68,7 +65,7 @@ fn print_ellipsoids(rt: &HostRuntime, lines: &[&[u8]]) -> io::Result<()> {
     Ok(())
 }
 
-fn print_kinds(rt: &HostRuntime, lines: &[&[u8]]) -> io::Result<()> {
+fn print_kinds(rt: &(impl Print + AllocGlobal), lines: &[&[u8]]) -> io::Result<()> {
     for line in lines {
         let text = kind_told(rt.alloc(), line)?;
         println!(rt; "in pieces: {text}")?;
@@ -93,7 +90,7 @@ fn word_of(kind: Kind) -> &'static str {
     }
 }
 
-fn print_groups(rt: &HostRuntime, bytes: &[u8]) -> io::Result<()> {
+fn print_groups(rt: &(impl Print + AllocGlobal), bytes: &[u8]) -> io::Result<()> {
     let text = catalogue::groups_of(rt.alloc(), bytes)?;
     print!(rt; "{text}")
 }

@@ -5,7 +5,7 @@ use crate::texts::Texts;
 use crs_text::{Fault, Feeder, Items};
 use std::alloc::Global;
 
-pub fn check(alloc: Global, tally: &mut Tally<'_>, texts: Texts<'_>) {
+pub fn check(alloc: Global, tally: &mut Tally, texts: Texts<'_>) {
     tally.count("crs_text::Feeder::new", is_empty(alloc));
     tally.count("crs_text::Feeder::feed", is_settled(alloc));
     let fed = is_fed(alloc, texts.named("height"));

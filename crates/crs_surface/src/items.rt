@@ -7,7 +7,7 @@ use crs_decimal::Decimal;
 use crs_text::{Fault, ItemId, ItemKind, Items, read_items};
 use std::alloc::Global;
 
-pub fn check(alloc: Global, tally: &mut Tally<'_>, texts: Texts<'_>) {
+pub fn check(alloc: Global, tally: &mut Tally, texts: Texts<'_>) {
     tally.count("crs_text::read_items", is_incomplete(alloc));
     match read_items(alloc, texts.named("height")) {
         Ok(items) => {
@@ -26,7 +26,7 @@ fn is_incomplete(alloc: Global) -> bool {
     }
 }
 
-fn check_whole(alloc: Global, tally: &mut Tally<'_>, items: &Items<'_>) {
+fn check_whole(alloc: Global, tally: &mut Tally, items: &Items<'_>) {
     let root = items.root();
     tally.count("crs_text::Items::root", has_root(items, alloc));
     tally.count("crs_text::Items::contains", contains(items, alloc));
@@ -36,7 +36,7 @@ fn check_whole(alloc: Global, tally: &mut Tally<'_>, items: &Items<'_>) {
     tally.count("crs_text::Items::arg_count", items.arg_count(root) == 4);
 }
 
-fn check_parts(alloc: Global, tally: &mut Tally<'_>, items: &Items<'_>) {
+fn check_parts(alloc: Global, tally: &mut Tally, items: &Items<'_>) {
     tally.count("crs_text::Items::arg", has_arguments(items));
     tally.count("crs_text::Items::next", has_next(items));
     tally.count("crs_text::ItemKind", has_kinds(items));

@@ -4,7 +4,7 @@ use crate::tally::Tally;
 use crs_text::{Fault, Refusal};
 use std::alloc::{AllocError, Global};
 
-pub fn check(alloc: Global, tally: &mut Tally<'_>) {
+pub fn check(alloc: Global, tally: &mut Tally) {
     tally.count("crs_text::Refusal::new", is_made());
     tally.count("crs_text::Refusal::number", has_number());
     tally.count("crs_text::Refusal::place", has_place());

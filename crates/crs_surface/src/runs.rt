@@ -8,7 +8,7 @@ use std::alloc::Global;
 use std::io;
 
 /// Checks the run of groups over the bytes of a catalogue, which has this answer.
-pub fn check(alloc: Global, tally: &mut Tally<'_>, catalogue: &[u8], answer: &[u8]) {
+pub fn check(alloc: Global, tally: &mut Tally, catalogue: &[u8], answer: &[u8]) {
     tally.count("crs_group::run_group", is_grouped(alloc, catalogue, answer));
     tally.count("crs_group::Source", is_source());
     tally.count("crs_group::Sink", is_sink(alloc));

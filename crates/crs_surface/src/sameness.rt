@@ -1,13 +1,13 @@
 //! Sameness, and the first part that differs.
-use crate::made::{Claim, is_made_of_both};
+use crate::made::is_so;
 use crate::tally::Tally;
 use crate::texts::Texts;
 use crs_same::{Path, Step, first_part, same};
-use crs_suite::{Pair, ReadCrs};
+use crs_suite::{AboutBoth, about_both};
 use crs_value::{Crs, Level};
 use std::alloc::{AllocError, Global};
 
-pub fn check(alloc: Global, tally: &mut Tally<'_>, texts: Texts<'_>) {
+pub fn check(alloc: Global, tally: &mut Tally, texts: Texts<'_>) {
     let by_definition = ("height", "identified", Sameness::ByDefinition);
     tally.count("crs_same::same", holds(alloc, texts, by_definition));
     let in_no_part = ("geographic", "greenwich", Sameness::InNoPart);
@@ -33,23 +33,13 @@ enum Sameness {
 
 // Whether this is so of the CRSs of two texts, which are named.
 fn holds(alloc: Global, texts: Texts<'_>, (first, second, asked): (&str, &str, Sameness)) -> bool {
-    is_made_of_both(
-        alloc,
-        ReadCrs,
-        texts.named(first),
-        texts.named(second),
-        asked,
-    )
+    is_so(&about_both(alloc, texts.named(first), texts.named(second), asked))
 }
 
-impl<'a> Claim<Pair<Crs<'a>>> for Sameness {
-    fn holds(self, alloc: Global, pair: &Pair<Crs<'a>>) -> bool {
-        self.is_so(alloc, &pair.first, &pair.second)
-    }
-}
+impl AboutBoth for Sameness {
+    type Answer = bool;
 
-impl Sameness {
-    fn is_so<'a>(self, alloc: Global, first: &Crs<'a>, second: &Crs<'a>) -> bool {
+    fn answer<'t>(self, alloc: Global, first: &Crs<'t>, second: &Crs<'t>) -> bool {
         match self {
             Sameness::ByDefinition => are_same_by_definition(first, second),
             Sameness::InNoPart => are_same(first, second),

@@ -6,7 +6,7 @@ use crs_shape::{Class, Slot, class_of, fit, fit_root, known, root_class, slots};
 use crs_text::{Items, Refusal, read_items};
 use std::alloc::Global;
 
-pub fn check(alloc: Global, tally: &mut Tally<'_>, texts: Texts<'_>) {
+pub fn check(alloc: Global, tally: &mut Tally, texts: Texts<'_>) {
     tally.count("crs_shape::Class", has_classes());
     tally.count("crs_shape::slots", has_slots());
     tally.count("crs_shape::Slot", has_slot());

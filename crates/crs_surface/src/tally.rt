@@ -4,44 +4,40 @@ use std::io;
 
 /// How many items were called, and how many of them answered otherwise than they must.
 #[derive(Drop)]
-pub struct Tally<'r> {
-    rt: &'r HostRuntime,
+pub struct Tally {
     items: u64,
     differ: u64,
-    // whether each name that had to be printed was
-    printed: io::Result<()>,
+    // a line for each that differs, as far as there is memory for it
+    lines: String,
 }
 
-impl<'r> Tally<'r> {
-    pub fn new(rt: &'r HostRuntime) -> Tally<'r> {
+impl Tally {
+    pub fn new(alloc: Global) -> Tally {
         Tally {
-            rt,
             items: 0,
             differ: 0,
-            printed: Ok(()),
+            lines: String::new(alloc),
         }
     }
 
     pub fn alloc(&self) -> Global {
-        self.rt.alloc()
+        *self.lines.allocator()
     }
 
-    /// Counts an item; where it doesn't agree, its name is printed.
+    /// Counts an item, and keeps its name where it doesn't agree.
     pub fn count(&mut self, item: &str, agrees: bool) {
         self.items = self.items.saturating_add(1);
         if !agrees {
             self.differ = self.differ.saturating_add(1);
-            if self.printed.is_ok() {
-                self.printed = println!(self.rt; "{item} differs");
-            }
+            let _is_kept = writeln!(self.lines, "{item} differs").is_ok();
         }
     }
 
-    /// Prints the count; the error is the first one of printing.
-    pub fn print(self) -> io::Result<()> {
-        self.printed?;
+    /// Prints the names of items that differ, and the count.
+    pub fn print(&self, rt: &impl Print) -> io::Result<()> {
+        let lines = self.lines.as_str();
         let items = self.items;
         let differ = self.differ;
-        println!(self.rt; "{items} items, {differ} differ")
+        println!(rt; "{lines}{items} items, {differ} differ")
     }
 }

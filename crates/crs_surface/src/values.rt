@@ -1,8 +1,9 @@
 //! Values.
-use crate::made::{Claim, is_made, is_refused_at};
+use crate::made::{is_refused_at, is_so};
 use crate::tally::Tally;
 use crate::texts::Texts;
 use crate::written::{Text, Written};
+use crs_suite::{AboutCrs, about_crs};
 use crs_text::{Fault, Items, read_items};
 use crs_value::{Crs, Direction, Kind, Level, SystemType, read, value_of};
 use std::alloc::Global;
@@ -23,7 +24,7 @@ const TEXTS: [&str; 12] = [
     "bare_usage",
 ];
 
-pub fn check(alloc: Global, tally: &mut Tally<'_>, texts: Texts<'_>) {
+pub fn check(alloc: Global, tally: &mut Tally, texts: Texts<'_>) {
     tally.count("crs_value::read", is_read(alloc));
     tally.count("crs_value::value_of", has_value(alloc, texts));
     tally.count("crs_value::Kind", has_kinds(alloc, texts));
@@ -31,13 +32,13 @@ pub fn check(alloc: Global, tally: &mut Tally<'_>, texts: Texts<'_>) {
     check_texts(alloc, tally, texts)
 }
 
-fn check_words(tally: &mut Tally<'_>) {
+fn check_words(tally: &mut Tally) {
     tally.count("crs_value::Level", has_levels());
     tally.count("crs_value::SystemType", has_types());
     tally.count("crs_value::Direction", has_directions());
 }
 
-fn check_texts(alloc: Global, tally: &mut Tally<'_>, texts: Texts<'_>) {
+fn check_texts(alloc: Global, tally: &mut Tally, texts: Texts<'_>) {
     for name in TEXTS {
         let agrees = is_written(alloc, texts.named(name));
         tally.count(name, agrees);
@@ -50,17 +51,16 @@ fn is_read(alloc: Global) -> bool {
 }
 
 fn has_value(alloc: Global, texts: Texts<'_>) -> bool {
-    let read = read_items(alloc, texts.named("height"));
-    is_made(alloc, read, HasVertical)
+    match read_items(alloc, texts.named("height")) {
+        Ok(items) => is_vertical(alloc, &items),
+        Err(_fault) => false,
+    }
 }
 
-// The value of items is vertical.
-#[derive(Clone, Copy)]
-struct HasVertical;
-
-impl<'a> Claim<Items<'a>> for HasVertical {
-    fn holds(self, alloc: Global, items: &Items<'a>) -> bool {
-        is_made(alloc, value_of(alloc, items), IsOf { kind: "vertical" })
+fn is_vertical(alloc: Global, items: &Items<'_>) -> bool {
+    match value_of(alloc, items) {
+        Ok(crs) => is_kind(crs.kind(), "vertical"),
+        Err(_fault) => false,
     }
 }
 
@@ -72,7 +72,7 @@ fn has_kinds(alloc: Global, texts: Texts<'_>) -> bool {
 }
 
 fn has_kind(alloc: Global, text: &[u8], kind: &str) -> bool {
-    is_made(alloc, read(alloc, text), IsOf { kind })
+    is_so(&about_crs(alloc, text, IsOf { kind }))
 }
 
 // A CRS is of a kind.
@@ -81,8 +81,10 @@ struct IsOf<'k> {
     kind: &'k str,
 }
 
-impl<'a> Claim<Crs<'a>> for IsOf<'_> {
-    fn holds(self, _alloc: Global, crs: &Crs<'a>) -> bool {
+impl AboutCrs for IsOf<'_> {
+    type Answer = bool;
+
+    fn answer(self, _alloc: Global, crs: &Crs<'_>) -> bool {
         is_kind(crs.kind(), self.kind)
     }
 }
@@ -153,7 +155,7 @@ fn is_compass(direction: Direction) -> bool {
 }
 
 fn is_written(alloc: Global, text: &[u8]) -> bool {
-    is_made(alloc, read(alloc, text), IsWritten { text })
+    is_so(&about_crs(alloc, text, IsWritten { text }))
 }
 
 // A CRS is written as a text.
@@ -162,8 +164,10 @@ struct IsWritten<'t> {
     text: &'t [u8],
 }
 
-impl<'a> Claim<Crs<'a>> for IsWritten<'_> {
-    fn holds(self, alloc: Global, crs: &Crs<'a>) -> bool {
+impl AboutCrs for IsWritten<'_> {
+    type Answer = bool;
+
+    fn answer(self, alloc: Global, crs: &Crs<'_>) -> bool {
         is_text_of(alloc, crs, self.text)
     }
 }

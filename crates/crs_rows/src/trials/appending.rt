@@ -1,10 +1,10 @@
 //! Calls that append to a vector.
-use crate::trials::attempts::{Attempt, try_with};
+use crate::trials::attempts::attempted;
 use crs_canon::{Canonical, Set};
 use crs_decimal::Decimal;
 use crs_same::{Path, first_part};
-use crs_suite::{Pair, ReadCrs, Trial, made_of_both, put_text, run_trial, unusable};
-use crs_value::{Axis, Crs, Ident, Level, Tail, Vertical, read};
+use crs_suite::{AboutBoth, AboutCrs, Trial, about_both, about_crs, put_text, run_trial, unusable};
+use crs_value::{Axis, Crs, Ident, Level, Tail, Vertical};
 use std::alloc::{AllocError, Global};
 use std::io;
 
@@ -95,16 +95,19 @@ pub fn try_path<'a>(
     first: &'a [u8],
     second: &'a [u8],
 ) -> io::Result<()> {
-    let pair = made_of_both(rt.alloc(), ReadCrs, first, second);
-    try_with(rt, pair, FirstPath)
+    attempted(about_both(rt.alloc(), first, second, FirstPath { rt }))
 }
 
-#[derive(Clone, Copy)]
-struct FirstPath;
+#[derive(Drop)]
+struct FirstPath<'r, R> {
+    rt: &'r R,
+}
 
-impl<'t> Attempt<Pair<Crs<'t>>> for FirstPath {
-    fn make<R: Print + AllocGlobal>(self, rt: &R, pair: &Pair<Crs<'t>>) -> io::Result<()> {
-        try_found(rt, first_part(&pair.first, &pair.second, Level::Full))
+impl<R: Print + AllocGlobal> AboutBoth for FirstPath<'_, R> {
+    type Answer = io::Result<()>;
+
+    fn answer<'t>(self, _alloc: Global, first: &Crs<'t>, second: &Crs<'t>) -> io::Result<()> {
+        try_found(self.rt, first_part(first, second, Level::Full))
     }
 }
 
@@ -118,22 +121,25 @@ fn try_found(rt: &(impl Print + AllocGlobal), found: Option<Path>) -> io::Result
 /// `Canonical::write` of the CRS that a text spells, `crs`, or of a part of a vertical one: its first `axis` and the
 /// `unit` of that, its `frame`, its first `usage` or `identifier`; `Set::write` of its `identifiers`.
 pub fn try_part(rt: &(impl Print + AllocGlobal), word: &str, text: &[u8]) -> io::Result<()> {
-    try_with(rt, read(rt.alloc(), text), PartOf { word })
+    attempted(about_crs(rt.alloc(), text, PartOf { rt, word }))
 }
 
 // A part that a word names.
-#[derive(Clone, Copy)]
-struct PartOf<'w> {
+#[derive(Drop)]
+struct PartOf<'r, 'w, R> {
+    rt: &'r R,
     word: &'w str,
 }
 
-impl<'t> Attempt<Crs<'t>> for PartOf<'_> {
-    fn make<R: Print + AllocGlobal>(self, rt: &R, crs: &Crs<'t>) -> io::Result<()> {
+impl<R: Print + AllocGlobal> AboutCrs for PartOf<'_, '_, R> {
+    type Answer = io::Result<()>;
+
+    fn answer(self, _alloc: Global, crs: &Crs<'_>) -> io::Result<()> {
         if self.word == "crs" {
-            return try_node(rt, crs);
+            return try_node(self.rt, crs);
         }
         match crs {
-            Crs::Vertical(vertical) => try_part_of(rt, self.word, vertical),
+            Crs::Vertical(vertical) => try_part_of(self.rt, self.word, vertical),
             Crs::Geodetic(_) | Crs::Projected(_) | Crs::Compound(_) => Err(unusable()),
         }
     }

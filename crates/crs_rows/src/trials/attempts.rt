@@ -1,6 +1,4 @@
-//! Calls that only read what they are handed, and calls that are handed a value which another call makes first. The
-//! functions here alone own such a value or its answer, whose types they don't know: a function that owns a CRS is slow
-//! to prove.
+//! Calls that only read what they are handed, and calls that are handed a value which another call makes first.
 use crs_suite::{Trial, run_trial, unusable};
 use crs_text::Fault;
 use std::alloc::{AllocError, Global};
@@ -46,21 +44,18 @@ pub fn run_reading<C: Call + Copy>(rt: &(impl Print + AllocGlobal), call: C) -> 
     run_trial(rt, &mut Reading { call })
 }
 
-/// A call that is handed a value.
-pub trait Attempt<T> {
-    /// Makes the call.
-    fn make<R: Print + AllocGlobal>(self, rt: &R, value: &T) -> io::Result<()>;
+/// What a call that is handed a value came to; the error is a value that couldn't be made, too.
+pub fn attempted(made: Result<io::Result<()>, Fault>) -> io::Result<()> {
+    match made {
+        Ok(called) => called,
+        Err(fault) => Err(unmade(fault)),
+    }
 }
 
-/// Makes the call that is handed a value; the error is a value that couldn't be made.
-pub fn try_with<T: Drop, A: Attempt<T> + Copy>(
-    rt: &(impl Print + AllocGlobal),
-    made: Result<T, Fault>,
-    attempt: A,
-) -> io::Result<()> {
-    match made {
-        Ok(value) => attempt.make(rt, &value),
-        Err(Fault::Refused(_)) => Err(unusable()),
-        Err(Fault::Memory(error)) => Err(io::Error::from(error)),
+/// A value couldn't be made.
+pub fn unmade(fault: Fault) -> io::Error {
+    match fault {
+        Fault::Refused(_) => unusable(),
+        Fault::Memory(error) => io::Error::from(error),
     }
 }

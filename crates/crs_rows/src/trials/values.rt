@@ -1,45 +1,32 @@
 //! Calls that make the value of a text, or its canonical text, and that compare values.
-use crate::sameness::paths_text;
+use crate::canonical::put_spelling;
+use crate::sameness::{Told, differing};
 use crate::texts::{answered, put_refusal};
-use crate::trials::attempts::{Attempt, Call, run_reading, try_with};
+use crate::trials::attempts::{Call, attempted, run_reading, unmade};
 use crate::values::kind_word;
 use crs_canon::{Canon, canon, canon_of};
-use crs_same::differences;
-use crs_suite::{Pair, ReadCrs, made_of_both, put_text};
+use crs_suite::{AboutBoth, AboutCrs, about_both, about_crs, put_text};
 use crs_text::{Items, Refusal, read_items};
 use crs_value::{Crs, Level, read, value_of};
 use std::alloc::{AllocError, Global};
 use std::io;
 
-// `read` of a text.
+// The value of a text, or of items.
 #[derive(Clone, Copy)]
-struct ReadCall<'t> {
-    text: &'t [u8],
+enum ValueCall<'i, 't> {
+    Read(&'t [u8]),
+    ValueOf(&'i Items<'t>),
 }
 
-impl<'t> Call for ReadCall<'t> {
+impl<'t> Call for ValueCall<'_, 't> {
     type Answer = Result<Crs<'t>, Refusal>;
 
     fn make(self, alloc: Global) -> Result<Self::Answer, AllocError> {
-        answered(read(alloc, self.text))
-    }
-
-    fn put_answer(self, out: &mut String, answer: &Self::Answer) -> Result<(), AllocError> {
-        put_value(out, answer)
-    }
-}
-
-// `value_of` of items.
-#[derive(Clone, Copy)]
-struct ValueOfCall<'i, 't> {
-    items: &'i Items<'t>,
-}
-
-impl<'t> Call for ValueOfCall<'_, 't> {
-    type Answer = Result<Crs<'t>, Refusal>;
-
-    fn make(self, alloc: Global) -> Result<Self::Answer, AllocError> {
-        answered(value_of(alloc, self.items))
+        let value = match self {
+            ValueCall::Read(text) => read(alloc, text),
+            ValueCall::ValueOf(items) => value_of(alloc, items),
+        };
+        answered(value)
     }
 
     fn put_answer(self, out: &mut String, answer: &Self::Answer) -> Result<(), AllocError> {
@@ -106,22 +93,18 @@ impl Call for CanonOfCall<'_, '_> {
     }
 }
 
-fn put_spelling(out: &mut String, text: &Canon) -> Result<(), AllocError> {
-    out.push_str("text ")?;
-    put_text(out, text.bytes())
-}
-
 // `differences` between two CRSs. The answer is the paths of the parts that differ, which take memory too.
 #[derive(Clone, Copy)]
 struct DifferencesCall<'v, 't> {
-    pair: &'v Pair<Crs<'t>>,
+    first: &'v Crs<'t>,
+    second: &'v Crs<'t>,
 }
 
 impl Call for DifferencesCall<'_, '_> {
     type Answer = Vec<u8>;
 
     fn make(self, alloc: Global) -> Result<Self::Answer, AllocError> {
-        paths_between(alloc, self.pair)
+        differing(alloc, Level::Full, Told::Paths, self.first, self.second)
     }
 
     fn put_answer(self, out: &mut String, answer: &Self::Answer) -> Result<(), AllocError> {
@@ -129,28 +112,22 @@ impl Call for DifferencesCall<'_, '_> {
     }
 }
 
-fn paths_between(alloc: Global, pair: &Pair<Crs<'_>>) -> Result<Vec<u8>, AllocError> {
-    let found = differences(alloc, &pair.first, &pair.second, Level::Full)?;
-    paths_text(alloc, &found)
-}
-
 /// `read` of a text.
 pub fn try_read(rt: &(impl Print + AllocGlobal), text: &[u8]) -> io::Result<()> {
-    run_reading(rt, ReadCall { text })
+    try_value(rt, ValueCall::Read(text))
 }
 
 /// `value_of` of the items of a text.
 pub fn try_value_of(rt: &(impl Print + AllocGlobal), text: &[u8]) -> io::Result<()> {
-    try_with(rt, read_items(rt.alloc(), text), WithItems)
+    match read_items(rt.alloc(), text) {
+        Ok(items) => try_value(rt, ValueCall::ValueOf(&items)),
+        Err(fault) => Err(unmade(fault)),
+    }
 }
 
-#[derive(Clone, Copy)]
-struct WithItems;
-
-impl<'t> Attempt<Items<'t>> for WithItems {
-    fn make<R: Print + AllocGlobal>(self, rt: &R, items: &Items<'t>) -> io::Result<()> {
-        run_reading(rt, ValueOfCall { items })
-    }
+// The one call with an answer that owns a CRS: each such call of a generic function is slow to prove.
+fn try_value(rt: &(impl Print + AllocGlobal), call: ValueCall<'_, '_>) -> io::Result<()> {
+    run_reading(rt, call)
 }
 
 /// `canon` of a text.
@@ -160,15 +137,19 @@ pub fn try_canon(rt: &(impl Print + AllocGlobal), text: &[u8]) -> io::Result<()>
 
 /// `canon_of` the CRS that a text spells.
 pub fn try_canon_of(rt: &(impl Print + AllocGlobal), text: &[u8]) -> io::Result<()> {
-    try_with(rt, read(rt.alloc(), text), WithCrs)
+    attempted(about_crs(rt.alloc(), text, WithCrs { rt }))
 }
 
-#[derive(Clone, Copy)]
-struct WithCrs;
+#[derive(Drop)]
+struct WithCrs<'r, R> {
+    rt: &'r R,
+}
 
-impl<'t> Attempt<Crs<'t>> for WithCrs {
-    fn make<R: Print + AllocGlobal>(self, rt: &R, crs: &Crs<'t>) -> io::Result<()> {
-        run_reading(rt, CanonOfCall { crs })
+impl<R: Print + AllocGlobal> AboutCrs for WithCrs<'_, R> {
+    type Answer = io::Result<()>;
+
+    fn answer(self, _alloc: Global, crs: &Crs<'_>) -> io::Result<()> {
+        run_reading(self.rt, CanonOfCall { crs })
     }
 }
 
@@ -178,15 +159,18 @@ pub fn try_differences<'t>(
     first: &'t [u8],
     second: &'t [u8],
 ) -> io::Result<()> {
-    let pair = made_of_both(rt.alloc(), ReadCrs, first, second);
-    try_with(rt, pair, WithPair)
+    attempted(about_both(rt.alloc(), first, second, WithBoth { rt }))
 }
 
-#[derive(Clone, Copy)]
-struct WithPair;
+#[derive(Drop)]
+struct WithBoth<'r, R> {
+    rt: &'r R,
+}
 
-impl<'t> Attempt<Pair<Crs<'t>>> for WithPair {
-    fn make<R: Print + AllocGlobal>(self, rt: &R, pair: &Pair<Crs<'t>>) -> io::Result<()> {
-        run_reading(rt, DifferencesCall { pair })
+impl<R: Print + AllocGlobal> AboutBoth for WithBoth<'_, R> {
+    type Answer = io::Result<()>;
+
+    fn answer<'t>(self, _alloc: Global, first: &Crs<'t>, second: &Crs<'t>) -> io::Result<()> {
+        run_reading(self.rt, DifferencesCall { first, second })
     }
 }

@@ -27,9 +27,15 @@ fn ellipsoid_in<'c, 'a>(frame: &'c Frame<'a>) -> Option<&'c Ellipsoid<'a>> {
 
 /// The inverse flattening of a text's ellipsoid with all its digits; None for a vertical CRS.
 pub fn flattening_of(alloc: Global, text: &[u8]) -> Result<Option<String>, Fault> {
-    let crs = read(alloc, text)?;
-    match ellipsoid_of(&crs) {
-        Some(ellipsoid) => digits_of(alloc, &ellipsoid.inverse_flattening).map_err(Fault::Memory),
+    match read(alloc, text) {
+        Ok(crs) => flattening_in(alloc, &crs).map_err(Fault::Memory),
+        Err(fault) => Err(fault),
+    }
+}
+
+fn flattening_in(alloc: Global, crs: &Crs<'_>) -> Result<Option<String>, AllocError> {
+    match ellipsoid_of(crs) {
+        Some(ellipsoid) => digits_of(alloc, &ellipsoid.inverse_flattening),
         None => Ok(None),
     }
 }

@@ -6,7 +6,7 @@ use crs_value::{
     Method, Parameter, Projected, Usage, Vertical,
 };
 
-pub fn walk_projected(tally: &mut Tally<'_>, crs: &Projected<'_>) {
+pub fn walk_projected(tally: &mut Tally, crs: &Projected<'_>) {
     check_node(
         tally,
         "crs_same::parts::same_projected",
@@ -17,7 +17,7 @@ pub fn walk_projected(tally: &mut Tally<'_>, crs: &Projected<'_>) {
     walk_conversion(tally, &crs.conversion);
 }
 
-fn walk_base(tally: &mut Tally<'_>, base: &Base<'_>) {
+fn walk_base(tally: &mut Tally, base: &Base<'_>) {
     check_node(
         tally,
         "crs_same::parts::same_base",
@@ -33,7 +33,7 @@ fn walk_base(tally: &mut Tally<'_>, base: &Base<'_>) {
     walk_frame(tally, &base.frame);
 }
 
-fn walk_frame(tally: &mut Tally<'_>, frame: &Frame<'_>) {
+fn walk_frame(tally: &mut Tally, frame: &Frame<'_>) {
     check_node(
         tally,
         "crs_same::parts::same_frame",
@@ -46,7 +46,7 @@ fn walk_frame(tally: &mut Tally<'_>, frame: &Frame<'_>) {
     }
 }
 
-fn walk_datum(tally: &mut Tally<'_>, datum: &Datum<'_>) {
+fn walk_datum(tally: &mut Tally, datum: &Datum<'_>) {
     check_node(
         tally,
         "crs_same::parts::same_datum",
@@ -61,7 +61,7 @@ fn walk_datum(tally: &mut Tally<'_>, datum: &Datum<'_>) {
     );
 }
 
-fn walk_conversion(tally: &mut Tally<'_>, conversion: &Conversion<'_>) {
+fn walk_conversion(tally: &mut Tally, conversion: &Conversion<'_>) {
     check_node(
         tally,
         "crs_same::parts::same_conversion",
@@ -74,7 +74,7 @@ fn walk_conversion(tally: &mut Tally<'_>, conversion: &Conversion<'_>) {
     }
 }
 
-fn walk_method(tally: &mut Tally<'_>, method: &Method<'_>) {
+fn walk_method(tally: &mut Tally, method: &Method<'_>) {
     check_node(
         tally,
         "crs_same::parts::same_method",
@@ -89,7 +89,7 @@ fn walk_method(tally: &mut Tally<'_>, method: &Method<'_>) {
     );
 }
 
-fn walk_parameter(tally: &mut Tally<'_>, parameter: &Parameter<'_>) {
+fn walk_parameter(tally: &mut Tally, parameter: &Parameter<'_>) {
     check_node(
         tally,
         "crs_same::parts::same_parameter",
@@ -104,13 +104,13 @@ fn walk_parameter(tally: &mut Tally<'_>, parameter: &Parameter<'_>) {
     );
 }
 
-pub fn walk_polar(tally: &mut Tally<'_>, crs: &Projected<'_>) {
+pub fn walk_polar(tally: &mut Tally, crs: &Projected<'_>) {
     if let [axis, ..] = crs.system.axes.as_slice() {
         walk_axis(tally, axis);
     }
 }
 
-fn walk_axis(tally: &mut Tally<'_>, axis: &Axis<'_>) {
+fn walk_axis(tally: &mut Tally, axis: &Axis<'_>) {
     check_node(
         tally,
         "crs_same::parts::same_axis",
@@ -125,7 +125,7 @@ fn walk_axis(tally: &mut Tally<'_>, axis: &Axis<'_>) {
     );
 }
 
-pub fn walk_geodetic(tally: &mut Tally<'_>, crs: &Geodetic<'_>) {
+pub fn walk_geodetic(tally: &mut Tally, crs: &Geodetic<'_>) {
     check_node(
         tally,
         "crs_same::parts::same_geodetic",
@@ -138,7 +138,7 @@ pub fn walk_geodetic(tally: &mut Tally<'_>, crs: &Geodetic<'_>) {
     walk_frame_of_members(tally, &crs.frame);
 }
 
-fn walk_usage(tally: &mut Tally<'_>, usage: &Usage<'_>) {
+fn walk_usage(tally: &mut Tally, usage: &Usage<'_>) {
     check_node(
         tally,
         "crs_same::parts::same_usage",
@@ -153,14 +153,14 @@ fn walk_usage(tally: &mut Tally<'_>, usage: &Usage<'_>) {
     );
 }
 
-fn walk_frame_of_members(tally: &mut Tally<'_>, frame: &Frame<'_>) {
+fn walk_frame_of_members(tally: &mut Tally, frame: &Frame<'_>) {
     match frame {
         Frame::Datum(_) => {}
         Frame::Ensemble(ensemble) => walk_ensemble(tally, ensemble),
     }
 }
 
-fn walk_ensemble(tally: &mut Tally<'_>, ensemble: &Ensemble<'_>) {
+fn walk_ensemble(tally: &mut Tally, ensemble: &Ensemble<'_>) {
     check_node(
         tally,
         "crs_same::parts::same_ensemble",
@@ -175,7 +175,7 @@ fn walk_ensemble(tally: &mut Tally<'_>, ensemble: &Ensemble<'_>) {
     );
 }
 
-pub fn walk_compound(tally: &mut Tally<'_>, crs: &Compound<'_>) {
+pub fn walk_compound(tally: &mut Tally, crs: &Compound<'_>) {
     check_node(
         tally,
         "crs_same::parts::same_compound",
@@ -186,7 +186,7 @@ pub fn walk_compound(tally: &mut Tally<'_>, crs: &Compound<'_>) {
     walk_height(tally, &crs.vertical);
 }
 
-fn walk_horizontal(tally: &mut Tally<'_>, crs: &Horizontal<'_>) {
+fn walk_horizontal(tally: &mut Tally, crs: &Horizontal<'_>) {
     check_node(
         tally,
         "crs_same::parts::same_horizontal",
@@ -195,7 +195,7 @@ fn walk_horizontal(tally: &mut Tally<'_>, crs: &Horizontal<'_>) {
     );
 }
 
-fn walk_height(tally: &mut Tally<'_>, crs: &Vertical<'_>) {
+fn walk_height(tally: &mut Tally, crs: &Vertical<'_>) {
     check_node(
         tally,
         "crs_same::parts::same_vertical",
@@ -210,7 +210,7 @@ fn walk_height(tally: &mut Tally<'_>, crs: &Vertical<'_>) {
     );
 }
 
-pub fn walk_vertical(tally: &mut Tally<'_>, crs: &Vertical<'_>) {
+pub fn walk_vertical(tally: &mut Tally, crs: &Vertical<'_>) {
     if let Some(dynamic) = &crs.dynamic {
         walk_dynamic(tally, dynamic);
     }
@@ -219,7 +219,7 @@ pub fn walk_vertical(tally: &mut Tally<'_>, crs: &Vertical<'_>) {
     }
 }
 
-fn walk_dynamic(tally: &mut Tally<'_>, dynamic: &Dynamic<'_>) {
+fn walk_dynamic(tally: &mut Tally, dynamic: &Dynamic<'_>) {
     check_node(
         tally,
         "crs_same::parts::same_dynamic",
@@ -234,7 +234,7 @@ fn walk_dynamic(tally: &mut Tally<'_>, dynamic: &Dynamic<'_>) {
     );
 }
 
-fn walk_extent(tally: &mut Tally<'_>, usage: &Usage<'_>) {
+fn walk_extent(tally: &mut Tally, usage: &Usage<'_>) {
     check_optional(
         tally,
         "crs_same::parts::same_extent",

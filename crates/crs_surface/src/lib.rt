@@ -1,7 +1,6 @@
 //! Every item that the specified surface has, called by its specified path with a text whose answer is known: an item
 //! that is moved, renamed or changed no longer compiles, or its name is printed. Values are taken apart by patterns
-//! with all their fields and variants. The last line counts the items; before it stands what the examples of
-//! `docs/CALLING.md` answer for the lines of standard input.
+//! with all their fields and variants. The examples of `docs/CALLING.md` are here too.
 #![tactic(auto)]
 
 mod bounds;
@@ -24,30 +23,32 @@ mod texts;
 mod values;
 mod written;
 
+pub use examples::print_all as print_examples;
 use std::alloc::Global;
+use std::rt::Files;
 use std::{fs, io};
 use tally::Tally;
 use texts::Texts;
 
-fn main(rt: HostRuntime) -> io::Result<()> {
-    examples::print_all(&rt)?;
-    let lines = fs::read_to_string(&rt, "texts.lines")?;
-    let catalogue = fs::read(&rt, "catalogue.lines")?;
-    let answer = fs::read(&rt, "groups.lines")?;
-    let mut tally = Tally::new(&rt);
+/// Calls every item, and prints the names of those that answer otherwise than they must, and a count.
+pub fn check_all(rt: &(impl Files + Print + AllocGlobal)) -> io::Result<()> {
+    let lines = fs::read_to_string(rt, "texts.lines")?;
+    let catalogue = fs::read(rt, "catalogue.lines")?;
+    let answer = fs::read(rt, "groups.lines")?;
+    let mut tally = Tally::new(rt.alloc());
     check(rt.alloc(), &mut tally, Texts::new(lines.as_str()));
     runs::check(rt.alloc(), &mut tally, &catalogue, &answer);
-    tally.print()
+    tally.print(rt)
 }
 
-fn check(alloc: Global, tally: &mut Tally<'_>, texts: Texts<'_>) {
+fn check(alloc: Global, tally: &mut Tally, texts: Texts<'_>) {
     check_reading(alloc, tally, texts);
     check_values(alloc, tally, texts);
     catalogues::check(alloc, tally, texts);
     desk::check(alloc, tally, texts);
 }
 
-fn check_reading(alloc: Global, tally: &mut Tally<'_>, texts: Texts<'_>) {
+fn check_reading(alloc: Global, tally: &mut Tally, texts: Texts<'_>) {
     decimals::check(alloc, tally);
     refusals::check(alloc, tally);
     items::check(alloc, tally, texts);
@@ -55,7 +56,7 @@ fn check_reading(alloc: Global, tally: &mut Tally<'_>, texts: Texts<'_>) {
     shapes::check(alloc, tally, texts);
 }
 
-fn check_values(alloc: Global, tally: &mut Tally<'_>, texts: Texts<'_>) {
+fn check_values(alloc: Global, tally: &mut Tally, texts: Texts<'_>) {
     values::check(alloc, tally, texts);
     sameness::check(alloc, tally, texts);
     nodes::check(alloc, tally, texts);
