@@ -9,51 +9,23 @@ use std::alloc::{AllocError, Global};
 /// Whether two texts spell the same CRS; the second isn't read where the first is refused.
 #[inline(never)]
 pub fn matched<'t>(alloc: Global, text: &'t [u8], next: &'t [u8]) -> Result<Outcome, AllocError> {
-    matched_by(alloc, ReadCrs, text, next)
-}
-
-// What is read of texts, and may be the same.
-trait Alike<'t, T> {
-    fn read(self, alloc: Global, text: &'t [u8]) -> Result<T, Fault>;
-
-    fn is_same(self, first: &T, second: &T) -> bool;
-}
-
-#[derive(Clone, Copy)]
-struct ReadCrs;
-
-impl<'t> Alike<'t, Crs<'t>> for ReadCrs {
-    fn read(self, alloc: Global, text: &'t [u8]) -> Result<Crs<'t>, Fault> {
-        read(alloc, text)
-    }
-
-    fn is_same(self, first: &Crs<'t>, second: &Crs<'t>) -> bool {
-        same(first, second, Level::Full)
+    match read(alloc, text) {
+        Ok(first) => matched_with(alloc, &first, next),
+        Err(fault) => unread(fault),
     }
 }
 
-// It alone owns two values, whose type it doesn't know.
-fn matched_by<'t, T: Drop, A: Alike<'t, T> + Copy>(
-    alloc: Global,
-    alike: A,
-    text: &'t [u8],
-    next: &'t [u8],
-) -> Result<Outcome, AllocError> {
-    match alike.read(alloc, text) {
-        Ok(first) => with_second(alike, &first, alike.read(alloc, next)),
-        Err(Fault::Refused(_)) => Ok(Outcome::Refused),
-        Err(Fault::Memory(error)) => Err(error),
+// A function that owns two CRSs is slow to prove: the first is lent to one that owns the second.
+fn matched_with<'t>(alloc: Global, first: &Crs<'t>, next: &'t [u8]) -> Result<Outcome, AllocError> {
+    match read(alloc, next) {
+        Ok(second) => Ok(Outcome::Accepted(usize::from(same(first, &second, Level::Full)))),
+        Err(fault) => unread(fault),
     }
 }
 
-fn with_second<'t, T: Drop, A: Alike<'t, T> + Copy>(
-    alike: A,
-    first: &T,
-    answer: Result<T, Fault>,
-) -> Result<Outcome, AllocError> {
-    match answer {
-        Ok(second) => Ok(Outcome::Accepted(usize::from(alike.is_same(first, &second)))),
-        Err(Fault::Refused(_)) => Ok(Outcome::Refused),
-        Err(Fault::Memory(error)) => Err(error),
+fn unread(fault: Fault) -> Result<Outcome, AllocError> {
+    match fault {
+        Fault::Refused(_) => Ok(Outcome::Refused),
+        Fault::Memory(error) => Err(error),
     }
 }

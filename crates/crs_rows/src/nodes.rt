@@ -69,13 +69,10 @@ impl AboutCrs for Appended<'_> {
     type Answer = Result<(), AllocError>;
 
     fn answer(self, alloc: Global, crs: &Crs<'_>) -> Result<(), AllocError> {
+        let Appended { out, part, level } = self;
         match crs {
-            Crs::Vertical(vertical) => {
-                put_part_of(self.out, alloc, self.level, self.part, vertical)
-            }
-            Crs::Geodetic(_) | Crs::Projected(_) | Crs::Compound(_) => {
-                self.out.push_str(self.part.absent())
-            }
+            Crs::Vertical(vertical) => put_part_of(out, alloc, level, part, vertical),
+            Crs::Geodetic(_) | Crs::Projected(_) | Crs::Compound(_) => out.push_str(part.absent()),
         }
     }
 }

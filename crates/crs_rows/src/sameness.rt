@@ -57,13 +57,19 @@ impl AboutBoth for Compared<'_> {
         first: &Crs<'t>,
         second: &Crs<'t>,
     ) -> Result<(), AllocError> {
-        let told = match self.comparison {
-            Comparison::Same => return put_same(self.out, alloc, self.level, first, second),
-            Comparison::Axes => return self.out.push_str(axes_of(first, second, self.level)),
-            Comparison::Differences => Told::Paths,
-            Comparison::Values => Told::Values,
-        };
-        put_differences(self.out, alloc, self.level, told, first, second)
+        let Compared {
+            out,
+            comparison,
+            level,
+        } = self;
+        match comparison {
+            Comparison::Same => put_same(out, alloc, level, first, second),
+            Comparison::Axes => out.push_str(axes_of(first, second, level)),
+            Comparison::Differences => {
+                put_differences(out, alloc, level, Told::Paths, first, second)
+            }
+            Comparison::Values => put_differences(out, alloc, level, Told::Values, first, second),
+        }
     }
 }
 

@@ -23,12 +23,28 @@ pub trait Trial {
 /// `memory`, out of memory, a line `kept` says whether all that the call was handed is as it was before, `yes` or `no`,
 /// and a line `again` has the answer of the same call made once more.
 pub fn run_trial<T: Trial>(rt: &(impl Print + AllocGlobal), trial: &mut T) -> io::Result<()> {
-    io::writer(rt).write_all(b"call\n")?;
+    begin_call(rt)?;
     let called = trial.call(rt.alloc());
-    io::writer(rt).write_all(b"answered\n")?;
+    end_call(rt)?;
     let mut text = String::new(rt.alloc());
     put_called(&mut text, rt.alloc(), trial, called)?;
     print!(rt; "{text}")
+}
+
+/// Writes `call`. A call that is handed a CRS is made by itself between this and `end_call`: a trial whose type has one is
+/// slow to prove.
+pub fn begin_call(rt: &impl Print) -> io::Result<()> {
+    io::writer(rt).write_all(b"call\n")
+}
+
+/// Writes `answered`.
+pub fn end_call(rt: &impl Print) -> io::Result<()> {
+    io::writer(rt).write_all(b"answered\n")
+}
+
+/// Writes that memory ran out, and that a call that only reads left all as it was.
+pub fn print_kept(rt: &impl Print) -> io::Result<()> {
+    io::writer(rt).write_all(b"answer memory\nkept yes\n")
 }
 
 fn put_called<T: Trial>(

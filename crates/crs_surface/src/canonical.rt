@@ -107,14 +107,10 @@ impl AboutCrs for SetOfCodes<'_, '_> {
     type Answer = bool;
 
     fn answer(self, alloc: Global, crs: &Crs<'_>) -> bool {
+        let SetOfCodes { tally, text } = self;
         match crs {
             Crs::Vertical(crs) => {
-                count_set(
-                    alloc,
-                    self.tally,
-                    self.text,
-                    crs.tail.identifiers.as_slice(),
-                );
+                count_set(alloc, tally, text, crs.tail.identifiers.as_slice());
                 true
             }
             Crs::Geodetic(_) | Crs::Projected(_) | Crs::Compound(_) => false,

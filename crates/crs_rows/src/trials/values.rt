@@ -5,7 +5,9 @@ use crate::texts::{answered, put_refusal};
 use crate::trials::attempts::{Call, attempted, run_reading, unmade};
 use crate::values::kind_word;
 use crs_canon::{Canon, canon, canon_of};
-use crs_suite::{AboutBoth, AboutCrs, about_both, about_crs, put_text};
+use crs_suite::{
+    AboutBoth, AboutCrs, about_both, about_crs, begin_call, end_call, print_kept, put_text,
+};
 use crs_text::{Items, Refusal, read_items};
 use crs_value::{Crs, Level, read, value_of};
 use std::alloc::{AllocError, Global};
@@ -75,43 +77,6 @@ impl Call for CanonCall<'_> {
     }
 }
 
-// `canon_of` a CRS.
-#[derive(Clone, Copy)]
-struct CanonOfCall<'v, 't> {
-    crs: &'v Crs<'t>,
-}
-
-impl Call for CanonOfCall<'_, '_> {
-    type Answer = Canon;
-
-    fn make(self, alloc: Global) -> Result<Canon, AllocError> {
-        canon_of(alloc, self.crs, Level::Full)
-    }
-
-    fn put_answer(self, out: &mut String, answer: &Canon) -> Result<(), AllocError> {
-        put_spelling(out, answer)
-    }
-}
-
-// `differences` between two CRSs. The answer is the paths of the parts that differ, which take memory too.
-#[derive(Clone, Copy)]
-struct DifferencesCall<'v, 't> {
-    first: &'v Crs<'t>,
-    second: &'v Crs<'t>,
-}
-
-impl Call for DifferencesCall<'_, '_> {
-    type Answer = Vec<u8>;
-
-    fn make(self, alloc: Global) -> Result<Self::Answer, AllocError> {
-        differing(alloc, Level::Full, Told::Paths, self.first, self.second)
-    }
-
-    fn put_answer(self, out: &mut String, answer: &Self::Answer) -> Result<(), AllocError> {
-        put_text(out, answer)
-    }
-}
-
 /// `read` of a text.
 pub fn try_read(rt: &(impl Print + AllocGlobal), text: &[u8]) -> io::Result<()> {
     try_value(rt, ValueCall::Read(text))
@@ -148,9 +113,31 @@ struct WithCrs<'r, R> {
 impl<R: Print + AllocGlobal> AboutCrs for WithCrs<'_, R> {
     type Answer = io::Result<()>;
 
-    fn answer(self, _alloc: Global, crs: &Crs<'_>) -> io::Result<()> {
-        run_reading(self.rt, CanonOfCall { crs })
+    fn answer(self, alloc: Global, crs: &Crs<'_>) -> io::Result<()> {
+        begin_call(self.rt)?;
+        let called = canon_of(alloc, crs, Level::Full);
+        end_call(self.rt)?;
+        match called {
+            Ok(text) => print_spelling(self.rt, "answer", &text),
+            Err(_) => {
+                print_kept(self.rt)?;
+                print_spelled(self.rt, canon_of(alloc, crs, Level::Full))
+            }
+        }
     }
+}
+
+fn print_spelled(
+    rt: &(impl Print + AllocGlobal),
+    again: Result<Canon, AllocError>,
+) -> io::Result<()> {
+    print_spelling(rt, "again", &again?)
+}
+
+fn print_spelling(rt: &(impl Print + AllocGlobal), word: &str, text: &Canon) -> io::Result<()> {
+    let mut told = String::new(rt.alloc());
+    put_spelling(&mut told, text)?;
+    println!(rt; "{word} {told}")
 }
 
 /// `differences` between the CRSs of two texts.
@@ -167,10 +154,27 @@ struct WithBoth<'r, R> {
     rt: &'r R,
 }
 
+// The answer is the paths of the parts that differ, which take memory too.
 impl<R: Print + AllocGlobal> AboutBoth for WithBoth<'_, R> {
     type Answer = io::Result<()>;
 
-    fn answer<'t>(self, _alloc: Global, first: &Crs<'t>, second: &Crs<'t>) -> io::Result<()> {
-        run_reading(self.rt, DifferencesCall { first, second })
+    fn answer<'t>(self, alloc: Global, first: &Crs<'t>, second: &Crs<'t>) -> io::Result<()> {
+        begin_call(self.rt)?;
+        let called = differing(alloc, Level::Full, Told::Paths, first, second);
+        end_call(self.rt)?;
+        match called {
+            Ok(paths) => print_paths(self.rt, "answer", &paths),
+            Err(_) => {
+                print_kept(self.rt)?;
+                let paths = differing(alloc, Level::Full, Told::Paths, first, second)?;
+                print_paths(self.rt, "again", &paths)
+            }
+        }
     }
+}
+
+fn print_paths(rt: &(impl Print + AllocGlobal), word: &str, paths: &[u8]) -> io::Result<()> {
+    let mut told = String::new(rt.alloc());
+    put_text(&mut told, paths)?;
+    println!(rt; "{word} {told}")
 }
