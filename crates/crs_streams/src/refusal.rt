@@ -1,4 +1,5 @@
-ghost use Rattle.std.specs.Prelude.{◌≡◌, ◌++◌, OnErr, OnOk, length, take};
+ghost use Rattle.std.specs.Prelude.{◌≡◌, ◌++◌, OnErr, OnOk};
+ghost use Rattle.std.specs.List.{flat_map};
 ghost use Rattle.crs_text.specs.Refusal.{refused_text};
 
 use crs_text::Refusal;
@@ -12,23 +13,32 @@ pub fn append_refusal(out: &mut Vec<u8>, refusal: Refusal) -> Result<(), AllocEr
     ensures ok { OnOk result (out.new.items ≡ out.old.items ++ refused_text refusal.number refusal.place) }
     ensures unchanged { OnErr result (out.new.items ≡ out.old.items) }
 {
-    let before = out.len();
-    if let Err(error) = append_parts(out, refusal) {
-        out.truncate(before);
-        return Err(error);
-    }
-    Ok(())
+    let mut number = Buffer::new();
+    let mut place = Buffer::new();
+    append_all(
+        out,
+        &[
+            b"refused ",
+            number.format(refusal.number()).as_bytes(),
+            b" ",
+            refusal.name().as_bytes(),
+            b" at ",
+            place.format(refusal.place()).as_bytes(),
+        ],
+    )
 }
 
-fn append_parts(out: &mut Vec<u8>, refusal: Refusal) -> Result<(), AllocError>
-    ensures ok { OnOk result (out.new.items ≡ out.old.items ++ refused_text refusal.number refusal.place) }
-    ensures front { take (length out.old.items) out.new.items ≡ out.old.items }
+// Appends the parts one after the other. Out of memory, nothing is appended.
+fn append_all(out: &mut Vec<u8>, parts: &[&[u8]]) -> Result<(), AllocError>
+    ensures ok { OnOk result (out.new.items ≡ out.old.items ++ flat_map (λ part. part.now) parts.now) }
+    ensures unchanged { OnErr result (out.new.items ≡ out.old.items) }
 {
-    let mut digits = Buffer::new();
-    out.extend_from_slice(b"refused ")?;
-    out.extend_from_slice(digits.format(refusal.number()).as_bytes())?;
-    out.push(b' ')?;
-    out.extend_from_slice(refusal.name().as_bytes())?;
-    out.extend_from_slice(b" at ")?;
-    out.extend_from_slice(digits.format(refusal.place()).as_bytes())
+    let before = out.len();
+    for part in parts {
+        if let Err(error) = out.extend_from_slice(part) {
+            out.truncate(before);
+            return Err(error);
+        }
+    }
+    Ok(())
 }
