@@ -13,7 +13,8 @@ ghost use Rattle.crs_command_line.specs.CommandLine.{spare_operand, with_listing
 
 use clap::error::ErrorKind;
 use clap::{Arg, ArgAction, ArgMatches, Command};
-use crs_requests::{Request, RequestFault, request_of_matches};
+use crs_line_request::request_of_matches;
+use crs_requests::{Request, RequestFault};
 use std::alloc::{AllocError, Global};
 
 /// The version that `--version` prints.

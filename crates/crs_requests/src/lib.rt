@@ -1,10 +1,10 @@
-//! What the program is asked for, read of the command line that `clap` took apart.
+//! What the program is asked for: words, requests, and those of single commands, read of the matches that `clap` gives.
 #![tactic(auto)]
 
-pub use reading::request_of_matches;
 pub use requests::{ExplainOptions, GroupFlags, Request, RequestFault, Task};
 pub use word::{LineWord, LineWords};
 
+pub mod pieces;
 mod reading;
 mod requests;
 mod word;

@@ -1,12 +1,9 @@
-//! The request of a command line, read of the matches that `clap` gives.
-ghost use Rattle.std.specs.Prelude.{◌≡◌, IfOk, IsSome, Some, false, option_and_then};
+//! The requests of single commands, read of the matches that `clap` gives.
+ghost use Rattle.std.specs.Prelude.{◌≡◌, IfOk, Some};
 ghost use Rattle.clap.specs.Words.{found_of, rows_of};
-ghost use Rattle.clap.specs.Words.{subcommand_rows_of};
 ghost use Rattle.crs_requests.specs.Requests.{canon_of, check_of, explain_of};
-ghost use Rattle.crs_requests.specs.Requests.{group_flags, group_of, has_flag, is_flagged};
-ghost use Rattle.crs_requests.specs.Requests.{command_of, explained_operands, level_of, options_of, request_of};
-ghost use Rattle.crs_requests.specs.Requests.{same_of, same_operands};
-ghost use Rattle.crs_requests.specs.Requests.{under, words_of};
+ghost use Rattle.crs_requests.specs.Requests.{explained_operands, group_flags, group_of, has_flag, is_flagged};
+ghost use Rattle.crs_requests.specs.Requests.{level_of, options_of, under, words_of};
 
 use crate::{ExplainOptions, GroupFlags, LineWord, LineWords, Request, Task};
 use clap::ArgMatches;
@@ -15,44 +12,8 @@ use std::alloc::{AllocError, Global};
 // The level where the line names none.
 const USUAL_LEVEL: &str = "full";
 
-/// The request of a command line, by its matches. `AllocError`: memory ran out. Profile.
-pub fn request_of_matches(alloc: Global, matches: &ArgMatches) -> Result<Request, AllocError>
-    requires { IsSome (option_and_then request_of (subcommand_rows_of matches.now)) }
-    ensures { IfOk result (λ found. option_and_then request_of (subcommand_rows_of matches.now) ≡ Some found) }
-{
-    match matches.subcommand() {
-        Some((name, options)) => request_named(alloc, name, options),
-        None => unreachable!(),
-    }
-}
-
-// The request of a command, by its name and its matches.
-fn request_named(alloc: Global, name: &str, options: &ArgMatches) -> Result<Request, AllocError>
-    requires { IsSome (request_of (name.now, rows_of (found_of options.now))) }
-    ensures { IfOk result (λ found. request_of (name.now, rows_of (found_of options.now)) ≡ Some found) }
-{
-    let asked = command_request(alloc, name, options)?;
-    let rules = words_named(alloc, options, "rules")?;
-    under(alloc, rules, asked)
-}
-
-// What a command asks for, but for rules.
-fn command_request(alloc: Global, name: &str, options: &ArgMatches) -> Result<Request, AllocError>
-    requires { IsSome (command_of (name.now, rows_of (found_of options.now))) }
-    ensures { IfOk result (λ found. command_of (name.now, rows_of (found_of options.now)) ≡ Some found) }
-{
-    match name {
-        "canon" => canon_request(alloc, options),
-        "check" => check_request(alloc, options),
-        "same" => same_request(alloc, options),
-        "group" => group_request(alloc, options),
-        "explain" => explain_request(alloc, options),
-        _ => unreachable!(),
-    }
-}
-
-// What is asked, under the rules of these files where there are some.
-fn under(alloc: Global, rules: LineWords, asked: Request) -> Result<Request, AllocError>
+/// What is asked, under the rules of these files where there are some. `AllocError`: memory ran out. Profile.
+pub fn under(alloc: Global, rules: LineWords, asked: Request) -> Result<Request, AllocError>
     ensures { IfOk result (λ found. found ≡ under rules asked) }
 {
     if rules.is_empty() {
@@ -61,7 +22,8 @@ fn under(alloc: Global, rules: LineWords, asked: Request) -> Result<Request, All
     asked.ruled(alloc, rules)
 }
 
-fn canon_request(alloc: Global, options: &ArgMatches) -> Result<Request, AllocError>
+/// What `canon` asks for. `AllocError`: memory ran out. Profile.
+pub fn canon_request(alloc: Global, options: &ArgMatches) -> Result<Request, AllocError>
     ensures { IfOk result (λ found. found ≡ canon_of (rows_of (found_of options.now))) }
 {
     let level = level_word(alloc, options)?;
@@ -74,7 +36,8 @@ fn canon_request(alloc: Global, options: &ArgMatches) -> Result<Request, AllocEr
     }
 }
 
-fn check_request(alloc: Global, options: &ArgMatches) -> Result<Request, AllocError>
+/// What `check` asks for. `AllocError`: memory ran out. Profile.
+pub fn check_request(alloc: Global, options: &ArgMatches) -> Result<Request, AllocError>
     ensures { IfOk result (λ found. found ≡ check_of (rows_of (found_of options.now))) }
 {
     let files = words_named(alloc, options, "file")?;
@@ -86,7 +49,8 @@ fn check_request(alloc: Global, options: &ArgMatches) -> Result<Request, AllocEr
     }
 }
 
-fn group_request(alloc: Global, options: &ArgMatches) -> Result<Request, AllocError>
+/// What `group` asks for. `AllocError`: memory ran out. Profile.
+pub fn group_request(alloc: Global, options: &ArgMatches) -> Result<Request, AllocError>
     ensures { IfOk result (λ found. found ≡ group_of (rows_of (found_of options.now))) }
 {
     let level = level_word(alloc, options)?;
@@ -116,39 +80,8 @@ fn is_flagged(flags: GroupFlags) -> bool
     flags.repeated || flags.names || flags.json
 }
 
-fn same_request(alloc: Global, operands: &ArgMatches) -> Result<Request, AllocError>
-    requires { IsSome (same_of (rows_of (found_of operands.now))) }
-    ensures { IfOk result (λ found. same_of (rows_of (found_of operands.now)) ≡ Some found) }
-{
-    match (operands.get_str("first"), operands.get_str("second")) {
-        (Some(first), Some(second)) => {
-            let level = level_word(alloc, operands)?;
-            same_pair(alloc, flag_asked(operands, "files"), level, first, second)
-        }
-        _ => unreachable!(),
-    }
-}
-
-// Two texts are compared, or two files.
-fn same_pair(
-    alloc: Global,
-    are_files: bool,
-    level: LineWord,
-    first: &str,
-    second: &str,
-) -> Result<Request, AllocError>
-    ensures { IfOk result (λ found. Some found ≡ same_operands are_files level (Some first.now) (Some second.now)) }
-{
-    if are_files {
-        let files = LineWords::of(alloc, &[first, second])?;
-        return Ok(Request::Files(Task::Same(level), files));
-    }
-    let first = LineWord::new(alloc, first)?;
-    let second = LineWord::new(alloc, second)?;
-    Ok(Request::Same(first, second, level))
-}
-
-fn explain_request(alloc: Global, operands: &ArgMatches) -> Result<Request, AllocError>
+/// What `explain` asks for. `AllocError`: memory ran out. Profile.
+pub fn explain_request(alloc: Global, operands: &ArgMatches) -> Result<Request, AllocError>
     ensures { IfOk result (λ found. found ≡ explain_of (rows_of (found_of operands.now))) }
 {
     let options = explain_options(alloc, operands)?;
@@ -207,14 +140,15 @@ fn explain_two(
     Ok(Request::ExplainPair(first, second, options))
 }
 
-fn level_word(alloc: Global, matches: &ArgMatches) -> Result<LineWord, AllocError>
+/// The word of the level, `full` where none is named. `AllocError`: memory ran out. Profile.
+pub fn level_word(alloc: Global, matches: &ArgMatches) -> Result<LineWord, AllocError>
     ensures { IfOk result (λ level. level ≡ level_of (rows_of (found_of matches.now))) }
 {
     LineWord::new(alloc, matches.get_str("level").unwrap_or(USUAL_LEVEL))
 }
 
-// All words of an operand or an option.
-fn words_named(alloc: Global, matches: &ArgMatches, name: &str) -> Result<LineWords, AllocError>
+/// All words of an operand or an option. `AllocError`: memory ran out. Profile.
+pub fn words_named(alloc: Global, matches: &ArgMatches, name: &str) -> Result<LineWords, AllocError>
     ensures { IfOk result (λ words. words ≡ words_of name.now (rows_of (found_of matches.now))) }
 {
     match matches.get_strs(name) {
@@ -223,7 +157,8 @@ fn words_named(alloc: Global, matches: &ArgMatches, name: &str) -> Result<LineWo
     }
 }
 
-fn flag_asked(matches: &ArgMatches, name: &str) -> bool
+/// Whether a flag is there. Profile.
+pub fn flag_asked(matches: &ArgMatches, name: &str) -> bool
     ensures { result ≡ has_flag name.now (rows_of (found_of matches.now)) }
 {
     matches.get_str(name).unwrap_or("false") == "true"

@@ -26,7 +26,8 @@ impl Model for LineWord {
 }
 
 impl LineWord {
-    pub(crate) fn new(alloc: Global, text: &str) -> Result<LineWord, AllocError>
+    /// The word of this text. `AllocError`: memory ran out. Profile.
+    pub fn new(alloc: Global, text: &str) -> Result<LineWord, AllocError>
         ensures { IfOk result (λ word. word ≡ text.now) }
     {
         let text = String::from_str(alloc, text)?;
@@ -77,8 +78,8 @@ impl LineWords {
         Ok(())
     }
 
-    // These texts, each a word.
-    pub(crate) fn of(alloc: Global, texts: &[&str]) -> Result<LineWords, AllocError>
+    /// These texts, each a word. `AllocError`: memory ran out. Profile.
+    pub fn of(alloc: Global, texts: &[&str]) -> Result<LineWords, AllocError>
         ensures { IfOk result (λ words. words ≡ map (λ text. text.now) texts.now) }
     {
         let mut words = LineWords::new(alloc);

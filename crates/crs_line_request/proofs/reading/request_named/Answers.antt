@@ -1,8 +1,8 @@
 use Rattle.std.proofs.lemmas.Result.{IfOk-weaker}
 use Rattle.clap.specs.Words.{found_of, rows_of}
 use Rattle.crs_requests.specs.Requests.{command_of, rules_of, under}
-use Rattle.crs_requests.proofs.ReadingLemmas.{asked_is_under, asked_there}
-use Rattle.crs_requests.proofs.reading.request_named.Goals as goal
+use Rattle.crs_line_request.proofs.LineLemmas.{asked_is_under, asked_there}
+use Rattle.crs_line_request.proofs.reading.request_named.Goals as goal
 
 pub command_request-requires : goal.command_request-requires
 command_request-requires c =

@@ -1,9 +1,9 @@
 use Rattle.std.proofs.Common.{◌∙◌, rules, sym}
 use Rattle.std.proofs.lemmas.Result.{IfOk-weaker}
 use Rattle.clap.specs.Words.{found_of}
-use Rattle.crs_requests.proofs.ReadingLemmas.{neither_missing, same_there}
-use Rattle.crs_requests.proofs.reading.same_request.Goals as goal
-use Rattle.crs_requests.proofs.reading.same_request.Goals.{in_default-via-in-Some+in_default, in_default-via-in_default}
+use Rattle.crs_line_request.proofs.LineLemmas.{neither_missing, same_there}
+use Rattle.crs_line_request.proofs.reading.same_request.Goals as goal
+use Rattle.crs_line_request.proofs.reading.same_request.Goals.{in_default-via-in-Some+in_default, in_default-via-in_default}
 
 pub unreachable-requires : goal.unreachable-requires
 unreachable-requires c =
