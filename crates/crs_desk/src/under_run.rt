@@ -10,7 +10,8 @@ use crate::marking::append_marked;
 use crate::{Level, Manner, RunFault, Sink};
 use crs_explain::StepWord;
 use crs_rules::Rules;
-use crs_runs::{Answer, InALine, pair_output, write_answer};
+use crs_runs::{Answer, pair_output, write_answer};
+use crs_same_run::InALine;
 use std::alloc::{AllocError, Global};
 use std::io::Write;
 

@@ -1,5 +1,5 @@
 mod CheckLemmas
 mod JudgedLemmas
 mod KnownText
+pub mod PairOutputLemmas
 mod PieceLemmas
-pub mod SameOutputLemmas

@@ -1,5 +1,5 @@
 pub mod Ending
 pub mod Output
+pub mod PairOutput
 pub mod Pieces
-pub mod SameOutput
 pub mod Whole

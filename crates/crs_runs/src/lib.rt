@@ -1,4 +1,5 @@
-//! The runs over one text or two, over any reader and any writer, and what other runs take of them.
+//! The runs over one text, over any reader and any writer, what is written for two texts, and what other runs take of
+//! them.
 #![tactic(auto)]
 
 pub use answer::{Answer, write_answer};
@@ -9,7 +10,6 @@ use crs_value::Level;
 pub use kind_of_text::refusal_in;
 pub use pair::{Telling, pair_output};
 pub use print::{line_of, refused_line};
-pub use same_run::{InALine, run_same};
 pub use text::read_text;
 
 mod answer;
@@ -19,5 +19,4 @@ mod kind_of_text;
 mod pair;
 mod pieces;
 mod print;
-mod same_run;
 mod text;

@@ -3,7 +3,7 @@ ghost use Rattle.std.specs.Prelude.{ℕ, List, IfOk};
 ghost use Rattle.crs_value.specs.declared.values.crs.Crs.{Crs};
 ghost use Rattle.crs_value.specs.declared.values.level.Level.{Level};
 ghost use Rattle.crs_value.specs.SpellsText.{Refuses};
-ghost use Rattle.crs_runs.specs.SameOutput.{IsPairOutput, IsSecondOutput};
+ghost use Rattle.crs_runs.specs.PairOutput.{IsPairOutput, IsSecondOutput};
 
 use crate::Level;
 use crate::kind_of_text::refusal_in;

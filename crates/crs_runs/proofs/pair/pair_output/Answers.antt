@@ -1,5 +1,5 @@
 use Rattle.std.proofs.lemmas.Result.{IfOk-weaker}
-use Rattle.crs_runs.proofs.SameOutputLemmas.{first-refused, second-answered}
+use Rattle.crs_runs.proofs.PairOutputLemmas.{first-refused, second-answered}
 use Rattle.crs_runs.proofs.pair.pair_output.Goals as goal
 
 pub returns-in-Ok : goal.returns-in-Ok

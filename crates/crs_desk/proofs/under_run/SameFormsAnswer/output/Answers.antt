@@ -1,7 +1,7 @@
 use Rattle.std.proofs.Common.{◌≡◌, Err, Ok, inl, rules}
 use Rattle.std.proofs.lemmas.Result.{IfOk-weaker}
 use Rattle.crs_desk.specs.RulesOutput.{IsPairUnder}
-use Rattle.crs_runs.specs.SameOutput.{IsSameOutput, WritesRefusalOf}
+use Rattle.crs_same_run.specs.SameOutput.{IsSameOutput, WritesRefusalOf}
 use Rattle.crs_desk.proofs.FormsLemmas.{formed-found, pair-formed, refused-found}
 use Rattle.crs_desk.proofs.under_run.SameFormsAnswer.output.Goals as goal
 

@@ -1,16 +1,14 @@
 ghost use Rattle.std.specs.Prelude.{◌≡◌, ◌↔◌, ◌++◌, ◌∷◌, [], IfOk, IfErr, IsErrOf, codes, false, true};
 ghost use Rattle.crs_same.specs.Paths.{path_text};
 ghost use Rattle.crs_runs.specs.Ending.{IsWritten, IsWriteFault};
-ghost use Rattle.crs_runs.specs.SameOutput.{IsSameOutput, WritesPart};
+ghost use Rattle.crs_same_run.specs.SameOutput.{IsSameOutput, WritesPart};
 ghost use Rattle.crs_streams.specs.Streams.{fresh_sink};
 
-use crate::answer::{Answer, write_answer};
-use crate::pair::{Telling, pair_output};
-use crate::print::refused_line;
-use crate::{Level, RunFault, Sink};
+use crs_runs::{Answer, Telling, pair_output, refused_line, write_answer};
 use crs_same::{Path, first_part};
+use crs_streams::{RunFault, Sink};
 use crs_text::Refusal;
-use crs_value::Crs;
+use crs_value::{Crs, Level};
 use std::alloc::{AllocError, Global};
 use std::io::Write;
 
@@ -47,7 +45,7 @@ struct SameAnswer<'t> {
 }
 
 impl Answer for SameAnswer<'_> {
-    ghost use Rattle.crs_runs.specs.SameOutput.{IsSameOutput};
+    ghost use Rattle.crs_same_run.specs.SameOutput.{IsSameOutput};
 
     ghost Output = { λ s written status. IsSameOutput s.level s.first.now s.second.now written status };
 
@@ -60,7 +58,7 @@ impl Answer for SameAnswer<'_> {
 pub struct InALine;
 
 impl Telling for InALine {
-    ghost use Rattle.crs_runs.specs.SameOutput.{WritesRefusalOf, WritesWhetherSame};
+    ghost use Rattle.crs_same_run.specs.SameOutput.{WritesRefusalOf, WritesWhetherSame};
 
     ghost Refused = { λ s which text written status. WritesRefusalOf which text written status };
 

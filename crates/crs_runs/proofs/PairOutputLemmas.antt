@@ -2,7 +2,7 @@
 use Rattle.std.proofs.Common.{ℕ, List, codes, inl, inr}
 use Rattle.crs_value.specs.declared.values.crs.Crs.{Crs}
 use Rattle.crs_value.specs.SpellsText.{Spells}
-use Rattle.crs_runs.specs.SameOutput.{IsPairOutput, IsSecondOutput}
+use Rattle.crs_runs.specs.PairOutput.{IsPairOutput, IsSecondOutput}
 
 module _ (Refused : List ℕ → List ℕ → List ℕ → ℕ → Type 0) (Compared : Crs → Crs → List ℕ → ℕ → Type 0) where
   pub first-refused : (first second written : List ℕ) → Refused (codes "first ") first written 1
