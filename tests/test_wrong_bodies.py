@@ -22,6 +22,7 @@ RIGHT = """file: src/decimal.rt
 old: self.power as i32
 new: let power = self.power; power as i32
 """
+PROOFS = "Rattle.crs_decimal.proofs"
 NAMELESS = """file: src/short.rt
 old: let (digits, zeros) = stripped(self.value);
 new: let pair = stripped(self.value); let (digits, zeros) = (pair.0, pair.1);
@@ -68,7 +69,11 @@ def test_reason(told: str, is_of_names: bool) -> None:
             "no proof: it calls `crs_decimal::cutting::read` and `crs_decimal::short::plain`, which are not proved",
             False,
         ),
-        ("not proved; it stands on `Answers.returns`, which antt refuses; it calls `a`, which is not proved", True),
+        (f"not proved; it stands on `{PROOFS}.short.write.Answers.returns`, which antt refuses", True),
+        (
+            f"not proved; it stands on `{PROOFS}.a.Answers.x`, which antt refuses; it calls `a`, which is not proved",
+            False,
+        ),
         ("no proof: `search` did not prove `returns`; it calls `a`, which is not proved", True),
         ("not proved", True),
     ],

@@ -5,13 +5,16 @@
 
 A file of wrong-bodies/ has lines `file: PATH`, `old: TEXT` and `new: TEXT`: the old text is in that file exactly once,
 after the pairs before it. The function that the text stands in is the one that must be refused, or the one that a line
-`in: FUNCTION` names, for an edit of a constant.
+`in: FUNCTION` names, for an edit of a constant. A line `goal: NAME` is for each goal of the function that has no answer
+and isn't proved: the copy has one that searches as the prover would. Else the prover offers an answer for it, for which
+it reads all once more.
 
 Functions are proved each against the contracts of those that it calls. So the bodies of a crate are put into one copy of
 it, as many as stand in different functions, and the prover checks these functions alone. Where the crate as it stands
-was proved, what no body changed is taken by its contract: its proof in the copy is a hole. A body is refused where a
-function of its own isn't proved, for a reason of its own: a goal that isn't proved, or an answer that is refused. Where
-one has none, and calls others that were refused, it waits for the next round.
+was proved, what no body changed is taken by its contract: its proof in the copy is a hole, and it has no body, since the
+prover would make its steps. A body is refused where a function of its own isn't proved, for a reason of its own: a goal
+that isn't proved, or an answer that is refused. Where one has none, and calls others that were refused, it waits for the
+next round.
 
 A body whose function fails only since an answer names a step that the body took away shows nothing of the contract, and
 is a failure of the body.
@@ -34,7 +37,7 @@ import subprocess
 import sys
 import tempfile
 import time
-from typing import Dict, Iterable, List, Optional, Set, Tuple
+from typing import Callable, Dict, Iterable, List, Optional, Set, Tuple
 
 ROOT = pathlib.Path(__file__).resolve().parent.parent
 # The import of the file of tools/ leaves nothing in the repository.
@@ -50,18 +53,37 @@ BLOCK = re.compile(
     r"(?:pub(?:\([a-z]+\))? )?"
     r"(?:impl(?:<[^>]*>)? (?:(?:\w+::)*(\w+)(?:<.*?>)? for )?(&?)(?:'\w+ )?(?:\w+::)*(\w+)|trait (\w+))"
 )
-# What the prover says of a function that rests on others, and of an answer that names what a body took away.
+# What the prover says of a function that rests on others, or on answers, of others too, that are refused; and of an answer
+# that names what a body took away.
 RESTS = re.compile(r"[;:] it calls .*which (is|are) not proved")
+REFUSED = re.compile(r"; it stands on .*which antt refuses")
 NAMES = re.compile(r"has no field|is not in scope|has no `|was not admitted|\(nearest: ")
 # What it says of a function that is proved: over holes, or without.
 PROVED = ("proved", "no holes", "depends on a hole")
 # What it says first of one that isn't.
 VERDICTS = ("not proved", "no proof")
+# Its goal is short: the prover prints it, and the statement of a function may be long.
 HOLE = """use {module}.Statement.{{statement}}
 
+taken {{ℓ}} : {{A : Type ℓ}} → A
+taken = ?
+
 pub {name}_spec : {{M : Type 1}} → statement M
-{name}_spec = ?
+{name}_spec = taken
 """
+# What it tries for a goal without an answer, written as its answer: then it doesn't offer one, for which it would read the
+# function a second time.
+ANSWER = """
+pub {goal} : goal.{goal}
+{goal} c = first_of (search rules, grind (arith, common_steps))
+"""
+# What an answer takes from elsewhere: as it is found, and as it is written.
+TAKEN = (
+    (r"^use .*[{ ]rules[,}]", "use Rattle.std.proofs.Common.{{rules}}\n"),
+    (r"^use .*[{ ]arith[,}]", "use Rattle.std.proofs.Common.{{arith}}\n"),
+    (r"^use .*[{ ]common_steps[,}]", "use Rattle.std.proofs.lemmas.Grind.{{common_steps}}\n"),
+    (r"^use .*\.Goals as goal$", "use Rattle.{crate}.{module}.Goals as goal\n"),
+)
 # How it names a closure: by its function, and the call that takes it.
 CLOSURE = re.compile(r"(^|::)fn::((?:[A-Z]\w*::)?\w+)::.*")
 # A goal that isn't proved; a function's goals stand before the line of its verdict.
@@ -91,6 +113,33 @@ def enclosing(path: str, lines: List[str]) -> Optional[str]:
     return None
 
 
+def body_lines(lines: List[str], head: int) -> Optional[Tuple[int, int]]:
+    """The lines of the braces around a function's body, in a formatted file, or None where it has none."""
+    margin = " " * (len(lines[head]) - len(lines[head].lstrip()))
+    for at, line in enumerate(lines[head:], head):
+        ends_head = at == head or line.startswith(f"{margin})")
+        if line == f"{margin}{{" or ends_head and line.endswith(" {"):
+            return at, lines.index(f"{margin}}}", at)
+        if line and not ends_head and line != f"{margin}where" and not line.startswith(f"{margin} "):
+            break
+        if line.endswith(";"):
+            break
+    return None
+
+
+def emptied(path: str, text: str, is_taken: Callable[[str], bool]) -> Tuple[str, List[str]]:
+    """The text of a file, where the functions that are taken by their contracts do nothing, on as many lines, and which
+    these are."""
+    lines, names = text.split("\n"), list[str]()
+    for head in range(len(lines)):
+        name = FUNCTION.match(lines[head]) and enclosing(path, lines[: head + 1])
+        if name and is_taken(name) and (found := body_lines(lines, head)):
+            first, last = found
+            lines[first + 1 : last] = ["loop {}" if at == first + 1 else "" for at in range(first + 1, last)]
+            names.append(name)
+    return "\n".join(lines), names
+
+
 def goals_by_function(crate: str, said: str) -> Dict[str, List[str]]:
     """The goals that the prover tells as not proved, by the function that they are of."""
     found: Dict[str, List[str]] = {}
@@ -103,6 +152,15 @@ def goals_by_function(crate: str, said: str) -> Dict[str, List[str]]:
     return found
 
 
+def is_in_function(lines: List[str]) -> bool:
+    """Whether the last of these lines of a file stands in a function, and not behind it."""
+    heads = [at for at, line in enumerate(lines) if FUNCTION.match(line)]
+    if not heads:
+        return False
+    margin = lines[heads[-1]][: -len(lines[heads[-1]].lstrip())]
+    return f"{margin}}}" not in lines[heads[-1] :]
+
+
 class Body:
     """A wrong body of a crate."""
 
@@ -111,6 +169,8 @@ class Body:
         self.name = f"{file.parent.parent.name}/{file.stem}"
         self.pairs: List[Tuple[str, str, str]] = []
         self.named: Optional[str] = None
+        self.goals: List[str] = []
+        self.is_of_constant = False
         path: Optional[str] = None
         old: Optional[str] = None
         for line in file.read_text(encoding="utf-8").split("\n"):
@@ -120,6 +180,8 @@ class Body:
                 path = text.strip()
             elif word == "in":
                 self.named = text.strip()
+            elif word == "goal":
+                self.goals.append(text.strip())
             elif word == "old":
                 old = text
             elif word == "new" and path is not None and old is not None:
@@ -146,6 +208,7 @@ class Body:
             front = text[: text.index(old)].split("\n")
             front[-1] += old.split("\n")[0]
             function = self.named or enclosing(path, front)
+            self.is_of_constant |= self.named is not None and not is_in_function(front)
             # A function of its own, in front of the one that it stands at.
             own = [it for it in re.findall(r"\bfn (\w+)", new) if not re.search(rf"\bfn {it}\b", old)]
             if own and function:
@@ -156,6 +219,10 @@ class Body:
         if not functions and not self.is_of_definitions():
             raise Fault("it stands in no function, and has no line in: FUNCTION")
         return changed, functions
+
+    def stands_alone(self) -> bool:
+        """Whether it edits what stands in no function, on which others may rest."""
+        return self.is_of_constant or self.is_of_definitions()
 
     def is_of_definitions(self) -> bool:
         return not self.named and any(not path.startswith("src/") for path, _, _ in self.pairs)
@@ -197,8 +264,19 @@ def applies() -> Tuple[int, List[str]]:
     return passed, faults
 
 
+def plain_functions(folder: pathlib.Path, file: pathlib.Path) -> List[str]:
+    """The functions of a file of the crate in this folder that are no methods, by their paths."""
+    lines = file.read_text(encoding="utf-8").split("\n")
+    path = str(file.relative_to(folder))
+    heads = [at for at, line in enumerate(lines) if line and not line.startswith(" ") and FUNCTION.match(line)]
+    return [it for at in heads if (it := enclosing(path, lines[: at + 1]))]
+
+
 def functions_of(crate: Crate) -> List[str]:
-    """The functions of a library that is proved as it stands, by their paths; none where it isn't."""
+    """The functions of a library that is proved as it stands, by their paths; none where it isn't. Of the library for C,
+    which leaves no list, those that are no methods."""
+    if crate.name == build.LIBRARY:
+        return [it for file in sorted((crate.folder / "src").rglob("*.rt")) for it in plain_functions(crate.folder, file)]
     file = crate.made / "toolchain" / "mir.json"
     if not crate.is_current() or not file.is_file():
         return []
@@ -217,18 +295,46 @@ def owner_of(path: str) -> str:
     return CLOSURE.sub(r"\1\2", path)
 
 
-def leave_hole(crate: str, proofs: pathlib.Path, path: str) -> None:
-    """Has the prover take a function by its contract. One that calls itself is proved, since its proof is of a cycle."""
+def is_of_answer(why: str, goals: List[str]) -> bool:
+    """Whether a reason is a goal, or an answer: for one of these goals, that the search for it found nothing."""
+    found = re.match(r"\S+: (?:src/|`([^`]+)`: (.*))", why)
+    return found is not None and (found[1] not in goals or found[2].startswith("`search`: no proof of"))
+
+
+def drop_closure(proofs: pathlib.Path, path: str) -> None:
+    """Takes away the proofs of the closures of a function that has none any more."""
+    folder = proofs.joinpath(*CLOSURE.sub(r"\1fn::\2", path).split("::"))
+    shutil.rmtree(folder, ignore_errors=True)
+
+
+def is_of_cycle(proofs: pathlib.Path, path: str) -> bool:
+    """Whether a function calls itself: its proof is that of a cycle."""
     *modules, name = path.split("::")
-    folder = proofs.joinpath(*modules)
-    if (folder / f"+{name}").is_dir():
-        return
-    folder = folder / name
+    return proofs.joinpath(*modules, f"+{name}").is_dir()
+
+
+def leave_hole(crate: str, proofs: pathlib.Path, path: str) -> None:
+    """Has the prover take a function by its contract."""
+    *modules, name = path.split("::")
+    folder = proofs.joinpath(*modules, name)
     folder.mkdir(parents=True, exist_ok=True)
     for it in ("Answers.antt", "Invariants.antt"):
         (folder / it).unlink(missing_ok=True)
     module = ".".join([f"Rattle.{crate}.proofs", *modules, name])
     (folder / "Proof.antt").write_text(HOLE.format(module=module, name=name), encoding="utf-8")
+
+
+def ask_for(crate: str, proofs: pathlib.Path, path: str, goals: List[str]) -> None:
+    """Has the prover search for some goals of a function, and not offer answers for them where it finds none."""
+    module = ".".join(["proofs", *path.split("::")])
+    file = proofs.joinpath(*path.split("::"), "Answers.antt")
+    file.parent.mkdir(parents=True, exist_ok=True)
+    text = file.read_text(encoding="utf-8") if file.is_file() else ""
+    # Those that it has already stay as they are.
+    goals = [it for it in goals if not re.search(rf"^(pub )?{it} :", text, re.M)]
+    front = "".join(use for found, use in TAKEN if not re.search(found, text, re.M))
+    text = "".join([front.format(crate=crate, module=module), text, *(ANSWER.format(goal=it) for it in goals)])
+    file.write_text(text, encoding="utf-8")
 
 
 class Trial:
@@ -264,7 +370,7 @@ class Trial:
                 changed, functions = body.applied(texts, self.crate.folder)
             except Fault:
                 continue
-            is_alone = body.named or body.is_of_definitions()
+            is_alone = body.stands_alone()
             is_early = any(it in self.left for it in self.waits.get(body, ()))
             if taken & set(functions) or batch and is_alone or is_early:
                 continue
@@ -279,21 +385,53 @@ class Trial:
             return self.batch()
         return batch, texts
 
-    def check(self, functions: List[str], texts: Dict[str, str], is_lone: bool) -> str:
-        """What the prover says of these functions, with these texts in place of the crate's. The others are taken by their
-        contracts, but for a lone body, which may change what they say."""
+    def take_unchanged(self, room: pathlib.Path, functions: List[str]) -> bool:
+        """In a copy of the crate, has the prover take what no body changed by its contract: with a hole for its proof, and
+        without its body, whose steps it would make else. Whether there is any."""
+        proofs = room / "proofs"
+        unchanged = [it for it in self.proved_already if not is_of(owner_of(it), functions)]
+        taken = {it for it in unchanged if not is_of_cycle(proofs, it)}
+
+        def is_taken(name: str) -> bool:
+            found = [it for it in self.proved_already if is_of(it, [name])]
+            return bool(found) and taken.issuperset(found)
+
+        gone: List[str] = []
+        for file in sorted((room / "src").rglob("*.rt")):
+            text, names = emptied(str(file.relative_to(room)), file.read_text(encoding="utf-8"), is_taken)
+            file.write_text(text, encoding="utf-8")
+            gone += names
+        for path in sorted(taken):
+            owner = owner_of(path)
+            if owner != path and is_of(owner, gone):
+                drop_closure(proofs, path)
+            else:
+                leave_hole(self.crate.name, proofs, path)
+        return bool(taken)
+
+    def ask(self, proofs: pathlib.Path, batch: Batch) -> None:
+        """In a copy of the crate, has the prover search for the goals that the bodies name."""
+        for body, functions in batch:
+            found = [it for it in self.proved_already if is_of(it, functions) and not is_of_cycle(proofs, it)]
+            if body.goals and len(found) == 1:
+                ask_for(self.crate.name, proofs, found[0], body.goals)
+
+    def check(self, batch: Batch, texts: Dict[str, str]) -> str:
+        """What the prover says of the bodies' functions, with these texts in place of the crate's. The others are taken by
+        their contracts, but for a body of definitions, which may change what they say."""
+        functions = [it for _, functions in batch for it in functions]
         with tempfile.TemporaryDirectory(prefix="wrong-bodies-") as room:
             for part in build.PARTS:
                 if (self.crate.folder / part).is_dir():
                     shutil.copytree(self.crate.folder / part, f"{room}/{part}")
             for path, text in texts.items():
                 pathlib.Path(room, path).write_text(text, encoding="utf-8")
-            holes = [] if is_lone else [it for it in self.proved_already if not is_of(owner_of(it), functions)]
-            for path in holes:
-                leave_hole(self.crate.name, pathlib.Path(room, "proofs"), path)
+            is_of_definitions = batch[0][0].is_of_definitions()
+            has_holes = not is_of_definitions and self.take_unchanged(pathlib.Path(room), functions)
+            self.ask(pathlib.Path(room, "proofs"), batch)
             words = [
                 *self.crate.words_to_check(1),
-                *["--allow-holes", "--short-goals"] * bool(holes),
+                *["--allow-holes", "--short-goals"] * has_holes,
                 "--incremental",
                 self.proved,
                 *(it for name in functions for it in ("--only", name)),
@@ -311,8 +449,8 @@ class Trial:
 
     def try_batch(self, batch: Batch, texts: Dict[str, str]) -> None:
         began = time.monotonic()
-        is_lone = len(batch) == 1 and (batch[0][0].named is not None or batch[0][0].is_of_definitions())
-        said = self.check([it for _, functions in batch for it in functions], texts, is_lone)
+        is_lone = len(batch) == 1 and batch[0][0].stands_alone()
+        said = self.check(batch, texts)
         print(f"{self.crate.name}: {len(batch)} tried in {time.monotonic() - began:.0f} s", flush=True)
         told = dict(re.findall(rf"^fn {self.crate.name}::(\S+): (.*)$", said, re.M))
         if not told:
@@ -328,7 +466,10 @@ class Trial:
         for body, functions in batch:
             reasons = [it for name in functions or told if (it := self.reason(name, told, goals, said))]
             why = next((words for words, is_of_names in reasons if not is_of_names), None)
-            if why:
+            if why and body.goals and not is_of_answer(why, body.goals):
+                self.fail(body, "REFUSED, BUT NOT AT A GOAL", why)
+                settled += 1
+            elif why:
                 self.settle(body, why)
                 settled += 1
             elif reasons:
@@ -360,15 +501,18 @@ class Trial:
     ) -> Optional[Tuple[str, bool]]:
         """Why a function isn't proved, and whether only since answers name what a body took away; None where it is proved,
         or only what it calls isn't."""
+        # The folder of a function that calls itself begins with a plus.
+        *folders, last = name.split("::")
+        folder = re.escape("".join(f"{it}/" for it in folders))
+        module = re.escape("".join(f"{it}." for it in [self.crate.name, "proofs", *folders]))
         words = told.get(name, "proved")
         own = RESTS.sub("", words)
+        if not re.search(rf"`Rattle\.{module}\+?{re.escape(last)}\.", own):
+            own = REFUSED.sub("", own)
         if own != words and own in VERDICTS or not words.startswith(VERDICTS):
             return None
         if goals.get(name):
             return f"{name}: {goals[name][0]}", False
-        # The folder of a function that calls itself begins with a plus.
-        *folders, last = name.split("::")
-        folder = re.escape("".join(f"{it}/" for it in folders))
         errors = re.findall(rf"^\./proofs/{folder}\+?{last}/\S+ error: (.*)$", said, re.M)
         other = next((it for it in errors if not NAMES.search(it)), None)
         return f"{name}: {other or (errors or [words])[0]}", bool(errors) and not other
