@@ -7,7 +7,8 @@ A file of wrong-bodies/ has lines `file: PATH`, `old: TEXT` and `new: TEXT`: the
 after the pairs before it. The function that the text stands in is the one that must be refused, or the one that a line
 `in: FUNCTION` names, for an edit of a constant. A line `goal: NAME` is for each goal of the function that has no answer
 and isn't proved: the copy has one that searches as the prover would. Else the prover offers an answer for it, for which
-it reads all once more.
+it reads all once more. Where the goals aren't those that fail, the body is tried once more without them. A function
+with a tactic of its own, such as `#[tactic(auto, ..)]`, is searched with that alone: its body names no goal.
 
 Functions are proved each against the contracts of those that it calls. So the bodies of a crate are put into one copy of
 it, as many as stand in different functions, and the prover checks these functions alone. Where the crate as it stands
@@ -161,6 +162,18 @@ def is_in_function(lines: List[str]) -> bool:
     return f"{margin}}}" not in lines[heads[-1] :]
 
 
+def has_tactic(lines: List[str]) -> bool:
+    """Whether the function that the last of these lines of a file stands in has a tactic of its own, above its head."""
+    above = False
+    for line in reversed(lines):
+        if above and (not line.strip() or line.endswith(("{", "}"))):
+            break
+        if above and "#[tactic" in line:
+            return True
+        above = above or FUNCTION.match(line) is not None
+    return False
+
+
 class Body:
     """A wrong body of a crate."""
 
@@ -209,6 +222,8 @@ class Body:
             front[-1] += old.split("\n")[0]
             function = self.named or enclosing(path, front)
             self.is_of_constant |= self.named is not None and not is_in_function(front)
+            if self.goals and has_tactic(front):
+                raise Fault("it names a goal, and the prover searches with the tactic of this function")
             # A function of its own, in front of the one that it stands at.
             own = [it for it in re.findall(r"\bfn (\w+)", new) if not re.search(rf"\bfn {it}\b", old)]
             if own and function:
@@ -296,9 +311,12 @@ def owner_of(path: str) -> str:
 
 
 def is_of_answer(why: str, goals: List[str]) -> bool:
-    """Whether a reason is a goal, or an answer: for one of these goals, that the search for it found nothing."""
+    """Whether a reason is a goal or an answer, and not that the answers to these goals can't be read: for one of them,
+    that the search for it found nothing."""
     found = re.match(r"\S+: (?:src/|`([^`]+)`: (.*))", why)
-    return found is not None and (found[1] not in goals or found[2].startswith("`search`: no proof of"))
+    if not goals or not found:
+        return not goals
+    return found[1] not in goals or found[2].startswith("`search`: no proof of")
 
 
 def drop_closure(proofs: pathlib.Path, path: str) -> None:
@@ -466,11 +484,12 @@ class Trial:
         for body, functions in batch:
             reasons = [it for name in functions or told if (it := self.reason(name, told, goals, said))]
             why = next((words for words, is_of_names in reasons if not is_of_names), None)
-            if why and body.goals and not is_of_answer(why, body.goals):
-                self.fail(body, "REFUSED, BUT NOT AT A GOAL", why)
-                settled += 1
-            elif why:
+            if why and is_of_answer(why, body.goals):
                 self.settle(body, why)
+                settled += 1
+            elif reasons and body.goals:
+                # The answers that were put in may be what is refused.
+                body.goals = []
                 settled += 1
             elif reasons:
                 self.fail(body, "REFUSED ONLY SINCE AN ANSWER NAMES WHAT THE BODY TOOK AWAY", reasons[0][0])
@@ -518,7 +537,11 @@ class Trial:
         return f"{name}: {other or (errors or [words])[0]}", bool(errors) and not other
 
     def halve(self, batch: Batch, said: str) -> None:
-        """Nothing is known of these bodies together: each half is tried for itself."""
+        """Nothing is known of these bodies together: they are tried without their goals, or each half for itself."""
+        if any(body.goals for body, _ in batch):
+            for body, _ in batch:
+                body.goals = []
+            return
         if len(batch) == 1:
             self.fail(batch[0][0], "CAN'T BE TRIED", said)
             return
