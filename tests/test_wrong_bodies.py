@@ -27,6 +27,21 @@ NAMELESS = """file: src/short.rt
 old: let (digits, zeros) = stripped(self.value);
 new: let pair = stripped(self.value); let (digits, zeros) = (pair.0, pair.1);
 """
+SOURCE = """fn first(a: u8) -> u8
+    ensures { result ≡ a }
+{
+    let b = a;
+    b
+}
+
+impl Short {
+    fn second(
+        &self,
+    ) -> u8 {
+        self.value
+    }
+}
+"""
 
 
 @pytest.mark.parametrize("file", FILES, ids=lambda it: str(it.relative_to(CRATES)))
@@ -95,6 +110,31 @@ def test_rests(words: str, has_own: bool) -> None:
 def test_owner(path: str, owner: str) -> None:
     """A closure is changed with the function that it stands in."""
     assert wrong_bodies.owner_of(path) == owner
+
+
+@pytest.mark.parametrize(
+    "name, body", [("short::first", "    let b = a;\n    b\n"), ("Short::second", "        self.value\n")]
+)
+def test_emptied(name: str, body: str) -> None:
+    """A function that is taken by its contract does nothing, on as many lines; the others are as they were."""
+    nothing = "loop {}\n".ljust(len("loop {}") + body.count("\n"), "\n")
+    text, names = wrong_bodies.emptied("src/short.rt", SOURCE, lambda it: it == name)
+    assert (text, names) == (SOURCE.replace(body, nothing), [name])
+
+
+@pytest.mark.parametrize(
+    "why, is_found",
+    [
+        ("`returns`: `search`: no proof of `a ≡ b` was found", True),
+        ("`other`: the two sides differ: 1 and 2", True),
+        ("src/short.rt:84:5: it is not proved that what the function ensures holds when it returns", True),
+        ("`returns`: `rules` is two things here", False),
+        ("module `Rattle.crs_decimal.specs` can't be read", False),
+    ],
+)
+def test_goals(why: str, is_found: bool) -> None:
+    """An answer that was put in for a goal shows nothing where it can't be read."""
+    assert wrong_bodies.is_of_answer(f"short::write: {why}", ["returns"]) == is_found
 
 
 @pytest.mark.gate

@@ -133,7 +133,7 @@ def emptied(path: str, text: str, is_taken: Callable[[str], bool]) -> Tuple[str,
     these are."""
     lines, names = text.split("\n"), list[str]()
     for head in range(len(lines)):
-        name = FUNCTION.match(lines[head]) and enclosing(path, lines[: head + 1])
+        name = enclosing(path, lines[: head + 1]) if FUNCTION.match(lines[head]) else None
         if name and is_taken(name) and (found := body_lines(lines, head)):
             first, last = found
             lines[first + 1 : last] = ["loop {}" if at == first + 1 else "" for at in range(first + 1, last)]
@@ -291,7 +291,8 @@ def functions_of(crate: Crate) -> List[str]:
     """The functions of a library that is proved as it stands, by their paths; none where it isn't. Of the library for C,
     which leaves no list, those that are no methods."""
     if crate.name == build.LIBRARY:
-        return [it for file in sorted((crate.folder / "src").rglob("*.rt")) for it in plain_functions(crate.folder, file)]
+        files = sorted((crate.folder / "src").rglob("*.rt"))
+        return [it for file in files for it in plain_functions(crate.folder, file)]
     file = crate.made / "toolchain" / "mir.json"
     if not crate.is_current() or not file.is_file():
         return []
