@@ -126,6 +126,7 @@ def test_emptied(name: str, body: str) -> None:
     "why, is_found",
     [
         ("`returns`: `search`: no proof of `a ≡ b` was found", True),
+        ("`returns`: `grind`: the goal does not follow. The hypotheses hold, and the goal fails at `a` = 1", True),
         ("`other`: the two sides differ: 1 and 2", True),
         ("src/short.rt:84:5: it is not proved that what the function ensures holds when it returns", True),
         ("`returns`: `rules` is two things here", False),

@@ -313,11 +313,11 @@ def owner_of(path: str) -> str:
 
 def is_of_answer(why: str, goals: List[str]) -> bool:
     """Whether a reason is a goal or an answer, and not that the answers to these goals can't be read: for one of them,
-    that the search for it found nothing."""
+    that neither search for it found anything."""
     found = re.match(r"\S+: (?:src/|`([^`]+)`: (.*))", why)
     if not goals or not found:
         return not goals
-    return found[1] not in goals or found[2].startswith("`search`: no proof of")
+    return found[1] not in goals or found[2].startswith(("`search`: ", "`grind`: "))
 
 
 def drop_closure(proofs: pathlib.Path, path: str) -> None:
