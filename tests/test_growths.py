@@ -5,10 +5,10 @@ until a run meets no refusal. A growth is a call of malloc, realloc or aligned_a
 beginning, a call's while it is made. Each answer must be out of memory or the answer that comes with ample memory.
 
 growths/calls.rows has calls of the library and growths/command_calls.rows those of commands, of which crates/crs_tests
-makes one with the word `call` or `command`. After out of memory, in the same process, all that the call was handed must be as before,
-and the same call made again must give the answer that comes with ample memory. growths/commands.rows has command lines of
-the program, which must do the same as with ample memory, or write nothing but 'crsdesk: out of memory' on standard error,
-with status 2.
+makes one with the word `call` or `command`. After out of memory, in the same process, all that the call was handed must
+be as before, and the same call made again must give the answer that comes with ample memory. growths/commands.rows has
+command lines of the program, which must do the same as with ample memory, or write nothing but 'crsdesk: out of memory'
+on standard error, with status 2.
 """
 from __future__ import annotations
 
