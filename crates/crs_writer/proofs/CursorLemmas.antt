@@ -10,10 +10,10 @@ use Rattle.crs_value.specs.ReadsCrs.{IsGeodeticClass, ReadsAsDatum, ReadsAsEnsem
 use Rattle.crs_value.specs.declared.values.compound.Horizontal.{Horizontal}
 use Rattle.crs_value.specs.declared.values.compound.Horizontal.TheVariants as horizontal
 use Rattle.crs_value.specs.declared.values.crs.Crs.TheVariants as crs
-use Rattle.crs_writer.specs.Cursor.{IsFirst, args, item}
+use Rattle.crs_nodes.specs.Cursor.{IsFirst, args, item}
 use Rattle.crs_writer.specs.Direct.{IsRead}
-use Rattle.crs_writer.specs.Parts.{SaysIfAny}
-use Rattle.crs_writer.specs.declared.direct.node.Node.{Node}
+use Rattle.crs_nodes.specs.Found.{SaysIfAny}
+use Rattle.crs_nodes.specs.declared.node.Node.{Node}
 use Rattle.crs_writer.proofs.FlatLemmas.{through}
 
 -- ---- what is said

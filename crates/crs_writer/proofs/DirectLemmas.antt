@@ -1,6 +1,5 @@
 -- What is written straight from items, put together from what is written of each part.
-use Rattle.std.proofs.Common.{◌≡◌, ℕ, zero, suc, ◌≤◌, List, [], ◌∷◌, ◌++◌, Option, Some, drop, sym, ap, subst, ◌∙◌, append_assoc, arith}
-use Rattle.std.proofs.Math.Seq.{drop-nil}
+use Rattle.std.proofs.Common.{◌≡◌, ℕ, List, [], ◌∷◌, ◌++◌, Option, Some, sym, ap, subst, ◌∙◌, append_assoc}
 use Rattle.std.proofs.lemmas.List.{append-nil}
 use Rattle.crs_decimal.specs.Bounds.{Denotes}
 use Rattle.crs_decimal.specs.Fault.{IsFault}
@@ -69,10 +68,3 @@ pub number-refused : (bytes raw : List ℕ) (fault : NumberFault) (b : Value) �
     IsNormal b × Denotes raw (exact b) → ⊥
 number-refused bytes raw fault b same is q =
     no-number bytes fault b is (subst (λ x. Denotes x (exact b)) (sym same) q.1)
-
--- none is left behind none
-pub drop-past : {A : Type 0} (xs : List A) (m k : ℕ) → m ≤ k → drop m xs ≡ [] → drop k xs ≡ []
-drop-past [] m k le e = drop-nil k
-drop-past (x ∷ xs) zero k le e = let h : ⊥ = cc in absurd h
-drop-past (x ∷ xs) (suc m) zero le e = absurd (omega (arith, le))
-drop-past (x ∷ xs) (suc m) (suc k) le e = drop-past xs m k (omega (arith, le)) e

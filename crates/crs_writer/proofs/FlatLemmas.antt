@@ -18,7 +18,8 @@ use Rattle.crs_normal.specs.SpelledItems.{each, number_node, opt}
 use Rattle.crs_normal.specs.SpelledSystems.{item_axis_meridian, norm_axis_meridians}
 use Rattle.crs_normal.specs.SpelledUnits.{item_unit, norm_unit, norm_units}
 use Rattle.crs_writer.specs.Members.{set_text}
-use Rattle.crs_writer.specs.Parts.{SaysIfAny, number_behind, opt_text}
+use Rattle.crs_nodes.specs.Found.{SaysIfAny}
+use Rattle.crs_writer.specs.Parts.{number_behind, opt_text}
 use Rattle.crs_writer.proofs.DirectLemmas.{closed, keyworded, last-more, last-text, then-text}
 use Rattle.crs_writer.proofs.PieceLemmas.{then-each, then-more, then-opt, three, two}
 use Rattle.crs_writer.proofs.SystemLemmas.{then-system}

@@ -1,7 +1,5 @@
 pub mod Canonical
-pub mod Copied
 pub mod CrsText
-pub mod Cursor
 pub mod Direct
 pub mod Equality
 pub mod EqualityLaws

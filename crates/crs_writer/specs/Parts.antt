@@ -1,26 +1,14 @@
 -- A bridge: what is written of the parts of a node, which are those of a value, or read from an
 -- item.
 use Rattle.std.specs.Prelude.{◌≡◌, ℕ, List, [], ◌∷◌, ◌++◌, Option, Some, None}
-use Rattle.crs_decimal.specs.Bounds.{Denotes}
 use Rattle.crs_decimal.specs.Plain.{plain}
-use Rattle.crs_decimal.specs.Value.{Value, IsNormal, exact}
-
--- what a part says, if there is one
-abbrev pub SaysIfAny : {P V : Type 0} → (P → V → Type 0) → Option P → Option V → Type 0
-SaysIfAny Says None None = Unit {0}
-SaysIfAny Says None (Some value) = ⊥
-SaysIfAny Says (Some part) None = ⊥
-SaysIfAny Says (Some part) (Some value) = Says part value
+use Rattle.crs_decimal.specs.Value.{Value}
 
 -- what the first of some parts says, and what the others say
 abbrev pub SaysFirst : {P M V : Type 0} → (P → V → Type 0) → (M → List V → Type 0) → P → M → List V →
     Type 0
 SaysFirst Says Say first others [] = ⊥
 SaysFirst Says Say first others (value ∷ values) = Says first value × Say others values
-
--- the decimal that bytes spell
-abbrev pub IsNumber : List ℕ → Value → Type 0
-IsNumber raw value = IsNormal value × Denotes raw (exact value)
 
 -- the text of a part after a comma, if there is one
 abbrev pub opt_text : {V : Type 0} → (V → List ℕ) → Option V → List ℕ

@@ -9,9 +9,9 @@ ghost use Rattle.crs_writer.specs.Canonical.{IsCanonicalOf, IsCanonicalText};
 ghost use Rattle.crs_writer.specs.Direct.{IsRead};
 
 use crate::canon_text::Canon;
-use crate::direct::node::Node;
 use crate::laws::crss_are_canonical;
 use crate::spelling::crs::write_crs;
+use crs_nodes::Node;
 use crs_shape::Class;
 use crs_text::{Fault, Items, read_items};
 use crs_value::laws::spelled_is_sound;

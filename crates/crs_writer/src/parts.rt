@@ -10,7 +10,8 @@ ghost use Rattle.crs_normal.specs.SpelledFrames.{is_zero};
 ghost use Rattle.crs_normal.specs.SpelledItems.{each};
 ghost use Rattle.crs_normal.specs.SpelledUnits.{item_ident, item_unit, norm_unit, set_idents, whole_value};
 ghost use Rattle.crs_writer.specs.Direct.{IsRead, Writes};
-ghost use Rattle.crs_writer.specs.Parts.{SaysIfAny, number_behind, opt_text};
+ghost use Rattle.crs_nodes.specs.Found.{SaysIfAny};
+ghost use Rattle.crs_writer.specs.Parts.{number_behind, opt_text};
 
 use crate::direct::number::{decimal_of, write_raw};
 use crate::spell::{Spell, write_part};
@@ -102,7 +103,7 @@ impl<'b> NumberPart for &'b Decimal {
 
 // As the bytes spell it.
 impl<'b> NumberPart for &'b [u8] {
-    ghost use Rattle.crs_writer.specs.Parts.{IsNumber};
+    ghost use Rattle.crs_nodes.specs.Found.{IsNumber};
 
     ghost Says = { λ s v. IsNumber s.now v };
 

@@ -1,31 +1,19 @@
 //! Arguments of one class, one after another.
-use crate::direct::lookup;
-use crate::direct::node::Node;
 use crate::members::{MemberPart, MembersPart};
 use crate::set::MEMBER_ROOM;
 use crate::spans::{Span, put};
 use crate::spell::Spell;
+use crs_nodes::{Chain, Node, lookup};
 use crs_shape::Class;
-use crs_text::{ItemId, Items};
 use crs_value::Level;
 use std::alloc::AllocError;
-
-/// The arguments of a class from one on.
-#[derive(Clone, Copy)]
-pub(crate) struct Chain<'i, 'a> {
-    pub(crate) items: &'i Items<'a>,
-    pub(crate) at: Option<ItemId>,
-    pub(crate) parent: Class,
-    pub(crate) class: Class,
-    pub(crate) few: bool,
-}
 
 /// A value that may be a member of a set, and that is read from a node.
 pub(crate) trait ReadAs<'a>: Spell {
     ghost use Rattle.std.specs.Prelude.{OnOk};
     ghost use Rattle.crs_text.specs.Items.{Item};
     ghost use Rattle.crs_shape.specs.declared.class.Class.{Class};
-    ghost use Rattle.crs_writer.specs.Cursor.{item};
+    ghost use Rattle.crs_nodes.specs.Cursor.{item};
     ghost use Rattle.crs_writer.specs.Direct.{Writes};
 
     ghost Reads: { Class → Item → Self → Type 0 };
@@ -37,7 +25,7 @@ pub(crate) trait ReadAs<'a>: Spell {
 }
 
 impl<'i, 'a, T: ReadAs<'a>> MemberPart<T> for Node<'i, 'a> {
-    ghost use Rattle.crs_writer.specs.Cursor.{item};
+    ghost use Rattle.crs_nodes.specs.Cursor.{item};
 
     ghost Says = { λ n v. T.Reads n.class (item n) v };
 

@@ -3,11 +3,11 @@ ghost use Rattle.std.specs.Prelude.{◌≡◌, OnOk, Some};
 ghost use Rattle.crs_decimal.specs.Plain.{plain};
 ghost use Rattle.crs_decimal.specs.Value.{Value};
 ghost use Rattle.crs_writer.specs.Direct.{Writes};
-ghost use Rattle.crs_writer.specs.Parts.{IsNumber};
+ghost use Rattle.crs_nodes.specs.Found.{IsNumber};
 
-use crate::direct::plain::plain_of;
 use crate::spelling::texts::{append, write_decimal};
 use crs_decimal::Decimal;
+use crs_nodes::plain_of;
 use std::alloc::AllocError;
 
 // A number. Most are in their plain spelling already, but for a plus or zeros.

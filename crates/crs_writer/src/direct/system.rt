@@ -7,10 +7,10 @@ ghost use Rattle.crs_value.specs.Values.{AxisParts};
 ghost use Rattle.crs_normal.specs.SpelledSystems.{axis_at, is_at};
 ghost use Rattle.crs_writer.specs.Direct.{IsReadAt};
 
-use crate::direct::lookup::{first, later};
-use crate::direct::node::Node;
 use crate::direct::number::decimal_of;
 use crate::spelling::system::is_at;
+use crs_nodes::Node;
+use crs_nodes::lookup::{first, later};
 use crs_shape::Class;
 use crs_text::{ItemId, Items};
 

@@ -14,13 +14,13 @@ ghost use Rattle.crs_normal.specs.SpelledItems.{each, number_node, opt, word_ite
 ghost use Rattle.crs_normal.specs.SpelledSystems.{item_axis_meridian, norm_axis_meridians};
 ghost use Rattle.crs_normal.specs.SpelledUnits.{item_ident, item_unit, norm_units, set_idents, whole_value};
 ghost use Rattle.crs_writer.specs.Openings.{named_node, numbered_node};
-ghost use Rattle.crs_writer.specs.Parts.{SaysIfAny};
+ghost use Rattle.crs_nodes.specs.Found.{SaysIfAny};
 
-use crate::direct::node::Node;
 use crate::parts::{IdentsPart, NumberPart, Part, UnitPart, write_optional, write_optional_number};
 use crate::spell::Spell;
 use crate::spelling::texts::{append, open_text};
 use crate::spelling::unit::write_optional_unit;
+use crs_nodes::Node;
 use crs_shape::Class;
 use crs_value::{Axis, AxisMeridian, Direction, Level, UnitKind};
 use itoa::Buffer;
@@ -83,7 +83,7 @@ impl Spell for AxisMeridian<'_> {
 
 impl<'c, 'i, 'a> Part<AxisMeridian<'a>> for &'c Node<'i, 'a> {
     ghost use Rattle.crs_value.specs.Reads.{ReadsAxisMeridian};
-    ghost use Rattle.crs_writer.specs.Cursor.{item};
+    ghost use Rattle.crs_nodes.specs.Cursor.{item};
 
     ghost Says = { λ n m. ReadsAxisMeridian n.now.class (item n.now) m };
 

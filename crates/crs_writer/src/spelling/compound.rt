@@ -6,17 +6,17 @@ ghost use Rattle.crs_value.specs.ReadsCrs.{ReadsCompound, ReadsHorizontal};
 ghost use Rattle.crs_normal.specs.PartTexts.{compound_text, horizontal_text};
 ghost use Rattle.crs_normal.specs.SpelledCrs.{item_horizontal, item_vertical, norm_horizontal, norm_vertical};
 ghost use Rattle.crs_normal.specs.SpelledUsages.{norm_tail, tail_items};
-ghost use Rattle.crs_writer.specs.Cursor.{item};
+ghost use Rattle.crs_nodes.specs.Cursor.{item};
 ghost use Rattle.crs_writer.specs.Direct.{IsRead, Writes};
 ghost use Rattle.crs_writer.specs.Openings.{named_node};
 
-use crate::direct::node::Node;
 use crate::parts::NeededPart;
 use crate::spell::Spell;
 use crate::spelling::geodetic::write_geodetic_of;
 use crate::spelling::projected::write_projected_of;
 use crate::spelling::tail::TailPart;
 use crate::spelling::texts::{append, open_text};
+use crs_nodes::Node;
 use crs_shape::Class;
 use crs_value::{Compound, Horizontal, Level, Vertical};
 use std::alloc::AllocError;
@@ -53,7 +53,7 @@ fn write_horizontal(node: &Node<'_, '_>, out: &mut Vec<u8>, level: Level) -> Res
 // In the node of the compound CRS.
 impl<'c, 'i, 'a> NeededPart<Horizontal<'a>> for &'c Node<'i, 'a> {
     ghost use Rattle.crs_value.specs.ReadsCrs.{ReadsHorizontal};
-    ghost use Rattle.crs_writer.specs.Cursor.{item};
+    ghost use Rattle.crs_nodes.specs.Cursor.{item};
 
     ghost Says = { λ n h. ReadsHorizontal n.now.class (item n.now) h };
 

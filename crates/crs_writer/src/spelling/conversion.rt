@@ -8,11 +8,9 @@ ghost use Rattle.crs_normal.specs.SpelledConversions.{item_method, item_paramete
 ghost use Rattle.crs_normal.specs.SpelledItems.{each, number_item, opt};
 ghost use Rattle.crs_normal.specs.SpelledUnits.{item_ident, item_unit, norm_units, set_idents};
 ghost use Rattle.crs_writer.specs.Openings.{named_node};
-ghost use Rattle.crs_writer.specs.Parts.{SaysIfAny};
+ghost use Rattle.crs_nodes.specs.Found.{SaysIfAny};
 
 use crate::direct::chain::ReadAs;
-use crate::direct::copied;
-use crate::direct::node::Node;
 use crate::members::MembersPart;
 use crate::parts::{IdentsPart, NeededPart, NumberPart, Part, UnitPart};
 use crate::set::write_set;
@@ -20,6 +18,7 @@ use crate::spell::Spell;
 use crate::spelling::ident::write_named;
 use crate::spelling::texts::{append, append_item, open_text};
 use crate::spelling::unit::write_optional_unit;
+use crs_nodes::{Node, copied};
 use crs_shape::Class;
 use crs_value::{Conversion, GeoidModel, Level, Method, Parameter, UnitKind};
 use std::alloc::AllocError;
@@ -34,7 +33,7 @@ impl Spell for Method<'_> {
 
 impl<'c, 'i, 'a> Part<Method<'a>> for &'c Node<'i, 'a> {
     ghost use Rattle.crs_value.specs.ReadsConversion.{ReadsMethod};
-    ghost use Rattle.crs_writer.specs.Cursor.{item};
+    ghost use Rattle.crs_nodes.specs.Cursor.{item};
 
     ghost Says = { λ n m. ReadsMethod n.now.class (item n.now) m };
 
@@ -149,7 +148,7 @@ impl<'a> Spell for Conversion<'a> {
 
 impl<'c, 'i, 'a> NeededPart<Conversion<'a>> for &'c Node<'i, 'a> {
     ghost use Rattle.crs_value.specs.ReadsConversion.{ReadsConversion};
-    ghost use Rattle.crs_writer.specs.Cursor.{item};
+    ghost use Rattle.crs_nodes.specs.Cursor.{item};
 
     ghost Says = { λ n c. ReadsConversion n.now.class (item n.now) c };
 

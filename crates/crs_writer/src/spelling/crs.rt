@@ -2,15 +2,15 @@
 ghost use Rattle.std.specs.Prelude.{OnOk};
 ghost use Rattle.crs_value.specs.ReadsCrs.{ReadsCrs};
 ghost use Rattle.crs_writer.specs.CrsText.{crs_text};
-ghost use Rattle.crs_writer.specs.Cursor.{item};
+ghost use Rattle.crs_nodes.specs.Cursor.{item};
 ghost use Rattle.crs_writer.specs.Direct.{IsRead, Writes};
 
-use crate::direct::node::Node;
 use crate::spell::Spell;
 use crate::spelling::compound::write_compound_of;
 use crate::spelling::geodetic::write_geodetic_of;
 use crate::spelling::projected::write_projected_of;
 use crate::spelling::vertical::write_vertical_of;
+use crs_nodes::Node;
 use crs_shape::Class;
 use crs_value::{Crs, Level};
 use std::alloc::AllocError;

@@ -9,13 +9,13 @@ ghost use Rattle.crs_value.specs.DynamicValues.{DeformationModelParts};
 ghost use Rattle.crs_normal.specs.PartTexts.{deformation_model_text, dynamic_text};
 ghost use Rattle.crs_normal.specs.SpelledDynamic.{item_deformation_model, norm_deformation_model};
 ghost use Rattle.crs_normal.specs.SpelledItems.{opt};
-ghost use Rattle.crs_writer.specs.Parts.{SaysIfAny};
+ghost use Rattle.crs_nodes.specs.Found.{SaysIfAny};
 
-use crate::direct::node::Node;
 use crate::parts::{NumberPart, Part, write_number_node, write_optional};
 use crate::spell::Spell;
 use crate::spelling::ident::write_named;
 use crate::spelling::texts::append;
+use crs_nodes::Node;
 use crs_shape::Class;
 use crs_value::{DeformationModel, Dynamic, Level};
 use std::alloc::AllocError;
@@ -30,7 +30,7 @@ impl Spell for DeformationModel<'_> {
 
 impl<'c, 'i, 'a> Part<DeformationModel<'a>> for &'c Node<'i, 'a> {
     ghost use Rattle.crs_value.specs.ReadsDynamic.{ReadsDeformationModel};
-    ghost use Rattle.crs_writer.specs.Cursor.{item};
+    ghost use Rattle.crs_nodes.specs.Cursor.{item};
 
     ghost Says = { λ n m. ReadsDeformationModel n.now.class (item n.now) m };
 
@@ -73,7 +73,7 @@ impl Spell for Dynamic<'_> {
 
 impl<'c, 'i, 'a> Part<Dynamic<'a>> for &'c Node<'i, 'a> {
     ghost use Rattle.crs_value.specs.ReadsDynamic.{ReadsDynamic};
-    ghost use Rattle.crs_writer.specs.Cursor.{item};
+    ghost use Rattle.crs_nodes.specs.Cursor.{item};
 
     ghost Says = { λ n d. ReadsDynamic n.now.class (item n.now) d };
 

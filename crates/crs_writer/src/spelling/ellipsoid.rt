@@ -6,13 +6,13 @@ ghost use Rattle.crs_normal.specs.PartTexts.{ellipsoid_text};
 ghost use Rattle.crs_normal.specs.SpelledItems.{each, number_item, opt};
 ghost use Rattle.crs_normal.specs.SpelledUnits.{item_ident, item_unit, norm_length, set_idents};
 ghost use Rattle.crs_writer.specs.Openings.{named_node};
-ghost use Rattle.crs_writer.specs.Parts.{SaysIfAny};
+ghost use Rattle.crs_nodes.specs.Found.{SaysIfAny};
 
-use crate::direct::node::Node;
 use crate::parts::{IdentsPart, NumberPart, Part, UnitPart};
 use crate::spell::Spell;
 use crate::spelling::texts::{append, open_text};
 use crate::spelling::unit::write_length;
+use crs_nodes::Node;
 use crs_shape::Class;
 use crs_value::{Ellipsoid, Level};
 use std::alloc::AllocError;
@@ -62,7 +62,7 @@ impl Spell for Ellipsoid<'_> {
 
 impl<'c, 'i, 'a> Part<Ellipsoid<'a>> for &'c Node<'i, 'a> {
     ghost use Rattle.crs_value.specs.Reads.{ReadsEllipsoid};
-    ghost use Rattle.crs_writer.specs.Cursor.{item};
+    ghost use Rattle.crs_nodes.specs.Cursor.{item};
 
     ghost Says = { λ n e. ReadsEllipsoid n.now.class (item n.now) e };
 

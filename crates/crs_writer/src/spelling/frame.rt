@@ -12,14 +12,12 @@ ghost use Rattle.crs_normal.specs.SpelledFrames.{item_ellipsoid, item_frame, ite
 ghost use Rattle.crs_normal.specs.SpelledFrames.{item_datum, item_ensemble, norm_datum, norm_ensemble, set_members};
 ghost use Rattle.crs_normal.specs.SpelledItems.{each, number_node, opt, text_node};
 ghost use Rattle.crs_normal.specs.SpelledUnits.{item_ident, set_idents};
-ghost use Rattle.crs_writer.specs.Cursor.{args, item};
+ghost use Rattle.crs_nodes.specs.Cursor.{args, item};
 ghost use Rattle.crs_writer.specs.Direct.{IsRead, Writes};
 ghost use Rattle.crs_writer.specs.Openings.{named_node};
-ghost use Rattle.crs_writer.specs.Parts.{SaysIfAny};
+ghost use Rattle.crs_nodes.specs.Found.{SaysIfAny};
 
 use crate::direct::chain::ReadAs;
-use crate::direct::copied;
-use crate::direct::node::Node;
 use crate::members::MembersPart;
 use crate::parts::{
     IdentsPart, NumberPart, Part, write_number_node, write_optional, write_optional_number,
@@ -28,6 +26,7 @@ use crate::set::write_set;
 use crate::spell::{Spell, write_part};
 use crate::spelling::ident::write_named;
 use crate::spelling::texts::{append, append_item, open_text, write_optional_text};
+use crs_nodes::{Node, copied};
 use crs_shape::Class;
 use crs_value::{Datum, Ellipsoid, Ensemble, Frame, Level, Member};
 use std::alloc::AllocError;
@@ -293,7 +292,7 @@ fn write_ensemble_of(
 
 impl<'c, 'i, 'a> FramePart for &'c Node<'i, 'a> {
     ghost use Rattle.crs_value.specs.ReadsCrs.{ReadsGeodeticFrame, ReadsVerticalFrame};
-    ghost use Rattle.crs_writer.specs.Cursor.{item};
+    ghost use Rattle.crs_nodes.specs.Cursor.{item};
 
     ghost SaysGeodetic = { λ n f. ReadsGeodeticFrame n.now.class (item n.now) f };
 

@@ -14,11 +14,10 @@ ghost use Rattle.crs_normal.specs.SpelledFrames.{item_frame, item_meridian, norm
 ghost use Rattle.crs_normal.specs.SpelledItems.{node_of, opt, text_item};
 ghost use Rattle.crs_normal.specs.SpelledSystems.{norm_system, system_items};
 ghost use Rattle.crs_normal.specs.SpelledUsages.{norm_tail, tail_items};
-ghost use Rattle.crs_writer.specs.Cursor.{item};
+ghost use Rattle.crs_nodes.specs.Cursor.{item};
 ghost use Rattle.crs_writer.specs.Direct.{IsRead, Writes};
-ghost use Rattle.crs_writer.specs.Parts.{SaysIfAny};
+ghost use Rattle.crs_nodes.specs.Found.{SaysIfAny};
 
-use crate::direct::node::Node;
 use crate::parts::{Part, write_optional};
 use crate::spell::Spell;
 use crate::spelling::frame::FramePart;
@@ -26,6 +25,7 @@ use crate::spelling::meridian::write_meridian;
 use crate::spelling::system::{SystemPart, write_system};
 use crate::spelling::tail::TailPart;
 use crate::spelling::texts::{append, open_text};
+use crs_nodes::Node;
 use crs_shape::Class;
 use crs_value::{Dynamic, Geodetic, Level, Meridian, SystemType};
 use std::alloc::AllocError;

@@ -1,26 +1,24 @@
 //! Identifiers, and nodes that have a name and identifiers alone.
-ghost use Rattle.std.specs.Prelude.{◌≡◌, ◌++◌, ℕ, IsFalse, IsTrue, List, OnOk, Option, codes, map};
+ghost use Rattle.std.specs.Prelude.{◌≡◌, ◌++◌, ℕ, List, OnOk, Option, codes, map};
 ghost use Rattle.std.specs.Option.{option_copied};
 ghost use Rattle.crs_text.specs.Items.{End, More};
 ghost use Rattle.crs_text.specs.Written.{item_text, others_text};
 ghost use Rattle.crs_value.specs.Reads.{ReadsIds};
 ghost use Rattle.crs_value.specs.Values.{IdentParts};
-ghost use Rattle.crs_value.specs.declared.values.level.Level.TheVariants as levels;
 ghost use Rattle.crs_normal.specs.PartTexts.{ident_text};
 ghost use Rattle.crs_normal.specs.SpelledItems.{code_item, each, opt, text_node};
 ghost use Rattle.crs_normal.specs.SpelledUnits.{item_ident, set_idents};
-ghost use Rattle.crs_writer.specs.Cursor.{item};
+ghost use Rattle.crs_nodes.specs.Cursor.{item};
 ghost use Rattle.crs_writer.specs.Direct.{Writes};
 ghost use Rattle.crs_writer.specs.Members.{set_text};
 ghost use Rattle.crs_writer.specs.Openings.{named_node};
 
-use crate::direct::chain::{Chain, ReadAs};
-use crate::direct::copied;
-use crate::direct::node::Node;
+use crate::direct::chain::ReadAs;
 use crate::parts::IdentsPart;
 use crate::set::write_set;
 use crate::spell::Spell;
 use crate::spelling::texts::{append, open_text, write_code, write_optional_text};
+use crs_nodes::{Chain, Node, copied, keeps};
 use crs_shape::Class;
 use crs_value::{Ident, Level, List};
 use std::alloc::AllocError;
@@ -95,15 +93,6 @@ impl<'a> ReadAs<'a> for Ident<'a> {
     }
 }
 
-// Whether the level keeps identifiers, usages and remarks.
-#[inline(always)]
-pub(crate) fn keeps(level: Level) -> bool
-    ensures full { IsTrue result → level ≡ levels.Full }
-    ensures definition { IsFalse result → level ≡ levels.Definition }
-{
-    matches!(level, Level::Full)
-}
-
 #[inline(always)]
 fn write_ident_set<'a>(out: &mut Vec<u8>, identifiers: &[Ident<'a>]) -> Result<(), AllocError>
     ensures { OnOk result (out.new.items ≡ out.old.items ++ set_text (map (λ i. item_text (item_ident i)) identifiers.now)) }
@@ -158,7 +147,7 @@ fn write_all_idents(node: &Node<'_, '_>, out: &mut Vec<u8>) -> Result<(), AllocE
 
 impl<'c, 'i, 'a> IdentsPart for &'c Node<'i, 'a> {
     ghost use Rattle.crs_value.specs.Reads.{ReadsIds};
-    ghost use Rattle.crs_writer.specs.Cursor.{item};
+    ghost use Rattle.crs_nodes.specs.Cursor.{item};
 
     ghost Says = { λ n ids. ReadsIds n.now.class (item n.now) ids };
 

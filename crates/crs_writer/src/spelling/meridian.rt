@@ -11,13 +11,13 @@ ghost use Rattle.crs_normal.specs.SpelledItems.{each, number_item, opt};
 ghost use Rattle.crs_normal.specs.SpelledUnits.{item_ident, item_unit, norm_units, set_idents};
 ghost use Rattle.crs_writer.specs.Direct.{Writes};
 ghost use Rattle.crs_writer.specs.Openings.{named_node};
-ghost use Rattle.crs_writer.specs.Parts.{SaysIfAny};
+ghost use Rattle.crs_nodes.specs.Found.{SaysIfAny};
 
-use crate::direct::node::Node;
 use crate::parts::{IdentsPart, NumberPart, Part, UnitPart};
 use crate::spell::Spell;
 use crate::spelling::texts::{append, open_text};
 use crate::spelling::unit::write_optional_unit;
+use crs_nodes::Node;
 use crs_shape::Class;
 use crs_value::{Level, Meridian, UnitKind};
 use std::alloc::AllocError;
@@ -82,7 +82,7 @@ impl Spell for Meridian<'_> {
 
 impl<'c, 'i, 'a> Part<Meridian<'a>> for &'c Node<'i, 'a> {
     ghost use Rattle.crs_value.specs.Reads.{ReadsMeridian};
-    ghost use Rattle.crs_writer.specs.Cursor.{item};
+    ghost use Rattle.crs_nodes.specs.Cursor.{item};
 
     ghost Says = { λ n m. ReadsMeridian n.now.class (item n.now) m };
 

@@ -17,12 +17,11 @@ ghost use Rattle.crs_normal.specs.SpelledItems.{each, opt};
 ghost use Rattle.crs_normal.specs.SpelledSystems.{norm_system, system_items};
 ghost use Rattle.crs_normal.specs.SpelledUnits.{item_ident, item_unit, norm_units, set_idents};
 ghost use Rattle.crs_normal.specs.SpelledUsages.{norm_tail, tail_items};
-ghost use Rattle.crs_writer.specs.Cursor.{item};
+ghost use Rattle.crs_nodes.specs.Cursor.{item};
 ghost use Rattle.crs_writer.specs.Direct.{IsRead, Writes};
 ghost use Rattle.crs_writer.specs.Openings.{named_node};
-ghost use Rattle.crs_writer.specs.Parts.{SaysIfAny};
+ghost use Rattle.crs_nodes.specs.Found.{SaysIfAny};
 
-use crate::direct::node::Node;
 use crate::parts::{IdentsPart, NeededPart, Part, UnitPart, write_optional};
 use crate::spell::Spell;
 use crate::spelling::frame::FramePart;
@@ -31,6 +30,7 @@ use crate::spelling::system::{SystemPart, write_system};
 use crate::spelling::tail::TailPart;
 use crate::spelling::texts::{append, open_text};
 use crate::spelling::unit::write_optional_unit;
+use crs_nodes::Node;
 use crs_shape::Class;
 use crs_value::{Base, Conversion, Dynamic, Level, Meridian, Projected, UnitKind};
 use std::alloc::AllocError;
@@ -92,7 +92,7 @@ impl Spell for Base<'_> {
 
 impl<'c, 'i, 'a> NeededPart<Base<'a>> for &'c Node<'i, 'a> {
     ghost use Rattle.crs_value.specs.ReadsCrs.{ReadsBase};
-    ghost use Rattle.crs_writer.specs.Cursor.{item};
+    ghost use Rattle.crs_nodes.specs.Cursor.{item};
 
     ghost Says = { λ n b. ReadsBase n.now.class (item n.now) b };
 

@@ -12,16 +12,16 @@ ghost use Rattle.crs_matching.specs.SameSystems.{own_or};
 ghost use Rattle.crs_normal.specs.SpelledItems.{each, number_item};
 ghost use Rattle.crs_normal.specs.SpelledSystems.{axes_from, axis_at, is_at, is_number, item_axis, item_head};
 ghost use Rattle.crs_normal.specs.SpelledSystems.{norm_axis, norm_system, system_items, with_axis};
-ghost use Rattle.crs_writer.specs.Cursor.{args, item};
+ghost use Rattle.crs_nodes.specs.Cursor.{args, item};
 ghost use Rattle.crs_writer.specs.Direct.{IsRead, Writes};
-ghost use Rattle.crs_writer.specs.Parts.{SaysIfAny};
+ghost use Rattle.crs_nodes.specs.Found.{SaysIfAny};
 
-use crate::direct::node::Node;
-use crate::direct::{copied, system as axes};
+use crate::direct::system as axes;
 use crate::parts::{IdentsPart, NumberPart};
 use crate::spelling::axis::write_axis;
 use crate::spelling::texts::{append, append_item};
 use crs_decimal::Decimal;
+use crs_nodes::{Node, copied};
 use crs_shape::Class;
 use crs_value::{Axis, Level, System, SystemType};
 use std::alloc::AllocError;
@@ -284,7 +284,7 @@ fn write_axis_of<'i, 'a>(
 
 impl<'c, 'i, 'a> SystemPart for &'c Node<'i, 'a> {
     ghost use Rattle.crs_value.specs.Reads.{ReadsSystem};
-    ghost use Rattle.crs_writer.specs.Cursor.{item};
+    ghost use Rattle.crs_nodes.specs.Cursor.{item};
 
     ghost Says = { λ n s. ReadsSystem n.now.class (item n.now) s };
 

@@ -11,16 +11,14 @@ ghost use Rattle.crs_matching.specs.SameUsages.{usages_of, with_bare};
 ghost use Rattle.crs_normal.specs.SpelledItems.{each, opt, text_node};
 ghost use Rattle.crs_normal.specs.SpelledUnits.{item_ident, set_idents};
 ghost use Rattle.crs_normal.specs.SpelledUsages.{item_usage, norm_tail, norm_usage, set_usages, tail_items};
-ghost use Rattle.crs_writer.specs.Cursor.{item};
+ghost use Rattle.crs_nodes.specs.Cursor.{item};
 ghost use Rattle.crs_writer.specs.Direct.{Writes};
 ghost use Rattle.crs_writer.specs.Members.{set_text};
 
-use crate::direct::chain::Chain;
-use crate::direct::node::Node;
 use crate::parts::IdentsPart;
 use crate::set::{write_set, write_set_with};
-use crate::spelling::ident::keeps;
 use crate::spelling::texts::write_optional_text;
+use crs_nodes::{Chain, Node, keeps};
 use crs_shape::Class;
 use crs_value::{Level, Tail, Usage};
 use std::alloc::AllocError;
@@ -148,7 +146,7 @@ fn remark_of<'a>(node: &Node<'_, 'a>, level: Level) -> Option<&'a [u8]>
 
 impl<'c, 'i, 'a> TailPart for &'c Node<'i, 'a> {
     ghost use Rattle.crs_value.specs.Reads.{ReadsTail};
-    ghost use Rattle.crs_writer.specs.Cursor.{item};
+    ghost use Rattle.crs_nodes.specs.Cursor.{item};
 
     ghost Says = { λ n t. ReadsTail n.now.class (item n.now) t };
 

@@ -1,15 +1,14 @@
 //! Bytes, and items of one token or of one argument.
 ghost use Rattle.std.specs.Prelude.{◌≡◌, ◌∷◌, ◌++◌, [], OnOk};
-ghost use Rattle.std.specs.List.{list_all};
 ghost use Rattle.std.specs.Option.{option_copied};
 ghost use Rattle.crs_decimal.specs.Plain.{plain};
-ghost use Rattle.crs_decimal.specs.Spelling.{is_digit};
 ghost use Rattle.crs_text.specs.Items.{End, More};
 ghost use Rattle.crs_text.specs.Written.{item_text, others_text};
-ghost use Rattle.crs_normal.specs.SpelledItems.{code_item, is_short, number_item};
+ghost use Rattle.crs_normal.specs.SpelledItems.{code_item, number_item};
 ghost use Rattle.crs_writer.specs.Openings.{opened, text_behind};
 
 use crs_decimal::Decimal;
+use crs_nodes::is_short;
 use std::alloc::AllocError;
 
 /// Appends bytes. Profile.
@@ -92,19 +91,6 @@ pub fn write_number(out: &mut Vec<u8>, value: &Decimal) -> Result<(), AllocError
 {
     append(out, b",")?;
     write_decimal(out, value)
-}
-
-pub(crate) fn are_digits(raw: &[u8]) -> bool
-    ensures { result ≡ list_all is_digit raw.now }
-{
-    raw.iter().all(|byte| byte.is_ascii_digit())
-}
-
-// Whether a code is written without quotes.
-pub(crate) fn is_short(raw: &[u8]) -> bool
-    ensures { result ≡ is_short raw.now }
-{
-    are_digits(raw) && 1 <= raw.len() && raw.len() <= 18
 }
 
 /// Appends a code or a version after a comma. Profile.

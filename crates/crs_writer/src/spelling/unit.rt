@@ -9,13 +9,14 @@ ghost use Rattle.crs_normal.specs.PartTexts.{unit_text};
 ghost use Rattle.crs_normal.specs.SpelledItems.{opt};
 ghost use Rattle.crs_normal.specs.SpelledUnits.{item_unit, metre, norm_length, norm_unit};
 ghost use Rattle.crs_writer.specs.Direct.{Writes};
-ghost use Rattle.crs_writer.specs.Parts.{SaysIfAny, opt_text};
+ghost use Rattle.crs_nodes.specs.Found.{SaysIfAny};
+ghost use Rattle.crs_writer.specs.Parts.{opt_text};
 
-use crate::direct::node::Node;
 use crate::parts::{IdentsPart, NumberPart, UnitPart};
 use crate::spell::Spell;
 use crate::spelling::ident::write_idents;
 use crate::spelling::texts::{append, open_text, write_number};
+use crs_nodes::Node;
 use crs_value::{Level, Unit, UnitKind};
 use std::alloc::AllocError;
 
@@ -86,7 +87,7 @@ impl<'b, 'a> UnitPart for &'b Unit<'a> {
 
 impl<'c, 'i, 'a> UnitPart for &'c Node<'i, 'a> {
     ghost use Rattle.crs_value.specs.Reads.{ReadsUnit};
-    ghost use Rattle.crs_writer.specs.Cursor.{item};
+    ghost use Rattle.crs_nodes.specs.Cursor.{item};
 
     ghost Says = { λ n u. ReadsUnit n.now.class (item n.now) u };
 

@@ -11,15 +11,14 @@ ghost use Rattle.crs_normal.specs.SpelledItems.{node_from, number_item, opt, tex
 ghost use Rattle.crs_normal.specs.SpelledUnits.{item_unit, norm_length};
 ghost use Rattle.crs_normal.specs.SpelledUsages.{item_box, item_extent, norm_extent};
 ghost use Rattle.crs_writer.specs.Openings.{enclosed, numbered_node};
-ghost use Rattle.crs_writer.specs.Parts.{SaysIfAny};
+ghost use Rattle.crs_nodes.specs.Found.{SaysIfAny};
 
 use crate::direct::chain::ReadAs;
-use crate::direct::copied;
-use crate::direct::node::Node;
 use crate::parts::{NumberPart, Part, UnitPart, write_optional};
 use crate::spell::Spell;
 use crate::spelling::texts::{append, write_optional_text};
 use crate::spelling::unit::write_length;
+use crs_nodes::{Node, copied};
 use crs_shape::Class;
 use crs_value::{BoundingBox, Extent, Level, Usage};
 use std::alloc::AllocError;
@@ -62,7 +61,7 @@ impl Spell for BoundingBox {
 
 impl<'c, 'i, 'a> Part<BoundingBox> for &'c Node<'i, 'a> {
     ghost use Rattle.crs_value.specs.Reads.{ReadsBox};
-    ghost use Rattle.crs_writer.specs.Cursor.{item};
+    ghost use Rattle.crs_nodes.specs.Cursor.{item};
 
     ghost Says = { λ n b. ReadsBox n.now.class (item n.now) b };
 
@@ -116,7 +115,7 @@ impl Spell for Extent<'_> {
 
 impl<'c, 'i, 'a> Part<Extent<'a>> for &'c Node<'i, 'a> {
     ghost use Rattle.crs_value.specs.Reads.{ReadsExtent};
-    ghost use Rattle.crs_writer.specs.Cursor.{item};
+    ghost use Rattle.crs_nodes.specs.Cursor.{item};
 
     ghost Says = { λ n e. ReadsExtent n.now.class (item n.now) e };
 

@@ -11,12 +11,11 @@ ghost use Rattle.crs_normal.specs.SpelledFrames.{item_frame, norm_frame};
 ghost use Rattle.crs_normal.specs.SpelledItems.{each, opt};
 ghost use Rattle.crs_normal.specs.SpelledSystems.{norm_system, system_items};
 ghost use Rattle.crs_normal.specs.SpelledUsages.{norm_tail, tail_items};
-ghost use Rattle.crs_writer.specs.Cursor.{item};
+ghost use Rattle.crs_nodes.specs.Cursor.{item};
 ghost use Rattle.crs_writer.specs.Direct.{IsRead, Writes};
 ghost use Rattle.crs_writer.specs.Openings.{named_node};
-ghost use Rattle.crs_writer.specs.Parts.{SaysIfAny};
+ghost use Rattle.crs_nodes.specs.Found.{SaysIfAny};
 
-use crate::direct::node::Node;
 use crate::members::MembersPart;
 use crate::parts::{NeededPart, Part, write_optional};
 use crate::set::write_set;
@@ -25,6 +24,7 @@ use crate::spelling::frame::FramePart;
 use crate::spelling::system::{SystemPart, write_system};
 use crate::spelling::tail::TailPart;
 use crate::spelling::texts::{append, open_text};
+use crs_nodes::Node;
 use crs_shape::Class;
 use crs_value::{Dynamic, GeoidModel, Level, Vertical};
 use std::alloc::AllocError;
@@ -115,7 +115,7 @@ pub(crate) fn write_vertical_of(
 
 impl<'c, 'i, 'a> NeededPart<Vertical<'a>> for &'c Node<'i, 'a> {
     ghost use Rattle.crs_value.specs.ReadsCrs.{ReadsVertical};
-    ghost use Rattle.crs_writer.specs.Cursor.{item};
+    ghost use Rattle.crs_nodes.specs.Cursor.{item};
 
     ghost Says = { λ n v. ReadsVertical n.now.class (item n.now) v };
 

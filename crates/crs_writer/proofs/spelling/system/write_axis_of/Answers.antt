@@ -5,8 +5,8 @@ use Rattle.crs_shape.specs.declared.class.Class.TheVariants as class
 use Rattle.crs_value.specs.Reads.{ReadsAxisMeridian, ReadsUnit}
 use Rattle.crs_matching.specs.SameSystems.{own_or}
 use Rattle.crs_normal.specs.SpelledUnits.{whole_value}
-use Rattle.crs_writer.specs.Cursor.{item}
-use Rattle.crs_writer.specs.declared.direct.node.Node.{Node}
+use Rattle.crs_nodes.specs.Cursor.{item}
+use Rattle.crs_nodes.specs.declared.node.Node.{Node}
 use Rattle.crs_writer.proofs.CursorLemmas.{first-said}
 use Rattle.crs_writer.proofs.FlatLemmas.{through}
 use Rattle.crs_writer.proofs.SystemLemmas.{placed}

@@ -1,4 +1,4 @@
-use Rattle.crs_writer.proofs.PlainLemmas.{one-appended}
+use Rattle.crs_nodes.proofs.PlainLemmas.{one-appended}
 use Rattle.crs_writer.proofs.spelling.texts.write_decimal.Goals as goal
 
 pub returns : goal.returns

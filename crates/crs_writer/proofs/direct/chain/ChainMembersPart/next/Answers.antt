@@ -2,9 +2,9 @@ use Rattle.std.proofs.Common.{subst}
 use Rattle.crs_value.specs.FoundArguments.{from_found}
 use Rattle.crs_value.specs.Reading.{Holds, ReadsEach}
 use Rattle.crs_value.proofs.found.ArgumentLemmas.{found-holds}
-use Rattle.crs_writer.specs.Cursor.{item}
-use Rattle.crs_writer.specs.declared.direct.chain.Chain.{Chain}
-use Rattle.crs_writer.specs.declared.direct.node.Node.{Node}
+use Rattle.crs_nodes.specs.Cursor.{item}
+use Rattle.crs_nodes.specs.declared.chain.Chain.{Chain}
+use Rattle.crs_nodes.specs.declared.node.Node.{Node}
 use Rattle.crs_writer.proofs.ChainLemmas.{fewer-left, first-said, none-left}
 use Rattle.crs_writer.proofs.direct.chain.ChainMembersPart.next.Goals as goal
 

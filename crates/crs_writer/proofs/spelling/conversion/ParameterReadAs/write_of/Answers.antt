@@ -1,8 +1,8 @@
 use Rattle.std.proofs.lemmas.Result.{on_ok_weaker}
 use Rattle.crs_value.specs.Reads.{ReadsUnit}
-use Rattle.crs_writer.specs.Cursor.{item}
-use Rattle.crs_writer.specs.declared.direct.node.Node.{Node}
-use Rattle.crs_writer.proofs.CopiedLemmas.{copy-writes}
+use Rattle.crs_nodes.specs.Cursor.{item}
+use Rattle.crs_nodes.specs.declared.node.Node.{Node}
+use Rattle.crs_writer.proofs.CopyLemmas.{copy-writes}
 use Rattle.crs_writer.proofs.FlatLemmas.{through}
 use Rattle.crs_writer.proofs.spelling.conversion.ParameterReadAs.write_of.Goals as goal
 

@@ -1,5 +1,5 @@
 use Rattle.std.proofs.lemmas.Result.{on_ok_weaker}
-use Rattle.crs_writer.proofs.CopiedLemmas.{part-writes}
+use Rattle.crs_writer.proofs.CopyLemmas.{part-writes}
 use Rattle.crs_writer.proofs.spelling.conversion.RefNodePartMethod.put.Goals as goal
 
 pub returns-in-Some : goal.returns-in-Some

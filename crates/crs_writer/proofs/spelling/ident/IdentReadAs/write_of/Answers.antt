@@ -1,5 +1,5 @@
 use Rattle.std.proofs.lemmas.Result.{on_ok_weaker}
-use Rattle.crs_writer.proofs.CopiedLemmas.{copy-writes}
+use Rattle.crs_writer.proofs.CopyLemmas.{copy-writes}
 use Rattle.crs_writer.proofs.spelling.ident.IdentReadAs.write_of.Goals as goal
 
 pub returns-in-Some : goal.returns-in-Some

@@ -1,0 +1,8 @@
+pub mod CopiedAxisLemmas
+pub mod CopiedDatumLemmas
+pub mod CopiedLemmas
+pub mod CopiedUsageLemmas
+pub mod DirectFlatLemmas
+pub mod DirectPlainLemmas
+pub mod LookupLemmas
+pub mod PlainLemmas

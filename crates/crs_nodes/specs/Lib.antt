@@ -1,0 +1,4 @@
+pub mod Copied
+pub mod Cursor
+pub mod Found
+pub mod PlainBytes

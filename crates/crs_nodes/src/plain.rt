@@ -1,0 +1,165 @@
+//! Numbers that are written as they are, or as a part of what is there.
+ghost use Rattle.std.specs.Prelude.{◌≡◌, ◌≢◌, ◌<◌, ◌≤◌, ◌∷◌, ◌+◌, ◌-◌, ◌==◌, ◌++◌, if◌then◌else◌, IfSome, IsTrue};
+ghost use Rattle.std.specs.Prelude.{length, take, drop, replicate, slice_index_or};
+ghost use Rattle.std.specs.List.{prefix_len};
+ghost use Rattle.crs_decimal.specs.Bounds.{Denotes};
+ghost use Rattle.crs_decimal.specs.Number.{Number};
+ghost use Rattle.crs_decimal.specs.Plain.{EndsTrim, IsPlain, IsTrim};
+ghost use Rattle.crs_decimal.specs.Spelling.{AreDigits, is_digit};
+ghost use Rattle.crs_nodes.specs.PlainBytes.{IsPlainRest, IsUnsigned};
+
+use crate::digits::are_digits;
+
+fn digits_len(bytes: &[u8]) -> usize
+    ensures value { result ≡ prefix_len is_digit bytes.now }
+    ensures bound { result ≤ length bytes.now }
+{
+    bytes
+        .iter()
+        .take_while(|byte| byte.is_ascii_digit())
+        .count()
+}
+
+fn front_of(bytes: &[u8], to: usize) -> &[u8]
+    requires { to ≤ length bytes.now }
+    ensures { result.now ≡ take to bytes.now }
+{
+    &bytes[..to]
+}
+
+fn rest_of(bytes: &[u8], from: usize) -> &[u8]
+    requires { from ≤ length bytes.now }
+    ensures { result.now ≡ drop from bytes.now }
+{
+    &bytes[from..]
+}
+
+// Whether digits begin with no zero, or are one zero alone.
+fn begins_trim(digits: &[u8]) -> bool
+    ensures { IsTrue result → IsTrim digits.now }
+{
+    match digits {
+        [] => false,
+        [_] => true,
+        [first, ..] => *first != b'0',
+    }
+}
+
+// Whether bytes are digits, the last of them not a zero.
+fn ends_trim(digits: &[u8]) -> bool
+    ensures digits { IsTrue result → AreDigits digits.now }
+    ensures trim { IsTrue result → EndsTrim digits.now }
+{
+    match digits.last() {
+        None => false,
+        Some(last) => *last != b'0' && are_digits(digits),
+    }
+}
+
+// Whether what is behind the digits in front is nothing, or a fraction that is plain.
+fn is_rest_plain(rest: &[u8]) -> bool
+    ensures { IsTrue result → IsPlainRest rest.now }
+{
+    match rest {
+        [] => true,
+        [b'.', fraction @ ..] => ends_trim(fraction),
+        _ => false,
+    }
+}
+
+// Whether these bytes are a plain spelling without a sign.
+fn is_unsigned(raw: &[u8]) -> bool
+    ensures { IsTrue result → IsUnsigned raw.now }
+{
+    let count = digits_len(raw);
+    begins_trim(front_of(raw, count)) && is_rest_plain(rest_of(raw, count))
+}
+
+// Whether these bytes, of which there are several, are a plain spelling behind a minus.
+fn is_below_zero(rest: &[u8]) -> bool
+    ensures { IsTrue result → IsPlain (45 ∷ rest.now) }
+{
+    rest.len() > 1 && is_unsigned(rest)
+}
+
+// Whether these bytes are a plain spelling, as is told at a glance of most that are.
+pub(crate) fn is_plain(raw: &[u8]) -> bool
+    ensures { IsTrue result → IsPlain raw.now }
+{
+    match raw.split_first() {
+        None => false,
+        Some((sign, rest)) => {
+            if *sign == b'-' {
+                is_below_zero(rest)
+            } else {
+                is_unsigned(raw)
+            }
+        }
+    }
+}
+
+// Up to where a fraction's last digit is that isn't a zero.
+fn kept_len(fraction: &[u8]) -> usize
+    ensures bound { result ≤ length fraction.now }
+    ensures zeros { fraction.now ≡ take result fraction.now ++ replicate (length fraction.now - result) 48 }
+    ensures ends { 0 < result → slice_index_or fraction.now (result - 1) 0 ≢ 48 }
+{
+    let mut end = fraction.len();
+    while end > 0 && fraction[end - 1] == b'0' {
+        end -= 1;
+    }
+    end
+}
+
+// So many digits in front, and a period and so many digits behind them where there are any.
+fn front_with(raw: &[u8], count: usize, kept: usize) -> &[u8]
+    requires { count + (1 + kept) ≤ length raw.now }
+    ensures { result.now ≡ (if kept == 0 then take count raw.now else take (count + (1 + kept)) raw.now) }
+{
+    if kept == 0 {
+        &raw[..count]
+    } else {
+        &raw[..count + (1 + kept)]
+    }
+}
+
+// The plain spelling of the number that bytes spell, which have no sign, where it is told at a glance: these bytes, or
+// these bytes without the zeros at the end of a fraction.
+fn unsigned_plain(raw: &[u8]) -> Option<&[u8]>
+    ensures plain { IfSome result (λ part. IsUnsigned part.now) }
+    ensures same { IfSome result (λ part. (number : Number) → Denotes raw.now number → Denotes part.now number) }
+{
+    let count = digits_len(raw);
+    if !begins_trim(front_of(raw, count)) {
+        return None;
+    }
+    match rest_of(raw, count).split_first() {
+        None => Some(raw),
+        Some((period, fraction)) => {
+            if *period == b'.' && are_digits(fraction) {
+                Some(front_with(raw, count, kept_len(fraction)))
+            } else {
+                None
+            }
+        }
+    }
+}
+
+/// The plain spelling of the number that bytes spell, where it is told at a glance and is part of them. Profile.
+pub fn plain_of(raw: &[u8]) -> Option<&[u8]>
+    ensures plain { IfSome result (λ part. IsPlain part.now) }
+    ensures same { IfSome result (λ part. (number : Number) → Denotes raw.now number → Denotes part.now number) }
+{
+    match raw.split_first() {
+        None => None,
+        Some((sign, rest)) => {
+            if *sign == b'+' {
+                unsigned_plain(rest)
+            } else if *sign == b'-' {
+                if is_below_zero(rest) { Some(raw) } else { None }
+            } else {
+                unsigned_plain(raw)
+            }
+        }
+    }
+}
