@@ -283,12 +283,14 @@ def test_a_header_that_is_not_the_library_s_is_told(copy: Copy) -> None:
     assert copy.build("library", status=2).splitlines()[-1] == wanted
 
 
-def test_the_library_is_proved_over_what_the_gate_left(copy: Copy) -> None:
+def test_the_library_is_proved_by_one_job_over_what_the_gate_left(copy: Copy) -> None:
     assert copy.build("library", "--over-gate", status=2).startswith("crsdesk: the gate left nothing of low: run rt ci")
     for name in ("low", "mid"):
         (copy.root / "crates" / name / f"out/rlib/{name}.rlib").mkdir(parents=True)
     assert "1 crate," in copy.build("library", "--over-gate")
-    assert f"mid={copy.root}/crates/mid/out/rlib/mid.rlib" in copy.log.read_text() and copy.asked() == ["crs_c"]
+    log = copy.log.read_text()
+    assert log.startswith("crs_c jobs=1 ") and f"mid={copy.root}/crates/mid/out/rlib/mid.rlib" in log
+    assert copy.asked() == ["crs_c"]
     copy.source("low").write_text("more")
     assert "left nothing of low" in copy.build("library", "--over-gate", status=2)
 

@@ -19,7 +19,8 @@ The program is crates/crsdesk/out/crsdesk. FOLDER, which is out/prefix where non
 Both libraries show the calls of the header, and no other name, and the shared object each with the version that it came
 with (crates/crs_c/symbols.map). Before they are made, a C program compares the sizes and the fields of the header's
 structs with the library's own (crates/crs_c/layout.c). It takes a C compiler, cc, and ld, objcopy, nm and strip. With
---over-gate the crates below are taken as rt ci has proved them and left them; so the gate proves them once.
+--over-gate the crates below are taken as rt ci has proved them and left them, so the gate proves them once, and the
+library's own check has one job, as each of the gate.
 
 The status is 0 where what was asked for is there, of the sources as they are; else 2, with a line on standard error.
 """
@@ -293,12 +294,12 @@ def prove(crates: list[Crate], what: str, of_gate: Sequence[Crate] = ()) -> None
         left = [it for it in crates if it not in of_gate and not it.is_current(by_this_toolchain=True)]
         if left:
             say(f"proving and building {what}: {len(left)} crate{'s' * (len(left) > 1)}, which takes minutes")
-            prove_all(left)
+            prove_all(left, 1 if of_gate else jobs_of_this_machine())
 
 
-def prove_all(crates: list[Crate]) -> None:
+def prove_all(crates: list[Crate], jobs: int) -> None:
     """Proves crates, two at a time: that with most above it with all jobs, another beside it with one."""
-    jobs, began, done = jobs_of_this_machine(), time.monotonic(), 0
+    began, done = time.monotonic(), 0
     left, running = [*crates], list[Crate]()
 
     def tell(text: str, is_last: bool) -> None:
