@@ -28,6 +28,9 @@ LIBRARIES = (
     " crs_rules crs_streams crs_rules_file crs_group crs_explain crs_requests crs_line_request crs_command_line crs_runs"
     " crs_same_run crs_desk crs_c"
 ).split()
+# Those of which no other crate exports anything: their calls are for the crates above alone, and no claim rests on their
+# clauses.
+INNER = ("crs_nodes",)
 
 # A word of a definition or a clause.
 WORD = re.compile(r"[^\s(){}\[\],;.λ→×:=\"|]+")
@@ -235,6 +238,7 @@ def believed(claims: set[str]) -> tuple[dict[Name, str], dict[tuple[str, str], S
     open_ = [
         (name, clause.where)
         for crate in LIBRARIES
+        if crate not in INNER
         for clause in public_clauses(crate, claims)
         for name in cited(clause.text, clause.scope)
     ]
