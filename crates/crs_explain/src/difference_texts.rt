@@ -12,7 +12,7 @@ ghost use Rattle.crs_explain.specs.InOrder.{AreOrderedTexts};
 use crate::order::{StepWord, put_in_order};
 use crate::set_texts::append_set;
 use crs_canon::write_content;
-use crs_same::{Content, Difference, differences, laws};
+use crs_same::{Content, Difference, Differences, differences, laws};
 use crs_value::laws::crs_is_sound;
 use crs_value::{Crs, Level};
 use std::alloc::{AllocError, Global};
@@ -44,7 +44,17 @@ pub(crate) fn difference_texts<'a>(
 ) -> Result<Vec<DifferenceTexts>, AllocError>
     ensures { IfOk result (λ texts. AreDifferenceTexts level a.now b.now texts.items) }
 {
-    let differences = differences(alloc, a, b, level)?;
+    all_texts(alloc, level, differences(alloc, a, b, level)?)
+}
+
+// Of differences that it owns: a function that lends them beside two CRSs is slow to prove.
+fn all_texts(
+    alloc: Global,
+    level: Level,
+    differences: Differences<'_, '_>,
+) -> Result<Vec<DifferenceTexts>, AllocError>
+    ensures { IfOk result (λ texts. AreTexts level differences.entry texts.items) }
+{
     texts_of(alloc, level, differences.as_slice())
 }
 
@@ -59,7 +69,22 @@ pub(crate) fn ordered_texts<'a>(
     ensures { IfOk result (λ found. MatchOption found (SameCrs level a.now b.now)
         (λ texts. (¬ SameCrs level a.now b.now) × AreOrderedTexts words.now level a.now b.now texts.items)) }
 {
-    let differences = differences(alloc, a, b, level)?;
+    texts_in_order(alloc, words, a, b, level, differences(alloc, a, b, level)?)
+}
+
+// The texts of the differences of two CRSs, which it owns, in the order of some words; None where there are none.
+fn texts_in_order<'a>(
+    alloc: Global,
+    words: &[StepWord],
+    a: &Crs<'a>,
+    b: &Crs<'a>,
+    level: Level,
+    differences: Differences<'_, 'a>,
+) -> Result<Option<Vec<DifferenceTexts>>, AllocError>
+    requires { DifferencesInCrs level a.now b.now differences }
+    ensures { IfOk result (λ found. MatchOption found (SameCrs level a.now b.now)
+        (λ texts. (¬ SameCrs level a.now b.now) × AreOrderedTexts words.now level a.now b.now texts.items)) }
+{
     if are_none(a, b, level, differences.as_slice()) {
         return Ok(None);
     }
