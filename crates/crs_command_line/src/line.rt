@@ -1,9 +1,10 @@
-ghost use Rattle.std.specs.Prelude.{◌≡◌, [], map, IfOk, IfErr, IsSome, Some, false, option_and_then};
+ghost use Rattle.std.specs.Prelude.{◌≡◌, [], map, IfOk, IfErr, IsOkAnd, IsSome, Some, false, option_and_then};
+ghost use Rattle.clap.specs.Built.{AddsArg, AddsSubcommand};
 ghost use Rattle.clap.specs.Words.{app_of, fault_of, rule_of, shape_of};
-ghost use Rattle.clap.specs.Words.{subcommand_rows_of, with_subcommand};
+ghost use Rattle.clap.specs.Words.{subcommand_rows_of};
 ghost use Rattle.clap.specs.Simple.{new_shape};
 ghost use Rattle.clap.specs.declared.builder.command.Command.TheViews.{out-Command as fields_of};
-ghost use Rattle.crs_command_line.specs.CommandLine.{HandsOn, IsRefusal, asked, desk, input_desk, lone_desk, operand};
+ghost use Rattle.crs_command_line.specs.CommandLine.{HandsOn, IsRefusal, asked, desk, lone_desk, operand};
 ghost use Rattle.crs_command_line.specs.CommandLine.{canon_shape, check_shape, explain_shape};
 ghost use Rattle.crs_command_line.specs.CommandLine.{file_operands, first_option, flag, group_shape};
 ghost use Rattle.crs_command_line.specs.CommandLine.{level_option};
@@ -96,7 +97,23 @@ fn matches_of<'a>(alloc: Global, words: &'a [&'a str]) -> Result<ArgMatches<'a>,
     ensures faultless { IfOk result (λ matches. fault_of desk (map (λ word. word.now) words.entry.now) ≡ []) }
     ensures refused { IfErr result (IsRefusal (map (λ word. word.now) words.entry.now)) }
 {
-    let command = desk_command(alloc).map_err(RequestFault::Memory)?;
+    match desk_command(alloc) {
+        Ok(command) => matches_by(command, words),
+        Err(error) => Err(RequestFault::Memory(error)),
+    }
+}
+
+fn matches_by<'a>(
+    command: Command<'a>,
+    words: &'a [&'a str],
+) -> Result<ArgMatches<'a>, RequestFault>
+    requires { app_of command ≡ desk }
+    ensures ok { IfOk result (λ matches. asked (map (λ word. word.now) words.entry.now)
+        ≡ option_and_then request_of (subcommand_rows_of matches)) }
+    ensures some { IfOk result (λ matches. IsSome (option_and_then request_of (subcommand_rows_of matches))) }
+    ensures faultless { IfOk result (λ matches. fault_of desk (map (λ word. word.now) words.entry.now) ≡ []) }
+    ensures refused { IfErr result (IsRefusal (map (λ word. word.now) words.entry.now)) }
+{
     match command.try_get_matches_from(words) {
         Ok(matches) => Ok(matches),
         Err(error) => Err(refusal(error)),
@@ -107,74 +124,77 @@ fn desk_command<'a>(alloc: Global) -> Result<Command<'a>, AllocError>
     ensures shape { IfOk result (λ command. app_of command ≡ desk) }
     ensures globals { IfOk result (λ command. (fields_of command).has_globals ≡ false) }
 {
-    let command = with_same(alloc)?;
-    command.subcommand(explain_command(alloc)?)
+    let command = with_command(Ok(desk_alone(alloc)), canon_command(alloc));
+    let command = with_command(command, check_command(alloc));
+    let command = with_command(command, group_command(alloc));
+    let command = with_command(command, same_command(alloc));
+    with_command(command, explain_command(alloc))
 }
 
-// The commands that read files or standard input, and `same`.
-fn with_same<'a>(alloc: Global) -> Result<Command<'a>, AllocError>
-    ensures shape { IfOk result (λ command. app_of command ≡ with_subcommand input_desk same_shape) }
-    ensures globals { IfOk result (λ command. (fields_of command).has_globals ≡ false) }
+// A command with one more below it, where there is memory for both.
+fn with_command<'a>(
+    command: Result<Command<'a>, AllocError>,
+    added: Result<Command<'a>, AllocError>,
+) -> Result<Command<'a>, AllocError>
+    ensures { IfOk result (λ whole. IsOkAnd command.entry (λ old. IsOkAnd added.entry (λ part. AddsSubcommand old part whole))) }
 {
-    let command = with_inputs(alloc)?;
-    command.subcommand(same_command(alloc)?)
+    let command = command?;
+    command.subcommand(added?)
 }
 
-// The commands that read files or standard input.
-fn with_inputs<'a>(alloc: Global) -> Result<Command<'a>, AllocError>
-    ensures shape { IfOk result (λ command. app_of command ≡ input_desk) }
-    ensures globals { IfOk result (λ command. (fields_of command).has_globals ≡ false) }
+// A command with one argument more, where there is memory for both.
+fn with_argument<'a>(
+    command: Result<Command<'a>, AllocError>,
+    argument: Arg<'a>,
+) -> Result<Command<'a>, AllocError>
+    ensures { IfOk result (λ whole. IsOkAnd command.entry (λ old. AddsArg old argument.entry whole)) }
 {
-    let canon = canon_command(alloc)?;
-    let check = check_command(alloc)?;
-    let group = group_command(alloc)?;
-    desk_alone(alloc)
-        .subcommand(canon)?
-        .subcommand(check)?
-        .subcommand(group)
+    command?.arg(argument)
 }
 
 fn canon_command<'a>(alloc: Global) -> Result<Command<'a>, AllocError>
     ensures shape { IfOk result (λ command. shape_of command ≡ canon_shape) }
     ensures globals { IfOk result (λ command. (fields_of command).has_globals ≡ false) }
 {
-    lone_command(alloc, "canon", CANON_ABOUT, CANON_STATUS)
-        .arg(level_argument(alloc))?
-        .arg(rules_argument(alloc))?
-        .arg(flag_argument(alloc, "lines", LINES_HELP))?
-        .arg(file_argument(alloc))
+    let alone = lone_command(alloc, "canon", CANON_ABOUT, CANON_STATUS);
+    let command = alone.arg(level_argument(alloc));
+    let command = with_argument(command, rules_argument(alloc));
+    let command = with_argument(command, flag_argument(alloc, "lines", LINES_HELP));
+    with_argument(command, file_argument(alloc))
 }
 
 fn check_command<'a>(alloc: Global) -> Result<Command<'a>, AllocError>
     ensures shape { IfOk result (λ command. shape_of command ≡ check_shape) }
     ensures globals { IfOk result (λ command. (fields_of command).has_globals ≡ false) }
 {
-    lone_command(alloc, "check", CHECK_ABOUT, CHECK_STATUS)
-        .arg(flag_argument(alloc, "lines", LINES_HELP))?
-        .arg(file_argument(alloc))
+    let alone = lone_command(alloc, "check", CHECK_ABOUT, CHECK_STATUS);
+    let command = alone.arg(flag_argument(alloc, "lines", LINES_HELP));
+    with_argument(command, file_argument(alloc))
 }
 
 fn group_command<'a>(alloc: Global) -> Result<Command<'a>, AllocError>
     ensures shape { IfOk result (λ command. shape_of command ≡ group_shape) }
     ensures globals { IfOk result (λ command. (fields_of command).has_globals ≡ false) }
 {
-    let command = lone_command(alloc, "group", GROUP_ABOUT, GROUP_STATUS)
-        .arg(level_argument(alloc))?
-        .arg(rules_argument(alloc))?
-        .arg(flag_argument(alloc, "json", JSON_HELP))?;
+    let alone = lone_command(alloc, "group", GROUP_ABOUT, GROUP_STATUS);
+    let command = alone.arg(level_argument(alloc));
+    let command = with_argument(command, rules_argument(alloc));
+    let command = with_argument(command, flag_argument(alloc, "json", JSON_HELP));
     with_listing(alloc, command)
 }
 
 // What `group` takes beside a level and rules: what says how groups are written, and files.
-fn with_listing<'a>(alloc: Global, command: Command<'a>) -> Result<Command<'a>, AllocError>
-    requires { (fields_of command).has_globals ≡ false }
-    ensures shape { IfOk result (λ whole. shape_of whole ≡ with_listing (shape_of command.entry)) }
+fn with_listing<'a>(
+    alloc: Global,
+    command: Result<Command<'a>, AllocError>,
+) -> Result<Command<'a>, AllocError>
+    requires { IfOk command (λ old. (fields_of old).has_globals ≡ false) }
+    ensures shape { IfOk result (λ whole. IsOkAnd command.entry (λ old. shape_of whole ≡ with_listing (shape_of old))) }
     ensures globals { IfOk result (λ whole. (fields_of whole).has_globals ≡ false) }
 {
-    command
-        .arg(flag_argument(alloc, "repeated", REPEATED_HELP))?
-        .arg(flag_argument(alloc, "names", NAMES_HELP))?
-        .arg(file_argument(alloc))
+    let command = with_argument(command, flag_argument(alloc, "repeated", REPEATED_HELP));
+    let command = with_argument(command, flag_argument(alloc, "names", NAMES_HELP));
+    with_argument(command, file_argument(alloc))
 }
 
 // A command before its words are added, what help says of it, and what it says last.
@@ -199,9 +219,9 @@ fn same_command<'a>(alloc: Global) -> Result<Command<'a>, AllocError>
     ensures shape { IfOk result (λ command. shape_of command ≡ same_shape) }
     ensures globals { IfOk result (λ command. (fields_of command).has_globals ≡ false) }
 {
-    let command = lone_command(alloc, "same", SAME_ABOUT, SAME_STATUS)
-        .arg(needed_word(alloc, "first", "A", FIRST_HELP))?
-        .arg(needed_word(alloc, "second", "B", SECOND_HELP))?;
+    let alone = lone_command(alloc, "same", SAME_ABOUT, SAME_STATUS);
+    let command = alone.arg(needed_word(alloc, "first", "A", FIRST_HELP));
+    let command = with_argument(command, needed_word(alloc, "second", "B", SECOND_HELP));
     with_options(alloc, command)
 }
 
@@ -209,24 +229,26 @@ fn explain_command<'a>(alloc: Global) -> Result<Command<'a>, AllocError>
     ensures shape { IfOk result (λ command. shape_of command ≡ explain_shape) }
     ensures globals { IfOk result (λ command. (fields_of command).has_globals ≡ false) }
 {
-    let command = lone_command(alloc, "explain", EXPLAIN_ABOUT, EXPLAIN_STATUS)
-        .arg(spare_word(alloc, "first", "A", SPARE_FIRST_HELP))?
-        .arg(spare_word(alloc, "second", "B", SECOND_HELP))?
-        .arg(flag_argument(alloc, "json", JSON_HELP))?
-        .arg(first_argument(alloc))?;
+    let alone = lone_command(alloc, "explain", EXPLAIN_ABOUT, EXPLAIN_STATUS);
+    let command = alone.arg(spare_word(alloc, "first", "A", SPARE_FIRST_HELP));
+    let command = with_argument(command, spare_word(alloc, "second", "B", SECOND_HELP));
+    let command = with_argument(command, flag_argument(alloc, "json", JSON_HELP));
+    let command = with_argument(command, first_argument(alloc));
     with_options(alloc, command)
 }
 
 // What `same` and `explain` take beside their operands: a level, rules and the flag `--files`.
-fn with_options<'a>(alloc: Global, command: Command<'a>) -> Result<Command<'a>, AllocError>
-    requires { (fields_of command).has_globals ≡ false }
-    ensures shape { IfOk result (λ whole. shape_of whole ≡ with_options (shape_of command.entry)) }
+fn with_options<'a>(
+    alloc: Global,
+    command: Result<Command<'a>, AllocError>,
+) -> Result<Command<'a>, AllocError>
+    requires { IfOk command (λ old. (fields_of old).has_globals ≡ false) }
+    ensures shape { IfOk result (λ whole. IsOkAnd command.entry (λ old. shape_of whole ≡ with_options (shape_of old))) }
     ensures globals { IfOk result (λ whole. (fields_of whole).has_globals ≡ false) }
 {
-    command
-        .arg(level_argument(alloc))?
-        .arg(rules_argument(alloc))?
-        .arg(flag_argument(alloc, "files", FILES_HELP))
+    let command = with_argument(command, level_argument(alloc));
+    let command = with_argument(command, rules_argument(alloc));
+    with_argument(command, flag_argument(alloc, "files", FILES_HELP))
 }
 
 // An operand that must be given, what help calls it, and what help says of it.
