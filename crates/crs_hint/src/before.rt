@@ -8,9 +8,9 @@ use crs_shape::{Class, known, root_class};
 // A text has at most 12 open delimiters before the place of its refusal, and one may begin there.
 const MOST: usize = 13;
 
-const NONE: Open<'static> = Open {
-    keyword: b"",
+const NONE: Open = Open {
     begin: 0,
+    length: 0,
     delimiter: b'[',
 };
 
@@ -31,8 +31,8 @@ const IN_CRS: [Class; 11] = [
 
 /// What comes before a place, or begins there.
 #[derive(Drop)]
-pub(crate) struct Before<'a> {
-    open: [Open<'a>; MOST],
+pub(crate) struct Before {
+    open: [Open; MOST],
     depth: usize,
     quote: Option<usize>,
     /// Whether a delimiter was closed.
@@ -40,12 +40,12 @@ pub(crate) struct Before<'a> {
     /// Where the first quoted text begins that has nodes inside.
     pub(crate) quote_missing: Option<usize>,
     /// The first node that is where none of its kind can be, and the node that it is in.
-    pub(crate) outside: Option<(Open<'a>, Open<'a>)>,
+    pub(crate) outside: Option<(Open, Open)>,
     ghost in_range: { depth ≤ 13 },
 }
 
 /// What comes before a place of a text.
-pub(crate) fn look_before(text: &[u8], place: usize) -> Before<'_> {
+pub(crate) fn look_before(text: &[u8], place: usize) -> Before {
     let seen = front(text, place.saturating_add(400));
     let mut found = Before {
         open: [NONE; MOST],
@@ -66,14 +66,14 @@ pub(crate) fn look_before(text: &[u8], place: usize) -> Before<'_> {
     found
 }
 
-impl<'a> Before<'a> {
+impl Before {
     /// The delimiters that are open, the outermost first.
-    pub(crate) fn all_open(&self) -> &[Open<'a>] {
+    pub(crate) fn all_open(&self) -> &[Open] {
         &self.open[..self.depth]
     }
 
     /// The delimiter that was opened last.
-    pub(crate) fn innermost(&self) -> Option<Open<'a>> {
+    pub(crate) fn innermost(&self) -> Option<Open> {
         self.all_open().last().copied()
     }
 
@@ -83,7 +83,7 @@ impl<'a> Before<'a> {
     }
 
     // Takes the byte at `at`; false where what follows doesn't count.
-    fn goes_on(&mut self, text: &'a [u8], place: usize, at: usize, byte: u8) -> bool {
+    fn goes_on(&mut self, text: &[u8], place: usize, at: usize, byte: u8) -> bool {
         match (self.quote, byte) {
             (Some(begin), b'"') => {
                 self.end_quote(front(rest(text, begin), at.saturating_sub(begin)), begin);
@@ -92,7 +92,7 @@ impl<'a> Before<'a> {
             }
             (Some(_), _) => true,
             (None, b'"') => self.begin_quote(place, at),
-            (None, b'[' | b'(') => self.enter(node_at(text, at, byte), place),
+            (None, b'[' | b'(') => self.enter(text, node_at(text, at, byte), place),
             (None, b']' | b')') => self.leave(place, at),
             (None, _) => true,
         }
@@ -116,14 +116,14 @@ impl<'a> Before<'a> {
     }
 
     // A node that begins at the place itself counts too: what is missing may belong before it.
-    fn enter(&mut self, node: Open<'a>, place: usize) -> bool {
+    fn enter(&mut self, text: &[u8], node: Open, place: usize) -> bool {
         if node.begin > place {
             return false;
         }
         if let Some(outer) = self.innermost()
             && self.outside.is_none()
-            && names_one_of(node.keyword, &IN_CRS)
-            && holds_none(outer.keyword)
+            && names_one_of(keyword_of(text, node), &IN_CRS)
+            && holds_none(keyword_of(text, outer))
         {
             self.outside = Some((node, outer));
         }
@@ -149,8 +149,13 @@ fn holds_none(keyword: &[u8]) -> bool {
     known(keyword) && root_class(keyword).is_none() && !names(keyword, Class::BaseCrs)
 }
 
+/// The keyword of a node of a text; empty where no word is before its delimiter.
+pub(crate) fn keyword_of(text: &[u8], node: Open) -> &[u8] {
+    front(rest(text, node.begin), node.length)
+}
+
 /// The node whose opening delimiter is at a place.
-pub(crate) fn node_at(text: &[u8], at: usize, delimiter: u8) -> Open<'_> {
+pub(crate) fn node_at(text: &[u8], at: usize, delimiter: u8) -> Open {
     let before = back(front(text, at), 100);
     let behind = before.trim_ascii_end();
     let run = behind
@@ -158,11 +163,11 @@ pub(crate) fn node_at(text: &[u8], at: usize, delimiter: u8) -> Open<'_> {
         .rev()
         .take_while(|it| is_of_word(**it))
         .count();
-    let keyword = from_letter(back(behind, run));
+    let length = from_letter(back(behind, run)).len();
     let white = before.len().saturating_sub(behind.len());
     Open {
-        keyword,
-        begin: at.saturating_sub(white).saturating_sub(keyword.len()),
+        begin: at.saturating_sub(white).saturating_sub(length),
+        length,
         delimiter,
     }
 }

@@ -1,6 +1,6 @@
 //! What a text is by its first keyword, and keywords that aren't read.
 use crate::glance::{begins, ends, is_one_of, names, names_one_of};
-use crate::hint::{Filled, Hint, Sentence};
+use crate::hint::{Form, Hint, Sentence};
 use crate::refused::NOT_HERE;
 use crs_shape::Class;
 
@@ -8,7 +8,7 @@ use crs_shape::Class;
 struct Entry {
     keyword: &'static [u8],
     sentence: Sentence,
-    words: &'static str,
+    words: &'static [u8],
 }
 
 // The classes of CRS of WKT1.
@@ -44,57 +44,57 @@ const OTHER_CLASSES: [Entry; 11] = [
     Entry {
         keyword: b"BOUNDCRS",
         sentence: Sentence::Bound,
-        words: "",
+        words: b"",
     },
     Entry {
         keyword: b"ENGCRS",
         sentence: Sentence::Class,
-        words: "Engineering CRSs",
+        words: b"Engineering CRSs",
     },
     Entry {
         keyword: b"ENGINEERINGCRS",
         sentence: Sentence::Class,
-        words: "Engineering CRSs",
+        words: b"Engineering CRSs",
     },
     Entry {
         keyword: b"PARAMETRICCRS",
         sentence: Sentence::Class,
-        words: "Parametric CRSs",
+        words: b"Parametric CRSs",
     },
     Entry {
         keyword: b"TIMECRS",
         sentence: Sentence::Class,
-        words: "Temporal CRSs",
+        words: b"Temporal CRSs",
     },
     Entry {
         keyword: b"DERIVEDPROJCRS",
         sentence: Sentence::Class,
-        words: "Derived CRSs",
+        words: b"Derived CRSs",
     },
     Entry {
         keyword: b"IMAGECRS",
         sentence: Sentence::Class,
-        words: "Image CRSs",
+        words: b"Image CRSs",
     },
     Entry {
         keyword: b"COORDINATEOPERATION",
         sentence: Sentence::Operation,
-        words: "",
+        words: b"",
     },
     Entry {
         keyword: b"CONCATENATEDOPERATION",
         sentence: Sentence::Operation,
-        words: "",
+        words: b"",
     },
     Entry {
         keyword: b"POINTMOTIONOPERATION",
         sentence: Sentence::Operation,
-        words: "",
+        words: b"",
     },
     Entry {
         keyword: b"COORDINATEMETADATA",
         sentence: Sentence::Metadata,
-        words: "",
+        words: b"",
     },
 ];
 
@@ -103,47 +103,47 @@ const OTHER_KEYWORDS: [Entry; 9] = [
     Entry {
         keyword: b"AUTHORITY",
         sentence: Sentence::Keyword,
-        words: "AUTHORITY is WKT1's identifier",
+        words: b"AUTHORITY is WKT1's identifier",
     },
     Entry {
         keyword: b"EXTENSION",
         sentence: Sentence::Keyword,
-        words: "EXTENSION is WKT1's",
+        words: b"EXTENSION is WKT1's",
     },
     Entry {
         keyword: b"TOWGS84",
         sentence: Sentence::Transformation,
-        words: "TOWGS84",
+        words: b"TOWGS84",
     },
     Entry {
         keyword: b"TIMEEXTENT",
         sentence: Sentence::Keyword,
-        words: "A usage's TIMEEXTENT isn't read",
+        words: b"A usage's TIMEEXTENT isn't read",
     },
     Entry {
         keyword: b"AXISMINVALUE",
         sentence: Sentence::Keyword,
-        words: "An axis's range isn't read",
+        words: b"An axis's range isn't read",
     },
     Entry {
         keyword: b"AXISMAXVALUE",
         sentence: Sentence::Keyword,
-        words: "An axis's range isn't read",
+        words: b"An axis's range isn't read",
     },
     Entry {
         keyword: b"RANGEMEANING",
         sentence: Sentence::Keyword,
-        words: "An axis's range isn't read",
+        words: b"An axis's range isn't read",
     },
     Entry {
         keyword: b"DERIVINGCONVERSION",
         sentence: Sentence::Keyword,
-        words: "Derived CRSs aren't read",
+        words: b"Derived CRSs aren't read",
     },
     Entry {
         keyword: b"BASEVERTCRS",
         sentence: Sentence::Keyword,
-        words: "Derived CRSs aren't read",
+        words: b"Derived CRSs aren't read",
     },
 ];
 
@@ -153,7 +153,7 @@ pub(crate) fn by_class(keyword: &[u8]) -> Option<Hint<'_>> {
         return Some(Hint::of(Sentence::Wkt1));
     }
     if names_one_of(keyword, &PARTS) {
-        return Some(Hint::with(Sentence::Part, Filled::Capitals(keyword)));
+        return Some(Hint::of_piece(Sentence::Part, Form::Capitals, keyword));
     }
     entry_of(keyword, &OTHER_CLASSES)
 }
@@ -175,7 +175,7 @@ pub(crate) fn by_keyword<'a>(number: u8, keyword: &[u8]) -> Option<Hint<'a>> {
 fn entry_of<'a>(keyword: &[u8], entries: &[Entry]) -> Option<Hint<'a>> {
     for entry in entries {
         if entry.keyword.eq_ignore_ascii_case(keyword) {
-            return Some(Hint::with(entry.sentence, Filled::Words(entry.words)));
+            return Some(Hint::of_piece(entry.sentence, Form::Plain, entry.words));
         }
     }
     None

@@ -6,7 +6,7 @@ use crate::hint::{Filled, Hint, Open, Sentence};
 use crate::refused::{BAD_CHARACTER, BAD_NUMBER, NOT_HERE, OPEN_TEXT, UNEXPECTED, UNEXPECTED_END};
 
 /// What is at a place behind a complete text, or where a quote is missing before; `there` is the text from the place on.
-pub(crate) fn by_whole_text<'a>(found: &Before<'a>, number: u8, there: &[u8]) -> Option<Hint<'a>> {
+pub(crate) fn by_whole_text<'a>(found: &Before, number: u8, there: &[u8]) -> Option<Hint<'a>> {
     if let Some(place) = found.quote_missing
         && matches!(
             number,
@@ -37,7 +37,7 @@ fn behind_text(there: &[u8]) -> Sentence {
 
 /// What is open before the place of a refusal, or too many there; `there` is the text from the place on.
 pub(crate) fn by_delimiters<'a>(
-    found: &Before<'a>,
+    found: &Before,
     number: u8,
     before: &[u8],
     there: &[u8],
@@ -53,7 +53,7 @@ pub(crate) fn by_delimiters<'a>(
 }
 
 // What is open at the end of a text, which is before the place.
-fn by_end<'a>(found: &Before<'a>, text: &[u8]) -> Option<Hint<'a>> {
+fn by_end<'a>(found: &Before, text: &[u8]) -> Option<Hint<'a>> {
     found.innermost()?;
     if !matches!(text.trim_ascii_end(), [.., b']' | b')']) {
         return Some(Hint::with(Sentence::CutOff, Filled::AllOpen));
@@ -67,17 +67,17 @@ fn by_end<'a>(found: &Before<'a>, text: &[u8]) -> Option<Hint<'a>> {
 }
 
 // A node that is where none of its kind can be.
-fn by_open<'a>(found: &Before<'a>) -> Option<Hint<'a>> {
+fn by_open<'a>(found: &Before) -> Option<Hint<'a>> {
     found.innermost()?;
-    let (node, outer) = found.outside?;
-    Some(Hint::with(Sentence::Outside, Filled::Inside(node, outer)))
+    found.outside?;
+    Some(Hint::with(Sentence::Outside, Filled::Inside))
 }
 
 // A closing delimiter that doesn't match the opening delimiter.
-fn by_closing<'a>(open: Open<'a>, there: &[u8]) -> Option<Hint<'a>> {
+fn by_closing<'a>(open: Open, there: &[u8]) -> Option<Hint<'a>> {
     let closing = if open.delimiter == b'[' { b']' } else { b')' };
     if begins_close(there) && there.first() != Some(&closing) {
-        Some(Hint::with(Sentence::ClosedBy, Filled::Closing(open)))
+        Some(Hint::with(Sentence::ClosedBy, Filled::Closing))
     } else {
         None
     }

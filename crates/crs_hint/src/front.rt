@@ -1,14 +1,14 @@
 //! What a text is by its front.
 use crate::class::by_class;
 use crate::glance::{begins, digit_count, is_one_of, keyword_at, rest, word_at};
-use crate::hint::{Filled, Hint, Sentence};
+use crate::hint::{Form, Hint, Sentence};
 use crate::string::by_string;
 
 /// A kind of file that is no text: its first bytes, and what to say of it.
 struct Format {
     first_bytes: &'static [u8],
     sentence: Sentence,
-    words: &'static str,
+    words: &'static [u8],
 }
 
 /// What a text is by its front, which has no white space around it.
@@ -22,7 +22,7 @@ pub(crate) fn by_front<'a>(text: &'a [u8], front: &'a [u8]) -> Option<Hint<'a>> 
     }
     let geometry = geometry_of(front);
     if !geometry.is_empty() {
-        return Some(Hint::with(Sentence::Geometry, Filled::Capitals(geometry)));
+        return Some(Hint::of_piece(Sentence::Geometry, Form::Capitals, geometry));
     }
     let keyword = keyword_at(front);
     if keyword.is_empty() {
@@ -40,79 +40,79 @@ const FORMATS: [Format; 14] = [
     Format {
         first_bytes: b"\x00\x00\x27\x0a",
         sentence: Sentence::Shapefile,
-        words: "",
+        words: b"",
     },
     Format {
         first_bytes: b"SQLite format 3\0",
         sentence: Sentence::GeoPackage,
-        words: "",
+        words: b"",
     },
     Format {
         first_bytes: b"II*\0",
         sentence: Sentence::Binary,
-        words: "a GeoTIFF, or another TIFF",
+        words: b"a GeoTIFF, or another TIFF",
     },
     Format {
         first_bytes: b"MM\0*",
         sentence: Sentence::Binary,
-        words: "a GeoTIFF, or another TIFF",
+        words: b"a GeoTIFF, or another TIFF",
     },
     Format {
         first_bytes: b"II+\0",
         sentence: Sentence::Binary,
-        words: "a GeoTIFF, or another TIFF",
+        words: b"a GeoTIFF, or another TIFF",
     },
     Format {
         first_bytes: b"MM\0+",
         sentence: Sentence::Binary,
-        words: "a GeoTIFF, or another TIFF",
+        words: b"a GeoTIFF, or another TIFF",
     },
     Format {
         first_bytes: b"\x89HDF",
         sentence: Sentence::Binary,
-        words: "netCDF or HDF5",
+        words: b"netCDF or HDF5",
     },
     Format {
         first_bytes: b"CDF\x01",
         sentence: Sentence::Binary,
-        words: "netCDF",
+        words: b"netCDF",
     },
     Format {
         first_bytes: b"CDF\x02",
         sentence: Sentence::Binary,
-        words: "netCDF",
+        words: b"netCDF",
     },
     Format {
         first_bytes: b"\x00\x00\x00\x0cjP  ",
         sentence: Sentence::Binary,
-        words: "JPEG 2000",
+        words: b"JPEG 2000",
     },
     Format {
         first_bytes: b"fgb\x03fgb",
         sentence: Sentence::Binary,
-        words: "a FlatGeobuf",
+        words: b"a FlatGeobuf",
     },
     Format {
         first_bytes: b"PAR1",
         sentence: Sentence::Binary,
-        words: "a Parquet file",
+        words: b"a Parquet file",
     },
     Format {
         first_bytes: b"PK\x03\x04",
         sentence: Sentence::Archive,
-        words: "a zip archive",
+        words: b"a zip archive",
     },
     Format {
         first_bytes: b"\x1f\x8b",
         sentence: Sentence::Archive,
-        words: "a gzip archive",
+        words: b"a gzip archive",
     },
 ];
 
 fn of_format<'a>(text: &[u8], formats: &[Format]) -> Option<Hint<'a>> {
     for format in formats {
         if text.starts_with(format.first_bytes) {
-            return Some(Hint::with(format.sentence, Filled::Words(format.words)));
+            return Some(Hint::of_piece(format.sentence, Form::Plain, format.words));
         }
     }
     None
@@ -133,13 +133,13 @@ fn by_mark<'a>(front: &[u8]) -> Option<Hint<'a>> {
 // UTF-16 by its byte order mark; without one by the first four bytes, of which every second is zero. White space at the
 // front has zeros too, so that this looks at the whole text.
 fn by_utf16<'a>(text: &[u8]) -> Option<Hint<'a>> {
-    let name = match text {
-        [0xff, 0xfe, ..] | [0xfe, 0xff, ..] => "UTF-16",
-        [0, a, 0, b, ..] if *a != 0 && *b != 0 => "UTF-16BE",
-        [a, 0, b, 0, ..] if *a != 0 && *b != 0 => "UTF-16LE",
+    let name: &[u8] = match text {
+        [0xff, 0xfe, ..] | [0xfe, 0xff, ..] => b"UTF-16",
+        [0, a, 0, b, ..] if *a != 0 && *b != 0 => b"UTF-16BE",
+        [a, 0, b, 0, ..] if *a != 0 && *b != 0 => b"UTF-16LE",
         _ => return None,
     };
-    Some(Hint::with(Sentence::Utf16, Filled::Words(name)))
+    Some(Hint::of_piece(Sentence::Utf16, Form::Plain, name))
 }
 
 const GEOMETRIES: [&[u8]; 7] = [

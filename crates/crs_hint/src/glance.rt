@@ -67,12 +67,15 @@ pub(crate) fn is_of_word(byte: u8) -> bool {
     byte.is_ascii_alphanumeric() || byte == b'_'
 }
 
+/// The number of bytes of words that the bytes begin with.
+pub(crate) fn word_length(text: &[u8]) -> usize {
+    text.iter().take_while(|it| is_of_word(**it)).count()
+}
+
 /// The word that the bytes begin with: a letter, then letters, digits and underscores; empty where there is none.
 pub(crate) fn word_at(text: &[u8]) -> &[u8] {
     match text.first() {
-        Some(byte) if byte.is_ascii_alphabetic() => {
-            front(text, text.iter().take_while(|it| is_of_word(**it)).count())
-        }
+        Some(byte) if byte.is_ascii_alphabetic() => front(text, word_length(text)),
         _ => b"",
     }
 }

@@ -63,35 +63,40 @@ pub(crate) enum Sentence {
 #[derive(Clone, Copy)]
 pub(crate) enum Filled<'a> {
     Nothing,
-    /// Words of the library's own.
-    Words(&'static str),
-    /// A piece of the text.
-    Piece(&'a [u8]),
-    /// A piece of the text, in capitals.
-    Capitals(&'a [u8]),
-    /// A piece of the text as one word of a shell.
-    ShellWord(&'a [u8]),
-    /// Digits, as a code of EPSG.
-    Digits(&'a [u8]),
+    /// A piece of the text, or words of the library's own.
+    Piece(Form, &'a [u8]),
     /// A place in the text.
     Place(usize),
     /// A byte, in hexadecimal digits.
     Byte(u8),
-    /// A node, and by which delimiter it is closed.
-    Closing(Open<'a>),
-    /// Two nodes, of which the first is inside the second.
-    Inside(Open<'a>, Open<'a>),
+    /// The node that is open at the place of the refusal, and by which delimiter it is closed.
+    Closing,
+    /// The first node before the place that is where none of its kind can be, and the node that it is in.
+    Inside,
     /// All delimiters that are open at the place of the refusal.
     AllOpen,
     /// The same, each after a comma.
     MoreOpen,
 }
 
-/// A delimiter that is open at a place: the word before it, which may be empty, where that begins, and the delimiter.
+/// How a piece is written.
 #[derive(Clone, Copy)]
-pub(crate) struct Open<'a> {
-    pub(crate) keyword: &'a [u8],
+pub(crate) enum Form {
+    /// As it is.
+    Plain,
+    Capitals,
+    /// As one word of a shell.
+    ShellWord,
+    /// As a code of EPSG, whose digits it has.
+    Code,
+}
+
+/// A delimiter that is open at a place of a text: where the word before it begins, how long that is, which may be
+/// nothing, and the delimiter.
+#[derive(Clone, Copy)]
+pub(crate) struct Open {
     pub(crate) begin: usize,
+    pub(crate) length: usize,
     pub(crate) delimiter: u8,
 }
 
@@ -107,5 +112,13 @@ impl<'a> Hint<'a> {
     /// A hint with this filled in.
     pub(crate) fn with(sentence: Sentence, filled: Filled<'a>) -> Hint<'a> {
         Hint { sentence, filled }
+    }
+
+    /// A hint with a piece filled in, or with words.
+    pub(crate) fn of_piece(sentence: Sentence, form: Form, piece: &'a [u8]) -> Hint<'a> {
+        Hint {
+            sentence,
+            filled: Filled::Piece(form, piece),
+        }
     }
 }

@@ -24,20 +24,72 @@ pub(crate) fn by_place(text: &[u8], number: u8, place: usize) -> Option<Hint<'_>
         .or(by_delimiters(&found, number, before, there))
 }
 
+/// A quote that isn't straight, by its bytes, and what to say of it.
+struct Quote {
+    bytes: &'static [u8],
+    sentence: Sentence,
+}
+
+const QUOTES: [Quote; 9] = [
+    Quote {
+        bytes: b"&quot;",
+        sentence: Sentence::XmlQuote,
+    },
+    Quote {
+        bytes: b"&#34;",
+        sentence: Sentence::XmlQuote,
+    },
+    Quote {
+        bytes: b"\\\"",
+        sentence: Sentence::EscapedQuote,
+    },
+    Quote {
+        bytes: b"\xe2\x80\x9c",
+        sentence: Sentence::TypographicQuote,
+    },
+    Quote {
+        bytes: b"\xe2\x80\x9d",
+        sentence: Sentence::TypographicQuote,
+    },
+    Quote {
+        bytes: b"\xe2\x80\x9e",
+        sentence: Sentence::TypographicQuote,
+    },
+    Quote {
+        bytes: b"\xc2\xab",
+        sentence: Sentence::TypographicQuote,
+    },
+    Quote {
+        bytes: b"\xc2\xbb",
+        sentence: Sentence::TypographicQuote,
+    },
+    Quote {
+        bytes: b"'",
+        sentence: Sentence::SingleQuote,
+    },
+];
+
 // What a byte is that begins no token.
 fn by_character<'a>(there: &[u8]) -> Option<Hint<'a>> {
-    let sentence = match there {
-        [b'&', b'q', b'u', b'o', b't', b';', ..] | [b'&', b'#', b'3', b'4', b';', ..] =>
-            Sentence::XmlQuote,
-        [b'\\', b'"', ..] => Sentence::EscapedQuote,
-        [0xe2, 0x80, 0x9c..=0x9e, ..] | [0xc2, 0xab | 0xbb, ..] => Sentence::TypographicQuote,
-        [b'\'', ..] => Sentence::SingleQuote,
-        [byte, ..] if byte.is_ascii_control() => {
-            return Some(Hint::with(Sentence::Control, Filled::Byte(*byte)));
+    by_quote(there, &QUOTES).or(by_control(there))
+}
+
+fn by_quote<'a>(there: &[u8], quotes: &[Quote]) -> Option<Hint<'a>> {
+    for quote in quotes {
+        if there.starts_with(quote.bytes) {
+            return Some(Hint::of(quote.sentence));
         }
-        _ => return None,
-    };
-    Some(Hint::of(sentence))
+    }
+    None
+}
+
+fn by_control<'a>(there: &[u8]) -> Option<Hint<'a>> {
+    let byte = *there.first()?;
+    if byte.is_ascii_control() {
+        Some(Hint::with(Sentence::Control, Filled::Byte(byte)))
+    } else {
+        None
+    }
 }
 
 // What is where a number should begin.

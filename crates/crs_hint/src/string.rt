@@ -1,22 +1,22 @@
 //! What a text is that doesn't begin with a node.
 use crate::front::srid_of;
-use crate::glance::{begins, digit_count, ends, front, is_of_word, rest};
-use crate::hint::{Filled, Hint, Sentence};
+use crate::glance::{begins, digit_count, ends, front, is_of_word, rest, word_length};
+use crate::hint::{Form, Hint, Sentence};
 
 /// What a text is that doesn't begin with a node, by its front.
 pub(crate) fn by_string(text: &[u8]) -> Option<Hint<'_>> {
     let srid = srid_of(text);
     if !srid.is_empty() {
-        return Some(Hint::with(Sentence::Srid, Filled::Piece(srid)));
+        return Some(Hint::of_piece(Sentence::Srid, Form::Plain, srid));
     }
     if is_proj_string(text) {
         return Some(Hint::of(Sentence::ProjString));
     }
     if digit_count(text) == text.len() {
-        return Some(Hint::with(Sentence::Code, Filled::Digits(text)));
+        return Some(Hint::of_piece(Sentence::Code, Form::Code, text));
     }
     if is_code(text) || is_address(text) {
-        return Some(Hint::with(Sentence::Code, Filled::ShellWord(text)));
+        return Some(Hint::of_piece(Sentence::Code, Form::ShellWord, text));
     }
     if is_path(text) {
         return Some(Hint::of(Sentence::Path));
@@ -84,11 +84,11 @@ fn is_of_authority(byte: u8) -> bool {
 
 // A code, or two with a plus sign between.
 fn is_of_codes(text: &[u8]) -> bool {
-    let first = text.iter().take_while(|it| is_of_word(**it)).count();
+    let first = word_length(text);
     match rest(text, first) {
         _ if first == 0 => false,
         [] => true,
-        [b'+', second @ ..] => !second.is_empty() && second.iter().all(|it| is_of_word(*it)),
+        [b'+', second @ ..] => !second.is_empty() && word_length(second) == second.len(),
         _ => false,
     }
 }

@@ -1,9 +1,9 @@
 //! Which hints apply to a refused text, and how they are written.
-use crate::before::{look_before, node_at};
+use crate::before::{Before, keyword_of, look_before, node_at};
 use crate::class::has_transformation;
 use crate::front::by_front;
 use crate::glance::{looked_at, rest};
-use crate::hint::{Filled, Hint, Open, Sentence};
+use crate::hint::{Filled, Form, Hint, Open, Sentence};
 use crate::place::by_place;
 use crate::refused::LAST_OF_TEXT;
 use crate::sentence::words_of;
@@ -65,14 +65,14 @@ fn beside<'a>(whole: Option<Hint<'a>>, there: Option<Hint<'a>>, number: u8) -> O
 fn bound<'a>(whole: Option<Hint<'a>>, text: &'a [u8], front: &'a [u8]) -> Option<Hint<'a>> {
     match whole?.sentence {
         Sentence::Wkt1 if has_transformation(text) => {
-            Some(Hint::with(Sentence::MakesBound, Filled::Words("TOWGS84")))
+            Some(Hint::of_piece(Sentence::MakesBound, Form::Plain, b"TOWGS84"))
         }
         Sentence::ProjString => {
             let word = transformation_of(front);
             if word.is_empty() {
                 return None;
             }
-            Some(Hint::with(Sentence::MakesBound, Filled::Piece(word)))
+            Some(Hint::of_piece(Sentence::MakesBound, Form::Plain, word))
         }
         _ => None,
     }
@@ -84,7 +84,7 @@ fn bound<'a>(whole: Option<Hint<'a>>, text: &'a [u8], front: &'a [u8]) -> Option
 pub fn opened(alloc: Global, text: &[u8], at: usize) -> Result<Vec<u8>, AllocError> {
     let delimiter = rest(text, at).first().copied().unwrap_or(b'[');
     let mut out = Vec::new(alloc);
-    append_node(node_at(text, at, delimiter), &mut out)?;
+    append_node(text, node_at(text, at, delimiter), &mut out)?;
     Ok(out)
 }
 
@@ -98,22 +98,21 @@ fn append_hint(
     out.extend_from_slice(words.front.as_bytes())?;
     match hint.filled {
         Filled::Nothing => {}
-        Filled::Words(words) => out.extend_from_slice(words.as_bytes())?,
-        Filled::Piece(piece) => out.extend_from_slice(piece)?,
-        Filled::Capitals(piece) => append_capitals(piece, out)?,
-        Filled::ShellWord(piece) => append_shell_word(piece, out)?,
-        Filled::Digits(digits) => {
-            out.extend_from_slice(b"EPSG:")?;
-            out.extend_from_slice(digits)?;
-        }
+        Filled::Piece(form, piece) => append_piece(form, piece, out)?,
         Filled::Place(place) => append_number(place, out)?,
         Filled::Byte(byte) => append_byte(byte, out)?,
-        Filled::Closing(open) => append_closing(open, out)?,
-        Filled::Inside(node, outer) => append_inside(node, outer, out)?,
-        Filled::AllOpen => append_open(look_before(text, place).all_open(), true, out)?,
-        Filled::MoreOpen => append_open(look_before(text, place).all_open(), false, out)?,
+        filled => append_nodes(filled, text, &look_before(text, place), out)?,
     }
     out.extend_from_slice(words.back.as_bytes())
+}
+
+fn append_piece(form: Form, piece: &[u8], out: &mut Vec<u8>) -> Result<(), AllocError> {
+    match form {
+        Form::Plain => out.extend_from_slice(piece),
+        Form::Capitals => append_capitals(piece, out),
+        Form::ShellWord => append_shell_word(piece, out),
+        Form::Code => append_code(piece, out),
+    }
 }
 
 fn append_capitals(piece: &[u8], out: &mut Vec<u8>) -> Result<(), AllocError> {
@@ -121,6 +120,11 @@ fn append_capitals(piece: &[u8], out: &mut Vec<u8>) -> Result<(), AllocError> {
         out.push(byte.to_ascii_uppercase())?;
     }
     Ok(())
+}
+
+fn append_code(digits: &[u8], out: &mut Vec<u8>) -> Result<(), AllocError> {
+    out.extend_from_slice(b"EPSG:")?;
+    out.extend_from_slice(digits)
 }
 
 fn append_number(number: usize, out: &mut Vec<u8>) -> Result<(), AllocError> {
@@ -160,37 +164,68 @@ fn is_plain(byte: u8) -> bool {
         )
 }
 
+// The nodes that are open before the place of a refusal, or the one that is where it can't be.
+fn append_nodes(
+    filled: Filled<'_>,
+    text: &[u8],
+    found: &Before,
+    out: &mut Vec<u8>,
+) -> Result<(), AllocError> {
+    match filled {
+        Filled::Closing => append_closing(text, found.innermost(), out),
+        Filled::Inside => append_inside(text, found.outside, out),
+        Filled::AllOpen => append_open(text, found.all_open(), true, out),
+        _ => append_open(text, found.all_open(), false, out),
+    }
+}
+
 // `CS[ at 24`
-fn append_node(node: Open<'_>, out: &mut Vec<u8>) -> Result<(), AllocError> {
-    append_capitals(node.keyword, out)?;
+fn append_node(text: &[u8], node: Open, out: &mut Vec<u8>) -> Result<(), AllocError> {
+    append_capitals(keyword_of(text, node), out)?;
     out.push(node.delimiter)?;
     out.extend_from_slice(b" at ")?;
     append_number(node.begin, out)
 }
 
 // `CS[ at 24 is closed by ], not by )`
-fn append_closing(open: Open<'_>, out: &mut Vec<u8>) -> Result<(), AllocError> {
-    append_node(open, out)?;
+fn append_closing(text: &[u8], open: Option<Open>, out: &mut Vec<u8>) -> Result<(), AllocError> {
+    let Some(open) = open else {
+        return Ok(());
+    };
+    append_node(text, open, out)?;
     match open.delimiter {
         b'[' => out.extend_from_slice(b" is closed by ], not by )"),
         _ => out.extend_from_slice(b" is closed by ), not by ]"),
     }
 }
 
-fn append_inside(node: Open<'_>, outer: Open<'_>, out: &mut Vec<u8>) -> Result<(), AllocError> {
-    append_node(node, out)?;
+// `CS[ at 24 is inside ID[ at 20`
+fn append_inside(
+    text: &[u8],
+    nodes: Option<(Open, Open)>,
+    out: &mut Vec<u8>,
+) -> Result<(), AllocError> {
+    let Some((node, outer)) = nodes else {
+        return Ok(());
+    };
+    append_node(text, node, out)?;
     out.extend_from_slice(b" is inside ")?;
-    append_node(outer, out)
+    append_node(text, outer, out)
 }
 
 // Each after a comma, but for the first where the list begins with it.
-fn append_open(all: &[Open<'_>], is_begin: bool, out: &mut Vec<u8>) -> Result<(), AllocError> {
+fn append_open(
+    text: &[u8],
+    all: &[Open],
+    is_begin: bool,
+    out: &mut Vec<u8>,
+) -> Result<(), AllocError> {
     let mut is_first = is_begin;
     for open in all {
         if !is_first {
             out.extend_from_slice(b", ")?;
         }
-        append_node(*open, out)?;
+        append_node(text, *open, out)?;
         is_first = false;
     }
     Ok(())
