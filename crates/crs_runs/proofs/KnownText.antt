@@ -1,6 +1,8 @@
 -- What a reader whose bytes are known gave by the time it shows its end.
-use Rattle.std.proofs.Common.{◌≡◌, ℕ, ◌<◌, List, [], ◌++◌, length, refl, Option, Some, None, IfSome, Result, Ok, subst, ap, sym, ◌∙◌, append-nil}
+use Rattle.std.proofs.Common.{◌≡◌, ℕ, ◌+◌, ◌<◌, ◌≤◌, ◌==◌, ◌||◌, List, [], ◌++◌, length, refl, Option, Some, None, IfSome, Result, Ok, Bool, true, false, subst, ap, sym, ◌∙◌, append-nil, arith}
 use Rattle.std.specs.Io.KnownBytes.{Consumes, ReadConsumes}
+use Rattle.crs_streams.specs.Streams.{CountsRead, SourceState}
+use Rattle.crs_runs.specs.Whole.{IsWhole}
 
 -- all that is known was given before a read that gives nothing
 pub known_whole : {E : Type 0} (old middle new : Option (List ℕ)) (items room : List ℕ) (answer : Result ℕ E)
@@ -15,3 +17,22 @@ known_whole (Some all) (Some left) (Some rest) items room answer told bytes zero
     let nothing_left : rest ≡ [] = given.1 refl some in
     let none_left : left ≡ [] = given.0 ∙ nothing_left in
     sym (told ∙ ap (λ xs. items ++ xs) none_left ∙ append-nil items)
+
+or_true : (b : Bool) → (b || true) ≡ true
+or_true true = refl
+or_true false = refl
+
+-- a read that gives nothing ends the text
+pub read_whole : {E : Type 0} (start old new : SourceState) (text room : List ℕ) (answer : Result ℕ E) (count : ℕ)
+    → CountsRead old new answer → ReadConsumes old.remaining new.remaining answer room → answer ≡ Ok count → count ≡ 0
+    → 0 < length room → old.failed ≡ false → old.taken ≡ length text → length text ≤ 1048576
+    → Consumes start.remaining old.remaining text → IsWhole start new text
+read_whole start old new text room answer count counted bytes got none some healthy taken short told =
+    let more = (subst (CountsRead old new) got counted).bytes in
+    let given : new.taken ≡ old.taken + count = more.0 in record {
+      is_ended = more.1 ∙ ap (λ n. old.ended || (n == 0)) none ∙ or_true old.ended;
+      is_healthy = more.2 ∙ healthy;
+      is_counted = omega (arith, given, none, taken);
+      is_short = omega (arith, given, none, taken, short);
+      is_all = known_whole start.remaining old.remaining new.remaining text room answer told bytes (got ∙ ap (λ n. Ok n) none) some;
+    }

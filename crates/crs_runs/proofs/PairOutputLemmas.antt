@@ -5,10 +5,10 @@ use Rattle.crs_value.specs.SpellsText.{Spells}
 use Rattle.crs_runs.specs.PairOutput.{IsPairOutput, IsSecondOutput}
 
 module _ (Refused : List ℕ → List ℕ → List ℕ → ℕ → Type 0) (Compared : Crs → Crs → List ℕ → ℕ → Type 0) where
-  pub first-refused : (first second written : List ℕ) → Refused (codes "first ") first written 1
-      → IsPairOutput Refused Compared first second written 1
+  pub first-refused : (first second written : List ℕ) (status : ℕ) → Refused (codes "first ") first written status
+      → IsPairOutput Refused Compared first second written status
   unfolding IsPairOutput
-  first-refused first second written refused = inl refused
+  first-refused first second written status refused = inl refused
 
   -- after a first text that spells a CRS
   pub second-answered : (a : Crs) (first second : List ℕ) → Spells first a → (written : List ℕ) (status : ℕ)

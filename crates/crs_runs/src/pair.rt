@@ -2,12 +2,12 @@
 ghost use Rattle.std.specs.Prelude.{ℕ, List, IfOk};
 ghost use Rattle.crs_value.specs.declared.values.crs.Crs.{Crs};
 ghost use Rattle.crs_value.specs.declared.values.level.Level.{Level};
-ghost use Rattle.crs_value.specs.SpellsText.{Refuses};
+ghost use Rattle.crs_value.specs.SpellsText.{IsFaultOfText, Refuses};
 ghost use Rattle.crs_runs.specs.PairOutput.{IsPairOutput, IsSecondOutput};
 
 use crate::Level;
 use crate::kind_of_text::refusal_in;
-use crs_text::Refusal;
+use crs_text::{Fault, Refusal};
 use crs_value::{Crs, read};
 use std::alloc::{AllocError, Global};
 
@@ -54,10 +54,7 @@ pub fn pair_output<'t, T: Telling>(
 {
     match read(alloc, first) {
         Ok(crs) => second_output(alloc, told, level, &crs, second),
-        Err(fault) => {
-            let line = told.refusal(alloc, b"first ", first, refusal_in(fault)?)?;
-            Ok((line, 1))
-        }
+        Err(fault) => refused_output(alloc, told, b"first ", first, fault),
     }
 }
 
@@ -74,9 +71,22 @@ fn second_output<'t, T: Telling>(
 {
     match read(alloc, second) {
         Ok(crs) => told.comparison(alloc, level, first, &crs),
-        Err(fault) => {
-            let line = told.refusal(alloc, b"second ", second, refusal_in(fault)?)?;
-            Ok((line, 1))
-        }
+        Err(fault) => refused_output(alloc, told, b"second ", second, fault),
     }
+}
+
+// The refusal of a text, after the word that says which text it is.
+fn refused_output<T: Telling>(
+    alloc: Global,
+    told: &T,
+    which: &[u8],
+    text: &[u8],
+    fault: Fault,
+) -> Result<(Vec<u8>, u8), AllocError>
+    requires { IsFaultOfText text.now fault }
+    ensures { IfOk result (λ output. T.Refused told.now which.now text.now output.0.items output.1) }
+{
+    let refusal = refusal_in(fault)?;
+    let line = told.refusal(alloc, which, text, refusal)?;
+    Ok((line, 1))
 }

@@ -4,7 +4,7 @@ ghost use Rattle.crs_streams.specs.Streams.{fresh_source};
 ghost use Rattle.crs_runs.specs.Pieces.{IsHeld, IsHeldOf};
 ghost use Rattle.crs_runs.specs.Whole.{IsReadFault};
 
-use crate::text::MAX_BYTES;
+use crate::text::{MAX_BYTES, read_next};
 use crate::{RunFault, Source};
 use crs_streams::{MAX_READS, make_room};
 use crs_text::{Fault, Feeder};
@@ -45,7 +45,7 @@ fn feed_all<R: Read>(
     let mut taken = 0;
     let mut refused = false;
     for turn in 0..MAX_READS {
-        let count = source.read(room).map_err(|_| RunFault::ReadFailed)?;
+        let count = read_next(source, room)?;
         if count == 0 {
             return Ok(());
         }

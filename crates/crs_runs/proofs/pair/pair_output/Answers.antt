@@ -11,13 +11,13 @@ returns-in-Ok g c =
     (λ output. second-answered Refused Compared c.in-Ok.crs c.args.first.now c.args.second.now spelled output.0.items output.1)
     c.second_output.ensures
 
-pub refusal-requires : goal.refusal-requires
-refusal-requires g c =
-    let fault = rw c.in-Err.is at c.read.ensures in
-    c.in_ok-refusal_in-in-Err.ensures.refuses c.args.first.now fault
+pub refused_output-requires : goal.refused_output-requires
+refused_output-requires g c = rw c.in-Err.is at c.read.ensures
 
-pub returns-in_ok-line-in-Err : goal.returns-in_ok-line-in-Err
-returns-in_ok-line-in-Err g c =
+pub returns-in-Err : goal.returns-in-Err
+returns-in-Err g c =
     let Refused = g.T.Telling.Refused c.args.told.now in
     let Compared = g.T.Telling.Compared c.args.told.now c.args.level in
-    first-refused Refused Compared c.args.first.now c.args.second.now c.in_ok-line-in-Err.line.items c.in_ok-line-in-Err.ensures
+    IfOk-weaker c.refused_output.result _ _
+    (λ output. first-refused Refused Compared c.args.first.now c.args.second.now output.0.items output.1)
+    c.refused_output.ensures

@@ -7,10 +7,8 @@ returns-in-Ok g c =
     let spelled = rw c.in-Ok.is at c.read.ensures in
     IfOk-weaker c.comparison.result _ _ (λ output compared. inr (c.in-Ok.crs, spelled, compared)) c.comparison.ensures
 
-pub refusal-requires : goal.refusal-requires
-refusal-requires g c =
-    let fault = rw c.in-Err.is at c.read.ensures in
-    c.in_ok-refusal_in-in-Err.ensures.refuses c.args.second.now fault
+pub refused_output-requires : goal.refused_output-requires
+refused_output-requires g c = rw c.in-Err.is at c.read.ensures
 
-pub returns-in_ok-line-in-Err : goal.returns-in_ok-line-in-Err
-returns-in_ok-line-in-Err g c = inl c.in_ok-line-in-Err.ensures
+pub returns-in-Err : goal.returns-in-Err
+returns-in-Err g c = IfOk-weaker c.refused_output.result _ _ (λ output refused. inl refused) c.refused_output.ensures

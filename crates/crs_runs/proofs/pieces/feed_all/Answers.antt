@@ -1,29 +1,26 @@
-use Rattle.std.proofs.Common.{◌≡◌, ◌++◌, arith, rules, take, Ok}
-use Rattle.crs_runs.proofs.KnownText.{known_whole}
+use Rattle.std.proofs.Common.{◌++◌, arith, rules, take}
+use Rattle.crs_runs.proofs.KnownText.{read_whole}
 use Rattle.crs_runs.proofs.PieceLemmas.{given-read, whole-held}
 use Rattle.crs_runs.proofs.pieces.feed_all.Goals as goal
 
 pub returns-then-count-eq0-clause-ok : goal.returns-then-count-eq0-clause-ok
 returns-then-count-eq0-clause-ok g c =
-    let held = c.loop-turn.invariant.held in
-    let same : c.read.new.self.taken ≡ c.loop-turn.source.taken = search rules in record {
+    let l = c.loop-turn.invariant in
+    let held = l.held in record {
       text = held.0;
-      is_whole = record {
-        is_ended = search rules;
-        is_healthy = search rules;
-        is_counted = omega (arith, held.1.is_counted, same);
-        is_short = search rules;
-        is_all = known_whole _ _ _ _ c.read.new.room c.read.result held.1.is_first c.read.ensures.bytes (search rules) (search rules);
-      };
+      is_whole = read_whole c.args.source.now c.loop-turn.source c.read_next.new.source held.0 c.read_next.new.room c.read_next.result
+          c.in_ok-count.count c.read_next.ensures.counted c.read_next.ensures.bytes c.in_ok-count.was c.if-count-eq0.true
+          (omega (arith, l.room)) l.healthy (omega (arith, held.1.is_counted)) (omega (arith, held.1.is_counted, l.taken, l.short))
+          held.1.is_first;
       is_held = whole-held c.loop-turn.refused held.0 c.loop-turn.feeder held.2;
     }
 
 pub loop-turn-preserved : goal.loop-turn-preserved
 loop-turn-preserved g c =
     let held = c.loop-turn.invariant.held in
-    let got : c.read.result ≡ Ok c.in_ok-count.count = search rules in
-    let given = given-read c.args.source.now c.loop-turn.source c.read.new.self held.0 c.read.new.room c.read.result c.in_ok-count.count
-    held.1 c.read.ensures.bytes c.read.ensures.counted c.read.ensures.bound got in record {
+    let given = given-read c.args.source.now c.loop-turn.source c.read_next.new.source held.0 c.read_next.new.room c.read_next.result
+    c.in_ok-count.count held.1 c.read_next.ensures.bytes c.read_next.ensures.counted c.read_next.ensures.bound
+    c.in_ok-count.was in record {
       room = search rules;
       reads = search rules;
       taken = search rules;
@@ -32,7 +29,7 @@ loop-turn-preserved g c =
       within = search rules;
       healthy = search rules;
       held = (
-        held.0 ++ take c.in_ok-count.count c.read.new.room,
+        held.0 ++ take c.in_ok-count.count c.read_next.new.room,
         given,
         c.in_ok-refused.ensures.ok held.0 held.2,
       );

@@ -1,11 +1,11 @@
-use Rattle.std.proofs.Common.{◌≡◌, ◌≤◌, vec_len, false}
+use Rattle.std.proofs.Common.{◌≡◌, ◌≤◌, length, vec_len, false}
 use Rattle.std.specs.Io.KnownBytes.{Consumes}
 use Rattle.crs_runs.proofs.text.read_into.Given as goal
 
 abbrev pub invariant-loop-turn : goal.invariant-loop-turn
 invariant-loop-turn g l =
     record {
-      room : vec_len l.room ≡ 65536;
+      room : length l.room ≡ 65536;
       reads : l.source.reads ≡ l.turn;
       taken : l.source.taken ≡ vec_len l.text;
       short : vec_len l.text ≤ 1048576;
