@@ -1,6 +1,6 @@
 -- The forms of two texts, put together from what was found out about each.
 use Rattle.std.proofs.Common.{◌≡◌, ◌⊎◌, ℕ, List, Result, Ok, Err, inr, subst, sym}
-use Rattle.std.specs.Prelude.{MatchResult}
+use Rattle.std.specs.Prelude.{IsErrAnd, MatchResult}
 use Rattle.crs_value.specs.declared.values.level.Level.{Level}
 use Rattle.crs_writer.specs.Canonical.{CanonicalText}
 use Rattle.crs_rules.specs.Rules.{RulesParts}
@@ -35,3 +35,9 @@ refused-found found First Second output is all = subst (λ f. MatchResult f Firs
 pub formed-found : {A O : Type 0} (found : Result A O) (First : A → Type 0) (Second : O → Type 0) (forms : A)
     → found ≡ Ok forms → MatchResult found First Second → First forms
 formed-found found First Second forms is all = subst (λ f. MatchResult f First Second) is all
+
+-- a refusal, of which this holds
+pub refused-formed : {A O : Type 0} (found : Result A O) (First : A → Type 0) (Second Other : O → Type 0)
+    → ((output : O) → Other output → Second output) → IsErrAnd found Other → MatchResult found First Second
+refused-formed (Ok forms) First Second Other weaker is = absurd is
+refused-formed (Err output) First Second Other weaker is = weaker output is

@@ -1,5 +1,6 @@
 //! The forms of two texts under rules, or what is written for the first that has none.
-ghost use Rattle.std.specs.Prelude.{◌≡◌, IfOk, MatchResult, codes};
+ghost use Rattle.std.specs.Prelude.{◌≡◌, IfOk, IsErrAnd, MatchResult, codes};
+ghost use Rattle.crs_value.specs.SpellsText.{IsFaultOfText};
 ghost use Rattle.crs_rules.specs.Under.{IsForm};
 ghost use Rattle.crs_desk.specs.RulesOutput.{IsRefusedUnder};
 
@@ -7,6 +8,7 @@ use crate::Level;
 use crs_canon::Canon;
 use crs_rules::{Rules, canon_under};
 use crs_runs::{Telling, refusal_in};
+use crs_text::Fault;
 use std::alloc::{AllocError, Global};
 
 // The forms; or the bytes and the status of a refusal.
@@ -27,10 +29,7 @@ pub(crate) fn forms_of<T: Telling>(
 {
     match canon_under(alloc, first, level, rules) {
         Ok(form) => second_form(alloc, told, level, rules, form, second),
-        Err(fault) => {
-            let line = told.refusal(alloc, b"first ", first, refusal_in(fault)?)?;
-            Ok(Err((line, 1)))
-        }
+        Err(fault) => refused_form(alloc, told, b"first ", first, fault),
     }
 }
 
@@ -49,9 +48,22 @@ fn second_form<T: Telling>(
 {
     match canon_under(alloc, second, level, rules) {
         Ok(form) => Ok(Ok((first, form))),
-        Err(fault) => {
-            let line = told.refusal(alloc, b"second ", second, refusal_in(fault)?)?;
-            Ok(Err((line, 1)))
-        }
+        Err(fault) => refused_form(alloc, told, b"second ", second, fault),
     }
+}
+
+// What is written for the refusal of a text, after the word that says which text it is.
+fn refused_form<T: Telling>(
+    alloc: Global,
+    told: &T,
+    which: &[u8],
+    text: &[u8],
+    fault: Fault,
+) -> Result<Forms, AllocError>
+    requires { IsFaultOfText text.now fault }
+    ensures { IfOk result (λ found. IsErrAnd found (λ output. T.Refused told.now which.now text.now output.0.items output.1)) }
+{
+    let refusal = refusal_in(fault)?;
+    let line = told.refusal(alloc, which, text, refusal)?;
+    Ok(Err((line, 1)))
 }

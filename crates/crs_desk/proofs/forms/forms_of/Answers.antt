@@ -1,6 +1,6 @@
 use Rattle.std.proofs.Common.{codes, inl}
 use Rattle.std.proofs.lemmas.Result.{IfOk-weaker}
-use Rattle.crs_desk.proofs.FormsLemmas.{second-formed}
+use Rattle.crs_desk.proofs.FormsLemmas.{refused-formed, second-formed}
 use Rattle.crs_desk.proofs.forms.forms_of.Goals as goal
 
 pub returns-in-Ok : goal.returns-in-Ok
@@ -12,9 +12,9 @@ returns-in-Ok g c =
     (λ output. Refused (codes "second ") c.args.second.now output.0.items output.1) c.in-Ok.ensures.answer)
     c.second_form.ensures
 
-pub refusal-requires : goal.refusal-requires
-refusal-requires g c =
-    c.in_ok-refusal_in-in-Err.ensures.refuses c.args.first.now c.in-Err.ensures.answer
+pub refused_form-requires : goal.refused_form-requires
+refused_form-requires g c = c.in-Err.ensures.answer
 
-pub returns-in_ok-line-in-Err : goal.returns-in_ok-line-in-Err
-returns-in_ok-line-in-Err g c = inl c.in_ok-line-in-Err.ensures
+pub returns-in-Err : goal.returns-in-Err
+returns-in-Err g c =
+    IfOk-weaker c.refused_form.result _ _ (λ found. refused-formed found _ _ _ (λ output refused. inl refused)) c.refused_form.ensures

@@ -1,5 +1,10 @@
+use Rattle.std.proofs.lemmas.Result.{IfOk-weaker}
+use Rattle.crs_desk.proofs.FormsLemmas.{refused-formed}
 use Rattle.crs_desk.proofs.forms.second_form.Goals as goal
 
-pub refusal-requires : goal.refusal-requires
-refusal-requires g c =
-    c.in_ok-refusal_in-in-Err.ensures.refuses c.args.second.now c.in-Err.ensures.answer
+pub refused_form-requires : goal.refused_form-requires
+refused_form-requires g c = c.in-Err.ensures.answer
+
+pub returns-in-Err : goal.returns-in-Err
+returns-in-Err g c =
+    IfOk-weaker c.refused_form.result _ _ (λ found. refused-formed found _ _ _ (λ output refused. refused)) c.refused_form.ensures
