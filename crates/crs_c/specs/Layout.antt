@@ -20,7 +20,7 @@ use Rattle.crs_c.specs.contracts.piece.Piece as piece
 use Rattle.crs_c.specs.contracts.held_rules.HeldRules as held_rules
 use Rattle.crs_c.specs.contracts.rules_answers.Form as form
 use Rattle.crs_c.specs.contracts.rules_answers.RulesStanding as rules_standing
-use Rattle.crs_group.specs.contracts.catalogue.Catalogue as catalogue
+use Rattle.crs_catalogue.specs.contracts.catalogue.Catalogue as catalogue
 
 -- the bytes that a catalogue, rules and each struct take, and the alignment of a catalogue and of rules
 abbrev pub sizes : Sizes

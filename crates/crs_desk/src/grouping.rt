@@ -1,7 +1,7 @@
 //! What is written for the groups of lines, without rules and under them.
 ghost use Rattle.std.specs.Prelude.{◌≡◌, ℕ, List, IfOk};
-ghost use Rattle.crs_group.specs.GroupRun.{IsGroupedBy};
-ghost use Rattle.crs_group.specs.declared.summary.Summary.{Summary};
+ghost use Rattle.crs_catalogue.specs.GroupRun.{IsGroupedBy};
+ghost use Rattle.crs_catalogue.specs.declared.summary.Summary.{Summary};
 ghost use Rattle.crs_streams.specs.Streams.{fresh_sink, fresh_source};
 
 use crate::{Level, Listing, RunFault, Sink, Source, Summary, run_group_listing, run_group_under};
@@ -33,7 +33,7 @@ pub(crate) struct Groups {
 }
 
 impl Grouping for Groups {
-    ghost use Rattle.crs_group.specs.GroupOutput.{IsGroupOutput};
+    ghost use Rattle.crs_catalogue.specs.GroupOutput.{IsGroupOutput};
 
     ghost Output = { λ s bytes written summary. IsGroupOutput s.listing s.level bytes written summary };
 
@@ -56,7 +56,7 @@ pub(crate) struct FormGroups<'r> {
 }
 
 impl Grouping for FormGroups<'_> {
-    ghost use Rattle.crs_group.specs.GroupOutput.{IsGroupOutputUnder};
+    ghost use Rattle.crs_catalogue.specs.GroupOutput.{IsGroupOutputUnder};
 
     ghost Output = { λ s bytes written summary. IsGroupOutputUnder s.rules.now s.listing s.level bytes written summary };
 

@@ -1,25 +1,12 @@
 //! Groups of texts: two texts are in one group exactly where their CRSs are the same. Crates above know places, groups
 //! and refusals alone, or hand over a reader and a writer.
+//!
+//! The runs over lines are here, and the rest below: `rt ci` checks once more the crates of the wrong bodies that it tries.
 #![tactic(auto)]
 
-mod adding;
-mod catalogue;
-mod group_cutter;
-mod group_objects;
 mod group_run;
-mod group_text;
-mod groups;
-pub mod laws;
-mod ledger;
-mod listing;
-mod names;
-mod placed;
-mod recent;
-mod summary;
 
-pub use catalogue::{Catalogue, is_blank};
+pub use crs_catalogue::{Catalogue, Listing, PLAIN, Summary, is_blank, laws};
+pub use crs_placed::Placed;
 pub use crs_streams::{RunFault, Sink, Source};
 pub use group_run::{run_group, run_group_listing, run_group_under};
-pub use listing::{Listing, PLAIN};
-pub use placed::Placed;
-pub use summary::Summary;

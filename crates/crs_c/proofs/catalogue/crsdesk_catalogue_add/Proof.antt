@@ -2,9 +2,9 @@ use Rattle.crs_c.proofs.Steps.{List, [], ◌∷◌, ◌++◌, refl, ap, ◌∙�
 use prog.Wp.{WpFn}
 use Rattle.crs_c.specs.Places.{catalogue_at}
 use Rattle.crs_c.specs.Catalogues.{IsAdded}
-use Rattle.crs_group.specs.Catalogue.{CatalogueParts}
-use Rattle.crs_group.specs.contracts.catalogue.Catalogue as catalogue
-use Rattle.crs_group.proofs.catalogue.Catalogue.TheLaws.{the_row_laws}
+use Rattle.crs_placed.specs.Catalogue.{CatalogueParts}
+use Rattle.crs_catalogue.specs.contracts.catalogue.Catalogue as catalogue
+use Rattle.crs_catalogue.proofs.catalogue.Catalogue.TheLaws.{the_row_laws}
 use Rattle.crs_c.specs.contracts.catalogue_answers.Standing as standing
 use Rattle.crs_c.specs.declared.catalogue_answers.Standing.{Standing}
 use Rattle.crs_c.proofs.catalogue_answers.Standing.TheLaws as standing_laws

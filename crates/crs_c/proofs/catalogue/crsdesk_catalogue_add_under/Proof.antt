@@ -3,9 +3,9 @@ use prog.Wp.{WpFn}
 use Rattle.crs_c.specs.Places.{catalogue_at, rules_at}
 use Rattle.crs_c.specs.Catalogues.{IsAddedUnder}
 use Rattle.crs_c.specs.Held.{HeldParts}
-use Rattle.crs_group.specs.Catalogue.{CatalogueParts}
-use Rattle.crs_group.specs.contracts.catalogue.Catalogue as catalogue
-use Rattle.crs_group.proofs.catalogue.Catalogue.TheLaws as catalogue_laws
+use Rattle.crs_placed.specs.Catalogue.{CatalogueParts}
+use Rattle.crs_catalogue.specs.contracts.catalogue.Catalogue as catalogue
+use Rattle.crs_catalogue.proofs.catalogue.Catalogue.TheLaws as catalogue_laws
 use Rattle.crs_c.specs.contracts.held_rules.HeldRules as held_rules
 use Rattle.crs_c.proofs.held_rules.HeldRules.TheLaws as rules_laws
 use Rattle.crs_c.specs.contracts.catalogue_answers.Standing as standing

@@ -1,8 +1,8 @@
 use Rattle.crs_c.proofs.Steps.{[], ◌∷◌, refl, ap, proved, full_share, id⊢, ftrue, fat, Val, vunit, tables, ‵, raw, ◌⊛◌, some, later, prop, ◌$◌, ◌∵◌, !, qed, done, move, drop, use1, use2, split, join, feq_i, feq_l, pick, await, regoal, suffices, group, enter, of_opd, unit_lit, load, look, stop, forget, no_more, and_then, returns, alloc_all, pass_all, free_all, look_at, get, through, sets, lands_as, unit, yes, shows, Is, layout, Ptr, RawPtr, block_ptr, room_at, lies_at, in_a_block, rawptr_vals, rawptr_Tells, plain, nothing, peeks, only, calls_at, lasts, Lasts, on_entry, triple_of, Stays, walk_of, stay_dropped, Goes-dropped, ends_at, framed, part_out, Good}
 use prog.Wp.{WpFn}
 use Rattle.crs_c.specs.Places.{catalogue_at, has_room}
-use Rattle.crs_group.specs.contracts.catalogue.Catalogue as catalogue
-use Rattle.crs_group.proofs.catalogue.Catalogue.TheLaws.{the_row_laws}
+use Rattle.crs_catalogue.specs.contracts.catalogue.Catalogue as catalogue
+use Rattle.crs_catalogue.proofs.catalogue.Catalogue.TheLaws.{the_row_laws}
 use Rattle.crs_c.specs.contracts.catalogue.crsdesk_catalogue_free as f
 use Rattle.crs_c.proofs.catalogue.crsdesk_catalogue_free.Statement.{statement}
 use Rattle.crs_c.proofs.catalogue.crsdesk_catalogue_free.Code as code

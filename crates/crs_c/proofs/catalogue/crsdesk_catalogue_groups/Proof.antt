@@ -2,14 +2,14 @@ use Rattle.crs_c.proofs.Steps.{◌≡◌, ℕ, List, [], ◌∷◌, ◌++◌, re
 use prog.Wp.{WpFn}
 use denote.Triple.Clauses.{Lasts}
 use Rattle.crs_c.specs.Places.{catalogue_at}
-use Rattle.crs_group.specs.Catalogue.{CatalogueParts}
-use Rattle.crs_group.specs.contracts.catalogue.Catalogue as catalogue
+use Rattle.crs_placed.specs.Catalogue.{CatalogueParts}
+use Rattle.crs_catalogue.specs.contracts.catalogue.Catalogue as catalogue
 use Rattle.crs_c.specs.contracts.catalogue.crsdesk_catalogue_groups as f
 use Rattle.crs_c.proofs.catalogue.crsdesk_catalogue_groups.Statement.{statement}
 use Rattle.crs_c.proofs.catalogue.crsdesk_catalogue_groups.Code as code
 use Rattle.crs_c.specs.contracts.catalogue_calls.counted as g
 use Rattle.crs_c.proofs.catalogue_calls.counted.Met.{met}
-use Rattle.crs_group.proofs.catalogue.Catalogue.TheLaws.{the_row_laws}
+use Rattle.crs_catalogue.proofs.catalogue.Catalogue.TheLaws.{the_row_laws}
 
 abbrev stayed : Stays f.ended.signature.params f.ended.kept
 stayed = (stay_dropped _ yes, tt)

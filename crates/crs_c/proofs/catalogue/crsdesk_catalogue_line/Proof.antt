@@ -2,14 +2,14 @@ use Rattle.crs_c.proofs.Steps.{◌≡◌, List, [], ◌∷◌, ◌++◌, refl, a
 use prog.Wp.{WpFn}
 use denote.Triple.Clauses.{Lasts}
 use Rattle.crs_c.specs.Places.{catalogue_at}
-use Rattle.crs_group.specs.Catalogue.{CatalogueParts}
-use Rattle.crs_group.specs.contracts.catalogue.Catalogue as catalogue
+use Rattle.crs_placed.specs.Catalogue.{CatalogueParts}
+use Rattle.crs_catalogue.specs.contracts.catalogue.Catalogue as catalogue
 use Rattle.crs_c.specs.contracts.catalogue.crsdesk_catalogue_line as f
 use Rattle.crs_c.proofs.catalogue.crsdesk_catalogue_line.Statement.{statement}
 use Rattle.crs_c.proofs.catalogue.crsdesk_catalogue_line.Code as code
 use Rattle.crs_c.specs.contracts.catalogue_calls.looked_up as g
 use Rattle.crs_c.proofs.catalogue_calls.looked_up.Met.{met}
-use Rattle.crs_group.proofs.catalogue.Catalogue.TheLaws.{the_row_laws}
+use Rattle.crs_catalogue.proofs.catalogue.Catalogue.TheLaws.{the_row_laws}
 use Rattle.crs_c.specs.Catalogues.{line_at}
 use Rattle.crs_c.specs.contracts.catalogue_answers.Numbered as numbered
 use Rattle.crs_c.specs.declared.catalogue_answers.Numbered.{Numbered}

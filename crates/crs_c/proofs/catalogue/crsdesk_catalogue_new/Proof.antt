@@ -4,9 +4,9 @@ use Rattle.std.specs.contracts.alloc.Global as global
 use Rattle.std.proofs.alloc.Global.TheLaws as global_laws
 use Rattle.crs_c.specs.Places.{catalogue_at, has_room}
 use Rattle.crs_c.specs.Catalogues.{IsMadeEmpty}
-use Rattle.crs_group.specs.Catalogue.{CatalogueParts}
-use Rattle.crs_group.specs.contracts.catalogue.Catalogue as catalogue
-use Rattle.crs_group.proofs.catalogue.Catalogue.TheLaws.{the_row_laws}
+use Rattle.crs_placed.specs.Catalogue.{CatalogueParts}
+use Rattle.crs_catalogue.specs.contracts.catalogue.Catalogue as catalogue
+use Rattle.crs_catalogue.proofs.catalogue.Catalogue.TheLaws.{the_row_laws}
 use Rattle.crs_c.specs.contracts.catalogue.crsdesk_catalogue_new as f
 use Rattle.crs_c.proofs.catalogue.crsdesk_catalogue_new.Statement.{statement}
 use Rattle.crs_c.proofs.catalogue.crsdesk_catalogue_new.Code as code

@@ -1,0 +1,105 @@
+-- What the source of a run has given, and what the two halves of the run say of the whole.
+use Rattle.std.proofs.Common.{◌≡◌, ◌∙◌, ◌+◌, ◌<◌, ◌≤◌, ◌*◌, ◌^◌, ℕ, Bool, List, false, ap, subst, sym, arith, is_ok, true≢false, Result, Ok, Err}
+use Rattle.std.specs.Prelude.{IfOk, IsErr, MatchResult}
+use Rattle.std.specs.Io.KnownBytes.{ReadConsumes}
+use Rattle.crs_catalogue.specs.GroupCutting.{CutterParts, IsCutFault, IsCutTo, IsLedgerFor, LedgerParts}
+use Rattle.crs_value.specs.declared.values.level.Level.{Level}
+use Rattle.crs_catalogue.specs.GroupOutput.{IsGroupOutputBy, catalogue_text}
+use Rattle.crs_catalogue.specs.GroupReading.{IsLedgerWhole, IsReadInto, WritesLedger}
+use Rattle.crs_streams.specs.Given.{GivesShortLines, HasGiven}
+use Rattle.crs_catalogue.specs.GroupRun.{IsGroupedBy, IsReadingFault}
+use Rattle.crs_catalogue.specs.declared.listing.Listing.{Listing}
+use Rattle.crs_catalogue.specs.declared.summary.Summary.{Summary}
+use Rattle.crs_streams.specs.Streams.{CountsRead, SinkState, SourceState}
+use Rattle.crs_streams.specs.declared.fault.RunFault.{RunFault}
+use Rattle.crs_streams.specs.declared.fault.RunFault.TheVariants.{ReadFailed, WriteFailed, TooLong, TooManyReads, Memory}
+use Rattle.crs_catalogue.proofs.GroupCutLemmas.{cut-fits, cut-short}
+use Rattle.crs_streams.proofs.GivenLemmas.{given-kept}
+use Rattle.crs_catalogue.specs.Partition.{PlacedLine}
+
+pub fault-in-piece : (old new : SourceState) (bytes : List ℕ) (fault : RunFault) → HasGiven old new bytes
+    → new.failed ≡ false → IsCutFault bytes fault → IsReadingFault old new fault
+fault-in-piece old new bytes ReadFailed given healthy h = absurd h
+fault-in-piece old new bytes WriteFailed given healthy h = absurd h
+fault-in-piece old new bytes (TooLong number) given healthy h = (healthy, (bytes, given, h))
+fault-in-piece old new bytes TooManyReads given healthy h = absurd h
+fault-in-piece old new bytes Memory given healthy h = healthy
+
+-- what holds of an answer holds of it where its error alone is replaced
+pub kept : {A E F : Type 0} (P : A → Type 0) (Q : E → Type 0) (r : Result A E) (s : Result A F)
+    → MatchResult r (λ x. s ≡ Ok x) Q → is_ok s ≡ is_ok r → IfOk r P → IfOk s P
+kept P Q (Ok x) s is same p = subst (λ t. IfOk t P) (sym is) p
+kept P Q (Err e) (Ok x) other same p = absurd (true≢false same)
+kept P Q (Err e) (Err f) other same p = tt
+
+module _ (Form : Level → List ℕ → List ℕ → Type 0) (Share : Level → PlacedLine → PlacedLine → Type 0) (named : Bool) where
+  -- so far no line was too long
+  pub gives-short : (old now : SourceState) (bytes : List ℕ) (cutter : CutterParts) → HasGiven old now bytes
+      → IsCutTo Form Share named bytes cutter → GivesShortLines old now
+  gives-short old now bytes cutter given cut = (bytes, given, cut-short Form Share named bytes cutter cut)
+
+  -- a read that fails
+  pub failed-read : {E : Type 0} (old now new : SourceState) (bytes room : List ℕ) (cutter : CutterParts) (answer : Result ℕ E)
+      → HasGiven old now bytes → IsCutTo Form Share named bytes cutter → ReadConsumes now.remaining new.remaining answer room
+      → CountsRead now new answer → IsErr answer → IsReadingFault old new ReadFailed
+  failed-read old now new bytes room cutter (Ok count) given cut consumed counted bad = cc
+  failed-read old now new bytes room cutter (Err error) given cut consumed counted bad =
+      let kept = counted.bytes in
+      (kept.2, gives-short old new bytes cutter (given-kept old now new bytes given consumed kept.0) cut)
+
+  -- lines are counted within 64 bits
+  pub lines-fit : (bytes : List ℕ) (cutter : CutterParts) (old now : SourceState) (more : ℕ) → IsCutTo Form Share named bytes cutter
+      → HasGiven old now bytes → now.taken ≤ 65536 * 1048576 → more ≤ 65536
+      → cutter.ledger.lines + more + 1 < 2 ^ 64
+  lines-fit bytes cutter old now more cut given few piece =
+      omega (arith, cut-fits Form Share named bytes cutter cut, given.is_counted)
+
+  pub read-fits : (old new : SourceState) (cutter : CutterParts) → IsReadInto Form Share named old new cutter
+      → cutter.ledger.lines + 1 < 2 ^ 64
+  read-fits old new cutter read =
+      let fits = lines-fit read.bytes cutter old new 0 read.is_cut read.is_whole.is_given read.is_few (omega arith) in
+      omega (arith, fits)
+
+  -- the ledger of all that was read
+  pub whole-ledger : {E : Type 0} (level : Level) (old new : SourceState) (cutter : CutterParts)
+      (answer : Result LedgerParts E) → IsReadInto Form Share named old new cutter
+      → IfOk answer (λ ledger. (bytes : List ℕ) → IsCutTo Form Share named bytes cutter → IsLedgerFor Form Share named bytes ledger)
+      → IfOk answer (λ ledger. ledger.catalogue.level ≡ level)
+      → IfOk answer (IsLedgerWhole Form Share named level old new)
+  whole-ledger level old new cutter (Ok ledger) read lines is = record {
+    bytes = read.bytes;
+    is_whole = read.is_whole;
+    are_short = cut-short Form Share named read.bytes cutter read.is_cut;
+    is_ledger = lines read.bytes read.is_cut;
+    is_level = is;
+  }
+  whole-ledger level old new cutter (Err error) read lines is = tt
+
+-- the catalogue of all that was read is written
+pub grouped : (Form : Level → List ℕ → List ℕ → Type 0) (Share : Level → PlacedLine → PlacedLine → Type 0)
+    (listing : Listing) (level : Level) (old new : SourceState) (before after : SinkState) (ledger : LedgerParts)
+    (summary : Summary) → IsLedgerWhole Form Share listing.names level old new ledger
+    → WritesLedger listing ledger before after summary
+    → IsGroupedBy (IsGroupOutputBy Form Share listing level) old new before after summary
+grouped Form Share listing level old new before after ledger summary whole writes =
+    let texts = whole.is_ledger.of_texts in record {
+      bytes = whole.bytes;
+      is_whole = whole.is_whole;
+      are_short = whole.are_short;
+      written = catalogue_text listing ledger.names ledger.catalogue;
+      is_output = record {
+        texts = whole.is_ledger.texts;
+        are_texts = whole.is_ledger.are_texts;
+        catalogue = ledger.catalogue;
+        is_level = whole.is_level;
+        of_lines = texts.of_lines;
+        is_written = ap (λ names. catalogue_text listing names ledger.catalogue) texts.names;
+        lines = writes.lines ∙ texts.lines;
+        blank = writes.blank ∙ texts.blank;
+        refused = writes.refused;
+        groups = writes.groups;
+      };
+      is_sent = writes.is_sent;
+      is_asked = writes.is_asked;
+      is_healthy = writes.is_healthy;
+    }

@@ -1,0 +1,27 @@
+-- Groups are written one after the other.
+use Rattle.std.proofs.Common.{◌≡◌, ◌+◌, ◌<◌, ◌++◌, ◌∷◌, [], ℕ, zero, suc, List, Some, length, slice_get, drop, ap, sym, refl, ◌∙◌, add-one, append_assoc, arith}
+use Rattle.crs_placed.specs.Catalogue.{GroupParts, nth}
+use Rattle.crs_catalogue.specs.GroupOutput.{group_lines, listed_line}
+use Rattle.crs_catalogue.specs.declared.listing.Listing.{Listing}
+
+-- the groups from a place on: the one that is there, and those after it
+split-at : (groups : List GroupParts) (at : ℕ) → at < length groups
+    → (group : GroupParts) × (slice_get groups at ≡ Some group) × (drop at groups ≡ group ∷ drop (suc at) groups)
+split-at [] at within = absurd (omega arith)
+split-at (g ∷ gs) zero within = (g, refl, refl)
+split-at (g ∷ gs) (suc at) within = split-at gs at (omega arith)
+
+-- a further group is written
+pub group-step : (listing : Listing) (names : List (List ℕ)) (all now next : List ℕ) (groups : List GroupParts) (at : ℕ)
+    → at < length groups
+    → ((group : GroupParts) → nth (at + 1) groups ≡ Some group → next ≡ now ++ listed_line listing names (at + 1) group)
+    → now ++ group_lines listing names (at + 1) (drop at groups) ≡ all
+    → next ++ group_lines listing names (at + 1 + 1) (drop (at + 1) groups) ≡ all
+group-step listing names all now next groups at within written so-far =
+    let (group, here, parts) = split-at groups at within in
+    ap (λ text. text ++ group_lines listing names (at + 1 + 1) (drop (at + 1) groups))
+    (written group (ap (λ n. nth n groups) (add-one at) ∙ here))
+    ∙ append_assoc now (listed_line listing names (at + 1) group) (group_lines listing names (at + 1 + 1) (drop (at + 1) groups))
+    ∙ ap (λ rest. now ++ group_lines listing names (at + 1) rest)
+    (ap (λ n. group ∷ drop n groups) (add-one at) ∙ sym parts)
+    ∙ so-far

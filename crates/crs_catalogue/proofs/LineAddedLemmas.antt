@@ -1,0 +1,164 @@
+-- A ledger gets one more line.
+use Rattle.std.proofs.Common.{◌≡◌, ◌+◌, ◌++◌, ◌∷◌, [], ℕ, List, Bool, true, false, length, ap, subst, sym, refl, ◌∙◌, arith, length-append}
+use Rattle.std.specs.Prelude.{cond}
+use Rattle.std.specs.List.{list_all}
+use Rattle.std.proofs.lemmas.Bool.{cond-true}
+use Rattle.std.proofs.lemmas.List.{length-map, map-append}
+use Rattle.std.proofs.lemmas.List.Sums.{sum_by-append}
+use Rattle.crs_text.specs.Tokens.{is_white}
+use Rattle.crs_placed.specs.Catalogue.{CatalogueParts, Line, line_of}
+use Rattle.crs_catalogue.specs.GroupCutting.{IsLedgerOf, IsNamed, LedgerParts, blank_count, no_lines, text_in}
+use Rattle.crs_catalogue.specs.GroupTexts.{IsCatalogueBy, IsCatalogueOfBy, then_line}
+use Rattle.crs_streams.specs.Lines.{blank_in}
+use Rattle.crs_catalogue.specs.GroupOutput.{numbered}
+use Rattle.crs_catalogue.specs.Names.{name_of, names_from, names_in, text_behind, texts_in}
+use Rattle.crs_value.specs.Sound.{Each}
+use Rattle.crs_placed.specs.declared.placed.Placed.{Placed}
+use Rattle.crs_placed.specs.declared.placed.Placed.TheVariants.{Blank, Refused, Group}
+use Rattle.crs_catalogue.specs.Partition.{IsPlacedAs, PlacedLine}
+use Rattle.crs_value.specs.declared.values.level.Level.{Level}
+use Rattle.crs_catalogue.proofs.CatalogueLemmas.{lines-added, none-added}
+
+lines-is : (a b : Line) (xs ys : List Line) → a ≡ b → xs ≡ ys → a ∷ xs ≡ b ∷ ys
+lines-is a b xs ys h t = cc
+
+pub numbered-more : (number : ℕ) (texts : List (List ℕ)) (text : List ℕ)
+    → numbered number (texts ++ text ∷ []) ≡ numbered number texts ++ line_of (number + length texts) text ∷ []
+numbered-more number [] text =
+    let place : number ≡ number + 0 = omega arith in
+    lines-is (line_of number text) (line_of (number + 0) text) [] [] (ap (λ n. line_of n text) place) refl
+numbered-more number (first ∷ texts) text =
+    let place : number + 1 + length texts ≡ number + length (first ∷ texts) = omega arith in
+    lines-is (line_of number first) (line_of number first) _ _ refl
+    (numbered-more (number + 1) texts text
+    ∙ ap (λ n. numbered (number + 1) texts ++ line_of n text ∷ []) place)
+
+each-last : {A : Type 0} (P : A → Type 0) (xs : List A) (x : A) → Each P (xs ++ x ∷ []) → P x
+each-last P [] x each = each.0
+each-last P (y ∷ ys) x each = each-last P ys x each.1
+
+-- the count of one text is that of its place
+one-blank : (text : List ℕ) (place : Placed) → IsPlacedAs text place
+    → ◌≡◌ {A = ℕ} (cond (list_all is_white text) 1 0) (blank_count place)
+one-blank text Blank white = cond-true _ _ _ white
+one-blank text (Refused refusal) (black, refuses) = by_test (list_all is_white text) black
+  where
+    by_test : (t : Bool) → ¬ (t ≡ true) → ◌≡◌ {A = ℕ} (cond t 1 0) 0
+    by_test true black = absurd (black refl)
+    by_test false black = refl
+one-blank text (Group n) (black, accepted) = by_test (list_all is_white text) black
+  where
+    by_test : (t : Bool) → ¬ (t ≡ true) → ◌≡◌ {A = ℕ} (cond t 1 0) 0
+    by_test true black = absurd (black refl)
+    by_test false black = refl
+
+-- the text of one more line is behind those of the others
+pub texts-more : (named : Bool) (lines : List (List ℕ)) (line : List ℕ)
+    → texts_in named (lines ++ line ∷ []) ≡ texts_in named lines ++ text_in named line ∷ []
+texts-more true lines line = map-append text_behind lines (line ∷ [])
+texts-more false lines line = refl
+
+pub texts-length : (named : Bool) (lines : List (List ℕ)) → length (texts_in named lines) ≡ length lines
+texts-length true lines = length-map lines text_behind
+texts-length false lines = refl
+
+names-are : (a b : List ℕ) (xs ys : List (List ℕ)) → a ≡ b → xs ≡ ys → a ∷ xs ≡ b ∷ ys
+names-are a b xs ys h t = cc
+
+names-further : (number : ℕ) (lines : List (List ℕ)) (line : List ℕ)
+    → names_from number (lines ++ line ∷ []) ≡ names_from number lines ++ name_of (number + length lines) line ∷ []
+names-further number [] line =
+    let place : number ≡ number + 0 = omega arith in
+    names-are (name_of number line) (name_of (number + 0) line) [] [] (ap (λ n. name_of n line) place) refl
+names-further number (first ∷ lines) line =
+    let place : number + 1 + length lines ≡ number + length (first ∷ lines) = omega arith in
+    names-are (name_of number first) (name_of number first) _ _ refl
+    (names-further (number + 1) lines line
+    ∙ ap (λ n. names_from (number + 1) lines ++ name_of n line ∷ []) place)
+
+-- the name of one more line is behind those of the others
+pub names-more : (named : Bool) (lines : List (List ℕ)) (line : List ℕ) (before after : List (List ℕ)) (number : ℕ)
+    → number ≡ 1 + length lines → IsNamed named number line before after → before ≡ names_in named lines
+    → after ≡ names_in named (lines ++ line ∷ [])
+names-more true lines line before after number place is so_far =
+    is ∙ (ap (λ n. before ++ name_of n line ∷ []) place
+    ∙ (ap (λ names. names ++ name_of (1 + length lines) line ∷ []) so_far ∙ sym (names-further 1 lines line)))
+names-more false lines line before after number place is so_far = is ∙ so_far
+
+abbrev pub ledger_of : CatalogueParts → List (List ℕ) → ℕ → ℕ → LedgerParts
+ledger_of catalogue names lines blank =
+    record { catalogue = catalogue; names = names; lines = lines; blank = blank }
+
+module _ (Form : Level → List ℕ → List ℕ → Type 0) (Share : Level → PlacedLine → PlacedLine → Type 0) where
+  pub blank-more : (texts : List (List ℕ)) (text : List ℕ) (before after : CatalogueParts) (number : ℕ) (place : Placed)
+      → IsCatalogueOfBy Form Share (numbered 1 texts) before
+      → ((placed : List PlacedLine) → IsCatalogueBy Form Share placed before → IsCatalogueBy Form Share (then_line placed number text place) after)
+      → blank_in (texts ++ text ∷ []) ≡ blank_in texts + blank_count place
+  blank-more texts text before after number place of_lines step =
+      let whole = step of_lines.placed of_lines.whole in
+      let placed_as : IsPlacedAs text place = each-last (λ p. IsPlacedAs p.line.text p.place) of_lines.placed
+      (record { line = line_of number text; place = place }) whole.0.each in
+      let whole_count : blank_in (texts ++ text ∷ []) ≡ blank_in texts + blank_in (text ∷ []) =
+      sum_by-append (λ t. cond (list_all is_white t) 1 0) texts (text ∷ []) in
+      let one : blank_in (text ∷ []) ≡ cond (list_all is_white text) 1 0 = omega arith in
+      whole_count ∙ ap (λ n. blank_in texts + n) one
+      ∙ (ap (λ n. blank_in texts + n) (one-blank text place placed_as))
+
+  -- the ledger of no lines
+  pub none-ledger : (named : Bool) (level : Level) → IsLedgerOf Form Share named [] (no_lines level)
+  none-ledger true level = record {
+    of_lines = record { placed = []; are_lines = refl; whole = none-added Form Share level };
+    names = refl;
+    lines = refl;
+    blank = refl;
+  }
+  none-ledger false level = record {
+    of_lines = record { placed = []; are_lines = refl; whole = none-added Form Share level };
+    names = refl;
+    lines = refl;
+    blank = refl;
+  }
+
+  -- the ledger of one more line
+  pub ledger-more : (named : Bool) (lines : List (List ℕ)) (line : List ℕ) (before after : LedgerParts) (place : Placed)
+      → IsLedgerOf Form Share named lines before
+      → ((placed : List PlacedLine) → IsCatalogueBy Form Share placed before.catalogue →
+      IsCatalogueBy Form Share (then_line placed (before.lines + 1) (text_in named line) place) after.catalogue)
+      → IsNamed named (before.lines + 1) line before.names after.names
+      → after.lines ≡ before.lines + 1 → after.blank ≡ before.blank + blank_count place
+      → IsLedgerOf Form Share named (lines ++ line ∷ []) after
+  ledger-more named lines line before after place ledger step names counted blank =
+      let texts = texts_in named lines in
+      let text = text_in named line in
+      let count : before.lines + 1 ≡ 1 + length lines = omega (arith, ledger.lines) in
+      let place_is : before.lines + 1 ≡ 1 + length texts = omega (arith, ledger.lines, texts-length named lines) in
+      let whole : texts_in named (lines ++ line ∷ []) ≡ texts ++ text ∷ [] = texts-more named lines line in
+      record {
+        of_lines = subst (λ l. IsCatalogueOfBy Form Share l after.catalogue)
+            (ap (λ n. numbered 1 texts ++ line_of n text ∷ []) place_is
+            ∙ (sym (numbered-more 1 texts text) ∙ ap (λ all. numbered 1 all) (sym whole)))
+            (lines-added Form Share before.catalogue after.catalogue (before.lines + 1) text place step (numbered 1 texts)
+            ledger.of_lines);
+        names = names-more named lines line before.names after.names (before.lines + 1) count names ledger.names;
+        lines = omega (arith, counted, ledger.lines, length-append lines (line ∷ []));
+        blank = blank ∙ (ap (λ n. n + blank_count place) ledger.blank
+            ∙ (sym (blank-more texts text before.catalogue after.catalogue (before.lines + 1) place ledger.of_lines step)
+            ∙ ap (λ all. blank_in all) (sym whole)));
+      }
+
+  -- as the code counts
+  pub ledger-step : (named : Bool) (lines : List (List ℕ)) (line text : List ℕ) (now : LedgerParts)
+      (before after : CatalogueParts) (names further : List (List ℕ)) (number blank count : ℕ) (place : Placed)
+      → ledger_of before names number blank ≡ now → text ≡ text_in named line
+      → ((placed : List PlacedLine) → IsCatalogueBy Form Share placed before →
+      IsCatalogueBy Form Share (then_line placed (number + 1) text place) after)
+      → IsNamed named (number + 1) line names further
+      → count ≡ blank_count place → IsLedgerOf Form Share named lines now
+      → IsLedgerOf Form Share named (lines ++ line ∷ []) (ledger_of after further (number + 1) (blank + count))
+  ledger-step named lines line text now before after names further number blank count place is own step kept counted ledger =
+      ledger-more named lines line (ledger_of before names number blank)
+      (ledger_of after further (number + 1) (blank + count)) place
+      (subst (IsLedgerOf Form Share named lines) (sym is) ledger)
+      (subst (λ t. (placed : List PlacedLine) → IsCatalogueBy Form Share placed before →
+      IsCatalogueBy Form Share (then_line placed (number + 1) t place) after) own step)
+      kept refl (ap (λ n. blank + n) counted)

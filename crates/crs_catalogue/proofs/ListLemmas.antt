@@ -1,0 +1,99 @@
+-- Members of lists that grow, or change at a place.
+use Rattle.std.proofs.Common.{◌≡◌, ◌⊎◌, ◌++◌, ◌∷◌, [], ℕ, zero, suc, List, Some, None, length, slice_get, slice_set, map, inl, inr, ap, sym, refl, ◌∙◌, arith, eq-eqb}
+use Rattle.std.proofs.lemmas.Bool.{ne_eqb}
+use Rattle.std.specs.Prelude.{◌==◌, if◌then◌else◌}
+use Rattle.crs_placed.specs.Catalogue.{nth}
+use Rattle.crs_value.specs.Sound.{Each}
+
+pub each-append : {A : Type 0} (P : A → Type 0) (xs : List A) (x : A) → Each P xs → P x → Each P (xs ++ x ∷ [])
+each-append P [] x each here = (here, tt)
+each-append P (y ∷ ys) x each here = (each.0, each-append P ys x each.1 here)
+
+pub each-by : {A : Type 0} (P Q : A → Type 0) → ((x : A) → P x → Q x) → (xs : List A) → Each P xs → Each Q xs
+each-by P Q f [] each = tt
+each-by P Q f (x ∷ xs) each = (f x each.0, each-by P Q f xs each.1)
+
+pub some-is : {A : Type 0} (a b : A) → Some a ≡ Some b → a ≡ b
+some-is a b h = cc
+
+pub none-is : {A : Type 0} (b : A) → None ≡ Some b → ⊥
+none-is b h = cc
+
+-- a member stays at its place
+pub get-front : {A : Type 0} (xs ys : List A) (k : ℕ) (v : A) → slice_get xs k ≡ Some v
+    → slice_get (xs ++ ys) k ≡ Some v
+get-front [] ys k v e = absurd (none-is v e)
+get-front (x ∷ xs) ys zero v e = e
+get-front (x ∷ xs) ys (suc k) v e = get-front xs ys k v e
+
+pub get-last : {A : Type 0} (xs : List A) (x : A) → slice_get (xs ++ x ∷ []) (length xs) ≡ Some x
+get-last [] x = refl
+get-last (y ∷ ys) x = get-last ys x
+
+-- a member of a longer list was there, or is the last
+pub get-either : {A : Type 0} (xs : List A) (x : A) (k : ℕ) (v : A) → slice_get (xs ++ x ∷ []) k ≡ Some v
+    → (slice_get xs k ≡ Some v) ⊎ ((k ≡ length xs) × (v ≡ x))
+get-either [] x zero v e = inr (refl, some-is v x (sym e))
+get-either [] x (suc k) v e = absurd (none-is v e)
+get-either (y ∷ ys) x zero v e = inl e
+get-either (y ∷ ys) x (suc k) v e = further (get-either ys x k v e)
+  where
+    further : ((slice_get ys k ≡ Some v) ⊎ ((k ≡ length ys) × (v ≡ x)))
+        → (slice_get ys k ≡ Some v) ⊎ ((suc k ≡ suc (length ys)) × (v ≡ x))
+    further (inl old) = inl old
+    further (inr (last, is)) = inr (ap suc last, is)
+
+-- a changed list has the new member at its place, and the old ones elsewhere
+pub get-changed : {A : Type 0} (xs : List A) (at : ℕ) (x : A) (k : ℕ) (v : A)
+    → slice_get (slice_set xs at x) k ≡ Some v
+    → ((k ≡ at) × (v ≡ x)) ⊎ ((¬ (at ≡ k)) × (slice_get xs k ≡ Some v))
+get-changed [] at x k v e = absurd (none-is v e)
+get-changed (y ∷ ys) zero x zero v e = inl (refl, some-is v x (sym e))
+get-changed (y ∷ ys) zero x (suc k) v e = inr (λ h. omega arith, e)
+get-changed (y ∷ ys) (suc at) x zero v e = inr (λ h. omega arith, e)
+get-changed (y ∷ ys) (suc at) x (suc k) v e = further (get-changed ys at x k v e)
+  where
+    further : (((k ≡ at) × (v ≡ x)) ⊎ ((¬ (at ≡ k)) × (slice_get ys k ≡ Some v)))
+        → ((suc k ≡ suc at) × (v ≡ x)) ⊎ ((¬ (suc at ≡ suc k)) × (slice_get ys k ≡ Some v))
+    further (inl (same, is)) = inl (ap suc same, is)
+    further (inr (other, old)) = inr (λ h. other (omega arith), old)
+
+-- a change that keeps what f says of a member keeps what f says of the list
+pub map-changed : {A B : Type 0} (f : A → B) (xs : List A) (at : ℕ) (x y : A) → slice_get xs at ≡ Some x → f y ≡ f x
+    → map f (slice_set xs at y) ≡ map f xs
+map-changed f [] at x y e same = absurd (none-is x e)
+map-changed f (z ∷ zs) zero x y e same =
+    let is : z ≡ x = some-is z x e in ap (λ v. v ∷ map f zs) (same ∙ ap f (sym is))
+map-changed f (z ∷ zs) (suc at) x y e same = ap (λ vs. f z ∷ vs) (map-changed f zs at x y e same)
+
+-- members counted from 1
+pub nth-front : {A : Type 0} (xs ys : List A) (n : ℕ) (v : A) → nth n xs ≡ Some v → nth n (xs ++ ys) ≡ Some v
+nth-front xs ys zero v e = e
+nth-front xs ys (suc k) v e = get-front xs ys k v e
+
+pub nth-either : {A : Type 0} (xs : List A) (x : A) (n : ℕ) (v : A) → nth n (xs ++ x ∷ []) ≡ Some v
+    → (nth n xs ≡ Some v) ⊎ ((n ≡ suc (length xs)) × (v ≡ x))
+nth-either xs x zero v e = absurd (none-is v e)
+nth-either xs x (suc k) v e = further (get-either xs x k v e)
+  where
+    further : ((slice_get xs k ≡ Some v) ⊎ ((k ≡ length xs) × (v ≡ x)))
+        → (slice_get xs k ≡ Some v) ⊎ ((suc k ≡ suc (length xs)) × (v ≡ x))
+    further (inl old) = inl old
+    further (inr (last, is)) = inr (ap suc last, is)
+
+pub nth-changed : {A : Type 0} (xs : List A) (at : ℕ) (x : A) (n : ℕ) (v : A) → nth n (slice_set xs at x) ≡ Some v
+    → ((n ≡ suc at) × (v ≡ x)) ⊎ ((¬ (suc at ≡ n)) × (nth n xs ≡ Some v))
+nth-changed xs at x zero v e = absurd (none-is v e)
+nth-changed xs at x (suc k) v e = further (get-changed xs at x k v e)
+  where
+    further : (((k ≡ at) × (v ≡ x)) ⊎ ((¬ (at ≡ k)) × (slice_get xs k ≡ Some v)))
+        → ((suc k ≡ suc at) × (v ≡ x)) ⊎ ((¬ (suc at ≡ suc k)) × (slice_get xs k ≡ Some v))
+    further (inl (same, is)) = inl (ap suc same, is)
+    further (inr (other, old)) = inr (λ h. other (omega arith), old)
+
+-- a test of two numbers
+pub if-equal : {A : Type 0} (m n : ℕ) (same other : A) → m ≡ n → (if m == n then same else other) ≡ same
+if-equal m n same other e = rw (eq-eqb m n e) refl
+
+pub if-other : {A : Type 0} (m n : ℕ) (same other : A) → ¬ (m ≡ n) → (if m == n then same else other) ≡ other
+if-other m n same other e = rw (ne_eqb m n e) refl

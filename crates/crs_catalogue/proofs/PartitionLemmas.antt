@@ -1,0 +1,58 @@
+-- Lists of placed lines that grow.
+use Rattle.std.proofs.Common.{◌≡◌, ◌<◌, ◌≤◌, ◌++◌, ◌∷◌, [], ℕ, List, inl, inr, ap, subst, refl, ◌∙◌, arith}
+use Rattle.std.proofs.lemmas.Grind.{flat_map-append}
+use Rattle.std.proofs.lemmas.List.{append-nil}
+use Rattle.crs_placed.specs.declared.placed.Placed.{Placed}
+use Rattle.crs_placed.specs.declared.placed.Placed.TheVariants.{Blank, Refused, Group}
+use Rattle.crs_catalogue.specs.Partition.{AreNumbered, Counts, PlacedLine, if_refused, in_group, lines_in, refused_in}
+use Rattle.crs_catalogue.proofs.ListLemmas.{if-other}
+
+pub numbered-append : (before : ℕ) (placed : List PlacedLine) (next : ℕ) (p : PlacedLine) (behind : ℕ)
+    → AreNumbered before placed next → Counts next p.place behind → AreNumbered before (placed ++ p ∷ []) behind
+numbered-append before [] next p behind numbered counts =
+    (behind, subst (λ n. Counts n p.place behind) numbered counts, refl)
+numbered-append before (q ∷ qs) next p behind numbered counts =
+    (numbered.0, numbered.1, numbered-append numbered.0 qs next p behind numbered.2 counts)
+
+pub lines-append : (n : ℕ) (placed : List PlacedLine) (p : PlacedLine)
+    → lines_in n (placed ++ p ∷ []) ≡ lines_in n placed ++ in_group n p.line.number p.place
+lines-append n placed p =
+    flat_map-append (λ q. in_group n q.line.number q.place) placed (p ∷ [])
+    ∙ ap (λ l. lines_in n placed ++ l) (append-nil (in_group n p.line.number p.place))
+
+pub refused-append : (placed : List PlacedLine) (p : PlacedLine)
+    → refused_in (placed ++ p ∷ []) ≡ refused_in placed ++ if_refused p.line.number p.place
+refused-append placed p =
+    flat_map-append (λ q. if_refused q.line.number q.place) placed (p ∷ [])
+    ∙ ap (λ l. refused_in placed ++ l) (append-nil (if_refused p.line.number p.place))
+
+-- no group is lost, and the group of a line is counted
+counts-rise : (before : ℕ) (place : Placed) (behind : ℕ) → Counts before place behind → before ≤ behind
+counts-rise before Blank behind counts = omega arith
+counts-rise before (Refused refusal) behind counts = omega arith
+counts-rise before (Group n) behind (inl (low, high, same)) = omega arith
+counts-rise before (Group n) behind (inr (next, last)) = omega arith
+
+numbered-rise : (before : ℕ) (placed : List PlacedLine) (behind : ℕ) → AreNumbered before placed behind
+    → before ≤ behind
+numbered-rise before [] behind numbered = omega arith
+numbered-rise before (p ∷ ps) behind numbered =
+    let here : before ≤ numbered.0 = counts-rise before p.place numbered.0 numbered.1 in
+    let rest : numbered.0 ≤ behind = numbered-rise numbered.0 ps behind numbered.2 in omega arith
+
+in-none : (n before : ℕ) (line : ℕ) (place : Placed) (behind : ℕ) → Counts before place behind → behind < n
+    → in_group n line place ≡ []
+in-none n before line Blank behind counts over = refl
+in-none n before line (Refused refusal) behind counts over = refl
+in-none n before line (Group m) behind (inl (low, high, same)) over = if-other m n _ _ (λ e. omega arith)
+in-none n before line (Group m) behind (inr (next, last)) over = if-other m n _ _ (λ e. omega arith)
+
+-- no line is in a group that isn't counted
+pub lines-none : (n before : ℕ) (placed : List PlacedLine) (behind : ℕ) → AreNumbered before placed behind
+    → behind < n
+    → lines_in n placed ≡ []
+lines-none n before [] behind numbered over = refl
+lines-none n before (p ∷ ps) behind numbered over =
+    let rise : numbered.0 ≤ behind = numbered-rise numbered.0 ps behind numbered.2 in
+    let here = in-none n before p.line.number p.place numbered.0 numbered.1 (omega arith) in
+    let rest = lines-none n numbered.0 ps behind numbered.2 over in rw (here, rest) refl

@@ -1,0 +1,71 @@
+use Rattle.std.proofs.Common.{◌≡◌, ap, refl, subst, sym, ◌∙◌}
+use Rattle.std.specs.Prelude.{IfOk}
+use Rattle.crs_writer.specs.Canonical.{IsCanonicalOf}
+use Rattle.crs_placed.specs.Catalogue.{CatalogueParts}
+use Rattle.crs_placed.specs.Putting.{IsPut, IsRefused}
+use Rattle.crs_placed.specs.declared.placed.Placed.TheVariants.{Blank}
+use Rattle.crs_catalogue.proofs.CatalogueLemmas.{blank-added, canonical-forms, is-black, lines-added, lines-result, put-result, refuse-result}
+use Rattle.crs_catalogue.proofs.KnownLemmas.{joined-put}
+use Rattle.crs_catalogue.specs.Partition.{ShareWhereSame}
+use Rattle.crs_catalogue.proofs.catalogue.Catalogue.add.Goals as goal
+
+pub returns-then-is_blank-clause-catalogue : goal.returns-then-is_blank-clause-catalogue
+returns-then-is_blank-clause-catalogue c placed whole =
+    blank-added IsCanonicalOf ShareWhereSame (λ level. canonical-forms level (c.main_theorem.ensures level))
+    placed c.args.self.now whole c.args.line c.args.text.now
+    (sym c.is_blank.ensures ∙ c.if-is_blank.true)
+
+pub returns-in-Some-clause-catalogue : goal.returns-in-Some-clause-catalogue
+returns-in-Some-clause-catalogue c =
+    let has = c.in-Some.ensures.group in
+    put-result IsCanonicalOf ShareWhereSame (λ level. canonical-forms level (c.main_theorem.ensures level))
+    c.args.self.now c.join.new.self c.args.self.now.level refl c.args.line c.args.text.now has.canon c.join.result
+    (is-black c.args.text.now c.is_blank.result c.if-is_blank.false c.is_blank.ensures)
+    has.is_canonical has.is_at_level
+    (joined-put has.canon c.args.line c.in-Some.at c.args.self.now.groups c.join.new.self.groups c.join.result
+    has.found c.join.ensures.groups)
+    c.join.ensures.level c.join.ensures.refused
+
+pub returns-in-Ok-clause-catalogue : goal.returns-in-Ok-clause-catalogue
+returns-in-Ok-clause-catalogue c =
+    let same : c.canon.new.self ≡ c.args.self.now = c.canon.ensures.unchanged in
+    put-result IsCanonicalOf ShareWhereSame (λ level. canonical-forms level (c.main_theorem.ensures level))
+    c.args.self.now c.put_and_remember.new.self c.args.self.now.level refl c.args.line c.args.text.now c.in-Ok.canon c.put_and_remember.result
+    (is-black c.args.text.now c.is_blank.result c.if-is_blank.false c.is_blank.ensures)
+    c.in-Ok.ensures.answer c.in-Ok.ensures.level
+    (subst (λ (s : CatalogueParts). IfOk c.put_and_remember.result (IsPut c.in-Ok.canon c.args.line s.groups c.put_and_remember.new.self.groups)) same
+    c.put_and_remember.ensures.groups)
+    (c.put_and_remember.ensures.level ∙ ap (λ (s : CatalogueParts). s.level) same)
+    (c.put_and_remember.ensures.refused ∙ ap (λ (s : CatalogueParts). s.refused) same)
+
+pub returns-in-Err-clause-catalogue : goal.returns-in-Err-clause-catalogue
+returns-in-Err-clause-catalogue c =
+    let same : c.canon.new.self ≡ c.args.self.now = c.canon.ensures.unchanged in
+    refuse-result IsCanonicalOf ShareWhereSame (λ level. canonical-forms level (c.main_theorem.ensures level))
+    c.args.self.now c.refuse.new.self c.args.line c.args.text.now c.in-Err.fault c.refuse.result
+    (is-black c.args.text.now c.is_blank.result c.if-is_blank.false c.is_blank.ensures)
+    c.in-Err.ensures.answer
+    (subst (λ (s : CatalogueParts). IfOk c.refuse.result (IsRefused c.in-Err.fault c.args.line s.refused c.refuse.new.self.refused)) same
+    c.refuse.ensures.refused)
+    (c.refuse.ensures.level ∙ ap (λ (s : CatalogueParts). s.level) same)
+    (c.refuse.ensures.groups ∙ ap (λ (s : CatalogueParts). s.groups) same)
+
+pub returns-then-is_blank-clause-lines : goal.returns-then-is_blank-clause-lines
+returns-then-is_blank-clause-lines c =
+    lines-added IsCanonicalOf ShareWhereSame c.args.self.now c.args.self.now c.args.line c.args.text.now Blank
+    (returns-then-is_blank-clause-catalogue c)
+
+pub returns-in-Some-clause-lines : goal.returns-in-Some-clause-lines
+returns-in-Some-clause-lines c =
+    lines-result c.args.self.now c.join.new.self c.args.line c.args.text.now c.join.result
+    (returns-in-Some-clause-catalogue c)
+
+pub returns-in-Ok-clause-lines : goal.returns-in-Ok-clause-lines
+returns-in-Ok-clause-lines c =
+    lines-result c.args.self.now c.put_and_remember.new.self c.args.line c.args.text.now c.put_and_remember.result
+    (returns-in-Ok-clause-catalogue c)
+
+pub returns-in-Err-clause-lines : goal.returns-in-Err-clause-lines
+returns-in-Err-clause-lines c =
+    lines-result c.args.self.now c.refuse.new.self c.args.line c.args.text.now c.refuse.result
+    (returns-in-Err-clause-catalogue c)

@@ -1,0 +1,79 @@
+use Rattle.std.proofs.Common.{◌≡◌, ◌++◌, arith, false, length, length-take, refl, rules, subst, sym, take, Ok}
+use Rattle.std.specs.Prelude.{IfErr, IsErr}
+use Rattle.std.proofs.lemmas.Result.{IfErr-weaker}
+use Rattle.crs_catalogue.specs.GroupRun.{IsReadingFault}
+use Rattle.crs_streams.specs.declared.fault.RunFault.TheVariants.{ReadFailed}
+use Rattle.crs_streams.proofs.GivenLemmas.{given-read, taken-read}
+use Rattle.crs_catalogue.proofs.GroupRunLemmas.{failed-read, fault-in-piece, gives-short, lines-fit}
+use Rattle.crs_catalogue.proofs.reading.read_into.Goals as goal
+
+pub returns-in_err-count-clause-err : goal.returns-in_err-count-clause-err
+returns-in_err-count-clause-err g c =
+    let cut = c.loop-turn.invariant.cut in
+    let same : IfErr c.from_residual.result (λ fault. fault ≡ ReadFailed) = search rules in
+    let bad : IsErr c.read.result = search rules in
+    IfErr-weaker c.from_residual.result _ _
+    (λ fault is. subst (IsReadingFault c.args.source.now c.read.new.self) (sym is)
+    (failed-read (g.A.Adding.Form c.args.adding.now) (g.A.Adding.Share c.args.adding.now) (g.A.Adding.named c.args.adding.now) c.args.source.now c.loop-turn.source c.read.new.self cut.0 c.read.new.room c.loop-turn.cutter
+    c.read.result cut.1 cut.2 c.read.ensures.bytes c.read.ensures.counted bad))
+    same
+
+pub take-requires-clause-fits : goal.take-requires-clause-fits
+take-requires-clause-fits g c =
+    let cut = c.loop-turn.invariant.cut in
+    lines-fit (g.A.Adding.Form c.args.adding.now) (g.A.Adding.Share c.args.adding.now) (g.A.Adding.named c.args.adding.now) cut.0 c.loop-turn.cutter c.args.source.now c.loop-turn.source
+    (length (take c.in_ok-count.count c.read.new.room)) cut.2 cut.1
+    (omega (arith, c.loop-turn.invariant.few, c.loop-turn-test.true))
+    (omega (arith, length-take c.in_ok-count.count c.read.new.room, c.read.auto.room, c.loop-turn.invariant.room))
+
+pub take-requires-clause-small : goal.take-requires-clause-small
+take-requires-clause-small g c =
+    omega (arith, length-take c.in_ok-count.count c.read.new.room, c.read.auto.room, c.loop-turn.invariant.room)
+
+pub returns-in_err-take-clause-err : goal.returns-in_err-take-clause-err
+returns-in_err-take-clause-err g c =
+    let cut = c.loop-turn.invariant.cut in
+    let got : c.read.result ≡ Ok c.in_ok-count.count = search rules in
+    let healthy : c.read.new.self.failed ≡ false = search rules in
+    let same : IfErr c.from_residual-in_err-take.result (λ fault. fault ≡ c.in_err-take.field-0.0) = search rules in
+    let given = given-read c.args.source.now c.loop-turn.source c.read.new.self cut.0 c.read.new.room
+    c.read.new.room c.read.result c.in_ok-count.count cut.1 c.read.ensures.bytes c.read.ensures.counted
+    c.read.ensures.bound got refl in
+    IfErr-weaker c.from_residual-in_err-take.result _ _
+    (λ fault is. subst (IsReadingFault c.args.source.now c.read.new.self) (sym is)
+    (fault-in-piece c.args.source.now c.read.new.self (cut.0 ++ take c.in_ok-count.count c.read.new.room)
+    c.in_err-take.field-0.0 given healthy (c.in_err-take.ensures.fault cut.0 cut.2)))
+    same
+
+pub loop-turn-preserved : goal.loop-turn-preserved
+loop-turn-preserved g c =
+    let cut = c.loop-turn.invariant.cut in
+    let got : c.read.result ≡ Ok c.in_ok-count.count = search rules in
+    let given = given-read c.args.source.now c.loop-turn.source c.read.new.self cut.0 c.read.new.room
+    c.read.new.room c.read.result c.in_ok-count.count cut.1 c.read.ensures.bytes c.read.ensures.counted
+    c.read.ensures.bound got refl in record {
+      room = search rules;
+      reads = search rules;
+      few = omega (
+        arith,
+        c.loop-turn.invariant.few,
+        c.loop-turn.invariant.room,
+        c.read.auto.room,
+        taken-read c.loop-turn.source c.read.new.self c.read.new.room c.read.result c.in_ok-count.count
+            c.read.ensures.counted c.read.ensures.bound got,
+      );
+      unended = search rules;
+      within = search rules;
+      healthy = search rules;
+      cut = (cut.0 ++ take c.in_ok-count.count c.read.new.room, given, c.in_ok-take.ensures.cut cut.0 cut.2);
+      level = search rules;
+    }
+
+pub returns-clause-err : goal.returns-clause-err
+returns-clause-err g c =
+    let cut = c.loop-turn.invariant.cut in (
+      c.loop-turn.invariant.healthy,
+      omega (arith, c.loop-turn.invariant.reads, c.loop-turn-test.false, c.loop-turn.auto.turn-end),
+      c.loop-turn.invariant.unended,
+      gives-short (g.A.Adding.Form c.args.adding.now) (g.A.Adding.Share c.args.adding.now) (g.A.Adding.named c.args.adding.now) c.args.source.now c.loop-turn.source cut.0 c.loop-turn.cutter cut.1 cut.2,
+    )

@@ -1,0 +1,18 @@
+use Rattle.std.proofs.Common.{◌≡◌, ◌*◌, ◌≤◌, ℕ, List, length, false}
+use Rattle.crs_catalogue.specs.GroupCutting.{IsCutTo}
+use Rattle.crs_streams.specs.Given.{HasGiven}
+use Rattle.crs_catalogue.proofs.reading.read_into.Given as goal
+
+abbrev pub invariant-loop-turn : goal.invariant-loop-turn
+invariant-loop-turn g l =
+    record {
+      room : length l.room ≡ 65536;
+      reads : l.source.reads ≡ l.turn;
+      few : l.source.taken ≤ 65536 * l.turn;
+      unended : l.source.ended ≡ false;
+      within : l.source.past_end ≡ false;
+      healthy : l.source.failed ≡ false;
+      cut : (bytes : List ℕ) × HasGiven l.fn.source l.source bytes
+          × IsCutTo (g.A.Adding.Form l.fn.adding) (g.A.Adding.Share l.fn.adding) (g.A.Adding.named l.fn.adding) bytes l.cutter;
+      level : l.cutter.ledger.catalogue.level ≡ l.fn.cutter.ledger.catalogue.level;
+    }

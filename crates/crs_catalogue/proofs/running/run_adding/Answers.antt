@@ -1,0 +1,17 @@
+use Rattle.std.proofs.Common.{subst}
+use Rattle.std.proofs.lemmas.Result.{IfOk-weaker}
+use Rattle.std.specs.Prelude.{Bool}
+use Rattle.crs_catalogue.specs.GroupReading.{IsLedgerWhole}
+use Rattle.crs_catalogue.proofs.GroupRunLemmas.{grouped}
+use Rattle.crs_catalogue.proofs.running.run_adding.Goals as goal
+
+pub returns-clause-answered : goal.returns-clause-answered
+returns-clause-answered g c =
+    let Form = g.A.Adding.Form c.args.adding.now in
+    let Share = g.A.Adding.Share c.args.adding.now in
+    IfOk-weaker c.write_listing.result _ _
+    (λ summary writes. grouped Form Share c.args.listing c.args.level c.args.r.now c.read_ledger.new.source c.args.w.now
+    c.write_listing.new.sink c.in_ok-ledger.ledger summary
+    (subst (λ (named : Bool). IsLedgerWhole Form Share named c.args.level c.args.r.now c.read_ledger.new.source c.in_ok-ledger.ledger)
+    c.requires.named c.in_ok-ledger.ensures.ok) writes)
+    c.write_listing.ensures.ok

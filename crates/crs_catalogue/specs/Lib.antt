@@ -1,0 +1,11 @@
+pub mod GroupCutting
+pub mod GroupObjects
+pub mod GroupOutput
+pub mod GroupReading
+pub mod GroupRun
+pub mod GroupTexts
+pub mod Known
+pub mod Names
+pub mod Partition
+pub mod UnderRules
+pub mod United

@@ -1,0 +1,146 @@
+//! Groups and refused lines as objects of JSON, each in a line.
+ghost use Rattle.std.specs.Prelude.{◌≡◌, ◌++◌, OnOk, codes, decimal};
+ghost use Rattle.crs_catalogue.specs.GroupObjects.{group_object, json_name, name_member, names_member, refusal_members};
+ghost use Rattle.crs_catalogue.specs.GroupObjects.{refused_object};
+ghost use Rattle.crs_streams.specs.Json.{json_array, json_more, text_member};
+
+use crate::Listing;
+use crate::names::Names;
+use crs_streams::append_number;
+use crs_streams::json::{append_key, append_number_member, append_text, append_text_member};
+use crs_text::Refusal;
+use std::alloc::AllocError;
+
+// The group of this number, which has these lines and this text.
+pub(crate) fn write_group_object(
+    out: &mut Vec<u8>,
+    listing: Listing,
+    names: &Names,
+    number: usize,
+    lines: &[u64],
+    text: &[u8],
+) -> Result<(), AllocError>
+    ensures { OnOk result (out.new.items ≡ out.old.items ++ group_object listing names.now number lines.now text.now) }
+{
+    out.extend_from_slice(b"{\"group\":")?;
+    append_number(number, out)?;
+    append_key(b"lines", out)?;
+    write_numbers(out, lines)?;
+    write_names_member(out, listing, names, lines)?;
+    end_object(out, text)
+}
+
+// The text of a group, and the end of its object.
+fn end_object(out: &mut Vec<u8>, text: &[u8]) -> Result<(), AllocError>
+    ensures { OnOk result (out.new.items ≡ out.old.items ++ (text_member (codes "canonical") text.now ++ codes "}\n")) }
+{
+    append_text_member(b"canonical", text, out)?;
+    out.extend_from_slice(b"}\n")
+}
+
+// An array of the numbers of lines.
+fn write_numbers(out: &mut Vec<u8>, numbers: &[u64]) -> Result<(), AllocError>
+    ensures { OnOk result (out.new.items ≡ out.old.items ++ json_array decimal numbers.now) }
+{
+    match numbers {
+        [] => out.extend_from_slice(b"[]"),
+        [first, others @ ..] => {
+            out.extend_from_slice(b"[")?;
+            append_number(*first as usize, out)?;
+            write_more_numbers(out, others)?;
+            out.extend_from_slice(b"]")
+        }
+    }
+}
+
+// Numbers, each after a comma.
+fn write_more_numbers(out: &mut Vec<u8>, numbers: &[u64]) -> Result<(), AllocError>
+    ensures { OnOk result (out.new.items ≡ out.old.items ++ json_more decimal numbers.now) }
+{
+    for number in numbers {
+        out.extend_from_slice(b",")?;
+        append_number(*number as usize, out)?;
+    }
+    Ok(())
+}
+
+fn write_names_member(
+    out: &mut Vec<u8>,
+    listing: Listing,
+    names: &Names,
+    numbers: &[u64],
+) -> Result<(), AllocError>
+    ensures { OnOk result (out.new.items ≡ out.old.items ++ names_member listing names.now numbers.now) }
+{
+    if listing.names {
+        append_key(b"line_names", out)?;
+        return write_names(out, names, numbers);
+    }
+    Ok(())
+}
+
+// An array of the names of lines.
+fn write_names(out: &mut Vec<u8>, names: &Names, numbers: &[u64]) -> Result<(), AllocError>
+    ensures { OnOk result (out.new.items ≡ out.old.items ++ json_array (json_name names.now) numbers.now) }
+{
+    match numbers {
+        [] => out.extend_from_slice(b"[]"),
+        [first, others @ ..] => {
+            out.extend_from_slice(b"[")?;
+            append_text(names.at(*first), out)?;
+            write_more_names(out, names, others)?;
+            out.extend_from_slice(b"]")
+        }
+    }
+}
+
+// Names, each after a comma.
+fn write_more_names(out: &mut Vec<u8>, names: &Names, numbers: &[u64]) -> Result<(), AllocError>
+    ensures { OnOk result (out.new.items ≡ out.old.items ++ json_more (json_name names.now) numbers.now) }
+{
+    for number in numbers {
+        out.extend_from_slice(b",")?;
+        append_text(names.at(*number), out)?;
+    }
+    Ok(())
+}
+
+// A refused line.
+pub(crate) fn write_refused_object(
+    out: &mut Vec<u8>,
+    listing: Listing,
+    names: &Names,
+    line: u64,
+    refusal: Refusal,
+) -> Result<(), AllocError>
+    ensures { OnOk result (out.new.items ≡ out.old.items ++ refused_object listing names.now (line, refusal)) }
+{
+    out.extend_from_slice(b"{\"line\":")?;
+    append_number(line as usize, out)?;
+    write_name_member(out, listing, names, line)?;
+    write_refusal(out, refusal)?;
+    out.extend_from_slice(b"}\n")
+}
+
+fn write_name_member(
+    out: &mut Vec<u8>,
+    listing: Listing,
+    names: &Names,
+    number: u64,
+) -> Result<(), AllocError>
+    ensures { OnOk result (out.new.items ≡ out.old.items ++ name_member listing names.now number) }
+{
+    if listing.names {
+        return append_text_member(b"line_name", names.at(number), out);
+    }
+    Ok(())
+}
+
+// The number, its name and the place.
+fn write_refusal(out: &mut Vec<u8>, refusal: Refusal) -> Result<(), AllocError>
+    ensures { OnOk result (out.new.items ≡ out.old.items ++ refusal_members refusal) }
+{
+    append_number_member(b"refused", usize::from(refusal.number()), out)?;
+    append_text_member(b"name", refusal.name().as_bytes(), out)?;
+    append_number_member(b"place", refusal.place(), out)
+}

@@ -1,0 +1,23 @@
+//! Catalogues of texts: two texts are in one group exactly where their CRSs are the same. What is written of them, and
+//! ledgers, catalogues of numbered lines that were read.
+#![tactic(auto)]
+
+mod adding;
+mod catalogue;
+mod group_cutter;
+mod group_objects;
+mod group_text;
+pub mod laws;
+mod ledger;
+mod listing;
+mod names;
+pub mod pieces;
+mod reading;
+mod recent;
+mod running;
+mod summary;
+mod writing;
+
+pub use catalogue::{Catalogue, is_blank};
+pub use listing::{Listing, PLAIN};
+pub use summary::Summary;

@@ -1,0 +1,147 @@
+//! Lines that begin with a name and a tab, and the names of lines.
+ghost use Rattle.std.specs.Prelude.{◌≡◌, ◌+◌, ◌++◌, ◌<◌, ◌≤◌, ◌∷◌, [], OnOk, drop, length, slice_get, unwrap_or};
+ghost use Rattle.crs_catalogue.specs.GroupCutting.{IsNamed, text_in};
+ghost use Rattle.crs_catalogue.specs.Names.{is_of_name, name_at, name_of, tab_at, text_behind};
+
+use itoa::Buffer;
+use std::alloc::{AllocError, Global};
+use std::marker::Model;
+
+// The name of a line.
+#[derive(Drop)]
+struct Name {
+    bytes: Vec<u8>,
+}
+
+impl Model for Name {
+    ghost use Rattle.std.specs.Prelude.{ℕ, List};
+
+    ghost Value = { List ℕ };
+
+    ghost view = { λ name. name.bytes.items };
+}
+
+impl Name {
+    fn as_bytes(&self) -> &[u8]
+        ensures { result.now ≡ self.now }
+    {
+        &self.bytes
+    }
+}
+
+// The names of lines, in the order of their numbers.
+#[derive(Drop)]
+pub(crate) struct Names {
+    alloc: Global,
+    names: Vec<Name>,
+}
+
+impl Model for Names {
+    ghost use Rattle.std.specs.Prelude.{ℕ, List};
+
+    ghost Value = { List (List ℕ) };
+
+    ghost view = { λ names. names.names.items };
+}
+
+impl Names {
+    // No names. They take no memory.
+    pub(crate) fn new(alloc: Global) -> Names
+        ensures { result ≡ [] }
+    {
+        Names {
+            alloc,
+            names: Vec::new(alloc),
+        }
+    }
+
+    // Keeps the name of the next line, whose number is this one, where lines have names.
+    pub(crate) fn keep(&mut self, named: bool, number: u64, line: &[u8]) -> Result<(), AllocError>
+        ensures { OnOk result (IsNamed named number line.now self.old self.new) }
+    {
+        if named {
+            return self.add(number, line);
+        }
+        Ok(())
+    }
+
+    fn add(&mut self, number: u64, line: &[u8]) -> Result<(), AllocError>
+        ensures { OnOk result (self.new ≡ self.old ++ name_of number line.now ∷ []) }
+    {
+        let at = tab_at(line);
+        if at < line.len() {
+            return self.push(&line[..at]);
+        }
+        let mut digits = Buffer::new();
+        self.push(digits.format(number).as_bytes())
+    }
+
+    fn push(&mut self, name: &[u8]) -> Result<(), AllocError>
+        ensures { OnOk result (self.new ≡ self.old ++ name.now ∷ []) }
+    {
+        let bytes = Vec::from_slice(self.alloc, name)?;
+        self.names.push(Name { bytes })?;
+        Ok(())
+    }
+
+    // The name of the line of this number; nothing where there is none.
+    pub(crate) fn at(&self, number: u64) -> &[u8]
+        ensures { result.now ≡ name_at number self.now }
+    {
+        match number {
+            0 => b"",
+            _ => self.at_place(number as usize - 1),
+        }
+    }
+
+    // The name at this place, from 0; nothing where there is none.
+    fn at_place(&self, at: usize) -> &[u8]
+        ensures { result.now ≡ unwrap_or (slice_get self.now at) [] }
+    {
+        match self.names.get(at) {
+            Some(name) => name.as_bytes(),
+            None => b"",
+        }
+    }
+}
+
+// The text of a line, where lines have names or not.
+pub(crate) fn text_in(named: bool, line: &[u8]) -> &[u8]
+    ensures { result.now ≡ text_in named line.now }
+{
+    if named { text_behind(line) } else { line }
+}
+
+// What is behind the first tab; the whole line where it has none.
+fn text_behind(line: &[u8]) -> &[u8]
+    ensures { result.now ≡ text_behind line.now }
+{
+    let at = tab_at(line);
+    if at < line.len() {
+        behind(line, at)
+    } else {
+        line
+    }
+}
+
+// What is behind the byte at this place.
+fn behind(line: &[u8], at: usize) -> &[u8]
+    requires { at < length line.now }
+    ensures { result.now ≡ drop (at + 1) line.now }
+{
+    &line[at + 1..]
+}
+
+// How many bytes are before the first tab.
+fn tab_at(line: &[u8]) -> usize
+    ensures value { result ≡ tab_at line.now }
+    ensures within { result ≤ length line.now }
+{
+    line.iter().take_while(|byte| is_of_name(**byte)).count()
+}
+
+fn is_of_name(byte: u8) -> bool
+    ensures { result ≡ is_of_name byte }
+{
+    byte != b'\t'
+}

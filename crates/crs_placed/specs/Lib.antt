@@ -1,0 +1,3 @@
+pub mod Catalogue
+pub mod Entries
+pub mod Putting
