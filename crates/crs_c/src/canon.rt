@@ -1,11 +1,7 @@
 //! The canonical text of a text.
-ghost use Rattle.crs_c.specs.Canon.{IsCanonAnswer, IsCanonAt};
+ghost use Rattle.crs_calls.specs.Canon.{IsCanonAnswer};
 
-use crate::buffer::give;
-use crate::codes::{NO_LEVEL, REFUSED, level_numbered};
-use crate::refused::{Refused, tell};
-use crs_canon::canon;
-use crs_value::Level;
+use crs_calls::{NO_LEVEL, Refused, canon_at, level_numbered};
 use std::alloc::Global;
 
 /// The canonical text, at a level, of the CRS that a text spells.
@@ -30,25 +26,5 @@ pub extern "C" fn crsdesk_canon(
     match level_numbered(level) {
         Some(level) => canon_at(alloc, text, level, out, length, refused),
         None => NO_LEVEL,
-    }
-}
-
-#[tactic(auto, unfolding(crate::specs::Canon::IsCanonAt))]
-fn canon_at(
-    alloc: Global,
-    text: &[u8],
-    level: Level,
-    out: &mut [u8],
-    length: &mut usize,
-    refused: &mut Refused,
-) -> u32
-    ensures { IsCanonAt level text.now
-        (record { answer = record { items = out.old; told = length.old }; refused = refused.old })
-        (record { answer = record { items = out.new; told = length.new }; refused = refused.new })
-        result }
-{
-    match canon(alloc, text, level) {
-        Ok(canonical) => give(canonical.bytes(), out, length),
-        Err(fault) => tell(fault, REFUSED, refused),
     }
 }

@@ -2,15 +2,14 @@
 ghost use Rattle.std.specs.Prelude.{◌≡◌, length};
 ghost use Rattle.std.specs.Borrow.{sem};
 ghost use Rattle.crs_placed.specs.Catalogue.{CatalogueParts};
-ghost use Rattle.crs_c.specs.Catalogues.{IsAdded, IsAddedUnder, IsMadeEmpty, IsPieceAt, line_at};
-ghost use Rattle.crs_c.specs.Held.{HeldParts};
+ghost use Rattle.crs_calls.specs.Catalogues.{IsAdded, IsAddedUnder, IsMadeEmpty, IsPieceAt, line_at};
+ghost use Rattle.crs_calls.specs.Held.{HeldParts};
 ghost use Rattle.crs_c.specs.Places.{catalogue_at, has_room, rules_at};
 
-use crate::catalogue_answers::{Numbered, Standing};
-use crate::catalogue_calls::{added, added_under, counted, cut, let_go, looked_up, made};
-use crate::held_rules::HeldRules;
-use crate::piece::Piece;
 use crate::rules::RulesRoom;
+use crs_calls::{
+    HeldRules, Numbered, Piece, Standing, added, added_under, counted, cut, let_go, looked_up, made,
+};
 use crs_group::Catalogue;
 use std::alloc::Global;
 

@@ -1,12 +1,7 @@
 //! Whether a text spells a CRS.
-ghost use Rattle.std.specs.Prelude.{MatchResult};
-ghost use Rattle.crs_value.specs.SpellsText.{SpellsKind, IsFaultOfText};
-ghost use Rattle.crs_c.specs.Check.{IsCheckAnswer};
+ghost use Rattle.crs_calls.specs.Check.{IsCheckAnswer};
 
-use crate::codes::{OK, REFUSED, kind_number};
-use crate::refused::{Refused, tell};
-use crs_text::{Fault, read_items};
-use crs_value::{Kind, kind_of};
+use crs_calls::{Refused, check_text};
 use std::alloc::Global;
 
 /// Whether a text spells a CRS, and of which kind; no value is built.
@@ -15,7 +10,6 @@ use std::alloc::Global;
 /// refused. What a code doesn't mention is as before. ISO 19162:2019, "Coordinate reference systems"; the checks are
 /// the profile's.
 #[unsafe(no_mangle)]
-#[tactic(auto, unfolding(crate::specs::Check::IsCheckAnswer))]
 pub extern "C" fn crsdesk_check(
     alloc: Global,
     text: &[u8],
@@ -27,24 +21,5 @@ pub extern "C" fn crsdesk_check(
         (record { answer = kind.new; refused = refused.new })
         result }
 {
-    match kind_of_text(alloc, text) {
-        Ok(found) => {
-            *kind = kind_number(found);
-            OK
-        }
-        Err(fault) => tell(fault, REFUSED, refused),
-    }
-}
-
-// The kind of the CRS that a text spells.
-fn kind_of_text(alloc: Global, text: &[u8]) -> Result<Kind, Fault>
-    ensures { MatchResult result (SpellsKind text.now) (IsFaultOfText text.now) }
-{
-    match read_items(alloc, text) {
-        Ok(items) => match kind_of(&items) {
-            Ok(kind) => Ok(kind),
-            Err(refusal) => Err(Fault::Refused(refusal)),
-        },
-        Err(fault) => Err(fault),
-    }
+    check_text(alloc, text, kind, refused)
 }

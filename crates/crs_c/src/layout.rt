@@ -5,13 +5,9 @@ ghost use Rattle.crs_c.specs.Layout.{marked_entry, marked_explained, marked_form
 ghost use Rattle.crs_c.specs.Layout.{marked_piece, marked_refusal};
 ghost use Rattle.crs_c.specs.Layout.{marked_rules_standing, marked_standing, sizes};
 
-use crate::canon_each::Entry;
-use crate::catalogue_answers::{Numbered, Standing};
-use crate::held_rules::HeldRules;
-use crate::piece::Piece;
-use crate::refusal_pieces::Explained;
-use crate::refused::Refused;
-use crate::rules_answers::{Form, RulesStanding};
+use crs_calls::{
+    Entry, Explained, Form, HeldRules, Numbered, Piece, Refused, RulesStanding, Standing,
+};
 use crs_group::Catalogue;
 use std::mem::{align_of, size_of};
 

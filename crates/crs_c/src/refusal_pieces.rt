@@ -1,29 +1,9 @@
 //! Why a text is refused, as data.
-ghost use Rattle.crs_value.specs.SpellsText.{IsFaultOfText};
-ghost use Rattle.crs_c.specs.ExplainPieces.{IsExplanationGiven, IsRefusalExplained, IsRefusalPiecesAnswer};
-ghost use Rattle.crs_c.specs.PieceBuffers.{buffers_of};
+ghost use Rattle.crs_calls.specs.ExplainPieces.{IsRefusalPiecesAnswer};
+ghost use Rattle.crs_calls.specs.PieceBuffers.{buffers_of};
 
-use crate::codes::{NO_MEMORY, OK, REFUSED};
-use crate::piece_buffers::give_pieces;
-use crate::refused::{Refused, place_and_number};
-use crs_explain::{ExplanationPieces, refusal_pieces};
-use crs_text::{Fault, Refusal};
-use crs_value::{laws, read};
+use crs_calls::{Explained, explain_in_pieces};
 use std::alloc::Global;
-
-/// A refusal, and where its place is as a person counts: `struct crsdesk_explained` of C. Profile.
-#[repr(C)]
-#[derive(Drop)]
-pub struct Explained {
-    /// The refusal.
-    pub refused: Refused,
-    /// The line of its place, counted from 1.
-    pub line: usize,
-    /// The character of that line at its place, counted from 1.
-    pub column: usize,
-    /// Where the node begins in which something else is expected; 0 where that isn't known.
-    pub node: usize,
-}
 
 /// Why a text spells no CRS, in pieces: the piece of the line with a caret, in two lines; for 11 to 13, 21 and 25 the
 /// line of what is found and what could stand there, the keyword of the node in which something else is expected, and
@@ -36,7 +16,6 @@ pub struct Explained {
 /// `out` or more pieces than `ends` has room for; `length` and `count` are their numbers, and a buffer with the room has
 /// what it has with 1. What a code doesn't mention is as before. Profile.
 #[unsafe(no_mangle)]
-#[tactic(auto, unfolding(crate::specs::ExplainPieces::IsRefusalPiecesAnswer, crate::specs::ExplainPieces::IsRefusalExplained))]
 pub extern "C" fn crsdesk_refusal_pieces(
     alloc: Global,
     text: &[u8],
@@ -51,61 +30,5 @@ pub extern "C" fn crsdesk_refusal_pieces(
         (record { buffers = buffers_of out.new length.new ends.new count.new; explained = explained.new })
         result }
 {
-    match read(alloc, text) {
-        Ok(_crs) => OK,
-        Err(fault) => fault_in_pieces(alloc, text, fault, out, length, ends, count, explained),
-    }
-}
-
-// The explanation of the refusal in a fault of this text.
-#[tactic(auto, unfolding(crate::specs::ExplainPieces::IsRefusalExplained))]
-fn fault_in_pieces(
-    alloc: Global,
-    text: &[u8],
-    fault: Fault,
-    out: &mut [u8],
-    length: &mut usize,
-    ends: &mut [usize],
-    count: &mut usize,
-    explained: &mut Explained,
-) -> u32
-    requires { IsFaultOfText text.now fault }
-    ensures { IsRefusalExplained text.now
-        (record { buffers = buffers_of out.old length.old ends.old count.old; explained = explained.old })
-        (record { buffers = buffers_of out.new length.new ends.new count.new; explained = explained.new })
-        result }
-{
-    let Some(refusal) = fault.refusal() else {
-        return NO_MEMORY;
-    };
-    laws::one_answer();
-    match refusal_pieces(alloc, text, refusal) {
-        Ok(told) => give_explanation(refusal, &told, out, length, ends, count, explained),
-        Err(_) => NO_MEMORY,
-    }
-}
-
-#[tactic(auto, unfolding(crate::specs::ExplainPieces::IsExplanationGiven))]
-fn give_explanation(
-    refusal: Refusal,
-    told: &ExplanationPieces,
-    out: &mut [u8],
-    length: &mut usize,
-    ends: &mut [usize],
-    count: &mut usize,
-    explained: &mut Explained,
-) -> u32
-    ensures { IsExplanationGiven refusal told.now
-        (record { buffers = buffers_of out.old length.old ends.old count.old; explained = explained.old })
-        (record { buffers = buffers_of out.new length.new ends.new count.new; explained = explained.new })
-        result }
-{
-    *explained = Explained {
-        refused: place_and_number(refusal),
-        line: told.line,
-        column: told.column,
-        node: told.node,
-    };
-    let given = give_pieces(&told.pieces, out, length, ends, count);
-    if given == OK { REFUSED } else { given }
+    explain_in_pieces(alloc, text, out, length, ends, count, explained)
 }

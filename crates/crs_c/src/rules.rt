@@ -1,14 +1,13 @@
 //! Rules in memory of the caller's, and forms of texts under them.
 ghost use Rattle.std.specs.Borrow.{sem};
-ghost use Rattle.crs_c.specs.Held.{HeldParts, nothing_held};
-ghost use Rattle.crs_c.specs.RulesCalls.{IsFileRead, IsFormed};
-ghost use Rattle.crs_c.specs.Pieces.{IsPiece};
+ghost use Rattle.crs_calls.specs.Held.{HeldParts, nothing_held};
+ghost use Rattle.crs_calls.specs.RulesCalls.{IsFileRead, IsFormed};
+ghost use Rattle.crs_calls.specs.Pieces.{IsPiece};
 ghost use Rattle.crs_c.specs.Places.{has_room_for_rules, rules_at};
 
-use crate::held_rules::HeldRules;
-use crate::piece::Piece;
-use crate::rules_answers::{Form, RulesStanding};
-use crate::rules_calls::{cut_form, formed, let_go_rules, no_rules, with_file};
+use crs_calls::{
+    Form, HeldRules, Piece, RulesStanding, cut_form, formed, let_go_rules, no_rules, with_file,
+};
 use std::alloc::Global;
 
 /// The front of `struct crsdesk_rules` of C, which holds rules. How many words C has there is in the header alone;

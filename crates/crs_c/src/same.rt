@@ -1,14 +1,7 @@
-//! Whether two texts spell the same CRS, and where they differ.
-ghost use Rattle.std.specs.Prelude.{◌≡◌, ◌↔◌, None, IsTrue};
-ghost use Rattle.crs_c.specs.Pairs.{IsPairAnswer};
-ghost use Rattle.crs_c.specs.Same.{IsSameAnswer, TellsSame};
+//! Whether two texts spell the same CRS.
+ghost use Rattle.crs_calls.specs.Same.{IsSameAnswer};
 
-use crate::codes::{NO_LEVEL, OK, level_numbered};
-use crate::comparison::made_of_both;
-use crate::first_part::FirstPart;
-use crate::refused::Refused;
-use crs_same::Path;
-use crs_value::Level;
+use crs_calls::{NO_LEVEL, Refused, level_numbered, same_at};
 use std::alloc::Global;
 
 /// Whether two texts spell the same CRS at a level.
@@ -34,32 +27,4 @@ pub extern "C" fn crsdesk_same(
         Some(level) => same_at(alloc, first, second, level, is_same, refused),
         None => NO_LEVEL,
     }
-}
-
-fn same_at<'t>(
-    alloc: Global,
-    first: &'t [u8],
-    second: &'t [u8],
-    level: Level,
-    is_same: &mut u32,
-    refused: &mut Refused,
-) -> u32
-    ensures { IsPairAnswer (TellsSame level) first.now second.now
-        (record { answer = is_same.old; refused = refused.old })
-        (record { answer = is_same.new; refused = refused.new })
-        result }
-{
-    match made_of_both(alloc, &FirstPart(level), first, second, refused) {
-        Ok(found) => {
-            *is_same = u32::from(is_nothing(&found));
-            OK
-        }
-        Err(code) => code,
-    }
-}
-
-fn is_nothing(found: &Option<Path>) -> bool
-    ensures { IsTrue result ↔ (found.now ≡ None) }
-{
-    found.is_none()
 }

@@ -1,18 +1,18 @@
 use Rattle.crs_c.proofs.Steps.{List, [], ◌∷◌, ◌++◌, refl, ap, ◌∙◌, w64, proved, full_share, id⊢, sep, sem, ftrue, fat, flft, named, Val, vint, vstruct, of_list, fact, tables, ‵, raw, ◌⊛◌, some, later, prop, ◌$◌, ◌∵◌, !, qed, done, move, drop, show, use1, use2, split, join, fsplit, fpick, feq_l, pick, await, rewrite, regoal, suffices, frame, group, whole, sub, enter, of_opd, load, look, store, stop, fld, no_more, and_then, assigns, returns, alloc_all, pass_all, free_all, look_at, get, get_in, through, sets, lands_as, u8, u64, yes, shows, Is, layout, uint_Makes, uint_vals, uint_Tells, Ptr, RawPtr, block_ptr, lies_at, in_a_block, rawptr_vals, rawptr_Tells, shr_slice_vals, shr_slice_Tells, SliceRefOf, types_at, owns, plain, nothing, owned, heard, peeks, only, Tuple, calls_at, lasts, Lasts, triple_of, Stays, walk_of, says, stay_dropped, Goes-dropped, ends_at, framed, part_out, part_in, Good, one, both_true, has_ty, part_at}
 use prog.Wp.{WpFn}
 use Rattle.crs_c.specs.Places.{catalogue_at}
-use Rattle.crs_c.specs.Catalogues.{IsAdded}
+use Rattle.crs_calls.specs.Catalogues.{IsAdded}
 use Rattle.crs_placed.specs.Catalogue.{CatalogueParts}
 use Rattle.crs_catalogue.specs.contracts.catalogue.Catalogue as catalogue
 use Rattle.crs_catalogue.proofs.catalogue.Catalogue.TheLaws.{the_row_laws}
-use Rattle.crs_c.specs.contracts.catalogue_answers.Standing as standing
-use Rattle.crs_c.specs.declared.catalogue_answers.Standing.{Standing}
-use Rattle.crs_c.proofs.catalogue_answers.Standing.TheLaws as standing_laws
+use Rattle.crs_calls.specs.contracts.catalogue_answers.Standing as standing
+use Rattle.crs_calls.specs.declared.catalogue_answers.Standing.{Standing}
+use Rattle.crs_calls.proofs.catalogue_answers.Standing.TheLaws as standing_laws
 use Rattle.crs_c.specs.contracts.catalogue.crsdesk_catalogue_add as f
 use Rattle.crs_c.proofs.catalogue.crsdesk_catalogue_add.Statement.{statement}
 use Rattle.crs_c.proofs.catalogue.crsdesk_catalogue_add.Code as code
-use Rattle.crs_c.specs.contracts.catalogue_calls.added as g
-use Rattle.crs_c.proofs.catalogue_calls.added.Met.{met}
+use Rattle.crs_calls.specs.contracts.added as g
+use Rattle.crs_calls.proofs.added.Met.{met}
 
 abbrev stayed : Stays f.ended.signature.params f.ended.kept
 stayed = (stay_dropped _ yes, (stay_dropped _ yes, (stay_dropped _ yes, tt)))
@@ -46,7 +46,7 @@ crsdesk_catalogue_add_spec 𝓤 𝓛 𝓜 𝓡 wired =
     nothing ! $ move ! (3 ∷ 0 ∷ []) $ join ! $ owned ! u64 _ (uint_Makes 𝓛 w64) i _ (refl, are.1.0.1) $ join ! $ move ! (1 ∷ 0 ∷ []) $ join ! $
     move ! (2 ∷ 0 ∷ []) $ join ! $ nothing ! $ move ! (1 ∷ 0 ∷ []) $
     use2 𝓛 (raw (G.pre z)) (id⊢ 𝓤 _) $
-    calls_at ! (framed 𝓤 𝓛.H 𝓜 (tables 𝓤 𝓛.H 𝓜 𝓡 𝓡.env)) G (met 𝓤 𝓛 𝓜 𝓡 (code.calls-crs_c::catalogue_calls::added 𝓡.env wired)) z
+    calls_at ! (framed 𝓤 𝓛.H 𝓜 (tables 𝓤 𝓛.H 𝓜 𝓡 𝓡.env)) G (met 𝓤 𝓛 𝓜 𝓡 (code.calls-crs_calls::added 𝓡.env wired)) z
     (and_then ! (get ! refl) (and_then ! (get ! refl) (and_then ! (get ! refl) (no_more !)))) (λ u.
     use1 𝓛 (later (some (λ (r : CatalogueParts × Standing). ((‵ (flft κ q) ⊛ ‵ ftrue) ⊛ ‵ ((Tuple (R ∷ P ∷ [])).own_val r (u ∷ []))) ⊛
     some (λ (ws : Lasts g.ended κs (n, (i, (s, tt)))). ‵ (lasts g.ended κs (n, (i, (s, tt))) ws) ⊛ raw (fact 𝓤 (IsAdded i s.now n r.0 r.1)))))) (id⊢ 𝓤 _) $

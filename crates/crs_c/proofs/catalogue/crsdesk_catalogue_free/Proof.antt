@@ -6,8 +6,8 @@ use Rattle.crs_catalogue.proofs.catalogue.Catalogue.TheLaws.{the_row_laws}
 use Rattle.crs_c.specs.contracts.catalogue.crsdesk_catalogue_free as f
 use Rattle.crs_c.proofs.catalogue.crsdesk_catalogue_free.Statement.{statement}
 use Rattle.crs_c.proofs.catalogue.crsdesk_catalogue_free.Code as code
-use Rattle.crs_c.specs.contracts.catalogue_calls.let_go as g
-use Rattle.crs_c.proofs.catalogue_calls.let_go.Met.{met}
+use Rattle.crs_calls.specs.contracts.let_go as g
+use Rattle.crs_calls.proofs.let_go.Met.{met}
 
 abbrev stayed : Stays f.ended.signature.params f.ended.kept
 stayed = (stay_dropped _ yes, tt)
@@ -37,7 +37,7 @@ crsdesk_catalogue_free_spec 𝓤 𝓛 𝓜 𝓡 wired =
     let z : G.Ghost = ((κs, qs, tt, (n, tt), (v ∷ [], tt)), tt) in
     nothing ! $ move ! (1 ∷ 0 ∷ []) $ join ! $ nothing ! $ join ! $ nothing ! $ move ! (1 ∷ 0 ∷ []) $
     use2 𝓛 (raw (G.pre z)) (id⊢ 𝓤 _) $
-    calls_at ! (framed 𝓤 𝓛.H 𝓜 (tables 𝓤 𝓛.H 𝓜 𝓡 𝓡.env)) G (met 𝓤 𝓛 𝓜 𝓡 (code.calls-crs_c::catalogue_calls::let_go 𝓡.env wired)) z
+    calls_at ! (framed 𝓤 𝓛.H 𝓜 (tables 𝓤 𝓛.H 𝓜 𝓡 𝓡.env)) G (met 𝓤 𝓛 𝓜 𝓡 (code.calls-crs_calls::let_go 𝓡.env wired)) z
     (and_then ! (get ! refl) (no_more !)) (λ u.
     use1 𝓛 (later (some (λ (r : Unit {0}). (‵ ftrue ⊛ ‵ (unit.own_val r (u ∷ []))) ⊛
     some (λ (ws : Lasts g.ended κs (n, tt)). ‵ (lasts g.ended κs (n, tt) ws) ⊛ ‵ ftrue)))) (id⊢ 𝓤 _) $

@@ -7,8 +7,8 @@ use Rattle.crs_catalogue.specs.contracts.catalogue.Catalogue as catalogue
 use Rattle.crs_c.specs.contracts.catalogue.crsdesk_catalogue_groups as f
 use Rattle.crs_c.proofs.catalogue.crsdesk_catalogue_groups.Statement.{statement}
 use Rattle.crs_c.proofs.catalogue.crsdesk_catalogue_groups.Code as code
-use Rattle.crs_c.specs.contracts.catalogue_calls.counted as g
-use Rattle.crs_c.proofs.catalogue_calls.counted.Met.{met}
+use Rattle.crs_calls.specs.contracts.counted as g
+use Rattle.crs_calls.proofs.counted.Met.{met}
 use Rattle.crs_catalogue.proofs.catalogue.Catalogue.TheLaws.{the_row_laws}
 
 abbrev stayed : Stays f.ended.signature.params f.ended.kept
@@ -38,7 +38,7 @@ crsdesk_catalogue_groups_spec 𝓤 𝓛 𝓜 𝓡 wired =
     let z : G.Ghost = ((κs, qs, tt, (n, tt), (v ∷ [], tt)), tt) in
     nothing ! $ move ! (1 ∷ 0 ∷ []) $ join ! $ nothing ! $ join ! $ nothing ! $ move ! (1 ∷ 0 ∷ []) $
     use2 𝓛 (raw (G.pre z)) (id⊢ 𝓤 _) $
-    calls_at ! (framed 𝓤 𝓛.H 𝓜 (tables 𝓤 𝓛.H 𝓜 𝓡 𝓡.env)) G (met 𝓤 𝓛 𝓜 𝓡 (code.calls-crs_c::catalogue_calls::counted 𝓡.env wired)) z
+    calls_at ! (framed 𝓤 𝓛.H 𝓜 (tables 𝓤 𝓛.H 𝓜 𝓡 𝓡.env)) G (met 𝓤 𝓛 𝓜 𝓡 (code.calls-crs_calls::counted 𝓡.env wired)) z
     (and_then ! (get ! refl) (no_more !)) (λ u.
     use1 𝓛 (later (some (λ (r : CatalogueParts × ℕ). (‵ ftrue ⊛ ‵ ((Tuple (R ∷ usize ∷ [])).own_val r (u ∷ []))) ⊛
     some (λ (ws : Lasts g.ended κs (n, tt)). ‵ (lasts g.ended κs (n, tt) ws) ⊛ (raw (fact 𝓤 (r.0 ≡ n)) ⊛ raw (fact 𝓤 (r.1 ≡ length n.groups))))))) (id⊢ 𝓤 _) $

@@ -3,15 +3,15 @@ use prog.Wp.{WpFn}
 use Rattle.std.specs.contracts.alloc.Global as global
 use Rattle.std.proofs.alloc.Global.TheLaws as global_laws
 use Rattle.crs_c.specs.Places.{catalogue_at, has_room}
-use Rattle.crs_c.specs.Catalogues.{IsMadeEmpty}
+use Rattle.crs_calls.specs.Catalogues.{IsMadeEmpty}
 use Rattle.crs_placed.specs.Catalogue.{CatalogueParts}
 use Rattle.crs_catalogue.specs.contracts.catalogue.Catalogue as catalogue
 use Rattle.crs_catalogue.proofs.catalogue.Catalogue.TheLaws.{the_row_laws}
 use Rattle.crs_c.specs.contracts.catalogue.crsdesk_catalogue_new as f
 use Rattle.crs_c.proofs.catalogue.crsdesk_catalogue_new.Statement.{statement}
 use Rattle.crs_c.proofs.catalogue.crsdesk_catalogue_new.Code as code
-use Rattle.crs_c.specs.contracts.catalogue_calls.made as g
-use Rattle.crs_c.proofs.catalogue_calls.made.Met.{met}
+use Rattle.crs_calls.specs.contracts.made as g
+use Rattle.crs_calls.proofs.made.Met.{met}
 
 abbrev stayed : Stays f.ended.signature.params f.ended.kept
 stayed = (stay_dropped _ yes, (stay_dropped _ yes, (stay_dropped _ yes, tt)))
@@ -43,7 +43,7 @@ crsdesk_catalogue_new_spec 𝓤 𝓛 𝓜 𝓡 wired =
     move ! (1 ∷ []) $ rewrite ! 0 (λ (ws : List Val). ‵ (A.own_val a ws)) refl refl $
     nothing ! $ owned ! u32 _ (uint_Makes 𝓛 w32) k _ (refl, are.1.1.0.1) $ join ! $ move ! (1 ∷ 0 ∷ []) $ join ! $ nothing ! $ join ! $ nothing ! $ move ! (1 ∷ 0 ∷ []) $
     use2 𝓛 (raw (G.pre z)) (id⊢ 𝓤 _) $
-    calls_at ! (framed 𝓤 𝓛.H 𝓜 (tables 𝓤 𝓛.H 𝓜 𝓡 𝓡.env)) G (met 𝓤 𝓛 𝓜 𝓡 (code.calls-crs_c::catalogue_calls::made 𝓡.env wired)) z
+    calls_at ! (framed 𝓤 𝓛.H 𝓜 (tables 𝓤 𝓛.H 𝓜 𝓡 𝓡.env)) G (met 𝓤 𝓛 𝓜 𝓡 (code.calls-crs_calls::made 𝓡.env wired)) z
     (and_then ! (get ! refl) (and_then ! (get ! refl) (no_more !))) (λ u.
     use1 𝓛 (later (some (λ (r : CatalogueParts × ℕ). (‵ ftrue ⊛ ‵ ((Tuple (R ∷ u32 ∷ [])).own_val r (u ∷ []))) ⊛
     some (λ (ws : Lasts g.ended κs (a, (k, tt))). ‵ (lasts g.ended κs (a, (k, tt)) ws) ⊛ raw (fact 𝓤 (IsMadeEmpty k r.0 r.1)))))) (id⊢ 𝓤 _) $

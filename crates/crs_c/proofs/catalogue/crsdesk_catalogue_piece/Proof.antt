@@ -7,13 +7,13 @@ use Rattle.crs_catalogue.specs.contracts.catalogue.Catalogue as catalogue
 use Rattle.crs_c.specs.contracts.catalogue.crsdesk_catalogue_piece as f
 use Rattle.crs_c.proofs.catalogue.crsdesk_catalogue_piece.Statement.{statement}
 use Rattle.crs_c.proofs.catalogue.crsdesk_catalogue_piece.Code as code
-use Rattle.crs_c.specs.contracts.catalogue_calls.cut as g
-use Rattle.crs_c.proofs.catalogue_calls.cut.Met.{met}
+use Rattle.crs_calls.specs.contracts.cut as g
+use Rattle.crs_calls.proofs.cut.Met.{met}
 use Rattle.crs_catalogue.proofs.catalogue.Catalogue.TheLaws.{the_row_laws}
-use Rattle.crs_c.specs.Catalogues.{IsPieceAt}
-use Rattle.crs_c.specs.contracts.piece.Piece as piece
-use Rattle.crs_c.specs.declared.piece.Piece.{Piece}
-use Rattle.crs_c.proofs.piece.Piece.TheLaws as piece_laws
+use Rattle.crs_calls.specs.Catalogues.{IsPieceAt}
+use Rattle.crs_calls.specs.contracts.piece.Piece as piece
+use Rattle.crs_calls.specs.declared.piece.Piece.{Piece}
+use Rattle.crs_calls.proofs.piece.Piece.TheLaws as piece_laws
 
 abbrev stayed : Stays f.ended.signature.params f.ended.kept
 stayed = (stay_dropped _ yes, (stay_dropped _ yes, (stay_dropped _ yes, tt)))
@@ -45,7 +45,7 @@ crsdesk_catalogue_piece_spec 𝓤 𝓛 𝓜 𝓡 wired =
     nothing ! $ owned ! usize _ (uint_Makes 𝓛 w64) j _ (refl, are.1.1.0.1) $ join ! $ owned ! usize _ (uint_Makes 𝓛 w64) i _ (refl, are.1.0.1) $ join ! $
     move ! (1 ∷ 0 ∷ []) $ join ! $ nothing ! $ join ! $ nothing ! $ move ! (1 ∷ 0 ∷ []) $
     use2 𝓛 (raw (G.pre z)) (id⊢ 𝓤 _) $
-    calls_at ! (framed 𝓤 𝓛.H 𝓜 (tables 𝓤 𝓛.H 𝓜 𝓡 𝓡.env)) G (met 𝓤 𝓛 𝓜 𝓡 (code.calls-crs_c::catalogue_calls::cut 𝓡.env wired)) z
+    calls_at ! (framed 𝓤 𝓛.H 𝓜 (tables 𝓤 𝓛.H 𝓜 𝓡 𝓡.env)) G (met 𝓤 𝓛 𝓜 𝓡 (code.calls-crs_calls::cut 𝓡.env wired)) z
     (and_then ! (get ! refl) (and_then ! (get ! refl) (and_then ! (get ! refl) (no_more !)))) (λ u.
     use1 𝓛 (later (some (λ (r : CatalogueParts × Piece). (‵ ftrue ⊛ ‵ ((Tuple (R ∷ P ∷ [])).own_val r (u ∷ []))) ⊛
     some (λ (ws : Lasts g.ended κs (n, (i, (j, tt)))). ‵ (lasts g.ended κs (n, (i, (j, tt))) ws) ⊛ (raw (fact 𝓤 (r.0 ≡ n)) ⊛ raw (fact 𝓤 (IsPieceAt n i j r.1))))))) (id⊢ 𝓤 _) $

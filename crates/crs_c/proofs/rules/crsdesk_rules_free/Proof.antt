@@ -1,13 +1,13 @@
 use Rattle.crs_c.proofs.Steps.{[], ◌∷◌, refl, ap, proved, full_share, id⊢, ftrue, fat, Val, vunit, tables, ‵, raw, ◌⊛◌, some, later, prop, ◌$◌, ◌∵◌, !, qed, done, move, drop, use1, use2, split, join, feq_i, feq_l, pick, await, regoal, suffices, group, enter, of_opd, unit_lit, load, look, stop, forget, no_more, and_then, returns, alloc_all, pass_all, free_all, look_at, get, through, sets, lands_as, unit, yes, shows, Is, layout, Ptr, RawPtr, block_ptr, room_at, lies_at, in_a_block, rawptr_vals, rawptr_Tells, plain, nothing, peeks, only, calls_at, lasts, Lasts, on_entry, triple_of, Stays, walk_of, stay_dropped, Goes-dropped, ends_at, framed, part_out, Good}
 use prog.Wp.{WpFn}
 use Rattle.crs_c.specs.Places.{rules_at, has_room_for_rules}
-use Rattle.crs_c.specs.contracts.held_rules.HeldRules as held
-use Rattle.crs_c.proofs.held_rules.HeldRules.TheLaws.{the_row_laws}
+use Rattle.crs_calls.specs.contracts.held_rules.HeldRules as held
+use Rattle.crs_calls.proofs.held_rules.HeldRules.TheLaws.{the_row_laws}
 use Rattle.crs_c.specs.contracts.rules.crsdesk_rules_free as f
 use Rattle.crs_c.proofs.rules.crsdesk_rules_free.Statement.{statement}
 use Rattle.crs_c.proofs.rules.crsdesk_rules_free.Code as code
-use Rattle.crs_c.specs.contracts.rules_calls.let_go_rules as g
-use Rattle.crs_c.proofs.rules_calls.let_go_rules.Met.{met}
+use Rattle.crs_calls.specs.contracts.let_go_rules as g
+use Rattle.crs_calls.proofs.let_go_rules.Met.{met}
 
 abbrev stayed : Stays f.ended.signature.params f.ended.kept
 stayed = (stay_dropped _ yes, tt)
@@ -37,7 +37,7 @@ crsdesk_rules_free_spec 𝓤 𝓛 𝓜 𝓡 wired =
     let z : G.Ghost = ((κs, qs, tt, (n, tt), (v ∷ [], tt)), tt) in
     nothing ! $ move ! (1 ∷ 0 ∷ []) $ join ! $ nothing ! $ join ! $ nothing ! $ move ! (1 ∷ 0 ∷ []) $
     use2 𝓛 (raw (G.pre z)) (id⊢ 𝓤 _) $
-    calls_at ! (framed 𝓤 𝓛.H 𝓜 (tables 𝓤 𝓛.H 𝓜 𝓡 𝓡.env)) G (met 𝓤 𝓛 𝓜 𝓡 (code.calls-crs_c::rules_calls::let_go_rules 𝓡.env wired)) z
+    calls_at ! (framed 𝓤 𝓛.H 𝓜 (tables 𝓤 𝓛.H 𝓜 𝓡 𝓡.env)) G (met 𝓤 𝓛 𝓜 𝓡 (code.calls-crs_calls::let_go_rules 𝓡.env wired)) z
     (and_then ! (get ! refl) (no_more !)) (λ u.
     use1 𝓛 (later (some (λ (r : Unit {0}). (‵ ftrue ⊛ ‵ (unit.own_val r (u ∷ []))) ⊛
     some (λ (ws : Lasts g.ended κs (n, tt)). ‵ (lasts g.ended κs (n, tt) ws) ⊛ ‵ ftrue)))) (id⊢ 𝓤 _) $

@@ -3,14 +3,14 @@ use prog.Wp.{WpFn}
 use Rattle.std.specs.contracts.alloc.Global as global
 use Rattle.std.proofs.alloc.Global.TheLaws as global_laws
 use Rattle.crs_c.specs.Places.{rules_at, has_room_for_rules}
-use Rattle.crs_c.specs.Held.{HeldParts, nothing_held}
-use Rattle.crs_c.specs.contracts.held_rules.HeldRules as held
-use Rattle.crs_c.proofs.held_rules.HeldRules.TheLaws.{the_row_laws}
+use Rattle.crs_calls.specs.Held.{HeldParts, nothing_held}
+use Rattle.crs_calls.specs.contracts.held_rules.HeldRules as held
+use Rattle.crs_calls.proofs.held_rules.HeldRules.TheLaws.{the_row_laws}
 use Rattle.crs_c.specs.contracts.rules.crsdesk_rules_new as f
 use Rattle.crs_c.proofs.rules.crsdesk_rules_new.Statement.{statement}
 use Rattle.crs_c.proofs.rules.crsdesk_rules_new.Code as code
-use Rattle.crs_c.specs.contracts.rules_calls.no_rules as g
-use Rattle.crs_c.proofs.rules_calls.no_rules.Met.{met}
+use Rattle.crs_calls.specs.contracts.no_rules as g
+use Rattle.crs_calls.proofs.no_rules.Met.{met}
 
 abbrev stayed : Stays f.ended.signature.params f.ended.kept
 stayed = (stay_dropped _ yes, (stay_dropped _ yes, tt))
@@ -42,7 +42,7 @@ crsdesk_rules_new_spec 𝓤 𝓛 𝓜 𝓡 wired =
     move ! (1 ∷ []) $ rewrite ! 0 (λ (ws : List Val). ‵ (A.own_val a ws)) refl refl $
     nothing ! $ move ! (1 ∷ 0 ∷ []) $ join ! $ nothing ! $ join ! $ nothing ! $ move ! (1 ∷ 0 ∷ []) $
     use2 𝓛 (raw (G.pre z)) (id⊢ 𝓤 _) $
-    calls_at ! (framed 𝓤 𝓛.H 𝓜 (tables 𝓤 𝓛.H 𝓜 𝓡 𝓡.env)) G (met 𝓤 𝓛 𝓜 𝓡 (code.calls-crs_c::rules_calls::no_rules 𝓡.env wired)) z
+    calls_at ! (framed 𝓤 𝓛.H 𝓜 (tables 𝓤 𝓛.H 𝓜 𝓡 𝓡.env)) G (met 𝓤 𝓛 𝓜 𝓡 (code.calls-crs_calls::no_rules 𝓡.env wired)) z
     (and_then ! (get ! refl) (no_more !)) (λ u.
     use1 𝓛 (later (some (λ (r : HeldParts). (‵ ftrue ⊛ ‵ (R.own_val r (u ∷ []))) ⊛
     some (λ (ws : Lasts g.ended κs (a, tt)). ‵ (lasts g.ended κs (a, tt) ws) ⊛ raw (fact 𝓤 (r ≡ nothing_held)))))) (id⊢ 𝓤 _) $

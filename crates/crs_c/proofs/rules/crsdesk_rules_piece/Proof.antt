@@ -2,18 +2,18 @@ use Rattle.crs_c.proofs.Steps.{◌≡◌, List, [], ◌∷◌, ◌++◌, refl, a
 use prog.Wp.{WpFn}
 use denote.Triple.Clauses.{Lasts}
 use Rattle.crs_c.specs.Places.{rules_at}
-use Rattle.crs_c.specs.Held.{HeldParts}
-use Rattle.crs_c.specs.contracts.held_rules.HeldRules as held
+use Rattle.crs_calls.specs.Held.{HeldParts}
+use Rattle.crs_calls.specs.contracts.held_rules.HeldRules as held
 use Rattle.crs_c.specs.contracts.rules.crsdesk_rules_piece as f
 use Rattle.crs_c.proofs.rules.crsdesk_rules_piece.Statement.{statement}
 use Rattle.crs_c.proofs.rules.crsdesk_rules_piece.Code as code
-use Rattle.crs_c.specs.contracts.rules_calls.cut_form as g
-use Rattle.crs_c.proofs.rules_calls.cut_form.Met.{met}
-use Rattle.crs_c.proofs.held_rules.HeldRules.TheLaws.{the_row_laws}
-use Rattle.crs_c.specs.Pieces.{IsPiece}
-use Rattle.crs_c.specs.contracts.piece.Piece as piece
-use Rattle.crs_c.specs.declared.piece.Piece.{Piece}
-use Rattle.crs_c.proofs.piece.Piece.TheLaws as piece_laws
+use Rattle.crs_calls.specs.contracts.cut_form as g
+use Rattle.crs_calls.proofs.cut_form.Met.{met}
+use Rattle.crs_calls.proofs.held_rules.HeldRules.TheLaws.{the_row_laws}
+use Rattle.crs_calls.specs.Pieces.{IsPiece}
+use Rattle.crs_calls.specs.contracts.piece.Piece as piece
+use Rattle.crs_calls.specs.declared.piece.Piece.{Piece}
+use Rattle.crs_calls.proofs.piece.Piece.TheLaws as piece_laws
 
 abbrev stayed : Stays f.ended.signature.params f.ended.kept
 stayed = (stay_dropped _ yes, (stay_dropped _ yes, tt))
@@ -44,7 +44,7 @@ crsdesk_rules_piece_spec 𝓤 𝓛 𝓜 𝓡 wired =
     nothing ! $ owned ! usize _ (uint_Makes 𝓛 w64) i _ (refl, are.1.0.1) $ join ! $
     move ! (1 ∷ 0 ∷ []) $ join ! $ nothing ! $ join ! $ nothing ! $ move ! (1 ∷ 0 ∷ []) $
     use2 𝓛 (raw (G.pre z)) (id⊢ 𝓤 _) $
-    calls_at ! (framed 𝓤 𝓛.H 𝓜 (tables 𝓤 𝓛.H 𝓜 𝓡 𝓡.env)) G (met 𝓤 𝓛 𝓜 𝓡 (code.calls-crs_c::rules_calls::cut_form 𝓡.env wired)) z
+    calls_at ! (framed 𝓤 𝓛.H 𝓜 (tables 𝓤 𝓛.H 𝓜 𝓡 𝓡.env)) G (met 𝓤 𝓛 𝓜 𝓡 (code.calls-crs_calls::cut_form 𝓡.env wired)) z
     (and_then ! (get ! refl) (and_then ! (get ! refl) (no_more !))) (λ u.
     use1 𝓛 (later (some (λ (r : HeldParts × Piece). (‵ ftrue ⊛ ‵ ((Tuple (R ∷ P ∷ [])).own_val r (u ∷ []))) ⊛
     some (λ (ws : Lasts g.ended κs (n, (i, tt))). ‵ (lasts g.ended κs (n, (i, tt)) ws) ⊛ (raw (fact 𝓤 (r.0 ≡ n)) ⊛ raw (fact 𝓤 (IsPiece i r.1 n.form))))))) (id⊢ 𝓤 _) $

@@ -1,0 +1,4 @@
+mod ComparisonLemmas
+mod EachLemmas
+mod ExplainLemmas
+mod WordLemmas

@@ -1,0 +1,63 @@
+//! Where a text was placed in a catalogue, and numbers of its lines, as C has them.
+ghost use Rattle.std.specs.Prelude.{◌≡◌};
+ghost use Rattle.crs_calls.specs.Catalogues.{standing_of, without_memory};
+
+use crate::codes::{NO_MEMORY, OK, REFUSED};
+use crate::refused::{Refused, no_refusal, place_and_number};
+use crs_group::Placed;
+
+/// Where a text was placed in a catalogue: `struct crsdesk_standing` of C. Profile.
+#[repr(C)]
+#[derive(Drop)]
+pub struct Standing {
+    /// The number of its group; 0 where it is in none.
+    pub group: usize,
+    /// Why it spells no CRS, with code 1.
+    pub refused: Refused,
+    /// The code.
+    pub code: u32,
+}
+
+/// A line's number: `struct crsdesk_line` of C. Profile.
+#[repr(C)]
+#[derive(Drop)]
+pub struct Numbered {
+    /// The number under which it was added.
+    pub number: u64,
+    /// The code.
+    pub code: u32,
+}
+
+// What is answered of a line that was added.
+pub(crate) fn standing_of(place: Placed) -> Standing
+    ensures { result ≡ standing_of place }
+{
+    match place {
+        Placed::Blank => Standing {
+            group: 0,
+            refused: no_refusal(),
+            code: OK,
+        },
+        Placed::Refused(refusal) => Standing {
+            group: 0,
+            refused: place_and_number(refusal),
+            code: REFUSED,
+        },
+        Placed::Group(number) => Standing {
+            group: number,
+            refused: no_refusal(),
+            code: OK,
+        },
+    }
+}
+
+// What is answered of a line for which there was no memory.
+pub(crate) fn without_memory() -> Standing
+    ensures { result ≡ without_memory }
+{
+    Standing {
+        group: 0,
+        refused: no_refusal(),
+        code: NO_MEMORY,
+    }
+}

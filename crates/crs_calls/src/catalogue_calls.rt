@@ -1,0 +1,131 @@
+//! What each call does to a catalogue, which it takes by value and hands back.
+ghost use Rattle.std.specs.Prelude.{◌≡◌, length};
+ghost use Rattle.crs_calls.specs.Catalogues.{IsAdded, IsAddedUnder, IsMadeEmpty, IsPieceAt, line_at};
+
+use crate::catalogue_answers::{Numbered, Standing, standing_of, without_memory};
+use crate::codes::{NO_LEVEL, NO_NUMBER, OK, level_numbered};
+use crate::held_rules::HeldRules;
+use crate::letting_go::let_go_anywhere;
+use crate::piece::{Piece, piece_of};
+use crs_group::Catalogue;
+use crs_rules::Rules;
+use crs_value::Level;
+use std::alloc::Global;
+
+/// An empty catalogue at the level of this number.
+#[tactic(auto, unfolding(crate::specs::Catalogues::IsMadeEmpty))]
+pub fn made(alloc: Global, level: u32) -> (Catalogue, u32)
+    ensures { IsMadeEmpty level result.0 result.1 }
+{
+    match level_numbered(level) {
+        Some(level) => (Catalogue::new(alloc, level), OK),
+        None => (Catalogue::new(alloc, Level::Full), NO_LEVEL),
+    }
+}
+
+/// Adds a text.
+pub fn added(held: Catalogue, number: u64, text: &[u8]) -> (Catalogue, Standing)
+    ensures { IsAdded number text.now held result.0 result.1 }
+{
+    let mut held = held;
+    let told = add(&mut held, number, text);
+    (held, told)
+}
+
+#[tactic(auto, unfolding(crate::specs::Catalogues::IsAdded))]
+fn add(held: &mut Catalogue, number: u64, text: &[u8]) -> Standing
+    ensures { IsAdded number text.now held.old held.new result }
+{
+    match held.add(number, text) {
+        Ok(place) => standing_of(place),
+        Err(_) => without_memory(),
+    }
+}
+
+/// Adds a text under rules.
+pub fn added_under(
+    held: Catalogue,
+    rules: HeldRules,
+    number: u64,
+    text: &[u8],
+) -> (Catalogue, HeldRules, Standing)
+    ensures { (result.1 ≡ rules) × IsAddedUnder rules.reading.rules number text.now held result.0 result.2 }
+{
+    let mut held = held;
+    let told = add_under(&mut held, rules.reader.rules(), number, text);
+    (held, rules, told)
+}
+
+#[tactic(auto, unfolding(crate::specs::Catalogues::IsAddedUnder))]
+fn add_under(held: &mut Catalogue, rules: &Rules, number: u64, text: &[u8]) -> Standing
+    ensures { IsAddedUnder rules.now number text.now held.old held.new result }
+{
+    match held.add_under(number, text, rules) {
+        Ok(place) => standing_of(place),
+        Err(_) => without_memory(),
+    }
+}
+
+/// How many groups there are.
+pub fn counted(held: Catalogue) -> (Catalogue, usize)
+    ensures same { result.0 ≡ held }
+    ensures count { result.1 ≡ length held.groups }
+{
+    let count = held.groups();
+    (held, count)
+}
+
+/// The number of a group's text.
+pub fn looked_up(held: Catalogue, group: usize, index: usize) -> (Catalogue, Numbered)
+    ensures same { result.0 ≡ held }
+    ensures found { result.1 ≡ line_at held group index }
+{
+    let found = line_of(&held, group, index);
+    (held, found)
+}
+
+fn line_of(catalogue: &Catalogue, group: usize, index: usize) -> Numbered
+    ensures { result ≡ line_at catalogue.now group index }
+{
+    let found = match catalogue.lines(group) {
+        Some(lines) => lines.get(index),
+        None => None,
+    };
+    match found {
+        Some(number) => Numbered {
+            number: *number,
+            code: OK,
+        },
+        None => Numbered {
+            number: 0,
+            code: NO_NUMBER,
+        },
+    }
+}
+
+/// A piece of a group's text.
+pub fn cut(held: Catalogue, group: usize, from: usize) -> (Catalogue, Piece)
+    ensures same { result.0 ≡ held }
+    ensures piece { IsPieceAt held group from result.1 }
+{
+    let piece = piece_at(&held, group, from);
+    (held, piece)
+}
+
+fn piece_at(catalogue: &Catalogue, group: usize, from: usize) -> Piece
+    ensures { IsPieceAt catalogue.now group from result }
+{
+    match catalogue.text(group) {
+        Some(text) => piece_of(text, from),
+        None => Piece {
+            bytes: [0; 240],
+            length: 0,
+            code: NO_NUMBER,
+        },
+    }
+}
+
+/// Drops a catalogue.
+pub fn let_go(held: Catalogue) {
+    let_go_anywhere(held);
+}
