@@ -2,7 +2,7 @@
 use crate::texts::put_asked;
 use crs_canon::write_content;
 use crs_same::parts::same_axis;
-use crs_same::{Difference, Path, differences, first_part, same};
+use crs_same::{Difference, Differences, Path, differences, first_part, same};
 use crs_suite::{AboutBoth, about_both, put_text, split_line};
 use crs_value::{Axis, Crs, Level};
 use std::alloc::{AllocError, Global};
@@ -80,41 +80,36 @@ fn put_same<'a>(
     first: &Crs<'a>,
     second: &Crs<'a>,
 ) -> Result<(), AllocError> {
-    if !agree(first, second, level) {
+    let are_same = (same(first, second, level), same(second, first, level));
+    put_first_part(
+        out,
+        alloc,
+        are_same,
+        first_part(first, second, level),
+        first_part(second, first, level),
+    )
+}
+
+// Whether two CRSs are the same, and the first part that differs, each in both orders.
+fn put_first_part(
+    out: &mut String,
+    alloc: Global,
+    are_same: (bool, bool),
+    forth: Option<Path>,
+    back: Option<Path>,
+) -> Result<(), AllocError> {
+    match (are_same, &forth, &back) {
+        ((true, true), None, None) => out.push_str("same"),
+        ((false, false), Some(x), Some(y)) => put_agreed(out, alloc, x, y),
+        _ => out.push_str("one way"),
+    }
+}
+
+fn put_agreed(out: &mut String, alloc: Global, x: &Path, y: &Path) -> Result<(), AllocError> {
+    if x.steps() != y.steps() {
         return out.push_str("one way");
     }
-    put_first_part(out, alloc, first_part(first, second, level))
-}
-
-fn put_first_part(out: &mut String, alloc: Global, found: Option<Path>) -> Result<(), AllocError> {
-    match &found {
-        Some(path) => put_path(out, alloc, path),
-        None => out.push_str("same"),
-    }
-}
-
-fn agree<'a>(a: &Crs<'a>, b: &Crs<'a>, level: Level) -> bool {
-    agree_one_way(a, b, level) && agree_one_way(b, a, level) && have_same_steps(a, b, level)
-}
-
-fn agree_one_way<'a>(a: &Crs<'a>, b: &Crs<'a>, level: Level) -> bool {
-    same(a, b, level) == is_none(first_part(a, b, level))
-}
-
-fn is_none(path: Option<Path>) -> bool {
-    path.is_none()
-}
-
-fn have_same_steps<'a>(a: &Crs<'a>, b: &Crs<'a>, level: Level) -> bool {
-    are_alike(first_part(a, b, level), first_part(b, a, level))
-}
-
-fn are_alike(a: Option<Path>, b: Option<Path>) -> bool {
-    match (&a, &b) {
-        (None, None) => true,
-        (Some(x), Some(y)) => x.steps() == y.steps(),
-        (None, Some(_)) | (Some(_), None) => false,
-    }
+    put_path(out, alloc, x)
 }
 
 fn put_path(out: &mut String, alloc: Global, path: &Path) -> Result<(), AllocError> {
@@ -167,13 +162,22 @@ pub fn differing<'a>(
     a: &Crs<'a>,
     b: &Crs<'a>,
 ) -> Result<Vec<u8>, AllocError> {
-    match differences(alloc, a, b, level) {
-        Ok(found) => text_of(alloc, level, told, found.as_slice()),
+    text_of(alloc, level, told, differences(alloc, a, b, level))
+}
+
+fn text_of(
+    alloc: Global,
+    level: Level,
+    told: Told,
+    found: Result<Differences<'_, '_>, AllocError>,
+) -> Result<Vec<u8>, AllocError> {
+    match found {
+        Ok(found) => text_of_all(alloc, level, told, found.as_slice()),
         Err(error) => Err(error),
     }
 }
 
-fn text_of(
+fn text_of_all(
     alloc: Global,
     level: Level,
     told: Told,

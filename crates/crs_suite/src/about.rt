@@ -19,10 +19,7 @@ pub fn about_crs<Q: AboutCrs + Drop>(
     text: &[u8],
     question: Q,
 ) -> Result<Q::Answer, Fault> {
-    match read(alloc, text) {
-        Ok(crs) => Ok(question.answer(alloc, &crs)),
-        Err(fault) => Err(fault),
-    }
+    answered(alloc, read(alloc, text), question)
 }
 
 /// What is answered of the CRS that items spell, or why they spell none.
@@ -31,7 +28,15 @@ pub fn about_items<Q: AboutCrs + Drop>(
     items: &Items<'_>,
     question: Q,
 ) -> Result<Q::Answer, Fault> {
-    match value_of(alloc, items) {
+    answered(alloc, value_of(alloc, items), question)
+}
+
+fn answered<Q: AboutCrs + Drop>(
+    alloc: Global,
+    made: Result<Crs<'_>, Fault>,
+    question: Q,
+) -> Result<Q::Answer, Fault> {
+    match made {
         Ok(crs) => Ok(question.answer(alloc, &crs)),
         Err(fault) => Err(fault),
     }

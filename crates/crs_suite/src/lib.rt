@@ -12,4 +12,4 @@ pub use about::{AboutBoth, AboutCrs, about_both, about_crs, about_items};
 pub use asked::{call_of, part_at, unusable};
 pub use escapes::{put_text, split_line};
 pub use rows::{Calls, run_files};
-pub use trial::{Trial, begin_call, end_call, print_kept, run_trial};
+pub use trial::{Trial, Turn, begin_call, print_kept, run_trial};

@@ -45,6 +45,13 @@ struct Row<'t> {
     ends: Vec<usize>,
 }
 
+// The line of a file at which a row ends.
+#[derive(Clone, Copy)]
+struct Place<'n> {
+    name: &'n str,
+    number: usize,
+}
+
 // What a line does.
 enum Step<'t> {
     // It says nothing, or a part of a row.
@@ -90,19 +97,55 @@ fn tally_of<C: Calls>(
     let mut tally = Tally { rows: 0, differ: 0 };
     let mut row = Row::new(rt.alloc());
     for (index, line) in text.lines().enumerate() {
-        let came = match row.read_line(line)? {
-            Step::Part => continue,
-            Step::Expect(answer) => row.differing(rt.alloc(), calls, answer)?,
-            Step::Unknown => Some(String::from_str(rt.alloc(), "no line of a row")?),
-        };
-        tally.add(came.is_none());
-        if let Some(came) = came {
-            let number = index.saturating_add(1);
-            println!(rt; "{name}.rows, line {number}: {came}")?;
+        let number = index.saturating_add(1);
+        if let Some(agrees) = run_line(rt, &mut row, calls, line, Place { name, number })? {
+            tally.add(agrees);
+            row.clear();
         }
-        row = Row::new(rt.alloc());
     }
     Ok(tally)
+}
+
+// Whether the row that a line ends agrees, which is printed where it doesn't; None where the line ends none.
+fn run_line<'t, C: Calls>(
+    rt: &(impl Print + AllocGlobal),
+    row: &mut Row<'t>,
+    calls: &C,
+    line: &'t str,
+    place: Place<'_>,
+) -> io::Result<Option<bool>> {
+    match row.read_line(line)? {
+        Step::Part => Ok(None),
+        Step::Expect(answer) => Ok(Some(agrees(rt, row, calls, answer, place)?)),
+        Step::Unknown => {
+            place.print(rt, "no line of a row")?;
+            Ok(Some(false))
+        }
+    }
+}
+
+fn agrees<C: Calls>(
+    rt: &(impl Print + AllocGlobal),
+    row: &Row<'_>,
+    calls: &C,
+    answer: &str,
+    place: Place<'_>,
+) -> io::Result<bool> {
+    let mut came = String::new(rt.alloc());
+    row.put_answer(&mut came, rt.alloc(), calls)?;
+    if came.as_str() == answer {
+        return Ok(true);
+    }
+    place.print(rt, came.as_str())?;
+    Ok(false)
+}
+
+impl Place<'_> {
+    fn print(self, rt: &impl Print, came: &str) -> io::Result<()> {
+        let name = self.name;
+        let number = self.number;
+        println!(rt; "{name}.rows, line {number}: {came}")
+    }
 }
 
 impl<'t> Row<'t> {
@@ -112,6 +155,13 @@ impl<'t> Row<'t> {
             input: Vec::new(alloc),
             ends: Vec::new(alloc),
         }
+    }
+
+    // Has nothing again.
+    fn clear(&mut self) {
+        self.call = "";
+        self.input.clear();
+        self.ends.clear();
     }
 
     fn read_line(&mut self, line: &'t str) -> Result<Step<'t>, AllocError> {
@@ -145,20 +195,14 @@ impl<'t> Row<'t> {
         Ok(Step::Part)
     }
 
-    // The row's answer, where it is another than this one.
-    fn differing<C: Calls>(
+    fn put_answer<C: Calls>(
         &self,
+        out: &mut String,
         alloc: Global,
         calls: &C,
-        answer: &str,
-    ) -> Result<Option<String>, AllocError> {
-        let mut came = String::new(alloc);
+    ) -> Result<(), AllocError> {
         let (call, level) = split_level(self.call);
-        calls.put_answer(&mut came, alloc, level, call, &self.input, &self.ends)?;
-        if came.as_str() == answer {
-            return Ok(None);
-        }
-        Ok(Some(came))
+        calls.put_answer(out, alloc, level, call, &self.input, &self.ends)
     }
 }
 

@@ -31,14 +31,41 @@ pub fn run_trial<T: Trial>(rt: &(impl Print + AllocGlobal), trial: &mut T) -> io
     print!(rt; "{text}")
 }
 
-/// Writes `call`. A call that is handed a CRS is made by itself between this and `end_call`: a trial whose type has one is
-/// slow to prove.
+/// Which of two calls of the same it is.
+#[derive(Clone, Copy)]
+pub enum Turn {
+    /// The one that is tried.
+    First,
+    /// The one after out of memory.
+    Again,
+}
+
+impl Turn {
+    /// Ends the call that is tried.
+    pub fn end(self, rt: &impl Print) -> io::Result<()> {
+        match self {
+            Turn::First => end_call(rt),
+            Turn::Again => Ok(()),
+        }
+    }
+
+    /// Prints an answer as `run_trial` does.
+    pub fn print(self, rt: &impl Print, answer: &str) -> io::Result<()> {
+        match self {
+            Turn::First => println!(rt; "answer {answer}"),
+            Turn::Again => println!(rt; "again {answer}"),
+        }
+    }
+}
+
+/// Writes `call`. A call that is handed a CRS, or that makes one, is made by itself between this and `Turn::end`: a trial
+/// whose type has one is slow to prove.
 pub fn begin_call(rt: &impl Print) -> io::Result<()> {
     io::writer(rt).write_all(b"call\n")
 }
 
-/// Writes `answered`.
-pub fn end_call(rt: &impl Print) -> io::Result<()> {
+// Writes `answered`.
+fn end_call(rt: &impl Print) -> io::Result<()> {
     io::writer(rt).write_all(b"answered\n")
 }
 

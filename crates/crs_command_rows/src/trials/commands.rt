@@ -5,7 +5,7 @@ use crs_desk::{
     Level, Manner, Request, RequestFault, RunFault, Sink, Source, Stream, request, run_canon,
     run_canon_lines, run_check, run_check_lines, run_explain, run_explain_pair, run_same,
 };
-use crs_suite::{Trial, put_text, run_trial, unusable};
+use crs_suite::{Trial, Turn, begin_call, print_kept, put_text, run_trial, unusable};
 use std::alloc::{AllocError, Global};
 use std::{io, str};
 
@@ -133,33 +133,32 @@ pub fn try_same(rt: &(impl Print + AllocGlobal), first: &[u8], second: &[u8]) ->
     run_command(rt, Command::Same(first, second))
 }
 
-// `request` of words, of which the first is the program's name.
-#[derive(Drop)]
-struct Words<'t> {
-    words: Vec<&'t str>,
+// What a request came to, which is printed after a call of two.
+trait Called {
+    // Whether there was memory.
+    fn print(&self, rt: &(impl Print + AllocGlobal), turn: Turn) -> io::Result<bool>;
 }
 
-impl Trial for Words<'_> {
-    type Answer = Result<Request, RequestFault>;
+// It alone owns a request, whose type it doesn't know: a function that owns one is slow to prove.
+fn printed<T: Called + Drop>(
+    rt: &(impl Print + AllocGlobal),
+    turn: Turn,
+    called: T,
+) -> io::Result<bool> {
+    turn.end(rt)?;
+    called.print(rt, turn)
+}
 
-    fn call(&mut self, alloc: Global) -> Result<Self::Answer, AllocError> {
-        let asked = request(alloc, &self.words);
-        match &asked {
-            Err(RequestFault::Memory(error)) => Err(*error),
-            _ => Ok(asked),
+impl Called for Result<Request, RequestFault> {
+    fn print(&self, rt: &(impl Print + AllocGlobal), turn: Turn) -> io::Result<bool> {
+        let mut told = String::new(rt.alloc());
+        match self {
+            Ok(asked) => put_asked(&mut told, asked)?,
+            Err(RequestFault::Memory(_)) => return Ok(false),
+            Err(fault) => put_message(&mut told, fault)?,
         }
-    }
-
-    // Words that are only read can't change.
-    fn is_kept(&self, _alloc: Global) -> Result<bool, AllocError> {
+        turn.print(rt, told.as_str())?;
         Ok(true)
-    }
-
-    fn put_answer(&self, out: &mut String, answer: &Self::Answer) -> Result<(), AllocError> {
-        match answer {
-            Ok(asked) => put_asked(out, asked),
-            Err(fault) => put_message(out, fault),
-        }
     }
 }
 
@@ -179,5 +178,22 @@ pub fn try_request(rt: &(impl Print + AllocGlobal), parts: &[&[u8]]) -> io::Resu
             Err(_) => return Err(unusable()),
         }
     }
-    run_trial(rt, &mut Words { words })
+    try_words(rt, &words)
+}
+
+// Words that are only read can't change.
+fn try_words(rt: &(impl Print + AllocGlobal), words: &[&str]) -> io::Result<()> {
+    begin_call(rt)?;
+    if ask(rt, Turn::First, words)? {
+        return Ok(());
+    }
+    print_kept(rt)?;
+    if ask(rt, Turn::Again, words)? {
+        return Ok(());
+    }
+    Err(io::Error::from(AllocError))
+}
+
+fn ask(rt: &(impl Print + AllocGlobal), turn: Turn, words: &[&str]) -> io::Result<bool> {
+    printed(rt, turn, request(rt.alloc(), words))
 }

@@ -6,10 +6,10 @@ use crate::trials::attempts::{Call, attempted, run_reading, unmade};
 use crate::values::kind_word;
 use crs_canon::{Canon, canon, canon_of};
 use crs_suite::{
-    AboutBoth, AboutCrs, about_both, about_crs, begin_call, end_call, print_kept, put_text,
+    AboutBoth, AboutCrs, Turn, about_both, about_crs, about_items, begin_call, print_kept, put_text,
 };
-use crs_text::{Items, Refusal, read_items};
-use crs_value::{Crs, Level, read, value_of};
+use crs_text::{Fault, Items, Refusal, read_items};
+use crs_value::{Crs, Level};
 use std::alloc::{AllocError, Global};
 use std::io;
 
@@ -20,40 +20,44 @@ enum ValueCall<'i, 't> {
     ValueOf(&'i Items<'t>),
 }
 
-impl<'t> Call for ValueCall<'_, 't> {
-    type Answer = Result<Crs<'t>, Refusal>;
-
-    fn make(self, alloc: Global) -> Result<Self::Answer, AllocError> {
-        let value = match self {
-            ValueCall::Read(text) => read(alloc, text),
-            ValueCall::ValueOf(items) => value_of(alloc, items),
-        };
-        answered(value)
-    }
-
-    fn put_answer(self, out: &mut String, answer: &Self::Answer) -> Result<(), AllocError> {
-        put_value(out, answer)
+impl ValueCall<'_, '_> {
+    // Makes the call, and prints the value; the error is that there is none.
+    fn make(self, rt: &(impl Print + AllocGlobal), turn: Turn) -> Result<io::Result<()>, Fault> {
+        match self {
+            ValueCall::Read(text) => about_crs(rt.alloc(), text, Value { rt, turn }),
+            ValueCall::ValueOf(items) => about_items(rt.alloc(), items, Value { rt, turn }),
+        }
     }
 }
 
 // A value by its kind and its canonical text.
-fn put_value(out: &mut String, answer: &Result<Crs<'_>, Refusal>) -> Result<(), AllocError> {
-    match answer {
-        Ok(crs) => put_crs(out, crs),
-        Err(refusal) => put_refusal(out, *refusal),
+#[derive(Drop)]
+struct Value<'r, R> {
+    rt: &'r R,
+    turn: Turn,
+}
+
+impl<R: Print + AllocGlobal> AboutCrs for Value<'_, R> {
+    type Answer = io::Result<()>;
+
+    fn answer(self, alloc: Global, crs: &Crs<'_>) -> io::Result<()> {
+        self.turn.end(self.rt)?;
+        let kind = kind_word(crs.kind());
+        print_value(self.rt, self.turn, kind, canon_of(alloc, crs, Level::Full))
     }
 }
 
-fn put_crs(out: &mut String, crs: &Crs<'_>) -> Result<(), AllocError> {
-    out.push_str(kind_word(crs.kind()))?;
-    out.push(' ')?;
-    let alloc = *out.allocator();
-    put_canonical(out, canon_of(alloc, crs, Level::Full))
-}
-
-fn put_canonical(out: &mut String, text: Result<Canon, AllocError>) -> Result<(), AllocError> {
+fn print_value(
+    rt: &(impl Print + AllocGlobal),
+    turn: Turn,
+    kind: &str,
+    text: Result<Canon, AllocError>,
+) -> io::Result<()> {
     let text = text?;
-    put_text(out, text.bytes())
+    let mut told = String::from_str(rt.alloc(), kind)?;
+    told.push(' ')?;
+    put_text(&mut told, text.bytes())?;
+    turn.print(rt, told.as_str())
 }
 
 // `canon` of a text.
@@ -90,9 +94,52 @@ pub fn try_value_of(rt: &(impl Print + AllocGlobal), text: &[u8]) -> io::Result<
     }
 }
 
-// The one call with an answer that owns a CRS: each such call of a generic function is slow to prove.
 fn try_value(rt: &(impl Print + AllocGlobal), call: ValueCall<'_, '_>) -> io::Result<()> {
-    run_reading(rt, call)
+    begin_call(rt)?;
+    match call.make(rt, Turn::First) {
+        Ok(printed) => printed,
+        Err(fault) => {
+            Turn::First.end(rt)?;
+            print_fault(rt, call, fault)
+        }
+    }
+}
+
+fn print_fault(
+    rt: &(impl Print + AllocGlobal),
+    call: ValueCall<'_, '_>,
+    fault: Fault,
+) -> io::Result<()> {
+    match fault {
+        Fault::Refused(refusal) => print_refusal(rt, Turn::First, refusal),
+        Fault::Memory(_) => {
+            print_kept(rt)?;
+            print_again(rt, call.make(rt, Turn::Again))
+        }
+    }
+}
+
+fn print_again(
+    rt: &(impl Print + AllocGlobal),
+    made: Result<io::Result<()>, Fault>,
+) -> io::Result<()> {
+    match made {
+        Ok(printed) => printed,
+        Err(fault) => print_last(rt, fault),
+    }
+}
+
+fn print_last(rt: &(impl Print + AllocGlobal), fault: Fault) -> io::Result<()> {
+    match fault {
+        Fault::Refused(refusal) => print_refusal(rt, Turn::Again, refusal),
+        Fault::Memory(error) => Err(io::Error::from(error)),
+    }
+}
+
+fn print_refusal(rt: &(impl Print + AllocGlobal), turn: Turn, refusal: Refusal) -> io::Result<()> {
+    let mut told = String::new(rt.alloc());
+    put_refusal(&mut told, refusal)?;
+    turn.print(rt, told.as_str())
 }
 
 /// `canon` of a text.
@@ -115,29 +162,31 @@ impl<R: Print + AllocGlobal> AboutCrs for WithCrs<'_, R> {
 
     fn answer(self, alloc: Global, crs: &Crs<'_>) -> io::Result<()> {
         begin_call(self.rt)?;
-        let called = canon_of(alloc, crs, Level::Full);
-        end_call(self.rt)?;
-        match called {
-            Ok(text) => print_spelling(self.rt, "answer", &text),
-            Err(_) => {
-                print_kept(self.rt)?;
-                print_spelled(self.rt, canon_of(alloc, crs, Level::Full))
-            }
+        if print_spelling(self.rt, Turn::First, canon_of(alloc, crs, Level::Full))? {
+            return Ok(());
         }
+        print_kept(self.rt)?;
+        if print_spelling(self.rt, Turn::Again, canon_of(alloc, crs, Level::Full))? {
+            return Ok(());
+        }
+        Err(io::Error::from(AllocError))
     }
 }
 
-fn print_spelled(
+// Whether there was memory.
+fn print_spelling(
     rt: &(impl Print + AllocGlobal),
-    again: Result<Canon, AllocError>,
-) -> io::Result<()> {
-    print_spelling(rt, "again", &again?)
-}
-
-fn print_spelling(rt: &(impl Print + AllocGlobal), word: &str, text: &Canon) -> io::Result<()> {
+    turn: Turn,
+    called: Result<Canon, AllocError>,
+) -> io::Result<bool> {
+    turn.end(rt)?;
+    let Ok(text) = &called else {
+        return Ok(false);
+    };
     let mut told = String::new(rt.alloc());
     put_spelling(&mut told, text)?;
-    println!(rt; "{word} {told}")
+    turn.print(rt, told.as_str())?;
+    Ok(true)
 }
 
 /// `differences` between the CRSs of two texts.
@@ -159,22 +208,39 @@ impl<R: Print + AllocGlobal> AboutBoth for WithBoth<'_, R> {
     type Answer = io::Result<()>;
 
     fn answer<'t>(self, alloc: Global, first: &Crs<'t>, second: &Crs<'t>) -> io::Result<()> {
-        begin_call(self.rt)?;
-        let called = differing(alloc, Level::Full, Told::Paths, first, second);
-        end_call(self.rt)?;
-        match called {
-            Ok(paths) => print_paths(self.rt, "answer", &paths),
-            Err(_) => {
-                print_kept(self.rt)?;
-                let paths = differing(alloc, Level::Full, Told::Paths, first, second)?;
-                print_paths(self.rt, "again", &paths)
-            }
+        let (rt, told) = (self.rt, Told::Paths);
+        begin_call(rt)?;
+        if print_paths(
+            rt,
+            Turn::First,
+            differing(alloc, Level::Full, told, first, second),
+        )? {
+            return Ok(());
         }
+        print_kept(rt)?;
+        if print_paths(
+            rt,
+            Turn::Again,
+            differing(alloc, Level::Full, told, first, second),
+        )? {
+            return Ok(());
+        }
+        Err(io::Error::from(AllocError))
     }
 }
 
-fn print_paths(rt: &(impl Print + AllocGlobal), word: &str, paths: &[u8]) -> io::Result<()> {
+// Whether there was memory.
+fn print_paths(
+    rt: &(impl Print + AllocGlobal),
+    turn: Turn,
+    called: Result<Vec<u8>, AllocError>,
+) -> io::Result<bool> {
+    turn.end(rt)?;
+    let Ok(paths) = &called else {
+        return Ok(false);
+    };
     let mut told = String::new(rt.alloc());
     put_text(&mut told, paths)?;
-    println!(rt; "{word} {told}")
+    turn.print(rt, told.as_str())?;
+    Ok(true)
 }
