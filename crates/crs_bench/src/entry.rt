@@ -3,6 +3,7 @@
 use crate::tally::Outcome;
 use crs_group::Catalogue;
 use crs_text::Fault;
+use crs_value::Crs;
 use std::alloc::{AllocError, Global};
 
 /// Stages that are given a `T` of each text.
@@ -51,11 +52,10 @@ pub fn accepted<T: Drop>(answer: Result<T, Fault>) -> Result<Option<T>, AllocErr
     }
 }
 
-/// An answer that counts for so much where it is accepted. A function that owns a CRS is slow to prove, so this one
-/// doesn't know the type.
-pub fn dropped<T: Drop>(answer: Result<T, Fault>, count: usize) -> Result<Outcome, AllocError> {
+/// A CRS that counts for so much. A function that looks into an owned one is slow to prove, so that there is one.
+pub fn dropped(answer: Result<Crs<'_>, Fault>, count: usize) -> Result<Outcome, AllocError> {
     match answer {
-        Ok(_accepted) => Ok(Outcome::Accepted(count)),
+        Ok(_crs) => Ok(Outcome::Accepted(count)),
         Err(Fault::Refused(_)) => Ok(Outcome::Refused),
         Err(Fault::Memory(error)) => Err(error),
     }

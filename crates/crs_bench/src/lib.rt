@@ -1,6 +1,6 @@
-//! `crs_bench ROUNDS [STAGE..]` reads a catalogue from standard input, one text a line, and runs each stage by itself,
-//! or only those named, over all texts that many times. It prints what each stage came to, which is the same in every
-//! run, and on standard error how long it took.
+//! The stages from a text to its canonical spelling, each run by itself over all texts of a catalogue, one a line, so many
+//! times. What a stage came to is printed on standard output, and is the same in every run; how long it took on standard
+//! error.
 #![tactic(auto)]
 
 mod catalogue;
@@ -17,29 +17,34 @@ use anyhow::{Context, Result, ensure};
 use catalogue::texts_of;
 use entry::{Entry, Measure, entries_of};
 use stage::{STAGES, Stage};
-use std::io::Read;
-use std::{env, io};
+use std::alloc::Global;
+use std::rt::{Clock, Files};
+use std::{fs, io};
 use timing::timed;
 
 // A stage whose time may grow with the catalogue is also run over this many of the first texts.
 const SMALLER: [usize; 3] = [10_000, 100_000, 1_000_000];
 
-fn main(rt: HostRuntime) -> Result<()> {
-    let rounds = rounds(&rt)?;
-    let stages = stages(&rt)?;
-    let mut bytes = Vec::new(rt.alloc());
-    rt.stdin().read_to_end(&mut bytes)?;
-    let texts = texts_of(rt.alloc(), &bytes)?;
-    for stage in &stages {
-        report(&rt, *stage, rounds, &texts)?;
-    }
+/// Runs every stage for three rounds over the texts of `bench.lines`.
+pub fn run_file(rt: &(impl Files + Clock + Print + Eprint + AllocGlobal)) -> io::Result<()> {
+    let bytes = fs::read(rt, "bench.lines")?;
+    run_stages(rt, &STAGES, 3, &bytes)
+}
+
+/// Runs the stages that words name, or all, over the texts of some bytes; the first word is the number of rounds.
+pub fn run_words(
+    rt: &(impl Clock + Print + Eprint + AllocGlobal),
+    words: &[String],
+    bytes: &[u8],
+) -> Result<()> {
+    let (rounds, names) = words.split_first().context("no number of rounds is given")?;
+    let rounds = rounds_of(rounds.as_str())?;
+    let stages = stages_of(rt.alloc(), names)?;
+    run_stages(rt, &stages, rounds, bytes)?;
     Ok(())
 }
 
-fn rounds(rt: &HostRuntime) -> Result<u32> {
-    let word = env::args(rt)?
-        .nth(1)
-        .context("no number of rounds is given")?;
+fn rounds_of(word: &str) -> Result<u32> {
     let rounds = word
         .parse::<u32>()
         .context(format_args!("{word:?} is no number of rounds"))?;
@@ -48,10 +53,10 @@ fn rounds(rt: &HostRuntime) -> Result<u32> {
 }
 
 // The stages that are named, or all.
-fn stages(rt: &HostRuntime) -> Result<Vec<Stage>> {
-    let mut stages = Vec::new(rt.alloc());
-    for word in env::args(rt)?.skip(2) {
-        let stage = Stage::named(&word).context(format_args!("{word:?} is no stage"))?;
+fn stages_of(alloc: Global, names: &[String]) -> Result<Vec<Stage>> {
+    let mut stages = Vec::new(alloc);
+    for name in names {
+        let stage = Stage::named(name).context(format_args!("{name:?} is no stage"))?;
         stages.push(stage)?;
     }
     if stages.is_empty() {
@@ -60,7 +65,25 @@ fn stages(rt: &HostRuntime) -> Result<Vec<Stage>> {
     Ok(stages)
 }
 
-fn report(rt: &HostRuntime, stage: Stage, rounds: u32, texts: &[&[u8]]) -> io::Result<()> {
+fn run_stages(
+    rt: &(impl Clock + Print + Eprint + AllocGlobal),
+    stages: &[Stage],
+    rounds: u32,
+    bytes: &[u8],
+) -> io::Result<()> {
+    let texts = texts_of(rt.alloc(), bytes)?;
+    for stage in stages {
+        report(rt, *stage, rounds, &texts)?;
+    }
+    Ok(())
+}
+
+fn report(
+    rt: &(impl Clock + Print + Eprint + AllocGlobal),
+    stage: Stage,
+    rounds: u32,
+    texts: &[&[u8]],
+) -> io::Result<()> {
     match stage {
         Stage::Text(measure) => report_by(rt, stage, measure, rounds, texts),
         Stage::Items(measure) => report_by(rt, stage, measure, rounds, texts),
@@ -69,7 +92,7 @@ fn report(rt: &HostRuntime, stage: Stage, rounds: u32, texts: &[&[u8]]) -> io::R
 }
 
 fn report_by<'t, T: Drop, M: Measure<'t, T> + Copy>(
-    rt: &HostRuntime,
+    rt: &(impl Clock + Print + Eprint + AllocGlobal),
     stage: Stage,
     measure: M,
     rounds: u32,
@@ -90,7 +113,7 @@ fn report_by<'t, T: Drop, M: Measure<'t, T> + Copy>(
 }
 
 fn report_of<'t, T: Drop, M: Measure<'t, T> + Copy>(
-    rt: &HostRuntime,
+    rt: &(impl Clock + Print + Eprint + AllocGlobal),
     stage: Stage,
     measure: M,
     rounds: u32,
