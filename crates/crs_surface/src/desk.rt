@@ -53,8 +53,7 @@ fn is_status(run: &Result<u8, RunFault>, status: u8) -> bool {
 
 // No command has this name.
 fn is_refused(alloc: Global) -> bool {
-    is_so(request(alloc, &["crsdesk", "frob"]), Refused)
-        && !is_line(&RequestFault::Memory(AllocError))
+    asks(alloc, &["crsdesk", "frob"], "none", &[]) && !is_line(&RequestFault::Memory(AllocError))
 }
 
 // What is claimed of a value.
@@ -67,20 +66,7 @@ fn is_so<T: Drop, C: Claim<T>>(of: T, claim: C) -> bool {
     claim.holds(&of)
 }
 
-// No command is asked for.
-#[derive(Clone, Copy)]
-struct Refused;
-
-impl Claim<Result<Request, RequestFault>> for Refused {
-    fn holds(self, of: &Result<Request, RequestFault>) -> bool {
-        match of {
-            Ok(_request) => false,
-            Err(fault) => is_line(fault),
-        }
-    }
-}
-
-// A command with these words is asked for.
+// A command with these words is asked for, or the command `none`, where the line is wrong.
 #[derive(Clone, Copy)]
 struct AskedFor<'w> {
     command: &'w str,
@@ -91,7 +77,7 @@ impl Claim<Result<Request, RequestFault>> for AskedFor<'_> {
     fn holds(self, of: &Result<Request, RequestFault>) -> bool {
         match of {
             Ok(asked) => is_request(asked, self.command, self.words),
-            Err(_fault) => false,
+            Err(fault) => self.command == "none" && is_line(fault),
         }
     }
 }

@@ -1,7 +1,4 @@
 //! Nodes that are compared and written by themselves: in a canonical text each is written as it stands.
-mod crss;
-mod frames;
-mod parts;
 mod walks;
 
 use crate::tally::Tally;
@@ -12,12 +9,6 @@ use crs_canon::Canonical;
 use crs_suite::{AboutCrs, about_crs};
 use crs_value::{Crs, Level};
 use std::alloc::{AllocError, Global};
-
-/// A node that has a call of its own to compare it.
-trait Node: Canonical + Written {
-    /// Whether that call says that it is the same as itself.
-    fn is_same(&self) -> bool;
-}
 
 // Canonical texts that have all kinds of node.
 const TEXTS: [&str; 6] = [
@@ -73,23 +64,10 @@ fn walk_crs(tally: &mut Tally, is_polar: bool, crs: &Crs<'_>) {
     }
 }
 
-// Counts the call that compares a node, and what the node's type implements.
-fn check_node<T: Node>(tally: &mut Tally, call: &str, type_name: &str, node: &T) {
-    tally.count(call, node.is_same());
+// Counts what a node's type implements.
+fn check_node<T: Canonical + Written>(tally: &mut Tally, type_name: &str, node: &T) {
     let agrees = is_own(tally.alloc(), node);
     tally.count(type_name, agrees);
-}
-
-fn check_optional<T: Node>(tally: &mut Tally, call: &str, type_name: &str, part: &Option<T>) {
-    if let Some(node) = part {
-        check_node(tally, call, type_name, node);
-    }
-}
-
-fn check_first<T: Node>(tally: &mut Tally, call: &str, type_name: &str, list: &[T]) {
-    if let [node, ..] = list {
-        check_node(tally, call, type_name, node);
-    }
 }
 
 // Whether a node is the same as itself, and its spelling is how it stands.

@@ -55,11 +55,7 @@ fn are_same_by_definition<'a>(first: &Crs<'a>, second: &Crs<'a>) -> bool {
 }
 
 fn are_same<'a>(first: &Crs<'a>, second: &Crs<'a>) -> bool {
-    same(first, second, Level::Full) && is_none(first_part(first, second, Level::Full))
-}
-
-fn is_none(path: Option<Path>) -> bool {
-    path.is_none()
+    same(first, second, Level::Full) && first_part(first, second, Level::Full).is_none()
 }
 
 fn has_steps(found: &Option<Path>) -> bool {
