@@ -41,52 +41,74 @@ impl Told for Result<Request, RequestFault> {
 /// A command, `lines` where each line is a text, and its words in brackets, the level first.
 pub fn put_asked(out: &mut String, asked: &Request) -> Result<(), AllocError> {
     match asked {
-        Request::Canon(level) => put_command(out, "canon", &[level]),
+        Request::Canon(level) => put_command(out, "canon", level),
         Request::Check => out.push_str("check"),
-        Request::Same(first, second, level) => put_command(out, "same", &[level, first, second]),
-        Request::Group(level) => put_command(out, "group", &[level]),
+        Request::Same(first, second, level) => put_same(out, level, first, second),
+        Request::Group(level) => put_command(out, "group", level),
         Request::GroupListed(level, flags) => put_listed(out, level, *flags),
-        Request::CanonLines(level) => put_command(out, "canon lines", &[level]),
+        Request::CanonLines(level) => put_command(out, "canon lines", level),
         Request::CheckLines => out.push_str("check lines"),
-        Request::Explain(options) => put_explain(out, "explain", options, &[]),
-        Request::ExplainText(text, options) => put_explain(out, "explain", options, &[text]),
+        Request::Explain(options) => put_explain(out, "explain", options),
+        Request::ExplainText(text, options) => put_explain_text(out, options, text),
         Request::ExplainPair(first, second, options) => {
-            put_explain(out, "explain", options, &[first, second])
+            put_explain_pair(out, options, first, second)
         }
-        Request::Files(task, names) => {
-            put_task(out, task)?;
-            out.push_str(" files")?;
-            put_words(out, names.as_slice())
-        }
+        Request::Files(task, names) => put_task_of(out, task, " files", names.as_slice()),
         Request::FilesUnder(task, names, rules) => {
-            put_task(out, task)?;
-            out.push_str(" files")?;
-            put_words(out, names.as_slice())?;
-            out.push_str(" rules")?;
-            put_words(out, rules.as_slice())
+            put_under(out, task, " files", names.as_slice(), rules.as_slice())
         }
         Request::TextsUnder(task, texts, rules) => {
-            put_task(out, task)?;
-            out.push_str(" texts")?;
-            put_words(out, texts.as_slice())?;
-            out.push_str(" rules")?;
-            put_words(out, rules.as_slice())
+            put_under(out, task, " texts", texts.as_slice(), rules.as_slice())
         }
     }
 }
 
+fn put_under(
+    out: &mut String,
+    task: &Task,
+    what: &str,
+    words: &[LineWord],
+    rules: &[LineWord],
+) -> Result<(), AllocError> {
+    put_task_of(out, task, what, words)?;
+    out.push_str(" rules")?;
+    put_words(out, rules)
+}
+
+fn put_task_of(
+    out: &mut String,
+    task: &Task,
+    what: &str,
+    words: &[LineWord],
+) -> Result<(), AllocError> {
+    put_task(out, task)?;
+    out.push_str(what)?;
+    put_words(out, words)
+}
+
 fn put_task(out: &mut String, task: &Task) -> Result<(), AllocError> {
     match task {
-        Task::Canon(level) => put_command(out, "canon", &[level]),
+        Task::Canon(level) => put_command(out, "canon", level),
         Task::Check => out.push_str("check"),
-        Task::Group(level) => put_command(out, "group", &[level]),
+        Task::Group(level) => put_command(out, "group", level),
         Task::GroupListed(level, flags) => put_listed(out, level, *flags),
-        Task::CanonLines(level) => put_command(out, "canon lines", &[level]),
+        Task::CanonLines(level) => put_command(out, "canon lines", level),
         Task::CheckLines => out.push_str("check lines"),
-        Task::Explain(options) => put_explain(out, "explain one", options, &[]),
-        Task::Same(level) => put_command(out, "same", &[level]),
-        Task::ExplainPair(options) => put_explain(out, "explain two", options, &[]),
+        Task::Explain(options) => put_explain(out, "explain one", options),
+        Task::Same(level) => put_command(out, "same", level),
+        Task::ExplainPair(options) => put_explain(out, "explain two", options),
     }
+}
+
+fn put_same(
+    out: &mut String,
+    level: &LineWord,
+    first: &LineWord,
+    second: &LineWord,
+) -> Result<(), AllocError> {
+    put_command(out, "same", level)?;
+    put_word(out, first)?;
+    put_word(out, second)
 }
 
 // `group` with its flags, which there are.
@@ -111,14 +133,29 @@ fn put_words(out: &mut String, words: &[LineWord]) -> Result<(), AllocError> {
     Ok(())
 }
 
-// The command, the level in brackets, `json` and what is told `first` where they are asked for, and the words.
-fn put_explain(
+fn put_explain_text(
     out: &mut String,
-    name: &str,
     options: &ExplainOptions,
-    words: &[&LineWord],
+    text: &LineWord,
 ) -> Result<(), AllocError> {
-    put_command(out, name, &[&options.level])?;
+    put_explain(out, "explain", options)?;
+    put_word(out, text)
+}
+
+fn put_explain_pair(
+    out: &mut String,
+    options: &ExplainOptions,
+    first: &LineWord,
+    second: &LineWord,
+) -> Result<(), AllocError> {
+    put_explain(out, "explain", options)?;
+    put_word(out, first)?;
+    put_word(out, second)
+}
+
+// The command, the level in brackets, and `json` and what is told `first` where they are asked for.
+fn put_explain(out: &mut String, name: &str, options: &ExplainOptions) -> Result<(), AllocError> {
+    put_command(out, name, &options.level)?;
     if options.json {
         out.push_str(" json")?;
     }
@@ -126,18 +163,13 @@ fn put_explain(
         out.push_str(" first")?;
         put_words(out, options.first.as_slice())?;
     }
-    for word in words {
-        put_word(out, word)?;
-    }
     Ok(())
 }
 
-fn put_command(out: &mut String, name: &str, words: &[&LineWord]) -> Result<(), AllocError> {
+// The command, and its level in brackets.
+fn put_command(out: &mut String, name: &str, level: &LineWord) -> Result<(), AllocError> {
     out.push_str(name)?;
-    for word in words {
-        put_word(out, word)?;
-    }
-    Ok(())
+    put_word(out, level)
 }
 
 fn put_word(out: &mut String, word: &LineWord) -> Result<(), AllocError> {
