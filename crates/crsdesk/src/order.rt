@@ -13,11 +13,16 @@ pub const WORDS: &str =
 pub fn order_of(alloc: Global, options: &ExplainOptions) -> Result<Vec<StepWord>, Fault> {
     let mut order = Vec::new(alloc);
     for words in options.first.as_slice() {
-        for word in words.as_str().split(',') {
-            add_word(alloc, path_word(word)?, &mut order)?;
-        }
+        add_words(alloc, words.as_str(), &mut order)?;
     }
     Ok(order)
+}
+
+fn add_words(alloc: Global, words: &str, order: &mut Vec<StepWord>) -> Result<(), Fault> {
+    for word in words.split(',') {
+        add_word(alloc, path_word(word)?, order)?;
+    }
+    Ok(())
 }
 
 fn add_word(alloc: Global, word: &str, order: &mut Vec<StepWord>) -> Result<(), AllocError> {
