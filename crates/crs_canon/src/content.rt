@@ -11,10 +11,11 @@ use crate::canonical::Canonical;
 use crate::lacking::{append_lacking, append_lacking_members};
 use crate::set_view::are_spelled;
 use crs_decimal::Decimal;
+use crs_leaves::open_text;
 use crs_normal::laws::{parts, sets};
 use crs_same::{Content, Usages};
 use crs_value::{Level, Unit, UnitKind, Usage};
-use crs_writer::pieces::{gather, gather_all, open_text, write_bare_unit};
+use crs_writer::pieces::{gather, gather_all, write_bare_unit};
 use std::alloc::{AllocError, Global};
 use std::collections::BTreeSet;
 

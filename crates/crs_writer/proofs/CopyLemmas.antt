@@ -1,6 +1,6 @@
 -- Bytes that are copied.
 use Rattle.std.proofs.Common.{◌≡◌, ℕ, List, ◌∷◌, ◌++◌, ap, ◌∙◌}
-use Rattle.crs_writer.specs.Direct.{Writes}
+use Rattle.crs_leaves.specs.Direct.{Writes}
 
 -- a copy, if it is the text of all that is read
 pub copy-writes : {V : Type 0} (Reads : V → Type 0) (spell : V → List ℕ) (bytes old new : List ℕ) → ((value : V) → Reads value → bytes ≡ spell value) →

@@ -11,7 +11,7 @@ use Rattle.crs_value.specs.declared.values.compound.Horizontal.{Horizontal}
 use Rattle.crs_value.specs.declared.values.compound.Horizontal.TheVariants as horizontal
 use Rattle.crs_value.specs.declared.values.crs.Crs.TheVariants as crs
 use Rattle.crs_nodes.specs.Cursor.{IsFirst, args, item}
-use Rattle.crs_writer.specs.Direct.{IsRead}
+use Rattle.crs_leaves.specs.Direct.{IsRead}
 use Rattle.crs_nodes.specs.Found.{SaysIfAny}
 use Rattle.crs_nodes.specs.declared.node.Node.{Node}
 use Rattle.crs_writer.proofs.FlatLemmas.{through}

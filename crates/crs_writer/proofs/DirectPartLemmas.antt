@@ -19,7 +19,7 @@ use Rattle.crs_normal.specs.SpelledFrames.{item_ensemble, item_frame, norm_ensem
 use Rattle.crs_normal.specs.SpelledItems.{each}
 use Rattle.crs_normal.specs.SpelledUnits.{item_ident, set_idents}
 use Rattle.crs_normal.specs.SpelledUsages.{item_usage, norm_usage, set_usages}
-use Rattle.crs_writer.specs.Direct.{Writes}
+use Rattle.crs_leaves.specs.Direct.{Writes}
 use Rattle.crs_writer.specs.Members.{set_text}
 use Rattle.crs_writer.proofs.WrittenLemmas.{idents-written, usages-written}
 

@@ -5,7 +5,7 @@ use Rattle.std.proofs.lemmas.List.{append-nil}
 use Rattle.crs_text.specs.Items.{Siblings, End, More}
 use Rattle.crs_text.specs.Written.{item_text, others_text}
 use Rattle.crs_normal.specs.SpelledItems.{node_from}
-use Rattle.crs_writer.specs.Openings.{enclosed}
+use Rattle.crs_leaves.specs.Openings.{enclosed}
 
 pub enclosing : (front : List ℕ) (items : Siblings) (at : ℕ) (old opened closed : List ℕ) →
     old ≡ front ++ others_text items → length front ≡ at → at < length old →

@@ -1,8 +1,7 @@
+pub mod AxisLemmas
 pub mod ChainLemmas
 pub mod CopyLemmas
 pub mod CursorLemmas
-pub mod DirectAxisLemmas
-pub mod DirectCrsLemmas
 pub mod DirectLemmas
 pub mod DirectPartLemmas
 pub mod EncloseLemmas
@@ -13,5 +12,4 @@ pub mod SetLemmas
 pub mod SpanLemmas
 pub mod SystemLemmas
 pub mod TextLemmas
-pub mod WholeLemmas
 pub mod WrittenLemmas

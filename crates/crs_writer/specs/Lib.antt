@@ -1,10 +1,8 @@
 pub mod Canonical
 pub mod CrsText
-pub mod Direct
 pub mod Equality
 pub mod EqualityLaws
 pub mod Members
-pub mod Openings
 pub mod Parts
 pub mod SetText
 pub mod Spans

@@ -1,9 +1,8 @@
 //! The canonical text of a text, written straight from its items.
 #![tactic(auto)]
 
-mod answer;
 mod canon_text;
-mod direct;
+mod chain;
 pub mod laws;
 mod members;
 mod parts;
@@ -13,5 +12,4 @@ mod spans;
 mod spell;
 mod spelling;
 
-pub use answer::{canon, canon_in};
 pub use canon_text::Canon;

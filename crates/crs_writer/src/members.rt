@@ -1,7 +1,7 @@
 //! Members of sets: those of a value, or those that are read from items.
 ghost use Rattle.std.specs.Prelude.{◌≡◌, ◌<◌, [], ℕ, IsTrue, List, MatchOption, OnOk, length};
 ghost use Rattle.crs_normal.specs.Ordered.{put};
-ghost use Rattle.crs_writer.specs.Direct.{Writes};
+ghost use Rattle.crs_leaves.specs.Direct.{Writes};
 ghost use Rattle.crs_writer.specs.Parts.{SaysFirst};
 ghost use Rattle.crs_writer.specs.Spans.{AreInOrder, IsPutAmong, texts_at};
 

@@ -9,15 +9,13 @@ ghost use Rattle.crs_value.specs.Values.{IdentParts, UnitParts};
 ghost use Rattle.crs_normal.specs.SpelledFrames.{is_zero};
 ghost use Rattle.crs_normal.specs.SpelledItems.{each};
 ghost use Rattle.crs_normal.specs.SpelledUnits.{item_ident, item_unit, norm_unit, set_idents, whole_value};
-ghost use Rattle.crs_writer.specs.Direct.{IsRead, Writes};
+ghost use Rattle.crs_leaves.specs.Direct.{IsRead, Writes};
 ghost use Rattle.crs_nodes.specs.Found.{SaysIfAny};
 ghost use Rattle.crs_writer.specs.Parts.{number_behind, opt_text};
 
-use crate::direct::number::{decimal_of, write_raw};
 use crate::spell::{Spell, write_part};
-use crate::spelling::axis::write_whole;
-use crate::spelling::texts::{append, open_number};
 use crs_decimal::Decimal;
+use crs_leaves::{append, decimal_of, open_number, write_raw, write_whole};
 use crs_value::{Level, UnitKind};
 use std::alloc::AllocError;
 

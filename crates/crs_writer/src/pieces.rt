@@ -1,8 +1,8 @@
-//! What `crs_canon` writes values with: pieces of texts, and texts in order. Out of memory, nothing is promised of a vector
-//! that is appended to.
+//! What `crs_answer` and `crs_canon` write with: CRSs, values, and texts in order. Out of memory, nothing is promised of a
+//! vector that is appended to.
 
 pub use crate::canon_text::canon_from;
 pub use crate::set::{gather, gather_all, write_set};
 pub use crate::spell::Spell;
-pub use crate::spelling::texts::{append, open_text};
+pub use crate::spelling::crs::write_crs;
 pub use crate::spelling::unit::write_bare_unit;

@@ -1,7 +1,7 @@
 //! Sets: each spelling once, in ascending order of the bytes.
 ghost use Rattle.std.specs.Prelude.{◌≡◌, ◌∷◌, ◌++◌, [], ℕ, List, map, OnOk};
 ghost use Rattle.crs_normal.specs.Ordered.{put, put_all};
-ghost use Rattle.crs_writer.specs.Direct.{Writes};
+ghost use Rattle.crs_leaves.specs.Direct.{Writes};
 ghost use Rattle.crs_writer.specs.Members.{set_text, spellings};
 ghost use Rattle.crs_writer.specs.SetText.{commas};
 ghost use Rattle.crs_writer.specs.Spans.{AreInOrder, texts_at};
@@ -9,7 +9,7 @@ ghost use Rattle.crs_writer.specs.Spans.{AreInOrder, texts_at};
 use crate::members::{MemberPart, MembersPart};
 use crate::spans::{Span, write_spans};
 use crate::spell::Spell;
-use crate::spelling::texts::append;
+use crs_leaves::append;
 use crs_value::Level;
 use std::alloc::{AllocError, Global};
 use std::collections::BTreeSet;

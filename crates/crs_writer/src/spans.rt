@@ -5,7 +5,7 @@ ghost use Rattle.crs_normal.specs.Ordered.{put};
 ghost use Rattle.crs_writer.specs.SetText.{commas};
 ghost use Rattle.crs_writer.specs.Spans.{AreInOrder, AreWithin, IsPutAmong, IsWithin, text_at, texts_at};
 
-use crate::spelling::texts::append;
+use crs_leaves::append;
 use std::alloc::AllocError;
 use std::cmp::Ordering;
 

@@ -2,7 +2,7 @@
 ghost use Rattle.std.specs.Prelude.{◌≡◌, ◌++◌, ◌∷◌, ℕ, List, OnOk};
 ghost use Rattle.crs_value.specs.declared.values.level.Level.{Level};
 
-use crate::spelling::texts::append;
+use crs_leaves::append;
 use crs_value::Level;
 use std::alloc::AllocError;
 

@@ -14,7 +14,6 @@ pub(crate) mod meridian;
 pub(crate) mod projected;
 pub(crate) mod system;
 pub(crate) mod tail;
-pub(crate) mod texts;
 pub(crate) mod unit;
 pub(crate) mod usage;
 pub(crate) mod vertical;

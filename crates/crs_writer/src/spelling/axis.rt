@@ -13,25 +13,17 @@ ghost use Rattle.crs_normal.specs.PartTexts.{axis_meridian_text, axis_text};
 ghost use Rattle.crs_normal.specs.SpelledItems.{each, number_node, opt, word_item};
 ghost use Rattle.crs_normal.specs.SpelledSystems.{item_axis_meridian, norm_axis_meridians};
 ghost use Rattle.crs_normal.specs.SpelledUnits.{item_ident, item_unit, norm_units, set_idents, whole_value};
-ghost use Rattle.crs_writer.specs.Openings.{named_node, numbered_node};
+ghost use Rattle.crs_leaves.specs.Openings.{named_node, numbered_node};
 ghost use Rattle.crs_nodes.specs.Found.{SaysIfAny};
 
 use crate::parts::{IdentsPart, NumberPart, Part, UnitPart, write_optional, write_optional_number};
 use crate::spell::Spell;
-use crate::spelling::texts::{append, open_text};
 use crate::spelling::unit::write_optional_unit;
+use crs_leaves::{append, open_text};
 use crs_nodes::Node;
 use crs_shape::Class;
 use crs_value::{Axis, AxisMeridian, Direction, Level, UnitKind};
-use itoa::Buffer;
 use std::alloc::AllocError;
-
-pub(crate) fn write_whole(out: &mut Vec<u8>, number: u64) -> Result<(), AllocError>
-    ensures { OnOk result (out.new.items ≡ out.old.items ++ plain (whole_value number)) }
-{
-    let mut digits = Buffer::new();
-    append(out, digits.format(number).as_bytes())
-}
 
 /// Appends a position after a comma. Profile.
 ///

@@ -7,15 +7,15 @@ ghost use Rattle.crs_normal.specs.PartTexts.{compound_text, horizontal_text};
 ghost use Rattle.crs_normal.specs.SpelledCrs.{item_horizontal, item_vertical, norm_horizontal, norm_vertical};
 ghost use Rattle.crs_normal.specs.SpelledUsages.{norm_tail, tail_items};
 ghost use Rattle.crs_nodes.specs.Cursor.{item};
-ghost use Rattle.crs_writer.specs.Direct.{IsRead, Writes};
-ghost use Rattle.crs_writer.specs.Openings.{named_node};
+ghost use Rattle.crs_leaves.specs.Direct.{IsRead, Writes};
+ghost use Rattle.crs_leaves.specs.Openings.{named_node};
 
 use crate::parts::NeededPart;
 use crate::spell::Spell;
 use crate::spelling::geodetic::write_geodetic_of;
 use crate::spelling::projected::write_projected_of;
 use crate::spelling::tail::TailPart;
-use crate::spelling::texts::{append, open_text};
+use crs_leaves::{append, open_text};
 use crs_nodes::Node;
 use crs_shape::Class;
 use crs_value::{Compound, Horizontal, Level, Vertical};

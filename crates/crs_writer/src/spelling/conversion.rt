@@ -7,17 +7,17 @@ ghost use Rattle.crs_normal.specs.PartTexts.{conversion_text, geoid_model_text, 
 ghost use Rattle.crs_normal.specs.SpelledConversions.{item_method, item_parameter, norm_method, set_parameters};
 ghost use Rattle.crs_normal.specs.SpelledItems.{each, number_item, opt};
 ghost use Rattle.crs_normal.specs.SpelledUnits.{item_ident, item_unit, norm_units, set_idents};
-ghost use Rattle.crs_writer.specs.Openings.{named_node};
+ghost use Rattle.crs_leaves.specs.Openings.{named_node};
 ghost use Rattle.crs_nodes.specs.Found.{SaysIfAny};
 
-use crate::direct::chain::ReadAs;
+use crate::chain::ReadAs;
 use crate::members::MembersPart;
 use crate::parts::{IdentsPart, NeededPart, NumberPart, Part, UnitPart};
 use crate::set::write_set;
 use crate::spell::Spell;
 use crate::spelling::ident::write_named;
-use crate::spelling::texts::{append, append_item, open_text};
 use crate::spelling::unit::write_optional_unit;
+use crs_leaves::{append, append_item, open_text};
 use crs_nodes::{Node, copied};
 use crs_shape::Class;
 use crs_value::{Conversion, GeoidModel, Level, Method, Parameter, UnitKind};

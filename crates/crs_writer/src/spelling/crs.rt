@@ -3,7 +3,7 @@ ghost use Rattle.std.specs.Prelude.{OnOk};
 ghost use Rattle.crs_value.specs.ReadsCrs.{ReadsCrs};
 ghost use Rattle.crs_writer.specs.CrsText.{crs_text};
 ghost use Rattle.crs_nodes.specs.Cursor.{item};
-ghost use Rattle.crs_writer.specs.Direct.{IsRead, Writes};
+ghost use Rattle.crs_leaves.specs.Direct.{IsRead, Writes};
 
 use crate::spell::Spell;
 use crate::spelling::compound::write_compound_of;
@@ -28,12 +28,10 @@ impl Spell for Crs<'_> {
     }
 }
 
-// The canonical text of the CRS of its class that is read from an item.
-pub(crate) fn write_crs(
-    node: &Node<'_, '_>,
-    out: &mut Vec<u8>,
-    level: Level,
-) -> Result<(), AllocError>
+/// Appends the canonical text of the CRS of its class that is read from an item. Profile.
+///
+/// `AllocError`: there is no memory for it.
+pub fn write_crs(node: &Node<'_, '_>, out: &mut Vec<u8>, level: Level) -> Result<(), AllocError>
     requires { IsRead (ReadsCrs node.now.class (item node.now)) }
     ensures { OnOk result (Writes (ReadsCrs node.now.class (item node.now)) (crs_text level) out.old.items out.new.items) }
 {

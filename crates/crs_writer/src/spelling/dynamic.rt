@@ -14,7 +14,7 @@ ghost use Rattle.crs_nodes.specs.Found.{SaysIfAny};
 use crate::parts::{NumberPart, Part, write_number_node, write_optional};
 use crate::spell::Spell;
 use crate::spelling::ident::write_named;
-use crate::spelling::texts::append;
+use crs_leaves::append;
 use crs_nodes::Node;
 use crs_shape::Class;
 use crs_value::{DeformationModel, Dynamic, Level};

@@ -5,13 +5,13 @@ ghost use Rattle.crs_value.specs.Values.{EllipsoidParts};
 ghost use Rattle.crs_normal.specs.PartTexts.{ellipsoid_text};
 ghost use Rattle.crs_normal.specs.SpelledItems.{each, number_item, opt};
 ghost use Rattle.crs_normal.specs.SpelledUnits.{item_ident, item_unit, norm_length, set_idents};
-ghost use Rattle.crs_writer.specs.Openings.{named_node};
+ghost use Rattle.crs_leaves.specs.Openings.{named_node};
 ghost use Rattle.crs_nodes.specs.Found.{SaysIfAny};
 
 use crate::parts::{IdentsPart, NumberPart, Part, UnitPart};
 use crate::spell::Spell;
-use crate::spelling::texts::{append, open_text};
 use crate::spelling::unit::write_length;
+use crs_leaves::{append, open_text};
 use crs_nodes::Node;
 use crs_shape::Class;
 use crs_value::{Ellipsoid, Level};

@@ -13,11 +13,11 @@ ghost use Rattle.crs_normal.specs.SpelledFrames.{item_datum, item_ensemble, norm
 ghost use Rattle.crs_normal.specs.SpelledItems.{each, number_node, opt, text_node};
 ghost use Rattle.crs_normal.specs.SpelledUnits.{item_ident, set_idents};
 ghost use Rattle.crs_nodes.specs.Cursor.{args, item};
-ghost use Rattle.crs_writer.specs.Direct.{IsRead, Writes};
-ghost use Rattle.crs_writer.specs.Openings.{named_node};
+ghost use Rattle.crs_leaves.specs.Direct.{IsRead, Writes};
+ghost use Rattle.crs_leaves.specs.Openings.{named_node};
 ghost use Rattle.crs_nodes.specs.Found.{SaysIfAny};
 
-use crate::direct::chain::ReadAs;
+use crate::chain::ReadAs;
 use crate::members::MembersPart;
 use crate::parts::{
     IdentsPart, NumberPart, Part, write_number_node, write_optional, write_optional_number,
@@ -25,7 +25,7 @@ use crate::parts::{
 use crate::set::write_set;
 use crate::spell::{Spell, write_part};
 use crate::spelling::ident::write_named;
-use crate::spelling::texts::{append, append_item, open_text, write_optional_text};
+use crs_leaves::{append, append_item, open_text, write_optional_text};
 use crs_nodes::{Node, copied};
 use crs_shape::Class;
 use crs_value::{Datum, Ellipsoid, Ensemble, Frame, Level, Member};

@@ -15,7 +15,7 @@ ghost use Rattle.crs_normal.specs.SpelledItems.{node_of, opt, text_item};
 ghost use Rattle.crs_normal.specs.SpelledSystems.{norm_system, system_items};
 ghost use Rattle.crs_normal.specs.SpelledUsages.{norm_tail, tail_items};
 ghost use Rattle.crs_nodes.specs.Cursor.{item};
-ghost use Rattle.crs_writer.specs.Direct.{IsRead, Writes};
+ghost use Rattle.crs_leaves.specs.Direct.{IsRead, Writes};
 ghost use Rattle.crs_nodes.specs.Found.{SaysIfAny};
 
 use crate::parts::{Part, write_optional};
@@ -24,7 +24,7 @@ use crate::spelling::frame::FramePart;
 use crate::spelling::meridian::write_meridian;
 use crate::spelling::system::{SystemPart, write_system};
 use crate::spelling::tail::TailPart;
-use crate::spelling::texts::{append, open_text};
+use crs_leaves::{append, open_text};
 use crs_nodes::Node;
 use crs_shape::Class;
 use crs_value::{Dynamic, Geodetic, Level, Meridian, SystemType};

@@ -9,14 +9,14 @@ ghost use Rattle.crs_normal.specs.PartTexts.{meridian_text};
 ghost use Rattle.crs_normal.specs.SpelledFrames.{greenwich, is_zero, item_meridian, norm_meridian};
 ghost use Rattle.crs_normal.specs.SpelledItems.{each, number_item, opt};
 ghost use Rattle.crs_normal.specs.SpelledUnits.{item_ident, item_unit, norm_units, set_idents};
-ghost use Rattle.crs_writer.specs.Direct.{Writes};
-ghost use Rattle.crs_writer.specs.Openings.{named_node};
+ghost use Rattle.crs_leaves.specs.Direct.{Writes};
+ghost use Rattle.crs_leaves.specs.Openings.{named_node};
 ghost use Rattle.crs_nodes.specs.Found.{SaysIfAny};
 
 use crate::parts::{IdentsPart, NumberPart, Part, UnitPart};
 use crate::spell::Spell;
-use crate::spelling::texts::{append, open_text};
 use crate::spelling::unit::write_optional_unit;
+use crs_leaves::{append, open_text};
 use crs_nodes::Node;
 use crs_shape::Class;
 use crs_value::{Level, Meridian, UnitKind};

@@ -10,41 +10,19 @@ ghost use Rattle.crs_value.specs.Reads.{ReadsAxis, ReadsType, ReadsUnit};
 ghost use Rattle.crs_value.specs.Values.{AxisParts, SystemParts, UnitParts};
 ghost use Rattle.crs_matching.specs.SameSystems.{own_or};
 ghost use Rattle.crs_normal.specs.SpelledItems.{each, number_item};
-ghost use Rattle.crs_normal.specs.SpelledSystems.{axes_from, axis_at, is_at, is_number, item_axis, item_head};
+ghost use Rattle.crs_normal.specs.SpelledSystems.{axes_from, axis_at, item_axis, item_head};
 ghost use Rattle.crs_normal.specs.SpelledSystems.{norm_axis, norm_system, system_items, with_axis};
 ghost use Rattle.crs_nodes.specs.Cursor.{args, item};
-ghost use Rattle.crs_writer.specs.Direct.{IsRead, Writes};
+ghost use Rattle.crs_leaves.specs.Direct.{IsRead, Writes};
 ghost use Rattle.crs_nodes.specs.Found.{SaysIfAny};
 
-use crate::direct::system as axes;
 use crate::parts::{IdentsPart, NumberPart};
 use crate::spelling::axis::write_axis;
-use crate::spelling::texts::{append, append_item};
-use crs_decimal::Decimal;
+use crs_leaves::{append, append_item, axes, is_at};
 use crs_nodes::{Node, copied};
 use crs_shape::Class;
 use crs_value::{Axis, Level, System, SystemType};
 use std::alloc::AllocError;
-
-fn is_number(value: &Decimal, number: u64) -> bool
-    ensures { result ≡ is_number value.now number }
-{
-    crs_decimal::laws::one_form();
-    crs_decimal::laws::plain_is_the_one();
-    crs_decimal::laws::same_number_is_equivalence();
-    let _normal = value.is_negative();
-    value.is_whole(number)
-}
-
-// Whether an axis that is written at this place, from 1 on, and with this order if it has one, has this position.
-pub fn is_at(position: u64, place: u64, order: Option<Decimal>) -> bool
-    ensures { result ≡ is_at position place order }
-{
-    match order {
-        None => place == position,
-        Some(order) => is_number(&order, position),
-    }
-}
 
 /// The coordinate system of a CRS, which the item of the CRS has.
 pub(crate) trait SystemPart: Copy {

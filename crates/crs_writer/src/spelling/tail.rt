@@ -12,12 +12,12 @@ ghost use Rattle.crs_normal.specs.SpelledItems.{each, opt, text_node};
 ghost use Rattle.crs_normal.specs.SpelledUnits.{item_ident, set_idents};
 ghost use Rattle.crs_normal.specs.SpelledUsages.{item_usage, norm_tail, norm_usage, set_usages, tail_items};
 ghost use Rattle.crs_nodes.specs.Cursor.{item};
-ghost use Rattle.crs_writer.specs.Direct.{Writes};
+ghost use Rattle.crs_leaves.specs.Direct.{Writes};
 ghost use Rattle.crs_writer.specs.Members.{set_text};
 
 use crate::parts::IdentsPart;
 use crate::set::{write_set, write_set_with};
-use crate::spelling::texts::write_optional_text;
+use crs_leaves::write_optional_text;
 use crs_nodes::{Chain, Node, keeps};
 use crs_shape::Class;
 use crs_value::{Level, Tail, Usage};

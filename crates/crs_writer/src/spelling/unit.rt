@@ -8,14 +8,14 @@ ghost use Rattle.crs_value.specs.Values.{IdentParts, UnitParts};
 ghost use Rattle.crs_normal.specs.PartTexts.{unit_text};
 ghost use Rattle.crs_normal.specs.SpelledItems.{opt};
 ghost use Rattle.crs_normal.specs.SpelledUnits.{item_unit, metre, norm_length, norm_unit};
-ghost use Rattle.crs_writer.specs.Direct.{Writes};
+ghost use Rattle.crs_leaves.specs.Direct.{Writes};
 ghost use Rattle.crs_nodes.specs.Found.{SaysIfAny};
 ghost use Rattle.crs_writer.specs.Parts.{opt_text};
 
 use crate::parts::{IdentsPart, NumberPart, UnitPart};
 use crate::spell::Spell;
 use crate::spelling::ident::write_idents;
-use crate::spelling::texts::{append, open_text, write_number};
+use crs_leaves::{append, open_text, write_number};
 use crs_nodes::Node;
 use crs_value::{Level, Unit, UnitKind};
 use std::alloc::AllocError;

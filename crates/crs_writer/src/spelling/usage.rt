@@ -10,14 +10,14 @@ ghost use Rattle.crs_normal.specs.PartTexts.{box_text, extent_text, usage_text};
 ghost use Rattle.crs_normal.specs.SpelledItems.{node_from, number_item, opt, text_node};
 ghost use Rattle.crs_normal.specs.SpelledUnits.{item_unit, norm_length};
 ghost use Rattle.crs_normal.specs.SpelledUsages.{item_box, item_extent, norm_extent};
-ghost use Rattle.crs_writer.specs.Openings.{enclosed, numbered_node};
+ghost use Rattle.crs_leaves.specs.Openings.{enclosed, numbered_node};
 ghost use Rattle.crs_nodes.specs.Found.{SaysIfAny};
 
-use crate::direct::chain::ReadAs;
+use crate::chain::ReadAs;
 use crate::parts::{NumberPart, Part, UnitPart, write_optional};
 use crate::spell::Spell;
-use crate::spelling::texts::{append, write_optional_text};
 use crate::spelling::unit::write_length;
+use crs_leaves::{append, write_optional_text};
 use crs_nodes::{Node, copied};
 use crs_shape::Class;
 use crs_value::{BoundingBox, Extent, Level, Usage};

@@ -6,7 +6,7 @@ use Rattle.crs_shape.specs.Words.{direction_word}
 use Rattle.crs_normal.specs.SpelledItems.{each, number_node, opt, word_item}
 use Rattle.crs_normal.specs.SpelledSystems.{item_axis_meridian, norm_axis_meridians}
 use Rattle.crs_normal.specs.SpelledUnits.{item_ident, item_unit, norm_unit, norm_units, set_idents}
-use Rattle.crs_writer.specs.Openings.{opened}
+use Rattle.crs_leaves.specs.Openings.{opened}
 use Rattle.crs_writer.specs.Parts.{opt_text}
 use Rattle.crs_writer.proofs.PieceLemmas.{then-more}
 use Rattle.crs_writer.proofs.DirectLemmas.{closed}

@@ -5,7 +5,7 @@ use Rattle.crs_text.specs.Items.{End, More, Siblings}
 use Rattle.crs_normal.specs.SpelledFrames.{item_ellipsoid, item_member, norm_ellipsoid, set_members}
 use Rattle.crs_normal.specs.SpelledItems.{each, number_node, opt}
 use Rattle.crs_normal.specs.SpelledUnits.{item_ident, set_idents}
-use Rattle.crs_writer.specs.Openings.{opened}
+use Rattle.crs_leaves.specs.Openings.{opened}
 use Rattle.crs_writer.proofs.PieceLemmas.{then-more}
 use Rattle.crs_writer.proofs.DirectLemmas.{closed}
 use Rattle.crs_writer.proofs.FlatLemmas.{then-members, then-part, told}

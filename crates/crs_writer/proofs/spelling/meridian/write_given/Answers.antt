@@ -6,7 +6,7 @@ use Rattle.crs_value.specs.Values.{UnitParts}
 use Rattle.crs_normal.specs.SpelledFrames.{is_zero}
 use Rattle.crs_normal.specs.SpelledItems.{each, number_item, opt}
 use Rattle.crs_normal.specs.SpelledUnits.{item_ident, item_unit, norm_units, set_idents}
-use Rattle.crs_writer.specs.Openings.{opened}
+use Rattle.crs_leaves.specs.Openings.{opened}
 use Rattle.crs_writer.proofs.PieceLemmas.{then-more, then-opt}
 use Rattle.crs_writer.proofs.DirectLemmas.{closed}
 use Rattle.crs_writer.proofs.FlatLemmas.{told}

@@ -4,7 +4,7 @@ use Rattle.crs_normal.specs.SpelledConversions.{item_conversion, norm_conversion
 use Rattle.crs_normal.specs.SpelledCrs.{item_base, norm_base}
 use Rattle.crs_normal.specs.SpelledSystems.{norm_system, system_items}
 use Rattle.crs_normal.specs.SpelledUsages.{norm_tail, tail_items}
-use Rattle.crs_writer.specs.Openings.{opened}
+use Rattle.crs_leaves.specs.Openings.{opened}
 use Rattle.crs_writer.proofs.PieceLemmas.{then-more}
 use Rattle.crs_writer.proofs.DirectLemmas.{closed}
 use Rattle.crs_writer.proofs.FlatLemmas.{told}

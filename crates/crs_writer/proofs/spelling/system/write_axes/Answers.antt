@@ -3,7 +3,7 @@ use Rattle.crs_text.specs.Items.{End}
 use Rattle.crs_text.specs.Written.{others_text}
 use Rattle.crs_normal.specs.SpelledItems.{each}
 use Rattle.crs_normal.specs.SpelledSystems.{axes_from, item_axis}
-use Rattle.crs_writer.proofs.DirectAxisLemmas.{axes-ended}
+use Rattle.crs_writer.proofs.AxisLemmas.{axes-ended}
 use Rattle.crs_writer.proofs.SystemLemmas.{next-axis}
 use Rattle.crs_writer.proofs.spelling.system.write_axes.Goals as goal
 

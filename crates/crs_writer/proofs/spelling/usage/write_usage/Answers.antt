@@ -5,7 +5,7 @@ use Rattle.crs_text.specs.Items.{End, Siblings}
 use Rattle.crs_value.specs.declared.values.level.Level.TheVariants as levels
 use Rattle.crs_normal.specs.SpelledItems.{opt, text_node}
 use Rattle.crs_normal.specs.SpelledUsages.{item_box, item_extent, norm_extent}
-use Rattle.crs_writer.specs.Openings.{enclosed}
+use Rattle.crs_leaves.specs.Openings.{enclosed}
 use Rattle.crs_writer.proofs.EncloseLemmas.{from-enclosed}
 use Rattle.crs_writer.proofs.spelling.usage.write_usage.Goals as goal
 

@@ -8,7 +8,7 @@ use Rattle.crs_normal.specs.SpelledFrames.{item_frame, norm_frame}
 use Rattle.crs_normal.specs.SpelledItems.{each, opt}
 use Rattle.crs_normal.specs.SpelledSystems.{norm_system, system_items}
 use Rattle.crs_normal.specs.SpelledUsages.{norm_tail, tail_items}
-use Rattle.crs_writer.specs.Openings.{opened}
+use Rattle.crs_leaves.specs.Openings.{opened}
 use Rattle.crs_writer.proofs.PieceLemmas.{then-more}
 use Rattle.crs_writer.proofs.DirectLemmas.{closed}
 use Rattle.crs_writer.proofs.FlatLemmas.{then-models, then-part, told}

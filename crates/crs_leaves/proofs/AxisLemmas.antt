@@ -1,0 +1,105 @@
+-- Axes that are looked for, and counted, among items.
+use Rattle.std.proofs.Common.{◌≡◌, ℕ, ◌+◌, ◌≤◌, suc, if◌then◌else◌, List, [], ◌∷◌, ◌++◌, Bool, true, false, Option, Some, None, length, refl, sym, ap, subst, ◌∙◌, arith}
+use Rattle.std.proofs.lemmas.List.{append-nil}
+use Rattle.crs_text.specs.Items.{Item, End, rest_of, here}
+use Rattle.crs_text.specs.Written.{others_text}
+use Rattle.crs_shape.specs.declared.class.Class.{Class}
+use Rattle.crs_value.specs.FoundArguments.{from_found}
+use Rattle.crs_value.specs.Reading.{item_at, those, Holds, IsFound, ReadsEach}
+use Rattle.crs_value.specs.Values.{AxisParts, SystemParts}
+use Rattle.crs_value.specs.declared.values.level.Level.{Level}
+use Rattle.crs_normal.specs.SpelledItems.{each}
+use Rattle.crs_value.proofs.found.ArgumentLemmas.{found-is, found-holds}
+use Rattle.crs_normal.specs.SpelledSystems.{axes_from, axis_at, is_at, item_axis}
+use Rattle.crs_leaves.specs.Direct.{IsReadAt}
+
+-- so many were seen before
+pub record Counting (tree : Item) (parent c : Class) (whole : List Item) (index : ℕ) (at : Option ℕ) : Type 0 where
+  pub holds : Holds tree at
+  pub counted : index + length (from_found tree parent c at) ≡ length whole
+
+pub counting-first : (tree : Item) (parent c : Class) (whole : List Item) (at : Option ℕ) → IsFound tree parent c whole at →
+    Counting tree parent c whole 0 at
+counting-first tree parent c whole at found = record {
+  holds = found-holds tree parent c whole at found;
+  counted = let e : length (from_found tree parent c at) ≡ length whole = ap length (sym (found-is tree parent c whole at found)) in omega (arith, e);
+}
+
+pub counting-on : (tree : Item) (parent c : Class) (whole : List Item) (index id : ℕ) (at : Option ℕ) → Counting tree parent c whole index (Some id) →
+    IsFound tree parent c (those parent c (rest_of (here tree id))) at → Counting tree parent c whole (index + 1) at
+counting-on tree parent c whole index id at so found =
+    let e : length (those parent c (rest_of (here tree id))) ≡ length (from_found tree parent c at) = ap length (found-is tree parent c _ at found) in
+    record { holds = found-holds tree parent c _ at found; counted = let h = so.counted in omega (arith, e, h) }
+
+pub counting-less : (tree : Item) (parent c : Class) (whole : List Item) (index id : ℕ) → Counting tree parent c whole index (Some id) →
+    index + 1 ≤ length whole
+counting-less tree parent c whole index id so = let h = so.counted in omega (arith, h)
+
+pub counting-end : (tree : Item) (parent c : Class) (whole : List Item) (index : ℕ) → Counting tree parent c whole index None → index ≡ length whole
+counting-end tree parent c whole index so = let h = so.counted in omega (arith, h)
+
+-- ---- the axis at a position
+
+-- the axis at the position is among those that are left
+pub record Seeking (R : Class → Item → AxisParts → Type 0) (position : ℕ) (tree : Item) (parent c : Class) (whole : List Item) (index : ℕ)
+    (at : Option ℕ) : Type 0 where
+  pub counting : Counting tree parent c whole index at
+  pub left : (axes : List AxisParts) → ReadsEach (R c) whole axes → (rest : List AxisParts) × ReadsEach (R c) (from_found tree parent c at) rest
+      × (axis_at position (index + 1) rest ≡ axis_at position 1 axes)
+
+pub seeking-first : (R : Class → Item → AxisParts → Type 0) (position : ℕ) (tree : Item) (parent c : Class) (whole : List Item) (at : Option ℕ) →
+    IsFound tree parent c whole at → Seeking R position tree parent c whole 0 at
+seeking-first R position tree parent c whole at found = record {
+  counting = counting-first tree parent c whole at found;
+  left = λ axes h.
+      let P : List Item → Type 0 = λ xs. ReadsEach (R c) xs axes in
+      let same : axis_at position (0 + 1) axes ≡ axis_at position 1 axes = refl in
+      (axes, subst P (found-is tree parent c whole at found) h, same);
+}
+
+passed : (R : Class → Item → AxisParts → Type 0) (position : ℕ) (tree : Item) (parent c : Class) (place id : ℕ) (at : Option ℕ) (there : Option AxisParts) →
+    ((axis : AxisParts) → R c (item_at tree id) axis → false ≡ is_at position place axis.order) →
+    IsFound tree parent c (those parent c (rest_of (here tree id))) at → (rest : List AxisParts) →
+    ReadsEach (R c) (from_found tree parent c (Some id)) rest → axis_at position place rest ≡ there →
+    (left : List AxisParts) × ReadsEach (R c) (from_found tree parent c at) left × (axis_at position (place + 1) left ≡ there)
+passed R position tree parent c place id at there wrong found [] h e = absurd h
+passed R position tree parent c place id at there wrong found (axis ∷ axes) h e =
+    let P : List Item → Type 0 = λ xs. ReadsEach (R c) xs axes in
+    let T : Bool → Type 0 = λ b. (if b then Some axis else axis_at position (place + 1) axes) ≡ there in
+    (axes, subst P (found-is tree parent c _ at found) h.1, subst T (sym (wrong axis h.0)) e)
+
+pub seeking-on : (R : Class → Item → AxisParts → Type 0) (position : ℕ) (tree : Item) (parent c : Class) (whole : List Item) (index id : ℕ) (at : Option ℕ) →
+    Seeking R position tree parent c whole index (Some id) →
+    ((axis : AxisParts) → R c (item_at tree id) axis → false ≡ is_at position (index + 1) axis.order) →
+    IsFound tree parent c (those parent c (rest_of (here tree id))) at → Seeking R position tree parent c whole (index + 1) at
+seeking-on R position tree parent c whole index id at so wrong found = record {
+  counting = counting-on tree parent c whole index id at so.counting found;
+  left = λ axes h.
+      let (rest, reads, same) = so.left axes h in
+      passed R position tree parent c (index + 1) id at (axis_at position 1 axes) wrong found rest reads same;
+}
+
+here-read : (R : Class → Item → AxisParts → Type 0) (position : ℕ) (tree : Item) (parent c : Class) (place id : ℕ) (there : Option AxisParts) →
+    ((axis : AxisParts) → R c (item_at tree id) axis → true ≡ is_at position place axis.order) → (rest : List AxisParts) →
+    ReadsEach (R c) (from_found tree parent c (Some id)) rest → axis_at position place rest ≡ there → IsReadAt R c tree there (Some id)
+here-read R position tree parent c place id there right [] h e = absurd h
+here-read R position tree parent c place id there right (axis ∷ axes) h e =
+    let T : Bool → Type 0 = λ b. (if b then Some axis else axis_at position (place + 1) axes) ≡ there in
+    (axis, sym (subst T (sym (right axis h.0)) e), h.0)
+
+pub seeking-found : (R : Class → Item → AxisParts → Type 0) (position : ℕ) (tree : Item) (parent c : Class) (whole : List Item) (index id : ℕ) →
+    Seeking R position tree parent c whole index (Some id) →
+    ((axis : AxisParts) → R c (item_at tree id) axis → true ≡ is_at position (index + 1) axis.order) →
+    (axes : List AxisParts) → ReadsEach (R c) whole axes → IsReadAt R c tree (axis_at position 1 axes) (Some id)
+seeking-found R position tree parent c whole index id so right axes h =
+    let (rest, reads, same) = so.left axes h in
+    here-read R position tree parent c (index + 1) id (axis_at position 1 axes) right rest reads same
+
+none-left : (R : Item → AxisParts → Type 0) (position place : ℕ) (rest : List AxisParts) → ReadsEach R [] rest → axis_at position place rest ≡ None
+none-left R position place [] h = refl
+none-left R position place (axis ∷ axes) h = absurd h
+
+pub seeking-end : (R : Class → Item → AxisParts → Type 0) (position : ℕ) (tree : Item) (parent c : Class) (whole : List Item) (index : ℕ) →
+    Seeking R position tree parent c whole index None → (axes : List AxisParts) → ReadsEach (R c) whole axes → IsReadAt R c tree (axis_at position 1 axes) None
+seeking-end R position tree parent c whole index so axes h =
+    let (rest, reads, same) = so.left axes h in sym same ∙ none-left (R c) position (index + 1) rest reads

@@ -1,0 +1,3 @@
+pub mod AxisLemmas
+pub mod NumberLemmas
+pub mod WholeLemmas

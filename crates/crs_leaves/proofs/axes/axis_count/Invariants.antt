@@ -1,0 +1,13 @@
+use Rattle.std.proofs.Common.{length}
+use Rattle.crs_text.specs.Items.{arguments}
+use Rattle.crs_shape.specs.declared.class.Class.TheVariants as class
+use Rattle.crs_value.specs.FoundArguments.{from_found}
+use Rattle.crs_value.specs.Reading.{item_at, those}
+use Rattle.crs_leaves.proofs.AxisLemmas.{Counting}
+use Rattle.crs_leaves.proofs.axes.axis_count.Given as goal
+
+abbrev pub invariant-loop-at : goal.invariant-loop-at
+invariant-loop-at l = Counting l.items l.class class.Axis (those l.class class.Axis (arguments (item_at l.items l.fn.id))) l.count l.at
+
+abbrev pub decreases-loop-at : goal.decreases-loop-at
+decreases-loop-at l = length (from_found l.items l.class class.Axis l.at)
