@@ -19,7 +19,7 @@ ghost use Rattle.crs_nodes.specs.Found.{SaysIfAny};
 use crate::parts::{IdentsPart, NumberPart, Part, UnitPart, write_optional, write_optional_number};
 use crate::spell::Spell;
 use crate::spelling::unit::write_optional_unit;
-use crs_leaves::{append, open_text};
+use crs_leaves::{append, open_text, write_whole};
 use crs_nodes::Node;
 use crs_shape::Class;
 use crs_value::{Axis, AxisMeridian, Direction, Level, UnitKind};
