@@ -19,6 +19,6 @@ returns-clause-text c = λ crs spells.
     let empty : c.reserve.new.self.items ≡ [] = search rules in
     let told = from-items c.args.level item root c.args.class c.reserve.new.self.items c.write_crs.new.out.items crs same
     empty c.in_ok-write_crs.ensures spells c.requires.class in
-    let text : c.new.result.bytes ≡ crs_text c.args.level crs = c.new.ensures.bytes ∙ told in
+    let text : c.canon_from.result.bytes ≡ crs_text c.args.level crs = c.canon_from.ensures.bytes ∙ told in
     let sound = c.spelled_is_sound.ensures item crs (subst AreFormed same c.formed.ensures) spells in
-    (c.crss_are_canonical.ensures c.args.level).written crs c.new.result.bytes sound text
+    (c.crss_are_canonical.ensures c.args.level).written crs c.canon_from.result.bytes sound text
