@@ -27,14 +27,14 @@ pub fn pieces_at<'t>(
         (record { answer = buffers_of out.new length.new ends.new count.new; refused = refused.new })
         result }
 {
-    match made_of_both(alloc, &DifferencePieces(level), first, second, refused) {
+    match made_of_both(alloc, DifferencePieces(level), first, second, refused) {
         Ok(pieces) => give_pieces(&pieces, out, length, ends, count),
         Err(code) => code,
     }
 }
 
 // The pieces of all parts in which two CRSs differ at a level.
-#[derive(Drop)]
+#[derive(Clone, Copy)]
 struct DifferencePieces(Level);
 
 impl Comparing for DifferencePieces {
@@ -44,7 +44,7 @@ impl Comparing for DifferencePieces {
 
     ghost Like = { λ s a b pieces. AreDifferencePieces s.0 a b pieces };
 
-    fn compare<'t>(&self, alloc: Global, a: &Crs<'t>, b: &Crs<'t>) -> Result<Pieces, AllocError> {
+    fn compare<'t>(self, alloc: Global, a: &Crs<'t>, b: &Crs<'t>) -> Result<Pieces, AllocError> {
         difference_pieces(alloc, a, b, self.0)
     }
 }

@@ -25,14 +25,14 @@ pub fn differences_at<'t>(
         (record { answer = record { items = out.new; told = length.new }; refused = refused.new })
         result }
 {
-    match made_of_both(alloc, &Lines(level), first, second, refused) {
+    match made_of_both(alloc, Lines(level), first, second, refused) {
         Ok(lines) => give(&lines, out, length),
         Err(code) => code,
     }
 }
 
 // The lines of all parts in which two CRSs differ at a level.
-#[derive(Drop)]
+#[derive(Clone, Copy)]
 struct Lines(Level);
 
 impl Comparing for Lines {
@@ -42,7 +42,7 @@ impl Comparing for Lines {
 
     ghost Like = { λ s a b lines. IsDifferencesText s.0 a b lines.items };
 
-    fn compare<'t>(&self, alloc: Global, a: &Crs<'t>, b: &Crs<'t>) -> Result<Vec<u8>, AllocError> {
+    fn compare<'t>(self, alloc: Global, a: &Crs<'t>, b: &Crs<'t>) -> Result<Vec<u8>, AllocError> {
         differences_text(alloc, a, b, self.0)
     }
 }

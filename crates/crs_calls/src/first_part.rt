@@ -26,14 +26,14 @@ pub fn part_at<'t>(
         (record { answer = record { items = out.new; told = length.new }; refused = refused.new })
         result }
 {
-    match made_of_both(alloc, &FirstPart(level), first, second, refused) {
+    match made_of_both(alloc, FirstPart(level), first, second, refused) {
         Ok(found) => give_path(alloc, found, out, length),
         Err(code) => code,
     }
 }
 
 // The first part in which two CRSs differ at a level.
-#[derive(Drop)]
+#[derive(Clone, Copy)]
 pub(crate) struct FirstPart(pub(crate) Level);
 
 impl Comparing for FirstPart {
@@ -44,7 +44,7 @@ impl Comparing for FirstPart {
     ghost Like = { λ s a b found. DiffersFirst s.0 a b found };
 
     fn compare<'t>(
-        &self,
+        self,
         _alloc: Global,
         a: &Crs<'t>,
         b: &Crs<'t>,

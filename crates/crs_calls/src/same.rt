@@ -25,7 +25,7 @@ pub fn same_at<'t>(
         (record { answer = is_same.new; refused = refused.new })
         result }
 {
-    match made_of_both(alloc, &FirstPart(level), first, second, refused) {
+    match made_of_both(alloc, FirstPart(level), first, second, refused) {
         Ok(found) => {
             *is_same = u32::from(is_nothing(&found));
             OK
