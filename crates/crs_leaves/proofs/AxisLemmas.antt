@@ -1,16 +1,12 @@
 -- Axes that are looked for, and counted, among items.
-use Rattle.std.proofs.Common.{◌≡◌, ℕ, ◌+◌, ◌≤◌, suc, if◌then◌else◌, List, [], ◌∷◌, ◌++◌, Bool, true, false, Option, Some, None, length, refl, sym, ap, subst, ◌∙◌, arith}
-use Rattle.std.proofs.lemmas.List.{append-nil}
-use Rattle.crs_text.specs.Items.{Item, End, rest_of, here}
-use Rattle.crs_text.specs.Written.{others_text}
+use Rattle.std.proofs.Common.{◌≡◌, ℕ, ◌+◌, ◌≤◌, if◌then◌else◌, List, [], ◌∷◌, Bool, true, false, Option, Some, None, length, refl, sym, ap, subst, ◌∙◌, arith}
+use Rattle.crs_text.specs.Items.{Item, rest_of, here}
 use Rattle.crs_shape.specs.declared.class.Class.{Class}
 use Rattle.crs_value.specs.FoundArguments.{from_found}
 use Rattle.crs_value.specs.Reading.{item_at, those, Holds, IsFound, ReadsEach}
-use Rattle.crs_value.specs.Values.{AxisParts, SystemParts}
-use Rattle.crs_value.specs.declared.values.level.Level.{Level}
-use Rattle.crs_normal.specs.SpelledItems.{each}
+use Rattle.crs_value.specs.Values.{AxisParts}
 use Rattle.crs_value.proofs.found.ArgumentLemmas.{found-is, found-holds}
-use Rattle.crs_normal.specs.SpelledSystems.{axes_from, axis_at, is_at, item_axis}
+use Rattle.crs_normal.specs.SpelledSystems.{axis_at, is_at}
 use Rattle.crs_leaves.specs.Direct.{IsReadAt}
 
 -- so many were seen before

@@ -1,5 +1,5 @@
 -- What is written straight from items, put together from what is written of each part.
-use Rattle.std.proofs.Common.{◌≡◌, ℕ, List, [], ◌∷◌, ◌++◌, Option, Some, sym, ap, subst, ◌∙◌, append_assoc}
+use Rattle.std.proofs.Common.{◌≡◌, ℕ, List, [], ◌∷◌, ◌++◌, Option, sym, ap, ◌∙◌, append_assoc}
 use Rattle.std.proofs.lemmas.List.{append-nil}
 use Rattle.crs_text.specs.Items.{Item, Siblings, End, More}
 use Rattle.crs_text.specs.Written.{item_text, others_text}

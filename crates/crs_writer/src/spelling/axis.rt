@@ -1,6 +1,5 @@
 //! Axes.
 ghost use Rattle.std.specs.Prelude.{◌≡◌, ◌∷◌, ◌++◌, ℕ, List, OnOk, Option, codes};
-ghost use Rattle.crs_decimal.specs.Plain.{plain};
 ghost use Rattle.crs_decimal.specs.Value.{Value};
 ghost use Rattle.crs_text.specs.Items.{End, More};
 ghost use Rattle.crs_text.specs.Written.{item_text};
