@@ -19,8 +19,7 @@ pub(crate) fn push_names(
     ensures { OnOk result (out.new.items ≡ out.old.items ++ names_of classes.now may_end) }
 {
     push_classes(alloc, classes, out)?;
-    push_end(alloc, may_end, out)?;
-    Ok(())
+    push_end(alloc, may_end, out)
 }
 
 // The end of the node, where it may end.
@@ -69,8 +68,7 @@ fn push_two(
     ensures { OnOk result (out.new.items ≡ out.old.items ++ first.now ∷ second.now ∷ []) }
 {
     push_name(alloc, first, out)?;
-    push_name(alloc, second, out)?;
-    Ok(())
+    push_name(alloc, second, out)
 }
 
 // A class that is none of these has a keyword.

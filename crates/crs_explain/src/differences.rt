@@ -30,9 +30,7 @@ pub fn differences_text<'a>(
     ensures { IfOk result (λ text. IsDifferencesText level a.now b.now text.items) }
 {
     let differences = difference_texts(alloc, a, b, level)?;
-    let mut lines = Vec::new(alloc);
-    append_lines(&differences, &mut lines)?;
-    Ok(lines)
+    lines_of(alloc, &differences)
 }
 
 /// The same lines in the order of some words: first those whose path has the first word, then those whose path has the
@@ -53,8 +51,7 @@ pub fn ordered_differences_text<'a>(
     let Some(differences) = ordered_texts(alloc, words, a, b, level)? else {
         return Ok(None);
     };
-    let mut lines = Vec::new(alloc);
-    append_lines(&differences, &mut lines)?;
+    let lines = lines_of(alloc, &differences)?;
     Ok(Some(lines))
 }
 
@@ -71,8 +68,22 @@ pub fn difference_pieces<'a>(
     ensures { IfOk result (AreDifferencePieces level a.now b.now) }
 {
     let differences = difference_texts(alloc, a, b, level)?;
+    pieces_of(alloc, &differences)
+}
+
+fn lines_of(alloc: Global, differences: &[DifferenceTexts]) -> Result<Vec<u8>, AllocError>
+    ensures { IfOk result (λ lines. lines.items ≡ flat_map difference_line differences.now) }
+{
+    let mut lines = Vec::new(alloc);
+    append_lines(differences, &mut lines)?;
+    Ok(lines)
+}
+
+fn pieces_of(alloc: Global, differences: &[DifferenceTexts]) -> Result<Pieces, AllocError>
+    ensures { IfOk result (λ pieces. pieces ≡ flat_map part_pieces differences.now) }
+{
     let mut pieces = Pieces::new(alloc);
-    append_pieces(&differences, &mut pieces)?;
+    append_pieces(differences, &mut pieces)?;
     Ok(pieces)
 }
 
@@ -93,8 +104,7 @@ fn append_line(difference: &DifferenceTexts, out: &mut Vec<u8>) -> Result<(), Al
     append_value(&difference.first, out)?;
     out.extend_from_slice(b" | ")?;
     append_value(&difference.second, out)?;
-    out.extend_from_slice(b"\n")?;
-    Ok(())
+    out.extend_from_slice(b"\n")
 }
 
 fn append_pieces(differences: &[DifferenceTexts], out: &mut Pieces) -> Result<(), AllocError>

@@ -28,8 +28,7 @@ pub(crate) fn excerpt(alloc: Global, text: &[u8], place: usize) -> Result<Vec<u8
     let position = position_of(text, shown);
     let left = before_place(between(text, position.begin, shown));
     let right = behind_place(between(text, shown, position.end));
-    let lines = lines_of(alloc, left, right)?;
-    Ok(lines)
+    lines_of(alloc, left, right)
 }
 
 fn between(text: &[u8], begin: usize, end: usize) -> &[u8]

@@ -31,10 +31,7 @@ pub(crate) fn expectation(
 {
     laws::one_answer();
     match read_items(alloc, text) {
-        Ok(items) => {
-            let found = in_items(alloc, text, &items, refusal)?;
-            Ok(found)
-        }
+        Ok(items) => in_items(alloc, text, &items, refusal),
         Err(Fault::Refused(_)) => Ok(None),
         Err(Fault::Memory(error)) => Err(error),
     }
@@ -51,8 +48,7 @@ fn in_items(
 {
     let (number, place) = (refusal.number(), refusal.place());
     if is_of_shape(number) {
-        let found = shape_expected(alloc, text, items, place)?;
-        Ok(found)
+        shape_expected(alloc, text, items, place)
     } else if number == UNKNOWN_WORD {
         let found = word_expected(alloc, text, items, place)?;
         Ok(Some(found))

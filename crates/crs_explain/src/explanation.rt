@@ -11,13 +11,24 @@ use std::alloc::{AllocError, Global};
 use std::marker::Model;
 
 /// What is explained of a refusal. Profile.
-#[derive(Drop)]
 pub(crate) struct ExplanationOf {
     pub(crate) position: Position,
     /// The piece of the line and the caret, a line each.
     pub(crate) excerpt: Vec<u8>,
     pub(crate) expected: Option<ExpectedTexts>,
     pub(crate) sentences: SentenceTexts,
+}
+
+// Hand-written: a derived drop is expanded wherever a value is dropped, which slows the proofs.
+impl Drop for ExplanationOf {
+    fn drop(self) {
+        let ExplanationOf {
+            position: _,
+            excerpt: _,
+            expected: _,
+            sentences: _,
+        } = self;
+    }
 }
 
 impl Model for ExplanationOf {

@@ -39,8 +39,7 @@ pub fn refusal_object(
     ensures { IfOk result (λ object. IsRefusalObject which.now text.now refusal object.items) }
 {
     let explanation = explanation(alloc, text, refusal)?;
-    let object = object_of(alloc, which, refusal, &explanation)?;
-    Ok(object)
+    object_of(alloc, which, refusal, &explanation)
 }
 
 /// An object of JSON and a line feed for each line of `differences_text`; None exactly where the CRSs are the same. It has
@@ -62,9 +61,16 @@ pub fn difference_objects<'a>(
     let Some(differences) = ordered_texts(alloc, words, a, b, level)? else {
         return Ok(None);
     };
-    let mut objects = Vec::new(alloc);
-    append_differences(&differences, &mut objects)?;
+    let objects = objects_of(alloc, &differences)?;
     Ok(Some(objects))
+}
+
+fn objects_of(alloc: Global, differences: &[DifferenceTexts]) -> Result<Vec<u8>, AllocError>
+    ensures { IfOk result (λ objects. objects.items ≡ flat_map difference_object differences.now) }
+{
+    let mut objects = Vec::new(alloc);
+    append_differences(differences, &mut objects)?;
+    Ok(objects)
 }
 
 fn append_differences(differences: &[DifferenceTexts], out: &mut Vec<u8>) -> Result<(), AllocError>

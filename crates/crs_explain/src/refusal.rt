@@ -22,8 +22,7 @@ pub fn refusal_text(alloc: Global, text: &[u8], refusal: Refusal) -> Result<Vec<
     ensures { IfOk result (λ told. IsExplained text.now refusal told.items) }
 {
     let explanation = explanation(alloc, text, refusal)?;
-    let told = text_of(alloc, refusal, &explanation)?;
-    Ok(told)
+    text_of(alloc, refusal, &explanation)
 }
 
 /// The explanation of a refusal as numbers and pieces. Profile.
@@ -63,8 +62,7 @@ pub fn refusal_pieces(
     ensures { IfOk result (AreExplainedPieces text.now refusal) }
 {
     let explanation = explanation(alloc, text, refusal)?;
-    let pieces = pieces_of(alloc, &explanation)?;
-    Ok(pieces)
+    pieces_of(alloc, &explanation)
 }
 
 fn text_of(
@@ -105,6 +103,5 @@ fn push_pieces(
     out.push(&explanation.excerpt)?;
     push_found(alloc, &explanation.expected, out)?;
     explanation.sentences.push(out)?;
-    push_expected(&explanation.expected, out)?;
-    Ok(())
+    push_expected(&explanation.expected, out)
 }

@@ -40,8 +40,7 @@ impl SentenceTexts {
     {
         append_line_if_any(&self.open_or_meant, out)?;
         append_line(&self.meaning, out)?;
-        append_line_if_any(&self.hints, out)?;
-        Ok(())
+        append_line_if_any(&self.hints, out)
     }
 
     /// Adds each of them to pieces.
@@ -51,8 +50,7 @@ impl SentenceTexts {
     {
         out.push(&self.open_or_meant)?;
         out.push(&self.meaning)?;
-        out.push(&self.hints)?;
-        Ok(())
+        out.push(&self.hints)
     }
 }
 
@@ -104,8 +102,7 @@ fn append_line(words: &[u8], out: &mut Vec<u8>) -> Result<(), AllocError>
     ensures { OnOk result (out.new.items ≡ out.old.items ++ (words.now ++ 10 ∷ [])) }
 {
     out.extend_from_slice(words)?;
-    out.extend_from_slice(b"\n")?;
-    Ok(())
+    out.extend_from_slice(b"\n")
 }
 
 // The words of a line: the first of these, with blanks for line feeds.

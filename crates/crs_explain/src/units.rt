@@ -15,10 +15,7 @@ use std::alloc::{AllocError, Global};
 /// where the text has no items.
 pub(crate) fn units(alloc: Global, text: &[u8], place: usize) -> Result<Vec<u8>, AllocError> {
     match read_items(alloc, text) {
-        Ok(items) => {
-            let told = units_of(alloc, &items, place)?;
-            Ok(told)
-        }
+        Ok(items) => units_of(alloc, &items, place),
         Err(Fault::Refused(_)) => Ok(Vec::new(alloc)),
         Err(Fault::Memory(error)) => Err(error),
     }
