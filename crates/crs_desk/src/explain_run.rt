@@ -1,7 +1,8 @@
 //! What a text spells or why it is refused, and all parts in which two texts differ, explained to a person or a program.
-ghost use Rattle.std.specs.Prelude.{◌≡◌, ◌<◌, ◌↔◌, ◌≤◌, ◌++◌, ◌∷◌, [], IfOk, IfErr, IsErrOf, MatchOption, length, true, false};
-ghost use Rattle.crs_value.specs.SpellsText.{Refuses};
+ghost use Rattle.std.specs.Prelude.{◌≡◌, ◌<◌, ◌↔◌, ◌≤◌, ◌++◌, ◌∷◌, [], IfOk, IfErr, IsErrOf, MatchOption, MatchResult, length, true, false};
+ghost use Rattle.crs_value.specs.SpellsText.{IsFaultOfText, Refuses, SpellsKind};
 ghost use Rattle.crs_runs.specs.Ending.{IsAnswered, IsRunFault, IsWritten, IsWriteFault};
+ghost use Rattle.crs_runs.specs.Output.{IsLine};
 ghost use Rattle.crs_desk.specs.ExplainOutput.{AreDifferencesTold, IsExplainOutput, IsExplainPairOutput};
 ghost use Rattle.crs_desk.specs.ExplainOutput.{IsRefusalTold, TellsRefusalOf, TellsWhetherSame, kind_told, same_told};
 ghost use Rattle.crs_desk.specs.declared.manner.Manner.TheVariants as manner;
@@ -15,8 +16,8 @@ use crs_explain::{
 use crs_runs::{
     Answer, Telling, accepted_line, kind_word, pair_output, read_text, refusal_in, write_answer,
 };
-use crs_text::Refusal;
-use crs_value::{Crs, Kind, laws, read};
+use crs_text::{Fault, Refusal, read_items};
+use crs_value::{Crs, Kind, kind_of, laws};
 use std::alloc::{AllocError, Global};
 use std::io::{Read, Write};
 
@@ -109,23 +110,52 @@ impl Answer for TextAnswer<'_> {
     }
 }
 
-pub(crate) fn text_output<'t>(
+pub(crate) fn text_output(
     alloc: Global,
     how: Manner,
-    text: &'t [u8],
+    text: &[u8],
 ) -> Result<(Vec<u8>, u8), AllocError>
     ensures { IfOk result (λ output. IsExplainOutput how text.now output.0.items output.1) }
 {
-    match read(alloc, text) {
-        Ok(crs) => {
-            let line = kind_line(alloc, how, crs.kind())?;
-            Ok((line, 0))
-        }
-        Err(fault) => {
-            let told = explained(alloc, how, b"", text, refusal_in(fault)?)?;
-            Ok((told, 1))
-        }
+    match kind_of_text(alloc, text) {
+        Ok(kind) => kind_output(alloc, how, kind),
+        Err(fault) => fault_output(alloc, how, text, fault),
     }
+}
+
+// The kind of the CRS that a text spells.
+fn kind_of_text(alloc: Global, text: &[u8]) -> Result<Kind, Fault>
+    ensures { MatchResult result (SpellsKind text.now) (IsFaultOfText text.now) }
+{
+    match read_items(alloc, text) {
+        Ok(items) => match kind_of(&items) {
+            Ok(kind) => Ok(kind),
+            Err(refusal) => Err(Fault::Refused(refusal)),
+        },
+        Err(fault) => Err(fault),
+    }
+}
+
+fn kind_output(alloc: Global, how: Manner, kind: Kind) -> Result<(Vec<u8>, u8), AllocError>
+    ensures { IfOk result (λ output. IsLine (kind_told how kind) 0 output.0.items output.1) }
+{
+    let line = kind_line(alloc, how, kind)?;
+    Ok((line, 0))
+}
+
+// What is written for the refusal in a fault of a text.
+fn fault_output(
+    alloc: Global,
+    how: Manner,
+    text: &[u8],
+    fault: Fault,
+) -> Result<(Vec<u8>, u8), AllocError>
+    requires { IsFaultOfText text.now fault }
+    ensures { IfOk result (λ output. TellsRefusalOf how [] text.now output.0.items output.1) }
+{
+    let refusal = refusal_in(fault)?;
+    let told = explained(alloc, how, b"", text, refusal)?;
+    Ok((told, 1))
 }
 
 fn kind_line(alloc: Global, how: Manner, kind: Kind) -> Result<Vec<u8>, AllocError>
