@@ -318,7 +318,7 @@ fn differences_told<'t>(
         (λ parts. (¬ SameCrs level a.now b.now) × AreDifferencesTold how words.now level a.now b.now parts.items)) }
 {
     match how {
-        Manner::Lines => ordered_differences_text(alloc, words, a, b, level),
-        Manner::Objects => difference_objects(alloc, words, a, b, level),
+        Manner::Lines => ordered_differences_text(alloc, a, b, level, words),
+        Manner::Objects => difference_objects(alloc, a, b, level, words),
     }
 }

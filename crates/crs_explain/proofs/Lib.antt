@@ -6,5 +6,6 @@ pub mod ListedLemmas
 pub mod PartLemmas
 pub mod DifferingLemmas
 pub mod OrderLemmas
+pub mod SameLemmas
 pub mod ToldLemmas
 pub mod TurnedLemmas

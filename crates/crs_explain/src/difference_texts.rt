@@ -1,5 +1,6 @@
 //! All parts in which two CRSs differ, each as three texts.
-ghost use Rattle.std.specs.Prelude.{IfOk, MatchOption, OnOk};
+ghost use Rattle.std.specs.Prelude.{◌↔◌, IfOk, IsTrue, MatchOption, OnOk};
+ghost use Rattle.crs_same.specs.PartsOfCrs.{DifferencesInCrs};
 ghost use Rattle.crs_same.specs.Paths.{path_text};
 ghost use Rattle.crs_same.specs.SameCrs.{SameCrs};
 ghost use Rattle.crs_canon.specs.ContentText.{IsContentText};
@@ -11,7 +12,8 @@ ghost use Rattle.crs_explain.specs.InOrder.{AreOrderedTexts};
 use crate::order::{StepWord, put_in_order};
 use crate::set_texts::append_set;
 use crs_canon::write_content;
-use crs_same::{Content, Difference, Differences, differences, same};
+use crs_same::{Content, Difference, Differences, differences, laws};
+use crs_value::laws::crs_is_sound;
 use crs_value::{Crs, Level};
 use std::alloc::{AllocError, Global};
 use std::marker::Model;
@@ -66,23 +68,52 @@ fn all_texts(
     texts_of(alloc, level, differences.as_slice())
 }
 
-/// The same, in the order of some words; None exactly where the CRSs are the same.
+/// The same, in the order of some words; None exactly where the CRSs are the same. The CRSs come first: what is called with
+/// a CRS behind another reference is slow to prove.
 pub(crate) fn ordered_texts<'a>(
     alloc: Global,
-    words: &[StepWord],
     a: &Crs<'a>,
     b: &Crs<'a>,
     level: Level,
+    words: &[StepWord],
 ) -> Result<Option<Vec<DifferenceTexts>>, AllocError>
     ensures { IfOk result (λ found. MatchOption found (SameCrs level a.now b.now)
         (λ texts. (¬ SameCrs level a.now b.now) × AreOrderedTexts words.now level a.now b.now texts.items)) }
 {
-    if same(a, b, level) {
+    texts_in_order(alloc, a, b, level, differences(alloc, a, b, level)?, words)
+}
+
+// The texts of the differences of two CRSs, which it owns, in the order of some words; None where there are none.
+fn texts_in_order<'a>(
+    alloc: Global,
+    a: &Crs<'a>,
+    b: &Crs<'a>,
+    level: Level,
+    differences: Differences<'_, 'a>,
+    words: &[StepWord],
+) -> Result<Option<Vec<DifferenceTexts>>, AllocError>
+    requires { DifferencesInCrs level a.now b.now differences }
+    ensures { IfOk result (λ found. MatchOption found (SameCrs level a.now b.now)
+        (λ texts. (¬ SameCrs level a.now b.now) × AreOrderedTexts words.now level a.now b.now texts.items)) }
+{
+    if are_none(a, b, level, differences.as_slice()) {
         return Ok(None);
     }
-    let mut texts = difference_texts(alloc, a, b, level)?;
+    let mut texts = texts_of(alloc, level, differences.as_slice())?;
     put_in_order(words, &mut texts)?;
     Ok(Some(texts))
+}
+
+// Whether these are no differences of two CRSs: exactly where the CRSs are the same.
+fn are_none<'a>(a: &Crs<'a>, b: &Crs<'a>, level: Level, differences: &[Difference<'_, '_>]) -> bool
+    requires { DifferencesInCrs level a.now b.now differences.now }
+    ensures { IsTrue result ↔ SameCrs level a.now b.now }
+{
+    laws::first_difference_is_first_part();
+    laws::no_part_differs_where_same();
+    crs_is_sound(a);
+    crs_is_sound(b);
+    differences.is_empty()
 }
 
 fn texts_of(

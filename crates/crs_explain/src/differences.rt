@@ -40,15 +40,15 @@ pub fn differences_text<'a>(
 /// `AllocError`: there is no memory for it.
 pub fn ordered_differences_text<'a>(
     alloc: Global,
-    words: &[StepWord],
     a: &Crs<'a>,
     b: &Crs<'a>,
     level: Level,
+    words: &[StepWord],
 ) -> Result<Option<Vec<u8>>, AllocError>
     ensures { IfOk result (λ told. MatchOption told (SameCrs level a.now b.now)
         (λ text. (¬ SameCrs level a.now b.now) × IsOrderedText words.now level a.now b.now text.items)) }
 {
-    let Some(differences) = ordered_texts(alloc, words, a, b, level)? else {
+    let Some(differences) = ordered_texts(alloc, a, b, level, words)? else {
         return Ok(None);
     };
     let lines = lines_of(alloc, &differences)?;

@@ -50,15 +50,15 @@ pub fn refusal_object(
 /// `AllocError`: there is no memory for it.
 pub fn difference_objects<'a>(
     alloc: Global,
-    words: &[StepWord],
     a: &Crs<'a>,
     b: &Crs<'a>,
     level: Level,
+    words: &[StepWord],
 ) -> Result<Option<Vec<u8>>, AllocError>
     ensures { IfOk result (λ told. MatchOption told (SameCrs level a.now b.now)
         (λ text. (¬ SameCrs level a.now b.now) × AreOrderedObjects words.now level a.now b.now text.items)) }
 {
-    let Some(differences) = ordered_texts(alloc, words, a, b, level)? else {
+    let Some(differences) = ordered_texts(alloc, a, b, level, words)? else {
         return Ok(None);
     };
     let objects = objects_of(alloc, &differences)?;
