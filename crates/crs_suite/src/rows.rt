@@ -35,6 +35,12 @@ impl Tally {
             self.differ = self.differ.saturating_add(1);
         }
     }
+
+    fn print(self, rt: &impl Print, name: &str) -> io::Result<()> {
+        let rows = self.rows;
+        let differ = self.differ;
+        println!(rt; "{name}: {rows} rows, {differ} differ")
+    }
 }
 
 #[derive(Drop)]
@@ -69,23 +75,23 @@ pub fn run_files<C: Calls>(
     calls: &C,
 ) -> io::Result<()> {
     for name in names {
-        let path = format!(in rt.alloc(); "{name}.rows")?;
-        let text = fs::read_to_string(rt, path.as_str())?;
-        run_rows(rt, name, text.as_str(), calls)?;
+        run_file(rt, name, calls)?;
     }
     Ok(())
 }
 
-fn run_rows<C: Calls>(
-    rt: &(impl Print + AllocGlobal),
+fn run_file<C: Calls>(
+    rt: &(impl Files + Print + AllocGlobal),
     name: &str,
-    text: &str,
     calls: &C,
 ) -> io::Result<()> {
-    let tally = tally_of(rt, name, text, calls)?;
-    let rows = tally.rows;
-    let differ = tally.differ;
-    println!(rt; "{name}: {rows} rows, {differ} differ")
+    let text = read_file(rt, name)?;
+    tally_of(rt, name, text.as_str(), calls)?.print(rt, name)
+}
+
+fn read_file(rt: &(impl Files + AllocGlobal), name: &str) -> io::Result<String> {
+    let path = format!(in rt.alloc(); "{name}.rows")?;
+    fs::read_to_string(rt, path.as_str())
 }
 
 fn tally_of<C: Calls>(
@@ -116,35 +122,34 @@ fn run_line<'t, C: Calls>(
 ) -> io::Result<Option<bool>> {
     match row.read_line(line)? {
         Step::Part => Ok(None),
-        Step::Expect(answer) => Ok(Some(agrees(rt, row, calls, answer, place)?)),
-        Step::Unknown => {
-            place.print(rt, "no line of a row")?;
-            Ok(Some(false))
-        }
+        Step::Expect(answer) => judge(rt, row, calls, answer, place),
+        Step::Unknown => place.differs(rt, "no line of a row"),
     }
 }
 
-fn agrees<C: Calls>(
+fn judge<C: Calls>(
     rt: &(impl Print + AllocGlobal),
     row: &Row<'_>,
     calls: &C,
     answer: &str,
     place: Place<'_>,
-) -> io::Result<bool> {
+) -> io::Result<Option<bool>> {
     let mut came = String::new(rt.alloc());
     row.put_answer(&mut came, rt.alloc(), calls)?;
     if came.as_str() == answer {
-        return Ok(true);
+        Ok(Some(true))
+    } else {
+        place.differs(rt, came.as_str())
     }
-    place.print(rt, came.as_str())?;
-    Ok(false)
 }
 
 impl Place<'_> {
-    fn print(self, rt: &impl Print, came: &str) -> io::Result<()> {
+    // Prints what came in place of the answer.
+    fn differs(self, rt: &impl Print, came: &str) -> io::Result<Option<bool>> {
         let name = self.name;
         let number = self.number;
-        println!(rt; "{name}.rows, line {number}: {came}")
+        println!(rt; "{name}.rows, line {number}: {came}")?;
+        Ok(Some(false))
     }
 }
 
