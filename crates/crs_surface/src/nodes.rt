@@ -1,4 +1,6 @@
 //! Nodes that are compared and written by themselves: in a canonical text each is written as it stands.
+mod found;
+mod items;
 mod walks;
 
 use crate::tally::Tally;
@@ -8,66 +10,53 @@ use crate::written::Written;
 use crs_canon::Canonical;
 use crs_suite::{AboutCrs, about_crs};
 use crs_value::{Crs, Level};
+use found::Found;
+use items::{COMPOUND, DYNAMIC, ENSEMBLE, EXTENT, POLAR, PROJECTED};
 use std::alloc::{AllocError, Global};
 
-// Canonical texts that have all kinds of node.
-const TEXTS: [&str; 6] = [
-    "projected",
-    "polar",
-    "ensemble",
-    "compound",
-    "dynamic",
-    "extent",
-];
-
+/// Checks the nodes of canonical texts, which have all kinds of node.
 pub fn check(alloc: Global, tally: &mut Tally, texts: Texts<'_>) {
-    for name in TEXTS {
-        check_text(alloc, tally, name, texts.named(name));
-    }
+    check_text(alloc, tally, texts, "projected", &PROJECTED);
+    check_text(alloc, tally, texts, "polar", &POLAR);
+    check_text(alloc, tally, texts, "ensemble", &ENSEMBLE);
+    check_text(alloc, tally, texts, "compound", &COMPOUND);
+    check_text(alloc, tally, texts, "dynamic", &DYNAMIC);
+    check_text(alloc, tally, texts, "extent", &EXTENT);
 }
 
-fn check_text(alloc: Global, tally: &mut Tally, name: &str, text: &[u8]) {
+fn check_text(alloc: Global, tally: &mut Tally, texts: Texts<'_>, name: &str, items: &[&str]) {
     let nodes = Nodes {
-        tally: &mut *tally,
         is_polar: name == "polar",
     };
-    if about_crs(alloc, text, nodes).is_err() {
-        tally.count("crs_canon::Canonical", false);
+    match about_crs(alloc, texts.named(name), nodes) {
+        Ok(found) => found.count(tally, items),
+        Err(_fault) => tally.count("crs_canon::Canonical", false),
     }
 }
 
 // The nodes of a CRS, in the polar text or in another one.
-#[derive(Drop)]
-struct Nodes<'t> {
-    tally: &'t mut Tally,
+#[derive(Clone, Copy)]
+struct Nodes {
     is_polar: bool,
 }
 
-impl AboutCrs for Nodes<'_> {
-    type Answer = ();
+impl AboutCrs for Nodes {
+    type Answer = Found;
 
-    fn answer(self, alloc: Global, crs: &Crs<'_>) {
-        let tally = self.tally;
-        tally.count("crs_canon::Canonical for Crs", is_own(alloc, crs));
-        walk_crs(tally, self.is_polar, crs);
+    fn answer(self, alloc: Global, crs: &Crs<'_>) -> Found {
+        walk_crs(Found::of(is_own(alloc, crs)), alloc, self.is_polar, crs)
     }
 }
 
-// Checks the nodes of a text that no text before it has.
-fn walk_crs(tally: &mut Tally, is_polar: bool, crs: &Crs<'_>) {
+// Looks at the nodes of a text that no text before it has.
+fn walk_crs(found: Found, alloc: Global, is_polar: bool, crs: &Crs<'_>) -> Found {
     match crs {
-        Crs::Projected(crs) if is_polar => walks::walk_polar(tally, crs),
-        Crs::Projected(crs) => walks::walk_projected(tally, crs),
-        Crs::Geodetic(crs) => walks::walk_geodetic(tally, crs),
-        Crs::Compound(crs) => walks::walk_compound(tally, crs),
-        Crs::Vertical(crs) => walks::walk_vertical(tally, crs),
+        Crs::Projected(crs) if is_polar => walks::walk_polar(found, alloc, crs),
+        Crs::Projected(crs) => walks::walk_projected(found, alloc, crs),
+        Crs::Geodetic(crs) => walks::walk_geodetic(found, alloc, crs),
+        Crs::Compound(crs) => walks::walk_compound(found, alloc, crs),
+        Crs::Vertical(crs) => walks::walk_vertical(found, alloc, crs),
     }
-}
-
-// Counts what a node's type implements.
-fn check_node<T: Canonical + Written>(tally: &mut Tally, type_name: &str, node: &T) {
-    let agrees = is_own(tally.alloc(), node);
-    tally.count(type_name, agrees);
 }
 
 // Whether a node is the same as itself, and its spelling is how it stands.

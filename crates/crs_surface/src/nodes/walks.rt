@@ -1,6 +1,6 @@
 //! From a CRS to the nodes in it.
-use super::check_node;
-use crate::tally::Tally;
+use super::found::Found;
+use super::is_own;
 use crs_same::parts::{
     same_axis, same_axis_meridian, same_base, same_box, same_compound, same_conversion, same_datum,
     same_deformation_model, same_dynamic, same_ellipsoid, same_ensemble, same_extent, same_frame,
@@ -11,235 +11,183 @@ use crs_value::{
     Axis, Base, Compound, Conversion, Datum, Dynamic, Ensemble, Frame, Geodetic, Horizontal, Level,
     Method, Parameter, Projected, Usage, Vertical,
 };
+use std::alloc::Global;
 
-pub fn walk_projected(tally: &mut Tally, crs: &Projected<'_>) {
-    tally.count(
-        "crs_same::parts::same_projected",
-        same_projected(crs, crs, Level::Full),
-    );
-    check_node(tally, "crs_canon::Canonical for Projected", crs);
-    walk_base(tally, &crs.base);
-    walk_conversion(tally, &crs.conversion);
+pub fn walk_projected(found: Found, alloc: Global, crs: &Projected<'_>) -> Found {
+    let found = found.node(same_projected(crs, crs, Level::Full), is_own(alloc, crs));
+    let found = walk_base(found, alloc, &crs.base);
+    walk_conversion(found, alloc, &crs.conversion)
 }
 
-fn walk_base(tally: &mut Tally, base: &Base<'_>) {
-    tally.count(
-        "crs_same::parts::same_base",
-        same_base(base, base, Level::Full),
-    );
-    check_node(tally, "crs_canon::Canonical for Base", base);
-    if let Some(meridian) = &base.meridian {
-        tally.count(
-            "crs_same::parts::same_meridian",
+fn walk_base(found: Found, alloc: Global, base: &Base<'_>) -> Found {
+    let found = found.node(same_base(base, base, Level::Full), is_own(alloc, base));
+    let found = match &base.meridian {
+        Some(meridian) => found.node(
             same_meridian(meridian, meridian, Level::Full),
-        );
-        check_node(tally, "crs_canon::Canonical for Meridian", meridian);
-    }
-    walk_frame(tally, &base.frame);
+            is_own(alloc, meridian),
+        ),
+        None => found,
+    };
+    walk_frame(found, alloc, &base.frame)
 }
 
-fn walk_frame(tally: &mut Tally, frame: &Frame<'_>) {
-    tally.count(
-        "crs_same::parts::same_frame",
-        same_frame(frame, frame, Level::Full),
-    );
-    check_node(tally, "crs_canon::Canonical for Frame", frame);
+fn walk_frame(found: Found, alloc: Global, frame: &Frame<'_>) -> Found {
+    let found = found.node(same_frame(frame, frame, Level::Full), is_own(alloc, frame));
     match frame {
-        Frame::Datum(datum) => walk_datum(tally, datum),
-        Frame::Ensemble(_) => {}
+        Frame::Datum(datum) => walk_datum(found, alloc, datum),
+        Frame::Ensemble(_) => found,
     }
 }
 
-fn walk_datum(tally: &mut Tally, datum: &Datum<'_>) {
-    tally.count(
-        "crs_same::parts::same_datum",
-        same_datum(datum, datum, Level::Full),
-    );
-    check_node(tally, "crs_canon::Canonical for Datum", datum);
-    if let Some(ellipsoid) = &datum.ellipsoid {
-        tally.count(
-            "crs_same::parts::same_ellipsoid",
+fn walk_datum(found: Found, alloc: Global, datum: &Datum<'_>) -> Found {
+    let found = found.node(same_datum(datum, datum, Level::Full), is_own(alloc, datum));
+    match &datum.ellipsoid {
+        Some(ellipsoid) => found.node(
             same_ellipsoid(ellipsoid, ellipsoid, Level::Full),
-        );
-        check_node(tally, "crs_canon::Canonical for Ellipsoid", ellipsoid);
+            is_own(alloc, ellipsoid),
+        ),
+        None => found,
     }
 }
 
-fn walk_conversion(tally: &mut Tally, conversion: &Conversion<'_>) {
-    tally.count(
-        "crs_same::parts::same_conversion",
+fn walk_conversion(found: Found, alloc: Global, conversion: &Conversion<'_>) -> Found {
+    let found = found.node(
         same_conversion(conversion, conversion, Level::Full),
+        is_own(alloc, conversion),
     );
-    check_node(tally, "crs_canon::Canonical for Conversion", conversion);
-    walk_method(tally, &conversion.method);
-    if let [parameter, ..] = conversion.parameters.as_slice() {
-        walk_parameter(tally, parameter);
+    let found = walk_method(found, alloc, &conversion.method);
+    match conversion.parameters.as_slice() {
+        [parameter, ..] => walk_parameter(found, alloc, parameter),
+        [] => found,
     }
 }
 
-fn walk_method(tally: &mut Tally, method: &Method<'_>) {
-    tally.count(
-        "crs_same::parts::same_method",
+fn walk_method(found: Found, alloc: Global, method: &Method<'_>) -> Found {
+    let found = found.node(
         same_method(method, method, Level::Full),
+        is_own(alloc, method),
     );
-    check_node(tally, "crs_canon::Canonical for Method", method);
-    if let [ident, ..] = method.identifiers.as_slice() {
-        tally.count(
-            "crs_same::parts::same_ident",
-            same_ident(ident, ident, Level::Full),
-        );
-        check_node(tally, "crs_canon::Canonical for Ident", ident);
+    match method.identifiers.as_slice() {
+        [ident, ..] => found.node(same_ident(ident, ident, Level::Full), is_own(alloc, ident)),
+        [] => found,
     }
 }
 
-fn walk_parameter(tally: &mut Tally, parameter: &Parameter<'_>) {
-    tally.count(
-        "crs_same::parts::same_parameter",
+fn walk_parameter(found: Found, alloc: Global, parameter: &Parameter<'_>) -> Found {
+    let found = found.node(
         same_parameter(parameter, parameter, Level::Full),
+        is_own(alloc, parameter),
     );
-    check_node(tally, "crs_canon::Canonical for Parameter", parameter);
-    if let Some(unit) = &parameter.unit {
-        tally.count(
-            "crs_same::parts::same_unit",
-            same_unit(unit, unit, Level::Full),
-        );
-        check_node(tally, "crs_canon::Canonical for Unit", unit);
+    match &parameter.unit {
+        Some(unit) => found.node(same_unit(unit, unit, Level::Full), is_own(alloc, unit)),
+        None => found,
     }
 }
 
-pub fn walk_polar(tally: &mut Tally, crs: &Projected<'_>) {
-    if let [axis, ..] = crs.system.axes.as_slice() {
-        walk_axis(tally, axis);
+pub fn walk_polar(found: Found, alloc: Global, crs: &Projected<'_>) -> Found {
+    match crs.system.axes.as_slice() {
+        [axis, ..] => walk_axis(found, alloc, axis),
+        [] => found,
     }
 }
 
-fn walk_axis(tally: &mut Tally, axis: &Axis<'_>) {
-    tally.count(
-        "crs_same::parts::same_axis",
-        same_axis(axis, axis, Level::Full),
-    );
-    check_node(tally, "crs_canon::Canonical for Axis", axis);
-    if let Some(meridian) = &axis.meridian {
-        tally.count(
-            "crs_same::parts::same_axis_meridian",
+fn walk_axis(found: Found, alloc: Global, axis: &Axis<'_>) -> Found {
+    let found = found.node(same_axis(axis, axis, Level::Full), is_own(alloc, axis));
+    match &axis.meridian {
+        Some(meridian) => found.node(
             same_axis_meridian(meridian, meridian, Level::Full),
-        );
-        check_node(tally, "crs_canon::Canonical for AxisMeridian", meridian);
+            is_own(alloc, meridian),
+        ),
+        None => found,
     }
 }
 
-pub fn walk_geodetic(tally: &mut Tally, crs: &Geodetic<'_>) {
-    tally.count(
-        "crs_same::parts::same_geodetic",
-        same_geodetic(crs, crs, Level::Full),
-    );
-    check_node(tally, "crs_canon::Canonical for Geodetic", crs);
-    if let [usage, ..] = crs.tail.usages.as_slice() {
-        walk_usage(tally, usage);
-    }
-    walk_frame_of_members(tally, &crs.frame);
-}
-
-fn walk_usage(tally: &mut Tally, usage: &Usage<'_>) {
-    tally.count(
-        "crs_same::parts::same_usage",
-        same_usage(usage, usage, Level::Full),
-    );
-    check_node(tally, "crs_canon::Canonical for Usage", usage);
-    if let Some(bbox) = &usage.bbox {
-        tally.count(
-            "crs_same::parts::same_box",
-            same_box(bbox, bbox, Level::Full),
-        );
-        check_node(tally, "crs_canon::Canonical for BoundingBox", bbox);
+pub fn walk_geodetic(found: Found, alloc: Global, crs: &Geodetic<'_>) -> Found {
+    let found = found.node(same_geodetic(crs, crs, Level::Full), is_own(alloc, crs));
+    let found = match crs.tail.usages.as_slice() {
+        [usage, ..] => walk_usage(found, alloc, usage),
+        [] => found,
+    };
+    match &crs.frame {
+        Frame::Datum(_) => found,
+        Frame::Ensemble(ensemble) => walk_ensemble(found, alloc, ensemble),
     }
 }
 
-fn walk_frame_of_members(tally: &mut Tally, frame: &Frame<'_>) {
-    match frame {
-        Frame::Datum(_) => {}
-        Frame::Ensemble(ensemble) => walk_ensemble(tally, ensemble),
+fn walk_usage(found: Found, alloc: Global, usage: &Usage<'_>) -> Found {
+    let found = found.node(same_usage(usage, usage, Level::Full), is_own(alloc, usage));
+    match &usage.bbox {
+        Some(bbox) => found.node(same_box(bbox, bbox, Level::Full), is_own(alloc, bbox)),
+        None => found,
     }
 }
 
-fn walk_ensemble(tally: &mut Tally, ensemble: &Ensemble<'_>) {
-    tally.count(
-        "crs_same::parts::same_ensemble",
+fn walk_ensemble(found: Found, alloc: Global, ensemble: &Ensemble<'_>) -> Found {
+    let found = found.node(
         same_ensemble(ensemble, ensemble, Level::Full),
+        is_own(alloc, ensemble),
     );
-    check_node(tally, "crs_canon::Canonical for Ensemble", ensemble);
-    if let [member, ..] = ensemble.members.as_slice() {
-        tally.count(
-            "crs_same::parts::same_member",
+    match ensemble.members.as_slice() {
+        [member, ..] => found.node(
             same_member(member, member, Level::Full),
-        );
-        check_node(tally, "crs_canon::Canonical for Member", member);
+            is_own(alloc, member),
+        ),
+        [] => found,
     }
 }
 
-pub fn walk_compound(tally: &mut Tally, crs: &Compound<'_>) {
-    tally.count(
-        "crs_same::parts::same_compound",
-        same_compound(crs, crs, Level::Full),
-    );
-    check_node(tally, "crs_canon::Canonical for Compound", crs);
-    walk_horizontal(tally, &crs.horizontal);
-    walk_height(tally, &crs.vertical);
+pub fn walk_compound(found: Found, alloc: Global, crs: &Compound<'_>) -> Found {
+    let found = found.node(same_compound(crs, crs, Level::Full), is_own(alloc, crs));
+    let found = walk_horizontal(found, alloc, &crs.horizontal);
+    walk_height(found, alloc, &crs.vertical)
 }
 
-fn walk_horizontal(tally: &mut Tally, crs: &Horizontal<'_>) {
-    tally.count(
-        "crs_same::parts::same_horizontal",
-        same_horizontal(crs, crs, Level::Full),
-    );
-    check_node(tally, "crs_canon::Canonical for Horizontal", crs);
+fn walk_horizontal(found: Found, alloc: Global, crs: &Horizontal<'_>) -> Found {
+    found.node(same_horizontal(crs, crs, Level::Full), is_own(alloc, crs))
 }
 
-fn walk_height(tally: &mut Tally, crs: &Vertical<'_>) {
-    tally.count(
-        "crs_same::parts::same_vertical",
-        same_vertical(crs, crs, Level::Full),
-    );
-    check_node(tally, "crs_canon::Canonical for Vertical", crs);
-    if let [model, ..] = crs.geoid_models.as_slice() {
-        tally.count(
-            "crs_same::parts::same_geoid_model",
+fn walk_height(found: Found, alloc: Global, crs: &Vertical<'_>) -> Found {
+    let found = found.node(same_vertical(crs, crs, Level::Full), is_own(alloc, crs));
+    match crs.geoid_models.as_slice() {
+        [model, ..] => found.node(
             same_geoid_model(model, model, Level::Full),
-        );
-        check_node(tally, "crs_canon::Canonical for GeoidModel", model);
+            is_own(alloc, model),
+        ),
+        [] => found,
     }
 }
 
-pub fn walk_vertical(tally: &mut Tally, crs: &Vertical<'_>) {
-    if let Some(dynamic) = &crs.dynamic {
-        walk_dynamic(tally, dynamic);
-    }
-    if let [usage, ..] = crs.tail.usages.as_slice() {
-        walk_extent(tally, usage);
+pub fn walk_vertical(found: Found, alloc: Global, crs: &Vertical<'_>) -> Found {
+    let found = match &crs.dynamic {
+        Some(dynamic) => walk_dynamic(found, alloc, dynamic),
+        None => found,
+    };
+    match crs.tail.usages.as_slice() {
+        [usage, ..] => walk_extent(found, alloc, usage),
+        [] => found,
     }
 }
 
-fn walk_dynamic(tally: &mut Tally, dynamic: &Dynamic<'_>) {
-    tally.count(
-        "crs_same::parts::same_dynamic",
+fn walk_dynamic(found: Found, alloc: Global, dynamic: &Dynamic<'_>) -> Found {
+    let found = found.node(
         same_dynamic(dynamic, dynamic, Level::Full),
+        is_own(alloc, dynamic),
     );
-    check_node(tally, "crs_canon::Canonical for Dynamic", dynamic);
-    if let Some(model) = &dynamic.model {
-        tally.count(
-            "crs_same::parts::same_deformation_model",
+    match &dynamic.model {
+        Some(model) => found.node(
             same_deformation_model(model, model, Level::Full),
-        );
-        check_node(tally, "crs_canon::Canonical for DeformationModel", model);
+            is_own(alloc, model),
+        ),
+        None => found,
     }
 }
 
-fn walk_extent(tally: &mut Tally, usage: &Usage<'_>) {
-    if let Some(extent) = &usage.extent {
-        tally.count(
-            "crs_same::parts::same_extent",
+fn walk_extent(found: Found, alloc: Global, usage: &Usage<'_>) -> Found {
+    match &usage.extent {
+        Some(extent) => found.node(
             same_extent(extent, extent, Level::Full),
-        );
-        check_node(tally, "crs_canon::Canonical for Extent", extent);
+            is_own(alloc, extent),
+        ),
+        None => found,
     }
 }
