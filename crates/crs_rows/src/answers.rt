@@ -53,14 +53,21 @@ fn put_text_answer(
     call: &str,
     input: &[u8],
 ) -> Result<(), AllocError> {
+    match Column::named(call) {
+        Some(column) => texts::put_column(out, alloc, input, column),
+        None => put_shape_answer(out, alloc, level, call, input),
+    }
+}
+
+fn put_shape_answer(
+    out: &mut String,
+    alloc: Global,
+    level: Level,
+    call: &str,
+    input: &[u8],
+) -> Result<(), AllocError> {
     match call {
         "read_items" => texts::put_tree(out, alloc, input),
-        "places" => texts::put_column(out, alloc, input, Column::Place),
-        "closes" => texts::put_column(out, alloc, input, Column::Close),
-        "numbers" => texts::put_column(out, alloc, input, Column::Number),
-        "sizes" => texts::put_column(out, alloc, input, Column::Size),
-        "nexts" => texts::put_column(out, alloc, input, Column::Next),
-        "keywords" => texts::put_column(out, alloc, input, Column::Keyword),
         "prefixes" => texts::put_prefixes(out, alloc, input),
         "fit_root" => shapes::put_class(out, alloc, input),
         "fit" => shapes::put_fit(out, alloc, input),
@@ -83,20 +90,23 @@ fn put_value_answer(
         "read" => values::put_read(out, alloc, input),
         "value_of" => values::put_value_of(out, alloc, input),
         "first_axis" => values::put_axis(out, alloc, input),
-        "same" => put_comparison(out, alloc, level, Comparison::Same, input),
-        "differences" => put_comparison(out, alloc, level, Comparison::Differences, input),
-        "values" => put_comparison(out, alloc, level, Comparison::Values, input),
-        "same_axis" => put_comparison(out, alloc, level, Comparison::Axes, input),
         "canon" => canonical::put_canon(out, alloc, level, input),
         "Canon::same" => canonical::put_same(out, alloc, level, input),
         "levels" => levels::put_levels(out, alloc, input),
-        "Axis::write" => nodes::put_part(out, alloc, level, Part::Axis, input),
-        "Dynamic::write" => nodes::put_part(out, alloc, level, Part::Dynamic, input),
-        "DeformationModel::write" => nodes::put_part(out, alloc, level, Part::Model, input),
-        "Usage::write" => nodes::put_part(out, alloc, level, Part::Usage, input),
-        "Extent::write" => nodes::put_part(out, alloc, level, Part::Extent, input),
-        "Ident::write" => nodes::put_part(out, alloc, level, Part::Ident, input),
-        "Set::write" => nodes::put_part(out, alloc, level, Part::Idents, input),
-        _ => out.push_str("no such call"),
+        _ => put_compared_or_written(out, alloc, level, call, input),
+    }
+}
+
+fn put_compared_or_written(
+    out: &mut String,
+    alloc: Global,
+    level: Level,
+    call: &str,
+    input: &[u8],
+) -> Result<(), AllocError> {
+    match (Comparison::named(call), Part::named(call)) {
+        (Some(comparison), _) => put_comparison(out, alloc, level, comparison, input),
+        (None, Some(part)) => nodes::put_part(out, alloc, level, part, input),
+        (None, None) => out.push_str("no such call"),
     }
 }

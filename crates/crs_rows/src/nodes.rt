@@ -25,6 +25,20 @@ pub enum Part {
 }
 
 impl Part {
+    /// The part that a call of this name appends.
+    pub fn named(call: &str) -> Option<Part> {
+        match call {
+            "Axis::write" => Some(Part::Axis),
+            "Dynamic::write" => Some(Part::Dynamic),
+            "DeformationModel::write" => Some(Part::Model),
+            "Usage::write" => Some(Part::Usage),
+            "Extent::write" => Some(Part::Extent),
+            "Ident::write" => Some(Part::Ident),
+            "Set::write" => Some(Part::Idents),
+            _ => None,
+        }
+    }
+
     // What is said where there is no such part.
     fn absent(self) -> &'static str {
         match self {

@@ -1,122 +1,22 @@
 //! The calls that compare CRSs.
-use crate::texts::put_asked;
+use crate::texts::put_fault;
 use crs_canon::write_content;
 use crs_same::parts::same_axis;
-use crs_same::{Difference, Differences, Path, differences, first_part, same};
+use crs_same::{Content, Difference, Differences, Path, differences, first_part, same};
 use crs_suite::{AboutBoth, about_both, put_text, split_line};
+use crs_text::Fault;
 use crs_value::{Axis, Crs, Level};
 use std::alloc::{AllocError, Global};
 
-/// What is asked of two CRSs.
+/// What is asked of two CRSs, each in both orders.
 #[derive(Clone, Copy)]
 pub enum Comparison {
-    /// `same`, or `different` and the first part that differs; `one way` where the calls or the orders of the two
-    /// disagree.
+    /// `same`, or `different` and the first part that differs; `one way` where the two calls disagree.
     Same,
-    /// The paths to all parts in which they differ, with a semicolon between two; `none`, or `one way` where the orders
-    /// of the two disagree.
-    Differences,
-    /// All parts in which they differ, each as its path and its value in the first and in the second, with a semicolon
-    /// between two; else as `Differences`.
-    Values,
+    /// What is told of all parts in which they differ, with a semicolon between two; `none` where there are none.
+    Differences(Told),
     /// Whether the first axes of two vertical CRSs are the same by themselves; `no axes` for other ones.
     Axes,
-}
-
-/// What is asked of the CRSs of two texts, one a line, or the refusal of the first text that has one.
-pub fn put_comparison(
-    out: &mut String,
-    alloc: Global,
-    level: Level,
-    comparison: Comparison,
-    input: &[u8],
-) -> Result<(), AllocError> {
-    let (first, second) = split_line(input);
-    let question = Compared {
-        out: &mut *out,
-        comparison,
-        level,
-    };
-    let asked = about_both(alloc, first, second, question);
-    put_asked(out, asked)
-}
-
-#[derive(Drop)]
-struct Compared<'o> {
-    out: &'o mut String,
-    comparison: Comparison,
-    level: Level,
-}
-
-impl AboutBoth for Compared<'_> {
-    type Answer = Result<(), AllocError>;
-
-    fn answer<'t>(
-        self,
-        alloc: Global,
-        first: &Crs<'t>,
-        second: &Crs<'t>,
-    ) -> Result<(), AllocError> {
-        let Compared {
-            out,
-            comparison,
-            level,
-        } = self;
-        match comparison {
-            Comparison::Same => put_same(out, alloc, level, first, second),
-            Comparison::Axes => out.push_str(axes_of(first, second, level)),
-            Comparison::Differences => {
-                put_differences(out, alloc, level, Told::Paths, first, second)
-            }
-            Comparison::Values => put_differences(out, alloc, level, Told::Values, first, second),
-        }
-    }
-}
-
-fn put_same<'a>(
-    out: &mut String,
-    alloc: Global,
-    level: Level,
-    first: &Crs<'a>,
-    second: &Crs<'a>,
-) -> Result<(), AllocError> {
-    let are_same = (same(first, second, level), same(second, first, level));
-    put_first_part(
-        out,
-        alloc,
-        are_same,
-        first_part(first, second, level),
-        first_part(second, first, level),
-    )
-}
-
-// Whether two CRSs are the same, and the first part that differs, each in both orders.
-fn put_first_part(
-    out: &mut String,
-    alloc: Global,
-    are_same: (bool, bool),
-    forth: Option<Path>,
-    back: Option<Path>,
-) -> Result<(), AllocError> {
-    match (are_same, &forth, &back) {
-        ((true, true), None, None) => out.push_str("same"),
-        ((false, false), Some(x), Some(y)) => put_agreed(out, alloc, x, y),
-        _ => out.push_str("one way"),
-    }
-}
-
-fn put_agreed(out: &mut String, alloc: Global, x: &Path, y: &Path) -> Result<(), AllocError> {
-    if x.steps() != y.steps() {
-        return out.push_str("one way");
-    }
-    put_path(out, alloc, x)
-}
-
-fn put_path(out: &mut String, alloc: Global, path: &Path) -> Result<(), AllocError> {
-    let mut words = Vec::new(alloc);
-    path.write(&mut words)?;
-    out.push_str("different ")?;
-    put_text(out, &words)
 }
 
 /// What is told of parts that differ.
@@ -130,28 +30,128 @@ pub enum Told {
     TurnedValues,
 }
 
-impl Told {
-    // The same of the two CRSs in the other order.
-    fn turned(self) -> Told {
+impl Comparison {
+    /// The comparison that a call of this name makes.
+    pub fn named(call: &str) -> Option<Comparison> {
+        match call {
+            "same" => Some(Comparison::Same),
+            "differences" => Some(Comparison::Differences(Told::Paths)),
+            "values" => Some(Comparison::Differences(Told::Values)),
+            "same_axis" => Some(Comparison::Axes),
+            _ => None,
+        }
+    }
+
+    // What has the same answer for two CRSs in the other order.
+    fn turned(self) -> Comparison {
         match self {
-            Told::Paths => Told::Paths,
-            Told::Values => Told::TurnedValues,
-            Told::TurnedValues => Told::Values,
+            Comparison::Differences(Told::Values) => Comparison::Differences(Told::TurnedValues),
+            _ => self,
         }
     }
 }
 
-fn put_differences<'a>(
+/// What is asked of the CRSs of two texts, one a line, or the refusal of the first text that has one; `one way` where the
+/// orders of the two disagree.
+pub fn put_comparison(
     out: &mut String,
     alloc: Global,
     level: Level,
-    told: Told,
-    first: &Crs<'a>,
-    second: &Crs<'a>,
+    comparison: Comparison,
+    input: &[u8],
 ) -> Result<(), AllocError> {
-    let forth = differing(alloc, level, told, first, second);
-    let back = differing(alloc, level, told.turned(), second, first);
-    put_one_way_or(out, forth, back)
+    match answers_of(alloc, level, comparison, input) {
+        Ok((forth, back)) => put_one_way_or(out, &forth, &back),
+        Err(fault) => put_fault(out, fault),
+    }
+}
+
+// The answers for the first order and for the other one.
+fn answers_of(
+    alloc: Global,
+    level: Level,
+    comparison: Comparison,
+    input: &[u8],
+) -> Result<(Vec<u8>, Vec<u8>), Fault> {
+    let (first, second) = split_line(input);
+    let forth = answer_of(alloc, level, comparison, first, second)?;
+    let back = answer_of(alloc, level, comparison.turned(), second, first)?;
+    Ok((forth, back))
+}
+
+fn put_one_way_or(out: &mut String, forth: &[u8], back: &[u8]) -> Result<(), AllocError> {
+    if forth != back {
+        return out.push_str("one way");
+    }
+    put_text(out, if forth.is_empty() { b"none" } else { forth })
+}
+
+fn answer_of(
+    alloc: Global,
+    level: Level,
+    comparison: Comparison,
+    first: &[u8],
+    second: &[u8],
+) -> Result<Vec<u8>, Fault> {
+    match about_both(alloc, first, second, Compared { comparison, level }) {
+        Ok(Ok(text)) => Ok(text),
+        Ok(Err(error)) => Err(Fault::Memory(error)),
+        Err(fault) => Err(fault),
+    }
+}
+
+// A comparison in one order. A function that owns anything beside two CRSs is slow to prove, so that each order is asked
+// about by itself, and the text of the answer is made without them.
+#[derive(Drop)]
+struct Compared {
+    comparison: Comparison,
+    level: Level,
+}
+
+impl AboutBoth for Compared {
+    type Answer = Result<Vec<u8>, AllocError>;
+
+    fn answer<'t>(
+        self,
+        alloc: Global,
+        first: &Crs<'t>,
+        second: &Crs<'t>,
+    ) -> Result<Vec<u8>, AllocError> {
+        let Compared { comparison, level } = self;
+        match comparison {
+            Comparison::Same => first_differing(alloc, level, first, second),
+            Comparison::Differences(told) => differing(alloc, level, told, first, second),
+            Comparison::Axes => Vec::from_slice(alloc, axes_of(first, second, level).as_bytes()),
+        }
+    }
+}
+
+fn first_differing<'a>(
+    alloc: Global,
+    level: Level,
+    a: &Crs<'a>,
+    b: &Crs<'a>,
+) -> Result<Vec<u8>, AllocError> {
+    text_of_first(alloc, same(a, b, level), first_part(a, b, level))
+}
+
+// Of two CRSs of which one call says whether they are the same, and another the first part that differs.
+fn text_of_first(
+    alloc: Global,
+    are_same: bool,
+    found: Option<Path>,
+) -> Result<Vec<u8>, AllocError> {
+    match found {
+        None if are_same => Vec::from_slice(alloc, b"same"),
+        Some(path) if !are_same => text_of_path(alloc, &path),
+        _ => Vec::from_slice(alloc, b"one way"),
+    }
+}
+
+fn text_of_path(alloc: Global, path: &Path) -> Result<Vec<u8>, AllocError> {
+    let mut text = Vec::from_slice(alloc, b"different ")?;
+    path.write(&mut text)?;
+    Ok(text)
 }
 
 /// What is told of the parts in which two CRSs differ, with a semicolon between two.
@@ -162,19 +162,17 @@ pub fn differing<'a>(
     a: &Crs<'a>,
     b: &Crs<'a>,
 ) -> Result<Vec<u8>, AllocError> {
-    text_of(alloc, level, told, differences(alloc, a, b, level))
+    text_of(alloc, level, told, differences(alloc, a, b, level)?)
 }
 
+// Of differences that it owns: a function that has a match or a loop beside them is slow to prove.
 fn text_of(
     alloc: Global,
     level: Level,
     told: Told,
-    found: Result<Differences<'_, '_>, AllocError>,
+    found: Differences<'_, '_>,
 ) -> Result<Vec<u8>, AllocError> {
-    match found {
-        Ok(found) => text_of_all(alloc, level, told, found.as_slice()),
-        Err(error) => Err(error),
-    }
+    text_of_all(alloc, level, told, found.as_slice())
 }
 
 fn text_of_all(
@@ -184,75 +182,83 @@ fn text_of_all(
     found: &[Difference<'_, '_>],
 ) -> Result<Vec<u8>, AllocError> {
     let mut text = Vec::new(alloc);
-    for difference in found {
-        put_difference(&mut text, alloc, level, told, difference)?;
-    }
+    append_all(alloc, level, told, found, &mut text)?;
     Ok(text)
 }
 
-fn put_one_way_or(
-    out: &mut String,
-    forth: Result<Vec<u8>, AllocError>,
-    back: Result<Vec<u8>, AllocError>,
+fn append_all(
+    alloc: Global,
+    level: Level,
+    told: Told,
+    found: &[Difference<'_, '_>],
+    text: &mut Vec<u8>,
 ) -> Result<(), AllocError> {
-    let forth = forth?;
-    let back = back?;
-    if forth.as_slice() != back.as_slice() {
-        return out.push_str("one way");
+    for difference in found {
+        append_difference(alloc, level, told, difference, text)?;
     }
-    put_text(out, if forth.is_empty() { b"none" } else { &forth })
-}
-
-// Before each but the first.
-fn put_semicolon(text: &mut Vec<u8>) -> Result<(), AllocError> {
-    if text.is_empty() {
-        return Ok(());
-    }
-    text.push(b';')?;
     Ok(())
 }
 
-fn put_difference(
-    text: &mut Vec<u8>,
+fn append_difference(
     alloc: Global,
     level: Level,
     told: Told,
     difference: &Difference<'_, '_>,
+    text: &mut Vec<u8>,
 ) -> Result<(), AllocError> {
-    put_semicolon(text)?;
-    difference.path().write(text)?;
+    append_path(difference.path(), text)?;
+    append_values(
+        alloc,
+        level,
+        told,
+        difference.first(),
+        difference.second(),
+        text,
+    )
+}
+
+// Behind a semicolon, but for the first.
+fn append_path(path: &Path, text: &mut Vec<u8>) -> Result<(), AllocError> {
+    if !text.is_empty() {
+        text.push(b';')?;
+    }
+    path.write(text)
+}
+
+fn append_values(
+    alloc: Global,
+    level: Level,
+    told: Told,
+    first: &Content<'_, '_>,
+    second: &Content<'_, '_>,
+    text: &mut Vec<u8>,
+) -> Result<(), AllocError> {
     match told {
         Told::Paths => Ok(()),
-        Told::Values => put_sides(text, alloc, level, difference, false),
-        Told::TurnedValues => put_sides(text, alloc, level, difference, true),
+        Told::Values => append_two(alloc, level, first, second, text),
+        Told::TurnedValues => append_two(alloc, level, second, first, text),
     }
 }
 
-fn put_sides(
-    text: &mut Vec<u8>,
+fn append_two(
     alloc: Global,
     level: Level,
-    difference: &Difference<'_, '_>,
-    is_turned: bool,
+    left: &Content<'_, '_>,
+    right: &Content<'_, '_>,
+    text: &mut Vec<u8>,
 ) -> Result<(), AllocError> {
-    text.extend_from_slice(b": ")?;
-    put_side(text, alloc, level, difference, is_turned)?;
-    text.extend_from_slice(b" | ")?;
-    put_side(text, alloc, level, difference, !is_turned)
+    append_one(alloc, level, b": ", left, text)?;
+    append_one(alloc, level, b" | ", right, text)
 }
 
-fn put_side(
-    text: &mut Vec<u8>,
+fn append_one(
     alloc: Global,
     level: Level,
-    difference: &Difference<'_, '_>,
-    is_second: bool,
+    before: &[u8],
+    content: &Content<'_, '_>,
+    text: &mut Vec<u8>,
 ) -> Result<(), AllocError> {
-    let content = if is_second {
-        difference.second()
-    } else {
-        difference.first()
-    };
+    text.extend_from_slice(before)?;
     write_content(content, alloc, level, text)
 }
 
@@ -266,12 +272,9 @@ fn axes_of<'a>(first: &Crs<'a>, second: &Crs<'a>, level: Level) -> &'static str 
 }
 
 fn axes_told<'a>(first: &[Axis<'a>], second: &[Axis<'a>], level: Level) -> &'static str {
-    let ([x, ..], [y, ..]) = (first, second) else {
-        return "no axes";
-    };
-    match (same_axis(x, y, level), same_axis(y, x, level)) {
-        (true, true) => "same",
-        (false, false) => "different",
-        _ => "one way",
+    match (first, second) {
+        ([x, ..], [y, ..]) if same_axis(x, y, level) => "same",
+        ([_x, ..], [_y, ..]) => "different",
+        _ => "no axes",
     }
 }

@@ -29,6 +29,19 @@ pub enum Column {
 }
 
 impl Column {
+    /// The column that a call of this name asks for.
+    pub fn named(call: &str) -> Option<Column> {
+        match call {
+            "places" => Some(Column::Place),
+            "closes" => Some(Column::Close),
+            "numbers" => Some(Column::Number),
+            "sizes" => Some(Column::Size),
+            "nexts" => Some(Column::Next),
+            "keywords" => Some(Column::Keyword),
+            _ => None,
+        }
+    }
+
     fn name(self) -> &'static str {
         match self {
             Column::Place => "places",
