@@ -157,14 +157,13 @@ fn put_arguments(out: &mut String, items: &Items<'_>, parent: Class) -> Result<(
     let root = items.root();
     for i in 0..items.arg_count(root) {
         if let Some(id) = items.arg(root, i) {
-            out.push(' ')?;
             put_class_in(out, items, id, parent)?;
         }
     }
     Ok(())
 }
 
-// An argument's class; `another` where one call denies what the other says.
+// An argument's class behind a blank; `another` where one call denies what the other says.
 fn put_class_in(
     out: &mut String,
     items: &Items<'_>,
@@ -173,6 +172,7 @@ fn put_class_in(
 ) -> Result<(), AllocError>
     requires { HasId items.now id }
 {
+    out.push(' ')?;
     match class_in(items, id, parent) {
         None => out.push_str("none"),
         Some(class) => {

@@ -112,15 +112,24 @@ pub fn put_prefixes(out: &mut String, alloc: Global, input: &[u8]) -> Result<(),
     out.push_str("refusals")?;
     for count in 0..input.len() {
         let prefix = &input[..count];
-        match read_items(alloc, prefix) {
-            Ok(_items) => out.push_str(" accepted")?,
-            Err(fault) => put_short(out, fault)?,
-        }
-        if !agree_in_many(alloc, prefix)? {
-            out.push_str(" another-in-pieces")?;
-        }
+        put_prefix(out, alloc, prefix)?;
     }
     Ok(())
+}
+
+fn put_prefix(out: &mut String, alloc: Global, prefix: &[u8]) -> Result<(), AllocError> {
+    put_outcome(out, read_items(alloc, prefix))?;
+    if agree_in_many(alloc, prefix)? {
+        return Ok(());
+    }
+    out.push_str(" another-in-pieces")
+}
+
+fn put_outcome(out: &mut String, read: Result<Items<'_>, Fault>) -> Result<(), AllocError> {
+    match read {
+        Ok(_items) => out.push_str(" accepted"),
+        Err(fault) => put_short(out, fault),
+    }
 }
 
 fn put_short(out: &mut String, fault: Fault) -> Result<(), AllocError> {
