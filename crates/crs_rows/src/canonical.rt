@@ -1,5 +1,5 @@
 //! The calls that write canonical texts.
-use crate::texts::{put_asked, put_fault};
+use crate::texts::put_fault;
 use crs_canon::{Canon, Canonical, canon, canon_of};
 use crs_suite::{AboutCrs, about_crs, put_text, split_line};
 use crs_text::Fault;
@@ -30,35 +30,45 @@ fn put_agreed(
     if !is_of_text(alloc, text.bytes(), text)? {
         return out.push_str("another text");
     }
-    let question = Spelled {
-        out: &mut *out,
-        level,
-        text,
-    };
-    let asked = about_crs(alloc, input, question);
-    put_asked(out, asked)
+    put_spelled(out, text, about_crs(alloc, input, Spells { level, text }))
 }
 
-// A canonical text, and the level at which it must be that of a CRS.
+// What the question whether a text's CRS has this canonical text came to.
+fn put_spelled(
+    out: &mut String,
+    text: &Canon,
+    asked: Result<Result<bool, AllocError>, Fault>,
+) -> Result<(), AllocError> {
+    match asked {
+        Ok(Ok(true)) => put_spelling(out, text),
+        Ok(Ok(false)) => out.push_str("another text"),
+        Ok(Err(error)) => Err(error),
+        Err(fault) => put_fault(out, fault),
+    }
+}
+
+// Whether this is a CRS's canonical text at a level, and what it appends by itself.
 #[derive(Drop)]
-struct Spelled<'o, 'c> {
-    out: &'o mut String,
+struct Spells<'c> {
     level: Level,
     text: &'c Canon,
 }
 
-impl AboutCrs for Spelled<'_, '_> {
-    type Answer = Result<(), AllocError>;
+impl AboutCrs for Spells<'_> {
+    type Answer = Result<bool, AllocError>;
 
-    fn answer(self, alloc: Global, crs: &Crs<'_>) -> Result<(), AllocError> {
-        let text = self.text;
-        if !is_text(canon_of(alloc, crs, self.level), self.level, text)?
-            || !appends(alloc, self.level, crs, text.bytes())?
-        {
-            return self.out.push_str("another text");
-        }
-        put_spelling(self.out, text)
+    fn answer(self, alloc: Global, crs: &Crs<'_>) -> Result<bool, AllocError> {
+        let Spells { level, text } = self;
+        let is_own = is_text(canon_of(alloc, crs, level), level, text);
+        both(is_own, appends(alloc, level, crs, text.bytes()))
     }
+}
+
+fn both(
+    first: Result<bool, AllocError>,
+    second: Result<bool, AllocError>,
+) -> Result<bool, AllocError> {
+    Ok(first? && second?)
 }
 
 fn is_text(own: Result<Canon, AllocError>, level: Level, text: &Canon) -> Result<bool, AllocError> {
@@ -72,15 +82,10 @@ pub fn put_spelling(out: &mut String, text: &Canon) -> Result<(), AllocError> {
     put_text(out, text.bytes())
 }
 
-// Whether a node by itself appends this text, and no other.
-fn appends<T: Canonical>(
-    alloc: Global,
-    level: Level,
-    node: &T,
-    text: &[u8],
-) -> Result<bool, AllocError> {
+// Whether a CRS by itself appends this text, and no other.
+fn appends(alloc: Global, level: Level, crs: &Crs<'_>, text: &[u8]) -> Result<bool, AllocError> {
     let mut out = Vec::from_slice(alloc, b"x")?;
-    node.write(alloc, level, &mut out)?;
+    crs.write(alloc, level, &mut out)?;
     match out.as_slice() {
         [b'x', written @ ..] => Ok(written == text),
         _ => Ok(false),

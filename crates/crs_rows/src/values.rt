@@ -4,14 +4,13 @@ use crate::pieces::agree;
 use crate::texts::{put_asked, put_fault};
 use crs_decimal::Decimal;
 use crs_suite::{AboutCrs, about_crs, about_items, put_text};
-use crs_text::{Items, read_items};
+use crs_text::{Fault, read_items};
 use crs_value::{Axis, Crs, Kind, Unit};
 use std::alloc::{AllocError, Global};
 
 /// `kind` and the kind of the CRS that a text spells, or its refusal.
 pub fn put_read(out: &mut String, alloc: Global, input: &[u8]) -> Result<(), AllocError> {
-    let asked = about_crs(alloc, input, KindOf { out: &mut *out });
-    put_asked(out, asked)
+    put_kind(out, about_crs(alloc, input, KindOf))
 }
 
 /// The kind of the CRS that a text's items spell, or the refusal; `another answer in pieces` where a cut into pieces gives one.
@@ -20,37 +19,31 @@ pub fn put_value_of(out: &mut String, alloc: Global, input: &[u8]) -> Result<(),
         return out.push_str("another answer in pieces");
     }
     match read_items(alloc, input) {
-        Ok(items) => put_value_of_items(out, alloc, &items),
+        Ok(items) => put_kind(out, about_items(alloc, &items, KindOf)),
         Err(fault) => put_fault(out, fault),
     }
 }
 
-fn put_value_of_items(
-    out: &mut String,
-    alloc: Global,
-    items: &Items<'_>,
-) -> Result<(), AllocError> {
-    let asked = about_items(alloc, items, KindOf { out: &mut *out });
-    put_asked(out, asked)
-}
-
 // Its kind.
 #[derive(Drop)]
-struct KindOf<'o> {
-    out: &'o mut String,
-}
+struct KindOf;
 
-impl AboutCrs for KindOf<'_> {
-    type Answer = Result<(), AllocError>;
+impl AboutCrs for KindOf {
+    type Answer = Kind;
 
-    fn answer(self, _alloc: Global, crs: &Crs<'_>) -> Result<(), AllocError> {
-        put_kind(self.out, crs.kind())
+    fn answer(self, _alloc: Global, crs: &Crs<'_>) -> Kind {
+        crs.kind()
     }
 }
 
-fn put_kind(out: &mut String, kind: Kind) -> Result<(), AllocError> {
-    out.push_str("kind ")?;
-    out.push_str(kind_word(kind))
+fn put_kind(out: &mut String, found: Result<Kind, Fault>) -> Result<(), AllocError> {
+    match found {
+        Ok(kind) => {
+            out.push_str("kind ")?;
+            out.push_str(kind_word(kind))
+        }
+        Err(fault) => put_fault(out, fault),
+    }
 }
 
 /// The word of a kind.
@@ -81,9 +74,10 @@ impl AboutCrs for FirstAxis<'_> {
     type Answer = Result<(), AllocError>;
 
     fn answer(self, _alloc: Global, crs: &Crs<'_>) -> Result<(), AllocError> {
+        let FirstAxis { out } = self;
         match crs {
-            Crs::Vertical(vertical) => put_first_axis(self.out, vertical.system.axes.as_slice()),
-            Crs::Geodetic(_) | Crs::Projected(_) | Crs::Compound(_) => self.out.push_str("no axis"),
+            Crs::Vertical(vertical) => put_first_axis(out, vertical.system.axes.as_slice()),
+            Crs::Geodetic(_) | Crs::Projected(_) | Crs::Compound(_) => out.push_str("no axis"),
         }
     }
 }
