@@ -107,7 +107,8 @@ impl<R: Print + AllocGlobal> AboutBoth for FirstPath<'_, R> {
     type Answer = io::Result<()>;
 
     fn answer<'t>(self, _alloc: Global, first: &Crs<'t>, second: &Crs<'t>) -> io::Result<()> {
-        try_found(self.rt, first_part(first, second, Level::Full))
+        let FirstPath { rt } = self;
+        try_found(rt, first_part(first, second, Level::Full))
     }
 }
 
@@ -135,13 +136,18 @@ impl<R: Print + AllocGlobal> AboutCrs for PartOf<'_, '_, R> {
     type Answer = io::Result<()>;
 
     fn answer(self, _alloc: Global, crs: &Crs<'_>) -> io::Result<()> {
-        if self.word == "crs" {
-            return try_node(self.rt, crs);
+        let PartOf { rt, word } = self;
+        match word {
+            "crs" => try_node(rt, crs),
+            _ => try_part_in(rt, word, crs),
         }
-        match crs {
-            Crs::Vertical(vertical) => try_part_of(self.rt, self.word, vertical),
-            Crs::Geodetic(_) | Crs::Projected(_) | Crs::Compound(_) => Err(unusable()),
-        }
+    }
+}
+
+fn try_part_in(rt: &(impl Print + AllocGlobal), word: &str, crs: &Crs<'_>) -> io::Result<()> {
+    match crs {
+        Crs::Vertical(vertical) => try_part_of(rt, word, vertical),
+        Crs::Geodetic(_) | Crs::Projected(_) | Crs::Compound(_) => Err(unusable()),
     }
 }
 

@@ -41,9 +41,10 @@ impl<R: Print + AllocGlobal> AboutCrs for Value<'_, R> {
     type Answer = io::Result<()>;
 
     fn answer(self, alloc: Global, crs: &Crs<'_>) -> io::Result<()> {
-        self.turn.end(self.rt)?;
+        let Value { rt, turn } = self;
+        turn.end(rt)?;
         let kind = kind_word(crs.kind());
-        print_value(self.rt, self.turn, kind, canon_of(alloc, crs, Level::Full))
+        print_value(rt, turn, kind, canon_of(alloc, crs, Level::Full))
     }
 }
 
@@ -161,16 +162,22 @@ impl<R: Print + AllocGlobal> AboutCrs for WithCrs<'_, R> {
     type Answer = io::Result<()>;
 
     fn answer(self, alloc: Global, crs: &Crs<'_>) -> io::Result<()> {
-        begin_call(self.rt)?;
-        if print_spelling(self.rt, Turn::First, canon_of(alloc, crs, Level::Full))? {
+        let WithCrs { rt } = self;
+        begin_call(rt)?;
+        if print_spelling(rt, Turn::First, canon_of(alloc, crs, Level::Full))? {
             return Ok(());
         }
-        print_kept(self.rt)?;
-        if print_spelling(self.rt, Turn::Again, canon_of(alloc, crs, Level::Full))? {
-            return Ok(());
-        }
-        Err(io::Error::from(AllocError))
+        print_kept(rt)?;
+        told_again(print_spelling(rt, Turn::Again, canon_of(alloc, crs, Level::Full)))
     }
+}
+
+// There must be memory for the call that is made once more.
+fn told_again(told: io::Result<bool>) -> io::Result<()> {
+    if told? {
+        return Ok(());
+    }
+    Err(io::Error::from(AllocError))
 }
 
 // Whether there was memory.
@@ -208,7 +215,8 @@ impl<R: Print + AllocGlobal> AboutBoth for WithBoth<'_, R> {
     type Answer = io::Result<()>;
 
     fn answer<'t>(self, alloc: Global, first: &Crs<'t>, second: &Crs<'t>) -> io::Result<()> {
-        let (rt, told) = (self.rt, Told::Paths);
+        let WithBoth { rt } = self;
+        let told = Told::Paths;
         begin_call(rt)?;
         if print_paths(
             rt,
@@ -218,14 +226,11 @@ impl<R: Print + AllocGlobal> AboutBoth for WithBoth<'_, R> {
             return Ok(());
         }
         print_kept(rt)?;
-        if print_paths(
+        told_again(print_paths(
             rt,
             Turn::Again,
             differing(alloc, Level::Full, told, first, second),
-        )? {
-            return Ok(());
-        }
-        Err(io::Error::from(AllocError))
+        ))
     }
 }
 
