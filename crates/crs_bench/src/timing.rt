@@ -42,14 +42,20 @@ fn one_round<'t, T: Drop, M: Measure<'t, T> + Copy>(
     measure: M,
     entries: &[Entry<'t, T>],
 ) -> Result<Tally, AllocError> {
-    let mut tally = Tally::EMPTY;
     let mut before = Catalogue::new(alloc, Level::Full);
+    tally_of(alloc, measure, entries, &mut before)
+}
+
+fn tally_of<'t, T: Drop, M: Measure<'t, T> + Copy>(
+    alloc: Global,
+    measure: M,
+    entries: &[Entry<'t, T>],
+    before: &mut Catalogue,
+) -> Result<Tally, AllocError> {
+    let mut tally = Tally::EMPTY;
     for (index, entry) in entries.iter().enumerate() {
         let next = entries.get(index.saturating_add(1)).unwrap_or(entry);
-        tally.add(
-            entry.text,
-            outcome_of(alloc, measure, entry, next, &mut before)?,
-        );
+        tally.add(entry.text, outcome_of(alloc, measure, entry, next, before)?);
     }
     Ok(tally)
 }

@@ -46,10 +46,20 @@ impl<'t> Measure<'t, Crs<'t>> for ValueStage {
         next: &Entry<'t, Crs<'t>>,
         _before: &mut Catalogue,
     ) -> Result<Outcome, AllocError> {
-        match self {
-            ValueStage::Same => Ok(compared(given, next)),
-            ValueStage::Canon => spelled(alloc, given),
-        }
+        made(self, alloc, given, next)
+    }
+}
+
+// What a stage makes of a value. A function with a match that is lent a catalogue beside two CRSs is slow to prove.
+fn made<'t>(
+    stage: ValueStage,
+    alloc: Global,
+    given: &Crs<'t>,
+    next: &Entry<'t, Crs<'t>>,
+) -> Result<Outcome, AllocError> {
+    match stage {
+        ValueStage::Same => Ok(compared(given, next)),
+        ValueStage::Canon => spelled(alloc, given),
     }
 }
 
