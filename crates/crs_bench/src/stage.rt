@@ -5,7 +5,7 @@ use crate::text_stage::TextStage;
 use crate::value_stage::ValueStage;
 
 /// A stage by itself: what it is given was made before. To add one, add a variant to the kind that is given the same, its
-/// place in `STAGES`, a name, what it counts, and an arm in the kind's `outcome`.
+/// place in `STAGES`, a name, what it counts, and an arm in the kind's `outcome`, or in what that calls for values.
 #[derive(Clone, Copy)]
 pub enum Stage {
     Text(TextStage),
