@@ -1,5 +1,5 @@
 //! Calls that append to a vector.
-use crate::trials::attempts::attempted;
+use crate::trials::attempts::{attempted, unmade};
 use crs_canon::{Canonical, Set};
 use crs_decimal::Decimal;
 use crs_same::{Path, first_part};
@@ -95,27 +95,22 @@ pub fn try_path<'a>(
     first: &'a [u8],
     second: &'a [u8],
 ) -> io::Result<()> {
-    attempted(about_both(rt.alloc(), first, second, FirstPath { rt }))
-}
-
-#[derive(Drop)]
-struct FirstPath<'r, R> {
-    rt: &'r R,
-}
-
-impl<R: Print + AllocGlobal> AboutBoth for FirstPath<'_, R> {
-    type Answer = io::Result<()>;
-
-    fn answer<'t>(self, _alloc: Global, first: &Crs<'t>, second: &Crs<'t>) -> io::Result<()> {
-        let FirstPath { rt } = self;
-        try_found(rt, first_part(first, second, Level::Full))
+    match about_both(rt.alloc(), first, second, FirstPart) {
+        Ok(Some(path)) => run_append(rt, &path),
+        Ok(None) => Err(unusable()),
+        Err(fault) => Err(unmade(fault)),
     }
 }
 
-fn try_found(rt: &(impl Print + AllocGlobal), found: Option<Path>) -> io::Result<()> {
-    match &found {
-        Some(path) => run_append(rt, path),
-        None => Err(unusable()),
+// The path to the first part in which two CRSs differ.
+#[derive(Drop)]
+struct FirstPart;
+
+impl AboutBoth for FirstPart {
+    type Answer = Option<Path>;
+
+    fn answer<'t>(self, _alloc: Global, first: &Crs<'t>, second: &Crs<'t>) -> Option<Path> {
+        first_part(first, second, Level::Full)
     }
 }
 
