@@ -1,13 +1,13 @@
 //! All parts in which two CRSs differ, each as three texts.
-ghost use Rattle.std.specs.Prelude.{◌↔◌, IfOk, IsTrue, MatchOption, OnOk};
+ghost use Rattle.std.specs.Prelude.{◌↔◌, IfOk, IsTrue, List, MatchOption, OnOk};
 ghost use Rattle.crs_same.specs.PartsOfCrs.{DifferencesInCrs};
 ghost use Rattle.crs_same.specs.Paths.{path_text};
 ghost use Rattle.crs_same.specs.SameCrs.{SameCrs};
 ghost use Rattle.crs_canon.specs.ContentText.{IsContentText};
 ghost use Rattle.crs_explain.specs.Appended.{AppendsTexts};
 ghost use Rattle.crs_explain.specs.Differing.{AreDifferenceTexts, AreTexts, AreTextsOf};
-ghost use Rattle.crs_explain.specs.DifferingTexts.{AreTextsAt, AreTextsOfOne};
-ghost use Rattle.crs_explain.specs.InOrder.{AreOrderedTexts};
+ghost use Rattle.crs_explain.specs.DifferingTexts.{AreTextsAt, AreTextsOfOne, PartTexts};
+ghost use Rattle.crs_explain.specs.InOrder.{AreInOrder, AreOrderedTexts};
 
 use crate::order::{StepWord, put_in_order};
 use crate::set_texts::append_set;
@@ -54,18 +54,23 @@ pub(crate) fn difference_texts<'a>(
 ) -> Result<Vec<DifferenceTexts>, AllocError>
     ensures { IfOk result (λ texts. AreDifferenceTexts level a.now b.now texts.items) }
 {
-    all_texts(alloc, level, differences(alloc, a, b, level)?)
+    let differences = differences(alloc, a, b, level)?;
+    let mut texts = Vec::new(alloc);
+    append_all(&mut texts, alloc, level, differences)?;
+    Ok(texts)
 }
 
-// Of differences that it owns: a function that lends them beside two CRSs is slow to prove.
-fn all_texts(
+// Appends the texts of differences that it owns. A function that lends them is slow to prove where it is lent nothing
+// before them.
+fn append_all(
+    out: &mut Vec<DifferenceTexts>,
     alloc: Global,
     level: Level,
     differences: Differences<'_, '_>,
-) -> Result<Vec<DifferenceTexts>, AllocError>
-    ensures { IfOk result (λ texts. AreTexts level differences.entry texts.items) }
+) -> Result<(), AllocError>
+    ensures { OnOk result (AppendsTexts (AreTexts level differences.entry) out.old.items out.new.items) }
 {
-    texts_of(alloc, level, differences.as_slice())
+    append_texts(alloc, level, differences.as_slice(), out)
 }
 
 /// The same, in the order of some words; None exactly where the CRSs are the same. The CRSs come first: what is called with
@@ -80,32 +85,31 @@ pub(crate) fn ordered_texts<'a>(
     ensures { IfOk result (λ found. MatchOption found (SameCrs level a.now b.now)
         (λ texts. (¬ SameCrs level a.now b.now) × AreOrderedTexts words.now level a.now b.now texts.items)) }
 {
-    texts_in_order(alloc, a, b, level, differences(alloc, a, b, level)?, words)
-}
-
-// The texts of the differences of two CRSs, which it owns, in the order of some words; None where there are none.
-fn texts_in_order<'a>(
-    alloc: Global,
-    a: &Crs<'a>,
-    b: &Crs<'a>,
-    level: Level,
-    differences: Differences<'_, 'a>,
-    words: &[StepWord],
-) -> Result<Option<Vec<DifferenceTexts>>, AllocError>
-    requires { DifferencesInCrs level a.now b.now differences }
-    ensures { IfOk result (λ found. MatchOption found (SameCrs level a.now b.now)
-        (λ texts. (¬ SameCrs level a.now b.now) × AreOrderedTexts words.now level a.now b.now texts.items)) }
-{
+    let differences = differences(alloc, a, b, level)?;
     if are_none(a, b, level, differences.as_slice()) {
         return Ok(None);
     }
-    let mut texts = texts_of(alloc, level, differences.as_slice())?;
-    put_in_order(words, &mut texts)?;
+    let texts = texts_in_order(words, alloc, level, differences)?;
     Ok(Some(texts))
 }
 
+// The texts of differences that it owns, in the order of some words.
+fn texts_in_order(
+    words: &[StepWord],
+    alloc: Global,
+    level: Level,
+    differences: Differences<'_, '_>,
+) -> Result<Vec<DifferenceTexts>, AllocError>
+    ensures { IfOk result (λ texts. (parts : List PartTexts) × AreTexts level differences.entry parts
+        × AreInOrder words.now parts texts.items) }
+{
+    let mut texts = texts_of(alloc, level, differences.as_slice())?;
+    put_in_order(words, &mut texts)?;
+    Ok(texts)
+}
+
 // Whether these are no differences of two CRSs: exactly where the CRSs are the same.
-fn are_none<'a>(a: &Crs<'a>, b: &Crs<'a>, level: Level, differences: &[Difference<'_, '_>]) -> bool
+fn are_none<'a>(a: &Crs<'a>, b: &Crs<'a>, level: Level, differences: &[Difference<'_, 'a>]) -> bool
     requires { DifferencesInCrs level a.now b.now differences.now }
     ensures { IsTrue result ↔ SameCrs level a.now b.now }
 {
