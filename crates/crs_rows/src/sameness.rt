@@ -162,17 +162,18 @@ pub fn differing<'a>(
     a: &Crs<'a>,
     b: &Crs<'a>,
 ) -> Result<Vec<u8>, AllocError> {
-    text_of(alloc, level, told, differences(alloc, a, b, level)?)
+    text_of(&told, alloc, level, differences(alloc, a, b, level)?)
 }
 
-// Of differences that it owns: a function that has a match or a loop beside them is slow to prove.
+// Of differences that it owns: a function that lends them is slow to prove where it has a match or a loop beside them, or is
+// lent nothing before them.
 fn text_of(
+    told: &Told,
     alloc: Global,
     level: Level,
-    told: Told,
     found: Differences<'_, '_>,
 ) -> Result<Vec<u8>, AllocError> {
-    text_of_all(alloc, level, told, found.as_slice())
+    text_of_all(alloc, level, *told, found.as_slice())
 }
 
 fn text_of_all(
