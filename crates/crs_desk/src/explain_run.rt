@@ -240,12 +240,12 @@ impl Answer for PairAnswer<'_> {
         IsExplainPairOutput s.told.how s.told.words.now s.level s.first.now s.second.now written status };
 
     fn output(&self, alloc: Global) -> Result<(Vec<u8>, u8), AllocError> {
-        pair_output(alloc, &self.told, self.level, self.first, self.second)
+        pair_output(alloc, self.told, self.level, self.first, self.second)
     }
 }
 
 // Explains a refusal, and of two CRSs all parts that differ, in the order of words.
-#[derive(Drop)]
+#[derive(Clone, Copy)]
 pub(crate) struct Told<'t> {
     pub(crate) how: Manner,
     pub(crate) words: &'t [StepWord],
@@ -259,7 +259,7 @@ impl Telling for Told<'_> {
     ghost Compared = { λ s level a b written status. TellsWhetherSame s.how s.words.now level a b written status };
 
     fn refusal(
-        &self,
+        self,
         alloc: Global,
         which: &[u8],
         text: &[u8],
@@ -269,27 +269,27 @@ impl Telling for Told<'_> {
     }
 
     fn comparison<'t>(
-        &self,
+        self,
         alloc: Global,
         level: Level,
         a: &Crs<'t>,
         b: &Crs<'t>,
     ) -> Result<(Vec<u8>, u8), AllocError> {
-        differences_output(alloc, self.how, self.words, level, a, b)
+        differences_output(alloc, self.how, level, a, b, self.words)
     }
 }
 
 fn differences_output<'t>(
     alloc: Global,
     how: Manner,
-    words: &[StepWord],
     level: Level,
     a: &Crs<'t>,
     b: &Crs<'t>,
+    words: &[StepWord],
 ) -> Result<(Vec<u8>, u8), AllocError>
     ensures { IfOk result (λ output. TellsWhetherSame how words.now level a.now b.now output.0.items output.1) }
 {
-    let Some(parts) = differences_told(alloc, how, words, level, a, b)? else {
+    let Some(parts) = differences_told(alloc, how, level, a, b, words)? else {
         let line = same_line(alloc, how)?;
         return Ok((line, 0));
     };
@@ -309,10 +309,10 @@ fn same_line(alloc: Global, how: Manner) -> Result<Vec<u8>, AllocError>
 fn differences_told<'t>(
     alloc: Global,
     how: Manner,
-    words: &[StepWord],
     level: Level,
     a: &Crs<'t>,
     b: &Crs<'t>,
+    words: &[StepWord],
 ) -> Result<Option<Vec<u8>>, AllocError>
     ensures { IfOk result (λ told. MatchOption told (SameCrs level a.now b.now)
         (λ parts. (¬ SameCrs level a.now b.now) × AreDifferencesTold how words.now level a.now b.now parts.items)) }

@@ -17,7 +17,7 @@ pub(crate) type Forms = Result<(Canon, Canon), (Vec<u8>, u8)>;
 // The forms of two texts under rules at a level.
 pub(crate) fn forms_of<T: Telling>(
     alloc: Global,
-    told: &T,
+    told: T,
     level: Level,
     rules: &Rules,
     first: &[u8],
@@ -25,7 +25,7 @@ pub(crate) fn forms_of<T: Telling>(
 ) -> Result<Forms, AllocError>
     ensures { IfOk result (λ found. MatchResult found
         (λ forms. IsForm rules.now level first.now forms.0.bytes × IsForm rules.now level second.now forms.1.bytes)
-        (λ output. IsRefusedUnder rules.now level (T.Refused told.now) first.now second.now output.0.items output.1)) }
+        (λ output. IsRefusedUnder rules.now level (T.Refused told) first.now second.now output.0.items output.1)) }
 {
     match canon_under(alloc, first, level, rules) {
         Ok(form) => second_form(alloc, told, level, rules, form, second),
@@ -36,7 +36,7 @@ pub(crate) fn forms_of<T: Telling>(
 // Both forms, where this is the form of the first text.
 fn second_form<T: Telling>(
     alloc: Global,
-    told: &T,
+    told: T,
     level: Level,
     rules: &Rules,
     first: Canon,
@@ -44,7 +44,7 @@ fn second_form<T: Telling>(
 ) -> Result<Forms, AllocError>
     ensures { IfOk result (λ found. MatchResult found
         (λ forms. (forms.0 ≡ first) × IsForm rules.now level second.now forms.1.bytes)
-        (λ output. T.Refused told.now (codes "second ") second.now output.0.items output.1)) }
+        (λ output. T.Refused told (codes "second ") second.now output.0.items output.1)) }
 {
     match canon_under(alloc, second, level, rules) {
         Ok(form) => Ok(Ok((first, form))),
@@ -55,13 +55,13 @@ fn second_form<T: Telling>(
 // What is written for the refusal of a text, after the word that says which text it is.
 fn refused_form<T: Telling>(
     alloc: Global,
-    told: &T,
+    told: T,
     which: &[u8],
     text: &[u8],
     fault: Fault,
 ) -> Result<Forms, AllocError>
     requires { IsFaultOfText text.now fault }
-    ensures { IfOk result (λ found. IsErrAnd found (λ output. T.Refused told.now which.now text.now output.0.items output.1)) }
+    ensures { IfOk result (λ found. IsErrAnd found (λ output. T.Refused told which.now text.now output.0.items output.1)) }
 {
     let refusal = refusal_in(fault)?;
     let line = told.refusal(alloc, which, text, refusal)?;

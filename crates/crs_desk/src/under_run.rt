@@ -89,14 +89,14 @@ impl Answer for SameForms<'_> {
     fn output(&self, alloc: Global) -> Result<(Vec<u8>, u8), AllocError> {
         let found = forms_of(
             alloc,
-            &InALine,
+            InALine,
             self.level,
             self.rules,
             self.first,
             self.second,
         )?;
         match found {
-            Ok((a, b)) => pair_output(alloc, &InALine, self.level, a.bytes(), b.bytes()),
+            Ok((a, b)) => pair_output(alloc, InALine, self.level, a.bytes(), b.bytes()),
             Err(output) => Ok(output),
         }
     }
@@ -121,7 +121,7 @@ impl Answer for ExplainedForms<'_> {
     fn output(&self, alloc: Global) -> Result<(Vec<u8>, u8), AllocError> {
         let found = forms_of(
             alloc,
-            &self.told,
+            self.told,
             self.level,
             self.rules,
             self.first,
@@ -130,7 +130,7 @@ impl Answer for ExplainedForms<'_> {
         match found {
             Ok((a, b)) => explained(
                 alloc,
-                &self.told,
+                self.told,
                 self.level,
                 self.first,
                 self.second,
@@ -145,14 +145,14 @@ impl Answer for ExplainedForms<'_> {
 // The explanation of two texts, by their forms.
 fn explained(
     alloc: Global,
-    told: &Told<'_>,
+    told: Told<'_>,
     level: Level,
     first: &[u8],
     second: &[u8],
     a: &[u8],
     b: &[u8],
 ) -> Result<(Vec<u8>, u8), AllocError>
-    ensures { IfOk result (λ output. IsExplainedUnder told.now.how told.now.words.now level first.now second.now a.now b.now
+    ensures { IfOk result (λ output. IsExplainedUnder told.entry.how told.entry.words.now level first.now second.now a.now b.now
         output.0.items output.1) }
 {
     let (under, status) = pair_output(alloc, told, level, a, b)?;

@@ -12,7 +12,7 @@ use crs_value::{Crs, read};
 use std::alloc::{AllocError, Global};
 
 /// How a refusal is written, and how two CRSs are compared. Profile.
-pub trait Telling {
+pub trait Telling: Copy {
     // What is written for the refusal of a text, after the word that says which text it is.
     ghost Refused: { Self → List ℕ → List ℕ → List ℕ → ℕ → Type 0 };
 
@@ -21,35 +21,35 @@ pub trait Telling {
 
     /// What is written for the refusal of a text. `AllocError`: memory ran out.
     fn refusal(
-        &self,
+        self,
         alloc: Global,
         which: &[u8],
         text: &[u8],
         refusal: Refusal,
     ) -> Result<Vec<u8>, AllocError>
         requires { Refuses text.now refusal }
-        ensures { IfOk result (λ told. Refused self.now which.now text.now told.items 1) };
+        ensures { IfOk result (λ told. Refused self which.now text.now told.items 1) };
 
     /// What is written for two CRSs at a level, and the status. `AllocError`: memory ran out.
     fn comparison<'t>(
-        &self,
+        self,
         alloc: Global,
         level: Level,
         a: &Crs<'t>,
         b: &Crs<'t>,
     ) -> Result<(Vec<u8>, u8), AllocError>
-        ensures { IfOk result (λ output. Compared self.now level a.now b.now output.0.items output.1) };
+        ensures { IfOk result (λ output. Compared self level a.now b.now output.0.items output.1) };
 }
 
 /// What is written for two texts at a level, and the status. `AllocError`: memory ran out. Profile.
 pub fn pair_output<'t, T: Telling>(
     alloc: Global,
-    told: &T,
+    told: T,
     level: Level,
     first: &'t [u8],
     second: &'t [u8],
 ) -> Result<(Vec<u8>, u8), AllocError>
-    ensures { IfOk result (λ output. IsPairOutput (T.Refused told.now) (T.Compared told.now level)
+    ensures { IfOk result (λ output. IsPairOutput (T.Refused told) (T.Compared told level)
         first.now second.now output.0.items output.1) }
 {
     match read(alloc, first) {
@@ -61,12 +61,12 @@ pub fn pair_output<'t, T: Telling>(
 // The second text, where the first spells a CRS.
 fn second_output<'t, T: Telling>(
     alloc: Global,
-    told: &T,
+    told: T,
     level: Level,
     first: &Crs<'t>,
     second: &'t [u8],
 ) -> Result<(Vec<u8>, u8), AllocError>
-    ensures { IfOk result (λ output. IsSecondOutput (T.Refused told.now) (T.Compared told.now level first.now)
+    ensures { IfOk result (λ output. IsSecondOutput (T.Refused told) (T.Compared told level first.now)
         second.now output.0.items output.1) }
 {
     match read(alloc, second) {
@@ -78,13 +78,13 @@ fn second_output<'t, T: Telling>(
 // The refusal of a text, after the word that says which text it is.
 fn refused_output<T: Telling>(
     alloc: Global,
-    told: &T,
+    told: T,
     which: &[u8],
     text: &[u8],
     fault: Fault,
 ) -> Result<(Vec<u8>, u8), AllocError>
     requires { IsFaultOfText text.now fault }
-    ensures { IfOk result (λ output. T.Refused told.now which.now text.now output.0.items output.1) }
+    ensures { IfOk result (λ output. T.Refused told which.now text.now output.0.items output.1) }
 {
     let refusal = refusal_in(fault)?;
     let line = told.refusal(alloc, which, text, refusal)?;

@@ -50,11 +50,12 @@ impl Answer for SameAnswer<'_> {
     ghost Output = { λ s written status. IsSameOutput s.level s.first.now s.second.now written status };
 
     fn output(&self, alloc: Global) -> Result<(Vec<u8>, u8), AllocError> {
-        pair_output(alloc, &InALine, self.level, self.first, self.second)
+        pair_output(alloc, InALine, self.level, self.first, self.second)
     }
 }
 
 /// A refusal, and the first part in which two CRSs differ, are a line each. Profile.
+#[derive(Clone, Copy)]
 pub struct InALine;
 
 impl Telling for InALine {
@@ -65,7 +66,7 @@ impl Telling for InALine {
     ghost Compared = { λ s level a b written status. WritesWhetherSame level a b written status };
 
     fn refusal(
-        &self,
+        self,
         alloc: Global,
         which: &[u8],
         _text: &[u8],
@@ -75,7 +76,7 @@ impl Telling for InALine {
     }
 
     fn comparison<'t>(
-        &self,
+        self,
         alloc: Global,
         level: Level,
         a: &Crs<'t>,

@@ -5,7 +5,7 @@ use Rattle.crs_desk.proofs.forms.forms_of.Goals as goal
 
 pub returns-in-Ok : goal.returns-in-Ok
 returns-in-Ok g c =
-    let Refused = g.T.Telling.Refused c.args.told.now in
+    let Refused = g.T.Telling.Refused c.args.told in
     IfOk-weaker c.second_form.result _ _
     (λ found. second-formed found c.args.rules.now c.args.level c.in-Ok.form c.args.first.now c.args.second.now
     (λ output. Refused (codes "first ") c.args.first.now output.0.items output.1)
