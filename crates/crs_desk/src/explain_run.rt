@@ -1,6 +1,6 @@
 //! What a text spells or why it is refused, and all parts in which two texts differ, explained to a person or a program.
-ghost use Rattle.std.specs.Prelude.{◌≡◌, ◌<◌, ◌↔◌, ◌≤◌, ◌++◌, ◌∷◌, [], IfOk, IfErr, IsErrOf, MatchOption, MatchResult, length, true, false};
-ghost use Rattle.crs_value.specs.SpellsText.{IsFaultOfText, Refuses, SpellsKind};
+ghost use Rattle.std.specs.Prelude.{◌≡◌, ◌<◌, ◌↔◌, ◌≤◌, ◌++◌, ◌∷◌, [], IfOk, IfErr, IsErrOf, MatchOption, length, true, false};
+ghost use Rattle.crs_value.specs.SpellsText.{Refuses};
 ghost use Rattle.crs_runs.specs.Ending.{IsAnswered, IsRunFault, IsWritten, IsWriteFault};
 ghost use Rattle.crs_runs.specs.Output.{IsLine};
 ghost use Rattle.crs_desk.specs.ExplainOutput.{AreDifferencesTold, IsExplainOutput, IsExplainPairOutput};
@@ -14,10 +14,10 @@ use crs_explain::{
     StepWord, difference_objects, ordered_differences_text, refusal_object, refusal_text,
 };
 use crs_runs::{
-    Answer, Telling, accepted_line, kind_word, pair_output, read_text, refusal_in, write_answer,
+    Answer, Telling, accepted_line, kind_of_text, kind_word, pair_output, read_text, write_answer,
 };
-use crs_text::{Fault, Refusal, read_items};
-use crs_value::{Crs, Kind, kind_of, laws};
+use crs_text::Refusal;
+use crs_value::{Crs, Kind, laws};
 use std::alloc::{AllocError, Global};
 use std::io::{Read, Write};
 
@@ -117,22 +117,9 @@ pub(crate) fn text_output(
 ) -> Result<(Vec<u8>, u8), AllocError>
     ensures { IfOk result (λ output. IsExplainOutput how text.now output.0.items output.1) }
 {
-    match kind_of_text(alloc, text) {
+    match kind_of_text(alloc, text)? {
         Ok(kind) => kind_output(alloc, how, kind),
-        Err(fault) => fault_output(alloc, how, text, fault),
-    }
-}
-
-// The kind of the CRS that a text spells.
-fn kind_of_text(alloc: Global, text: &[u8]) -> Result<Kind, Fault>
-    ensures { MatchResult result (SpellsKind text.now) (IsFaultOfText text.now) }
-{
-    match read_items(alloc, text) {
-        Ok(items) => match kind_of(&items) {
-            Ok(kind) => Ok(kind),
-            Err(refusal) => Err(Fault::Refused(refusal)),
-        },
-        Err(fault) => Err(fault),
+        Err(refusal) => refusal_output(alloc, how, text, refusal),
     }
 }
 
@@ -143,17 +130,15 @@ fn kind_output(alloc: Global, how: Manner, kind: Kind) -> Result<(Vec<u8>, u8), 
     Ok((line, 0))
 }
 
-// What is written for the refusal in a fault of a text.
-fn fault_output(
+fn refusal_output(
     alloc: Global,
     how: Manner,
     text: &[u8],
-    fault: Fault,
+    refusal: Refusal,
 ) -> Result<(Vec<u8>, u8), AllocError>
-    requires { IsFaultOfText text.now fault }
+    requires { Refuses text.now refusal }
     ensures { IfOk result (λ output. TellsRefusalOf how [] text.now output.0.items output.1) }
 {
-    let refusal = refusal_in(fault)?;
     let told = explained(alloc, how, b"", text, refusal)?;
     Ok((told, 1))
 }

@@ -4,7 +4,7 @@ ghost use Rattle.crs_runs.specs.Output.{IsCanonOutput};
 ghost use Rattle.crs_streams.specs.Streams.{fresh_sink, fresh_source};
 
 use crate::answer::{Answer, write_answer};
-use crate::kind_of_text::refusal_in;
+use crate::judging::refusal_in;
 use crate::print::{line_of, refused_line};
 use crate::text::read_text;
 use crate::{Level, RunFault, Sink, Source};

@@ -4,7 +4,7 @@ ghost use Rattle.crs_runs.specs.Output.{IsCheckOutput, WritesFound, kind_word};
 ghost use Rattle.crs_streams.specs.Streams.{fresh_sink, fresh_source};
 
 use crate::answer::{Answer, write_answer};
-use crate::kind_of_text::{found_in, judged};
+use crate::judging::{judged, kind_of_text};
 use crate::pieces::read_pieces;
 use crate::print::refused_line;
 use crate::{RunFault, Sink, Source};
@@ -58,7 +58,7 @@ impl Answer for CheckAnswer {
 pub fn check_output(alloc: Global, text: &[u8]) -> Result<(Vec<u8>, u8), AllocError>
     ensures { IfOk result (λ output. IsCheckOutput text.now output.0.items output.1) }
 {
-    let found = found_in(alloc, text)?;
+    let found = kind_of_text(alloc, text)?;
     found_output(alloc, &found)
 }
 

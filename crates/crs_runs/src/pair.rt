@@ -6,7 +6,7 @@ ghost use Rattle.crs_value.specs.SpellsText.{IsFaultOfText, Refuses};
 ghost use Rattle.crs_runs.specs.PairOutput.{IsPairOutput, IsSecondOutput};
 
 use crate::Level;
-use crate::kind_of_text::refusal_in;
+use crate::judging::refusal_in;
 use crs_text::{Fault, Refusal};
 use crs_value::{Crs, read};
 use std::alloc::{AllocError, Global};

@@ -21,8 +21,8 @@ pub(crate) fn judged(feeder: &Feeder) -> Result<Result<Kind, Refusal>, AllocErro
     }
 }
 
-// The kind of the CRS that a text spells, or the refusal.
-pub(crate) fn found_in(alloc: Global, text: &[u8]) -> Result<Result<Kind, Refusal>, AllocError>
+/// The kind of the CRS that a text spells, or the refusal. `AllocError`: memory ran out. Profile.
+pub fn kind_of_text(alloc: Global, text: &[u8]) -> Result<Result<Kind, Refusal>, AllocError>
     ensures { IfOk result (λ found. MatchResult found (SpellsKind text.now) (Refuses text.now)) }
 {
     match read_items(alloc, text) {
