@@ -20,7 +20,7 @@ use Rattle.crs_normal.specs.SpelledUnits.{item_unit, norm_unit, norm_units}
 use Rattle.crs_writer.specs.Members.{set_text}
 use Rattle.crs_nodes.specs.Found.{SaysIfAny}
 use Rattle.crs_writer.specs.Parts.{number_behind, opt_text}
-use Rattle.crs_writer.proofs.DirectLemmas.{closed, keyworded, last-more, last-text, then-text}
+use Rattle.crs_writer.proofs.DirectLemmas.{closed, keyworded, last-more, then-text}
 use Rattle.crs_writer.proofs.PieceLemmas.{then-each, then-more, then-opt, three, two}
 use Rattle.crs_writer.proofs.SystemLemmas.{then-system}
 use Rattle.crs_writer.proofs.WrittenLemmas.{geoid_models-written, members-written, parameters-written}

@@ -8,8 +8,7 @@ use Rattle.crs_value.specs.Values.{AxisParts, SystemParts}
 use Rattle.crs_value.specs.declared.values.level.Level.{Level}
 use Rattle.crs_matching.specs.SameSystems.{own_or}
 use Rattle.crs_normal.specs.SpelledItems.{each, number_node, opt, word_item}
-use Rattle.crs_normal.specs.SpelledSystems.{axes_from, axis_at, item_axis, item_axis_meridian, item_head, norm_axis, norm_axis_meridians}
-use Rattle.crs_normal.specs.SpelledSystems.{norm_system, system_items, with_axis}
+use Rattle.crs_normal.specs.SpelledSystems.{axes_from, axis_at, item_axis, item_axis_meridian, item_head, norm_axis, norm_axis_meridians, norm_system, system_items, with_axis}
 use Rattle.crs_normal.specs.SpelledUnits.{item_ident, item_unit, norm_units, set_idents, whole_value}
 use Rattle.crs_leaves.specs.Openings.{named_node}
 use Rattle.crs_writer.proofs.PieceLemmas.{two}

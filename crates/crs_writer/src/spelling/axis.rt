@@ -11,30 +11,18 @@ ghost use Rattle.crs_value.specs.Values.{AxisMeridianParts, IdentParts, UnitPart
 ghost use Rattle.crs_normal.specs.PartTexts.{axis_meridian_text, axis_text};
 ghost use Rattle.crs_normal.specs.SpelledItems.{each, number_node, opt, word_item};
 ghost use Rattle.crs_normal.specs.SpelledSystems.{item_axis_meridian, norm_axis_meridians};
-ghost use Rattle.crs_normal.specs.SpelledUnits.{item_ident, item_unit, norm_units, set_idents, whole_value};
+ghost use Rattle.crs_normal.specs.SpelledUnits.{item_ident, item_unit, norm_units, set_idents};
 ghost use Rattle.crs_leaves.specs.Openings.{named_node, numbered_node};
 ghost use Rattle.crs_nodes.specs.Found.{SaysIfAny};
 
 use crate::parts::{IdentsPart, NumberPart, Part, UnitPart, write_optional, write_optional_number};
 use crate::spell::Spell;
 use crate::spelling::unit::write_optional_unit;
-use crs_leaves::{append, open_text, write_whole};
+use crs_leaves::{append, open_text};
 use crs_nodes::Node;
 use crs_shape::Class;
 use crs_value::{Axis, AxisMeridian, Direction, Level, UnitKind};
 use std::alloc::AllocError;
-
-/// Appends a position after a comma. Profile.
-///
-/// `AllocError`: there is no memory for it.
-pub fn write_order(out: &mut Vec<u8>, order: u64) -> Result<(), AllocError>
-    ensures { OnOk result (out.new.items
-        ≡ out.old.items ++ 44 ∷ item_text (number_node (codes "ORDER") (whole_value order))) }
-{
-    append(out, b",ORDER[")?;
-    write_whole(out, order)?;
-    append(out, b"]")
-}
 
 /// Appends the word of a direction after a comma. Profile.
 ///
@@ -84,33 +72,40 @@ impl<'c, 'i, 'a> Part<AxisMeridian<'a>> for &'c Node<'i, 'a> {
     }
 }
 
+// The parts of an axis, whose unit is of the kind that is asked.
+#[derive(Drop)]
+pub(crate) struct AxisFields<'n, M, N, U, I> {
+    pub(crate) name: &'n [u8],
+    pub(crate) direction: Direction,
+    pub(crate) meridian: Option<M>,
+    pub(crate) order: Option<N>,
+    pub(crate) asked: UnitKind,
+    pub(crate) unit: Option<U>,
+    pub(crate) ids: I,
+}
+
 // After an opening; with this order, and this unit, where that kind is asked.
 pub(crate) fn write_axis<'a, M: Part<AxisMeridian<'a>>, N: NumberPart, U: UnitPart, I: IdentsPart>(
     out: &mut Vec<u8>,
     opening: &[u8],
-    name: &[u8],
-    direction: Direction,
-    meridian: Option<M>,
-    order: Option<N>,
-    asked: UnitKind,
-    unit: Option<U>,
-    ids: I,
+    fields: AxisFields<'_, M, N, U, I>,
     level: Level,
 ) -> Result<(), AllocError>
     ensures { OnOk result ((n : List ℕ) (d : Direction) (m : Option AxisMeridianParts) (o : Option Value) (k : UnitKind)
-        (u : Option UnitParts) (is : List IdentParts) → n ≡ name.now → d ≡ direction → SaysIfAny M.Says meridian m →
-        SaysIfAny N.Says order o → k ≡ asked → SaysIfAny U.Says unit u → I.Says ids is →
+        (u : Option UnitParts) (is : List IdentParts) → n ≡ fields.entry.name.now → d ≡ fields.entry.direction →
+        SaysIfAny M.Says fields.entry.meridian m → SaysIfAny N.Says fields.entry.order o → k ≡ fields.entry.asked →
+        SaysIfAny U.Says fields.entry.unit u → I.Says fields.entry.ids is →
         out.new.items ≡ out.old.items ++ named_node opening.now n
         (More (word_item (direction_word d)) (opt item_axis_meridian (norm_axis_meridians level m)
         (opt (number_node (codes "ORDER")) o (opt item_unit (norm_units level k u)
         (each item_ident (set_idents level is) End)))))) }
 {
-    open_text(out, opening, name)?;
-    write_direction(out, direction)?;
-    write_optional::<AxisMeridian<'a>, M>(out, meridian, level)?;
-    write_optional_number(out, b",ORDER[", order)?;
-    write_optional_unit(out, asked, unit, level)?;
-    ids.put(out, level)?;
+    open_text(out, opening, fields.name)?;
+    write_direction(out, fields.direction)?;
+    write_optional::<AxisMeridian<'a>, M>(out, fields.meridian, level)?;
+    write_optional_number(out, b",ORDER[", fields.order)?;
+    write_optional_unit(out, fields.asked, fields.unit, level)?;
+    fields.ids.put(out, level)?;
     append(out, b"]")
 }
 
@@ -123,13 +118,15 @@ impl Spell for Axis<'_> {
         write_axis(
             out,
             b"AXIS[\"",
-            self.name,
-            self.direction,
-            self.meridian.as_ref(),
-            self.order.as_ref(),
-            UnitKind::Plain,
-            self.unit.as_ref(),
-            &self.identifiers,
+            AxisFields {
+                name: self.name,
+                direction: self.direction,
+                meridian: self.meridian.as_ref(),
+                order: self.order.as_ref(),
+                asked: UnitKind::Plain,
+                unit: self.unit.as_ref(),
+                ids: &self.identifiers,
+            },
             level,
         )
     }

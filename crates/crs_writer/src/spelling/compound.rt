@@ -63,27 +63,34 @@ impl<'c, 'i, 'a> NeededPart<Horizontal<'a>> for &'c Node<'i, 'a> {
     }
 }
 
+// The parts of a compound CRS.
+#[derive(Drop)]
+struct CompoundFields<'n, H, V, T> {
+    name: &'n [u8],
+    horizontal: H,
+    vertical: V,
+    tail: T,
+}
+
 // After an opening.
 fn write_compound<'a, H: NeededPart<Horizontal<'a>>, V: NeededPart<Vertical<'a>>, T: TailPart>(
     out: &mut Vec<u8>,
     opening: &[u8],
-    name: &[u8],
-    horizontal: H,
-    vertical: V,
-    tail: T,
+    fields: CompoundFields<'_, H, V, T>,
     level: Level,
 ) -> Result<(), AllocError>
-    requires horizontal { IsRead (H.Says horizontal) }
-    requires vertical { IsRead (V.Says vertical) }
-    ensures { OnOk result ((p : CompoundParts) → p.name ≡ name.now → H.Says horizontal p.horizontal →
-        V.Says vertical p.vertical → T.Says tail p.tail → out.new.items ≡ out.old.items ++ named_node opening.now p.name
+    requires horizontal { IsRead (H.Says fields.horizontal) }
+    requires vertical { IsRead (V.Says fields.vertical) }
+    ensures { OnOk result ((p : CompoundParts) → p.name ≡ fields.entry.name.now →
+        H.Says fields.entry.horizontal p.horizontal → V.Says fields.entry.vertical p.vertical →
+        T.Says fields.entry.tail p.tail → out.new.items ≡ out.old.items ++ named_node opening.now p.name
         (More (item_horizontal (norm_horizontal level p.horizontal)) (More (item_vertical (norm_vertical level p.vertical))
         (tail_items (norm_tail level p.tail))))) }
 {
-    open_text(out, opening, name)?;
-    horizontal.put(out, level)?;
-    vertical.put(out, level)?;
-    tail.put(out, level)?;
+    open_text(out, opening, fields.name)?;
+    fields.horizontal.put(out, level)?;
+    fields.vertical.put(out, level)?;
+    fields.tail.put(out, level)?;
     append(out, b"]")
 }
 
@@ -94,10 +101,12 @@ impl Spell for Compound<'_> {
         write_compound(
             out,
             b"COMPOUNDCRS[\"",
-            self.name,
-            &self.horizontal,
-            &self.vertical,
-            &self.tail,
+            CompoundFields {
+                name: self.name,
+                horizontal: &self.horizontal,
+                vertical: &self.vertical,
+                tail: &self.tail,
+            },
             level,
         )
     }
@@ -118,10 +127,12 @@ pub(crate) fn write_compound_of(
     write_compound(
         out,
         b"COMPOUNDCRS[\"",
-        node.text(),
-        node,
-        &vertical,
-        tail,
+        CompoundFields {
+            name: node.text(),
+            horizontal: node,
+            vertical: &vertical,
+            tail,
+        },
         level,
     )
 }

@@ -45,26 +45,32 @@ impl<'c, 'i, 'a> Part<Method<'a>> for &'c Node<'i, 'a> {
     }
 }
 
+// The parts of a parameter.
+#[derive(Drop)]
+struct ParameterFields<'n, N, U, I> {
+    name: &'n [u8],
+    value: N,
+    unit: Option<U>,
+    ids: I,
+}
+
 // After an opening.
 #[tactic(auto, using(crate::proofs::FlatLemmas::flat_rules))]
 fn write_parameter<N: NumberPart, U: UnitPart, I: IdentsPart>(
     out: &mut Vec<u8>,
     opening: &[u8],
-    name: &[u8],
-    value: N,
-    unit: Option<U>,
-    ids: I,
+    fields: ParameterFields<'_, N, U, I>,
     level: Level,
 ) -> Result<(), AllocError>
-    ensures { OnOk result ((p : ParameterParts) → p.name ≡ name.now → N.Says value p.value →
-        SaysIfAny U.Says unit p.unit → I.Says ids p.identifiers →
+    ensures { OnOk result ((p : ParameterParts) → p.name ≡ fields.entry.name.now → N.Says fields.entry.value p.value →
+        SaysIfAny U.Says fields.entry.unit p.unit → I.Says fields.entry.ids p.identifiers →
         out.new.items ≡ out.old.items ++ named_node opening.now p.name (More (number_item p.value)
         (opt item_unit (norm_units level kinds.Plain p.unit) (each item_ident (set_idents level p.identifiers) End)))) }
 {
-    open_text(out, opening, name)?;
-    value.open(out, b",")?;
-    write_optional_unit(out, UnitKind::Plain, unit, level)?;
-    ids.put(out, level)?;
+    open_text(out, opening, fields.name)?;
+    fields.value.open(out, b",")?;
+    write_optional_unit(out, UnitKind::Plain, fields.unit, level)?;
+    fields.ids.put(out, level)?;
     append(out, b"]")
 }
 
@@ -75,10 +81,12 @@ impl Spell for Parameter<'_> {
         write_parameter(
             out,
             b"PARAMETER[\"",
-            self.name,
-            &self.value,
-            self.unit.as_ref(),
-            &self.identifiers,
+            ParameterFields {
+                name: self.name,
+                value: &self.value,
+                unit: self.unit.as_ref(),
+                ids: &self.identifiers,
+            },
             level,
         )
     }
@@ -97,35 +105,44 @@ impl<'a> ReadAs<'a> for Parameter<'a> {
         write_parameter(
             out,
             b"PARAMETER[\"",
-            node.text(),
-            node.number(),
-            unit.as_ref(),
-            node,
+            ParameterFields {
+                name: node.text(),
+                value: node.number(),
+                unit: unit.as_ref(),
+                ids: node,
+            },
             level,
         )
     }
+}
+
+// The parts of a conversion.
+#[derive(Drop)]
+struct ConversionFields<'n, 'm, M, P, I> {
+    name: &'n [u8],
+    method: M,
+    parameters: &'m P,
+    ids: I,
 }
 
 // After an opening.
 fn write_conversion<'a, M: Part<Method<'a>>, P: MembersPart<Parameter<'a>>, I: IdentsPart>(
     out: &mut Vec<u8>,
     opening: &[u8],
-    name: &[u8],
-    method: M,
-    parameters: &P,
-    ids: I,
+    fields: ConversionFields<'_, '_, M, P, I>,
     level: Level,
 ) -> Result<(), AllocError>
-    requires { P.Hold parameters.now }
-    ensures { OnOk result ((x : ConversionParts) → x.name ≡ name.now → M.Says method x.method →
-        P.Say parameters.now x.parameters → I.Says ids x.identifiers →
+    requires { P.Hold fields.parameters.now }
+    ensures { OnOk result ((x : ConversionParts) → x.name ≡ fields.entry.name.now →
+        M.Says fields.entry.method x.method → P.Say fields.entry.parameters.now x.parameters →
+        I.Says fields.entry.ids x.identifiers →
         out.new.items ≡ out.old.items ++ named_node opening.now x.name (More (item_method (norm_method level x.method))
         (each item_parameter (set_parameters level x.parameters) (each item_ident (set_idents level x.identifiers) End)))) }
 {
-    open_text(out, opening, name)?;
-    method.put(out, level)?;
-    write_set::<Parameter<'a>, P>(out, parameters, level)?;
-    ids.put(out, level)?;
+    open_text(out, opening, fields.name)?;
+    fields.method.put(out, level)?;
+    write_set::<Parameter<'a>, P>(out, fields.parameters, level)?;
+    fields.ids.put(out, level)?;
     append(out, b"]")
 }
 
@@ -137,10 +154,12 @@ impl<'a> Spell for Conversion<'a> {
         write_conversion(
             out,
             b"CONVERSION[\"",
-            self.name,
-            &self.method,
-            &parameters,
-            &self.identifiers,
+            ConversionFields {
+                name: self.name,
+                method: &self.method,
+                parameters: &parameters,
+                ids: &self.identifiers,
+            },
             level,
         )
     }
@@ -158,10 +177,12 @@ impl<'c, 'i, 'a> NeededPart<Conversion<'a>> for &'c Node<'i, 'a> {
         write_conversion(
             out,
             b",CONVERSION[\"",
-            self.text(),
-            &method,
-            &parameters,
-            *self,
+            ConversionFields {
+                name: self.text(),
+                method: &method,
+                parameters: &parameters,
+                ids: *self,
+            },
             level,
         )
     }

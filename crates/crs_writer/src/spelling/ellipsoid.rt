@@ -17,29 +17,36 @@ use crs_shape::Class;
 use crs_value::{Ellipsoid, Level};
 use std::alloc::AllocError;
 
+// The parts of an ellipsoid.
+#[derive(Drop)]
+struct EllipsoidFields<'n, A, F, U, I> {
+    name: &'n [u8],
+    axis: A,
+    flattening: F,
+    unit: Option<U>,
+    ids: I,
+}
+
 // After an opening.
 #[tactic(auto, using(crate::proofs::FlatLemmas::flat_rules))]
 fn write_ellipsoid<A: NumberPart, F: NumberPart, U: UnitPart, I: IdentsPart>(
     out: &mut Vec<u8>,
     opening: &[u8],
-    name: &[u8],
-    axis: A,
-    flattening: F,
-    unit: Option<U>,
-    ids: I,
+    fields: EllipsoidFields<'_, A, F, U, I>,
     level: Level,
 ) -> Result<(), AllocError>
-    ensures { OnOk result ((e : EllipsoidParts) → e.name ≡ name.now → A.Says axis e.semi_major_axis →
-        F.Says flattening e.inverse_flattening → SaysIfAny U.Says unit e.unit → I.Says ids e.identifiers →
+    ensures { OnOk result ((e : EllipsoidParts) → e.name ≡ fields.entry.name.now →
+        A.Says fields.entry.axis e.semi_major_axis → F.Says fields.entry.flattening e.inverse_flattening →
+        SaysIfAny U.Says fields.entry.unit e.unit → I.Says fields.entry.ids e.identifiers →
         out.new.items ≡ out.old.items ++ named_node opening.now e.name
         (More (number_item e.semi_major_axis) (More (number_item e.inverse_flattening)
         (opt item_unit (Some (norm_length level e.unit)) (each item_ident (set_idents level e.identifiers) End))))) }
 {
-    open_text(out, opening, name)?;
-    axis.open(out, b",")?;
-    flattening.open(out, b",")?;
-    write_length(out, unit, level)?;
-    ids.put(out, level)?;
+    open_text(out, opening, fields.name)?;
+    fields.axis.open(out, b",")?;
+    fields.flattening.open(out, b",")?;
+    write_length(out, fields.unit, level)?;
+    fields.ids.put(out, level)?;
     append(out, b"]")
 }
 
@@ -50,11 +57,13 @@ impl Spell for Ellipsoid<'_> {
         write_ellipsoid(
             out,
             b"ELLIPSOID[\"",
-            self.name,
-            &self.semi_major_axis,
-            &self.inverse_flattening,
-            self.unit.as_ref(),
-            &self.identifiers,
+            EllipsoidFields {
+                name: self.name,
+                axis: &self.semi_major_axis,
+                flattening: &self.inverse_flattening,
+                unit: self.unit.as_ref(),
+                ids: &self.identifiers,
+            },
             level,
         )
     }
@@ -71,11 +80,13 @@ impl<'c, 'i, 'a> Part<Ellipsoid<'a>> for &'c Node<'i, 'a> {
         write_ellipsoid(
             out,
             b",ELLIPSOID[\"",
-            self.text(),
-            self.nth_number(0),
-            self.nth_number(1),
-            unit.as_ref(),
-            *self,
+            EllipsoidFields {
+                name: self.text(),
+                axis: self.nth_number(0),
+                flattening: self.nth_number(1),
+                unit: unit.as_ref(),
+                ids: *self,
+            },
             level,
         )
     }

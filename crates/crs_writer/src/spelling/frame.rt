@@ -49,31 +49,38 @@ impl<'a> ReadAs<'a> for Member<'a> {
     }
 }
 
+// The parts of a reference frame.
+#[derive(Drop)]
+struct DatumFields<'n, E, N, I> {
+    name: &'n [u8],
+    ellipsoid: Option<E>,
+    anchor: Option<&'n [u8]>,
+    epoch: Option<N>,
+    ids: I,
+}
+
 // After an opening.
 #[tactic(auto, using(crate::proofs::FlatLemmas::flat_rules))]
 fn write_datum<'a, E: Part<Ellipsoid<'a>>, N: NumberPart, I: IdentsPart>(
     out: &mut Vec<u8>,
     opening: &[u8],
-    name: &[u8],
-    ellipsoid: Option<E>,
-    anchor: Option<&[u8]>,
-    epoch: Option<N>,
-    ids: I,
+    fields: DatumFields<'_, E, N, I>,
     level: Level,
 ) -> Result<(), AllocError>
-    ensures { OnOk result ((d : DatumParts) → d.name ≡ name.now → SaysIfAny E.Says ellipsoid d.ellipsoid →
-        d.anchor ≡ option_copied anchor.entry → SaysIfAny N.Says epoch d.anchor_epoch → I.Says ids d.identifiers →
+    ensures { OnOk result ((d : DatumParts) → d.name ≡ fields.entry.name.now →
+        SaysIfAny E.Says fields.entry.ellipsoid d.ellipsoid → d.anchor ≡ option_copied fields.entry.anchor →
+        SaysIfAny N.Says fields.entry.epoch d.anchor_epoch → I.Says fields.entry.ids d.identifiers →
         out.new.items ≡ out.old.items ++ named_node opening.now d.name
         (opt item_ellipsoid (option_map (norm_ellipsoid level) d.ellipsoid)
         (opt (text_node (codes "ANCHOR")) d.anchor
         (opt (number_node (codes "ANCHOREPOCH")) d.anchor_epoch
         (each item_ident (set_idents level d.identifiers) End))))) }
 {
-    open_text(out, opening, name)?;
-    write_optional::<Ellipsoid<'a>, E>(out, ellipsoid, level)?;
-    write_optional_text(out, b",ANCHOR[\"", anchor)?;
-    write_optional_number(out, b",ANCHOREPOCH[", epoch)?;
-    ids.put(out, level)?;
+    open_text(out, opening, fields.name)?;
+    write_optional::<Ellipsoid<'a>, E>(out, fields.ellipsoid, level)?;
+    write_optional_text(out, b",ANCHOR[\"", fields.anchor)?;
+    write_optional_number(out, b",ANCHOREPOCH[", fields.epoch)?;
+    fields.ids.put(out, level)?;
     append(out, b"]")
 }
 
@@ -94,11 +101,13 @@ fn write_datum_in(
     write_datum(
         out,
         opening,
-        datum.name,
-        datum.ellipsoid.as_ref(),
-        datum.anchor,
-        datum.anchor_epoch.as_ref(),
-        &datum.identifiers,
+        DatumFields {
+            name: datum.name,
+            ellipsoid: datum.ellipsoid.as_ref(),
+            anchor: datum.anchor,
+            epoch: datum.anchor_epoch.as_ref(),
+            ids: &datum.identifiers,
+        },
         level,
     )
 }
@@ -120,11 +129,13 @@ fn write_datum_of(
     write_datum(
         out,
         opening,
-        node.text(),
-        ellipsoid.as_ref(),
-        node.text_in(Class::Anchor),
-        node.number_in(Class::AnchorEpoch),
-        node,
+        DatumFields {
+            name: node.text(),
+            ellipsoid: ellipsoid.as_ref(),
+            anchor: node.text_in(Class::Anchor),
+            epoch: node.number_in(Class::AnchorEpoch),
+            ids: node,
+        },
         level,
     )
 }
@@ -156,6 +167,16 @@ impl Spell for Datum<'_> {
     }
 }
 
+// The parts of an ensemble.
+#[derive(Drop)]
+struct EnsembleFields<'n, 'm, M, E, N, I> {
+    name: &'n [u8],
+    members: &'m M,
+    ellipsoid: Option<E>,
+    accuracy: N,
+    ids: I,
+}
+
 // After an opening.
 fn write_ensemble<
     'a,
@@ -166,25 +187,22 @@ fn write_ensemble<
 >(
     out: &mut Vec<u8>,
     opening: &[u8],
-    name: &[u8],
-    members: &M,
-    ellipsoid: Option<E>,
-    accuracy: N,
-    ids: I,
+    fields: EnsembleFields<'_, '_, M, E, N, I>,
     level: Level,
 ) -> Result<(), AllocError>
-    requires { M.Hold members.now }
-    ensures { OnOk result ((e : EnsembleParts) → e.name ≡ name.now → M.Say members.now e.members →
-        SaysIfAny E.Says ellipsoid e.ellipsoid → N.Says accuracy e.accuracy → I.Says ids e.identifiers →
+    requires { M.Hold fields.members.now }
+    ensures { OnOk result ((e : EnsembleParts) → e.name ≡ fields.entry.name.now →
+        M.Say fields.entry.members.now e.members → SaysIfAny E.Says fields.entry.ellipsoid e.ellipsoid →
+        N.Says fields.entry.accuracy e.accuracy → I.Says fields.entry.ids e.identifiers →
         out.new.items ≡ out.old.items ++ named_node opening.now e.name (each item_member (set_members level e.members)
         (opt item_ellipsoid (option_map (norm_ellipsoid level) e.ellipsoid)
         (More (number_node (codes "ENSEMBLEACCURACY") e.accuracy) (each item_ident (set_idents level e.identifiers) End))))) }
 {
-    open_text(out, opening, name)?;
-    write_set::<Member<'a>, M>(out, members, level)?;
-    write_optional::<Ellipsoid<'a>, E>(out, ellipsoid, level)?;
-    write_number_node(out, b",ENSEMBLEACCURACY[", accuracy)?;
-    ids.put(out, level)?;
+    open_text(out, opening, fields.name)?;
+    write_set::<Member<'a>, M>(out, fields.members, level)?;
+    write_optional::<Ellipsoid<'a>, E>(out, fields.ellipsoid, level)?;
+    write_number_node(out, b",ENSEMBLEACCURACY[", fields.accuracy)?;
+    fields.ids.put(out, level)?;
     append(out, b"]")
 }
 
@@ -196,11 +214,13 @@ impl Spell for Ensemble<'_> {
         write_ensemble(
             out,
             b"ENSEMBLE[\"",
-            self.name,
-            &members,
-            self.ellipsoid.as_ref(),
-            &self.accuracy,
-            &self.identifiers,
+            EnsembleFields {
+                name: self.name,
+                members: &members,
+                ellipsoid: self.ellipsoid.as_ref(),
+                accuracy: &self.accuracy,
+                ids: &self.identifiers,
+            },
             level,
         )
     }
@@ -216,11 +236,13 @@ fn write_ensemble_in(out: &mut Vec<u8>, node: &Node<'_, '_>, level: Level) -> Re
     write_ensemble(
         out,
         b",ENSEMBLE[\"",
-        node.text(),
-        &members,
-        ellipsoid.as_ref(),
-        node.one_number(Class::EnsembleAccuracy),
-        node,
+        EnsembleFields {
+            name: node.text(),
+            members: &members,
+            ellipsoid: ellipsoid.as_ref(),
+            accuracy: node.one_number(Class::EnsembleAccuracy),
+            ids: node,
+        },
         level,
     )
 }

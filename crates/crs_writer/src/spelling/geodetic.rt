@@ -40,6 +40,17 @@ pub fn geodetic_opening(system_type: SystemType) -> &'static str
     }
 }
 
+// The parts of a geodetic CRS.
+#[derive(Drop)]
+struct GeodeticFields<'n, D, F, M, S, T> {
+    name: &'n [u8],
+    dynamic: Option<D>,
+    frame: F,
+    meridian: Option<M>,
+    system: S,
+    tail: T,
+}
+
 #[tactic(auto, using(crate::proofs::FlatLemmas::crs_rules))]
 fn write_geodetic<
     'a,
@@ -50,30 +61,30 @@ fn write_geodetic<
     T: TailPart,
 >(
     out: &mut Vec<u8>,
-    name: &[u8],
-    dynamic: Option<D>,
-    frame: F,
-    meridian: Option<M>,
-    system: S,
-    tail: T,
+    fields: GeodeticFields<'_, D, F, M, S, T>,
     level: Level,
 ) -> Result<(), AllocError>
-    requires frame { IsRead (F.SaysGeodetic frame) }
-    requires system { IsRead (S.Says system) }
+    requires frame { IsRead (F.SaysGeodetic fields.frame) }
+    requires system { IsRead (S.Says fields.system) }
     ensures { OnOk result ((n : List ℕ) (d : Option DynamicParts) (f : Frame) (m : Option MeridianParts)
-        (s : SystemParts) (t : TailParts) → n ≡ name.now → SaysIfAny D.Says dynamic d → F.SaysGeodetic frame f →
-        SaysIfAny M.Says meridian m → S.Says system s → T.Says tail t → out.new.items ≡ out.old.items
+        (s : SystemParts) (t : TailParts) → n ≡ fields.entry.name.now → SaysIfAny D.Says fields.entry.dynamic d →
+        F.SaysGeodetic fields.entry.frame f → SaysIfAny M.Says fields.entry.meridian m → S.Says fields.entry.system s →
+        T.Says fields.entry.tail t → out.new.items ≡ out.old.items
         ++ item_text (node_of (geodetic_keyword s.system_type) (text_item n)
         (opt item_dynamic (option_map (norm_dynamic level) d) (More (item_frame (codes "DATUM") (norm_frame level f))
         (opt item_meridian (norm_meridian level m)
         (system_items (norm_system level s) (tail_items (norm_tail level t)))))))) }
 {
-    open_text(out, geodetic_opening(system.system_type()).as_bytes(), name)?;
-    write_optional::<Dynamic<'a>, D>(out, dynamic, level)?;
-    frame.put_geodetic(out, level)?;
-    write_meridian::<M>(out, meridian, level)?;
-    write_system(out, system, level)?;
-    tail.put(out, level)?;
+    open_text(
+        out,
+        geodetic_opening(fields.system.system_type()).as_bytes(),
+        fields.name,
+    )?;
+    write_optional::<Dynamic<'a>, D>(out, fields.dynamic, level)?;
+    fields.frame.put_geodetic(out, level)?;
+    write_meridian::<M>(out, fields.meridian, level)?;
+    write_system(out, fields.system, level)?;
+    fields.tail.put(out, level)?;
     append(out, b"]")
 }
 
@@ -84,12 +95,14 @@ impl Spell for Geodetic<'_> {
     fn spell(&self, out: &mut Vec<u8>, level: Level) -> Result<(), AllocError> {
         write_geodetic(
             out,
-            self.name,
-            self.dynamic.as_ref(),
-            &self.frame,
-            self.meridian.as_ref(),
-            &self.system,
-            &self.tail,
+            GeodeticFields {
+                name: self.name,
+                dynamic: self.dynamic.as_ref(),
+                frame: &self.frame,
+                meridian: self.meridian.as_ref(),
+                system: &self.system,
+                tail: &self.tail,
+            },
             level,
         )
     }
@@ -111,12 +124,14 @@ pub(crate) fn write_geodetic_of(
     let meridian = node.first(Class::PrimeMeridian);
     write_geodetic(
         out,
-        node.text(),
-        dynamic.as_ref(),
-        node,
-        meridian.as_ref(),
-        system,
-        tail,
+        GeodeticFields {
+            name: node.text(),
+            dynamic: dynamic.as_ref(),
+            frame: node,
+            meridian: meridian.as_ref(),
+            system,
+            tail,
+        },
         level,
     )
 }

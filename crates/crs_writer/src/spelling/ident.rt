@@ -34,26 +34,29 @@ fn write_version(out: &mut Vec<u8>, version: Option<&[u8]>) -> Result<(), AllocE
     }
 }
 
+// The parts of an identifier; the references are its citation and its URI.
+#[derive(Drop)]
+struct IdentFields<'n> {
+    authority: &'n [u8],
+    code: &'n [u8],
+    version: Option<&'n [u8]>,
+    references: (Option<&'n [u8]>, Option<&'n [u8]>),
+}
+
 // After an opening.
 #[inline(always)]
-fn write_ident(
-    out: &mut Vec<u8>,
-    opening: &[u8],
-    authority: &[u8],
-    code: &[u8],
-    version: Option<&[u8]>,
-    references: (Option<&[u8]>, Option<&[u8]>),
-) -> Result<(), AllocError>
-    ensures { OnOk result ((a c : List ℕ) (v r u : Option (List ℕ)) → a ≡ authority.now → c ≡ code.now →
-        v ≡ option_copied version.entry → r ≡ option_copied references.entry.0 → u ≡ option_copied references.entry.1 →
+fn write_ident(out: &mut Vec<u8>, opening: &[u8], fields: IdentFields<'_>) -> Result<(), AllocError>
+    ensures { OnOk result ((a c : List ℕ) (v r u : Option (List ℕ)) → a ≡ fields.entry.authority.now →
+        c ≡ fields.entry.code.now → v ≡ option_copied fields.entry.version →
+        r ≡ option_copied fields.entry.references.0 → u ≡ option_copied fields.entry.references.1 →
         out.new.items ≡ out.old.items ++ named_node opening.now a (More (code_item c) (opt code_item v
         (opt (text_node (codes "CITATION")) r (opt (text_node (codes "URI")) u End))))) }
 {
-    open_text(out, opening, authority)?;
-    write_code(out, code)?;
-    write_version(out, version)?;
-    write_optional_text(out, b",CITATION[\"", references.0)?;
-    write_optional_text(out, b",URI[\"", references.1)?;
+    open_text(out, opening, fields.authority)?;
+    write_code(out, fields.code)?;
+    write_version(out, fields.version)?;
+    write_optional_text(out, b",CITATION[\"", fields.references.0)?;
+    write_optional_text(out, b",URI[\"", fields.references.1)?;
     append(out, b"]")
 }
 
@@ -65,10 +68,12 @@ impl Spell for Ident<'_> {
         write_ident(
             out,
             b"ID[\"",
-            self.authority,
-            self.code,
-            self.version,
-            references,
+            IdentFields {
+                authority: self.authority,
+                code: self.code,
+                version: self.version,
+                references,
+            },
         )
     }
 }
@@ -85,10 +90,12 @@ impl<'a> ReadAs<'a> for Ident<'a> {
         write_ident(
             out,
             b"ID[\"",
-            node.text(),
-            node.code(),
-            node.version(),
-            node.references(),
+            IdentFields {
+                authority: node.text(),
+                code: node.code(),
+                version: node.version(),
+                references: node.references(),
+            },
         )
     }
 }

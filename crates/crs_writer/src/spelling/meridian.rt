@@ -41,25 +41,32 @@ fn write_unit_of<N: NumberPart, U: UnitPart>(
     }
 }
 
+// The parts of a prime meridian.
+#[derive(Drop)]
+struct MeridianFields<'n, N, U, I> {
+    name: &'n [u8],
+    longitude: N,
+    unit: Option<U>,
+    ids: I,
+}
+
 // After an opening.
 fn write_given<N: NumberPart, U: UnitPart, I: IdentsPart>(
     out: &mut Vec<u8>,
     opening: &[u8],
-    name: &[u8],
-    longitude: N,
-    unit: Option<U>,
-    ids: I,
+    fields: MeridianFields<'_, N, U, I>,
     level: Level,
 ) -> Result<(), AllocError>
-    ensures { OnOk result ((n : List ℕ) (l : Value) (u : Option UnitParts) (is : List IdentParts) → n ≡ name.now →
-        N.Says longitude l → SaysIfAny U.Says unit u → I.Says ids is →
+    ensures { OnOk result ((n : List ℕ) (l : Value) (u : Option UnitParts) (is : List IdentParts) →
+        n ≡ fields.entry.name.now → N.Says fields.entry.longitude l → SaysIfAny U.Says fields.entry.unit u →
+        I.Says fields.entry.ids is →
         out.new.items ≡ out.old.items ++ named_node opening.now n (More (number_item l) (opt item_unit
         (if is_zero l then None else norm_units level kinds.Angle u) (each item_ident (set_idents level is) End)))) }
 {
-    open_text(out, opening, name)?;
-    longitude.open(out, b",")?;
-    write_unit_of(out, longitude, unit, level)?;
-    ids.put(out, level)?;
+    open_text(out, opening, fields.name)?;
+    fields.longitude.open(out, b",")?;
+    write_unit_of(out, fields.longitude, fields.unit, level)?;
+    fields.ids.put(out, level)?;
     append(out, b"]")
 }
 
@@ -71,10 +78,12 @@ impl Spell for Meridian<'_> {
         write_given(
             out,
             b"PRIMEM[\"",
-            self.name,
-            &self.longitude,
-            self.unit.as_ref(),
-            &self.identifiers,
+            MeridianFields {
+                name: self.name,
+                longitude: &self.longitude,
+                unit: self.unit.as_ref(),
+                ids: &self.identifiers,
+            },
             level,
         )
     }
@@ -91,10 +100,12 @@ impl<'c, 'i, 'a> Part<Meridian<'a>> for &'c Node<'i, 'a> {
         write_given(
             out,
             b",PRIMEM[\"",
-            self.text(),
-            self.number(),
-            unit.as_ref(),
-            *self,
+            MeridianFields {
+                name: self.text(),
+                longitude: self.number(),
+                unit: unit.as_ref(),
+                ids: *self,
+            },
             level,
         )
     }

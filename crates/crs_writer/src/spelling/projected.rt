@@ -35,6 +35,17 @@ use crs_shape::Class;
 use crs_value::{Base, Conversion, Dynamic, Level, Meridian, Projected, UnitKind};
 use std::alloc::AllocError;
 
+// The parts of a base CRS.
+#[derive(Drop)]
+struct BaseFields<'n, D, F, M, U, I> {
+    name: &'n [u8],
+    dynamic: Option<D>,
+    frame: F,
+    meridian: Option<M>,
+    unit: Option<U>,
+    ids: I,
+}
+
 // After an opening.
 #[tactic(auto, using(crate::proofs::FlatLemmas::crs_rules))]
 fn write_base<
@@ -47,28 +58,24 @@ fn write_base<
 >(
     out: &mut Vec<u8>,
     opening: &[u8],
-    name: &[u8],
-    dynamic: Option<D>,
-    frame: F,
-    meridian: Option<M>,
-    unit: Option<U>,
-    ids: I,
+    fields: BaseFields<'_, D, F, M, U, I>,
     level: Level,
 ) -> Result<(), AllocError>
-    requires { IsRead (F.SaysGeodetic frame) }
+    requires { IsRead (F.SaysGeodetic fields.frame) }
     ensures { OnOk result ((n : List ℕ) (d : Option DynamicParts) (f : Frame) (m : Option MeridianParts)
-        (u : Option UnitParts) (is : List IdentParts) → n ≡ name.now → SaysIfAny D.Says dynamic d →
-        F.SaysGeodetic frame f → SaysIfAny M.Says meridian m → SaysIfAny U.Says unit u → I.Says ids is →
+        (u : Option UnitParts) (is : List IdentParts) → n ≡ fields.entry.name.now → SaysIfAny D.Says fields.entry.dynamic d →
+        F.SaysGeodetic fields.entry.frame f → SaysIfAny M.Says fields.entry.meridian m →
+        SaysIfAny U.Says fields.entry.unit u → I.Says fields.entry.ids is →
         out.new.items ≡ out.old.items ++ named_node opening.now n (opt item_dynamic (option_map (norm_dynamic level) d)
         (More (item_frame (codes "DATUM") (norm_frame level f)) (opt item_meridian (norm_meridian level m)
         (opt item_unit (norm_units level kinds.Angle u) (each item_ident (set_idents level is) End)))))) }
 {
-    open_text(out, opening, name)?;
-    write_optional::<Dynamic<'a>, D>(out, dynamic, level)?;
-    frame.put_geodetic(out, level)?;
-    write_meridian::<M>(out, meridian, level)?;
-    write_optional_unit(out, UnitKind::Angle, unit, level)?;
-    ids.put(out, level)?;
+    open_text(out, opening, fields.name)?;
+    write_optional::<Dynamic<'a>, D>(out, fields.dynamic, level)?;
+    fields.frame.put_geodetic(out, level)?;
+    write_meridian::<M>(out, fields.meridian, level)?;
+    write_optional_unit(out, UnitKind::Angle, fields.unit, level)?;
+    fields.ids.put(out, level)?;
     append(out, b"]")
 }
 
@@ -79,12 +86,14 @@ impl Spell for Base<'_> {
         write_base(
             out,
             b"BASEGEOGCRS[\"",
-            self.name,
-            self.dynamic.as_ref(),
-            &self.frame,
-            self.meridian.as_ref(),
-            self.unit.as_ref(),
-            &self.identifiers,
+            BaseFields {
+                name: self.name,
+                dynamic: self.dynamic.as_ref(),
+                frame: &self.frame,
+                meridian: self.meridian.as_ref(),
+                unit: self.unit.as_ref(),
+                ids: &self.identifiers,
+            },
             level,
         )
     }
@@ -103,15 +112,27 @@ impl<'c, 'i, 'a> NeededPart<Base<'a>> for &'c Node<'i, 'a> {
         write_base(
             out,
             b",BASEGEOGCRS[\"",
-            self.text(),
-            dynamic.as_ref(),
-            *self,
-            meridian.as_ref(),
-            unit.as_ref(),
-            *self,
+            BaseFields {
+                name: self.text(),
+                dynamic: dynamic.as_ref(),
+                frame: *self,
+                meridian: meridian.as_ref(),
+                unit: unit.as_ref(),
+                ids: *self,
+            },
             level,
         )
     }
+}
+
+// The parts of a projected CRS.
+#[derive(Drop)]
+struct ProjectedFields<'n, B, C, S, T> {
+    name: &'n [u8],
+    base: B,
+    conversion: C,
+    system: S,
+    tail: T,
 }
 
 // After an opening.
@@ -124,27 +145,24 @@ fn write_projected<
 >(
     out: &mut Vec<u8>,
     opening: &[u8],
-    name: &[u8],
-    base: B,
-    conversion: C,
-    system: S,
-    tail: T,
+    fields: ProjectedFields<'_, B, C, S, T>,
     level: Level,
 ) -> Result<(), AllocError>
-    requires base { IsRead (B.Says base) }
-    requires conversion { IsRead (C.Says conversion) }
-    requires system { IsRead (S.Says system) }
-    ensures { OnOk result ((p : ProjectedParts) → p.name ≡ name.now → B.Says base p.base →
-        C.Says conversion p.conversion → S.Says system p.system → T.Says tail p.tail →
+    requires base { IsRead (B.Says fields.base) }
+    requires conversion { IsRead (C.Says fields.conversion) }
+    requires system { IsRead (S.Says fields.system) }
+    ensures { OnOk result ((p : ProjectedParts) → p.name ≡ fields.entry.name.now → B.Says fields.entry.base p.base →
+        C.Says fields.entry.conversion p.conversion → S.Says fields.entry.system p.system →
+        T.Says fields.entry.tail p.tail →
         out.new.items ≡ out.old.items ++ named_node opening.now p.name (More (item_base (norm_base level p.base))
         (More (item_conversion (norm_conversion level p.conversion))
         (system_items (norm_system level p.system) (tail_items (norm_tail level p.tail)))))) }
 {
-    open_text(out, opening, name)?;
-    base.put(out, level)?;
-    conversion.put(out, level)?;
-    write_system(out, system, level)?;
-    tail.put(out, level)?;
+    open_text(out, opening, fields.name)?;
+    fields.base.put(out, level)?;
+    fields.conversion.put(out, level)?;
+    write_system(out, fields.system, level)?;
+    fields.tail.put(out, level)?;
     append(out, b"]")
 }
 
@@ -155,11 +173,13 @@ impl Spell for Projected<'_> {
         write_projected(
             out,
             b"PROJCRS[\"",
-            self.name,
-            &self.base,
-            &self.conversion,
-            &self.system,
-            &self.tail,
+            ProjectedFields {
+                name: self.name,
+                base: &self.base,
+                conversion: &self.conversion,
+                system: &self.system,
+                tail: &self.tail,
+            },
             level,
         )
     }
@@ -181,11 +201,13 @@ pub(crate) fn write_projected_of(
     write_projected(
         out,
         b"PROJCRS[\"",
-        node.text(),
-        &base,
-        &conversion,
-        node,
-        tail,
+        ProjectedFields {
+            name: node.text(),
+            base: &base,
+            conversion: &conversion,
+            system: node,
+            tail,
+        },
         level,
     )
 }

@@ -17,7 +17,7 @@ ghost use Rattle.crs_leaves.specs.Direct.{IsRead, Writes};
 ghost use Rattle.crs_nodes.specs.Found.{SaysIfAny};
 
 use crate::parts::{IdentsPart, NumberPart};
-use crate::spelling::axis::write_axis;
+use crate::spelling::axis::{AxisFields, write_axis};
 use crs_leaves::{append, append_item, axes, is_at};
 use crs_nodes::{Node, copied};
 use crs_shape::Class;
@@ -138,13 +138,15 @@ fn write_axis_in<'a>(
     write_axis(
         out,
         b",AXIS[\"",
-        axis.name,
-        axis.direction,
-        axis.meridian.as_ref(),
-        Some(position),
-        system.system_type.asked_kind(axis.direction),
-        unit,
-        &axis.identifiers,
+        AxisFields {
+            name: axis.name,
+            direction: axis.direction,
+            meridian: axis.meridian.as_ref(),
+            order: Some(position),
+            asked: system.system_type.asked_kind(axis.direction),
+            unit,
+            ids: &axis.identifiers,
+        },
         level,
     )
 }
@@ -226,21 +228,27 @@ fn unit_of<'i, 'a>(crs: &Node<'i, 'a>, axis: &Node<'i, 'a>) -> Option<Node<'i, '
     }
 }
 
-// After a comma; the axis of a system of this type at this position.
+// The type of an axis's system, and the axis's position.
+#[derive(Drop)]
+struct Seat {
+    system_type: SystemType,
+    position: u64,
+}
+
+// After a comma.
 fn write_axis_of<'i, 'a>(
     out: &mut Vec<u8>,
     crs: &Node<'i, 'a>,
     axis: &Node<'i, 'a>,
-    system_type: SystemType,
-    position: u64,
+    seat: Seat,
     level: Level,
 ) -> Result<(), AllocError>
-    ensures { OnOk result ((s : SystemParts) (a : AxisParts) → s.system_type ≡ system_type →
+    ensures { OnOk result ((s : SystemParts) (a : AxisParts) → s.system_type ≡ seat.system_type →
         ReadsIfAny ReadsUnit Class.AxisUnit crs.now.class (item crs.now) s.unit →
         ReadsAxis axis.now.class (item axis.now) a →
-        out.new.items ≡ out.old.items ++ 44 ∷ item_text (item_axis (norm_axis level s position a))) }
+        out.new.items ≡ out.old.items ++ 44 ∷ item_text (item_axis (norm_axis level s seat.position a))) }
 {
-    if let Some(bytes) = copied::axis(axis, position, level) {
+    if let Some(bytes) = copied::axis(axis, seat.position, level) {
         return append_item(out, bytes);
     }
     let direction = axis.direction();
@@ -249,13 +257,15 @@ fn write_axis_of<'i, 'a>(
     write_axis(
         out,
         b",AXIS[\"",
-        axis.text(),
-        direction,
-        meridian.as_ref(),
-        Some(position),
-        system_type.asked_kind(direction),
-        unit.as_ref(),
-        axis,
+        AxisFields {
+            name: axis.text(),
+            direction,
+            meridian: meridian.as_ref(),
+            order: Some(seat.position),
+            asked: seat.system_type.asked_kind(direction),
+            unit: unit.as_ref(),
+            ids: axis,
+        },
         level,
     )
 }
@@ -299,8 +309,10 @@ impl<'c, 'i, 'a> SystemPart for &'c Node<'i, 'a> {
                 out,
                 *self,
                 &Node { items, id, class },
-                system_type,
-                position,
+                Seat {
+                    system_type,
+                    position,
+                },
                 level,
             ),
         }

@@ -48,23 +48,33 @@ pub fn write_metre(out: &mut Vec<u8>) -> Result<(), AllocError>
     append(out, b",LENGTHUNIT[\"metre\",1]")
 }
 
+// The parts of a unit.
+#[derive(Drop)]
+struct UnitFields<'n, N, I> {
+    kind: UnitKind,
+    name: &'n [u8],
+    factor: N,
+    ids: I,
+}
+
 // After a comma; where this kind is asked, as which `UNIT` counts.
 fn write_unit<N: NumberPart, I: IdentsPart>(
     out: &mut Vec<u8>,
     asked: UnitKind,
-    kind: UnitKind,
-    name: &[u8],
-    factor: N,
-    ids: I,
+    fields: UnitFields<'_, N, I>,
     level: Level,
 ) -> Result<(), AllocError>
-    ensures { OnOk result ((u : UnitParts) → u.kind ≡ kind → u.name ≡ name.now → N.Says factor u.factor →
-        I.Says ids u.identifiers →
+    ensures { OnOk result ((u : UnitParts) → u.kind ≡ fields.entry.kind → u.name ≡ fields.entry.name.now →
+        N.Says fields.entry.factor u.factor → I.Says fields.entry.ids u.identifiers →
         out.new.items ≡ out.old.items ++ 44 ∷ item_text (item_unit (norm_unit level asked u))) }
 {
-    open_text(out, unit_opening(kind.as_asked(asked)).as_bytes(), name)?;
-    factor.open(out, b",")?;
-    ids.put(out, level)?;
+    open_text(
+        out,
+        unit_opening(fields.kind.as_asked(asked)).as_bytes(),
+        fields.name,
+    )?;
+    fields.factor.open(out, b",")?;
+    fields.ids.put(out, level)?;
     append(out, b"]")
 }
 
@@ -76,10 +86,12 @@ impl<'b, 'a> UnitPart for &'b Unit<'a> {
         write_unit(
             out,
             asked,
-            unit.kind,
-            unit.name,
-            &unit.factor,
-            &unit.identifiers,
+            UnitFields {
+                kind: unit.kind,
+                name: unit.name,
+                factor: &unit.factor,
+                ids: &unit.identifiers,
+            },
             level,
         )
     }
@@ -95,10 +107,12 @@ impl<'c, 'i, 'a> UnitPart for &'c Node<'i, 'a> {
         write_unit(
             out,
             asked,
-            self.kind(),
-            self.text(),
-            self.number(),
-            *self,
+            UnitFields {
+                kind: self.kind(),
+                name: self.text(),
+                factor: self.number(),
+                ids: *self,
+            },
             level,
         )
     }

@@ -23,24 +23,30 @@ use crs_shape::Class;
 use crs_value::{BoundingBox, Extent, Level, Usage};
 use std::alloc::AllocError;
 
+// The sides of a bounding box.
+#[derive(Drop)]
+struct BoxFields<N> {
+    south: N,
+    west: N,
+    north: N,
+    east: N,
+}
+
 // After an opening.
 #[tactic(auto, using(crate::proofs::FlatLemmas::number_rules))]
 fn write_box<N: NumberPart>(
     out: &mut Vec<u8>,
     opening: &[u8],
-    south: N,
-    west: N,
-    north: N,
-    east: N,
+    fields: BoxFields<N>,
 ) -> Result<(), AllocError>
-    ensures { OnOk result ((s w n e : Value) → N.Says south s → N.Says west w → N.Says north n → N.Says east e →
-        out.new.items ≡ out.old.items ++ numbered_node opening.now s
+    ensures { OnOk result ((s w n e : Value) → N.Says fields.south s → N.Says fields.west w → N.Says fields.north n →
+        N.Says fields.east e → out.new.items ≡ out.old.items ++ numbered_node opening.now s
         (More (number_item w) (More (number_item n) (More (number_item e) End)))) }
 {
-    south.open(out, opening)?;
-    west.open(out, b",")?;
-    north.open(out, b",")?;
-    east.open(out, b",")?;
+    fields.south.open(out, opening)?;
+    fields.west.open(out, b",")?;
+    fields.north.open(out, b",")?;
+    fields.east.open(out, b",")?;
     append(out, b"]")
 }
 
@@ -51,10 +57,12 @@ impl Spell for BoundingBox {
         write_box(
             out,
             b"BBOX[",
-            &self.south,
-            &self.west,
-            &self.north,
-            &self.east,
+            BoxFields {
+                south: &self.south,
+                west: &self.west,
+                north: &self.north,
+                east: &self.east,
+            },
         )
     }
 }
@@ -69,12 +77,22 @@ impl<'c, 'i, 'a> Part<BoundingBox> for &'c Node<'i, 'a> {
         write_box(
             out,
             b",BBOX[",
-            self.nth_number(0),
-            self.nth_number(1),
-            self.nth_number(2),
-            self.nth_number(3),
+            BoxFields {
+                south: self.nth_number(0),
+                west: self.nth_number(1),
+                north: self.nth_number(2),
+                east: self.nth_number(3),
+            },
         )
     }
+}
+
+// The parts of a vertical extent.
+#[derive(Drop)]
+struct ExtentFields<N, U> {
+    minimum: N,
+    maximum: N,
+    unit: Option<U>,
 }
 
 // After an opening.
@@ -82,18 +100,16 @@ impl<'c, 'i, 'a> Part<BoundingBox> for &'c Node<'i, 'a> {
 fn write_extent<N: NumberPart, U: UnitPart>(
     out: &mut Vec<u8>,
     opening: &[u8],
-    minimum: N,
-    maximum: N,
-    unit: Option<U>,
+    fields: ExtentFields<N, U>,
     level: Level,
 ) -> Result<(), AllocError>
-    ensures { OnOk result ((l h : Value) (u : Option UnitParts) → N.Says minimum l → N.Says maximum h →
-        SaysIfAny U.Says unit u → out.new.items ≡ out.old.items ++ numbered_node opening.now l
+    ensures { OnOk result ((l h : Value) (u : Option UnitParts) → N.Says fields.minimum l → N.Says fields.maximum h →
+        SaysIfAny U.Says fields.unit u → out.new.items ≡ out.old.items ++ numbered_node opening.now l
         (More (number_item h) (opt item_unit (Some (norm_length level u)) End))) }
 {
-    minimum.open(out, opening)?;
-    maximum.open(out, b",")?;
-    write_length(out, unit, level)?;
+    fields.minimum.open(out, opening)?;
+    fields.maximum.open(out, b",")?;
+    write_length(out, fields.unit, level)?;
     append(out, b"]")
 }
 
@@ -105,9 +121,11 @@ impl Spell for Extent<'_> {
         write_extent(
             out,
             b"VERTICALEXTENT[",
-            &self.minimum,
-            &self.maximum,
-            unit,
+            ExtentFields {
+                minimum: &self.minimum,
+                maximum: &self.maximum,
+                unit,
+            },
             level,
         )
     }
@@ -124,9 +142,11 @@ impl<'c, 'i, 'a> Part<Extent<'a>> for &'c Node<'i, 'a> {
         write_extent(
             out,
             b",VERTICALEXTENT[",
-            self.nth_number(0),
-            self.nth_number(1),
-            unit.as_ref(),
+            ExtentFields {
+                minimum: self.nth_number(0),
+                maximum: self.nth_number(1),
+                unit: unit.as_ref(),
+            },
             level,
         )
     }

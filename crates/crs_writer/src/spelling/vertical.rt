@@ -29,6 +29,17 @@ use crs_shape::Class;
 use crs_value::{Dynamic, GeoidModel, Level, Vertical};
 use std::alloc::AllocError;
 
+// The parts of a vertical CRS.
+#[derive(Drop)]
+struct VerticalFields<'n, 'm, D, F, S, G, T> {
+    name: &'n [u8],
+    dynamic: Option<D>,
+    frame: F,
+    system: S,
+    models: &'m G,
+    tail: T,
+}
+
 // After an opening.
 fn write_vertical<
     'a,
@@ -40,30 +51,26 @@ fn write_vertical<
 >(
     out: &mut Vec<u8>,
     opening: &[u8],
-    name: &[u8],
-    dynamic: Option<D>,
-    frame: F,
-    system: S,
-    models: &G,
-    tail: T,
+    fields: VerticalFields<'_, '_, D, F, S, G, T>,
     level: Level,
 ) -> Result<(), AllocError>
-    requires frame { IsRead (F.SaysVertical frame) }
-    requires system { IsRead (S.Says system) }
-    requires models { G.Hold models.now }
-    ensures { OnOk result ((v : VerticalParts) → v.name ≡ name.now → SaysIfAny D.Says dynamic v.dynamic →
-        F.SaysVertical frame v.frame → S.Says system v.system → G.Say models.now v.geoid_models → T.Says tail v.tail →
-        out.new.items ≡ out.old.items ++ named_node opening.now v.name
+    requires frame { IsRead (F.SaysVertical fields.frame) }
+    requires system { IsRead (S.Says fields.system) }
+    requires models { G.Hold fields.models.now }
+    ensures { OnOk result ((v : VerticalParts) → v.name ≡ fields.entry.name.now →
+        SaysIfAny D.Says fields.entry.dynamic v.dynamic → F.SaysVertical fields.entry.frame v.frame →
+        S.Says fields.entry.system v.system → G.Say fields.entry.models.now v.geoid_models →
+        T.Says fields.entry.tail v.tail → out.new.items ≡ out.old.items ++ named_node opening.now v.name
         (opt item_dynamic (option_map (norm_dynamic level) v.dynamic)
         (More (item_frame (codes "VDATUM") (norm_frame level v.frame)) (system_items (norm_system level v.system)
         (each item_geoid_model (set_geoid_models level v.geoid_models) (tail_items (norm_tail level v.tail))))))) }
 {
-    open_text(out, opening, name)?;
-    write_optional::<Dynamic<'a>, D>(out, dynamic, level)?;
-    frame.put_vertical(out, level)?;
-    write_system(out, system, level)?;
-    write_set::<GeoidModel<'a>, G>(out, models, level)?;
-    tail.put(out, level)?;
+    open_text(out, opening, fields.name)?;
+    write_optional::<Dynamic<'a>, D>(out, fields.dynamic, level)?;
+    fields.frame.put_vertical(out, level)?;
+    write_system(out, fields.system, level)?;
+    write_set::<GeoidModel<'a>, G>(out, fields.models, level)?;
+    fields.tail.put(out, level)?;
     append(out, b"]")
 }
 
@@ -75,12 +82,14 @@ impl Spell for Vertical<'_> {
         write_vertical(
             out,
             b"VERTCRS[\"",
-            self.name,
-            self.dynamic.as_ref(),
-            &self.frame,
-            &self.system,
-            &models,
-            &self.tail,
+            VerticalFields {
+                name: self.name,
+                dynamic: self.dynamic.as_ref(),
+                frame: &self.frame,
+                system: &self.system,
+                models: &models,
+                tail: &self.tail,
+            },
             level,
         )
     }
@@ -103,12 +112,14 @@ pub(crate) fn write_vertical_of(
     write_vertical(
         out,
         b"VERTCRS[\"",
-        node.text(),
-        dynamic.as_ref(),
-        node,
-        system,
-        &models,
-        tail,
+        VerticalFields {
+            name: node.text(),
+            dynamic: dynamic.as_ref(),
+            frame: node,
+            system,
+            models: &models,
+            tail,
+        },
         level,
     )
 }
