@@ -1,5 +1,5 @@
 -- Axes that are looked for, and counted, among items.
-use Rattle.std.proofs.Common.{◌≡◌, ℕ, ◌+◌, ◌≤◌, if◌then◌else◌, List, [], ◌∷◌, Bool, true, false, Option, Some, None, length, refl, sym, ap, subst, ◌∙◌, arith}
+use Rattle.std.proofs.Common.{◌≡◌, ℕ, ◌+◌, ◌≤◌, if◌then◌else◌, List, [], ◌∷◌, Bool, false, Option, Some, None, length, refl, sym, ap, subst, arith}
 use Rattle.crs_text.specs.Items.{Item, rest_of, here}
 use Rattle.crs_shape.specs.declared.class.Class.{Class}
 use Rattle.crs_value.specs.FoundArguments.{from_found}
@@ -7,7 +7,6 @@ use Rattle.crs_value.specs.Reading.{item_at, those, Holds, IsFound, ReadsEach}
 use Rattle.crs_value.specs.Values.{AxisParts}
 use Rattle.crs_value.proofs.found.ArgumentLemmas.{found-is, found-holds}
 use Rattle.crs_normal.specs.SpelledSystems.{axis_at, is_at}
-use Rattle.crs_leaves.specs.Direct.{IsReadAt}
 
 -- so many were seen before
 pub record Counting (tree : Item) (parent c : Class) (whole : List Item) (index : ℕ) (at : Option ℕ) : Type 0 where
@@ -74,28 +73,3 @@ seeking-on R position tree parent c whole index id at so wrong found = record {
       let (rest, reads, same) = so.left axes h in
       passed R position tree parent c (index + 1) id at (axis_at position 1 axes) wrong found rest reads same;
 }
-
-here-read : (R : Class → Item → AxisParts → Type 0) (position : ℕ) (tree : Item) (parent c : Class) (place id : ℕ) (there : Option AxisParts) →
-    ((axis : AxisParts) → R c (item_at tree id) axis → true ≡ is_at position place axis.order) → (rest : List AxisParts) →
-    ReadsEach (R c) (from_found tree parent c (Some id)) rest → axis_at position place rest ≡ there → IsReadAt R c tree there (Some id)
-here-read R position tree parent c place id there right [] h e = absurd h
-here-read R position tree parent c place id there right (axis ∷ axes) h e =
-    let T : Bool → Type 0 = λ b. (if b then Some axis else axis_at position (place + 1) axes) ≡ there in
-    (axis, sym (subst T (sym (right axis h.0)) e), h.0)
-
-pub seeking-found : (R : Class → Item → AxisParts → Type 0) (position : ℕ) (tree : Item) (parent c : Class) (whole : List Item) (index id : ℕ) →
-    Seeking R position tree parent c whole index (Some id) →
-    ((axis : AxisParts) → R c (item_at tree id) axis → true ≡ is_at position (index + 1) axis.order) →
-    (axes : List AxisParts) → ReadsEach (R c) whole axes → IsReadAt R c tree (axis_at position 1 axes) (Some id)
-seeking-found R position tree parent c whole index id so right axes h =
-    let (rest, reads, same) = so.left axes h in
-    here-read R position tree parent c (index + 1) id (axis_at position 1 axes) right rest reads same
-
-none-left : (R : Item → AxisParts → Type 0) (position place : ℕ) (rest : List AxisParts) → ReadsEach R [] rest → axis_at position place rest ≡ None
-none-left R position place [] h = refl
-none-left R position place (axis ∷ axes) h = absurd h
-
-pub seeking-end : (R : Class → Item → AxisParts → Type 0) (position : ℕ) (tree : Item) (parent c : Class) (whole : List Item) (index : ℕ) →
-    Seeking R position tree parent c whole index None → (axes : List AxisParts) → ReadsEach (R c) whole axes → IsReadAt R c tree (axis_at position 1 axes) None
-seeking-end R position tree parent c whole index so axes h =
-    let (rest, reads, same) = so.left axes h in sym same ∙ none-left (R c) position (index + 1) rest reads

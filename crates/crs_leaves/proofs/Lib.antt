@@ -1,3 +1,2 @@
 pub mod AxisLemmas
 pub mod NumberLemmas
-pub mod WholeLemmas

@@ -3,13 +3,12 @@ ghost use Rattle.std.specs.Prelude.{◌≡◌};
 ghost use Rattle.crs_normal.specs.SpelledSystems.{is_at, is_number};
 
 use crs_decimal::Decimal;
+use crs_normal::laws::numbers::whole_numbers_are_tested;
 
 fn is_number(value: &Decimal, number: u64) -> bool
     ensures { result ≡ is_number value.now number }
 {
-    crs_decimal::laws::one_form();
-    crs_decimal::laws::plain_is_the_one();
-    crs_decimal::laws::same_number_is_equivalence();
+    whole_numbers_are_tested();
     let _normal = value.is_negative();
     value.is_whole(number)
 }

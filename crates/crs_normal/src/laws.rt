@@ -3,6 +3,7 @@
 pub mod examples;
 mod made;
 mod normal;
+pub mod numbers;
 pub mod parts;
 mod read;
 pub mod sets;

@@ -1,7 +1,6 @@
 -- Axes have one form exactly where they are the same, and the axis that is found at a position is
 -- the axis of that position.
-use Rattle.std.proofs.Common.{◌≡◌, ◌↔◌, ◌∙◌, ℕ, ◌+◌, ◌<◌, ◌^◌, inl, inr, Bool, true, false, List, [], ◌∷◌, Option, Some}
-use Rattle.std.proofs.Common.{None, refl, sym, ap, subst, if◌then◌else◌}
+use Rattle.std.proofs.Common.{◌≡◌, ◌↔◌, ◌∙◌, ℕ, ◌+◌, ◌<◌, ◌^◌, inl, inr, Bool, true, false, List, [], ◌∷◌, Option, Some, None, refl, sym, ap, subst, if◌then◌else◌, arith}
 use Rattle.std.proofs.lemmas.Bool.{false≢true}
 use Rattle.std.proofs.lemmas.Bool.Decides.{Decides-eqb}
 use Rattle.crs_decimal.specs.Value.{Value, IsNormal}
@@ -23,7 +22,6 @@ use Rattle.crs_normal.specs.SpelledSystems.{axis_at, is_at, norm_axis, norm_axis
 use Rattle.crs_normal.specs.SpelledUnits.{norm_units, whole_value}
 use Rattle.crs_normal.proofs.same.PartLemmas.{options-agree, values-agree}
 use Rattle.crs_normal.proofs.same.UnitLemmas.{unit-agrees, units-agree}
-use Rattle.crs_normal.proofs.texts.WholeLemmas.{number-tested}
 
 -- ---- two axes
 
@@ -177,7 +175,7 @@ pub record Found (position place : ℕ) (axes : List AxisParts) : Type 0 where
 place-tested : LowerLaws → (position place : ℕ) (order : Option Value) → position < 10 ^ 18 → Maybe IsNormal order →
     (is_at position place order ≡ true) ↔ IsPositionOf position place order
 place-tested laws position place None less normal = Decides-eqb place position
-place-tested laws position place (Some order) less normal = number-tested laws order position normal less
+place-tested laws position place (Some order) less normal = laws.tested order position normal (omega (arith, less))
 
 found-here-or-behind : (P : AxisParts → Type 0) (position place : ℕ) (axis : AxisParts) (axes : List AxisParts) →
     (is_at position place axis.order ≡ true) ↔ IsPositionOf position place axis.order →

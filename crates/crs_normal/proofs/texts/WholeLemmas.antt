@@ -1,19 +1,26 @@
--- The test that a number is a whole one of at most 18 digits.
-use Rattle.std.proofs.Common.{◌≡◌, ◌↔◌, ◌∙◌, ℕ, ◌<◌, ◌*◌, ◌^◌, ◌+◌, ◌-◌, ◌++◌, fold, inl, inr, true, List, [], ◌∷◌}
-use Rattle.std.proofs.Common.{None, length, decimal, get_or, refl, sym, ap, subst, arith, rules}
-use Rattle.std.proofs.lemmas.Fmt.{decimal_digit, decimal_nonempty, digits_decimal, digits_value-decimal, first_decimal}
-use Rattle.std.proofs.lemmas.Fmt.{length-decimal-le}
+-- The test that a number is a whole one of at most 64 bits.
+use Rattle.std.proofs.Common.{◌≡◌, ◌≢◌, ◌↔◌, ◌⊎◌, ◌∙◌, ℕ, suc, zero, ◌<◌, ◌≤◌, ◌*◌, ◌^◌, ◌+◌, ◌-◌, ◌%◌, ◌++◌, ◌&&◌, ◌||◌, ◌==◌, not, Bool, true, false, nat_lt, nat_le, fold, inl, inr, List, [], ◌∷◌, None, length, decimal, get_or, refl, sym, ap, subst, arith, rules, pos, negsuc, ℤ}
+use Rattle.std.proofs.lemmas.Bool.Decides.{nat_tests}
+use Rattle.std.proofs.lemmas.Fmt.{decimal_digit, decimal_nonempty, digits_decimal, digits_value-decimal, first_decimal, length-decimal-le}
+use Rattle.std.proofs.Math.Nat.{pow-suc, mul-le-mul_left, mul_assoc, one-le-pow}
 use Rattle.std.proofs.lemmas.Bool.{cases_lt}
 use Rattle.std.proofs.lemmas.List.{append-nil}
 use Rattle.std.proofs.lemmas.Slice.Eq.{bytes_eq-Decides}
 use Rattle.std.proofs.lemmas.Str.Parse.{IsNumeralModel, numerals_by_fold}
-use Rattle.crs_decimal.specs.Bounds.{Denotes, digits_value, number_of}
-use Rattle.crs_decimal.specs.Number.{SameNumber, whole_number}
+use Rattle.crs_decimal.specs.Bounds.{Denotes, IsBounded, IsMeasured, digits_value, number_of}
+use Rattle.crs_decimal.specs.Number.{Number, SameNumber, whole_number}
 use Rattle.crs_decimal.specs.Plain.{IsPlain, IsTrim, plain}
 use Rattle.crs_decimal.specs.Spelling.{AreDigits, Parts, SpellsNumber, parts_text, unsigned}
-use Rattle.crs_decimal.specs.Value.{Value, IsNormal, exact}
-use Rattle.crs_normal.specs.LowerLaws.{LowerLaws}
+use Rattle.crs_decimal.specs.Value.{Value, IsNormal, exact, is_power, is_zero_power, up_of, down_of}
 use Rattle.crs_normal.specs.SpelledSystems.{is_number}
+
+-- laws of numbers and their spellings
+pub record Laws : Type 0 where
+  pub one_form : (bytes : List ℕ) (p q : Parts) → SpellsNumber bytes p → SpellsNumber bytes q → p ≡ q
+  pub denotes : (v : Value) → IsNormal v → Denotes (plain v) (exact v)
+  pub only : (v : Value) (bytes : List ℕ) → IsNormal v → IsPlain bytes → Denotes bytes (exact v) → bytes ≡ plain v
+  pub symmetric : (a b : Number) → SameNumber a b → SameNumber b a
+  pub transitive : (a b c : Number) → SameNumber a b → SameNumber b c → SameNumber a c
 
 abbrev read_on : ℕ → List ℕ → ℕ
 read_on n ds = fold (λ m d. m * 10 + (d - 48)) n ds
@@ -27,11 +34,10 @@ starts-trim : (ds : List ℕ) → 48 < get_or ds 0 0 → IsTrim ds
 starts-trim [] l = absurd (omega arith)
 starts-trim (d ∷ ds) l = inl (λ e. omega (arith, e, l))
 
-decimal-trim : (n : ℕ) → n < 10 ^ 18 → IsTrim (decimal n)
+decimal-trim : (n : ℕ) → n < 2 ^ 64 → IsTrim (decimal n)
 decimal-trim n l = elim (cases_lt 0 n) [
-  | inl some ↦ starts-trim (decimal n) (first_decimal n some (omega arith))
-  | inr none ↦ subst IsTrim (sym (let z : n ≡ 0 = omega (arith, none) in ap decimal z ∙ decimal_digit 0 (omega arith)))
-      (inr refl)
+  | inl some ↦ starts-trim (decimal n) (first_decimal n some l)
+  | inr none ↦ subst IsTrim (sym (let z : n ≡ 0 = omega (arith, none) in ap decimal z ∙ decimal_digit 0 (omega arith))) (inr refl)
 ]
 
 abbrev parts_of : ℕ → Parts
@@ -40,17 +46,17 @@ parts_of n = record { sign = unsigned; whole = decimal n; fraction = None; expon
 text-is : (n : ℕ) → parts_text (parts_of n) ≡ decimal n
 text-is n = simp append-nil
 
-decimal-spells : (n : ℕ) → n < 10 ^ 18 → SpellsNumber (decimal n) (parts_of n)
+decimal-spells : (n : ℕ) → n < 2 ^ 64 → SpellsNumber (decimal n) (parts_of n)
 decimal-spells n l = (
   sym (text-is n),
   record {
-    digits = subst AreDigits (sym (append-nil (decimal n))) (digits_decimal own n (omega arith));
-    some = subst (λ (ds : List ℕ). 0 < length ds) (sym (append-nil (decimal n))) (decimal_nonempty n (omega arith));
+    digits = subst AreDigits (sym (append-nil (decimal n))) (digits_decimal own n l);
+    some = subst (λ (ds : List ℕ). 0 < length ds) (sym (append-nil (decimal n))) (decimal_nonempty n l);
     exponent = tt;
   },
 )
 
-decimal-plain : (n : ℕ) → n < 10 ^ 18 → IsPlain (decimal n)
+decimal-plain : (n : ℕ) → n < 2 ^ 64 → IsPlain (decimal n)
 decimal-plain n l = record {
   parts = parts_of n;
   spells = decimal-spells n l;
@@ -60,42 +66,98 @@ decimal-plain n l = record {
   exponent = refl;
 }
 
-number-same : (n : ℕ) → n < 10 ^ 18 → SameNumber (number_of (parts_of n)) (whole_number n)
-number-same n l =
-    let e : digits_value (decimal n ++ []) ≡ n =
-    ap digits_value (append-nil (decimal n)) ∙ digits_value-decimal own n (omega arith) in
-    (ap (λ d. d * 1) e, inl refl)
+value-is : (n : ℕ) → n < 2 ^ 64 → digits_value (decimal n ++ []) ≡ n
+value-is n l = ap digits_value (append-nil (decimal n)) ∙ digits_value-decimal own n l
+
+number-same : (n : ℕ) → n < 2 ^ 64 → SameNumber (number_of (parts_of n)) (whole_number n)
+number-same n l = (ap (λ d. d * 1) (value-is n l), inl refl)
+
+-- ---- a whole number that a normal value is, is within the bounds
+
+first-true : (a b c : Bool) → (a && b && c) ≡ true → a ≡ true
+first-true true b c e = refl
+first-true false b c e = absurd cc
+
+all-of : (x y z w : Bool) → (x && y && (not z || w)) ≡ true → (x ≡ true) × ((y ≡ true) × ((z ≡ false) ⊎ (w ≡ true)))
+all-of true true false w e = (refl, (refl, inl refl))
+all-of true true true true e = (refl, (refl, inr refl))
+all-of true true true false e = absurd cc
+all-of true false z w e = absurd cc
+all-of false y z w e = absurd cc
+
+measured-up : (d k n : ℕ) → d < 10 ^ 38 → k ≤ 40 → d % 10 ≢ 0 → d * 10 ^ (k + 0) ≡ n * 10 ^ (0 + 0) → IsMeasured (whole_number n)
+measured-up d k n short near last e =
+    let same : n ≡ d * 10 ^ k = sym (ap (λ j. d * 10 ^ j) (let z : k ≡ k + 0 = omega arith in z) ∙ e ∙ (let o : n * 1 ≡ n = omega arith in o)) in
+    (d, k, (same, last), short, omega arith, omega arith)
+
+last-zero : (n k : ℕ) → (n * 10 ^ suc k) % 10 ≡ 0
+last-zero n k =
+    let e : n * 10 ^ suc k ≡ n * 10 ^ k * 10 = ap (λ p. n * p) (pow-suc 10 k) ∙ sym (mul_assoc n (10 ^ k) 10) in
+    omega (arith, e)
+
+none-of : (n k : ℕ) → 0 ≡ n * 10 ^ k → n ≡ 0
+none-of zero k e = refl
+none-of (suc m) k e =
+    absurd (omega (arith, e, mul-le-mul_left (suc m) (one-le-pow k 10 (omega arith))))
+
+le-of : (m n : ℕ) → nat_le m n ≡ true → m ≤ n
+le-of m n e = grind (arith, nat_tests)
+
+lt-of : (m n : ℕ) → nat_lt m n ≡ true → m < n
+lt-of m n e = grind (arith, nat_tests)
+
+eq-of : (m n : ℕ) → (m == n) ≡ true → m ≡ n
+eq-of m n e = grind (arith, nat_tests)
+
+ne-of : (m n : ℕ) → (m == n) ≡ false → m ≢ n
+ne-of m n e = grind (arith, nat_tests)
+
+sized : (d n : ℕ) (power : ℤ) → d < 10 ^ 38 → is_power power ≡ true → (d % 10 ≢ 0) ⊎ (d ≡ 0) →
+    d * 10 ^ (up_of power + 0) ≡ n * 10 ^ (0 + down_of power) → (n ≡ 0) ⊎ IsMeasured (whole_number n)
+sized d n (pos k) short near (inl last) e = inr (measured-up d k n short (le-of k 40 near) last e)
+sized d n (pos k) short near (inr none) e =
+    let z : 0 * 10 ^ (k + 0) ≡ n * 1 = subst (λ x. x * 10 ^ (k + 0) ≡ n * 1) none e in inl (omega (arith, z))
+sized d n (negsuc k) short near (inl last) e =
+    let z : d * 1 ≡ n * 10 ^ suc k = e ∙ ap (λ j. n * 10 ^ j) (let y : 0 + suc k ≡ suc k = omega arith in y) in
+    absurd (last (ap (λ x. x % 10) (let y : d ≡ n * 10 ^ suc k = omega (arith, z) in y) ∙ last-zero n k))
+sized d n (negsuc k) short near (inr none) e =
+    let z : d * 1 ≡ n * 10 ^ suc k = e ∙ ap (λ j. n * 10 ^ j) (let y : 0 + suc k ≡ suc k = omega arith in y) in inl (none-of n (suc k) (let y : 0 ≡ n * 10 ^ suc k = omega (arith, z, none) in y))
+
+closing : (v : Value) → ((v.digits % 10 == 0) ≡ false) ⊎ ((v.digits == 0 && not v.negative && is_zero_power v.power) ≡ true) →
+    (v.digits % 10 ≢ 0) ⊎ (v.digits ≡ 0)
+closing v (inl last) = inl (ne-of (v.digits % 10) 0 last)
+closing v (inr none) = inr (eq-of v.digits 0 (first-true (v.digits == 0) (not v.negative) (is_zero_power v.power) none))
+
+whole-measured : (v : Value) (n : ℕ) → IsNormal v → SameNumber (exact v) (whole_number n) → (n ≡ 0) ⊎ IsMeasured (whole_number n)
+whole-measured v n normal same =
+    let facts = all-of (nat_lt v.digits (10 ^ 38)) (is_power v.power) (v.digits % 10 == 0) (v.digits == 0 && not v.negative && is_zero_power v.power) normal in
+    sized v.digits n v.power (lt-of v.digits (10 ^ 38) facts.0) facts.1.0 (closing v facts.1.1) same.0
 
 -- ---- the test
 
-module _ (laws : LowerLaws) where
-  decimal-denotes : (v : Value) (n : ℕ) → n < 10 ^ 18 → SameNumber (exact v) (whole_number n) →
-      Denotes (decimal n) (exact v)
-  decimal-denotes v n l s =
-      let b = laws.digits_alone (decimal n) (digits_decimal own n (omega arith)) (decimal_nonempty n (omega arith))
-      (length-decimal-le 18 n (omega arith) l (omega arith)) in (
-        b.0,
-        b.1,
-        b.2,
-        subst (λ p. SameNumber (number_of p) (exact v))
-            (laws.one_form (decimal n) (parts_of n) b.0 (decimal-spells n l) b.1)
-            (laws.transitive (number_of (parts_of n)) (whole_number n) (exact v) (number-same n l)
-            (laws.symmetric (exact v) (whole_number n) s)),
+module _ (laws : Laws) where
+  decimal-denotes : (v : Value) (n : ℕ) → IsNormal v → n < 2 ^ 64 → SameNumber (exact v) (whole_number n) → Denotes (decimal n) (exact v)
+  decimal-denotes v n normal l s =
+      let bounded : IsBounded (parts_of n) = record {
+        mantissa_digits = subst (λ (ds : List ℕ). length ds ≤ 100) (sym (append-nil (decimal n)))
+            (let few = length-decimal-le 20 n (omega arith) (omega arith) l in omega (arith, few));
+        exponent_digits = omega arith;
+        measured = subst (λ d. (d ≡ 0) ⊎ IsMeasured (whole_number d)) (sym (value-is n l)) (whole-measured v n normal s);
+      } in (
+        parts_of n,
+        decimal-spells n l,
+        bounded,
+        laws.transitive (number_of (parts_of n)) (whole_number n) (exact v) (number-same n l) (laws.symmetric (exact v) (whole_number n) s),
       )
 
-  denoted-same : (v : Value) (n : ℕ) → n < 10 ^ 18 → Denotes (decimal n) (exact v) →
-      SameNumber (exact v) (whole_number n)
+  denoted-same : (v : Value) (n : ℕ) → n < 2 ^ 64 → Denotes (decimal n) (exact v) → SameNumber (exact v) (whole_number n)
   denoted-same v n l d =
       let e : d.0 ≡ parts_of n = laws.one_form (decimal n) d.0 (parts_of n) d.1 (decimal-spells n l) in
       let s : SameNumber (number_of (parts_of n)) (exact v) = subst (λ p. SameNumber (number_of p) (exact v)) e d.3 in
-      laws.transitive (exact v) (number_of (parts_of n)) (whole_number n)
-      (laws.symmetric (number_of (parts_of n)) (exact v) s) (number-same n l)
+      laws.transitive (exact v) (number_of (parts_of n)) (whole_number n) (laws.symmetric (number_of (parts_of n)) (exact v) s) (number-same n l)
 
-  pub number-tested : (v : Value) (n : ℕ) → IsNormal v → n < 10 ^ 18 → (is_number v n ≡ true)
-      ↔ SameNumber (exact v) (whole_number n)
+  pub number-tested : (v : Value) (n : ℕ) → IsNormal v → n < 2 ^ 64 → (is_number v n ≡ true) ↔ SameNumber (exact v) (whole_number n)
   number-tested v n in-v l = (
-    λ e. denoted-same v n l (subst (λ bytes. Denotes bytes (exact v)) ((bytes_eq-Decides (plain v) (decimal n)).0 e)
-        (laws.denotes v in-v)),
-    λ s. (bytes_eq-Decides (plain v) (decimal n)).1
-        (sym (laws.only v (decimal n) in-v (decimal-plain n l) (decimal-denotes v n l s))),
+    λ e. denoted-same v n l (subst (λ bytes. Denotes bytes (exact v)) ((bytes_eq-Decides (plain v) (decimal n)).0 e) (laws.denotes v in-v)),
+    λ s. (bytes_eq-Decides (plain v) (decimal n)).1 (sym (laws.only v (decimal n) in-v (decimal-plain n l) (decimal-denotes v n in-v l s))),
   )

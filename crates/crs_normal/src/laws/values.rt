@@ -43,24 +43,21 @@ ghost use Rattle.crs_normal.specs.SpelledSystems.{norm_axis, norm_axis_meridians
 ghost use Rattle.crs_normal.specs.SpelledUnits.{norm_length, norm_unit, norm_units};
 ghost use Rattle.crs_normal.specs.SpelledUsages.{norm_extent, norm_tail, norm_usage};
 
+use crate::laws::numbers::whole_numbers_are_tested;
 use crate::laws::sets::{
     same_geoid_models_have_one_form, same_identifiers_have_one_form, same_members_have_one_form,
     same_parameters_have_one_form, same_usages_have_one_form,
 };
-use crs_decimal::laws::{
-    digits_alone, normal_is_one, one_form, plain_is_the_one, same_number_is_equivalence,
-};
+use crs_decimal::laws::{normal_is_one, same_number_is_equivalence};
 use crs_same::laws::{as_many_axes, one_axis_each, parts_agree_where_same};
 
 // What is taken from the lower crates.
 pub(super) fn lower_laws()
     ensures { LowerLaws }
 {
-    digits_alone();
     normal_is_one();
-    one_form();
-    plain_is_the_one();
     same_number_is_equivalence();
+    whole_numbers_are_tested();
     as_many_axes();
     one_axis_each();
 }

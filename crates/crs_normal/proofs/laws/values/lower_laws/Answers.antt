@@ -2,13 +2,10 @@ use Rattle.crs_normal.proofs.laws.values.lower_laws.Goals as goal
 
 pub returns : goal.returns
 returns c = record {
-  one_form = c.one_form.ensures;
   normal_is_one = c.normal_is_one.ensures;
   symmetric = c.same_number_is_equivalence.ensures.symmetric;
   transitive = c.same_number_is_equivalence.ensures.transitive;
-  digits_alone = c.digits_alone.ensures;
-  denotes = c.plain_is_the_one.ensures.denotes;
-  only = c.plain_is_the_one.ensures.only;
+  tested = c.whole_numbers_are_tested.ensures;
   some_axis = c.one_axis_each.ensures.some;
   one_axis = c.one_axis_each.ensures.one;
   as_many = c.as_many_axes.ensures;
