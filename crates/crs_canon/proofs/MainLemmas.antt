@@ -55,11 +55,6 @@ main level there equal laws sound one refusal either = record {
     answer text none (inr (fault, refuses)) =
         (fault, record { refused = refuses; alone = λ other others. refusal text other fault others refuses })
 
--- the canonical text of the CRS that a text spells is that of the text
-pub of_spelled : (level : Level) (text bytes : List ℕ) (crs : Crs) → Spells text crs → IsCanonicalText level crs bytes
-    → IsCanonicalOf level text bytes
-of_spelled level text bytes crs spells canonical = (crs, spells, canonical)
-
 -- ---- what a caller knows of two answers
 
 pub answers-equal : (level : Level) → MainTheorem level → (first second a b : List ℕ) →

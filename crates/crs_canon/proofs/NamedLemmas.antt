@@ -46,14 +46,6 @@ abbrev pub found_before : Option ParameterParts → List ParameterParts → List
 found_before None left = left
 found_before (Some x) left = x ∷ left
 
-pub other_name : (name : List ℕ) (x : ParameterParts) (xs : List ParameterParts) → bytes_eq x.name name ≡ false →
-    of_name name (x ∷ xs) ≡ of_name name xs
-other_name name x xs e = ap (λ t. cond t (x ∷ of_name name xs) (of_name name xs)) e
-
-pub this_name : (name : List ℕ) (x : ParameterParts) (xs : List ParameterParts) → bytes_eq x.name name ≡ true →
-    of_name name (x ∷ xs) ≡ x ∷ of_name name xs
-this_name name x xs e = ap (λ t. cond t (x ∷ of_name name xs) (of_name name xs)) e
-
 some-one : {V : Type 0} (x y : V) → Some y ≡ Some x → y ≡ x
 some-one x y e = cc
 

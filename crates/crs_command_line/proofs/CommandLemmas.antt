@@ -104,7 +104,7 @@ pub no_fault : (command : Command) (words : List Text) → app_of command ≡ de
     → (is_simple_and_free (app_of command) ≡ true → fault_of (app_of command) words ≡ []) → fault_of desk words ≡ []
 no_fault command words shape kinds = ap (λ (a : App). fault_of a words) (sym shape) ∙ kinds (ap is_simple_and_free shape)
 
-false_unless : (b : Bool) → b ≢ true → b ≡ false
+pub false_unless : (b : Bool) → b ≢ true → b ≡ false
 false_unless true h = absurd (h refl)
 false_unless false h = refl
 

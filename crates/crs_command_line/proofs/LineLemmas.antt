@@ -5,11 +5,10 @@ use Rattle.std.specs.Option.{option_map, option_map_or}
 use Rattle.std.specs.Str.{bytes_eq, chars, chars_after, continuation_len, lead_bits}
 use Rattle.std.proofs.lemmas.Bool.{eqb-true, lt-ltb}
 use Rattle.clap.specs.Lexer.{long_of, long_of_rest, name_and_value, short_of, short_of_rest, strip_byte}
-use Rattle.clap.specs.Words.{Row, Rule, Shape, Text, subcommand_of, takes}
+use Rattle.clap.specs.Words.{Row, Rule, Shape, Text, subcommand_of, takes, built}
 use Rattle.std.specs.List.{fold, list_all}
 use Rattle.std.proofs.lemmas.Slice.Eq.{bytes_eq-Decides}
 use Rattle.clap.specs.Simple.{entered, filled, filled_from, help_rule, names_of, new_shape, with_index}
-use Rattle.clap.specs.Words.{built}
 use Rattle.clap.specs.Walk.{Held, Names, Outcome, Step, Waiting, Walk, done, waits, plain, refused, idle, option, positional, next, trailing, subcommand, value, reading_by, after_flag, after_step, bundle_met, bundle_step, finished, long_met, long_or_other, nothing_held, plain_word, rows_after, settled, short_or_plain, subcommand_met, subcommand_or_other, used, walk_from, walked, word_met}
 use Rattle.clap.specs.Takes.{bundle_passes, bundle_step_passes, default_passes, entered_passes, flag_word_passes, flags_pass, is_given, is_valid, level_passes, long_passes, other_passes, settle_passes, short_passes, step_passes, turn_passes, walk_passes, word_passes}
 use Rattle.clap.specs.declared.parser.matches.ValueSource.TheVariants.{CommandLine}
@@ -22,6 +21,7 @@ use Rattle.crs_requests.specs.declared.requests.Request.TheVariants.{Canon, Chec
 use Rattle.crs_requests.specs.declared.requests.Task.{Task}
 use Rattle.crs_requests.specs.declared.requests.Task.TheVariants as task
 use Rattle.crs_command_line.proofs.OperandLemmas.{built_same, second_given}
+use Rattle.crs_command_line.proofs.CommandLemmas.{false_unless}
 
 -- ---- after `--`
 
@@ -275,10 +275,6 @@ one_word_fails word passes =
     let turn = both (turn_passes built_same [] (walk_at no_flag_met) word) true (both (walk_passes built_same [] (walk_at no_flag_met) (word ∷ [])) _ passes).0 in
     let given : is_given (codes "second") (finished rules (walked rules [] (walk_at no_flag_met) word).held) ≡ true = second_given (word ∷ []) passes in
     absurd (true≢false (sym given ∙ no_second no_flag_met word turn.0))
-
-false_unless : (b : Bool) → b ≢ true → b ≡ false
-false_unless true h = absurd (h refl)
-false_unless false h = refl
 
 pub one_text : (program word : Text) → takes desk (program ∷ codes "same" ∷ word ∷ []) ≡ false
 unfolding clap_on_literals

@@ -397,24 +397,6 @@ cut-fits Output before after bytes cutter cut =
 
 -- ---- the end
 
--- no line is open
-pub cut-ended : (Output : Outputs) (before after : SinkState) (bytes : List ℕ) (cutter : CutterParts)
-    → IsLinesCut Output before bytes cutter after → cutter.partial ≡ []
-    → IsPutOut Output true before bytes cutter.writer after
-cut-ended Output before after bytes cutter cut none =
-    let same : cut.ended ≡ bytes =
-    sym (cut.are_bytes ∙ (ap (λ l. cut.ended ++ l) none ∙ append-nil cut.ended)) in
-    subst (λ b. IsPutOut Output true before b cutter.writer after) same (record {
-      texts = cut.is_put.texts;
-      are_texts = cut.is_put.are_texts;
-      are_whole = inr (inr refl);
-      sent = cut.is_put.sent;
-      are_outputs = cut.is_put.are_outputs;
-      is_front = front-end Output cut.ended cut.is_put.sent true cut.is_put.is_front;
-      is_sent = cut.is_put.is_sent;
-      is_healthy = cut.is_put.is_healthy;
-    })
-
 -- the open line is the last
 pub cut-last : (Output : Outputs) (before after : SinkState) (bytes : List ℕ) (cutter : CutterParts) (new : WriterParts)
     → IsLinesCut Output before bytes cutter after → ¬ (cutter.partial ≡ [])
@@ -478,18 +460,6 @@ end-starved Output before after bytes cutter fault is cut =
     subst (IsStopped Output true before bytes after) (sym is)
     (subst (λ b. IsStopped Output true before b after Memory) (append-nil bytes)
     (cut-starved Output before after bytes [] true cutter cut))
-
-pub over-sent : (now : CutterParts) (writer new : WriterParts) (partial : List ℕ) (lines : ℕ) (before after : SinkState)
-    → cutter_of writer partial lines ≡ now → IsEmptied writer new before after
-    → IsOver now (cutter_of new partial lines) before after (TooLong (lines + 1))
-over-sent now writer new partial lines before after is emptied =
-    subst (λ (k : CutterParts). IsOver k (cutter_of new partial lines) before after (TooLong (lines + 1))) is
-    (inl (refl, emptied, refl, refl))
-
-pub over-cut : (now next : CutterParts) (writer : WriterParts) (partial : List ℕ) (lines : ℕ) (before after : SinkState)
-    (fault : RunFault) → cutter_of writer partial lines ≡ now → IsCut writer before after fault → IsOver now next before after fault
-over-cut now next writer partial lines before after fault is cut =
-    subst (λ (k : CutterParts). IsOver k next before after fault) is (inr cut)
 
 pub over-end : (Output : Outputs) (line : List ℕ) (old new : CutterParts) (now after : SinkState) (fault : RunFault)
     → HasNoFeed line → 1048576 < length old.partial + length line → IsOver old new now after fault

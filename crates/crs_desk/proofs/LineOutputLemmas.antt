@@ -28,9 +28,6 @@ outputs-append Output (x ∷ xs) ys a b m n (line, rest, first, others, one, fur
   ap (λ k. max k n) greatest ∙ sym (max-assoc first others n),
 )
 
-head-of : (a b : ℕ) (xs ys : List ℕ) → a ∷ xs ≡ b ∷ ys → a ≡ b
-head-of a b xs ys h = cc
-
 tail-of : (a b : ℕ) (xs ys : List ℕ) → a ∷ xs ≡ b ∷ ys → xs ≡ ys
 tail-of a b xs ys h = cc
 

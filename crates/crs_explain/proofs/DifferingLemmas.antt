@@ -67,11 +67,6 @@ module _ (level : Level) (front : List ℕ) where
     f ∙ ap (λ z. z ++ more) e ∙ append_assoc old texts more,
   )
 
-  -- a part that is the same
-  pub untold : (path : List Step) (Same : Type 0) (first second : Content) (old : List PartTexts) → Same →
-      AppendsTexts (AreTextsOfParts level front (part path Same first second)) old old
-  untold path Same first second old same = ([], ([], same, refl), sym (append-nil old))
-
   -- the part at the front itself, which differs
   pub told-here : (Same : Type 0) (first second : Content) (old new : List PartTexts) → ¬ Same →
       AppendsTexts (AreTextsOfOne level front first second) old new →

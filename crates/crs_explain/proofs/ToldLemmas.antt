@@ -44,7 +44,7 @@ each-passed : {V : Type 0} (Q : V → Type 0) (test : V → Bool) (xs : List V) 
 each-passed Q test [] h = tt
 each-passed Q test (x ∷ xs) h = each-one Q (test x) x (filter test xs) h.0 (each-passed Q test xs h.1)
 
-turned : (a b : Bool) → (a && b) ≡ (b && a)
+pub turned : (a b : Bool) → (a && b) ≡ (b && a)
 turned true true = refl
 turned true false = refl
 turned false true = refl

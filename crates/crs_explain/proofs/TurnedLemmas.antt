@@ -22,6 +22,7 @@ use Rattle.crs_same.specs.declared.step.Step.TheVariants as step
 use Rattle.crs_canon.specs.Named.{ArePairedNames, named_once}
 use Rattle.crs_explain.specs.DifferingSets.{AreTextsBehind, AreTextsOfName, AreTextsOfNames, AreTextsOfOthers, AreTextsOfSet, are_empty, parameter_path, parts_of_parameter, unless_empty}
 use Rattle.crs_explain.specs.DifferingTexts.{PartTexts, texts_exchanged}
+use Rattle.crs_explain.proofs.ToldLemmas.{turned}
 
 abbrev Turned : List PartTexts → List PartTexts
 Turned texts = map texts_exchanged texts
@@ -42,12 +43,6 @@ both these those others more f g found (front, back, is, here, there) =
     (map exchanged front, map exchanged back, ap (map exchanged) is ∙ map-append exchanged front back, f front here, g back there)
 
 -- ---- whether there is a value
-
-turned-and : (a b : Bool) → (a && b) ≡ (b && a)
-turned-and true true = refl
-turned-and true false = refl
-turned-and false true = refl
-turned-and false false = refl
 
 turned-empty : (first second : List ℕ) → are_empty first second ≡ are_empty second first
 turned-empty [] [] = refl
@@ -116,7 +111,7 @@ module _ (level : Level) (value : (a b : Value) → SameValue a b → SameValue 
   paired xs ys names are = record {
     ascend = are.ascend;
     same = λ name.
-        subst (λ b. IsIn name names ↔ (b ≡ true)) (turned-and (is_some (named_once name xs)) (is_some (named_once name ys))) (are.same name);
+        subst (λ b. IsIn name names ↔ (b ≡ true)) (turned (is_some (named_once name xs)) (is_some (named_once name ys))) (are.same name);
   }
 
   pub set-of : (path : List ℕ) (xs ys : List ParameterParts) (texts : List PartTexts) → AreTextsOfSet level path xs ys texts →

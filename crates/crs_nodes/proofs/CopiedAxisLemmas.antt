@@ -1,7 +1,7 @@
 -- Axes that are canonical as they stand are what is written of all that is read from them.
-use Rattle.std.proofs.Common.{◌≡◌, ◌≢◌, ℕ, false, List, [], ◌∷◌, ◌++◌, Option, Some, None, codes, refl, sym, ap, subst, ◌∙◌}
+use Rattle.std.proofs.Common.{◌≡◌, ◌≢◌, ℕ, List, [], ◌∷◌, ◌++◌, Some, None, codes, refl, sym, ap, subst, ◌∙◌}
 use Rattle.crs_decimal.specs.Plain.{plain}
-use Rattle.crs_text.specs.Items.{Item, Siblings, leaf, node, End, More, arguments, kind_of_item, raw_of}
+use Rattle.crs_text.specs.Items.{Item, leaf, node, End, More, kind_of_item, raw_of}
 use Rattle.crs_text.specs.Tokens.{number, text, word}
 use Rattle.crs_text.specs.Written.{item_text, others_text}
 use Rattle.crs_text.specs.declared.items.ItemKind.TheVariants as items
@@ -11,11 +11,10 @@ use Rattle.crs_shape.specs.UnitKinds.{asked_kind}
 use Rattle.crs_shape.specs.Words.{SpellsWord, direction_word, unit_word}
 use Rattle.crs_shape.specs.declared.class.Class.{Class}
 use Rattle.crs_shape.specs.declared.class.Class.TheVariants as class
-use Rattle.crs_shape.specs.declared.unit_kind.UnitKind.{UnitKind}
 use Rattle.crs_shape.specs.declared.unit_kind.UnitKind.TheVariants as kinds
 use Rattle.crs_value.specs.Reading.{those, ReadsEach, ReadsFirst, ReadsOptional}
 use Rattle.crs_value.specs.Reads.{ReadsAxis, ReadsAxisMeridian, ReadsDirection, ReadsIdent, ReadsText, ReadsUnit}
-use Rattle.crs_value.specs.Values.{AxisParts, IdentParts, SystemParts, UnitParts}
+use Rattle.crs_value.specs.Values.{AxisParts, SystemParts, UnitParts}
 use Rattle.crs_value.specs.declared.values.level.Level.{Level}
 use Rattle.crs_matching.specs.SameSystems.{own_or}
 use Rattle.crs_normal.specs.SpelledItems.{each, node_of, number_node, opt, text_item, word_item}
@@ -23,7 +22,7 @@ use Rattle.crs_normal.specs.SpelledSystems.{item_axis, item_axis_meridian, norm_
 use Rattle.crs_normal.specs.SpelledUnits.{item_ident, item_unit, norm_unit, norm_units, set_idents, whole_value}
 use Rattle.crs_normal.proofs.read.NameLemmas.{keyword-names}
 use Rattle.crs_normal.proofs.texts.WordFormLemmas.{direction-one}
-use Rattle.crs_nodes.specs.Copied.{IsDirectionWord, IsPlainAxis, IsPlainOrder, IsSaidKind, SaysKind}
+use Rattle.crs_nodes.specs.Copied.{IsPlainAxis, IsPlainOrder, IsSaidKind}
 use Rattle.crs_nodes.proofs.CopiedLemmas.{Identifies, end-copied, end-none, found, node-in, node-text, none-read, passed, text-in, text-said, unit-copied}
 use Rattle.crs_nodes.proofs.CopiedUsageLemmas.{some-read}
 

@@ -1,12 +1,11 @@
 -- Nodes of the commonest forms, where they are canonical as they stand, are what is written of all that is read from them.
-use Rattle.std.proofs.Common.{◌≡◌, ◌≢◌, ℕ, Bool, true, false, IsTrue, if◌then◌else◌, List, [], ◌∷◌, ◌++◌, Option, Some, None, codes, refl, sym, ap, subst, ◌∙◌}
+use Rattle.std.proofs.Common.{◌≡◌, ℕ, true, false, IsTrue, if◌then◌else◌, List, [], ◌∷◌, ◌++◌, Option, Some, None, codes, refl, sym, ap, subst, ◌∙◌}
 use denote.Enum.Bare.{sameb}
 use Rattle.crs_decimal.specs.Plain.{plain}
 use Rattle.crs_decimal.specs.Value.{Value}
-use Rattle.crs_text.specs.Items.{HasId, IsAt, Item, Siblings, leaf, node, End, More, arguments, first_of, here, kind_of_item, raw_of, rest_of, skip}
+use Rattle.crs_text.specs.Items.{Item, Siblings, leaf, node, End, More, arguments, kind_of_item, raw_of, skip}
 use Rattle.crs_text.specs.Tokens.{number, text, word}
 use Rattle.crs_text.specs.Written.{item_text, others_text}
-use Rattle.crs_text.specs.declared.items.ItemKind.{ItemKind}
 use Rattle.crs_text.specs.declared.items.ItemKind.TheVariants as items
 use Rattle.crs_shape.specs.Slots.{class_named, is_class}
 use Rattle.crs_shape.specs.ShapeFault.{class_in}
@@ -18,8 +17,7 @@ use Rattle.crs_shape.specs.declared.class.Class.TheVariants as class
 use Rattle.crs_shape.specs.declared.unit_kind.UnitKind.{UnitKind}
 use Rattle.crs_shape.specs.declared.unit_kind.UnitKind.TheVariants as kinds
 use Rattle.crs_value.specs.ConversionValues.{MethodParts, ParameterParts}
-use Rattle.crs_value.specs.Kept.{kept}
-use Rattle.crs_value.specs.Reading.{Holds, ahead, item_at, those, ReadsEach, ReadsElse, ReadsFirst, ReadsOptional}
+use Rattle.crs_value.specs.Reading.{ahead, those, ReadsEach, ReadsElse, ReadsFirst, ReadsOptional}
 use Rattle.crs_value.specs.Reads.{ReadsIdent, ReadsNumber, ReadsText, ReadsTextOf, ReadsUnit, single_of}
 use Rattle.crs_value.specs.ReadsConversion.{ReadsAsUnit, ReadsMethod, ReadsParameter, ReadsUnitOf, parameter_units}
 use Rattle.crs_value.specs.Values.{IdentParts, UnitParts}
@@ -30,52 +28,16 @@ use Rattle.crs_normal.specs.SpelledItems.{code_item, each, is_short, opt, text_n
 use Rattle.crs_normal.specs.SpelledUnits.{item_ident, item_unit, norm_unit, norm_units, set_idents}
 use Rattle.crs_normal.proofs.read.NameLemmas.{keyword-names}
 use Rattle.crs_normal.proofs.texts.WordFormLemmas.{kind-one}
-use Rattle.crs_nodes.specs.Copied.{IsEnd, IsNext, IsPlainMethod, IsPlainNumber, IsPlainParameter, IsPlainly, IsSaidUnit, IsShortIdent, IsText, SaysKind}
+use Rattle.crs_nodes.specs.Copied.{IsEnd, IsPlainMethod, IsPlainNumber, IsPlainParameter, IsPlainly, IsSaidUnit, IsShortIdent, IsText, SaysKind}
 
 -- ---- arguments by their numbers
 
 pub number-by : (item : Item) (raw : List ℕ) → kind_of_item item ≡ items.Number → raw ≡ raw_of item → IsPlainly raw → IsPlainNumber item
 number-by item raw k e p = record { kind = k; plain = subst IsPlainly e p }
 
-pub here-more : (tree : Item) (id : ℕ) → HasId tree id → here tree id ≡ More (item_at tree id) (rest_of (here tree id))
-here-more tree id has = by (here tree id) has
-  where
-    by : (is : Siblings) → is ≢ End → is ≡ More (first_of is) (rest_of is)
-    by End some = absurd (some refl)
-    by (More item others) some = refl
-
-pub next-by : (tree : Item) (kind : ItemKind) (id : ℕ) (next : Option ℕ) → HasId tree id → kind_of_item (item_at tree id) ≡ kind →
-    IsAt tree (rest_of (here tree id)) next → IsNext tree (Some id) kind id next
-next-by tree kind id None has k at = record {
-  has = has;
-  are = here-more tree id has ∙ ap (More (item_at tree id)) at;
-  is_kind = k;
-  holds = tt;
-}
-next-by tree kind id (Some n) has k at = record {
-  has = has;
-  are = here-more tree id has ∙ ap (More (item_at tree id)) (sym at.0);
-  is_kind = k;
-  holds = at.1;
-}
-
-pub at-ahead : (tree : Item) (items : Siblings) (at : Option ℕ) → IsAt tree items at → ahead tree at ≡ items
-at-ahead tree items None e = sym e
-at-ahead tree items (Some id) e = e.0
-
-pub at-holds : (tree : Item) (items : Siblings) (at : Option ℕ) → IsAt tree items at → Holds tree at
-at-holds tree items None e = tt
-at-holds tree items (Some id) e = e.1
-
 pub none-ahead : (tree : Item) (at : Option ℕ) → at ≡ None → ahead tree at ≡ End
 none-ahead tree None e = refl
 none-ahead tree (Some id) e = absurd cc
-
-pub end-by : (level : Level) (tree : Item) (id : ℕ) (next : Option ℕ) → HasId tree id → level ≡ levels.Full → IsAt tree (rest_of (here tree id)) next →
-    next ≡ None → IsShortIdent (item_at tree id) → IsEnd level (here tree id)
-end-by level tree id next has full at none ident =
-    subst (IsEnd level) (sym (here-more tree id has))
-    (full, ident, sym (at-ahead tree (rest_of (here tree id)) next at) ∙ none-ahead tree next none)
 
 -- ---- the class of an argument
 

@@ -1,5 +1,5 @@
 -- What changes and look-ups of a map's entries mean for the groups.
-use Rattle.std.proofs.Common.{◌≡◌, ◌++◌, true, false, ◌∷◌, [], ℕ, zero, suc, List, Option, Some, None, length, map, position, get_or, slice_get, is_some, cond, true≢false, ap, sym, refl, ◌∙◌, Result, Ok, Err}
+use Rattle.std.proofs.Common.{◌≡◌, ◌++◌, true, false, ◌∷◌, [], ℕ, zero, suc, List, Option, Some, None, position, get_or, slice_get, is_some, cond, true≢false, ap, sym, refl, ◌∙◌, Result, Ok, Err}
 use Rattle.std.specs.Prelude.{MatchOption, OnErr}
 use Rattle.std.specs.Map.{keys_of, values_of, lookup}
 use Rattle.std.proofs.lemmas.List.Quantifiers.{position-Some}
@@ -23,19 +23,9 @@ on-err (Ok x) p = tt
 on-err (Err e) p = p
 
 module _ {V : Type 0} (lines : V → List ℕ) where
-  pub length-groups : (es : List (CanonicalText × V)) → length (groups_of lines es) ≡ length es
-  length-groups [] = refl
-  length-groups (e ∷ es) = ap suc (length-groups es)
-
   pub canons-groups : (es : List (CanonicalText × V)) → canons (groups_of lines es) ≡ keys_of es
   canons-groups [] = refl
   canons-groups (e ∷ es) = ap (λ rest. e.0 ∷ rest) (canons-groups es)
-
-  pub lines-groups : (es : List (CanonicalText × V)) (at : ℕ) (v : V) → slice_get (values_of es) at ≡ Some v
-      → slice_get (map (λ group. group.lines) (groups_of lines es)) at ≡ Some (lines v)
-  lines-groups [] at v h = absurd (none-some v h)
-  lines-groups (e ∷ es) zero v h = ap (λ w. Some (lines w)) (some-one e.1 v h)
-  lines-groups (e ∷ es) (suc at) v h = lines-groups es at v h
 
   -- a new value at a place, with a further line
   pub joined : (es : List (CanonicalText × V)) (at line : ℕ) (v w : V) → slice_get (values_of es) at ≡ Some v

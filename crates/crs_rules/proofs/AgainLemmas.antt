@@ -5,8 +5,7 @@ use Rattle.crs_shape.specs.declared.class.Class.{Class}
 use Rattle.crs_shape.specs.declared.class.Class.TheVariants as class
 use Rattle.crs_shape.specs.declared.unit_kind.UnitKind.{UnitKind}
 use Rattle.crs_shape.specs.declared.unit_kind.UnitKind.TheVariants as kinds
-use Rattle.crs_shape.specs.UnitKinds.{asked_kind}
-use Rattle.crs_shape.specs.UnitKinds.{kind_as}
+use Rattle.crs_shape.specs.UnitKinds.{asked_kind, kind_as}
 use Rattle.crs_value.specs.ConversionValues.{ConversionParts, ParameterParts}
 use Rattle.crs_value.specs.DynamicValues.{DynamicParts}
 use Rattle.crs_value.specs.EnsembleFrames.{frame_of}

@@ -8,8 +8,7 @@ use Rattle.std.proofs.lemmas.Cmp.{nat_list_cmp_total}
 use Rattle.crs_shape.specs.declared.class.Class.TheVariants as class
 use Rattle.crs_shape.specs.declared.unit_kind.UnitKind.{UnitKind}
 use Rattle.crs_shape.specs.declared.unit_kind.UnitKind.TheVariants as kinds
-use Rattle.crs_shape.specs.UnitKinds.{asked_kind}
-use Rattle.crs_shape.specs.UnitKinds.{kind_as}
+use Rattle.crs_shape.specs.UnitKinds.{asked_kind, kind_as}
 use Rattle.crs_value.specs.NamedValues.{IdentParts}
 use Rattle.crs_value.specs.Sound.{Each}
 use Rattle.crs_value.specs.SoundSystem.{own_or}

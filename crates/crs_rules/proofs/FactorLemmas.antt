@@ -1,16 +1,12 @@
 -- Whether two factors are the same number is whether they have one plain spelling.
-use Rattle.std.proofs.Common.{◌≡◌, ◌↔◌, ℕ, Bool, true, false, IsTrue, List, refl, sym, subst, ap}
+use Rattle.std.proofs.Common.{◌≡◌, ◌↔◌, ℕ, Bool, IsTrue, List, subst, ap}
 use Rattle.std.specs.Str.{bytes_eq}
+use Rattle.std.proofs.lemmas.Bool.Decides.{same_from_decides}
 use Rattle.std.proofs.lemmas.Slice.Eq.{bytes_eq-Decides}
 use Rattle.crs_decimal.specs.Number.{SameNumber}
 use Rattle.crs_decimal.specs.Plain.{plain}
 use Rattle.crs_decimal.specs.Bounds.{Denotes}
 use Rattle.crs_decimal.specs.Value.{IsNormal, Value, exact}
-
-as-true : (a b : Bool) → (a ≡ true → b ≡ true) → (b ≡ true → a ≡ true) → a ≡ b
-as-true true b f g = sym (f refl)
-as-true false true f g = g refl
-as-true false false f g = refl
 
 -- values that have one plain spelling are one
 pub one-plain :
@@ -26,7 +22,7 @@ pub factor-tested :
     ((v : Value) → IsNormal v → Denotes (plain v) (exact v)) →
     (a b : Value) (r : Bool) → IsNormal a → IsNormal b → (IsTrue r ↔ SameNumber (exact a) (exact b)) →
     r ≡ bytes_eq (plain a) (plain b)
-factor-tested one normal denotes a b r in-a in-b told = as-true r (bytes_eq (plain a) (plain b))
-    (λ e. (bytes_eq-Decides (plain a) (plain b)).1 (ap plain ((normal a b in-a in-b).0 (told.0 e))))
-    (λ e. told.1 ((normal a b in-a in-b).1
-    (one-plain one denotes a b in-a in-b ((bytes_eq-Decides (plain a) (plain b)).0 e))))
+factor-tested one normal denotes a b r in-a in-b told = same_from_decides r (bytes_eq (plain a) (plain b)) told (
+  λ e. (normal a b in-a in-b).1 (one-plain one denotes a b in-a in-b ((bytes_eq-Decides (plain a) (plain b)).0 e)),
+  λ s. (bytes_eq-Decides (plain a) (plain b)).1 (ap plain ((normal a b in-a in-b).0 s)),
+)

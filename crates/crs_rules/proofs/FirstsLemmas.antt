@@ -32,11 +32,6 @@ found-take digest firsts zero at xs h = tt
 found-take digest firsts (suc n) at [] h = tt
 found-take digest firsts (suc n) at (x ∷ xs) h = (h.0, found-take digest firsts n (suc at) xs h.1)
 
-pub each-take : {A : Type 0} (P : A → Type 0) (n : ℕ) (xs : List A) → Each P xs → Each P (take n xs)
-each-take P zero xs h = tt
-each-take P (suc n) [] h = tt
-each-take P (suc n) (x ∷ xs) h = (h.0, each-take P n xs h.1)
-
 none-some : {A : Type 0} (o : Option A) (x : A) → o ≡ None → o ≡ Some x → ⊥
 none-some o x e f = cc
 

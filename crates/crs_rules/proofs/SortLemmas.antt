@@ -7,7 +7,7 @@ use Rattle.std.proofs.lemmas.List.Edits.{length-swap}
 use Rattle.crs_value.specs.Values.{AxisParts}
 use Rattle.crs_rules.specs.Rewritten.{among, ascending}
 use Rattle.crs_rules.specs.Sinking.{sunk_from}
-use Rattle.crs_rules.proofs.CrsLemmas.{ascending-length}
+use Rattle.crs_rules.proofs.CrsLemmas.{ascending-length, map-length}
 
 -- neighbours in each other's place
 abbrev exchanged : {A : Type 0} → A → List A → ℕ → List A
@@ -53,10 +53,6 @@ map-set f x [] zero = refl
 map-set f x [] (suc i) = refl
 map-set f x (y ∷ ys) zero = refl
 map-set f x (y ∷ ys) (suc i) = ap (λ zs. f y ∷ zs) (map-set f x ys i)
-
-map-length : {A B : Type 0} (f : A → B) (xs : List A) → length (map f xs) ≡ length xs
-map-length f [] = refl
-map-length f (x ∷ xs) = ap suc (map-length f xs)
 
 -- two members in each other's place, and what a function gives for them
 pub map-swap : {A B : Type 0} (f : A → B) (xs : List A) (i j : ℕ) → map f (swap xs i j) ≡ swap (map f xs) i j

@@ -1,5 +1,6 @@
 -- What rules write of a CRS they leave as it is, but for the orders of axes where these don't count.
-use Rattle.std.proofs.Common.{◌≡◌, ◌&&◌, ◌||◌, ℕ, Bool, true, false, Option, Some, None, List, [], ◌∷◌, refl, sym, ap, ◌∙◌, map, if◌then◌else◌}
+use Rattle.std.proofs.Common.{◌≡◌, ◌&&◌, ◌||◌, ℕ, Bool, true, false, Option, Some, None, List, [], ◌∷◌, refl, ap, ◌∙◌, map, if◌then◌else◌}
+use Rattle.std.proofs.lemmas.Bool.Decides.{same_from_decides}
 use Rattle.std.specs.List.{list_all}
 use Rattle.std.specs.Option.{is_some, option_map}
 use Rattle.crs_shape.specs.declared.class.Class.TheVariants as class
@@ -58,23 +59,16 @@ all-from : {A : Type 0} (test : A → Bool) (xs : List A) → Each (λ x. test x
 all-from test [] h = refl
 all-from test (x ∷ xs) h = let t = all-from test xs h.1 in λ i. h.0 i && t i
 
-one-answer : (a b : Bool) → (a ≡ true → b ≡ true) → (b ≡ true → a ≡ true) → a ≡ b
-one-answer true b f g = sym (f refl)
-one-answer false true f g = g refl
-one-answer false false f g = refl
-
-has-unit : ParameterParts → Bool
-has-unit p = is_some p.unit
-
 all-set : ((a b : ParameterParts) → IsParameter a → IsParameter b → parameter-text a ≡ parameter-text b → a ≡ b) →
     (test : ParameterParts → Bool) (xs : List ParameterParts) → Each IsParameter xs →
     list_all test (in_order parameter-text xs) ≡ list_all test xs
 all-set told test xs h =
     let ys : List ParameterParts = in_order parameter-text xs in
-    one-answer (list_all test ys) (list_all test xs)
-    (λ e. all-from test xs (each-of (λ x. test x ≡ true) xs (λ z q.
-    each-has (λ x. test x ≡ true) ys z (all-to test ys e) (in_order-has parameter-text IsParameter told z xs h q))))
-    (λ e. all-from test ys (each-in_order parameter-text (λ x. test x ≡ true) xs (all-to test xs e)))
+    same_from_decides {P = list_all test xs ≡ true} (list_all test ys) (list_all test xs) (
+      λ e. all-from test xs (each-of (λ x. test x ≡ true) xs (λ z q.
+          each-has (λ x. test x ≡ true) ys z (all-to test ys e) (in_order-has parameter-text IsParameter told z xs h q))),
+      λ e. all-from test ys (each-in_order parameter-text (λ x. test x ≡ true) xs (all-to test xs e)),
+    ) (λ e. e, λ e. e)
 
 each-so : {f : ParameterParts → ParameterParts} → ((p : ParameterParts) → IsParameter p → IsParameter (f p)) →
     (ps : List ParameterParts) → Each IsParameter ps → Each IsParameter (map f ps)

@@ -1,7 +1,6 @@
 -- What nodes say: there is nothing else, and a name is a text.
-use Rattle.std.proofs.Common.{◌≡◌, ◌≢◌, ◌⊎◌, inl, inr, Option, Some, None, ℕ, List, IsTrue, false, subst, ◌∙◌}
-use Rattle.crs_decimal.specs.Bounds.{Denotes}
-use Rattle.crs_decimal.specs.Value.{IsNormal, Value, exact}
+use Rattle.std.proofs.Common.{◌≡◌, ◌≢◌, ◌⊎◌, inl, inr, Option, Some, None, IsTrue, false, subst, ◌∙◌}
+use Rattle.crs_decimal.specs.Value.{Value}
 use Rattle.crs_text.specs.Items.{Item, leaf, node, Siblings, End, More, IsNumberOf, first_of, kind_of_item, raw_of, rest_of}
 use Rattle.crs_text.specs.Tokens.{number, text, word}
 use Rattle.crs_text.specs.Written.{AreFormed}
@@ -13,10 +12,7 @@ use Rattle.crs_value.specs.BadValue.{IsAboveZero}
 use Rattle.crs_value.specs.Sound.{IsText}
 use Rattle.crs_rules_file.specs.Members.{MemberParts, SaysFactor, SaysName, kind_of}
 use Rattle.crs_rules_file.specs.Named.{IsFactor, SaysNamed}
-
-abbrev pub DenotesOne : Type 0
-DenotesOne = (bytes : List ℕ) (a b : Value) → IsNormal a → IsNormal b →
-    Denotes bytes (exact a) → Denotes bytes (exact b) → a ≡ b
+use Rattle.crs_rules_file.proofs.OneLemmas.{DenotesOne}
 
 -- a number that isn't above zero is no factor
 pub no-factor : DenotesOne → (k : UnitKind) (items : Siblings) (v : Value) → IsNumberOf (first_of items) (Some v)

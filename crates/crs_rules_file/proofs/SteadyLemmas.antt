@@ -21,6 +21,7 @@ use Rattle.crs_rules.specs.SteadyRules.{AreSteady, NamesAgree, UnitsAgree, unit_
 use Rattle.crs_rules_file.specs.Members.{MemberParts, Says, SaysFactor, SaysName, kind_of}
 use Rattle.crs_rules_file.specs.RulesFile.{Reads, ReadsFile, SpellsRules, next, start}
 use Rattle.crs_rules_file.specs.Statements.{Adds, AddsSet, Drops, Joins, Over, Reading, listed, with_alias}
+use Rattle.crs_rules_file.proofs.OneLemmas.{DenotesOne}
 
 -- ---- lists
 
@@ -305,10 +306,6 @@ names-agree a b g = record {
   steady = not-true (is_name_alias a.class a.name b) (λ t. g.0 (alias-is a.class a.name b t));
   clear = λ t. ap (λ m. m.name) (g.1 (alias-is a.class a.alias b t));
 }
-
-abbrev pub DenotesOne : Type 0
-DenotesOne = (bytes : List ℕ) (a b : Value) → IsNormal a → IsNormal b →
-    Denotes bytes (exact a) → Denotes bytes (exact b) → a ≡ b
 
 abbrev pub PlainDenotes : Type 0
 PlainDenotes = (v : Value) → IsNormal v → Denotes (plain v) (exact v)

@@ -1,5 +1,5 @@
 -- Walks over some things, one after another: what leads from one reading to another, as far as it was gone.
-use Rattle.std.proofs.Common.{◌≡◌, ◌≢◌, ℕ, Option, None, Some, sym, List, [], ◌∷◌, inl, inr, refl, subst}
+use Rattle.std.proofs.Common.{◌≡◌, ◌≢◌, ℕ, Option, None, Some, sym, List, ◌∷◌, inl, inr, refl, subst}
 use Rattle.crs_text.specs.Items.{IsAt, Item, Siblings, End, More, first_of, here, rest_of}
 use Rattle.crs_value.specs.Reading.{Holds, ahead, item_at}
 use Rattle.crs_rules_file.specs.declared.fault.RulesFault.{RulesFault}
@@ -13,10 +13,6 @@ pub record Leads {A : Type 0} (Step : Reading → A → Reading → Type 0) (Fau
   pub over : (s : Reading) → Over Step q ys s → Over Step r xs s
   pub fault : (f : RulesRefusal) → FaultOver Step Fault q ys f → FaultOver Step Fault r xs f
 
-pub leads-here : {A : Type 0} (Step : Reading → A → Reading → Type 0) (Fault : Reading → A → RulesRefusal → Type 0)
-    (r : Reading) (xs : List A) → Leads Step Fault r xs r xs
-leads-here Step Fault r xs = record { over = λ s h. h; fault = λ f h. h }
-
 pub leads-on : {A : Type 0} (Step : Reading → A → Reading → Type 0) (Fault : Reading → A → RulesRefusal → Type 0)
     (r : Reading) (xs : List A) (q : Reading) (y : A) (ys : List A) (p : Reading) → Leads Step Fault r xs q (y ∷ ys)
     → Step q y p → Leads Step Fault r xs p ys
@@ -24,10 +20,6 @@ leads-on Step Fault r xs q y ys p leads step = record {
   over = λ s h. leads.over s (p, step, h);
   fault = λ f h. leads.fault f (inr (p, step, h));
 }
-
-pub leads-end : {A : Type 0} (Step : Reading → A → Reading → Type 0) (Fault : Reading → A → RulesRefusal → Type 0)
-    (r : Reading) (xs : List A) (q : Reading) → Leads Step Fault r xs q [] → Over Step r xs q
-leads-end Step Fault r xs q leads = leads.over q refl
 
 pub leads-fault : {A : Type 0} (Step : Reading → A → Reading → Type 0) (Fault : Reading → A → RulesRefusal → Type 0)
     (r : Reading) (xs : List A) (q : Reading) (y : A) (ys : List A) (f : RulesRefusal) → Leads Step Fault r xs q (y ∷ ys)

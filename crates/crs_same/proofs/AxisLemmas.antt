@@ -24,22 +24,10 @@ which P position place [] h = absurd h
 which P position place (axis ∷ axes) (inl h) = (axis, h.1, inl (h.0, refl))
 which P position place (axis ∷ axes) (inr h) = let w = which P position (place + 1) axes h in (w.0, w.1, inr w.2)
 
-abbrev IsOneAt : ℕ → List AxisParts → Type 0
-IsOneAt position axes = (x y : AxisParts) → HasAt position (λ axis. axis ≡ x) 1 axes → HasAt position (λ axis. axis ≡ y) 1 axes → x ≡ y
-
-of-has : (P : AxisParts → Type 0) (position : ℕ) (axes : List AxisParts) (axis : AxisParts) → IsOneAt position axes →
-    HasAt position (λ x. x ≡ axis) 1 axes → HasAt position P 1 axes → P axis
-of-has P position axes axis one at h = let w = which P position 1 axes h in subst P (one w.0 axis w.2 at) w.1
-
 pub at-both : (R : AxisParts → AxisParts → Type 0) (position : ℕ) (xs ys : List AxisParts) (x y : AxisParts) →
     HasAt position (λ axis. axis ≡ x) 1 xs → HasAt position (λ axis. axis ≡ y) 1 ys → R x y → HasAt position (λ a. HasAt position (λ b. R a b) 1 ys) 1 xs
 at-both R position xs ys x y at-x at-y r =
     has-of (λ a. HasAt position (λ b. R a b) 1 ys) position 1 xs x at-x (has-of (λ b. R x b) position 1 ys y at-y r)
-
-pub of-both : (R : AxisParts → AxisParts → Type 0) (position : ℕ) (xs ys : List AxisParts) (x y : AxisParts) → IsOneAt position xs → IsOneAt position ys →
-    HasAt position (λ axis. axis ≡ x) 1 xs → HasAt position (λ axis. axis ≡ y) 1 ys → HasAt position (λ a. HasAt position (λ b. R a b) 1 ys) 1 xs → R x y
-of-both R position xs ys x y one-x one-y at-x at-y h =
-    of-has (λ b. R x b) position ys y one-y at-y (of-has (λ a. HasAt position (λ b. R a b) 1 ys) position xs x one-x at-x h)
 
 pub which-both : (R : AxisParts → AxisParts → Type 0) (position : ℕ) (xs ys : List AxisParts) →
     HasAt position (λ a. HasAt position (λ b. R a b) 1 ys) 1 xs →

@@ -1,5 +1,5 @@
 -- What is the same with everything that counts is the same by definition.
-use Rattle.std.proofs.Common.{ℕ, zero, suc, max, inl, inr, ◌⊎◌, Option, Some, None, List, [], ◌∷◌, length, refl}
+use Rattle.std.proofs.Common.{ℕ, zero, suc, max, inl, inr, Option, Some, None, List, [], ◌∷◌, length, refl}
 use Rattle.std.specs.Option.{option_and_then}
 use Rattle.crs_shape.specs.declared.unit_kind.UnitKind.{UnitKind}
 use Rattle.crs_shape.specs.declared.unit_kind.UnitKind.TheVariants as kinds

@@ -1,5 +1,5 @@
 -- Two values in the other order differ in the same parts, each with its values exchanged.
-use Rattle.std.proofs.Common.{◌≡◌, ℕ, zero, suc, max, Option, Some, None, List, [], ◌∷◌, ◌++◌, length, map, sym, subst, ap, ◌∙◌}
+use Rattle.std.proofs.Common.{ℕ, zero, suc, max, Option, Some, None, List, [], ◌∷◌, length, map, sym, subst, ap, ◌∙◌}
 use Rattle.std.specs.Option.{option_map, option_and_then}
 use Rattle.std.proofs.Math.Nat.{max_comm}
 use Rattle.std.proofs.lemmas.List.{map-append}
@@ -21,15 +21,15 @@ use Rattle.crs_value.specs.CrsValues.{GeodeticParts, BaseParts, ProjectedParts, 
 use Rattle.crs_value.specs.DynamicValues.{DynamicParts}
 use Rattle.crs_value.specs.Kept.{kept, kept_one}
 use Rattle.crs_value.specs.NamedValues.{NamedParts}
-use Rattle.crs_value.specs.ReadsCrs.{kind_by, kind_of}
+use Rattle.crs_value.specs.ReadsCrs.{kind_by}
 use Rattle.crs_value.specs.Values.{AxisMeridianParts, AxisParts, EllipsoidParts, IdentParts, MeridianParts, DatumParts, EnsembleParts, SystemParts, TailParts, UnitParts}
 use Rattle.crs_same.specs.declared.content.Content.{Content}
 use Rattle.crs_same.specs.declared.content.Content.TheVariants as content
 use Rattle.crs_same.specs.declared.step.Step.{Step}
 use Rattle.crs_same.specs.declared.step.Step.TheVariants as step
 use Rattle.crs_same.specs.Parts.{◌▸◌, Parts, none, part, ◌⨾◌, DifferenceParts, exchanged, Differences}
-use Rattle.crs_same.specs.PartsOfCrs.{kind_word, horizontal_word, parts_of_method, parts_of_conversion, parts_of_dynamic, parts_of_tail, parts_of_geodetic, parts_of_base, parts_of_projected, parts_of_vertical, parts_of_horizontal, parts_of_compound, parts_of_crs}
-use Rattle.crs_same.specs.PartsOfFrames.{datum_word, unit_of, parts_of_ellipsoid, parts_of_ellipsoids, parts_of_given, or_greenwich, parts_of_meridian, parts_of_datum, parts_of_ensemble, parts_of_frame}
+use Rattle.crs_same.specs.PartsOfCrs.{kind_word, parts_of_method, parts_of_conversion, parts_of_dynamic, parts_of_tail, parts_of_geodetic, parts_of_base, parts_of_projected, parts_of_vertical, parts_of_horizontal, parts_of_compound, parts_of_crs}
+use Rattle.crs_same.specs.PartsOfFrames.{unit_of, parts_of_ellipsoid, parts_of_ellipsoids, parts_of_given, or_greenwich, parts_of_meridian, parts_of_datum, parts_of_ensemble, parts_of_frame}
 use Rattle.crs_same.specs.PartsOfSystems.{parts_of_axis, parts_at, parts_of_axes, parts_of_system}
 use Rattle.crs_matching.specs.SameConversions.{SameParameter, SameGeoidModel}
 use Rattle.crs_matching.specs.SameFrames.{SameMember}
@@ -37,8 +37,8 @@ use Rattle.crs_matching.specs.SameIdents.{SameNamed}
 use Rattle.crs_matching.specs.SameSystems.{SameAxisMeridian, own_or}
 use Rattle.crs_matching.specs.SameUnits.{SameValue, SameUnitAsked, or_metre}
 use Rattle.crs_matching.specs.SameUsages.{SameUsage, usages_of}
-use Rattle.crs_matching.specs.Sets.{BothOrNeither, SameSet}
-use Rattle.crs_same.specs.SingleParts.{texts, optional_texts, words, unlike, numbers, optional, optional_numbers, units, sets, identifiers, nodes}
+use Rattle.crs_matching.specs.Sets.{BothOrNeither}
+use Rattle.crs_same.specs.SingleParts.{texts, optional_texts, words, numbers, optional, optional_numbers, units, sets, identifiers, nodes}
 
 -- what differs among these parts does so among those, with its values exchanged
 pub record Turns (these those : Parts) : Type 0 where

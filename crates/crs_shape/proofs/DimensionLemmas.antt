@@ -1,5 +1,5 @@
 -- Dimensions as whole numbers, and as they are read.
-use Rattle.std.proofs.Common.{◌≡◌, ℕ, ◌*◌, ◌^◌, ◌<◌, ◌≤◌, ◌⊎◌, inl, inr, nat_le, ◌&&◌, Bool, true, false, List, [], ◌∷◌, refl, subst, arith, leb-true}
+use Rattle.std.proofs.Common.{◌≡◌, ℕ, ◌*◌, ◌^◌, ◌<◌, inl, inr, nat_le, Bool, true, List, [], ◌∷◌, refl, subst, arith, leb-true}
 use Rattle.std.specs.List.{list_all}
 use Rattle.crs_decimal.specs.Number.{Number, SameNumber, whole_number}
 use Rattle.crs_decimal.specs.Value.{Value, exact}

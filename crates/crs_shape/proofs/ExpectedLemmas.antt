@@ -83,11 +83,6 @@ pub record Going (tree : Item) (class : Class) (item : Item) (slots : List SlotP
   pub has : HasNext tree next
   pub less : sizes (from tree next) < size_of item
 
--- a leaf has no fault inside
-pub free_leaf : (c : Class) (item : Item) → is_of c item ≡ true → close_of item ≡ None → IsFree (Inside c item)
-free_leaf c (leaf kind place raw) e none fault h = let never : true ≡ false = sym e ∙ h.0 in cc
-free_leaf c (node place keyword square first others close) e none fault h = cc
-
 first_free : (c : Class) (place : ℕ) (keyword : List ℕ) (square : Bool) (first : Item) (others : Siblings) (close : ℕ) → is_of c (node place keyword square first others close) ≡ true →
     IsFree (Among c close [] (More first others)) → IsFree (Inside c (node place keyword square first others close))
 first_free c place keyword square first others close e free fault (inl h) = let never : true ≡ false = sym e ∙ h.0 in cc

@@ -1,12 +1,12 @@
 -- The fault of an item, as the loop over its arguments finds it.
-use Rattle.std.proofs.Common.{◌≡◌, ◌≢◌, ℕ, ◌+◌, ◌<◌, Bool, true, false, Option, Some, None, List, [], ◌∷◌, if◌then◌else◌, option_map, refl, sym, ◌∙◌, ap, subst, arith, rules}
+use Rattle.std.proofs.Common.{◌≡◌, ◌≢◌, ℕ, ◌+◌, ◌<◌, Bool, true, false, Option, Some, None, List, [], ◌∷◌, if◌then◌else◌, option_map, refl, sym, ◌∙◌, ap, subst, arith}
 use Rattle.crs_text.specs.Items.{Item, leaf, node, Siblings, End, More, arguments, first_of, rest_of, close_of, size_of, sizes, here, HasId, IsAt}
 use Rattle.crs_text.specs.Refusal.{RefusedAt}
 use Rattle.crs_shape.specs.declared.class.Class.{Class}
-use denote.Enum.Bare.{sameb, same_true, true_same}
+use denote.Enum.Bare.{true_same}
 use Rattle.crs_shape.specs.contracts.class.Class.{the_type}
 use Rattle.crs_shape.specs.Keywords.{is_keyword, first_named, root_classes, root_named}
-use Rattle.crs_shape.specs.Slots.{SlotParts, slots_of, named_in, class_named, is_class}
+use Rattle.crs_shape.specs.Slots.{SlotParts, slots_of, named_in, class_named}
 use Rattle.crs_shape.specs.Walk.{after, may_end}
 use Rattle.crs_shape.specs.ShapeFault.{class_of_kind, class_in, class_of_root, is_of, misplaced, missing}
 use Rattle.crs_shape.specs.FirstFault.{or_later, step_to, step_of, fault_by, fault_from, first_inside, first_in_arguments}
@@ -151,21 +151,6 @@ named-has (s ∷ ss) word c e =
     elim (first_named s.classes word) as (λ o. first_named s.classes word ≡ o → is_keyword c word ≡ true) [
       | None ↦ λ f. named-has ss word c (rw f at e)
       | Some d ↦ λ f. first-has s.classes word c (f ∙ (rw f at e))
-    ] refl
-
--- a word that is no keyword of a class doesn't name it
-pub not-named : (parent c : Class) (word : List ℕ) → is_keyword c word ≡ false → is_class c (class_named parent word) ≡ false
-unfolding class_named
-not-named parent c word none =
-    elim (class_named parent word) as (λ o. class_named parent word ≡ o → is_class c o ≡ false) [
-      | None ↦ λ e. refl
-      | Some d ↦ λ e. elim (sameb the_type d c) as (λ b. sameb the_type d c ≡ b → b ≡ false) [
-        | true ↦ λ same.
-            let has : is_keyword d word ≡ true = named-has (slots_of parent) word d e in
-            let here : is_keyword c word ≡ true = subst (λ x. is_keyword x word ≡ true) (same_true the_type (search rules) d c same) has in
-            sym here ∙ none
-        | false ↦ λ other. refl
-      ] refl
     ] refl
 
 pub class-is_of : (parent c : Class) (item : Item) → class_in parent item ≡ Some c → is_of c item ≡ true

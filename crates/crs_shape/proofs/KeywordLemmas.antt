@@ -19,7 +19,7 @@ use Rattle.crs_shape.proofs.KeywordTableLemmas.{class-among, named, named_root}
 
 -- A word that is a keyword
 
-true-false : true ≡ false → ⊥
+pub true-false : true ≡ false → ⊥
 true-false p = cc
 
 abbrev is_this : Keyword → Keyword → Bool

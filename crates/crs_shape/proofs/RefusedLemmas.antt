@@ -1,13 +1,9 @@
 -- A refusal of shape and what could come there.
-use Rattle.std.proofs.Common.{◌≡◌, ℕ, Bool, true, false, IsTrue, ◌↔◌, inl, inr, ◌⊎◌, Option, Some, None, List, [], ◌∷◌, ◌++◌, if◌then◌else◌, refl, sym, ◌∙◌, ap, subst}
-use Rattle.std.proofs.lemmas.Bool.{cases_Bool}
-use Rattle.crs_text.specs.Items.{Item, leaf, node, Siblings, End, More, place_of}
+use Rattle.std.proofs.Common.{◌≡◌, ℕ, Bool, true, false, IsTrue, inl, inr, ◌⊎◌, Some, None, List, [], ◌∷◌, ◌++◌, refl, sym, ◌∙◌, ap, subst}
+use Rattle.crs_text.specs.Items.{Item, leaf, node, Siblings, End, More}
 use Rattle.crs_text.specs.Refusal.{RefusedAt}
 use Rattle.crs_shape.specs.declared.class.Class.{Class}
-use Rattle.crs_shape.specs.Keywords.{is_keyword}
-use Rattle.crs_shape.specs.Slots.{slots_of}
-use Rattle.crs_shape.specs.Shape.{Allowed, Begins}
-use Rattle.crs_shape.specs.ShapeFault.{class_in, is_of, misplaced, missing, IsFree, AtArgument, Stands, Inside, Among, class_of_root, AtRoot}
+use Rattle.crs_shape.specs.ShapeFault.{class_in, is_of, misplaced, missing, IsFree, Stands, Inside, Among, class_of_root, AtRoot}
 use Rattle.crs_shape.specs.Expected.{ExpectedParts, may_come, Follows, ExpectedIn, ExpectedAmong, ExpectedAtRoot}
 use Rattle.crs_shape.specs.RefusedItem.{IsWithin, IsWithinAny, class_at, IsRefusedThere, AreAlike}
 use Rattle.crs_shape.proofs.FaultLemmas.{same_class}

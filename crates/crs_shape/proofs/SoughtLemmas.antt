@@ -20,7 +20,7 @@ use Rattle.crs_shape.specs.Slots.{is_class}
 use Rattle.crs_shape.specs.Sought.{kind_for}
 use Rattle.crs_shape.proofs.ClassSetLemmas.{has_bit-word_of}
 use Rattle.crs_shape.proofs.ItemLemmas.{class_in-node, not-among}
-use Rattle.crs_shape.proofs.KeywordLemmas.{among-classes_of, class_named-table, is_keyword-table}
+use Rattle.crs_shape.proofs.KeywordLemmas.{among-classes_of, class_named-table, is_keyword-table, true-false}
 use Rattle.crs_shape.proofs.KeywordTableLemmas.{clear-named}
 use Rattle.crs_shape.proofs.ListLemmas.{list_any-map}
 
@@ -45,9 +45,6 @@ no-keyword c spelled other =
                 ] refl
           ] refl
     ] refl
-
-true-false : true ≡ false → ⊥
-true-false e = cc
 
 leaf-other : (c d : Class) (k : ItemKind) → k ≡ kind_for c → sameb kinds.the_type (kind_for d) k ≡ false → false ≡ sameb the_type d c
 leaf-other c d k right other =

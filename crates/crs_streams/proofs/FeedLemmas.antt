@@ -1,22 +1,12 @@
 -- Line feeds among bytes, and lines that aren't too long.
-use Rattle.std.proofs.Common.{◌≡◌, ◌⊎◌, ◌+◌, ◌<◌, ◌≤◌, ◌++◌, ◌∷◌, [], ℕ, zero, suc, List, true, false, length, inl, inr, ap, subst, sym, refl, ◌∙◌, arith, append_assoc, length-append}
+use Rattle.std.proofs.Common.{◌≡◌, ◌⊎◌, ◌+◌, ◌≤◌, ◌++◌, ◌∷◌, [], ℕ, List, true, false, length, inl, inr, ap, subst, sym, refl, ◌∙◌, arith, append_assoc, length-append}
 use Rattle.std.specs.Prelude.{◌==◌, cond}
-use Rattle.std.proofs.lemmas.Bool.{cases_Bool, eqb-true}
+use Rattle.std.proofs.lemmas.Bool.{eqb-true}
 use Rattle.std.proofs.lemmas.List.Sums.{sum_by-append}
 use Rattle.crs_streams.specs.EndedLines.{AreEnded}
-use Rattle.crs_streams.specs.Lines.{AreLines, HasNoFeed, IsSplit, IsTextOf}
+use Rattle.crs_streams.specs.Lines.{AreLines, HasNoFeed, IsTextOf}
 use Rattle.crs_streams.specs.LongLines.{EndsInFeed, HasShortLines, feeds}
-use Rattle.crs_streams.proofs.LineLemmas.{false-true, feed-more, feed-rest, feed-test}
-use Rattle.crs_streams.proofs.SplitLemmas.{plain-append}
-
-cons-is : (a b : ℕ) (xs ys : List ℕ) → a ≡ b → xs ≡ ys → a ∷ xs ≡ b ∷ ys
-cons-is a b xs ys h t = cc
-
-head-of : (a b : ℕ) (xs ys : List ℕ) → a ∷ xs ≡ b ∷ ys → a ≡ b
-head-of a b xs ys h = cc
-
-tail-of : (a b : ℕ) (xs ys : List ℕ) → a ∷ xs ≡ b ∷ ys → xs ≡ ys
-tail-of a b xs ys h = cc
+use Rattle.crs_streams.proofs.LineLemmas.{false-true, feed-rest, feed-test, head-tail, head-is, tail-is}
 
 -- how many feeds there are
 pub feeds-append : (a b : List ℕ) → feeds (a ++ b) ≡ feeds a + feeds b
@@ -93,23 +83,23 @@ stretch-before : (line rest a b : List ℕ) → line ++ rest ≡ a ++ 10 ∷ b �
     → (m : List ℕ) × (a ≡ line ++ m)
 stretch-before [] rest a b e plain = (a, refl)
 stretch-before (x ∷ xs) rest [] b e plain =
-    absurd (false-true (sym (feed-test x xs plain) ∙ ap (λ y. y == 10) (head-of x 10 (xs ++ rest) b e)))
+    absurd (false-true (sym (feed-test x xs plain) ∙ ap (λ y. y == 10) (head-is x 10 (xs ++ rest) b e)))
 stretch-before (x ∷ xs) rest (y ∷ ys) b e plain =
-    let further = stretch-before xs rest ys b (tail-of x y (xs ++ rest) (ys ++ 10 ∷ b) e) (feed-rest x xs plain) in
-    (further.0, cons-is y x ys (xs ++ further.0) (sym (head-of x y (xs ++ rest) (ys ++ 10 ∷ b) e)) further.1)
+    let further = stretch-before xs rest ys b (tail-is x y (xs ++ rest) (ys ++ 10 ∷ b) e) (feed-rest x xs plain) in
+    (further.0, head-tail y x ys (xs ++ further.0) (sym (head-is x y (xs ++ rest) (ys ++ 10 ∷ b) e)) further.1)
 
 -- what begins after some bytes begins before a feed, or after it
 begins-either : (front rest a b : List ℕ) → a ++ 10 ∷ b ≡ front ++ rest
     → ((m : List ℕ) × (a ≡ front ++ m) × (m ++ 10 ∷ b ≡ rest)) ⊎ ((m : List ℕ) × (b ≡ m ++ rest))
 begins-either [] rest a b e = inl (a, refl, e)
-begins-either (x ∷ xs) rest [] b e = inr (xs, tail-of 10 x b (xs ++ rest) e)
+begins-either (x ∷ xs) rest [] b e = inr (xs, tail-is 10 x b (xs ++ rest) e)
 begins-either (x ∷ xs) rest (y ∷ ys) b e =
-    further (begins-either xs rest ys b (tail-of y x (ys ++ 10 ∷ b) (xs ++ rest) e))
+    further (begins-either xs rest ys b (tail-is y x (ys ++ 10 ∷ b) (xs ++ rest) e))
   where
     further : (((m : List ℕ) × (ys ≡ xs ++ m) × (m ++ 10 ∷ b ≡ rest)) ⊎ ((m : List ℕ) × (b ≡ m ++ rest)))
         → ((m : List ℕ) × (y ∷ ys ≡ (x ∷ xs) ++ m) × (m ++ 10 ∷ b ≡ rest)) ⊎ ((m : List ℕ) × (b ≡ m ++ rest))
     further (inl (m, is, more)) =
-        inl (m, cons-is y x ys (xs ++ m) (head-of y x (ys ++ 10 ∷ b) (xs ++ rest) e) is, more)
+        inl (m, head-tail y x ys (xs ++ m) (head-is y x (ys ++ 10 ∷ b) (xs ++ rest) e) is, more)
     further (inr found) = inr found
 
 pub short-front : (a b : List ℕ) → HasShortLines (a ++ b) → HasShortLines a

@@ -5,10 +5,7 @@ use Rattle.std.proofs.lemmas.Bool.{cases_Bool, eqb-true}
 use Rattle.std.proofs.lemmas.List.{take_all}
 use Rattle.bstr.specs.Find.{IsFirstByte, is_byte}
 use Rattle.crs_streams.specs.Lines.{HasNoFeed, IsSplit}
-use Rattle.crs_streams.proofs.LineLemmas.{feed-more, feed-rest, feed-test}
-
-cons-is : (a b : ℕ) (xs ys : List ℕ) → a ≡ b → xs ≡ ys → a ∷ xs ≡ b ∷ ys
-cons-is a b xs ys h t = cc
+use Rattle.crs_streams.proofs.LineLemmas.{feed-more, feed-rest, feed-test, head-tail}
 
 pub plain-append : (a b : List ℕ) → HasNoFeed a → HasNoFeed b → HasNoFeed (a ++ b)
 plain-append [] b p q = q
@@ -28,10 +25,10 @@ split-at : (bytes : List ℕ) (at : ℕ) → at < length bytes → (slice_index 
     → ((k : ℕ) → k < at → ¬ ((slice_index bytes k == 10) ≡ true))
     → IsSplit bytes (take at bytes) (drop (suc at) bytes)
 split-at [] at within is before = absurd (omega arith)
-split-at (b ∷ bs) zero within is before = (cons-is b 10 bs bs (eqb-true b 10 is) refl, refl)
+split-at (b ∷ bs) zero within is before = (head-tail b 10 bs bs (eqb-true b 10 is) refl, refl)
 split-at (b ∷ bs) (suc at) within is before =
     let further = split-at bs at (omega arith) is (λ k l. before (suc k) (omega arith)) in (
-      cons-is b b bs _ refl further.0,
+      head-tail b b bs _ refl further.0,
       feed-more b (take at bs) (by_test (cases_Bool (b == 10))) further.1,
     )
   where

@@ -26,13 +26,6 @@ pub kept-each : {A : Type 0} (P : Level → A → Type 0) (level : Level) (membe
 kept-each P levels.Full members h = h
 kept-each P levels.Definition members h = tt
 
--- what holds of each kept member at its own level holds of it at the full one
-pub kept-each-full : {A : Type 0} (P : Level → A → Type 0) (level : Level) (members : List A) →
-    Each (P level) (kept level members) →
-    Each (P levels.Full) (kept level members)
-kept-each-full P levels.Full members h = h
-kept-each-full P levels.Definition members h = tt
-
 -- what holds of one that may be missing at the full level holds of the kept one at its own
 pub kept-if_some : {A : Type 0} (P : Level → A → Type 0) (level : Level) (member : Option A) →
     IfSome member (P levels.Full) →

@@ -80,7 +80,7 @@ unit-written class.AxisUnit kind (inl h) = inl (ap unit_word h)
 unit-written class.AxisUnit kind (inr h) = inr (ap unit_word h)
 unit-written other kind h = absurd h
 
-unit-letters : (kind : UnitKind) → IsWord (unit_word kind)
+pub unit-letters : (kind : UnitKind) → IsWord (unit_word kind)
 unit-letters kinds.Length = (refl, refl)
 unit-letters other = (refl, refl)
 

@@ -29,7 +29,7 @@ use Rattle.crs_text.specs.Tokens.{IsWord}
 use Rattle.crs_normal.specs.Normal.{IsFirstKeyword}
 use Rattle.crs_normal.specs.NormalOwn.{Ascend, HasOwnForm, set_classes}
 use Rattle.crs_normal.proofs.texts.ItemLemmas.{from-named, from-some}
-use Rattle.crs_normal.proofs.members.UsageLemmas.{says-kept, usage-is-node}
+use Rattle.crs_normal.proofs.members.UsageLemmas.{says-kept, usage-is-node, usage_items}
 
 -- ---- boxes
 
@@ -67,11 +67,6 @@ from-made level most c keyword End all some same letters known written fits sets
 from-made level most c keyword (More first others) all some same letters known written fits sets left own unbroken p =
     made-of level most c keyword first others all same letters known written fits sets left (λ item s. own item)
     (λ item fault s. unbroken item fault) p
-
-abbrev usage_items : UsageParts → Siblings
-usage_items u =
-    opt (text_node (codes "SCOPE")) u.scope (opt (text_node (codes "AREA")) u.area
-    (opt item_box u.bbox (opt item_extent u.extent End)))
 
 usage-node : (u : UsageParts) → SaysSome u → IsNode (item_usage (norm_usage u))
 usage-node u s = usage-is-node (norm_usage u) (says-kept u s)

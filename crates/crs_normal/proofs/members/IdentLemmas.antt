@@ -27,7 +27,7 @@ use Rattle.crs_normal.specs.TextLaws.{TextLaws}
 use Rattle.crs_normal.proofs.texts.ItemLemmas.{IsWritable, fit-end, fit-leaf, fit-more, fit-node, fit-opt, number-single, told}
 use Rattle.crs_normal.proofs.texts.SegmentLemmas.{IsIn, ReadsBack, Seen, Segment, a-text, either-item, items_of, may-be, opt-field, opt_items, seen, some-all}
 use Rattle.crs_normal.proofs.read.NameLemmas.{keyword-names}
-use Rattle.crs_normal.proofs.members.SetLemmas.{each-in_order, set-agrees}
+use Rattle.crs_normal.proofs.members.SetLemmas.{set-agrees}
 
 -- ---- a code: a number or a text
 
@@ -213,11 +213,6 @@ idents-agree laws once level xs ys p q =
         subst (λ vs. (in_order bytes vs ≡ in_order bytes ys) ↔ SameSet SameIdent xs ys) (map-id xs)
         (subst (λ vs. (in_order bytes (map (λ i. i) xs) ≡ in_order bytes vs) ↔ SameSet SameIdent xs ys) (map-id ys)
         (set-agrees (λ i. i) bytes IsIdent SameIdent (λ a b s t. ident-agrees a b) (ident-told laws once) xs ys p q))
-
-pub idents-kept : (level : Level) (xs : List IdentParts) → Each IsIdent xs → Each IsIdent (set_idents level xs)
-unfolding set_idents
-idents-kept level xs p =
-    each-in_order (λ i. item_text (item_ident i)) IsIdent (kept level xs) (kept-each (λ l. IsIdent) level xs p)
 
 -- ---- no identifiers
 

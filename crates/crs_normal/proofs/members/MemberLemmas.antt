@@ -18,13 +18,14 @@ use Rattle.crs_normal.specs.SpelledFrames.{item_member, norm_member, set_members
 use Rattle.crs_normal.specs.SpelledItems.{each, node_of, text_item}
 use Rattle.crs_normal.specs.SpelledUnits.{item_ident}
 use Rattle.crs_normal.specs.TextLaws.{TextLaws}
-use Rattle.crs_normal.proofs.members.IdentLemmas.{ReadsIdentOnce, idents-agree, idents-kept, text-fit, writable}
+use Rattle.crs_normal.proofs.members.IdentLemmas.{ReadsIdentOnce, idents-agree, text-fit, writable}
 use Rattle.crs_normal.proofs.texts.ItemLemmas.{fit-node, told}
 use Rattle.crs_normal.proofs.texts.SegmentLemmas.{a-text, seen}
 use Rattle.crs_normal.proofs.members.MemberUnitLemmas.{NamesId, identifiers-back, identifiers-fit, identifiers-of}
 use Rattle.crs_normal.proofs.members.SetLemmas.{set-agrees}
 use Rattle.crs_normal.proofs.same.UnitLemmas.{named-agrees}
 use Rattle.crs_normal.proofs.read.NameLemmas.{keyword-names}
+use Rattle.crs_normal.proofs.made.IdentLemmas.{idents-sound}
 
 -- ---- nodes of a name and identifiers
 
@@ -45,7 +46,7 @@ named-fit laws keyword w n s =
     (identifiers-fit laws 2 (omega arith) n.identifiers s.identifiers)
 
 pub named-kept : (level : Level) (n : NamedParts) → IsNamed n → IsNamed (norm_member level n)
-named-kept level n s = record { name = s.name; identifiers = idents-kept level n.identifiers s.identifiers }
+named-kept level n s = record { name = s.name; identifiers = idents-sound level n.identifiers s.identifiers }
 
 abbrev pub ReadsNamedOnce : Type 0
 ReadsNamedOnce = (c : Class) (item : Item) (a b : NamedParts) → ReadsNamed c item a → ReadsNamed c item b → a ≡ b

@@ -3,12 +3,10 @@
 use Rattle.std.proofs.Common.{◌≡◌, ◌≤◌, ℕ, ◌+◌, codes, Some, List, [], ◌∷◌, length, refl, arith}
 use Rattle.crs_decimal.specs.Value.{Value, IsNormal}
 use Rattle.crs_text.specs.Items.{Item, End, More}
-use Rattle.crs_text.specs.Tokens.{IsWord}
 use Rattle.crs_text.specs.Written.{at_place, item_text}
 use Rattle.crs_shape.specs.declared.class.Class.{Class}
 use Rattle.crs_shape.specs.declared.class.Class.TheVariants as class
 use Rattle.crs_shape.specs.declared.unit_kind.UnitKind.{UnitKind}
-use Rattle.crs_shape.specs.declared.unit_kind.UnitKind.TheVariants as kinds
 use Rattle.crs_shape.specs.Slots.{class_named}
 use Rattle.crs_shape.specs.Words.{unit_word}
 use Rattle.crs_value.specs.declared.values.level.Level.{Level}
@@ -19,10 +17,12 @@ use Rattle.crs_normal.specs.FormedWithin.{IsFormedWithin}
 use Rattle.crs_normal.specs.SpelledItems.{each, number_item, text_item}
 use Rattle.crs_normal.specs.SpelledUnits.{item_ident, item_unit, norm_unit}
 use Rattle.crs_normal.specs.TextLaws.{TextLaws}
-use Rattle.crs_normal.proofs.members.IdentLemmas.{ident-fit, ident-read, idents-kept, text-fit, writable}
+use Rattle.crs_normal.proofs.members.IdentLemmas.{ident-fit, ident-read, text-fit, writable}
 use Rattle.crs_normal.proofs.texts.ItemLemmas.{AreFit, fit-deeper, fit-each, fit-end, fit-more, fit-node, told, value-fit}
 use Rattle.crs_normal.proofs.texts.SegmentLemmas.{ReadsBack, Seen, Segment, a-number, a-text, all-of, each-field, each-imp, each_items, items_of, seen}
 use Rattle.crs_normal.proofs.read.NameLemmas.{keyword-names}
+use Rattle.crs_normal.proofs.made.IdentLemmas.{idents-sound}
+use Rattle.crs_normal.proofs.made.UnitLemmas.{unit-letters}
 
 -- ---- the identifiers of a node
 
@@ -63,14 +63,10 @@ unit-read laws c e u s place =
       identifiers = identifiers-back look u.identifiers refl s.identifiers;
     }
 
-unit-is-word : (k : UnitKind) → IsWord (unit_word k)
-unit-is-word kinds.Length = (refl, refl)
-unit-is-word other = (refl, refl)
-
 pub unit-fit : TextLaws → (u : UnitParts) → IsUnit u → IsFormedWithin 3 (item_unit u)
 unit-fit laws u s =
     fit-node 2 (unit_word u.kind) (text_item u.name) (More (number_item u.factor) (each item_ident u.identifiers End))
-    (unit-is-word u.kind) (text-fit 2 u.name s.name)
+    (unit-letters u.kind) (text-fit 2 u.name s.name)
     (fit-more 2 (number_item u.factor) (each item_ident u.identifiers End) (value-fit laws 2 u.factor s.factor)
     (identifiers-fit laws 2 (omega arith) u.identifiers s.identifiers))
 
@@ -90,5 +86,5 @@ unit-kept level asked u s = record {
   name = s.name;
   factor = s.factor;
   above_zero = s.above_zero;
-  identifiers = idents-kept level u.identifiers s.identifiers;
+  identifiers = idents-sound level u.identifiers s.identifiers;
 }

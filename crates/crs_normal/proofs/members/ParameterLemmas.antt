@@ -27,13 +27,14 @@ use Rattle.crs_normal.specs.SpelledConversions.{item_parameter, norm_parameter, 
 use Rattle.crs_normal.specs.SpelledItems.{each, node_of, number_item, opt, text_item}
 use Rattle.crs_normal.specs.SpelledUnits.{item_ident, item_unit, norm_units}
 use Rattle.crs_normal.specs.TextLaws.{TextLaws}
-use Rattle.crs_normal.proofs.members.IdentLemmas.{ReadsIdentOnce, idents-agree, idents-kept, text-fit, writable}
+use Rattle.crs_normal.proofs.members.IdentLemmas.{ReadsIdentOnce, idents-agree, text-fit, writable}
 use Rattle.crs_normal.proofs.texts.ItemLemmas.{fit-more, fit-node, fit-opt, told, value-fit}
 use Rattle.crs_normal.proofs.texts.SegmentLemmas.{IsIn, MayIn, Seen, Segment, a-number, a-text, if-any, items_of, lacks, placed-at, seen}
 use Rattle.crs_normal.proofs.members.MemberUnitLemmas.{NamesId, identifiers-back, identifiers-fit, identifiers-of, number-read, unit-fit, unit-kept, unit-read}
 use Rattle.crs_normal.proofs.same.ConversionLemmas.{parameter-agrees}
 use Rattle.crs_normal.proofs.members.SetLemmas.{set-agrees}
 use Rattle.crs_normal.proofs.read.NameLemmas.{keyword-names}
+use Rattle.crs_normal.proofs.made.IdentLemmas.{idents-sound}
 
 -- the class of a unit in a parameter is that of its keyword
 pub named-as : (k : UnitKind) → class_named class.Parameter (unit_word k) ≡ Some (unit_class k)
@@ -148,7 +149,7 @@ parameter-kept level p s = record {
   name = s.name;
   value = s.value;
   unit = units-kept level kinds.Plain p.unit s.unit;
-  identifiers = idents-kept level p.identifiers s.identifiers;
+  identifiers = idents-sound level p.identifiers s.identifiers;
 }
 
 abbrev pub ReadsParameterOnce : Type 0

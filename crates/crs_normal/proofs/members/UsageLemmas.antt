@@ -37,8 +37,8 @@ pub record IsWrittenUsage (u : UsageParts) : Type 0 where
 
 -- ---- its parts
 
-abbrev from-scope : UsageParts → Siblings
-from-scope u =
+abbrev pub usage_items : UsageParts → Siblings
+usage_items u =
     opt (text_node (codes "SCOPE")) u.scope (opt (text_node (codes "AREA")) u.area
     (opt item_box u.bbox (opt item_extent u.extent End)))
 
@@ -54,7 +54,7 @@ pub usage-read : TextLaws → (u : UsageParts) → IsWrittenUsage u → (place :
     ReadsUsage class.Usage (at_place place (item_usage u)) u
 usage-read laws u s place =
     let look = seen class.Usage (of-usage u) (at_place place (item_usage u)) (place + 5)
-    (from-arguments (codes "USAGE") (from-scope u) place) in record {
+    (from-arguments (codes "USAGE") (usage_items u) place) in record {
       scope = opt-field look class.Scope (text_node (codes "SCOPE")) ReadsTextOf u.scope refl
           (some-all (ReadsBack (text_node (codes "SCOPE")) (ReadsTextOf class.Scope)) (λ x p. refl) u.scope);
       area = opt-field look class.Area (text_node (codes "AREA")) ReadsTextOf u.area refl
@@ -76,7 +76,7 @@ from-fit n keyword (More first others) w g =
 
 pub usage-fit : TextLaws → (u : UsageParts) → IsWrittenUsage u → IsFormedWithin 5 (item_usage u)
 usage-fit laws u s =
-    from-fit 4 (codes "USAGE") (from-scope u) (refl, refl)
+    from-fit 4 (codes "USAGE") (usage_items u) (refl, refl)
     (fit-opt 4 (text_node (codes "SCOPE")) IsText (λ raw t. source-fit 3 (codes "SCOPE") raw (refl, refl) t) u.scope
     (opt (text_node (codes "AREA")) u.area (opt item_box u.bbox (opt item_extent u.extent End))) s.scope
     (fit-opt 4 (text_node (codes "AREA")) IsText (λ raw t. source-fit 3 (codes "AREA") raw (refl, refl) t) u.area

@@ -1,5 +1,5 @@
 -- A normal text is the one form of the value that it spells, written.
-use Rattle.std.proofs.Common.{◌≡◌, ◌↔◌, ℕ, inr, Some, List, sym, ◌∙◌, ap, subst}
+use Rattle.std.proofs.Common.{◌≡◌, ◌↔◌, ℕ, inr, List, sym, ◌∙◌, ap, subst}
 use Rattle.crs_text.specs.Items.{Item}
 use Rattle.crs_text.specs.TextFault.{SpellsNode}
 use Rattle.crs_text.specs.Written.{item_text}
@@ -17,14 +17,12 @@ use Rattle.crs_normal.proofs.normal.CheckedLemmas.{IsUnbroken}
 use Rattle.crs_normal.proofs.normal.CompoundLemmas.{crs-form}
 use Rattle.crs_normal.proofs.normal.FormLemmas.{without_places-text}
 use Rattle.crs_normal.proofs.normal.HeadLemmas.{Laws}
+use Rattle.crs_normal.proofs.texts.ClosedLemmas.{same-some}
 
 -- an item that isn't at fault has its shape, and a text spells one node
 pub record TextLaws : Type 0 where
   pub shape : (c : Class) (item : Item) → IsFree (Inside c item) ↔ Shaped c item
   pub one_node : (bytes : List ℕ) (i j : Item) → SpellsNode bytes i → SpellsNode bytes j → i ≡ j
-
-same-some : {A : Type 0} (a b : A) → Some a ≡ Some b → a ≡ b
-same-some a b e = cc
 
 item-spelled : Laws → TextLaws → (level : Level) (c : Class) (item : Item) (value : Crs) → IsNormalIn level c c item →
     Shaped c item → IsUnbroken c item → ReadsCrs c item value →

@@ -19,7 +19,7 @@ use Rattle.crs_normal.specs.Normal.{IsNormalIn}
 use Rattle.crs_normal.specs.OneForm.{IsItsForm, IsItsFormUnbroken}
 use Rattle.crs_normal.specs.SpelledAs.{IsSpelledAs, IsSpelledBy}
 use Rattle.crs_normal.specs.TextLaws.{TextLaws}
-use Rattle.crs_normal.proofs.texts.ClosedLemmas.{node-closed}
+use Rattle.crs_normal.proofs.texts.ClosedLemmas.{node-closed, same-some}
 use Rattle.crs_normal.proofs.normal.FormLemmas.{without_places-text}
 use Rattle.crs_normal.proofs.texts.ItemLemmas.{IsWritable, one-by-text}
 use Rattle.crs_normal.proofs.made.CrsLemmas.{placed-twice}
@@ -200,13 +200,9 @@ canonical-of laws formed level c most Reads Is Same form item k =
       own = λ x s. sound-form level c Reads (λ v. item (form v)) k.own;
     })
 
--- a form that is decided within a part that may be missing
-some-same : {A : Type 0} (a b : A) → Some a ≡ Some b → a ≡ b
-some-same a b e = cc
-
 pub some-decides : {V : Type 0} (Is : V → Type 0) (form : V → V) (Same : V → V → Type 0) →
     ((a b : V) → Is a → Is b → (Some (form a) ≡ Some (form b)) ↔ Same a b) → FormDecides Is form Same
 some-decides Is form Same h a b p q = (
   λ e. (h a b p q).0 (ap (λ x. Some x) e),
-  λ same. some-same (form a) (form b) ((h a b p q).1 same),
+  λ same. same-some (form a) (form b) ((h a b p q).1 same),
 )

@@ -20,12 +20,12 @@ use Rattle.crs_normal.specs.SpelledItems.{number_node, text_node}
 use Rattle.crs_normal.specs.SpelledUnits.{item_ident, item_unit, norm_length, norm_unit, norm_units, set_idents, whole_value}
 use Rattle.crs_normal.specs.TextLaws.{TextLaws}
 use Rattle.crs_normal.proofs.members.ExtentLemmas.{length-kept}
-use Rattle.crs_normal.proofs.members.IdentLemmas.{idents-kept}
 use Rattle.crs_normal.proofs.members.MemberLemmas.{named-kept, named-read}
 use Rattle.crs_normal.proofs.members.MemberUnitLemmas.{NamesId, identifiers-back, identifiers-of, number-read, unit-kept, unit-read}
 use Rattle.crs_normal.proofs.texts.SegmentLemmas.{IsIn, MayIn, ReadsBack, Seen, Segment, a-number, a-text, all-of, each-field, each_items, if-any, items_of, may-be, one-field, one-item, opt-field, seen, set-kept, some-all, some-imp, some-mapped}
 use Rattle.crs_normal.proofs.read.NameLemmas.{keyword-names}
 use Rattle.crs_normal.proofs.same.UnitLemmas.{suits-kind}
+use Rattle.crs_normal.proofs.made.IdentLemmas.{idents-sound}
 
 -- ---- identifiers
 
@@ -35,7 +35,7 @@ identifiers c e level xs = identifiers-of c e (set_idents level xs)
 pub identifiers-field : {c : Class} {ss : List (Segment c)} {item : Item} → Seen c ss item → (level : Level)
     (xs : List IdentParts) → items_of class.Identifier ss ≡ each_items item_ident (set_idents level xs) [] →
     Each IsIdent xs → ReadsIds c item (set_idents level xs)
-identifiers-field look level xs same s = identifiers-back look (set_idents level xs) same (idents-kept level xs s)
+identifiers-field look level xs same s = identifiers-back look (set_idents level xs) same (idents-sound level xs s)
 
 -- ---- units
 

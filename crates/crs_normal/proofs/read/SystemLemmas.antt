@@ -23,11 +23,11 @@ use Rattle.crs_normal.specs.SpelledItems.{number_node}
 use Rattle.crs_normal.specs.SpelledSystems.{axes_from, axis_at, is_at, item_axis, item_axis_meridian, item_head, norm_axis, norm_axis_meridian, norm_axis_meridians, norm_system, with_axis}
 use Rattle.crs_normal.specs.SpelledUnits.{item_unit, norm_unit, norm_units, whole_value}
 use Rattle.crs_normal.specs.TextLaws.{TextLaws}
-use Rattle.crs_normal.proofs.members.IdentLemmas.{idents-kept}
 use Rattle.crs_normal.proofs.members.MemberUnitLemmas.{identifiers-back, identifiers-of, number-read, unit-kept, unit-read}
 use Rattle.crs_normal.proofs.read.FrameLemmas.{angle-kept, identifiers, identifiers-field, unit-in}
 use Rattle.crs_normal.proofs.texts.SegmentLemmas.{IsIn, ReadsBack, Segment, a-number, a-text, a-word, if-any, may-be, one-field, one-item, opt-field, seen, some-imp}
 use Rattle.crs_normal.proofs.read.NameLemmas.{keyword-names}
+use Rattle.crs_normal.proofs.made.IdentLemmas.{idents-sound}
 
 -- ---- the meridian of an axis
 
@@ -133,13 +133,13 @@ axis-read laws level system shared k whole x s =
     form-read laws (norm_axis level system k x)
     (axis-units-kept level (asked_kind system.system_type x.direction)
     (asked-no-scale system.system_type x.direction) x.unit system.unit s.unit shared)
-    (axis-meridians-read laws level x.meridian s.meridian) whole (idents-kept level x.identifiers s.identifiers)
+    (axis-meridians-read laws level x.meridian s.meridian) whole (idents-sound level x.identifiers s.identifiers)
 
 pub axis-alone-read : TextLaws → (level : Level) (x : AxisParts) → IsAxis x →
     ReadsBack item_axis (ReadsAxis class.Axis) (norm_axis_alone level x)
 axis-alone-read laws level x s =
     form-read laws (norm_axis_alone level x) (plain-units-kept level x.unit s.unit)
-    (axis-meridians-read laws level x.meridian s.meridian) s.order (idents-kept level x.identifiers s.identifiers)
+    (axis-meridians-read laws level x.meridian s.meridian) s.order (idents-sound level x.identifiers s.identifiers)
 
 -- ---- the axes of a system
 

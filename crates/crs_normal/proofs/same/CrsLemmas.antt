@@ -19,8 +19,7 @@ use Rattle.crs_same.specs.Agreement.{AgreeBase, AgreeCompound, AgreeCrs, AgreeGe
 use Rattle.crs_same.specs.SameCrs.{IsHorizontalPart}
 use Rattle.crs_normal.specs.Decides.{FormDecides, IsNumbered, SetsDecide}
 use Rattle.crs_normal.specs.LowerLaws.{LowerLaws}
-use Rattle.crs_normal.specs.SpelledCrs.{norm_base, norm_compound, norm_crs, norm_geodetic, norm_horizontal}
-use Rattle.crs_normal.specs.SpelledCrs.{norm_projected, norm_vertical}
+use Rattle.crs_normal.specs.SpelledCrs.{norm_base, norm_compound, norm_crs, norm_geodetic, norm_horizontal, norm_projected, norm_vertical}
 use Rattle.crs_normal.proofs.same.ConversionLemmas.{conversion-agrees}
 use Rattle.crs_normal.proofs.normal.DimensionLemmas.{small-geodetic, small-projected, small-vertical, AreSmall, few-axes}
 use Rattle.crs_normal.proofs.same.DynamicLemmas.{dynamics-agree, dynamics-sound}

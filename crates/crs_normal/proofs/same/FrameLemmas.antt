@@ -1,6 +1,5 @@
 -- Ellipsoids, prime meridians, reference frames and ensembles have one form exactly where they are the same.
-use Rattle.std.proofs.Common.{◌≡◌, ◌↔◌, ◌∙◌, ◌⊎◌, ◌*◌, ℕ, inl, inr, Bool, true, false, Option, Some, None, codes, refl, sym, ap}
-use Rattle.std.proofs.Common.{arith, if◌then◌else◌}
+use Rattle.std.proofs.Common.{◌≡◌, ◌↔◌, ◌∙◌, ◌⊎◌, ◌*◌, ℕ, inl, inr, Bool, true, false, Option, Some, None, codes, refl, sym, ap, arith, if◌then◌else◌}
 use Rattle.std.specs.Option.{option_map}
 use Rattle.std.proofs.lemmas.Bool.{eqb-true, false≢true}
 use Rattle.crs_decimal.specs.Value.{Value, IsNormal}
@@ -19,8 +18,7 @@ use Rattle.crs_matching.specs.SameUnits.{SameUnit, SameValue}
 use Rattle.crs_matching.specs.Sets.{BothOrNeither}
 use Rattle.crs_normal.specs.Decides.{FormDecides, Maybe, SetsDecide}
 use Rattle.crs_normal.specs.LowerLaws.{LowerLaws}
-use Rattle.crs_normal.specs.SpelledFrames.{greenwich, is_zero, norm_datum, norm_ellipsoid, norm_ensemble, norm_frame}
-use Rattle.crs_normal.specs.SpelledFrames.{norm_given, norm_meridian}
+use Rattle.crs_normal.specs.SpelledFrames.{greenwich, is_zero, norm_datum, norm_ellipsoid, norm_ensemble, norm_frame, norm_given, norm_meridian}
 use Rattle.crs_normal.specs.SpelledUnits.{norm_length, norm_units, set_idents, whole_value}
 use Rattle.crs_normal.proofs.same.PartLemmas.{options-agree, values-agree}
 use Rattle.crs_normal.proofs.same.UnitLemmas.{length-agrees, none-formed, some-one, units-of-agree, whole-agrees}

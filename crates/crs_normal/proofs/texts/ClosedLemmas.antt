@@ -27,7 +27,7 @@ behind depth quoted (b ∷ bytes) =
     else (if b == 93 then closed_by depth bytes (λ d. behind d false bytes)
     else behind depth false bytes)))
 
-same-some : {A : Type 0} (a b : A) → Some a ≡ Some b → a ≡ b
+pub same-some : {A : Type 0} (a b : A) → Some a ≡ Some b → a ≡ b
 same-some a b e = cc
 
 none-some : {A : Type 0} (r : A) → None ≡ Some r → ⊥
@@ -43,7 +43,7 @@ same-head x y xs ys e = cc
 same-tail : (x y : ℕ) (xs ys : List ℕ) → x ∷ xs ≡ y ∷ ys → xs ≡ ys
 same-tail x y xs ys e = cc
 
-true-false : true ≡ false → ⊥
+pub true-false : true ≡ false → ⊥
 true-false e = cc
 
 -- ---- bytes that open and close nothing

@@ -25,6 +25,7 @@ use Rattle.crs_normal.proofs.made.LeafLemmas.{short-true, true-short}
 use Rattle.crs_normal.proofs.texts.WordFormLemmas.{direction-known, direction_of, type-known, type_of}
 use Rattle.crs_normal.proofs.verdicts.Verdicts.{Verdict, both, equal, or_else, refuted_by, shown_by, tested, via}
 use Rattle.crs_normal.proofs.texts.ItemLemmas.{run-single}
+use Rattle.crs_normal.proofs.texts.ClosedLemmas.{true-false}
 
 -- ---- codes
 
@@ -45,9 +46,6 @@ short-or-long raw long = by (is_short raw) refl
     by : (b : Bool) → is_short raw ≡ b → b ≡ false
     by true e = absurd (long (true-short raw e))
     by false e = refl
-
-pub true-false : true ≡ false → ⊥
-true-false e = cc
 
 abbrev is_false : (b : Bool) → Verdict (b ≡ false)
 is_false false = Some (inl refl)

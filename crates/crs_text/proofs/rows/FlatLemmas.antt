@@ -21,10 +21,6 @@ pub length-opens_of : (fs : List Frame) → length (opens_of fs) ≡ length fs
 length-opens_of [] = refl
 length-opens_of (f ∷ fs) = ap (λ n. suc n) (length-opens_of fs)
 
-flat_same : (rows rows' : List Row) (opens opens' : List Open) (position : Position) → rows ≡ rows' → opens ≡ opens' →
-    (let f : Flat = record { rows = rows; opens = opens; position = position } in f) ≡ record { rows = rows'; opens = opens'; position = position }
-flat_same rows rows' opens opens' position p q = cc
-
 rows-gather : (place : ℕ) (keyword : List ℕ) (square : Bool) (before : List Item) (item : Item) (later : Siblings) (close depth : ℕ) →
     rows depth (gather place keyword square before item later close) ≡
     node_rows place keyword square close (length before + suc (count later)) depth (rows_before (suc depth) before ++ (rows (suc depth) item ++ rows_of_items (suc depth) later))

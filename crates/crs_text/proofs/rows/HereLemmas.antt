@@ -140,10 +140,6 @@ mutual
       let c = length-heres_of items depth in
       omega (arith, a, b, c)
 
-begins-heres_of : (items : Siblings) (depth : ℕ) (hs : List Here) → Begins items (heres_of depth items ++ hs)
-begins-heres_of End depth hs = tt
-begins-heres_of (More item items) depth hs = refl
-
 continues-heres_of : (items : Siblings) (depth : ℕ) (hs : List Here) → IsLessDeep depth hs → Continues depth items (heres_of depth items ++ hs)
 continues-heres_of End depth [] h = tt
 continues-heres_of End depth (x ∷ hs) h = h

@@ -1,11 +1,10 @@
 -- What the row at an item's number says of the tree.
-use Rattle.std.proofs.Common.{◌≡◌, ◌≢◌, ℕ, zero, suc, ◌+◌, ◌≤◌, ◌<◌, Bool, true, false, Option, Some, List, [], ◌∷◌, ◌++◌, length, get_or, take, drop, map, refl, sym, ◌∙◌, ap, subst, arith}
+use Rattle.std.proofs.Common.{◌≡◌, ◌≢◌, ℕ, zero, suc, ◌+◌, ◌≤◌, ◌<◌, Bool, true, false, Option, Some, List, [], ◌∷◌, ◌++◌, length, get_or, take, drop, map, refl, sym, ◌∙◌, ap, subst, arith, nat_lt, length-drop}
 use Rattle.std.proofs.Math.ListN.{drop_of_length-le}
 use Rattle.std.proofs.Math.Seq.{drop-cons, take-append_seam}
-use Rattle.std.proofs.Common.{nat_lt, length-drop}
 use Rattle.std.proofs.lemmas.Bool.{ltb-true, ltb-false}
 use Rattle.std.proofs.lemmas.List.{length-map, map-append, get_or-map, get_or_past, drop-drop, drop-map}
-use Rattle.crs_text.specs.Items.{Item, leaf, node, Siblings, End, More, arguments, count, first_of, rest_of, skip, size_of, here, HasId, IsAt}
+use Rattle.crs_text.specs.Items.{Item, Siblings, End, More, arguments, count, first_of, rest_of, skip, size_of, here, HasId, IsAt}
 use Rattle.crs_text.specs.Rows.{rows, row_of}
 use Rattle.crs_text.specs.declared.table.Row.{Row}
 use Rattle.crs_text.proofs.rows.HereLemmas.{Here, items_at, row_at, heres, heres_in, Begins, Continues, IsLinked, AreLinked, length-rows, linked-heres, linked-drop, rows-heres, rows-heres_in, items-heres}
@@ -181,17 +180,9 @@ has_root tree = λ e. let k : More tree End ≡ End = sym (here_root tree) ∙ e
 
 pub ruleset id_rules = (has_from_lt, lt_from_has, row_is, here_root, has_root)
 
-size_of-pos : (item : Item) → 1 ≤ size_of item
-size_of-pos (leaf kind place raw) = omega arith
-size_of-pos (node place keyword square first others close) = omega arith
-
 some_from_count : (items : Siblings) → count items ≢ 0 → items ≢ End
 some_from_count End h = absurd (h refl)
 some_from_count (More item items) h = λ e. cc
-
-none_from_count : (items : Siblings) → count items ≡ 0 → items ≡ End
-none_from_count End h = refl
-none_from_count (More item items) h = absurd (omega arith)
 
 -- the same facts of a row that is the one at the number
 module _ (tree : Item) (id : ℕ) (row : Row) (has : HasId tree id) (is : row ≡ row_of row.depth (first_of (here tree id))) where
@@ -201,14 +192,8 @@ module _ (tree : Item) (id : ℕ) (row : Row) (has : HasId tree id) (is : row �
   pub row-within : id + row.size ≤ length (rows 0 tree)
   row-within = let e = size in let w = size_within tree id (lt_from_has tree id has) in omega arith
 
-  pub row-pos : 1 ≤ row.size
-  row-pos = let e = size in let w = size_of-pos (first_of (here tree id)) in omega arith
-
   pub row-first : row.count ≢ 0 → IsAt tree (arguments (first_of (here tree id))) (Some (id + 1))
   row-first h = first_at tree id (lt_from_has tree id has) (some_from_count (arguments (first_of (here tree id))) (λ e. h (ap (λ r. r.count) is ∙ e)))
-
-  pub row-none : row.count ≡ 0 → arguments (first_of (here tree id)) ≡ End
-  row-none h = none_from_count (arguments (first_of (here tree id))) (sym (ap (λ r. r.count) is) ∙ h)
 
   pub row-end : length (rows 0 tree) ≤ id + row.size → rest_of (here tree id) ≡ End
   row-end le = let e = size in next_none tree id (lt_from_has tree id has) (omega arith)

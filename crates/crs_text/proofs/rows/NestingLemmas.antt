@@ -132,10 +132,6 @@ places-closing (p ∷ ps) at place square = refl
 pub passed_single : (text : List ℕ) (at : ℕ) (places raw : List ℕ) (kind : ItemKind) (n : ℕ) → IsSingleAt text at kind raw n → IsPassed text at places places n
 passed_single text at places raw kind n s = record { token = single s.of_kind at raw; forms = s.forms; places = refl; within = s.within }
 
-pub passed_some : (text : List ℕ) (at : ℕ) (before behind : List ℕ) (n : ℕ) → IsPassed text at before behind n → 0 < n
-passed_some text at before behind n p =
-    omega (arith, forms_shorter (length text) p.token (drop at text) (drop (at + n) text) p.forms, length-drop at text, length-drop (at + n) text)
-
 -- ---- from place to place
 
 -- inside 12 open delimiters no further one is opened

@@ -26,10 +26,6 @@ pub each_right : (P : Token → Type 0) (a b : List Token) → EachToken P (a ++
 each_right P [] b h = h
 each_right P (t ∷ a) b h = each_right P a b h.1
 
-pub each_both : (P : Token → Type 0) (a b : List Token) → EachToken P a → EachToken P b → EachToken P (a ++ b)
-each_both P [] b h k = k
-each_both P (t ∷ a) b h k = (h.0, each_both P a b h.1 k)
-
 part-leaf : (source : List ℕ) (kind : Kind) (place : ℕ) (raw : List ℕ) (depth : ℕ) → TokenStands source (single kind place raw) →
     part source (leaf_row (item_kind kind) place raw depth) ≡ part_of (leaf kind place raw)
 part-leaf source number place raw depth h = rw (← h.bytes) refl

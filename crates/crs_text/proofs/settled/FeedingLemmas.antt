@@ -13,7 +13,7 @@ use Rattle.crs_text.specs.Tokens.{number, word, Token, single, comma, opening, c
 use Rattle.crs_text.specs.Quoted.{StopsAt, BeginsWith, doubled, is_quote, IsInside, IsShut, IsShutAt}
 use Rattle.crs_text.specs.Utf8.{IsUtf8Front}
 use Rattle.crs_text.specs.TextFault.{begins_token, is_delimiter, BeginsNoToken, IsFlaw, IsStop, IsTextFault}
-use Rattle.crs_text.specs.Settled.{IsSettled, FormsSettled, SettledFronts, IsRunSettled, IsSettledStop, IsSettledRefusal, IsTakenSoFar, IsPieceFault}
+use Rattle.crs_text.specs.Settled.{IsSettled, FormsSettled, SettledFronts, IsRunSettled, IsSettledStop, IsSettledRefusal, IsTakenSoFar}
 use Rattle.crs_text.specs.Feeding.{IsFlawSettled, IsLexedSettled, IsUnsettled, IsSettledTo, IsUnsettledAt, IsSettledFault, IsPendingIn, IsPendingBefore, StaysPending, IsUnsettledIn, IsInsideTo, IsOpenTo, IsValidTo, IsFedTo, IsFed, IsRefusalOf}
 use Rattle.crs_text.specs.declared.feeding.Held.{Held}
 use Rattle.crs_text.specs.declared.feeding.Pending.{Pending}
@@ -30,7 +30,7 @@ use Rattle.crs_text.specs.declared.refusal.Reason.{Reason}
 use Rattle.crs_text.specs.declared.refusal.Reason.TheVariants.{BadCharacter, BadNumber, NumberRange, NotUtf8, OpenText, Unexpected, UnexpectedEnd, TooDeep}
 use Rattle.crs_text.specs.declared.lexing.Lexed.{Lexed}
 use Rattle.crs_text.specs.declared.lexing.Lexed.TheVariants as lexed
-use Rattle.crs_text.proofs.tokens.TokenLemmas.{Shape, a_single, shape_of, shape_at, shape_at_start, Forms-shape, Forms-shut, Forms-one}
+use Rattle.crs_text.proofs.tokens.TokenLemmas.{Shape, a_single, shape_of, shape_at, shape_at_start, Forms-shape, Forms-shut, Forms-one, some_shape}
 use Rattle.crs_text.proofs.tokens.QuotedLemmas.{doubled-append, and_right, true_not_false, same_tail, same_split, shut_one, shut_not_open}
 use Rattle.crs_text.proofs.tokens.Utf8Lemmas.{IsUtf8Front-shorter}
 use Rattle.crs_text.proofs.tokens.FlawLemmas.{flaw_no_token, flaw_one}
@@ -235,9 +235,6 @@ module _ (left : List ℕ) (begins : BeginsWith is_run_start left) (taken : list
   run_no_token total (single number place raw) rest f e = all_behind is_run_byte raw rest f.settled f.forms.ends (ap (list_all is_run_byte) (sym f.forms.spelled) ∙ taken)
   run_no_token total t rest f e = absurd cc
 
-  some_shape : (s u : Shape) → Some s ≡ Some u → s ≡ u
-  some_shape s u e = cc
-
   run_no_flaw : (r : Reason) (k : ℕ) → IsFlaw r left k → ¬ (IsFlawSettled r left)
   run_no_flaw BadNumber k f s = true_not_false (list_all is_run_byte left) taken s
   run_no_flaw NumberRange k f s = true_not_false (list_all is_run_byte left) taken s
@@ -437,10 +434,6 @@ fed_start bytes table e t =
 pub known_fault : (bytes : List ℕ) (table : Flat) (held : Held) (known : Option RefusedAt) (fault : Fault) → IsFed bytes table held known → IsRefusalOf known fault → IsTextFault bytes fault
 known_fault bytes table held known (faults.Refused r) fed e = refuses_from_settled bytes r.number r.place (subst (IsFed bytes table held) e fed)
 known_fault bytes table held known (faults.Memory m) fed e = absurd e
-
-pub known_piece_fault : (bytes piece : List ℕ) (table : Flat) (held : Held) (known : Option RefusedAt) (fault : Fault) → IsFed bytes table held known → IsRefusalOf known fault → IsPieceFault bytes piece bytes fault
-known_piece_fault bytes piece table held known (faults.Refused r) fed e = (subst (IsFed bytes table held) e fed, inr refl)
-known_piece_fault bytes piece table held known (faults.Memory m) fed e = absurd e
 
 pub fed_none : (bytes : List ℕ) (table : Flat) (held : Held) (known : Option RefusedAt) → IsFed bytes table held known → known ≡ None → IsFedTo bytes table held
 fed_none bytes table held known fed e = subst (IsFed bytes table held) e fed

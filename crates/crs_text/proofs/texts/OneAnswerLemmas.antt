@@ -8,7 +8,7 @@ use Rattle.crs_text.specs.declared.refusal.Reason.{Reason}
 use Rattle.crs_text.specs.declared.refusal.Reason.TheVariants.{Unexpected, UnexpectedEnd, TooDeep}
 use Rattle.crs_text.specs.TextFault.{SpellsNode, reason_number, IsTooDeep, IsStop, RefusesText}
 use Rattle.crs_text.proofs.tokens.TokenLemmas.{Forms-one}
-use Rattle.crs_text.proofs.tokens.FlawLemmas.{flaw_no_token, flaw_one, flaw_some}
+use Rattle.crs_text.proofs.tokens.FlawLemmas.{flaw_no_token, flaw_one, flaw_some, same_zero}
 use Rattle.crs_text.proofs.tokens.FrontsLemmas.{fronts_dark, GoesOn, fronts_compare, front_token, front_none, forms_some}
 
 pub tokens_one : (bytes : List ℕ) (ts us : List Token) → AreTokens bytes ts → AreTokens bytes us → ts ≡ us
@@ -40,15 +40,12 @@ stop_no_node TooDeep total ts left k item s e n = forms_some total s.0 left s.1 
 stop_no_node UnexpectedEnd total ts left k item s e n = s.1 item n
 stop_no_node r total ts left k item s e n = flaw_some r left k s e
 
-zeros : (k m : ℕ) → k ≡ 0 → m ≡ 0 → k ≡ m
-zeros k m p q = p ∙ sym q
-
 stop_one : (r s : Reason) (total : ℕ) (ts : List Token) (left : List ℕ) (k m : ℕ) → IsStop r total ts left k → IsStop s total ts left m → (r ≡ s) × (k ≡ m)
-stop_one Unexpected Unexpected total ts left k m p q = (refl, zeros k m p.5 q.5)
+stop_one Unexpected Unexpected total ts left k m p q = (refl, same_zero k m p.5 q.5)
 stop_one Unexpected TooDeep total ts left k m p q = absurd (p.4 (subst (IsTooDeep ts) (Forms-one total q.0 p.0 left q.1 p.1 q.2 p.2).0 q.3))
 stop_one TooDeep Unexpected total ts left k m p q = absurd (q.4 (subst (IsTooDeep ts) (Forms-one total p.0 q.0 left p.1 q.1 p.2 q.2).0 p.3))
-stop_one TooDeep TooDeep total ts left k m p q = (refl, zeros k m p.4 q.4)
-stop_one UnexpectedEnd UnexpectedEnd total ts left k m p q = (refl, zeros k m p.2 q.2)
+stop_one TooDeep TooDeep total ts left k m p q = (refl, same_zero k m p.4 q.4)
+stop_one UnexpectedEnd UnexpectedEnd total ts left k m p q = (refl, same_zero k m p.2 q.2)
 stop_one Unexpected UnexpectedEnd total ts left k m p q = absurd (forms_some total p.0 left p.1 p.2 q.0)
 stop_one TooDeep UnexpectedEnd total ts left k m p q = absurd (forms_some total p.0 left p.1 p.2 q.0)
 stop_one UnexpectedEnd Unexpected total ts left k m p q = absurd (forms_some total q.0 left q.1 q.2 p.0)

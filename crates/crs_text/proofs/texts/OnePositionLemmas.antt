@@ -5,12 +5,7 @@ use Rattle.std.proofs.lemmas.List.{append_cancel_left, length-append}
 use Rattle.std.proofs.Math.Seq.{take-append_seam, drop-append_seam}
 use Rattle.crs_text.specs.Position.{feeds, characters, BeginsLine, EndsLine, IsPosition}
 use Rattle.crs_text.specs.declared.position.Position.{Position}
-
-head_of : (x y : ℕ) (xs ys : List ℕ) → x ∷ xs ≡ y ∷ ys → x ≡ y
-head_of x y xs ys e = cc
-
-tail_of : (x y : ℕ) (xs ys : List ℕ) → x ∷ xs ≡ y ∷ ys → xs ≡ ys
-tail_of x y xs ys e = cc
+use Rattle.crs_text.proofs.tokens.QuotedLemmas.{same_head, same_tail}
 
 feeds-append : (a b : List ℕ) → feeds (a ++ b) ≡ feeds a + feeds b
 feeds-append a b = sum_by-append (λ x. cond (x == 10) 1 0) a b
@@ -18,8 +13,8 @@ feeds-append a b = sum_by-append (λ x. cond (x == 10) 1 0) a b
 -- a line begins before the last bytes too
 begins_later : (b : ℕ) (before : List ℕ) → BeginsLine (b ∷ before) → BeginsLine before
 begins_later b before (inl e) = cc
-begins_later b before (inr ([], e)) = inl (tail_of b 10 before [] e)
-begins_later b before (inr (c ∷ lines, e)) = inr (lines, tail_of b c before (lines ++ 10 ∷ []) e)
+begins_later b before (inr ([], e)) = inl (same_tail b 10 before [] e)
+begins_later b before (inr (c ∷ lines, e)) = inr (lines, same_tail b c before (lines ++ 10 ∷ []) e)
 
 -- bytes after which a line begins have a line feed
 begun_feed : (b : ℕ) (before rest : List ℕ) → BeginsLine (b ∷ before) → feeds (b ∷ before ++ rest) ≡ 0 → ⊥
@@ -36,15 +31,15 @@ one_begin [] left [] other e begins there none neither = refl
 one_begin [] left (y ∷ b) other e begins there none neither = absurd (begun_feed y b other there (ap feeds (sym e) ∙ none))
 one_begin (x ∷ a) left [] other e begins there none neither = absurd (begun_feed x a left begins (ap feeds e ∙ neither))
 one_begin (x ∷ a) left (y ∷ b) other e begins there none neither =
-    let later : a ≡ b = one_begin a left b other (tail_of x y (a ++ left) (b ++ other) e) (begins_later x a begins) (begins_later y b there) none neither in
-    let first : x ≡ y = head_of x y (a ++ left) (b ++ other) e in
+    let later : a ≡ b = one_begin a left b other (same_tail x y (a ++ left) (b ++ other) e) (begins_later x a begins) (begins_later y b there) none neither in
+    let first : x ≡ y = same_head x y (a ++ left) (b ++ other) e in
     cc
 
 -- and ends at one
 ended_feed : (y : ℕ) (right after : List ℕ) → EndsLine (y ∷ right ++ after) → feeds (y ∷ right) ≡ 0 → ⊥
 ended_feed y right after (inl e) none = cc
 ended_feed y right after (inr (lines, e)) none =
-    let first : y ≡ 10 = head_of y 10 (right ++ after) lines e in
+    let first : y ≡ 10 = same_head y 10 (right ++ after) lines e in
     let all : feeds (10 ∷ right) ≡ 0 = ap (λ z. feeds (z ∷ right)) (sym first) ∙ none in
     let two : feeds (10 ∷ right) ≡ 1 + feeds right = feeds-append (10 ∷ []) right in
     absurd (omega (arith, all, two))
@@ -60,10 +55,10 @@ one_end (x ∷ right) a [] b e ends there none neither = absurd (ended_feed x ri
     subst_ends : (x y : List ℕ) → x ≡ y → EndsLine x → EndsLine y
     subst_ends x y e h = rw e at h
 one_end (x ∷ right) a (y ∷ other) b e ends there none neither =
-    let first : x ≡ y = head_of x y (right ++ a) (other ++ b) e in
+    let first : x ≡ y = same_head x y (right ++ a) (other ++ b) e in
     let some : feeds (x ∷ right) ≡ feeds (x ∷ []) + feeds right = feeds-append (x ∷ []) right in
     let more : feeds (y ∷ other) ≡ feeds (y ∷ []) + feeds other = feeds-append (y ∷ []) other in
-    let later : right ≡ other = one_end right a other b (tail_of x y (right ++ a) (other ++ b) e) ends there (omega (arith, some, none)) (omega (arith, more, neither)) in
+    let later : right ≡ other = one_end right a other b (same_tail x y (right ++ a) (other ++ b) e) ends there (omega (arith, some, none)) (omega (arith, more, neither)) in
     cc
 
 -- the bytes before a place, and those from it on

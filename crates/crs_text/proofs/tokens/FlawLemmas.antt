@@ -111,7 +111,7 @@ IsLongestUtf8-one bytes m n p q =
     let b : m ≤ n = q.longest m p.within p.well_formed in
     omega arith
 
-same_zero : (k m : ℕ) → k ≡ 0 → m ≡ 0 → k ≡ m
+pub same_zero : (k m : ℕ) → k ≡ 0 → m ≡ 0 → k ≡ m
 same_zero k m p q = p ∙ sym q
 
 same_after : (a b left : List ℕ) → left ≡ 34 ∷ a → left ≡ 34 ∷ b → a ≡ b

@@ -12,14 +12,6 @@ use Rattle.crs_text.proofs.tokens.TokenLemmas.{Forms-one}
 pub after_white_one : (bytes a b : List ℕ) → IsAfterWhite bytes a → IsAfterWhite bytes b → a ≡ b
 after_white_one bytes a b p q = (run_split is_white p.white q.white a b p.blank p.ends q.blank q.ends (sym p.parts ∙ q.parts)).1
 
--- the same tokens leave the same bytes
-pub fronts_one : (total : ℕ) (ts : List Token) (bytes a b : List ℕ) → Fronts total bytes ts a → Fronts total bytes ts b → a ≡ b
-fronts_one total [] bytes a b p q = after_white_one bytes a b p q
-fronts_one total (t ∷ ts) bytes a b p q =
-    let h : p.0 ≡ q.0 = after_white_one bytes p.0 q.0 p.2 q.2 in
-    let r = Forms-one total t t q.0 p.1 q.1 (subst (λ z. Forms total t z p.1) h p.3) q.3 in
-    fronts_one total ts q.1 a b (subst (λ z. Fronts total z ts a) r.1 p.4) q.4
-
 -- no white space begins a token
 run_start_dark : (b : ℕ) → is_run_start b ≡ true → is_white b ≡ false
 run_start_dark b e = grind (arith, nat_tests)

@@ -1,10 +1,10 @@
 -- A node that lies in a source with no white space between its tokens, and with square delimiters, is there in its written
 -- form.
-use Rattle.std.proofs.Common.{◌≡◌, ℕ, zero, suc, ◌+◌, ◌≤◌, ◌<◌, Bool, true, false, List, [], ◌∷◌, ◌++◌, length, get_or, take, drop, refl, sym, ap, subst, ◌∙◌, append_assoc, arith}
+use Rattle.std.proofs.Common.{◌≡◌, ℕ, suc, ◌+◌, ◌≤◌, ◌<◌, Bool, true, false, List, [], ◌∷◌, ◌++◌, length, get_or, take, drop, refl, sym, ap, subst, ◌∙◌, append_assoc, arith}
 use Rattle.std.proofs.lemmas.List.{append-nil, length-append}
 use Rattle.std.proofs.Math.Seq.{drop-cons}
-use Rattle.crs_text.specs.Tokens.{number, text, word, Token, single, comma, opening, closing, spelling, closing_byte, IsAfterWhite, Forms, Fronts}
-use Rattle.crs_text.specs.Items.{Item, leaf, node, Siblings, End, More, tokens, others_tokens, count, first_of, size_of, here, HasId}
+use Rattle.crs_text.specs.Tokens.{number, text, word, Token, single, opening, closing, spelling, closing_byte, IsAfterWhite, Forms, Fronts}
+use Rattle.crs_text.specs.Items.{Item, leaf, node, Siblings, End, More, tokens, others_tokens, count, first_of, here, HasId}
 use Rattle.crs_text.specs.Laid.{AreLaid, AreSquare, EndsIn, bytes_beside, bytes_of, bytes_of_rows}
 use Rattle.crs_text.specs.Rows.{rows, rows_of_items, row_of}
 use Rattle.crs_text.specs.Tree.{StandsAt}

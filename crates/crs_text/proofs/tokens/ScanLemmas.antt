@@ -37,10 +37,6 @@ stop_flaw Unexpected total ts left skip f = absurd f
 stop_flaw UnexpectedEnd total ts left skip f = absurd f
 stop_flaw TooDeep total ts left skip f = absurd f
 
-pub stopped_flaw : (text : List ℕ) (at : ℕ) (table : Flat) (reason : Reason) (skip : ℕ) (r : RefusedAt) → r.number ≡ reason_number reason → r.place ≡ at + skip → IsFlaw reason (drop at text) skip → IsStopped text at table r
-stopped_flaw text at table reason skip r n p f =
-    record { reason = reason; skip = skip; is_number = n; is_place = p; stop = λ ts shows. stop_flaw reason (length text) ts (drop at text) skip f }
-
 no_skip : (at place : ℕ) → place ≡ at → place ≡ at + 0
 no_skip at place e = omega arith
 
@@ -151,9 +147,6 @@ module _ (text : List ℕ) (at : ℕ) (lt : at < length text) where
     forms = single_at tokens.text (take n (drop 1 (drop at text))) (n + 2) l.0;
     within = fits (n + 2) l.1;
   }
-
-  one_more : at + 1 ≤ length text
-  one_more = omega arith
 
   pub comma_at : IsLexed (drop at text) lexed.Comma → Forms (length text) comma (drop at text) (drop (at + 1) text)
   comma_at l = record { spelled = l ∙ ap (λ (z : List ℕ). 44 ∷ z) (further 1); formed = tt; ends = tt; placed = tt }

@@ -127,7 +127,7 @@ same_built (a_closing square) total p q raw others left rest tail f g =
     let h : p ≡ q = same_places p q (length left) total f.placed g.placed in
     (ap (λ z. closing z square) h, same_tail (closing_byte square) (closing_byte square) rest tail (sym f.spelled ∙ g.spelled))
 
-some_shape : (s u : Shape) → Some s ≡ Some u → s ≡ u
+pub some_shape : (s u : Shape) → Some s ≡ Some u → s ≡ u
 some_shape s u e = cc
 
 -- what is left begins with one token at most

@@ -63,11 +63,6 @@ not-IsUtf8Front bytes n k v e f =
     not_completed rest f.0 some (HasNoFront-behind bytes n v) (λ c. let none = error_len_from_IsCut rest c in cc) back
 
 -- ---- the longest front
-pub IsLongestUtf8-unique : (bytes : List ℕ) (m n : ℕ) → IsLongestUtf8 bytes m → IsLongestUtf8 bytes n → m ≡ n
-IsLongestUtf8-unique bytes m n p q =
-    let a = q.longest m p.within p.well_formed in
-    let b = p.longest n q.within q.well_formed in
-    omega arith
 
 pub IsLongestUtf8-from : (bytes : List ℕ) (n : ℕ) → IsValidUpTo bytes n → IsLongestUtf8 bytes n
 IsLongestUtf8-from bytes n v = record {

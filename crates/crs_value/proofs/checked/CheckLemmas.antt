@@ -23,16 +23,6 @@ pub record Checked (B : Item → RefusedAt → Type 0) (tree : Item) (parent c :
   pub shaped : AllShaped c (from_found tree parent c at)
   pub is_least : IsLeast (AnyOf B done) least
 
-pub checked-first : (B : Item → RefusedAt → Type 0) (tree : Item) (parent c : Class) (at : Option ℕ) → Holds tree at → AllShaped c (from_found tree parent c at) →
-    Checked B tree parent c (from_found tree parent c at) None at
-checked-first B tree parent c at holds shaped = record {
-  done = [];
-  parts = refl;
-  holds = holds;
-  shaped = shaped;
-  is_least = λ f h. h;
-}
-
 pub checked-on : (B : Item → RefusedAt → Type 0) (tree : Item) (parent c : Class) (whole : List Item) (least next one : Option RefusedAt) (id : ℕ) (at : Option ℕ) →
     Checked B tree parent c whole least (Some id) → IsLeast (B (item_at tree id)) one → next ≡ lesser least one →
     IsFound tree parent c (those parent c (rest_of (here tree id))) at → Checked B tree parent c whole next at
@@ -52,13 +42,6 @@ checked-on B tree parent c whole least next one id at so here-least is found =
 pub append-none : (list : List Item) → list ++ [] ≡ list
 append-none [] = refl
 append-none (v ∷ list) = ap (λ vs. v ∷ vs) (append-none list)
-
-pub checked-end : (B : Item → RefusedAt → Type 0) (tree : Item) (parent c : Class) (whole : List Item) (least : Option RefusedAt) (at : Option ℕ) →
-    Checked B tree parent c whole least at → at ≡ None → IsLeast (AnyOf B whole) least
-checked-end B tree parent c whole least at so none =
-    let e : whole ≡ so.done = so.parts ∙ ap (λ o. so.done ++ from_found tree parent c o) none ∙ append-none so.done in
-    let P : List Item → Type 0 = λ xs. IsLeast (AnyOf B xs) least in
-    subst P (sym e) so.is_least
 
 -- ---- numbers
 

@@ -147,9 +147,6 @@ pub least-same : (P Q : RefusedAt → Type 0) (o : Option RefusedAt) → ((f : R
 least-same P Q None to back h = λ f q. h f (back f q)
 least-same P Q (Some a) to back h = (to a h.0, λ f q. h.1 f (back f q))
 
-pub least-none : (P : RefusedAt → Type 0) → ((f : RefusedAt) → ¬ (P f)) → IsLeast P None
-least-none P none = none
-
 -- one fault under a condition
 pub least-one : (g : RefusedAt) (C : Type 0) → C → IsLeast (λ f. (f ≡ g) × C) (Some g)
 least-one g C holds = ((refl, holds), λ f h. let P : RefusedAt → Type 0 = λ x. IsFirst g x in subst P (sym h.0) (first-self g))

@@ -14,7 +14,7 @@ use Rattle.crs_value.specs.Least.{lesser}
 use Rattle.crs_value.specs.Reading.{item_at, those, Holds, IsFound, ReadsFirst}
 use Rattle.crs_value.specs.Reads.{ReadsNumber}
 use Rattle.crs_value.proofs.found.ArgumentLemmas.{found-is, found-holds, found-shaped, all-shaped}
-use Rattle.crs_value.proofs.checked.CheckLemmas.{DenotesOne, number-one}
+use Rattle.crs_value.proofs.checked.CheckLemmas.{DenotesOne, number-one, append-none}
 use Rattle.crs_value.proofs.checked.LeastLemmas.{least-same, least-at, least-either}
 use Rattle.crs_value.proofs.checked.SystemLemmas.{first-one, wholes-same}
 
@@ -47,9 +47,6 @@ this-test law tree axis order number value b found reads test = (forth, back)
     back h =
         let P : List Item → Type 0 = λ xs. ReadsFirst ReadsOrder xs value in
         test.1 (order-one law (item_at tree order) number value reads (subst P found.0 h))
-
-pub this-none : (axis : Item) (value : Value) → orders_in axis ≡ [] → HasThis value axis → ⊥
-this-none axis value e h = let P : List Item → Type 0 = λ xs. ReadsFirst ReadsOrder xs value in subst P e h
 
 -- ---- one of the first axes has an order
 
@@ -133,9 +130,6 @@ pub record Some-left (tree : Item) (parent : Class) (whole : List Item) (at : Op
   pub back : SomeHasOrder whole → SomeHasOrder (from_found tree parent class.Axis at)
   pub holds : Holds tree at
 
-pub some-first : (tree : Item) (parent : Class) (at : Option ℕ) → Holds tree at → Some-left tree parent (from_found tree parent class.Axis at) at
-some-first tree parent at holds = record { forth = λ h. h; back = λ h. h; holds = holds }
-
 pub some-on : (tree : Item) (parent : Class) (whole : List Item) (id : ℕ) (at : Option ℕ) → Some-left tree parent whole (Some id) → ((orders_in (item_at tree id) ≢ []) → ⊥) →
     IsFound tree parent class.Axis (those parent class.Axis (rest_of (here tree id))) at → Some-left tree parent whole at
 some-on tree parent whole id at so other found =
@@ -150,10 +144,6 @@ some-on tree parent whole id at so other found =
     later (inl h) = absurd (other h)
     later (inr h) = h
 
-pub some-end : (tree : Item) (parent : Class) (whole : List Item) (at : Option ℕ) → Some-left tree parent whole at → at ≡ None → SomeHasOrder whole → ⊥
-some-end tree parent whole at so none h =
-    let P : Option ℕ → Type 0 = λ o. SomeHasOrder (from_found tree parent class.Axis o) in subst P none (so.back h)
-
 -- ---- an order by itself
 
 not-wrong : (n : ℕ) (before : List Item) (value other : Value) → value ≡ other → IsPosition n value → (OneHas value before → ⊥) →
@@ -166,10 +156,6 @@ pub wrong-none : DenotesOne → (n : ℕ) (before : List Item) (order : Item) (v
 wrong-none law n before order value reads position one = λ f h.
     not-wrong n before value h.1.0 (order-one law order value h.1.0 reads h.1.1.0) position one h.1.1.1
 
-pub wrong-position : (n : ℕ) (before : List Item) (order : Item) (value : Value) (r : RefusedAt) → r ≡ at 26 order → ReadsOrder order value → (IsPosition n value → ⊥) →
-    IsLeast (IsBadOrder n before order) (Some r)
-wrong-position n before order value r e reads position = least-at (at 26 order) r (IsWrongOrder n before order) e (value, (reads, inl position))
-
 pub wrong-again : (n : ℕ) (before : List Item) (order : Item) (value : Value) (r : RefusedAt) → r ≡ at 26 order → ReadsOrder order value → OneHas value before →
     IsLeast (IsBadOrder n before order) (Some r)
 wrong-again n before order value r e reads one = least-at (at 26 order) r (IsWrongOrder n before order) e (value, (reads, inr one))
@@ -180,10 +166,6 @@ bad-left : (n : ℕ) (b xs ys : List Item) (f : RefusedAt) → BadOrders n b xs 
 bad-left n b [] ys f h = absurd h
 bad-left n b (x ∷ xs) ys f (inl h) = inl h
 bad-left n b (x ∷ xs) ys f (inr h) = inr (bad-left n (b ++ x ∷ []) xs ys f h)
-
-append-none : (list : List Item) → list ++ [] ≡ list
-append-none [] = refl
-append-none (v ∷ list) = ap (λ vs. v ∷ vs) (append-none list)
 
 bad-right : (n : ℕ) (b xs ys : List Item) (f : RefusedAt) → BadOrders n (b ++ xs) ys f → BadOrders n b (xs ++ ys) f
 bad-right n b [] ys f h = let P : List Item → Type 0 = λ c. BadOrders n c ys f in subst P (append-none b) h
@@ -246,22 +228,10 @@ ordering-first tree parent item count at shaped is found = record {
   is_least = λ f h. h;
 }
 
-length-done : (done : List Item) (x : Item) (ys : List Item) → length (done ++ x ∷ ys) ≡ length done + suc (length ys)
-length-done [] x ys = omega arith
-length-done (d ∷ done) x ys = omega (arith, length-done done x ys)
-
 take-done : (done ys : List Item) → take (length done) (done ++ ys) ≡ done
 take-done [] [] = refl
 take-done [] (y ∷ ys) = refl
 take-done (d ∷ done) ys = ap (λ xs. d ∷ xs) (take-done done ys)
-
-pub ordering-within : (tree : Item) (parent : Class) (whole : List Item) (count before : ℕ) (least : Option RefusedAt) (id : ℕ) → Ordering tree parent whole count before least (Some id) →
-    before < length whole
-ordering-within tree parent whole count before least id so =
-    let e : length whole ≡ length so.done + suc (length (those parent class.Axis (rest_of (here tree id)))) =
-    ap length so.parts ∙ length-done so.done (item_at tree id) (those parent class.Axis (rest_of (here tree id))) in
-    let m = so.many in
-    omega (arith, e, m)
 
 length-one : (done : List Item) (x : Item) → length (done ++ x ∷ []) ≡ length done + 1
 length-one [] x = refl
@@ -284,13 +254,6 @@ ordering-on tree parent whole count before least one next id at so here-least e 
       shaped = all-shaped class.Axis _ _ f so.shaped.1;
       is_least = bad-more (length whole) so.done (item_at tree id) least one next e so.is_least (subst Q so.all (subst P t here-least));
     }
-
-pub ordering-end : (tree : Item) (parent : Class) (whole : List Item) (count before : ℕ) (least : Option RefusedAt) (at : Option ℕ) → Ordering tree parent whole count before least at → at ≡ None →
-    IsLeast (BadOrders (length whole) [] whole) least
-ordering-end tree parent whole count before least at so none =
-    let e : whole ≡ so.done = so.parts ∙ ap (λ o. so.done ++ from_found tree parent class.Axis o) none ∙ append-none so.done in
-    let P : List Item → Type 0 = λ xs. IsLeast (BadOrders (length whole) [] xs) least in
-    subst P (sym e) so.is_least
 
 -- ---- the two cases
 

@@ -100,8 +100,3 @@ placing-on tree parent whole place id at so has found =
       shaped = all-shaped class.Axis _ _ e so.shaped.1;
       keeps = λ h. so.keeps (has, subst (AreInOrder (place + 1 + 1)) (sym e) h);
     }
-
-pub placing-end : (tree : Item) (parent : Class) (whole : List Item) (place : ℕ) (at : Option ℕ) → Placing tree parent whole place at → at ≡ None → AreInOrder 1 whole
-placing-end tree parent whole place at so none =
-    let P : Option ℕ → Type 0 = λ o. AreInOrder (place + 1) (from_found tree parent class.Axis o) → AreInOrder 1 whole in
-    subst P none so.keeps tt

@@ -1,22 +1,19 @@
 -- The checks of a coordinate system's type, dimension and number of axes.
-use Rattle.std.proofs.Common.{◌≡◌, ℕ, suc, ◌*◌, ◌≤◌, length, Bool, true, false, if◌then◌else◌, Option, Some, None, List, [], ◌∷◌, sym, subst, arith}
+use Rattle.std.proofs.Common.{◌≡◌, ℕ, suc, ◌*◌, ◌≤◌, length, Bool, true, false, if◌then◌else◌, None, List, [], ◌∷◌, subst, arith}
 use Rattle.crs_decimal.specs.Number.{SameNumber, whole_number}
 use Rattle.crs_decimal.specs.Value.{Value, exact}
-use Rattle.crs_text.specs.Items.{Item, Siblings, End, More, count, arguments}
-use Rattle.crs_text.specs.Refusal.{RefusedAt}
+use Rattle.crs_text.specs.Items.{Item, Siblings, End, More, count, arguments, raw_of}
 use Rattle.crs_shape.specs.declared.class.Class.{Class}
 use Rattle.crs_shape.specs.declared.class.Class.TheVariants as class
 use Rattle.crs_shape.specs.declared.system_type.SystemType.{SystemType}
 use Rattle.crs_shape.specs.Dimensions.{IsOneOf}
 use Rattle.crs_value.specs.AxisCount.{AxisCount}
 use Rattle.crs_value.specs.BadSystem.{BadSystem}
-use Rattle.crs_value.specs.Break.{at, IsLeast}
-use Rattle.crs_value.specs.Reading.{is_a, those, IsReading, ReadsFirst}
+use Rattle.crs_value.specs.Break.{IsLeast}
+use Rattle.crs_value.specs.Reading.{is_a, those, ReadsFirst}
 use Rattle.crs_value.specs.Reads.{HasType, HasDimension, ReadsNumber, ReadsType}
 use Rattle.crs_value.proofs.checked.CheckLemmas.{DenotesOne, number-one}
-use Rattle.crs_value.proofs.checked.LeastLemmas.{least-at}
 use Rattle.crs_shape.proofs.WordLemmas.{type_one}
-use Rattle.crs_text.specs.Items.{raw_of}
 
 pub first-one : {V : Type 0} (R : Item → V → Type 0) → ((i : Item) (a b : V) → R i a → R i b → a ≡ b) → (items : List Item) (a b : V) → ReadsFirst R items a → ReadsFirst R items b → a ≡ b
 first-one R one [] a b p q = absurd p
@@ -36,27 +33,11 @@ system-none law dims cs t v ht hv is = λ f h.
     let Q : Value → Type 0 = λ x. IsOneOf x (dims h.1.0) in
     h.1.1.1.2 (subst Q d (subst P e is))
 
-pub system-some : (dims : SystemType → List ℕ) (cs : Item) (t : SystemType) (v : Value) (r : RefusedAt) → HasType cs t → HasDimension cs v → ¬ (IsOneOf v (dims t)) → r ≡ at 23 cs →
-    IsLeast (BadSystem dims cs) (Some r)
-system-some dims cs t v r ht hv wrong e = least-at (at 23 cs) r _ e (t, (v, (ht, hv, wrong)))
-
-pub system-unknown : (dims : SystemType → List ℕ) (cs : Item) → ((t : SystemType) → ¬ (HasType cs t)) → IsLeast (BadSystem dims cs) None
-system-unknown dims cs none = λ f h. none h.1.0 h.1.1.1.0
-
 pub count-none : DenotesOne → (axes : ℕ) (cs : Item) (v : Value) → HasDimension cs v → SameNumber (exact v) (whole_number axes) → IsLeast (AxisCount axes cs) None
 count-none law axes cs v hv same = λ f h.
     let d = dimension-is-one law cs v h.1.0 hv h.1.1.0 in
     let Q : Value → Type 0 = λ x. SameNumber (exact x) (whole_number axes) in
     h.1.1.1 (subst Q d same)
-
-pub count-some : (axes : ℕ) (cs : Item) (v : Value) (r : RefusedAt) → HasDimension cs v → ¬ (SameNumber (exact v) (whole_number axes)) → r ≡ at 25 cs →
-    IsLeast (AxisCount axes cs) (Some r)
-count-some axes cs v r hv wrong e = least-at (at 25 cs) r _ e (v, (hv, wrong))
-
-pub type-read : (cs word : Item) (more : List Item) (raw : List ℕ) (o : Option SystemType) → those class.CoordinateSystem class.Word (arguments cs) ≡ word ∷ more → raw ≡ raw_of word →
-    IsReading (λ t. ReadsType word t) o → IsReading (HasType cs) o
-type-read cs word more raw o e f h =
-    let P : List Item → Type 0 = λ xs. IsReading (ReadsFirst ReadsType xs) o in subst P (sym e) h
 
 few-by : (b : Bool) (item : Item) (xs : List Item) (n : ℕ) → length xs ≤ n → length (if b then item ∷ xs else xs) ≤ suc n
 few-by true item xs n e = omega (arith, e)

@@ -18,8 +18,8 @@ use Rattle.crs_value.specs.FoundArguments.{from_found, AllShaped}
 use Rattle.crs_value.specs.Least.{lesser}
 use Rattle.crs_value.specs.Reading.{item_at, those, Holds, IsFound, IsReading}
 use Rattle.crs_value.specs.Reads.{ReadsDirection, ReadsKind}
-use Rattle.crs_value.proofs.found.ArgumentLemmas.{found-is, found-holds, found-shaped, all-shaped}
-use Rattle.crs_value.proofs.checked.LeastLemmas.{least-same, least-at, either-is}
+use Rattle.crs_value.proofs.found.ArgumentLemmas.{found-is, found-holds, found-shaped}
+use Rattle.crs_value.proofs.checked.LeastLemmas.{least-same, either-is}
 use Rattle.crs_value.proofs.checked.SystemLemmas.{first-one, type-is-one}
 use Rattle.crs_shape.proofs.WordLemmas.{direction_one}
 
@@ -71,35 +71,6 @@ asking-first tree parent cs item kind at shaped found =
       shaped = found-shaped tree parent class.Axis item at shaped found;
     }
 
-pub asking-on : (tree : Item) (parent : Class) (cs : Item) (whole : List Item) (kind : UnitKind) (id : ℕ) (at : Option ℕ) → Asking tree parent cs whole kind (Some id) →
-    Asks cs (item_at tree id) kind → IsFound tree parent class.Axis (those parent class.Axis (rest_of (here tree id))) at → Asking tree parent cs whole kind at
-asking-on tree parent cs whole kind id at so asks found =
-    let e = found-is tree parent class.Axis (those parent class.Axis (rest_of (here tree id))) at found in
-    let P : List Item → Type 0 = λ xs. AllAsk cs xs kind in
-    record {
-      forth = λ h. so.forth (asks, subst P (sym e) h);
-      back = λ h. subst P e (so.back h).1;
-      holds = found-holds tree parent class.Axis _ at found;
-      shaped = all-shaped class.Axis _ _ e so.shaped.1;
-    }
-
-pub asking-none : (tree : Item) (parent : Class) (cs : Item) (whole : List Item) (kind : UnitKind) (id : ℕ) → Asking tree parent cs whole kind (Some id) →
-    (Asks cs (item_at tree id) kind → ⊥) → AllAsk cs whole kind → ⊥
-asking-none tree parent cs whole kind id so other all = other (so.back all).0
-
-pub asking-end : (tree : Item) (parent : Class) (cs : Item) (whole : List Item) (kind : UnitKind) (at : Option ℕ) → Asking tree parent cs whole kind at → at ≡ None → AllAsk cs whole kind
-asking-end tree parent cs whole kind at so none =
-    let P : Option ℕ → Type 0 = λ o. AllAsk cs (from_found tree parent class.Axis o) kind in so.forth (subst P (sym none) tt)
-
--- an axis without a unit, or with one
-pub own-none : (cs axis : Item) (r : RefusedAt) → r ≡ at 27 axis → units_in axis ≡ [] → IsLeast (BadOwnUnit cs axis) (Some r)
-own-none cs axis r e none =
-    least-same (λ f. (f ≡ at 27 axis) × (units_in axis ≡ [])) (BadOwnUnit cs axis) (Some r) (λ f h. inl h) back (least-at (at 27 axis) r (units_in axis ≡ []) e none)
-  where
-    back : (f : RefusedAt) → BadOwnUnit cs axis f → (f ≡ at 27 axis) × (units_in axis ≡ [])
-    back f (inl h) = h
-    back f (inr h) = let P : List Item → Type 0 = λ xs. AnyOf (Misfits cs axis) xs f in absurd (subst P none h)
-
 pub own-some : (tree cs axis : Item) (id : ℕ) (o : Option RefusedAt) → IsFound tree class.Axis class.AxisUnit (units_in axis) (Some id) →
     IsLeast (AnyOf (Misfits cs axis) (units_in axis)) o → IsLeast (BadOwnUnit cs axis) o
 own-some tree cs axis id o found h = least-same (AnyOf (Misfits cs axis) (units_in axis)) (BadOwnUnit cs axis) o (λ f k. inr k) back h
@@ -107,13 +78,6 @@ own-some tree cs axis id o found h = least-same (AnyOf (Misfits cs axis) (units_
     back : (f : RefusedAt) → BadOwnUnit cs axis f → AnyOf (Misfits cs axis) (units_in axis) f
     back f (inl k) = let e : [] ≡ item_at tree id ∷ those class.Axis class.AxisUnit (rest_of (here tree id)) = sym k.1 ∙ found.0 in absurd cc
     back f (inr k) = k
-
--- a kind that is none of the others
-pub last-kind : (P : UnitKind → Type 0) → (P kinds.Length → ⊥) → (P kinds.Angle → ⊥) → (P kinds.Scale → ⊥) → ((k : UnitKind) × P k) → P kinds.Plain
-last-kind P a b c (kinds.Length, h) = absurd (a h)
-last-kind P a b c (kinds.Angle, h) = absurd (b h)
-last-kind P a b c (kinds.Scale, h) = absurd (c h)
-last-kind P a b c (kinds.Plain, h) = h
 
 pub unit-none : (axes units : List Item) (cs : Item) (o : Option RefusedAt) → units ≡ [] → IsLeast (AnyOf (BadOwnUnit cs) axes) o → IsLeast (BadUnit axes units cs) o
 unit-none axes units cs o e h = let P : List Item → Type 0 = λ us. IsLeast (BadUnit axes us cs) o in subst P (sym e) h

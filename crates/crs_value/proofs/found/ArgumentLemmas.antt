@@ -1,7 +1,7 @@
 -- Arguments: those of a class, one after another, are sound where their node is, and as many as its slots require.
-use Rattle.std.proofs.Common.{◌≡◌, ◌≢◌, ℕ, suc, ◌+◌, ◌<◌, ◌≤◌, length, Bool, true, false, IsTrue, inl, inr, Option, Some, None, List, [], ◌∷◌, if◌then◌else◌, refl, sym, ◌∙◌, ap, subst, arith, rules}
+use Rattle.std.proofs.Common.{◌≡◌, ◌≢◌, ℕ, ◌+◌, ◌<◌, ◌≤◌, length, Bool, true, false, IsTrue, inl, inr, Option, Some, None, List, [], ◌∷◌, if◌then◌else◌, refl, sym, ◌∙◌, ap, subst, arith, rules}
 use denote.Enum.Bare.{sameb, same_true}
-use Rattle.crs_text.specs.Items.{Item, leaf, node, Siblings, End, More, arguments, count, first_of, rest_of, kind_of_item, here, HasId, IsAt}
+use Rattle.crs_text.specs.Items.{Item, leaf, node, Siblings, End, More, arguments, first_of, rest_of, kind_of_item, HasId, IsAt}
 use Rattle.crs_text.specs.Refusal.{RefusedAt}
 use Rattle.crs_text.specs.Tokens.{Kind, number, text, word}
 use Rattle.crs_text.specs.Written.{AreFormed, AreAllFormed}
@@ -29,10 +29,6 @@ holds_at tree items (Some id) h = h.1
 
 pub has-some : (tree : Item) (at : Option ℕ) (id : ℕ) → at ≡ Some id → Holds tree at → HasId tree id
 has-some tree at id e h = subst (Holds tree) e h
-
-pub count-first : (items : Siblings) → items ≢ End → count items ≡ suc (count (rest_of items))
-count-first End some = absurd (some refl)
-count-first (More item items) some = refl
 
 -- the first of some items is one of those, or not
 pub those-first : (parent c : Class) (items : Siblings) → items ≢ End → is_a parent c (first_of items) ≡ true →
@@ -144,18 +140,6 @@ nothing [] h = refl
 nothing (x ∷ xs) h = absurd (omega (arith, h))
 
 -- ---- the search for the first of those
-
-pub found-here : (tree : Item) (parent c : Class) (id : ℕ) → HasId tree id → is_a parent c (item_at tree id) ≡ true → IsFound tree parent c (those parent c (here tree id)) (Some id)
-found-here tree parent c id has e = (those-first parent c (here tree id) has e, has)
-
-pub found-later : (tree : Item) (parent c : Class) (id : ℕ) (at : Option ℕ) → HasId tree id → is_a parent c (item_at tree id) ≡ false → IsAt tree (rest_of (here tree id)) at →
-    those parent c (ahead tree at) ≡ those parent c (here tree id)
-found-later tree parent c id at has e next = ap (those parent c) (ahead_at tree (rest_of (here tree id)) at next) ∙ sym (those-later parent c (here tree id) has e)
-
-pub found-less : (tree : Item) (id : ℕ) (at : Option ℕ) → HasId tree id → IsAt tree (rest_of (here tree id)) at → count (ahead tree at) < count (here tree id)
-found-less tree id at has next =
-    let same : count (ahead tree at) ≡ count (rest_of (here tree id)) = ap count (ahead_at tree (rest_of (here tree id)) at next) in
-    omega (arith, count-first (here tree id) has, same)
 
 -- ---- one after another
 

@@ -7,7 +7,7 @@ use Rattle.crs_shape.specs.Counts.{one_if}
 use Rattle.crs_shape.specs.ShapeFault.{class_in}
 use Rattle.crs_shape.specs.Slots.{is_class}
 use Rattle.crs_value.specs.declared.reading.firsts.Firsts.{Firsts}
-use Rattle.crs_value.specs.FirstArguments.{first_with, AreFirsts}
+use Rattle.crs_value.specs.FirstArguments.{first_with}
 use Rattle.crs_value.specs.Reading.{item_at, is_same, is_a, those, ahead, Holds, IsFound}
 use Rattle.crs_value.proofs.found.ArgumentLemmas.{ahead_at, holds_at, those-first, those-later}
 
@@ -15,9 +15,6 @@ use Rattle.crs_value.proofs.found.ArgumentLemmas.{ahead_at, holds_at, those-firs
 abbrev pub SeenOf : Item → Class → Class → Siblings → Siblings → Option ℕ → Type 0
 SeenOf tree parent c all left None = those parent c all ≡ those parent c left
 SeenOf tree parent c all left (Some id) = IsFound tree parent c (those parent c all) (Some id)
-
-pub one-first : (tree : Item) (parent c : Class) (all : Siblings) (at : Option ℕ) → IsAt tree all at → SeenOf tree parent c all (ahead tree at) None
-one-first tree parent c all at h = ap (those parent c) (sym (ahead_at tree all at h))
 
 one-past : (tree : Item) (parent c : Class) (all : Siblings) (old : Option ℕ) (id : ℕ) (at : Option ℕ) → HasId tree id → is_a parent c (item_at tree id) ≡ false →
     SeenOf tree parent c all (here tree id) old → IsAt tree (rest_of (here tree id)) at → SeenOf tree parent c all (ahead tree at) old
@@ -45,11 +42,6 @@ one-none : (tree : Item) (parent c : Class) (all : Siblings) (old : Option ℕ) 
     SeenOf tree parent c all (here tree id) old → IsAt tree (rest_of (here tree id)) at → SeenOf tree parent c all (ahead tree at) old
 one-none tree parent c all old id at has unnamed so next = one-past tree parent c all old id at has (ap (is_class c) unnamed) so next
 
-one-end : (tree : Item) (parent c : Class) (all : Siblings) (found : Option ℕ) (at : Option ℕ) → SeenOf tree parent c all (ahead tree at) found → at ≡ None →
-    IsFound tree parent c (those parent c all) found
-one-end tree parent c all None at so none = so ∙ ap (λ o. those parent c (ahead tree o)) none
-one-end tree parent c all (Some id) at so none = so
-
 -- how many of a class are left, after one that is of the class or not
 one-more : (b : Bool) (tree : Item) (parent c : Class) (id : ℕ) (at : Option ℕ) → HasId tree id → is_a parent c (item_at tree id) ≡ b → IsAt tree (rest_of (here tree id)) at →
     length (those parent c (here tree id)) ≡ one_if b + length (those parent c (ahead tree at))
@@ -75,29 +67,6 @@ pub record Seen (tree : Item) (parent : Class) (all : Siblings) (firsts : Firsts
   pub usage : SeenOf tree parent class.Usage all (ahead tree at) firsts.usage
   pub identifier : SeenOf tree parent class.Identifier all (ahead tree at) firsts.identifier
   pub dynamic : SeenOf tree parent class.Dynamic all (ahead tree at) firsts.dynamic
-
-pub seen-first : (tree : Item) (parent : Class) (all : Siblings) (firsts : Firsts) (at : Option ℕ) → IsAt tree all at →
-    firsts.system ≡ None → firsts.axis ≡ None → firsts.unit ≡ None → firsts.scope ≡ None →
-    firsts.area ≡ None → firsts.bbox ≡ None → firsts.extent ≡ None → firsts.remark ≡ None →
-    firsts.usage ≡ None → firsts.identifier ≡ None → firsts.dynamic ≡ None → firsts.axes ≡ 0 → Seen tree parent all firsts at
-seen-first tree parent all firsts at h e0 e1 e2 e3 e4 e5 e6 e7 e8 e9 e10 none = record {
-  holds = holds_at tree all at h;
-  system = start class.CoordinateSystem firsts.system e0;
-  axis = start class.Axis firsts.axis e1;
-  axes = omega (arith, none, ap (λ xs. length (those parent class.Axis xs)) (ahead_at tree all at h));
-  unit = start class.AxisUnit firsts.unit e2;
-  scope = start class.Scope firsts.scope e3;
-  area = start class.Area firsts.area e4;
-  bbox = start class.BoundingBox firsts.bbox e5;
-  extent = start class.VerticalExtent firsts.extent e6;
-  remark = start class.Remark firsts.remark e7;
-  usage = start class.Usage firsts.usage e8;
-  identifier = start class.Identifier firsts.identifier e9;
-  dynamic = start class.Dynamic firsts.dynamic e10;
-}
-  where
-    start : (c : Class) (o : Option ℕ) → o ≡ None → SeenOf tree parent c all (ahead tree at) o
-    start c o e = let P : Option ℕ → Type 0 = λ x. SeenOf tree parent c all (ahead tree at) x in subst P (sym e) (one-first tree parent c all at h)
 
 -- one argument more, of class d
 pub record AreNoted (old new : Firsts) (d : Class) (id : ℕ) : Type 0 where
@@ -149,23 +118,6 @@ seen-past tree parent all firsts id at so unnamed next = record {
   identifier = one-none tree parent class.Identifier all firsts.identifier id at so.holds unnamed so.identifier next;
   dynamic = one-none tree parent class.Dynamic all firsts.dynamic id at so.holds unnamed so.dynamic next;
 }
-
-pub seen-end : (tree : Item) (parent : Class) (all : Siblings) (firsts : Firsts) (at : Option ℕ) → Seen tree parent all firsts at → at ≡ None → AreFirsts tree parent all firsts
-seen-end tree parent all firsts at so none =
-    let left = ap (λ o. length (those parent class.Axis (ahead tree o))) none in record {
-      system = one-end tree parent class.CoordinateSystem all firsts.system at so.system none;
-      axis = one-end tree parent class.Axis all firsts.axis at so.axis none;
-      axes = omega (arith, so.axes, left);
-      unit = one-end tree parent class.AxisUnit all firsts.unit at so.unit none;
-      scope = one-end tree parent class.Scope all firsts.scope at so.scope none;
-      area = one-end tree parent class.Area all firsts.area at so.area none;
-      bbox = one-end tree parent class.BoundingBox all firsts.bbox at so.bbox none;
-      extent = one-end tree parent class.VerticalExtent all firsts.extent at so.extent none;
-      remark = one-end tree parent class.Remark all firsts.remark at so.remark none;
-      usage = one-end tree parent class.Usage all firsts.usage at so.usage none;
-      identifier = one-end tree parent class.Identifier all firsts.identifier at so.identifier none;
-      dynamic = one-end tree parent class.Dynamic all firsts.dynamic at so.dynamic none;
-    }
 
 -- one axis more is still among all of them
 pub axis-among : (tree : Item) (parent d : Class) (all : Siblings) (firsts : Firsts) (id : ℕ) → Seen tree parent all firsts (Some id) → class_in parent (item_at tree id) ≡ Some d →

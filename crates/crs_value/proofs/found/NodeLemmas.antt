@@ -1,5 +1,5 @@
 -- Loops over the arguments of one class: what has been read so far.
-use Rattle.std.proofs.Common.{◌≡◌, ℕ, zero, suc, ◌+◌, ◌<◌, ◌≤◌, length, drop, Option, Some, None, List, [], ◌∷◌, ◌++◌, refl, sym, ◌∙◌, ap, subst, append_assoc, add-one, arith}
+use Rattle.std.proofs.Common.{◌≡◌, ℕ, zero, suc, ◌+◌, ◌<◌, ◌≤◌, length, drop, Option, Some, None, List, [], ◌∷◌, ◌++◌, refl, sym, ap, subst, add-one, arith}
 use Rattle.crs_text.specs.Items.{Item, arguments, rest_of, here}
 use Rattle.crs_shape.specs.declared.class.Class.{Class}
 use Rattle.crs_shape.specs.Counts.{least}
@@ -29,22 +29,6 @@ going-first {V = V} R tree parent c item list at sound empty found =
           subst Q (sym empty) (subst P (sym e) h);
     }
 
-pub going-on : {V : Type 0} (R : Item → V → Type 0) (tree : Item) (parent c : Class) (whole : List Item) (list next : List V) (id : ℕ) (value : V) (at : Option ℕ) →
-    Going R tree parent c whole list (Some id) → R (item_at tree id) value → next ≡ list ++ value ∷ [] →
-    IsFound tree parent c (those parent c (rest_of (here tree id))) at → Going R tree parent c whole next at
-going-on {V = V} R tree parent c whole list next id value at going reads pushed found =
-    let e = found-is tree parent c (those parent c (rest_of (here tree id))) at found in
-    record {
-      holds = found-holds tree parent c (those parent c (rest_of (here tree id))) at found;
-      sound = all-sound c _ _ e going.sound.1;
-      reads = λ values h.
-          let P : List Item → Type 0 = λ xs. ReadsEach R xs values in
-          let all : ReadsEach R whole (list ++ value ∷ values) = going.reads (value ∷ values) (reads, subst P (sym e) h) in
-          let same : list ++ value ∷ values ≡ next ++ values = sym (append_assoc list (value ∷ []) values) ∙ ap (λ vs. vs ++ values) (sym pushed) in
-          let Q : List V → Type 0 = λ vs. ReadsEach R whole vs in
-          subst Q same all;
-    }
-
 append-none : {V : Type 0} (list : List V) → list ++ [] ≡ list
 append-none [] = refl
 append-none (v ∷ list) = ap (λ vs. v ∷ vs) (append-none list)
@@ -54,19 +38,7 @@ pub going-end : {V : Type 0} (R : Item → V → Type 0) (tree : Item) (parent c
 going-end {V = V} R tree parent c whole list going =
     let Q : List V → Type 0 = λ vs. ReadsEach R whole vs in subst Q (append-none list) (going.reads [] tt)
 
-pub going-less : (tree : Item) (parent c : Class) (id : ℕ) (at : Option ℕ) → IsFound tree parent c (those parent c (rest_of (here tree id))) at →
-    length (from_found tree parent c at) < length (from_found tree parent c (Some id))
-going-less tree parent c id at found =
-    let e : length (those parent c (rest_of (here tree id))) ≡ length (from_found tree parent c at) = ap length (found-is tree parent c _ at found) in
-    omega (arith, e)
-
 -- ---- the value in an option
-
-pub reads-none : {V : Type 0} (R : Item → V → Type 0) (items : List Item) → items ≡ [] → ReadsOptional R items None
-reads-none {V = V} R items e = let P : List Item → Type 0 = λ xs. ReadsOptional R xs None in subst P (sym e) tt
-
-pub reads-some : {V : Type 0} (R : Item → V → Type 0) (item : Item) (items more : List Item) (value : V) → items ≡ item ∷ more → R item value → ReadsOptional R items (Some value)
-reads-some {V = V} R item items more value e h = let P : List Item → Type 0 = λ xs. ReadsOptional R xs (Some value) in subst P (sym e) h
 
 pub reads-first : {V : Type 0} (R : Item → V → Type 0) (item : Item) (items more : List Item) (value : V) → items ≡ item ∷ more → R item value → ReadsFirst R items value
 reads-first {V = V} R item items more value e h = let P : List Item → Type 0 = λ xs. ReadsFirst R xs value in subst P (sym e) h

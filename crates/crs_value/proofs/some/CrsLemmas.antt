@@ -20,13 +20,10 @@ use Rattle.crs_value.proofs.found.ArgumentLemmas.{SlotsCount, arguments-sound}
 use Rattle.crs_value.proofs.found.FrameLemmas.{one-there}
 use Rattle.crs_value.proofs.some.FormedLemmas.{Numbers}
 use Rattle.crs_value.proofs.some.ValueLemmas.{Exists, first-of, else-of, text-some, number-of-some, identifiers-some, named-some, unit-some, first-some, optional-some, each-some, system-some, meridian-some, datum-some, ensemble-some, tail-some}
+use Rattle.crs_value.proofs.sound.ConversionLemmas.{AreUnitClasses}
 
 module _ (numbers : Numbers) (slots : SlotsCount) where
   -- ---- conversions
-
-  abbrev AreUnitClasses : List Class → Type 0
-  AreUnitClasses [] = Unit {0}
-  AreUnitClasses (d ∷ ds) = IsUnitClass d × AreUnitClasses ds
 
   as_unit-some : (d : Class) → IsUnitClass d → (item : Item) → IsSound d item → Exists (ReadsAsUnit d item)
   as_unit-some d is item g = let unit = unit-some numbers slots d is item g in (Some unit.0, unit.1)

@@ -15,6 +15,7 @@ use Rattle.crs_value.specs.Reading.{is_a, those, ReadsFirst}
 use Rattle.crs_value.specs.Reads.{ReadsNumber}
 use Rattle.crs_value.proofs.found.ArgumentLemmas.{arguments-shaped, shaped-number}
 use Rattle.crs_value.proofs.some.DecisionLemmas.{Known}
+use Rattle.crs_value.proofs.sound.PartLemmas.{arguments-formed}
 
 abbrev pub Numbers : Type 0
 Numbers = (bytes : List ℕ) → IsInBounds bytes → (v : Value) × (IsNormal v × Denotes bytes (exact v))
@@ -37,10 +38,6 @@ if-formed false item items h rest = rest
 those-formed : (parent c : Class) (items : Siblings) → AreAllFormed items → AllFormed (those parent c items)
 those-formed parent c End h = tt
 those-formed parent c (More item items) h = if-formed (is_a parent c item) item (those parent c items) h.0 (those-formed parent c items h.1)
-
-arguments-formed : (item : Item) → AreFormed item → AreAllFormed (arguments item)
-arguments-formed (leaf kind place raw) h = tt
-arguments-formed (node place keyword square first others close) h = (h.1, h.2)
 
 pub inner-formed : (parent c : Class) (item : Item) → AreFormed item → AllFormed (those parent c (arguments item))
 inner-formed parent c item h = those-formed parent c (arguments item) (arguments-formed item h)

@@ -17,7 +17,7 @@ use Rattle.crs_value.proofs.sound.PartLemmas.{Tells, first-tells, each-tells, te
 
 -- ---- the unit of a parameter
 
-abbrev AreUnitClasses : List Class → Type 0
+abbrev pub AreUnitClasses : List Class → Type 0
 AreUnitClasses [] = Unit {0}
 AreUnitClasses (d ∷ ds) = IsUnitClass d × AreUnitClasses ds
 

@@ -21,8 +21,7 @@ use Rattle.crs_value.specs.Reads.{ReadsUnit, ReadsEllipsoid, ReadsMeridian, Read
 use Rattle.crs_value.specs.ReadsConversion.{ReadsConversion}
 use Rattle.crs_value.specs.ReadsNamed.{ReadsNamed}
 use Rattle.crs_value.specs.ReadsCrs.{ReadsAsDatum, ReadsAsEnsemble, ReadsGeodeticFrame, ReadsVerticalFrame, IsGeodeticClass, ReadsGeodetic, ReadsBase, ReadsProjected, ReadsVertical}
-use Rattle.crs_value.specs.Sound.{IsUnitOf}
-use Rattle.crs_value.specs.Sound.{IsNamed}
+use Rattle.crs_value.specs.Sound.{IsUnitOf, IsNamed}
 use Rattle.crs_value.specs.SoundConversion.{IsConversion}
 use Rattle.crs_value.specs.SoundFrames.{IsMeridian}
 use Rattle.crs_value.specs.SoundSingle.{IsGeodeticFrame, IsVerticalFrame, IsGeodetic, IsBase, IsProjected, IsVertical}

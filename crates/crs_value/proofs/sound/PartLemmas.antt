@@ -194,7 +194,7 @@ skip-formed zero items formed = formed
 skip-formed (suc n) End formed = skip-formed n End formed
 skip-formed (suc n) (More item items) formed = skip-formed n items formed.1
 
-arguments-formed : (item : Item) → AreFormed item → AreAllFormed (arguments item)
+pub arguments-formed : (item : Item) → AreFormed item → AreAllFormed (arguments item)
 arguments-formed (leaf kind place raw) formed = tt
 arguments-formed (node place keyword square first others close) formed = (formed.1, formed.2)
 

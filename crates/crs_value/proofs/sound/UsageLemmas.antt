@@ -9,9 +9,8 @@ use Rattle.crs_shape.specs.declared.class.Class.TheVariants as class
 use Rattle.crs_shape.specs.Counts.{one_if, how_many, most, is_bounded}
 use Rattle.crs_shape.specs.Shape.{Allowed}
 use Rattle.crs_shape.specs.Shaped.{Shaped}
-use Rattle.crs_shape.specs.Slots.{slots_of}
+use Rattle.crs_shape.specs.Slots.{slots_of, is_class}
 use Rattle.crs_shape.specs.declared.unit_kind.UnitKind.TheVariants as kinds
-use Rattle.crs_shape.specs.Slots.{is_class}
 use Rattle.crs_value.specs.Reading.{is_same, those, ReadsOptional}
 use Rattle.crs_value.specs.Reads.{ReadsTextOf, ReadsUnit, LacksUsage, ReadsBare, ReadsBox, ReadsExtent, ReadsUsage, ReadsTail}
 use Rattle.crs_value.specs.Sound.{IsUnitOf}
@@ -20,6 +19,7 @@ use Rattle.crs_value.specs.SoundUsages.{IsBox, IsExtent, IsUsage, IsTail}
 use Rattle.crs_value.specs.Values.{UsageParts, SaysSome}
 use Rattle.crs_value.proofs.found.ArgumentLemmas.{SlotsBound, arguments-few, arguments-sound, nothing, those-first}
 use Rattle.crs_value.proofs.sound.PartLemmas.{Tells, tells-as, optional-tells, each-tells, optional-text-tells, number-first, identifiers-tell, length-tells}
+use Rattle.crs_value.proofs.found.NodeLemmas.{none-empty}
 
 pub box-tells : (c : Class) → Tells c (ReadsBox c) IsBox
 box-tells c item value sound reads =
@@ -112,17 +112,13 @@ node-tells law c same =
 
 -- ---- what is bare
 
-unread : {V : Type 0} (R : Item → V → Type 0) (items : List Item) → ReadsOptional R items None → items ≡ []
-unread R [] reads = refl
-unread R (item ∷ items) reads = absurd reads
-
 pub bare-none : (c : Class) (item : Item) →
     ReadsUsage c item (record { scope = None; area = None; bbox = None; extent = None }) → LacksUsage c item
 bare-none c item reads = record {
-  scope = unread (ReadsTextOf class.Scope) (those c class.Scope (arguments item)) reads.scope;
-  area = unread (ReadsTextOf class.Area) (those c class.Area (arguments item)) reads.area;
-  bbox = unread (ReadsBox class.BoundingBox) (those c class.BoundingBox (arguments item)) reads.bbox;
-  extent = unread (ReadsExtent class.VerticalExtent) (those c class.VerticalExtent (arguments item)) reads.extent;
+  scope = none-empty (ReadsTextOf class.Scope) (those c class.Scope (arguments item)) reads.scope;
+  area = none-empty (ReadsTextOf class.Area) (those c class.Area (arguments item)) reads.area;
+  bbox = none-empty (ReadsBox class.BoundingBox) (those c class.BoundingBox (arguments item)) reads.bbox;
+  extent = none-empty (ReadsExtent class.VerticalExtent) (those c class.VerticalExtent (arguments item)) reads.extent;
 }
 
 bare-tells : (c : Class) (item : Item) (bare : Option UsageParts) → IsSound c item → ReadsBare c item bare →

@@ -2,7 +2,7 @@
 use Rattle.std.proofs.Common.{◌≡◌, ℕ, ◌+◌, ◌<◌, ◌≤◌, length, drop, Bool, true, false, inl, inr, ◌⊎◌, Option, Some, None, List, [], ◌∷◌, ◌++◌, refl, sym, ◌∙◌, ap, subst, arith}
 use denote.Enum.Bare.{true_same}
 use Rattle.crs_decimal.specs.Number.{SameNumber, whole_number}
-use Rattle.crs_decimal.specs.Value.{Value, exact}
+use Rattle.crs_decimal.specs.Value.{exact}
 use Rattle.crs_text.specs.Items.{Item, Siblings, arguments, rest_of, here, HasId, IsAt}
 use Rattle.crs_text.specs.Refusal.{RefusedAt}
 use Rattle.crs_shape.specs.contracts.class.Class.{the_type}
@@ -157,19 +157,6 @@ systems-none dims systems axes units cs e head orders fit = subst (λ xs. IsLeas
 
 -- ---- what is repeated
 
-again-none : (xs : List Item) (f : RefusedAt) → length xs ≤ 1 → AnyOf IsRepeated (drop 1 xs) f → ⊥
-again-none [] f few h = h
-again-none (x ∷ []) f few h = h
-again-none (x ∷ y ∷ ys) f few h = absurd (omega (arith, few))
-
-pub few-repeats : (c : Class) (items : Siblings) → ((d : Class) → 1 ≤ rank d → length (those c d items) ≤ 1) → IsLeast (RepeatsAny c items once) None
-few-repeats c items few f (inl h) = again-none (those c class.Scope items) f (few class.Scope (omega arith)) h
-few-repeats c items few f (inr (inl h)) = again-none (those c class.Area items) f (few class.Area (omega arith)) h
-few-repeats c items few f (inr (inr (inl h))) = again-none (those c class.BoundingBox items) f (few class.BoundingBox (omega arith)) h
-few-repeats c items few f (inr (inr (inr (inl h)))) = again-none (those c class.VerticalExtent items) f (few class.VerticalExtent (omega arith)) h
-few-repeats c items few f (inr (inr (inr (inr (inl h))))) = again-none (those c class.Remark items) f (few class.Remark (omega arith)) h
-few-repeats c items few f (inr (inr (inr (inr (inr h))))) = h
-
 -- the same ones of the classes that may stand but once
 pub record SameOnce (c : Class) (xs ys : Siblings) : Type 0 where
   pub scope : those c class.Scope xs ≡ those c class.Scope ys
@@ -247,24 +234,6 @@ climbing-on tree c from at id next last now found same has is named climbs h = r
         (length (those c d (here tree id)) ≡ length (those c d (ahead tree next)) → P) → P
     by d high true e then-so then-not = then-so e
     by d high false e then-so then-not = then-not (ap length (those-later c d (here tree id) has e) ∙ ap (λ xs. length (those c d xs)) (sym (ahead_at tree (rest_of (here tree id)) next is)))
-
-pub climbing-end : (tree : Item) (c : Class) (from : Siblings) (at : Option ℕ) (last : ℕ) → at ≡ None → Climbing c from (ahead tree at) last → IsLeast (RepeatsAny c from once) None
-climbing-end tree c from at last none h = few-repeats c from by
-  where
-    by : (d : Class) → 1 ≤ rank d → length (those c d from) ≤ 1
-    by d high =
-        let k = h.few d high in
-        let e : length (those c d (ahead tree at)) ≡ 0 = ap (λ o. length (those c d (ahead tree o))) none in
-        omega (arith, k, e)
-
-pub climbs-none : (last now : ℕ) → now ≡ last → Climbs last None now
-climbs-none last now e = (omega (arith, e), λ d high is. let k : false ≡ true = is in cc)
-
-pub climbs-past : (last : ℕ) (c : Class) → rank c ≡ 0 → Climbs last (Some c) last
-climbs-past last c none = (omega arith, λ d high is. let e : rank c ≡ rank d = ap rank (same_class c d is) in absurd (omega (arith, e, none, high)))
-
-pub climbs-on : (last : ℕ) (c : Class) (now : ℕ) → now ≡ rank c → last < now → Climbs last (Some c) now
-climbs-on last c now e above = (omega (arith, above), λ d high is. let k : rank c ≡ rank d = ap rank (same_class c d is) in (omega (arith, e, k, above), omega (arith, e, k)))
 
 -- ---- a whole CRS
 

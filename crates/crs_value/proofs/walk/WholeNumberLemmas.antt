@@ -5,7 +5,7 @@ use Rattle.crs_decimal.specs.Bounds.{IsBounded, IsInBounds, Denotes, number_of}
 use Rattle.crs_decimal.specs.Number.{Number, SameNumber, whole_number}
 use Rattle.crs_decimal.specs.Spelling.{Sign, unsigned, plus, Parts, IsForm, SpellsNumber, AreDigits}
 use Rattle.crs_decimal.specs.Value.{Value, IsNormal, exact}
-use Rattle.crs_text.specs.Items.{Item, arguments, raw_of, rest_of, here}
+use Rattle.crs_text.specs.Items.{Item, arguments, raw_of}
 use Rattle.crs_shape.specs.declared.class.Class.{Class}
 use Rattle.crs_shape.specs.declared.class.Class.TheVariants as class
 use Rattle.crs_value.specs.Reading.{item_at, those, IsFound, ReadsFirst}

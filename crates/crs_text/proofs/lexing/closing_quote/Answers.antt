@@ -1,8 +1,7 @@
-use Rattle.std.proofs.Common.{◌≡◌, ◌+◌, ◌<◌, length, drop, arith, ap, sym, ◌∙◌}
+use Rattle.std.proofs.Common.{◌≡◌, ◌+◌, ◌<◌, length, drop, arith, ap, sym, ◌∙◌, subst}
 use Rattle.std.specs.List.{prefix_len}
 use Rattle.std.proofs.lemmas.List.{length-drop}
 use Rattle.crs_text.specs.Quoted.{StopsAt, is_plain, is_quote}
-use Rattle.std.proofs.Common.{subst}
 use Rattle.crs_text.proofs.tokens.QuotedLemmas.{open_at, shut_at, past_doubled, within_at}
 use Rattle.crs_text.proofs.lexing.closing_quote.Goals as goal
 

@@ -1,7 +1,6 @@
 use Rattle.crs_text.specs.Items.{arguments}
-use Rattle.crs_value.specs.Reading.{item_at, those}
+use Rattle.crs_value.specs.Reading.{item_at, those, IsFound}
 use Rattle.std.proofs.Common.{arith, subst}
-use Rattle.crs_value.specs.Reading.{IsFound}
 use Rattle.crs_value.proofs.found.ArgumentLemmas.{arguments-few, first-shaped}
 use Rattle.crs_value.proofs.checked.CheckLemmas.{only-one}
 use Rattle.crs_value.proofs.checks.only_from.Goals as goal

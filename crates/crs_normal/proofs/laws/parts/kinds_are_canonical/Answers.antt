@@ -6,8 +6,7 @@ use Rattle.crs_value.specs.SoundCompound.{IsCompound}
 use Rattle.crs_value.specs.SoundSingle.{IsBase, IsGeodetic, IsProjected, IsVertical}
 use Rattle.crs_value.specs.declared.values.crs.Crs.TheVariants as crs
 use Rattle.crs_same.specs.Parts.{AreSame}
-use Rattle.crs_same.specs.PartsOfCrs.{parts_of_base, parts_of_geodetic, parts_of_projected}
-use Rattle.crs_same.specs.PartsOfCrs.{parts_of_vertical, parts_of_compound}
+use Rattle.crs_same.specs.PartsOfCrs.{parts_of_base, parts_of_geodetic, parts_of_projected, parts_of_vertical, parts_of_compound}
 use Rattle.crs_normal.specs.CrsClass.{geodetic_class}
 use Rattle.crs_normal.specs.SpelledCrs.{item_base, item_compound, item_geodetic, item_projected, item_vertical, norm_base, norm_compound, norm_geodetic, norm_projected, norm_vertical}
 use Rattle.crs_normal.proofs.parts.PartKindLemmas.{geodetic-told, own-geodetic}

@@ -1,5 +1,4 @@
-use Rattle.crs_normal.proofs.same.FrameLemmas.{datum-agrees, ellipsoid-agrees, ensemble-agrees, geodetic-frame-agrees}
-use Rattle.crs_normal.proofs.same.FrameLemmas.{given-agrees, meridian-agrees, vertical-frame-agrees}
+use Rattle.crs_normal.proofs.same.FrameLemmas.{datum-agrees, ellipsoid-agrees, ensemble-agrees, geodetic-frame-agrees, given-agrees, meridian-agrees, vertical-frame-agrees}
 use Rattle.crs_normal.proofs.same.PartLemmas.{decides-parts}
 use Rattle.crs_normal.proofs.same.UnitLemmas.{named-agrees}
 use Rattle.crs_normal.proofs.laws.values.same_frames_have_one_form.Goals as goal

@@ -1,5 +1,4 @@
-use Rattle.crs_normal.proofs.same.CrsLemmas.{base-agrees, by-itself, compound-agrees, geodetic-agrees, horizontal-agrees}
-use Rattle.crs_normal.proofs.same.CrsLemmas.{projected-agrees, vertical-agrees}
+use Rattle.crs_normal.proofs.same.CrsLemmas.{base-agrees, by-itself, compound-agrees, geodetic-agrees, horizontal-agrees, projected-agrees, vertical-agrees}
 use Rattle.crs_normal.proofs.same.PartLemmas.{decides-parts}
 use Rattle.crs_normal.proofs.laws.values.same_kinds_have_one_form.Goals as goal
 

@@ -1,4 +1,4 @@
-use Rattle.std.proofs.Common.{◌≡◌, ◌-◌, ◌≤◌, Option, None, false, length, take}
+use Rattle.std.proofs.Common.{◌≡◌, ◌-◌, ◌≤◌, None, false, length, take}
 use Rattle.std.specs.Io.KnownBytes.{Consumes}
 use Rattle.crs_streams.proofs.filling.FillingRead.read.Given as goal
 
