@@ -6,6 +6,7 @@ use Rattle.std.specs.Str.{bytes_eq}
 use Rattle.std.specs.declared.alloc.Global.{Global}
 use Rattle.std.proofs.lemmas.Map.Text.{is_eq-slice_cmp}
 use Rattle.std.proofs.lemmas.Slice.Eq.{bytes_eq-Decides}
+use Rattle.std.proofs.lemmas.Bool.{false≢true}
 use Rattle.crs_value.specs.Sound.{Each}
 use Rattle.crs_normal.specs.Ascending.{Ascends, Below, IsIn}
 use Rattle.crs_normal.specs.Ordered.{in_order}
@@ -14,7 +15,6 @@ use Rattle.crs_writer.specs.Members.{ArePut, lacking, spellings}
 use Rattle.crs_writer.specs.SetText.{SpellsOneOf, comma_separated}
 use Rattle.crs_writer.proofs.SetLemmas.{compared}
 use Rattle.crs_canon.proofs.SetTextLemmas.{spellings-tell}
-use Rattle.crs_canon.proofs.NamedLemmas.{never}
 
 -- ---- keys without those of another set
 
@@ -50,10 +50,10 @@ either : (a b : Bool) (text other : List ℕ) (others : List (List ℕ)) → (a 
 either true b text other others to from t =
     record { yes = λ e. inl (to refl); no = λ e. absurd (true≢false e) }
 either false b text other others to from t =
-    record { yes = λ e. inr (t.yes e); no = λ e p. ⊎_elim (λ same. never (from same)) (λ there. t.no e there) p }
+    record { yes = λ e. inr (t.yes e); no = λ e p. ⊎_elim (λ same. false≢true (from same)) (λ there. t.no e there) p }
 
 tells : (text : List ℕ) (others : List (List ℕ)) → Tells (list_any (bytes_eq text) others) text others
-tells text [] = record { yes = λ e. never e; no = λ e p. p }
+tells text [] = record { yes = λ e. false≢true e; no = λ e p. p }
 tells text (other ∷ others) =
     let d = bytes_eq-Decides text other in
     either (bytes_eq text other) (list_any (bytes_eq text) others) text other others d.0 d.1 (tells text others)

@@ -1,9 +1,10 @@
 -- Parameters by their names: which stands alone, the names in order, and the spellings of some.
-use Rattle.std.proofs.Common.{◌≡◌, ◌↔◌, ◌∙◌, ◌&&◌, ℕ, Bool, true, false, cond, if◌then◌else◌, Option, Some, None, List, [], ◌∷◌, filter, map, inl, inr, refl, sym, ap, subst, true≢false}
+use Rattle.std.proofs.Common.{◌≡◌, ◌↔◌, ◌∙◌, ◌&&◌, ℕ, Bool, true, false, cond, if◌then◌else◌, Option, Some, None, List, [], ◌∷◌, filter, map, inl, inr, refl, sym, ap, subst}
 use Rattle.std.specs.Option.{is_some}
 use Rattle.std.specs.Prelude.{nat_le, length}
 use Rattle.std.specs.Str.{bytes_eq}
 use Rattle.std.proofs.lemmas.Slice.Eq.{bytes_eq-Decides}
+use Rattle.std.proofs.lemmas.Bool.{false≢true}
 use Rattle.crs_value.specs.ConversionValues.{ParameterParts}
 use Rattle.crs_normal.specs.Ascending.{Ascends, IsIn}
 use Rattle.crs_normal.specs.Ordered.{in_order, put, put_all}
@@ -11,14 +12,11 @@ use Rattle.crs_canon.specs.Named.{ArePairedNames, is_paired, named_once, of_name
 use Rattle.crs_canon.specs.PairedNames.{names_paired}
 use Rattle.crs_writer.specs.Members.{AreSpellingsOf, IsOnlySpelling}
 
-pub never : false ≡ true → ⊥
-never e = absurd (true≢false (sym e))
-
 -- ---- members that pass a test
 
 passed-first : {V : Type 0} (b : Bool) (x y : V) (ys : List V) → x ≡ y → b ≡ true → IsIn x (cond b (y ∷ ys) ys)
 passed-first true x y ys same p = inl same
-passed-first false x y ys same p = absurd (never p)
+passed-first false x y ys same p = absurd (false≢true p)
 
 passed-further : {V : Type 0} (b : Bool) (x y : V) (ys : List V) → IsIn x ys → IsIn x (cond b (y ∷ ys) ys)
 passed-further true x y ys i = inr i
@@ -84,8 +82,8 @@ of-once name xs x e =
 
 pub both-some : {V : Type 0} (p q : Option V) → (is_some p && is_some q) ≡ true → (x : V) × (y : V) × (p ≡ Some x) × (q ≡ Some y)
 both-some (Some x) (Some y) e = (x, y, refl, refl)
-both-some (Some x) None e = absurd (never e)
-both-some None q e = absurd (never e)
+both-some (Some x) None e = absurd (false≢true e)
+both-some None q e = absurd (false≢true e)
 
 -- ---- names
 

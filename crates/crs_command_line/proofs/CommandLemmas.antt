@@ -2,6 +2,7 @@
 use Rattle.std.proofs.Common.{◌≡◌, ◌≢◌, List, [], ◌∷◌, Option, Some, None, IsSome, Bool, true, false, ◌||◌, inl, inr, cond, ap, ◌∙◌, refl, subst, sym, is_some, option_and_then, option_map}
 use Rattle.std.specs.Prelude.{find}
 use Rattle.std.specs.Option.{option_map_or}
+use Rattle.std.proofs.Math.Bool.{or-false}
 use Rattle.clap.specs.Words.{App, HasKind, HasMatchesOf, IsAmong, Row, Shape, Text, app_of, built, fault_of, is_simple, is_simple_and_free, kind_of, subcommand_of, subcommand_rows_of, takes}
 use Rattle.clap.specs.Simple.{argument_words, entered, label_of, names_of, rows_at}
 use Rattle.clap.specs.Takes.{entered_passes, level_passes, settle_passes, walk_passes}
@@ -49,10 +50,6 @@ known_among words answers [] known passes some = cc
 known_among words answers (s ∷ shapes) known passes some =
     known_here words (answers s) s (find answers shapes) known.0 (known_among words answers shapes known.1) passes some
 
-or_false : (b : Bool) → (b || false) ≡ true → b ≡ true
-or_false true h = refl
-or_false false h = h
-
 stop_asks : (stop : Option (Text × List Text)) → IsFree stop → entered_passes (built desk) stop ≡ true → IsSome (entered (built desk) stop)
     → IsSome (option_and_then request_of (entered (built desk) stop))
 unfolding IsKnown AreKnown entered_at passes_at IsFree
@@ -68,7 +65,7 @@ stop_asks (Some stop) free passes some =
             (λ answers taken. same_asks stop.1 taken),
             (
               (λ answers taken. refl),
-              ((λ answers taken. absurd (answers_help stop.0 free (or_false _ answers))), tt),
+              ((λ answers taken. absurd (answers_help stop.0 free (sym (or-false _) ∙ answers))), tt),
             ),
           ),
         ),

@@ -4,7 +4,7 @@ use Rattle.std.specs.Prelude.{find, ◌==◌, encode_utf8, slice_get}
 use Rattle.std.specs.List.{list_all, list_any}
 use Rattle.std.specs.Option.{option_map_or}
 use Rattle.std.specs.Str.{bytes_eq, chars}
-use Rattle.std.proofs.lemmas.Bool.{eqb-true, le-leb, ltb-false}
+use Rattle.std.proofs.lemmas.Bool.{eqb-true, le-leb, ltb-false, and_from}
 use Rattle.clap.specs.declared.builder.action.ArgAction.{ArgAction}
 use Rattle.clap.specs.declared.builder.action.ArgAction.TheVariants.{Set, Append, SetTrue, SetFalse, Count, Help, HelpShort, HelpLong, Version}
 use Rattle.clap.specs.declared.error.kind.ErrorKind.{ErrorKind}
@@ -28,10 +28,6 @@ first_none (k ∷ ks) second none = none
 second_none : (first second : Kinds) → or_else first second ≡ [] → second ≡ []
 second_none [] second none = none
 second_none (k ∷ ks) second none = cc
-
-both_true : (a b : Bool) → a ≡ true → b ≡ true → (a && b) ≡ true
-both_true true b p q = q
-both_true false b p q = cc
 
 -- a kind of error comes unless the test holds
 test_holds : (is : Bool) (k : ErrorKind) → cond is [] (k ∷ []) ≡ [] → is ≡ true
@@ -66,11 +62,11 @@ passes_where_some fault passes (Some x) each none = each x none
 values_taken : (a : Rule) (values : List Text) → values_fault a values ≡ [] → values_pass a values ≡ true
 values_taken a [] none = refl
 values_taken a (v ∷ vs) none =
-    both_true _ _ (test_holds (value_passes a v) _ (first_none _ _ none)) (values_taken a vs (second_none _ _ none))
+    and_from _ _ (test_holds (value_passes a v) _ (first_none _ _ none)) (values_taken a vs (second_none _ _ none))
 
 set_taken : (again : Bool) (a : Rule) (values : List Text) (rows : List Row) → set_fault again a values rows ≡ [] → set_passes again a values rows ≡ true
 set_taken again a values rows none =
-    both_true _ _ (is_excused (has_row a.id rows) again _ _ (first_none _ _ none)) (values_taken a values (second_none _ _ none))
+    and_from _ _ (is_excused (has_row a.id rows) again _ _ (first_none _ _ none)) (values_taken a values (second_none _ _ none))
 
 count_taken : (a : Rule) (values : List Text) (rows : List Row) → count_fault a values rows ≡ [] → count_passes a values rows ≡ true
 count_taken a [] rows none = test_holds _ _ none
@@ -110,7 +106,7 @@ range_taken least most n none =
 use_taken : (again : Bool) (a : Rule) (values : List Text) (rows : List Row) → use_fault again a values rows ≡ [] → use_passes again a values rows ≡ true
 use_taken again a values rows none =
     let range = range_taken (unwrap_or_range a.range).start_inclusive (most_values a) (length values) (first_none _ _ none) in
-    both_true _ _ range.0 (both_true _ _ range.1
+    and_from _ _ range.0 (and_from _ _ range.1
     (action_taken (action_of a) again a (values_or_missing a values) rows (second_none _ _ none)))
 
 -- ---- the walk
@@ -124,7 +120,7 @@ settle_taken c again h none =
 
 react_taken : (c : List Rule) (again : Bool) (a : Rule) (values : List Text) (h : Held) → react_fault c again a values h ≡ [] → react_passes c again a values h ≡ true
 react_taken c again a values h none =
-    both_true _ _ (settle_taken c again h (first_none _ _ none)) (use_taken again a values (settled c h).rows (second_none _ _ none))
+    and_from _ _ (settle_taken c again h (first_none _ _ none)) (use_taken again a values (settled c h).rows (second_none _ _ none))
 
 option_taken : (c : List Rule) (again : Bool) (a : Rule) (v : Option Text) (h : Held) → option_fault c again a v h ≡ [] → option_passes c again a v h ≡ true
 option_taken c again a (Some v) h none = react_taken c again a (v ∷ []) h none
@@ -141,7 +137,7 @@ short_taken : (c : List Rule) (again : Bool) (found : Option Rule) (rest : Text)
 short_taken c again None rest h fault passes goes_on none = cc
 short_taken c again (Some a) rest h fault passes goes_on none =
     passes_either (takes_values a) _ _ _ _ (option_taken c again a (attached_value rest) h)
-    (λ below. both_true _ _ (react_taken c again a [] h (first_none _ _ below)) (goes_on (reacted c a [] h) (second_none _ _ below))) none
+    (λ below. and_from _ _ (react_taken c again a [] h (first_none _ _ below)) (goes_on (reacted c a [] h) (second_none _ _ below))) none
 
 bundle_step_taken : (c : List Rule) (again : Bool) (x : Option ℕ) (flags : Text) (skip : ℕ) (h : Held)
     (fault : Text → ℕ → Held → Kinds) (passes : Text → ℕ → Held → Bool)
@@ -198,14 +194,14 @@ turn_taken : (s : Shape) (names : Names) (w : Walk) (word : Text) → turn_fault
 turn_taken s names w word none =
     let met = word_met s.rules names w.is_trailing w.waiting w.position word w.held in
     passes_unless (is_some w.stopped) _ _
-    (λ here. both_true _ _ (word_taken s names w.is_trailing w.waiting word w.held (first_none _ _ here))
+    (λ here. and_from _ _ (word_taken s names w.is_trailing w.waiting word w.held (first_none _ _ here))
     (step_taken s w.position met.0 met.1 (second_none _ _ here))) none
 
 walk_taken : (s : Shape) (names : Names) (w : Walk) (words : List Text) → walk_fault s names w words ≡ [] → walk_passes s names w words ≡ true
 unfolding walk_fault walk_passes
 walk_taken s names w [] none = refl
 walk_taken s names w (word ∷ words) none =
-    both_true _ _ (turn_taken s names w word (first_none _ _ none))
+    and_from _ _ (turn_taken s names w word (first_none _ _ none))
     (walk_taken s names (walked s.rules names w word) words (second_none _ _ none))
 
 -- ---- after the walk
@@ -270,9 +266,9 @@ level_taken s names h words has below plain none =
     let rest = second_none _ _ none in
     let last = second_none _ _ rest in (
       first_none _ _ rest,
-      both_true _ _ (walk_taken s names (walk_from h) words (first_none _ _ none))
-          (both_true _ _ (settle_taken s.rules s.args_override_self end (first_none _ _ last))
-          (both_true _ _ plain.0 (check_taken s (finished s.rules end) has plain.1 (second_none _ _ (second_none _ _ last))))),
+      and_from _ _ (walk_taken s names (walk_from h) words (first_none _ _ none))
+          (and_from _ _ (settle_taken s.rules s.args_override_self end (first_none _ _ last))
+          (and_from _ _ plain.0 (check_taken s (finished s.rules end) has plain.1 (second_none _ _ (second_none _ _ last))))),
     )
 
 ArePlain : List Shape → Type 0
@@ -308,5 +304,5 @@ line_taken words none =
     let given = argument_words desk words in
     let stop = (walk a.top.rules (names_of a) nothing_held given).stopped in
     let level = level_taken a.top (names_of a) nothing_held given (is_some (entered a stop)) (entered_fault a stop) (refl, refl) none in
-    both_true (is_simple desk) _ refl (both_true _ _
+    and_from (is_simple desk) _ refl (and_from _ _
     (entered_taken a stop ((refl, refl), ((refl, refl), ((refl, refl), ((refl, refl), ((refl, refl), ((refl, refl), tt)))))) level.0) level.1)

@@ -1,6 +1,7 @@
 -- Bytes of a line.
-use Rattle.std.proofs.Common.{◌≡◌, ◌≤◌, ℕ, suc, ◌==◌, false, inl, inr, List, [], ◌∷◌, length, map, refl, ap, sym, subst, arith}
+use Rattle.std.proofs.Common.{◌≡◌, ◌≤◌, ℕ, ◌==◌, false, inl, inr, List, [], ◌∷◌, length, map, refl, sym, subst, arith}
 use Rattle.std.proofs.lemmas.Bool.{cases_Bool}
+use Rattle.std.proofs.lemmas.List.{length-map}
 use Rattle.crs_text.specs.Position.{feeds}
 use Rattle.crs_explain.specs.Lines.{in_line}
 use Rattle.crs_explain.specs.Explained.{AreWords}
@@ -18,10 +19,6 @@ no_feeds : (words : List ℕ) → feeds (map in_line words) ≡ 0
 no_feeds [] = refl
 no_feeds (b ∷ words) = cons_feeds (in_line b) (map in_line words) (in_line-not b) (no_feeds words)
 
-map-length : (words : List ℕ) → length (map in_line words) ≡ length words
-map-length [] = refl
-map-length (b ∷ words) = ap suc (map-length words)
-
 pub words_of : (words line : List ℕ) → length words ≤ 1000 → line ≡ map in_line words → AreWords line
 words_of words line few is =
-    subst AreWords (sym is) (no_feeds words, omega (arith, map-length words, few))
+    subst AreWords (sym is) (no_feeds words, omega (arith, length-map words in_line, few))

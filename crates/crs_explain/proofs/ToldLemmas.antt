@@ -2,7 +2,7 @@
 use Rattle.std.proofs.Common.{◌≡◌, ◌∙◌, ◌++◌, ◌&&◌, ◌⊎◌, ⊎_elim, ℕ, Bool, true, false, cond, if◌then◌else◌, not, Option, Some, List, [], ◌∷◌, filter, inl, inr, refl, sym, subst, true≢false}
 use Rattle.std.specs.Option.{is_some}
 use Rattle.std.specs.Str.{bytes_eq}
-use Rattle.std.proofs.lemmas.Bool.{cases_Bool}
+use Rattle.std.proofs.lemmas.Bool.{cases_Bool, false≢true}
 use Rattle.std.proofs.lemmas.Slice.Eq.{bytes_eq-Decides}
 use Rattle.crs_shape.specs.declared.unit_kind.UnitKind.TheVariants as kinds
 use Rattle.crs_value.specs.ConversionValues.{ParameterParts}
@@ -20,7 +20,7 @@ use Rattle.crs_normal.specs.PartSpellings.{IsSpelledParameter}
 use Rattle.crs_writer.specs.SetText.{SpellsOneOf, commas, comma_separated}
 use Rattle.crs_canon.specs.ContentText.{IsLackingText}
 use Rattle.crs_canon.specs.Named.{is_paired, named_once, unpaired}
-use Rattle.crs_canon.proofs.NamedLemmas.{both-some, in-passed, is-once, never, of-once}
+use Rattle.crs_canon.proofs.NamedLemmas.{both-some, in-passed, is-once, of-once}
 use Rattle.crs_canon.proofs.SetSameLemmas.{closed-some}
 use Rattle.crs_explain.specs.DifferingSets.{AreTextsBehind, AreTextsOfName, AreTextsOfNames, AreTextsOfParts, AreTextsOfSet, are_empty, parameter_path, parts_of_parameter}
 use Rattle.crs_explain.specs.DifferingTexts.{PartTexts}
@@ -96,8 +96,8 @@ left-out false one e = absurd (none-some one [] e)
 
 empty-both : (first second : List ℕ) → are_empty first second ≡ true → (first ≡ []) × (second ≡ [])
 empty-both [] [] e = (refl, refl)
-empty-both [] (b ∷ bytes) e = absurd (never e)
-empty-both (b ∷ bytes) second e = absurd (never e)
+empty-both [] (b ∷ bytes) e = absurd (false≢true e)
+empty-both (b ∷ bytes) second e = absurd (false≢true e)
 
 -- ---- members that others have
 

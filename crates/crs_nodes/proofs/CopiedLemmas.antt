@@ -365,5 +365,3 @@ parameter-copied level item p f r =
         let n = named g.keyword.0 g.keyword.1 in
         passed class.Parameter class.Identifier n.0 unit rest
         (node-in class.Parameter n.0 unit g.name (More g.factor g.rest) (unit_word g.keyword.0) g.are g.keyword.2 n.1) n.2
-
--- ---- what is written

@@ -22,6 +22,7 @@ use Rattle.crs_value.specs.declared.values.crs.Crs.{Crs}
 use Rattle.crs_value.specs.declared.values.crs.Crs.TheVariants as crs
 use Rattle.std.specs.Cmp.Lexicographic.{slice_cmp}
 use Rattle.std.specs.Ordering.{nat_cmp, match_ordering}
+use Rattle.std.proofs.lemmas.List.{length-map}
 use Rattle.crs_rules.specs.Sinking.{IsOrderless, IsOrderlessAcross, IsOrderlessCrs}
 use Rattle.crs_rules.specs.Rewritten.{across, among, arranged, arranged_across, arranged_compound, arranged_crs, arranged_geodetic, arranged_projected, arranged_vertical, ascending, axis, axis_meridian, counted, renamed, base, compound, geodetic, is_idle, meridian, named, projected, rewritten, system, units, vertical}
 use Rattle.crs_rules.specs.Rules.{Meaning, RulesParts, meaning}
@@ -42,10 +43,6 @@ axis-sound r h a k = record {
   unit = some-map IsAxisUnit r.unit a.unit (axis-unit r h) k.unit;
   identifiers = k.identifiers;
 }
-
-pub map-length : {A B : Type 0} (f : A → B) (xs : List A) → length (map f xs) ≡ length xs
-map-length f [] = refl
-map-length f (x ∷ xs) = ap suc (map-length f xs)
 
 each-to : (P Q : AxisParts → Type 0) (f : AxisParts → AxisParts) (xs : List AxisParts) → ((x : AxisParts) → P x → Q (f x)) →
     Each P xs → Each Q (map f xs)
@@ -77,7 +74,7 @@ orders-by r xs false e (inr k) = inr (
   k.0,
   (
     same-orders r e xs ∙ k.1.0,
-    (subst (λ n. Each (IsPosition n) k.0) (sym (map-length (axis r) xs)) k.1.1.0, k.1.1.1),
+    (subst (λ n. Each (IsPosition n) k.0) (sym (length-map xs (axis r))) k.1.1.0, k.1.1.1),
   ),
 )
 
@@ -113,9 +110,9 @@ pub system-sound : (r : Meaning) → IsSoundMeaning r → (s : SystemParts) → 
 system-sound r h s k = record {
   dimension = k.dimension;
   identifiers = k.identifiers;
-  some = filled (map (axis r) s.axes) s.axes (map-length (axis r) s.axes) k.some;
+  some = filled (map (axis r) s.axes) s.axes (length-map s.axes (axis r)) k.some;
   axes = each-to IsAxis IsAxis (axis r) s.axes (axis-sound r h) k.axes;
-  count = subst (λ n. SameNumber (exact s.dimension) (whole_number n)) (sym (map-length (axis r) s.axes)) k.count;
+  count = subst (λ n. SameNumber (exact s.dimension) (whole_number n)) (sym (length-map s.axes (axis r))) k.count;
   orders = orders-sound r s.axes k.orders;
   unit = some-map IsAxisUnit r.unit s.unit (axis-unit r h) k.unit;
   units = units-sound r s.system_type s.axes s.unit h k.axes k.unit k.units;

@@ -4,10 +4,11 @@ use Rattle.std.specs.Cmp.Lexicographic.{slice_cmp}
 use Rattle.std.specs.List.{swap}
 use Rattle.std.specs.Ordering.{nat_cmp, match_ordering}
 use Rattle.std.proofs.lemmas.List.Edits.{length-swap}
+use Rattle.std.proofs.lemmas.List.{length-map}
 use Rattle.crs_value.specs.Values.{AxisParts}
 use Rattle.crs_rules.specs.Rewritten.{among, ascending}
 use Rattle.crs_rules.specs.Sinking.{sunk_from}
-use Rattle.crs_rules.proofs.CrsLemmas.{ascending-length, map-length}
+use Rattle.crs_rules.proofs.CrsLemmas.{ascending-length}
 
 -- neighbours in each other's place
 abbrev exchanged : {A : Type 0} → A → List A → ℕ → List A
@@ -90,7 +91,7 @@ sinks-by text (d ∷ ys) at n e l g =
 pub sinks-next : (text : AxisParts → List ℕ) (old axes : List AxisParts) (from at : ℕ) (texts : List (List ℕ)) →
     Sinks text old axes from at texts → IsAboveNext texts at → at + 1 < length axes
 sinks-next text old axes from at texts s g =
-    subst (λ k. at + 1 < k) (map-length text axes) (subst (λ ts. at + 1 < length ts) s.texts_are g.0)
+    subst (λ k. at + 1 < k) (length-map axes text) (subst (λ ts. at + 1 < length ts) s.texts_are g.0)
 
 pub sinks-on : (text : AxisParts → List ℕ) (old axes : List AxisParts) (from at : ℕ) (texts : List (List ℕ)) →
     Sinks text old axes from at texts → IsAboveNext texts at → (new : List AxisParts) (after : List (List ℕ)) →
@@ -126,7 +127,7 @@ sinks-end text old axes from at texts s n =
         rests text d xs at (λ l g.
         let m : at + 1 ≡ suc at = omega arith in
         let k : at + 1 < length texts =
-        subst (λ ts. at + 1 < length ts) (sym e) (subst (λ j. at + 1 < j) (sym (map-length text xs)) (subst (λ j. j < length xs) (sym m) l)) in
+        subst (λ ts. at + 1 < length ts) (sym e) (subst (λ j. at + 1 < j) (sym (length-map xs text)) (subst (λ j. j < length xs) (sym m) l)) in
         n k (text d)
         (subst (λ ts. slice_cmp nat_cmp (get_or ts at (text d)) (get_or ts (at + 1) (text d)) ≡ Greater) (sym e)
         (subst (λ t. slice_cmp nat_cmp t (get_or (map text xs) (at + 1) (text d)) ≡ Greater) (sym (map-get text d xs at))

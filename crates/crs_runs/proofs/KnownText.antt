@@ -1,6 +1,7 @@
 -- What a reader whose bytes are known gave by the time it shows its end.
-use Rattle.std.proofs.Common.{◌≡◌, ℕ, ◌+◌, ◌<◌, ◌≤◌, ◌==◌, ◌||◌, List, [], ◌++◌, length, refl, Option, Some, None, IfSome, Result, Ok, Bool, true, false, subst, ap, sym, ◌∙◌, append-nil, arith}
+use Rattle.std.proofs.Common.{◌≡◌, ℕ, ◌+◌, ◌<◌, ◌≤◌, ◌==◌, ◌||◌, List, [], ◌++◌, length, refl, Option, Some, None, IfSome, Result, Ok, false, subst, ap, sym, ◌∙◌, append-nil, arith}
 use Rattle.std.specs.Io.KnownBytes.{Consumes, ReadConsumes}
+use Rattle.std.proofs.Math.Bool.{or-true}
 use Rattle.crs_streams.specs.Streams.{CountsRead, SourceState}
 use Rattle.crs_runs.specs.Whole.{IsWhole}
 
@@ -18,10 +19,6 @@ known_whole (Some all) (Some left) (Some rest) items room answer told bytes zero
     let none_left : left ≡ [] = given.0 ∙ nothing_left in
     sym (told ∙ ap (λ xs. items ++ xs) none_left ∙ append-nil items)
 
-or_true : (b : Bool) → (b || true) ≡ true
-or_true true = refl
-or_true false = refl
-
 -- a read that gives nothing ends the text
 pub read_whole : {E : Type 0} (start old new : SourceState) (text room : List ℕ) (answer : Result ℕ E) (count : ℕ)
     → CountsRead old new answer → ReadConsumes old.remaining new.remaining answer room → answer ≡ Ok count → count ≡ 0
@@ -30,7 +27,7 @@ pub read_whole : {E : Type 0} (start old new : SourceState) (text room : List �
 read_whole start old new text room answer count counted bytes got none some healthy taken short told =
     let more = (subst (CountsRead old new) got counted).bytes in
     let given : new.taken ≡ old.taken + count = more.0 in record {
-      is_ended = more.1 ∙ ap (λ n. old.ended || (n == 0)) none ∙ or_true old.ended;
+      is_ended = more.1 ∙ ap (λ n. old.ended || (n == 0)) none ∙ or-true old.ended;
       is_healthy = more.2 ∙ healthy;
       is_counted = omega (arith, given, none, taken);
       is_short = omega (arith, given, none, taken, short);

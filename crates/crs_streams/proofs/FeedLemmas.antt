@@ -1,12 +1,12 @@
 -- Line feeds among bytes, and lines that aren't too long.
 use Rattle.std.proofs.Common.{◌≡◌, ◌⊎◌, ◌+◌, ◌≤◌, ◌++◌, ◌∷◌, [], ℕ, List, true, false, length, inl, inr, ap, subst, sym, refl, ◌∙◌, arith, append_assoc, length-append}
 use Rattle.std.specs.Prelude.{◌==◌, cond}
-use Rattle.std.proofs.lemmas.Bool.{eqb-true}
+use Rattle.std.proofs.lemmas.Bool.{eqb-true, false≢true}
 use Rattle.std.proofs.lemmas.List.Sums.{sum_by-append}
 use Rattle.crs_streams.specs.EndedLines.{AreEnded}
 use Rattle.crs_streams.specs.Lines.{AreLines, HasNoFeed, IsTextOf}
 use Rattle.crs_streams.specs.LongLines.{EndsInFeed, HasShortLines, feeds}
-use Rattle.crs_streams.proofs.LineLemmas.{false-true, feed-rest, feed-test, head-tail, head-is, tail-is}
+use Rattle.crs_streams.proofs.LineLemmas.{feed-rest, feed-test, head-tail, head-is, tail-is}
 
 -- how many feeds there are
 pub feeds-append : (a b : List ℕ) → feeds (a ++ b) ≡ feeds a + feeds b
@@ -83,7 +83,7 @@ stretch-before : (line rest a b : List ℕ) → line ++ rest ≡ a ++ 10 ∷ b �
     → (m : List ℕ) × (a ≡ line ++ m)
 stretch-before [] rest a b e plain = (a, refl)
 stretch-before (x ∷ xs) rest [] b e plain =
-    absurd (false-true (sym (feed-test x xs plain) ∙ ap (λ y. y == 10) (head-is x 10 (xs ++ rest) b e)))
+    absurd (false≢true (sym (feed-test x xs plain) ∙ ap (λ y. y == 10) (head-is x 10 (xs ++ rest) b e)))
 stretch-before (x ∷ xs) rest (y ∷ ys) b e plain =
     let further = stretch-before xs rest ys b (tail-is x y (xs ++ rest) (ys ++ 10 ∷ b) e) (feed-rest x xs plain) in
     (further.0, head-tail y x ys (xs ++ further.0) (sym (head-is x y (xs ++ rest) (ys ++ 10 ∷ b) e)) further.1)

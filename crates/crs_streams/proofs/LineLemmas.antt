@@ -3,14 +3,11 @@ use Rattle.std.proofs.Common.{◌≡◌, ◌⊎◌, ◌-◌, ◌≤◌, ◌++◌
 use Rattle.std.specs.Prelude.{◌==◌, ◌&&◌, IsTrue, not, nat_lt, slice_index}
 use Rattle.std.specs.List.{list_all}
 use Rattle.std.proofs.Math.Seq.{get_or-append_seam}
-use Rattle.std.proofs.lemmas.Bool.{cases_Bool, cond-false, cond-true, eqb-true, lt-ltb}
+use Rattle.std.proofs.lemmas.Bool.{cases_Bool, cond-false, cond-true, eqb-true, lt-ltb, false≢true}
 use Rattle.std.proofs.lemmas.List.{drop_all, take_all}
 use Rattle.bstr.specs.Text.{line_len, lines_of, no_cr, without_terminator}
 use Rattle.bstr.proofs.lemmas.LineLemmas.{lines-nil, lines-step}
 use Rattle.crs_streams.specs.Lines.{AreLines, HasNoFeed, IsTextOf}
-
-pub false-true : false ≡ true → ⊥
-false-true h = cc
 
 pub nil-cons : {A : Type 0} (x : A) (xs : List A) → [] ≡ x ∷ xs → ⊥
 nil-cons x xs h = cc
@@ -46,7 +43,7 @@ pub feed-rest : (b : ℕ) (bs : List ℕ) → HasNoFeed (b ∷ bs) → HasNoFeed
 feed-rest b bs plain = by_test (b == 10) plain
   where
     by_test : (t : Bool) → IsTrue (not t && list_all (λ c. not (c == 10)) bs) → HasNoFeed bs
-    by_test true h = absurd (false-true h)
+    by_test true h = absurd (false≢true h)
     by_test false h = h
 
 pub feed-more : (b : ℕ) (bs : List ℕ) → (b == 10) ≡ false → HasNoFeed bs → HasNoFeed (b ∷ bs)
@@ -54,11 +51,11 @@ feed-more b bs test plain = rw test plain
 
 -- there is a feed at that place
 feed-there : (line rest : List ℕ) → HasNoFeed (line ++ 10 ∷ rest) → ⊥
-feed-there [] rest plain = false-true plain
+feed-there [] rest plain = false≢true plain
 feed-there (b ∷ bs) rest plain = feed-there bs rest (feed-rest b (bs ++ 10 ∷ rest) plain)
 
 not-feed : (b : ℕ) (bs : List ℕ) → HasNoFeed (b ∷ bs) → b ≡ 10 → ⊥
-not-feed b bs plain is = false-true (sym (feed-test b bs plain) ∙ eq-eqb b 10 is)
+not-feed b bs plain is = false≢true (sym (feed-test b bs plain) ∙ eq-eqb b 10 is)
 
 -- bytes are cut at their first feed in one way
 cut-one : (line other rest left : List ℕ) → HasNoFeed line → HasNoFeed other → line ++ 10 ∷ rest ≡ other ++ 10 ∷ left
@@ -186,7 +183,7 @@ text-of line = by_last (last-of line)
         inl (ap (λ c. front ++ c ∷ []) (eqb-true b 13 is) ∙ ap (λ l. l ++ 13 ∷ []) (sym e))
     by_test front b (inr other) =
         let e : no_cr (front ++ b ∷ []) ≡ front ++ b ∷ [] = cond-false _ _ _ (ends-test front b 13 ∙ other) in
-        inr (sym e, λ found. false-true (sym other ∙ eq-eqb b 13 (last-one front found.0 b 13 found.1)))
+        inr (sym e, λ found. false≢true (sym other ∙ eq-eqb b 13 (last-one front found.0 b 13 found.1)))
 
     by_last : ((line ≡ []) ⊎ ((front : List ℕ) × (b : ℕ) × (line ≡ front ++ b ∷ []))) → IsTextOf line (no_cr line)
     by_last (inl none) = subst (λ l. IsTextOf l (no_cr l)) (sym none) (inr (refl, λ found. nil-end found.0 found.1))

@@ -1,6 +1,6 @@
 -- What CRSs with a coordinate system have after their other parts is made: the system and the end.
 use Rattle.std.proofs.Common.{◌≡◌, ◌≢◌, ℕ, suc, ◌≤◌, List, [], ◌∷◌, length, map, codes, Some, refl, sym, ap, subst, ◌∙◌, arith, None}
-use Rattle.std.proofs.lemmas.List.{append-nil}
+use Rattle.std.proofs.lemmas.List.{append-nil, length-map}
 use Rattle.crs_decimal.specs.Number.{SameNumber, whole_number}
 use Rattle.crs_decimal.specs.Value.{exact}
 use Rattle.crs_text.specs.Items.{Item, arguments}
@@ -163,10 +163,6 @@ placed-length [] (j ∷ js) h = absurd h
 placed-length (x ∷ items) [] h = absurd h
 placed-length (x ∷ items) (j ∷ js) h = ap suc (placed-length items js h.1)
 
-mapped-length : {A B : Type 0} (f : A → B) (xs : List A) → length (map f xs) ≡ length xs
-mapped-length f [] = refl
-mapped-length f (x ∷ xs) = ap suc (mapped-length f xs)
-
 system-of : DecimalLaws → (level : Level) (s : SystemParts) (systems axes units : List Item) → IsFew s →
     ArePlaced systems (item_head (norm_system level s) ∷ []) → ArePlaced axes (axis_items level s) → units ≡ [] →
     IsSystemSeen s.system_type s.dimension systems axes units
@@ -176,7 +172,7 @@ system-of l level s (x ∷ []) axes units h p q none =
     let e : length (axes_from level s 1 (length s.axes)) ≡ length s.axes = all-count l level s h.system h.each_at
     h.few in
     let n : length axes ≡ length s.axes =
-    placed-length axes (axis_items level s) q ∙ mapped-length item_axis (axes_from level s 1 (length s.axes)) ∙ e in
+    placed-length axes (axis_items level s) q ∙ length-map (axes_from level s 1 (length s.axes)) item_axis ∙ e in
     let f : length s.axes ≤ 3 = h.few in
     record {
       head = x;

@@ -256,5 +256,3 @@ head-seen l level s h p =
     (More (number_item s.dimension) (each item_ident (set_idents level s.identifiers) End)) (head_runs level s) p
     (simp each-line) (head-runs-made l level s h) in
     record { words = look.view class.Word; numbers = look.view class.Number }
-
--- ---- axes by themselves

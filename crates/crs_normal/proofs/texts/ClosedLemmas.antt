@@ -1,7 +1,7 @@
 -- The text of a well-formed node is closed, and no closed text is the front of another.
 use Rattle.std.proofs.Common.{◌≡◌, ◌≢◌, ◌≤◌, ◌+◌, ℕ, zero, suc, ◌==◌, ◌&&◌, ◌||◌, not, Bool, true, false, Option, Some, None, List, [], ◌∷◌, ◌++◌, if◌then◌else◌, refl, sym, ap, ◌∙◌, subst, append_assoc, arith}
 use Rattle.std.specs.List.{list_all}
-use Rattle.std.proofs.lemmas.Bool.{and_parts, eqb-true}
+use Rattle.std.proofs.lemmas.Bool.{and_parts, eqb-true, true≢false}
 use Rattle.crs_decimal.specs.Spelling.{is_digit, is_run_byte}
 use Rattle.crs_text.specs.Items.{Item, leaf, node, Siblings, End, More, IsNode}
 use Rattle.crs_text.specs.Quoted.{doubled}
@@ -42,9 +42,6 @@ same-head x y xs ys e = cc
 
 same-tail : (x y : ℕ) (xs ys : List ℕ) → x ∷ xs ≡ y ∷ ys → xs ≡ ys
 same-tail x y xs ys e = cc
-
-pub true-false : true ≡ false → ⊥
-true-false e = cc
 
 -- ---- bytes that open and close nothing
 
@@ -185,7 +182,7 @@ none-more : (x : ℕ) → x ≡ 0 + x
 none-more x = omega arith
 
 none-else : {A : Type 0} (v : Bool) (x y : A) → v ≡ false → (if v then x else y) ≡ y
-none-else true x y e = absurd (true-false e)
+none-else true x y e = absurd (true≢false e)
 none-else false x y e = refl
 
 -- the last bracket
@@ -289,7 +286,7 @@ node-closed (node place keyword square first others close) h is =
 
 no-bracket : (b : ℕ) (bytes : List ℕ) → list_all is_word_byte (b ∷ bytes) ≡ true → 91 ≡ b → ⊥
 no-bracket b bytes e same =
-    true-false (sym (and_parts (is_word_byte b) (list_all is_word_byte bytes) e).0 ∙ ap is_word_byte (sym same))
+    true≢false (sym (and_parts (is_word_byte b) (list_all is_word_byte bytes) e).0 ∙ ap is_word_byte (sym same))
 
 -- after its word a text has bytes that are inside
 split-once : (a b x y : List ℕ) → list_all is_word_byte a ≡ true → list_all is_word_byte b ≡ true →

@@ -3,6 +3,7 @@ use Rattle.std.proofs.Common.{◌≡◌, ℕ, zero, suc, ◌+◌, ◌-◌, ◌==
 use Rattle.std.specs.Prelude.{encode_utf8_all}
 use Rattle.std.specs.List.{list_all}
 use Rattle.std.specs.Str.{all_scalars, str_to_ascii_lowercase}
+use Rattle.std.proofs.lemmas.Bool.{true≢false}
 use Rattle.crs_decimal.specs.Bounds.{IsInBounds, digits_value, Denotes}
 use Rattle.crs_decimal.specs.Plain.{IsFractionNeeded, IsPlain, plain}
 use Rattle.crs_decimal.specs.Spelling.{Parts, SpellsNumber, unsigned}
@@ -25,7 +26,6 @@ use Rattle.crs_normal.proofs.made.LeafLemmas.{short-true, true-short}
 use Rattle.crs_normal.proofs.texts.WordFormLemmas.{direction-known, direction_of, type-known, type_of}
 use Rattle.crs_normal.proofs.verdicts.Verdicts.{Verdict, both, equal, or_else, refuted_by, shown_by, tested, via}
 use Rattle.crs_normal.proofs.texts.ItemLemmas.{run-single}
-use Rattle.crs_normal.proofs.texts.ClosedLemmas.{true-false}
 
 -- ---- codes
 
@@ -49,7 +49,7 @@ short-or-long raw long = by (is_short raw) refl
 
 abbrev is_false : (b : Bool) → Verdict (b ≡ false)
 is_false false = Some (inl refl)
-is_false true = Some (inr true-false)
+is_false true = Some (inr true≢false)
 
 abbrev pub is_code : (item : Item) → Verdict (IsCode item)
 is_code (leaf number place raw) =

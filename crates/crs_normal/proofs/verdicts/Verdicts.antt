@@ -1,9 +1,7 @@
 -- Whether a property holds, with its proof or its refutation, where either was found.
 use Rattle.std.proofs.Common.{◌≡◌, ◌≢◌, ◌⊎◌, ℕ, ◌≤◌, ◌==◌, nat_le, Bool, true, false, List, [], ◌∷◌, Option, Some, None, inl, inr, refl, ap, eqb-true, eq-eqb, leb-true, le-leb}
+use Rattle.std.proofs.lemmas.Bool.{false≢true}
 use Rattle.crs_value.specs.Sound.{Each}
-
-pub false-true : false ≡ true → ⊥
-false-true e = cc
 
 pub empty-full : {A : Type 0} (x : A) (xs : List A) → [] ≡ x ∷ xs → ⊥
 empty-full x xs e = cc
@@ -88,7 +86,7 @@ shown_by to None = None
 
 abbrev pub tested : {A : Type 0} (b : Bool) → (b ≡ true → A) → (A → b ≡ true) → Verdict A
 tested true to from = Some (inl (to refl))
-tested false to from = Some (inr (λ a. false-true (from a)))
+tested false to from = Some (inr (λ a. false≢true (from a)))
 
 abbrev pub same_number : (a b : ℕ) → Verdict (a ≡ b)
 same_number a b = tested (a == b) (eqb-true a b) (eq-eqb a b)

@@ -1,5 +1,5 @@
 -- A check over the items of one class, one after another.
-use Rattle.std.proofs.Common.{◌≡◌, ℕ, ◌≤◌, length, true, false, Option, Some, None, inl, inr, take, drop, List, [], ◌∷◌, ◌++◌, refl, sym, ◌∙◌, ap, subst, arith, append_assoc}
+use Rattle.std.proofs.Common.{◌≡◌, ℕ, ◌≤◌, length, true, false, Option, Some, None, inl, inr, take, drop, List, [], ◌∷◌, ◌++◌, sym, ◌∙◌, ap, subst, arith, append_assoc}
 use Rattle.crs_decimal.specs.Bounds.{Denotes}
 use Rattle.crs_decimal.specs.Value.{Value, IsNormal, exact}
 use Rattle.crs_text.specs.Items.{Item, arguments, rest_of, raw_of, here}
@@ -38,10 +38,6 @@ checked-on B tree parent c whole least next one id at so here-least is found =
           let P : Option RefusedAt → Type 0 = λ o. IsLeast (AnyOf B (so.done ++ item_at tree id ∷ [])) o in
           subst P (sym is) (least-more B so.done (item_at tree id) least one so.is_least here-least);
     }
-
-pub append-none : (list : List Item) → list ++ [] ≡ list
-append-none [] = refl
-append-none (v ∷ list) = ap (λ vs. v ∷ vs) (append-none list)
 
 -- ---- numbers
 

@@ -1,5 +1,6 @@
 -- The checks of the orders of axes.
 use Rattle.std.proofs.Common.{◌≡◌, ◌≢◌, ℕ, zero, suc, ◌+◌, ◌<◌, ◌≤◌, length, take, drop, Bool, IsTrue, ◌↔◌, inl, inr, ◌⊎◌, Option, Some, None, List, [], ◌∷◌, ◌++◌, refl, sym, ◌∙◌, ap, subst, append_assoc, length-append, arith}
+use Rattle.std.proofs.lemmas.List.{append-nil}
 use Rattle.crs_decimal.specs.Number.{Number, SameNumber, whole_number}
 use Rattle.crs_decimal.specs.Value.{Value, exact}
 use Rattle.crs_text.specs.Items.{Item, arguments, rest_of, here}
@@ -14,7 +15,7 @@ use Rattle.crs_value.specs.Least.{lesser}
 use Rattle.crs_value.specs.Reading.{item_at, those, Holds, IsFound, ReadsFirst}
 use Rattle.crs_value.specs.Reads.{ReadsNumber}
 use Rattle.crs_value.proofs.found.ArgumentLemmas.{found-is, found-holds, found-shaped, all-shaped}
-use Rattle.crs_value.proofs.checked.CheckLemmas.{DenotesOne, number-one, append-none}
+use Rattle.crs_value.proofs.checked.CheckLemmas.{DenotesOne, number-one}
 use Rattle.crs_value.proofs.checked.LeastLemmas.{least-same, least-at, least-either}
 use Rattle.crs_value.proofs.checked.SystemLemmas.{first-one, wholes-same}
 
@@ -168,13 +169,13 @@ bad-left n b (x ∷ xs) ys f (inl h) = inl h
 bad-left n b (x ∷ xs) ys f (inr h) = inr (bad-left n (b ++ x ∷ []) xs ys f h)
 
 bad-right : (n : ℕ) (b xs ys : List Item) (f : RefusedAt) → BadOrders n (b ++ xs) ys f → BadOrders n b (xs ++ ys) f
-bad-right n b [] ys f h = let P : List Item → Type 0 = λ c. BadOrders n c ys f in subst P (append-none b) h
+bad-right n b [] ys f h = let P : List Item → Type 0 = λ c. BadOrders n c ys f in subst P (append-nil b) h
 bad-right n b (x ∷ xs) ys f h =
     let P : List Item → Type 0 = λ c. BadOrders n c ys f in
     inr (bad-right n (b ++ x ∷ []) xs ys f (subst P (sym (append_assoc b (x ∷ []) xs)) h))
 
 bad-split : (n : ℕ) (b xs ys : List Item) (f : RefusedAt) → BadOrders n b (xs ++ ys) f → BadOrders n b xs f ⊎ BadOrders n (b ++ xs) ys f
-bad-split n b [] ys f h = let P : List Item → Type 0 = λ c. BadOrders n c ys f in inr (subst P (sym (append-none b)) h)
+bad-split n b [] ys f h = let P : List Item → Type 0 = λ c. BadOrders n c ys f in inr (subst P (sym (append-nil b)) h)
 bad-split n b (x ∷ xs) ys f (inl h) = inl (inl h)
 bad-split n b (x ∷ xs) ys f (inr h) = more (bad-split n (b ++ x ∷ []) xs ys f h)
   where

@@ -139,8 +139,6 @@ pub nothing : {A : Type 0} (xs : List A) → length xs ≤ 0 → xs ≡ []
 nothing [] h = refl
 nothing (x ∷ xs) h = absurd (omega (arith, h))
 
--- ---- the search for the first of those
-
 -- ---- one after another
 
 pub found-is : (tree : Item) (parent c : Class) (items : List Item) (at : Option ℕ) → IsFound tree parent c items at → items ≡ from_found tree parent c at

@@ -1,5 +1,6 @@
 -- Loops over the arguments of one class: what has been read so far.
-use Rattle.std.proofs.Common.{◌≡◌, ℕ, zero, suc, ◌+◌, ◌<◌, ◌≤◌, length, drop, Option, Some, None, List, [], ◌∷◌, ◌++◌, refl, sym, ap, subst, add-one, arith}
+use Rattle.std.proofs.Common.{◌≡◌, ℕ, zero, suc, ◌+◌, ◌<◌, ◌≤◌, length, drop, Option, Some, None, List, [], ◌∷◌, ◌++◌, refl, sym, subst, add-one, arith}
+use Rattle.std.proofs.lemmas.List.{append-nil}
 use Rattle.crs_text.specs.Items.{Item, arguments, rest_of, here}
 use Rattle.crs_shape.specs.declared.class.Class.{Class}
 use Rattle.crs_shape.specs.Counts.{least}
@@ -29,14 +30,10 @@ going-first {V = V} R tree parent c item list at sound empty found =
           subst Q (sym empty) (subst P (sym e) h);
     }
 
-append-none : {V : Type 0} (list : List V) → list ++ [] ≡ list
-append-none [] = refl
-append-none (v ∷ list) = ap (λ vs. v ∷ vs) (append-none list)
-
 pub going-end : {V : Type 0} (R : Item → V → Type 0) (tree : Item) (parent c : Class) (whole : List Item) (list : List V) →
     Going R tree parent c whole list None → ReadsEach R whole list
 going-end {V = V} R tree parent c whole list going =
-    let Q : List V → Type 0 = λ vs. ReadsEach R whole vs in subst Q (append-none list) (going.reads [] tt)
+    let Q : List V → Type 0 = λ vs. ReadsEach R whole vs in subst Q (append-nil list) (going.reads [] tt)
 
 -- ---- the value in an option
 

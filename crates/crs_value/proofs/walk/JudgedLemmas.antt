@@ -1,6 +1,7 @@
 -- A walk over items: what is passed over joins what is found behind it.
 use Rattle.std.proofs.Common.{◌≡◌, ◌≢◌, ℕ, ◌||◌, Bool, true, false, IsTrue, inl, inr, ◌⊎◌, Option, Some, None, List, [], ◌∷◌, if◌then◌else◌, refl, sym, ◌∙◌, ap, subst, ◌++◌, rules}
 use Rattle.std.specs.List.{list_any}
+use Rattle.std.proofs.Math.Bool.{or-true}
 use denote.Enum.Bare.{sameb, same_true, true_same}
 use Rattle.crs_text.specs.Items.{Item, leaf, node, Siblings, End, More, arguments, first_of, rest_of, close_of, here, HasId, IsAt}
 use Rattle.crs_text.specs.Refusal.{RefusedAt}
@@ -312,10 +313,6 @@ neither p fs bs item old mid new h k =
 pub the-first : (p : Class) (fs bs : List Class) (item : Item) (old new : Option RefusedAt) (ok : Bool) → Answers p fs item old (Some ok) new → Answers p (fs ++ bs) item old (Some ok) new
 the-first p fs bs item old new ok (d, (is, (among, judged))) =
     (d, (is, (is_in-append fs bs (Some d) ∙ ap (λ b. b || is_in bs (Some d)) among, judged)))
-
-or-true : (b : Bool) → (b || true) ≡ true
-or-true true = refl
-or-true false = refl
 
 the-second : (p : Class) (fs bs : List Class) (item : Item) (old mid new : Option RefusedAt) (ok : Bool) → Answers p fs item old None mid → Answers p bs item mid (Some ok) new →
     Answers p (fs ++ bs) item old (Some ok) new

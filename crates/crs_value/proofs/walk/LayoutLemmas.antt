@@ -1,6 +1,7 @@
 -- A CRS whose parts were found by the walk for its shape: what is seen of its coordinate system.
 use Rattle.std.proofs.Common.{◌≡◌, ◌≢◌, ℕ, ◌&&◌, ◌||◌, Bool, true, false, not, length, Option, Some, None, List, [], ◌∷◌, ◌++◌, refl, sym, ◌∙◌, ap, subst, append_assoc}
 use Rattle.std.specs.List.{list_any}
+use Rattle.std.proofs.lemmas.List.{append-nil}
 use Rattle.crs_text.specs.Items.{Item, Siblings, End, More, arguments, rest_of, here, HasId, IsAt}
 use Rattle.crs_text.specs.Refusal.{RefusedAt}
 use Rattle.crs_shape.specs.declared.class.Class.{Class}
@@ -22,7 +23,7 @@ use Rattle.crs_value.specs.Reads.{HasType}
 use Rattle.crs_value.specs.RepeatedPart.{RepeatsAny}
 use Rattle.crs_value.specs.Seen.{are_free, is_head, is_tail, the_one, AreOrdered, Has, IsLaid, IsNoted, IsQuiet, IsSeen, UnitsFit}
 use Rattle.crs_value.proofs.found.ArgumentLemmas.{ahead_at, all-shaped, arguments-shaped, holds_at, those-first}
-use Rattle.crs_value.proofs.checked.CheckLemmas.{DenotesOne, append-none}
+use Rattle.crs_value.proofs.checked.CheckLemmas.{DenotesOne}
 use Rattle.crs_value.proofs.walk.JudgedLemmas.{end-first}
 use Rattle.crs_value.proofs.checked.PlacedLemmas.{Symmetric, Transitive}
 use Rattle.crs_value.proofs.walk.RestLemmas.{once-back, ordered-none, systems-none, units-none}
@@ -161,7 +162,7 @@ noted-on tree c of from seen old new at id next same has is-at is parts noted so
 pub noted-end : (tree : Item) (c : Class) (of : SystemType) (from : Option ℕ) (axes : Axes) (at : Option ℕ) → Noted tree c of from axes at → those c class.Axis (ahead tree at) ≡ [] →
     IsSeen of axes (those c class.Axis (ahead tree from))
 noted-end tree c of from axes at so none =
-    subst (IsSeen of axes) (sym (so.are ∙ ap (λ xs. so.before ++ xs) none ∙ append-none so.before)) so.seen
+    subst (IsSeen of axes) (sym (so.are ∙ ap (λ xs. so.before ++ xs) none ∙ append-nil so.before)) so.seen
 
 -- ---- the parts of a CRS have their shapes
 
