@@ -5,6 +5,7 @@ means what the code means is told as let through, and one that takes away a name
 """
 import pathlib
 from collections import Counter
+from typing import Optional
 
 import pytest
 import wrong_bodies
@@ -23,6 +24,9 @@ old: self.power as i32
 new: let power = self.power; power as i32
 """
 PROOFS = "Rattle.crs_decimal.proofs"
+LEMMAS = """./proofs/LeafLemmas.antt:2:5: error: `leaf`: {told}
+./proofs/NodeLemmas.antt:3:1: error: 2 declarations that depend on `leaf`, which was rejected, were not checked: node, crs
+"""
 NAMELESS = """file: src/short.rt
 old: let (digits, zeros) = stripped(self.value);
 new: let pair = stripped(self.value); let (digits, zeros) = (pair.0, pair.1);
@@ -72,6 +76,13 @@ def test_reason(told: str, is_of_names: bool) -> None:
         f"short::write: {told}",
         is_of_names,
     )
+
+
+@pytest.mark.parametrize("told, why", [("the two types differ", "the two types differ"), ("`x` is not in scope", None)])
+def test_lemma_reason(told: str, why: Optional[str]) -> None:
+    """A lemma on which an answer stands is refused for a reason of its own, or only since it names what isn't there."""
+    error = "1 declaration that depends on `crs`, which was not admitted, was not checked: returns"
+    assert wrong_bodies.lemma_reason([error], LEMMAS.format(told=told)) == why
 
 
 @pytest.mark.parametrize(
