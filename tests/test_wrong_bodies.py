@@ -78,11 +78,12 @@ def test_reason(told: str, is_of_names: bool) -> None:
     )
 
 
-@pytest.mark.parametrize("told, why", [("the two types differ", "the two types differ"), ("`x` is not in scope", None)])
+@pytest.mark.parametrize(
+    "told, why", [("the two types differ", "`leaf`: the two types differ"), ("`x` is not in scope", None)]
+)
 def test_lemma_reason(told: str, why: Optional[str]) -> None:
-    """A lemma on which an answer stands is refused for a reason of its own, or only since it names what isn't there."""
-    error = "1 declaration that depends on `crs`, which was not admitted, was not checked: returns"
-    assert wrong_bodies.lemma_reason([error], LEMMAS.format(told=told)) == why
+    """A lemma is refused for a reason of its own, or only since it names what isn't there, or stands on one that is."""
+    assert wrong_bodies.lemma_reason(LEMMAS.format(told=told)) == why
 
 
 @pytest.mark.parametrize(

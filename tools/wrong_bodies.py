@@ -18,8 +18,7 @@ that isn't proved, or an answer that is refused. Where one has none, and calls o
 next round.
 
 A body whose function fails only since an answer names a step that the body took away shows nothing of the contract, and
-is a failure of the body. Where the answer stands on a lemma that is refused, as by a body of definitions, that lemma
-tells.
+is a failure of the body. Of a body that changes a definition, a lemma that is refused tells as well.
 
 Crates have wrong-bodies/, which the gate tries, at most twelve each, and more-wrong-bodies/, which --all tries too. The
 crates below are proved first, as tools/build.py does it; with --over-gate they are taken as rt ci has left them. With
@@ -61,7 +60,7 @@ RESTS = re.compile(r"[;:] it calls .*which (is|are) not proved")
 REFUSED = re.compile(r"; it stands on .*which antt refuses")
 NAMES = re.compile(r"has no field|is not in scope|has no `|was not admitted|\(nearest: ")
 # What it says of an answer or a lemma that stands on a lemma which is refused.
-STANDS = re.compile(r"depends? on `(\S+)`, which was (?:not admitted|rejected)")
+STANDS = re.compile(r"depends? on `\S+`, which was (?:not admitted|rejected)")
 # What it says of a function that is proved: over holes, or without.
 PROVED = ("proved", "no holes", "depends on a hole")
 # What it says first of one that isn't.
@@ -488,6 +487,8 @@ class Trial:
         for body, functions in batch:
             reasons = [it for name in functions or told if (it := self.reason(name, told, goals, said))]
             why = next((words for words, is_of_names in reasons if not is_of_names), None)
+            if reasons and not why and body.is_of_definitions():
+                why = lemma_reason(said)
             if why and is_of_answer(why, body.goals):
                 self.settle(body, why)
                 settled += 1
@@ -537,7 +538,7 @@ class Trial:
         if goals.get(name):
             return f"{name}: {goals[name][0]}", False
         errors = re.findall(rf"^\./proofs/{folder}\+?{last}/\S+ error: (.*)$", said, re.M)
-        other = next((it for it in errors if not NAMES.search(it)), None) or lemma_reason(errors, said)
+        other = next((it for it in errors if not NAMES.search(it)), None)
         return f"{name}: {other or (errors or [words])[0]}", bool(errors) and not other
 
     def halve(self, batch: Batch, said: str) -> None:
@@ -568,21 +569,11 @@ class Trial:
         self.faults.append(f"{body.name}: {word}: {' '.join((told or lines)[:2])[:300]}")
 
 
-def lemma_reason(errors: List[str], said: str) -> Optional[str]:
-    """Why a lemma is refused on which some refused answers stand, by way of others or at once, as where a body changes a
-    definition; None where none is, or only since it names what isn't there."""
-    left = list(errors)
-    seen: Set[str] = set()
-    while left:
-        error = left.pop(0)
-        if not (stands := STANDS.search(error)):
-            if not NAMES.search(error):
-                return error
-        elif (lemma := stands[1]) not in seen:
-            seen.add(lemma)
-            named = rf"`{re.escape(lemma)}`: (.*)|(.* not checked: (?:.*, )?{re.escape(lemma)}(?:[ ,].*)?)"
-            left += [of or through for of, through in re.findall(rf"^\./proofs/\S+ error: (?:{named})$", said, re.M)]
-    return None
+def lemma_reason(said: str) -> Optional[str]:
+    """Why a lemma is refused where a body changes a definition, which is tried alone: so what is refused is so by it. None
+    where each is refused only since it names what isn't there, or stands on one that is."""
+    errors = re.findall(r"^\./proofs/\S+ error: (.*)$", said, re.M)
+    return next((it for it in errors if not NAMES.search(it) and not STANDS.search(it)), None)
 
 
 def proved_below(names: List[str], is_over_gate: bool) -> List[Crate]:
