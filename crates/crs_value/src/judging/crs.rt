@@ -9,7 +9,8 @@ use crate::judging::leaves::{Area, Remark, Scope, Text};
 use crate::judging::named::{AngleUnit, AxisUnit, Conversion, GeoidModel, Identifier};
 use crate::judging::node::{crs, part};
 use crate::judging::slots::{
-    Any, Either, End, Found, One, OneOrMore, Optional, Part, Then, chain, judge, judge_crs, taken,
+    Any, Either, End, Found, One, OneOrMore, Optional, Part, Then, chain, judge, judge_as,
+    judge_crs, taken,
 };
 use crate::judging::system::{Axis, BoundingBox, CoordinateSystem, Usage, VerticalExtent};
 use crs_shape::{Class, row};
@@ -22,7 +23,7 @@ impl Part for BaseCrs {
     ghost classes = { kinds.BaseCrs ∷ [] };
 
     fn judge(items: &Items<'_>, id: ItemId, parent: Class, found: &mut Found) -> Option<bool> {
-        row!(BaseCrs, judge, (part, BaseCrs, items, id, parent, found))
+        judge_as!(part, BaseCrs, items, id, parent, found)
     }
 }
 
@@ -33,11 +34,7 @@ impl Part for GeodeticCrs {
     ghost classes = { kinds.GeodeticCrs ∷ [] };
 
     fn judge(items: &Items<'_>, id: ItemId, parent: Class, found: &mut Found) -> Option<bool> {
-        row!(
-            GeodeticCrs,
-            judge_crs,
-            (crs, GeodeticCrs, items, id, parent, found)
-        )
+        judge_as!(crs, GeodeticCrs, items, id, parent, found)
     }
 }
 
@@ -48,11 +45,7 @@ impl Part for GeographicCrs {
     ghost classes = { kinds.GeographicCrs ∷ [] };
 
     fn judge(items: &Items<'_>, id: ItemId, parent: Class, found: &mut Found) -> Option<bool> {
-        row!(
-            GeographicCrs,
-            judge_crs,
-            (crs, GeographicCrs, items, id, parent, found)
-        )
+        judge_as!(crs, GeographicCrs, items, id, parent, found)
     }
 }
 
@@ -63,11 +56,7 @@ impl Part for ProjectedCrs {
     ghost classes = { kinds.ProjectedCrs ∷ [] };
 
     fn judge(items: &Items<'_>, id: ItemId, parent: Class, found: &mut Found) -> Option<bool> {
-        row!(
-            ProjectedCrs,
-            judge_crs,
-            (crs, ProjectedCrs, items, id, parent, found)
-        )
+        judge_as!(crs, ProjectedCrs, items, id, parent, found)
     }
 }
 
@@ -78,10 +67,6 @@ impl Part for VerticalCrs {
     ghost classes = { kinds.VerticalCrs ∷ [] };
 
     fn judge(items: &Items<'_>, id: ItemId, parent: Class, found: &mut Found) -> Option<bool> {
-        row!(
-            VerticalCrs,
-            judge_crs,
-            (crs, VerticalCrs, items, id, parent, found)
-        )
+        judge_as!(crs, VerticalCrs, items, id, parent, found)
     }
 }

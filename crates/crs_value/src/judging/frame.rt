@@ -6,7 +6,7 @@ use crate::judging::leaves::{Anchor, AnchorEpoch, EnsembleAccuracy, FrameEpoch, 
 use crate::judging::named::{AngleUnit, DeformationModel, Identifier, LengthUnit, Member};
 use crate::judging::node::part;
 use crate::judging::slots::{
-    Any, Either, End, Found, One, OneOrMore, Optional, Part, Then, chain, judge, taken,
+    Any, Either, End, Found, One, OneOrMore, Optional, Part, Then, chain, judge, judge_as, taken,
 };
 use crs_shape::{Class, row};
 use crs_text::{ItemId, Items};
@@ -18,11 +18,7 @@ impl Part for Ellipsoid {
     ghost classes = { kinds.Ellipsoid ∷ [] };
 
     fn judge(items: &Items<'_>, id: ItemId, parent: Class, found: &mut Found) -> Option<bool> {
-        row!(
-            Ellipsoid,
-            judge,
-            (part, Ellipsoid, items, id, parent, found)
-        )
+        judge_as!(part, Ellipsoid, items, id, parent, found)
     }
 }
 
@@ -33,11 +29,7 @@ impl Part for PrimeMeridian {
     ghost classes = { kinds.PrimeMeridian ∷ [] };
 
     fn judge(items: &Items<'_>, id: ItemId, parent: Class, found: &mut Found) -> Option<bool> {
-        row!(
-            PrimeMeridian,
-            judge,
-            (part, PrimeMeridian, items, id, parent, found)
-        )
+        judge_as!(part, PrimeMeridian, items, id, parent, found)
     }
 }
 
@@ -48,7 +40,7 @@ impl Part for Dynamic {
     ghost classes = { kinds.Dynamic ∷ [] };
 
     fn judge(items: &Items<'_>, id: ItemId, parent: Class, found: &mut Found) -> Option<bool> {
-        row!(Dynamic, judge, (part, Dynamic, items, id, parent, found))
+        judge_as!(part, Dynamic, items, id, parent, found)
     }
 }
 
@@ -59,11 +51,7 @@ impl Part for GeodeticFrame {
     ghost classes = { kinds.GeodeticFrame ∷ [] };
 
     fn judge(items: &Items<'_>, id: ItemId, parent: Class, found: &mut Found) -> Option<bool> {
-        row!(
-            GeodeticFrame,
-            judge,
-            (part, GeodeticFrame, items, id, parent, found)
-        )
+        judge_as!(part, GeodeticFrame, items, id, parent, found)
     }
 }
 
@@ -74,11 +62,7 @@ impl Part for VerticalFrame {
     ghost classes = { kinds.VerticalFrame ∷ [] };
 
     fn judge(items: &Items<'_>, id: ItemId, parent: Class, found: &mut Found) -> Option<bool> {
-        row!(
-            VerticalFrame,
-            judge,
-            (part, VerticalFrame, items, id, parent, found)
-        )
+        judge_as!(part, VerticalFrame, items, id, parent, found)
     }
 }
 
@@ -89,11 +73,7 @@ impl Part for GeodeticEnsemble {
     ghost classes = { kinds.GeodeticEnsemble ∷ [] };
 
     fn judge(items: &Items<'_>, id: ItemId, parent: Class, found: &mut Found) -> Option<bool> {
-        row!(
-            GeodeticEnsemble,
-            judge,
-            (part, GeodeticEnsemble, items, id, parent, found)
-        )
+        judge_as!(part, GeodeticEnsemble, items, id, parent, found)
     }
 }
 
@@ -104,10 +84,6 @@ impl Part for VerticalEnsemble {
     ghost classes = { kinds.VerticalEnsemble ∷ [] };
 
     fn judge(items: &Items<'_>, id: ItemId, parent: Class, found: &mut Found) -> Option<bool> {
-        row!(
-            VerticalEnsemble,
-            judge,
-            (part, VerticalEnsemble, items, id, parent, found)
-        )
+        judge_as!(part, VerticalEnsemble, items, id, parent, found)
     }
 }

@@ -3,7 +3,7 @@ ghost use Rattle.std.specs.Prelude.{[], ◌∷◌};
 ghost use Rattle.crs_shape.specs.declared.class.Class.TheVariants as kinds;
 
 use crate::judging::node::part;
-use crate::judging::slots::{End, Found, One, Part, Then, chain, judge, taken};
+use crate::judging::slots::{End, Found, One, Part, Then, chain, judge, judge_as, taken};
 use crs_shape::{Class, row};
 use crs_text::{ItemId, Items};
 
@@ -14,7 +14,7 @@ impl Part for Number {
     ghost classes = { kinds.Number ∷ [] };
 
     fn judge(items: &Items<'_>, id: ItemId, parent: Class, found: &mut Found) -> Option<bool> {
-        row!(Number, judge, (part, Number, items, id, parent, found))
+        judge_as!(part, Number, items, id, parent, found)
     }
 }
 
@@ -25,7 +25,7 @@ impl Part for Text {
     ghost classes = { kinds.Text ∷ [] };
 
     fn judge(items: &Items<'_>, id: ItemId, parent: Class, found: &mut Found) -> Option<bool> {
-        row!(Text, judge, (part, Text, items, id, parent, found))
+        judge_as!(part, Text, items, id, parent, found)
     }
 }
 
@@ -36,7 +36,7 @@ impl Part for Word {
     ghost classes = { kinds.Word ∷ [] };
 
     fn judge(items: &Items<'_>, id: ItemId, parent: Class, found: &mut Found) -> Option<bool> {
-        row!(Word, judge, (part, Word, items, id, parent, found))
+        judge_as!(part, Word, items, id, parent, found)
     }
 }
 
@@ -47,11 +47,7 @@ impl Part for FrameEpoch {
     ghost classes = { kinds.FrameEpoch ∷ [] };
 
     fn judge(items: &Items<'_>, id: ItemId, parent: Class, found: &mut Found) -> Option<bool> {
-        row!(
-            FrameEpoch,
-            judge,
-            (part, FrameEpoch, items, id, parent, found)
-        )
+        judge_as!(part, FrameEpoch, items, id, parent, found)
     }
 }
 
@@ -62,11 +58,7 @@ impl Part for AnchorEpoch {
     ghost classes = { kinds.AnchorEpoch ∷ [] };
 
     fn judge(items: &Items<'_>, id: ItemId, parent: Class, found: &mut Found) -> Option<bool> {
-        row!(
-            AnchorEpoch,
-            judge,
-            (part, AnchorEpoch, items, id, parent, found)
-        )
+        judge_as!(part, AnchorEpoch, items, id, parent, found)
     }
 }
 
@@ -77,11 +69,7 @@ impl Part for EnsembleAccuracy {
     ghost classes = { kinds.EnsembleAccuracy ∷ [] };
 
     fn judge(items: &Items<'_>, id: ItemId, parent: Class, found: &mut Found) -> Option<bool> {
-        row!(
-            EnsembleAccuracy,
-            judge,
-            (part, EnsembleAccuracy, items, id, parent, found)
-        )
+        judge_as!(part, EnsembleAccuracy, items, id, parent, found)
     }
 }
 
@@ -92,7 +80,7 @@ impl Part for Order {
     ghost classes = { kinds.Order ∷ [] };
 
     fn judge(items: &Items<'_>, id: ItemId, parent: Class, found: &mut Found) -> Option<bool> {
-        row!(Order, judge, (part, Order, items, id, parent, found))
+        judge_as!(part, Order, items, id, parent, found)
     }
 }
 
@@ -103,7 +91,7 @@ impl Part for Anchor {
     ghost classes = { kinds.Anchor ∷ [] };
 
     fn judge(items: &Items<'_>, id: ItemId, parent: Class, found: &mut Found) -> Option<bool> {
-        row!(Anchor, judge, (part, Anchor, items, id, parent, found))
+        judge_as!(part, Anchor, items, id, parent, found)
     }
 }
 
@@ -114,7 +102,7 @@ impl Part for Scope {
     ghost classes = { kinds.Scope ∷ [] };
 
     fn judge(items: &Items<'_>, id: ItemId, parent: Class, found: &mut Found) -> Option<bool> {
-        row!(Scope, judge, (part, Scope, items, id, parent, found))
+        judge_as!(part, Scope, items, id, parent, found)
     }
 }
 
@@ -125,7 +113,7 @@ impl Part for Area {
     ghost classes = { kinds.Area ∷ [] };
 
     fn judge(items: &Items<'_>, id: ItemId, parent: Class, found: &mut Found) -> Option<bool> {
-        row!(Area, judge, (part, Area, items, id, parent, found))
+        judge_as!(part, Area, items, id, parent, found)
     }
 }
 
@@ -136,7 +124,7 @@ impl Part for Citation {
     ghost classes = { kinds.Citation ∷ [] };
 
     fn judge(items: &Items<'_>, id: ItemId, parent: Class, found: &mut Found) -> Option<bool> {
-        row!(Citation, judge, (part, Citation, items, id, parent, found))
+        judge_as!(part, Citation, items, id, parent, found)
     }
 }
 
@@ -147,7 +135,7 @@ impl Part for Uri {
     ghost classes = { kinds.Uri ∷ [] };
 
     fn judge(items: &Items<'_>, id: ItemId, parent: Class, found: &mut Found) -> Option<bool> {
-        row!(Uri, judge, (part, Uri, items, id, parent, found))
+        judge_as!(part, Uri, items, id, parent, found)
     }
 }
 
@@ -158,6 +146,6 @@ impl Part for Remark {
     ghost classes = { kinds.Remark ∷ [] };
 
     fn judge(items: &Items<'_>, id: ItemId, parent: Class, found: &mut Found) -> Option<bool> {
-        row!(Remark, judge, (part, Remark, items, id, parent, found))
+        judge_as!(part, Remark, items, id, parent, found)
     }
 }

@@ -5,7 +5,7 @@ ghost use Rattle.crs_shape.specs.declared.class.Class.TheVariants as kinds;
 use crate::judging::leaves::{Citation, Number, Text, Uri};
 use crate::judging::node::part;
 use crate::judging::slots::{
-    Any, Either, End, Found, One, Optional, Part, Then, chain, judge, taken,
+    Any, Either, End, Found, One, Optional, Part, Then, chain, judge, judge_as, taken,
 };
 use crs_shape::{Class, row};
 use crs_text::{ItemId, Items};
@@ -17,11 +17,7 @@ impl Part for Identifier {
     ghost classes = { kinds.Identifier ∷ [] };
 
     fn judge(items: &Items<'_>, id: ItemId, parent: Class, found: &mut Found) -> Option<bool> {
-        row!(
-            Identifier,
-            judge,
-            (part, Identifier, items, id, parent, found)
-        )
+        judge_as!(part, Identifier, items, id, parent, found)
     }
 }
 
@@ -32,11 +28,7 @@ impl Part for PlainUnit {
     ghost classes = { kinds.PlainUnit ∷ [] };
 
     fn judge(items: &Items<'_>, id: ItemId, parent: Class, found: &mut Found) -> Option<bool> {
-        row!(
-            PlainUnit,
-            judge,
-            (part, PlainUnit, items, id, parent, found)
-        )
+        judge_as!(part, PlainUnit, items, id, parent, found)
     }
 }
 
@@ -47,11 +39,7 @@ impl Part for LengthUnit {
     ghost classes = { kinds.LengthUnit ∷ [] };
 
     fn judge(items: &Items<'_>, id: ItemId, parent: Class, found: &mut Found) -> Option<bool> {
-        row!(
-            LengthUnit,
-            judge,
-            (part, LengthUnit, items, id, parent, found)
-        )
+        judge_as!(part, LengthUnit, items, id, parent, found)
     }
 }
 
@@ -62,11 +50,7 @@ impl Part for AngleUnit {
     ghost classes = { kinds.AngleUnit ∷ [] };
 
     fn judge(items: &Items<'_>, id: ItemId, parent: Class, found: &mut Found) -> Option<bool> {
-        row!(
-            AngleUnit,
-            judge,
-            (part, AngleUnit, items, id, parent, found)
-        )
+        judge_as!(part, AngleUnit, items, id, parent, found)
     }
 }
 
@@ -77,11 +61,7 @@ impl Part for ScaleUnit {
     ghost classes = { kinds.ScaleUnit ∷ [] };
 
     fn judge(items: &Items<'_>, id: ItemId, parent: Class, found: &mut Found) -> Option<bool> {
-        row!(
-            ScaleUnit,
-            judge,
-            (part, ScaleUnit, items, id, parent, found)
-        )
+        judge_as!(part, ScaleUnit, items, id, parent, found)
     }
 }
 
@@ -92,7 +72,7 @@ impl Part for AxisUnit {
     ghost classes = { kinds.AxisUnit ∷ [] };
 
     fn judge(items: &Items<'_>, id: ItemId, parent: Class, found: &mut Found) -> Option<bool> {
-        row!(AxisUnit, judge, (part, AxisUnit, items, id, parent, found))
+        judge_as!(part, AxisUnit, items, id, parent, found)
     }
 }
 
@@ -103,7 +83,7 @@ impl Part for Member {
     ghost classes = { kinds.Member ∷ [] };
 
     fn judge(items: &Items<'_>, id: ItemId, parent: Class, found: &mut Found) -> Option<bool> {
-        row!(Member, judge, (part, Member, items, id, parent, found))
+        judge_as!(part, Member, items, id, parent, found)
     }
 }
 
@@ -114,11 +94,7 @@ impl Part for GeoidModel {
     ghost classes = { kinds.GeoidModel ∷ [] };
 
     fn judge(items: &Items<'_>, id: ItemId, parent: Class, found: &mut Found) -> Option<bool> {
-        row!(
-            GeoidModel,
-            judge,
-            (part, GeoidModel, items, id, parent, found)
-        )
+        judge_as!(part, GeoidModel, items, id, parent, found)
     }
 }
 
@@ -129,11 +105,7 @@ impl Part for DeformationModel {
     ghost classes = { kinds.DeformationModel ∷ [] };
 
     fn judge(items: &Items<'_>, id: ItemId, parent: Class, found: &mut Found) -> Option<bool> {
-        row!(
-            DeformationModel,
-            judge,
-            (part, DeformationModel, items, id, parent, found)
-        )
+        judge_as!(part, DeformationModel, items, id, parent, found)
     }
 }
 
@@ -144,7 +116,7 @@ impl Part for Method {
     ghost classes = { kinds.Method ∷ [] };
 
     fn judge(items: &Items<'_>, id: ItemId, parent: Class, found: &mut Found) -> Option<bool> {
-        row!(Method, judge, (part, Method, items, id, parent, found))
+        judge_as!(part, Method, items, id, parent, found)
     }
 }
 
@@ -155,11 +127,7 @@ impl Part for Parameter {
     ghost classes = { kinds.Parameter ∷ [] };
 
     fn judge(items: &Items<'_>, id: ItemId, parent: Class, found: &mut Found) -> Option<bool> {
-        row!(
-            Parameter,
-            judge,
-            (part, Parameter, items, id, parent, found)
-        )
+        judge_as!(part, Parameter, items, id, parent, found)
     }
 }
 
@@ -170,10 +138,6 @@ impl Part for Conversion {
     ghost classes = { kinds.Conversion ∷ [] };
 
     fn judge(items: &Items<'_>, id: ItemId, parent: Class, found: &mut Found) -> Option<bool> {
-        row!(
-            Conversion,
-            judge,
-            (part, Conversion, items, id, parent, found)
-        )
+        judge_as!(part, Conversion, items, id, parent, found)
     }
 }

@@ -62,9 +62,9 @@ fn node_judged<S: Slots>(
 // The same of any item, so that what isn't a node needs no call.
 #[inline(always)]
 pub(crate) fn judged<S: Slots>(
+    class: Class,
     items: &Items<'_>,
     id: ItemId,
-    class: Class,
     found: &mut Found,
 ) -> bool
     requires has { HasId items.now id }
@@ -159,9 +159,9 @@ fn whole(
 // Whether an item that may be a CRS of this class, which has a coordinate system, has no fault of shape as one; what it
 // breaks joins what was found.
 pub(crate) fn crs_judged<H: Front, T: Part>(
+    class: Class,
     items: &Items<'_>,
     id: ItemId,
-    class: Class,
     found: &mut Found,
 ) -> bool
     requires has { HasId items.now id }
@@ -188,10 +188,10 @@ pub(crate) fn crs_judged<H: Front, T: Part>(
 // An argument as one of a class without a coordinate system, which has these slots; None where it is of another.
 #[inline(always)]
 pub(crate) fn part<S: Slots>(
+    class: Class,
     items: &Items<'_>,
     id: ItemId,
     parent: Class,
-    class: Class,
     found: &mut Found,
 ) -> Option<bool>
     requires has { HasId items.now id }
@@ -203,16 +203,16 @@ pub(crate) fn part<S: Slots>(
     if !stands_as(items, id, parent, class) {
         return None;
     }
-    Some(judged::<S>(items, id, class, found))
+    Some(judged::<S>(class, items, id, found))
 }
 
 // An argument as a CRS of a class with a coordinate system; None where it is of another.
 #[inline(always)]
 pub(crate) fn crs<H: Front, T: Part>(
+    class: Class,
     items: &Items<'_>,
     id: ItemId,
     parent: Class,
-    class: Class,
     found: &mut Found,
 ) -> Option<bool>
     requires has { HasId items.now id }
@@ -226,5 +226,5 @@ pub(crate) fn crs<H: Front, T: Part>(
     if !stands_as(items, id, parent, class) {
         return None;
     }
-    Some(crs_judged::<H, T>(items, id, class, found))
+    Some(crs_judged::<H, T>(class, items, id, found))
 }

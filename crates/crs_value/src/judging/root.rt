@@ -15,32 +15,12 @@ use crate::judging::leaves::{Area, Remark, Scope, Text};
 use crate::judging::named::{AxisUnit, Conversion, GeoidModel, Identifier};
 use crate::judging::node::{crs_judged, judged};
 use crate::judging::slots::{
-    Any, Either, End, Found, One, OneOrMore, Optional, Then, chain, taken,
+    Any, Either, End, Found, One, OneOrMore, Optional, Then, chain, judge, judge_as, judge_crs,
+    taken,
 };
 use crate::judging::system::{Axis, BoundingBox, CoordinateSystem, Usage, VerticalExtent};
 use crs_shape::{Class, row};
 use crs_text::{ItemId, Items};
-
-// an item as one of a class, by the class's row
-macro_rules! judged {
-    (($how:ident, $class:ident, $items:ident, $id:ident, $found:ident) [$($keyword:ident),*] $($slots:tt)*) => {
-        $how::<chain!($($slots)*)>($items, $id, Class::$class, $found)
-    };
-}
-
-// the same of a CRS with a coordinate system
-macro_rules! crs_judged {
-    (($how:ident, $class:ident, $items:ident, $id:ident, $found:ident) [$($keyword:ident),*] $($slots:tt)*) => {
-        crs_judged!(@ ($how, $class, $items, $id, $found) [] $($slots)*)
-    };
-    (@ ($how:ident, $class:ident, $items:ident, $id:ident, $found:ident) [$($head:tt)*]
-        one(CoordinateSystem) some(Axis) optional(AxisUnit) any($($part:ident),+)) => {
-        $how::<chain!($($head)*), taken!($($part),+)>($items, $id, Class::$class, $found)
-    };
-    (@ $with:tt [$($head:tt)*] $count:ident $parts:tt $($slots:tt)*) => {
-        crs_judged!(@ $with [$($head)* $count $parts] $($slots)*)
-    };
-}
 
 // Whether a whole text has no fault of shape as a CRS of this class; what it breaks joins what was found.
 pub(crate) fn root_judged(items: &Items<'_>, id: ItemId, class: Class, found: &mut Found) -> bool
@@ -50,27 +30,11 @@ pub(crate) fn root_judged(items: &Items<'_>, id: ItemId, class: Class, found: &m
     ensures { Judged class (item_at items.now id) found.old result found.new }
 {
     match class {
-        Class::GeodeticCrs => row!(
-            GeodeticCrs,
-            crs_judged,
-            (crs_judged, GeodeticCrs, items, id, found)
-        ),
-        Class::GeographicCrs => row!(
-            GeographicCrs,
-            crs_judged,
-            (crs_judged, GeographicCrs, items, id, found)
-        ),
-        Class::ProjectedCrs => row!(
-            ProjectedCrs,
-            crs_judged,
-            (crs_judged, ProjectedCrs, items, id, found)
-        ),
-        Class::VerticalCrs => row!(
-            VerticalCrs,
-            crs_judged,
-            (crs_judged, VerticalCrs, items, id, found)
-        ),
-        Class::CompoundCrs => row!(CompoundCrs, judged, (judged, CompoundCrs, items, id, found)),
+        Class::GeodeticCrs => judge_as!(crs_judged, GeodeticCrs, items, id, found),
+        Class::GeographicCrs => judge_as!(crs_judged, GeographicCrs, items, id, found),
+        Class::ProjectedCrs => judge_as!(crs_judged, ProjectedCrs, items, id, found),
+        Class::VerticalCrs => judge_as!(crs_judged, VerticalCrs, items, id, found),
+        Class::CompoundCrs => judge_as!(judged, CompoundCrs, items, id, found),
         _ => unreachable!(),
     }
 }

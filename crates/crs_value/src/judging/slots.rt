@@ -25,29 +25,35 @@ macro_rules! chain {
     (some($($part:ident),+) $($slots:tt)*) => { Then<OneOrMore<taken!($($part),+)>, chain!($($slots)*)> };
 }
 
-// an argument as one of a class, by the class's row
+// an item as one of a class, by what the class's row says is given to a function
 macro_rules! judge {
-    (($how:ident, $class:ident, $items:ident, $id:ident, $parent:ident, $found:ident) [$($keyword:ident),*] $($slots:tt)*) => {
-        $how::<chain!($($slots)*)>($items, $id, $parent, Class::$class, $found)
+    (($how:ident, $class:ident, $($given:ident),+) [$($keyword:ident),*] $($slots:tt)*) => {
+        $how::<chain!($($slots)*)>(Class::$class, $($given),+)
     };
 }
 
 // the same of a CRS with a coordinate system, whose slots before that are told apart
 macro_rules! judge_crs {
-    (($how:ident, $class:ident, $items:ident, $id:ident, $parent:ident, $found:ident) [$($keyword:ident),*] $($slots:tt)*) => {
-        judge_crs!(@ ($how, $class, $items, $id, $parent, $found) [] $($slots)*)
-    };
-    (@ ($how:ident, $class:ident, $items:ident, $id:ident, $parent:ident, $found:ident) [$($head:tt)*]
+    ($with:tt [$($keyword:ident),*] $($slots:tt)*) => { judge_crs!(@ $with [] $($slots)*) };
+    (@ ($how:ident, $class:ident, $($given:ident),+) [$($head:tt)*]
         one(CoordinateSystem) some(Axis) optional(AxisUnit) any($($part:ident),+)) => {
-        $how::<chain!($($head)*), taken!($($part),+)>($items, $id, $parent, Class::$class, $found)
+        $how::<chain!($($head)*), taken!($($part),+)>(Class::$class, $($given),+)
     };
     (@ $with:tt [$($head:tt)*] $count:ident $parts:tt $($slots:tt)*) => {
         judge_crs!(@ $with [$($head)* $count $parts] $($slots)*)
     };
 }
 
+// an item as one of a class, by the class's row
+macro_rules! judge_as {
+    (crs, $class:ident, $($given:ident),+) => { row!($class, judge_crs, (crs, $class, $($given),+)) };
+    (crs_judged, $class:ident, $($given:ident),+) => { row!($class, judge_crs, (crs_judged, $class, $($given),+)) };
+    ($how:ident, $class:ident, $($given:ident),+) => { row!($class, judge, ($how, $class, $($given),+)) };
+}
+
 pub(crate) use chain;
 pub(crate) use judge;
+pub(crate) use judge_as;
 pub(crate) use judge_crs;
 pub(crate) use taken;
 

@@ -5,7 +5,9 @@ ghost use Rattle.crs_shape.specs.declared.class.Class.TheVariants as kinds;
 use crate::judging::leaves::{Area, Number, Order, Scope, Text, Word};
 use crate::judging::named::{AngleUnit, AxisUnit, Identifier, LengthUnit};
 use crate::judging::node::part;
-use crate::judging::slots::{Any, End, Found, One, Optional, Part, Then, chain, judge, taken};
+use crate::judging::slots::{
+    Any, End, Found, One, Optional, Part, Then, chain, judge, judge_as, taken,
+};
 use crs_shape::{Class, row};
 use crs_text::{ItemId, Items};
 
@@ -16,11 +18,7 @@ impl Part for CoordinateSystem {
     ghost classes = { kinds.CoordinateSystem ∷ [] };
 
     fn judge(items: &Items<'_>, id: ItemId, parent: Class, found: &mut Found) -> Option<bool> {
-        row!(
-            CoordinateSystem,
-            judge,
-            (part, CoordinateSystem, items, id, parent, found)
-        )
+        judge_as!(part, CoordinateSystem, items, id, parent, found)
     }
 }
 
@@ -31,11 +29,7 @@ impl Part for AxisMeridian {
     ghost classes = { kinds.AxisMeridian ∷ [] };
 
     fn judge(items: &Items<'_>, id: ItemId, parent: Class, found: &mut Found) -> Option<bool> {
-        row!(
-            AxisMeridian,
-            judge,
-            (part, AxisMeridian, items, id, parent, found)
-        )
+        judge_as!(part, AxisMeridian, items, id, parent, found)
     }
 }
 
@@ -46,7 +40,7 @@ impl Part for Axis {
     ghost classes = { kinds.Axis ∷ [] };
 
     fn judge(items: &Items<'_>, id: ItemId, parent: Class, found: &mut Found) -> Option<bool> {
-        row!(Axis, judge, (part, Axis, items, id, parent, found))
+        judge_as!(part, Axis, items, id, parent, found)
     }
 }
 
@@ -57,11 +51,7 @@ impl Part for BoundingBox {
     ghost classes = { kinds.BoundingBox ∷ [] };
 
     fn judge(items: &Items<'_>, id: ItemId, parent: Class, found: &mut Found) -> Option<bool> {
-        row!(
-            BoundingBox,
-            judge,
-            (part, BoundingBox, items, id, parent, found)
-        )
+        judge_as!(part, BoundingBox, items, id, parent, found)
     }
 }
 
@@ -72,11 +62,7 @@ impl Part for VerticalExtent {
     ghost classes = { kinds.VerticalExtent ∷ [] };
 
     fn judge(items: &Items<'_>, id: ItemId, parent: Class, found: &mut Found) -> Option<bool> {
-        row!(
-            VerticalExtent,
-            judge,
-            (part, VerticalExtent, items, id, parent, found)
-        )
+        judge_as!(part, VerticalExtent, items, id, parent, found)
     }
 }
 
@@ -87,6 +73,6 @@ impl Part for Usage {
     ghost classes = { kinds.Usage ∷ [] };
 
     fn judge(items: &Items<'_>, id: ItemId, parent: Class, found: &mut Found) -> Option<bool> {
-        row!(Usage, judge, (part, Usage, items, id, parent, found))
+        judge_as!(part, Usage, items, id, parent, found)
     }
 }
