@@ -10,6 +10,7 @@ pub mod Checks
 pub mod CompoundValues
 pub mod ConversionValues
 pub mod CrsValues
+pub mod Cursor
 pub mod DynamicValues
 pub mod EnsembleFrames
 pub mod FirstArguments

@@ -7,6 +7,7 @@ ghost use Rattle.crs_value.specs.Spells.{SpellsCrs, IsFaultOf, RefusesCrs};
 ghost use Rattle.crs_value.specs.SpellsText.{Spells, IsFaultOfText};
 
 use crate::judging::root::root_judged;
+use crate::reading::cursor::Cursor;
 use crate::reading::whole::{kind_of_root, read_crs};
 use crate::values::crs::{Crs, Kind};
 use crs_shape::{Class, class_at_root, misplaced};
@@ -52,7 +53,11 @@ pub fn kind_of(items: &Items<'_>) -> Result<Kind, Refusal>
     let root = items.root();
     items.formed(root);
     let class = judge(items)?;
-    Ok(kind_of_root(items, root, class))
+    Ok(kind_of_root(&Cursor {
+        items,
+        id: root,
+        class,
+    }))
 }
 
 /// The value that the items of a text spell, with the text's bytes borrowed.
@@ -68,7 +73,14 @@ pub fn value_of<'a>(alloc: Global, items: &Items<'a>) -> Result<Crs<'a>, Fault>
     let root = items.root();
     items.formed(root);
     match judge(items) {
-        Ok(class) => read_crs(alloc, items, root, class),
+        Ok(class) => read_crs(
+            alloc,
+            &Cursor {
+                items,
+                id: root,
+                class,
+            },
+        ),
         Err(refusal) => Err(Fault::Refused(refusal)),
     }
 }

@@ -1,10 +1,12 @@
 //! Axes.
-ghost use Rattle.crs_text.specs.Items.{HasId, arguments};
+ghost use Rattle.crs_text.specs.Items.{arguments};
+ghost use Rattle.crs_value.specs.Cursor.{item};
 ghost use Rattle.crs_value.specs.Checks.{IsSound};
-ghost use Rattle.crs_value.specs.Reading.{item_at, those, ReadsFirst};
+ghost use Rattle.crs_value.specs.Reading.{those, ReadsFirst};
 ghost use Rattle.crs_value.specs.Reads.{ReadsDirection};
 
-use crate::reading::node::{Node, many, number, one, optional, optional_number, required, text};
+use crate::reading::cursor::Cursor;
+use crate::reading::node::{Node, required};
 use crate::values::ident::Ident;
 use crate::values::key::Keyed;
 use crate::values::level::Level;
@@ -12,7 +14,6 @@ use crate::values::list::List;
 use crate::values::unit::Unit;
 use crs_decimal::Decimal;
 use crs_shape::{Class, Direction};
-use crs_text::{ItemId, Items};
 use std::alloc::{AllocError, Global};
 use std::marker::Model;
 
@@ -104,15 +105,10 @@ impl<'a> Node<'a> for AxisMeridian<'a> {
 
     ghost Reads = { λ c item parts. ReadsAxisMeridian c item parts };
 
-    fn read(
-        alloc: Global,
-        items: &Items<'a>,
-        id: ItemId,
-        class: Class,
-    ) -> Result<Self, AllocError> {
+    fn read(alloc: Global, node: &Cursor<'_, 'a>) -> Result<Self, AllocError> {
         Ok(AxisMeridian {
-            longitude: number(items, id, class),
-            unit: one(alloc, items, id, class, Class::AngleUnit)?,
+            longitude: node.number(),
+            unit: node.one(alloc, Class::AngleUnit)?,
         })
     }
 }
@@ -126,19 +122,14 @@ impl<'a> Node<'a> for Axis<'a> {
 
     ghost Reads = { λ c item parts. ReadsAxis c item parts };
 
-    fn read(
-        alloc: Global,
-        items: &Items<'a>,
-        id: ItemId,
-        class: Class,
-    ) -> Result<Self, AllocError> {
+    fn read(alloc: Global, node: &Cursor<'_, 'a>) -> Result<Self, AllocError> {
         Ok(Axis {
-            name: text(items, id, class),
-            direction: direction(items, id),
-            meridian: optional(alloc, items, id, class, Class::AxisMeridian)?,
-            order: optional_number(items, id, class, Class::Order),
-            unit: optional(alloc, items, id, class, Class::AxisUnit)?,
-            identifiers: many(alloc, items, id, class, Class::Identifier)?,
+            name: node.text(),
+            direction: direction(node),
+            meridian: node.optional(alloc, Class::AxisMeridian)?,
+            order: node.optional_number(Class::Order),
+            unit: node.optional(alloc, Class::AxisUnit)?,
+            identifiers: node.many(alloc, Class::Identifier)?,
         })
     }
 }
@@ -150,13 +141,12 @@ impl Keyed for Axis<'_> {
     }
 }
 
-fn direction(items: &Items<'_>, id: ItemId) -> Direction
-    requires has { HasId items.now id }
-    requires sound { IsSound Class.Axis (item_at items.now id) }
-    ensures { ReadsFirst ReadsDirection (those Class.Axis Class.Word (arguments
-        (item_at items.now id))) result }
+fn direction(node: &Cursor<'_, '_>) -> Direction
+    requires sound { IsSound Class.Axis (item node.now) }
+    ensures { ReadsFirst ReadsDirection (those Class.Axis Class.Word (arguments (item node.now))) result }
 {
-    let word = required(items, id, Class::Axis, Class::Word);
+    let items = node.items;
+    let word = required(items, node.id, Class::Axis, Class::Word);
     match Direction::read(items.raw(word)) {
         Some(direction) => direction,
         None => unreachable!(),

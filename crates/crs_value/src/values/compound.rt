@@ -1,19 +1,18 @@
 //! Compound CRSs.
 ghost use Rattle.std.specs.Prelude.{IfOk};
-ghost use Rattle.crs_text.specs.Items.{HasId};
+ghost use Rattle.crs_value.specs.Cursor.{item};
 ghost use Rattle.crs_value.specs.Checks.{IsSound};
-ghost use Rattle.crs_value.specs.Reading.{item_at};
 ghost use Rattle.crs_value.specs.ReadsCrs.{ReadsHorizontal};
 
 use crate::reading::arguments::first;
+use crate::reading::cursor::Cursor;
 use crate::reading::firsts::firsts_of;
-use crate::reading::node::{Node, one, text};
+use crate::reading::node::Node;
 use crate::values::geodetic::{Geodetic, read_geodetic};
 use crate::values::projected::Projected;
 use crate::values::usage::{Tail, read_tail};
 use crate::values::vertical::Vertical;
 use crs_shape::{Class, laws};
-use crs_text::{ItemId, Items};
 use std::alloc::{AllocError, Global};
 use std::marker::Model;
 
@@ -77,26 +76,25 @@ impl Drop for Compound<'_> {
 }
 
 // The horizontal part of a compound CRS.
-fn read_horizontal<'a>(
-    alloc: Global,
-    items: &Items<'a>,
-    id: ItemId,
-) -> Result<Horizontal<'a>, AllocError>
-    requires has { HasId items.now id }
-    requires sound { IsSound Class.CompoundCrs (item_at items.now id) }
-    ensures { IfOk result (λ value. ReadsHorizontal Class.CompoundCrs (item_at items.now id) value) }
+fn read_horizontal<'a>(alloc: Global, node: &Cursor<'_, 'a>) -> Result<Horizontal<'a>, AllocError>
+    requires sound { IsSound Class.CompoundCrs (item node.now) }
+    ensures { IfOk result (λ value. ReadsHorizontal Class.CompoundCrs (item node.now) value) }
 {
     laws::slots_count();
-    if let Some(found) = first(items, id, Class::CompoundCrs, Class::GeodeticCrs) {
-        return read_geodetic(alloc, items, found, Class::GeodeticCrs).map(Horizontal::Geodetic);
+    let items = node.items;
+    let class = Class::GeodeticCrs;
+    if let Some(id) = first(items, node.id, Class::CompoundCrs, class) {
+        return read_geodetic(alloc, &Cursor { items, id, class }).map(Horizontal::Geodetic);
     }
-    if let Some(found) = first(items, id, Class::CompoundCrs, Class::GeographicCrs) {
-        return read_geodetic(alloc, items, found, Class::GeographicCrs).map(Horizontal::Geodetic);
+    let class = Class::GeographicCrs;
+    if let Some(id) = first(items, node.id, Class::CompoundCrs, class) {
+        return read_geodetic(alloc, &Cursor { items, id, class }).map(Horizontal::Geodetic);
     }
-    let Some(found) = first(items, id, Class::CompoundCrs, Class::ProjectedCrs) else {
+    let class = Class::ProjectedCrs;
+    let Some(id) = first(items, node.id, Class::CompoundCrs, class) else {
         unreachable!()
     };
-    Projected::read(alloc, items, found, Class::ProjectedCrs).map(Horizontal::Projected)
+    Projected::read(alloc, &Cursor { items, id, class }).map(Horizontal::Projected)
 }
 
 impl<'a> Node<'a> for Compound<'a> {
@@ -108,19 +106,14 @@ impl<'a> Node<'a> for Compound<'a> {
 
     ghost Reads = { λ c item parts. ReadsCompound c item parts };
 
-    fn read(
-        alloc: Global,
-        items: &Items<'a>,
-        id: ItemId,
-        class: Class,
-    ) -> Result<Self, AllocError> {
+    fn read(alloc: Global, node: &Cursor<'_, 'a>) -> Result<Self, AllocError> {
         laws::slots_count();
-        let firsts = firsts_of(items, id, class);
+        let firsts = firsts_of(node.items, node.id, node.class);
         Ok(Compound {
-            name: text(items, id, class),
-            horizontal: read_horizontal(alloc, items, id)?,
-            vertical: one(alloc, items, id, class, Class::VerticalCrs)?,
-            tail: read_tail(alloc, items, id, class, &firsts)?,
+            name: node.text(),
+            horizontal: read_horizontal(alloc, node)?,
+            vertical: node.one(alloc, Class::VerticalCrs)?,
+            tail: read_tail(alloc, node, &firsts)?,
         })
     }
 }

@@ -1,12 +1,12 @@
 //! Conversions: their method and parameters.
 ghost use Rattle.std.specs.Prelude.{IfOk};
-ghost use Rattle.crs_text.specs.Items.{HasId};
+ghost use Rattle.crs_value.specs.Cursor.{item};
 ghost use Rattle.crs_value.specs.Checks.{IsSound};
-ghost use Rattle.crs_value.specs.Reading.{item_at};
 ghost use Rattle.crs_value.specs.ReadsConversion.{ReadsUnitOf, parameter_units};
 
 use crate::reading::arguments::first;
-use crate::reading::node::{Node, many, number, one, text};
+use crate::reading::cursor::Cursor;
+use crate::reading::node::Node;
 use crate::values::ident::Ident;
 use crate::values::key::{Key, Keyed};
 use crate::values::level::Level;
@@ -14,7 +14,6 @@ use crate::values::list::List;
 use crate::values::unit::Unit;
 use crs_decimal::Decimal;
 use crs_shape::Class;
-use crs_text::{ItemId, Items};
 use std::alloc::{AllocError, Global};
 use std::marker::Model;
 
@@ -128,18 +127,14 @@ const PARAMETER_UNITS: [Class; 4] = [
 ];
 
 // The unit of a parameter, of whichever class.
-fn parameter_unit<'a>(
-    alloc: Global,
-    items: &Items<'a>,
-    id: ItemId,
-) -> Result<Option<Unit<'a>>, AllocError>
-    requires has { HasId items.now id }
-    requires sound { IsSound Class.Parameter (item_at items.now id) }
-    ensures { IfOk result (λ unit. ReadsUnitOf parameter_units Class.Parameter (item_at items.now id) unit) }
+fn parameter_unit<'a>(alloc: Global, node: &Cursor<'_, 'a>) -> Result<Option<Unit<'a>>, AllocError>
+    requires sound { IsSound Class.Parameter (item node.now) }
+    ensures { IfOk result (λ unit. ReadsUnitOf parameter_units Class.Parameter (item node.now) unit) }
 {
+    let items = node.items;
     for class in PARAMETER_UNITS {
-        if let Some(found) = first(items, id, Class::Parameter, class) {
-            return Ok(Some(Unit::read(alloc, items, found, class)?));
+        if let Some(id) = first(items, node.id, Class::Parameter, class) {
+            return Ok(Some(Unit::read(alloc, &Cursor { items, id, class })?));
         }
     }
     Ok(None)
@@ -154,17 +149,12 @@ impl<'a> Node<'a> for Conversion<'a> {
 
     ghost Reads = { λ c item parts. ReadsConversion c item parts };
 
-    fn read(
-        alloc: Global,
-        items: &Items<'a>,
-        id: ItemId,
-        class: Class,
-    ) -> Result<Self, AllocError> {
+    fn read(alloc: Global, node: &Cursor<'_, 'a>) -> Result<Self, AllocError> {
         Ok(Conversion {
-            name: text(items, id, class),
-            method: one(alloc, items, id, class, Class::Method)?,
-            parameters: many(alloc, items, id, class, Class::Parameter)?,
-            identifiers: many(alloc, items, id, class, Class::Identifier)?,
+            name: node.text(),
+            method: node.one(alloc, Class::Method)?,
+            parameters: node.many(alloc, Class::Parameter)?,
+            identifiers: node.many(alloc, Class::Identifier)?,
         })
     }
 }
@@ -178,15 +168,10 @@ impl<'a> Node<'a> for Method<'a> {
 
     ghost Reads = { λ c item parts. ReadsNamed c item parts };
 
-    fn read(
-        alloc: Global,
-        items: &Items<'a>,
-        id: ItemId,
-        class: Class,
-    ) -> Result<Self, AllocError> {
+    fn read(alloc: Global, node: &Cursor<'_, 'a>) -> Result<Self, AllocError> {
         Ok(Method {
-            name: text(items, id, class),
-            identifiers: many(alloc, items, id, class, Class::Identifier)?,
+            name: node.text(),
+            identifiers: node.many(alloc, Class::Identifier)?,
         })
     }
 }
@@ -200,17 +185,12 @@ impl<'a> Node<'a> for Parameter<'a> {
 
     ghost Reads = { λ c item parts. ReadsParameter c item parts };
 
-    fn read(
-        alloc: Global,
-        items: &Items<'a>,
-        id: ItemId,
-        class: Class,
-    ) -> Result<Self, AllocError> {
+    fn read(alloc: Global, node: &Cursor<'_, 'a>) -> Result<Self, AllocError> {
         Ok(Parameter {
-            name: text(items, id, class),
-            value: number(items, id, class),
-            unit: parameter_unit(alloc, items, id)?,
-            identifiers: many(alloc, items, id, class, Class::Identifier)?,
+            name: node.text(),
+            value: node.number(),
+            unit: parameter_unit(alloc, node)?,
+            identifiers: node.many(alloc, Class::Identifier)?,
         })
     }
 }

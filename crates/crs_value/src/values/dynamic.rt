@@ -1,11 +1,11 @@
 //! What dynamic frames say.
 
-use crate::reading::node::{Node, many, one_number, optional, text};
+use crate::reading::cursor::Cursor;
+use crate::reading::node::Node;
 use crate::values::ident::Ident;
 use crate::values::list::List;
 use crs_decimal::Decimal;
 use crs_shape::{Class, laws};
-use crs_text::{ItemId, Items};
 use std::alloc::{AllocError, Global};
 use std::marker::Model;
 
@@ -73,16 +73,11 @@ impl<'a> Node<'a> for Dynamic<'a> {
 
     ghost Reads = { λ c item parts. ReadsDynamic c item parts };
 
-    fn read(
-        alloc: Global,
-        items: &Items<'a>,
-        id: ItemId,
-        class: Class,
-    ) -> Result<Self, AllocError> {
+    fn read(alloc: Global, node: &Cursor<'_, 'a>) -> Result<Self, AllocError> {
         laws::slots_count();
         Ok(Dynamic {
-            epoch: one_number(items, id, class, Class::FrameEpoch),
-            model: optional(alloc, items, id, class, Class::DeformationModel)?,
+            epoch: node.one_number(Class::FrameEpoch),
+            model: node.optional(alloc, Class::DeformationModel)?,
         })
     }
 }
@@ -96,15 +91,10 @@ impl<'a> Node<'a> for DeformationModel<'a> {
 
     ghost Reads = { λ c item parts. ReadsNamed c item parts };
 
-    fn read(
-        alloc: Global,
-        items: &Items<'a>,
-        id: ItemId,
-        class: Class,
-    ) -> Result<Self, AllocError> {
+    fn read(alloc: Global, node: &Cursor<'_, 'a>) -> Result<Self, AllocError> {
         Ok(DeformationModel {
-            name: text(items, id, class),
-            identifiers: many(alloc, items, id, class, Class::Identifier)?,
+            name: node.text(),
+            identifiers: node.many(alloc, Class::Identifier)?,
         })
     }
 }

@@ -1,12 +1,12 @@
 //! Ellipsoids.
 
-use crate::reading::node::{Node, many, number_at, optional, text};
+use crate::reading::cursor::Cursor;
+use crate::reading::node::Node;
 use crate::values::ident::Ident;
 use crate::values::list::List;
 use crate::values::unit::Unit;
 use crs_decimal::Decimal;
 use crs_shape::Class;
-use crs_text::{ItemId, Items};
 use std::alloc::{AllocError, Global};
 use std::marker::Model;
 
@@ -64,18 +64,13 @@ impl<'a> Node<'a> for Ellipsoid<'a> {
 
     ghost Reads = { λ c item parts. ReadsEllipsoid c item parts };
 
-    fn read(
-        alloc: Global,
-        items: &Items<'a>,
-        id: ItemId,
-        class: Class,
-    ) -> Result<Self, AllocError> {
+    fn read(alloc: Global, node: &Cursor<'_, 'a>) -> Result<Self, AllocError> {
         Ok(Ellipsoid {
-            name: text(items, id, class),
-            semi_major_axis: number_at(items, id, class, 0),
-            inverse_flattening: number_at(items, id, class, 1),
-            unit: optional(alloc, items, id, class, Class::LengthUnit)?,
-            identifiers: many(alloc, items, id, class, Class::Identifier)?,
+            name: node.text(),
+            semi_major_axis: node.number_at(0),
+            inverse_flattening: node.number_at(1),
+            unit: node.optional(alloc, Class::LengthUnit)?,
+            identifiers: node.many(alloc, Class::Identifier)?,
         })
     }
 }

@@ -2,9 +2,8 @@
 ghost use Rattle.std.specs.Prelude.{◌≡◌};
 ghost use Rattle.crs_value.specs.EnsembleFrames.{datum_of, frame_of};
 
-use crate::reading::node::{
-    Node, many, one_number, optional, optional_number, optional_text, text,
-};
+use crate::reading::cursor::Cursor;
+use crate::reading::node::Node;
 use crate::values::ellipsoid::Ellipsoid;
 use crate::values::ident::Ident;
 use crate::values::key::{Keyed, key_of_named};
@@ -12,7 +11,6 @@ use crate::values::level::Level;
 use crate::values::list::List;
 use crs_decimal::Decimal;
 use crs_shape::{Class, laws};
-use crs_text::{ItemId, Items};
 use std::alloc::{AllocError, Global};
 use std::marker::Model;
 use std::mem;
@@ -220,18 +218,13 @@ impl<'a> Node<'a> for Datum<'a> {
 
     ghost Reads = { λ c item parts. ReadsDatum c item parts };
 
-    fn read(
-        alloc: Global,
-        items: &Items<'a>,
-        id: ItemId,
-        class: Class,
-    ) -> Result<Self, AllocError> {
+    fn read(alloc: Global, node: &Cursor<'_, 'a>) -> Result<Self, AllocError> {
         Ok(Datum {
-            name: text(items, id, class),
-            ellipsoid: optional(alloc, items, id, class, Class::Ellipsoid)?,
-            anchor: optional_text(items, id, class, Class::Anchor),
-            anchor_epoch: optional_number(items, id, class, Class::AnchorEpoch),
-            identifiers: many(alloc, items, id, class, Class::Identifier)?,
+            name: node.text(),
+            ellipsoid: node.optional(alloc, Class::Ellipsoid)?,
+            anchor: node.optional_text(Class::Anchor),
+            anchor_epoch: node.optional_number(Class::AnchorEpoch),
+            identifiers: node.many(alloc, Class::Identifier)?,
         })
     }
 }
@@ -246,19 +239,14 @@ impl<'a> Node<'a> for Ensemble<'a> {
 
     ghost Reads = { λ c item parts. ReadsEnsemble c item parts };
 
-    fn read(
-        alloc: Global,
-        items: &Items<'a>,
-        id: ItemId,
-        class: Class,
-    ) -> Result<Self, AllocError> {
+    fn read(alloc: Global, node: &Cursor<'_, 'a>) -> Result<Self, AllocError> {
         laws::slots_count();
         Ok(Ensemble {
-            name: text(items, id, class),
-            members: many(alloc, items, id, class, Class::Member)?,
-            ellipsoid: optional(alloc, items, id, class, Class::Ellipsoid)?,
-            accuracy: one_number(items, id, class, Class::EnsembleAccuracy),
-            identifiers: many(alloc, items, id, class, Class::Identifier)?,
+            name: node.text(),
+            members: node.many(alloc, Class::Member)?,
+            ellipsoid: node.optional(alloc, Class::Ellipsoid)?,
+            accuracy: node.one_number(Class::EnsembleAccuracy),
+            identifiers: node.many(alloc, Class::Identifier)?,
         })
     }
 }
@@ -272,15 +260,10 @@ impl<'a> Node<'a> for Member<'a> {
 
     ghost Reads = { λ c item parts. ReadsNamed c item parts };
 
-    fn read(
-        alloc: Global,
-        items: &Items<'a>,
-        id: ItemId,
-        class: Class,
-    ) -> Result<Self, AllocError> {
+    fn read(alloc: Global, node: &Cursor<'_, 'a>) -> Result<Self, AllocError> {
         Ok(Member {
-            name: text(items, id, class),
-            identifiers: many(alloc, items, id, class, Class::Identifier)?,
+            name: node.text(),
+            identifiers: node.many(alloc, Class::Identifier)?,
         })
     }
 }

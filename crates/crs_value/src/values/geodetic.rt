@@ -1,12 +1,11 @@
 //! Geodetic and geographic CRSs.
 ghost use Rattle.std.specs.Prelude.{IfOk};
-ghost use Rattle.crs_text.specs.Items.{HasId};
+ghost use Rattle.crs_value.specs.Cursor.{item};
 ghost use Rattle.crs_value.specs.Checks.{IsSound};
-ghost use Rattle.crs_value.specs.Reading.{item_at};
 ghost use Rattle.crs_value.specs.ReadsCrs.{IsGeodeticClass, ReadsGeodetic};
 
+use crate::reading::cursor::Cursor;
 use crate::reading::firsts::firsts_of;
-use crate::reading::node::{Node, optional, optional_from, text};
 use crate::values::crs_frame::geodetic_frame;
 use crate::values::dynamic::Dynamic;
 use crate::values::frame::Frame;
@@ -14,7 +13,6 @@ use crate::values::meridian::Meridian;
 use crate::values::system::{System, read_system};
 use crate::values::usage::{Tail, read_tail};
 use crs_shape::{Class, laws};
-use crs_text::{ItemId, Items};
 use std::alloc::{AllocError, Global};
 use std::marker::Model;
 
@@ -70,23 +68,20 @@ impl Drop for Geodetic<'_> {
 // The value of a geodetic or geographic CRS.
 pub(crate) fn read_geodetic<'a>(
     alloc: Global,
-    items: &Items<'a>,
-    id: ItemId,
-    class: Class,
+    node: &Cursor<'_, 'a>,
 ) -> Result<Geodetic<'a>, AllocError>
-    requires has { HasId items.now id }
-    requires sound { IsSound class (item_at items.now id) }
-    requires class { IsGeodeticClass class }
-    ensures { IfOk result (λ value. ReadsGeodetic class (item_at items.now id) value) }
+    requires sound { IsSound node.now.class (item node.now) }
+    requires class { IsGeodeticClass node.now.class }
+    ensures { IfOk result (λ value. ReadsGeodetic node.now.class (item node.now) value) }
 {
     laws::slots_count();
-    let firsts = firsts_of(items, id, class);
+    let firsts = firsts_of(node.items, node.id, node.class);
     Ok(Geodetic {
-        name: text(items, id, class),
-        dynamic: optional_from(alloc, items, id, class, Class::Dynamic, firsts.dynamic)?,
-        frame: geodetic_frame(alloc, items, id, class)?,
-        meridian: optional(alloc, items, id, class, Class::PrimeMeridian)?,
-        system: read_system(alloc, items, id, class, &firsts)?,
-        tail: read_tail(alloc, items, id, class, &firsts)?,
+        name: node.text(),
+        dynamic: node.optional_from(alloc, Class::Dynamic, firsts.dynamic)?,
+        frame: geodetic_frame(alloc, node)?,
+        meridian: node.optional(alloc, Class::PrimeMeridian)?,
+        system: read_system(alloc, node, &firsts)?,
+        tail: read_tail(alloc, node, &firsts)?,
     })
 }

@@ -1,18 +1,20 @@
 //! Identifiers.
 ghost use Rattle.std.specs.Prelude.{◌≡◌, IsTrue, IfOk};
 ghost use Rattle.std.specs.Option.{option_copied};
-ghost use Rattle.crs_text.specs.Items.{HasId, arguments, skip};
+ghost use Rattle.crs_text.specs.Items.{arguments, skip};
+ghost use Rattle.crs_value.specs.Cursor.{item};
 ghost use Rattle.crs_value.specs.Checks.{IsSound};
 ghost use Rattle.crs_value.specs.Members.{HaveSameMembers, IsIn};
-ghost use Rattle.crs_value.specs.Reading.{item_at, ReadsFirst, ReadsOptional};
+ghost use Rattle.crs_value.specs.Reading.{ReadsFirst, ReadsOptional};
 ghost use Rattle.crs_value.specs.Reads.{ReadsText, single_of};
 
-use crate::reading::node::{Node, optional_text, text};
+use crate::reading::cursor::Cursor;
+use crate::reading::node::Node;
 use crate::values::key::{Keyed, key_of_ident};
 use crate::values::level::Level;
 use crate::values::places::Places;
 use crs_shape::Class;
-use crs_text::{ItemId, ItemKind, Items};
+use crs_text::ItemKind;
 use std::alloc::{AllocError, Global};
 use std::marker::Model;
 
@@ -51,24 +53,23 @@ impl<'a> Model for Ident<'a> {
 }
 
 // What is at this place among the arguments, if that is no node.
-fn single<'a>(items: &Items<'a>, id: ItemId, k: usize) -> Option<&'a [u8]>
-    requires { HasId items.now id }
-    ensures { ReadsOptional ReadsText (single_of (skip k (arguments (item_at items.now id))))
+fn single<'a>(node: &Cursor<'_, 'a>, k: usize) -> Option<&'a [u8]>
+    ensures { ReadsOptional ReadsText (single_of (skip k (arguments (item node.now))))
         (option_copied result) }
 {
-    let found = items.arg(id, k)?;
+    let items = node.items;
+    let found = items.arg(node.id, k)?;
     match items.kind(found) {
         ItemKind::Number | ItemKind::Text | ItemKind::Word => Some(items.raw(found)),
         ItemKind::Node => None,
     }
 }
 
-fn code<'a>(items: &Items<'a>, id: ItemId) -> &'a [u8]
-    requires has { HasId items.now id }
-    requires sound { IsSound Class.Identifier (item_at items.now id) }
-    ensures { ReadsFirst ReadsText (single_of (skip 1 (arguments (item_at items.now id)))) result.now }
+fn code<'a>(node: &Cursor<'_, 'a>) -> &'a [u8]
+    requires sound { IsSound Class.Identifier (item node.now) }
+    ensures { ReadsFirst ReadsText (single_of (skip 1 (arguments (item node.now)))) result.now }
 {
-    match single(items, id, 1) {
+    match single(node, 1) {
         Some(code) => code,
         None => unreachable!(),
     }
@@ -83,18 +84,13 @@ impl<'a> Node<'a> for Ident<'a> {
 
     ghost Reads = { λ c item parts. ReadsIdent c item parts };
 
-    fn read(
-        _alloc: Global,
-        items: &Items<'a>,
-        id: ItemId,
-        class: Class,
-    ) -> Result<Self, AllocError> {
+    fn read(_alloc: Global, node: &Cursor<'_, 'a>) -> Result<Self, AllocError> {
         Ok(Ident {
-            authority: text(items, id, class),
-            code: code(items, id),
-            version: single(items, id, 2),
-            citation: optional_text(items, id, class, Class::Citation),
-            uri: optional_text(items, id, class, Class::Uri),
+            authority: node.text(),
+            code: code(node),
+            version: single(node, 2),
+            citation: node.optional_text(Class::Citation),
+            uri: node.optional_text(Class::Uri),
         })
     }
 }

@@ -1,12 +1,12 @@
 //! Prime meridians.
 
-use crate::reading::node::{Node, many, number, optional, text};
+use crate::reading::cursor::Cursor;
+use crate::reading::node::Node;
 use crate::values::ident::Ident;
 use crate::values::list::List;
 use crate::values::unit::Unit;
 use crs_decimal::Decimal;
 use crs_shape::Class;
-use crs_text::{ItemId, Items};
 use std::alloc::{AllocError, Global};
 use std::marker::Model;
 
@@ -55,17 +55,12 @@ impl<'a> Node<'a> for Meridian<'a> {
 
     ghost Reads = { λ c item parts. ReadsMeridian c item parts };
 
-    fn read(
-        alloc: Global,
-        items: &Items<'a>,
-        id: ItemId,
-        class: Class,
-    ) -> Result<Self, AllocError> {
+    fn read(alloc: Global, node: &Cursor<'_, 'a>) -> Result<Self, AllocError> {
         Ok(Meridian {
-            name: text(items, id, class),
-            longitude: number(items, id, class),
-            unit: optional(alloc, items, id, class, Class::AngleUnit)?,
-            identifiers: many(alloc, items, id, class, Class::Identifier)?,
+            name: node.text(),
+            longitude: node.number(),
+            unit: node.optional(alloc, Class::AngleUnit)?,
+            identifiers: node.many(alloc, Class::Identifier)?,
         })
     }
 }

@@ -1,7 +1,8 @@
 //! Projected CRSs and their base CRSs.
 
+use crate::reading::cursor::Cursor;
 use crate::reading::firsts::firsts_of;
-use crate::reading::node::{Node, many, one, optional, text};
+use crate::reading::node::Node;
 use crate::values::conversion::Conversion;
 use crate::values::crs_frame::geodetic_frame;
 use crate::values::dynamic::Dynamic;
@@ -13,7 +14,6 @@ use crate::values::system::{System, read_system};
 use crate::values::unit::Unit;
 use crate::values::usage::{Tail, read_tail};
 use crs_shape::{Class, laws};
-use crs_text::{ItemId, Items};
 use std::alloc::{AllocError, Global};
 use std::marker::Model;
 
@@ -120,20 +120,15 @@ impl<'a> Node<'a> for Projected<'a> {
 
     ghost Reads = { λ c item parts. ReadsProjected c item parts };
 
-    fn read(
-        alloc: Global,
-        items: &Items<'a>,
-        id: ItemId,
-        class: Class,
-    ) -> Result<Self, AllocError> {
+    fn read(alloc: Global, node: &Cursor<'_, 'a>) -> Result<Self, AllocError> {
         laws::slots_count();
-        let firsts = firsts_of(items, id, class);
+        let firsts = firsts_of(node.items, node.id, node.class);
         Ok(Projected {
-            name: text(items, id, class),
-            base: one(alloc, items, id, class, Class::BaseCrs)?,
-            conversion: one(alloc, items, id, class, Class::Conversion)?,
-            system: read_system(alloc, items, id, class, &firsts)?,
-            tail: read_tail(alloc, items, id, class, &firsts)?,
+            name: node.text(),
+            base: node.one(alloc, Class::BaseCrs)?,
+            conversion: node.one(alloc, Class::Conversion)?,
+            system: read_system(alloc, node, &firsts)?,
+            tail: read_tail(alloc, node, &firsts)?,
         })
     }
 }
@@ -147,20 +142,15 @@ impl<'a> Node<'a> for Base<'a> {
 
     ghost Reads = { λ c item parts. ReadsBase c item parts };
 
-    fn read(
-        alloc: Global,
-        items: &Items<'a>,
-        id: ItemId,
-        class: Class,
-    ) -> Result<Self, AllocError> {
+    fn read(alloc: Global, node: &Cursor<'_, 'a>) -> Result<Self, AllocError> {
         laws::slots_count();
         Ok(Base {
-            name: text(items, id, class),
-            dynamic: optional(alloc, items, id, class, Class::Dynamic)?,
-            frame: geodetic_frame(alloc, items, id, class)?,
-            meridian: optional(alloc, items, id, class, Class::PrimeMeridian)?,
-            unit: optional(alloc, items, id, class, Class::AngleUnit)?,
-            identifiers: many(alloc, items, id, class, Class::Identifier)?,
+            name: node.text(),
+            dynamic: node.optional(alloc, Class::Dynamic)?,
+            frame: geodetic_frame(alloc, node)?,
+            meridian: node.optional(alloc, Class::PrimeMeridian)?,
+            unit: node.optional(alloc, Class::AngleUnit)?,
+            identifiers: node.many(alloc, Class::Identifier)?,
         })
     }
 }

@@ -2,14 +2,16 @@
 ghost use Rattle.std.specs.Prelude.{◌≡◌, IfOk};
 ghost use Rattle.std.specs.Option.{option_copied};
 ghost use Rattle.crs_text.specs.Items.{HasId, arguments};
+ghost use Rattle.crs_value.specs.Cursor.{item};
 ghost use Rattle.crs_value.specs.Checks.{IsSound, HasSystem};
 ghost use Rattle.crs_value.specs.FirstArguments.{AreFirsts};
 ghost use Rattle.crs_value.specs.Reading.{item_at, those, Requires, ReadsFirst};
 ghost use Rattle.crs_value.specs.Reads.{HasType, ReadsType, ReadsSystem};
 ghost use Rattle.crs_value.specs.SoundSystem.{own_or};
 
+use crate::reading::cursor::Cursor;
 use crate::reading::firsts::Firsts;
-use crate::reading::node::{many, many_from, number, optional_from, required};
+use crate::reading::node::{Node, required};
 use crate::values::axis::Axis;
 use crate::values::ident::Ident;
 use crate::values::list::List;
@@ -91,43 +93,40 @@ fn system_type(items: &Items<'_>, id: ItemId) -> SystemType
 }
 
 // The type of the system of a CRS of this class.
-pub(crate) fn system_type_of(items: &Items<'_>, id: ItemId, class: Class) -> SystemType
-    requires has { HasId items.now id }
-    requires sound { IsSound class (item_at items.now id) }
-    requires there { Requires class Class.CoordinateSystem 0 }
-    ensures { ReadsFirst HasType (those class Class.CoordinateSystem (arguments (item_at items.now id))) result }
+pub(crate) fn system_type_of(node: &Cursor<'_, '_>) -> SystemType
+    requires sound { IsSound node.now.class (item node.now) }
+    requires there { Requires node.now.class Class.CoordinateSystem 0 }
+    ensures { ReadsFirst HasType (those node.now.class Class.CoordinateSystem (arguments (item node.now))) result }
 {
-    system_type(items, required(items, id, class, Class::CoordinateSystem))
+    let items = node.items;
+    system_type(
+        items,
+        required(items, node.id, node.class, Class::CoordinateSystem),
+    )
 }
 
 // The system of a CRS of this class: its node `CS`, and the axes and the shared unit beside that.
 pub(crate) fn read_system<'a>(
     alloc: Global,
-    items: &Items<'a>,
-    id: ItemId,
-    class: Class,
+    node: &Cursor<'_, 'a>,
     firsts: &Firsts,
 ) -> Result<System<'a>, AllocError>
-    requires has { HasId items.now id }
-    requires sound { IsSound class (item_at items.now id) }
-    requires system { HasSystem class }
-    requires there { Requires class Class.CoordinateSystem 0 × Requires class Class.Axis 0 }
-    requires firsts { AreFirsts items.now class (arguments (item_at items.now id)) firsts.now }
-    ensures { IfOk result (λ system. ReadsSystem class (item_at items.now id) system) }
+    requires sound { IsSound node.now.class (item node.now) }
+    requires system { HasSystem node.now.class }
+    requires there { Requires node.now.class Class.CoordinateSystem 0 × Requires node.now.class Class.Axis 0 }
+    requires firsts { AreFirsts node.now.items.now node.now.class (arguments (item node.now)) firsts.now }
+    ensures { IfOk result (λ system. ReadsSystem node.now.class (item node.now) system) }
 {
     laws::slots_count();
-    let head = required(items, id, class, Class::CoordinateSystem);
+    let items = node.items;
+    let class = Class::CoordinateSystem;
+    let id = required(items, node.id, node.class, class);
+    let head = Cursor { items, id, class };
     Ok(System {
-        system_type: system_type(items, head),
-        dimension: number(items, head, Class::CoordinateSystem),
-        identifiers: many(
-            alloc,
-            items,
-            head,
-            Class::CoordinateSystem,
-            Class::Identifier,
-        )?,
-        axes: many_from(alloc, items, id, class, Class::Axis, firsts.axis)?,
-        unit: optional_from(alloc, items, id, class, Class::AxisUnit, firsts.unit)?,
+        system_type: system_type(items, id),
+        dimension: head.number(),
+        identifiers: head.many(alloc, Class::Identifier)?,
+        axes: node.many_from(alloc, Class::Axis, firsts.axis)?,
+        unit: node.optional_from(alloc, Class::AxisUnit, firsts.unit)?,
     })
 }

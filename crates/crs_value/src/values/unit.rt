@@ -1,15 +1,14 @@
 //! Units.
-ghost use Rattle.crs_text.specs.Items.{HasId};
+ghost use Rattle.crs_value.specs.Cursor.{item};
 ghost use Rattle.crs_value.specs.Checks.{IsSound};
-ghost use Rattle.crs_value.specs.Reading.{item_at};
 ghost use Rattle.crs_value.specs.Reads.{ReadsKind, IsUnitClass};
 
-use crate::reading::node::{Node, many, number, text};
+use crate::reading::cursor::Cursor;
+use crate::reading::node::Node;
 use crate::values::ident::Ident;
 use crate::values::list::List;
 use crs_decimal::Decimal;
 use crs_shape::{Class, UnitKind};
-use crs_text::{ItemId, Items};
 use std::alloc::{AllocError, Global};
 use std::marker::Model;
 
@@ -49,13 +48,12 @@ impl Drop for Unit<'_> {
     }
 }
 
-fn kind(items: &Items<'_>, id: ItemId, class: Class) -> UnitKind
-    requires has { HasId items.now id }
-    requires class { IsUnitClass class }
-    requires sound { IsSound class (item_at items.now id) }
-    ensures { ReadsKind (item_at items.now id) result }
+fn kind(node: &Cursor<'_, '_>) -> UnitKind
+    requires class { IsUnitClass node.now.class }
+    requires sound { IsSound node.now.class (item node.now) }
+    ensures { ReadsKind (item node.now) result }
 {
-    match UnitKind::read(items.raw(id)) {
+    match UnitKind::read(node.items.raw(node.id)) {
         Some(kind) => kind,
         None => unreachable!(),
     }
@@ -70,17 +68,12 @@ impl<'a> Node<'a> for Unit<'a> {
 
     ghost Reads = { λ c item parts. ReadsUnit c item parts };
 
-    fn read(
-        alloc: Global,
-        items: &Items<'a>,
-        id: ItemId,
-        class: Class,
-    ) -> Result<Self, AllocError> {
+    fn read(alloc: Global, node: &Cursor<'_, 'a>) -> Result<Self, AllocError> {
         Ok(Unit {
-            kind: kind(items, id, class),
-            name: text(items, id, class),
-            factor: number(items, id, class),
-            identifiers: many(alloc, items, id, class, Class::Identifier)?,
+            kind: kind(node),
+            name: node.text(),
+            factor: node.number(),
+            identifiers: node.many(alloc, Class::Identifier)?,
         })
     }
 }

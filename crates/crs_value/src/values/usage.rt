@@ -1,17 +1,16 @@
 //! Usages, and the ends of CRSs.
 ghost use Rattle.std.specs.Prelude.{◌↔◌, IsTrue, IfOk};
 ghost use Rattle.std.specs.Option.{option_copied};
-ghost use Rattle.crs_text.specs.Items.{HasId, arguments};
+ghost use Rattle.crs_text.specs.Items.{arguments};
+ghost use Rattle.crs_value.specs.Cursor.{item};
 ghost use Rattle.crs_value.specs.Checks.{IsSound};
-ghost use Rattle.crs_value.specs.Reading.{item_at};
 ghost use Rattle.crs_value.specs.FirstArguments.{AreFirsts};
 ghost use Rattle.crs_value.specs.Reads.{ReadsBare, ReadsTail};
 ghost use Rattle.crs_value.specs.Values.{SaysSome};
 
+use crate::reading::cursor::Cursor;
 use crate::reading::firsts::Firsts;
-use crate::reading::node::{
-    Node, many_from, number_at, optional, optional_from, optional_text, optional_text_from,
-};
+use crate::reading::node::Node;
 use crate::values::ident::Ident;
 use crate::values::key::{Key, Keyed};
 use crate::values::level::Level;
@@ -19,7 +18,6 @@ use crate::values::list::List;
 use crate::values::unit::Unit;
 use crs_decimal::Decimal;
 use crs_shape::{Class, laws};
-use crs_text::{ItemId, Items};
 use std::alloc::{AllocError, Global};
 use std::marker::Model;
 
@@ -168,17 +166,12 @@ impl<'a> Node<'a> for BoundingBox {
 
     ghost Reads = { λ c item parts. ReadsBox c item parts };
 
-    fn read(
-        _alloc: Global,
-        items: &Items<'a>,
-        id: ItemId,
-        class: Class,
-    ) -> Result<Self, AllocError> {
+    fn read(_alloc: Global, node: &Cursor<'_, 'a>) -> Result<Self, AllocError> {
         Ok(BoundingBox {
-            south: number_at(items, id, class, 0),
-            west: number_at(items, id, class, 1),
-            north: number_at(items, id, class, 2),
-            east: number_at(items, id, class, 3),
+            south: node.number_at(0),
+            west: node.number_at(1),
+            north: node.number_at(2),
+            east: node.number_at(3),
         })
     }
 }
@@ -192,16 +185,11 @@ impl<'a> Node<'a> for Extent<'a> {
 
     ghost Reads = { λ c item parts. ReadsExtent c item parts };
 
-    fn read(
-        alloc: Global,
-        items: &Items<'a>,
-        id: ItemId,
-        class: Class,
-    ) -> Result<Self, AllocError> {
+    fn read(alloc: Global, node: &Cursor<'_, 'a>) -> Result<Self, AllocError> {
         Ok(Extent {
-            minimum: number_at(items, id, class, 0),
-            maximum: number_at(items, id, class, 1),
-            unit: optional(alloc, items, id, class, Class::LengthUnit)?,
+            minimum: node.number_at(0),
+            maximum: node.number_at(1),
+            unit: node.optional(alloc, Class::LengthUnit)?,
         })
     }
 }
@@ -215,18 +203,13 @@ impl<'a> Node<'a> for Usage<'a> {
 
     ghost Reads = { λ c item parts. ReadsUsage c item parts };
 
-    fn read(
-        alloc: Global,
-        items: &Items<'a>,
-        id: ItemId,
-        class: Class,
-    ) -> Result<Self, AllocError> {
+    fn read(alloc: Global, node: &Cursor<'_, 'a>) -> Result<Self, AllocError> {
         laws::slots_count();
         Ok(Usage {
-            scope: optional_text(items, id, class, Class::Scope),
-            area: optional_text(items, id, class, Class::Area),
-            bbox: optional(alloc, items, id, class, Class::BoundingBox)?,
-            extent: optional(alloc, items, id, class, Class::VerticalExtent)?,
+            scope: node.optional_text(Class::Scope),
+            area: node.optional_text(Class::Area),
+            bbox: node.optional(alloc, Class::BoundingBox)?,
+            extent: node.optional(alloc, Class::VerticalExtent)?,
         })
     }
 }
@@ -262,27 +245,17 @@ fn says_some(
 // The usage whose parts are bare at a CRS's end, None where no part is.
 fn bare_usage<'a>(
     alloc: Global,
-    items: &Items<'a>,
-    id: ItemId,
-    class: Class,
+    node: &Cursor<'_, 'a>,
     firsts: &Firsts,
 ) -> Result<Option<Usage<'a>>, AllocError>
-    requires has { HasId items.now id }
-    requires sound { IsSound class (item_at items.now id) }
-    requires firsts { AreFirsts items.now class (arguments (item_at items.now id)) firsts.now }
-    ensures { IfOk result (ReadsBare class (item_at items.now id)) }
+    requires sound { IsSound node.now.class (item node.now) }
+    requires firsts { AreFirsts node.now.items.now node.now.class (arguments (item node.now)) firsts.now }
+    ensures { IfOk result (ReadsBare node.now.class (item node.now)) }
 {
-    let scope = optional_text_from(items, id, class, Class::Scope, firsts.scope);
-    let area = optional_text_from(items, id, class, Class::Area, firsts.area);
-    let bbox = optional_from(alloc, items, id, class, Class::BoundingBox, firsts.bbox)?;
-    let extent = optional_from(
-        alloc,
-        items,
-        id,
-        class,
-        Class::VerticalExtent,
-        firsts.extent,
-    )?;
+    let scope = node.optional_text_from(Class::Scope, firsts.scope);
+    let area = node.optional_text_from(Class::Area, firsts.area);
+    let bbox = node.optional_from(alloc, Class::BoundingBox, firsts.bbox)?;
+    let extent = node.optional_from(alloc, Class::VerticalExtent, firsts.extent)?;
     if !says_some(scope, area, &bbox, &extent) {
         return Ok(None);
     }
@@ -297,28 +270,18 @@ fn bare_usage<'a>(
 // The end of a CRS of this class.
 pub(crate) fn read_tail<'a>(
     alloc: Global,
-    items: &Items<'a>,
-    id: ItemId,
-    class: Class,
+    node: &Cursor<'_, 'a>,
     firsts: &Firsts,
 ) -> Result<Tail<'a>, AllocError>
-    requires has { HasId items.now id }
-    requires sound { IsSound class (item_at items.now id) }
-    requires firsts { AreFirsts items.now class (arguments (item_at items.now id)) firsts.now }
-    ensures { IfOk result (λ tail. ReadsTail class (item_at items.now id) tail) }
+    requires sound { IsSound node.now.class (item node.now) }
+    requires firsts { AreFirsts node.now.items.now node.now.class (arguments (item node.now)) firsts.now }
+    ensures { IfOk result (λ tail. ReadsTail node.now.class (item node.now) tail) }
 {
     laws::slots_count();
     Ok(Tail {
-        usages: many_from(alloc, items, id, class, Class::Usage, firsts.usage)?,
-        bare_parts: bare_usage(alloc, items, id, class, firsts)?,
-        identifiers: many_from(
-            alloc,
-            items,
-            id,
-            class,
-            Class::Identifier,
-            firsts.identifier,
-        )?,
-        remark: optional_text_from(items, id, class, Class::Remark, firsts.remark),
+        usages: node.many_from(alloc, Class::Usage, firsts.usage)?,
+        bare_parts: bare_usage(alloc, node, firsts)?,
+        identifiers: node.many_from(alloc, Class::Identifier, firsts.identifier)?,
+        remark: node.optional_text_from(Class::Remark, firsts.remark),
     })
 }

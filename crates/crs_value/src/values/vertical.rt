@@ -1,7 +1,8 @@
 //! Vertical CRSs and their geoid models.
 
+use crate::reading::cursor::Cursor;
 use crate::reading::firsts::firsts_of;
-use crate::reading::node::{Node, many, optional_from, text};
+use crate::reading::node::Node;
 use crate::values::crs_frame::vertical_frame;
 use crate::values::dynamic::Dynamic;
 use crate::values::frame::Frame;
@@ -12,7 +13,6 @@ use crate::values::list::List;
 use crate::values::system::{System, read_system};
 use crate::values::usage::{Tail, read_tail};
 use crs_shape::{Class, laws};
-use crs_text::{ItemId, Items};
 use std::alloc::{AllocError, Global};
 use std::marker::Model;
 
@@ -103,21 +103,16 @@ impl<'a> Node<'a> for Vertical<'a> {
 
     ghost Reads = { λ c item parts. ReadsVertical c item parts };
 
-    fn read(
-        alloc: Global,
-        items: &Items<'a>,
-        id: ItemId,
-        class: Class,
-    ) -> Result<Self, AllocError> {
+    fn read(alloc: Global, node: &Cursor<'_, 'a>) -> Result<Self, AllocError> {
         laws::slots_count();
-        let firsts = firsts_of(items, id, class);
+        let firsts = firsts_of(node.items, node.id, node.class);
         Ok(Vertical {
-            name: text(items, id, class),
-            dynamic: optional_from(alloc, items, id, class, Class::Dynamic, firsts.dynamic)?,
-            frame: vertical_frame(alloc, items, id, class)?,
-            system: read_system(alloc, items, id, class, &firsts)?,
-            geoid_models: many(alloc, items, id, class, Class::GeoidModel)?,
-            tail: read_tail(alloc, items, id, class, &firsts)?,
+            name: node.text(),
+            dynamic: node.optional_from(alloc, Class::Dynamic, firsts.dynamic)?,
+            frame: vertical_frame(alloc, node)?,
+            system: read_system(alloc, node, &firsts)?,
+            geoid_models: node.many(alloc, Class::GeoidModel)?,
+            tail: read_tail(alloc, node, &firsts)?,
         })
     }
 }
@@ -131,15 +126,10 @@ impl<'a> Node<'a> for GeoidModel<'a> {
 
     ghost Reads = { λ c item parts. ReadsNamed c item parts };
 
-    fn read(
-        alloc: Global,
-        items: &Items<'a>,
-        id: ItemId,
-        class: Class,
-    ) -> Result<Self, AllocError> {
+    fn read(alloc: Global, node: &Cursor<'_, 'a>) -> Result<Self, AllocError> {
         Ok(GeoidModel {
-            name: text(items, id, class),
-            identifiers: many(alloc, items, id, class, Class::Identifier)?,
+            name: node.text(),
+            identifiers: node.many(alloc, Class::Identifier)?,
         })
     }
 }

@@ -7,6 +7,6 @@ use Rattle.crs_value.proofs.values.axis.direction.Goals as goal
 
 pub unreachable-requires : goal.unreachable-requires
 unreachable-requires c =
-    let tree = c.args.items.now in
+    let tree = c.args.node.now.items.now in
     let P : List ℕ → Type 0 = λ raw. (d : Direction) → ¬ (SpellsWord raw (direction_word d)) in
-    known-direction (item_at tree c.args.id) (item_at tree c.required-word.result) _ c.requires.sound c.required-word.ensures.found.0 (subst P c.raw.ensures c.in-None.ensures)
+    known-direction (item_at tree c.args.node.now.id) (item_at tree c.required-word.result) _ c.requires.sound c.required-word.ensures.found.0 (subst P c.raw.ensures c.in-None.ensures)

@@ -1,16 +1,17 @@
 use Rattle.crs_shape.specs.declared.class.Class.TheVariants as class
+use Rattle.crs_value.specs.Cursor.{item}
 use Rattle.crs_value.specs.Reading.{item_at}
 use Rattle.crs_value.proofs.found.ArgumentLemmas.{first-sound}
 use Rattle.crs_value.proofs.found.ConversionLemmas.{chosen, none-chosen}
 use Rattle.crs_value.proofs.values.conversion.parameter_unit.Goals as goal
 
 pub read-requires-clause-sound : goal.read-requires-clause-sound
-read-requires-clause-sound c = first-sound c.args.items.now class.Parameter _ (item_at c.args.items.now c.args.id) c.in-Some.found c.requires.sound c.in-Some.ensures
+read-requires-clause-sound c = first-sound c.args.node.now.items.now class.Parameter _ (item c.args.node.now) c.in-Some.id c.requires.sound c.in-Some.ensures
 
 pub returns-in-Some : goal.returns-in-Some
 returns-in-Some c =
-    chosen (item_at c.args.items.now c.args.id) (item_at c.args.items.now c.in-Some.found) _ c.loop-class.class-index _ _ c.loop-class.invariant c.loop-class-test.true c.in-Some.ensures.0
+    chosen (item c.args.node.now) (item_at c.args.node.now.items.now c.in-Some.id) _ c.loop-class.class-index _ _ c.loop-class.invariant c.loop-class-test.true c.in-Some.ensures.0
     c.in_ok-read.ensures
 
 pub returns : goal.returns
-returns c = none-chosen (item_at c.args.items.now c.args.id) c.loop-class.class-index c.loop-class.invariant c.loop-class-test.false
+returns c = none-chosen (item c.args.node.now) c.loop-class.class-index c.loop-class.invariant c.loop-class-test.false

@@ -1,10 +1,10 @@
-use Rattle.crs_value.specs.Reading.{item_at}
+use Rattle.crs_value.specs.Cursor.{item}
 use Rattle.crs_value.proofs.sound.CrsLemmas.{geodetic-tells}
 use Rattle.crs_value.proofs.values.geodetic.read_geodetic.Goals as goal
 
 pub invariant_of-result : goal.invariant_of-result
 invariant_of-result c =
-    geodetic-tells c.slots_count.ensures.least c.slots_count.ensures.most c.args.class c.requires.class (item_at c.args.items.now c.args.id) _ c.requires.sound
+    geodetic-tells c.slots_count.ensures.least c.slots_count.ensures.most c.args.node.now.class c.requires.class (item c.args.node.now) _ c.requires.sound
     (record {
       name = c.text.ensures;
       dynamic = c.in_ok-optional_from.ensures;

@@ -1,5 +1,6 @@
 use Rattle.crs_text.specs.Items.{arguments}
 use Rattle.crs_shape.specs.declared.class.Class.TheVariants as class
+use Rattle.crs_value.specs.Cursor.{item}
 use Rattle.crs_value.specs.Reading.{item_at, those}
 use Rattle.crs_value.specs.Reads.{ReadsHead}
 use Rattle.crs_value.proofs.found.NodeLemmas.{reads-first}
@@ -8,12 +9,12 @@ use Rattle.crs_value.proofs.values.system.read_system.Goals as goal
 
 pub invariant_of-result : goal.invariant_of-result
 invariant_of-result c =
-    let item = item_at c.args.items.now c.args.id in
-    let cs = item_at c.args.items.now c.required-head.result in
-    system-tells c.slots_count.ensures.least c.args.class c.requires.system c.requires.there.1 item _ c.requires.sound
+    let item = item c.args.node.now in
+    let cs = item_at c.args.node.now.items.now c.required-id.result in
+    system-tells c.slots_count.ensures.least c.args.node.now.class c.requires.system c.requires.there.1 item _ c.requires.sound
     (record {
       head =
-          reads-first ReadsHead cs (those c.args.class class.CoordinateSystem (arguments item)) _ _ c.required-head.ensures.found.0
+          reads-first ReadsHead cs (those c.args.node.now.class class.CoordinateSystem (arguments item)) _ _ c.required-id.ensures.found.0
           (record { system_type = c.system_type.ensures; dimension = c.number.ensures; identifiers = c.in_ok-many.ensures });
       axes = c.in_ok-many_from.ensures;
       unit = c.in_ok-optional_from.ensures;

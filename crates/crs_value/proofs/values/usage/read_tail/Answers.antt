@@ -1,10 +1,10 @@
-use Rattle.crs_value.specs.Reading.{item_at}
+use Rattle.crs_value.specs.Cursor.{item}
 use Rattle.crs_value.proofs.sound.UsageLemmas.{tail-tells}
 use Rattle.crs_value.proofs.values.usage.read_tail.Goals as goal
 
 pub invariant_of-result : goal.invariant_of-result
 invariant_of-result c =
-    tail-tells c.slots_count.ensures.most c.args.class (item_at c.args.items.now c.args.id) _ c.requires.sound
+    tail-tells c.slots_count.ensures.most c.args.node.now.class (item c.args.node.now) _ c.requires.sound
     (record {
       usages = c.in_ok-many_from.ensures;
       bare_parts = c.in_ok-bare_usage.ensures;

@@ -1,10 +1,10 @@
-use Rattle.crs_value.specs.Reading.{item_at}
+use Rattle.crs_value.specs.Cursor.{item}
 use Rattle.crs_value.proofs.sound.FrameLemmas.{ellipsoid-tells}
 use Rattle.crs_value.proofs.values.ellipsoid.EllipsoidNode.read.Goals as goal
 
 pub invariant_of-result : goal.invariant_of-result
 invariant_of-result c =
-    ellipsoid-tells c.args.class c.requires.suits (item_at c.args.items.now c.args.id) _ c.requires.sound
+    ellipsoid-tells c.args.node.now.class c.requires.suits (item c.args.node.now) _ c.requires.sound
     (record {
       name = c.text.ensures;
       semi_major_axis = c.number_at.ensures;

@@ -1,10 +1,10 @@
-use Rattle.crs_value.specs.Reading.{item_at}
+use Rattle.crs_value.specs.Cursor.{item}
 use Rattle.crs_value.proofs.sound.FrameLemmas.{datum-tells}
 use Rattle.crs_value.proofs.values.frame.DatumNode.read.Goals as goal
 
 pub invariant_of-result : goal.invariant_of-result
 invariant_of-result c =
-    datum-tells c.args.class (item_at c.args.items.now c.args.id) _ c.requires.sound
+    datum-tells c.args.node.now.class (item c.args.node.now) _ c.requires.sound
     (record {
       name = c.text.ensures;
       ellipsoid = c.in_ok-optional.ensures;

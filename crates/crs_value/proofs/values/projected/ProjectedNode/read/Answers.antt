@@ -1,14 +1,14 @@
 use Rattle.crs_shape.specs.declared.class.Class.TheVariants as class
+use Rattle.crs_value.specs.Cursor.{item}
 use Rattle.crs_value.specs.ReadsCrs.{ReadsProjected}
 use Rattle.crs_value.specs.SoundSingle.{IsProjected}
 use Rattle.crs_value.proofs.sound.PartLemmas.{tells-as}
-use Rattle.crs_value.specs.Reading.{item_at}
 use Rattle.crs_value.proofs.sound.CrsLemmas.{projected-tells}
 use Rattle.crs_value.proofs.values.projected.ProjectedNode.read.Goals as goal
 
 pub invariant_of-result : goal.invariant_of-result
 invariant_of-result c =
-    tells-as ReadsProjected IsProjected c.args.class class.ProjectedCrs c.requires.suits (projected-tells c.slots_count.ensures.least c.slots_count.ensures.most) (item_at c.args.items.now c.args.id) _ c.requires.sound
+    tells-as ReadsProjected IsProjected c.args.node.now.class class.ProjectedCrs c.requires.suits (projected-tells c.slots_count.ensures.least c.slots_count.ensures.most) (item c.args.node.now) _ c.requires.sound
     (record {
       name = c.text.ensures;
       base = c.in_ok-one.ensures;

@@ -1,10 +1,10 @@
-use Rattle.crs_value.specs.Reading.{item_at}
+use Rattle.crs_value.specs.Cursor.{item}
 use Rattle.crs_value.proofs.sound.UsageLemmas.{node-tells}
 use Rattle.crs_value.proofs.values.usage.UsageNode.read.Goals as goal
 
 pub invariant_of-result : goal.invariant_of-result
 invariant_of-result c =
-    node-tells c.slots_count.ensures.most c.args.class c.requires.suits (item_at c.args.items.now c.args.id) _
+    node-tells c.slots_count.ensures.most c.args.node.now.class c.requires.suits (item c.args.node.now) _
     c.requires.sound
     (record {
       scope = c.optional_text.ensures;

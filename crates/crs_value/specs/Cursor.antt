@@ -1,0 +1,12 @@
+-- A bridge: the item that a cursor is at, and its arguments of a class.
+use Rattle.std.specs.Prelude.{List}
+use Rattle.crs_text.specs.Items.{Item, arguments}
+use Rattle.crs_shape.specs.declared.class.Class.{Class}
+use Rattle.crs_value.specs.Reading.{item_at, those}
+use Rattle.crs_value.specs.declared.reading.cursor.Cursor.{Cursor}
+
+abbrev pub item : Cursor → Item
+item node = item_at node.items.now node.id
+
+abbrev pub args : Class → Cursor → List Item
+args c node = those node.class c (arguments (item node))
