@@ -10,16 +10,18 @@ pub(crate) mod system;
 pub(crate) mod unit;
 
 ghost use Rattle.std.specs.Prelude.{◌≡◌, IsTrue};
-ghost use Rattle.crs_text.specs.Items.{Item, HasId, arguments};
+ghost use Rattle.crs_text.specs.Items.{Item, HasId};
 ghost use Rattle.crs_text.specs.Refusal.{RefusedAt, is_refusal};
 ghost use Rattle.crs_shape.specs.declared.class.Class.{Class};
 ghost use Rattle.crs_shape.specs.Shaped.{Shaped};
 ghost use Rattle.crs_value.specs.Break.{at, AnyOf, IsLeast};
+ghost use Rattle.crs_value.specs.Cursor.{args, item};
 ghost use Rattle.crs_value.specs.FoundArguments.{from_found, AllShaped};
 ghost use Rattle.crs_value.specs.Least.{lesser};
-ghost use Rattle.crs_value.specs.Reading.{item_at, Holds, IsFound, TakesOne, those};
+ghost use Rattle.crs_value.specs.Reading.{item_at, Holds, IsFound, TakesOne};
 
 use crate::reading::arguments::{first, later};
+use crate::reading::cursor::Cursor;
 use crs_shape::{Class, laws};
 use crs_text::{ItemId, Items, Refusal};
 
@@ -81,43 +83,35 @@ pub(crate) fn any_from<C: Check>(
 #[inline(always)]
 pub(crate) fn only_from<C: Check>(
     check: &C,
-    items: &Items<'_>,
-    _id: ItemId,
-    parent: Class,
+    node: &Cursor<'_, '_>,
     class: Class,
     found: Option<ItemId>,
 ) -> Option<Refusal>
-    requires has { HasId items.now _id }
-    requires fits { C.Fits check.now items.now class }
-    requires shaped { Shaped parent (item_at items.now _id) }
-    requires once { TakesOne parent class }
-    requires found { IsFound items.now parent class (those parent class (arguments (item_at items.now _id))) found }
-    ensures { IsLeast (AnyOf (C.Broken check.now items.now) (those parent class (arguments
-        (item_at items.now _id)))) result }
+    requires fits { C.Fits check.now node.now.items.now class }
+    requires shaped { Shaped node.now.class (item node.now) }
+    requires once { TakesOne node.now.class class }
+    requires found { IsFound node.now.items.now node.now.class class (args class node.now) found }
+    ensures { IsLeast (AnyOf (C.Broken check.now node.now.items.now) (args class node.now)) result }
 {
     laws::slots_count();
     match found {
         None => None,
-        Some(found) => check.check(items, found, class),
+        Some(found) => check.check(node.items, found, class),
     }
 }
 
 // The break of a node's argument of a class that it may have once, which is looked for here.
 #[inline(always)]
-pub(crate) fn only_of<C: Check>(
-    check: &C,
-    items: &Items<'_>,
-    id: ItemId,
-    parent: Class,
-    class: Class,
-) -> Option<Refusal>
-    requires has { HasId items.now id }
-    requires fits { C.Fits check.now items.now class }
-    requires shaped { Shaped parent (item_at items.now id) }
-    requires once { TakesOne parent class }
-    ensures { IsLeast (AnyOf (C.Broken check.now items.now) (those parent class (arguments
-        (item_at items.now id)))) result }
+pub(crate) fn only_of<C: Check>(check: &C, node: &Cursor<'_, '_>, class: Class) -> Option<Refusal>
+    requires fits { C.Fits check.now node.now.items.now class }
+    requires shaped { Shaped node.now.class (item node.now) }
+    requires once { TakesOne node.now.class class }
+    ensures { IsLeast (AnyOf (C.Broken check.now node.now.items.now) (args class node.now)) result }
 {
-    let found = first(items, id, parent, class);
-    only_from(check, items, id, parent, class, found)
+    only_from(
+        check,
+        node,
+        class,
+        first(node.items, node.id, node.class, class),
+    )
 }

@@ -12,6 +12,7 @@ use crate::checks::repeats::repeats_once;
 use crate::checks::system::type_of;
 use crate::checks::{Check, lesser, only_of, refusal_at};
 use crate::judging::rest::is_ascending;
+use crate::reading::cursor::Cursor;
 use crate::reading::firsts::firsts_of;
 use crate::reading::node::{number, required};
 use crs_decimal::laws;
@@ -98,7 +99,12 @@ fn bad_part(items: &Items<'_>, id: ItemId, class: Class) -> Option<Refusal>
     ensures { IsLeast (AnyOf (BadComponent class) (those Class.CompoundCrs class (arguments
         (item_at items.now id)))) result }
 {
-    only_of(&Component { class }, items, id, Class::CompoundCrs, class)
+    let node = Cursor {
+        items,
+        id,
+        class: Class::CompoundCrs,
+    };
+    only_of(&Component { class }, &node, class)
 }
 
 // What is repeated at the end of a compound CRS. Mostly it is seen at once that nothing is.
@@ -111,7 +117,12 @@ fn repeated(items: &Items<'_>, id: ItemId) -> Option<Refusal>
         return None;
     }
     let firsts = firsts_of(items, id, Class::CompoundCrs);
-    repeats_once(items, id, Class::CompoundCrs, &firsts)
+    let node = Cursor {
+        items,
+        id,
+        class: Class::CompoundCrs,
+    };
+    repeats_once(&node, &firsts)
 }
 
 // The checks of a compound CRS: what may not be repeated, and its horizontal part.

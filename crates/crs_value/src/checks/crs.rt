@@ -3,6 +3,7 @@ ghost use Rattle.std.specs.Prelude.{◌≡◌, ◌<◌, ◌⊎◌, IfSome, Some}
 ghost use Rattle.crs_text.specs.Items.{HasId, arguments};
 ghost use Rattle.crs_shape.specs.Shaped.{Shaped};
 ghost use Rattle.crs_shape.specs.Dimensions.{dimensions_of};
+ghost use Rattle.crs_value.specs.Cursor.{args, item};
 ghost use Rattle.crs_value.specs.BadDynamic.{BadDynamic};
 ghost use Rattle.crs_value.specs.Break.{AnyOf, IsLeast};
 ghost use Rattle.crs_value.specs.Checks.{BreaksAmong, once, OfHead, OfAxes, OfCrs};
@@ -16,6 +17,7 @@ use crate::checks::repeats::repeats_once;
 use crate::checks::system::{bad_count, bad_system};
 use crate::checks::unit::bad_unit;
 use crate::checks::{Check, lesser, only_from};
+use crate::reading::cursor::Cursor;
 use crate::reading::firsts::{Firsts, firsts_of};
 use crate::reading::node::number;
 use crs_shape::Class;
@@ -78,66 +80,55 @@ impl Check for UnitsOf {
         (those s.class classes.AxisUnit (arguments (item_at tree s.crs))) item f };
 
     fn check(&self, items: &Items<'_>, id: ItemId, _class: Class) -> Option<Refusal> {
-        bad_unit(items, self.crs, self.class, id, self.axis, self.unit)
+        let crs = Cursor {
+            items,
+            id: self.crs,
+            class: self.class,
+        };
+        bad_unit(&crs, id, self.axis, self.unit)
     }
 }
 
 // 22, 23 and 25: repeated parts, and the nodes `CS`.
-fn of_head(items: &Items<'_>, id: ItemId, class: Class, firsts: &Firsts) -> Option<Refusal>
-    requires has { HasId items.now id }
-    requires shaped { Shaped class (item_at items.now id) }
-    requires once { TakesOne class Class.CoordinateSystem }
-    requires firsts { AreFirsts items.now class (arguments (item_at items.now id)) firsts.now }
-    ensures { IsLeast (λ f. RepeatsAny class (arguments (item_at items.now id)) once f
-        ⊎ AnyOf (OfHead (dimensions_of class) (those class Class.Axis (arguments (item_at items.now id))))
-        (those class Class.CoordinateSystem (arguments (item_at items.now id))) f) result }
+fn of_head(node: &Cursor<'_, '_>, firsts: &Firsts) -> Option<Refusal>
+    requires shaped { Shaped node.now.class (item node.now) }
+    requires once { TakesOne node.now.class Class.CoordinateSystem }
+    requires firsts { AreFirsts node.now.items.now node.now.class (arguments (item node.now)) firsts.now }
+    ensures { IsLeast (λ f. RepeatsAny node.now.class (arguments (item node.now)) once f
+        ⊎ AnyOf (OfHead (dimensions_of node.now.class) (args Class.Axis node.now))
+        (args Class.CoordinateSystem node.now) f) result }
 {
     let head = HeadOf {
-        class,
+        class: node.class,
         axes: firsts.axes,
     };
     lesser(
-        repeats_once(items, id, class, firsts),
-        only_from(
-            &head,
-            items,
-            id,
-            class,
-            Class::CoordinateSystem,
-            firsts.system,
-        ),
+        repeats_once(node, firsts),
+        only_from(&head, node, Class::CoordinateSystem, firsts.system),
     )
 }
 
 // 26, 27 and 29: the axes and their units, and dynamic parts.
-fn of_axes(items: &Items<'_>, id: ItemId, class: Class, firsts: &Firsts) -> Option<Refusal>
-    requires has { HasId items.now id }
-    requires shaped { Shaped class (item_at items.now id) }
-    requires once { TakesOne class Class.CoordinateSystem }
-    requires firsts { AreFirsts items.now class (arguments (item_at items.now id)) firsts.now }
-    ensures { IsLeast (λ f. OfAxes (those class Class.CoordinateSystem (arguments (item_at items.now id)))
-        (those class Class.Axis (arguments (item_at items.now id)))
-        (those class Class.AxisUnit (arguments (item_at items.now id))) f
-        ⊎ BadDynamic class (item_at items.now id) f) result }
+fn of_axes(node: &Cursor<'_, '_>, firsts: &Firsts) -> Option<Refusal>
+    requires shaped { Shaped node.now.class (item node.now) }
+    requires once { TakesOne node.now.class Class.CoordinateSystem }
+    requires firsts { AreFirsts node.now.items.now node.now.class (arguments (item node.now)) firsts.now }
+    ensures { IsLeast (λ f. OfAxes (args Class.CoordinateSystem node.now)
+        (args Class.Axis node.now)
+        (args Class.AxisUnit node.now) f
+        ⊎ BadDynamic node.now.class (item node.now) f) result }
 {
     let units = UnitsOf {
-        crs: id,
-        class,
+        crs: node.id,
+        class: node.class,
         axis: firsts.axis,
         unit: firsts.unit,
     };
     let axes = lesser(
-        bad_order(items, id, class, firsts),
-        only_from(
-            &units,
-            items,
-            id,
-            class,
-            Class::CoordinateSystem,
-            firsts.system,
-        ),
+        bad_order(node, firsts),
+        only_from(&units, node, Class::CoordinateSystem, firsts.system),
     );
-    lesser(axes, bad_dynamic(items, id, class, firsts.dynamic))
+    lesser(axes, bad_dynamic(node, firsts.dynamic))
 }
 
 // The refusal, if its number goes before those of the axes.
@@ -155,23 +146,17 @@ fn early(found: &Option<Refusal>) -> Option<Refusal>
 // The first break within a CRS of this class, `inside`, and among its own checks. Orders are compared with each
 // other, which is quick: where nothing goes before them, the type is known and the dimension allowed, so that there
 // are three axes at most.
-pub(crate) fn whole_crs(
-    items: &Items<'_>,
-    id: ItemId,
-    class: Class,
-    inside: Option<Refusal>,
-) -> Option<Refusal>
-    requires has { HasId items.now id }
-    requires shaped { Shaped class (item_at items.now id) }
-    requires once { TakesOne class Class.CoordinateSystem }
-    requires inside { IsLeast (BreaksAmong class (arguments (item_at items.now id))) inside }
-    ensures { IsLeast (λ f. BreaksAmong class (arguments (item_at items.now id)) f
-        ⊎ OfCrs (dimensions_of class) class (item_at items.now id) f) result }
+pub(crate) fn whole_crs(node: &Cursor<'_, '_>, inside: Option<Refusal>) -> Option<Refusal>
+    requires shaped { Shaped node.now.class (item node.now) }
+    requires once { TakesOne node.now.class Class.CoordinateSystem }
+    requires inside { IsLeast (BreaksAmong node.now.class (arguments (item node.now))) inside }
+    ensures { IsLeast (λ f. BreaksAmong node.now.class (arguments (item node.now)) f
+        ⊎ OfCrs (dimensions_of node.now.class) node.now.class (item node.now) f) result }
 {
-    let firsts = firsts_of(items, id, class);
-    let found = lesser(inside, of_head(items, id, class, &firsts));
+    let firsts = firsts_of(node.items, node.id, node.class);
+    let found = lesser(inside, of_head(node, &firsts));
     match early(&found) {
         Some(first) => Some(first),
-        None => lesser(found, of_axes(items, id, class, &firsts)),
+        None => lesser(found, of_axes(node, &firsts)),
     }
 }

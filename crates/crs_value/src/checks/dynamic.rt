@@ -2,12 +2,14 @@
 ghost use Rattle.std.specs.Prelude.{◌↔◌, ◌≢◌, [], IsTrue};
 ghost use Rattle.crs_text.specs.Items.{HasId, arguments};
 ghost use Rattle.crs_shape.specs.Shaped.{Shaped};
+ghost use Rattle.crs_value.specs.Cursor.{args, item};
 ghost use Rattle.crs_value.specs.BadDynamic.{BadDynamic, HasEnsemble};
 ghost use Rattle.crs_value.specs.Break.{IsLeast};
 ghost use Rattle.crs_value.specs.Reading.{item_at, those, IsFound};
 
 use crate::checks::{Check, any_from, refusal_at};
 use crate::reading::arguments::first;
+use crate::reading::cursor::Cursor;
 use crs_shape::Class;
 use crs_text::{ItemId, Items, Refusal};
 
@@ -42,32 +44,21 @@ fn has_ensemble(items: &Items<'_>, id: ItemId, class: Class) -> bool
 }
 
 // 29: the dynamic parts beside an ensemble, of which the first was found.
-pub(crate) fn bad_dynamic(
-    items: &Items<'_>,
-    id: ItemId,
-    class: Class,
-    dynamic: Option<ItemId>,
-) -> Option<Refusal>
-    requires has { HasId items.now id }
-    requires shaped { Shaped class (item_at items.now id) }
-    requires found { IsFound items.now class Class.Dynamic (those class Class.Dynamic (arguments
-        (item_at items.now id))) dynamic }
-    ensures { IsLeast (BadDynamic class (item_at items.now id)) result }
+pub(crate) fn bad_dynamic(node: &Cursor<'_, '_>, dynamic: Option<ItemId>) -> Option<Refusal>
+    requires shaped { Shaped node.now.class (item node.now) }
+    requires found { IsFound node.now.items.now node.now.class Class.Dynamic (args Class.Dynamic node.now) dynamic }
+    ensures { IsLeast (BadDynamic node.now.class (item node.now)) result }
 {
-    if dynamic.is_none() {
+    if dynamic.is_none() || !has_ensemble(node.items, node.id, node.class) {
         return None;
     }
-    if !has_ensemble(items, id, class) {
-        return None;
-    }
-    any_from(&Unsteady, items, dynamic, class, Class::Dynamic)
+    any_from(&Unsteady, node.items, dynamic, node.class, Class::Dynamic)
 }
 
 // The same where the first dynamic part wasn't looked for yet.
-pub(crate) fn bad_dynamic_in(items: &Items<'_>, id: ItemId, class: Class) -> Option<Refusal>
-    requires has { HasId items.now id }
-    requires shaped { Shaped class (item_at items.now id) }
-    ensures { IsLeast (BadDynamic class (item_at items.now id)) result }
+pub(crate) fn bad_dynamic_in(node: &Cursor<'_, '_>) -> Option<Refusal>
+    requires shaped { Shaped node.now.class (item node.now) }
+    ensures { IsLeast (BadDynamic node.now.class (item node.now)) result }
 {
-    bad_dynamic(items, id, class, first(items, id, class, Class::Dynamic))
+    bad_dynamic(node, first(node.items, node.id, node.class, Class::Dynamic))
 }

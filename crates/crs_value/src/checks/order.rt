@@ -2,6 +2,7 @@
 ghost use Rattle.std.specs.Prelude.{◌≡◌, ◌≢◌, ◌↔◌, ◌≤◌, [], IsTrue, Some, length, take};
 ghost use Rattle.crs_text.specs.Items.{HasId, arguments};
 ghost use Rattle.crs_shape.specs.Shaped.{Shaped};
+ghost use Rattle.crs_value.specs.Cursor.{args, item};
 ghost use Rattle.crs_value.specs.BadOrder.{IsPosition, HasThis, OneHas, LacksOrder, orders_in, SomeHasOrder, BadOrders};
 ghost use Rattle.crs_value.specs.BadOrder.{BadOrder};
 ghost use Rattle.crs_value.specs.Break.{AnyOf, IsLeast};
@@ -11,6 +12,7 @@ ghost use Rattle.crs_value.specs.Reading.{item_at, Holds, those};
 
 use crate::checks::{Check, any_from, lesser, only_of, refusal_at};
 use crate::reading::arguments::{first, later};
+use crate::reading::cursor::Cursor;
 use crate::reading::firsts::Firsts;
 use crate::reading::node::number;
 use crs_decimal::{Decimal, laws};
@@ -154,31 +156,34 @@ fn some_has_order(items: &Items<'_>, class: Class, axis: Option<ItemId>) -> bool
 }
 
 // 26: the first order that is no position or is repeated.
-fn bad_orders(items: &Items<'_>, crs: ItemId, class: Class, firsts: &Firsts) -> Option<Refusal>
-    requires crs { HasId items.now crs }
-    requires shaped { Shaped class (item_at items.now crs) }
-    requires firsts { AreFirsts items.now class (arguments (item_at items.now crs)) firsts.now }
-    ensures { IsLeast (BadOrders (length (those class Class.Axis (arguments (item_at items.now crs)))) []
-        (those class Class.Axis (arguments (item_at items.now crs)))) result }
+fn bad_orders(crs: &Cursor<'_, '_>, firsts: &Firsts) -> Option<Refusal>
+    requires shaped { Shaped crs.now.class (item crs.now) }
+    requires firsts { AreFirsts crs.now.items.now crs.now.class (arguments (item crs.now)) firsts.now }
+    ensures { IsLeast (BadOrders (length (args Class.Axis crs.now)) []
+        (args Class.Axis crs.now)) result }
 {
     // The axes are no more than the arguments, whose number is a usize.
-    let _bound = items.arg_count(crs);
+    let items = crs.items;
+    let class = crs.class;
+    let _bound = items.arg_count(crs.id);
     let count = firsts.axes;
     let mut before = 0;
     let mut least = None;
     let mut at = firsts.axis;
     while let Some(axis) = at {
         let position = Position {
-            crs,
+            crs: crs.id,
             class,
             axis: firsts.axis,
             count,
             before,
         };
-        least = lesser(
-            least,
-            only_of(&position, items, axis, Class::Axis, Class::Order),
-        );
+        let node = Cursor {
+            items,
+            id: axis,
+            class: Class::Axis,
+        };
+        least = lesser(least, only_of(&position, &node, Class::Order));
         before += 1;
         at = later(items, axis, class, Class::Axis);
     }
@@ -220,25 +225,20 @@ fn in_order(items: &Items<'_>, class: Class, from: Option<ItemId>, count: usize)
 }
 
 // 26: an axis that lacks an order beside one that has it, or the first bad order.
-pub(crate) fn bad_order(
-    items: &Items<'_>,
-    crs: ItemId,
-    class: Class,
-    firsts: &Firsts,
-) -> Option<Refusal>
-    requires crs { HasId items.now crs }
-    requires shaped { Shaped class (item_at items.now crs) }
-    requires firsts { AreFirsts items.now class (arguments (item_at items.now crs)) firsts.now }
-    ensures { IsLeast (BadOrder (those class Class.Axis (arguments (item_at items.now crs)))) result }
+pub(crate) fn bad_order(crs: &Cursor<'_, '_>, firsts: &Firsts) -> Option<Refusal>
+    requires shaped { Shaped crs.now.class (item crs.now) }
+    requires firsts { AreFirsts crs.now.items.now crs.now.class (arguments (item crs.now)) firsts.now }
+    ensures { IsLeast (BadOrder (args Class.Axis crs.now)) result }
 {
     laws::denotes_one();
     laws::same_number_is_equivalence();
-    if in_order(items, class, firsts.axis, firsts.axes) {
+    let items = crs.items;
+    if in_order(items, crs.class, firsts.axis, firsts.axes) {
         return None;
     }
-    match any_from(&Orderless, items, firsts.axis, class, Class::Axis) {
-        None => bad_orders(items, crs, class, firsts),
-        Some(lacks) => beside(items, class, firsts.axis, lacks),
+    match any_from(&Orderless, items, firsts.axis, crs.class, Class::Axis) {
+        None => bad_orders(crs, firsts),
+        Some(lacks) => beside(items, crs.class, firsts.axis, lacks),
     }
 }
 

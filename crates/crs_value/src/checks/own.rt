@@ -11,6 +11,7 @@ use crate::checks::repeats::repeated_anchors;
 use crate::checks::single::{AboveZero, NotNegative, UnknownDirection, UnknownType};
 use crate::checks::{Check, any_from, lesser, only_of};
 use crate::reading::arguments::{first, later};
+use crate::reading::cursor::Cursor;
 use crs_shape::Class;
 use crs_text::{ItemId, Items, Refusal};
 
@@ -38,20 +39,21 @@ pub(crate) fn own_of_part(items: &Items<'_>, id: ItemId, class: Class) -> Option
     requires part { ¬ (HasSystem class) }
     ensures { IsLeast (Own class (item_at items.now id)) result }
 {
+    let node = Cursor { items, id, class };
     match class {
         Class::GeodeticCrs | Class::GeographicCrs | Class::ProjectedCrs | Class::VerticalCrs =>
             unreachable!(),
         Class::CompoundCrs => compound(items, id),
-        Class::BaseCrs => bad_dynamic_in(items, id, class),
-        Class::GeodeticFrame | Class::VerticalFrame => repeated_anchors(items, id, class),
+        Class::BaseCrs => bad_dynamic_in(&node),
+        Class::GeodeticFrame | Class::VerticalFrame => repeated_anchors(&node),
         Class::Ellipsoid => ellipsoid(items, id),
         Class::LengthUnit
         | Class::AngleUnit
         | Class::ScaleUnit
         | Class::PlainUnit
-        | Class::AxisUnit => only_of(&AboveZero, items, id, class, Class::Number),
-        Class::CoordinateSystem => only_of(&UnknownType, items, id, class, Class::Word),
-        Class::Axis => only_of(&UnknownDirection, items, id, class, Class::Word),
+        | Class::AxisUnit => only_of(&AboveZero, &node, Class::Number),
+        Class::CoordinateSystem => only_of(&UnknownType, &node, Class::Word),
+        Class::Axis => only_of(&UnknownDirection, &node, Class::Word),
         _ => None,
     }
 }

@@ -2,6 +2,7 @@
 ghost use Rattle.std.specs.Prelude.{◌≡◌, ◌↔◌, IsTrue};
 ghost use Rattle.crs_text.specs.Items.{HasId, arguments};
 ghost use Rattle.crs_shape.specs.Shaped.{Shaped};
+ghost use Rattle.crs_value.specs.Cursor.{args, item};
 ghost use Rattle.crs_value.specs.BadUnit.{Asks, Fits, AllAsk, SharedFits, BadShared, BadUnit};
 ghost use Rattle.crs_value.specs.Break.{IsLeast};
 ghost use Rattle.crs_value.specs.Reading.{item_at, those, IsFound, IsReading, ReadsFirst};
@@ -10,6 +11,7 @@ ghost use Rattle.crs_value.specs.Reads.{HasType, ReadsDirection, ReadsKind};
 use crate::checks::system::type_of;
 use crate::checks::{Check, any_from, lesser, only_from, only_of, refusal_at};
 use crate::reading::arguments::{first, later};
+use crate::reading::cursor::Cursor;
 use crate::reading::node::required;
 use crs_shape::{Class, Direction, SystemType, UnitKind};
 use crs_text::{ItemId, Items, Refusal};
@@ -126,7 +128,12 @@ impl Check for OwnUnit {
             system_type: self.system_type,
             axis: id,
         };
-        only_from(&misfit, items, id, Class::Axis, Class::AxisUnit, Some(unit))
+        let axis = Cursor {
+            items,
+            id,
+            class: Class::Axis,
+        };
+        only_from(&misfit, &axis, Class::AxisUnit, Some(unit))
     }
 }
 
@@ -160,33 +167,13 @@ impl Check for NoUnit {
     ghost Broken = { λ s tree item f. HasOwnUnit item f };
 
     fn check(&self, items: &Items<'_>, id: ItemId, _class: Class) -> Option<Refusal> {
-        only_of(&Superfluous, items, id, Class::Axis, Class::AxisUnit)
+        let axis = Cursor {
+            items,
+            id,
+            class: Class::Axis,
+        };
+        only_of(&Superfluous, &axis, Class::AxisUnit)
     }
-}
-
-// Whether all axes ask for this kind of unit.
-fn all_ask(
-    items: &Items<'_>,
-    crs: ItemId,
-    class: Class,
-    cs: ItemId,
-    system_type: Option<SystemType>,
-    kind: UnitKind,
-) -> bool
-    requires crs { HasId items.now crs }
-    requires system { IsReading (HasType (item_at items.now cs)) system_type }
-    requires shaped { Shaped class (item_at items.now crs) }
-    ensures { IsTrue result ↔ AllAsk (item_at items.now cs) (those class Class.Axis (arguments
-        (item_at items.now crs))) kind }
-{
-    let mut at = first(items, crs, class, Class::Axis);
-    while let Some(axis) = at {
-        if !asks(items, cs, system_type, axis, kind) {
-            return false;
-        }
-        at = later(items, axis, class, Class::Axis);
-    }
-    true
 }
 
 fn same_kind(a: UnitKind, b: UnitKind) -> bool
@@ -213,110 +200,116 @@ fn asks(
     }
 }
 
-// Whether a shared unit fits all axes as one of this kind.
-fn fits_as(
-    items: &Items<'_>,
-    crs: ItemId,
-    class: Class,
+// What the unit that axes share is held against: the CRS, its node `CS`, and the type that this has, if it is known.
+#[derive(Clone, Copy)]
+struct Sharing<'i, 'a> {
+    crs: Cursor<'i, 'a>,
     cs: ItemId,
     system_type: Option<SystemType>,
-    unit: ItemId,
-    kind: UnitKind,
-) -> bool
-    requires crs { HasId items.now crs }
-    requires unit { HasId items.now unit }
-    requires system { IsReading (HasType (item_at items.now cs)) system_type }
-    requires shaped { Shaped class (item_at items.now crs) }
-    ensures { IsTrue result ↔ (
-        AllAsk (item_at items.now cs) (those class Class.Axis (arguments (item_at items.now crs))) kind
-        × Fits (item_at items.now unit) kind) }
-{
-    // Mostly the unit says its kind, which is asked first: then the axes are asked for that kind alone.
-    fits(items, unit, kind) && all_ask(items, crs, class, cs, system_type, kind)
 }
 
-fn shared_fits(
-    items: &Items<'_>,
-    crs: ItemId,
-    class: Class,
-    cs: ItemId,
-    system_type: Option<SystemType>,
-    unit: ItemId,
-) -> bool
-    requires crs { HasId items.now crs }
-    requires unit { HasId items.now unit }
-    requires system { IsReading (HasType (item_at items.now cs)) system_type }
-    requires shaped { Shaped class (item_at items.now crs) }
-    ensures { IsTrue result ↔ SharedFits (item_at items.now cs) (those class Class.Axis (arguments
-        (item_at items.now crs))) (item_at items.now unit) }
-{
-    if fits_as(items, crs, class, cs, system_type, unit, UnitKind::Length) {
-        return true;
-    }
-    if fits_as(items, crs, class, cs, system_type, unit, UnitKind::Angle) {
-        return true;
-    }
-    if fits_as(items, crs, class, cs, system_type, unit, UnitKind::Scale) {
-        return true;
-    }
-    fits_as(items, crs, class, cs, system_type, unit, UnitKind::Plain)
-}
+impl Sharing<'_, '_> {
+    ghost use Rattle.crs_shape.specs.declared.class.Class.TheVariants as classes;
+    ghost use Rattle.crs_value.specs.Cursor.{args, item};
 
-// 27: a shared unit that doesn't fit.
-fn bad_shared(
-    items: &Items<'_>,
-    crs: ItemId,
-    class: Class,
-    cs: ItemId,
-    system_type: Option<SystemType>,
-    unit: ItemId,
-) -> Option<Refusal>
-    requires crs { HasId items.now crs }
-    requires unit { HasId items.now unit }
-    requires system { IsReading (HasType (item_at items.now cs)) system_type }
-    requires shaped { Shaped class (item_at items.now crs) }
-    ensures { IsLeast (BadShared (item_at items.now cs) (those class Class.Axis (arguments
-        (item_at items.now crs))) (item_at items.now unit)) result }
-{
-    if shared_fits(items, crs, class, cs, system_type, unit) {
-        None
-    } else {
-        Some(refusal_at(items, unit, 27))
+    // Whether all axes ask for this kind of unit.
+    fn all_ask(&self, kind: UnitKind) -> bool
+        requires system { IsReading (HasType (item_at self.now.crs.items.now self.now.cs)) self.now.system_type }
+        requires shaped { Shaped self.now.crs.class (item self.now.crs) }
+        ensures { IsTrue result ↔ AllAsk (item_at self.now.crs.items.now self.now.cs)
+            (args classes.Axis self.now.crs) kind }
+    {
+        let Cursor {
+            items,
+            id,
+            class,
+            ..
+        } = self.crs;
+        let mut at = first(items, id, class, Class::Axis);
+        while let Some(axis) = at {
+            if !asks(items, self.cs, self.system_type, axis, kind) {
+                return false;
+            }
+            at = later(items, axis, class, Class::Axis);
+        }
+        true
+    }
+
+    // Whether a shared unit fits all axes as one of this kind.
+    fn fits_as(&self, unit: ItemId, kind: UnitKind) -> bool
+        requires unit { HasId self.now.crs.items.now unit }
+        requires system { IsReading (HasType (item_at self.now.crs.items.now self.now.cs)) self.now.system_type }
+        requires shaped { Shaped self.now.crs.class (item self.now.crs) }
+        ensures { IsTrue result ↔ (
+            AllAsk (item_at self.now.crs.items.now self.now.cs) (args classes.Axis self.now.crs) kind
+            × Fits (item_at self.now.crs.items.now unit) kind) }
+    {
+        // Mostly the unit says its kind, which is asked first: then the axes are asked for that kind alone.
+        let items = self.crs.items;
+        fits(items, unit, kind) && self.all_ask(kind)
+    }
+
+    fn fits(&self, unit: ItemId) -> bool
+        requires unit { HasId self.now.crs.items.now unit }
+        requires system { IsReading (HasType (item_at self.now.crs.items.now self.now.cs)) self.now.system_type }
+        requires shaped { Shaped self.now.crs.class (item self.now.crs) }
+        ensures { IsTrue result ↔ SharedFits (item_at self.now.crs.items.now self.now.cs)
+            (args classes.Axis self.now.crs) (item_at self.now.crs.items.now unit) }
+    {
+        self.fits_as(unit, UnitKind::Length)
+            || self.fits_as(unit, UnitKind::Angle)
+            || self.fits_as(unit, UnitKind::Scale)
+            || self.fits_as(unit, UnitKind::Plain)
+    }
+
+    // 27: a shared unit that doesn't fit.
+    fn bad(&self, unit: ItemId) -> Option<Refusal>
+        requires unit { HasId self.now.crs.items.now unit }
+        requires system { IsReading (HasType (item_at self.now.crs.items.now self.now.cs)) self.now.system_type }
+        requires shaped { Shaped self.now.crs.class (item self.now.crs) }
+        ensures { IsLeast (BadShared (item_at self.now.crs.items.now self.now.cs) (args classes.Axis self.now.crs)
+            (item_at self.now.crs.items.now unit)) result }
+    {
+        let items = self.crs.items;
+        if self.fits(unit) {
+            None
+        } else {
+            Some(refusal_at(items, unit, 27))
+        }
     }
 }
 
 // 27: a unit that is missing, doesn't fit, or is beside a shared one.
 pub(crate) fn bad_unit(
-    items: &Items<'_>,
-    crs: ItemId,
-    class: Class,
+    crs: &Cursor<'_, '_>,
     cs: ItemId,
     axis: Option<ItemId>,
     unit: Option<ItemId>,
 ) -> Option<Refusal>
-    requires cs { HasId items.now cs }
-    requires crs { HasId items.now crs }
-    requires system { Shaped Class.CoordinateSystem (item_at items.now cs) }
-    requires shaped { Shaped class (item_at items.now crs) }
-    requires axis { IsFound items.now class Class.Axis (those class Class.Axis (arguments (item_at items.now crs)))
-        axis }
-    requires unit { IsFound items.now class Class.AxisUnit (those class Class.AxisUnit (arguments
-        (item_at items.now crs))) unit }
-    ensures { IsLeast (BadUnit (those class Class.Axis (arguments (item_at items.now crs)))
-        (those class Class.AxisUnit (arguments (item_at items.now crs))) (item_at items.now cs)) result }
+    requires cs { HasId crs.now.items.now cs }
+    requires system { Shaped Class.CoordinateSystem (item_at crs.now.items.now cs) }
+    requires shaped { Shaped crs.now.class (item crs.now) }
+    requires axis { IsFound crs.now.items.now crs.now.class Class.Axis (args Class.Axis crs.now) axis }
+    requires unit { IsFound crs.now.items.now crs.now.class Class.AxisUnit (args Class.AxisUnit crs.now) unit }
+    ensures { IsLeast (BadUnit (args Class.Axis crs.now) (args Class.AxisUnit crs.now)
+        (item_at crs.now.items.now cs)) result }
 {
+    let items = crs.items;
     let system_type = type_of(items, cs);
-    match unit {
-        None => any_from(
-            &OwnUnit { cs, system_type },
-            items,
-            axis,
-            class,
-            Class::Axis,
-        ),
-        Some(unit) => lesser(
-            any_from(&NoUnit, items, axis, class, Class::Axis),
-            bad_shared(items, crs, class, cs, system_type, unit),
-        ),
-    }
+    let Some(unit) = unit else {
+        let own = OwnUnit { cs, system_type };
+        return any_from(&own, items, axis, crs.class, Class::Axis);
+    };
+    let id = crs.id;
+    let class = crs.class;
+    let crs = Cursor { items, id, class };
+    let sharing = Sharing {
+        crs,
+        cs,
+        system_type,
+    };
+    lesser(
+        any_from(&NoUnit, items, axis, class, Class::Axis),
+        sharing.bad(unit),
+    )
 }

@@ -20,6 +20,7 @@ use crate::judging::quiet::{Layout, NOWHERE, is_quiet};
 use crate::judging::slots::{Any, End, Found, Front, One, OneOrMore, Optional, Part, Slot, Slots};
 use crate::judging::system::{Axis, CoordinateSystem};
 use crate::reading::arguments::first_before;
+use crate::reading::cursor::Cursor;
 use crs_shape::{Class, laws, stands_as};
 use crs_text::{ItemId, Items, Refusal};
 
@@ -149,11 +150,12 @@ fn whole(
     ensures { IsLeast (λ f. BreaksAmong class (arguments (item_at items.now id)) f
         ⊎ Own class (item_at items.now id) f) result }
 {
+    let node = Cursor { items, id, class };
     let dynamic = first_dynamic(items, id, class, &layout);
     if is_quiet(items, id, class, layout) {
-        return lesser(inside, bad_dynamic(items, id, class, dynamic));
+        return lesser(inside, bad_dynamic(&node, dynamic));
     }
-    whole_crs(items, id, class, inside)
+    whole_crs(&node, inside)
 }
 
 // Whether an item that may be a CRS of this class, which has a coordinate system, has no fault of shape as one; what it

@@ -1,13 +1,13 @@
-use Rattle.crs_value.specs.Reading.{item_at}
+use Rattle.crs_value.specs.Cursor.{item}
 use Rattle.crs_value.proofs.checked.CrsLemmas.{crs-early, crs-whole}
 use Rattle.crs_value.proofs.checks.crs.whole_crs.Goals as goal
 
 pub returns-in-Some : goal.returns-in-Some
 returns-in-Some c =
-    crs-early c.args.class (item_at c.args.items.now c.args.id) c.args.inside c.of_head.result c.lesser-found.result c.in-Some.first c.lesser-found.ensures
+    crs-early c.args.node.now.class (item c.args.node.now) c.args.inside c.of_head.result c.lesser-found.result c.in-Some.first c.lesser-found.ensures
     c.requires.inside c.of_head.ensures c.in-Some.ensures.0 c.in-Some.ensures.1
 
 pub returns-in-None : goal.returns-in-None
 returns-in-None c =
-    crs-whole c.args.class (item_at c.args.items.now c.args.id) c.args.inside c.of_head.result c.lesser-found.result c.of_axes.result c.lesser.result c.lesser-found.ensures
+    crs-whole c.args.node.now.class (item c.args.node.now) c.args.inside c.of_head.result c.lesser-found.result c.of_axes.result c.lesser.result c.lesser-found.ensures
     c.lesser.ensures c.requires.inside c.of_head.ensures c.of_axes.ensures
