@@ -10,11 +10,13 @@ ghost use Rattle.crs_decimal.specs.Spelling.{Parts, SpellsNumber, HasForm, IsRun
 ghost use Rattle.crs_decimal.specs.Value.{Value, IsNormal, exact};
 
 /// Bytes spell the parts of a number in one way at most.
+#[tactic(auto, using(crate::proofs::SplitLemmas::parts_one))]
 pub fn one_form()
     ensures { (bytes : List ℕ) (p q : Parts) → SpellsNumber bytes p → SpellsNumber bytes q → p ≡ q }
 {}
 
 /// Two normal values are the same number exactly where they are equal.
+#[tactic(auto, using(crate::proofs::NumberLemmas::normal_iff))]
 pub fn normal_is_one()
     ensures { (a b : Value) → IsNormal a → IsNormal b → SameNumber (exact a) (exact b) ↔ (a ≡ b) }
 {}
@@ -34,11 +36,13 @@ pub fn same_number_is_equivalence()
 
 /// What has the form of a number is a run: it starts with a digit, a sign or a period, and each of
 /// its bytes is a letter, a digit, `_`, `.`, `+` or `-`.
+#[tactic(auto, using(crate::proofs::RunLemmas::form_is_run))]
 pub fn spelled_as_a_run()
     ensures { (bytes : List ℕ) → HasForm bytes → IsRun bytes }
 {}
 
 /// At most 18 digits alone are a number in bounds.
+#[tactic(auto, using(crate::proofs::DigitLemmas::digits_in_bounds))]
 pub fn digits_alone()
     ensures { (bytes : List ℕ) → AreDigits bytes → 0 < length bytes → length bytes ≤ 18 →
         IsInBounds bytes }
@@ -67,6 +71,7 @@ pub fn plain_is_the_one()
 {}
 
 /// Plain spellings consist of digits, `.` and `-`.
+#[tactic(auto, using(crate::proofs::RunLemmas::plain_bytes_pass))]
 pub fn plain_bytes()
     ensures { (bytes : List ℕ) → IsPlain bytes → IsTrue (list_all is_plain_byte bytes) }
 {}
