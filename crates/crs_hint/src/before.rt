@@ -106,10 +106,7 @@ impl Before {
     }
 
     fn end_quote(&mut self, quoted: &[u8], begin: usize) {
-        let opening = match self.innermost() {
-            Some(open) => open.delimiter,
-            None => b'[',
-        };
+        let opening = self.innermost().unwrap_or(NONE).delimiter;
         if self.quote_missing.is_none() && has_node(looked_at(quoted, 0), opening) {
             self.quote_missing = Some(begin);
         }
@@ -174,30 +171,21 @@ pub(crate) fn node_at(text: &[u8], at: usize, delimiter: u8) -> Open {
 
 // The run from its first letter on.
 fn from_letter(run: &[u8]) -> &[u8] {
-    rest(
-        run,
-        run.iter()
-            .take_while(|it| !it.is_ascii_alphabetic())
-            .count(),
-    )
+    let letter = run.iter().position(|it| it.is_ascii_alphabetic());
+    rest(run, letter.unwrap_or(run.len()))
 }
 
 // Whether a quoted text contains the end of a node, or the beginning of the next, as it does where a quote is
 // missing.
 fn has_node(quoted: &[u8], opening: u8) -> bool {
-    for (at, byte) in quoted.iter().enumerate() {
-        if is_of_node(*byte, rest(quoted, at + 1), opening) {
-            return true;
-        }
-    }
-    false
+    (0..quoted.len()).any(|at| is_of_node(rest(quoted, at), opening))
 }
 
-fn is_of_node(byte: u8, behind: &[u8], opening: u8) -> bool {
-    match byte {
-        b',' => begins_node(behind, opening),
-        b']' => opening == b'[' && behind.trim_ascii_start().starts_with(b","),
-        b')' => opening == b'(' && behind.trim_ascii_start().starts_with(b","),
+fn is_of_node(text: &[u8], opening: u8) -> bool {
+    match text {
+        [b',', behind @ ..] => begins_node(behind, opening),
+        [b']', behind @ ..] => opening == b'[' && behind.trim_ascii_start().starts_with(b","),
+        [b')', behind @ ..] => opening == b'(' && behind.trim_ascii_start().starts_with(b","),
         _ => false,
     }
 }

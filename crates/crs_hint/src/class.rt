@@ -1,15 +1,12 @@
 //! What a text is by its first keyword, and keywords that aren't read.
 use crate::glance::{begins, ends, is_one_of, names, names_one_of};
-use crate::hint::{Form, Hint, Sentence};
+use crate::hint::{Form, Hint};
 use crate::refused::NOT_HERE;
+use crate::sentence;
 use crs_shape::Class;
 
-/// A keyword, and what to say of its node.
-struct Entry {
-    keyword: &'static [u8],
-    sentence: Sentence,
-    words: &'static [u8],
-}
+// A keyword, and the sentence and the words that tell of its node.
+type Entry = (&'static [u8], &'static str, &'static [u8]);
 
 // The classes of CRS of WKT1.
 const OLD_CLASSES: [&[u8]; 8] = [
@@ -41,119 +38,67 @@ const PARTS: [Class; 12] = [
 
 // Classes of the standard that aren't read.
 const OTHER_CLASSES: [Entry; 11] = [
-    Entry {
-        keyword: b"BOUNDCRS",
-        sentence: Sentence::Bound,
-        words: b"",
-    },
-    Entry {
-        keyword: b"ENGCRS",
-        sentence: Sentence::Class,
-        words: b"Engineering CRSs",
-    },
-    Entry {
-        keyword: b"ENGINEERINGCRS",
-        sentence: Sentence::Class,
-        words: b"Engineering CRSs",
-    },
-    Entry {
-        keyword: b"PARAMETRICCRS",
-        sentence: Sentence::Class,
-        words: b"Parametric CRSs",
-    },
-    Entry {
-        keyword: b"TIMECRS",
-        sentence: Sentence::Class,
-        words: b"Temporal CRSs",
-    },
-    Entry {
-        keyword: b"DERIVEDPROJCRS",
-        sentence: Sentence::Class,
-        words: b"Derived CRSs",
-    },
-    Entry {
-        keyword: b"IMAGECRS",
-        sentence: Sentence::Class,
-        words: b"Image CRSs",
-    },
-    Entry {
-        keyword: b"COORDINATEOPERATION",
-        sentence: Sentence::Operation,
-        words: b"",
-    },
-    Entry {
-        keyword: b"CONCATENATEDOPERATION",
-        sentence: Sentence::Operation,
-        words: b"",
-    },
-    Entry {
-        keyword: b"POINTMOTIONOPERATION",
-        sentence: Sentence::Operation,
-        words: b"",
-    },
-    Entry {
-        keyword: b"COORDINATEMETADATA",
-        sentence: Sentence::Metadata,
-        words: b"",
-    },
+    (b"BOUNDCRS", sentence::BOUND, b""),
+    (b"ENGCRS", sentence::CLASS, b"Engineering CRSs"),
+    (b"ENGINEERINGCRS", sentence::CLASS, b"Engineering CRSs"),
+    (b"PARAMETRICCRS", sentence::CLASS, b"Parametric CRSs"),
+    (b"TIMECRS", sentence::CLASS, b"Temporal CRSs"),
+    (b"DERIVEDPROJCRS", sentence::CLASS, b"Derived CRSs"),
+    (b"IMAGECRS", sentence::CLASS, b"Image CRSs"),
+    (b"COORDINATEOPERATION", sentence::OPERATION, b""),
+    (b"CONCATENATEDOPERATION", sentence::OPERATION, b""),
+    (b"POINTMOTIONOPERATION", sentence::OPERATION, b""),
+    (b"COORDINATEMETADATA", sentence::METADATA, b""),
 ];
 
 // Keywords that tools write and that aren't read.
 const OTHER_KEYWORDS: [Entry; 9] = [
-    Entry {
-        keyword: b"AUTHORITY",
-        sentence: Sentence::Keyword,
-        words: b"AUTHORITY is WKT1's identifier",
-    },
-    Entry {
-        keyword: b"EXTENSION",
-        sentence: Sentence::Keyword,
-        words: b"EXTENSION is WKT1's",
-    },
-    Entry {
-        keyword: b"TOWGS84",
-        sentence: Sentence::Transformation,
-        words: b"TOWGS84",
-    },
-    Entry {
-        keyword: b"TIMEEXTENT",
-        sentence: Sentence::Keyword,
-        words: b"A usage's TIMEEXTENT isn't read",
-    },
-    Entry {
-        keyword: b"AXISMINVALUE",
-        sentence: Sentence::Keyword,
-        words: b"An axis's range isn't read",
-    },
-    Entry {
-        keyword: b"AXISMAXVALUE",
-        sentence: Sentence::Keyword,
-        words: b"An axis's range isn't read",
-    },
-    Entry {
-        keyword: b"RANGEMEANING",
-        sentence: Sentence::Keyword,
-        words: b"An axis's range isn't read",
-    },
-    Entry {
-        keyword: b"DERIVINGCONVERSION",
-        sentence: Sentence::Keyword,
-        words: b"Derived CRSs aren't read",
-    },
-    Entry {
-        keyword: b"BASEVERTCRS",
-        sentence: Sentence::Keyword,
-        words: b"Derived CRSs aren't read",
-    },
+    (
+        b"AUTHORITY",
+        sentence::KEYWORD,
+        b"AUTHORITY is WKT1's identifier",
+    ),
+    (b"EXTENSION", sentence::KEYWORD, b"EXTENSION is WKT1's"),
+    (b"TOWGS84", sentence::TRANSFORMATION, b"TOWGS84"),
+    (
+        b"TIMEEXTENT",
+        sentence::KEYWORD,
+        b"A usage's TIMEEXTENT isn't read",
+    ),
+    (
+        b"AXISMINVALUE",
+        sentence::KEYWORD,
+        b"An axis's range isn't read",
+    ),
+    (
+        b"AXISMAXVALUE",
+        sentence::KEYWORD,
+        b"An axis's range isn't read",
+    ),
+    (
+        b"RANGEMEANING",
+        sentence::KEYWORD,
+        b"An axis's range isn't read",
+    ),
+    (
+        b"DERIVINGCONVERSION",
+        sentence::KEYWORD,
+        b"Derived CRSs aren't read",
+    ),
+    (
+        b"BASEVERTCRS",
+        sentence::KEYWORD,
+        b"Derived CRSs aren't read",
+    ),
 ];
 
 /// What a text is by its first keyword.
 pub(crate) fn by_class(keyword: &[u8]) -> Option<Hint<'_>> {
     if is_one_of(keyword, &OLD_CLASSES) {
-        return Some(Hint::of(Sentence::Wkt1));
+        return Some(Hint::of_piece(sentence::WKT1, Form::Plain, sentence::BY_PROJ));
     }
     if names_one_of(keyword, &PARTS) {
-        return Some(Hint::of_piece(Sentence::Part, Form::Capitals, keyword));
+        return Some(Hint::of_piece(sentence::PART, Form::Capitals, keyword));
     }
     entry_of(keyword, &OTHER_CLASSES)
 }
@@ -167,15 +112,15 @@ pub(crate) fn is_of_text(keyword: &[u8]) -> bool {
 /// What a node is that isn't allowed where it is, by its keyword.
 pub(crate) fn by_keyword<'a>(number: u8, keyword: &[u8]) -> Option<Hint<'a>> {
     if number == NOT_HERE && names(keyword, Class::BaseCrs) {
-        return Some(Hint::of(Sentence::Derived));
+        return Some(Hint::of(sentence::DERIVED));
     }
     entry_of(keyword, &OTHER_KEYWORDS).or(entry_of(keyword, &OTHER_CLASSES))
 }
 
 fn entry_of<'a>(keyword: &[u8], entries: &[Entry]) -> Option<Hint<'a>> {
-    for entry in entries {
-        if entry.keyword.eq_ignore_ascii_case(keyword) {
-            return Some(Hint::of_piece(entry.sentence, Form::Plain, entry.words));
+    for (own, sentence, words) in entries {
+        if own.eq_ignore_ascii_case(keyword) {
+            return Some(Hint::of_piece(sentence, Form::Plain, words));
         }
     }
     None

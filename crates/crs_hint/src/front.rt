@@ -1,20 +1,17 @@
 //! What a text is by its front.
 use crate::class::by_class;
 use crate::glance::{begins, digit_count, is_one_of, keyword_at, rest, word_at};
-use crate::hint::{Form, Hint, Sentence};
+use crate::hint::{Form, Hint};
+use crate::sentence;
 use crate::string::by_string;
 
-/// A kind of file that is no text: its first bytes, and what to say of it.
-struct Format {
-    first_bytes: &'static [u8],
-    sentence: Sentence,
-    words: &'static [u8],
-}
+// The first bytes of a file that is no text, and the sentence and the words that tell of it.
+type Format = (&'static [u8], &'static str, &'static [u8]);
 
 /// What a text is by its front, which has no white space around it.
 pub(crate) fn by_front<'a>(text: &'a [u8], front: &'a [u8]) -> Option<Hint<'a>> {
     if front.is_empty() {
-        return Some(Hint::of(Sentence::Empty));
+        return Some(Hint::of(sentence::EMPTY));
     }
     let by_bytes = by_first_bytes(text).or(by_utf16(text)).or(by_mark(front));
     if by_bytes.is_some() {
@@ -22,7 +19,7 @@ pub(crate) fn by_front<'a>(text: &'a [u8], front: &'a [u8]) -> Option<Hint<'a>> 
     }
     let geometry = geometry_of(front);
     if !geometry.is_empty() {
-        return Some(Hint::of_piece(Sentence::Geometry, Form::Capitals, geometry));
+        return Some(Hint::of_piece(sentence::GEOMETRY, Form::Capitals, geometry));
     }
     let keyword = keyword_at(front);
     if keyword.is_empty() {
@@ -32,87 +29,27 @@ pub(crate) fn by_front<'a>(text: &'a [u8], front: &'a [u8]) -> Option<Hint<'a>> 
     }
 }
 
-fn by_first_bytes<'a>(text: &[u8]) -> Option<Hint<'a>> {
-    of_format(text, &FORMATS)
-}
-
 const FORMATS: [Format; 14] = [
-    Format {
-        first_bytes: b"\x00\x00\x27\x0a",
-        sentence: Sentence::Shapefile,
-        words: b"",
-    },
-    Format {
-        first_bytes: b"SQLite format 3\0",
-        sentence: Sentence::GeoPackage,
-        words: b"",
-    },
-    Format {
-        first_bytes: b"II*\0",
-        sentence: Sentence::Binary,
-        words: b"a GeoTIFF, or another TIFF",
-    },
-    Format {
-        first_bytes: b"MM\0*",
-        sentence: Sentence::Binary,
-        words: b"a GeoTIFF, or another TIFF",
-    },
-    Format {
-        first_bytes: b"II+\0",
-        sentence: Sentence::Binary,
-        words: b"a GeoTIFF, or another TIFF",
-    },
-    Format {
-        first_bytes: b"MM\0+",
-        sentence: Sentence::Binary,
-        words: b"a GeoTIFF, or another TIFF",
-    },
-    Format {
-        first_bytes: b"\x89HDF",
-        sentence: Sentence::Binary,
-        words: b"netCDF or HDF5",
-    },
-    Format {
-        first_bytes: b"CDF\x01",
-        sentence: Sentence::Binary,
-        words: b"netCDF",
-    },
-    Format {
-        first_bytes: b"CDF\x02",
-        sentence: Sentence::Binary,
-        words: b"netCDF",
-    },
-    Format {
-        first_bytes: b"\x00\x00\x00\x0cjP  ",
-        sentence: Sentence::Binary,
-        words: b"JPEG 2000",
-    },
-    Format {
-        first_bytes: b"fgb\x03fgb",
-        sentence: Sentence::Binary,
-        words: b"a FlatGeobuf",
-    },
-    Format {
-        first_bytes: b"PAR1",
-        sentence: Sentence::Binary,
-        words: b"a Parquet file",
-    },
-    Format {
-        first_bytes: b"PK\x03\x04",
-        sentence: Sentence::Archive,
-        words: b"a zip archive",
-    },
-    Format {
-        first_bytes: b"\x1f\x8b",
-        sentence: Sentence::Archive,
-        words: b"a gzip archive",
-    },
+    (b"\x00\x00\x27\x0a", sentence::SHAPEFILE, b""),
+    (b"SQLite format 3\0", sentence::GEO_PACKAGE, b""),
+    (b"II*\0", sentence::BINARY, b"a GeoTIFF, or another TIFF"),
+    (b"MM\0*", sentence::BINARY, b"a GeoTIFF, or another TIFF"),
+    (b"II+\0", sentence::BINARY, b"a GeoTIFF, or another TIFF"),
+    (b"MM\0+", sentence::BINARY, b"a GeoTIFF, or another TIFF"),
+    (b"\x89HDF", sentence::BINARY, b"netCDF or HDF5"),
+    (b"CDF\x01", sentence::BINARY, b"netCDF"),
+    (b"CDF\x02", sentence::BINARY, b"netCDF"),
+    (b"\x00\x00\x00\x0cjP  ", sentence::BINARY, b"JPEG 2000"),
+    (b"fgb\x03fgb", sentence::BINARY, b"a FlatGeobuf"),
+    (b"PAR1", sentence::BINARY, b"a Parquet file"),
+    (b"PK\x03\x04", sentence::ARCHIVE, b"a zip archive"),
+    (b"\x1f\x8b", sentence::ARCHIVE, b"a gzip archive"),
 ];
 
-fn of_format<'a>(text: &[u8], formats: &[Format]) -> Option<Hint<'a>> {
-    for format in formats {
-        if text.starts_with(format.first_bytes) {
-            return Some(Hint::of_piece(format.sentence, Form::Plain, format.words));
+fn by_first_bytes<'a>(text: &[u8]) -> Option<Hint<'a>> {
+    for (first_bytes, sentence, words) in FORMATS {
+        if text.starts_with(first_bytes) {
+            return Some(Hint::of_piece(sentence, Form::Plain, words));
         }
     }
     None
@@ -120,14 +57,14 @@ fn of_format<'a>(text: &[u8], formats: &[Format]) -> Option<Hint<'a>> {
 
 // A byte order mark, another notation, or quotes around the text.
 fn by_mark<'a>(front: &[u8]) -> Option<Hint<'a>> {
-    let sentence = match front {
-        [0xef, 0xbb, 0xbf, ..] => Sentence::ByteOrderMark,
-        [b'{', ..] => Sentence::Json,
-        [b'<', ..] => Sentence::Xml,
-        [b'"', ..] | [b'\'', ..] => Sentence::Quoted,
+    let (sentence, words) = match front {
+        [0xef, 0xbb, 0xbf, ..] => (sentence::BYTE_ORDER_MARK, b"".as_slice()),
+        [b'{', ..] => (sentence::JSON, sentence::BY_PROJ),
+        [b'<', ..] => (sentence::XML, b"".as_slice()),
+        [b'"', ..] | [b'\'', ..] => (sentence::QUOTED, b"".as_slice()),
         _ => return None,
     };
-    Some(Hint::of(sentence))
+    Some(Hint::of_piece(sentence, Form::Plain, words))
 }
 
 // UTF-16 by its byte order mark; without one by the first four bytes, of which every second is zero. White space at the
@@ -139,7 +76,7 @@ fn by_utf16<'a>(text: &[u8]) -> Option<Hint<'a>> {
         [a, 0, b, 0, ..] if *a != 0 && *b != 0 => b"UTF-16LE",
         _ => return None,
     };
-    Some(Hint::of_piece(Sentence::Utf16, Form::Plain, name))
+    Some(Hint::of_piece(sentence::UTF16, Form::Plain, name))
 }
 
 const GEOMETRIES: [&[u8]; 7] = [
@@ -166,13 +103,9 @@ fn geometry_of(front: &[u8]) -> &[u8] {
 // The bytes after `SRID=28992;`, or all.
 fn behind_srid(front: &[u8]) -> &[u8] {
     let srid = srid_of(front);
-    if srid.is_empty() {
-        front
-    } else {
-        rest(front, srid.len())
-            .strip_prefix(b";")
-            .unwrap_or(front)
-            .trim_ascii_start()
+    match rest(front, srid.len()) {
+        [b';', behind @ ..] if !srid.is_empty() => behind.trim_ascii_start(),
+        _ => front,
     }
 }
 
@@ -191,13 +124,12 @@ pub(crate) fn srid_of(front: &[u8]) -> &[u8] {
 // Whether coordinates, or `EMPTY`, follow the kind of a geometry.
 fn has_coordinates(behind: &[u8]) -> bool {
     let text = behind.trim_ascii_start();
-    if text.starts_with(b"(") || begins(text, b"EMPTY") {
-        return true;
-    }
     let dimension = word_at(text);
-    is_one_of(dimension, &[b"Z", b"M", b"ZM"])
-        && {
-            let text = rest(text, dimension.len()).trim_ascii_start();
-            text.starts_with(b"(") || begins(text, b"EMPTY")
-        }
+    begins_coordinates(text)
+        || is_one_of(dimension, &[b"Z", b"M", b"ZM"])
+            && begins_coordinates(rest(text, dimension.len()).trim_ascii_start())
+}
+
+fn begins_coordinates(text: &[u8]) -> bool {
+    text.starts_with(b"(") || begins(text, b"EMPTY")
 }

@@ -11,18 +11,12 @@ pub(crate) fn looked_at(text: &[u8], place: usize) -> &[u8] {
 
 /// The bytes after so many.
 pub(crate) fn rest(text: &[u8], count: usize) -> &[u8] {
-    match text.get(count..) {
-        Some(rest) => rest,
-        None => b"",
-    }
+    text.get(count..).unwrap_or(b"")
 }
 
 /// The first bytes, at most so many.
 pub(crate) fn front(text: &[u8], count: usize) -> &[u8] {
-    match text.get(..count) {
-        Some(front) => front,
-        None => text,
-    }
+    text.get(..count).unwrap_or(text)
 }
 
 /// The last bytes, at most so many.
@@ -42,12 +36,7 @@ pub(crate) fn ends(text: &[u8], words: &[u8]) -> bool {
 
 /// Whether a word is one of these, letter case aside.
 pub(crate) fn is_one_of(word: &[u8], words: &[&[u8]]) -> bool {
-    for it in words {
-        if it.eq_ignore_ascii_case(word) {
-            return true;
-        }
-    }
-    false
+    words.iter().any(|it| it.eq_ignore_ascii_case(word))
 }
 
 /// Whether a word is a keyword of this class, letter case aside.

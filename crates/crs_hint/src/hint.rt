@@ -3,60 +3,8 @@
 /// What to say of a text: a sentence, and what is filled in.
 #[derive(Clone, Copy)]
 pub(crate) struct Hint<'a> {
-    pub(crate) sentence: Sentence,
+    pub(crate) sentence: &'static str,
     pub(crate) filled: Filled<'a>,
-}
-
-/// The sentences of hints, named by what they say.
-#[derive(Clone, Copy)]
-pub(crate) enum Sentence {
-    Empty,
-    Binary,
-    Shapefile,
-    GeoPackage,
-    Archive,
-    ByteOrderMark,
-    Utf16,
-    Json,
-    Xml,
-    Quoted,
-    Geometry,
-    Srid,
-    ProjString,
-    Code,
-    Path,
-    Wkt1,
-    MakesBound,
-    Bound,
-    Class,
-    Operation,
-    Derived,
-    Metadata,
-    Part,
-    Keyword,
-    Transformation,
-    SecondText,
-    OneTooMany,
-    Behind,
-    ClosedEarly,
-    StillOpen,
-    CutOff,
-    QuoteOpen,
-    QuoteMissing,
-    ClosedBy,
-    Outside,
-    DecimalComma,
-    Thousands,
-    NumberCutOff,
-    Date,
-    WithUnit,
-    TypographicQuote,
-    SingleQuote,
-    XmlQuote,
-    EscapedQuote,
-    Semicolon,
-    Control,
-    Latin1,
 }
 
 /// What is filled into a sentence.
@@ -70,9 +18,9 @@ pub(crate) enum Filled<'a> {
     /// A byte, in hexadecimal digits.
     Byte(u8),
     /// The node that is open at the place of the refusal, and by which delimiter it is closed.
-    Closing,
+    Closing(Open),
     /// The first node before the place that is where none of its kind can be, and the node that it is in.
-    Inside,
+    Inside(Open, Open),
     /// All delimiters that are open at the place of the refusal.
     AllOpen,
     /// The same, each after a comma.
@@ -101,24 +49,18 @@ pub(crate) struct Open {
 }
 
 impl<'a> Hint<'a> {
-    /// A hint with nothing filled in.
-    pub(crate) fn of(sentence: Sentence) -> Hint<'a> {
-        Hint {
-            sentence,
-            filled: Filled::Nothing,
-        }
-    }
-
     /// A hint with this filled in.
-    pub(crate) fn with(sentence: Sentence, filled: Filled<'a>) -> Hint<'a> {
+    pub(crate) fn with(sentence: &'static str, filled: Filled<'a>) -> Hint<'a> {
         Hint { sentence, filled }
     }
 
+    /// A hint with nothing filled in.
+    pub(crate) fn of(sentence: &'static str) -> Hint<'a> {
+        Hint::with(sentence, Filled::Nothing)
+    }
+
     /// A hint with a piece filled in, or with words.
-    pub(crate) fn of_piece(sentence: Sentence, form: Form, piece: &'a [u8]) -> Hint<'a> {
-        Hint {
-            sentence,
-            filled: Filled::Piece(form, piece),
-        }
+    pub(crate) fn of_piece(sentence: &'static str, form: Form, piece: &'a [u8]) -> Hint<'a> {
+        Hint::with(sentence, Filled::Piece(form, piece))
     }
 }

@@ -3,14 +3,6 @@
 /// What the number of a refusal means, in a sentence. Profile.
 pub fn meaning(number: u8) -> &'static str {
     match number {
-        0..=8 => of_text(number),
-        9..=13 => of_shape(number),
-        _ => of_value(number),
-    }
-}
-
-fn of_text(number: u8) -> &'static str {
-    match number {
         1 =>
             "This byte begins no token: outside quotes a text has delimiters, commas, numbers and words alone.",
         2 => "A number is expected here, and this doesn't have the form of one.",
@@ -27,22 +19,10 @@ fn of_text(number: u8) -> &'static str {
         7 => {
             "The text ends before it is complete: a closing delimiter is missing somewhere before, or it was cut off."
         }
-        _ => "More than 12 delimiters are open here.",
-    }
-}
-
-fn of_shape(number: u8) -> &'static str {
-    match number {
+        0 | 8 => "More than 12 delimiters are open here.",
         11 => "This keyword is in no table, and no node of this name may be here.",
-        12 => {
-            "This may not be at this place of its node, or what must come before it is missing."
-        }
-        _ => "The node that is closed here lacks a part that it must have.",
-    }
-}
-
-fn of_value(number: u8) -> &'static str {
-    match number {
+        12 => "This may not be at this place of its node, or what must come before it is missing.",
+        9 | 10 | 13 => "The node that is closed here lacks a part that it must have.",
         21 => "This type of coordinate system, or this direction of an axis, isn't known.",
         22 => "This part may be given once, and is given here again.",
         23 => "The coordinate system's type and dimension don't fit a CRS of this kind.",

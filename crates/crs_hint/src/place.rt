@@ -3,8 +3,9 @@ use crate::before::look_before;
 use crate::class::by_keyword;
 use crate::delimiter::{by_delimiters, by_whole_text};
 use crate::glance::{back, digit_count, front, keyword_at, looked_at, rest};
-use crate::hint::{Filled, Hint, Sentence};
+use crate::hint::{Filled, Hint};
 use crate::refused::{BAD_CHARACTER, BAD_NUMBER, NOT_HERE, NOT_UTF8, UNKNOWN_KEYWORD};
+use crate::sentence;
 
 /// What is at the place of a refusal, or is missing before it.
 pub(crate) fn by_place(text: &[u8], number: u8, place: usize) -> Option<Hint<'_>> {
@@ -14,7 +15,7 @@ pub(crate) fn by_place(text: &[u8], number: u8, place: usize) -> Option<Hint<'_>
     let hint = match number {
         BAD_CHARACTER => by_character(there),
         BAD_NUMBER => by_number(text, place),
-        NOT_UTF8 => Some(Hint::of(Sentence::Latin1)),
+        NOT_UTF8 => Some(Hint::of(sentence::LATIN1)),
         UNKNOWN_KEYWORD => by_keyword(number, keyword_at(there)),
         NOT_HERE => by_keyword(number, keyword_at(there)).or(by_comma(before, there)),
         _ => None,
@@ -24,71 +25,32 @@ pub(crate) fn by_place(text: &[u8], number: u8, place: usize) -> Option<Hint<'_>
         .or(by_delimiters(&found, number, before, there))
 }
 
-/// A quote that isn't straight, by its bytes, and what to say of it.
-struct Quote {
-    bytes: &'static [u8],
-    sentence: Sentence,
-}
-
-const QUOTES: [Quote; 9] = [
-    Quote {
-        bytes: b"&quot;",
-        sentence: Sentence::XmlQuote,
-    },
-    Quote {
-        bytes: b"&#34;",
-        sentence: Sentence::XmlQuote,
-    },
-    Quote {
-        bytes: b"\\\"",
-        sentence: Sentence::EscapedQuote,
-    },
-    Quote {
-        bytes: b"\xe2\x80\x9c",
-        sentence: Sentence::TypographicQuote,
-    },
-    Quote {
-        bytes: b"\xe2\x80\x9d",
-        sentence: Sentence::TypographicQuote,
-    },
-    Quote {
-        bytes: b"\xe2\x80\x9e",
-        sentence: Sentence::TypographicQuote,
-    },
-    Quote {
-        bytes: b"\xc2\xab",
-        sentence: Sentence::TypographicQuote,
-    },
-    Quote {
-        bytes: b"\xc2\xbb",
-        sentence: Sentence::TypographicQuote,
-    },
-    Quote {
-        bytes: b"'",
-        sentence: Sentence::SingleQuote,
-    },
+// Characters by their bytes, most of them quotes that aren't straight, and what to say of each.
+const CHARACTERS: [(&[u8], &str); 10] = [
+    (b"&quot;", sentence::XML_QUOTE),
+    (b"&#34;", sentence::XML_QUOTE),
+    (b"\\\"", sentence::ESCAPED_QUOTE),
+    (b"\xe2\x80\x9c", sentence::TYPOGRAPHIC_QUOTE),
+    (b"\xe2\x80\x9d", sentence::TYPOGRAPHIC_QUOTE),
+    (b"\xe2\x80\x9e", sentence::TYPOGRAPHIC_QUOTE),
+    (b"\xc2\xab", sentence::TYPOGRAPHIC_QUOTE),
+    (b"\xc2\xbb", sentence::TYPOGRAPHIC_QUOTE),
+    (b"'", sentence::SINGLE_QUOTE),
+    (b";", sentence::SEMICOLON),
 ];
 
 // What a byte is that begins no token.
 fn by_character<'a>(there: &[u8]) -> Option<Hint<'a>> {
-    by_quote(there, &QUOTES).or(by_control(there))
-}
-
-fn by_quote<'a>(there: &[u8], quotes: &[Quote]) -> Option<Hint<'a>> {
-    for quote in quotes {
-        if there.starts_with(quote.bytes) {
-            return Some(Hint::of(quote.sentence));
+    for (bytes, sentence) in CHARACTERS {
+        if there.starts_with(bytes) {
+            return Some(Hint::of(sentence));
         }
     }
-    None
-}
-
-fn by_control<'a>(there: &[u8]) -> Option<Hint<'a>> {
-    let byte = *there.first()?;
-    if byte.is_ascii_control() {
-        Some(Hint::with(Sentence::Control, Filled::Byte(byte)))
-    } else {
-        None
+    match there {
+        [byte, ..] if byte.is_ascii_control() => {
+            Some(Hint::with(sentence::CONTROL, Filled::Byte(*byte)))
+        }
+        _ => None,
     }
 }
 
@@ -96,11 +58,11 @@ fn by_control<'a>(there: &[u8]) -> Option<Hint<'a>> {
 fn by_number<'a>(text: &[u8], place: usize) -> Option<Hint<'a>> {
     let there = looked_at(text, place);
     if is_cut_off(rest(text, place)) {
-        Some(Hint::of(Sentence::NumberCutOff))
+        Some(Hint::of(sentence::NUMBER_CUT_OFF))
     } else if is_date(there) {
-        Some(Hint::of(Sentence::Date))
+        Some(Hint::of(sentence::DATE))
     } else if has_unit(there) {
-        Some(Hint::of(Sentence::WithUnit))
+        Some(Hint::of(sentence::WITH_UNIT))
     } else {
         None
     }
@@ -142,9 +104,9 @@ fn by_comma<'a>(before: &[u8], there: &[u8]) -> Option<Hint<'a>> {
         return None;
     }
     if digit_count(there) == 3 && ends_with_thousands(before) {
-        Some(Hint::of(Sentence::Thousands))
+        Some(Hint::of(sentence::THOUSANDS))
     } else {
-        Some(Hint::of(Sentence::DecimalComma))
+        Some(Hint::of(sentence::DECIMAL_COMMA))
     }
 }
 

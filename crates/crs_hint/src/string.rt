@@ -1,47 +1,41 @@
 //! What a text is that doesn't begin with a node.
 use crate::front::srid_of;
 use crate::glance::{begins, digit_count, ends, front, is_of_word, rest, word_length};
-use crate::hint::{Form, Hint, Sentence};
+use crate::hint::{Form, Hint};
+use crate::sentence;
 
 /// What a text is that doesn't begin with a node, by its front.
 pub(crate) fn by_string(text: &[u8]) -> Option<Hint<'_>> {
     let srid = srid_of(text);
     if !srid.is_empty() {
-        return Some(Hint::of_piece(Sentence::Srid, Form::Plain, srid));
+        return Some(Hint::of_piece(sentence::SRID, Form::Plain, srid));
     }
     if is_proj_string(text) {
-        return Some(Hint::of(Sentence::ProjString));
+        return Some(Hint::of_piece(sentence::PROJ_STRING, Form::Plain, sentence::BY_PROJ));
     }
     if digit_count(text) == text.len() {
-        return Some(Hint::of_piece(Sentence::Code, Form::Code, text));
+        return Some(Hint::of_piece(sentence::CODE, Form::Code, text));
     }
     if is_code(text) || is_address(text) {
-        return Some(Hint::of_piece(Sentence::Code, Form::ShellWord, text));
+        return Some(Hint::of_piece(sentence::CODE, Form::ShellWord, text));
     }
     if is_path(text) {
-        return Some(Hint::of(Sentence::Path));
+        return Some(Hint::of(sentence::PATH));
     }
     None
 }
 
 // `+proj=utm ..`, also without plus signs, or with `init=`, or with other words before.
 fn is_proj_string(text: &[u8]) -> bool {
-    let first = without_plus(text);
-    begins(first, b"proj=") || begins(first, b"init=") || has_proj_behind(text)
-}
-
-fn has_proj_behind(text: &[u8]) -> bool {
-    for (at, byte) in text.iter().enumerate() {
-        if byte.is_ascii_whitespace() && begins(without_plus(rest(text, at + 1)), b"proj=") {
-            return true;
-        }
-    }
-    false
+    let mut words = text.split(|it| it.is_ascii_whitespace());
+    begins(without_plus(text), b"init=") || words.any(|it| begins(without_plus(it), b"proj="))
 }
 
 fn without_plus(text: &[u8]) -> &[u8] {
     text.strip_prefix(b"+").unwrap_or(text)
 }
+
+const TRANSFORMATIONS: [&[u8]; 3] = [b"towgs84", b"nadgrids", b"geoidgrids"];
 
 /// The word of a PROJ string that asks for a transformation, such as `+towgs84`; empty where there is none.
 pub(crate) fn transformation_of(text: &[u8]) -> &[u8] {
@@ -56,11 +50,7 @@ pub(crate) fn transformation_of(text: &[u8]) -> &[u8] {
 
 fn transformation_at(text: &[u8]) -> &[u8] {
     let plus = if text.starts_with(b"+") { 1 } else { 0 };
-    for name in [
-        b"towgs84".as_slice(),
-        b"nadgrids".as_slice(),
-        b"geoidgrids".as_slice(),
-    ] {
+    for name in TRANSFORMATIONS {
         if begins(rest(text, plus), name) {
             return front(text, plus.saturating_add(name.len()));
         }
@@ -109,17 +99,8 @@ fn is_path(text: &[u8]) -> bool {
     match text {
         [b'/', ..] | [b'.' | b'~', b'/', ..] | [b'.', b'.', b'/', ..] => true,
         [drive, b':', b'\\', ..] => drive.is_ascii_alphabetic(),
-        _ => has_ending(text, &ENDINGS) && !text.iter().any(|it| is_of_wkt(*it)),
+        _ => ENDINGS.iter().any(|it| ends(text, it)) && !text.iter().any(|it| is_of_wkt(*it)),
     }
-}
-
-fn has_ending(text: &[u8], endings: &[&[u8]]) -> bool {
-    for ending in endings {
-        if ends(text, ending) {
-            return true;
-        }
-    }
-    false
 }
 
 fn is_of_wkt(byte: u8) -> bool {

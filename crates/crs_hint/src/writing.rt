@@ -1,15 +1,18 @@
 //! Which hints apply to a refused text, and how they are written.
-use crate::before::{Before, keyword_of, look_before, node_at};
+use crate::before::{keyword_of, look_before, node_at};
 use crate::class::has_transformation;
 use crate::front::by_front;
 use crate::glance::{looked_at, rest};
-use crate::hint::{Filled, Form, Hint, Open, Sentence};
+use crate::hint::{Filled, Form, Hint, Open};
 use crate::place::by_place;
 use crate::refused::LAST_OF_TEXT;
-use crate::sentence::words_of;
+use crate::sentence;
 use crate::string::transformation_of;
 use itoa::Buffer;
 use std::alloc::{AllocError, Global};
+
+// Whether there was memory for what was appended.
+type Appended = Result<(), AllocError>;
 
 /// The hints that apply to a refused text, a sentence or more without a line end; nothing where none applies. A hint
 /// looks at the text's first bytes, at the place of the refusal, and at what is open there. Profile.
@@ -27,12 +30,7 @@ pub fn hints(alloc: Global, text: &[u8], number: u8, place: usize) -> Result<Vec
 }
 
 // A further hint, if there is one.
-fn append_next(
-    hint: Option<Hint<'_>>,
-    text: &[u8],
-    place: usize,
-    out: &mut Vec<u8>,
-) -> Result<(), AllocError> {
+fn append_next(hint: Option<Hint<'_>>, text: &[u8], place: usize, out: &mut Vec<u8>) -> Appended {
     let Some(hint) = hint else {
         return Ok(());
     };
@@ -51,9 +49,9 @@ fn beside<'a>(whole: Option<Hint<'a>>, there: Option<Hint<'a>>, number: u8) -> O
     let there = there?;
     let is_of_class = matches!(
         whole.sentence,
-        Sentence::Wkt1 | Sentence::Bound | Sentence::Class
+        sentence::WKT1 | sentence::BOUND | sentence::CLASS
     );
-    let is_damage = !matches!(there.sentence, Sentence::SecondText | Sentence::Behind);
+    let is_damage = !matches!(there.sentence, sentence::SECOND_TEXT | sentence::BEHIND);
     if is_of_class && is_damage && number <= LAST_OF_TEXT {
         Some(there)
     } else {
@@ -63,19 +61,15 @@ fn beside<'a>(whole: Option<Hint<'a>>, there: Option<Hint<'a>>, number: u8) -> O
 
 // The transformation with which a text becomes a `BOUNDCRS`.
 fn bound<'a>(whole: Option<Hint<'a>>, text: &'a [u8], front: &'a [u8]) -> Option<Hint<'a>> {
-    match whole?.sentence {
-        Sentence::Wkt1 if has_transformation(text) => {
-            Some(Hint::of_piece(Sentence::MakesBound, Form::Plain, b"TOWGS84"))
-        }
-        Sentence::ProjString => {
-            let word = transformation_of(front);
-            if word.is_empty() {
-                return None;
-            }
-            Some(Hint::of_piece(Sentence::MakesBound, Form::Plain, word))
-        }
-        _ => None,
+    let word = match whole?.sentence {
+        sentence::WKT1 if has_transformation(text) => b"TOWGS84",
+        sentence::PROJ_STRING => transformation_of(front),
+        _ => b"",
+    };
+    if word.is_empty() {
+        return None;
     }
+    Some(Hint::of_piece(sentence::MAKES_BOUND, Form::Plain, word))
 }
 
 /// The node whose opening delimiter is at this place, as `CS[ at 24`, where its keyword begins. Profile.
@@ -88,25 +82,24 @@ pub fn opened(alloc: Global, text: &[u8], at: usize) -> Result<Vec<u8>, AllocErr
     Ok(out)
 }
 
-fn append_hint(
-    hint: Hint<'_>,
-    text: &[u8],
-    place: usize,
-    out: &mut Vec<u8>,
-) -> Result<(), AllocError> {
-    let words = words_of(hint.sentence);
-    out.extend_from_slice(words.front.as_bytes())?;
+fn append_hint(hint: Hint<'_>, text: &[u8], place: usize, out: &mut Vec<u8>) -> Appended {
+    let words = hint.sentence;
+    let (front, back) = words.split_once("{}").unwrap_or((words, ""));
+    out.extend_from_slice(front.as_bytes())?;
     match hint.filled {
         Filled::Nothing => {}
         Filled::Piece(form, piece) => append_piece(form, piece, out)?,
         Filled::Place(place) => append_number(place, out)?,
         Filled::Byte(byte) => append_byte(byte, out)?,
-        filled => append_nodes(filled, text, &look_before(text, place), out)?,
+        Filled::Closing(open) => append_closing(text, open, out)?,
+        Filled::Inside(node, outer) => append_inside(text, node, outer, out)?,
+        Filled::AllOpen => append_open(text, look_before(text, place).all_open(), true, out)?,
+        Filled::MoreOpen => append_open(text, look_before(text, place).all_open(), false, out)?,
     }
-    out.extend_from_slice(words.back.as_bytes())
+    out.extend_from_slice(back.as_bytes())
 }
 
-fn append_piece(form: Form, piece: &[u8], out: &mut Vec<u8>) -> Result<(), AllocError> {
+fn append_piece(form: Form, piece: &[u8], out: &mut Vec<u8>) -> Appended {
     match form {
         Form::Plain => out.extend_from_slice(piece),
         Form::Capitals => append_capitals(piece, out),
@@ -115,33 +108,33 @@ fn append_piece(form: Form, piece: &[u8], out: &mut Vec<u8>) -> Result<(), Alloc
     }
 }
 
-fn append_capitals(piece: &[u8], out: &mut Vec<u8>) -> Result<(), AllocError> {
+fn append_capitals(piece: &[u8], out: &mut Vec<u8>) -> Appended {
     for byte in piece {
         out.push(byte.to_ascii_uppercase())?;
     }
     Ok(())
 }
 
-fn append_code(digits: &[u8], out: &mut Vec<u8>) -> Result<(), AllocError> {
+fn append_code(digits: &[u8], out: &mut Vec<u8>) -> Appended {
     out.extend_from_slice(b"EPSG:")?;
     out.extend_from_slice(digits)
 }
 
-fn append_number(number: usize, out: &mut Vec<u8>) -> Result<(), AllocError> {
+fn append_number(number: usize, out: &mut Vec<u8>) -> Appended {
     let mut digits = Buffer::new();
     out.extend_from_slice(digits.format(number).as_bytes())
 }
 
 const HEX: [u8; 16] = *b"0123456789abcdef";
 
-fn append_byte(byte: u8, out: &mut Vec<u8>) -> Result<(), AllocError> {
+fn append_byte(byte: u8, out: &mut Vec<u8>) -> Appended {
     let high = HEX[usize::from(byte / 16)];
     let low = HEX[usize::from(byte % 16)];
     out.extend_from_slice(&[b'0', b'x', high, low])
 }
 
 // The word as it is where a shell takes none of its bytes for anything else, else in single quotes.
-fn append_shell_word(piece: &[u8], out: &mut Vec<u8>) -> Result<(), AllocError> {
+fn append_shell_word(piece: &[u8], out: &mut Vec<u8>) -> Appended {
     if piece.iter().all(|it| is_plain(*it)) {
         return out.extend_from_slice(piece);
     }
@@ -164,23 +157,8 @@ fn is_plain(byte: u8) -> bool {
         )
 }
 
-// The nodes that are open before the place of a refusal, or the one that is where it can't be.
-fn append_nodes(
-    filled: Filled<'_>,
-    text: &[u8],
-    found: &Before,
-    out: &mut Vec<u8>,
-) -> Result<(), AllocError> {
-    match filled {
-        Filled::Closing => append_closing(text, found.innermost(), out),
-        Filled::Inside => append_inside(text, found.outside, out),
-        Filled::AllOpen => append_open(text, found.all_open(), true, out),
-        _ => append_open(text, found.all_open(), false, out),
-    }
-}
-
 // `CS[ at 24`
-fn append_node(text: &[u8], node: Open, out: &mut Vec<u8>) -> Result<(), AllocError> {
+fn append_node(text: &[u8], node: Open, out: &mut Vec<u8>) -> Appended {
     append_capitals(keyword_of(text, node), out)?;
     out.push(node.delimiter)?;
     out.extend_from_slice(b" at ")?;
@@ -188,10 +166,7 @@ fn append_node(text: &[u8], node: Open, out: &mut Vec<u8>) -> Result<(), AllocEr
 }
 
 // `CS[ at 24 is closed by ], not by )`
-fn append_closing(text: &[u8], open: Option<Open>, out: &mut Vec<u8>) -> Result<(), AllocError> {
-    let Some(open) = open else {
-        return Ok(());
-    };
+fn append_closing(text: &[u8], open: Open, out: &mut Vec<u8>) -> Appended {
     append_node(text, open, out)?;
     match open.delimiter {
         b'[' => out.extend_from_slice(b" is closed by ], not by )"),
@@ -200,26 +175,14 @@ fn append_closing(text: &[u8], open: Option<Open>, out: &mut Vec<u8>) -> Result<
 }
 
 // `CS[ at 24 is inside ID[ at 20`
-fn append_inside(
-    text: &[u8],
-    nodes: Option<(Open, Open)>,
-    out: &mut Vec<u8>,
-) -> Result<(), AllocError> {
-    let Some((node, outer)) = nodes else {
-        return Ok(());
-    };
+fn append_inside(text: &[u8], node: Open, outer: Open, out: &mut Vec<u8>) -> Appended {
     append_node(text, node, out)?;
     out.extend_from_slice(b" is inside ")?;
     append_node(text, outer, out)
 }
 
 // Each after a comma, but for the first where the list begins with it.
-fn append_open(
-    text: &[u8],
-    all: &[Open],
-    is_begin: bool,
-    out: &mut Vec<u8>,
-) -> Result<(), AllocError> {
+fn append_open(text: &[u8], all: &[Open], is_begin: bool, out: &mut Vec<u8>) -> Appended {
     let mut is_first = is_begin;
     for open in all {
         if !is_first {
