@@ -2,7 +2,7 @@
 use crate::glance::{begins, ends, is_one_of, names, names_one_of};
 use crate::hint::{Form, Hint};
 use crate::refused::NOT_HERE;
-use crate::sentence;
+use crate::sentence::{self, KEYWORD};
 use crs_shape::Class;
 
 // A keyword, and the sentence and the words that tell of its node.
@@ -53,43 +53,15 @@ const OTHER_CLASSES: [Entry; 11] = [
 
 // Keywords that tools write and that aren't read.
 const OTHER_KEYWORDS: [Entry; 9] = [
-    (
-        b"AUTHORITY",
-        sentence::KEYWORD,
-        b"AUTHORITY is WKT1's identifier",
-    ),
-    (b"EXTENSION", sentence::KEYWORD, b"EXTENSION is WKT1's"),
+    (b"AUTHORITY", KEYWORD, b"AUTHORITY is WKT1's identifier"),
+    (b"EXTENSION", KEYWORD, b"EXTENSION is WKT1's"),
     (b"TOWGS84", sentence::TRANSFORMATION, b"TOWGS84"),
-    (
-        b"TIMEEXTENT",
-        sentence::KEYWORD,
-        b"A usage's TIMEEXTENT isn't read",
-    ),
-    (
-        b"AXISMINVALUE",
-        sentence::KEYWORD,
-        b"An axis's range isn't read",
-    ),
-    (
-        b"AXISMAXVALUE",
-        sentence::KEYWORD,
-        b"An axis's range isn't read",
-    ),
-    (
-        b"RANGEMEANING",
-        sentence::KEYWORD,
-        b"An axis's range isn't read",
-    ),
-    (
-        b"DERIVINGCONVERSION",
-        sentence::KEYWORD,
-        b"Derived CRSs aren't read",
-    ),
-    (
-        b"BASEVERTCRS",
-        sentence::KEYWORD,
-        b"Derived CRSs aren't read",
-    ),
+    (b"TIMEEXTENT", KEYWORD, b"A usage's TIMEEXTENT isn't read"),
+    (b"AXISMINVALUE", KEYWORD, b"An axis's range isn't read"),
+    (b"AXISMAXVALUE", KEYWORD, b"An axis's range isn't read"),
+    (b"RANGEMEANING", KEYWORD, b"An axis's range isn't read"),
+    (b"DERIVINGCONVERSION", KEYWORD, b"Derived CRSs aren't read"),
+    (b"BASEVERTCRS", KEYWORD, b"Derived CRSs aren't read"),
 ];
 
 /// What a text is by its first keyword.

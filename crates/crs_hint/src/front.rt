@@ -47,7 +47,7 @@ const FORMATS: [Format; 14] = [
 ];
 
 fn by_first_bytes<'a>(text: &[u8]) -> Option<Hint<'a>> {
-    for (first_bytes, sentence, words) in FORMATS {
+    for (first_bytes, sentence, words) in &FORMATS {
         if text.starts_with(first_bytes) {
             return Some(Hint::of_piece(sentence, Form::Plain, words));
         }

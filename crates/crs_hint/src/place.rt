@@ -41,7 +41,7 @@ const CHARACTERS: [(&[u8], &str); 10] = [
 
 // What a byte is that begins no token.
 fn by_character<'a>(there: &[u8]) -> Option<Hint<'a>> {
-    for (bytes, sentence) in CHARACTERS {
+    for (bytes, sentence) in &CHARACTERS {
         if there.starts_with(bytes) {
             return Some(Hint::of(sentence));
         }

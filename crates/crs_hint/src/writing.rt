@@ -47,16 +47,19 @@ fn beside<'a>(whole: Option<Hint<'a>>, there: Option<Hint<'a>>, number: u8) -> O
         return there;
     };
     let there = there?;
-    let is_of_class = matches!(
-        whole.sentence,
-        sentence::WKT1 | sentence::BOUND | sentence::CLASS
-    );
-    let is_damage = !matches!(there.sentence, sentence::SECOND_TEXT | sentence::BEHIND);
-    if is_of_class && is_damage && number <= LAST_OF_TEXT {
+    if is_of_class(whole.sentence) && is_of_damage(there.sentence) && number <= LAST_OF_TEXT {
         Some(there)
     } else {
         None
     }
+}
+
+fn is_of_class(words: &str) -> bool {
+    matches!(words, sentence::WKT1 | sentence::BOUND | sentence::CLASS)
+}
+
+fn is_of_damage(words: &str) -> bool {
+    !matches!(words, sentence::SECOND_TEXT | sentence::BEHIND)
 }
 
 // The transformation with which a text becomes a `BOUNDCRS`.
@@ -86,17 +89,21 @@ fn append_hint(hint: Hint<'_>, text: &[u8], place: usize, out: &mut Vec<u8>) -> 
     let words = hint.sentence;
     let (front, back) = words.split_once("{}").unwrap_or((words, ""));
     out.extend_from_slice(front.as_bytes())?;
-    match hint.filled {
-        Filled::Nothing => {}
-        Filled::Piece(form, piece) => append_piece(form, piece, out)?,
-        Filled::Place(place) => append_number(place, out)?,
-        Filled::Byte(byte) => append_byte(byte, out)?,
-        Filled::Closing(open) => append_closing(text, open, out)?,
-        Filled::Inside(node, outer) => append_inside(text, node, outer, out)?,
-        Filled::AllOpen => append_open(text, look_before(text, place).all_open(), true, out)?,
-        Filled::MoreOpen => append_open(text, look_before(text, place).all_open(), false, out)?,
-    }
+    append_filled(hint.filled, text, place, out)?;
     out.extend_from_slice(back.as_bytes())
+}
+
+fn append_filled(filled: Filled<'_>, text: &[u8], place: usize, out: &mut Vec<u8>) -> Appended {
+    match filled {
+        Filled::Nothing => Ok(()),
+        Filled::Piece(form, piece) => append_piece(form, piece, out),
+        Filled::Place(place) => append_number(place, out),
+        Filled::Byte(byte) => append_byte(byte, out),
+        Filled::Closing(open) => append_closing(text, open, out),
+        Filled::Inside(node, outer) => append_inside(text, node, outer, out),
+        Filled::AllOpen => append_open(text, look_before(text, place).all_open(), true, out),
+        Filled::MoreOpen => append_open(text, look_before(text, place).all_open(), false, out),
+    }
 }
 
 fn append_piece(form: Form, piece: &[u8], out: &mut Vec<u8>) -> Appended {
