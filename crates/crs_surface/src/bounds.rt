@@ -20,10 +20,7 @@ fn are_partly_equal<T: PartialEq>(a: &T, b: &T) -> bool {
 
 /// Whether a value is displayed as this text.
 pub fn is_displayed<T: Display>(alloc: Global, value: &T, text: &str) -> bool {
-    match format!(in alloc; "{value}") {
-        Ok(displayed) => displayed.as_str() == text,
-        Err(_) => false,
-    }
+    matches!(format!(in alloc; "{value}"), Ok(displayed) if displayed.as_str() == text)
 }
 
 /// Whether an error is displayed as this text.

@@ -28,25 +28,15 @@ fn add_lines(catalogue: &mut Catalogue, texts: Texts<'_>) -> bool {
 
 fn adds(catalogue: &mut Catalogue, line: u64, text: &[u8], expected: &str) -> bool {
     let added: Result<Placed, AllocError> = catalogue.add(line, text);
-    match added {
-        Ok(placed) => is_placed(&placed, expected),
-        Err(_error) => false,
-    }
+    matches!(added, Ok(placed) if is_placed(&placed, expected))
 }
 
 fn is_placed(placed: &Placed, expected: &str) -> bool {
     match placed {
         Placed::Blank => expected == "blank",
         Placed::Refused(refusal) => expected == "refused" && is_refusal_of(refusal, 7, 11),
-        Placed::Group(number) => is_group(*number, expected),
-    }
-}
-
-fn is_group(number: usize, expected: &str) -> bool {
-    match number {
-        1 => expected == "group 1",
-        2 => expected == "group 2",
-        _ => false,
+        Placed::Group(1) => expected == "group 1",
+        Placed::Group(number) => *number == 2 && expected == "group 2",
     }
 }
 
@@ -73,8 +63,5 @@ fn has_text(catalogue: &Catalogue, expected: &[u8]) -> bool {
 
 fn has_refused(catalogue: &Catalogue) -> bool {
     let refused: &[(u64, Refusal)] = catalogue.refused();
-    match refused {
-        [(line, refusal)] => *line == 7 && is_refusal_of(refusal, 7, 11),
-        _ => false,
-    }
+    matches!(refused, [(7, refusal)] if is_refusal_of(refusal, 7, 11))
 }

@@ -5,15 +5,24 @@ use crs_decimal::{Decimal, NumberFault};
 use std::alloc::{AllocError, Global};
 
 pub fn check(alloc: Global, tally: &mut Tally) {
-    tally.count("crs_decimal::Decimal", is_value());
+    tally.count("crs_decimal::Decimal", is_value() == Some(true));
     tally.count("crs_decimal::Decimal::parse", is_parsed());
     tally.count("crs_decimal::NumberFault", is_fault_told());
-    tally.count("crs_decimal::Decimal::is_negative", has_sign());
-    tally.count("crs_decimal::Decimal::is_zero", is_zero_told());
-    tally.count("crs_decimal::Decimal::digits", has_digits());
-    tally.count("crs_decimal::Decimal::power", has_power());
+    tally.count(
+        "crs_decimal::Decimal::is_negative",
+        has_sign() == Some(true),
+    );
+    tally.count(
+        "crs_decimal::Decimal::is_zero",
+        is_zero_told() == Some(true),
+    );
+    tally.count("crs_decimal::Decimal::digits", has_digits() == Some(true));
+    tally.count("crs_decimal::Decimal::power", has_power() == Some(true));
     tally.count("crs_decimal::Decimal::whole", is_whole_told());
-    tally.count("crs_decimal::Decimal::write", is_written(alloc));
+    tally.count(
+        "crs_decimal::Decimal::write",
+        is_written(alloc) == Some(true),
+    );
 }
 
 fn number(text: &[u8]) -> Option<Decimal> {
@@ -21,13 +30,9 @@ fn number(text: &[u8]) -> Option<Decimal> {
 }
 
 // Equal exactly where the values are.
-fn is_value() -> bool {
-    match (number(b"10"), number(b"1E1"), number(b"11")) {
-        (Some(ten), Some(same), Some(other)) => {
-            are_equal(&copied(&ten), &same) && !are_equal(&ten, &other)
-        }
-        _ => false,
-    }
+fn is_value() -> Option<bool> {
+    let (ten, same, other) = (number(b"10")?, number(b"1E1")?, number(b"11")?);
+    Some(are_equal(&copied(&ten), &same) && !are_equal(&ten, &other))
 }
 
 fn is_parsed() -> bool {
@@ -47,34 +52,22 @@ fn is_fault(text: &[u8], name: &str) -> bool {
     }
 }
 
-fn has_sign() -> bool {
-    match (number(b"-0"), number(b"-.5")) {
-        (Some(zero), Some(half)) => half.is_negative() && !zero.is_negative(),
-        _ => false,
-    }
+fn has_sign() -> Option<bool> {
+    Some(number(b"-.5")?.is_negative() && !number(b"-0")?.is_negative())
 }
 
-fn is_zero_told() -> bool {
-    match (number(b"0E999"), number(b"-.5")) {
-        (Some(zero), Some(half)) => zero.is_zero() && !half.is_zero(),
-        _ => false,
-    }
+fn is_zero_told() -> Option<bool> {
+    Some(number(b"0E999")?.is_zero() && !number(b"-.5")?.is_zero())
 }
 
-fn has_digits() -> bool {
-    let Some(number) = number(b"-0012.3400") else {
-        return false;
-    };
-    let digits: u128 = number.digits();
-    digits == 1234
+fn has_digits() -> Option<bool> {
+    let digits: u128 = number(b"-0012.3400")?.digits();
+    Some(digits == 1234)
 }
 
-fn has_power() -> bool {
-    let Some(number) = number(b"-0012.3400") else {
-        return false;
-    };
-    let power: i32 = number.power();
-    power == -2
+fn has_power() -> Option<bool> {
+    let power: i32 = number(b"-0012.3400")?.power();
+    Some(power == -2)
 }
 
 fn is_whole_told() -> bool {
@@ -87,13 +80,9 @@ fn whole_of(text: &[u8]) -> Option<u64> {
 }
 
 // Appended in the plain spelling.
-fn is_written(alloc: Global) -> bool {
+fn is_written(alloc: Global) -> Option<bool> {
+    let number = number(b"-0012.3400")?;
     let mut out = Vec::new(alloc);
-    match number(b"-0012.3400") {
-        Some(number) => {
-            let written: Result<(), AllocError> = number.write(&mut out);
-            written.is_ok() && out.as_slice() == b"-12.34".as_slice()
-        }
-        None => false,
-    }
+    let written: Result<(), AllocError> = number.write(&mut out);
+    Some(written.is_ok() && out.as_slice() == b"-12.34".as_slice())
 }

@@ -11,10 +11,20 @@ pub fn check(alloc: Global, tally: &mut Tally, texts: Texts<'_>) {
     tally.count("crs_desk::run_check", writes_kind(alloc, texts));
     tally.count("crs_desk::run_same", writes_part(alloc, texts));
     tally.count("crs_desk::request", is_refused(alloc));
-    tally.count("crs_desk::Request::Canon", asks_canon(alloc));
-    tally.count("crs_desk::Request::Check", asks_check(alloc));
-    tally.count("crs_desk::Request::Same", asks_same(alloc));
-    tally.count("crs_desk::Request::Group", asks_group(alloc));
+    check_requests(alloc, tally)
+}
+
+fn check_requests(alloc: Global, tally: &mut Tally) {
+    let canon = asks(alloc, &["crsdesk", "canon"], "canon", &["full"]);
+    tally.count("crs_desk::Request::Canon", canon);
+    let check = asks(alloc, &["crsdesk", "check"], "check", &[]);
+    tally.count("crs_desk::Request::Check", check);
+    let line = ["crsdesk", "same", "a", "b", "--level", "all"];
+    let same = asks(alloc, &line, "same", &["a", "b", "all"]);
+    tally.count("crs_desk::Request::Same", same);
+    let line = ["crsdesk", "group", "--level", "definition"];
+    let group = asks(alloc, &line, "group", &["definition"]);
+    tally.count("crs_desk::Request::Group", group);
 }
 
 // With a line feed after the text.
@@ -45,10 +55,7 @@ fn writes_part(alloc: Global, texts: Texts<'_>) -> bool {
 }
 
 fn is_status(run: &Result<u8, RunFault>, status: u8) -> bool {
-    match run {
-        Ok(own) => *own == status,
-        Err(_fault) => false,
-    }
+    matches!(run, Ok(own) if *own == status)
 }
 
 // No command has this name.
@@ -91,24 +98,6 @@ fn is_line(fault: &RequestFault) -> bool {
 
 fn is_of_clap(_error: &clap::Error) -> bool {
     true
-}
-
-fn asks_canon(alloc: Global) -> bool {
-    asks(alloc, &["crsdesk", "canon"], "canon", &["full"])
-}
-
-fn asks_check(alloc: Global) -> bool {
-    asks(alloc, &["crsdesk", "check"], "check", &[])
-}
-
-fn asks_same(alloc: Global) -> bool {
-    let words = ["crsdesk", "same", "a", "b", "--level", "all"];
-    asks(alloc, &words, "same", &["a", "b", "all"])
-}
-
-fn asks_group(alloc: Global) -> bool {
-    let words = ["crsdesk", "group", "--level", "definition"];
-    asks(alloc, &words, "group", &["definition"])
 }
 
 // Whether a command line asks for a command with these words.

@@ -1,5 +1,5 @@
 //! Texts in pieces.
-use crate::refusals::is_refused;
+use crate::made::is_refused_at;
 use crate::tally::Tally;
 use crate::texts::Texts;
 use crs_text::{Fault, Feeder, Items};
@@ -20,10 +20,7 @@ fn is_empty(alloc: Global) -> bool {
 // Whether no items come of what was fed, but this refusal.
 fn ends_with(feeder: &Feeder, number: u8, place: usize) -> bool {
     let read: Result<Items<'_>, Fault> = feeder.finish();
-    match read {
-        Ok(_items) => false,
-        Err(fault) => is_refused(&fault, number, place),
-    }
+    is_refused_at(read, number, place)
 }
 
 // A settled refusal is that of all that comes after it.
@@ -32,17 +29,10 @@ fn is_settled(alloc: Global) -> bool {
     if feeder.feed(b"VERTCRS[\"H\",").is_err() {
         return false;
     }
-    if !refuses(feeder.feed(b")"), 6, 12) || !refuses(feeder.feed(b"]"), 6, 12) {
-        return false;
-    }
-    ends_with(&feeder, 6, 12)
-}
-
-fn refuses(fed: Result<(), Fault>, number: u8, place: usize) -> bool {
-    match fed {
-        Ok(()) => false,
-        Err(fault) => is_refused(&fault, number, place),
-    }
+    let fed: Result<(), Fault> = feeder.feed(b")");
+    is_refused_at(fed, 6, 12)
+        && is_refused_at(feeder.feed(b"]"), 6, 12)
+        && ends_with(&feeder, 6, 12)
 }
 
 // Byte by byte.
@@ -53,8 +43,5 @@ fn is_fed(alloc: Global, text: &[u8]) -> bool {
             return false;
         }
     }
-    match feeder.finish() {
-        Ok(items) => items.size(items.root()) == 13,
-        Err(_fault) => false,
-    }
+    matches!(feeder.finish(), Ok(items) if items.size(items.root()) == 13)
 }

@@ -1,6 +1,6 @@
 //! The items of a text.
 use crate::bounds::copied;
-use crate::refusals::is_refused;
+use crate::made::is_refused_at;
 use crate::tally::Tally;
 use crate::texts::Texts;
 use crs_decimal::Decimal;
@@ -20,10 +20,7 @@ pub fn check(alloc: Global, tally: &mut Tally, texts: Texts<'_>) {
 
 fn is_incomplete(alloc: Global) -> bool {
     let read: Result<Items<'_>, Fault> = read_items(alloc, b"VERTCRS[\"H\"");
-    match read {
-        Ok(_items) => false,
-        Err(fault) => is_refused(&fault, 7, 11),
-    }
+    is_refused_at(read, 7, 11)
 }
 
 fn check_whole(alloc: Global, tally: &mut Tally, items: &Items<'_>) {
@@ -37,19 +34,16 @@ fn check_whole(alloc: Global, tally: &mut Tally, items: &Items<'_>) {
 }
 
 fn check_parts(alloc: Global, tally: &mut Tally, items: &Items<'_>) {
-    tally.count("crs_text::Items::arg", has_arguments(items));
-    tally.count("crs_text::Items::next", has_next(items));
-    tally.count("crs_text::ItemKind", has_kinds(items));
-    tally.count("crs_text::Items::raw", has_raw(items));
-    tally.count("crs_text::Items::number", has_number(items));
+    tally.count("crs_text::Items::arg", has_arguments(items) == Some(true));
+    tally.count("crs_text::Items::next", has_next(items) == Some(true));
+    tally.count("crs_text::ItemKind", has_kinds(items) == Some(true));
+    tally.count("crs_text::Items::raw", has_raw(items) == Some(true));
+    tally.count("crs_text::Items::number", has_number(items) == Some(true));
 }
 
 fn has_root(items: &Items<'_>, alloc: Global) -> bool {
     let root: ItemId = copied(&items.root());
-    match read_items(alloc, b"a[1]") {
-        Ok(other) => items.contains(root) && other.contains(other.root()),
-        Err(_fault) => false,
-    }
+    matches!(read_items(alloc, b"a[1]"), Ok(other) if items.contains(root) && other.contains(other.root()))
 }
 
 // A table contains its own items, and no later one of another table.
@@ -57,50 +51,34 @@ fn contains(items: &Items<'_>, alloc: Global) -> bool {
     let Some(axis) = items.arg(items.root(), 3) else {
         return false;
     };
-    match read_items(alloc, b"a[1]") {
-        Ok(other) => items.contains(axis) && !other.contains(axis),
-        Err(_fault) => false,
-    }
+    matches!(read_items(alloc, b"a[1]"), Ok(other) if items.contains(axis) && !other.contains(axis))
 }
 
-fn has_arguments(items: &Items<'_>) -> bool {
-    let Some(datum) = items.arg(items.root(), 1) else {
-        return false;
-    };
-    items.place(datum) == 12 && items.size(datum) == 2 && items.arg(items.root(), 4).is_none()
+fn has_arguments(items: &Items<'_>) -> Option<bool> {
+    let datum = items.arg(items.root(), 1)?;
+    let has_no_more = items.arg(items.root(), 4).is_none();
+    Some(items.place(datum) == 12 && items.size(datum) == 2 && has_no_more)
 }
 
 // After the datum come the system of three items and the axis of six, which is the last.
-fn has_next(items: &Items<'_>) -> bool {
-    let Some(datum) = items.arg(items.root(), 1) else {
-        return false;
-    };
-    let Some(system) = items.next(datum) else {
-        return false;
-    };
-    let Some(axis) = items.next(system) else {
-        return false;
-    };
-    items.size(system) == 3 && items.size(axis) == 6 && items.next(axis).is_none()
+fn has_next(items: &Items<'_>) -> Option<bool> {
+    let datum = items.arg(items.root(), 1)?;
+    let system = items.next(datum)?;
+    let axis = items.next(system)?;
+    Some(items.size(system) == 3 && items.size(axis) == 6 && items.next(axis).is_none())
 }
 
-fn has_kinds(items: &Items<'_>) -> bool {
-    let Some(system) = items.arg(items.root(), 2) else {
-        return false;
-    };
-    let Some(word) = items.arg(system, 0) else {
-        return false;
-    };
-    let Some(number) = items.arg(system, 1) else {
-        return false;
-    };
-    let Some(name) = items.arg(items.root(), 0) else {
-        return false;
-    };
-    kind_letter(items.kind(system)) == 'n'
-        && kind_letter(items.kind(word)) == 'w'
-        && kind_letter(items.kind(number)) == 'd'
-        && kind_letter(items.kind(name)) == 't'
+fn has_kinds(items: &Items<'_>) -> Option<bool> {
+    let name = items.arg(items.root(), 0)?;
+    let system = items.arg(items.root(), 2)?;
+    let word = items.arg(system, 0)?;
+    let number = items.arg(system, 1)?;
+    Some(
+        kind_letter(items.kind(name)) == 't'
+            && kind_letter(items.kind(system)) == 'n'
+            && kind_letter(items.kind(word)) == 'w'
+            && kind_letter(items.kind(number)) == 'd',
+    )
 }
 
 fn kind_letter(kind: ItemKind) -> char {
@@ -112,11 +90,9 @@ fn kind_letter(kind: ItemKind) -> char {
     }
 }
 
-fn has_raw(items: &Items<'_>) -> bool {
-    let Some(name) = items.arg(items.root(), 0) else {
-        return false;
-    };
-    items.raw(name) == b"H".as_slice() && keyword(items) == b"VERTCRS".as_slice()
+fn has_raw(items: &Items<'_>) -> Option<bool> {
+    let name = items.arg(items.root(), 0)?;
+    Some(items.raw(name) == b"H".as_slice() && keyword(items) == b"VERTCRS".as_slice())
 }
 
 // It borrows the text, not the table.
@@ -124,16 +100,8 @@ fn keyword<'a>(items: &Items<'a>) -> &'a [u8] {
     items.raw(items.root())
 }
 
-fn has_number(items: &Items<'_>) -> bool {
-    let Some(system) = items.arg(items.root(), 2) else {
-        return false;
-    };
-    let Some(dimension) = items.arg(system, 1) else {
-        return false;
-    };
-    let number: Option<Decimal> = items.number(dimension);
-    match number {
-        Some(number) => number.whole() == Some(1) && items.number(system).is_none(),
-        None => false,
-    }
+fn has_number(items: &Items<'_>) -> Option<bool> {
+    let system = items.arg(items.root(), 2)?;
+    let number: Option<Decimal> = items.number(items.arg(system, 1)?);
+    Some(number?.whole() == Some(1) && items.number(system).is_none())
 }

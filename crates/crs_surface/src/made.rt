@@ -4,16 +4,10 @@ use crs_text::Fault;
 
 /// Whether something was claimed, and is so.
 pub fn is_so(claimed: &Result<bool, Fault>) -> bool {
-    match claimed {
-        Ok(holds) => *holds,
-        Err(_fault) => false,
-    }
+    matches!(claimed, Ok(true))
 }
 
 /// Whether no value was made, but this refusal.
 pub fn is_refused_at<T: Drop>(made: Result<T, Fault>, number: u8, place: usize) -> bool {
-    match made {
-        Ok(_value) => false,
-        Err(fault) => is_refused(&fault, number, place),
-    }
+    matches!(made, Err(fault) if is_refused(&fault, number, place))
 }

@@ -24,7 +24,13 @@ pub fn check(alloc: Global, tally: &mut Tally, texts: Texts<'_>) {
     check_text(alloc, tally, texts, "extent", &EXTENT);
 }
 
-fn check_text(alloc: Global, tally: &mut Tally, texts: Texts<'_>, name: &str, items: &[&str]) {
+fn check_text(
+    alloc: Global,
+    tally: &mut Tally,
+    texts: Texts<'_>,
+    name: &str,
+    items: &[(&str, &str)],
+) {
     let nodes = Nodes {
         is_polar: name == "polar",
     };

@@ -6,17 +6,24 @@ use std::alloc::{AllocError, Global};
 
 pub fn check(alloc: Global, tally: &mut Tally) {
     tally.count("crs_text::Refusal::new", is_made());
-    tally.count("crs_text::Refusal::number", has_number());
-    tally.count("crs_text::Refusal::place", has_place());
-    tally.count("crs_text::Refusal::name", has_name());
-    tally.count("crs_text::Fault::refusal", is_refusal());
-    tally.count("crs_text::Fault", is_displayed(alloc));
-}
-
-fn unexpected_end() -> Option<Refusal> {
     let number: u8 = 7;
     let place: usize = 11;
-    Refusal::new(number, place)
+    match Refusal::new(number, place) {
+        Some(refusal) => check_refusal(alloc, tally, refusal),
+        None => tally.count("crs_text::Refusal", false),
+    }
+}
+
+// The end of a text that isn't complete.
+fn check_refusal(alloc: Global, tally: &mut Tally, refusal: Refusal) {
+    let number: u8 = copied(&refusal).number();
+    tally.count("crs_text::Refusal::number", number == 7);
+    let place: usize = refusal.place();
+    tally.count("crs_text::Refusal::place", place == 11);
+    let name: &'static str = refusal.name();
+    tally.count("crs_text::Refusal::name", name == "UnexpectedEnd");
+    tally.count("crs_text::Fault::refusal", is_refusal(refusal));
+    tally.count("crs_text::Fault", is_displayed(alloc, refusal));
 }
 
 // No refusal has one of these numbers.
@@ -25,30 +32,6 @@ fn is_made() -> bool {
         && Refusal::new(9, 0).is_none()
         && Refusal::new(14, 0).is_none()
         && Refusal::new(30, 0).is_none()
-}
-
-fn has_number() -> bool {
-    let Some(refusal) = unexpected_end() else {
-        return false;
-    };
-    let number: u8 = copied(&refusal).number();
-    number == 7
-}
-
-fn has_place() -> bool {
-    let Some(refusal) = unexpected_end() else {
-        return false;
-    };
-    let place: usize = refusal.place();
-    place == 11
-}
-
-fn has_name() -> bool {
-    let Some(refusal) = unexpected_end() else {
-        return false;
-    };
-    let name: &'static str = refusal.name();
-    name == "UnexpectedEnd"
 }
 
 /// Whether a fault is this refusal.
@@ -64,28 +47,14 @@ pub fn is_refusal_of(refusal: &Refusal, number: u8, place: usize) -> bool {
     refusal.number() == number && refusal.place() == place
 }
 
-fn is_refusal() -> bool {
-    let Some(refusal) = unexpected_end() else {
-        return false;
-    };
-    match Fault::Refused(refusal).refusal() {
-        Some(same) => is_refusal_of(&same, 7, 11) && no_refusal().is_none(),
-        None => false,
-    }
-}
-
-fn no_refusal() -> Option<Refusal> {
+fn is_refusal(refusal: Refusal) -> bool {
     let error: AllocError = AllocError;
-    Fault::Memory(error).refusal()
+    matches!(Fault::Refused(refusal).refusal(), Some(same) if is_refusal_of(&same, 7, 11))
+        && Fault::Memory(error).refusal().is_none()
 }
 
-fn is_displayed(alloc: Global) -> bool {
-    let Some(refusal) = unexpected_end() else {
-        return false;
-    };
-    is_error(
-        alloc,
-        &Fault::Refused(refusal),
-        "refused 7 UnexpectedEnd at 11",
-    ) && is_error(alloc, &Fault::Memory(AllocError), "out of memory")
+fn is_displayed(alloc: Global, refusal: Refusal) -> bool {
+    let refused = Fault::Refused(refusal);
+    is_error(alloc, &refused, "refused 7 UnexpectedEnd at 11")
+        && is_error(alloc, &Fault::Memory(AllocError), "out of memory")
 }

@@ -12,14 +12,10 @@ pub fn check(alloc: Global, tally: &mut Tally, catalogue: &[u8], answer: &[u8]) 
     tally.count("crs_group::run_group", is_grouped(alloc, catalogue, answer));
     tally.count("crs_group::Source", is_source());
     tally.count("crs_group::Sink", is_sink(alloc));
-    tally.count(
-        "crs_group::RunFault::ReadFailed",
-        fails_to_read(alloc, catalogue),
-    );
-    tally.count(
-        "crs_group::RunFault::WriteFailed",
-        fails_to_write(alloc, catalogue),
-    );
+    let fails = fails_to_read(alloc, catalogue);
+    tally.count("crs_group::RunFault::ReadFailed", fails);
+    let fails = fails_to_write(alloc, catalogue);
+    tally.count("crs_group::RunFault::WriteFailed", fails);
     tally.count("crs_group::RunFault::TooLong", is_too_long(alloc));
     tally.count("crs_group::RunFault::TooManyReads", reads_too_often(alloc));
     tally.count("crs_group::RunFault", is_displayed(alloc));
@@ -28,16 +24,9 @@ pub fn check(alloc: Global, tally: &mut Tally, catalogue: &[u8], answer: &[u8]) 
 fn is_grouped(alloc: Global, catalogue: &[u8], answer: &[u8]) -> bool {
     let mut written = Vec::new(alloc);
     let mut sink = Sink::new(&mut written);
-    let grouped: Result<Summary, RunFault> = run_group(
-        alloc,
-        Level::Full,
-        &mut Source::new(catalogue),
-        &mut sink,
-    );
-    match grouped {
-        Ok(summary) => is_summary(&summary) && written.as_slice() == answer,
-        Err(_fault) => false,
-    }
+    let mut source = Source::new(catalogue);
+    let grouped: Result<Summary, RunFault> = run_group(alloc, Level::Full, &mut source, &mut sink);
+    matches!(grouped, Ok(summary) if is_summary(&summary) && written.as_slice() == answer)
 }
 
 fn is_summary(summary: &Summary) -> bool {

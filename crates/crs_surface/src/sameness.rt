@@ -59,10 +59,7 @@ fn are_same<'a>(first: &Crs<'a>, second: &Crs<'a>) -> bool {
 }
 
 fn has_steps(found: &Option<Path>) -> bool {
-    match found {
-        Some(path) => are_to_unit(path.steps()),
-        None => false,
-    }
+    matches!(found, Some(path) if are_to_unit(path.steps()))
 }
 
 fn are_to_unit(steps: &[Step]) -> bool {

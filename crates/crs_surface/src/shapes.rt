@@ -107,10 +107,10 @@ fn is_known() -> bool {
 }
 
 fn fits(alloc: Global, text: &[u8]) -> bool {
-    match read_items(alloc, text) {
-        Ok(items) => fits_alone(&items, Class::VerticalCrs) && !fits_alone(&items, Class::Axis),
-        Err(_fault) => false,
-    }
+    matches!(
+        read_items(alloc, text),
+        Ok(items) if fits_alone(&items, Class::VerticalCrs) && !fits_alone(&items, Class::Axis)
+    )
 }
 
 fn fits_alone(items: &Items<'_>, class: Class) -> bool {
@@ -119,23 +119,15 @@ fn fits_alone(items: &Items<'_>, class: Class) -> bool {
 }
 
 fn fits_root(alloc: Global, text: &[u8]) -> bool {
-    match read_items(alloc, text) {
-        Ok(items) => fit_root(&items) == Ok(Class::VerticalCrs) && misses_part(alloc),
-        Err(_fault) => false,
-    }
+    matches!(read_items(alloc, text), Ok(items) if fit_root(&items) == Ok(Class::VerticalCrs))
+        && misses_part(alloc)
 }
 
 fn misses_part(alloc: Global) -> bool {
-    match read_items(alloc, b"VERTCRS[\"H\",FOO[\"D\"]]") {
-        Ok(items) => is_unknown(&items),
-        Err(_fault) => false,
-    }
+    matches!(read_items(alloc, b"VERTCRS[\"H\",FOO[\"D\"]]"), Ok(items) if is_unknown(&items))
 }
 
 fn is_unknown(items: &Items<'_>) -> bool {
     let fitted: Result<Class, Refusal> = fit_root(items);
-    match fitted {
-        Ok(_class) => false,
-        Err(refusal) => is_refusal_of(&refusal, 11, 12),
-    }
+    matches!(fitted, Err(refusal) if is_refusal_of(&refusal, 11, 12))
 }

@@ -26,10 +26,15 @@ impl Tally {
 
     /// Counts an item, and keeps its name where it doesn't agree.
     pub fn count(&mut self, item: &str, agrees: bool) {
+        self.count_in("", item, agrees)
+    }
+
+    /// The same of an item whose name has this before it.
+    pub fn count_in(&mut self, front: &str, item: &str, agrees: bool) {
         self.items = self.items.saturating_add(1);
         if !agrees {
             self.differ = self.differ.saturating_add(1);
-            let _is_kept = writeln!(self.lines, "{item} differs").is_ok();
+            let _is_kept = writeln!(self.lines, "{front}{item} differs").is_ok();
         }
     }
 

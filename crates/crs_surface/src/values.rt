@@ -1,9 +1,9 @@
 //! Values.
-use crate::made::{is_refused_at, is_so};
+use crate::asked::{Asked, holds};
+use crate::made::is_refused_at;
 use crate::tally::Tally;
 use crate::texts::Texts;
 use crate::written::{Text, Written};
-use crs_suite::{AboutCrs, about_crs};
 use crs_text::{Fault, Items, read_items};
 use crs_value::{Crs, Direction, Kind, Level, SystemType, read, value_of};
 use std::alloc::Global;
@@ -40,7 +40,8 @@ fn check_words(tally: &mut Tally) {
 
 fn check_texts(alloc: Global, tally: &mut Tally, texts: Texts<'_>) {
     for name in TEXTS {
-        let agrees = is_written(alloc, texts.named(name));
+        let text = texts.named(name);
+        let agrees = holds(alloc, text, Asked::Written(text));
         tally.count(name, agrees);
     }
 }
@@ -51,17 +52,11 @@ fn is_read(alloc: Global) -> bool {
 }
 
 fn has_value(alloc: Global, texts: Texts<'_>) -> bool {
-    match read_items(alloc, texts.named("height")) {
-        Ok(items) => is_vertical(alloc, &items),
-        Err(_fault) => false,
-    }
+    matches!(read_items(alloc, texts.named("height")), Ok(items) if is_vertical(alloc, &items))
 }
 
 fn is_vertical(alloc: Global, items: &Items<'_>) -> bool {
-    match kind_in(value_of(alloc, items)) {
-        Ok(kind) => is_kind(kind, "vertical"),
-        Err(_fault) => false,
-    }
+    matches!(kind_in(value_of(alloc, items)), Ok(kind) if is_kind(kind, "vertical"))
 }
 
 // It alone owns a CRS here: a function that owns one is slow to prove.
@@ -80,24 +75,11 @@ fn has_kinds(alloc: Global, texts: Texts<'_>) -> bool {
 }
 
 fn has_kind(alloc: Global, text: &[u8], kind: &str) -> bool {
-    is_so(&about_crs(alloc, text, IsOf { kind }))
+    holds(alloc, text, Asked::Kind(kind))
 }
 
-// A CRS is of a kind.
-#[derive(Clone, Copy)]
-struct IsOf<'k> {
-    kind: &'k str,
-}
-
-impl AboutCrs for IsOf<'_> {
-    type Answer = bool;
-
-    fn answer(self, _alloc: Global, crs: &Crs<'_>) -> bool {
-        is_kind(crs.kind(), self.kind)
-    }
-}
-
-fn is_kind(kind: Kind, name: &str) -> bool {
+/// Whether a kind has this name.
+pub fn is_kind(kind: Kind, name: &str) -> bool {
     match kind {
         Kind::Geodetic => name == "geodetic",
         Kind::Geographic => name == "geographic",
@@ -159,24 +141,6 @@ fn is_compass(direction: Direction) -> bool {
         | Direction::Up
         | Direction::Down
         | Direction::Unspecified => false,
-    }
-}
-
-fn is_written(alloc: Global, text: &[u8]) -> bool {
-    is_so(&about_crs(alloc, text, IsWritten { text }))
-}
-
-// A CRS is written as a text.
-#[derive(Clone, Copy)]
-struct IsWritten<'t> {
-    text: &'t [u8],
-}
-
-impl AboutCrs for IsWritten<'_> {
-    type Answer = bool;
-
-    fn answer(self, alloc: Global, crs: &Crs<'_>) -> bool {
-        is_text_of(alloc, crs, self.text)
     }
 }
 

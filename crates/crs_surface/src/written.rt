@@ -1,5 +1,31 @@
 //! Values taken apart, field by field, and written as they stood in a text without white space, with first keywords and
 //! plain numbers.
+
+// Takes a value apart by a pattern of all its fields, and writes each in the way that is named behind it.
+macro_rules! put_fields {
+    ($value:ident, $out:ident => $kind:ident { $($field:ident: $how:ident $(($word:literal))?,)+ }) => {
+        let $kind { $($field),+ } = $value;
+        $(put_field!($out, $field, $how $(($word))?);)+
+    };
+}
+
+// The same as a node with this keyword, which may depend on a field.
+macro_rules! put_node {
+    ($value:ident, $out:ident, $keyword:expr => $kind:ident { $($field:ident: $how:ident $(($word:literal))?,)+ }) => {
+        let $kind { $($field),+ } = $value;
+        $out.open($keyword);
+        $(put_field!($out, $field, $how $(($word))?);)+
+        $out.close();
+    };
+}
+
+macro_rules! put_field {
+    ($out:ident, $field:ident, in_keyword) => {};
+    ($out:ident, $field:ident, put) => { $field.put($out) };
+    ($out:ident, $field:ident, $how:ident) => { $out.$how($field) };
+    ($out:ident, $field:ident, $how:ident ($word:literal)) => { $out.$how($word, $field) };
+}
+
 mod conversions;
 mod crss;
 mod frames;

@@ -40,13 +40,20 @@ impl Found {
         self.and(is_same).and(is_own)
     }
 
-    /// Counts the items, which have these names; none agrees where the walk called more or fewer.
-    pub fn count(self, tally: &mut Tally, items: &[&str]) {
-        let are_all = self.count == items.len();
+    /// Counts the items of a CRS and of these nodes in it; none agrees where the walk called more or fewer.
+    pub fn count(self, tally: &mut Tally, nodes: &[(&str, &str)]) {
+        let are_all = self.count == nodes.len().saturating_mul(2).saturating_add(1);
         let mut differ = self.differ;
-        for item in items {
-            tally.count(item, are_all && differ % 2 == 0);
+        tally.count("crs_canon::Canonical for Crs", are_all && differ % 2 == 0);
+        for (call, node) in nodes {
             differ /= 2;
+            tally.count_in("crs_same::parts::", call, are_all && differ % 2 == 0);
+            differ /= 2;
+            tally.count_in(
+                "crs_canon::Canonical for ",
+                node,
+                are_all && differ % 2 == 0,
+            );
         }
     }
 }

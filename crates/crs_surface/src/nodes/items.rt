@@ -1,75 +1,43 @@
-//! The items that the walk through the nodes of each text calls, in their order.
+//! The nodes that the walk through each text looks at after the CRS itself, in their order: the call of `crs_same::parts`
+//! that compares them, and their type.
 
-pub const PROJECTED: [&str; 23] = [
-    "crs_canon::Canonical for Crs",
-    "crs_same::parts::same_projected",
-    "crs_canon::Canonical for Projected",
-    "crs_same::parts::same_base",
-    "crs_canon::Canonical for Base",
-    "crs_same::parts::same_meridian",
-    "crs_canon::Canonical for Meridian",
-    "crs_same::parts::same_frame",
-    "crs_canon::Canonical for Frame",
-    "crs_same::parts::same_datum",
-    "crs_canon::Canonical for Datum",
-    "crs_same::parts::same_ellipsoid",
-    "crs_canon::Canonical for Ellipsoid",
-    "crs_same::parts::same_conversion",
-    "crs_canon::Canonical for Conversion",
-    "crs_same::parts::same_method",
-    "crs_canon::Canonical for Method",
-    "crs_same::parts::same_ident",
-    "crs_canon::Canonical for Ident",
-    "crs_same::parts::same_parameter",
-    "crs_canon::Canonical for Parameter",
-    "crs_same::parts::same_unit",
-    "crs_canon::Canonical for Unit",
+pub const PROJECTED: [(&str, &str); 11] = [
+    ("same_projected", "Projected"),
+    ("same_base", "Base"),
+    ("same_meridian", "Meridian"),
+    ("same_frame", "Frame"),
+    ("same_datum", "Datum"),
+    ("same_ellipsoid", "Ellipsoid"),
+    ("same_conversion", "Conversion"),
+    ("same_method", "Method"),
+    ("same_ident", "Ident"),
+    ("same_parameter", "Parameter"),
+    ("same_unit", "Unit"),
 ];
 
-pub const POLAR: [&str; 5] = [
-    "crs_canon::Canonical for Crs",
-    "crs_same::parts::same_axis",
-    "crs_canon::Canonical for Axis",
-    "crs_same::parts::same_axis_meridian",
-    "crs_canon::Canonical for AxisMeridian",
+pub const POLAR: [(&str, &str); 2] = [
+    ("same_axis", "Axis"),
+    ("same_axis_meridian", "AxisMeridian"),
 ];
 
-pub const ENSEMBLE: [&str; 11] = [
-    "crs_canon::Canonical for Crs",
-    "crs_same::parts::same_geodetic",
-    "crs_canon::Canonical for Geodetic",
-    "crs_same::parts::same_usage",
-    "crs_canon::Canonical for Usage",
-    "crs_same::parts::same_box",
-    "crs_canon::Canonical for BoundingBox",
-    "crs_same::parts::same_ensemble",
-    "crs_canon::Canonical for Ensemble",
-    "crs_same::parts::same_member",
-    "crs_canon::Canonical for Member",
+pub const ENSEMBLE: [(&str, &str); 5] = [
+    ("same_geodetic", "Geodetic"),
+    ("same_usage", "Usage"),
+    ("same_box", "BoundingBox"),
+    ("same_ensemble", "Ensemble"),
+    ("same_member", "Member"),
 ];
 
-pub const COMPOUND: [&str; 9] = [
-    "crs_canon::Canonical for Crs",
-    "crs_same::parts::same_compound",
-    "crs_canon::Canonical for Compound",
-    "crs_same::parts::same_horizontal",
-    "crs_canon::Canonical for Horizontal",
-    "crs_same::parts::same_vertical",
-    "crs_canon::Canonical for Vertical",
-    "crs_same::parts::same_geoid_model",
-    "crs_canon::Canonical for GeoidModel",
+pub const COMPOUND: [(&str, &str); 4] = [
+    ("same_compound", "Compound"),
+    ("same_horizontal", "Horizontal"),
+    ("same_vertical", "Vertical"),
+    ("same_geoid_model", "GeoidModel"),
 ];
 
-pub const DYNAMIC: [&str; 5] = [
-    "crs_canon::Canonical for Crs",
-    "crs_same::parts::same_dynamic",
-    "crs_canon::Canonical for Dynamic",
-    "crs_same::parts::same_deformation_model",
-    "crs_canon::Canonical for DeformationModel",
+pub const DYNAMIC: [(&str, &str); 2] = [
+    ("same_dynamic", "Dynamic"),
+    ("same_deformation_model", "DeformationModel"),
 ];
 
-pub const EXTENT: [&str; 3] = [
-    "crs_canon::Canonical for Crs",
-    "crs_same::parts::same_extent",
-    "crs_canon::Canonical for Extent",
-];
+pub const EXTENT: [(&str, &str); 1] = [("same_extent", "Extent")];

@@ -13,26 +13,38 @@ use crs_value::{
 };
 use std::alloc::Global;
 
+// What was found, and the answers of a node's two items: the call that compares nodes of its kind, and what its type
+// implements.
+macro_rules! node {
+    ($found:ident, $alloc:ident, $same:ident, $node:ident) => {
+        $found.node($same($node, $node, Level::Full), is_own($alloc, $node))
+    };
+}
+
+// The same of a node that may be missing.
+macro_rules! optional_node {
+    ($found:ident, $alloc:ident, $same:ident, $node:expr) => {
+        match $node {
+            Some(node) => node!($found, $alloc, $same, node),
+            None => $found,
+        }
+    };
+}
+
 pub fn walk_projected(found: Found, alloc: Global, crs: &Projected<'_>) -> Found {
-    let found = found.node(same_projected(crs, crs, Level::Full), is_own(alloc, crs));
+    let found = node!(found, alloc, same_projected, crs);
     let found = walk_base(found, alloc, &crs.base);
     walk_conversion(found, alloc, &crs.conversion)
 }
 
 fn walk_base(found: Found, alloc: Global, base: &Base<'_>) -> Found {
-    let found = found.node(same_base(base, base, Level::Full), is_own(alloc, base));
-    let found = match &base.meridian {
-        Some(meridian) => found.node(
-            same_meridian(meridian, meridian, Level::Full),
-            is_own(alloc, meridian),
-        ),
-        None => found,
-    };
+    let found = node!(found, alloc, same_base, base);
+    let found = optional_node!(found, alloc, same_meridian, &base.meridian);
     walk_frame(found, alloc, &base.frame)
 }
 
 fn walk_frame(found: Found, alloc: Global, frame: &Frame<'_>) -> Found {
-    let found = found.node(same_frame(frame, frame, Level::Full), is_own(alloc, frame));
+    let found = node!(found, alloc, same_frame, frame);
     match frame {
         Frame::Datum(datum) => walk_datum(found, alloc, datum),
         Frame::Ensemble(_) => found,
@@ -40,21 +52,12 @@ fn walk_frame(found: Found, alloc: Global, frame: &Frame<'_>) -> Found {
 }
 
 fn walk_datum(found: Found, alloc: Global, datum: &Datum<'_>) -> Found {
-    let found = found.node(same_datum(datum, datum, Level::Full), is_own(alloc, datum));
-    match &datum.ellipsoid {
-        Some(ellipsoid) => found.node(
-            same_ellipsoid(ellipsoid, ellipsoid, Level::Full),
-            is_own(alloc, ellipsoid),
-        ),
-        None => found,
-    }
+    let found = node!(found, alloc, same_datum, datum);
+    optional_node!(found, alloc, same_ellipsoid, &datum.ellipsoid)
 }
 
 fn walk_conversion(found: Found, alloc: Global, conversion: &Conversion<'_>) -> Found {
-    let found = found.node(
-        same_conversion(conversion, conversion, Level::Full),
-        is_own(alloc, conversion),
-    );
+    let found = node!(found, alloc, same_conversion, conversion);
     let found = walk_method(found, alloc, &conversion.method);
     match conversion.parameters.as_slice() {
         [parameter, ..] => walk_parameter(found, alloc, parameter),
@@ -63,25 +66,14 @@ fn walk_conversion(found: Found, alloc: Global, conversion: &Conversion<'_>) -> 
 }
 
 fn walk_method(found: Found, alloc: Global, method: &Method<'_>) -> Found {
-    let found = found.node(
-        same_method(method, method, Level::Full),
-        is_own(alloc, method),
-    );
-    match method.identifiers.as_slice() {
-        [ident, ..] => found.node(same_ident(ident, ident, Level::Full), is_own(alloc, ident)),
-        [] => found,
-    }
+    let found = node!(found, alloc, same_method, method);
+    let first = method.identifiers.as_slice().first();
+    optional_node!(found, alloc, same_ident, first)
 }
 
 fn walk_parameter(found: Found, alloc: Global, parameter: &Parameter<'_>) -> Found {
-    let found = found.node(
-        same_parameter(parameter, parameter, Level::Full),
-        is_own(alloc, parameter),
-    );
-    match &parameter.unit {
-        Some(unit) => found.node(same_unit(unit, unit, Level::Full), is_own(alloc, unit)),
-        None => found,
-    }
+    let found = node!(found, alloc, same_parameter, parameter);
+    optional_node!(found, alloc, same_unit, &parameter.unit)
 }
 
 pub fn walk_polar(found: Found, alloc: Global, crs: &Projected<'_>) -> Found {
@@ -92,18 +84,12 @@ pub fn walk_polar(found: Found, alloc: Global, crs: &Projected<'_>) -> Found {
 }
 
 fn walk_axis(found: Found, alloc: Global, axis: &Axis<'_>) -> Found {
-    let found = found.node(same_axis(axis, axis, Level::Full), is_own(alloc, axis));
-    match &axis.meridian {
-        Some(meridian) => found.node(
-            same_axis_meridian(meridian, meridian, Level::Full),
-            is_own(alloc, meridian),
-        ),
-        None => found,
-    }
+    let found = node!(found, alloc, same_axis, axis);
+    optional_node!(found, alloc, same_axis_meridian, &axis.meridian)
 }
 
 pub fn walk_geodetic(found: Found, alloc: Global, crs: &Geodetic<'_>) -> Found {
-    let found = found.node(same_geodetic(crs, crs, Level::Full), is_own(alloc, crs));
+    let found = node!(found, alloc, same_geodetic, crs);
     let found = match crs.tail.usages.as_slice() {
         [usage, ..] => walk_usage(found, alloc, usage),
         [] => found,
@@ -115,46 +101,30 @@ pub fn walk_geodetic(found: Found, alloc: Global, crs: &Geodetic<'_>) -> Found {
 }
 
 fn walk_usage(found: Found, alloc: Global, usage: &Usage<'_>) -> Found {
-    let found = found.node(same_usage(usage, usage, Level::Full), is_own(alloc, usage));
-    match &usage.bbox {
-        Some(bbox) => found.node(same_box(bbox, bbox, Level::Full), is_own(alloc, bbox)),
-        None => found,
-    }
+    let found = node!(found, alloc, same_usage, usage);
+    optional_node!(found, alloc, same_box, &usage.bbox)
 }
 
 fn walk_ensemble(found: Found, alloc: Global, ensemble: &Ensemble<'_>) -> Found {
-    let found = found.node(
-        same_ensemble(ensemble, ensemble, Level::Full),
-        is_own(alloc, ensemble),
-    );
-    match ensemble.members.as_slice() {
-        [member, ..] => found.node(
-            same_member(member, member, Level::Full),
-            is_own(alloc, member),
-        ),
-        [] => found,
-    }
+    let found = node!(found, alloc, same_ensemble, ensemble);
+    let first = ensemble.members.as_slice().first();
+    optional_node!(found, alloc, same_member, first)
 }
 
 pub fn walk_compound(found: Found, alloc: Global, crs: &Compound<'_>) -> Found {
-    let found = found.node(same_compound(crs, crs, Level::Full), is_own(alloc, crs));
+    let found = node!(found, alloc, same_compound, crs);
     let found = walk_horizontal(found, alloc, &crs.horizontal);
     walk_height(found, alloc, &crs.vertical)
 }
 
 fn walk_horizontal(found: Found, alloc: Global, crs: &Horizontal<'_>) -> Found {
-    found.node(same_horizontal(crs, crs, Level::Full), is_own(alloc, crs))
+    node!(found, alloc, same_horizontal, crs)
 }
 
 fn walk_height(found: Found, alloc: Global, crs: &Vertical<'_>) -> Found {
-    let found = found.node(same_vertical(crs, crs, Level::Full), is_own(alloc, crs));
-    match crs.geoid_models.as_slice() {
-        [model, ..] => found.node(
-            same_geoid_model(model, model, Level::Full),
-            is_own(alloc, model),
-        ),
-        [] => found,
-    }
+    let found = node!(found, alloc, same_vertical, crs);
+    let first = crs.geoid_models.as_slice().first();
+    optional_node!(found, alloc, same_geoid_model, first)
 }
 
 pub fn walk_vertical(found: Found, alloc: Global, crs: &Vertical<'_>) -> Found {
@@ -169,25 +139,10 @@ pub fn walk_vertical(found: Found, alloc: Global, crs: &Vertical<'_>) -> Found {
 }
 
 fn walk_dynamic(found: Found, alloc: Global, dynamic: &Dynamic<'_>) -> Found {
-    let found = found.node(
-        same_dynamic(dynamic, dynamic, Level::Full),
-        is_own(alloc, dynamic),
-    );
-    match &dynamic.model {
-        Some(model) => found.node(
-            same_deformation_model(model, model, Level::Full),
-            is_own(alloc, model),
-        ),
-        None => found,
-    }
+    let found = node!(found, alloc, same_dynamic, dynamic);
+    optional_node!(found, alloc, same_deformation_model, &dynamic.model)
 }
 
 fn walk_extent(found: Found, alloc: Global, usage: &Usage<'_>) -> Found {
-    match &usage.extent {
-        Some(extent) => found.node(
-            same_extent(extent, extent, Level::Full),
-            is_own(alloc, extent),
-        ),
-        None => found,
-    }
+    optional_node!(found, alloc, same_extent, &usage.extent)
 }

@@ -15,21 +15,14 @@ impl Written for Crs<'_> {
 
 impl Written for Geodetic<'_> {
     fn put(&self, out: &mut Text) {
-        let Geodetic {
-            name,
-            dynamic,
-            frame,
-            meridian,
-            system,
-            tail,
-        } = self;
-        out.named(geodetic_keyword(system.system_type), name);
-        out.optional(dynamic);
-        frame.put(out);
-        out.optional(meridian);
-        system.put(out);
-        tail.put(out);
-        out.close();
+        put_node!(self, out, geodetic_keyword(system.system_type) => Geodetic {
+            name: quoted,
+            dynamic: optional,
+            frame: put,
+            meridian: optional,
+            system: put,
+            tail: put,
+        });
     }
 }
 
@@ -42,75 +35,50 @@ fn geodetic_keyword(system_type: SystemType) -> &'static str {
 
 impl Written for Projected<'_> {
     fn put(&self, out: &mut Text) {
-        let Projected {
-            name,
-            base,
-            conversion,
-            system,
-            tail,
-        } = self;
-        out.named("PROJCRS", name);
-        base.put(out);
-        conversion.put(out);
-        system.put(out);
-        tail.put(out);
-        out.close();
+        put_node!(self, out, "PROJCRS" => Projected {
+            name: quoted,
+            base: put,
+            conversion: put,
+            system: put,
+            tail: put,
+        });
     }
 }
 
 impl Written for Base<'_> {
     fn put(&self, out: &mut Text) {
-        let Base {
-            name,
-            dynamic,
-            frame,
-            meridian,
-            unit,
-            identifiers,
-        } = self;
-        out.named("BASEGEOGCRS", name);
-        out.optional(dynamic);
-        frame.put(out);
-        out.optional(meridian);
-        out.optional(unit);
-        out.each(identifiers);
-        out.close();
+        put_node!(self, out, "BASEGEOGCRS" => Base {
+            name: quoted,
+            dynamic: optional,
+            frame: put,
+            meridian: optional,
+            unit: optional,
+            identifiers: each,
+        });
     }
 }
 
 impl Written for Vertical<'_> {
     fn put(&self, out: &mut Text) {
-        let Vertical {
-            name,
-            dynamic,
-            frame,
-            system,
-            geoid_models,
-            tail,
-        } = self;
-        out.named("VERTCRS", name);
-        out.optional(dynamic);
-        frame.put(out);
-        system.put(out);
-        out.each(geoid_models);
-        tail.put(out);
-        out.close();
+        put_node!(self, out, "VERTCRS" => Vertical {
+            name: quoted,
+            dynamic: optional,
+            frame: put,
+            system: put,
+            geoid_models: each,
+            tail: put,
+        });
     }
 }
 
 impl Written for Compound<'_> {
     fn put(&self, out: &mut Text) {
-        let Compound {
-            name,
-            horizontal,
-            vertical,
-            tail,
-        } = self;
-        out.named("COMPOUNDCRS", name);
-        out.part(horizontal);
-        vertical.put(out);
-        tail.put(out);
-        out.close();
+        put_node!(self, out, "COMPOUNDCRS" => Compound {
+            name: quoted,
+            horizontal: part,
+            vertical: put,
+            tail: put,
+        });
     }
 }
 

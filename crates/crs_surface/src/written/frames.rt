@@ -13,19 +13,13 @@ impl Written for Frame<'_> {
 
 impl Written for Datum<'_> {
     fn put(&self, out: &mut Text) {
-        let Datum {
-            name,
-            ellipsoid,
-            anchor,
-            anchor_epoch,
-            identifiers,
-        } = self;
-        out.named(datum_keyword(ellipsoid), name);
-        out.optional(ellipsoid);
-        out.text("ANCHOR", anchor);
-        out.optional_number("ANCHOREPOCH", anchor_epoch);
-        out.each(identifiers);
-        out.close();
+        put_node!(self, out, datum_keyword(ellipsoid) => Datum {
+            name: quoted,
+            ellipsoid: optional,
+            anchor: text("ANCHOR"),
+            anchor_epoch: optional_number("ANCHOREPOCH"),
+            identifiers: each,
+        });
     }
 }
 
@@ -38,80 +32,62 @@ fn datum_keyword(ellipsoid: &Option<Ellipsoid<'_>>) -> &'static str {
 
 impl Written for Ensemble<'_> {
     fn put(&self, out: &mut Text) {
-        let Ensemble {
-            name,
-            members,
-            ellipsoid,
-            accuracy,
-            identifiers,
-        } = self;
-        out.named("ENSEMBLE", name);
-        out.each(members);
-        out.optional(ellipsoid);
-        out.numbered("ENSEMBLEACCURACY", accuracy);
-        out.each(identifiers);
-        out.close();
+        put_node!(self, out, "ENSEMBLE" => Ensemble {
+            name: quoted,
+            members: each,
+            ellipsoid: optional,
+            accuracy: numbered("ENSEMBLEACCURACY"),
+            identifiers: each,
+        });
     }
 }
 
 impl Written for Member<'_> {
     fn put(&self, out: &mut Text) {
-        let Member { name, identifiers } = self;
-        out.named("MEMBER", name);
-        out.each(identifiers);
-        out.close();
+        put_node!(self, out, "MEMBER" => Member {
+            name: quoted,
+            identifiers: each,
+        });
     }
 }
 
 impl Written for Ellipsoid<'_> {
     fn put(&self, out: &mut Text) {
-        let Ellipsoid {
-            name,
-            semi_major_axis,
-            inverse_flattening,
-            unit,
-            identifiers,
-        } = self;
-        out.named("ELLIPSOID", name);
-        out.number(semi_major_axis);
-        out.number(inverse_flattening);
-        out.optional(unit);
-        out.each(identifiers);
-        out.close();
+        put_node!(self, out, "ELLIPSOID" => Ellipsoid {
+            name: quoted,
+            semi_major_axis: number,
+            inverse_flattening: number,
+            unit: optional,
+            identifiers: each,
+        });
     }
 }
 
 impl Written for Meridian<'_> {
     fn put(&self, out: &mut Text) {
-        let Meridian {
-            name,
-            longitude,
-            unit,
-            identifiers,
-        } = self;
-        out.named("PRIMEM", name);
-        out.number(longitude);
-        out.optional(unit);
-        out.each(identifiers);
-        out.close();
+        put_node!(self, out, "PRIMEM" => Meridian {
+            name: quoted,
+            longitude: number,
+            unit: optional,
+            identifiers: each,
+        });
     }
 }
 
 impl Written for Dynamic<'_> {
     fn put(&self, out: &mut Text) {
-        let Dynamic { epoch, model } = self;
-        out.open("DYNAMIC");
-        out.numbered("FRAMEEPOCH", epoch);
-        out.optional(model);
-        out.close();
+        put_node!(self, out, "DYNAMIC" => Dynamic {
+            epoch: numbered("FRAMEEPOCH"),
+            model: optional,
+        });
     }
 }
 
 impl Written for DeformationModel<'_> {
     fn put(&self, out: &mut Text) {
-        let DeformationModel { name, identifiers } = self;
-        out.named("MODEL", name);
-        out.each(identifiers);
-        out.close();
+        put_node!(self, out, "MODEL" => DeformationModel {
+            name: quoted,
+            identifiers: each,
+        });
     }
 }

@@ -28,51 +28,41 @@ fn put_type(out: &mut Text, system_type: SystemType) {
 
 impl Written for Axis<'_> {
     fn put(&self, out: &mut Text) {
-        let Axis {
-            name,
-            direction,
-            meridian,
-            order,
-            unit,
-            identifiers,
-        } = self;
-        out.named("AXIS", name);
-        put_direction(out, *direction);
-        out.optional(meridian);
-        out.optional_number("ORDER", order);
-        out.optional(unit);
-        out.each(identifiers);
-        out.close();
+        put_node!(self, out, "AXIS" => Axis {
+            name: quoted,
+            direction: direction,
+            meridian: optional,
+            order: optional_number("ORDER"),
+            unit: optional,
+            identifiers: each,
+        });
     }
 }
 
-fn put_direction(out: &mut Text, direction: Direction) {
-    let word: &'static str = direction.word();
-    out.word(word.as_bytes());
+impl Text {
+    fn direction(&mut self, direction: &Direction) {
+        let word: &'static str = direction.word();
+        self.word(word.as_bytes());
+    }
 }
 
 impl Written for AxisMeridian<'_> {
     fn put(&self, out: &mut Text) {
-        let AxisMeridian { longitude, unit } = self;
-        out.open("MERIDIAN");
-        out.number(longitude);
-        unit.put(out);
-        out.close();
+        put_node!(self, out, "MERIDIAN" => AxisMeridian {
+            longitude: number,
+            unit: put,
+        });
     }
 }
 
 impl Written for Unit<'_> {
     fn put(&self, out: &mut Text) {
-        let Unit {
-            kind,
-            name,
-            factor,
-            identifiers,
-        } = self;
-        out.named(unit_keyword(*kind), name);
-        out.number(factor);
-        out.each(identifiers);
-        out.close();
+        put_node!(self, out, unit_keyword(*kind) => Unit {
+            kind: in_keyword,
+            name: quoted,
+            factor: number,
+            identifiers: each,
+        });
     }
 }
 

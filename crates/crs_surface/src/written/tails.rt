@@ -4,112 +4,93 @@ use crs_value::{BoundingBox, Extent, GeoidModel, Ident, Tail, Usage};
 
 impl Written for Tail<'_> {
     fn put(&self, out: &mut Text) {
-        let Tail {
-            usages,
-            bare_parts,
-            identifiers,
-            remark,
-        } = self;
-        put_bare(out, bare_parts);
-        out.each(usages);
-        out.each(identifiers);
-        out.text("REMARK", remark);
-    }
-}
-
-fn put_bare(out: &mut Text, parts: &Option<Usage<'_>>) {
-    if let Some(parts) = parts {
-        put_parts(out, parts);
+        put_fields!(self, out => Tail {
+            bare_parts: bare_parts,
+            usages: each,
+            identifiers: each,
+            remark: text("REMARK"),
+        });
     }
 }
 
 impl Written for Usage<'_> {
     fn put(&self, out: &mut Text) {
         out.open("USAGE");
-        put_parts(out, self);
+        out.parts(self);
         out.close();
     }
 }
 
-fn put_parts(out: &mut Text, usage: &Usage<'_>) {
-    let Usage {
-        scope,
-        area,
-        bbox,
-        extent,
-    } = usage;
-    out.text("SCOPE", scope);
-    out.text("AREA", area);
-    out.optional(bbox);
-    out.optional(extent);
-}
-
 impl Written for BoundingBox {
     fn put(&self, out: &mut Text) {
-        let BoundingBox {
-            south,
-            west,
-            north,
-            east,
-        } = self;
-        out.open("BBOX");
-        out.number(south);
-        out.number(west);
-        out.number(north);
-        out.number(east);
-        out.close();
+        put_node!(self, out, "BBOX" => BoundingBox {
+            south: number,
+            west: number,
+            north: number,
+            east: number,
+        });
     }
 }
 
 impl Written for Extent<'_> {
     fn put(&self, out: &mut Text) {
-        let Extent {
-            minimum,
-            maximum,
-            unit,
-        } = self;
-        out.open("VERTICALEXTENT");
-        out.number(minimum);
-        out.number(maximum);
-        out.optional(unit);
-        out.close();
+        put_node!(self, out, "VERTICALEXTENT" => Extent {
+            minimum: number,
+            maximum: number,
+            unit: optional,
+        });
     }
 }
 
 impl Written for GeoidModel<'_> {
     fn put(&self, out: &mut Text) {
-        let GeoidModel { name, identifiers } = self;
-        out.named("GEOIDMODEL", name);
-        out.each(identifiers);
-        out.close();
+        put_node!(self, out, "GEOIDMODEL" => GeoidModel {
+            name: quoted,
+            identifiers: each,
+        });
     }
 }
 
 impl Written for Ident<'_> {
     fn put(&self, out: &mut Text) {
-        let Ident {
-            authority,
-            code,
-            version,
-            citation,
-            uri,
-        } = self;
-        out.named("ID", authority);
-        put_code(out, code);
-        if let Some(version) = version {
-            put_code(out, version);
-        }
-        out.text("CITATION", citation);
-        out.text("URI", uri);
-        out.close();
+        put_node!(self, out, "ID" => Ident {
+            authority: quoted,
+            code: code,
+            version: optional_code,
+            citation: text("CITATION"),
+            uri: text("URI"),
+        });
     }
 }
 
-// A code without quotes where it has digits alone.
-fn put_code(out: &mut Text, code: &[u8]) {
-    if code.iter().all(|byte| byte.is_ascii_digit()) {
-        out.word(code);
-    } else {
-        out.quoted(code);
+impl Text {
+    fn parts(&mut self, usage: &Usage<'_>) {
+        put_fields!(usage, self => Usage {
+            scope: text("SCOPE"),
+            area: text("AREA"),
+            bbox: optional,
+            extent: optional,
+        });
+    }
+
+    fn bare_parts(&mut self, parts: &Option<Usage<'_>>) {
+        if let Some(parts) = parts {
+            self.parts(parts);
+        }
+    }
+
+    // A code without quotes where it has digits alone.
+    fn code(&mut self, code: &[u8]) {
+        if code.iter().all(|byte| byte.is_ascii_digit()) {
+            self.word(code);
+        } else {
+            self.quoted(code);
+        }
+    }
+
+    fn optional_code(&mut self, code: &Option<&[u8]>) {
+        if let Some(code) = code {
+            self.code(code);
+        }
     }
 }
