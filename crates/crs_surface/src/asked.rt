@@ -1,6 +1,5 @@
 //! Questions about the CRS of a text.
 use crate::canonical::{has_text, identifiers_of, set_is_same, set_is_written};
-use crate::made::is_so;
 use crate::values::{is_kind, is_text_of};
 use crs_suite::{AboutCrs, about_crs};
 use crs_value::Crs;
@@ -37,5 +36,5 @@ impl AboutCrs for Asked<'_> {
 
 /// Whether this is so of the CRS of a text.
 pub fn holds(alloc: Global, text: &[u8], asked: Asked<'_>) -> bool {
-    is_so(&about_crs(alloc, text, asked))
+    matches!(about_crs(alloc, text, asked), Ok(true))
 }

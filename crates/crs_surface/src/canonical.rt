@@ -1,7 +1,7 @@
 //! Canonical texts, and sets.
 use crate::asked::{Asked, holds};
 use crate::bounds::{are_equal, hash_of};
-use crate::made::is_refused_at;
+use crate::refusals::is_refused_at;
 use crate::tally::Tally;
 use crate::texts::Texts;
 use crs_canon::{Canon, Set, canon, canon_of};

@@ -1,5 +1,5 @@
 //! Texts in pieces.
-use crate::made::is_refused_at;
+use crate::refusals::is_refused_at;
 use crate::tally::Tally;
 use crate::texts::Texts;
 use crs_text::{Fault, Feeder, Items};

@@ -1,6 +1,6 @@
 //! The items of a text.
 use crate::bounds::copied;
-use crate::made::is_refused_at;
+use crate::refusals::is_refused_at;
 use crate::tally::Tally;
 use crate::texts::Texts;
 use crs_decimal::Decimal;

@@ -12,7 +12,6 @@ mod desk;
 mod examples;
 mod feeders;
 mod items;
-mod made;
 mod nodes;
 mod refusals;
 mod runs;

@@ -34,11 +34,12 @@ fn is_made() -> bool {
         && Refusal::new(30, 0).is_none()
 }
 
-/// Whether a fault is this refusal.
-pub fn is_refused(fault: &Fault, number: u8, place: usize) -> bool {
-    match fault {
-        Fault::Refused(refusal) => is_refusal_of(refusal, number, place),
-        Fault::Memory(_error) => false,
+/// Whether no value was made, but this refusal.
+pub fn is_refused_at<T: Drop>(made: Result<T, Fault>, number: u8, place: usize) -> bool {
+    match made {
+        Err(Fault::Refused(refusal)) => is_refusal_of(&refusal, number, place),
+        Err(Fault::Memory(_error)) => false,
+        Ok(_value) => false,
     }
 }
 

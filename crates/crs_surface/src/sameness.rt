@@ -1,5 +1,4 @@
 //! Sameness, and the first part that differs.
-use crate::made::is_so;
 use crate::tally::Tally;
 use crate::texts::Texts;
 use crs_same::{Path, Step, first_part, same};
@@ -33,7 +32,8 @@ enum Sameness {
 
 // Whether this is so of the CRSs of two texts, which are named.
 fn holds(alloc: Global, texts: Texts<'_>, (first, second, asked): (&str, &str, Sameness)) -> bool {
-    is_so(&about_both(alloc, texts.named(first), texts.named(second), asked))
+    let (first, second) = (texts.named(first), texts.named(second));
+    matches!(about_both(alloc, first, second, asked), Ok(true))
 }
 
 impl AboutBoth for Sameness {

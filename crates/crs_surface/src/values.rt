@@ -1,6 +1,6 @@
 //! Values.
 use crate::asked::{Asked, holds};
-use crate::made::is_refused_at;
+use crate::refusals::is_refused_at;
 use crate::tally::Tally;
 use crate::texts::Texts;
 use crate::written::{Text, Written};
@@ -68,14 +68,10 @@ fn kind_in(made: Result<Crs<'_>, Fault>) -> Result<Kind, Fault> {
 }
 
 fn has_kinds(alloc: Global, texts: Texts<'_>) -> bool {
-    has_kind(alloc, texts.named("geocentric"), "geodetic")
-        && has_kind(alloc, texts.named("geographic"), "geographic")
-        && has_kind(alloc, texts.named("projected"), "projected")
-        && has_kind(alloc, texts.named("compound"), "compound")
-}
-
-fn has_kind(alloc: Global, text: &[u8], kind: &str) -> bool {
-    holds(alloc, text, Asked::Kind(kind))
+    holds(alloc, texts.named("geocentric"), Asked::Kind("geodetic"))
+        && holds(alloc, texts.named("geographic"), Asked::Kind("geographic"))
+        && holds(alloc, texts.named("projected"), Asked::Kind("projected"))
+        && holds(alloc, texts.named("compound"), Asked::Kind("compound"))
 }
 
 /// Whether a kind has this name.

@@ -115,16 +115,11 @@ impl Text {
         self.is_first = false;
     }
 
-    // A node's keyword, its bracket and a quoted text.
-    fn named(&mut self, keyword: &str, name: &[u8]) {
-        self.open(keyword);
-        self.quoted(name);
-    }
-
     // A node that holds a text, where there is one.
     fn text(&mut self, keyword: &str, text: &Option<&[u8]>) {
         if let Some(text) = text {
-            self.named(keyword, text);
+            self.open(keyword);
+            self.quoted(text);
             self.close();
         }
     }
