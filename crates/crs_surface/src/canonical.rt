@@ -54,10 +54,10 @@ fn is_other(text: &Canon, other: Result<Canon, Fault>) -> bool {
 }
 
 fn is_equal(text: &Canon, other: Result<Canon, Fault>) -> bool {
-    matches!(
-        other,
-        Ok(other) if text.same(&other) && are_equal(text, &other) && hash_of(text) == hash_of(&other)
-    )
+    let Ok(other) = &other else {
+        return false;
+    };
+    text.same(other) && are_equal(text, other) && hash_of(text) == hash_of(other)
 }
 
 /// The identifiers of a vertical CRS; none of another one.

@@ -63,5 +63,5 @@ fn has_text(catalogue: &Catalogue, expected: &[u8]) -> bool {
 
 fn has_refused(catalogue: &Catalogue) -> bool {
     let refused: &[(u64, Refusal)] = catalogue.refused();
-    matches!(refused, [(7, refusal)] if is_refusal_of(refusal, 7, 11))
+    matches!(refused, [(line, refusal)] if *line == 7 && is_refusal_of(refusal, 7, 11))
 }

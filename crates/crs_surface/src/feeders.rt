@@ -43,5 +43,5 @@ fn is_fed(alloc: Global, text: &[u8]) -> bool {
             return false;
         }
     }
-    matches!(feeder.finish(), Ok(items) if items.size(items.root()) == 13)
+    matches!(&feeder.finish(), Ok(items) if items.size(items.root()) == 13)
 }

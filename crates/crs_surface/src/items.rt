@@ -43,7 +43,8 @@ fn check_parts(alloc: Global, tally: &mut Tally, items: &Items<'_>) {
 
 fn has_root(items: &Items<'_>, alloc: Global) -> bool {
     let root: ItemId = copied(&items.root());
-    matches!(read_items(alloc, b"a[1]"), Ok(other) if items.contains(root) && other.contains(other.root()))
+    let other = read_items(alloc, b"a[1]");
+    matches!(&other, Ok(other) if items.contains(root) && other.contains(other.root()))
 }
 
 // A table contains its own items, and no later one of another table.
@@ -51,7 +52,8 @@ fn contains(items: &Items<'_>, alloc: Global) -> bool {
     let Some(axis) = items.arg(items.root(), 3) else {
         return false;
     };
-    matches!(read_items(alloc, b"a[1]"), Ok(other) if items.contains(axis) && !other.contains(axis))
+    let other = read_items(alloc, b"a[1]");
+    matches!(&other, Ok(other) if items.contains(axis) && !other.contains(axis))
 }
 
 fn has_arguments(items: &Items<'_>) -> Option<bool> {

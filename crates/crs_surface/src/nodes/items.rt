@@ -1,5 +1,5 @@
-//! The nodes that the walk through each text looks at after the CRS itself, in their order: the call of `crs_same::parts`
-//! that compares them, and their type.
+//! The nodes that the walk through each text looks at after the CRS itself, in their order: the call of
+//! `crs_same::parts` that compares nodes of a kind, and their type.
 
 pub const PROJECTED: [(&str, &str); 11] = [
     ("same_projected", "Projected"),
