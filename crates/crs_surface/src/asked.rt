@@ -27,7 +27,7 @@ impl AboutCrs for Asked<'_> {
         match self {
             Asked::Kind(name) => is_kind(crs.kind(), name),
             Asked::Written(text) => is_text_of(alloc, crs, text),
-            Asked::Canonical(text) => has_text(alloc, crs, text),
+            Asked::Canonical(text) => has_text(alloc, text, crs),
             Asked::SameSet => set_is_same(identifiers_of(crs)),
             Asked::WrittenSet(text) => set_is_written(alloc, identifiers_of(crs), text),
         }

@@ -29,8 +29,8 @@ fn refuses(alloc: Global) -> bool {
     is_refused_at(answer, 7, 11)
 }
 
-/// Whether a CRS has this canonical text.
-pub fn has_text(alloc: Global, crs: &Crs<'_>, expected: &[u8]) -> bool {
+/// Whether this is the canonical text of a CRS.
+pub fn has_text(alloc: Global, expected: &[u8], crs: &Crs<'_>) -> bool {
     let answer: Result<Canon, AllocError> = canon_of(alloc, crs, Level::Full);
     matches!(answer, Ok(text) if text.bytes() == expected)
 }
