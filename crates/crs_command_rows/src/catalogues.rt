@@ -1,45 +1,34 @@
 //! Catalogues of lines.
-use crs_desk::Level;
 use crs_group::{Catalogue, Placed};
-use crs_suite::put_text;
+use crs_suite::{Answer, Row};
 use crs_text::Refusal;
-use std::alloc::{AllocError, Global};
 
 /// The answers of a catalogue's calls, one a line of the input, with `; ` between two: `add N TEXT`, `groups`,
 /// `lines N`, `text N` and `refused`.
-pub fn put_catalogue(
-    out: &mut String,
-    alloc: Global,
-    level: Level,
-    input: &[u8],
-) -> Result<(), AllocError> {
-    let mut catalogue = Catalogue::new(alloc, level);
-    put_calls(out, &mut catalogue, input)
-}
-
-fn put_calls(out: &mut String, catalogue: &mut Catalogue, input: &[u8]) -> Result<(), AllocError> {
-    for (index, line) in input.split(|byte| *byte == b'\n').enumerate() {
+pub fn put_catalogue(out: &mut Answer, row: &Row<'_>) {
+    let mut catalogue = Catalogue::new(out.alloc(), row.level);
+    for (index, line) in row.input.split(|byte| *byte == b'\n').enumerate() {
         if index > 0 {
-            out.push_str("; ")?;
+            out.put("; ");
         }
-        put_call(out, catalogue, line)?;
+        put_call(out, &mut catalogue, line);
     }
-    Ok(())
 }
 
-fn put_call(out: &mut String, catalogue: &mut Catalogue, line: &[u8]) -> Result<(), AllocError> {
+fn put_call(out: &mut Answer, catalogue: &mut Catalogue, line: &[u8]) {
     let (call, rest) = split_blank(line);
     match call {
         b"add" => {
             let (number, text) = split_blank(rest);
-            let placed = catalogue.add(number_of(number) as u64, text)?;
-            put_placed(out, placed)
+            if let Some(placed) = out.made(catalogue.add(number_of(number) as u64, text)) {
+                put_placed(out, placed);
+            }
         }
         b"groups" => write!(out, "{}", catalogue.groups()),
         b"lines" => put_lines(out, catalogue.lines(number_of(rest))),
         b"text" => put_group_text(out, catalogue.text(number_of(rest))),
         b"refused" => put_refused(out, catalogue.refused()),
-        _ => out.push_str("no such call"),
+        _ => out.put("no such call"),
     }
 }
 
@@ -62,46 +51,56 @@ fn number_of(digits: &[u8]) -> usize {
 }
 
 /// Where a line was placed.
-pub fn put_placed(out: &mut String, placed: Placed) -> Result<(), AllocError> {
+pub fn put_placed(out: &mut Answer, placed: Placed) {
     match placed {
-        Placed::Blank => out.push_str("blank"),
+        Placed::Blank => out.put("blank"),
         Placed::Refused(refusal) => put_refusal(out, refusal),
         Placed::Group(number) => write!(out, "group {number}"),
     }
 }
 
-fn put_refusal(out: &mut String, refusal: Refusal) -> Result<(), AllocError> {
+fn put_refusal(out: &mut Answer, refusal: Refusal) {
     let number = refusal.number();
     let place = refusal.place();
-    write!(out, "{number} at {place}")
+    write!(out, "{number} at {place}");
 }
 
-/// The lines of a group; `none` where there is no such group.
-pub fn put_lines(out: &mut String, lines: Option<&[u64]>) -> Result<(), AllocError> {
+// The lines of a group; `none` where there is no such group.
+fn put_lines(out: &mut Answer, lines: Option<&[u64]>) {
     let Some(lines) = lines else {
-        return out.push_str("none");
+        return out.put("none");
     };
-    out.push_str("lines")?;
+    out.put("lines");
     for line in lines {
-        write!(out, " {line}")?;
+        write!(out, " {line}");
     }
-    Ok(())
 }
 
-/// The text of a group; `none` where there is no such group.
-pub fn put_group_text(out: &mut String, text: Option<&[u8]>) -> Result<(), AllocError> {
+// The text of a group; `none` where there is no such group.
+fn put_group_text(out: &mut Answer, text: Option<&[u8]>) {
     match text {
-        Some(text) => put_text(out, text),
-        None => out.push_str("none"),
+        Some(text) => out.put_bytes(text),
+        None => out.put("none"),
     }
 }
 
-/// The lines that were refused.
-pub fn put_refused(out: &mut String, refused: &[(u64, Refusal)]) -> Result<(), AllocError> {
-    out.push_str("refused")?;
+// The lines that were refused.
+fn put_refused(out: &mut Answer, refused: &[(u64, Refusal)]) {
+    out.put("refused");
     for (line, refusal) in refused {
-        write!(out, " {line}: ")?;
-        put_refusal(out, *refusal)?;
+        write!(out, " {line}: ");
+        put_refusal(out, *refusal);
     }
-    Ok(())
+}
+
+/// All that a catalogue answers: each group's lines and text, then the refused lines.
+pub fn put_all(out: &mut Answer, catalogue: &Catalogue) {
+    for group in 1..=catalogue.groups() {
+        out.put("; ");
+        put_lines(out, catalogue.lines(group));
+        out.put("; ");
+        put_group_text(out, catalogue.text(group));
+    }
+    out.put("; ");
+    put_refused(out, catalogue.refused());
 }

@@ -2,6 +2,7 @@
 #![tactic(auto)]
 
 mod answers;
+mod calls;
 mod catalogues;
 mod failures;
 mod lines;

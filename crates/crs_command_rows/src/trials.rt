@@ -2,29 +2,29 @@
 mod catalogues;
 mod commands;
 
+use crate::calls::Call;
 use crs_desk::Manner;
 use crs_suite::{part_at, unusable};
 use std::io;
 
 /// Makes the call of this name; the error is a call of another, or out of memory.
 pub fn try_call(rt: &(impl Print + AllocGlobal), name: &str, parts: &[&[u8]]) -> io::Result<()> {
-    match name {
-        "Catalogue::add" => catalogues::try_add(rt, parts),
-        "run_group" => catalogues::try_run(rt, part_at(parts, 0)),
-        "run_canon" => commands::try_canon(rt, part_at(parts, 0)),
-        "run_canon_lines" => commands::try_canon_lines(rt, part_at(parts, 0)),
-        "run_check" => commands::try_check(rt, part_at(parts, 0)),
-        "run_check_lines" => commands::try_check_lines(rt, part_at(parts, 0)),
-        "run_explain" => commands::try_explain(rt, Manner::Lines, part_at(parts, 0)),
-        "run_explain_objects" => commands::try_explain(rt, Manner::Objects, part_at(parts, 0)),
-        "run_explain_pair" => {
-            commands::try_explain_pair(rt, Manner::Lines, part_at(parts, 0), part_at(parts, 1))
-        }
-        "run_explain_pair_objects" => {
-            commands::try_explain_pair(rt, Manner::Objects, part_at(parts, 0), part_at(parts, 1))
-        }
-        "run_same" => commands::try_same(rt, part_at(parts, 0), part_at(parts, 1)),
-        "request" => commands::try_request(rt, parts),
-        _ => Err(unusable()),
-    }
+    let text = part_at(parts, 0);
+    let second = part_at(parts, 1);
+    let call = match name {
+        "Catalogue::add" => return catalogues::try_add(rt, parts),
+        "run_group" => return catalogues::try_run(rt, text),
+        "request" => return commands::try_request(rt, parts),
+        "run_canon" => Call::Canon(text),
+        "run_canon_lines" => Call::CanonLines(text),
+        "run_check" => Call::Check(text),
+        "run_check_lines" => Call::CheckLines(text),
+        "run_explain" => Call::Explain(Manner::Lines, text),
+        "run_explain_objects" => Call::Explain(Manner::Objects, text),
+        "run_explain_pair" => Call::ExplainPair(Manner::Lines, text, second),
+        "run_explain_pair_objects" => Call::ExplainPair(Manner::Objects, text, second),
+        "run_same" => Call::Same(text, second),
+        _ => return Err(unusable()),
+    };
+    commands::try_command(rt, call)
 }

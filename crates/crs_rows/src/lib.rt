@@ -4,7 +4,6 @@
 
 mod answers;
 mod canonical;
-mod levels;
 mod nodes;
 mod numbers;
 mod pieces;

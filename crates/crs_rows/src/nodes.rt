@@ -1,15 +1,20 @@
-//! What parts of a vertical CRS append by themselves, and a set of them.
-use crate::texts::put_asked;
+//! The parts of a vertical CRS: what each appends by itself, and a set of them.
 use crs_canon::{Canonical, Set};
-use crs_suite::{AboutCrs, about_crs, put_text};
-use crs_value::{Crs, Dynamic, Ident, Level, Tail, Usage, Vertical};
-use std::alloc::{AllocError, Global};
+use crs_suite::{AboutCrs, Answer, Row, about_crs};
+use crs_value::{Crs, Ident, Level, Tail, Vertical};
+use std::alloc::Global;
 
-/// A part of a vertical CRS.
+/// A CRS, or a part of a vertical one.
 #[derive(Clone, Copy)]
 pub enum Part {
+    /// The CRS itself.
+    Crs,
     /// Its first axis.
     Axis,
+    /// The unit of its first axis.
+    Unit,
+    /// Its frame.
+    Frame,
     /// Its dynamic part.
     Dynamic,
     /// The deformation model of its dynamic part.
@@ -24,186 +29,115 @@ pub enum Part {
     Idents,
 }
 
-impl Part {
-    /// The part that a call of this name appends.
-    pub fn named(call: &str) -> Option<Part> {
-        match call {
-            "Axis::write" => Some(Part::Axis),
-            "Dynamic::write" => Some(Part::Dynamic),
-            "DeformationModel::write" => Some(Part::Model),
-            "Usage::write" => Some(Part::Usage),
-            "Extent::write" => Some(Part::Extent),
-            "Ident::write" => Some(Part::Ident),
-            "Set::write" => Some(Part::Idents),
-            _ => None,
-        }
-    }
+/// What is asked of a part.
+pub trait AboutPart {
+    /// What is answered.
+    type Answer;
 
-    // What is said where there is no such part.
-    fn absent(self) -> &'static str {
-        match self {
-            Part::Axis => "no axis",
-            Part::Dynamic => "no dynamic part",
-            Part::Model => "no model",
-            Part::Usage => "no usage",
-            Part::Extent => "no extent",
-            Part::Ident => "no identifier",
-            Part::Idents => "no set",
-        }
-    }
+    /// The answer for a node.
+    fn of_node<T: Canonical>(self, node: &T) -> Self::Answer;
+
+    /// The answer for a set of identifiers.
+    fn of_set(self, idents: &[Ident<'_>]) -> Self::Answer;
 }
 
-/// `text` and what a part of the CRS of a text appends by itself, or the refusal of the text; `no` and the part where
-/// it has none, and for another CRS than a vertical one, and `one way` where the part isn't the same as itself.
-pub fn put_part(
-    out: &mut String,
-    alloc: Global,
-    level: Level,
-    part: Part,
-    input: &[u8],
-) -> Result<(), AllocError> {
-    let question = Appended {
-        out: &mut *out,
-        part,
-        level,
-    };
-    let asked = about_crs(alloc, input, question);
-    put_asked(out, asked)
-}
-
-// What a part of a vertical CRS appends at a level.
+/// A question about the part of a CRS; the answer is None where it has no such part.
 #[derive(Drop)]
-struct Appended<'o> {
-    out: &'o mut String,
-    part: Part,
-    level: Level,
+pub struct OfPart<Q> {
+    pub part: Part,
+    pub question: Q,
 }
 
-impl AboutCrs for Appended<'_> {
-    type Answer = Result<(), AllocError>;
+impl<Q: AboutPart + Drop> AboutCrs for OfPart<Q> {
+    type Answer = Option<Q::Answer>;
 
-    fn answer(self, alloc: Global, crs: &Crs<'_>) -> Result<(), AllocError> {
-        let Appended { out, part, level } = self;
+    fn answer(self, _alloc: Global, crs: &Crs<'_>) -> Option<Q::Answer> {
+        let OfPart { part, question } = self;
         match crs {
-            Crs::Vertical(vertical) => put_part_of(out, alloc, level, part, vertical),
-            Crs::Geodetic(_) | Crs::Projected(_) | Crs::Compound(_) => out.push_str(part.absent()),
+            _ if matches!(part, Part::Crs) => Some(question.of_node(crs)),
+            Crs::Vertical(vertical) => part.asked(vertical, question),
+            Crs::Geodetic(_) | Crs::Projected(_) | Crs::Compound(_) => None,
         }
     }
 }
 
-fn put_part_of(
-    out: &mut String,
-    alloc: Global,
-    level: Level,
-    part: Part,
-    crs: &Vertical<'_>,
-) -> Result<(), AllocError> {
-    match part {
-        Part::Axis => put_first(out, alloc, level, part, crs.system.axes.as_slice()),
-        Part::Dynamic => put_optional(out, alloc, level, part, &crs.dynamic),
-        Part::Model => put_model(out, alloc, level, &crs.dynamic),
-        Part::Usage | Part::Extent | Part::Ident | Part::Idents => {
-            put_end(out, alloc, level, part, &crs.tail)
+impl Part {
+    fn asked<Q: AboutPart + Drop>(self, crs: &Vertical<'_>, question: Q) -> Option<Q::Answer> {
+        match self {
+            Part::Crs => of_node(Some(crs), question),
+            Part::Axis => of_node(crs.system.axes.as_slice().first(), question),
+            Part::Unit => of_node(crs.system.axes.as_slice().first()?.unit.as_ref(), question),
+            Part::Frame => of_node(Some(&crs.frame), question),
+            Part::Dynamic => of_node(crs.dynamic.as_ref(), question),
+            Part::Model => of_node(crs.dynamic.as_ref()?.model.as_ref(), question),
+            Part::Usage | Part::Extent | Part::Ident | Part::Idents => {
+                self.asked_behind(&crs.tail, question)
+            }
+        }
+    }
+
+    fn asked_behind<Q: AboutPart + Drop>(self, tail: &Tail<'_>, question: Q) -> Option<Q::Answer> {
+        match self {
+            Part::Usage => of_node(tail.usages.as_slice().first(), question),
+            Part::Extent => of_node(tail.usages.as_slice().first()?.extent.as_ref(), question),
+            Part::Ident => of_node(tail.identifiers.as_slice().first(), question),
+            _ => Some(question.of_set(tail.identifiers.as_slice())),
         }
     }
 }
 
-fn put_model(
-    out: &mut String,
-    alloc: Global,
-    level: Level,
-    dynamic: &Option<Dynamic<'_>>,
-) -> Result<(), AllocError> {
-    match dynamic {
-        Some(dynamic) => put_optional(out, alloc, level, Part::Model, &dynamic.model),
-        None => out.push_str(Part::Model.absent()),
+fn of_node<T: Canonical, Q: AboutPart + Drop>(node: Option<&T>, question: Q) -> Option<Q::Answer> {
+    Some(question.of_node(node?))
+}
+
+/// `text` and what a part of the CRS of a text appends by itself, or the refusal of the text; what is said of an absent
+/// part where it has none, `one way` where the part isn't the same as itself, and `nothing` for an empty set, which
+/// appends nothing.
+pub fn put_part(out: &mut Answer, row: &Row<'_>, part: Part, absent: &str) {
+    let alloc = out.alloc();
+    let question = Written {
+        out: &mut *out,
+        level: row.level,
+    };
+    let asked = about_crs(alloc, &row.input, OfPart { part, question });
+    if let Some(None) = out.accepted(asked) {
+        out.put(absent);
     }
 }
 
-fn put_end(
-    out: &mut String,
-    alloc: Global,
+// What a part appends at a level.
+#[derive(Drop)]
+struct Written<'o> {
+    out: &'o mut Answer,
     level: Level,
-    part: Part,
-    tail: &Tail<'_>,
-) -> Result<(), AllocError> {
-    match part {
-        Part::Usage => put_first(out, alloc, level, part, tail.usages.as_slice()),
-        Part::Extent => put_extent(out, alloc, level, tail.usages.as_slice()),
-        Part::Ident => put_first(out, alloc, level, part, tail.identifiers.as_slice()),
-        _ => put_set(out, alloc, level, tail.identifiers.as_slice()),
+}
+
+impl AboutPart for Written<'_> {
+    type Answer = ();
+
+    fn of_node<T: Canonical>(self, node: &T) {
+        let Written { out, level } = self;
+        let mut text = Vec::new(out.alloc());
+        out.note(node.write(out.alloc(), level, &mut text));
+        put_written(out, &text, node.same(node, level));
+    }
+
+    fn of_set(self, idents: &[Ident<'_>]) {
+        let Written { out, level } = self;
+        let set = Set::of(idents);
+        let mut text = Vec::new(out.alloc());
+        out.note(set.write(out.alloc(), level, &mut text));
+        put_written(out, &text, set.same(&set, level));
     }
 }
 
-fn put_extent(
-    out: &mut String,
-    alloc: Global,
-    level: Level,
-    usages: &[Usage<'_>],
-) -> Result<(), AllocError> {
-    match usages {
-        [usage, ..] => put_optional(out, alloc, level, Part::Extent, &usage.extent),
-        [] => out.push_str(Part::Extent.absent()),
+fn put_written(out: &mut Answer, text: &[u8], is_itself: bool) {
+    if !is_itself {
+        out.put("one way");
+    } else if text.is_empty() {
+        out.put("nothing");
+    } else {
+        out.put("text ");
+        out.put_bytes(text);
     }
-}
-
-fn put_first<T: Canonical>(
-    out: &mut String,
-    alloc: Global,
-    level: Level,
-    part: Part,
-    nodes: &[T],
-) -> Result<(), AllocError> {
-    match nodes {
-        [node, ..] => put_node(out, alloc, level, node),
-        [] => out.push_str(part.absent()),
-    }
-}
-
-fn put_optional<T: Canonical>(
-    out: &mut String,
-    alloc: Global,
-    level: Level,
-    part: Part,
-    node: &Option<T>,
-) -> Result<(), AllocError> {
-    match node {
-        Some(node) => put_node(out, alloc, level, node),
-        None => out.push_str(part.absent()),
-    }
-}
-
-fn put_node<T: Canonical>(
-    out: &mut String,
-    alloc: Global,
-    level: Level,
-    node: &T,
-) -> Result<(), AllocError> {
-    if !node.same(node, level) {
-        return out.push_str("one way");
-    }
-    let mut text = Vec::new(alloc);
-    node.write(alloc, level, &mut text)?;
-    out.push_str("text ")?;
-    put_text(out, &text)
-}
-
-// A set may append nothing, which is written as `nothing`.
-fn put_set(
-    out: &mut String,
-    alloc: Global,
-    level: Level,
-    identifiers: &[Ident<'_>],
-) -> Result<(), AllocError> {
-    let set = Set::of(identifiers);
-    if !set.same(&set, level) {
-        return out.push_str("one way");
-    }
-    let mut text = Vec::new(alloc);
-    set.write(alloc, level, &mut text)?;
-    if text.is_empty() {
-        return out.push_str("nothing");
-    }
-    out.push_str("text ")?;
-    put_text(out, &text)
 }

@@ -1,8 +1,7 @@
 //! Texts in pieces.
-ghost use Rattle.std.specs.Prelude.{◌<◌};
-
-use crate::texts::{answered, put_read, put_refusal};
-use crs_text::{Fault, Feeder, Refusal, read_items};
+use crate::texts::put_read;
+use crs_suite::{Answer, Row};
+use crs_text::{Fault, Feeder, Items, read_items};
 use std::alloc::{AllocError, Global};
 
 // The longest text of which every cut is tried.
@@ -10,138 +9,81 @@ const LONGEST: usize = 2000;
 
 /// The answer of each piece, which ends at the next of these places, and then that of `finish`, with `; ` between two:
 /// `ok`, the items, or the refusal.
-pub fn put_fed(
-    out: &mut String,
-    alloc: Global,
-    input: &[u8],
-    ends: &[usize],
-) -> Result<(), AllocError> {
-    let mut feeder = Feeder::new(alloc);
-    put_pieces(out, &mut feeder, input, ends)?;
-    put_read(out, feeder.finish())
-}
-
-fn put_pieces(
-    out: &mut String,
-    feeder: &mut Feeder,
-    input: &[u8],
-    ends: &[usize],
-) -> Result<(), AllocError> {
+pub fn put_fed(out: &mut Answer, row: &Row<'_>) {
+    let mut feeder = Feeder::new(out.alloc());
     let mut from = 0;
-    for end in ends {
-        let piece = input.get(from..*end).unwrap_or(&[]);
-        put_piece(out, feeder, piece)?;
+    for end in &row.ends {
+        put_taken(out, feeder.feed(row.input.get(from..*end).unwrap_or(&[])));
+        out.put("; ");
         from = *end;
     }
-    Ok(())
-}
-
-fn put_piece(out: &mut String, feeder: &mut Feeder, piece: &[u8]) -> Result<(), AllocError> {
-    put_taken(out, &answered(feeder.feed(piece))?)?;
-    out.push_str("; ")
+    put_read(out, feeder.finish());
 }
 
 /// What `feed` answers: `ok`, or the refusal.
-pub fn put_taken(out: &mut String, taken: &Result<(), Refusal>) -> Result<(), AllocError> {
+pub fn put_taken(out: &mut Answer, taken: Result<(), Fault>) {
     match taken {
-        Ok(()) => out.push_str("ok"),
-        Err(refusal) => put_refusal(out, *refusal),
+        Ok(()) => out.put("ok"),
+        Err(fault) => out.put_fault(fault),
     }
 }
 
-/// Whether a text that isn't long gives the same answer as a whole, in any two pieces, and in pieces of 1 to 7 bytes.
-pub fn agree(alloc: Global, text: &[u8]) -> Result<bool, AllocError> {
-    if text.len() > LONGEST {
-        return Ok(true);
+/// The items of a text. None where it is refused, which is put, or has another answer in pieces, as is then put.
+pub fn read_agreed<'t>(out: &mut Answer, text: &'t [u8]) -> Option<Items<'t>> {
+    if !out.made(agree(out.alloc(), text))? {
+        out.put("another answer in pieces");
+        return None;
     }
-    Ok(agree_in_two(alloc, text)? && agree_in_many(alloc, text)?)
+    out.accepted(read_items(out.alloc(), text))
+}
+
+// Whether a text that isn't long gives the same answer as a whole, in any two pieces, and in pieces of 1 to 7 bytes.
+fn agree(alloc: Global, text: &[u8]) -> Result<bool, AllocError> {
+    Ok(text.len() > LONGEST || agree_in_two(alloc, text)? && agree_in_many(alloc, text)?)
 }
 
 fn agree_in_two(alloc: Global, text: &[u8]) -> Result<bool, AllocError> {
-    let whole = answer(alloc, text)?;
-    agree_at_cuts(alloc, text, whole.as_str())
-}
-
-fn agree_at_cuts(alloc: Global, text: &[u8], whole: &str) -> Result<bool, AllocError> {
+    let whole = answer_of(read_items(alloc, text), alloc);
     for cut in 0..text.len() {
         let (first, second) = text.split_at(cut);
-        if !agrees_in_two(alloc, first, second, whole)? {
+        if !agrees_in(alloc, &[first, second], &whole)? {
             return Ok(false);
         }
     }
     Ok(true)
-}
-
-fn agrees_in_two(
-    alloc: Global,
-    first: &[u8],
-    second: &[u8],
-    whole: &str,
-) -> Result<bool, AllocError> {
-    let mut feeder = Feeder::new(alloc);
-    feed_two(&mut feeder, first, second)?;
-    answers(alloc, &feeder, whole)
-}
-
-fn feed_two(feeder: &mut Feeder, first: &[u8], second: &[u8]) -> Result<(), AllocError> {
-    feed(feeder, first)?;
-    feed(feeder, second)
 }
 
 /// Whether a text gives the same answer as a whole and in pieces of 1 to 7 bytes.
 pub fn agree_in_many(alloc: Global, text: &[u8]) -> Result<bool, AllocError> {
-    let whole = answer(alloc, text)?;
-    agree_in_sizes(alloc, text, whole.as_str())
-}
-
-fn agree_in_sizes(alloc: Global, text: &[u8], whole: &str) -> Result<bool, AllocError> {
+    let whole = answer_of(read_items(alloc, text), alloc);
     for size in 1..8 {
-        if !agrees_in(alloc, text, size, whole)? {
+        let pieces: Vec<&[u8]> = text.chunks(size).collect(alloc)?;
+        if !agrees_in(alloc, &pieces, &whole)? {
             return Ok(false);
         }
     }
     Ok(true)
 }
 
-fn agrees_in(alloc: Global, text: &[u8], size: usize, whole: &str) -> Result<bool, AllocError>
-    requires { 0 < size }
-{
+fn agrees_in(alloc: Global, pieces: &[&[u8]], whole: &Answer) -> Result<bool, AllocError> {
+    let feeder = fed(alloc, pieces)?;
+    answer_of(feeder.finish(), alloc).is(whole)
+}
+
+/// A feeder of these pieces; `finish` answers the refusal of one again.
+pub fn fed(alloc: Global, pieces: &[&[u8]]) -> Result<Feeder, AllocError> {
     let mut feeder = Feeder::new(alloc);
-    feed_in(&mut feeder, text, size)?;
-    answers(alloc, &feeder, whole)
-}
-
-fn feed_in(feeder: &mut Feeder, text: &[u8], size: usize) -> Result<(), AllocError>
-    requires { 0 < size }
-{
-    for piece in text.chunks(size) {
-        feed(feeder, piece)?;
+    for piece in pieces {
+        if let Err(Fault::Memory(error)) = feeder.feed(piece) {
+            return Err(error);
+        }
     }
-    Ok(())
+    Ok(feeder)
 }
 
-fn answer(alloc: Global, text: &[u8]) -> Result<String, AllocError> {
-    let mut answer = String::new(alloc);
-    put_read(&mut answer, read_items(alloc, text))?;
-    Ok(answer)
-}
-
-/// Feeds a piece; `finish` answers its refusal again.
-pub fn feed(feeder: &mut Feeder, piece: &[u8]) -> Result<(), AllocError> {
-    match feeder.feed(piece) {
-        Ok(()) | Err(Fault::Refused(_)) => Ok(()),
-        Err(Fault::Memory(error)) => Err(error),
-    }
-}
-
-fn answers(alloc: Global, feeder: &Feeder, whole: &str) -> Result<bool, AllocError> {
-    let answer = finished(alloc, feeder)?;
-    Ok(answer.as_str() == whole)
-}
-
-/// What `finish` answers, which shows the bytes that the feeder holds.
-pub fn finished(alloc: Global, feeder: &Feeder) -> Result<String, AllocError> {
-    let mut answer = String::new(alloc);
-    put_read(&mut answer, feeder.finish())?;
-    Ok(answer)
+/// The items that were read, node by node, or the refusal, as an answer by itself.
+pub fn answer_of(read: Result<Items<'_>, Fault>, alloc: Global) -> Answer {
+    let mut answer = Answer::new(alloc);
+    put_read(&mut answer, read);
+    answer
 }

@@ -1,10 +1,8 @@
 //! The calls that compare CRSs.
-use crate::texts::put_fault;
 use crs_canon::write_content;
 use crs_same::parts::same_axis;
 use crs_same::{Content, Difference, Differences, Path, differences, first_part, same};
-use crs_suite::{AboutBoth, about_both, put_text, split_line};
-use crs_text::Fault;
+use crs_suite::{AboutBoth, Answer, Row, about_both, split_line};
 use crs_value::{Axis, Crs, Level};
 use std::alloc::{AllocError, Global};
 
@@ -31,17 +29,6 @@ pub enum Told {
 }
 
 impl Comparison {
-    /// The comparison that a call of this name makes.
-    pub fn named(call: &str) -> Option<Comparison> {
-        match call {
-            "same" => Some(Comparison::Same),
-            "differences" => Some(Comparison::Differences(Told::Paths)),
-            "values" => Some(Comparison::Differences(Told::Values)),
-            "same_axis" => Some(Comparison::Axes),
-            _ => None,
-        }
-    }
-
     // What has the same answer for two CRSs in the other order.
     fn turned(self) -> Comparison {
         match self {
@@ -53,56 +40,37 @@ impl Comparison {
 
 /// What is asked of the CRSs of two texts, one a line, or the refusal of the first text that has one; `one way` where the
 /// orders of the two disagree.
-pub fn put_comparison(
-    out: &mut String,
-    alloc: Global,
-    level: Level,
-    comparison: Comparison,
-    input: &[u8],
-) -> Result<(), AllocError> {
-    match answers_of(alloc, level, comparison, input) {
-        Ok((forth, back)) => put_one_way_or(out, &forth, &back),
-        Err(fault) => put_fault(out, fault),
+pub fn put_comparison(out: &mut Answer, row: &Row<'_>, comparison: Comparison) {
+    let level = row.level;
+    let (first, second) = split_line(&row.input);
+    let forth = Compared { comparison, level };
+    let back = Compared {
+        comparison: comparison.turned(),
+        level,
+    };
+    if let Some(forth) = answer_of(out, first, second, forth)
+        && let Some(back) = answer_of(out, second, first, back)
+    {
+        put_one_way_or(out, &forth, &back);
     }
 }
 
-// The answers for the first order and for the other one.
-fn answers_of(
-    alloc: Global,
-    level: Level,
-    comparison: Comparison,
-    input: &[u8],
-) -> Result<(Vec<u8>, Vec<u8>), Fault> {
-    let (first, second) = split_line(input);
-    let forth = answer_of(alloc, level, comparison, first, second)?;
-    let back = answer_of(alloc, level, comparison.turned(), second, first)?;
-    Ok((forth, back))
-}
-
-fn put_one_way_or(out: &mut String, forth: &[u8], back: &[u8]) -> Result<(), AllocError> {
+fn put_one_way_or(out: &mut Answer, forth: &[u8], back: &[u8]) {
     if forth != back {
-        return out.push_str("one way");
+        out.put("one way");
+    } else {
+        out.put_bytes(if forth.is_empty() { b"none" } else { forth });
     }
-    put_text(out, if forth.is_empty() { b"none" } else { forth })
 }
 
-fn answer_of(
-    alloc: Global,
-    level: Level,
-    comparison: Comparison,
-    first: &[u8],
-    second: &[u8],
-) -> Result<Vec<u8>, Fault> {
-    match about_both(alloc, first, second, Compared { comparison, level }) {
-        Ok(Ok(text)) => Ok(text),
-        Ok(Err(error)) => Err(Fault::Memory(error)),
-        Err(fault) => Err(fault),
-    }
+fn answer_of(out: &mut Answer, first: &[u8], second: &[u8], asked: Compared) -> Option<Vec<u8>> {
+    let text = out.accepted(about_both(out.alloc(), first, second, asked))?;
+    out.made(text)
 }
 
 // A comparison in one order. A function that owns anything beside two CRSs is slow to prove, so that each order is asked
 // about by itself, and the text of the answer is made without them.
-#[derive(Drop)]
+#[derive(Clone, Copy)]
 struct Compared {
     comparison: Comparison,
     level: Level,
@@ -120,7 +88,9 @@ impl AboutBoth for Compared {
         let Compared { comparison, level } = self;
         match comparison {
             Comparison::Same => first_differing(alloc, level, first, second),
-            Comparison::Differences(told) => differing(alloc, level, told, first, second),
+            Comparison::Differences(told) => Telling { alloc, level, told }.differing(
+                first, second,
+            ),
             Comparison::Axes => Vec::from_slice(alloc, axes_of(first, second, level).as_bytes()),
         }
     }
@@ -143,79 +113,72 @@ fn text_of_first(
 ) -> Result<Vec<u8>, AllocError> {
     match found {
         None if are_same => Vec::from_slice(alloc, b"same"),
-        Some(path) if !are_same => text_of_path(alloc, &path),
+        Some(path) if !are_same => {
+            let mut text = Vec::from_slice(alloc, b"different ")?;
+            path.write(&mut text)?;
+            Ok(text)
+        }
         _ => Vec::from_slice(alloc, b"one way"),
     }
 }
 
-fn text_of_path(alloc: Global, path: &Path) -> Result<Vec<u8>, AllocError> {
-    let mut text = Vec::from_slice(alloc, b"different ")?;
-    path.write(&mut text)?;
-    Ok(text)
+/// How differences are told.
+#[derive(Clone, Copy)]
+pub struct Telling {
+    pub alloc: Global,
+    pub level: Level,
+    pub told: Told,
 }
 
-/// What is told of the parts in which two CRSs differ, with a semicolon between two.
-pub fn differing<'a>(
-    alloc: Global,
-    level: Level,
-    told: Told,
-    a: &Crs<'a>,
-    b: &Crs<'a>,
-) -> Result<Vec<u8>, AllocError> {
-    text_of(&told, alloc, level, differences(alloc, a, b, level)?)
-}
-
-// Of differences that it owns: a function that lends them is slow to prove where it has a match or a loop beside them, or is
-// lent nothing before them.
-fn text_of(
-    told: &Told,
-    alloc: Global,
-    level: Level,
-    found: Differences<'_, '_>,
-) -> Result<Vec<u8>, AllocError> {
-    text_of_all(alloc, level, *told, found.as_slice())
-}
-
-fn text_of_all(
-    alloc: Global,
-    level: Level,
-    told: Told,
-    found: &[Difference<'_, '_>],
-) -> Result<Vec<u8>, AllocError> {
-    let mut text = Vec::new(alloc);
-    append_all(alloc, level, told, found, &mut text)?;
-    Ok(text)
-}
-
-fn append_all(
-    alloc: Global,
-    level: Level,
-    told: Told,
-    found: &[Difference<'_, '_>],
-    text: &mut Vec<u8>,
-) -> Result<(), AllocError> {
-    for difference in found {
-        append_difference(alloc, level, told, difference, text)?;
+impl Telling {
+    /// What is told of the parts in which two CRSs differ, with a semicolon between two.
+    pub fn differing<'a>(self, a: &Crs<'a>, b: &Crs<'a>) -> Result<Vec<u8>, AllocError> {
+        self.text_of(differences(self.alloc, a, b, self.level)?)
     }
-    Ok(())
-}
 
-fn append_difference(
-    alloc: Global,
-    level: Level,
-    told: Told,
-    difference: &Difference<'_, '_>,
-    text: &mut Vec<u8>,
-) -> Result<(), AllocError> {
-    append_path(difference.path(), text)?;
-    append_values(
-        alloc,
-        level,
-        told,
-        difference.first(),
-        difference.second(),
-        text,
-    )
+    // Of differences that it owns: a function that lends them is slow to prove where it has a match or a loop beside them, or
+    // is lent nothing before them.
+    fn text_of(&self, found: Differences<'_, '_>) -> Result<Vec<u8>, AllocError> {
+        self.text_of_all(found.as_slice())
+    }
+
+    fn text_of_all(self, found: &[Difference<'_, '_>]) -> Result<Vec<u8>, AllocError> {
+        let mut text = Vec::new(self.alloc);
+        self.append_all(found, &mut text)?;
+        Ok(text)
+    }
+
+    fn append_all(
+        self,
+        found: &[Difference<'_, '_>],
+        text: &mut Vec<u8>,
+    ) -> Result<(), AllocError> {
+        for difference in found {
+            self.append(difference, text)?;
+        }
+        Ok(())
+    }
+
+    fn append(self, difference: &Difference<'_, '_>, text: &mut Vec<u8>) -> Result<(), AllocError> {
+        append_path(difference.path(), text)?;
+        match self.told {
+            Told::Paths => Ok(()),
+            Told::Values => self.append_two(difference.first(), difference.second(), text),
+            Told::TurnedValues => self.append_two(difference.second(), difference.first(), text),
+        }
+    }
+
+    fn append_two(
+        self,
+        left: &Content<'_, '_>,
+        right: &Content<'_, '_>,
+        text: &mut Vec<u8>,
+    ) -> Result<(), AllocError> {
+        text.extend_from_slice(b": ")?;
+        write_content(left, self.alloc, self.level, text)?;
+        text.extend_from_slice(b" | ")?;
+        write_content(right, self.alloc, self.level, text)
+    }
 }
 
 // Behind a semicolon, but for the first.
@@ -224,43 +187,6 @@ fn append_path(path: &Path, text: &mut Vec<u8>) -> Result<(), AllocError> {
         text.push(b';')?;
     }
     path.write(text)
-}
-
-fn append_values(
-    alloc: Global,
-    level: Level,
-    told: Told,
-    first: &Content<'_, '_>,
-    second: &Content<'_, '_>,
-    text: &mut Vec<u8>,
-) -> Result<(), AllocError> {
-    match told {
-        Told::Paths => Ok(()),
-        Told::Values => append_two(alloc, level, first, second, text),
-        Told::TurnedValues => append_two(alloc, level, second, first, text),
-    }
-}
-
-fn append_two(
-    alloc: Global,
-    level: Level,
-    left: &Content<'_, '_>,
-    right: &Content<'_, '_>,
-    text: &mut Vec<u8>,
-) -> Result<(), AllocError> {
-    append_one(alloc, level, b": ", left, text)?;
-    append_one(alloc, level, b" | ", right, text)
-}
-
-fn append_one(
-    alloc: Global,
-    level: Level,
-    before: &[u8],
-    content: &Content<'_, '_>,
-    text: &mut Vec<u8>,
-) -> Result<(), AllocError> {
-    text.extend_from_slice(before)?;
-    write_content(content, alloc, level, text)
 }
 
 fn axes_of<'a>(first: &Crs<'a>, second: &Crs<'a>, level: Level) -> &'static str {

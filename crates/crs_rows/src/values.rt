@@ -1,26 +1,20 @@
 //! The calls on the values of texts.
 use crate::numbers::put_spelling;
-use crate::pieces::agree;
-use crate::texts::{put_asked, put_fault};
-use crs_decimal::Decimal;
-use crs_suite::{AboutCrs, about_crs, about_items, put_text};
-use crs_text::{Fault, read_items};
-use crs_value::{Axis, Crs, Kind, Unit};
-use std::alloc::{AllocError, Global};
+use crate::pieces::read_agreed;
+use crs_suite::{AboutCrs, Answer, about_crs, about_items};
+use crs_text::Fault;
+use crs_value::{Axis, Crs, Kind};
+use std::alloc::Global;
 
 /// `kind` and the kind of the CRS that a text spells, or its refusal.
-pub fn put_read(out: &mut String, alloc: Global, input: &[u8]) -> Result<(), AllocError> {
-    put_kind(out, about_crs(alloc, input, KindOf))
+pub fn put_read(out: &mut Answer, input: &[u8]) {
+    put_kind(out, about_crs(out.alloc(), input, KindOf));
 }
 
 /// The kind of the CRS that a text's items spell, or the refusal; `another answer in pieces` where a cut into pieces gives one.
-pub fn put_value_of(out: &mut String, alloc: Global, input: &[u8]) -> Result<(), AllocError> {
-    if !agree(alloc, input)? {
-        return out.push_str("another answer in pieces");
-    }
-    match read_items(alloc, input) {
-        Ok(items) => put_kind(out, about_items(alloc, &items, KindOf)),
-        Err(fault) => put_fault(out, fault),
+pub fn put_value_of(out: &mut Answer, input: &[u8]) {
+    if let Some(items) = read_agreed(out, input) {
+        put_kind(out, about_items(out.alloc(), &items, KindOf));
     }
 }
 
@@ -36,13 +30,10 @@ impl AboutCrs for KindOf {
     }
 }
 
-fn put_kind(out: &mut String, found: Result<Kind, Fault>) -> Result<(), AllocError> {
-    match found {
-        Ok(kind) => {
-            out.push_str("kind ")?;
-            out.push_str(kind_word(kind))
-        }
-        Err(fault) => put_fault(out, fault),
+fn put_kind(out: &mut Answer, found: Result<Kind, Fault>) {
+    if let Some(kind) = out.accepted(found) {
+        out.put("kind ");
+        out.put(kind_word(kind));
     }
 }
 
@@ -59,59 +50,47 @@ pub fn kind_word(kind: Kind) -> &'static str {
 
 /// The name, the order and the unit's name of the first axis of a vertical CRS, as they are written; `no axis` for
 /// another CRS.
-pub fn put_axis(out: &mut String, alloc: Global, input: &[u8]) -> Result<(), AllocError> {
-    let asked = about_crs(alloc, input, FirstAxis { out: &mut *out });
-    put_asked(out, asked)
+pub fn put_axis(out: &mut Answer, input: &[u8]) {
+    let asked = about_crs(out.alloc(), input, FirstAxis { out: &mut *out });
+    out.accepted(asked);
 }
 
 // Its first axis.
 #[derive(Drop)]
 struct FirstAxis<'o> {
-    out: &'o mut String,
+    out: &'o mut Answer,
 }
 
 impl AboutCrs for FirstAxis<'_> {
-    type Answer = Result<(), AllocError>;
+    type Answer = ();
 
-    fn answer(self, _alloc: Global, crs: &Crs<'_>) -> Result<(), AllocError> {
+    fn answer(self, _alloc: Global, crs: &Crs<'_>) {
         let FirstAxis { out } = self;
         match crs {
             Crs::Vertical(vertical) => put_first_axis(out, vertical.system.axes.as_slice()),
-            Crs::Geodetic(_) | Crs::Projected(_) | Crs::Compound(_) => out.push_str("no axis"),
+            Crs::Geodetic(_) | Crs::Projected(_) | Crs::Compound(_) => out.put("no axis"),
         }
     }
 }
 
-fn put_first_axis(out: &mut String, axes: &[Axis<'_>]) -> Result<(), AllocError> {
-    match axes {
-        [axis, ..] => put_axis_parts(out, axis),
-        [] => out.push_str("no axis"),
-    }
-}
-
-fn put_axis_parts(out: &mut String, axis: &Axis<'_>) -> Result<(), AllocError> {
-    out.push_str("axis ")?;
-    put_text(out, axis.name)?;
-    put_order(out, &axis.order)?;
-    put_unit(out, &axis.unit)
-}
-
-fn put_order(out: &mut String, order: &Option<Decimal>) -> Result<(), AllocError> {
-    match order {
+fn put_first_axis(out: &mut Answer, axes: &[Axis<'_>]) {
+    let [axis, ..] = axes else {
+        return out.put("no axis");
+    };
+    out.put("axis ");
+    out.put_bytes(axis.name);
+    match &axis.order {
         Some(order) => {
-            out.push_str(", order ")?;
-            put_spelling(out, order)
+            out.put(", order ");
+            put_spelling(out, order);
         }
-        None => out.push_str(", no order"),
+        None => out.put(", no order"),
     }
-}
-
-fn put_unit(out: &mut String, unit: &Option<Unit<'_>>) -> Result<(), AllocError> {
-    match unit {
+    match &axis.unit {
         Some(unit) => {
-            out.push_str(", unit ")?;
-            put_text(out, unit.name)
+            out.put(", unit ");
+            out.put_bytes(unit.name);
         }
-        None => out.push_str(", no unit"),
+        None => out.put(", no unit"),
     }
 }

@@ -7,10 +7,8 @@ use std::{io, str};
 pub fn call_of<'t>(alloc: Global, bytes: &'t [u8]) -> io::Result<(&'t str, Vec<&'t [u8]>)> {
     let (name, input) = split_line(bytes);
     let parts = input.split(|byte| *byte == 0).collect(alloc)?;
-    match str::from_utf8(name) {
-        Ok(name) => Ok((name, parts)),
-        Err(_) => Err(unusable()),
-    }
+    let name = str::from_utf8(name).map_err(|_| unusable())?;
+    Ok((name, parts))
 }
 
 /// The part at an index, counted from 0; an empty one where there is none.

@@ -43,36 +43,6 @@ fn hex_digit(byte: u8) -> Option<u8>
     }
 }
 
-/// Appends a text that means the bytes, of visible ASCII characters and blanks.
-pub fn put_text(out: &mut String, bytes: &[u8]) -> Result<(), AllocError> {
-    for byte in bytes {
-        put_byte(out, *byte)?;
-    }
-    Ok(())
-}
-
-fn put_byte(out: &mut String, byte: u8) -> Result<(), AllocError> {
-    if let Some(escape) = escape_of(byte) {
-        return out.push_str(escape);
-    }
-    if matches!(byte, b' '..=b'~') {
-        out.push(char::from(byte))
-    } else {
-        write!(out, "\\x{byte:02X}")
-    }
-}
-
-// The escape of a byte, where it has one of two characters.
-fn escape_of(byte: u8) -> Option<&'static str> {
-    match byte {
-        b'\n' => Some("\\n"),
-        b'\r' => Some("\\r"),
-        b'\t' => Some("\\t"),
-        b'\\' => Some("\\\\"),
-        _ => None,
-    }
-}
-
 /// What comes before the first line end, and what comes after it.
 pub fn split_line(input: &[u8]) -> (&[u8], &[u8]) {
     match input.find_byte(b'\n') {

@@ -3,13 +3,15 @@
 #![tactic(auto)]
 
 mod about;
+mod answer;
 mod asked;
 mod escapes;
 mod rows;
 mod trial;
 
 pub use about::{AboutBoth, AboutCrs, about_both, about_crs, about_items};
+pub use answer::Answer;
 pub use asked::{call_of, part_at, unusable};
-pub use escapes::{put_text, split_line};
-pub use rows::{Calls, run_files};
-pub use trial::{Trial, Turn, begin_call, print_kept, run_trial};
+pub use escapes::split_line;
+pub use rows::{Calls, Row, run_files};
+pub use trial::{Trial, Turn, run_trial};

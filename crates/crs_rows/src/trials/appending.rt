@@ -1,10 +1,11 @@
 //! Calls that append to a vector.
-use crate::trials::attempts::{attempted, unmade};
+use crate::nodes::{AboutPart, OfPart, Part};
+use crate::trials::unmade;
 use crs_canon::{Canonical, Set};
 use crs_decimal::Decimal;
 use crs_same::{Path, first_part};
-use crs_suite::{AboutBoth, AboutCrs, Trial, about_both, about_crs, put_text, run_trial, unusable};
-use crs_value::{Axis, Crs, Ident, Level, Tail, Vertical};
+use crs_suite::{AboutBoth, Trial, Turn, about_both, about_crs, run_trial, unusable};
+use crs_value::{Crs, Ident, Level};
 use std::alloc::{AllocError, Global};
 use std::io;
 
@@ -60,18 +61,16 @@ struct Append<'v, T> {
 }
 
 impl<T: Appended> Trial for Append<'_, T> {
-    type Answer = ();
-
-    fn call(&mut self, alloc: Global) -> Result<(), AllocError> {
-        self.part.append(alloc, &mut self.out)
+    fn call<R: Print + AllocGlobal>(&mut self, turn: &mut Turn<'_, R>) -> io::Result<()> {
+        let appended = self.part.append(turn.alloc(), &mut self.out);
+        let out = turn.end()?;
+        out.note(appended);
+        out.put_bytes(&self.out);
+        Ok(())
     }
 
     fn is_kept(&self, _alloc: Global) -> Result<bool, AllocError> {
         Ok(self.out.as_slice() == BEFORE)
-    }
-
-    fn put_answer(&self, out: &mut String, _answer: &()) -> Result<(), AllocError> {
-        put_text(out, &self.out)
     }
 }
 
@@ -114,80 +113,27 @@ impl AboutBoth for FirstPart {
     }
 }
 
-/// `Canonical::write` of the CRS that a text spells, `crs`, or of a part of a vertical one: its first `axis` and the
-/// `unit` of that, its `frame`, its first `usage` or `identifier`; `Set::write` of its `identifiers`.
-pub fn try_part(rt: &(impl Print + AllocGlobal), word: &str, text: &[u8]) -> io::Result<()> {
-    attempted(about_crs(rt.alloc(), text, PartOf { rt, word }))
+/// `Canonical::write` of a part of the CRS that a text spells, or `Set::write` of its identifiers.
+pub fn try_part(rt: &(impl Print + AllocGlobal), part: Part, text: &[u8]) -> io::Result<()> {
+    let question = Appending { rt };
+    let asked = about_crs(rt.alloc(), text, OfPart { part, question }).map_err(unmade)?;
+    asked.unwrap_or(Err(unusable()))
 }
 
-// A part that a word names.
+// The trial of a part.
 #[derive(Drop)]
-struct PartOf<'r, 'w, R> {
+struct Appending<'r, R> {
     rt: &'r R,
-    word: &'w str,
 }
 
-impl<R: Print + AllocGlobal> AboutCrs for PartOf<'_, '_, R> {
+impl<R: Print + AllocGlobal> AboutPart for Appending<'_, R> {
     type Answer = io::Result<()>;
 
-    fn answer(self, _alloc: Global, crs: &Crs<'_>) -> io::Result<()> {
-        let PartOf { rt, word } = self;
-        match word {
-            "crs" => try_node(rt, crs),
-            _ => try_part_in(rt, word, crs),
-        }
+    fn of_node<T: Canonical>(self, node: &T) -> io::Result<()> {
+        run_append(self.rt, &Node { node })
     }
-}
 
-fn try_part_in(rt: &(impl Print + AllocGlobal), word: &str, crs: &Crs<'_>) -> io::Result<()> {
-    match crs {
-        Crs::Vertical(vertical) => try_part_of(rt, word, vertical),
-        Crs::Geodetic(_) | Crs::Projected(_) | Crs::Compound(_) => Err(unusable()),
+    fn of_set(self, idents: &[Ident<'_>]) -> io::Result<()> {
+        run_append(self.rt, &Idents { idents })
     }
-}
-
-fn try_part_of(rt: &(impl Print + AllocGlobal), word: &str, crs: &Vertical<'_>) -> io::Result<()> {
-    match word {
-        "axis" | "unit" => try_axis(rt, word, crs.system.axes.as_slice()),
-        "frame" => try_node(rt, &crs.frame),
-        _ => try_end(rt, word, &crs.tail),
-    }
-}
-
-fn try_axis(rt: &(impl Print + AllocGlobal), word: &str, axes: &[Axis<'_>]) -> io::Result<()> {
-    match axes {
-        [axis, ..] if word == "unit" => try_optional(rt, &axis.unit),
-        _ => try_first(rt, axes),
-    }
-}
-
-fn try_end(rt: &(impl Print + AllocGlobal), word: &str, tail: &Tail<'_>) -> io::Result<()> {
-    match word {
-        "usage" => try_first(rt, tail.usages.as_slice()),
-        "identifier" => try_first(rt, tail.identifiers.as_slice()),
-        "identifiers" => try_idents(rt, tail.identifiers.as_slice()),
-        _ => Err(unusable()),
-    }
-}
-
-fn try_first<T: Canonical>(rt: &(impl Print + AllocGlobal), nodes: &[T]) -> io::Result<()> {
-    match nodes {
-        [node, ..] => try_node(rt, node),
-        [] => Err(unusable()),
-    }
-}
-
-fn try_optional<T: Canonical>(rt: &(impl Print + AllocGlobal), node: &Option<T>) -> io::Result<()> {
-    match node {
-        Some(node) => try_node(rt, node),
-        None => Err(unusable()),
-    }
-}
-
-fn try_node<T: Canonical>(rt: &(impl Print + AllocGlobal), node: &T) -> io::Result<()> {
-    run_append(rt, &Node { node })
-}
-
-fn try_idents(rt: &(impl Print + AllocGlobal), idents: &[Ident<'_>]) -> io::Result<()> {
-    run_append(rt, &Idents { idents })
 }

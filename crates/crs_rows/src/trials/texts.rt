@@ -1,27 +1,23 @@
 //! Calls that read the items of a text, as a whole and in pieces.
-use crate::pieces::{feed, finished, put_taken};
-use crate::texts::{answered, put_answered, put_read};
-use crate::trials::attempts::{Call, run_reading};
-use crs_suite::{Trial, run_trial};
-use crs_text::{Feeder, Items, Refusal, read_items};
+use crate::pieces::{answer_of, fed, put_taken};
+use crate::texts::put_read;
+use crs_suite::{Answer, Trial, Turn, run_trial};
+use crs_text::{Fault, Feeder, read_items};
 use std::alloc::{AllocError, Global};
 use std::io;
 
 // `read_items` of a text.
 #[derive(Clone, Copy)]
-struct ItemsCall<'t> {
+struct ReadItems<'t> {
     text: &'t [u8],
 }
 
-impl<'t> Call for ItemsCall<'t> {
-    type Answer = Result<Items<'t>, Refusal>;
-
-    fn make(self, alloc: Global) -> Result<Self::Answer, AllocError> {
-        answered(read_items(alloc, self.text))
-    }
-
-    fn put_answer(self, out: &mut String, answer: &Self::Answer) -> Result<(), AllocError> {
-        put_answered(out, answer)
+impl Trial for ReadItems<'_> {
+    fn call<R: Print + AllocGlobal>(&mut self, turn: &mut Turn<'_, R>) -> io::Result<()> {
+        let read = read_items(turn.alloc(), self.text);
+        let out = turn.end()?;
+        put_read(out, read);
+        Ok(())
     }
 }
 
@@ -34,31 +30,36 @@ struct Feed<'p, 't> {
 }
 
 impl Trial for Feed<'_, '_> {
-    type Answer = Result<(), Refusal>;
-
-    // What the last piece is answered. After out of memory the refused piece is the next one again.
-    fn call(&mut self, _alloc: Global) -> Result<Self::Answer, AllocError> {
-        let mut answer = Ok(());
-        for piece in self.pieces.iter().skip(self.count) {
-            answer = answered(self.feeder.feed(piece))?;
-            self.count = self.count.saturating_add(1);
-        }
-        Ok(answer)
+    // The answer is what the last piece is answered, and what `finish` answers then, which shows which bytes the feeder
+    // holds.
+    fn call<R: Print + AllocGlobal>(&mut self, turn: &mut Turn<'_, R>) -> io::Result<()> {
+        let taken = self.feed();
+        let out = turn.end()?;
+        put_taken(out, taken);
+        out.put("; ");
+        put_read(out, self.feeder.finish());
+        Ok(())
     }
 
     // Whether the feeder holds what one does that was fed the pieces before the refused one, and nothing else.
     fn is_kept(&self, alloc: Global) -> Result<bool, AllocError> {
-        let before = fed(alloc, self.pieces, self.count)?;
-        let wanted = finished(alloc, &before)?;
-        let now = finished(alloc, &self.feeder)?;
-        Ok(now.as_str() == wanted.as_str())
+        let before = fed(alloc, self.pieces.get(..self.count).unwrap_or(&[]))?;
+        answer_of(before.finish(), alloc).is(&answer_of(self.feeder.finish(), alloc))
     }
+}
 
-    // What `finish` answers then shows which bytes the feeder holds.
-    fn put_answer(&self, out: &mut String, answer: &Self::Answer) -> Result<(), AllocError> {
-        put_taken(out, answer)?;
-        out.push_str("; ")?;
-        put_read(out, self.feeder.finish())
+impl Feed<'_, '_> {
+    // What the last piece is answered. After out of memory the refused piece is the next one again.
+    fn feed(&mut self) -> Result<(), Fault> {
+        let mut taken = Ok(());
+        for piece in self.pieces.iter().skip(self.count) {
+            taken = self.feeder.feed(piece);
+            if let Err(Fault::Memory(_)) = &taken {
+                return taken;
+            }
+            self.count = self.count.saturating_add(1);
+        }
+        taken
     }
 }
 
@@ -66,54 +67,30 @@ impl Trial for Feed<'_, '_> {
 #[derive(Drop)]
 struct Finish<'f> {
     feeder: &'f Feeder,
-    before: String,
+    before: Answer,
 }
 
-impl<'f> Trial for Finish<'f> {
-    type Answer = Result<Items<'f>, Refusal>;
-
-    fn call(&mut self, _alloc: Global) -> Result<Self::Answer, AllocError> {
-        answered(self.feeder.finish())
+impl Trial for Finish<'_> {
+    fn call<R: Print + AllocGlobal>(&mut self, turn: &mut Turn<'_, R>) -> io::Result<()> {
+        let read = self.feeder.finish();
+        let out = turn.end()?;
+        put_read(out, read);
+        Ok(())
     }
 
     fn is_kept(&self, alloc: Global) -> Result<bool, AllocError> {
-        let now = finished(alloc, self.feeder)?;
-        Ok(now.as_str() == self.before.as_str())
-    }
-
-    fn put_answer(&self, out: &mut String, answer: &Self::Answer) -> Result<(), AllocError> {
-        put_answered(out, answer)
+        answer_of(self.feeder.finish(), alloc).is(&self.before)
     }
 }
 
 /// `read_items` of a text.
 pub fn try_read(rt: &(impl Print + AllocGlobal), text: &[u8]) -> io::Result<()> {
-    run_reading(rt, ItemsCall { text })
+    run_trial(rt, &mut ReadItems { text })
 }
 
-/// `Feeder::feed` of the last piece, after the others.
-pub fn try_feed(rt: &(impl Print + AllocGlobal), pieces: &[&[u8]]) -> io::Result<()> {
-    run_feed(rt, pieces, pieces.len().saturating_sub(1))
-}
-
-/// `Feeder::feed` of each piece in turn.
-pub fn try_feed_all(rt: &(impl Print + AllocGlobal), pieces: &[&[u8]]) -> io::Result<()> {
-    run_feed(rt, pieces, 0)
-}
-
-/// `Feeder::finish` after all pieces.
-pub fn try_finish(rt: &(impl Print + AllocGlobal), pieces: &[&[u8]]) -> io::Result<()> {
-    let feeder = fed(rt.alloc(), pieces, pieces.len())?;
-    let before = finished(rt.alloc(), &feeder)?;
-    let mut finish = Finish {
-        feeder: &feeder,
-        before,
-    };
-    run_trial(rt, &mut finish)
-}
-
-fn run_feed(rt: &(impl Print + AllocGlobal), pieces: &[&[u8]], count: usize) -> io::Result<()> {
-    let feeder = fed(rt.alloc(), pieces, count)?;
+/// `Feeder::feed` of each piece in turn, after so many others.
+pub fn try_feed(rt: &(impl Print + AllocGlobal), pieces: &[&[u8]], count: usize) -> io::Result<()> {
+    let feeder = fed(rt.alloc(), pieces.get(..count).unwrap_or(&[]))?;
     let mut feed = Feed {
         feeder,
         pieces,
@@ -122,11 +99,13 @@ fn run_feed(rt: &(impl Print + AllocGlobal), pieces: &[&[u8]], count: usize) -> 
     run_trial(rt, &mut feed)
 }
 
-// A feeder of so many of these pieces.
-fn fed(alloc: Global, pieces: &[&[u8]], count: usize) -> Result<Feeder, AllocError> {
-    let mut feeder = Feeder::new(alloc);
-    for piece in pieces.iter().take(count) {
-        feed(&mut feeder, piece)?;
-    }
-    Ok(feeder)
+/// `Feeder::finish` after all pieces.
+pub fn try_finish(rt: &(impl Print + AllocGlobal), pieces: &[&[u8]]) -> io::Result<()> {
+    let feeder = fed(rt.alloc(), pieces)?;
+    let before = answer_of(feeder.finish(), rt.alloc());
+    let mut finish = Finish {
+        feeder: &feeder,
+        before,
+    };
+    run_trial(rt, &mut finish)
 }
