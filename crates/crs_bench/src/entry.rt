@@ -1,6 +1,5 @@
 //! What a stage is given of each text, so that it is measured by itself.
 
-use crate::tally::Outcome;
 use crs_group::Catalogue;
 use crs_text::Fault;
 use crs_value::Crs;
@@ -11,7 +10,7 @@ pub trait Measure<'t, T> {
     /// What is made of a text before the stage begins.
     fn given(self, alloc: Global, text: &'t [u8]) -> Result<T, Fault>;
 
-    /// What the stage makes of a text, of the entry after it, and of the catalogue of those before it.
+    /// How many the stage counts in what it makes of a text, of the entry after it, and of the catalogue of those before it.
     fn outcome(
         self,
         alloc: Global,
@@ -19,7 +18,7 @@ pub trait Measure<'t, T> {
         given: &T,
         next: &Entry<'t, T>,
         before: &mut Catalogue,
-    ) -> Result<Outcome, AllocError>;
+    ) -> Result<usize, Fault>;
 }
 
 /// A text, and what a stage is given of it; None where the text is refused before.
@@ -53,10 +52,9 @@ pub fn accepted<T: Drop>(answer: Result<T, Fault>) -> Result<Option<T>, AllocErr
 }
 
 /// A CRS that counts for so much. A function that looks into an owned one is slow to prove, so that there is one.
-pub fn dropped(answer: Result<Crs<'_>, Fault>, count: usize) -> Result<Outcome, AllocError> {
+pub fn dropped(answer: Result<Crs<'_>, Fault>, count: usize) -> Result<usize, Fault> {
     match answer {
-        Ok(_crs) => Ok(Outcome::Accepted(count)),
-        Err(Fault::Refused(_)) => Ok(Outcome::Refused),
-        Err(Fault::Memory(error)) => Err(error),
+        Ok(_crs) => Ok(count),
+        Err(fault) => Err(fault),
     }
 }

@@ -1,13 +1,12 @@
 //! Stages that are given the items of a text.
 
 use crate::entry::{Entry, Measure, dropped};
-use crate::tally::Outcome;
 use crate::text_stage::size;
 use crs_group::Catalogue;
-use crs_shape::fit_root;
-use crs_text::{Fault, Items, read_items};
+use crs_shape::{Class, fit_root};
+use crs_text::{Fault, Items, Refusal, read_items};
 use crs_value::{judge, value_of};
-use std::alloc::{AllocError, Global};
+use std::alloc::Global;
 
 #[derive(Clone, Copy)]
 pub enum ItemsStage {
@@ -17,16 +16,6 @@ pub enum ItemsStage {
     Judge,
     /// Their shape, the checks, and what they say.
     Value,
-}
-
-impl ItemsStage {
-    pub fn name(self) -> &'static str {
-        match self {
-            ItemsStage::Shape => "shape",
-            ItemsStage::Judge => "judge",
-            ItemsStage::Value => "value",
-        }
-    }
 }
 
 impl<'t> Measure<'t, Items<'t>> for ItemsStage {
@@ -41,31 +30,25 @@ impl<'t> Measure<'t, Items<'t>> for ItemsStage {
         given: &Items<'t>,
         _next: &Entry<'t, Items<'t>>,
         _before: &mut Catalogue,
-    ) -> Result<Outcome, AllocError> {
+    ) -> Result<usize, Fault> {
         match self {
-            ItemsStage::Shape => Ok(shaped(given)),
-            ItemsStage::Judge => Ok(judged(given)),
+            ItemsStage::Shape => counted(fit_root(given), given),
+            ItemsStage::Judge => counted(judge(given), given),
             ItemsStage::Value => valued(alloc, given),
         }
     }
 }
 
+// The items of a text of some class.
+fn counted(class: Result<Class, Refusal>, items: &Items<'_>) -> Result<usize, Fault> {
+    match class {
+        Ok(_class) => Ok(size(items)),
+        Err(refusal) => Err(Fault::Refused(refusal)),
+    }
+}
+
 // A function clears the memory of its locals when it is entered, so the stages that own no value aren't one with this.
 #[inline(never)]
-fn valued(alloc: Global, items: &Items<'_>) -> Result<Outcome, AllocError> {
+fn valued(alloc: Global, items: &Items<'_>) -> Result<usize, Fault> {
     dropped(value_of(alloc, items), size(items))
-}
-
-fn shaped(items: &Items<'_>) -> Outcome {
-    match fit_root(items) {
-        Ok(_class) => Outcome::Accepted(size(items)),
-        Err(_refusal) => Outcome::Refused,
-    }
-}
-
-fn judged(items: &Items<'_>) -> Outcome {
-    match judge(items) {
-        Ok(_class) => Outcome::Accepted(size(items)),
-        Err(_refusal) => Outcome::Refused,
-    }
 }

@@ -3,7 +3,6 @@
 //! error.
 #![tactic(auto)]
 
-mod catalogue;
 mod entry;
 mod items_stage;
 mod pair;
@@ -14,10 +13,9 @@ mod timing;
 mod value_stage;
 
 use anyhow::{Context, Result, ensure};
-use catalogue::texts_of;
 use entry::{Entry, Measure, entries_of};
-use stage::{STAGES, Stage};
-use std::alloc::Global;
+use stage::{Kind, STAGES, Stage};
+use std::alloc::{AllocError, Global};
 use std::rt::{Clock, Files};
 use std::{fs, io};
 use timing::timed;
@@ -53,7 +51,7 @@ fn rounds_of(word: &str) -> Result<u32> {
 }
 
 // The stages that are named, or all.
-fn stages_of(alloc: Global, names: &[String]) -> Result<Vec<Stage>> {
+fn stages_of(alloc: Global, names: &[String]) -> Result<Vec<Stage<'static>>> {
     let mut stages = Vec::new(alloc);
     for name in names {
         let stage = Stage::named(name).context(format_args!("{name:?} is no stage"))?;
@@ -67,7 +65,7 @@ fn stages_of(alloc: Global, names: &[String]) -> Result<Vec<Stage>> {
 
 fn run_stages(
     rt: &(impl Clock + Print + Eprint + AllocGlobal),
-    stages: &[Stage],
+    stages: &[Stage<'_>],
     rounds: u32,
     bytes: &[u8],
 ) -> io::Result<()> {
@@ -78,22 +76,30 @@ fn run_stages(
     Ok(())
 }
 
+// The lines that aren't empty.
+fn texts_of(alloc: Global, bytes: &[u8]) -> Result<Vec<&[u8]>, AllocError> {
+    bytes
+        .split(|byte| *byte == b'\n')
+        .filter(|line| !line.is_empty())
+        .collect(alloc)
+}
+
 fn report(
     rt: &(impl Clock + Print + Eprint + AllocGlobal),
-    stage: Stage,
+    stage: Stage<'_>,
     rounds: u32,
     texts: &[&[u8]],
 ) -> io::Result<()> {
-    match stage {
-        Stage::Text(measure) => report_by(rt, stage, measure, rounds, texts),
-        Stage::Items(measure) => report_by(rt, stage, measure, rounds, texts),
-        Stage::Value(measure) => report_by(rt, stage, measure, rounds, texts),
+    match stage.2 {
+        Kind::Text(measure) => report_by(rt, stage, measure, rounds, texts),
+        Kind::Items(measure) => report_by(rt, stage, measure, rounds, texts),
+        Kind::Value(measure) => report_by(rt, stage, measure, rounds, texts),
     }
 }
 
 fn report_by<'t, T: Drop, M: Measure<'t, T> + Copy>(
     rt: &(impl Clock + Print + Eprint + AllocGlobal),
-    stage: Stage,
+    stage: Stage<'_>,
     measure: M,
     rounds: u32,
     texts: &[&'t [u8]],
@@ -114,16 +120,15 @@ fn report_by<'t, T: Drop, M: Measure<'t, T> + Copy>(
 
 fn report_of<'t, T: Drop, M: Measure<'t, T> + Copy>(
     rt: &(impl Clock + Print + Eprint + AllocGlobal),
-    stage: Stage,
+    stage: Stage<'_>,
     measure: M,
     rounds: u32,
     entries: &[Entry<'t, T>],
 ) -> io::Result<()> {
     let timing = timed(rt, measure, rounds, entries)?;
-    let name = stage.name();
-    let tally = timing.tally();
-    let count = tally.counted();
-    let counted = stage.counted();
+    let Stage(name, counted, _kind) = stage;
+    let tally = timing.tally;
+    let count = tally.counted;
     println!(rt; "{name}: {tally}, {count} {counted}")?;
     eprintln!(rt; "{name}: {timing}")
 }

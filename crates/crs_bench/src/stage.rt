@@ -4,60 +4,46 @@ use crate::items_stage::ItemsStage;
 use crate::text_stage::TextStage;
 use crate::value_stage::ValueStage;
 
-/// A stage by itself: what it is given was made before. To add one, add a variant to the kind that is given the same, its
-/// place in `STAGES`, a name, what it counts, and an arm in the kind's `outcome`, or in what that calls for values.
+/// A stage by itself: the name under which it is reported, what it counts, and what is done.
 #[derive(Clone, Copy)]
-pub enum Stage {
+pub struct Stage<'n>(pub &'n str, pub &'n str, pub Kind);
+
+/// What is done in a stage; what it is given was made before. To add one, add a variant to the kind that is given the same,
+/// its place in `STAGES`, and an arm in the kind's `outcome`, or in what that calls for values.
+#[derive(Clone, Copy)]
+pub enum Kind {
     Text(TextStage),
     Items(ItemsStage),
     Value(ValueStage),
 }
 
 /// All stages, in the order in which they are run.
-pub const STAGES: [Stage; 14] = [
-    Stage::Text(TextStage::Items),
-    Stage::Text(TextStage::Feed(1)),
-    Stage::Text(TextStage::Feed(16)),
-    Stage::Text(TextStage::Feed(4096)),
-    Stage::Items(ItemsStage::Shape),
-    Stage::Items(ItemsStage::Judge),
-    Stage::Items(ItemsStage::Value),
-    Stage::Text(TextStage::Read),
-    Stage::Value(ValueStage::Same),
-    Stage::Value(ValueStage::Canon),
-    Stage::Text(TextStage::Check),
-    Stage::Text(TextStage::Canon),
-    Stage::Text(TextStage::Same),
-    Stage::Text(TextStage::Group),
+pub const STAGES: [Stage<'static>; 14] = [
+    Stage("items", "items", Kind::Text(TextStage::Items)),
+    Stage("feed-1", "items", Kind::Text(TextStage::Feed(1))),
+    Stage("feed-16", "items", Kind::Text(TextStage::Feed(16))),
+    Stage("feed-4096", "items", Kind::Text(TextStage::Feed(4096))),
+    Stage("shape", "items", Kind::Items(ItemsStage::Shape)),
+    Stage("judge", "items", Kind::Items(ItemsStage::Judge)),
+    Stage("value", "items", Kind::Items(ItemsStage::Value)),
+    Stage("read", "CRSs", Kind::Text(TextStage::Read)),
+    Stage("same", "same", Kind::Value(ValueStage::Same)),
+    Stage("canon", "bytes", Kind::Value(ValueStage::Canon)),
+    Stage("check-text", "CRSs", Kind::Text(TextStage::Check)),
+    Stage("canon-text", "bytes", Kind::Text(TextStage::Canon)),
+    Stage("same-text", "same", Kind::Text(TextStage::Same)),
+    Stage("group", "groups", Kind::Text(TextStage::Group)),
 ];
 
-impl Stage {
+impl Stage<'_> {
     /// The stage of this name; None where there is none.
-    pub fn named(name: &str) -> Option<Stage> {
-        STAGES.iter().find(|stage| stage.name() == name).copied()
-    }
-
-    /// The name under which it is reported.
-    pub fn name(self) -> &'static str {
-        match self {
-            Stage::Text(stage) => stage.name(),
-            Stage::Items(stage) => stage.name(),
-            Stage::Value(stage) => stage.name(),
-        }
-    }
-
-    /// What the stage counts.
-    pub fn counted(self) -> &'static str {
-        match self {
-            Stage::Text(stage) => stage.counted(),
-            Stage::Items(_) => "items",
-            Stage::Value(stage) => stage.counted(),
-        }
+    pub fn named(name: &str) -> Option<Stage<'static>> {
+        STAGES.iter().find(|stage| stage.0 == name).copied()
     }
 
     /// Whether it is also reported for the first texts alone, since its time may grow with the
     /// catalogue.
     pub fn grows(self) -> bool {
-        matches!(self, Stage::Text(TextStage::Group))
+        matches!(self.2, Kind::Text(TextStage::Group))
     }
 }

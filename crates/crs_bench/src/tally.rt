@@ -2,21 +2,17 @@
 
 use std::fmt;
 
-/// What became of one text.
-#[derive(Clone, Copy)]
-pub enum Outcome {
-    /// It was taken, and so many were counted.
-    Accepted(usize),
-    Refused,
-}
-
 /// Counts over all texts of a round.
 #[derive(Clone, Copy)]
 pub struct Tally {
-    texts: u64,
-    bytes: u64,
-    counted: u64,
-    refused: u64,
+    /// How many texts.
+    pub texts: u64,
+    /// How many bytes the texts have.
+    pub bytes: u64,
+    /// How many were counted in the texts that weren't refused.
+    pub counted: u64,
+    /// How many texts were refused.
+    pub refused: u64,
 }
 
 impl Tally {
@@ -27,29 +23,14 @@ impl Tally {
         refused: 0,
     };
 
-    /// One text more.
-    pub fn add(&mut self, text: &[u8], outcome: Outcome) {
+    /// One text more, in which so many were counted; None where it was refused.
+    pub fn add(&mut self, text: &[u8], counted: Option<usize>) {
         self.texts = self.texts.saturating_add(1);
         self.bytes = self.bytes.saturating_add(text.len() as u64);
-        match outcome {
-            Outcome::Accepted(count) => self.counted = self.counted.saturating_add(count as u64),
-            Outcome::Refused => self.refused = self.refused.saturating_add(1),
+        match counted {
+            Some(count) => self.counted = self.counted.saturating_add(count as u64),
+            None => self.refused = self.refused.saturating_add(1),
         }
-    }
-
-    /// How many texts.
-    pub fn texts(&self) -> u64 {
-        self.texts
-    }
-
-    /// How many were counted in the texts that weren't refused.
-    pub fn counted(&self) -> u64 {
-        self.counted
-    }
-
-    /// How many bytes the texts have.
-    pub fn bytes(&self) -> u64 {
-        self.bytes
     }
 }
 

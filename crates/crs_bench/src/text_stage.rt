@@ -1,13 +1,12 @@
 //! Stages that are given the text alone.
 
-use crate::entry::{Entry, Measure, accepted, dropped};
+use crate::entry::{Entry, Measure, dropped};
 use crate::pair::matched;
-use crate::tally::Outcome;
 use crs_canon::canon;
 use crs_group::{Catalogue, Placed};
 use crs_text::{Fault, Feeder, Items, read_items};
 use crs_value::{Level, kind_of, read};
-use std::alloc::{AllocError, Global};
+use std::alloc::Global;
 
 #[derive(Clone, Copy)]
 pub enum TextStage {
@@ -27,32 +26,6 @@ pub enum TextStage {
     Group,
 }
 
-impl TextStage {
-    pub fn name(self) -> &'static str {
-        match self {
-            TextStage::Items => "items",
-            TextStage::Feed(1) => "feed-1",
-            TextStage::Feed(16) => "feed-16",
-            TextStage::Feed(_) => "feed-4096",
-            TextStage::Read => "read",
-            TextStage::Check => "check-text",
-            TextStage::Canon => "canon-text",
-            TextStage::Same => "same-text",
-            TextStage::Group => "group",
-        }
-    }
-
-    pub fn counted(self) -> &'static str {
-        match self {
-            TextStage::Items | TextStage::Feed(_) => "items",
-            TextStage::Read | TextStage::Check => "CRSs",
-            TextStage::Canon => "bytes",
-            TextStage::Same => "same",
-            TextStage::Group => "groups",
-        }
-    }
-}
-
 impl<'t> Measure<'t, ()> for TextStage {
     fn given(self, _alloc: Global, _text: &'t [u8]) -> Result<(), Fault> {
         Ok(())
@@ -65,7 +38,7 @@ impl<'t> Measure<'t, ()> for TextStage {
         _given: &(),
         next: &Entry<'t, ()>,
         before: &mut Catalogue,
-    ) -> Result<Outcome, AllocError> {
+    ) -> Result<usize, Fault> {
         match self {
             TextStage::Items => items(alloc, text),
             TextStage::Feed(piece) => fed(alloc, text, piece),
@@ -80,15 +53,12 @@ impl<'t> Measure<'t, ()> for TextStage {
 
 // A function clears the memory of its locals when it is entered, so the stages that own no value aren't one with this.
 #[inline(never)]
-fn whole(alloc: Global, text: &[u8]) -> Result<Outcome, AllocError> {
+fn whole(alloc: Global, text: &[u8]) -> Result<usize, Fault> {
     dropped(read(alloc, text), 1)
 }
 
-fn items(alloc: Global, text: &[u8]) -> Result<Outcome, AllocError> {
-    match accepted(read_items(alloc, text))? {
-        Some(items) => Ok(Outcome::Accepted(size(&items))),
-        None => Ok(Outcome::Refused),
-    }
+fn items(alloc: Global, text: &[u8]) -> Result<usize, Fault> {
+    Ok(size(&read_items(alloc, text)?))
 }
 
 /// How many items a text has.
@@ -96,46 +66,29 @@ pub fn size(items: &Items<'_>) -> usize {
     items.size(items.root())
 }
 
-fn fed(alloc: Global, text: &[u8], piece: usize) -> Result<Outcome, AllocError> {
+fn fed(alloc: Global, text: &[u8], piece: usize) -> Result<usize, Fault> {
     let mut feeder = Feeder::new(alloc);
     for part in text.chunks(piece.max(1)) {
-        match feeder.feed(part) {
-            Ok(()) => {}
-            Err(Fault::Refused(_)) => return Ok(Outcome::Refused),
-            Err(Fault::Memory(error)) => return Err(error),
-        }
+        feeder.feed(part)?;
     }
-    match feeder.finish() {
-        Ok(items) => Ok(Outcome::Accepted(size(&items))),
-        Err(Fault::Refused(_)) => Ok(Outcome::Refused),
-        Err(Fault::Memory(error)) => Err(error),
-    }
+    Ok(size(&feeder.finish()?))
 }
 
-fn checked(alloc: Global, text: &[u8]) -> Result<Outcome, AllocError> {
-    match accepted(read_items(alloc, text))? {
-        Some(items) => match kind_of(&items) {
-            Ok(_kind) => Ok(Outcome::Accepted(1)),
-            Err(_refusal) => Ok(Outcome::Refused),
-        },
-        None => Ok(Outcome::Refused),
-    }
+fn checked(alloc: Global, text: &[u8]) -> Result<usize, Fault> {
+    let items = read_items(alloc, text)?;
+    kind_of(&items).map_err(Fault::Refused)?;
+    Ok(1)
 }
 
-fn spelled(alloc: Global, text: &[u8]) -> Result<Outcome, AllocError> {
-    match accepted(canon(alloc, text, Level::Full))? {
-        Some(canon) => Ok(Outcome::Accepted(canon.bytes().len())),
-        None => Ok(Outcome::Refused),
-    }
+fn spelled(alloc: Global, text: &[u8]) -> Result<usize, Fault> {
+    Ok(canon(alloc, text, Level::Full)?.bytes().len())
 }
 
 // The text is a further line of the catalogue; a group that it begins is counted.
-fn placed(before: &mut Catalogue, text: &[u8]) -> Result<Outcome, AllocError> {
+fn placed(before: &mut Catalogue, text: &[u8]) -> Result<usize, Fault> {
     let groups = before.groups();
-    match before.add(0, text)? {
-        Placed::Refused(_) => Ok(Outcome::Refused),
-        Placed::Blank | Placed::Group(_) => {
-            Ok(Outcome::Accepted(before.groups().saturating_sub(groups)))
-        }
+    match before.add(0, text).map_err(Fault::Memory)? {
+        Placed::Refused(refusal) => Err(Fault::Refused(refusal)),
+        Placed::Blank | Placed::Group(_) => Ok(before.groups().saturating_sub(groups)),
     }
 }

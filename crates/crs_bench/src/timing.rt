@@ -1,7 +1,7 @@
 //! How long a stage takes.
 
-use crate::entry::{Entry, Measure};
-use crate::tally::{Outcome, Tally};
+use crate::entry::{Entry, Measure, accepted};
+use crate::tally::Tally;
 use crs_group::Catalogue;
 use crs_value::Level;
 use std::alloc::{AllocError, Global};
@@ -12,7 +12,8 @@ use std::{fmt, io};
 /// The time that some rounds over a catalogue took, and what each of them came to.
 #[derive(Clone, Copy)]
 pub struct Timing {
-    tally: Tally,
+    /// What each round came to.
+    pub tally: Tally,
     rounds: u32,
     time: Duration,
 }
@@ -27,7 +28,8 @@ pub fn timed<'t, T: Drop, M: Measure<'t, T> + Copy>(
     let start = Instant::now(rt)?;
     let mut tally = Tally::EMPTY;
     for round in 0..rounds {
-        tally = one_round(rt.alloc(), measure, entries)?;
+        let mut before = Catalogue::new(rt.alloc(), Level::Full);
+        tally = tally_of(rt.alloc(), measure, entries, &mut before)?;
     }
     let time = start.elapsed(rt)?;
     Ok(Timing {
@@ -35,15 +37,6 @@ pub fn timed<'t, T: Drop, M: Measure<'t, T> + Copy>(
         rounds,
         time,
     })
-}
-
-fn one_round<'t, T: Drop, M: Measure<'t, T> + Copy>(
-    alloc: Global,
-    measure: M,
-    entries: &[Entry<'t, T>],
-) -> Result<Tally, AllocError> {
-    let mut before = Catalogue::new(alloc, Level::Full);
-    tally_of(alloc, measure, entries, &mut before)
 }
 
 fn tally_of<'t, T: Drop, M: Measure<'t, T> + Copy>(
@@ -66,28 +59,23 @@ fn outcome_of<'t, T: Drop, M: Measure<'t, T> + Copy>(
     entry: &Entry<'t, T>,
     next: &Entry<'t, T>,
     before: &mut Catalogue,
-) -> Result<Outcome, AllocError> {
+) -> Result<Option<usize>, AllocError> {
     match &entry.given {
-        Some(given) => measure.outcome(alloc, entry.text, given, next, before),
-        None => Ok(Outcome::Refused),
+        Some(given) => accepted(measure.outcome(alloc, entry.text, given, next, before)),
+        None => Ok(None),
     }
 }
 
 impl Timing {
-    /// What each round came to.
-    pub fn tally(&self) -> Tally {
-        self.tally
-    }
-
     // Nanoseconds for one text; 0 where there is none.
     fn nanoseconds_a_text(&self) -> u128 {
-        let texts = u128::from(self.tally.texts()) * u128::from(self.rounds);
+        let texts = u128::from(self.tally.texts) * u128::from(self.rounds);
         self.time.as_nanos().checked_div(texts).unwrap_or(0)
     }
 
     // Tenths of a megabyte, of 1,000,000 bytes, for one second; 0 where it took no time.
     fn tenths_a_second(&self) -> u128 {
-        let bytes = u128::from(self.tally.bytes()) * u128::from(self.rounds);
+        let bytes = u128::from(self.tally.bytes) * u128::from(self.rounds);
         bytes
             .saturating_mul(10_000)
             .checked_div(self.time.as_nanos())

@@ -1,13 +1,12 @@
 //! Stages that are given the value of a text.
 
 use crate::entry::{Entry, Measure};
-use crate::tally::Outcome;
 use crs_canon::canon_of;
 use crs_group::Catalogue;
 use crs_same::same;
 use crs_text::Fault;
 use crs_value::{Crs, Level, read};
-use std::alloc::{AllocError, Global};
+use std::alloc::Global;
 
 #[derive(Clone, Copy)]
 pub enum ValueStage {
@@ -15,22 +14,6 @@ pub enum ValueStage {
     Same,
     /// The canonical text.
     Canon,
-}
-
-impl ValueStage {
-    pub fn name(self) -> &'static str {
-        match self {
-            ValueStage::Same => "same",
-            ValueStage::Canon => "canon",
-        }
-    }
-
-    pub fn counted(self) -> &'static str {
-        match self {
-            ValueStage::Same => "same",
-            ValueStage::Canon => "bytes",
-        }
-    }
 }
 
 impl<'t> Measure<'t, Crs<'t>> for ValueStage {
@@ -45,7 +28,7 @@ impl<'t> Measure<'t, Crs<'t>> for ValueStage {
         given: &Crs<'t>,
         next: &Entry<'t, Crs<'t>>,
         _before: &mut Catalogue,
-    ) -> Result<Outcome, AllocError> {
+    ) -> Result<usize, Fault> {
         made(self, alloc, given, next)
     }
 }
@@ -56,16 +39,16 @@ fn made<'t>(
     alloc: Global,
     given: &Crs<'t>,
     next: &Entry<'t, Crs<'t>>,
-) -> Result<Outcome, AllocError> {
+) -> Result<usize, Fault> {
     match stage {
         ValueStage::Same => Ok(compared(given, next)),
         ValueStage::Canon => spelled(alloc, given),
     }
 }
 
-fn compared<'t>(crs: &Crs<'t>, next: &Entry<'t, Crs<'t>>) -> Outcome {
+fn compared<'t>(crs: &Crs<'t>, next: &Entry<'t, Crs<'t>>) -> usize {
     let itself = usize::from(same(crs, crs, Level::Full));
-    Outcome::Accepted(itself.saturating_add(matches(crs, next)))
+    itself.saturating_add(matches(crs, next))
 }
 
 // 1 where the next text spells the same CRS, 0 where it spells another or none.
@@ -76,7 +59,7 @@ fn matches<'t>(crs: &Crs<'t>, next: &Entry<'t, Crs<'t>>) -> usize {
     }
 }
 
-fn spelled(alloc: Global, crs: &Crs<'_>) -> Result<Outcome, AllocError> {
-    let canon = canon_of(alloc, crs, Level::Full)?;
-    Ok(Outcome::Accepted(canon.bytes().len()))
+fn spelled(alloc: Global, crs: &Crs<'_>) -> Result<usize, Fault> {
+    let canon = canon_of(alloc, crs, Level::Full).map_err(Fault::Memory)?;
+    Ok(canon.bytes().len())
 }
