@@ -1,16 +1,16 @@
 //! All parts in which two CRSs differ, each as three texts.
-ghost use Rattle.std.specs.Prelude.{◌↔◌, IfOk, IsTrue, List, MatchOption, OnOk};
+ghost use Rattle.std.specs.Prelude.{◌↔◌, IfOk, IsTrue, MatchOption, OnOk};
 ghost use Rattle.crs_same.specs.PartsOfCrs.{DifferencesInCrs};
 ghost use Rattle.crs_same.specs.Paths.{path_text};
 ghost use Rattle.crs_same.specs.SameCrs.{SameCrs};
 ghost use Rattle.crs_canon.specs.ContentText.{IsContentText};
 ghost use Rattle.crs_explain.specs.Appended.{AppendsTexts};
 ghost use Rattle.crs_explain.specs.Differing.{AreDifferenceTexts, AreTexts, AreTextsOf};
-ghost use Rattle.crs_explain.specs.DifferingTexts.{AreTextsAt, AreTextsOfOne, PartTexts};
-ghost use Rattle.crs_explain.specs.InOrder.{AreInOrder, AreOrderedTexts};
+ghost use Rattle.crs_explain.specs.DifferingTexts.{AreTextsOfOne, PartTexts};
+ghost use Rattle.crs_explain.specs.InOrder.{AreOrderedTexts};
 
 use crate::order::{StepWord, put_in_order};
-use crate::set_texts::append_set;
+use crate::set_texts::Sets;
 use crs_canon::write_content;
 use crs_same::{Content, Difference, Differences, differences, laws};
 use crs_value::laws::crs_is_sound;
@@ -43,6 +43,14 @@ impl Model for DifferenceTexts {
     ghost Value = { PartTexts };
 
     ghost view = { λ d. record { path = d.path.items; first = d.first.items; second = d.second.items } };
+}
+
+/// A path to what is told, and the level at which it is written.
+#[derive(Clone, Copy)]
+pub(crate) struct At<'p> {
+    pub(crate) alloc: Global,
+    pub(crate) level: Level,
+    pub(crate) path: &'p [u8],
 }
 
 /// The texts of each part in which two CRSs differ at a level, in the order of the canonical text.
@@ -89,23 +97,10 @@ pub(crate) fn ordered_texts<'a>(
     if are_none(a, b, level, differences.as_slice()) {
         return Ok(None);
     }
-    let texts = texts_in_order(words, alloc, level, differences)?;
-    Ok(Some(texts))
-}
-
-// The texts of differences that it owns, in the order of some words.
-fn texts_in_order(
-    words: &[StepWord],
-    alloc: Global,
-    level: Level,
-    differences: Differences<'_, '_>,
-) -> Result<Vec<DifferenceTexts>, AllocError>
-    ensures { IfOk result (λ texts. (parts : List PartTexts) × AreTexts level differences.entry parts
-        × AreInOrder words.now parts texts.items) }
-{
-    let mut texts = texts_of(alloc, level, differences.as_slice())?;
+    let mut texts = Vec::new(alloc);
+    append_all(&mut texts, alloc, level, differences)?;
     put_in_order(words, &mut texts)?;
-    Ok(texts)
+    Ok(Some(texts))
 }
 
 // Whether these are no differences of two CRSs: exactly where the CRSs are the same.
@@ -118,18 +113,6 @@ fn are_none<'a>(a: &Crs<'a>, b: &Crs<'a>, level: Level, differences: &[Differenc
     crs_is_sound(a);
     crs_is_sound(b);
     differences.is_empty()
-}
-
-fn texts_of(
-    alloc: Global,
-    level: Level,
-    differences: &[Difference<'_, '_>],
-) -> Result<Vec<DifferenceTexts>, AllocError>
-    ensures { IfOk result (λ texts. AreTexts level differences.now texts.items) }
-{
-    let mut texts = Vec::new(alloc);
-    append_texts(alloc, level, differences, &mut texts)?;
-    Ok(texts)
 }
 
 fn append_texts(
@@ -158,78 +141,57 @@ fn append_part(
 {
     let mut path = Vec::new(alloc);
     difference.path().write(&mut path)?;
-    append_at(
-        alloc,
-        level,
-        &path,
-        difference.first(),
-        difference.second(),
-        out,
-    )
+    let path = path.as_slice();
+    let at = At { alloc, level, path };
+    at.append(difference.first(), difference.second(), out)
 }
 
-fn append_at(
-    alloc: Global,
-    level: Level,
-    path: &[u8],
-    first: &Content<'_, '_>,
-    second: &Content<'_, '_>,
-    out: &mut Vec<DifferenceTexts>,
-) -> Result<(), AllocError>
-    ensures { OnOk result (AppendsTexts (AreTextsOf level path.now first.now second.now) out.old.items out.new.items) }
-{
-    match first {
-        Content::Parameters(these, others) => {
-            append_set(alloc, level, path, these.as_slice(), others.as_slice(), out)
+impl At<'_> {
+    fn append(
+        self,
+        first: &Content<'_, '_>,
+        second: &Content<'_, '_>,
+        out: &mut Vec<DifferenceTexts>,
+    ) -> Result<(), AllocError>
+        ensures { OnOk result (AppendsTexts (AreTextsOf self.entry.level self.entry.path.now first.now second.now)
+            out.old.items out.new.items) }
+    {
+        let at = self;
+        match first {
+            Content::Parameters(these, others) => {
+                let (these, others) = (these.as_slice(), others.as_slice());
+                Sets { at, these, others }.append(out)
+            }
+            _ => self.append_one(first, second, out),
         }
-        _ => append_one(alloc, level, path, first, second, out),
     }
-}
 
-/// Appends the texts of what is at this path and has these values.
-pub(crate) fn append_one(
-    alloc: Global,
-    level: Level,
-    path: &[u8],
-    first: &Content<'_, '_>,
-    second: &Content<'_, '_>,
-    out: &mut Vec<DifferenceTexts>,
-) -> Result<(), AllocError>
-    ensures { OnOk result (AppendsTexts (AreTextsOfOne level path.now first.now second.now)
-        out.old.items out.new.items) }
-{
-    let one = texts_at(alloc, level, path, first, second)?;
-    out.push(one)?;
-    Ok(())
-}
+    /// Appends the texts of what has these values.
+    pub(crate) fn append_one(
+        self,
+        first: &Content<'_, '_>,
+        second: &Content<'_, '_>,
+        out: &mut Vec<DifferenceTexts>,
+    ) -> Result<(), AllocError>
+        ensures { OnOk result (AppendsTexts (AreTextsOfOne self.entry.level self.entry.path.now first.now second.now)
+            out.old.items out.new.items) }
+    {
+        let path = Vec::from_slice(self.alloc, self.path)?;
+        let first = self.content_text(first)?;
+        let second = self.content_text(second)?;
+        out.push(DifferenceTexts {
+            path,
+            first,
+            second,
+        })?;
+        Ok(())
+    }
 
-fn texts_at(
-    alloc: Global,
-    level: Level,
-    path: &[u8],
-    first: &Content<'_, '_>,
-    second: &Content<'_, '_>,
-) -> Result<DifferenceTexts, AllocError>
-    ensures { IfOk result (AreTextsAt level path.now first.now second.now) }
-{
-    let path = Vec::from_slice(alloc, path)?;
-    let first = content_text(alloc, level, first)?;
-    let second = content_text(alloc, level, second)?;
-    Ok(DifferenceTexts {
-        path,
-        first,
-        second,
-    })
-}
-
-fn content_text(
-    alloc: Global,
-    level: Level,
-    content: &Content<'_, '_>,
-) -> Result<Vec<u8>, AllocError>
-    ensures { IfOk result (λ text. IsContentText level content.now text.items) }
-{
-    let mut text = Vec::new(alloc);
-    write_content(content, alloc, level, &mut text)?;
-    Ok(text)
+    fn content_text(self, content: &Content<'_, '_>) -> Result<Vec<u8>, AllocError>
+        ensures { IfOk result (λ text. IsContentText self.entry.level content.now text.items) }
+    {
+        let mut text = Vec::new(self.alloc);
+        write_content(content, self.alloc, self.level, &mut text)?;
+        Ok(text)
+    }
 }
