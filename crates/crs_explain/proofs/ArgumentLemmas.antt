@@ -1,5 +1,5 @@
 -- Arguments one after another, by their numbers in the tree.
-use Rattle.std.proofs.Common.{◌≡◌, ◌≢◌, ◌≤◌, ◌+◌, ℕ, Option, Some, None, refl, sym, ap, ◌∙◌, arith, if◌then◌else◌, nat_le}
+use Rattle.std.proofs.Common.{◌≡◌, ◌≢◌, ◌≤◌, ◌<◌, ◌+◌, ℕ, Option, Some, None, refl, subst, sym, ap, ◌∙◌, arith, if◌then◌else◌, nat_le}
 use Rattle.crs_text.specs.declared.keyword.Keyword.TheVariants as keyword
 use Rattle.crs_text.specs.Items.{Item, Siblings, End, More, HasId, IsAt, count, first_of, here, place_of, rest_of}
 use Rattle.crs_value.specs.Reading.{Holds, ahead, item_at}
@@ -24,6 +24,14 @@ axes_first (More item items) some = refl
 count_first : (items : Siblings) → items ≢ End → count items ≡ 1 + count (rest_of items)
 count_first End some = absurd (some refl)
 count_first (More item items) some = omega arith
+
+-- fewer arguments are ahead of the next
+pub fewer : (tree : Item) (now next : Option ℕ) (id : ℕ) → now ≡ Some id → Holds tree now →
+    IsAt tree (rest_of (here tree id)) next → count (ahead tree next) < count (ahead tree now)
+fewer tree now next id is has follows =
+    let there : HasId tree id = subst (Holds tree) is has in
+    let more : count (ahead tree now) ≡ count (here tree id) = ap (λ o. count (ahead tree o)) is in
+    omega (arith, more, count_first (here tree id) there, ap count (ahead_is tree _ next follows))
 
 last_first : (place : ℕ) (other : Item) (items : Siblings) → items ≢ End →
     last_at place other items

@@ -1,5 +1,5 @@
 -- Texts one after the other, and one more.
-use Rattle.std.proofs.Common.{◌≡◌, ◌+◌, ◌-◌, Bool, true, false, if◌then◌else◌, ◌++◌, ◌∷◌, [], ℕ, List, length, take, drop, refl, sym, ap, ◌∙◌, append_assoc, append-nil, arith}
+use Rattle.std.proofs.Common.{◌≡◌, ◌+◌, ◌-◌, ◌++◌, ◌∷◌, [], ℕ, List, length, take, drop, refl, sym, ap, ◌∙◌, append_assoc, append-nil, arith}
 use Rattle.std.proofs.lemmas.List.{take_at, drop_at, length-append}
 use Rattle.crs_explain.specs.Cut.{cut}
 use Rattle.crs_explain.specs.Pieces.{ends_from, joined}
@@ -56,9 +56,3 @@ invariant_more bytes ends new_bytes new_ends text laid ended e f =
       f ∙ ap (λ z. z ++ length new_bytes ∷ []) ended ∙ ap (λ z. ends_from 0 texts ++ z ∷ []) long
           ∙ sym (ends_more 0 texts text) ∙ ap (ends_from 0) (sym is),
     )
-
--- names, and behind them the end where the node may end
-pub named : (old between new names : List (List ℕ)) (end : List ℕ) (may_end : Bool) → between ≡ old ++ names →
-    new ≡ (if may_end then between ++ end ∷ [] else between) → new ≡ old ++ (names ++ (if may_end then end ∷ [] else []))
-named old between new names end true e f = f ∙ ap (λ z. z ++ end ∷ []) e ∙ append_assoc old names (end ∷ [])
-named old between new names end false e f = f ∙ e ∙ ap (λ z. old ++ z) (sym (append-nil names))

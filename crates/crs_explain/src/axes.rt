@@ -5,7 +5,9 @@ ghost use Rattle.crs_value.specs.Reading.{item_at};
 ghost use Rattle.crs_explain.specs.ExpectedAxes.{axes_among, axes_expectation, axes_text};
 
 use crate::around::{crs_around, is_called, part_around};
-use crate::expected_texts::{ExpectedTexts, texts_of_one};
+use crate::expected_texts::ExpectedTexts;
+use crate::names::push_name;
+use crate::place::name_text;
 use crs_streams::append_number;
 use crs_text::{ItemId, Items, Keyword};
 use std::alloc::{AllocError, Global};
@@ -20,11 +22,18 @@ pub(crate) fn axes_expected(
 {
     let crs = crs_around(items, place);
     let system = part_around(items, place);
-    let axes = axes_in(items, crs);
+    let node = name_text(alloc, items.raw(crs))?;
     let mut found = Vec::new(alloc);
-    append_axes(axes, &mut found)?;
-    let dimension = raw_at(items, system, 1);
-    texts_of_one(alloc, items.raw(crs), items.place(crs), found, dimension)
+    append_axes(axes_in(items, crs), &mut found)?;
+    let mut names = Vec::new(alloc);
+    push_name(raw_at(items, system, 1), &mut names)?;
+    Ok(ExpectedTexts {
+        node,
+        place: items.place(crs),
+        found,
+        names,
+        meant: Vec::new(alloc),
+    })
 }
 
 // How many axes a CRS has.

@@ -51,8 +51,7 @@ pub fn ordered_differences_text<'a>(
     let Some(differences) = ordered_texts(alloc, a, b, level, words)? else {
         return Ok(None);
     };
-    let lines = lines_of(alloc, &differences)?;
-    Ok(Some(lines))
+    lines_of(alloc, &differences).map(Some)
 }
 
 /// The same as data: three texts for each line, its path, and the values of the first CRS and of the second, with
@@ -75,7 +74,9 @@ fn lines_of(alloc: Global, differences: &[DifferenceTexts]) -> Result<Vec<u8>, A
     ensures { IfOk result (λ lines. lines.items ≡ flat_map difference_line differences.now) }
 {
     let mut lines = Vec::new(alloc);
-    append_lines(differences, &mut lines)?;
+    for difference in differences {
+        append_line(difference, &mut lines)?;
+    }
     Ok(lines)
 }
 
@@ -83,17 +84,10 @@ fn pieces_of(alloc: Global, differences: &[DifferenceTexts]) -> Result<Pieces, A
     ensures { IfOk result (λ pieces. pieces ≡ flat_map part_pieces differences.now) }
 {
     let mut pieces = Pieces::new(alloc);
-    append_pieces(differences, &mut pieces)?;
-    Ok(pieces)
-}
-
-fn append_lines(differences: &[DifferenceTexts], out: &mut Vec<u8>) -> Result<(), AllocError>
-    ensures { OnOk result (out.new.items ≡ out.old.items ++ flat_map difference_line differences.now) }
-{
     for difference in differences {
-        append_line(difference, out)?;
+        append_part(difference, &mut pieces)?;
     }
-    Ok(())
+    Ok(pieces)
 }
 
 fn append_line(difference: &DifferenceTexts, out: &mut Vec<u8>) -> Result<(), AllocError>
@@ -105,15 +99,6 @@ fn append_line(difference: &DifferenceTexts, out: &mut Vec<u8>) -> Result<(), Al
     out.extend_from_slice(b" | ")?;
     append_value(&difference.second, out)?;
     out.extend_from_slice(b"\n")
-}
-
-fn append_pieces(differences: &[DifferenceTexts], out: &mut Pieces) -> Result<(), AllocError>
-    ensures { OnOk result (out.new ≡ out.old ++ flat_map part_pieces differences.now) }
-{
-    for difference in differences {
-        append_part(difference, out)?;
-    }
-    Ok(())
 }
 
 fn append_part(difference: &DifferenceTexts, out: &mut Pieces) -> Result<(), AllocError>

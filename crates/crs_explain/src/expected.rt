@@ -50,11 +50,9 @@ fn in_items(
     if is_of_shape(number) {
         shape_expected(alloc, text, items, place)
     } else if number == UNKNOWN_WORD {
-        let found = word_expected(alloc, text, items, place)?;
-        Ok(Some(found))
+        word_expected(alloc, text, items, place).map(Some)
     } else if number == AXIS_COUNT {
-        let found = axes_expected(alloc, items, place)?;
-        Ok(Some(found))
+        axes_expected(alloc, items, place).map(Some)
     } else {
         Ok(None)
     }
@@ -77,10 +75,7 @@ fn shape_expected(
 {
     match expected(items) {
         None => Ok(None),
-        Some(expected) => {
-            let texts = shape_texts(alloc, text, place, &expected)?;
-            Ok(Some(texts))
-        }
+        Some(expected) => shape_texts(alloc, text, place, &expected).map(Some),
     }
 }
 
@@ -94,7 +89,7 @@ fn shape_texts(
 {
     let node = node_text(alloc, rest_of(text, expected.place()), expected.parent())?;
     let mut found = Vec::new(alloc);
-    append_found(alloc, rest_of(text, place), &mut found)?;
+    append_found(rest_of(text, place), &mut found)?;
     let names = names_in(alloc, expected)?;
     let meant = meant_at(alloc, rest_of(text, place), expected)?;
     Ok(ExpectedTexts {
@@ -120,7 +115,7 @@ fn node_text(alloc: Global, there: &[u8], parent: Option<Class>) -> Result<Vec<u
 {
     let mut node = Vec::new(alloc);
     if parent.is_some() {
-        append_name(alloc, word_at(there), &mut node)?;
+        append_name(word_at(there), &mut node)?;
     }
     Ok(node)
 }
@@ -132,7 +127,7 @@ fn names_in(alloc: Global, expected: &Expected) -> Result<Vec<Name>, AllocError>
 {
     let may_come = classes_in(alloc, expected)?;
     let mut names = Vec::new(alloc);
-    push_names(alloc, &may_come, expected.may_end(), &mut names)?;
+    push_names(&may_come, expected.may_end(), &mut names)?;
     Ok(names)
 }
 
@@ -140,18 +135,8 @@ fn names_in(alloc: Global, expected: &Expected) -> Result<Vec<Name>, AllocError>
 fn classes_in(alloc: Global, expected: &Expected) -> Result<Vec<Class>, AllocError>
     ensures { IfOk result (λ found. found.items ≡ filter (may_come expected.now) every_class) }
 {
-    classes_among(alloc, expected, classes())
-}
-
-// The classes among these that may come.
-fn classes_among(
-    alloc: Global,
-    expected: &Expected,
-    all: &[Class],
-) -> Result<Vec<Class>, AllocError>
-    ensures { IfOk result (λ found. found.items ≡ filter (may_come expected.now) all.now) }
-{
-    all.iter()
+    classes()
+        .iter()
         .copied()
         .filter(|class| expected.has(*class))
         .collect(alloc)

@@ -1,11 +1,9 @@
 //! What is found at a place and what could stand there, as texts: a line for a person, and pieces for a program.
-ghost use Rattle.std.specs.Prelude.{◌≡◌, ◌++◌, ◌∷◌, [], IfOk, OnOk, codes};
+ghost use Rattle.std.specs.Prelude.{◌≡◌, ◌++◌, ◌∷◌, [], OnOk, codes};
 ghost use Rattle.crs_explain.specs.Expectation.{expected_line, listed, node_at, or_nothing};
-ghost use Rattle.crs_explain.specs.Found.{named_by};
 
-use crate::names::{Name, append_listed, push_each, push_name};
+use crate::names::{Name, append_listed, push_each};
 use crate::pieces::Pieces;
-use crate::place::append_name;
 use crs_streams::append_number;
 use std::alloc::{AllocError, Global};
 use std::marker::Model;
@@ -34,54 +32,6 @@ impl Model for ExpectedTexts {
       found = e.found.items;
       names = e.names.items;
     } };
-}
-
-/// The texts of a node by its keyword as it is written, and where it begins. What was meant has no bytes where that isn't
-/// known.
-pub(crate) fn texts_of(
-    alloc: Global,
-    word: &[u8],
-    place: usize,
-    found: Vec<u8>,
-    names: Vec<Name>,
-    meant: Vec<u8>,
-) -> Result<ExpectedTexts, AllocError>
-    ensures { IfOk result (λ e. e ≡ record {
-      node = named_by word.now;
-      place = place;
-      found = found.items;
-      names = names.items;
-    }) }
-{
-    let mut node = Vec::new(alloc);
-    append_name(alloc, word, &mut node)?;
-    Ok(ExpectedTexts {
-        node,
-        place,
-        found,
-        names,
-        meant,
-    })
-}
-
-/// The same with one name.
-pub(crate) fn texts_of_one(
-    alloc: Global,
-    word: &[u8],
-    place: usize,
-    found: Vec<u8>,
-    name: &[u8],
-) -> Result<ExpectedTexts, AllocError>
-    ensures { IfOk result (λ e. e ≡ record {
-      node = named_by word.now;
-      place = place;
-      found = found.items;
-      names = name.now ∷ [];
-    }) }
-{
-    let mut names = Vec::new(alloc);
-    push_name(alloc, name, &mut names)?;
-    texts_of(alloc, word, place, found, names, Vec::new(alloc))
 }
 
 /// Appends the line of what is found and what could stand there; nothing where that isn't known.

@@ -13,7 +13,6 @@ mod excerpt;
 mod expected;
 mod expected_texts;
 mod explanation;
-mod head;
 pub mod laws;
 mod meant;
 mod names;

@@ -5,7 +5,7 @@ ghost use Rattle.crs_streams.specs.Json.{json_array, json_more, json_text};
 
 use crate::pieces::Pieces;
 use crs_streams::json::append_text;
-use std::alloc::{AllocError, Global};
+use std::alloc::AllocError;
 use std::marker::Model;
 
 /// A name, as bytes. Profile.
@@ -32,10 +32,10 @@ impl Name {
 }
 
 /// Adds a name behind others.
-pub(crate) fn push_name(alloc: Global, bytes: &[u8], out: &mut Vec<Name>) -> Result<(), AllocError>
+pub(crate) fn push_name(bytes: &[u8], out: &mut Vec<Name>) -> Result<(), AllocError>
     ensures { OnOk result (out.new.items ≡ out.old.items ++ bytes.now ∷ []) }
 {
-    let bytes = Vec::from_slice(alloc, bytes)?;
+    let bytes = Vec::from_slice(*out.allocator(), bytes)?;
     out.push(Name { bytes })?;
     Ok(())
 }

@@ -1,12 +1,10 @@
 //! Refusals and parts that differ as objects of JSON, each in a line.
-ghost use Rattle.std.specs.Prelude.{◌≡◌, ◌++◌, ◌≤◌, IfOk, MatchOption, OnOk, Some, codes, decimal, length};
+ghost use Rattle.std.specs.Prelude.{◌≡◌, ◌++◌, ◌≤◌, IfOk, MatchOption, OnOk, Some, length};
 ghost use Rattle.std.specs.List.{flat_map};
-ghost use Rattle.crs_text.specs.Refusal.{name_of};
 ghost use Rattle.crs_explain.specs.InOrder.{AreOrderedObjects};
 ghost use Rattle.crs_explain.specs.Json.{IsRefusalObject, difference_object, expected_members};
 ghost use Rattle.crs_explain.specs.Json.{place_members, refusal_object, sentence_members, which_member};
 ghost use Rattle.crs_same.specs.SameCrs.{SameCrs};
-ghost use Rattle.crs_streams.specs.Json.{text_member, value_member};
 
 use crate::difference_texts::{DifferenceTexts, ordered_texts};
 use crate::expected_texts::ExpectedTexts;
@@ -15,12 +13,12 @@ use crate::names::append_array;
 use crate::order::StepWord;
 use crate::place::word_at;
 use crate::sentences::SentenceTexts;
+use crs_streams::append_number;
 use crs_streams::json::{
     append_key, append_number_member, append_text, append_text_member, append_value_member,
 };
 use crs_text::{Position, Refusal};
 use crs_value::{Crs, Level};
-use itoa::Buffer;
 use std::alloc::{AllocError, Global};
 
 /// Explains the refusal of a text as `refusal_text` does, in an object of JSON and a line feed: the number, its name, the
@@ -61,25 +59,17 @@ pub fn difference_objects<'a>(
     let Some(differences) = ordered_texts(alloc, a, b, level, words)? else {
         return Ok(None);
     };
-    let objects = objects_of(alloc, &differences)?;
-    Ok(Some(objects))
+    objects_of(alloc, &differences).map(Some)
 }
 
 fn objects_of(alloc: Global, differences: &[DifferenceTexts]) -> Result<Vec<u8>, AllocError>
     ensures { IfOk result (λ objects. objects.items ≡ flat_map difference_object differences.now) }
 {
     let mut objects = Vec::new(alloc);
-    append_differences(differences, &mut objects)?;
-    Ok(objects)
-}
-
-fn append_differences(differences: &[DifferenceTexts], out: &mut Vec<u8>) -> Result<(), AllocError>
-    ensures { OnOk result (out.new.items ≡ out.old.items ++ flat_map difference_object differences.now) }
-{
     for difference in differences {
-        append_difference(difference, out)?;
+        append_difference(difference, &mut objects)?;
     }
-    Ok(())
+    Ok(objects)
 }
 
 fn append_difference(difference: &DifferenceTexts, out: &mut Vec<u8>) -> Result<(), AllocError>
@@ -125,21 +115,12 @@ fn append_which(which: &[u8], out: &mut Vec<u8>) -> Result<(), AllocError>
 fn append_place(refusal: Refusal, position: Position, out: &mut Vec<u8>) -> Result<(), AllocError>
     ensures { OnOk result (out.new.items ≡ out.old.items ++ place_members refusal position) }
 {
-    append_refused(refusal, out)?;
+    out.extend_from_slice(b"\"refused\":")?;
+    append_number(usize::from(refusal.number()), out)?;
+    append_text_member(b"name", refusal.name().as_bytes(), out)?;
     append_number_member(b"place", refusal.place(), out)?;
     append_number_member(b"line", position.line, out)?;
     append_number_member(b"column", position.column, out)
-}
-
-// The number and its name.
-fn append_refused(refusal: Refusal, out: &mut Vec<u8>) -> Result<(), AllocError>
-    ensures { OnOk result (out.new.items ≡ out.old.items ++ (codes "\"refused\":" ++ decimal refusal.number
-        ++ text_member (codes "name") (name_of refusal.number))) }
-{
-    let mut digits = Buffer::new();
-    out.extend_from_slice(b"\"refused\":")?;
-    out.extend_from_slice(digits.format(refusal.number()).as_bytes())?;
-    append_text_member(b"name", refusal.name().as_bytes(), out)
 }
 
 fn append_expected(expected: &Option<ExpectedTexts>, out: &mut Vec<u8>) -> Result<(), AllocError>
@@ -167,13 +148,6 @@ fn append_sentences(sentences: &SentenceTexts, out: &mut Vec<u8>) -> Result<(), 
     ensures { OnOk result (out.new.items ≡ out.old.items ++ sentence_members sentences.now) }
 {
     append_value_member(b"clue", &sentences.open_or_meant, out)?;
-    append_meaning(&sentences.meaning, &sentences.hints, out)
-}
-
-fn append_meaning(meaning: &[u8], hints: &[u8], out: &mut Vec<u8>) -> Result<(), AllocError>
-    ensures { OnOk result (out.new.items ≡ out.old.items
-        ++ (text_member (codes "meaning") meaning.now ++ value_member (codes "hints") hints.now)) }
-{
-    append_text_member(b"meaning", meaning, out)?;
-    append_value_member(b"hints", hints, out)
+    append_text_member(b"meaning", &sentences.meaning, out)?;
+    append_value_member(b"hints", &sentences.hints, out)
 }

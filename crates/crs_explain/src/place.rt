@@ -1,6 +1,6 @@
 //! What is at a place of a well-formed text.
 ghost use Rattle.std.specs.Char.{is_ascii_whitespace};
-ghost use Rattle.std.specs.Prelude.{◌≡◌, ◌++◌, ◌≤◌, OnOk, drop, length, take};
+ghost use Rattle.std.specs.Prelude.{◌≡◌, ◌++◌, ◌≤◌, IfOk, OnOk, drop, length, take};
 ghost use Rattle.std.specs.List.{prefix_len};
 ghost use Rattle.crs_explain.specs.Found.{first_byte, found_in, is_of_word, named_by, opens, opens_after_white, word_found, word_of, word_shown};
 
@@ -10,14 +10,14 @@ use std::alloc::{AllocError, Global};
 const SHOWN: usize = 40;
 
 /// Appends what begins at the front of these bytes, or the delimiter that closes there.
-pub(crate) fn append_found(alloc: Global, there: &[u8], out: &mut Vec<u8>) -> Result<(), AllocError>
+pub(crate) fn append_found(there: &[u8], out: &mut Vec<u8>) -> Result<(), AllocError>
     ensures { OnOk result (out.new.items ≡ out.old.items ++ found_in there.now) }
 {
     match first_byte(there) {
         b']' => out.extend_from_slice(b"]"),
         b')' => out.extend_from_slice(b")"),
         b'"' => out.extend_from_slice(b"a text in quotes"),
-        letter if letter.is_ascii_alphabetic() => append_word(alloc, there, out),
+        letter if letter.is_ascii_alphabetic() => append_word(there, out),
         _ => out.extend_from_slice(b"a number"),
     }
 }
@@ -26,18 +26,15 @@ pub(crate) fn append_found(alloc: Global, there: &[u8], out: &mut Vec<u8>) -> Re
 fn first_byte(bytes: &[u8]) -> u8
     ensures { result ≡ first_byte bytes.now }
 {
-    match bytes.first() {
-        Some(byte) => *byte,
-        None => 0,
-    }
+    bytes.first().copied().unwrap_or(0)
 }
 
 // The keyword of a node, or a word.
-fn append_word(alloc: Global, there: &[u8], out: &mut Vec<u8>) -> Result<(), AllocError>
+fn append_word(there: &[u8], out: &mut Vec<u8>) -> Result<(), AllocError>
     ensures { OnOk result (out.new.items ≡ out.old.items ++ word_found there.now) }
 {
     if opens_after_white(rest_of(there, word_length(there))) {
-        append_name(alloc, word_at(there), out)
+        append_name(word_at(there), out)
     } else {
         out.extend_from_slice(b"a word")
     }
@@ -68,12 +65,22 @@ fn opens(bytes: &[u8]) -> bool
 }
 
 /// Appends a word in capitals, or the front of a long one.
-pub(crate) fn append_name(alloc: Global, word: &[u8], out: &mut Vec<u8>) -> Result<(), AllocError>
+pub(crate) fn append_name(word: &[u8], out: &mut Vec<u8>) -> Result<(), AllocError>
     ensures { OnOk result (out.new.items ≡ out.old.items ++ named_by word.now) }
 {
+    let alloc = *out.allocator();
     let mut shown = Vec::new(alloc);
     append_shown(word, &mut shown)?;
     out.extend_from_slice(&shown.to_ascii_uppercase(alloc)?)
+}
+
+/// A word in capitals, or the front of a long one.
+pub(crate) fn name_text(alloc: Global, word: &[u8]) -> Result<Vec<u8>, AllocError>
+    ensures { IfOk result (λ name. name.items ≡ named_by word.now) }
+{
+    let mut name = Vec::new(alloc);
+    append_name(word, &mut name)?;
+    Ok(name)
 }
 
 /// Appends a word as it is written, or the front of a long one.
@@ -119,8 +126,5 @@ fn is_of_word(byte: u8) -> bool
 pub(crate) fn rest_of(text: &[u8], place: usize) -> &[u8]
     ensures { result.now ≡ drop place text.now }
 {
-    match text.get(place..) {
-        Some(rest) => rest,
-        None => b"",
-    }
+    text.get(place..).unwrap_or(b"")
 }

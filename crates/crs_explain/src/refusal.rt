@@ -1,13 +1,12 @@
 //! The refusal of a text, explained to a person and to a program.
-ghost use Rattle.std.specs.Prelude.{◌≡◌, ◌++◌, ◌≤◌, IfOk, OnOk, length};
-ghost use Rattle.crs_explain.specs.Explained.{AreExplainedPieces, IsExplained};
-ghost use Rattle.crs_explain.specs.Explained.{explanation_pieces, explanation_text, pieces_told};
+ghost use Rattle.std.specs.Prelude.{◌≡◌, ◌++◌, ◌∷◌, ◌≤◌, [], IfOk, OnOk, codes, decimal, length};
+ghost use Rattle.crs_explain.specs.Explained.{AreExplainedPieces, IsExplained, explanation_pieces, explanation_text, head};
 
 use crate::expected_texts::{append_expected, place_of_node, push_expected, push_found};
 use crate::explanation::{ExplanationOf, explanation};
-use crate::head::append_head;
 use crate::pieces::Pieces;
-use crs_text::Refusal;
+use crs_streams::{append_number, append_refusal};
+use crs_text::{Position, Refusal};
 use std::alloc::{AllocError, Global};
 use std::marker::Model;
 
@@ -80,28 +79,38 @@ fn text_of(
     Ok(told)
 }
 
+// `refused N NAME at P, line L, column C`, and a line feed.
+fn append_head(refusal: Refusal, position: Position, out: &mut Vec<u8>) -> Result<(), AllocError>
+    ensures { OnOk result (out.new.items ≡ out.old.items ++ head refusal position) }
+{
+    append_refusal(out, refusal)?;
+    append_position(position, out)
+}
+
+// `, line L, column C`, and a line feed.
+fn append_position(position: Position, out: &mut Vec<u8>) -> Result<(), AllocError>
+    ensures { OnOk result (out.new.items ≡ out.old.items ++ (codes ", line " ++ decimal position.line
+        ++ codes ", column " ++ decimal position.column ++ 10 ∷ [])) }
+{
+    out.extend_from_slice(b", line ")?;
+    append_number(position.line, out)?;
+    out.extend_from_slice(b", column ")?;
+    append_number(position.column, out)?;
+    out.extend_from_slice(b"\n")
+}
+
 fn pieces_of(alloc: Global, explanation: &ExplanationOf) -> Result<ExplanationPieces, AllocError>
     ensures { IfOk result (λ told. told ≡ explanation_pieces explanation.now) }
 {
     let mut pieces = Pieces::new(alloc);
-    push_pieces(alloc, explanation, &mut pieces)?;
+    pieces.push(&explanation.excerpt)?;
+    push_found(alloc, &explanation.expected, &mut pieces)?;
+    explanation.sentences.push(&mut pieces)?;
+    push_expected(&explanation.expected, &mut pieces)?;
     Ok(ExplanationPieces {
         line: explanation.position.line,
         column: explanation.position.column,
         node: place_of_node(&explanation.expected),
         pieces,
     })
-}
-
-fn push_pieces(
-    alloc: Global,
-    explanation: &ExplanationOf,
-    out: &mut Pieces,
-) -> Result<(), AllocError>
-    ensures { OnOk result (out.new ≡ out.old ++ pieces_told explanation.now) }
-{
-    out.push(&explanation.excerpt)?;
-    push_found(alloc, &explanation.expected, out)?;
-    explanation.sentences.push(out)?;
-    push_expected(&explanation.expected, out)
 }

@@ -67,21 +67,9 @@ pub(crate) fn sentences(
     let hints = hints(alloc, text, refusal.number(), refusal.place())?;
     let meant = if hints.is_empty() { meant } else { b"" };
     let before = open_or_meant(alloc, text, refusal, meant)?;
-    in_lines(alloc, &before, meaning(refusal.number()).as_bytes(), &hints)
-}
-
-// Each of them as the words of a line.
-fn in_lines(
-    alloc: Global,
-    open_or_meant: &[u8],
-    meaning: &[u8],
-    hints: &[u8],
-) -> Result<SentenceTexts, AllocError>
-    ensures { IfOk result AreSentences }
-{
-    let open_or_meant = words_of(alloc, open_or_meant)?;
-    let meaning = words_of(alloc, meaning)?;
-    let hints = words_of(alloc, hints)?;
+    let open_or_meant = words_of(alloc, &before)?;
+    let meaning = words_of(alloc, meaning(refusal.number()).as_bytes())?;
+    let hints = words_of(alloc, &hints)?;
     Ok(SentenceTexts {
         open_or_meant,
         meaning,

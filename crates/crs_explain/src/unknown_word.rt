@@ -4,10 +4,10 @@ ghost use Rattle.crs_shape.specs.Words.{direction_word, every_direction, every_t
 ghost use Rattle.crs_explain.specs.ExpectedWords.{word_expectation};
 
 use crate::around::{is_called, part_around};
-use crate::expected_texts::{ExpectedTexts, texts_of};
+use crate::expected_texts::ExpectedTexts;
 use crate::meant::meant_of;
 use crate::names::{Name, push_name};
-use crate::place::{append_shown, rest_of, word_at};
+use crate::place::{append_shown, name_text, rest_of, word_at};
 use crs_shape::{Direction, SystemType};
 use crs_text::{Items, Keyword};
 use std::alloc::{AllocError, Global};
@@ -23,52 +23,48 @@ pub(crate) fn word_expected(
     ensures { IfOk result (λ e. e ≡ word_expectation text.now place items.now) }
 {
     let part = part_around(items, place);
+    let node = name_text(alloc, items.raw(part))?;
     let word = word_at(rest_of(text, place));
     let mut found = Vec::new(alloc);
     append_shown(word, &mut found)?;
     let mut names = Vec::new(alloc);
-    push_known(alloc, is_called(items, part, Keyword::Cs), &mut names)?;
+    push_known(is_called(items, part, Keyword::Cs), &mut names)?;
     let meant = meant_of(alloc, word, &names)?;
-    texts_of(
-        alloc,
-        items.raw(part),
-        items.place(part),
+    Ok(ExpectedTexts {
+        node,
+        place: items.place(part),
         found,
         names,
         meant,
-    )
+    })
 }
 
 // The words of all types, or of all directions.
-fn push_known(alloc: Global, is_type: bool, out: &mut Vec<Name>) -> Result<(), AllocError>
+fn push_known(is_type: bool, out: &mut Vec<Name>) -> Result<(), AllocError>
     ensures { OnOk result (out.new.items ≡ out.old.items
         ++ (if is_type then map system_word every_type else map direction_word every_direction)) }
 {
     if is_type {
-        push_types(alloc, SystemType::every(), out)
+        push_types(SystemType::every(), out)
     } else {
-        push_directions(alloc, Direction::every(), out)
+        push_directions(Direction::every(), out)
     }
 }
 
-fn push_types(alloc: Global, types: &[SystemType], out: &mut Vec<Name>) -> Result<(), AllocError>
+fn push_types(types: &[SystemType], out: &mut Vec<Name>) -> Result<(), AllocError>
     ensures { OnOk result (out.new.items ≡ out.old.items ++ map system_word types.now) }
 {
     for system_type in types {
-        push_name(alloc, system_type.word().as_bytes(), out)?;
+        push_name(system_type.word().as_bytes(), out)?;
     }
     Ok(())
 }
 
-fn push_directions(
-    alloc: Global,
-    directions: &[Direction],
-    out: &mut Vec<Name>,
-) -> Result<(), AllocError>
+fn push_directions(directions: &[Direction], out: &mut Vec<Name>) -> Result<(), AllocError>
     ensures { OnOk result (out.new.items ≡ out.old.items ++ map direction_word directions.now) }
 {
     for direction in directions {
-        push_name(alloc, direction.word().as_bytes(), out)?;
+        push_name(direction.word().as_bytes(), out)?;
     }
     Ok(())
 }

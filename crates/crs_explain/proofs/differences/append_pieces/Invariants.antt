@@ -1,9 +1,0 @@
-use Rattle.std.proofs.Common.{◌≡◌, ◌++◌, drop}
-use Rattle.std.specs.List.{flat_map}
-use Rattle.crs_explain.specs.Differing.{part_pieces}
-use Rattle.crs_explain.proofs.differences.append_pieces.Given as goal
-
-abbrev pub invariant-loop-difference : goal.invariant-loop-difference
-invariant-loop-difference l =
-    l.out ++ flat_map part_pieces (drop l.difference-index l.differences)
-    ≡ l.fn.out ++ flat_map part_pieces l.differences
