@@ -59,13 +59,7 @@ pub fn canon_output(alloc: Global, level: Level, text: &[u8]) -> Result<(Vec<u8>
     ensures { IfOk result (λ output. IsCanonOutput level text.now output.0.items output.1) }
 {
     match canon(alloc, text, level) {
-        Ok(canon) => {
-            let line = line_of(alloc, canon.bytes())?;
-            Ok((line, 0))
-        }
-        Err(fault) => {
-            let line = refused_line(alloc, b"", refusal_in(fault)?)?;
-            Ok((line, 1))
-        }
+        Ok(canon) => Ok((line_of(alloc, canon.bytes())?, 0)),
+        Err(fault) => Ok((refused_line(alloc, b"", refusal_in(fault)?)?, 1)),
     }
 }

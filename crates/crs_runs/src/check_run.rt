@@ -67,14 +67,8 @@ fn found_output(alloc: Global, found: &Result<Kind, Refusal>) -> Result<(Vec<u8>
     ensures { IfOk result (λ output. WritesFound found.now output.0.items output.1) }
 {
     match *found {
-        Ok(kind) => {
-            let line = accepted_line(alloc, kind)?;
-            Ok((line, 0))
-        }
-        Err(refusal) => {
-            let line = refused_line(alloc, b"", refusal)?;
-            Ok((line, 1))
-        }
+        Ok(kind) => Ok((accepted_line(alloc, kind)?, 0)),
+        Err(refusal) => Ok((refused_line(alloc, b"", refusal)?, 1)),
     }
 }
 

@@ -87,6 +87,5 @@ fn refused_output<T: Telling>(
     ensures { IfOk result (λ output. T.Refused told which.now text.now output.0.items output.1) }
 {
     let refusal = refusal_in(fault)?;
-    let line = told.refusal(alloc, which, text, refusal)?;
-    Ok((line, 1))
+    Ok((told.refusal(alloc, which, text, refusal)?, 1))
 }

@@ -2,20 +2,20 @@ use Rattle.std.proofs.Common.{◌∙◌, ◌++◌, ◌∷◌, [], ap, inl, inr, 
 use Rattle.crs_runs.specs.Output.{IsCanonOutput}
 use Rattle.crs_runs.proofs.canon_run.canon_output.Goals as goal
 
-pub returns-in_ok-line-in-Ok : goal.returns-in_ok-line-in-Ok
+pub returns-in_ok-line_of-in-Ok : goal.returns-in_ok-line_of-in-Ok
 unfolding IsCanonOutput
-returns-in_ok-line-in-Ok c =
+returns-in_ok-line_of-in-Ok c =
     inl (
       c.in-Ok.canon.bytes,
       c.in-Ok.ensures.answer,
       record {
-        line = c.in_ok-line-in-Ok.ensures ∙ ap (λ bytes. bytes ++ 10 ∷ []) c.bytes.ensures;
+        line = c.in_ok-line_of-in-Ok.ensures ∙ ap (λ bytes. bytes ++ 10 ∷ []) c.bytes.ensures;
         is_status = refl;
       },
     )
 
-pub returns-in_ok-line-in-Err : goal.returns-in_ok-line-in-Err
+pub returns-in_ok-refused_line-in-Err : goal.returns-in_ok-refused_line-in-Err
 unfolding IsCanonOutput
-returns-in_ok-line-in-Err c =
+returns-in_ok-refused_line-in-Err c =
     let refused = c.in_ok-refusal_in-in-Err.ensures.refuses c.args.text.now c.in-Err.ensures.answer in
-    inr (c.in_ok-refusal_in-in-Err.field-0, refused, record { line = c.in_ok-line-in-Err.ensures; is_status = refl })
+    inr (c.in_ok-refusal_in-in-Err.field-0, refused, record { line = c.in_ok-refused_line-in-Err.ensures; is_status = refl })
