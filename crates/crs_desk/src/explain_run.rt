@@ -1,8 +1,6 @@
 //! What a text spells or why it is refused, and all parts in which two texts differ, explained to a person or a program.
 ghost use Rattle.std.specs.Prelude.{◌≡◌, ◌<◌, ◌↔◌, ◌≤◌, ◌++◌, ◌∷◌, [], IfOk, IfErr, IsErrOf, MatchOption, length, true, false};
-ghost use Rattle.crs_value.specs.SpellsText.{Refuses};
 ghost use Rattle.crs_runs.specs.Ending.{IsAnswered, IsRunFault, IsWritten, IsWriteFault};
-ghost use Rattle.crs_runs.specs.Output.{IsLine};
 ghost use Rattle.crs_desk.specs.ExplainOutput.{AreDifferencesTold, IsExplainOutput, IsExplainPairOutput};
 ghost use Rattle.crs_desk.specs.ExplainOutput.{IsRefusalTold, TellsRefusalOf, TellsWhetherSame, kind_told, same_told};
 ghost use Rattle.crs_desk.specs.declared.manner.Manner.TheVariants as manner;
@@ -84,13 +82,8 @@ pub fn run_explain_pair<W: Write>(
     ensures write_failed { IsErrOf result RunFault.WriteFailed ↔ (w.new.failed ≡ true) }
     ensures past_failure { w.new.past_failure ≡ false }
 {
-    let answer = PairAnswer {
-        told: Told { how, words },
-        level,
-        first: a,
-        second: b,
-    };
-    write_answer(alloc, &answer, w)
+    let told = Told { how, words };
+    write_answer(alloc, &PairAnswer { told, level, a, b }, w)
 }
 
 // What a text is.
@@ -118,29 +111,12 @@ pub(crate) fn text_output(
     ensures { IfOk result (λ output. IsExplainOutput how text.now output.0.items output.1) }
 {
     match kind_of_text(alloc, text)? {
-        Ok(kind) => kind_output(alloc, how, kind),
-        Err(refusal) => refusal_output(alloc, how, text, refusal),
+        Ok(kind) => Ok((kind_line(alloc, how, kind)?, 0)),
+        Err(refusal) => {
+            let told = Told { how, words: &[] };
+            Ok((told.refusal(alloc, b"", text, refusal)?, 1))
+        }
     }
-}
-
-fn kind_output(alloc: Global, how: Manner, kind: Kind) -> Result<(Vec<u8>, u8), AllocError>
-    ensures { IfOk result (λ output. IsLine (kind_told how kind) 0 output.0.items output.1) }
-{
-    let line = kind_line(alloc, how, kind)?;
-    Ok((line, 0))
-}
-
-fn refusal_output(
-    alloc: Global,
-    how: Manner,
-    text: &[u8],
-    refusal: Refusal,
-) -> Result<(Vec<u8>, u8), AllocError>
-    requires { Refuses text.now refusal }
-    ensures { IfOk result (λ output. TellsRefusalOf how [] text.now output.0.items output.1) }
-{
-    let told = explained(alloc, how, b"", text, refusal)?;
-    Ok((told, 1))
 }
 
 fn kind_line(alloc: Global, how: Manner, kind: Kind) -> Result<Vec<u8>, AllocError>
@@ -160,38 +136,6 @@ fn accepted_object(alloc: Global, kind: Kind) -> Result<Vec<u8>, AllocError>
     line.extend_from_slice(kind_word(kind).as_bytes())?;
     line.extend_from_slice(b"\"}\n")?;
     Ok(line)
-}
-
-// The refusal of a text, told after the word that says which text it is.
-fn explained(
-    alloc: Global,
-    how: Manner,
-    which: &[u8],
-    text: &[u8],
-    refusal: Refusal,
-) -> Result<Vec<u8>, AllocError>
-    requires { Refuses text.now refusal }
-    ensures { IfOk result (λ told. TellsRefusalOf how which.now text.now told.items 1) }
-{
-    laws::one_answer();
-    let told = refusal_told(alloc, how, which, text, refusal)?;
-    Ok(told)
-}
-
-fn refusal_told(
-    alloc: Global,
-    how: Manner,
-    which: &[u8],
-    text: &[u8],
-    refusal: Refusal,
-) -> Result<Vec<u8>, AllocError>
-    requires { refusal.place ≤ length text.now }
-    ensures { IfOk result (λ told. IsRefusalTold how which.now text.now refusal told.items) }
-{
-    match how {
-        Manner::Lines => refusal_lines(alloc, which, text, refusal),
-        Manner::Objects => refusal_object(alloc, which, text, refusal),
-    }
 }
 
 fn refusal_lines(
@@ -214,18 +158,18 @@ fn refusal_lines(
 struct PairAnswer<'t> {
     told: Told<'t>,
     level: Level,
-    first: &'t [u8],
-    second: &'t [u8],
+    a: &'t [u8],
+    b: &'t [u8],
 }
 
 impl Answer for PairAnswer<'_> {
     ghost use Rattle.crs_desk.specs.ExplainOutput.{IsExplainPairOutput};
 
     ghost Output = { λ s written status.
-        IsExplainPairOutput s.told.how s.told.words.now s.level s.first.now s.second.now written status };
+        IsExplainPairOutput s.told.how s.told.words.now s.level s.a.now s.b.now written status };
 
     fn output(&self, alloc: Global) -> Result<(Vec<u8>, u8), AllocError> {
-        pair_output(alloc, self.told, self.level, self.first, self.second)
+        pair_output(alloc, self.told, self.level, self.a, self.b)
     }
 }
 
@@ -250,7 +194,11 @@ impl Telling for Told<'_> {
         text: &[u8],
         refusal: Refusal,
     ) -> Result<Vec<u8>, AllocError> {
-        explained(alloc, self.how, which, text, refusal)
+        laws::one_answer();
+        match self.how {
+            Manner::Lines => refusal_lines(alloc, which, text, refusal),
+            Manner::Objects => refusal_object(alloc, which, text, refusal),
+        }
     }
 
     fn comparison<'t>(
@@ -260,25 +208,11 @@ impl Telling for Told<'_> {
         a: &Crs<'t>,
         b: &Crs<'t>,
     ) -> Result<(Vec<u8>, u8), AllocError> {
-        differences_output(alloc, self.how, level, a, b, self.words)
+        let Some(parts) = differences_told(alloc, self.how, level, a, b, self.words)? else {
+            return Ok((same_line(alloc, self.how)?, 0));
+        };
+        Ok((parts, 1))
     }
-}
-
-fn differences_output<'t>(
-    alloc: Global,
-    how: Manner,
-    level: Level,
-    a: &Crs<'t>,
-    b: &Crs<'t>,
-    words: &[StepWord],
-) -> Result<(Vec<u8>, u8), AllocError>
-    ensures { IfOk result (λ output. TellsWhetherSame how words.now level a.now b.now output.0.items output.1) }
-{
-    let Some(parts) = differences_told(alloc, how, level, a, b, words)? else {
-        let line = same_line(alloc, how)?;
-        return Ok((line, 0));
-    };
-    Ok((parts, 1))
 }
 
 fn same_line(alloc: Global, how: Manner) -> Result<Vec<u8>, AllocError>

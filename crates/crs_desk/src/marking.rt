@@ -1,5 +1,5 @@
 //! The lines of an explanation that another one lacks.
-ghost use Rattle.std.specs.Prelude.{◌≡◌, ◌≤◌, ◌++◌, ◌∷◌, [], OnOk, drop, length};
+ghost use Rattle.std.specs.Prelude.{◌≡◌, ◌≤◌, ◌++◌, OnOk, drop, length};
 ghost use Rattle.std.specs.List.{prefix_len};
 ghost use Rattle.crs_desk.specs.RulesOutput.{has_path, is_of_path, lines_in, marked, marked_line, path_in};
 ghost use Rattle.crs_desk.specs.RulesOutput.{behind_mark, from_path, mark_of, path_end, with_mark};
@@ -73,17 +73,15 @@ fn behind_mark(how: Manner, line: &[u8]) -> &[u8]
 {
     match how {
         Manner::Lines => line,
-        Manner::Objects => behind_first(line),
+        Manner::Objects => behind(line, 1),
     }
 }
 
-fn behind_first(bytes: &[u8]) -> &[u8]
-    ensures { result.now ≡ drop 1 bytes.now }
+// The bytes behind so many.
+fn behind(bytes: &[u8], count: usize) -> &[u8]
+    ensures { result.now ≡ drop count bytes.now }
 {
-    match bytes {
-        [] => bytes,
-        [_, others @ ..] => others,
-    }
+    bytes.get(count..).unwrap_or(b"")
 }
 
 // Whether a line of some bytes has this path.
@@ -115,17 +113,7 @@ fn from_path(how: Manner, line: &[u8]) -> &[u8]
 {
     match how {
         Manner::Lines => line,
-        Manner::Objects => behind_key(line),
-    }
-}
-
-// What stands behind `{"path":"`.
-fn behind_key(line: &[u8]) -> &[u8]
-    ensures { result.now ≡ drop 9 line.now }
-{
-    match line.get(KEY_LENGTH..) {
-        Some(rest) => rest,
-        None => b"",
+        Manner::Objects => behind(line, KEY_LENGTH),
     }
 }
 
