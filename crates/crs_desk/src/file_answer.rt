@@ -8,10 +8,9 @@ ghost use Rattle.crs_desk.specs.LinesRun.{IsFrontOutput, IsLineOutput, IsLinesOu
 ghost use Rattle.crs_desk.specs.Prefixed.{prefixed};
 
 use crate::file_task::FileTask;
+use crate::forms::Under;
 use crate::grouping::{FormGroups, Grouping, Groups};
-use crate::line_output::{
-    CanonText, CheckText, ExplainText, FormText, OfLine, Prefixed, TextCommand,
-};
+use crate::line_output::{CanonText, CheckText, ExplainText, OfLine, Prefixed, TextCommand};
 use crate::lines_run::run_lines;
 use crate::prefixed::{Prefix, prefixed};
 use crate::{Filling, RunFault, Sink, Source, Stream};
@@ -22,7 +21,6 @@ use std::io::{Read, Write};
 
 // Writes the answer for all that a reader gives, each line after a prefix.
 pub(crate) fn answer_input<R: Read + Drop, W: Write>(
-    alloc: Global,
     task: FileTask<'_>,
     prefix: &Prefix,
     reader: R,
@@ -33,36 +31,29 @@ pub(crate) fn answer_input<R: Read + Drop, W: Write>(
     ensures fault { IfErr result (IsFileFault (IsTaskFront task.entry) prefix.now (R.remaining reader) sink.old sink.new) }
 {
     match task {
-        FileTask::Canon(level) => answer_text(alloc, &CanonText { level }, prefix, reader, sink),
-        FileTask::Check => answer_text(alloc, &CheckText, prefix, reader, sink),
-        FileTask::Explain(how) => answer_text(alloc, &ExplainText { how }, prefix, reader, sink),
+        FileTask::Canon(level) => answer_text(&CanonText { level }, prefix, reader, sink),
+        FileTask::Check => answer_text(&CheckText, prefix, reader, sink),
+        FileTask::Explain(how) => answer_text(&ExplainText { how }, prefix, reader, sink),
         FileTask::Group(level, listing) => {
-            answer_group(alloc, &Groups { level, listing }, prefix, reader, sink)
+            answer_group(&Groups { level, listing }, prefix, reader, sink)
         }
-        FileTask::CanonLines(level) => {
-            answer_lines(alloc, CanonText { level }, prefix, reader, sink)
-        }
-        FileTask::CheckLines => answer_lines(alloc, CheckText, prefix, reader, sink),
+        FileTask::CanonLines(level) => answer_lines(CanonText { level }, prefix, reader, sink),
+        FileTask::CheckLines => answer_lines(CheckText, prefix, reader, sink),
         FileTask::Form(level, rules) => {
-            answer_text(alloc, &FormText { level, rules }, prefix, reader, sink)
+            answer_text(&Under { level, rules }, prefix, reader, sink)
         }
         FileTask::FormGroup(level, listing, rules) => {
-            let forms = FormGroups {
-                level,
-                listing,
-                rules,
-            };
-            answer_group(alloc, &forms, prefix, reader, sink)
+            let under = Under { level, rules };
+            answer_group(&FormGroups { under, listing }, prefix, reader, sink)
         }
         FileTask::FormLines(level, rules) => {
-            answer_lines(alloc, FormText { level, rules }, prefix, reader, sink)
+            answer_lines(Under { level, rules }, prefix, reader, sink)
         }
     }
 }
 
 // The answer of a command for the whole text.
 fn answer_text<C: TextCommand, R: Read + Drop, W: Write>(
-    alloc: Global,
     command: &C,
     prefix: &Prefix,
     reader: R,
@@ -72,15 +63,15 @@ fn answer_text<C: TextCommand, R: Read + Drop, W: Write>(
     ensures answered { IfOk result (IsAnswerSent (C.Output command.now) prefix.now (R.remaining reader) sink.old sink.new) }
     ensures fault { IfErr result (IsFileFault NoFront prefix.now (R.remaining reader) sink.old sink.new) }
 {
+    let alloc = prefix.alloc();
     let text = read_text(alloc, &mut Source::new(Filling::new(reader)))?;
     let (plain, status) = command.output(alloc, &text).map_err(|_| RunFault::Memory)?;
-    send(alloc, prefix, &plain, sink)?;
+    send(prefix, &plain, sink)?;
     Ok(status)
 }
 
 // The groups of the lines.
 fn answer_group<G: Grouping, R: Read + Drop, W: Write>(
-    alloc: Global,
     grouping: &G,
     prefix: &Prefix,
     reader: R,
@@ -91,8 +82,8 @@ fn answer_group<G: Grouping, R: Read + Drop, W: Write>(
         (R.remaining reader) sink.old sink.new) }
     ensures fault { IfErr result (IsFileFault NoFront prefix.now (R.remaining reader) sink.old sink.new) }
 {
-    let (plain, status) = grouped(alloc, grouping, reader)?;
-    send(alloc, prefix, &plain, sink)?;
+    let (plain, status) = grouped(prefix.alloc(), grouping, reader)?;
+    send(prefix, &plain, sink)?;
     Ok(status)
 }
 
@@ -127,7 +118,6 @@ fn status_of(summary: &Summary) -> u8
 
 // The answer of a command for each line.
 fn answer_lines<C: TextCommand + Drop, R: Read + Drop, W: Write>(
-    alloc: Global,
     command: C,
     prefix: &Prefix,
     reader: R,
@@ -142,26 +132,17 @@ fn answer_lines<C: TextCommand + Drop, R: Read + Drop, W: Write>(
         prefix.now (R.remaining reader) sink.old sink.new) }
 {
     let command = OfLine { command };
-    run_lines(
-        alloc,
-        &Prefixed { prefix, command },
-        &mut Stream::new(reader),
-        sink,
-    )
+    let command = Prefixed { prefix, command };
+    run_lines(prefix.alloc(), &command, &mut Stream::new(reader), sink)
 }
 
 // Writes these bytes, each line after a prefix.
-fn send<W: Write>(
-    alloc: Global,
-    prefix: &Prefix,
-    plain: &[u8],
-    sink: &mut Sink<W>,
-) -> Result<(), RunFault>
+fn send<W: Write>(prefix: &Prefix, plain: &[u8], sink: &mut Sink<W>) -> Result<(), RunFault>
     requires { IsHealthy sink.old }
     ensures sent { OnOk result (Appends sink.old.contents sink.new.contents (prefixed prefix.now plain.now)) }
     ensures healthy { OnOk result (IsHealthy sink.new) }
     ensures fault { IfErr result (IsSendFault sink.new) }
 {
-    let lines = prefixed(alloc, prefix, plain).map_err(|_| RunFault::Memory)?;
+    let lines = prefixed(prefix, plain).map_err(|_| RunFault::Memory)?;
     sink.write_all(&lines).map_err(|_| RunFault::WriteFailed)
 }

@@ -1,5 +1,5 @@
 //! A run over files: what a command writes for each of them, in their order.
-ghost use Rattle.std.specs.Prelude.{◌≡◌, [], ℕ, List, Option, IfErr, IfOk, IfSome, false, if◌then◌else◌};
+ghost use Rattle.std.specs.Prelude.{◌≡◌, [], ℕ, List, Option, IfErr, IfOk, IfSome, false};
 ghost use Rattle.crs_streams.specs.Streams.{fresh_sink};
 ghost use Rattle.crs_desk.specs.FileAnswers.{IsFileSent, is_of_file};
 ghost use Rattle.crs_desk.specs.FilesRun.{AreFilesAnswered, IsFilesFault, are_objects, is_json, line_prefix, name_prefix};
@@ -54,7 +54,7 @@ pub fn run_files<I: Inputs, W: Write>(
     let mut status = 0;
     for name in names {
         let prefix = prefix_of(alloc, task, names, name).map_err(|_| RunFault::Memory)?;
-        let own = answer_file(alloc, task, &prefix, name, files, w)?;
+        let own = answer_file(task, &prefix, name, files, w)?;
         status = status.max(own);
     }
     Ok(status)
@@ -70,19 +70,12 @@ fn prefix_of(
     ensures { IfOk result (λ prefix. prefix ≡ name_prefix task.entry names.now name.now) }
 {
     if names.len() == 1 {
-        return Ok(no_prefix(alloc));
+        Ok(no_prefix(alloc))
+    } else if is_json(task) {
+        object_prefix(alloc, name)
+    } else {
+        line_prefix(alloc, name)
     }
-    named_prefix(alloc, task, name)
-}
-
-// The name of a file before each line of its answer, or in each object.
-fn named_prefix(alloc: Global, task: FileTask<'_>, name: &LineWord) -> Result<Prefix, AllocError>
-    ensures { IfOk result (λ prefix. prefix ≡ (if is_json task.entry then object_prefix name.now else line_prefix name.now)) }
-{
-    if is_json(task) {
-        return object_prefix(alloc, name);
-    }
-    line_prefix(alloc, name)
 }
 
 // Whether each line of a file's answer is an object of JSON.
@@ -93,20 +86,14 @@ fn is_json(task: FileTask<'_>) -> bool
         FileTask::Explain(how) => are_objects(how),
         FileTask::Group(_, listing) => listing.json,
         FileTask::FormGroup(_, listing, _) => listing.json,
-        FileTask::Canon(_) | FileTask::Check | FileTask::CanonLines(_) | FileTask::CheckLines => {
-            false
-        }
-        FileTask::Form(_, _) | FileTask::FormLines(_, _) => false,
+        _ => false,
     }
 }
 
 fn are_objects(how: Manner) -> bool
     ensures { result ≡ are_objects how }
 {
-    match how {
-        Manner::Lines => false,
-        Manner::Objects => true,
-    }
+    matches!(how, Manner::Objects)
 }
 
 fn no_prefix(alloc: Global) -> Prefix
@@ -146,7 +133,6 @@ fn object_prefix(alloc: Global, name: &LineWord) -> Result<Prefix, AllocError>
 
 // Writes the answer of a file.
 fn answer_file<I: Inputs, W: Write>(
-    alloc: Global,
     task: FileTask<'_>,
     prefix: &Prefix,
     name: &LineWord,
@@ -161,7 +147,7 @@ fn answer_file<I: Inputs, W: Write>(
     let Some(mut input) = files.open(name.as_str()) else {
         return Ok(FAILED);
     };
-    match answer_input(alloc, task, prefix, &mut input, sink) {
+    match answer_input(task, prefix, &mut input, sink) {
         Ok(status) => Ok(status),
         Err(fault) => {
             if !is_of_file(&fault) {
@@ -177,8 +163,5 @@ fn answer_file<I: Inputs, W: Write>(
 fn is_of_file(fault: &RunFault) -> bool
     ensures { result ≡ is_of_file fault.now }
 {
-    match fault {
-        RunFault::ReadFailed | RunFault::TooLong(_) | RunFault::TooManyReads => true,
-        RunFault::WriteFailed | RunFault::Memory => false,
-    }
+    !matches!(fault, RunFault::WriteFailed | RunFault::Memory)
 }

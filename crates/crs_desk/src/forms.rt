@@ -11,24 +11,32 @@ use crs_runs::{Telling, refusal_in};
 use crs_text::Fault;
 use std::alloc::{AllocError, Global};
 
+// Rules, and the level at which texts have forms under them.
+#[derive(Clone, Copy)]
+pub(crate) struct Under<'r> {
+    pub(crate) level: Level,
+    pub(crate) rules: &'r Rules,
+}
+
 // The forms; or the bytes and the status of a refusal.
 pub(crate) type Forms = Result<(Canon, Canon), (Vec<u8>, u8)>;
 
-// The forms of two texts under rules at a level.
+// The forms of two texts under rules.
 pub(crate) fn forms_of<T: Telling>(
     alloc: Global,
     told: T,
-    level: Level,
-    rules: &Rules,
+    under: Under<'_>,
     first: &[u8],
     second: &[u8],
 ) -> Result<Forms, AllocError>
     ensures { IfOk result (λ found. MatchResult found
-        (λ forms. IsForm rules.now level first.now forms.0.bytes × IsForm rules.now level second.now forms.1.bytes)
-        (λ output. IsRefusedUnder rules.now level (T.Refused told) first.now second.now output.0.items output.1)) }
+        (λ forms. IsForm under.entry.rules.now under.entry.level first.now forms.0.bytes
+        × IsForm under.entry.rules.now under.entry.level second.now forms.1.bytes)
+        (λ output. IsRefusedUnder under.entry.rules.now under.entry.level (T.Refused told) first.now second.now
+        output.0.items output.1)) }
 {
-    match canon_under(alloc, first, level, rules) {
-        Ok(form) => second_form(alloc, told, level, rules, form, second),
+    match canon_under(alloc, first, under.level, under.rules) {
+        Ok(form) => second_form(alloc, told, under, form, second),
         Err(fault) => refused_form(alloc, told, b"first ", first, fault),
     }
 }
@@ -37,16 +45,15 @@ pub(crate) fn forms_of<T: Telling>(
 fn second_form<T: Telling>(
     alloc: Global,
     told: T,
-    level: Level,
-    rules: &Rules,
+    under: Under<'_>,
     first: Canon,
     second: &[u8],
 ) -> Result<Forms, AllocError>
     ensures { IfOk result (λ found. MatchResult found
-        (λ forms. (forms.0 ≡ first) × IsForm rules.now level second.now forms.1.bytes)
+        (λ forms. (forms.0 ≡ first) × IsForm under.entry.rules.now under.entry.level second.now forms.1.bytes)
         (λ output. T.Refused told (codes "second ") second.now output.0.items output.1)) }
 {
-    match canon_under(alloc, second, level, rules) {
+    match canon_under(alloc, second, under.level, under.rules) {
         Ok(form) => Ok(Ok((first, form))),
         Err(fault) => refused_form(alloc, told, b"second ", second, fault),
     }
@@ -64,6 +71,5 @@ fn refused_form<T: Telling>(
     ensures { IfOk result (λ found. IsErrAnd found (λ output. T.Refused told which.now text.now output.0.items output.1)) }
 {
     let refusal = refusal_in(fault)?;
-    let line = told.refusal(alloc, which, text, refusal)?;
-    Ok(Err((line, 1)))
+    Ok(Err((told.refusal(alloc, which, text, refusal)?, 1)))
 }

@@ -4,8 +4,8 @@ ghost use Rattle.crs_catalogue.specs.GroupRun.{IsGroupedBy};
 ghost use Rattle.crs_catalogue.specs.declared.summary.Summary.{Summary};
 ghost use Rattle.crs_streams.specs.Streams.{fresh_sink, fresh_source};
 
+use crate::forms::Under;
 use crate::{Level, Listing, RunFault, Sink, Source, Summary, run_group_listing, run_group_under};
-use crs_rules::Rules;
 use std::alloc::Global;
 use std::io::Read;
 
@@ -47,18 +47,17 @@ impl Grouping for Groups {
     }
 }
 
-// Under rules, at this level.
+// Under rules.
 #[derive(Drop)]
 pub(crate) struct FormGroups<'r> {
-    pub(crate) level: Level,
+    pub(crate) under: Under<'r>,
     pub(crate) listing: Listing,
-    pub(crate) rules: &'r Rules,
 }
 
 impl Grouping for FormGroups<'_> {
     ghost use Rattle.crs_catalogue.specs.GroupOutput.{IsGroupOutputUnder};
 
-    ghost Output = { λ s bytes written summary. IsGroupOutputUnder s.rules.now s.listing s.level bytes written summary };
+    ghost Output = { λ s bytes written summary. IsGroupOutputUnder s.under.rules.now s.listing s.under.level bytes written summary };
 
     fn run<R: Read>(
         &self,
@@ -66,6 +65,7 @@ impl Grouping for FormGroups<'_> {
         source: &mut Source<R>,
         sink: &mut Sink<Vec<u8>>,
     ) -> Result<Summary, RunFault> {
-        run_group_under(alloc, self.level, self.rules, self.listing, source, sink)
+        let Under { level, rules } = self.under;
+        run_group_under(alloc, level, rules, self.listing, source, sink)
     }
 }

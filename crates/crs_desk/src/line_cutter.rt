@@ -4,14 +4,14 @@ ghost use Rattle.std.specs.Prelude.{◌≡◌, ◌+◌, ◌^◌, ◌<◌, ◌≤
 ghost use Rattle.std.specs.Prelude.{IfErr, IfOk, IsFalse, IsTrue, OnOk, false, true};
 ghost use Rattle.crs_streams.specs.Lines.{HasNoFeed};
 ghost use Rattle.crs_streams.specs.Streams.{SinkState};
-ghost use Rattle.crs_desk.specs.LineCutting.{IsKept, IsLinesCut, IsNotKept, IsOver, IsPut, IsPutOut, IsStopped};
+ghost use Rattle.crs_desk.specs.LineCutting.{IsKept, IsLinesCut, IsNotKept, IsOver, IsPutOut, IsStopped};
 ghost use Rattle.crs_desk.specs.LineCutting.{IsWrittenOut, PutsLine};
 
 use crate::line_output::TextCommand;
 use crate::line_writer::LineWriter;
 use crate::{RunFault, Sink};
 use crs_streams::{MAX_LINE, append_bytes, split_line, text_of};
-use std::alloc::{AllocError, Global};
+use std::alloc::Global;
 use std::io::Write;
 use std::marker::Model;
 
@@ -140,10 +140,10 @@ impl LineCutter {
         ensures fault { IfErr result (λ fault. fault ≡ RunFault.Memory) }
     {
         if self.partial.is_empty() {
-            return put(&mut self.writer, alloc, command, text_of(line));
+            return self.writer.put(alloc, command, text_of(line));
         }
         append_bytes(&mut self.partial, line)?;
-        put(&mut self.writer, alloc, command, text_of(&self.partial))?;
+        self.writer.put(alloc, command, text_of(&self.partial))?;
         self.partial.clear();
         Ok(())
     }
@@ -170,7 +170,7 @@ impl LineCutter {
         if self.partial.is_empty() {
             return Ok(());
         }
-        put(&mut self.writer, alloc, command, &self.partial)
+        self.writer.put(alloc, command, &self.partial)
     }
 
     // Whether the line is too long with these bytes.
@@ -180,18 +180,4 @@ impl LineCutter {
     {
         self.partial.len() + bytes.len() > MAX_LINE
     }
-}
-
-fn put<C: TextCommand>(
-    writer: &mut LineWriter,
-    alloc: Global,
-    command: &C,
-    text: &[u8],
-) -> Result<(), RunFault>
-    ensures put { OnOk result (IsPut (C.Output command.now) text.now writer.old writer.new) }
-    ensures fault { IfErr result (λ fault. fault ≡ RunFault.Memory) }
-{
-    writer
-        .put(alloc, command, text)
-        .map_err(|_| RunFault::Memory)
 }

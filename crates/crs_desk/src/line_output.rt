@@ -1,11 +1,12 @@
 //! What commands write for a text, and for the text of a line.
-ghost use Rattle.std.specs.Prelude.{◌≡◌, ◌∷◌, [], ℕ, List, IfOk};
+ghost use Rattle.std.specs.Prelude.{ℕ, List, IfOk};
 
 use crate::explain_run::text_output;
+use crate::forms::Under;
 use crate::prefixed::{Prefix, prefixed};
 use crate::{Level, Manner};
 use crs_group::is_blank;
-use crs_rules::{Rules, canon_under};
+use crs_rules::canon_under;
 use crs_runs::{canon_output, check_output, line_of, refusal_in, refused_line};
 use std::alloc::{AllocError, Global};
 
@@ -33,28 +34,16 @@ impl TextCommand for CanonText {
     }
 }
 
-// `canon` under rules, at this level.
-#[derive(Drop)]
-pub(crate) struct FormText<'r> {
-    pub(crate) level: Level,
-    pub(crate) rules: &'r Rules,
-}
-
-impl TextCommand for FormText<'_> {
+// `canon` under rules.
+impl TextCommand for Under<'_> {
     ghost use Rattle.crs_desk.specs.RulesOutput.{IsFormOutput};
 
     ghost Output = { λ s text written status. IsFormOutput s.rules.now s.level text written status };
 
     fn output(&self, alloc: Global, text: &[u8]) -> Result<(Vec<u8>, u8), AllocError> {
         match canon_under(alloc, text, self.level, self.rules) {
-            Ok(form) => {
-                let line = line_of(alloc, form.bytes())?;
-                Ok((line, 0))
-            }
-            Err(fault) => {
-                let line = refused_line(alloc, b"", refusal_in(fault)?)?;
-                Ok((line, 1))
-            }
+            Ok(form) => Ok((line_of(alloc, form.bytes())?, 0)),
+            Err(fault) => Ok((refused_line(alloc, b"", refusal_in(fault)?)?, 1)),
         }
     }
 }
@@ -102,8 +91,7 @@ impl<C: TextCommand> TextCommand for OfLine<C> {
 
     fn output(&self, alloc: Global, text: &[u8]) -> Result<(Vec<u8>, u8), AllocError> {
         if is_blank(text) {
-            let line = Vec::from_slice(alloc, b"\n")?;
-            return Ok((line, 0));
+            return Ok((Vec::from_slice(alloc, b"\n")?, 0));
         }
         self.command.output(alloc, text)
     }
@@ -123,7 +111,6 @@ impl<C: TextCommand> TextCommand for Prefixed<'_, C> {
 
     fn output(&self, alloc: Global, text: &[u8]) -> Result<(Vec<u8>, u8), AllocError> {
         let (plain, status) = self.command.output(alloc, text)?;
-        let written = prefixed(alloc, self.prefix, &plain)?;
-        Ok((written, status))
+        Ok((prefixed(self.prefix, &plain)?, status))
     }
 }

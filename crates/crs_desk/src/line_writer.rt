@@ -4,7 +4,8 @@ ghost use Rattle.crs_desk.specs.LineCutting.{IsCut, IsEmptied, IsFlushed, IsPut}
 
 use crate::line_output::TextCommand;
 use crate::{RunFault, Sink};
-use std::alloc::{AllocError, Global};
+use crs_streams::append_bytes;
+use std::alloc::Global;
 use std::io::Write;
 use std::marker::Model;
 
@@ -48,11 +49,12 @@ impl LineWriter {
         alloc: Global,
         command: &C,
         text: &[u8],
-    ) -> Result<(), AllocError>
-        ensures { OnOk result (IsPut (C.Output command.now) text.now self.old self.new) }
+    ) -> Result<(), RunFault>
+        ensures put { OnOk result (IsPut (C.Output command.now) text.now self.old self.new) }
+        ensures fault { IfErr result (λ fault. fault ≡ RunFault.Memory) }
     {
-        let (line, status) = command.output(alloc, text)?;
-        self.out.extend_from_slice(&line)?;
+        let (line, status) = command.output(alloc, text).map_err(|_| RunFault::Memory)?;
+        append_bytes(&mut self.out, &line)?;
         self.status = self.status.max(status);
         Ok(())
     }

@@ -74,14 +74,8 @@ pub(crate) fn run_lines<C: TextCommand, R: Read, W: Write>(
 {
     let mut room = make_room(alloc).map_err(|_| RunFault::Memory)?;
     let mut cutter = LineCutter::new(alloc);
-    read_through(
-        alloc,
-        command,
-        &mut cutter,
-        source,
-        room.as_mut_slice(),
-        sink,
-    )?;
+    let room = room.as_mut_slice();
+    read_through(alloc, command, &mut cutter, source, room, sink)?;
     cutter.finish(alloc, command, sink)
 }
 

@@ -20,11 +20,18 @@ impl Model for Prefix {
     ghost view = { λ p. record { bytes = p.bytes.items; in_object = p.in_object } };
 }
 
+impl Prefix {
+    // The allocator of its bytes.
+    pub(crate) fn alloc(&self) -> Global {
+        *self.bytes.allocator()
+    }
+}
+
 // These bytes, each of their lines after a prefix.
-pub(crate) fn prefixed(alloc: Global, prefix: &Prefix, bytes: &[u8]) -> Result<Vec<u8>, AllocError>
+pub(crate) fn prefixed(prefix: &Prefix, bytes: &[u8]) -> Result<Vec<u8>, AllocError>
     ensures { IfOk result (λ lines. lines.items ≡ prefixed prefix.now bytes.now) }
 {
-    let mut lines = Vec::new(alloc);
+    let mut lines = Vec::new(prefix.alloc());
     append_prefixed(&mut lines, prefix, bytes)?;
     Ok(lines)
 }

@@ -5,7 +5,7 @@ ghost use Rattle.crs_desk.specs.RulesOutput.{IsExplainUnderOutput, IsExplainedUn
 ghost use Rattle.crs_streams.specs.Streams.{fresh_sink};
 
 use crate::explain_run::Told;
-use crate::forms::forms_of;
+use crate::forms::{Under, forms_of};
 use crate::marking::append_marked;
 use crate::{Level, Manner, RunFault, Sink};
 use crs_explain::StepWord;
@@ -32,13 +32,8 @@ pub fn run_same_under<W: Write>(
     ensures write_failed { IsErrOf result RunFault.WriteFailed ↔ (w.new.failed ≡ true) }
     ensures past_failure { w.new.past_failure ≡ false }
 {
-    let answer = SameForms {
-        level,
-        rules,
-        first: a,
-        second: b,
-    };
-    write_answer(alloc, &answer, w)
+    let under = Under { level, rules };
+    write_answer(alloc, &SameForms { under, a, b }, w)
 }
 
 /// Writes whether two texts are the same under rules, at a level: for their forms what `run_explain_pair` writes, and
@@ -61,42 +56,28 @@ pub fn run_explain_pair_under<W: Write>(
     ensures write_failed { IsErrOf result RunFault.WriteFailed ↔ (w.new.failed ≡ true) }
     ensures past_failure { w.new.past_failure ≡ false }
 {
-    let answer = ExplainedForms {
-        told: Told { how, words },
-        level,
-        rules,
-        first: a,
-        second: b,
-    };
-    write_answer(alloc, &answer, w)
+    let told = Told { how, words };
+    let under = Under { level, rules };
+    write_answer(alloc, &ExplainedForms { told, under, a, b }, w)
 }
 
 // Whether two texts are the same under rules, at this level.
 #[derive(Drop)]
 struct SameForms<'t> {
-    level: Level,
-    rules: &'t Rules,
-    first: &'t [u8],
-    second: &'t [u8],
+    under: Under<'t>,
+    a: &'t [u8],
+    b: &'t [u8],
 }
 
 impl Answer for SameForms<'_> {
     ghost use Rattle.crs_desk.specs.RulesOutput.{IsSameUnderOutput};
 
     ghost Output = { λ s written status.
-        IsSameUnderOutput s.rules.now s.level s.first.now s.second.now written status };
+        IsSameUnderOutput s.under.rules.now s.under.level s.a.now s.b.now written status };
 
     fn output(&self, alloc: Global) -> Result<(Vec<u8>, u8), AllocError> {
-        let found = forms_of(
-            alloc,
-            InALine,
-            self.level,
-            self.rules,
-            self.first,
-            self.second,
-        )?;
-        match found {
-            Ok((a, b)) => pair_output(alloc, InALine, self.level, a.bytes(), b.bytes()),
+        match forms_of(alloc, InALine, self.under, self.a, self.b)? {
+            Ok((a, b)) => pair_output(alloc, InALine, self.under.level, a.bytes(), b.bytes()),
             Err(output) => Ok(output),
         }
     }
@@ -106,58 +87,35 @@ impl Answer for SameForms<'_> {
 #[derive(Drop)]
 struct ExplainedForms<'t> {
     told: Told<'t>,
-    level: Level,
-    rules: &'t Rules,
-    first: &'t [u8],
-    second: &'t [u8],
+    under: Under<'t>,
+    a: &'t [u8],
+    b: &'t [u8],
 }
 
 impl Answer for ExplainedForms<'_> {
     ghost use Rattle.crs_desk.specs.RulesOutput.{IsExplainUnderOutput};
 
     ghost Output = { λ s written status.
-        IsExplainUnderOutput s.told.how s.told.words.now s.rules.now s.level s.first.now s.second.now written status };
+        IsExplainUnderOutput s.told.how s.told.words.now s.under.rules.now s.under.level s.a.now s.b.now written status };
 
     fn output(&self, alloc: Global) -> Result<(Vec<u8>, u8), AllocError> {
-        let found = forms_of(
-            alloc,
-            self.told,
-            self.level,
-            self.rules,
-            self.first,
-            self.second,
-        )?;
-        match found {
-            Ok((a, b)) => explained(
-                alloc,
-                self.told,
-                self.level,
-                self.first,
-                self.second,
-                a.bytes(),
-                b.bytes(),
-            ),
+        match forms_of(alloc, self.told, self.under, self.a, self.b)? {
+            Ok((a, b)) => self.explained(alloc, a.bytes(), b.bytes()),
             Err(output) => Ok(output),
         }
     }
 }
 
-// The explanation of two texts, by their forms.
-fn explained(
-    alloc: Global,
-    told: Told<'_>,
-    level: Level,
-    first: &[u8],
-    second: &[u8],
-    a: &[u8],
-    b: &[u8],
-) -> Result<(Vec<u8>, u8), AllocError>
-    ensures { IfOk result (λ output. IsExplainedUnder told.entry.how told.entry.words.now level first.now second.now a.now b.now
-        output.0.items output.1) }
-{
-    let (under, status) = pair_output(alloc, told, level, a, b)?;
-    let (plain, _status) = pair_output(alloc, told, level, first, second)?;
-    let mut lines = Vec::from_slice(alloc, &under)?;
-    append_marked(&mut lines, told.how, &under, &plain)?;
-    Ok((lines, status))
+impl ExplainedForms<'_> {
+    // The explanation of the texts, by their forms.
+    fn explained(&self, alloc: Global, a: &[u8], b: &[u8]) -> Result<(Vec<u8>, u8), AllocError>
+        ensures { IfOk result (λ output. IsExplainedUnder self.now.told.how self.now.told.words.now self.now.under.level
+            self.now.a.now self.now.b.now a.now b.now output.0.items output.1) }
+    {
+        let (under, status) = pair_output(alloc, self.told, self.under.level, a, b)?;
+        let (plain, _status) = pair_output(alloc, self.told, self.under.level, self.a, self.b)?;
+        let mut lines = Vec::from_slice(alloc, &under)?;
+        append_marked(&mut lines, self.told.how, &under, &plain)?;
+        Ok((lines, status))
+    }
 }

@@ -7,7 +7,7 @@ pub returns-in-Ok : goal.returns-in-Ok
 returns-in-Ok g c =
     let Refused = g.T.Telling.Refused c.args.told in
     IfOk-weaker c.second_form.result _ _
-    (λ found. second-formed found c.args.rules.now c.args.level c.in-Ok.form c.args.first.now c.args.second.now
+    (λ found. second-formed found c.args.under.rules.now c.args.under.level c.in-Ok.form c.args.first.now c.args.second.now
     (λ output. Refused (codes "first ") c.args.first.now output.0.items output.1)
     (λ output. Refused (codes "second ") c.args.second.now output.0.items output.1) c.in-Ok.ensures.answer)
     c.second_form.ensures

@@ -4,4 +4,4 @@ pub refusal-requires : goal.refusal-requires
 refusal-requires g c = c.in_ok-refusal.ensures.refuses c.args.text.now c.requires
 
 pub returns : goal.returns
-returns g c = c.in_ok-line.ensures
+returns g c = c.in_ok-refusal-2.ensures

@@ -9,6 +9,6 @@ returns-then-is_empty-clause-put g c =
     let long : length c.self.inside.partial.items ≡ vec_len c.self.inside.partial = search rules in
     IfOk-weaker c.put.result _ _
     (λ _ put. puts-straight (g.C.TextCommand.Output c.args.command.now) c.args.line.now c.text_of.result.now
-    c.self.inside.partial.items c.args.self.now c.self.inside.writer c.put.new.writer c.self.inside.lines c.self.view_is
+    c.self.inside.partial.items c.args.self.now c.self.inside.writer c.put.new.self c.self.inside.lines c.self.view_is
     (c.if-is_empty.ensures ∙ ap (λ n. n == 0) (sym long)) c.text_of.ensures put)
     c.put.ensures.put

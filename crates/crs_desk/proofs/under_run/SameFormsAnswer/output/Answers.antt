@@ -8,15 +8,15 @@ use Rattle.crs_desk.proofs.under_run.SameFormsAnswer.output.Goals as goal
 pub returns-in-Ok : goal.returns-in-Ok
 returns-in-Ok c =
     let self = c.args.self.now in
-    let found : c.in_ok-found.found ≡ Ok (c.in-Ok.a, c.in-Ok.b) = search rules in
+    let found : c.in_ok-a.field-0 ≡ Ok (c.in-Ok.a, c.in-Ok.b) = search rules in
     IfOk-weaker c.pair_output.result _ _
-    (λ output. pair-formed self.rules.now self.level WritesRefusalOf (IsSameOutput self.level) self.first.now self.second.now
-    c.in-Ok.a c.in-Ok.b c.bytes.result.now c.bytes-in-Ok.result.now output.0.items output.1 (formed-found c.in_ok-found.found _ _ (c.in-Ok.a, c.in-Ok.b) found c.in_ok-found.ensures) c.bytes.ensures
+    (λ output. pair-formed self.under.rules.now self.under.level WritesRefusalOf (IsSameOutput self.under.level) self.a.now self.b.now
+    c.in-Ok.a c.in-Ok.b c.bytes.result.now c.bytes-in-Ok.result.now output.0.items output.1 (formed-found c.in_ok-a.field-0 _ _ (c.in-Ok.a, c.in-Ok.b) found c.in_ok-a.ensures) c.bytes.ensures
     c.bytes-in-Ok.ensures)
     c.pair_output.ensures
 
 pub returns-in-Err : goal.returns-in-Err
 unfolding IsPairUnder
 returns-in-Err c =
-    let found : c.in_ok-found.found ≡ Err c.in-Err.output = search rules in
-    inl (refused-found c.in_ok-found.found _ _ c.in-Err.output found c.in_ok-found.ensures)
+    let found : c.in_ok-a.field-0 ≡ Err c.in-Err.output = search rules in
+    inl (refused-found c.in_ok-a.field-0 _ _ c.in-Err.output found c.in_ok-a.ensures)
