@@ -4,30 +4,70 @@ ghost use Rattle.crs_catalogue.specs.GroupObjects.{group_object, json_name, name
 ghost use Rattle.crs_catalogue.specs.GroupObjects.{refused_object};
 ghost use Rattle.crs_streams.specs.Json.{json_array, json_more, text_member};
 
-use crate::Listing;
+use crate::group_text::Listed;
 use crate::names::Names;
 use crs_streams::append_number;
 use crs_streams::json::{append_key, append_number_member, append_text, append_text_member};
 use crs_text::Refusal;
 use std::alloc::AllocError;
 
-// The group of this number, which has these lines and this text.
-pub(crate) fn write_group_object(
-    out: &mut Vec<u8>,
-    listing: Listing,
-    names: &Names,
-    number: usize,
-    lines: &[u64],
-    text: &[u8],
-) -> Result<(), AllocError>
-    ensures { OnOk result (out.new.items ≡ out.old.items ++ group_object listing names.now number lines.now text.now) }
-{
-    out.extend_from_slice(b"{\"group\":")?;
-    append_number(number, out)?;
-    append_key(b"lines", out)?;
-    write_numbers(out, lines)?;
-    write_names_member(out, listing, names, lines)?;
-    end_object(out, text)
+impl Listed<'_> {
+    // The group of this number, which has these lines and this text.
+    pub(crate) fn write_group_object(
+        self,
+        out: &mut Vec<u8>,
+        number: usize,
+        lines: &[u64],
+        text: &[u8],
+    ) -> Result<(), AllocError>
+        ensures { OnOk result (out.new.items ≡ out.old.items
+            ++ group_object self.entry.listing self.entry.ledger.now.names number lines.now text.now) }
+    {
+        out.extend_from_slice(b"{\"group\":")?;
+        append_number(number, out)?;
+        append_key(b"lines", out)?;
+        write_numbers(out, lines)?;
+        self.write_names(out, lines)?;
+        end_object(out, text)
+    }
+
+    fn write_names(self, out: &mut Vec<u8>, numbers: &[u64]) -> Result<(), AllocError>
+        ensures { OnOk result (out.new.items ≡ out.old.items
+            ++ names_member self.entry.listing self.entry.ledger.now.names numbers.now) }
+    {
+        if self.listing.names {
+            append_key(b"line_names", out)?;
+            return write_names(out, self.ledger.names(), numbers);
+        }
+        Ok(())
+    }
+
+    // A refused line.
+    pub(crate) fn write_refused_object(
+        self,
+        out: &mut Vec<u8>,
+        line: u64,
+        refusal: Refusal,
+    ) -> Result<(), AllocError>
+        ensures { OnOk result (out.new.items ≡ out.old.items
+            ++ refused_object self.entry.listing self.entry.ledger.now.names (line, refusal)) }
+    {
+        out.extend_from_slice(b"{\"line\":")?;
+        append_number(line as usize, out)?;
+        self.write_name(out, line)?;
+        write_refusal(out, refusal)?;
+        out.extend_from_slice(b"}\n")
+    }
+
+    fn write_name(self, out: &mut Vec<u8>, number: u64) -> Result<(), AllocError>
+        ensures { OnOk result (out.new.items ≡ out.old.items
+            ++ name_member self.entry.listing self.entry.ledger.now.names number) }
+    {
+        if self.listing.names {
+            return append_text_member(b"line_name", self.ledger.names().at(number), out);
+        }
+        Ok(())
+    }
 }
 
 // The text of a group, and the end of its object.
@@ -64,21 +104,6 @@ fn write_more_numbers(out: &mut Vec<u8>, numbers: &[u64]) -> Result<(), AllocErr
     Ok(())
 }
 
-fn write_names_member(
-    out: &mut Vec<u8>,
-    listing: Listing,
-    names: &Names,
-    numbers: &[u64],
-) -> Result<(), AllocError>
-    ensures { OnOk result (out.new.items ≡ out.old.items ++ names_member listing names.now numbers.now) }
-{
-    if listing.names {
-        append_key(b"line_names", out)?;
-        return write_names(out, names, numbers);
-    }
-    Ok(())
-}
-
 // An array of the names of lines.
 fn write_names(out: &mut Vec<u8>, names: &Names, numbers: &[u64]) -> Result<(), AllocError>
     ensures { OnOk result (out.new.items ≡ out.old.items ++ json_array (json_name names.now) numbers.now) }
@@ -101,37 +126,6 @@ fn write_more_names(out: &mut Vec<u8>, names: &Names, numbers: &[u64]) -> Result
     for number in numbers {
         out.extend_from_slice(b",")?;
         append_text(names.at(*number), out)?;
-    }
-    Ok(())
-}
-
-// A refused line.
-pub(crate) fn write_refused_object(
-    out: &mut Vec<u8>,
-    listing: Listing,
-    names: &Names,
-    line: u64,
-    refusal: Refusal,
-) -> Result<(), AllocError>
-    ensures { OnOk result (out.new.items ≡ out.old.items ++ refused_object listing names.now (line, refusal)) }
-{
-    out.extend_from_slice(b"{\"line\":")?;
-    append_number(line as usize, out)?;
-    write_name_member(out, listing, names, line)?;
-    write_refusal(out, refusal)?;
-    out.extend_from_slice(b"}\n")
-}
-
-fn write_name_member(
-    out: &mut Vec<u8>,
-    listing: Listing,
-    names: &Names,
-    number: u64,
-) -> Result<(), AllocError>
-    ensures { OnOk result (out.new.items ≡ out.old.items ++ name_member listing names.now number) }
-{
-    if listing.names {
-        return append_text_member(b"line_name", names.at(number), out);
     }
     Ok(())
 }

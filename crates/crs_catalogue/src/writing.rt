@@ -3,7 +3,7 @@ ghost use Rattle.std.specs.Prelude.{◌≡◌, IfErr, IfOk, false};
 ghost use Rattle.crs_catalogue.specs.GroupReading.{IsWritingFault, WritesLedger};
 ghost use Rattle.crs_streams.specs.Streams.{fresh_sink};
 
-use crate::group_text::write_catalogue;
+use crate::group_text::Listed;
 use crate::ledger::Ledger;
 use crate::listing::Listing;
 use crate::summary::Summary;
@@ -24,9 +24,8 @@ pub(crate) fn write_listing<W: Write>(
     ensures past_failure { sink.new.past_failure ≡ false }
 {
     let mut text = Vec::new(alloc);
-    write_catalogue(&mut text, listing, ledger.names(), ledger.catalogue()).map_err(
-        |_| RunFault::Memory,
-    )?;
+    let listed = Listed { listing, ledger };
+    listed.write(&mut text).map_err(|_| RunFault::Memory)?;
     if !text.is_empty() {
         sink.write_all(&text).map_err(|_| RunFault::WriteFailed)?;
     }

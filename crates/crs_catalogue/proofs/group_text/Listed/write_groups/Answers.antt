@@ -1,4 +1,4 @@
-use Rattle.std.proofs.Common.{arith, rules}
+use Rattle.std.proofs.Common.{arith}
 use Rattle.crs_catalogue.proofs.GroupTextLemmas.{group-step}
 use Rattle.crs_catalogue.proofs.group_text.Listed.write_groups.Goals as goal
 
