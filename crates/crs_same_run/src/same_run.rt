@@ -28,29 +28,24 @@ pub fn run_same<W: Write>(
     ensures write_failed { IsErrOf result RunFault.WriteFailed ↔ (w.new.failed ≡ true) }
     ensures past_failure { w.new.past_failure ≡ false }
 {
-    let answer = SameAnswer {
-        level,
-        first: a,
-        second: b,
-    };
-    write_answer(alloc, &answer, w)
+    write_answer(alloc, &SameAnswer { level, a, b }, w)
 }
 
 // Whether two texts spell the same CRS, at this level.
 #[derive(Drop)]
 struct SameAnswer<'t> {
     level: Level,
-    first: &'t [u8],
-    second: &'t [u8],
+    a: &'t [u8],
+    b: &'t [u8],
 }
 
 impl Answer for SameAnswer<'_> {
     ghost use Rattle.crs_same_run.specs.SameOutput.{IsSameOutput};
 
-    ghost Output = { λ s written status. IsSameOutput s.level s.first.now s.second.now written status };
+    ghost Output = { λ s written status. IsSameOutput s.level s.a.now s.b.now written status };
 
     fn output(&self, alloc: Global) -> Result<(Vec<u8>, u8), AllocError> {
-        pair_output(alloc, InALine, self.level, self.first, self.second)
+        pair_output(alloc, InALine, self.level, self.a, self.b)
     }
 }
 
@@ -90,14 +85,8 @@ fn part_output(alloc: Global, found: Option<Path>) -> Result<(Vec<u8>, u8), Allo
     ensures { IfOk result (λ output. WritesPart found output.0.items output.1) }
 {
     match found {
-        None => {
-            let line = Vec::from_slice(alloc, b"same\n")?;
-            Ok((line, 0))
-        }
-        Some(path) => {
-            let line = different_line(alloc, &path)?;
-            Ok((line, 1))
-        }
+        None => Ok((Vec::from_slice(alloc, b"same\n")?, 0)),
+        Some(path) => Ok((different_line(alloc, &path)?, 1)),
     }
 }
 
@@ -105,16 +94,8 @@ fn part_output(alloc: Global, found: Option<Path>) -> Result<(Vec<u8>, u8), Allo
 fn different_line(alloc: Global, path: &Path) -> Result<Vec<u8>, AllocError>
     ensures { IfOk result (λ line. line.items ≡ (codes "different " ++ path_text path.now) ++ 10 ∷ []) }
 {
-    let mut line = Vec::new(alloc);
-    append_different(&mut line, path)?;
+    let mut line = Vec::from_slice(alloc, b"different ")?;
+    path.write(&mut line)?;
+    line.push(b'\n')?;
     Ok(line)
-}
-
-fn append_different(line: &mut Vec<u8>, path: &Path) -> Result<(), AllocError>
-    requires { line.old.items ≡ [] }
-    ensures { IfOk result (λ _. line.new.items ≡ (codes "different " ++ path_text path.now) ++ 10 ∷ []) }
-{
-    line.extend_from_slice(b"different ")?;
-    path.write(line)?;
-    line.push(b'\n').map_err(AllocError::from)
 }
