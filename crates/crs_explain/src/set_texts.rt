@@ -16,6 +16,7 @@ ghost use Rattle.crs_explain.specs.DifferingSets.{unless_empty};
 
 use crate::difference_texts::{At, DifferenceTexts};
 use crs_canon::{append_lacking_members, append_unit, append_unpaired, named_once, paired_names};
+use crs_decimal::Decimal;
 use crs_matching::{same_idents, same_units_as, same_value};
 use crs_same::Content;
 use crs_value::{Ident, Level, List, Parameter, Unit, UnitKind};
@@ -65,7 +66,7 @@ impl Sets<'_, '_> {
                 let path = parameter_path(alloc, path, name)?;
                 let path = path.as_slice();
                 let at = At { alloc, level, path };
-                Pair { at, a, b }.append(out)
+                at.append_parameter(a, b, out)
             }
             (None, None) | (None, Some(_)) | (Some(_), None) => Ok(()),
         }
@@ -124,68 +125,73 @@ fn parameter_path(alloc: Global, path: &[u8], name: &[u8]) -> Result<Vec<u8>, Al
     Ok(text)
 }
 
-// Two parameters of one name.
-#[derive(Clone, Copy)]
-struct Pair<'f, 'p, 'a> {
-    at: At<'f>,
-    a: &'p Parameter<'a>,
-    b: &'p Parameter<'a>,
-}
-
-impl Pair<'_, '_, '_> {
-    fn append(self, out: &mut Vec<DifferenceTexts>) -> Result<(), AllocError>
-        ensures { OnOk result (AppendsTexts (AreTextsOfParts self.entry.at.level self.entry.at.path.now
-            (parts_of_parameter self.entry.at.level self.entry.a.now self.entry.b.now)) out.old.items out.new.items) }
+impl At<'_> {
+    fn append_parameter<'a>(
+        self,
+        a: &Parameter<'a>,
+        b: &Parameter<'a>,
+        out: &mut Vec<DifferenceTexts>,
+    ) -> Result<(), AllocError>
+        ensures { OnOk result (AppendsTexts (AreTextsOfParts self.entry.level self.entry.path.now
+            (parts_of_parameter self.entry.level a.now b.now)) out.old.items out.new.items) }
     {
-        self.append_value(out)?;
-        self.append_units(out)?;
-        self.append_identifiers(out)
+        self.append_value(&a.value, &b.value, out)?;
+        self.append_units(a.unit.as_ref(), b.unit.as_ref(), out)?;
+        self.append_identifiers(&a.identifiers, &b.identifiers, out)
     }
 
-    fn append_value(self, out: &mut Vec<DifferenceTexts>) -> Result<(), AllocError>
-        ensures { OnOk result (AppendsTexts (AreTextsOfParts self.entry.at.level self.entry.at.path.now
-            (numbers [] self.entry.a.now.value self.entry.b.now.value)) out.old.items out.new.items) }
+    fn append_value(
+        self,
+        a: &Decimal,
+        b: &Decimal,
+        out: &mut Vec<DifferenceTexts>,
+    ) -> Result<(), AllocError>
+        ensures { OnOk result (AppendsTexts (AreTextsOfParts self.entry.level self.entry.path.now
+            (numbers [] a.now b.now)) out.old.items out.new.items) }
     {
-        let (a, b) = (self.a, self.b);
-        if same_value(&a.value, &b.value) {
+        if same_value(a, b) {
             return Ok(());
         }
-        let (a, b) = (Content::Number(a.value), Content::Number(b.value));
-        self.at.append_one(&a, &b, out)
+        self.append_one(&Content::Number(*a), &Content::Number(*b), out)
     }
 
-    fn append_units(self, out: &mut Vec<DifferenceTexts>) -> Result<(), AllocError>
-        ensures { OnOk result (AppendsTexts (AreTextsOfParts self.entry.at.level self.entry.at.path.now
-            (units (step.Unit ∷ []) self.entry.at.level kinds.Plain kinds.Plain self.entry.a.now.unit self.entry.b.now.unit))
+    fn append_units<'a>(
+        self,
+        a: Option<&Unit<'a>>,
+        b: Option<&Unit<'a>>,
+        out: &mut Vec<DifferenceTexts>,
+    ) -> Result<(), AllocError>
+        ensures { OnOk result (AppendsTexts (AreTextsOfParts self.entry.level self.entry.path.now (units (step.Unit ∷ [])
+            self.entry.level kinds.Plain kinds.Plain (option_copied a.entry) (option_copied b.entry)))
             out.old.items out.new.items) }
     {
-        let (a, b) = (self.a, self.b);
-        let (a, b) = (a.unit.as_ref(), b.unit.as_ref());
-        if same_units_as(UnitKind::Plain, a, b, self.at.level) {
+        if same_units_as(UnitKind::Plain, a, b, self.level) {
             return Ok(());
         }
         out.push(DifferenceTexts {
-            path: behind(self.at, b"/unit")?,
-            first: unit_text(self.at, a)?,
-            second: unit_text(self.at, b)?,
+            path: behind(self, b"/unit")?,
+            first: unit_text(self, a)?,
+            second: unit_text(self, b)?,
         })?;
         Ok(())
     }
 
-    fn append_identifiers(self, out: &mut Vec<DifferenceTexts>) -> Result<(), AllocError>
-        ensures { OnOk result (AppendsTexts (AreTextsOfParts self.entry.at.level self.entry.at.path.now
-            (identifiers (step.Id ∷ []) self.entry.at.level self.entry.a.now.identifiers self.entry.b.now.identifiers))
-            out.old.items out.new.items) }
+    fn append_identifiers<'a>(
+        self,
+        a: &List<Ident<'a>>,
+        b: &List<Ident<'a>>,
+        out: &mut Vec<DifferenceTexts>,
+    ) -> Result<(), AllocError>
+        ensures { OnOk result (AppendsTexts (AreTextsOfParts self.entry.level self.entry.path.now
+            (identifiers (step.Id ∷ []) self.entry.level a.now b.now)) out.old.items out.new.items) }
     {
-        let (a, b) = (self.a, self.b);
-        let (a, b) = (&a.identifiers, &b.identifiers);
-        if same_idents(a, b, self.at.level) {
+        if same_idents(a, b, self.level) {
             return Ok(());
         }
         out.push(DifferenceTexts {
-            path: behind(self.at, b"/id")?,
-            first: identifiers_text(self.at, a, b)?,
-            second: identifiers_text(self.at, b, a)?,
+            path: behind(self, b"/id")?,
+            first: identifiers_text(self, a, b)?,
+            second: identifiers_text(self, b, a)?,
         })?;
         Ok(())
     }
