@@ -1,4 +1,4 @@
-use Rattle.std.proofs.Common.{◌≡◌, ◌++◌, ◌∙◌, [], ap, rules, subst, sym}
+use Rattle.std.proofs.Common.{◌≡◌, ◌∙◌, ap, rules, subst}
 use Rattle.crs_value.specs.Kept.{kept}
 use Rattle.crs_same.specs.declared.content.Content.TheVariants as content
 use Rattle.crs_canon.specs.ContentText.{IsContentText}
@@ -7,11 +7,9 @@ use Rattle.crs_explain.proofs.set_texts.identifiers_text.Goals as goal
 pub returns : goal.returns
 returns c =
     let level = c.args.at.level in
-    let appended = c.in_ok-append_lacking_members.ensures in
-    let none : c.new-text.result.items ≡ [] = search rules in
-    let same = appended.appended ∙ ap (λ text. text ++ appended.spelling) none in
+    let text = c.append_lacking_members.new.out.items in
     let these : c.kept-these.result.now ≡ kept level c.args.these.now = c.kept-these.ensures ∙ ap (kept level) c.as_slice.ensures in
     let others : c.kept-others.result.now ≡ kept level c.args.others.now = c.kept-others.ensures ∙ ap (kept level) c.as_slice-2.ensures in
-    subst (λ text. IsContentText level (content.Identifiers (kept level c.args.these.now) (kept level c.args.others.now)) text) (sym same)
-    (subst (λ xs. IsContentText level (content.Identifiers xs (kept level c.args.others.now)) appended.spelling) these
-    (subst (λ ys. IsContentText level (content.Identifiers c.kept-these.result.now ys) appended.spelling) others appended.is_spelling))
+    let is : IsContentText level (content.Identifiers c.kept-these.result.now c.kept-others.result.now) text = search rules in
+    subst (λ xs. IsContentText level (content.Identifiers xs (kept level c.args.others.now)) text) these
+    (subst (λ ys. IsContentText level (content.Identifiers c.kept-these.result.now ys) text) others is)
