@@ -1,13 +1,12 @@
 -- The canonical text that is written from the items of an accepted text.
 use Rattle.std.proofs.Common.{◌≡◌, ℕ, List, [], ◌++◌, Some, sym, ap, subst, ◌∙◌}
-use Rattle.crs_text.specs.Items.{Item}
-use Rattle.crs_shape.specs.ShapeFault.{class_of_root}
+use Rattle.crs_text.specs.Prelude.{Item}
+use Rattle.crs_shape.specs.Prelude.{class_of_root}
 use Rattle.crs_shape.specs.declared.class.Class.{Class}
-use Rattle.crs_value.specs.ReadsCrs.{ReadsCrs}
-use Rattle.crs_value.specs.Spells.{SpellsCrs}
+use Rattle.crs_value.specs.Prelude.{ReadsCrs, SpellsCrs}
 use Rattle.crs_value.specs.declared.values.crs.Crs.{Crs}
 use Rattle.crs_value.specs.declared.values.level.Level.{Level}
-use Rattle.crs_writer.specs.CrsText.{crs_text}
+use Rattle.crs_writer.specs.Prelude.{crs_text}
 use Rattle.crs_leaves.specs.Direct.{IsRead, Writes}
 
 pub from-items : (level : Level) (item root : Item) (c : Class) (old bytes : List ℕ) (crs : Crs) → root ≡ item → old ≡ [] →

@@ -2,7 +2,7 @@
 use Rattle.std.proofs.Common.{◌≡◌, ◌∙◌, List, Option, Result, Ok, Err, MatchResult, ℕ, inl, inr, ap}
 use Rattle.crs_value.specs.declared.values.crs.Crs.{Crs}
 use Rattle.crs_value.specs.declared.values.level.Level.{Level}
-use Rattle.crs_value.specs.SpellsText.{Spells}
+use Rattle.crs_value.specs.Prelude.{Spells}
 use Rattle.crs_same.specs.declared.step.Step.{Step}
 use Rattle.crs_calls.specs.declared.refused.Refused.{Refused}
 use Rattle.crs_calls.specs.Answers.{Answer, AnswerPlaces}

@@ -2,15 +2,11 @@
 use Rattle.std.proofs.Common.{◌≡◌, ◌∙◌, ℕ, List, refl, sym, ap}
 use Rattle.crs_shape.specs.declared.unit_kind.UnitKind.{UnitKind}
 use Rattle.crs_shape.specs.declared.unit_kind.UnitKind.TheVariants as kinds
-use Rattle.crs_shape.specs.UnitKinds.{kind_as}
-use Rattle.crs_value.specs.Reads.{ReadsUnit}
-use Rattle.crs_value.specs.Sound.{IsUnit}
-use Rattle.crs_value.specs.Values.{UnitParts}
+use Rattle.crs_shape.specs.Prelude.{kind_as}
+use Rattle.crs_value.specs.Prelude.{ReadsUnit, IsUnit, UnitParts}
 use Rattle.crs_value.specs.declared.values.level.Level.{Level}
-use Rattle.crs_matching.specs.SameUnits.{SameUnit}
-use Rattle.crs_normal.specs.PartSpellings.{IsSpelledUnit, unit_class}
-use Rattle.crs_normal.specs.SpelledAs.{IsSpelledAs}
-use Rattle.crs_normal.specs.SpelledUnits.{norm_unit}
+use Rattle.crs_matching.specs.Prelude.{SameUnit}
+use Rattle.crs_normal.specs.Prelude.{IsSpelledUnit, unit_class, IsSpelledAs, norm_unit}
 
 -- a unit where this kind is asked, by itself: `UNIT` is of that kind
 abbrev pub as_asked : UnitKind → UnitParts → UnitParts

@@ -8,11 +8,9 @@ use Rattle.std.proofs.lemmas.Map.Text.{is_eq-slice_cmp}
 use Rattle.std.proofs.lemmas.Slice.Eq.{bytes_eq-Decides}
 use Rattle.std.proofs.lemmas.Bool.{false≢true}
 use Rattle.crs_value.specs.Sound.{Each}
-use Rattle.crs_normal.specs.Ascending.{Ascends, Below, IsIn}
-use Rattle.crs_normal.specs.Ordered.{in_order}
+use Rattle.crs_normal.specs.Prelude.{Ascends, Below, IsIn, in_order}
 use Rattle.crs_canon.specs.ContentText.{IsLackingText}
-use Rattle.crs_writer.specs.Members.{ArePut, lacking, spellings}
-use Rattle.crs_writer.specs.SetText.{SpellsOneOf, comma_separated}
+use Rattle.crs_writer.specs.Prelude.{ArePut, lacking, spellings, SpellsOneOf, comma_separated}
 use Rattle.crs_writer.proofs.SetLemmas.{compared}
 use Rattle.crs_canon.proofs.SetTextLemmas.{spellings-tell}
 

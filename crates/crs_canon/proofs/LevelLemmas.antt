@@ -1,14 +1,13 @@
 -- Canonical texts at the two levels.
 use Rattle.std.proofs.Common.{◌≡◌, ◌↔◌, ℕ, List, subst}
-use Rattle.crs_value.specs.SoundCrs.{IsCrs}
-use Rattle.crs_value.specs.SpellsText.{Spells}
+use Rattle.crs_value.specs.Prelude.{IsCrs, Spells}
 use Rattle.crs_value.specs.declared.values.crs.Crs.{Crs}
 use Rattle.crs_value.specs.declared.values.level.Level.{Level}
 use Rattle.crs_value.specs.declared.values.level.Level.TheVariants as levels
-use Rattle.crs_same.specs.SameCrs.{SameCrs}
-use Rattle.crs_matching.specs.Sameness.{IsSamenessOf}
-use Rattle.crs_normal.specs.Normal.{IsNormalText}
-use Rattle.crs_writer.specs.Canonical.{IsCanonicalOf, IsCanonicalText}
+use Rattle.crs_same.specs.Prelude.{SameCrs}
+use Rattle.crs_matching.specs.Prelude.{IsSamenessOf}
+use Rattle.crs_normal.specs.Prelude.{IsNormalText}
+use Rattle.crs_writer.specs.Prelude.{IsCanonicalOf, IsCanonicalText}
 
 module _ (laws : (level : Level) → IsSamenessOf IsCrs (SameCrs level)) (sound : (text : List ℕ) (crs : Crs) → Spells text crs → IsCrs crs)
     (once : (text : List ℕ) (a b : Crs) → Spells text a → Spells text b → a ≡ b)

@@ -1,16 +1,14 @@
 -- Parameters by their names: which stands alone, the names in order, and the spellings of some.
-use Rattle.std.proofs.Common.{◌≡◌, ◌↔◌, ◌∙◌, ◌&&◌, ℕ, Bool, true, false, cond, if◌then◌else◌, Option, Some, None, List, [], ◌∷◌, filter, map, inl, inr, refl, sym, ap, subst}
+use Rattle.std.proofs.Common.{◌≡◌, ◌↔◌, ◌∙◌, ◌&&◌, ℕ, Bool, true, false, cond, if◌then◌else◌, Option, Some, None, List, [], ◌∷◌, filter, map, inl, inr, refl, sym, ap, subst, nat_le, length}
 use Rattle.std.specs.Option.{is_some}
-use Rattle.std.specs.Prelude.{nat_le, length}
 use Rattle.std.specs.Str.{bytes_eq}
 use Rattle.std.proofs.lemmas.Slice.Eq.{bytes_eq-Decides}
 use Rattle.std.proofs.lemmas.Bool.{false≢true}
-use Rattle.crs_value.specs.ConversionValues.{ParameterParts}
-use Rattle.crs_normal.specs.Ascending.{Ascends, IsIn}
-use Rattle.crs_normal.specs.Ordered.{in_order, put, put_all}
+use Rattle.crs_value.specs.Prelude.{ParameterParts}
+use Rattle.crs_normal.specs.Prelude.{Ascends, IsIn, in_order, put, put_all}
 use Rattle.crs_canon.specs.Named.{ArePairedNames, is_paired, named_once, of_name, only}
 use Rattle.crs_canon.specs.PairedNames.{names_paired}
-use Rattle.crs_writer.specs.Members.{AreSpellingsOf, IsOnlySpelling}
+use Rattle.crs_writer.specs.Prelude.{AreSpellingsOf, IsOnlySpelling}
 
 -- ---- members that pass a test
 

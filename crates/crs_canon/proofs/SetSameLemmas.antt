@@ -2,11 +2,9 @@
 -- same.
 use Rattle.std.proofs.Common.{◌≡◌, ◌↔◌, ◌⊎◌, ℕ, List, [], ◌∷◌, ◌++◌, inl, inr, refl, sym, ◌∙◌, ap, subst}
 use Rattle.crs_value.specs.Sound.{Each}
-use Rattle.crs_matching.specs.Sets.{AllHaveSame, HasSame, SameSet}
-use Rattle.crs_normal.specs.Ascending.{Ascends, IsIn}
-use Rattle.crs_normal.specs.CanonicalForm.{IsCanonicalForm}
-use Rattle.crs_normal.specs.Closed.{IsClosed}
-use Rattle.crs_writer.specs.SetText.{HaveOneTextWhereSame, IsSetText, SpellsOneOf, commas, comma_separated}
+use Rattle.crs_matching.specs.Prelude.{AllHaveSame, HasSame, SameSet}
+use Rattle.crs_normal.specs.Prelude.{Ascends, IsIn, IsCanonicalForm, IsClosed}
+use Rattle.crs_writer.specs.Prelude.{HaveOneTextWhereSame, IsSetText, SpellsOneOf, commas, comma_separated}
 
 -- ---- closed texts after one another
 

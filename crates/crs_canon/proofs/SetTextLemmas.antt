@@ -1,10 +1,7 @@
 -- Spellings of values that are put in order and appended are the text of their set.
 use Rattle.std.proofs.Common.{◌≡◌, ◌↔◌, ◌∙◌, ℕ, List, [], ◌∷◌, inl, inr, map, refl, sym, ap, subst}
-use Rattle.crs_normal.specs.Ascending.{Ascends, IsIn}
-use Rattle.crs_normal.specs.Ordered.{in_order, put_all}
-use Rattle.crs_writer.specs.Canonical.{AppendsSpelling}
-use Rattle.crs_writer.specs.Members.{AppendsAll, AreSpellingsOf, ArePut, IsOnlySpelling}
-use Rattle.crs_writer.specs.SetText.{IsSetText, SpellsOneOf, comma_separated}
+use Rattle.crs_normal.specs.Prelude.{Ascends, IsIn, in_order, put_all}
+use Rattle.crs_writer.specs.Prelude.{AppendsSpelling, AppendsAll, AreSpellingsOf, ArePut, IsOnlySpelling, IsSetText, SpellsOneOf, comma_separated}
 
 module _ {V : Type 0} (IsSpelling : V → List ℕ → Type 0) where
   -- the spelling of a value, which has one alone

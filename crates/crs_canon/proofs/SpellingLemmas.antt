@@ -1,7 +1,7 @@
 -- What is appended as a text is appended as a spelling, where the text is one.
 use Rattle.std.proofs.Common.{◌≡◌, ◌++◌, ◌∙◌, [], ℕ, List, MatchResult, Ok, Err, Result, ap, if◌then◌else◌}
 use Rattle.std.specs.Result.{is_ok}
-use Rattle.crs_writer.specs.Canonical.{AppendsSpelling}
+use Rattle.crs_writer.specs.Prelude.{AppendsSpelling}
 
 pub appended : {T E : Type 0} (IsSpelling : List ℕ → Type 0) (before after text : List ℕ) (r : Result T E) →
     MatchResult r (λ _. after ≡ before ++ text) (λ _. after ≡ before) → IsSpelling text →

@@ -1,17 +1,15 @@
 -- What becomes of a catalogue when a further line is placed.
-use Rattle.std.proofs.Common.{◌≡◌, ◌⊎◌, ◌<◌, ◌≤◌, ◌++◌, Bool, false, ◌∷◌, [], ℕ, zero, suc, List, Some, length, slice_get, slice_set, inl, inr, ap, subst, sym, refl, ◌∙◌, arith, add-one, length-append, Result, Ok, Err}
+use Rattle.std.proofs.Common.{◌≡◌, ◌⊎◌, ◌<◌, ◌≤◌, ◌++◌, Bool, false, ◌∷◌, [], ℕ, zero, suc, List, Some, length, slice_get, slice_set, inl, inr, ap, subst, sym, refl, ◌∙◌, arith, add-one, length-append, Result, Ok, Err, IfOk, OnOk}
 use Rattle.std.proofs.lemmas.Option.{slice_get-map, slice_get_within}
 use Rattle.std.specs.Option.{option_map}
 use Rattle.std.proofs.lemmas.List.{append-nil, length-set, map-append}
-use Rattle.crs_text.specs.Refusal.{RefusedAt}
-use Rattle.crs_text.specs.Tokens.{IsWhite, is_white}
+use Rattle.crs_text.specs.Prelude.{RefusedAt, IsWhite, is_white}
 use Rattle.crs_text.specs.declared.fault.Fault.{Fault}
 use Rattle.std.specs.List.{list_all}
-use Rattle.std.specs.Prelude.{IfOk, OnOk}
 use Rattle.std.specs.declared.alloc.AllocError.{AllocError}
-use Rattle.crs_value.specs.SpellsText.{Refuses, IsFaultOfText}
+use Rattle.crs_value.specs.Prelude.{Refuses, IsFaultOfText}
 use Rattle.crs_value.specs.declared.values.level.Level.{Level}
-use Rattle.crs_writer.specs.Canonical.{CanonicalText, IsCanonicalOf}
+use Rattle.crs_writer.specs.Prelude.{CanonicalText, IsCanonicalOf}
 use Rattle.crs_canon.specs.MainTheorem.{IsAccepted, MainTheorem}
 use Rattle.crs_rules.specs.Rules.{RulesParts}
 use Rattle.crs_rules.specs.Under.{IsForm}

@@ -1,11 +1,8 @@
 -- Bytes are cut into lines, one piece further.
-use Rattle.std.proofs.Common.{◌≡◌, ◌+◌, ◌<◌, ◌≤◌, ◌++◌, ◌∷◌, [], ℕ, Bool, List, true, false, length, ap, subst, sym, refl, ◌∙◌, arith, append_assoc, append-nil, inl, inr, length-append}
-use Rattle.std.specs.Prelude.{◌==◌}
+use Rattle.std.proofs.Common.{◌≡◌, ◌+◌, ◌<◌, ◌≤◌, ◌++◌, ◌∷◌, [], ℕ, Bool, List, true, false, length, ap, subst, sym, refl, ◌∙◌, arith, append_assoc, append-nil, inl, inr, length-append, ◌==◌}
 use Rattle.crs_catalogue.specs.GroupCutting.{CutterParts, IsCutFault, IsCutTo, IsKept, IsLedgerFor, IsLedgerOf, IsNextLine, IsNotKept, LedgerParts, no_lines}
 use Rattle.crs_streams.specs.declared.fault.RunFault.{RunFault}
-use Rattle.crs_streams.specs.EndedLines.{AreEnded}
-use Rattle.crs_streams.specs.Lines.{AreLines, HasNoFeed, IsSplit}
-use Rattle.crs_streams.specs.LongLines.{HasShortLines, IsTooLong}
+use Rattle.crs_streams.specs.Prelude.{AreEnded, AreLines, HasNoFeed, IsSplit, HasShortLines, IsTooLong}
 use Rattle.crs_streams.proofs.FeedLemmas.{ended-begins, ended-feeds, ended-fits, ended-last, ended-lines, ended-more, none-kept, short-ended, short-line, short-more, some-kept}
 use Rattle.crs_streams.proofs.SplitLemmas.{plain-append}
 use Rattle.crs_value.specs.declared.values.level.Level.{Level}

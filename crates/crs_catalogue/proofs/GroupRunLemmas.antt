@@ -1,16 +1,14 @@
 -- What the source of a run has given, and what the two halves of the run say of the whole.
-use Rattle.std.proofs.Common.{◌≡◌, ◌∙◌, ◌+◌, ◌<◌, ◌≤◌, ◌*◌, ◌^◌, ℕ, Bool, List, false, ap, subst, sym, arith, is_ok, true≢false, Result, Ok, Err}
-use Rattle.std.specs.Prelude.{IfOk, IsErr, MatchResult}
+use Rattle.std.proofs.Common.{◌≡◌, ◌∙◌, ◌+◌, ◌<◌, ◌≤◌, ◌*◌, ◌^◌, ℕ, Bool, List, false, ap, subst, sym, arith, is_ok, true≢false, Result, Ok, Err, IfOk, IsErr, MatchResult}
 use Rattle.std.specs.Io.KnownBytes.{ReadConsumes}
 use Rattle.crs_catalogue.specs.GroupCutting.{CutterParts, IsCutFault, IsCutTo, IsLedgerFor, LedgerParts}
 use Rattle.crs_value.specs.declared.values.level.Level.{Level}
 use Rattle.crs_catalogue.specs.GroupOutput.{IsGroupOutputBy, catalogue_text}
 use Rattle.crs_catalogue.specs.GroupReading.{IsLedgerWhole, IsReadInto, WritesLedger}
-use Rattle.crs_streams.specs.Given.{GivesShortLines, HasGiven}
+use Rattle.crs_streams.specs.Prelude.{GivesShortLines, HasGiven, CountsRead, SinkState, SourceState}
 use Rattle.crs_catalogue.specs.GroupRun.{IsGroupedBy, IsReadingFault}
 use Rattle.crs_catalogue.specs.declared.listing.Listing.{Listing}
 use Rattle.crs_catalogue.specs.declared.summary.Summary.{Summary}
-use Rattle.crs_streams.specs.Streams.{CountsRead, SinkState, SourceState}
 use Rattle.crs_streams.specs.declared.fault.RunFault.{RunFault}
 use Rattle.crs_streams.specs.declared.fault.RunFault.TheVariants.{ReadFailed, WriteFailed, TooLong, TooManyReads, Memory}
 use Rattle.crs_catalogue.proofs.GroupCutLemmas.{cut-fits, cut-short}

@@ -1,6 +1,5 @@
 -- What is remembered of texts stays known as groups grow, and what is known of a text is how it is put.
-use Rattle.std.proofs.Common.{◌≡◌, ◌<◌, ◌≤◌, ◌+◌, ◌-◌, ◌++◌, ◌∷◌, [], ℕ, zero, suc, List, Option, Some, None, Result, Ok, Err, length, get_or, slice_get, slice_set, inl, inr, ap, subst, sym, refl, ◌∙◌, arith, add-one}
-use Rattle.std.specs.Prelude.{All, IfOk, IfSome}
+use Rattle.std.proofs.Common.{◌≡◌, ◌<◌, ◌≤◌, ◌+◌, ◌-◌, ◌++◌, ◌∷◌, [], ℕ, zero, suc, List, Option, Some, None, Result, Ok, Err, length, get_or, slice_get, slice_set, inl, inr, ap, subst, sym, refl, ◌∙◌, arith, add-one, All, IfOk, IfSome}
 use Rattle.std.specs.List.{HoldsAt}
 use Rattle.std.specs.Option.{option_map}
 use Rattle.std.specs.declared.alloc.AllocError.{AllocError}
@@ -8,7 +7,7 @@ use Rattle.std.proofs.lemmas.List.{length-map, map-append}
 use Rattle.std.proofs.lemmas.List.Elements.{All-nil, All-same, All-set}
 use Rattle.std.proofs.lemmas.Option.{slice_get-map, slice_get_within}
 use Rattle.crs_value.specs.declared.values.level.Level.{Level}
-use Rattle.crs_writer.specs.Canonical.{CanonicalText, IsCanonicalOf}
+use Rattle.crs_writer.specs.Prelude.{CanonicalText, IsCanonicalOf}
 use Rattle.crs_placed.specs.Catalogue.{GroupParts, canons}
 use Rattle.crs_placed.specs.Putting.{IsJoined, IsPut, group_of, with_line}
 use Rattle.crs_placed.specs.declared.placed.Placed.{Placed}

@@ -1,15 +1,14 @@
 -- A ledger gets one more line.
-use Rattle.std.proofs.Common.{◌≡◌, ◌+◌, ◌++◌, ◌∷◌, [], ℕ, List, Bool, true, false, length, ap, subst, sym, refl, ◌∙◌, arith, length-append}
-use Rattle.std.specs.Prelude.{cond}
+use Rattle.std.proofs.Common.{◌≡◌, ◌+◌, ◌++◌, ◌∷◌, [], ℕ, List, Bool, true, false, length, ap, subst, sym, refl, ◌∙◌, arith, length-append, cond}
 use Rattle.std.specs.List.{list_all}
 use Rattle.std.proofs.lemmas.Bool.{cond-true}
 use Rattle.std.proofs.lemmas.List.{length-map, map-append}
 use Rattle.std.proofs.lemmas.List.Sums.{sum_by-append}
-use Rattle.crs_text.specs.Tokens.{is_white}
+use Rattle.crs_text.specs.Prelude.{is_white}
 use Rattle.crs_placed.specs.Catalogue.{CatalogueParts, Line, line_of}
 use Rattle.crs_catalogue.specs.GroupCutting.{IsLedgerOf, IsNamed, LedgerParts, blank_count, no_lines, text_in}
 use Rattle.crs_catalogue.specs.GroupTexts.{IsCatalogueBy, IsCatalogueOfBy, then_line}
-use Rattle.crs_streams.specs.Lines.{blank_in}
+use Rattle.crs_streams.specs.Prelude.{blank_in}
 use Rattle.crs_catalogue.specs.GroupOutput.{numbered}
 use Rattle.crs_catalogue.specs.Names.{name_of, names_from, names_in, text_behind, texts_in}
 use Rattle.crs_value.specs.Sound.{Each}

@@ -1,7 +1,6 @@
 -- Members of lists that grow, or change at a place.
-use Rattle.std.proofs.Common.{◌≡◌, ◌⊎◌, ◌++◌, ◌∷◌, [], ℕ, zero, suc, List, Some, None, length, slice_get, slice_set, map, inl, inr, ap, sym, refl, ◌∙◌, arith, eq-eqb}
+use Rattle.std.proofs.Common.{◌≡◌, ◌⊎◌, ◌++◌, ◌∷◌, [], ℕ, zero, suc, List, Some, None, length, slice_get, slice_set, map, inl, inr, ap, sym, refl, ◌∙◌, arith, eq-eqb, ◌==◌, if◌then◌else◌}
 use Rattle.std.proofs.lemmas.Bool.{ne_eqb}
-use Rattle.std.specs.Prelude.{◌==◌, if◌then◌else◌}
 use Rattle.crs_placed.specs.Catalogue.{nth}
 use Rattle.crs_value.specs.Sound.{Each}
 

@@ -3,12 +3,11 @@
 use Rattle.std.proofs.Common.{◌≡◌, ◌⊎◌, ◌<◌, ◌≤◌, ◌∷◌, [], ℕ, suc, List, Some, length, map, slice_get, inl, inr, ap, subst, sym, refl, ◌∙◌, arith}
 use Rattle.std.proofs.lemmas.Bool.{cases_lt}
 use Rattle.std.proofs.lemmas.Option.{slice_get_within}
-use Rattle.crs_text.specs.Refusal.{RefusedAt}
-use Rattle.crs_text.specs.Tokens.{IsWhite}
-use Rattle.crs_value.specs.SpellsText.{Spells, Refuses}
+use Rattle.crs_text.specs.Prelude.{RefusedAt, IsWhite}
+use Rattle.crs_value.specs.Prelude.{Spells, Refuses}
 use Rattle.crs_value.specs.declared.values.crs.Crs.{Crs}
 use Rattle.crs_value.specs.declared.values.level.Level.{Level}
-use Rattle.crs_writer.specs.Canonical.{IsCanonicalOf}
+use Rattle.crs_writer.specs.Prelude.{IsCanonicalOf}
 use Rattle.crs_canon.specs.MainTheorem.{MainTheorem}
 use Rattle.crs_placed.specs.Catalogue.{CatalogueParts, GroupParts, Line, canons}
 use Rattle.crs_catalogue.specs.GroupTexts.{IsCatalogue, IsCatalogueOf, IsUnder}

@@ -1,12 +1,11 @@
 -- What is one group at the full level is in one group by definition.
 use Rattle.std.proofs.Common.{◌≡◌, ◌∷◌, [], ℕ, zero, suc, List, Some, map, slice_get, ap, subst, sym, refl, ◌∙◌}
-use Rattle.crs_text.specs.Refusal.{RefusedAt}
-use Rattle.crs_text.specs.Tokens.{IsWhite}
+use Rattle.crs_text.specs.Prelude.{RefusedAt, IsWhite}
 use Rattle.crs_value.specs.Sound.{Each}
-use Rattle.crs_value.specs.SpellsText.{Spells, Refuses}
+use Rattle.crs_value.specs.Prelude.{Spells, Refuses}
 use Rattle.crs_value.specs.declared.values.crs.Crs.{Crs}
 use Rattle.crs_value.specs.declared.values.level.Level.TheVariants as levels
-use Rattle.crs_same.specs.SameCrs.{SameCrs}
+use Rattle.crs_same.specs.Prelude.{SameCrs}
 use Rattle.crs_canon.specs.MainTheorem.{IsAccepted}
 use Rattle.crs_placed.specs.Catalogue.{CatalogueParts, Line}
 use Rattle.crs_placed.specs.declared.placed.Placed.{Placed}

@@ -1,6 +1,5 @@
 -- Words for which the definition gives no kind of error are words that it takes.
-use Rattle.std.proofs.Common.{◌≡◌, ℕ, List, [], ◌∷◌, length, Option, Some, None, Bool, true, false, not, ◌&&◌, ◌||◌, ◌⊎◌, inl, inr, cond, refl, codes, arith, zero, suc, nat_le, nat_lt, is_some, drop, subst}
-use Rattle.std.specs.Prelude.{find, ◌==◌, encode_utf8, slice_get}
+use Rattle.std.proofs.Common.{◌≡◌, ℕ, List, [], ◌∷◌, length, Option, Some, None, Bool, true, false, not, ◌&&◌, ◌||◌, ◌⊎◌, inl, inr, cond, refl, codes, arith, zero, suc, nat_le, nat_lt, is_some, drop, subst, find, ◌==◌, encode_utf8, slice_get}
 use Rattle.std.specs.List.{list_all, list_any}
 use Rattle.std.specs.Option.{option_map_or}
 use Rattle.std.specs.Str.{bytes_eq, chars}

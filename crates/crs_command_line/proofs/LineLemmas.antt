@@ -1,6 +1,5 @@
 -- Which lines are taken, word by word.
-use Rattle.std.proofs.Common.{◌≡◌, ◌≢◌, ◌<◌, ap₂, nat_lt, subst, ℕ, List, [], ◌∷◌, ◌++◌, length, Option, Some, None, Bool, true, false, not, ◌&&◌, ◌||◌, arith, cond, refl, codes, zero, suc, drop, ap, ◌∙◌, append-nil, append_assoc, is_some, sym, true≢false, option_and_then}
-use Rattle.std.specs.Prelude.{◌==◌, encode_utf8, slice_get}
+use Rattle.std.proofs.Common.{◌≡◌, ◌≢◌, ◌<◌, ap₂, nat_lt, subst, ℕ, List, [], ◌∷◌, ◌++◌, length, Option, Some, None, Bool, true, false, not, ◌&&◌, ◌||◌, arith, cond, refl, codes, zero, suc, drop, ap, ◌∙◌, append-nil, append_assoc, is_some, sym, true≢false, option_and_then, ◌==◌, encode_utf8, slice_get}
 use Rattle.std.specs.Option.{option_map, option_map_or}
 use Rattle.std.specs.Str.{bytes_eq, chars, chars_after, continuation_len, lead_bits}
 use Rattle.std.proofs.lemmas.Bool.{eqb-true, lt-ltb}

@@ -1,6 +1,5 @@
 -- Both texts of `same` are there where the command takes the line: no row of its matches is without a value.
-use Rattle.std.proofs.Common.{◌≡◌, ℕ, List, [], ◌∷◌, ◌++◌, length, Option, Some, None, IsSome, Bool, true, false, not, ◌&&◌, ◌||◌, cond, refl, codes, zero, suc, drop, is_some, option_and_then, option_map}
-use Rattle.std.specs.Prelude.{find, encode_utf8, slice_get}
+use Rattle.std.proofs.Common.{◌≡◌, ℕ, List, [], ◌∷◌, ◌++◌, length, Option, Some, None, IsSome, Bool, true, false, not, ◌&&◌, ◌||◌, cond, refl, codes, zero, suc, drop, is_some, option_and_then, option_map, find, encode_utf8, slice_get}
 use Rattle.std.specs.List.{fold, list_all}
 use Rattle.std.specs.Option.{option_map_or}
 use Rattle.std.specs.Str.{bytes_eq, chars}

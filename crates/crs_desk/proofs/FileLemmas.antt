@@ -1,11 +1,9 @@
 -- The answer for one file, of the run over it.
-use Rattle.std.proofs.Common.{◌≡◌, ◌∙◌, ◌++◌, ◌⊎◌, ◌∷◌, [], ℕ, arith, List, Option, Some, None, true, false, ap, append-nil, append_assoc, inl, inr, refl, subst, sym}
-use Rattle.std.specs.Prelude.{IfSome, max}
+use Rattle.std.proofs.Common.{◌≡◌, ◌∙◌, ◌++◌, ◌⊎◌, ◌∷◌, [], ℕ, arith, List, Option, Some, None, true, false, ap, append-nil, append_assoc, inl, inr, refl, subst, sym, IfSome, max}
 use Rattle.std.proofs.KnownBytes.{Appends-trans}
 use Rattle.std.proofs.Math.Nat.{max-zero}
 use Rattle.std.specs.Io.KnownBytes.{Appends, Consumes}
-use Rattle.crs_streams.specs.LongLines.{EndsInFeed}
-use Rattle.crs_streams.specs.Streams.{SinkState, SourceState, fresh_sink, fresh_source}
+use Rattle.crs_streams.specs.Prelude.{EndsInFeed, SinkState, SourceState, fresh_sink, fresh_source}
 use Rattle.crs_catalogue.specs.GroupRun.{IsGroupedBy}
 use Rattle.crs_catalogue.specs.declared.summary.Summary.{Summary}
 use Rattle.crs_streams.specs.declared.fault.RunFault.{RunFault}

@@ -1,8 +1,7 @@
 -- The forms of two texts, put together from what was found out about each.
-use Rattle.std.proofs.Common.{◌≡◌, ◌⊎◌, ℕ, List, Result, Ok, Err, inr, subst, sym}
-use Rattle.std.specs.Prelude.{IsErrAnd, MatchResult}
+use Rattle.std.proofs.Common.{◌≡◌, ◌⊎◌, ℕ, List, Result, Ok, Err, inr, subst, sym, IsErrAnd, MatchResult}
 use Rattle.crs_value.specs.declared.values.level.Level.{Level}
-use Rattle.crs_writer.specs.Canonical.{CanonicalText}
+use Rattle.crs_writer.specs.Prelude.{CanonicalText}
 use Rattle.crs_rules.specs.Rules.{RulesParts}
 use Rattle.crs_rules.specs.Under.{IsForm}
 use Rattle.crs_desk.specs.RulesOutput.{IsPairUnder, Refusals}

@@ -1,11 +1,8 @@
 -- Bytes are cut into lines, one piece further, and what is written for the lines is sent or kept.
-use Rattle.std.proofs.Common.{◌≡◌, ◌⊎◌, ◌+◌, ◌<◌, ◌≤◌, ◌++◌, ◌∷◌, [], ℕ, List, Bool, true, false, Option, Some, None, cond, length, inl, inr, ap, subst, sym, refl, ◌∙◌, arith, append_assoc, append-nil, length-append, true≢false}
-use Rattle.std.specs.Prelude.{◌==◌, max}
+use Rattle.std.proofs.Common.{◌≡◌, ◌⊎◌, ◌+◌, ◌<◌, ◌≤◌, ◌++◌, ◌∷◌, [], ℕ, List, Bool, true, false, Option, Some, None, cond, length, inl, inr, ap, subst, sym, refl, ◌∙◌, arith, append_assoc, append-nil, length-append, true≢false, ◌==◌, max}
 use Rattle.std.specs.Io.KnownBytes.{Appends}
 use Rattle.std.proofs.KnownBytes.{Appends-trans}
-use Rattle.crs_streams.specs.Lines.{AreLines, HasNoFeed, IsSplit, IsTextOf}
-use Rattle.crs_streams.specs.LongLines.{EndsInFeed, HasShortLines, feeds}
-use Rattle.crs_streams.specs.Streams.{SinkState}
+use Rattle.crs_streams.specs.Prelude.{AreLines, HasNoFeed, IsSplit, IsTextOf, EndsInFeed, HasShortLines, feeds, SinkState}
 use Rattle.crs_streams.specs.declared.fault.RunFault.{RunFault}
 use Rattle.crs_streams.specs.declared.fault.RunFault.TheVariants.{ReadFailed, WriteFailed, TooLong, TooManyReads, Memory}
 use Rattle.crs_streams.proofs.FeedLemmas.{feeds-append, feeds-none, none-kept, short-ended, short-line, short-more, some-kept}

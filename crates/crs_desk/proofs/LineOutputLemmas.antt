@@ -1,8 +1,6 @@
 -- What is written for lines one after another.
-use Rattle.std.proofs.Common.{◌≡◌, ◌⊎◌, ◌+◌, ◌++◌, ◌∷◌, [], ℕ, List, length, inl, inr, ap, subst, sym, ◌∙◌, arith, append_assoc, length-append}
-use Rattle.std.specs.Prelude.{max}
-use Rattle.crs_streams.specs.Lines.{AreLines, HasNoFeed}
-use Rattle.crs_streams.specs.LongLines.{EndsInFeed, feeds}
+use Rattle.std.proofs.Common.{◌≡◌, ◌⊎◌, ◌+◌, ◌++◌, ◌∷◌, [], ℕ, List, length, inl, inr, ap, subst, sym, ◌∙◌, arith, append_assoc, length-append, max}
+use Rattle.crs_streams.specs.Prelude.{AreLines, HasNoFeed, EndsInFeed, feeds}
 use Rattle.crs_streams.proofs.FeedLemmas.{feeds-append, feeds-none}
 use Rattle.crs_desk.specs.LinesRun.{AreOutputs, IsLinesOutput, Outputs}
 

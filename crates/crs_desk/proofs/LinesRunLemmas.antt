@@ -1,11 +1,8 @@
 -- What the source of a run over lines has given, and what the two halves of the run say of the
 -- whole.
-use Rattle.std.proofs.Common.{◌≡◌, ◌+◌, ◌<◌, ◌≤◌, ◌*◌, ◌^◌, [], ℕ, List, Option, Some, None, true, false, ap, subst, sym, refl, arith, Result, Ok, Err}
-use Rattle.std.specs.Prelude.{IfErr, IfOk, IsErr}
+use Rattle.std.proofs.Common.{◌≡◌, ◌+◌, ◌<◌, ◌≤◌, ◌*◌, ◌^◌, [], ℕ, List, Option, Some, None, true, false, ap, subst, sym, refl, arith, Result, Ok, Err, IfErr, IfOk, IsErr}
 use Rattle.std.specs.Io.KnownBytes.{Consumes, ReadConsumes}
-use Rattle.crs_streams.specs.Given.{HasGiven}
-use Rattle.crs_streams.specs.LongLines.{HasShortLines}
-use Rattle.crs_streams.specs.Streams.{CountsRead, SinkState, SourceState, fresh_source}
+use Rattle.crs_streams.specs.Prelude.{HasGiven, HasShortLines, CountsRead, SinkState, SourceState, fresh_source}
 use Rattle.crs_streams.specs.declared.fault.RunFault.{RunFault}
 use Rattle.crs_streams.specs.declared.fault.RunFault.TheVariants.{ReadFailed, WriteFailed, TooLong, TooManyReads, Memory}
 use Rattle.crs_desk.specs.LinesRun.{HasBegun, IsLinesAnswered, IsLinesFault, Outputs}

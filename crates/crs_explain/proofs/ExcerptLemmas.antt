@@ -8,7 +8,7 @@ use Rattle.std.specs.List.{suffix_len}
 use Rattle.std.specs.Char.{is_ascii_whitespace}
 use Rattle.std.specs.Str.{IsTrimAsciiEnd}
 use Rattle.std.proofs.Math.Seq.{take-append_seam, drop-append_seam}
-use Rattle.crs_text.specs.Position.{feeds, IsPosition}
+use Rattle.crs_text.specs.Prelude.{feeds, IsPosition}
 use Rattle.crs_text.specs.declared.position.Position.{Position}
 use Rattle.crs_explain.specs.Excerpt.{IsExcerpt, shown_place, printed_text, blanks_below}
 

@@ -1,9 +1,7 @@
 -- What is expected at a refusal of a text whose items are read, or that has none.
 use Rattle.std.proofs.Common.{◌≡◌, ◌<◌, ℕ, List, Option, None, inl, inr, refl, subst, ◌∙◌, arith}
-use Rattle.crs_text.specs.Items.{Item}
-use Rattle.crs_text.specs.Refusal.{RefusedAt}
-use Rattle.crs_text.specs.TextFault.{SpellsNode, RefusesText}
-use Rattle.crs_shape.specs.FaultPlace.{IsShapeNumber}
+use Rattle.crs_text.specs.Prelude.{Item, RefusedAt, SpellsNode, RefusesText}
+use Rattle.crs_shape.specs.Prelude.{IsShapeNumber}
 use Rattle.crs_explain.specs.Expectation.{Expectation}
 use Rattle.crs_explain.specs.Expected.{IsExpected, IsExpectedIn}
 use Rattle.crs_explain.specs.ExpectedClasses.{IsShapeExpected}

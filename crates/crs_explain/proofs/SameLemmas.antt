@@ -1,13 +1,10 @@
 -- Two CRSs are the same exactly where no part of them differs.
-use Rattle.std.proofs.Common.{◌≡◌, ◌↔◌, ◌∷◌, [], Bool, IsTrue, List, Some, None, length, sym, ◌∙◌, arith}
-use Rattle.std.specs.Prelude.{◌==◌}
+use Rattle.std.proofs.Common.{◌≡◌, ◌↔◌, ◌∷◌, [], Bool, IsTrue, List, Some, None, length, sym, ◌∙◌, arith, ◌==◌}
 use Rattle.std.proofs.lemmas.Bool.{eqb-true}
 use Rattle.crs_value.specs.declared.values.crs.Crs.{Crs}
 use Rattle.crs_value.specs.declared.values.level.Level.{Level}
 use Rattle.crs_same.specs.declared.step.Step.{Step}
-use Rattle.crs_same.specs.Parts.{DifferenceParts}
-use Rattle.crs_same.specs.PartsOfCrs.{DifferencesInCrs, FirstInCrs}
-use Rattle.crs_same.specs.SameCrs.{SameCrs}
+use Rattle.crs_same.specs.Prelude.{DifferenceParts, DifferencesInCrs, FirstInCrs, SameCrs}
 
 pub none-differ : (level : Level) (a b : Crs) (parts : List DifferenceParts) (test : Bool) → test ≡ (length parts == 0) →
     (DifferencesInCrs level a b [] → FirstInCrs level a b None) →

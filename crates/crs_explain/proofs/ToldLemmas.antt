@@ -5,19 +5,14 @@ use Rattle.std.specs.Str.{bytes_eq}
 use Rattle.std.proofs.lemmas.Bool.{cases_Bool, false≢true}
 use Rattle.std.proofs.lemmas.Slice.Eq.{bytes_eq-Decides}
 use Rattle.crs_shape.specs.declared.unit_kind.UnitKind.TheVariants as kinds
-use Rattle.crs_value.specs.ConversionValues.{ParameterParts}
-use Rattle.crs_value.specs.Members.{IsIn}
+use Rattle.crs_value.specs.Prelude.{ParameterParts, IsIn, IsParameter}
 use Rattle.crs_value.specs.Sound.{Each}
-use Rattle.crs_value.specs.SoundConversion.{IsParameter}
 use Rattle.crs_value.specs.declared.values.level.Level.{Level}
-use Rattle.crs_matching.specs.SameConversions.{SameParameter}
-use Rattle.crs_matching.specs.Sets.{AllHaveSame, HasSame, SameSet}
-use Rattle.crs_same.specs.Parts.{DifferenceParts, Differences, Parts}
-use Rattle.crs_same.specs.SingleParts.{identifiers, numbers, units}
+use Rattle.crs_matching.specs.Prelude.{SameParameter, AllHaveSame, HasSame, SameSet}
+use Rattle.crs_same.specs.Prelude.{DifferenceParts, Differences, Parts, identifiers, numbers, units}
 use Rattle.crs_same.specs.declared.step.Step.TheVariants as step
-use Rattle.crs_normal.specs.CanonicalForm.{IsCanonicalForm}
-use Rattle.crs_normal.specs.PartSpellings.{IsSpelledParameter}
-use Rattle.crs_writer.specs.SetText.{SpellsOneOf, commas, comma_separated}
+use Rattle.crs_normal.specs.Prelude.{IsCanonicalForm, IsSpelledParameter}
+use Rattle.crs_writer.specs.Prelude.{SpellsOneOf, commas, comma_separated}
 use Rattle.crs_canon.specs.ContentText.{IsLackingText}
 use Rattle.crs_canon.specs.Named.{is_paired, named_once, unpaired}
 use Rattle.crs_canon.proofs.NamedLemmas.{both-some, in-passed, is-once, of-once}

@@ -2,19 +2,13 @@
 use Rattle.std.proofs.Common.{◌≡◌, ◌∙◌, ◌&&◌, ◌↔◌, ℕ, Bool, true, false, if◌then◌else◌, Option, Some, None, List, [], ◌∷◌, map, refl, ap, subst}
 use Rattle.std.proofs.lemmas.List.{map-append}
 use Rattle.std.specs.Option.{is_some}
-use Rattle.crs_decimal.specs.Value.{Value}
+use Rattle.crs_decimal.specs.Prelude.{Value}
 use Rattle.crs_shape.specs.declared.unit_kind.UnitKind.TheVariants as kinds
-use Rattle.crs_value.specs.ConversionValues.{ParameterParts}
-use Rattle.crs_value.specs.Kept.{kept}
-use Rattle.crs_value.specs.Members.{IsIn}
-use Rattle.crs_value.specs.Values.{IdentParts, UnitParts}
+use Rattle.crs_value.specs.Prelude.{ParameterParts, kept, IsIn, UnitParts}
+use Rattle.crs_value.specs.Values.{IdentParts}
 use Rattle.crs_value.specs.declared.values.level.Level.{Level}
-use Rattle.crs_matching.specs.SameIdents.{SameIdents}
-use Rattle.crs_matching.specs.SameUnits.{SameUnit, SameValue}
-use Rattle.crs_matching.specs.Sets.{BothOrNeither}
-use Rattle.crs_same.specs.Contents.{given}
-use Rattle.crs_same.specs.Parts.{◌⨾◌, DifferenceParts, Differences, Parts, exchanged, part}
-use Rattle.crs_same.specs.SingleParts.{identifiers, numbers, units}
+use Rattle.crs_matching.specs.Prelude.{SameIdents, SameUnit, SameValue, BothOrNeither}
+use Rattle.crs_same.specs.Prelude.{given, ◌⨾◌, DifferenceParts, Differences, Parts, exchanged, part, identifiers, numbers, units}
 use Rattle.crs_same.specs.declared.content.Content.{Content}
 use Rattle.crs_same.specs.declared.content.Content.TheVariants as content
 use Rattle.crs_same.specs.declared.step.Step.{Step}

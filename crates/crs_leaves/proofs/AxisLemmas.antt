@@ -1,12 +1,10 @@
 -- Axes that are looked for, and counted, among items.
 use Rattle.std.proofs.Common.{◌≡◌, ℕ, ◌+◌, ◌≤◌, if◌then◌else◌, List, [], ◌∷◌, Bool, false, Option, Some, None, length, refl, sym, ap, subst, arith}
-use Rattle.crs_text.specs.Items.{Item, rest_of, here}
+use Rattle.crs_text.specs.Prelude.{Item, rest_of, here}
 use Rattle.crs_shape.specs.declared.class.Class.{Class}
-use Rattle.crs_value.specs.FoundArguments.{from_found}
-use Rattle.crs_value.specs.Reading.{item_at, those, Holds, IsFound, ReadsEach}
-use Rattle.crs_value.specs.Values.{AxisParts}
+use Rattle.crs_value.specs.Prelude.{from_found, item_at, those, Holds, IsFound, ReadsEach, AxisParts}
 use Rattle.crs_value.proofs.found.ArgumentLemmas.{found-is, found-holds}
-use Rattle.crs_normal.specs.SpelledSystems.{axis_at, is_at}
+use Rattle.crs_normal.specs.Prelude.{axis_at, is_at}
 
 -- so many were seen before
 pub record Counting (tree : Item) (parent c : Class) (whole : List Item) (index : ℕ) (at : Option ℕ) : Type 0 where

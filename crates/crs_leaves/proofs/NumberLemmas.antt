@@ -1,8 +1,6 @@
 -- Numbers, as bytes spell them.
 use Rattle.std.proofs.Common.{◌≡◌, ℕ, List, Some, sym, ap, subst}
-use Rattle.crs_decimal.specs.Bounds.{Denotes}
-use Rattle.crs_decimal.specs.Fault.{IsFault}
-use Rattle.crs_decimal.specs.Value.{Value, IsNormal, exact}
+use Rattle.crs_decimal.specs.Prelude.{Denotes, IsFault, Value, IsNormal, exact}
 use Rattle.crs_decimal.specs.declared.fault.NumberFault.{NumberFault}
 use Rattle.crs_decimal.specs.declared.fault.NumberFault.TheVariants as faults
 

@@ -2,7 +2,7 @@
 use Rattle.std.proofs.Common.{◌↔◌, List, [], ◌∷◌, inl, inr, subst, sym}
 use Rattle.crs_value.specs.declared.values.level.Level.{Level}
 use Rattle.crs_value.specs.declared.values.level.Level.TheVariants as levels
-use Rattle.crs_value.specs.Members.{IsIn, AreIn, HaveSameMembers}
+use Rattle.crs_value.specs.Prelude.{IsIn, AreIn, HaveSameMembers}
 use Rattle.crs_value.specs.NamedValues.{IdentParts}
 use Rattle.crs_matching.specs.SameIdents.{SameIdent, SameIdents}
 use Rattle.crs_matching.specs.Sets.{HasSame, AllHaveSame, SameSet}

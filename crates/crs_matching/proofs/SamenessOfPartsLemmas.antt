@@ -1,11 +1,10 @@
 -- The sameness of each kind of single part.
-use Rattle.crs_decimal.specs.Number.{SameNumber}
-use Rattle.crs_decimal.specs.Value.{exact}
+use Rattle.crs_decimal.specs.Prelude.{SameNumber, exact}
 use Rattle.crs_shape.specs.declared.unit_kind.UnitKind.{UnitKind}
 use Rattle.crs_shape.specs.declared.unit_kind.UnitKind.TheVariants as kinds
 use Rattle.crs_value.specs.declared.values.level.Level.{Level}
 use Rattle.crs_value.specs.declared.values.level.Level.TheVariants as levels
-use Rattle.crs_value.specs.Kept.{kept}
+use Rattle.crs_value.specs.Prelude.{kept}
 use Rattle.crs_matching.specs.SameConversions.{SameParameter, SameGeoidModel}
 use Rattle.crs_matching.specs.SameDynamic.{SameDeformationModel}
 use Rattle.crs_matching.specs.SameFrames.{SameMember}

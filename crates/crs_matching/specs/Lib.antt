@@ -1,3 +1,4 @@
+pub mod Prelude
 pub mod SameConversions
 pub mod SameDynamic
 pub mod SameFrames

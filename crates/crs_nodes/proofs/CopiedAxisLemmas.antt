@@ -1,25 +1,16 @@
 -- Axes that are canonical as they stand are what is written of all that is read from them.
 use Rattle.std.proofs.Common.{◌≡◌, ◌≢◌, ℕ, List, [], ◌∷◌, ◌++◌, Some, None, codes, refl, sym, ap, subst, ◌∙◌}
-use Rattle.crs_decimal.specs.Plain.{plain}
-use Rattle.crs_text.specs.Items.{Item, leaf, node, End, More, kind_of_item, raw_of}
-use Rattle.crs_text.specs.Tokens.{number, text, word}
-use Rattle.crs_text.specs.Written.{item_text, others_text}
+use Rattle.crs_decimal.specs.Prelude.{plain}
+use Rattle.crs_text.specs.Prelude.{Item, leaf, node, End, More, kind_of_item, raw_of, number, text, word, item_text, others_text}
 use Rattle.crs_text.specs.declared.items.ItemKind.TheVariants as items
-use Rattle.crs_shape.specs.ShapeFault.{class_in}
-use Rattle.crs_shape.specs.Slots.{class_named}
-use Rattle.crs_shape.specs.UnitKinds.{asked_kind}
-use Rattle.crs_shape.specs.Words.{SpellsWord, direction_word, unit_word}
+use Rattle.crs_shape.specs.Prelude.{class_in, class_named, asked_kind, SpellsWord, direction_word, unit_word}
 use Rattle.crs_shape.specs.declared.class.Class.{Class}
 use Rattle.crs_shape.specs.declared.class.Class.TheVariants as class
 use Rattle.crs_shape.specs.declared.unit_kind.UnitKind.TheVariants as kinds
-use Rattle.crs_value.specs.Reading.{those, ReadsEach, ReadsFirst, ReadsOptional}
-use Rattle.crs_value.specs.Reads.{ReadsAxis, ReadsAxisMeridian, ReadsDirection, ReadsIdent, ReadsText, ReadsUnit}
-use Rattle.crs_value.specs.Values.{AxisParts, SystemParts, UnitParts}
+use Rattle.crs_value.specs.Prelude.{those, ReadsEach, ReadsFirst, ReadsOptional, ReadsAxis, ReadsAxisMeridian, ReadsDirection, ReadsIdent, ReadsText, ReadsUnit, AxisParts, SystemParts, UnitParts}
 use Rattle.crs_value.specs.declared.values.level.Level.{Level}
-use Rattle.crs_matching.specs.SameSystems.{own_or}
-use Rattle.crs_normal.specs.SpelledItems.{each, node_of, number_node, opt, text_item, word_item}
-use Rattle.crs_normal.specs.SpelledSystems.{item_axis, item_axis_meridian, norm_axis, norm_axis_meridians}
-use Rattle.crs_normal.specs.SpelledUnits.{item_ident, item_unit, norm_unit, norm_units, set_idents, whole_value}
+use Rattle.crs_matching.specs.Prelude.{own_or}
+use Rattle.crs_normal.specs.Prelude.{each, node_of, number_node, opt, text_item, word_item, item_axis, item_axis_meridian, norm_axis, norm_axis_meridians, item_ident, item_unit, norm_unit, norm_units, set_idents, whole_value}
 use Rattle.crs_normal.proofs.read.NameLemmas.{keyword-names}
 use Rattle.crs_normal.proofs.texts.WordFormLemmas.{direction-one}
 use Rattle.crs_nodes.specs.Copied.{IsPlainAxis, IsPlainOrder, IsSaidKind}

@@ -2,19 +2,14 @@
 -- them.
 use Rattle.std.proofs.Common.{◌≡◌, ℕ, List, [], ◌∷◌, ◌++◌, Some, None, codes, drop, refl, sym, ap, subst, ◌∙◌}
 use Rattle.std.specs.Option.{option_map}
-use Rattle.crs_decimal.specs.Plain.{plain}
-use Rattle.crs_text.specs.Items.{Item, End, More, arguments, raw_of}
-use Rattle.crs_text.specs.Written.{item_text}
+use Rattle.crs_decimal.specs.Prelude.{plain}
+use Rattle.crs_text.specs.Prelude.{Item, End, More, arguments, raw_of, item_text}
 use Rattle.crs_shape.specs.declared.class.Class.TheVariants as class
 use Rattle.crs_shape.specs.declared.unit_kind.UnitKind.TheVariants as kinds
-use Rattle.crs_value.specs.Reading.{those, ReadsEach, ReadsFirst, ReadsOptional}
-use Rattle.crs_value.specs.Reads.{ReadsDatum, ReadsEllipsoid, ReadsIdent, ReadsNumber, ReadsNumberOf, ReadsText, ReadsTextOf, ReadsUnit}
-use Rattle.crs_value.specs.Values.{DatumParts, EllipsoidParts, IdentParts}
+use Rattle.crs_value.specs.Prelude.{those, ReadsEach, ReadsFirst, ReadsOptional, ReadsDatum, ReadsEllipsoid, ReadsIdent, ReadsNumber, ReadsNumberOf, ReadsText, ReadsTextOf, ReadsUnit, DatumParts, EllipsoidParts}
+use Rattle.crs_value.specs.Values.{IdentParts}
 use Rattle.crs_value.specs.declared.values.level.Level.{Level}
-use Rattle.crs_normal.specs.PartTexts.{ellipsoid_text}
-use Rattle.crs_normal.specs.SpelledFrames.{item_datum, item_ellipsoid, norm_datum, norm_ellipsoid}
-use Rattle.crs_normal.specs.SpelledItems.{each, node_of, number_item, number_node, opt, text_item, text_node}
-use Rattle.crs_normal.specs.SpelledUnits.{item_ident, item_unit, norm_length, set_idents}
+use Rattle.crs_normal.specs.Prelude.{ellipsoid_text, item_datum, item_ellipsoid, norm_datum, norm_ellipsoid, each, node_of, number_item, number_node, opt, text_item, text_node, item_ident, item_unit, norm_length, set_idents}
 use Rattle.crs_normal.proofs.read.NameLemmas.{keyword-names}
 use Rattle.crs_nodes.specs.Copied.{IsPlainDatum, IsPlainEllipsoid}
 use Rattle.crs_nodes.proofs.CopiedLemmas.{found, length-idents, node-in, node-text, none-kept, none-read, number-in, number-said, passed, text-in, text-said, unit-copied}

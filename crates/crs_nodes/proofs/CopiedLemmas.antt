@@ -1,31 +1,20 @@
 -- Nodes of the commonest forms, where they are canonical as they stand, are what is written of all that is read from them.
 use Rattle.std.proofs.Common.{◌≡◌, ℕ, true, false, IsTrue, if◌then◌else◌, List, [], ◌∷◌, ◌++◌, Option, Some, None, codes, refl, sym, ap, subst, ◌∙◌}
 use denote.Enum.Bare.{sameb}
-use Rattle.crs_decimal.specs.Plain.{plain}
-use Rattle.crs_decimal.specs.Value.{Value}
-use Rattle.crs_text.specs.Items.{Item, Siblings, leaf, node, End, More, arguments, kind_of_item, raw_of, skip}
-use Rattle.crs_text.specs.Tokens.{number, text, word}
-use Rattle.crs_text.specs.Written.{item_text, others_text}
+use Rattle.crs_decimal.specs.Prelude.{plain, Value}
+use Rattle.crs_text.specs.Prelude.{Item, Siblings, leaf, node, End, More, arguments, kind_of_item, raw_of, skip, number, text, word, item_text, others_text}
 use Rattle.crs_text.specs.declared.items.ItemKind.TheVariants as items
-use Rattle.crs_shape.specs.Slots.{class_named, is_class}
-use Rattle.crs_shape.specs.ShapeFault.{class_in}
-use Rattle.crs_shape.specs.UnitKinds.{kind_as}
-use Rattle.crs_shape.specs.Words.{SpellsWord, unit_word}
+use Rattle.crs_shape.specs.Prelude.{class_named, is_class, class_in, kind_as, SpellsWord, unit_word}
 use Rattle.crs_shape.specs.contracts.class.Class.{the_type}
 use Rattle.crs_shape.specs.declared.class.Class.{Class}
 use Rattle.crs_shape.specs.declared.class.Class.TheVariants as class
 use Rattle.crs_shape.specs.declared.unit_kind.UnitKind.{UnitKind}
 use Rattle.crs_shape.specs.declared.unit_kind.UnitKind.TheVariants as kinds
-use Rattle.crs_value.specs.ConversionValues.{MethodParts, ParameterParts}
-use Rattle.crs_value.specs.Reading.{ahead, those, ReadsEach, ReadsElse, ReadsFirst, ReadsOptional}
-use Rattle.crs_value.specs.Reads.{ReadsIdent, ReadsNumber, ReadsText, ReadsTextOf, ReadsUnit, single_of}
-use Rattle.crs_value.specs.ReadsConversion.{ReadsAsUnit, ReadsMethod, ReadsParameter, ReadsUnitOf, parameter_units}
-use Rattle.crs_value.specs.Values.{IdentParts, UnitParts}
+use Rattle.crs_value.specs.Prelude.{MethodParts, ParameterParts, ahead, those, ReadsEach, ReadsElse, ReadsFirst, ReadsOptional, ReadsIdent, ReadsNumber, ReadsText, ReadsTextOf, ReadsUnit, single_of, ReadsAsUnit, ReadsMethod, ReadsParameter, ReadsUnitOf, parameter_units, UnitParts}
+use Rattle.crs_value.specs.Values.{IdentParts}
 use Rattle.crs_value.specs.declared.values.level.Level.{Level}
 use Rattle.crs_value.specs.declared.values.level.Level.TheVariants as levels
-use Rattle.crs_normal.specs.PartTexts.{method_text, parameter_text}
-use Rattle.crs_normal.specs.SpelledItems.{code_item, each, is_short, opt, text_node}
-use Rattle.crs_normal.specs.SpelledUnits.{item_ident, item_unit, norm_unit, norm_units, set_idents}
+use Rattle.crs_normal.specs.Prelude.{method_text, parameter_text, code_item, each, is_short, opt, text_node, item_ident, item_unit, norm_unit, norm_units, set_idents}
 use Rattle.crs_normal.proofs.read.NameLemmas.{keyword-names}
 use Rattle.crs_normal.proofs.texts.WordFormLemmas.{kind-one}
 use Rattle.crs_nodes.specs.Copied.{IsEnd, IsPlainMethod, IsPlainNumber, IsPlainParameter, IsPlainly, IsSaidUnit, IsShortIdent, IsText, SaysKind}

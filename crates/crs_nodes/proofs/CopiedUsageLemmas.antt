@@ -1,19 +1,14 @@
 -- Usages that are canonical as they stand are what is written of all that is read from them.
 use Rattle.std.proofs.Common.{◌≡◌, ℕ, List, [], ◌∷◌, ◌++◌, Option, Some, None, codes, drop, refl, sym, ap, subst, ◌∙◌}
 use Rattle.std.specs.Option.{option_map}
-use Rattle.crs_decimal.specs.Plain.{plain}
-use Rattle.crs_text.specs.Items.{Item, End, More, arguments, raw_of}
-use Rattle.crs_text.specs.Written.{item_text}
+use Rattle.crs_decimal.specs.Prelude.{plain}
+use Rattle.crs_text.specs.Prelude.{Item, End, More, arguments, raw_of, item_text}
 use Rattle.crs_shape.specs.declared.class.Class.{Class}
 use Rattle.crs_shape.specs.declared.class.Class.TheVariants as class
-use Rattle.crs_value.specs.Reading.{those, ReadsFirst, ReadsOptional}
-use Rattle.crs_value.specs.Reads.{ReadsBox, ReadsExtent, ReadsNumber, ReadsText, ReadsTextOf, ReadsUsage}
-use Rattle.crs_value.specs.Values.{BoxParts, UsageParts}
+use Rattle.crs_value.specs.Prelude.{those, ReadsFirst, ReadsOptional, ReadsBox, ReadsExtent, ReadsNumber, ReadsText, ReadsTextOf, ReadsUsage, BoxParts, UsageParts}
 use Rattle.crs_value.specs.declared.values.level.Level.{Level}
 use Rattle.crs_value.specs.declared.values.level.Level.TheVariants as levels
-use Rattle.crs_normal.specs.PartTexts.{usage_text}
-use Rattle.crs_normal.specs.SpelledItems.{node_from, opt, text_node}
-use Rattle.crs_normal.specs.SpelledUsages.{item_box, item_extent, norm_extent}
+use Rattle.crs_normal.specs.Prelude.{usage_text, node_from, opt, text_node, item_box, item_extent, norm_extent}
 use Rattle.crs_normal.proofs.read.NameLemmas.{keyword-names}
 use Rattle.crs_nodes.specs.Copied.{IsPlainBox, IsPlainUsage, IsTextNode}
 use Rattle.crs_nodes.proofs.CopiedLemmas.{found, node-in, node-text, none-read, number-in, number-said, passed, text-in, text-said}

@@ -1,13 +1,12 @@
 -- Nodes of which no argument is a node: nothing is read from nodes in them.
 use Rattle.std.proofs.Common.{◌≡◌, ◌-◌, ◌≤◌, false, if◌then◌else◌, [], ◌∷◌, refl, ap, ◌∙◌, arith}
 use denote.Enum.Bare.{sameb}
-use Rattle.crs_text.specs.Items.{Item, Siblings, leaf, node, End, More, arguments, count, size_of, sizes}
-use Rattle.crs_text.specs.Tokens.{Kind, number, text, word}
-use Rattle.crs_shape.specs.ShapeFault.{class_of_kind}
+use Rattle.crs_text.specs.Prelude.{Item, Siblings, leaf, node, End, More, arguments, count, size_of, sizes, Kind, number, text, word}
+use Rattle.crs_shape.specs.Prelude.{class_of_kind}
 use Rattle.crs_shape.specs.contracts.class.Class.{the_type}
 use Rattle.crs_shape.specs.declared.class.Class.{Class}
 use Rattle.crs_shape.specs.declared.class.Class.TheVariants as class
-use Rattle.crs_value.specs.Reading.{those}
+use Rattle.crs_value.specs.Prelude.{those}
 use Rattle.crs_nodes.specs.Found.{AreLeaves}
 
 some-size : (item : Item) → 1 ≤ size_of item

@@ -5,10 +5,7 @@ use Rattle.std.proofs.Math.Nat.{mul-one, mul_assoc}
 use Rattle.std.proofs.lemmas.Bool.{and_parts, eqb-true}
 use Rattle.std.proofs.lemmas.List.{append-nil, length-append, take-append-drop, take_more}
 use Rattle.std.proofs.lemmas.List.Sums.{fold-append}
-use Rattle.crs_decimal.specs.Plain.{EndsTrim, IsPlain, IsTrim}
-use Rattle.crs_decimal.specs.Bounds.{digits_value, number_of, Denotes, IsBounded, IsMeasured}
-use Rattle.crs_decimal.specs.Number.{Number, SameNumber, SameSize}
-use Rattle.crs_decimal.specs.Spelling.{AreDigits, is_digit, Sign, unsigned, plus, minus, sign_text, Exponent, Parts, SpellsNumber, exponent_text, fraction_digits, fraction_text}
+use Rattle.crs_decimal.specs.Prelude.{EndsTrim, IsPlain, IsTrim, digits_value, number_of, Denotes, IsBounded, IsMeasured, Number, SameNumber, SameSize, AreDigits, is_digit, Sign, unsigned, plus, minus, sign_text, Exponent, Parts, SpellsNumber, exponent_text, fraction_digits, fraction_text}
 use Rattle.crs_decimal.proofs.PowerLemmas.{power_next}
 use Rattle.crs_decimal.proofs.SplitLemmas.{digits-append, digits_parts, front_digits, parts_one}
 use Rattle.crs_decimal.proofs.BoundLemmas.{same_scaled}

@@ -1,8 +1,6 @@
 -- A number that is appended in a plain spelling is appended in the one that there is.
 use Rattle.std.proofs.Common.{◌≡◌, ℕ, List, ◌++◌, ◌∙◌, Result, Ok, Err, OnOk, MatchResult, ap}
-use Rattle.crs_decimal.specs.Bounds.{Denotes}
-use Rattle.crs_decimal.specs.Plain.{AppendsPlain, IsPlain, plain}
-use Rattle.crs_decimal.specs.Value.{Value, IsNormal, exact}
+use Rattle.crs_decimal.specs.Prelude.{Denotes, AppendsPlain, IsPlain, plain, Value, IsNormal, exact}
 
 abbrev pub PlainIsOne : Type 0
 PlainIsOne = (v : Value) (bytes : List ℕ) → IsNormal v → IsPlain bytes → Denotes bytes (exact v) → bytes ≡ plain v

@@ -15,6 +15,7 @@ pub mod OneForm
 pub mod Ordered
 pub mod PartSpellings
 pub mod PartTexts
+pub mod Prelude
 pub mod SpelledAs
 pub mod SpelledConversions
 pub mod SpelledCrs

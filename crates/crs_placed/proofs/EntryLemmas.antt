@@ -1,13 +1,10 @@
 -- What changes and look-ups of a map's entries mean for the groups.
-use Rattle.std.proofs.Common.{◌≡◌, ◌++◌, true, false, ◌∷◌, [], ℕ, zero, suc, List, Option, Some, None, position, get_or, slice_get, is_some, cond, true≢false, ap, sym, refl, ◌∙◌, Result, Ok, Err}
-use Rattle.std.specs.Prelude.{MatchOption, OnErr}
+use Rattle.std.proofs.Common.{◌≡◌, ◌++◌, true, false, ◌∷◌, [], ℕ, zero, suc, List, Option, Some, None, position, get_or, slice_get, is_some, cond, true≢false, ap, sym, refl, ◌∙◌, Result, Ok, Err, MatchOption, OnErr}
 use Rattle.std.specs.Map.{keys_of, values_of, lookup}
 use Rattle.std.proofs.lemmas.List.Quantifiers.{position-Some}
 use Rattle.std.proofs.lemmas.Option.{slice_get-get_or}
 use Rattle.indexmap.specs.IndexMap.{set_value_at}
-use Rattle.crs_writer.specs.Canonical.{CanonicalText}
-use Rattle.crs_writer.specs.Equality.{canons_equal}
-use Rattle.crs_writer.specs.EqualityLaws.{canons-decide}
+use Rattle.crs_writer.specs.Prelude.{CanonicalText, canons_equal, canons-decide}
 use Rattle.crs_placed.specs.Entries.{entry_group, groups_of}
 use Rattle.crs_placed.specs.Catalogue.{canons}
 use Rattle.crs_placed.specs.Putting.{IsJoined, IsNew, group_of}

@@ -5,24 +5,15 @@ use Rattle.crs_shape.specs.declared.class.Class.{Class}
 use Rattle.crs_shape.specs.declared.class.Class.TheVariants as class
 use Rattle.crs_shape.specs.declared.unit_kind.UnitKind.{UnitKind}
 use Rattle.crs_shape.specs.declared.unit_kind.UnitKind.TheVariants as kinds
-use Rattle.crs_shape.specs.UnitKinds.{asked_kind, kind_as}
-use Rattle.crs_value.specs.ConversionValues.{ConversionParts, ParameterParts}
-use Rattle.crs_value.specs.DynamicValues.{DynamicParts}
-use Rattle.crs_value.specs.EnsembleFrames.{frame_of}
-use Rattle.crs_value.specs.NamedValues.{IdentParts, NamedParts}
+use Rattle.crs_shape.specs.Prelude.{asked_kind, kind_as}
+use Rattle.crs_value.specs.Prelude.{ConversionParts, ParameterParts, DynamicParts, frame_of, NamedParts, own_or, AxisMeridianParts, AxisParts, DatumParts, EllipsoidParts, EnsembleParts, MeridianParts, SystemParts, UnitParts}
+use Rattle.crs_value.specs.NamedValues.{IdentParts}
 use Rattle.crs_value.specs.Sound.{Each}
-use Rattle.crs_value.specs.SoundSystem.{own_or}
-use Rattle.crs_value.specs.Values.{AxisMeridianParts, AxisParts, DatumParts, EllipsoidParts, EnsembleParts, MeridianParts, SystemParts, UnitParts}
 use Rattle.crs_value.specs.declared.values.frame.Frame.{Frame}
 use Rattle.crs_value.specs.declared.values.frame.Frame.TheVariants as frames
 use Rattle.crs_value.specs.declared.values.level.Level.{Level}
-use Rattle.crs_normal.specs.Ordered.{StaysInOrder, in_order}
-use Rattle.crs_normal.specs.SpelledConversions.{item_parameter, norm_conversion, norm_parameter, set_parameters}
-use Rattle.crs_normal.specs.SpelledDynamic.{norm_dynamic}
-use Rattle.crs_normal.specs.SpelledFrames.{greenwich, is_zero, item_member, norm_datum, norm_ellipsoid, norm_ensemble, norm_frame, norm_given, norm_member, norm_meridian, set_members}
-use Rattle.crs_normal.specs.SpelledSystems.{axes_from, axis_at, is_at, norm_axis, norm_axis_meridians, norm_system, with_axis}
-use Rattle.crs_normal.specs.SpelledUnits.{norm_length, norm_unit, norm_units, set_idents}
-use Rattle.crs_text.specs.Written.{item_text}
+use Rattle.crs_normal.specs.Prelude.{StaysInOrder, in_order, item_parameter, norm_conversion, norm_parameter, set_parameters, norm_dynamic, greenwich, is_zero, item_member, norm_datum, norm_ellipsoid, norm_ensemble, norm_frame, norm_given, norm_member, norm_meridian, set_members, axes_from, axis_at, is_at, norm_axis, norm_axis_meridians, norm_system, with_axis, norm_length, norm_unit, norm_units, set_idents}
+use Rattle.crs_text.specs.Prelude.{item_text}
 use Rattle.crs_rules.specs.Rewritten.{axis, axis_meridian, conversion, counted, counted_frame, counted_name, datum, dynamic, ellipsoid, ensemble, frame_or_ensemble, meridian, named, parameter, system, units}
 use Rattle.crs_rules.specs.Rules.{Meaning, without_ensemble}
 use Rattle.crs_rules.proofs.AliasLemmas.{choice}

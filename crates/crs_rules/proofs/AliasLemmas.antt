@@ -3,8 +3,8 @@ use Rattle.std.proofs.Common.{◌≡◌, ◌≢◌, ℕ, Bool, true, false, Opti
 use Rattle.crs_shape.specs.declared.class.Class.{Class}
 use Rattle.crs_shape.specs.declared.unit_kind.UnitKind.{UnitKind}
 use Rattle.crs_shape.specs.declared.unit_kind.UnitKind.TheVariants as kinds
-use Rattle.crs_value.specs.Sound.{Each, IsText, IsUnit, IsUnitOf, IsAxisUnit, Suits}
-use Rattle.crs_value.specs.Values.{UnitParts}
+use Rattle.crs_value.specs.Prelude.{IsText, IsUnit, IsUnitOf, IsAxisUnit, Suits, UnitParts}
+use Rattle.crs_value.specs.Sound.{Each}
 use Rattle.crs_rules.specs.Rewritten.{counted_name}
 use Rattle.crs_rules.specs.Rules.{Meaning, NameAliasParts, RulesParts, UnitAliasParts, first_that, is_name_alias, is_unit_alias, meaning, name_for, unit_for}
 use Rattle.crs_rules.specs.SoundRules.{AreRules, IsNameAlias, IsUnitAlias}

@@ -8,17 +8,14 @@ use Rattle.std.proofs.lemmas.Cmp.{nat_list_cmp_total}
 use Rattle.crs_shape.specs.declared.class.Class.TheVariants as class
 use Rattle.crs_shape.specs.declared.unit_kind.UnitKind.{UnitKind}
 use Rattle.crs_shape.specs.declared.unit_kind.UnitKind.TheVariants as kinds
-use Rattle.crs_shape.specs.UnitKinds.{asked_kind, kind_as}
+use Rattle.crs_shape.specs.Prelude.{asked_kind, kind_as}
 use Rattle.crs_value.specs.NamedValues.{IdentParts}
 use Rattle.crs_value.specs.Sound.{Each}
-use Rattle.crs_value.specs.SoundSystem.{own_or}
-use Rattle.crs_value.specs.Values.{AxisMeridianParts, AxisParts, SystemParts, UnitParts}
+use Rattle.crs_value.specs.Prelude.{own_or, AxisMeridianParts, AxisParts, SystemParts, UnitParts}
 use Rattle.crs_value.specs.declared.values.level.Level.{Level}
 use Rattle.crs_value.specs.declared.values.level.Level.TheVariants as levels
-use Rattle.crs_text.specs.Written.{item_text}
-use Rattle.crs_normal.specs.Ordered.{StaysInOrder}
-use Rattle.crs_normal.specs.SpelledSystems.{axes_from, axis_at, is_at, norm_axis, norm_axis_meridians, norm_system, with_axis}
-use Rattle.crs_normal.specs.SpelledUnits.{item_ident, norm_unit, norm_units, set_idents, whole_value}
+use Rattle.crs_text.specs.Prelude.{item_text}
+use Rattle.crs_normal.specs.Prelude.{StaysInOrder, axes_from, axis_at, is_at, norm_axis, norm_axis_meridians, norm_system, with_axis, item_ident, norm_unit, norm_units, set_idents, whole_value}
 use Rattle.crs_rules.specs.Rewritten.{among, arranged, ascending, axis, axis_meridian, counted, system, units}
 use Rattle.crs_rules.specs.Rules.{Meaning}
 use Rattle.crs_rules.proofs.AgainLemmas.{all-so, counted-name-again, each-from, kind-twice, mapped}

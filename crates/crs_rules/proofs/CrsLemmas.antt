@@ -1,21 +1,12 @@
 -- A CRS that is rewritten by rules is sound.
 use Rattle.std.proofs.Common.{Err, Ok, OnErr, OnOk, Result, ◌≡◌, ◌≢◌, ℕ, suc, ◌&&◌, Bool, Option, Some, None, List, [], ◌∷◌, IfSome, IsSomeAnd, refl, sym, subst, ap, ◌∙◌, map, length, arith, inl, inr, true, false, if◌then◌else◌, Ordering, Less, Equal, Greater}
-use Rattle.crs_decimal.specs.Number.{SameNumber, whole_number}
-use Rattle.crs_decimal.specs.Value.{exact}
+use Rattle.crs_decimal.specs.Prelude.{SameNumber, whole_number, exact}
 use Rattle.crs_shape.specs.declared.class.Class.TheVariants as class
 use Rattle.crs_shape.specs.declared.system_type.SystemType.{SystemType}
 use Rattle.crs_shape.specs.declared.unit_kind.UnitKind.TheVariants as kinds
-use Rattle.crs_shape.specs.UnitKinds.{asked_kind}
-use Rattle.crs_value.specs.BadOrder.{IsPosition}
-use Rattle.crs_value.specs.CrsValues.{BaseParts, GeodeticParts, ProjectedParts, VerticalParts}
-use Rattle.crs_value.specs.Sound.{Each, IsNamed, IsUnitOf, IsAxisUnit, IsAxisMeridian, IsAxis, Suits}
-use Rattle.crs_value.specs.SoundCompound.{IsCompound, IsHorizontal}
-use Rattle.crs_value.specs.SoundCrs.{IsCrs}
-use Rattle.crs_value.specs.SoundFrames.{IsMeridian}
-use Rattle.crs_value.specs.SoundSingle.{IsBase, IsGeodetic, IsProjected, IsVertical}
-use Rattle.crs_value.specs.SoundSystem.{HasOrders, HasUnits, IsSystem, SuitsAxis}
-use Rattle.crs_value.specs.Values.{AxisMeridianParts, AxisParts, SystemParts, UnitParts}
-use Rattle.crs_value.specs.CompoundValues.{CompoundParts}
+use Rattle.crs_shape.specs.Prelude.{asked_kind}
+use Rattle.crs_value.specs.Prelude.{IsPosition, BaseParts, GeodeticParts, ProjectedParts, VerticalParts, IsNamed, IsUnitOf, IsAxisUnit, IsAxisMeridian, IsAxis, Suits, IsCompound, IsHorizontal, IsCrs, IsMeridian, IsBase, IsGeodetic, IsProjected, IsVertical, HasOrders, HasUnits, IsSystem, SuitsAxis, AxisMeridianParts, AxisParts, SystemParts, UnitParts, CompoundParts}
+use Rattle.crs_value.specs.Sound.{Each}
 use Rattle.crs_value.specs.declared.values.compound.Horizontal.{Horizontal}
 use Rattle.crs_value.specs.declared.values.compound.Horizontal.TheVariants as horizontals
 use Rattle.crs_value.specs.declared.values.crs.Crs.{Crs}

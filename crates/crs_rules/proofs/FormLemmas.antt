@@ -1,19 +1,13 @@
 -- Forms under rules: there is one, it is canonical, and texts that are the same have one form.
 use Rattle.std.proofs.Common.{◌≡◌, ◌↔◌, ℕ, List, ap, refl, sym, subst, ◌∙◌}
-use Rattle.crs_value.specs.Sound.{IsAxis}
-use Rattle.crs_value.specs.SpellsText.{Spells}
-use Rattle.crs_value.specs.Values.{AxisParts}
-use Rattle.crs_value.specs.SoundCrs.{IsCrs}
+use Rattle.crs_value.specs.Prelude.{IsAxis, Spells, AxisParts, IsCrs}
 use Rattle.crs_value.specs.declared.values.crs.Crs.{Crs}
 use Rattle.crs_value.specs.declared.values.level.Level.{Level}
 use Rattle.crs_value.specs.declared.values.level.Level.TheVariants as levels
-use Rattle.crs_same.specs.SameCrs.{SameCrs}
-use Rattle.crs_matching.specs.SameSystems.{SameAxisAlone}
-use Rattle.crs_matching.specs.Sameness.{IsSamenessOf}
-use Rattle.crs_normal.specs.AxisAlone.{IsSpelledAxis}
-use Rattle.crs_normal.specs.PartTexts.{axis_text}
-use Rattle.crs_normal.specs.WrittenForm.{IsWrittenForm}
-use Rattle.crs_writer.specs.Canonical.{IsCanonicalOf, IsCanonicalText}
+use Rattle.crs_same.specs.Prelude.{SameCrs}
+use Rattle.crs_matching.specs.Prelude.{SameAxisAlone, IsSamenessOf}
+use Rattle.crs_normal.specs.Prelude.{IsSpelledAxis, axis_text, IsWrittenForm}
+use Rattle.crs_writer.specs.Prelude.{IsCanonicalOf, IsCanonicalText}
 use Rattle.crs_canon.specs.MainTheorem.{MainTheorem, IsAccepted, SpellSame}
 use Rattle.crs_rules.specs.Rules.{RulesParts, meaning}
 use Rattle.crs_rules.specs.Rewritten.{rewritten}

@@ -1,11 +1,9 @@
 -- Names and units that are looked for by their digests are found.
 use Rattle.std.proofs.Common.{◌≡◌, ℕ, true, List, [], ◌∷◌, Some, None, drop, sym, ap, ◌∙◌, arith}
-use Rattle.crs_decimal.specs.Bounds.{Denotes}
-use Rattle.crs_decimal.specs.Plain.{plain}
-use Rattle.crs_decimal.specs.Value.{IsNormal, Value, exact}
+use Rattle.crs_decimal.specs.Prelude.{Denotes, plain, IsNormal, Value, exact}
 use Rattle.crs_shape.specs.declared.class.Class.{Class}
 use Rattle.crs_value.specs.Sound.{Each}
-use Rattle.crs_value.specs.Values.{UnitParts}
+use Rattle.crs_value.specs.Prelude.{UnitParts}
 use Rattle.crs_rules.specs.Firsts.{AreFound, name_digest, place_of, unit_digest}
 use Rattle.crs_rules.specs.Rules.{NameAliasParts, UnitAliasParts, first_that, is_name_alias, is_unit_alias}
 use Rattle.crs_rules.specs.SoundRules.{IsUnitAlias}

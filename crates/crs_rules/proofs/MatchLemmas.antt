@@ -3,13 +3,12 @@ use Rattle.std.proofs.Common.{◌≡◌, ℕ, ◌&&◌, Bool, true, false, List,
 use Rattle.std.specs.Str.{bytes_eq}
 use Rattle.std.proofs.lemmas.Slice.Eq.{bytes_eq-Decides}
 use denote.Enum.Bare.{sameb, same_true}
-use Rattle.crs_decimal.specs.Plain.{plain}
+use Rattle.crs_decimal.specs.Prelude.{plain}
 use Rattle.crs_shape.specs.declared.class.Class.{Class}
 use Rattle.crs_shape.specs.declared.unit_kind.UnitKind.{UnitKind}
 use Rattle.crs_shape.specs.contracts.unit_kind.UnitKind.{the_type}
 use Rattle.crs_value.proofs.found.ArgumentLemmas.{same_class}
-use Rattle.crs_value.specs.Reading.{is_same}
-use Rattle.crs_value.specs.Values.{UnitParts}
+use Rattle.crs_value.specs.Prelude.{is_same, UnitParts}
 use Rattle.crs_rules.specs.Rules.{NameAliasParts, UnitAliasParts, is_name_alias, is_unit_alias}
 
 pub both : (a b : Bool) → (a && b) ≡ true → (a ≡ true) × (b ≡ true)

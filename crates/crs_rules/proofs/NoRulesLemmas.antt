@@ -3,11 +3,7 @@ use Rattle.std.proofs.Common.{◌≡◌, ◌↔◌, ℕ, Bool, Option, Some, Non
 use Rattle.std.specs.Option.{option_map}
 use Rattle.crs_shape.specs.declared.class.Class.{Class}
 use Rattle.crs_shape.specs.declared.class.Class.TheVariants as class
-use Rattle.crs_value.specs.CompoundValues.{CompoundParts}
-use Rattle.crs_value.specs.ConversionValues.{ConversionParts, ParameterParts}
-use Rattle.crs_value.specs.CrsValues.{BaseParts, GeodeticParts, ProjectedParts, VerticalParts}
-use Rattle.crs_value.specs.DynamicValues.{DynamicParts}
-use Rattle.crs_value.specs.Values.{AxisParts, DatumParts, EllipsoidParts, EnsembleParts, ExtentParts, MeridianParts, SystemParts, TailParts, UnitParts, UsageParts}
+use Rattle.crs_value.specs.Prelude.{CompoundParts, ConversionParts, ParameterParts, BaseParts, GeodeticParts, ProjectedParts, VerticalParts, DynamicParts, AxisParts, DatumParts, EllipsoidParts, EnsembleParts, ExtentParts, MeridianParts, SystemParts, TailParts, UnitParts, UsageParts}
 use Rattle.crs_value.specs.declared.values.compound.Horizontal.{Horizontal}
 use Rattle.crs_value.specs.declared.values.compound.Horizontal.TheVariants as horizontals
 use Rattle.crs_value.specs.declared.values.crs.Crs.{Crs}
@@ -16,8 +12,8 @@ use Rattle.crs_value.specs.declared.values.frame.Frame.{Frame}
 use Rattle.crs_value.specs.declared.values.frame.Frame.TheVariants as frames
 use Rattle.crs_value.specs.declared.values.level.Level.{Level}
 use Rattle.crs_value.specs.declared.values.level.Level.TheVariants as levels
-use Rattle.crs_normal.specs.PartTexts.{axis_text}
-use Rattle.crs_writer.specs.Canonical.{IsCanonicalOf, IsCanonicalText}
+use Rattle.crs_normal.specs.Prelude.{axis_text}
+use Rattle.crs_writer.specs.Prelude.{IsCanonicalOf, IsCanonicalText}
 use Rattle.crs_canon.specs.MainTheorem.{MainTheorem}
 use Rattle.crs_rules.specs.NoRules.{no_rules}
 use Rattle.crs_rules.specs.Rewritten.{across, axis, axis_meridian, base, compound, conversion, datum, dynamic, dynamics, ellipsoid, ensemble, extent, frame_or_ensemble, geodetic, is_idle, meridian, named, parameter, projected, rewritten, system, tail, units, usage, vertical}

@@ -1,15 +1,12 @@
 -- A form under steady rules is its own form.
 use Rattle.std.proofs.Common.{◌≡◌, ℕ, List, true, ap, sym, subst, ◌∙◌, if◌then◌else◌}
-use Rattle.crs_text.specs.Written.{item_text}
-use Rattle.crs_value.specs.SoundCrs.{IsCrs}
-use Rattle.crs_value.specs.SpellsText.{Spells}
-use Rattle.crs_value.specs.Values.{AxisParts}
+use Rattle.crs_text.specs.Prelude.{item_text}
+use Rattle.crs_value.specs.Prelude.{IsCrs, Spells, AxisParts}
 use Rattle.crs_value.specs.declared.values.crs.Crs.{Crs}
 use Rattle.crs_value.specs.declared.values.level.Level.{Level}
-use Rattle.crs_same.specs.SameCrs.{SameCrs}
-use Rattle.crs_normal.specs.Normal.{IsNormalText}
-use Rattle.crs_normal.specs.SpelledCrs.{item_crs, norm_crs}
-use Rattle.crs_writer.specs.Canonical.{IsCanonicalOf, IsCanonicalText}
+use Rattle.crs_same.specs.Prelude.{SameCrs}
+use Rattle.crs_normal.specs.Prelude.{IsNormalText, item_crs, norm_crs}
+use Rattle.crs_writer.specs.Prelude.{IsCanonicalOf, IsCanonicalText}
 use Rattle.crs_canon.specs.MainTheorem.{MainTheorem}
 use Rattle.crs_rules.specs.LowerLaws.{FormLaws, SetLaws}
 use Rattle.crs_rules.specs.ReorderedAxes.{IsCrsReordered}

@@ -4,17 +4,8 @@ use Rattle.std.specs.Option.{option_map}
 use Rattle.crs_shape.specs.declared.class.Class.{Class}
 use Rattle.crs_shape.specs.declared.class.Class.TheVariants as class
 use Rattle.crs_shape.specs.declared.unit_kind.UnitKind.TheVariants as kinds
-use Rattle.crs_value.specs.ConversionValues.{ConversionParts, ParameterParts}
-use Rattle.crs_value.specs.DynamicValues.{DynamicParts}
-use Rattle.crs_value.specs.EnsembleFrames.{datum_of, frame_of}
-use Rattle.crs_value.specs.NamedValues.{NamedParts}
-use Rattle.crs_value.specs.Sound.{Each, IsText, IsNamed, IsUnitOf}
-use Rattle.crs_value.specs.SoundConversion.{IsConversion, IsParameter}
-use Rattle.crs_value.specs.SoundDynamic.{IsDynamic}
-use Rattle.crs_value.specs.SoundFrames.{IsDatum, IsEllipsoid, IsEnsemble, IsMeridian}
-use Rattle.crs_value.specs.SoundSingle.{IsDynamicOf, IsGeodeticFrame, IsVerticalFrame}
-use Rattle.crs_value.specs.SoundUsages.{IsExtent, IsTail, IsUsage}
-use Rattle.crs_value.specs.Values.{DatumParts, EllipsoidParts, EnsembleParts, ExtentParts, MeridianParts, SaysSome, TailParts, UsageParts}
+use Rattle.crs_value.specs.Prelude.{ConversionParts, ParameterParts, DynamicParts, datum_of, frame_of, NamedParts, IsText, IsNamed, IsUnitOf, IsConversion, IsParameter, IsDynamic, IsDatum, IsEllipsoid, IsEnsemble, IsMeridian, IsDynamicOf, IsGeodeticFrame, IsVerticalFrame, IsExtent, IsTail, IsUsage, DatumParts, EllipsoidParts, EnsembleParts, ExtentParts, MeridianParts, SaysSome, TailParts, UsageParts}
+use Rattle.crs_value.specs.Sound.{Each}
 use Rattle.crs_value.specs.declared.values.frame.Frame.{Frame}
 use Rattle.crs_value.specs.declared.values.frame.Frame.TheVariants as frames
 use Rattle.crs_rules.specs.Rewritten.{conversion, counted, counted_frame, datum, dynamic, dynamics, ellipsoid, ensemble, extent, frame_or_ensemble, meridian, named, parameter, stemmed, tail, usage}

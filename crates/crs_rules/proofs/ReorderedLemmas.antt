@@ -5,28 +5,20 @@ use Rattle.std.specs.Option.{option_map}
 use Rattle.std.specs.Ordering.{nat_cmp, match_ordering, ordering_index, ordering_reverse}
 use Rattle.std.proofs.lemmas.Cmp.{nat_list_cmp_total}
 use Rattle.std.proofs.lemmas.Map.Lookups.{exact_bytes}
-use Rattle.crs_text.specs.Written.{item_text}
+use Rattle.crs_text.specs.Prelude.{item_text}
 use Rattle.crs_shape.specs.declared.unit_kind.UnitKind.{UnitKind}
 use Rattle.crs_shape.specs.declared.unit_kind.UnitKind.TheVariants as kinds
-use Rattle.crs_shape.specs.UnitKinds.{asked_kind, kind_as}
-use Rattle.crs_value.specs.CrsValues.{GeodeticParts, ProjectedParts, VerticalParts}
+use Rattle.crs_shape.specs.Prelude.{asked_kind, kind_as}
+use Rattle.crs_value.specs.Prelude.{GeodeticParts, ProjectedParts, VerticalParts, IsAxis, IsHorizontal, IsCrs, IsSystem, own_or, AxisMeridianParts, AxisParts, SystemParts, UnitParts}
 use Rattle.crs_value.specs.NamedValues.{IdentParts}
-use Rattle.crs_value.specs.Sound.{Each, IsAxis}
-use Rattle.crs_value.specs.SoundCompound.{IsHorizontal}
-use Rattle.crs_value.specs.SoundCrs.{IsCrs}
-use Rattle.crs_value.specs.SoundSystem.{IsSystem, own_or}
-use Rattle.crs_value.specs.Values.{AxisMeridianParts, AxisParts, SystemParts, UnitParts}
+use Rattle.crs_value.specs.Sound.{Each}
 use Rattle.crs_value.specs.declared.values.compound.Horizontal.{Horizontal}
 use Rattle.crs_value.specs.declared.values.compound.Horizontal.TheVariants as horizontals
 use Rattle.crs_value.specs.declared.values.crs.Crs.{Crs}
 use Rattle.crs_value.specs.declared.values.crs.Crs.TheVariants as crs
 use Rattle.crs_value.specs.declared.values.level.Level.{Level}
 use Rattle.crs_value.specs.declared.values.level.Level.TheVariants as levels
-use Rattle.crs_normal.specs.Ordered.{StaysInOrder}
-use Rattle.crs_normal.specs.PartTexts.{norm_axis_alone}
-use Rattle.crs_normal.specs.SpelledCrs.{norm_compound, norm_crs, norm_geodetic, norm_horizontal, norm_projected, norm_vertical}
-use Rattle.crs_normal.specs.SpelledSystems.{norm_axis, norm_axis_meridians, norm_system}
-use Rattle.crs_normal.specs.SpelledUnits.{item_ident, norm_unit, norm_units, set_idents}
+use Rattle.crs_normal.specs.Prelude.{StaysInOrder, norm_axis_alone, norm_compound, norm_crs, norm_geodetic, norm_horizontal, norm_projected, norm_vertical, norm_axis, norm_axis_meridians, norm_system, item_ident, norm_unit, norm_units, set_idents}
 use Rattle.crs_rules.specs.ReorderedAxes.{AreAxesReordered, IsAcrossReordered, IsCrsReordered, IsGeodeticReordered, IsProjectedReordered, IsReordered, IsVerticalReordered, unordered}
 use Rattle.crs_rules.specs.Rewritten.{across, among, arranged, arranged_across, arranged_compound, arranged_crs, arranged_geodetic, arranged_projected, arranged_vertical, ascending, axis, axis_meridian, compound, counted, geodetic, projected, renamed, system, units, vertical}
 use Rattle.crs_rules.specs.Rules.{Meaning}

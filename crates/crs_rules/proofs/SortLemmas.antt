@@ -5,7 +5,7 @@ use Rattle.std.specs.List.{swap}
 use Rattle.std.specs.Ordering.{nat_cmp, match_ordering}
 use Rattle.std.proofs.lemmas.List.Edits.{length-swap}
 use Rattle.std.proofs.lemmas.List.{length-map}
-use Rattle.crs_value.specs.Values.{AxisParts}
+use Rattle.crs_value.specs.Prelude.{AxisParts}
 use Rattle.crs_rules.specs.Rewritten.{among, ascending}
 use Rattle.crs_rules.specs.Sinking.{sunk_from}
 use Rattle.crs_rules.proofs.CrsLemmas.{ascending-length}

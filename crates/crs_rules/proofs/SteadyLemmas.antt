@@ -2,14 +2,13 @@
 use Rattle.std.proofs.Common.{◌≡◌, ℕ, ◌&&◌, Bool, false, Option, Some, None, List, [], ◌∷◌, refl, sym, subst, ap, ◌∙◌, inl, inr, if◌then◌else◌}
 use Rattle.std.specs.Str.{bytes_eq}
 use denote.Enum.Bare.{sameb}
-use Rattle.crs_decimal.specs.Plain.{plain}
+use Rattle.crs_decimal.specs.Prelude.{plain}
 use Rattle.crs_shape.specs.declared.class.Class.{Class}
 use Rattle.crs_shape.specs.contracts.unit_kind.UnitKind.{the_type}
-use Rattle.crs_normal.specs.Ascending.{IsIn}
+use Rattle.crs_normal.specs.Prelude.{IsIn}
 use Rattle.crs_value.specs.NamedValues.{IdentParts}
-use Rattle.crs_value.specs.Reading.{is_same}
+use Rattle.crs_value.specs.Prelude.{is_same, UnitParts}
 use Rattle.crs_value.specs.Sound.{Each}
-use Rattle.crs_value.specs.Values.{UnitParts}
 use Rattle.crs_rules.specs.Rules.{Meaning, NameAliasParts, RulesParts, UnitAliasParts, first_name, first_that, first_unit, is_name_alias, is_unit_alias, meaning, name_for, unit_for}
 use Rattle.crs_rules.specs.SteadyRules.{AreSteady, NamesAgree, UnitsAgree}
 use Rattle.crs_rules.proofs.MatchLemmas.{of-name, of-unit}

@@ -5,8 +5,8 @@ use Rattle.std.proofs.lemmas.List.{take-append-drop}
 use Rattle.std.proofs.lemmas.Slice.Eq.{bytes_eq-Decides}
 use Rattle.std.proofs.lemmas.Str.{IsCharBoundary-at_seam, IsUtf8-take}
 use Rattle.std.proofs.Math.Seq.{take-append_seam}
-use Rattle.crs_text.specs.Quoted.{IsInside, doubled}
-use Rattle.crs_value.specs.Sound.{IsText}
+use Rattle.crs_text.specs.Prelude.{IsInside, doubled}
+use Rattle.crs_value.specs.Prelude.{IsText}
 use Rattle.crs_rules.specs.Rules.{without_ensemble}
 
 abbrev first : List ℕ → ℕ

@@ -2,11 +2,8 @@
 use Rattle.std.proofs.Common.{◌≡◌, ℕ, List, [], ◌∷◌, refl, ap, ◌∙◌, if◌then◌else◌}
 use Rattle.std.specs.Cmp.Lexicographic.{slice_cmp}
 use Rattle.std.specs.Ordering.{nat_cmp, match_ordering}
-use Rattle.crs_value.specs.Sound.{Each, IsAxis}
-use Rattle.crs_value.specs.SoundCompound.{IsHorizontal}
-use Rattle.crs_value.specs.SoundCrs.{IsCrs}
-use Rattle.crs_value.specs.SoundSystem.{IsSystem}
-use Rattle.crs_value.specs.Values.{AxisParts, SystemParts}
+use Rattle.crs_value.specs.Prelude.{IsAxis, IsHorizontal, IsCrs, IsSystem, AxisParts, SystemParts}
+use Rattle.crs_value.specs.Sound.{Each}
 use Rattle.crs_value.specs.declared.values.compound.Horizontal.{Horizontal}
 use Rattle.crs_value.specs.declared.values.compound.Horizontal.TheVariants as horizontals
 use Rattle.crs_value.specs.declared.values.crs.Crs.{Crs}

@@ -5,34 +5,20 @@ use Rattle.std.specs.List.{list_all}
 use Rattle.std.specs.Option.{is_some, option_map}
 use Rattle.crs_shape.specs.declared.class.Class.TheVariants as class
 use Rattle.crs_shape.specs.declared.unit_kind.UnitKind.TheVariants as kinds
-use Rattle.crs_value.specs.CompoundValues.{CompoundParts}
-use Rattle.crs_value.specs.ConversionValues.{ParameterParts}
-use Rattle.crs_value.specs.CrsValues.{BaseParts, GeodeticParts, ProjectedParts, VerticalParts}
-use Rattle.crs_value.specs.Kept.{kept}
-use Rattle.crs_value.specs.NamedValues.{IdentParts, NamedParts}
+use Rattle.crs_value.specs.Prelude.{CompoundParts, ParameterParts, BaseParts, GeodeticParts, ProjectedParts, VerticalParts, kept, NamedParts, IsParameter, IsHorizontal, IsCrs, IsProjected, AxisParts, ExtentParts, MeridianParts, SystemParts, TailParts, UnitParts, UsageParts}
+use Rattle.crs_value.specs.NamedValues.{IdentParts}
 use Rattle.crs_value.specs.Sound.{Each}
-use Rattle.crs_value.specs.SoundConversion.{IsParameter}
-use Rattle.crs_value.specs.SoundCompound.{IsHorizontal}
-use Rattle.crs_value.specs.SoundCrs.{IsCrs}
-use Rattle.crs_value.specs.SoundSingle.{IsProjected}
-use Rattle.crs_value.specs.Values.{AxisParts, ExtentParts, MeridianParts, SystemParts, TailParts, UnitParts, UsageParts}
 use Rattle.crs_value.specs.declared.values.compound.Horizontal.{Horizontal}
 use Rattle.crs_value.specs.declared.values.compound.Horizontal.TheVariants as horizontals
 use Rattle.crs_value.specs.declared.values.crs.Crs.{Crs}
 use Rattle.crs_value.specs.declared.values.crs.Crs.TheVariants as crs
 use Rattle.crs_value.specs.declared.values.level.Level.{Level}
 use Rattle.crs_value.specs.declared.values.level.Level.TheVariants as levels
-use Rattle.crs_text.specs.Written.{item_text}
+use Rattle.crs_text.specs.Prelude.{item_text}
 use Rattle.crs_normal.proofs.members.ParameterLemmas.{parameter-kept}
 use Rattle.crs_normal.proofs.members.SetLemmas.{each-has, each-in_order, each-of, in_order-has}
-use Rattle.crs_normal.specs.Ordered.{StaysInOrder, in_order}
-use Rattle.crs_normal.specs.SpelledConversions.{item_geoid_model, item_parameter, norm_geoid_model, norm_parameter, set_geoid_models, set_parameters}
-use Rattle.crs_normal.specs.SpelledCrs.{norm_base, norm_compound, norm_crs, norm_geodetic, norm_horizontal, norm_projected, norm_vertical}
-use Rattle.crs_normal.specs.SpelledFrames.{is_zero, norm_meridian}
-use Rattle.crs_normal.specs.SpelledSystems.{norm_system}
-use Rattle.crs_normal.specs.SpelledUnits.{item_ident, norm_length, norm_units}
-use Rattle.crs_normal.specs.SpelledUsages.{item_usage, norm_extent, norm_tail, norm_usage, set_usages}
-use Rattle.crs_matching.specs.SameUsages.{usages_of}
+use Rattle.crs_normal.specs.Prelude.{StaysInOrder, in_order, item_geoid_model, item_parameter, norm_geoid_model, norm_parameter, set_geoid_models, set_parameters, norm_base, norm_compound, norm_crs, norm_geodetic, norm_horizontal, norm_projected, norm_vertical, is_zero, norm_meridian, norm_system, item_ident, norm_length, norm_units, item_usage, norm_extent, norm_tail, norm_usage, set_usages}
+use Rattle.crs_matching.specs.Prelude.{usages_of}
 use Rattle.crs_rules.specs.LowerLaws.{SetLaws}
 use Rattle.crs_rules.specs.Rewritten.{across, arranged, arranged_compound, arranged_crs, arranged_geodetic, arranged_projected, arranged_vertical, base, compound, counted, extent, geodetic, has_own_unit, is_idle, meridian, named, parameter, projected, renamed, rewritten, system, tail, units, usage, vertical}
 use Rattle.crs_rules.specs.Rules.{Meaning}

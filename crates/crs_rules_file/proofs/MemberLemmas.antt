@@ -1,15 +1,12 @@
 -- What nodes say: there is nothing else, and a name is a text.
 use Rattle.std.proofs.Common.{◌≡◌, ◌≢◌, ◌⊎◌, inl, inr, Option, Some, None, IsTrue, false, subst, ◌∙◌}
-use Rattle.crs_decimal.specs.Value.{Value}
-use Rattle.crs_text.specs.Items.{Item, leaf, node, Siblings, End, More, IsNumberOf, first_of, kind_of_item, raw_of, rest_of}
-use Rattle.crs_text.specs.Tokens.{number, text, word}
-use Rattle.crs_text.specs.Written.{AreFormed}
+use Rattle.crs_decimal.specs.Prelude.{Value}
+use Rattle.crs_text.specs.Prelude.{Item, leaf, node, Siblings, End, More, IsNumberOf, first_of, kind_of_item, raw_of, rest_of, number, text, word, AreFormed}
 use Rattle.crs_text.specs.declared.items.ItemKind.{ItemKind}
 use Rattle.crs_text.specs.declared.items.ItemKind.TheVariants as kinds
 use Rattle.crs_shape.specs.declared.class.Class.{Class}
 use Rattle.crs_shape.specs.declared.unit_kind.UnitKind.{UnitKind}
-use Rattle.crs_value.specs.BadValue.{IsAboveZero}
-use Rattle.crs_value.specs.Sound.{IsText}
+use Rattle.crs_value.specs.Prelude.{IsAboveZero, IsText}
 use Rattle.crs_rules_file.specs.Members.{MemberParts, SaysFactor, SaysName, kind_of}
 use Rattle.crs_rules_file.specs.Named.{IsFactor, SaysNamed}
 use Rattle.crs_rules_file.proofs.OneLemmas.{DenotesOne}

@@ -1,10 +1,9 @@
 -- Whether a node is among those that stand in sets.
-use Rattle.std.proofs.Common.{◌≡◌, ◌⊎◌, ◌++◌, ◌∷◌, [], Bool, List, true, false, inl, inr, refl, sym, ap, ◌∙◌, subst}
-use Rattle.std.specs.Prelude.{not, if◌then◌else◌, ◌||◌}
+use Rattle.std.proofs.Common.{◌≡◌, ◌⊎◌, ◌++◌, ◌∷◌, [], Bool, List, true, false, inl, inr, refl, sym, ap, ◌∙◌, subst, not, if◌then◌else◌, ◌||◌}
 use Rattle.std.specs.List.{list_any}
 use Rattle.std.proofs.lemmas.Bool.{cases_Bool}
 use Rattle.indexmap.specs.IndexSet.{insert_key}
-use Rattle.crs_value.specs.Reading.{OneIs}
+use Rattle.crs_value.specs.Prelude.{OneIs}
 use Rattle.crs_rules_file.specs.Equality.{members_equal}
 use Rattle.crs_rules_file.specs.EqualityLaws.{members-decide}
 use Rattle.crs_rules_file.specs.Members.{MemberParts}

@@ -1,15 +1,12 @@
 -- Bytes spell rules in one way at most, or are refused in one way at most, and never both.
-use Rattle.std.proofs.Common.{◌≡◌, ℕ, ◌++◌, ◌∷◌, [], List, Bool, IsTrue, IsFalse, Option, None, Some, inl, inr, sym, subst, ap, ◌∙◌, arith, length}
-use Rattle.std.specs.Prelude.{codes}
+use Rattle.std.proofs.Common.{◌≡◌, ℕ, ◌++◌, ◌∷◌, [], List, Bool, IsTrue, IsFalse, Option, None, Some, inl, inr, sym, subst, ap, ◌∙◌, arith, length, codes}
 use Rattle.std.specs.Str.{str_eq_ignore_ascii_case, str_to_ascii_lowercase}
 use Rattle.std.proofs.lemmas.Slice.Eq.{bytes_eq-Decides}
-use Rattle.crs_decimal.specs.Bounds.{Denotes}
-use Rattle.crs_decimal.specs.Value.{IsNormal, Value, exact}
-use Rattle.crs_text.specs.Items.{Item, Siblings, End, More, arguments, raw_of}
-use Rattle.crs_text.specs.TextFault.{RefusesText, SpellsNode}
+use Rattle.crs_decimal.specs.Prelude.{Denotes, IsNormal, Value, exact}
+use Rattle.crs_text.specs.Prelude.{Item, Siblings, End, More, arguments, raw_of, RefusesText, SpellsNode}
 use Rattle.crs_shape.specs.declared.unit_kind.UnitKind.{UnitKind}
-use Rattle.crs_streams.specs.Lines.{AreLines}
-use Rattle.crs_value.specs.Reading.{OneIs}
+use Rattle.crs_streams.specs.Prelude.{AreLines}
+use Rattle.crs_value.specs.Prelude.{OneIs}
 use Rattle.crs_rules.specs.declared.uncounted.Uncounted.{Uncounted}
 use Rattle.crs_rules_file.specs.declared.fault.RulesRefusal.{RulesRefusal}
 use Rattle.crs_rules_file.specs.Members.{MemberParts, Says, SaysFactor, SaysName, kind_of}

@@ -1,12 +1,10 @@
 -- Lines in another order: what each of them adds depends on nothing that other lines add.
 use Rattle.std.proofs.Common.{◌≡◌, ◌⊎◌, ◌||◌, ◌++◌, ◌∷◌, [], ℕ, List, Bool, true, false, Option, None, Some, ap, append-nil, append_assoc, inl, inr, refl, sym, subst, ◌∙◌, codes, if◌then◌else◌}
 use Rattle.std.specs.Str.{str_eq_ignore_ascii_case}
-use Rattle.crs_text.specs.Items.{Item, leaf, node, Siblings, End, More, arguments}
-use Rattle.crs_text.specs.Tokens.{number, text, word}
+use Rattle.crs_text.specs.Prelude.{Item, leaf, node, Siblings, End, More, arguments, number, text, word}
 use Rattle.crs_shape.specs.declared.unit_kind.UnitKind.{UnitKind}
-use Rattle.crs_value.specs.Reading.{OneIs}
+use Rattle.crs_value.specs.Prelude.{OneIs, IsIn}
 use Rattle.crs_value.specs.Sound.{Each}
-use Rattle.crs_value.specs.Members.{IsIn}
 use Rattle.crs_rules.specs.NoRules.{nothing}
 use Rattle.crs_rules.specs.OrderOfRules.{DifferInOrder, HaveSameMembers}
 use Rattle.crs_rules.specs.ReorderedAxes.{IsReordered}

@@ -4,17 +4,15 @@ use Rattle.std.specs.Cmp.{first_so, second_so}
 use Rattle.std.specs.Str.{bytes_eq}
 use Rattle.std.proofs.lemmas.Slice.Eq.{bytes_eq-Decides}
 use denote.Enum.Bare.{sameb, same_true}
-use Rattle.crs_decimal.specs.Bounds.{Denotes}
-use Rattle.crs_decimal.specs.Plain.{plain}
-use Rattle.crs_decimal.specs.Value.{IsNormal, Value, exact, zero}
-use Rattle.crs_text.specs.Items.{Item, Siblings, End, More, arguments}
+use Rattle.crs_decimal.specs.Prelude.{Denotes, plain, IsNormal, Value, exact, zero}
+use Rattle.crs_text.specs.Prelude.{Item, Siblings, End, More, arguments}
 use Rattle.crs_shape.specs.contracts.class.Class.{the_type}
 use Rattle.crs_shape.specs.declared.class.Class.{Class}
 use Rattle.crs_shape.specs.declared.class.Class.TheVariants as class
 use Rattle.crs_shape.specs.declared.unit_kind.UnitKind.{UnitKind}
 use Rattle.crs_shape.specs.declared.unit_kind.UnitKind.TheVariants as kind
 use Rattle.crs_shape.specs.contracts.unit_kind.UnitKind.{the_type as kind_type}
-use Rattle.crs_value.specs.Reading.{OneIs, is_same}
+use Rattle.crs_value.specs.Prelude.{OneIs, is_same}
 use Rattle.crs_value.specs.Sound.{Each}
 use Rattle.crs_rules.specs.Rules.{NameAliasParts, RulesParts, UnitAliasParts, is_name_alias, is_unit_alias}
 use Rattle.crs_rules.specs.SteadyRules.{AreSteady, NamesAgree, UnitsAgree, unit_written}

@@ -1,7 +1,7 @@
 -- Walks over some things, one after another: what leads from one reading to another, as far as it was gone.
 use Rattle.std.proofs.Common.{◌≡◌, ◌≢◌, ℕ, Option, None, Some, sym, List, ◌∷◌, inl, inr, refl, subst}
-use Rattle.crs_text.specs.Items.{IsAt, Item, Siblings, End, More, first_of, here, rest_of}
-use Rattle.crs_value.specs.Reading.{Holds, ahead, item_at}
+use Rattle.crs_text.specs.Prelude.{IsAt, Item, Siblings, End, More, first_of, here, rest_of}
+use Rattle.crs_value.specs.Prelude.{Holds, ahead, item_at}
 use Rattle.crs_rules_file.specs.declared.fault.RulesFault.{RulesFault}
 use Rattle.crs_rules_file.specs.declared.fault.RulesFault.TheVariants as faults
 use Rattle.crs_rules_file.specs.declared.fault.RulesRefusal.{RulesRefusal}

@@ -1,10 +1,9 @@
 -- The answer of `check`, put together from what was read and what was found.
-use Rattle.std.proofs.Common.{ℕ, List, inl, inr, Result, Ok, Err}
-use Rattle.std.specs.Prelude.{MatchResult}
-use Rattle.crs_text.specs.Refusal.{RefusedAt}
+use Rattle.std.proofs.Common.{ℕ, List, inl, inr, Result, Ok, Err, MatchResult}
+use Rattle.crs_text.specs.Prelude.{RefusedAt}
 use Rattle.crs_value.specs.declared.values.crs.Kind.{Kind}
-use Rattle.crs_value.specs.SpellsText.{SpellsKind, Refuses}
-use Rattle.crs_streams.specs.Streams.{SourceState, SinkState}
+use Rattle.crs_value.specs.Prelude.{SpellsKind, Refuses}
+use Rattle.crs_streams.specs.Prelude.{SourceState, SinkState}
 use Rattle.crs_runs.specs.Ending.{IsWritten, IsAnswered}
 use Rattle.crs_runs.specs.Output.{IsCheckOutput, WritesFound}
 use Rattle.crs_runs.specs.Pieces.{IsHeldOf, IsWholeHeld}

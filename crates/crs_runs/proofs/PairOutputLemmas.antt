@@ -1,7 +1,7 @@
 -- What is written for two texts, put together from what was found out about them.
 use Rattle.std.proofs.Common.{ℕ, List, codes, inl, inr}
 use Rattle.crs_value.specs.declared.values.crs.Crs.{Crs}
-use Rattle.crs_value.specs.SpellsText.{Spells}
+use Rattle.crs_value.specs.Prelude.{Spells}
 use Rattle.crs_runs.specs.PairOutput.{IsPairOutput, IsSecondOutput}
 
 module _ (Refused : List ℕ → List ℕ → List ℕ → ℕ → Type 0) (Compared : Crs → Crs → List ℕ → ℕ → Type 0) where

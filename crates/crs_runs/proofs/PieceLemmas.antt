@@ -1,23 +1,15 @@
 -- What a feeder holds of a text: from piece to piece, and what it answers at the end.
-use Rattle.std.proofs.Common.{◌≡◌, ◌++◌, ◌≤◌, ℕ, Bool, true, false, List, Some, inl, inr, subst, sym, arith, take, length, length-append, length-take, Result, Ok, Err}
-use Rattle.std.specs.Prelude.{MatchResult}
+use Rattle.std.proofs.Common.{◌≡◌, ◌++◌, ◌≤◌, ℕ, Bool, true, false, List, Some, inl, inr, subst, sym, arith, take, length, length-append, length-take, Result, Ok, Err, MatchResult}
 use Rattle.std.specs.Io.{ReadsAtMost}
 use Rattle.std.specs.Io.KnownBytes.{ReadConsumes}
 use Rattle.std.proofs.KnownBytes.{Consumes-trans}
-use Rattle.crs_text.specs.Fault.{refusal_of}
-use Rattle.crs_text.specs.Items.{Item}
-use Rattle.crs_text.specs.Refusal.{RefusedAt}
-use Rattle.crs_text.specs.Settled.{IsSettledRefusal}
-use Rattle.crs_text.specs.TextFault.{SpellsNode, RefusesText, IsTextFault}
+use Rattle.crs_text.specs.Prelude.{refusal_of, Item, RefusedAt, IsSettledRefusal, SpellsNode, RefusesText, IsTextFault}
 use Rattle.crs_text.specs.declared.fault.Fault.{Fault}
 use Rattle.crs_text.specs.declared.fault.Fault.TheVariants as faults
 use Rattle.crs_value.specs.declared.values.crs.Crs.{Crs}
 use Rattle.crs_value.specs.declared.values.crs.Kind.{Kind}
-use Rattle.crs_value.specs.ReadsCrs.{kind_of}
-use Rattle.crs_value.specs.Spells.{SpellsCrs, RefusesCrs}
-use Rattle.crs_value.specs.SpellsText.{SpellsKind, Refuses}
-use Rattle.crs_streams.specs.Given.{HasGiven}
-use Rattle.crs_streams.specs.Streams.{CountsRead, SourceState}
+use Rattle.crs_value.specs.Prelude.{kind_of, SpellsCrs, RefusesCrs, SpellsKind, Refuses}
+use Rattle.crs_streams.specs.Prelude.{HasGiven, CountsRead, SourceState}
 use Rattle.crs_runs.specs.Pieces.{IsHeld, IsWholeHeld}
 
 -- what a source has given, with one more read

@@ -1,8 +1,8 @@
 -- The axes at a position.
 use Rattle.std.proofs.Common.{◌≡◌, ℕ, ◌+◌, List, [], ◌∷◌, inl, inr, refl, sym, subst}
 use Rattle.std.specs.Prelude.{⊤}
-use Rattle.crs_value.specs.Values.{AxisParts}
-use Rattle.crs_matching.specs.SameSystems.{HasAt}
+use Rattle.crs_value.specs.Prelude.{AxisParts}
+use Rattle.crs_matching.specs.Prelude.{HasAt}
 
 has-mapped : (P Q : AxisParts → Type 0) (position place : ℕ) (axes : List AxisParts) → ((axis : AxisParts) → P axis → Q axis) →
     HasAt position P place axes → HasAt position Q place axes

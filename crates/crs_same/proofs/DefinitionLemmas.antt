@@ -3,28 +3,21 @@ use Rattle.std.proofs.Common.{ℕ, zero, suc, max, inl, inr, Option, Some, None,
 use Rattle.std.specs.Option.{option_and_then}
 use Rattle.crs_shape.specs.declared.unit_kind.UnitKind.{UnitKind}
 use Rattle.crs_shape.specs.declared.unit_kind.UnitKind.TheVariants as kinds
-use Rattle.crs_shape.specs.UnitKinds.{asked_kind}
+use Rattle.crs_shape.specs.Prelude.{asked_kind}
 use Rattle.crs_value.specs.declared.values.compound.Horizontal.TheVariants as horizontal
 use Rattle.crs_value.specs.declared.values.crs.Crs.{Crs}
 use Rattle.crs_value.specs.declared.values.crs.Crs.TheVariants as crs
 use Rattle.crs_value.specs.declared.values.frame.Frame.TheVariants as frame
 use Rattle.crs_value.specs.declared.values.level.Level.TheVariants as levels
-use Rattle.crs_value.specs.ConversionValues.{ParameterParts, GeoidModelParts}
-use Rattle.crs_value.specs.DynamicValues.{DeformationModelParts}
-use Rattle.crs_value.specs.Values.{AxisParts, AxisMeridianParts, MemberParts, SystemParts, UnitParts}
+use Rattle.crs_value.specs.Prelude.{ParameterParts, GeoidModelParts, DeformationModelParts, AxisParts, AxisMeridianParts, MemberParts, SystemParts, UnitParts}
 use Rattle.crs_same.specs.declared.step.Step.{Step}
 use Rattle.crs_same.specs.declared.step.Step.TheVariants as step
 use Rattle.crs_same.specs.Parts.{◌▸◌, Parts, PartsOf, AllSame}
 use Rattle.crs_same.specs.PartsOfCrs.{parts_of_method, parts_of_conversion, parts_of_dynamic, parts_of_tail, parts_of_geodetic, parts_of_base, parts_of_projected, parts_of_vertical, parts_of_horizontal, parts_of_compound}
 use Rattle.crs_same.specs.PartsOfFrames.{parts_of_ellipsoid, parts_of_ellipsoids, parts_of_given, unit_of, or_greenwich, parts_of_meridian, parts_of_datum, parts_of_ensemble, parts_of_frame}
 use Rattle.crs_same.specs.PartsOfSystems.{parts_of_axis, parts_at, parts_of_axes, parts_of_system}
-use Rattle.crs_matching.specs.SameConversions.{SameParameter, SameGeoidModel}
+use Rattle.crs_matching.specs.Prelude.{SameParameter, SameGeoidModel, SameDeformationModel, SameMember, SameAxisMeridian, own_or, SameUnitAsked, SameLength, or_metre, BothOrNeither, HasSame, AllHaveSame, SameSet}
 use Rattle.crs_same.specs.SameCrs.{SameCrs}
-use Rattle.crs_matching.specs.SameDynamic.{SameDeformationModel}
-use Rattle.crs_matching.specs.SameFrames.{SameMember}
-use Rattle.crs_matching.specs.SameSystems.{SameAxisMeridian, own_or}
-use Rattle.crs_matching.specs.SameUnits.{SameUnitAsked, SameLength, or_metre}
-use Rattle.crs_matching.specs.Sets.{BothOrNeither, HasSame, AllHaveSame, SameSet}
 use Rattle.crs_same.specs.SingleParts.{nodes}
 
 -- ---- what may be missing, and sets

@@ -3,11 +3,10 @@ use Rattle.std.proofs.Common.{ℕ, zero, suc, max, Option, Some, None, List, [],
 use Rattle.std.specs.Option.{option_map, option_and_then}
 use Rattle.std.proofs.Math.Nat.{max_comm}
 use Rattle.std.proofs.lemmas.List.{map-append}
-use Rattle.crs_decimal.specs.Value.{Value}
+use Rattle.crs_decimal.specs.Prelude.{Value}
 use Rattle.crs_shape.specs.declared.unit_kind.UnitKind.{UnitKind}
 use Rattle.crs_shape.specs.declared.unit_kind.UnitKind.TheVariants as kinds
-use Rattle.crs_shape.specs.UnitKinds.{asked_kind}
-use Rattle.crs_shape.specs.Words.{direction_word, system_word}
+use Rattle.crs_shape.specs.Prelude.{asked_kind, direction_word, system_word}
 use Rattle.crs_value.specs.declared.values.compound.Horizontal.{Horizontal}
 use Rattle.crs_value.specs.declared.values.compound.Horizontal.TheVariants as horizontal
 use Rattle.crs_value.specs.declared.values.crs.Crs.{Crs}
@@ -15,14 +14,8 @@ use Rattle.crs_value.specs.declared.values.crs.Crs.TheVariants as crs
 use Rattle.crs_value.specs.declared.values.frame.Frame.{Frame}
 use Rattle.crs_value.specs.declared.values.frame.Frame.TheVariants as frame
 use Rattle.crs_value.specs.declared.values.level.Level.{Level}
-use Rattle.crs_value.specs.CompoundValues.{CompoundParts}
-use Rattle.crs_value.specs.ConversionValues.{MethodParts, ConversionParts}
-use Rattle.crs_value.specs.CrsValues.{GeodeticParts, BaseParts, ProjectedParts, VerticalParts}
-use Rattle.crs_value.specs.DynamicValues.{DynamicParts}
-use Rattle.crs_value.specs.Kept.{kept, kept_one}
-use Rattle.crs_value.specs.NamedValues.{NamedParts}
-use Rattle.crs_value.specs.ReadsCrs.{kind_by}
-use Rattle.crs_value.specs.Values.{AxisMeridianParts, AxisParts, EllipsoidParts, IdentParts, MeridianParts, DatumParts, EnsembleParts, SystemParts, TailParts, UnitParts}
+use Rattle.crs_value.specs.Prelude.{CompoundParts, MethodParts, ConversionParts, GeodeticParts, BaseParts, ProjectedParts, VerticalParts, DynamicParts, kept, kept_one, NamedParts, kind_by, AxisMeridianParts, AxisParts, EllipsoidParts, MeridianParts, DatumParts, EnsembleParts, SystemParts, TailParts, UnitParts}
+use Rattle.crs_value.specs.Values.{IdentParts}
 use Rattle.crs_same.specs.declared.content.Content.{Content}
 use Rattle.crs_same.specs.declared.content.Content.TheVariants as content
 use Rattle.crs_same.specs.declared.step.Step.{Step}
@@ -31,13 +24,7 @@ use Rattle.crs_same.specs.Parts.{◌▸◌, Parts, none, part, ◌⨾◌, Differ
 use Rattle.crs_same.specs.PartsOfCrs.{kind_word, parts_of_method, parts_of_conversion, parts_of_dynamic, parts_of_tail, parts_of_geodetic, parts_of_base, parts_of_projected, parts_of_vertical, parts_of_horizontal, parts_of_compound, parts_of_crs}
 use Rattle.crs_same.specs.PartsOfFrames.{unit_of, parts_of_ellipsoid, parts_of_ellipsoids, parts_of_given, or_greenwich, parts_of_meridian, parts_of_datum, parts_of_ensemble, parts_of_frame}
 use Rattle.crs_same.specs.PartsOfSystems.{parts_of_axis, parts_at, parts_of_axes, parts_of_system}
-use Rattle.crs_matching.specs.SameConversions.{SameParameter, SameGeoidModel}
-use Rattle.crs_matching.specs.SameFrames.{SameMember}
-use Rattle.crs_matching.specs.SameIdents.{SameNamed}
-use Rattle.crs_matching.specs.SameSystems.{SameAxisMeridian, own_or}
-use Rattle.crs_matching.specs.SameUnits.{SameValue, SameUnitAsked, or_metre}
-use Rattle.crs_matching.specs.SameUsages.{SameUsage, usages_of}
-use Rattle.crs_matching.specs.Sets.{BothOrNeither}
+use Rattle.crs_matching.specs.Prelude.{SameParameter, SameGeoidModel, SameMember, SameNamed, SameAxisMeridian, own_or, SameValue, SameUnitAsked, or_metre, SameUsage, usages_of, BothOrNeither}
 use Rattle.crs_same.specs.SingleParts.{texts, optional_texts, words, numbers, optional, optional_numbers, units, sets, identifiers, nodes}
 
 -- what differs among these parts does so among those, with its values exchanged

@@ -1,13 +1,9 @@
 -- Each position of a coordinate system has one axis.
 use Rattle.std.proofs.Common.{◌≡◌, ◌≢◌, ℕ, suc, ◌+◌, ◌≤◌, ◌<◌, ◌↔◌, length, IfSome, Some, None, List, [], ◌∷◌, inl, inr, refl, sym, ap, subst, arith}
-use Rattle.crs_decimal.specs.Number.{Number, SameNumber, whole_number}
-use Rattle.crs_decimal.specs.Value.{Value, IsNormal, exact}
-use Rattle.crs_value.specs.BadOrder.{IsPosition}
-use Rattle.crs_value.specs.Sound.{Each, IsAxis}
-use Rattle.crs_value.specs.SoundSystem.{AreOrders, AreDistinct, IsSystem}
-use Rattle.crs_value.specs.Values.{AxisParts, SystemParts}
-use Rattle.crs_matching.specs.SameSystems.{IsPositionOf, HasAt}
-use Rattle.crs_matching.specs.SameUnits.{SameValue}
+use Rattle.crs_decimal.specs.Prelude.{Number, SameNumber, whole_number, Value, IsNormal, exact}
+use Rattle.crs_value.specs.Prelude.{IsPosition, IsAxis, AreOrders, AreDistinct, IsSystem, AxisParts, SystemParts}
+use Rattle.crs_value.specs.Sound.{Each}
+use Rattle.crs_matching.specs.Prelude.{IsPositionOf, HasAt, SameValue}
 use Rattle.crs_same.proofs.CountLemmas.{Within, Among, Lacks, Apart, among-or-lacks, each-stands}
 use Rattle.crs_same.proofs.NumberLemmas.{wholes-same}
 

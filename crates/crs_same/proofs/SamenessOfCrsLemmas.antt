@@ -5,18 +5,10 @@ use Rattle.crs_value.specs.declared.values.compound.Horizontal.TheVariants as ho
 use Rattle.crs_value.specs.declared.values.crs.Crs.{Crs}
 use Rattle.crs_value.specs.declared.values.crs.Crs.TheVariants as crs
 use Rattle.crs_value.specs.declared.values.level.Level.{Level}
-use Rattle.crs_value.specs.ReadsCrs.{kind_by, kind_of}
-use Rattle.crs_value.specs.SoundCompound.{IsHorizontal, IsCompound}
-use Rattle.crs_value.specs.SoundCrs.{IsCrs}
-use Rattle.crs_value.specs.SoundSingle.{IsGeodetic, IsProjected, IsVertical}
-use Rattle.crs_value.specs.SoundSystem.{IsSystem}
-use Rattle.crs_matching.specs.Sameness.{IsSameness, IsSamenessOf}
+use Rattle.crs_value.specs.Prelude.{kind_by, kind_of, IsHorizontal, IsCompound, IsCrs, IsGeodetic, IsProjected, IsVertical, IsSystem}
+use Rattle.crs_matching.specs.Prelude.{IsSameness, IsSamenessOf, SameGeoidModel, SameIdents, SameUnit, equal-by, by, ◌⊗◌, in-words, over, of, optional, set}
 use Rattle.crs_same.specs.Agreement.{AgreeConversion, AgreeGeodetic, AgreeBase, AgreeProjected, AgreeVertical, AgreeHorizontal, AgreeCompound, AgreeParts, AgreeCrs, AgreeDynamic, AgreeMeridian, AgreeFrame, AgreeSystem, AgreeTail}
-use Rattle.crs_matching.specs.SameConversions.{SameGeoidModel}
 use Rattle.crs_same.specs.SameCrs.{IsHorizontalPart}
-use Rattle.crs_matching.specs.SameIdents.{SameIdents}
-use Rattle.crs_matching.specs.SameUnits.{SameUnit}
-use Rattle.crs_matching.specs.SamenessLaws.{equal-by, by, ◌⊗◌, in-words, over, of, optional, set}
 
 pub base : (level : Level) → IsSameness (AgreeDynamic level) → IsSameness (AgreeFrame level) → IsSameness (AgreeMeridian level) →
     IsSameness (SameUnit kinds.Angle level) →

@@ -1,10 +1,7 @@
 -- The sameness of dynamic parts.
 use Rattle.crs_value.specs.declared.values.level.Level.{Level}
-use Rattle.crs_matching.specs.Sameness.{IsSameness}
+use Rattle.crs_matching.specs.Prelude.{IsSameness, SameDeformationModel, SameValue, by, ◌⊗◌, in-words, optional}
 use Rattle.crs_same.specs.Agreement.{AgreeDynamic}
-use Rattle.crs_matching.specs.SameDynamic.{SameDeformationModel}
-use Rattle.crs_matching.specs.SameUnits.{SameValue}
-use Rattle.crs_matching.specs.SamenessLaws.{by, ◌⊗◌, in-words, optional}
 
 pub dynamic : (level : Level) → IsSameness SameValue → IsSameness (SameDeformationModel level) → IsSameness (AgreeDynamic level)
 dynamic level number model =

@@ -4,15 +4,10 @@ use Rattle.crs_shape.specs.declared.unit_kind.UnitKind.TheVariants as kinds
 use Rattle.crs_value.specs.declared.values.frame.Frame.{Frame}
 use Rattle.crs_value.specs.declared.values.frame.Frame.TheVariants as frame
 use Rattle.crs_value.specs.declared.values.level.Level.{Level}
-use Rattle.crs_value.specs.Values.{MeridianParts}
-use Rattle.crs_matching.specs.Sameness.{IsSameness}
+use Rattle.crs_value.specs.Prelude.{MeridianParts}
+use Rattle.crs_matching.specs.Prelude.{IsSameness, IsZero, SameMember, SameIdents, SameValue, SameUnit, SameLength, BothOrNeither, equal-by, by, ◌⊗◌, in-words, optional, set}
 use Rattle.crs_same.specs.Agreement.{AgreeEllipsoid, AgreeGiven, AgreeMeridian, AgreeDatum, AgreeEnsemble, AgreeFrame}
 use Rattle.crs_same.specs.PartsOfFrames.{or_greenwich}
-use Rattle.crs_matching.specs.SameFrames.{IsZero, SameMember}
-use Rattle.crs_matching.specs.SameIdents.{SameIdents}
-use Rattle.crs_matching.specs.SameUnits.{SameValue, SameUnit, SameLength}
-use Rattle.crs_matching.specs.Sets.{BothOrNeither}
-use Rattle.crs_matching.specs.SamenessLaws.{equal-by, by, ◌⊗◌, in-words, optional, set}
 use Rattle.crs_same.proofs.SamenessOfPartsLemmas.{whole}
 
 pub ellipsoid : (level : Level) → IsSameness SameValue → IsSameness (SameLength level) → IsSameness (SameIdents level) →

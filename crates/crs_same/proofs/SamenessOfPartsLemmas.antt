@@ -1,14 +1,10 @@
 -- The sameness of conversions and of the ends of CRSs.
 use Rattle.std.specs.Prelude.{pos, false, ℕ}
-use Rattle.crs_decimal.specs.Value.{Value}
+use Rattle.crs_decimal.specs.Prelude.{Value}
 use Rattle.crs_value.specs.declared.values.level.Level.{Level}
-use Rattle.crs_value.specs.Kept.{kept, kept_one}
-use Rattle.crs_matching.specs.Sameness.{IsSameness}
+use Rattle.crs_value.specs.Prelude.{kept, kept_one}
+use Rattle.crs_matching.specs.Prelude.{IsSameness, SameParameter, SameIdents, SameUsage, SameUsages, SameRemark, usages_of, equal-by, by, ◌⊗◌, in-words, set}
 use Rattle.crs_same.specs.Agreement.{AgreeMethod, AgreeConversion, AgreeTail}
-use Rattle.crs_matching.specs.SameConversions.{SameParameter}
-use Rattle.crs_matching.specs.SameIdents.{SameIdents}
-use Rattle.crs_matching.specs.SameUsages.{SameUsage, SameUsages, SameRemark, usages_of}
-use Rattle.crs_matching.specs.SamenessLaws.{equal-by, by, ◌⊗◌, in-words, set}
 
 -- the decimal that is this whole number
 abbrev pub whole : ℕ → Value

@@ -2,17 +2,12 @@
 use Rattle.std.proofs.Common.{◌≡◌, ◌∙◌, refl, sym, ap, subst, ℕ, ◌≤◌, length, Option}
 use Rattle.std.specs.Prelude.{⊤}
 use Rattle.crs_shape.specs.declared.unit_kind.UnitKind.{UnitKind}
-use Rattle.crs_shape.specs.UnitKinds.{asked_kind}
+use Rattle.crs_shape.specs.Prelude.{asked_kind}
 use Rattle.crs_value.specs.declared.values.level.Level.{Level}
-use Rattle.crs_value.specs.SoundSystem.{IsSystem}
-use Rattle.crs_value.specs.Values.{UnitParts, AxisParts, SystemParts}
-use Rattle.crs_matching.specs.Sameness.{IsSameness, IsSamenessOf}
-use Rattle.crs_matching.specs.SameIdents.{SameIdents}
+use Rattle.crs_value.specs.Prelude.{IsSystem, UnitParts, AxisParts, SystemParts}
+use Rattle.crs_matching.specs.Prelude.{IsSameness, IsSamenessOf, SameIdents, SameAxisMeridian, own_or, HasAt, SameValue, SameUnit, equal-by, by, ◌⊗◌, in-words, optional}
 use Rattle.crs_same.specs.Agreement.{AgreeAxisIn, AgreeAxis, AgreeAxes, AgreeSystem}
-use Rattle.crs_matching.specs.SameSystems.{SameAxisMeridian, own_or, HasAt}
-use Rattle.crs_matching.specs.SameUnits.{SameValue, SameUnit}
 use Rattle.crs_same.proofs.AxisLemmas.{which, at-both, which-both}
-use Rattle.crs_matching.specs.SamenessLaws.{equal-by, by, ◌⊗◌, in-words, optional}
 
 -- ---- axes
 

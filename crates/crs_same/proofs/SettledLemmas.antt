@@ -7,22 +7,14 @@ use Rattle.crs_value.specs.declared.values.crs.Crs.TheVariants as crs
 use Rattle.crs_value.specs.declared.values.frame.Frame.{Frame}
 use Rattle.crs_value.specs.declared.values.frame.Frame.TheVariants as frame
 use Rattle.crs_value.specs.declared.values.level.Level.{Level}
-use Rattle.crs_value.specs.CompoundValues.{CompoundParts}
-use Rattle.crs_value.specs.ConversionValues.{MethodParts, ConversionParts}
-use Rattle.crs_value.specs.CrsValues.{GeodeticParts, BaseParts, ProjectedParts, VerticalParts}
-use Rattle.crs_value.specs.DynamicValues.{DynamicParts}
-use Rattle.crs_value.specs.SoundCompound.{IsCompound, IsHorizontal}
-use Rattle.crs_value.specs.SoundCrs.{IsCrs}
-use Rattle.crs_value.specs.SoundSingle.{IsGeodetic, IsProjected, IsVertical}
-use Rattle.crs_value.specs.SoundSystem.{IsSystem}
-use Rattle.crs_value.specs.Values.{AxisParts, EllipsoidParts, MeridianParts, DatumParts, EnsembleParts, SystemParts, TailParts}
+use Rattle.crs_value.specs.Prelude.{CompoundParts, MethodParts, ConversionParts, GeodeticParts, BaseParts, ProjectedParts, VerticalParts, DynamicParts, IsCompound, IsHorizontal, IsCrs, IsGeodetic, IsProjected, IsVertical, IsSystem, AxisParts, EllipsoidParts, MeridianParts, DatumParts, EnsembleParts, SystemParts, TailParts}
 use Rattle.crs_same.specs.declared.step.Step.{Step}
 use Rattle.crs_same.specs.declared.step.Step.TheVariants as step
 use Rattle.crs_same.specs.Parts.{◌▸◌, Parts}
 use Rattle.crs_same.specs.PartsOfCrs.{parts_of_method, parts_of_conversion, parts_of_dynamic, parts_of_tail, parts_of_geodetic, parts_of_base, parts_of_projected, parts_of_vertical, parts_of_horizontal, parts_of_compound, parts_of_crs}
 use Rattle.crs_same.specs.PartsOfFrames.{parts_of_ellipsoid, parts_of_ellipsoids, parts_of_given, or_greenwich, parts_of_meridian, parts_of_datum, parts_of_ensemble, parts_of_frame}
 use Rattle.crs_same.specs.PartsOfSystems.{parts_of_axis, parts_at, parts_of_axes, parts_of_system}
-use Rattle.crs_matching.specs.SameSystems.{StandsAt, HasAt}
+use Rattle.crs_matching.specs.Prelude.{StandsAt, HasAt}
 use Rattle.crs_same.specs.SingleParts.{nodes}
 use Rattle.crs_same.proofs.AllSameLemmas.{IsSettled}
 use Rattle.crs_same.proofs.AxisLemmas.{has-some}

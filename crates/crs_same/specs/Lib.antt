@@ -6,6 +6,7 @@ pub mod PartsOfCrs
 pub mod PartsOfFrames
 pub mod PartsOfSystems
 pub mod Paths
+pub mod Prelude
 pub mod SameCrs
 pub mod SingleParts
 pub mod Walked

@@ -2,9 +2,7 @@
 use Rattle.std.proofs.Common.{◌≡◌, Bool, true, false, List, [], ◌∷◌, Some, if◌then◌else◌, refl}
 use Rattle.std.specs.List.{find}
 use denote.Enum.Bare.{sameb}
-use Rattle.crs_text.specs.Tokens.{number, text, word}
-use Rattle.crs_text.specs.Items.{Item, leaf, node, kind_of_item, raw_of, keyword_in}
-use Rattle.crs_text.specs.Keywords.{AreSpelled}
+use Rattle.crs_text.specs.Prelude.{number, text, word, Item, leaf, node, kind_of_item, raw_of, keyword_in, AreSpelled}
 use Rattle.crs_text.specs.declared.items.ItemKind.TheVariants.{Node}
 use Rattle.crs_shape.specs.contracts.class.Class.{the_type}
 use Rattle.crs_shape.specs.declared.class.Class.{Class}

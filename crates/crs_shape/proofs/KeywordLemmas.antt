@@ -8,7 +8,7 @@ use Rattle.std.proofs.lemmas.Slice.Eq.{bytes_eq-Decides}
 use denote.Enum.Bare.{sameb, same_true, true_same}
 use Rattle.crs_text.specs.contracts.keyword.Keyword as keywords
 use Rattle.crs_text.specs.declared.keyword.Keyword.{Keyword}
-use Rattle.crs_text.specs.Keywords.{spelling_of, keyword_of, AreSpelled}
+use Rattle.crs_text.specs.Prelude.{spelling_of, keyword_of, AreSpelled}
 use Rattle.crs_shape.specs.contracts.class.Class as classes
 use Rattle.crs_shape.specs.declared.class.Class.{Class}
 use Rattle.crs_shape.specs.Keywords.{keywords_of, has_keyword, is_one_of, is_keyword, first_named, is_known, every_class, root_classes, root_named}

@@ -1,7 +1,6 @@
 -- A whole text has one fault of shape, or none.
 use Rattle.std.proofs.Common.{◌≡◌, ◌⊎◌, inl, inr, Option, Some, None, refl, sym, ◌∙◌}
-use Rattle.crs_text.specs.Items.{Item}
-use Rattle.crs_text.specs.Refusal.{RefusedAt}
+use Rattle.crs_text.specs.Prelude.{Item, RefusedAt}
 use Rattle.crs_shape.specs.declared.class.Class.{Class}
 use Rattle.crs_shape.specs.FirstFault.{first_inside}
 use Rattle.crs_shape.specs.ShapeFault.{misplaced, IsFree, IsOnly, Inside, AtRoot, class_of_root}

@@ -6,9 +6,7 @@ use Rattle.crs_text.specs.contracts.items.ItemKind as kinds
 use Rattle.crs_text.specs.declared.items.ItemKind.{ItemKind}
 use Rattle.crs_text.specs.declared.items.ItemKind.TheVariants as kind
 use Rattle.crs_text.specs.declared.keyword.Keyword.{Keyword}
-use Rattle.crs_text.specs.Items.{Item, leaf, node, kind_of_item, keyword_in}
-use Rattle.crs_text.specs.Keywords.{keyword_of, AreSpelled}
-use Rattle.crs_text.specs.Tokens.{number, text, word}
+use Rattle.crs_text.specs.Prelude.{Item, leaf, node, kind_of_item, keyword_in, keyword_of, AreSpelled, number, text, word}
 use Rattle.crs_shape.specs.contracts.class.Class.{the_type}
 use Rattle.crs_shape.specs.declared.class.Class.{Class}
 use Rattle.crs_shape.specs.declared.class.Class.TheVariants as class

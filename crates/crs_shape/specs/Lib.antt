@@ -9,6 +9,7 @@ pub mod KeywordTable
 pub mod Keywords
 pub mod Left
 pub mod Near
+pub mod Prelude
 pub mod RefusedItem
 pub mod Shape
 pub mod ShapeFault

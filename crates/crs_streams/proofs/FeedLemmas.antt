@@ -1,6 +1,5 @@
 -- Line feeds among bytes, and lines that aren't too long.
-use Rattle.std.proofs.Common.{◌≡◌, ◌⊎◌, ◌+◌, ◌≤◌, ◌++◌, ◌∷◌, [], ℕ, List, true, false, length, inl, inr, ap, subst, sym, refl, ◌∙◌, arith, append_assoc, length-append}
-use Rattle.std.specs.Prelude.{◌==◌, cond}
+use Rattle.std.proofs.Common.{◌≡◌, ◌⊎◌, ◌+◌, ◌≤◌, ◌++◌, ◌∷◌, [], ℕ, List, true, false, length, inl, inr, ap, subst, sym, refl, ◌∙◌, arith, append_assoc, length-append, ◌==◌, cond}
 use Rattle.std.proofs.lemmas.Bool.{eqb-true, false≢true}
 use Rattle.std.proofs.lemmas.List.Sums.{sum_by-append}
 use Rattle.crs_streams.specs.EndedLines.{AreEnded}

@@ -1,6 +1,5 @@
 -- The first line feed among bytes, as it is searched for.
-use Rattle.std.proofs.Common.{◌≡◌, ◌⊎◌, ◌+◌, ◌-◌, ◌<◌, ◌++◌, ◌∷◌, [], ℕ, zero, suc, List, Some, None, true, false, length, take, drop, inl, inr, ap, subst, sym, refl, ◌∙◌, arith, length-drop}
-use Rattle.std.specs.Prelude.{◌==◌, slice_index}
+use Rattle.std.proofs.Common.{◌≡◌, ◌⊎◌, ◌+◌, ◌-◌, ◌<◌, ◌++◌, ◌∷◌, [], ℕ, zero, suc, List, Some, None, true, false, length, take, drop, inl, inr, ap, subst, sym, refl, ◌∙◌, arith, length-drop, ◌==◌, slice_index}
 use Rattle.std.proofs.lemmas.Bool.{cases_Bool, eqb-true}
 use Rattle.std.proofs.lemmas.List.{take_all}
 use Rattle.bstr.specs.Find.{IsFirstByte, is_byte}

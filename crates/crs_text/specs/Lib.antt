@@ -9,6 +9,7 @@ pub mod Laid
 pub mod Lexing
 pub mod Nesting
 pub mod Position
+pub mod Prelude
 pub mod Quoted
 pub mod Refusal
 pub mod Rows

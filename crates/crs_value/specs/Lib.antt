@@ -23,6 +23,7 @@ pub mod KeptLaws
 pub mod Least
 pub mod Members
 pub mod NamedValues
+pub mod Prelude
 pub mod ReadOnce
 pub mod Reading
 pub mod Reads

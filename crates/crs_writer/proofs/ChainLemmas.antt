@@ -1,9 +1,8 @@
 -- Arguments of one class, of which one is taken after another.
 use Rattle.std.proofs.Common.{◌≡◌, ℕ, suc, ◌<◌, length, List, [], ◌∷◌, Option, Some, None, refl, ap, subst, arith}
-use Rattle.crs_text.specs.Items.{Item, rest_of, here}
+use Rattle.crs_text.specs.Prelude.{Item, rest_of, here}
 use Rattle.crs_shape.specs.declared.class.Class.{Class}
-use Rattle.crs_value.specs.FoundArguments.{from_found}
-use Rattle.crs_value.specs.Reading.{item_at, those, IsFound, ReadsEach}
+use Rattle.crs_value.specs.Prelude.{from_found, item_at, those, IsFound, ReadsEach}
 use Rattle.crs_value.proofs.found.ArgumentLemmas.{found-is}
 use Rattle.crs_writer.specs.Parts.{SaysFirst}
 

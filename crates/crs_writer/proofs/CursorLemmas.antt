@@ -2,11 +2,10 @@
 use Rattle.std.proofs.Common.{◌≡◌, List, [], ◌∷◌, Option, Some, None, sym, subst, ◌∙◌}
 use Rattle.std.specs.Option.{option_copied}
 use denote.Bor.{Bor}
-use Rattle.crs_text.specs.Items.{Item}
+use Rattle.crs_text.specs.Prelude.{Item}
 use Rattle.crs_shape.specs.declared.class.Class.{Class}
 use Rattle.crs_shape.specs.declared.class.Class.TheVariants as class
-use Rattle.crs_value.specs.Reading.{ReadsEach, ReadsElse, ReadsFirst, ReadsOptional}
-use Rattle.crs_value.specs.ReadsCrs.{IsGeodeticClass, ReadsAsDatum, ReadsAsEnsemble, ReadsAsHorizontal, ReadsCompound, ReadsCrs, ReadsGeodetic, ReadsProjected, ReadsVertical}
+use Rattle.crs_value.specs.Prelude.{ReadsEach, ReadsElse, ReadsFirst, ReadsOptional, IsGeodeticClass, ReadsAsDatum, ReadsAsEnsemble, ReadsAsHorizontal, ReadsCompound, ReadsCrs, ReadsGeodetic, ReadsProjected, ReadsVertical}
 use Rattle.crs_value.specs.declared.values.compound.Horizontal.{Horizontal}
 use Rattle.crs_value.specs.declared.values.compound.Horizontal.TheVariants as horizontal
 use Rattle.crs_value.specs.declared.values.crs.Crs.TheVariants as crs

@@ -1,24 +1,17 @@
 -- What is written of sets that have no members, of an ensemble in the place of a frame, or where a level doesn't keep a part.
 use Rattle.std.proofs.Common.{◌≡◌, ℕ, List, [], ◌∷◌, ◌++◌, Option, Some, None, true, false, IsSome, inl, inr, map, refl, sym, ap, subst, ◌∙◌}
 use Rattle.std.proofs.lemmas.List.{append-nil}
-use Rattle.crs_text.specs.Items.{Item, End, arguments}
-use Rattle.crs_text.specs.Written.{item_text, others_text}
+use Rattle.crs_text.specs.Prelude.{Item, End, arguments, item_text, others_text}
 use Rattle.crs_shape.specs.declared.class.Class.{Class}
 use Rattle.crs_shape.specs.declared.class.Class.TheVariants as class
-use Rattle.crs_value.specs.Kept.{kept, kept_one}
-use Rattle.crs_value.specs.Reading.{those, ReadsEach, ReadsElse, ReadsFirst, ReadsOne, ReadsOptional}
-use Rattle.crs_value.specs.Reads.{LacksUsage, ReadsBare, ReadsBox, ReadsEnsemble, ReadsExtent, ReadsTextOf, ReadsUsage}
-use Rattle.crs_value.specs.ReadsCrs.{ReadsAsDatum, ReadsAsEnsemble, ReadsFrame}
-use Rattle.crs_value.specs.Values.{IdentParts, SaysSome, UsageParts}
+use Rattle.crs_value.specs.Prelude.{kept, kept_one, those, ReadsEach, ReadsElse, ReadsFirst, ReadsOne, ReadsOptional, LacksUsage, ReadsBare, ReadsBox, ReadsEnsemble, ReadsExtent, ReadsTextOf, ReadsUsage, ReadsAsDatum, ReadsAsEnsemble, ReadsFrame, SaysSome, UsageParts}
+use Rattle.crs_value.specs.Values.{IdentParts}
 use Rattle.crs_value.specs.declared.values.frame.Frame.{Frame}
 use Rattle.crs_value.specs.declared.values.frame.Frame.TheVariants as frame
 use Rattle.crs_value.specs.declared.values.level.Level.{Level}
 use Rattle.crs_value.specs.declared.values.level.Level.TheVariants as levels
-use Rattle.crs_matching.specs.SameUsages.{with_bare}
-use Rattle.crs_normal.specs.SpelledFrames.{item_ensemble, item_frame, norm_ensemble, norm_frame}
-use Rattle.crs_normal.specs.SpelledItems.{each}
-use Rattle.crs_normal.specs.SpelledUnits.{item_ident, set_idents}
-use Rattle.crs_normal.specs.SpelledUsages.{item_usage, norm_usage, set_usages}
+use Rattle.crs_matching.specs.Prelude.{with_bare}
+use Rattle.crs_normal.specs.Prelude.{item_ensemble, item_frame, norm_ensemble, norm_frame, each, item_ident, set_idents, item_usage, norm_usage, set_usages}
 use Rattle.crs_leaves.specs.Direct.{Writes}
 use Rattle.crs_writer.specs.Members.{set_text}
 use Rattle.crs_writer.proofs.WrittenLemmas.{idents-written, usages-written}

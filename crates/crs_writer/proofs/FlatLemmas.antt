@@ -3,20 +3,12 @@ use Rattle.std.proofs.Common.{◌≡◌, ℕ, List, [], ◌∷◌, ◌++◌, Opt
 use Rattle.std.proofs.lemmas.List.{append-nil}
 use Rattle.std.specs.Option.{option_copied, option_map}
 use denote.Bor.{Bor}
-use Rattle.crs_text.specs.Items.{Item, Siblings, End}
-use Rattle.crs_text.specs.Written.{item_text, others_text}
+use Rattle.crs_text.specs.Prelude.{Item, Siblings, End, item_text, others_text}
 use Rattle.crs_shape.specs.declared.unit_kind.UnitKind.{UnitKind}
-use Rattle.crs_decimal.specs.Plain.{plain}
-use Rattle.crs_decimal.specs.Value.{Value}
-use Rattle.crs_value.specs.ConversionValues.{GeoidModelParts, ParameterParts}
-use Rattle.crs_value.specs.Values.{AxisMeridianParts, MemberParts, UnitParts}
+use Rattle.crs_decimal.specs.Prelude.{plain, Value}
+use Rattle.crs_value.specs.Prelude.{GeoidModelParts, ParameterParts, AxisMeridianParts, MemberParts, UnitParts}
 use Rattle.crs_value.specs.declared.values.level.Level.{Level}
-use Rattle.crs_normal.specs.PartTexts.{axis_meridian_text, geoid_model_text, member_text, parameter_text}
-use Rattle.crs_normal.specs.SpelledConversions.{item_geoid_model, item_parameter, set_geoid_models, set_parameters}
-use Rattle.crs_normal.specs.SpelledFrames.{item_member, set_members}
-use Rattle.crs_normal.specs.SpelledItems.{each, number_node, opt}
-use Rattle.crs_normal.specs.SpelledSystems.{item_axis_meridian, norm_axis_meridians}
-use Rattle.crs_normal.specs.SpelledUnits.{item_unit, norm_unit, norm_units}
+use Rattle.crs_normal.specs.Prelude.{axis_meridian_text, geoid_model_text, member_text, parameter_text, item_geoid_model, item_parameter, set_geoid_models, set_parameters, item_member, set_members, each, number_node, opt, item_axis_meridian, norm_axis_meridians, item_unit, norm_unit, norm_units}
 use Rattle.crs_writer.specs.Members.{set_text}
 use Rattle.crs_nodes.specs.Found.{SaysIfAny}
 use Rattle.crs_writer.specs.Parts.{number_behind, opt_text}

@@ -6,7 +6,7 @@ use Rattle.std.specs.Ordering.{nat_cmp, match_ordering}
 use Rattle.std.specs.declared.alloc.Global.{Global}
 use Rattle.std.specs.declared.cmp.Ordering.{Ordering}
 use Rattle.std.specs.declared.cmp.Ordering.TheVariants.{Less}
-use Rattle.crs_normal.specs.Ordered.{put}
+use Rattle.crs_normal.specs.Prelude.{put}
 use Rattle.crs_writer.specs.Members.{spellings}
 
 abbrev pub compared : Vec ℕ Global → Vec ℕ Global → Ordering

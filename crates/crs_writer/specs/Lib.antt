@@ -4,5 +4,6 @@ pub mod Equality
 pub mod EqualityLaws
 pub mod Members
 pub mod Parts
+pub mod Prelude
 pub mod SetText
 pub mod Spans

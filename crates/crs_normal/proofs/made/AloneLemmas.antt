@@ -1,26 +1,17 @@
 -- An axis by itself is accepted, and normal but for a unit that is `UNIT`.
 use Rattle.std.proofs.Common.{◌≡◌, ◌≢◌, ℕ, suc, ◌+◌, ◌≤◌, IsTrue, Option, Some, None, List, [], ◌∷◌, codes, IfSome, length, inl, inr, refl, sym, subst, ◌∙◌, arith}
-use Rattle.crs_decimal.specs.Value.{Value, IsNormal}
-use Rattle.crs_text.specs.Items.{Item, Siblings, End, More, IsNode, arguments, depth, depths}
-use Rattle.crs_text.specs.Refusal.{RefusedAt}
-use Rattle.crs_text.specs.Tokens.{IsWord}
-use Rattle.crs_text.specs.Written.{AreFormed, at_place, at_places, item_text}
+use Rattle.crs_decimal.specs.Prelude.{Value, IsNormal}
+use Rattle.crs_text.specs.Prelude.{Item, Siblings, End, More, IsNode, arguments, depth, depths, RefusedAt, IsWord, AreFormed, at_place, at_places, item_text}
 use Rattle.crs_shape.specs.declared.class.Class.{Class}
 use Rattle.crs_shape.specs.declared.class.Class.TheVariants as class
 use Rattle.crs_shape.specs.declared.unit_kind.UnitKind.{UnitKind}
 use Rattle.crs_shape.specs.declared.unit_kind.UnitKind.TheVariants as kinds
-use Rattle.crs_shape.specs.Keywords.{is_keyword}
-use Rattle.crs_shape.specs.Shape.{Allowed}
-use Rattle.crs_shape.specs.ShapeFault.{class_in}
-use Rattle.crs_shape.specs.Shaped.{Shaped}
-use Rattle.crs_shape.specs.Slots.{class_named, slots_of}
-use Rattle.crs_shape.specs.Words.{direction_word}
-use Rattle.crs_value.specs.Checks.{Breaks, Own as BreaksOwn}
+use Rattle.crs_shape.specs.Prelude.{is_keyword, Allowed, class_in, Shaped, class_named, slots_of, direction_word}
+use Rattle.crs_value.specs.Prelude.{Breaks, those, IsAxis, IsAxisUnit, IsUnit, AxisParts, UnitParts}
+use Rattle.crs_value.specs.Checks.{Own as BreaksOwn}
 use Rattle.crs_value.specs.declared.values.level.Level.{Level}
-use Rattle.crs_value.specs.Reading.{those}
-use Rattle.crs_value.specs.Sound.{Each, IsAxis, IsAxisUnit, IsUnit}
-use Rattle.crs_value.specs.Values.{AxisParts, UnitParts}
-use Rattle.crs_matching.specs.SameUnits.{kind_as}
+use Rattle.crs_value.specs.Sound.{Each}
+use Rattle.crs_matching.specs.Prelude.{kind_as}
 use Rattle.crs_normal.specs.AxisAlone.{AreNormalArguments, IsNormalArgument, IsNormalAxis}
 use Rattle.crs_normal.specs.DecimalLaws.{DecimalLaws}
 use Rattle.crs_normal.specs.Normal.{IsNormalIn}

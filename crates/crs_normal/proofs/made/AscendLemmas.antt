@@ -3,8 +3,7 @@ use Rattle.std.proofs.Common.{◌≢◌, ℕ, List, [], ◌∷◌, map, ◌++◌
 use Rattle.std.proofs.lemmas.List.{append-nil}
 use Rattle.std.specs.Cmp.Lexicographic.{slice_cmp}
 use Rattle.std.specs.Ordering.{nat_cmp}
-use Rattle.crs_text.specs.Items.{Item}
-use Rattle.crs_text.specs.Written.{item_text}
+use Rattle.crs_text.specs.Prelude.{Item, item_text}
 use Rattle.crs_value.specs.Sound.{Each}
 use Rattle.crs_normal.specs.Ascending.{Ascends, Below}
 use Rattle.crs_normal.specs.NormalOwn.{Ascend}

@@ -1,9 +1,7 @@
 -- Axes at their positions are made.
 use Rattle.std.proofs.Common.{◌≡◌, ℕ, zero, suc, ◌≤◌, Option, Some, None, List, [], ◌∷◌, codes, IfSome, inl, inr, refl, sym, ap, subst, arith}
-use Rattle.crs_decimal.specs.Value.{Value, IsNormal}
-use Rattle.crs_text.specs.Items.{Item, Siblings, End, More, arguments}
-use Rattle.crs_text.specs.Refusal.{RefusedAt}
-use Rattle.crs_text.specs.Written.{at_place}
+use Rattle.crs_decimal.specs.Prelude.{Value, IsNormal}
+use Rattle.crs_text.specs.Prelude.{Item, Siblings, End, More, arguments, RefusedAt, at_place}
 use Rattle.crs_shape.specs.declared.class.Class.TheVariants as class
 use Rattle.crs_shape.specs.declared.direction.Direction.{Direction}
 use Rattle.crs_shape.specs.declared.direction.Direction.TheVariants as direction
@@ -11,21 +9,12 @@ use Rattle.crs_shape.specs.declared.system_type.SystemType.{SystemType}
 use Rattle.crs_shape.specs.declared.system_type.SystemType.TheVariants as types
 use Rattle.crs_shape.specs.declared.unit_kind.UnitKind.{UnitKind}
 use Rattle.crs_shape.specs.declared.unit_kind.UnitKind.TheVariants as kinds
-use Rattle.crs_shape.specs.Keywords.{is_keyword}
-use Rattle.crs_shape.specs.Slots.{class_named, slots_of}
-use Rattle.crs_shape.specs.UnitKinds.{asked_kind, kind_by_direction}
-use Rattle.crs_shape.specs.Words.{direction_word, unit_word}
-use Rattle.crs_value.specs.BadOrder.{orders_in}
-use Rattle.crs_value.specs.BadUnit.{units_in}
-use Rattle.crs_value.specs.UnknownWord.{UnknownDirection}
-use Rattle.crs_value.specs.Break.{AnyOf}
+use Rattle.crs_shape.specs.Prelude.{is_keyword, class_named, slots_of, asked_kind, kind_by_direction, direction_word, unit_word}
+use Rattle.crs_value.specs.Prelude.{orders_in, units_in, UnknownDirection, AnyOf, those, ReadsDirection, IsAxis, IsAxisMeridian, IsUnitOf, AxisMeridianParts, AxisParts, SystemParts, UnitParts}
 use Rattle.crs_value.specs.Checks.{Own as BreaksOwn}
 use Rattle.crs_value.specs.declared.values.level.Level.{Level}
-use Rattle.crs_value.specs.Reading.{those}
-use Rattle.crs_value.specs.Reads.{ReadsDirection}
-use Rattle.crs_value.specs.Sound.{Each, IsAxis, IsAxisMeridian, IsUnitOf}
-use Rattle.crs_value.specs.Values.{AxisMeridianParts, AxisParts, SystemParts, UnitParts}
-use Rattle.crs_matching.specs.SameSystems.{own_or}
+use Rattle.crs_value.specs.Sound.{Each}
+use Rattle.crs_matching.specs.Prelude.{own_or}
 use Rattle.crs_normal.specs.DecimalLaws.{DecimalLaws}
 use Rattle.crs_normal.specs.AcceptedNormal.{IsKindIn, IsAcceptedNormal}
 use Rattle.crs_normal.specs.SpelledItems.{each, number_item, number_node, opt, text_item, word_item}

@@ -1,20 +1,15 @@
 -- What CRSs with a coordinate system have after their other parts is made: the system and the end.
 use Rattle.std.proofs.Common.{◌≡◌, ◌≢◌, ℕ, suc, ◌≤◌, List, [], ◌∷◌, length, map, codes, Some, refl, sym, ap, subst, ◌∙◌, arith, None}
 use Rattle.std.proofs.lemmas.List.{append-nil, length-map}
-use Rattle.crs_decimal.specs.Number.{SameNumber, whole_number}
-use Rattle.crs_decimal.specs.Value.{exact}
-use Rattle.crs_text.specs.Items.{Item, arguments}
+use Rattle.crs_decimal.specs.Prelude.{SameNumber, whole_number, exact}
+use Rattle.crs_text.specs.Prelude.{Item, arguments}
 use Rattle.crs_shape.specs.declared.class.Class.{Class}
 use Rattle.crs_shape.specs.declared.class.Class.TheVariants as class
 use Rattle.crs_shape.specs.declared.system_type.SystemType.{SystemType}
-use Rattle.crs_shape.specs.Slots.{class_named}
-use Rattle.crs_shape.specs.Dimensions.{IsOneOf}
-use Rattle.crs_value.specs.Kept.{kept_one}
+use Rattle.crs_shape.specs.Prelude.{class_named, IsOneOf}
+use Rattle.crs_value.specs.Prelude.{kept_one, those, IsSystem, AxisParts, SystemParts, TailParts}
 use Rattle.crs_value.specs.declared.values.level.Level.{Level}
-use Rattle.crs_value.specs.Reading.{those}
 use Rattle.crs_value.specs.Sound.{Each}
-use Rattle.crs_value.specs.SoundSystem.{IsSystem}
-use Rattle.crs_value.specs.Values.{AxisParts, SystemParts, TailParts}
 use Rattle.crs_normal.specs.DecimalLaws.{DecimalLaws}
 use Rattle.crs_normal.specs.SpelledSystems.{axes_from, item_axis, item_head, norm_system}
 use Rattle.crs_normal.proofs.made.CheckLemmas.{IsSystemSeen}

@@ -1,24 +1,14 @@
 -- A system that is made breaks no check, and its axes are normal.
 use Rattle.std.proofs.Common.{◌≡◌, ◌⊎◌, ℕ, ◌+◌, ◌<◌, ◌≤◌, ◌++◌, List, [], ◌∷◌, length, map, codes, decimal, inl, inr, refl, sym, ap, subst, ◌∙◌, arith}
 use Rattle.std.proofs.lemmas.List.{append-nil}
-use Rattle.crs_decimal.specs.Number.{SameNumber, whole_number}
-use Rattle.crs_decimal.specs.Value.{Value, IsNormal, exact}
-use Rattle.crs_text.specs.Items.{Item, arguments}
-use Rattle.crs_text.specs.Refusal.{RefusedAt}
-use Rattle.crs_text.specs.Written.{at_place}
+use Rattle.crs_decimal.specs.Prelude.{SameNumber, whole_number, Value, IsNormal, exact}
+use Rattle.crs_text.specs.Prelude.{Item, arguments, RefusedAt, at_place}
 use Rattle.crs_shape.specs.declared.class.Class.{Class}
 use Rattle.crs_shape.specs.declared.class.Class.TheVariants as class
 use Rattle.crs_shape.specs.declared.direction.Direction.{Direction}
 use Rattle.crs_shape.specs.declared.system_type.SystemType.{SystemType}
-use Rattle.crs_shape.specs.Dimensions.{IsOneOf}
-use Rattle.crs_shape.specs.UnitKinds.{asked_kind}
-use Rattle.crs_shape.specs.Words.{direction_word, system_word}
-use Rattle.crs_value.specs.BadOrder.{BadOrder, BadOrders, IsBadOrder, IsPosition, LacksOrder, OneHas, ReadsOrder, orders_in}
-use Rattle.crs_value.specs.BadUnit.{BadOwnUnit, Misfits, units_in}
-use Rattle.crs_value.specs.Break.{AnyOf}
-use Rattle.crs_value.specs.Checks.{BadSystems, OfHead}
-use Rattle.crs_value.specs.Reading.{ReadsFirst, those}
-use Rattle.crs_value.specs.Reads.{ReadsDirection, ReadsKind, ReadsNumber, ReadsType}
+use Rattle.crs_shape.specs.Prelude.{IsOneOf, asked_kind, direction_word, system_word}
+use Rattle.crs_value.specs.Prelude.{BadOrder, BadOrders, IsBadOrder, IsPosition, LacksOrder, OneHas, ReadsOrder, orders_in, BadOwnUnit, Misfits, units_in, AnyOf, BadSystems, OfHead, ReadsFirst, those, ReadsDirection, ReadsKind, ReadsNumber, ReadsType}
 use Rattle.crs_value.specs.Sound.{Each}
 use Rattle.crs_normal.specs.DecimalLaws.{DecimalLaws}
 use Rattle.crs_normal.specs.NormalOwn.{AreOrdered, Has, HasAxes, numbers_in}

@@ -1,31 +1,19 @@
 -- Compound CRSs are made, and with them all CRSs.
 use Rattle.std.proofs.Common.{◌≡◌, ◌⊎◌, ℕ, Bool, true, false, Some, List, [], ◌∷◌, codes, inl, inr, refl, sym, subst, ◌∙◌, arith}
-use Rattle.crs_decimal.specs.Number.{SameNumber, whole_number}
-use Rattle.crs_decimal.specs.Value.{Value, IsNormal, exact}
-use Rattle.crs_text.specs.Items.{Item, More, arguments}
-use Rattle.crs_text.specs.Refusal.{RefusedAt}
-use Rattle.crs_text.specs.Written.{at_place}
+use Rattle.crs_decimal.specs.Prelude.{SameNumber, whole_number, Value, IsNormal, exact}
+use Rattle.crs_text.specs.Prelude.{Item, More, arguments, RefusedAt, at_place}
 use Rattle.crs_shape.specs.declared.class.Class.{Class}
 use Rattle.crs_shape.specs.declared.class.Class.TheVariants as class
 use Rattle.crs_shape.specs.declared.system_type.SystemType.{SystemType}
 use Rattle.crs_shape.specs.declared.system_type.SystemType.TheVariants as types
-use Rattle.crs_shape.specs.Keywords.{is_keyword}
-use Rattle.crs_shape.specs.Slots.{class_named, one, one_of, tail, takes}
-use Rattle.crs_value.specs.BadComponent.{BadComponent, IsNotEllipsoidal, IsNotHorizontal, IsNotPlane}
-use Rattle.crs_value.specs.Break.{AnyOf, FirstIs}
-use Rattle.crs_value.specs.Checks.{OfCompound, Own as BreaksOwn, horizontal_classes}
-use Rattle.crs_value.specs.CompoundValues.{CompoundParts}
-use Rattle.crs_value.specs.CrsValues.{GeodeticParts, ProjectedParts, VerticalParts}
+use Rattle.crs_shape.specs.Prelude.{is_keyword, class_named, one, one_of, tail, takes}
+use Rattle.crs_value.specs.Prelude.{BadComponent, IsNotEllipsoidal, IsNotHorizontal, IsNotPlane, AnyOf, FirstIs, OfCompound, horizontal_classes, CompoundParts, GeodeticParts, ProjectedParts, VerticalParts, those, IsText, IsCompound, IsHorizontal, IsPlane, IsGeodetic, IsProjected, IsVertical, IsTail, TailParts}
+use Rattle.crs_value.specs.Checks.{Own as BreaksOwn}
 use Rattle.crs_value.specs.declared.values.compound.Horizontal.{Horizontal}
 use Rattle.crs_value.specs.declared.values.compound.Horizontal.TheVariants as horizontal
 use Rattle.crs_value.specs.declared.values.level.Level.{Level}
-use Rattle.crs_value.specs.Reading.{those}
-use Rattle.crs_value.specs.Sound.{Each, IsText}
-use Rattle.crs_value.specs.SoundCompound.{IsCompound, IsHorizontal, IsPlane}
-use Rattle.crs_value.specs.SoundSingle.{IsGeodetic, IsProjected, IsVertical}
-use Rattle.crs_value.specs.SoundUsages.{IsTail}
-use Rattle.crs_value.specs.Values.{TailParts}
-use Rattle.crs_matching.specs.SameUsages.{usages_of}
+use Rattle.crs_value.specs.Sound.{Each}
+use Rattle.crs_matching.specs.Prelude.{usages_of}
 use Rattle.crs_normal.specs.DecimalLaws.{DecimalLaws}
 use Rattle.crs_normal.specs.CrsClass.{geodetic_class}
 use Rattle.crs_normal.specs.AcceptedNormal.{IsAcceptedNormal}

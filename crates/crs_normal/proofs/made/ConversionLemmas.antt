@@ -1,19 +1,16 @@
 -- Parameters and conversions are made.
 use Rattle.std.proofs.Common.{◌≡◌, ℕ, ◌++◌, true, Option, Some, None, List, [], ◌∷◌, map, codes, IfSome, refl, arith}
-use Rattle.crs_text.specs.Written.{at_place}
+use Rattle.crs_text.specs.Prelude.{at_place}
 use Rattle.crs_shape.specs.declared.class.Class.{Class}
 use Rattle.crs_shape.specs.declared.class.Class.TheVariants as class
 use Rattle.crs_shape.specs.declared.unit_kind.UnitKind.{UnitKind}
 use Rattle.crs_shape.specs.declared.unit_kind.UnitKind.TheVariants as kinds
-use Rattle.crs_shape.specs.Keywords.{is_keyword}
-use Rattle.crs_shape.specs.Slots.{class_named, optional_of, slots_of, takes}
+use Rattle.crs_shape.specs.Prelude.{is_keyword, class_named, optional_of, slots_of, takes}
 use Rattle.crs_value.specs.Checks.{Own as BreaksOwn}
-use Rattle.crs_value.specs.ConversionValues.{ConversionParts, ParameterParts}
+use Rattle.crs_value.specs.Prelude.{ConversionParts, ParameterParts, IsUnit, IsConversion, IsParameter, UnitParts}
 use Rattle.crs_value.specs.declared.values.level.Level.{Level}
-use Rattle.crs_value.specs.Sound.{Each, IsUnit}
-use Rattle.crs_value.specs.SoundConversion.{IsConversion, IsParameter}
-use Rattle.crs_value.specs.Values.{UnitParts}
-use Rattle.crs_matching.specs.SameUnits.{kind_as}
+use Rattle.crs_value.specs.Sound.{Each}
+use Rattle.crs_matching.specs.Prelude.{kind_as}
 use Rattle.crs_normal.specs.PartSpellings.{unit_class}
 use Rattle.crs_normal.specs.DecimalLaws.{DecimalLaws}
 use Rattle.crs_normal.specs.AcceptedNormal.{IsKindIn, IsAcceptedNormal}

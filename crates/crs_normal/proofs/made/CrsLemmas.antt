@@ -1,13 +1,11 @@
 -- All CRSs are made, and their texts are normal.
 use Rattle.std.proofs.Common.{◌≡◌, ℕ, ◌+◌, ◌≤◌, true, length, refl, sym, ap, subst, ◌∙◌, arith}
-use Rattle.crs_text.specs.Items.{Item, leaf, node, Siblings, End, More, depth}
-use Rattle.crs_text.specs.Written.{WrittenSpells, at_place, at_places, item_text, others_text}
-use Rattle.crs_text.specs.TextFault.{SpellsNode}
+use Rattle.crs_text.specs.Prelude.{Item, leaf, node, Siblings, End, More, depth, WrittenSpells, at_place, at_places, item_text, others_text, SpellsNode}
 use Rattle.crs_shape.specs.declared.class.Class.{Class}
 use Rattle.crs_value.specs.declared.values.crs.Crs.{Crs}
 use Rattle.crs_value.specs.declared.values.crs.Crs.TheVariants as crs
 use Rattle.crs_value.specs.declared.values.level.Level.{Level}
-use Rattle.crs_value.specs.SoundCrs.{IsCrs}
+use Rattle.crs_value.specs.Prelude.{IsCrs}
 use Rattle.crs_normal.specs.DecimalLaws.{DecimalLaws}
 use Rattle.crs_normal.specs.CrsClass.{crs_class, geodetic_class}
 use Rattle.crs_normal.specs.AcceptedNormal.{IsAcceptedNormal}

@@ -1,21 +1,13 @@
 -- Datums are made.
 use Rattle.std.proofs.Common.{ℕ, ◌++◌, Option, Some, None, List, [], ◌∷◌, drop, codes, IfSome, IsNone, IsSome, inl, inr, refl, arith}
 use Rattle.std.specs.Option.{option_map}
-use Rattle.crs_text.specs.Items.{Item, Siblings, End, arguments}
-use Rattle.crs_text.specs.Refusal.{RefusedAt}
-use Rattle.crs_text.specs.Written.{at_place}
+use Rattle.crs_text.specs.Prelude.{Item, Siblings, End, arguments, RefusedAt, at_place}
 use Rattle.crs_shape.specs.declared.class.Class.{Class}
 use Rattle.crs_shape.specs.declared.class.Class.TheVariants as class
-use Rattle.crs_shape.specs.Keywords.{is_keyword}
-use Rattle.crs_shape.specs.Shape.{Allowed}
-use Rattle.crs_shape.specs.Slots.{any, anchor_slot, class_named, one}
-use Rattle.crs_value.specs.Break.{AnyOf}
-use Rattle.crs_value.specs.Checks.{Own as BreaksOwn, anchors}
+use Rattle.crs_shape.specs.Prelude.{is_keyword, Allowed, any, anchor_slot, class_named, one}
+use Rattle.crs_value.specs.Prelude.{AnyOf, anchors, those, IsRepeated, RepeatsAny, IsDatum, IsEllipsoid, DatumParts, EllipsoidParts}
+use Rattle.crs_value.specs.Checks.{Own as BreaksOwn}
 use Rattle.crs_value.specs.declared.values.level.Level.{Level}
-use Rattle.crs_value.specs.Reading.{those}
-use Rattle.crs_value.specs.RepeatedPart.{IsRepeated, RepeatsAny}
-use Rattle.crs_value.specs.SoundFrames.{IsDatum, IsEllipsoid}
-use Rattle.crs_value.specs.Values.{DatumParts, EllipsoidParts}
 use Rattle.crs_normal.specs.DecimalLaws.{DecimalLaws}
 use Rattle.crs_normal.specs.AcceptedNormal.{IsAcceptedNormal}
 use Rattle.crs_normal.specs.SpelledFrames.{item_ellipsoid, norm_ellipsoid}

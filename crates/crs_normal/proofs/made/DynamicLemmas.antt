@@ -1,24 +1,16 @@
 -- Dynamic parts are made, and none is beside an ensemble.
 use Rattle.std.proofs.Common.{◌≡◌, ◌⊎◌, ℕ, ◌≤◌, Option, Some, None, List, [], ◌∷◌, codes, IfSome, inl, inr, refl, subst, arith}
 use Rattle.std.specs.Option.{option_map}
-use Rattle.crs_text.specs.Items.{Item, arguments}
-use Rattle.crs_text.specs.Refusal.{RefusedAt}
-use Rattle.crs_text.specs.Written.{at_place}
+use Rattle.crs_text.specs.Prelude.{Item, arguments, RefusedAt, at_place}
 use Rattle.crs_shape.specs.declared.class.Class.{Class}
 use Rattle.crs_shape.specs.declared.class.Class.TheVariants as class
-use Rattle.crs_shape.specs.Keywords.{is_keyword}
-use Rattle.crs_shape.specs.Slots.{class_named}
-use Rattle.crs_value.specs.BadDynamic.{BadDynamic, IsUnsteady}
-use Rattle.crs_value.specs.Break.{AnyOf}
+use Rattle.crs_shape.specs.Prelude.{is_keyword, class_named}
+use Rattle.crs_value.specs.Prelude.{BadDynamic, IsUnsteady, AnyOf, DeformationModelParts, DynamicParts, those, IsDeformationModel, IsDynamic, IsDynamicOf}
 use Rattle.crs_value.specs.Checks.{Own as BreaksOwn}
 use Rattle.crs_value.specs.declared.values.frame.Frame.{Frame}
 use Rattle.crs_value.specs.declared.values.frame.Frame.TheVariants as frame
 use Rattle.crs_value.specs.declared.values.level.Level.{Level}
-use Rattle.crs_value.specs.DynamicValues.{DeformationModelParts, DynamicParts}
-use Rattle.crs_value.specs.Reading.{those}
 use Rattle.crs_value.specs.Sound.{Each}
-use Rattle.crs_value.specs.SoundDynamic.{IsDeformationModel, IsDynamic}
-use Rattle.crs_value.specs.SoundSingle.{IsDynamicOf}
 use Rattle.crs_normal.specs.DecimalLaws.{DecimalLaws}
 use Rattle.crs_normal.specs.AcceptedNormal.{IsAcceptedNormal}
 use Rattle.crs_normal.specs.SpelledDynamic.{item_deformation_model, item_dynamic, norm_deformation_model, norm_dynamic}

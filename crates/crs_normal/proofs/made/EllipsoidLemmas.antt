@@ -1,25 +1,18 @@
 -- Units in the nodes that have them, and ellipsoids, are made.
 use Rattle.std.proofs.Common.{◌≡◌, ◌≢◌, ℕ, ◌≤◌, true, false, Option, Some, None, List, [], ◌∷◌, codes, IfSome, inl, inr, refl, sym, ap, subst, ◌∙◌, arith}
-use Rattle.crs_decimal.specs.Value.{Value, IsNormal}
-use Rattle.crs_text.specs.Items.{Item, arguments}
-use Rattle.crs_text.specs.Refusal.{RefusedAt}
-use Rattle.crs_text.specs.Written.{at_place}
+use Rattle.crs_decimal.specs.Prelude.{Value, IsNormal}
+use Rattle.crs_text.specs.Prelude.{Item, arguments, RefusedAt, at_place}
 use Rattle.crs_shape.specs.declared.class.Class.{Class}
 use Rattle.crs_shape.specs.declared.class.Class.TheVariants as class
 use Rattle.crs_shape.specs.declared.unit_kind.UnitKind.{UnitKind}
 use Rattle.crs_shape.specs.declared.unit_kind.UnitKind.TheVariants as kinds
-use Rattle.crs_shape.specs.Keywords.{is_keyword}
-use Rattle.crs_shape.specs.Slots.{class_named}
-use Rattle.crs_shape.specs.Words.{unit_word}
-use Rattle.crs_value.specs.BadValue.{IsAboveZero}
-use Rattle.crs_value.specs.Checks.{OfEllipsoid, Own as BreaksOwn}
-use Rattle.crs_value.specs.KeptLaws.{kept-none}
+use Rattle.crs_shape.specs.Prelude.{is_keyword, class_named, unit_word}
+use Rattle.crs_value.specs.Prelude.{IsAboveZero, OfEllipsoid, kept-none, those, IsUnit, IsUnitOf, IsEllipsoid, EllipsoidParts, UnitParts}
+use Rattle.crs_value.specs.Checks.{Own as BreaksOwn}
 use Rattle.crs_value.specs.declared.values.level.Level.{Level}
-use Rattle.crs_value.specs.Reading.{those}
-use Rattle.crs_value.specs.Sound.{Each, IsUnit, IsUnitOf}
-use Rattle.crs_value.specs.SoundFrames.{IsEllipsoid}
-use Rattle.crs_value.specs.Values.{EllipsoidParts, IdentParts, UnitParts}
-use Rattle.crs_matching.specs.SameUnits.{kind_as}
+use Rattle.crs_value.specs.Sound.{Each}
+use Rattle.crs_value.specs.Values.{IdentParts}
+use Rattle.crs_matching.specs.Prelude.{kind_as}
 use Rattle.crs_normal.specs.DecimalLaws.{DecimalLaws}
 use Rattle.crs_normal.specs.AcceptedNormal.{IsKindIn, IsAcceptedNormal}
 use Rattle.crs_normal.specs.SpelledFrames.{item_ellipsoid, norm_ellipsoid}

@@ -1,10 +1,9 @@
 -- Runs of arguments fill the slots of a class.
 use Rattle.std.proofs.Common.{◌≡◌, ◌≤◌, ◌≢◌, true, IsTrue, IsFalse, Option, Some, None, List, [], ◌∷◌, ◌++◌, length, refl, sym, ap, ◌∙◌, arith}
 use Rattle.std.proofs.lemmas.List.{append-nil}
-use Rattle.crs_text.specs.Items.{Item}
+use Rattle.crs_text.specs.Prelude.{Item}
 use Rattle.crs_shape.specs.declared.class.Class.{Class}
-use Rattle.crs_shape.specs.Shape.{AllTaken, Allowed, Fills}
-use Rattle.crs_shape.specs.Slots.{SlotParts, any_of, one_of, optional_of, some_of, takes}
+use Rattle.crs_shape.specs.Prelude.{AllTaken, Allowed, Fills, SlotParts, any_of, one_of, optional_of, some_of, takes}
 use Rattle.crs_normal.proofs.made.NodeLemmas.{Run, alone, classes, given, repeated}
 
 -- a run fills a slot by itself

@@ -1,20 +1,16 @@
 -- Ensembles, and frames of either sort, are made.
 use Rattle.std.proofs.Common.{◌≡◌, ◌≢◌, ℕ, ◌++◌, Option, Some, None, List, [], ◌∷◌, map, codes, IfSome, IsNone, IsSome, refl, arith}
 use Rattle.std.specs.Option.{option_map}
-use Rattle.crs_text.specs.Items.{Siblings, End, More}
-use Rattle.crs_text.specs.Written.{at_place}
+use Rattle.crs_text.specs.Prelude.{Siblings, End, More, at_place}
 use Rattle.crs_shape.specs.declared.class.Class.{Class}
 use Rattle.crs_shape.specs.declared.class.Class.TheVariants as class
-use Rattle.crs_shape.specs.Keywords.{is_keyword}
-use Rattle.crs_shape.specs.Slots.{class_named}
+use Rattle.crs_shape.specs.Prelude.{is_keyword, class_named}
 use Rattle.crs_value.specs.Checks.{Own as BreaksOwn}
 use Rattle.crs_value.specs.declared.values.frame.Frame.{Frame}
 use Rattle.crs_value.specs.declared.values.frame.Frame.TheVariants as frame
 use Rattle.crs_value.specs.declared.values.level.Level.{Level}
 use Rattle.crs_value.specs.Sound.{Each}
-use Rattle.crs_value.specs.SoundFrames.{IsEllipsoid, IsEnsemble, IsMember}
-use Rattle.crs_value.specs.SoundSingle.{IsGeodeticFrame, IsVerticalFrame}
-use Rattle.crs_value.specs.Values.{EllipsoidParts, EnsembleParts, MemberParts}
+use Rattle.crs_value.specs.Prelude.{IsEllipsoid, IsEnsemble, IsMember, IsGeodeticFrame, IsVerticalFrame, EllipsoidParts, EnsembleParts, MemberParts}
 use Rattle.crs_normal.specs.DecimalLaws.{DecimalLaws}
 use Rattle.crs_normal.specs.AcceptedNormal.{IsAcceptedNormal, geodetic_frame_class, vertical_frame_class}
 use Rattle.crs_normal.specs.NormalOwn.{Ascend}

@@ -1,20 +1,15 @@
 -- What geodetic CRSs and base CRSs have in front is made: the name, the dynamic part and the frame.
 use Rattle.std.proofs.Common.{◌≡◌, ◌≢◌, ℕ, ◌≤◌, ◌++◌, true, Option, Some, None, List, [], ◌∷◌, codes, inl, inr, refl, Bool, false}
-use Rattle.crs_text.specs.Items.{Item, arguments}
+use Rattle.crs_text.specs.Prelude.{Item, arguments, RefusedAt}
 use Rattle.crs_shape.specs.declared.class.Class.{Class}
 use Rattle.crs_shape.specs.declared.class.Class.TheVariants as class
 use Rattle.crs_shape.specs.declared.system_type.SystemType.{SystemType}
-use Rattle.crs_shape.specs.ShapeFault.{class_in}
-use Rattle.crs_shape.specs.Slots.{class_named, one_of, takes}
-use Rattle.crs_shape.specs.Dimensions.{IsOneOf}
+use Rattle.crs_shape.specs.Prelude.{class_in, class_named, one_of, takes, IsOneOf}
 use Rattle.crs_value.specs.declared.values.frame.Frame.{Frame}
 use Rattle.crs_value.specs.declared.values.frame.Frame.TheVariants as frame
 use Rattle.crs_value.specs.declared.values.level.Level.{Level}
-use Rattle.crs_value.specs.DynamicValues.{DynamicParts}
-use Rattle.crs_value.specs.Reading.{those}
+use Rattle.crs_value.specs.Prelude.{DynamicParts, those, IsDynamicOf, IsGeodeticFrame, MeridianParts, SystemParts, OfCrs}
 use Rattle.crs_value.specs.Sound.{Each}
-use Rattle.crs_value.specs.SoundSingle.{IsDynamicOf, IsGeodeticFrame}
-use Rattle.crs_value.specs.Values.{MeridianParts, SystemParts}
 use Rattle.crs_normal.specs.DecimalLaws.{DecimalLaws}
 use Rattle.crs_normal.specs.AcceptedNormal.{geodetic_frame_class, vertical_frame_class}
 use Rattle.crs_normal.specs.NormalOwn.{Ascend, set_classes}
@@ -26,9 +21,7 @@ use Rattle.crs_normal.proofs.made.NodeLemmas.{KeepsRuns, Made, Run, alone, as-ar
 use Rattle.crs_normal.proofs.made.PlaceLemmas.{ArePlaced}
 use Rattle.crs_normal.proofs.made.CheckLemmas.{IsSystemSeen, no-bad-systems}
 use Rattle.crs_normal.proofs.made.TailLemmas.{IsTailSeen, no-repeats}
-use Rattle.crs_value.specs.Checks.{OfCrs}
-use Rattle.crs_text.specs.Refusal.{RefusedAt}
-use Rattle.crs_decimal.specs.Value.{IsNormal}
+use Rattle.crs_decimal.specs.Prelude.{IsNormal}
 use Rattle.crs_normal.proofs.made.RiseLemmas.{rises}
 
 -- ---- the frame as an argument, of one class or the other

@@ -1,27 +1,18 @@
 -- Geodetic and geographic CRSs are made.
 use Rattle.std.proofs.Common.{◌≡◌, ◌≢◌, ℕ, IsTrue, Some, None, List, [], ◌∷◌, map, codes, refl, sym, ap, subst, ◌∙◌, arith, true}
 use Rattle.std.specs.Option.{option_map}
-use Rattle.crs_decimal.specs.Value.{Value}
-use Rattle.crs_text.specs.Items.{Item, arguments, raw_of}
-use Rattle.crs_text.specs.Refusal.{RefusedAt}
-use Rattle.crs_text.specs.Tokens.{IsWord}
-use Rattle.crs_text.specs.Written.{at_place}
+use Rattle.crs_decimal.specs.Prelude.{Value}
+use Rattle.crs_text.specs.Prelude.{Item, arguments, raw_of, RefusedAt, IsWord, at_place}
 use Rattle.crs_shape.specs.declared.class.Class.{Class}
 use Rattle.crs_shape.specs.declared.class.Class.TheVariants as class
 use Rattle.crs_shape.specs.declared.system_type.SystemType.{SystemType}
 use Rattle.crs_shape.specs.declared.system_type.SystemType.TheVariants as types
-use Rattle.crs_shape.specs.Keywords.{is_keyword}
-use Rattle.crs_shape.specs.Shape.{Allowed}
-use Rattle.crs_shape.specs.Slots.{class_named, geodetic_slots, one, one_of, optional, slots_of, some, tail}
-use Rattle.crs_shape.specs.Dimensions.{IsOneOf, dimensions_of}
-use Rattle.crs_shape.specs.Words.{system_word}
-use Rattle.crs_value.specs.Checks.{OfCrs, Own as BreaksOwn}
-use Rattle.crs_value.specs.CrsValues.{GeodeticParts}
+use Rattle.crs_shape.specs.Prelude.{is_keyword, Allowed, class_named, geodetic_slots, one, one_of, optional, slots_of, some, tail, IsOneOf, dimensions_of, system_word}
+use Rattle.crs_value.specs.Prelude.{OfCrs, GeodeticParts, those, IsGeodetic}
+use Rattle.crs_value.specs.Checks.{Own as BreaksOwn}
 use Rattle.crs_value.specs.declared.values.level.Level.{Level}
-use Rattle.crs_value.specs.Reading.{those}
 use Rattle.crs_value.specs.Sound.{Each}
-use Rattle.crs_value.specs.SoundSingle.{IsGeodetic}
-use Rattle.crs_matching.specs.SameUsages.{usages_of}
+use Rattle.crs_matching.specs.Prelude.{usages_of}
 use Rattle.crs_normal.specs.DecimalLaws.{DecimalLaws}
 use Rattle.crs_normal.specs.CrsClass.{geodetic_class}
 use Rattle.crs_normal.specs.AcceptedNormal.{IsAcceptedNormal, geodetic_frame_class}

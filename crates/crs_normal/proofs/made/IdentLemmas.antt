@@ -1,21 +1,13 @@
 -- Identifiers and lists of them are made.
 use Rattle.std.proofs.Common.{◌≡◌, ℕ, ◌+◌, ◌≤◌, true, IsTrue, Option, Some, None, List, [], ◌∷◌, ◌++◌, map, codes, IfSome, inl, inr, refl, sym, ap, subst, ◌∙◌, arith}
-use Rattle.crs_text.specs.Items.{Item, leaf, Siblings, End, More, skip}
-use Rattle.crs_text.specs.Refusal.{RefusedAt}
-use Rattle.crs_text.specs.Tokens.{IsWord, Kind, number, text, word}
-use Rattle.crs_text.specs.Written.{at_place, at_places, item_text}
+use Rattle.crs_text.specs.Prelude.{Item, leaf, Siblings, End, More, skip, RefusedAt, IsWord, Kind, number, text, word, at_place, at_places, item_text}
 use Rattle.crs_shape.specs.declared.class.Class.{Class}
 use Rattle.crs_shape.specs.declared.class.Class.TheVariants as class
-use Rattle.crs_shape.specs.Keywords.{is_keyword}
-use Rattle.crs_shape.specs.Shape.{Allowed}
-use Rattle.crs_shape.specs.ShapeFault.{class_of_kind}
-use Rattle.crs_shape.specs.Slots.{class_named, one_of, optional_of, slots_of, takes}
+use Rattle.crs_shape.specs.Prelude.{is_keyword, Allowed, class_of_kind, class_named, one_of, optional_of, slots_of, takes}
 use Rattle.crs_value.specs.Checks.{Own as BreaksOwn}
-use Rattle.crs_value.specs.Kept.{kept}
-use Rattle.crs_value.specs.KeptLaws.{kept-each, kept-made, kept-none}
+use Rattle.crs_value.specs.Prelude.{kept, kept-each, kept-made, kept-none, single_of, IsIdent, IsText}
 use Rattle.crs_value.specs.declared.values.level.Level.{Level}
-use Rattle.crs_value.specs.Reads.{single_of}
-use Rattle.crs_value.specs.Sound.{Each, IsIdent, IsText}
+use Rattle.crs_value.specs.Sound.{Each}
 use Rattle.crs_value.specs.Values.{IdentParts}
 use Rattle.crs_normal.specs.DecimalLaws.{DecimalLaws}
 use Rattle.crs_normal.specs.AcceptedNormal.{IsAcceptedNormal}
@@ -29,7 +21,7 @@ use Rattle.crs_normal.proofs.members.SetLemmas.{each-in_order}
 use Rattle.crs_normal.proofs.made.FitLemmas.{fills-one, fills-optional, runs-fit}
 use Rattle.crs_normal.proofs.made.LeafLemmas.{IsCodeKind, code-kind, code-made, code_kind, text-made, number-made}
 use Rattle.crs_normal.proofs.made.NodeLemmas.{IsKept, Keeps, KeepsRuns, Made, Run, alone, as-argument, given, items_in, keeps-none, line, lines, node-made, opt-line}
-use Rattle.crs_decimal.specs.Value.{Value, IsNormal}
+use Rattle.crs_decimal.specs.Prelude.{Value, IsNormal}
 
 -- ---- nodes of one text
 

@@ -1,24 +1,17 @@
 -- Prime meridians are made.
-use Rattle.std.proofs.Common.{◌≡◌, ℕ, ◌<◌, ◌≤◌, ◌++◌, Bool, true, false, Option, Some, None, List, [], ◌∷◌, map, codes, IfSome, if◌then◌else◌, refl, sym, ap, subst, ◌∙◌, arith}
-use Rattle.std.specs.Prelude.{IsUtf8}
+use Rattle.std.proofs.Common.{◌≡◌, ℕ, ◌<◌, ◌≤◌, ◌++◌, Bool, true, false, Option, Some, None, List, [], ◌∷◌, map, codes, IfSome, if◌then◌else◌, refl, sym, ap, subst, ◌∙◌, arith, IsUtf8}
 use Rattle.std.proofs.lemmas.Fmt.{decimal_digit}
-use Rattle.crs_decimal.specs.Bounds.{Denotes}
-use Rattle.crs_decimal.specs.Plain.{plain}
-use Rattle.crs_decimal.specs.Value.{Value, IsNormal, exact}
-use Rattle.crs_text.specs.Items.{Item, End, More, arguments, raw_of}
-use Rattle.crs_text.specs.Written.{at_place}
+use Rattle.crs_decimal.specs.Prelude.{Denotes, plain, Value, IsNormal, exact}
+use Rattle.crs_text.specs.Prelude.{Item, End, More, arguments, raw_of, at_place}
 use Rattle.crs_shape.specs.declared.class.Class.{Class}
 use Rattle.crs_shape.specs.declared.class.Class.TheVariants as class
 use Rattle.crs_shape.specs.declared.unit_kind.UnitKind.TheVariants as kinds
-use Rattle.crs_shape.specs.Keywords.{is_keyword}
-use Rattle.crs_shape.specs.Slots.{class_named}
+use Rattle.crs_shape.specs.Prelude.{is_keyword, class_named}
 use Rattle.crs_value.specs.Checks.{Own as BreaksOwn}
-use Rattle.crs_value.specs.KeptLaws.{kept-none}
+use Rattle.crs_value.specs.Prelude.{kept-none, those, IsIdent, IsText, IsMeridian, MeridianParts, UnitParts}
 use Rattle.crs_value.specs.declared.values.level.Level.{Level}
-use Rattle.crs_value.specs.Reading.{those}
-use Rattle.crs_value.specs.Sound.{Each, IsIdent, IsText}
-use Rattle.crs_value.specs.SoundFrames.{IsMeridian}
-use Rattle.crs_value.specs.Values.{IdentParts, MeridianParts, UnitParts}
+use Rattle.crs_value.specs.Sound.{Each}
+use Rattle.crs_value.specs.Values.{IdentParts}
 use Rattle.crs_normal.specs.DecimalLaws.{DecimalLaws}
 use Rattle.crs_normal.specs.AcceptedNormal.{IsAcceptedNormal}
 use Rattle.crs_normal.specs.NormalOwn.{HasNoUnitAtZero}

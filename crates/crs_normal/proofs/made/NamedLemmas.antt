@@ -1,22 +1,12 @@
 -- Nodes of a name and identifiers are made: members, methods, geoid models and deformation models.
 use Rattle.std.proofs.Common.{◌≡◌, ℕ, IsTrue, Some, List, [], ◌∷◌, codes, refl, sym, subst, arith, true}
-use Rattle.crs_text.specs.Items.{Item}
-use Rattle.crs_text.specs.Refusal.{RefusedAt}
-use Rattle.crs_text.specs.Tokens.{IsWord}
-use Rattle.crs_text.specs.Written.{at_place}
+use Rattle.crs_text.specs.Prelude.{Item, RefusedAt, IsWord, at_place}
 use Rattle.crs_shape.specs.declared.class.Class.{Class}
 use Rattle.crs_shape.specs.declared.class.Class.TheVariants as class
-use Rattle.crs_shape.specs.Keywords.{is_keyword}
-use Rattle.crs_shape.specs.Slots.{class_named, named_slots, slots_of}
+use Rattle.crs_shape.specs.Prelude.{is_keyword, class_named, named_slots, slots_of}
 use Rattle.crs_value.specs.Checks.{Own as BreaksOwn}
-use Rattle.crs_value.specs.ConversionValues.{GeoidModelParts, MethodParts}
-use Rattle.crs_value.specs.DynamicValues.{DeformationModelParts}
+use Rattle.crs_value.specs.Prelude.{GeoidModelParts, MethodParts, DeformationModelParts, IsNamed, IsGeoidModel, IsMethod, IsDeformationModel, IsMember, MemberParts, NamedParts}
 use Rattle.crs_value.specs.declared.values.level.Level.{Level}
-use Rattle.crs_value.specs.Sound.{IsNamed}
-use Rattle.crs_value.specs.SoundConversion.{IsGeoidModel, IsMethod}
-use Rattle.crs_value.specs.SoundDynamic.{IsDeformationModel}
-use Rattle.crs_value.specs.SoundFrames.{IsMember}
-use Rattle.crs_value.specs.Values.{MemberParts}
 use Rattle.crs_normal.specs.DecimalLaws.{DecimalLaws}
 use Rattle.crs_normal.specs.AcceptedNormal.{IsAcceptedNormal}
 use Rattle.crs_normal.specs.Normal.{IsFirstKeyword}
@@ -27,7 +17,6 @@ use Rattle.crs_normal.specs.SpelledFrames.{item_member, norm_member}
 use Rattle.crs_normal.proofs.made.IdentLemmas.{identifiers-ascend, identifiers-left}
 use Rattle.crs_normal.proofs.made.ArgumentLemmas.{fit, ids-of, made-of, text-of, Argument}
 use Rattle.crs_normal.proofs.members.MemberLemmas.{item_named}
-use Rattle.crs_value.specs.NamedValues.{NamedParts}
 
 named-made : DecimalLaws → (level : Level) (c : Class) (keyword : List ℕ) (m : NamedParts) → IsWord keyword →
     IsTrue (is_keyword c keyword) → IsFirstKeyword c keyword → slots_of c ≡ named_slots →

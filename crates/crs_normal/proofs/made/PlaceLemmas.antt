@@ -2,12 +2,10 @@
 use Rattle.std.proofs.Common.{◌≡◌, ℕ, ◌+◌, Bool, true, false, List, [], ◌∷◌, ◌++◌, length, if◌then◌else◌, refl, sym, ap, ap₂, subst, ◌∙◌}
 use Rattle.std.specs.Cmp.Lexicographic.{slice_cmp}
 use Rattle.std.specs.Ordering.{nat_cmp}
-use Rattle.crs_text.specs.Items.{Item, leaf, node, Siblings, End, More}
-use Rattle.crs_text.specs.Written.{at_place, at_places, item_text, others_text}
+use Rattle.crs_text.specs.Prelude.{Item, leaf, node, Siblings, End, More, at_place, at_places, item_text, others_text}
 use Rattle.crs_shape.specs.declared.class.Class.{Class}
-use Rattle.crs_shape.specs.ShapeFault.{class_in}
-use Rattle.crs_shape.specs.Slots.{is_class}
-use Rattle.crs_value.specs.Reading.{those}
+use Rattle.crs_shape.specs.Prelude.{class_in, is_class}
+use Rattle.crs_value.specs.Prelude.{those}
 use Rattle.crs_normal.specs.NormalOwn.{Ascend}
 use Rattle.crs_value.specs.Sound.{Each}
 use Rattle.crs_normal.proofs.members.SetLemmas.{IsBelow}

@@ -1,20 +1,14 @@
 -- Base CRSs and projected CRSs are made.
 use Rattle.std.proofs.Common.{ℕ, None, List, [], ◌∷◌, codes, inl, refl, arith, true}
 use Rattle.std.specs.Option.{option_map}
-use Rattle.crs_text.specs.Items.{Item, arguments}
-use Rattle.crs_text.specs.Written.{at_place}
+use Rattle.crs_text.specs.Prelude.{Item, arguments, at_place}
 use Rattle.crs_shape.specs.declared.class.Class.TheVariants as class
 use Rattle.crs_shape.specs.declared.unit_kind.UnitKind.TheVariants as kinds
-use Rattle.crs_shape.specs.Keywords.{is_keyword}
-use Rattle.crs_shape.specs.Shape.{Allowed}
-use Rattle.crs_shape.specs.Slots.{class_named, one, optional, slots_of, some, tail}
-use Rattle.crs_shape.specs.Dimensions.{dimensions_of}
+use Rattle.crs_shape.specs.Prelude.{is_keyword, Allowed, class_named, one, optional, slots_of, some, tail, dimensions_of}
 use Rattle.crs_value.specs.Checks.{Own as BreaksOwn}
-use Rattle.crs_value.specs.CrsValues.{BaseParts, ProjectedParts}
+use Rattle.crs_value.specs.Prelude.{BaseParts, ProjectedParts, those, IsBase, IsProjected}
 use Rattle.crs_value.specs.declared.values.level.Level.{Level}
-use Rattle.crs_value.specs.Reading.{those}
-use Rattle.crs_value.specs.SoundSingle.{IsBase, IsProjected}
-use Rattle.crs_matching.specs.SameUsages.{usages_of}
+use Rattle.crs_matching.specs.Prelude.{usages_of}
 use Rattle.crs_normal.specs.DecimalLaws.{DecimalLaws}
 use Rattle.crs_normal.specs.AcceptedNormal.{IsAcceptedNormal, geodetic_frame_class}
 use Rattle.crs_normal.specs.SpelledConversions.{item_conversion, norm_conversion}

@@ -1,10 +1,9 @@
 -- Made arguments of rising ranks: their ranks never fall.
 use Rattle.std.proofs.Common.{ℕ, ◌+◌, ◌≤◌, Option, Some, None, List, [], ◌∷◌, length, sym, subst, ◌∙◌, arith, ◌≡◌, Bool, true, false, if◌then◌else◌, nat_le, leb-true}
-use Rattle.crs_text.specs.Items.{Item, Siblings, End, More, arguments}
-use Rattle.crs_text.specs.Written.{at_place, at_places, item_text}
+use Rattle.crs_text.specs.Prelude.{Item, Siblings, End, More, arguments, at_place, at_places, item_text}
 use Rattle.crs_shape.specs.declared.class.Class.{Class}
-use Rattle.crs_shape.specs.ShapeFault.{class_in}
-use Rattle.crs_value.specs.Checks.{AtClass}
+use Rattle.crs_shape.specs.Prelude.{class_in}
+use Rattle.crs_value.specs.Prelude.{AtClass}
 use Rattle.crs_value.specs.declared.values.level.Level.{Level}
 use Rattle.crs_value.specs.Sound.{Each}
 use Rattle.crs_normal.specs.NormalOwn.{Rise, rank}

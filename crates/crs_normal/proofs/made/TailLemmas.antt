@@ -1,25 +1,15 @@
 -- The ends of CRSs are made.
 use Rattle.std.proofs.Common.{◌≡◌, ℕ, ◌≤◌, ◌++◌, true, Option, Some, None, List, [], ◌∷◌, map, drop, codes, IfSome, inl, inr, refl, subst, arith}
-use Rattle.crs_text.specs.Items.{Item, arguments}
-use Rattle.crs_text.specs.Refusal.{RefusedAt}
-use Rattle.crs_text.specs.Written.{at_place, item_text}
+use Rattle.crs_text.specs.Prelude.{Item, arguments, RefusedAt, at_place, item_text}
 use Rattle.crs_shape.specs.declared.class.Class.{Class}
 use Rattle.crs_shape.specs.declared.class.Class.TheVariants as class
-use Rattle.crs_shape.specs.Keywords.{is_keyword}
-use Rattle.crs_shape.specs.Shape.{AllTaken}
-use Rattle.crs_shape.specs.Slots.{any_of, class_named, slots_of, takes}
-use Rattle.crs_value.specs.Break.{AnyOf}
-use Rattle.crs_value.specs.Checks.{Own as BreaksOwn, once}
-use Rattle.crs_value.specs.Kept.{kept, kept_one}
-use Rattle.crs_value.specs.KeptLaws.{kept-each, kept-if_some, kept-made, kept-made_one}
+use Rattle.crs_shape.specs.Prelude.{is_keyword, AllTaken, any_of, class_named, slots_of, takes}
+use Rattle.crs_value.specs.Prelude.{AnyOf, once, kept, kept_one, kept-each, kept-if_some, kept-made, kept-made_one, those, IsRepeated, RepeatsAny, IsText, IsTail, IsUsage, TailParts, UsageParts}
+use Rattle.crs_value.specs.Checks.{Own as BreaksOwn}
 use Rattle.crs_value.specs.declared.values.level.Level.{Level}
 use Rattle.crs_value.specs.declared.values.level.Level.TheVariants as levels
-use Rattle.crs_value.specs.Reading.{those}
-use Rattle.crs_value.specs.RepeatedPart.{IsRepeated, RepeatsAny}
-use Rattle.crs_value.specs.Sound.{Each, IsText}
-use Rattle.crs_value.specs.SoundUsages.{IsTail, IsUsage}
-use Rattle.crs_value.specs.Values.{TailParts, UsageParts}
-use Rattle.crs_matching.specs.SameUsages.{usages_of, with_bare}
+use Rattle.crs_value.specs.Sound.{Each}
+use Rattle.crs_matching.specs.Prelude.{usages_of, with_bare}
 use Rattle.crs_normal.specs.DecimalLaws.{DecimalLaws}
 use Rattle.crs_normal.specs.AcceptedNormal.{IsAcceptedNormal}
 use Rattle.crs_normal.specs.NormalOwn.{Ascend, HasTail}

@@ -1,20 +1,15 @@
 -- Boxes, extents and usages are made.
 use Rattle.std.proofs.Common.{◌≡◌, ◌≢◌, ℕ, suc, Option, Some, None, List, [], ◌∷◌, codes, IfSome, refl, arith, IsTrue, true}
 use Rattle.std.specs.Option.{option_map}
-use Rattle.crs_text.specs.Items.{Item, Siblings, End, More, arguments, IsNode}
-use Rattle.crs_text.specs.Written.{at_place}
+use Rattle.crs_text.specs.Prelude.{Item, Siblings, End, More, arguments, IsNode, at_place, RefusedAt, IsWord}
 use Rattle.crs_shape.specs.declared.class.Class.{Class}
 use Rattle.crs_shape.specs.declared.class.Class.TheVariants as class
-use Rattle.crs_shape.specs.Keywords.{is_keyword}
-use Rattle.crs_shape.specs.ShapeFault.{class_in}
-use Rattle.crs_shape.specs.Slots.{class_named, slots_of}
+use Rattle.crs_shape.specs.Prelude.{is_keyword, class_in, class_named, slots_of}
 use Rattle.crs_value.specs.Checks.{Own as BreaksOwn}
 use Rattle.crs_value.specs.declared.values.level.Level.{Level}
 use Rattle.crs_value.specs.declared.values.level.Level.TheVariants as levels
-use Rattle.crs_value.specs.Reading.{those}
+use Rattle.crs_value.specs.Prelude.{those, IsBox, IsExtent, IsUsage, BoxParts, ExtentParts, SaysSome, UsageParts}
 use Rattle.crs_value.specs.Sound.{Each}
-use Rattle.crs_value.specs.SoundUsages.{IsBox, IsExtent, IsUsage}
-use Rattle.crs_value.specs.Values.{BoxParts, ExtentParts, SaysSome, UsageParts}
 use Rattle.crs_normal.specs.DecimalLaws.{DecimalLaws}
 use Rattle.crs_normal.specs.AcceptedNormal.{IsAcceptedNormal}
 use Rattle.crs_normal.specs.SpelledItems.{node_from, opt, text_node}
@@ -24,8 +19,6 @@ use Rattle.crs_normal.proofs.made.EllipsoidLemmas.{length-argument, placed-some}
 use Rattle.crs_normal.proofs.made.IdentLemmas.{given-made}
 use Rattle.crs_normal.proofs.made.NodeLemmas.{Made, as-argument, given, keeps-none, KeepsRuns, items_in}
 use Rattle.crs_normal.proofs.made.ArgumentLemmas.{Argument, as_runs, fit, lay, made-of, may-of, may-text, number-of, one-of}
-use Rattle.crs_text.specs.Refusal.{RefusedAt}
-use Rattle.crs_text.specs.Tokens.{IsWord}
 use Rattle.crs_normal.specs.Normal.{IsFirstKeyword}
 use Rattle.crs_normal.specs.NormalOwn.{Ascend, HasOwnForm, set_classes}
 use Rattle.crs_normal.proofs.texts.ItemLemmas.{from-named, from-some}

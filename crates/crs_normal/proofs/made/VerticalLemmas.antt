@@ -1,25 +1,17 @@
 -- Vertical CRSs are made.
 use Rattle.std.proofs.Common.{◌≡◌, ℕ, ◌++◌, true, Some, None, List, [], ◌∷◌, map, codes, refl, arith, false}
 use Rattle.std.specs.Option.{option_map}
-use Rattle.crs_text.specs.Items.{Item}
-use Rattle.crs_text.specs.Written.{at_place}
+use Rattle.crs_text.specs.Prelude.{Item, at_place}
 use Rattle.crs_shape.specs.declared.class.Class.{Class}
 use Rattle.crs_shape.specs.declared.class.Class.TheVariants as class
-use Rattle.crs_shape.specs.Keywords.{is_keyword}
-use Rattle.crs_shape.specs.Shape.{Allowed}
-use Rattle.crs_shape.specs.ShapeFault.{class_in}
-use Rattle.crs_shape.specs.Slots.{any_of, class_named, one, one_of, optional, slots_of, some, takes, vertical_tail}
-use Rattle.crs_shape.specs.Dimensions.{dimensions_of}
+use Rattle.crs_shape.specs.Prelude.{is_keyword, Allowed, class_in, any_of, class_named, one, one_of, optional, slots_of, some, takes, vertical_tail, dimensions_of}
 use Rattle.crs_value.specs.Checks.{Own as BreaksOwn}
-use Rattle.crs_value.specs.ConversionValues.{GeoidModelParts}
-use Rattle.crs_value.specs.CrsValues.{VerticalParts}
+use Rattle.crs_value.specs.Prelude.{GeoidModelParts, VerticalParts, IsGeoidModel, IsVertical}
 use Rattle.crs_value.specs.declared.values.frame.Frame.{Frame}
 use Rattle.crs_value.specs.declared.values.frame.Frame.TheVariants as frame
 use Rattle.crs_value.specs.declared.values.level.Level.{Level}
 use Rattle.crs_value.specs.Sound.{Each}
-use Rattle.crs_value.specs.SoundConversion.{IsGeoidModel}
-use Rattle.crs_value.specs.SoundSingle.{IsVertical}
-use Rattle.crs_matching.specs.SameUsages.{usages_of}
+use Rattle.crs_matching.specs.Prelude.{usages_of}
 use Rattle.crs_normal.specs.DecimalLaws.{DecimalLaws}
 use Rattle.crs_normal.specs.AcceptedNormal.{IsAcceptedNormal, vertical_frame_class}
 use Rattle.crs_normal.specs.NormalOwn.{Ascend}

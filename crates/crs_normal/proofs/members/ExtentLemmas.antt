@@ -1,18 +1,13 @@
 -- Boxes and extents of a usage: their items read as them wherever they are, and their one form
 -- agrees with sameness.
 use Rattle.std.proofs.Common.{◌≡◌, ℕ, ◌+◌, codes, IfSome, Option, Some, None, [], ◌∷◌, refl, ◌∙◌, ap}
-use Rattle.crs_decimal.specs.Value.{IsNormal}
-use Rattle.crs_text.specs.Items.{End, More}
-use Rattle.crs_text.specs.Written.{at_place}
+use Rattle.crs_decimal.specs.Prelude.{IsNormal}
+use Rattle.crs_text.specs.Prelude.{End, More, at_place}
 use Rattle.crs_shape.specs.declared.class.Class.TheVariants as class
 use Rattle.crs_shape.specs.declared.unit_kind.UnitKind.TheVariants as kinds
-use Rattle.crs_shape.specs.Slots.{class_named}
-use Rattle.crs_shape.specs.Words.{unit_word}
+use Rattle.crs_shape.specs.Prelude.{class_named, unit_word}
 use Rattle.crs_value.specs.declared.values.level.Level.{Level}
-use Rattle.crs_value.specs.Reads.{ReadsBox, ReadsExtent, ReadsUnit}
-use Rattle.crs_value.specs.Sound.{IsUnit, IsUnitOf}
-use Rattle.crs_value.specs.SoundUsages.{IsBox, IsExtent}
-use Rattle.crs_value.specs.Values.{BoxParts, ExtentParts, UnitParts}
+use Rattle.crs_value.specs.Prelude.{ReadsBox, ReadsExtent, ReadsUnit, IsUnit, IsUnitOf, IsBox, IsExtent, BoxParts, ExtentParts, UnitParts}
 use Rattle.crs_normal.specs.FormedWithin.{IsFormedWithin}
 use Rattle.crs_normal.specs.SpelledItems.{number_item, opt}
 use Rattle.crs_normal.specs.SpelledUnits.{item_unit, norm_length}

@@ -3,22 +3,16 @@
 use Rattle.std.proofs.Common.{◌≡◌, ◌≤◌, ◌↔◌, ◌⊎◌, ℕ, suc, ◌+◌, Bool, true, false, ◌&&◌, codes, if◌then◌else◌, Option, Some, None, List, [], ◌∷◌, inl, inr, length, map, map-id, nat_le, refl, ap, subst, arith}
 use Rattle.std.proofs.lemmas.Bool.{and_parts, leb-true}
 use Rattle.std.specs.List.{list_all}
-use Rattle.crs_decimal.specs.Spelling.{is_digit}
-use Rattle.crs_text.specs.Items.{Item, leaf, Siblings, End, More, IsNode}
-use Rattle.crs_text.specs.Tokens.{number, text, IsSingle, IsWord}
-use Rattle.crs_text.specs.Written.{at_place, at_places, item_text}
+use Rattle.crs_decimal.specs.Prelude.{is_digit}
+use Rattle.crs_text.specs.Prelude.{Item, leaf, Siblings, End, More, IsNode, number, text, IsSingle, IsWord, at_place, at_places, item_text}
 use Rattle.crs_shape.specs.declared.class.Class.{Class}
 use Rattle.crs_shape.specs.declared.class.Class.TheVariants as class
-use Rattle.crs_shape.specs.ShapeFault.{class_of_kind}
-use Rattle.crs_value.specs.Kept.{kept}
-use Rattle.crs_value.specs.KeptLaws.{kept-each}
+use Rattle.crs_shape.specs.Prelude.{class_of_kind}
+use Rattle.crs_value.specs.Prelude.{kept, kept-each, ReadsFirst, ReadsIfAny, ReadsOptional, ReadsText, ReadsTextOf, single_of, ReadsIdent, IsText, IsIdent}
 use Rattle.crs_value.specs.declared.values.level.Level.{Level}
-use Rattle.crs_value.specs.Reading.{ReadsFirst, ReadsIfAny, ReadsOptional}
-use Rattle.crs_value.specs.Reads.{ReadsText, ReadsTextOf, single_of, ReadsIdent}
-use Rattle.crs_value.specs.Sound.{Each, IsText, IsIdent}
+use Rattle.crs_value.specs.Sound.{Each}
 use Rattle.crs_value.specs.Values.{IdentParts}
-use Rattle.crs_matching.specs.SameIdents.{SameIdent, SameIdents}
-use Rattle.crs_matching.specs.Sets.{SameSet}
+use Rattle.crs_matching.specs.Prelude.{SameIdent, SameIdents, SameSet}
 use Rattle.crs_normal.specs.FormedWithin.{IsFormedWithin}
 use Rattle.crs_normal.specs.Ordered.{in_order}
 use Rattle.crs_normal.specs.SpelledItems.{code_item, is_short, node_of, opt, text_item, text_node}

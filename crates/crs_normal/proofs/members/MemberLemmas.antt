@@ -1,17 +1,13 @@
 -- Nodes of a name and identifiers alone, as members of an ensemble and geoid models are: their items
 -- read as them wherever they are, and as sets they have one form.
 use Rattle.std.proofs.Common.{◌≡◌, ◌↔◌, ℕ, ◌+◌, codes, List, [], ◌∷◌, length, refl, arith}
-use Rattle.crs_text.specs.Items.{Item, End}
-use Rattle.crs_text.specs.Tokens.{IsWord}
-use Rattle.crs_text.specs.Written.{at_place, item_text}
+use Rattle.crs_text.specs.Prelude.{Item, End, IsWord, at_place, item_text}
 use Rattle.crs_shape.specs.declared.class.Class.{Class}
 use Rattle.crs_shape.specs.declared.class.Class.TheVariants as class
-use Rattle.crs_value.specs.NamedValues.{NamedParts}
+use Rattle.crs_value.specs.Prelude.{NamedParts, ReadsNamed, IsNamed}
 use Rattle.crs_value.specs.declared.values.level.Level.{Level}
-use Rattle.crs_value.specs.ReadsNamed.{ReadsNamed}
-use Rattle.crs_value.specs.Sound.{Each, IsNamed}
-use Rattle.crs_matching.specs.SameIdents.{SameNamed}
-use Rattle.crs_matching.specs.Sets.{SameSet}
+use Rattle.crs_value.specs.Sound.{Each}
+use Rattle.crs_matching.specs.Prelude.{SameNamed, SameSet}
 use Rattle.crs_normal.specs.FormedWithin.{IsFormedWithin}
 use Rattle.crs_normal.specs.SpelledConversions.{item_geoid_model, set_geoid_models}
 use Rattle.crs_normal.specs.SpelledFrames.{item_member, norm_member, set_members}

@@ -1,18 +1,16 @@
 -- Units within the members of sets: their items read as them wherever they are, and their one form
 -- agrees with sameness.
 use Rattle.std.proofs.Common.{◌≡◌, ◌≤◌, ℕ, ◌+◌, codes, Some, List, [], ◌∷◌, length, refl, arith}
-use Rattle.crs_decimal.specs.Value.{Value, IsNormal}
-use Rattle.crs_text.specs.Items.{Item, End, More}
-use Rattle.crs_text.specs.Written.{at_place, item_text}
+use Rattle.crs_decimal.specs.Prelude.{Value, IsNormal}
+use Rattle.crs_text.specs.Prelude.{Item, End, More, at_place, item_text}
 use Rattle.crs_shape.specs.declared.class.Class.{Class}
 use Rattle.crs_shape.specs.declared.class.Class.TheVariants as class
 use Rattle.crs_shape.specs.declared.unit_kind.UnitKind.{UnitKind}
-use Rattle.crs_shape.specs.Slots.{class_named}
-use Rattle.crs_shape.specs.Words.{unit_word}
+use Rattle.crs_shape.specs.Prelude.{class_named, unit_word}
 use Rattle.crs_value.specs.declared.values.level.Level.{Level}
-use Rattle.crs_value.specs.Reads.{ReadsIdent, ReadsIds, ReadsNumber, ReadsUnit}
-use Rattle.crs_value.specs.Sound.{Each, IsIdent, IsUnit}
-use Rattle.crs_value.specs.Values.{IdentParts, UnitParts}
+use Rattle.crs_value.specs.Prelude.{ReadsIdent, ReadsIds, ReadsNumber, ReadsUnit, IsIdent, IsUnit, UnitParts}
+use Rattle.crs_value.specs.Sound.{Each}
+use Rattle.crs_value.specs.Values.{IdentParts}
 use Rattle.crs_normal.specs.FormedWithin.{IsFormedWithin}
 use Rattle.crs_normal.specs.SpelledItems.{each, number_item, text_item}
 use Rattle.crs_normal.specs.SpelledUnits.{item_ident, item_unit, norm_unit}

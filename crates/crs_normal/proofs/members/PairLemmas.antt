@@ -1,15 +1,13 @@
 -- Several numbers in slots of their own, and optional units, as they are written.
 use Rattle.std.proofs.Common.{◌≡◌, ◌≢◌, drop, Option, Some, None, List, [], ◌∷◌, refl, ◌∙◌, ap, subst}
 use Rattle.std.specs.Option.{option_map}
-use Rattle.crs_decimal.specs.Value.{Value}
-use Rattle.crs_text.specs.Items.{Item, Siblings, More}
+use Rattle.crs_decimal.specs.Prelude.{Value}
+use Rattle.crs_text.specs.Prelude.{Item, Siblings, More}
 use Rattle.crs_shape.specs.declared.class.Class.{Class}
 use Rattle.crs_shape.specs.declared.class.Class.TheVariants as class
 use Rattle.crs_shape.specs.declared.unit_kind.UnitKind.{UnitKind}
 use Rattle.crs_shape.specs.declared.unit_kind.UnitKind.TheVariants as kinds
-use Rattle.crs_value.specs.Reading.{ReadsFirst, ReadsOptional}
-use Rattle.crs_value.specs.Reads.{ReadsNumber}
-use Rattle.crs_value.specs.Values.{UnitParts}
+use Rattle.crs_value.specs.Prelude.{ReadsFirst, ReadsOptional, ReadsNumber, UnitParts}
 use Rattle.crs_value.specs.declared.values.level.Level.{Level}
 use Rattle.crs_normal.specs.WithoutPlaces.{without_places}
 use Rattle.crs_value.specs.Sound.{Each}

@@ -1,26 +1,18 @@
 -- Parameters: the item of one reads as it wherever it is, with a unit of the class that its keyword
 -- names, and as sets they have one form.
 use Rattle.std.proofs.Common.{◌≡◌, ◌↔◌, ℕ, ◌+◌, codes, IfSome, Option, Some, None, List, [], ◌∷◌, refl, sym, subst, arith}
-use Rattle.crs_decimal.specs.Value.{Value}
-use Rattle.crs_text.specs.Items.{Item, End, More}
-use Rattle.crs_text.specs.Written.{at_place, item_text}
+use Rattle.crs_decimal.specs.Prelude.{Value}
+use Rattle.crs_text.specs.Prelude.{Item, End, More, at_place, item_text}
 use Rattle.crs_shape.specs.declared.class.Class.{Class}
 use Rattle.crs_shape.specs.declared.class.Class.TheVariants as class
 use Rattle.crs_shape.specs.declared.unit_kind.UnitKind.{UnitKind}
 use Rattle.crs_shape.specs.declared.unit_kind.UnitKind.TheVariants as kinds
-use Rattle.crs_shape.specs.Keywords.{is_keyword}
-use Rattle.crs_shape.specs.Slots.{class_named}
-use Rattle.crs_shape.specs.Words.{unit_word}
-use Rattle.crs_value.specs.ConversionValues.{ParameterParts}
+use Rattle.crs_shape.specs.Prelude.{is_keyword, class_named, unit_word}
+use Rattle.crs_value.specs.Prelude.{ParameterParts, ReadsElse, ReadsIds, ReadsAsUnit, ReadsParameter, ReadsUnitOf, parameter_units, IsIdent, IsUnit, IsParameter, UnitParts}
 use Rattle.crs_value.specs.declared.values.level.Level.{Level}
-use Rattle.crs_value.specs.Reading.{ReadsElse}
-use Rattle.crs_value.specs.Reads.{ReadsIds}
-use Rattle.crs_value.specs.ReadsConversion.{ReadsAsUnit, ReadsParameter, ReadsUnitOf, parameter_units}
-use Rattle.crs_value.specs.Sound.{Each, IsIdent, IsUnit}
-use Rattle.crs_value.specs.SoundConversion.{IsParameter}
-use Rattle.crs_value.specs.Values.{IdentParts, UnitParts}
-use Rattle.crs_matching.specs.SameConversions.{SameParameter}
-use Rattle.crs_matching.specs.Sets.{SameSet}
+use Rattle.crs_value.specs.Sound.{Each}
+use Rattle.crs_value.specs.Values.{IdentParts}
+use Rattle.crs_matching.specs.Prelude.{SameParameter, SameSet}
 use Rattle.crs_normal.specs.PartSpellings.{unit_class}
 use Rattle.crs_normal.specs.FormedWithin.{IsFormedWithin}
 use Rattle.crs_normal.specs.SpelledConversions.{item_parameter, norm_parameter, set_parameters}

@@ -6,7 +6,7 @@ use Rattle.std.specs.Ordering.{nat_cmp, match_ordering, ordering_reverse, orderi
 use Rattle.std.proofs.lemmas.Cmp.{nat_list_cmp_total}
 use Rattle.std.proofs.lemmas.Map.Lookups.{exact_bytes}
 use Rattle.crs_value.specs.Sound.{Each}
-use Rattle.crs_matching.specs.Sets.{HasSame, AllHaveSame, SameSet}
+use Rattle.crs_matching.specs.Prelude.{HasSame, AllHaveSame, SameSet}
 use Rattle.crs_normal.specs.Ascending.{Ascends, Below, IsIn}
 use Rattle.crs_normal.specs.Ordered.{put, put_all, in_order}
 

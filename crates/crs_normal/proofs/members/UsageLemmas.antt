@@ -1,20 +1,13 @@
 -- Usages: the item of one reads as it wherever it is, and as sets they have one form.
 use Rattle.std.proofs.Common.{◌≡◌, ◌↔◌, ◌⊎◌, ℕ, suc, ◌+◌, true≢false, codes, IfSome, IsSome, Option, Some, None, option_map, List, [], ◌∷◌, inl, inr, refl, sym, arith}
-use Rattle.crs_text.specs.Items.{Item, Siblings, End, More, IsNode}
-use Rattle.crs_text.specs.Tokens.{IsWord}
-use Rattle.crs_text.specs.Written.{at_place, item_text}
+use Rattle.crs_text.specs.Prelude.{Item, Siblings, End, More, IsNode, IsWord, at_place, item_text}
 use Rattle.crs_shape.specs.declared.class.Class.{Class}
 use Rattle.crs_shape.specs.declared.class.Class.TheVariants as class
-use Rattle.crs_value.specs.Kept.{kept}
-use Rattle.crs_value.specs.KeptLaws.{kept-each}
+use Rattle.crs_value.specs.Prelude.{kept, kept-each, ReadsBox, ReadsExtent, ReadsTextOf, ReadsUsage, IsText, IsBox, IsExtent, IsUsage, BoxParts, ExtentParts, SaysSome, UsageParts}
 use Rattle.crs_value.specs.declared.values.level.Level.{Level}
 use Rattle.crs_value.specs.declared.values.level.Level.TheVariants as levels
-use Rattle.crs_value.specs.Reads.{ReadsBox, ReadsExtent, ReadsTextOf, ReadsUsage}
-use Rattle.crs_value.specs.Sound.{Each, IsText}
-use Rattle.crs_value.specs.SoundUsages.{IsBox, IsExtent, IsUsage}
-use Rattle.crs_value.specs.Values.{BoxParts, ExtentParts, SaysSome, UsageParts}
-use Rattle.crs_matching.specs.SameUsages.{SameUsage}
-use Rattle.crs_matching.specs.Sets.{SameSet}
+use Rattle.crs_value.specs.Sound.{Each}
+use Rattle.crs_matching.specs.Prelude.{SameUsage, SameSet}
 use Rattle.crs_normal.specs.FormedWithin.{IsFormedWithin}
 use Rattle.crs_normal.specs.SpelledItems.{node_from, opt, text_node}
 use Rattle.crs_normal.specs.SpelledUsages.{item_box, item_extent, item_usage, norm_extent, norm_usage, set_usages}

@@ -2,15 +2,13 @@
 -- ranks the anchor comes first.
 use Rattle.std.proofs.Common.{◌≡◌, ℕ, ◌≤◌, ◌||◌, length, Bool, true, false, inl, inr, ◌⊎◌, Option, Some, List, [], ◌∷◌, ◌++◌, codes, refl, ◌∙◌, ap, arith}
 use denote.Enum.Bare.{sameb}
-use Rattle.crs_decimal.specs.Value.{Value}
-use Rattle.crs_text.specs.Items.{Item, Siblings, End}
+use Rattle.crs_decimal.specs.Prelude.{Value}
+use Rattle.crs_text.specs.Prelude.{Item, Siblings, End}
 use Rattle.crs_shape.specs.contracts.class.Class.{the_type}
 use Rattle.crs_shape.specs.declared.class.Class.{Class}
 use Rattle.crs_shape.specs.declared.class.Class.TheVariants as class
-use Rattle.crs_shape.specs.ShapeFault.{class_in}
-use Rattle.crs_shape.specs.Slots.{anchor_slot}
-use Rattle.crs_value.specs.Reading.{those, ReadsOptional}
-use Rattle.crs_value.specs.Reads.{ReadsNumberOf, ReadsTextOf}
+use Rattle.crs_shape.specs.Prelude.{class_in, anchor_slot}
+use Rattle.crs_value.specs.Prelude.{those, ReadsOptional, ReadsNumberOf, ReadsTextOf}
 use Rattle.crs_value.specs.Sound.{Each}
 use Rattle.crs_value.specs.declared.values.level.Level.{Level}
 use Rattle.crs_normal.specs.NormalOwn.{Rise}

@@ -1,23 +1,16 @@
 -- A normal axis is the one form of its value at its position.
 use Rattle.std.proofs.Common.{◌≡◌, ◌≢◌, ℕ, map, true, false, Option, Some, None, List, [], ◌∷◌, ◌++◌, codes, decimal, refl, sym, ◌∙◌, ap, subst}
-use Rattle.crs_decimal.specs.Plain.{plain}
-use Rattle.crs_decimal.specs.Value.{Value}
-use Rattle.crs_text.specs.Items.{Item, leaf, node, Siblings, End, More, raw_of}
-use Rattle.crs_text.specs.Tokens.{number, text, word}
+use Rattle.crs_decimal.specs.Prelude.{plain, Value}
+use Rattle.crs_text.specs.Prelude.{Item, leaf, node, Siblings, End, More, raw_of, number, text, word}
 use Rattle.crs_shape.specs.declared.class.Class.{Class}
 use Rattle.crs_shape.specs.declared.class.Class.TheVariants as class
 use Rattle.crs_shape.specs.declared.system_type.SystemType.{SystemType}
 use Rattle.crs_shape.specs.declared.unit_kind.UnitKind.{UnitKind}
 use Rattle.crs_shape.specs.declared.unit_kind.UnitKind.TheVariants as kinds
-use Rattle.crs_shape.specs.Shaped.{Shaped}
-use Rattle.crs_shape.specs.Slots.{slots_of}
-use Rattle.crs_shape.specs.UnitKinds.{asked_kind}
-use Rattle.crs_shape.specs.Words.{SpellsWord, direction_word, system_word}
-use Rattle.crs_value.specs.Reading.{those, ReadsFirst, ReadsOptional}
-use Rattle.crs_value.specs.Reads.{ReadsAxis, ReadsAxisMeridian, ReadsDirection, ReadsNumber, ReadsNumberOf, ReadsText, ReadsType, ReadsUnit}
-use Rattle.crs_value.specs.Values.{AxisMeridianParts, AxisParts, SystemParts, UnitParts}
+use Rattle.crs_shape.specs.Prelude.{Shaped, slots_of, asked_kind, SpellsWord, direction_word, system_word}
+use Rattle.crs_value.specs.Prelude.{those, ReadsFirst, ReadsOptional, ReadsAxis, ReadsAxisMeridian, ReadsDirection, ReadsNumber, ReadsNumberOf, ReadsText, ReadsType, ReadsUnit, AxisMeridianParts, AxisParts, SystemParts, UnitParts}
 use Rattle.crs_value.specs.declared.values.level.Level.{Level}
-use Rattle.crs_matching.specs.SameSystems.{own_or}
+use Rattle.crs_matching.specs.Prelude.{own_or}
 use Rattle.crs_normal.specs.WithoutPlaces.{without_places}
 use Rattle.crs_normal.specs.Normal.{IsNormalIn, IsWordIn}
 use Rattle.crs_normal.specs.NormalOwn.{Has, HasOneOrder, numbers_in}

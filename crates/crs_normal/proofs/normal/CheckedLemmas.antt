@@ -1,15 +1,9 @@
 -- Arguments of a node that breaks no check break none.
 use Rattle.std.proofs.Common.{◌≡◌, ◌≤◌, length, drop, true, false, inl, inr, Option, Some, List, [], ◌∷◌, if◌then◌else◌, refl, sym, ◌∙◌, ap, subst, arith}
-use Rattle.crs_text.specs.Items.{Item, Siblings, End, More}
-use Rattle.crs_text.specs.Refusal.{RefusedAt}
+use Rattle.crs_text.specs.Prelude.{Item, Siblings, End, More, RefusedAt}
 use Rattle.crs_shape.specs.declared.class.Class.{Class}
-use Rattle.crs_shape.specs.Shaped.{AreShaped}
-use Rattle.crs_shape.specs.ShapeFault.{class_in}
-use Rattle.crs_shape.specs.Slots.{is_class}
-use Rattle.crs_value.specs.Break.{AnyOf}
-use Rattle.crs_value.specs.Checks.{AtClass, Breaks, BreaksAmong}
-use Rattle.crs_value.specs.Reading.{is_a, those, ReadsFirst}
-use Rattle.crs_value.specs.RepeatedPart.{IsRepeated}
+use Rattle.crs_shape.specs.Prelude.{AreShaped, class_in, is_class}
+use Rattle.crs_value.specs.Prelude.{AnyOf, AtClass, Breaks, BreaksAmong, is_a, those, ReadsFirst, IsRepeated}
 use Rattle.crs_value.specs.Sound.{Each}
 use Rattle.crs_normal.proofs.read.ViewLemmas.{same_class}
 

@@ -1,13 +1,10 @@
 -- Normal compound CRSs, and normal CRSs of any kind, are the one form of their values.
 use Rattle.std.proofs.Common.{◌≡◌, Bool, true, false, inl, inr, List, [], ◌∷◌, if◌then◌else◌, refl, sym, ◌∙◌, ap, subst}
-use Rattle.crs_text.specs.Items.{Item, leaf, node, End, More}
+use Rattle.crs_text.specs.Prelude.{Item, leaf, node, End, More}
 use Rattle.crs_shape.specs.declared.class.Class.{Class}
 use Rattle.crs_shape.specs.declared.class.Class.TheVariants as class
-use Rattle.crs_shape.specs.Slots.{slots_of, tail}
-use Rattle.crs_value.specs.Checks.{Own}
-use Rattle.crs_value.specs.Reading.{is_a, those, ReadsElse, ReadsFirst}
-use Rattle.crs_value.specs.Reads.{ReadsText}
-use Rattle.crs_value.specs.ReadsCrs.{ReadsAsHorizontal, ReadsCompound, ReadsCrs, ReadsProjected, ReadsVertical}
+use Rattle.crs_shape.specs.Prelude.{slots_of, tail}
+use Rattle.crs_value.specs.Prelude.{Own, is_a, those, ReadsElse, ReadsFirst, ReadsText, ReadsAsHorizontal, ReadsCompound, ReadsCrs, ReadsProjected, ReadsVertical}
 use Rattle.crs_value.specs.declared.values.compound.Horizontal.{Horizontal}
 use Rattle.crs_value.specs.declared.values.compound.Horizontal.TheVariants as horizontal
 use Rattle.crs_value.specs.declared.values.crs.Crs.{Crs}

@@ -1,14 +1,11 @@
 -- Normal dynamic parts are the one form of their values.
 use Rattle.std.proofs.Common.{◌≡◌, ◌≤◌, length, Option, List, codes, refl, ◌∙◌}
 use Rattle.std.specs.Option.{option_map}
-use Rattle.crs_text.specs.Items.{Item, leaf, node, Siblings, End, More}
+use Rattle.crs_text.specs.Prelude.{Item, leaf, node, Siblings, End, More}
 use Rattle.crs_shape.specs.declared.class.Class.{Class}
 use Rattle.crs_shape.specs.declared.class.Class.TheVariants as class
-use Rattle.crs_shape.specs.Slots.{slots_of}
-use Rattle.crs_value.specs.DynamicValues.{DynamicParts}
-use Rattle.crs_value.specs.Reading.{ReadsOptional}
-use Rattle.crs_value.specs.Reads.{ReadsNumberOf}
-use Rattle.crs_value.specs.ReadsDynamic.{ReadsDeformationModel, ReadsDynamic}
+use Rattle.crs_shape.specs.Prelude.{slots_of}
+use Rattle.crs_value.specs.Prelude.{DynamicParts, ReadsOptional, ReadsNumberOf, ReadsDeformationModel, ReadsDynamic}
 use Rattle.crs_value.specs.Sound.{Each}
 use Rattle.crs_value.specs.declared.values.level.Level.{Level}
 use Rattle.crs_normal.specs.SpelledDynamic.{item_deformation_model, item_dynamic, norm_deformation_model, norm_dynamic}

@@ -1,17 +1,13 @@
 -- Normal ellipsoids and prime meridians are the one form of their values.
-use Rattle.std.proofs.Common.{◌≡◌, ℕ, ◌&&◌, map, Bool, true, false, Option, Some, None, List, [], ◌∷◌, if◌then◌else◌, codes, refl, ◌∙◌, ap, subst}
-use Rattle.std.specs.Prelude.{ℤ, pos, negsuc}
+use Rattle.std.proofs.Common.{◌≡◌, ℕ, ◌&&◌, map, Bool, true, false, Option, Some, None, List, [], ◌∷◌, if◌then◌else◌, codes, refl, ◌∙◌, ap, subst, ℤ, pos, negsuc}
 use Rattle.std.proofs.lemmas.Bool.{and_parts, eqb-true}
-use Rattle.crs_decimal.specs.Plain.{plain}
-use Rattle.crs_decimal.specs.Value.{Value, IsNormal, is_normal, is_power, zero}
-use Rattle.crs_text.specs.Items.{Item, leaf, node, Siblings, More, raw_of}
+use Rattle.crs_decimal.specs.Prelude.{plain, Value, IsNormal, is_normal, is_power, zero}
+use Rattle.crs_text.specs.Prelude.{Item, leaf, node, Siblings, More, raw_of}
 use Rattle.crs_shape.specs.declared.class.Class.{Class}
 use Rattle.crs_shape.specs.declared.class.Class.TheVariants as class
 use Rattle.crs_shape.specs.declared.unit_kind.UnitKind.TheVariants as kinds
-use Rattle.crs_shape.specs.Slots.{slots_of}
-use Rattle.crs_value.specs.Reading.{those, ReadsFirst, ReadsOptional}
-use Rattle.crs_value.specs.Reads.{ReadsEllipsoid, ReadsMeridian, ReadsNumber, ReadsText, ReadsUnit}
-use Rattle.crs_value.specs.Values.{UnitParts}
+use Rattle.crs_shape.specs.Prelude.{slots_of}
+use Rattle.crs_value.specs.Prelude.{those, ReadsFirst, ReadsOptional, ReadsEllipsoid, ReadsMeridian, ReadsNumber, ReadsText, ReadsUnit, UnitParts}
 use Rattle.crs_value.specs.declared.values.level.Level.{Level}
 use Rattle.crs_value.specs.Sound.{Each}
 use Rattle.crs_normal.specs.SpelledFrames.{is_zero, item_ellipsoid, item_meridian, norm_ellipsoid, norm_given}

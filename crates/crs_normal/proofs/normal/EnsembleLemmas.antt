@@ -1,15 +1,12 @@
 -- Normal ensembles, frames of either sort, and base CRSs are the one form of their values.
 use Rattle.std.proofs.Common.{◌≡◌, ◌≢◌, ℕ, Bool, true, false, inr, Option, Some, None, List, [], ◌∷◌, if◌then◌else◌, codes, refl, sym, ◌∙◌, ap, subst}
 use Rattle.std.specs.Option.{option_map}
-use Rattle.crs_text.specs.Items.{Item, leaf, node, Siblings, End, More}
+use Rattle.crs_text.specs.Prelude.{Item, leaf, node, Siblings, End, More}
 use Rattle.crs_shape.specs.declared.class.Class.{Class}
 use Rattle.crs_shape.specs.declared.class.Class.TheVariants as class
 use Rattle.crs_shape.specs.declared.unit_kind.UnitKind.TheVariants as kinds
-use Rattle.crs_shape.specs.Slots.{slots_of}
-use Rattle.crs_value.specs.Reading.{is_a, those, ReadsElse, ReadsFirst, ReadsOptional}
-use Rattle.crs_value.specs.Reads.{ReadsDatum, ReadsEllipsoid, ReadsEnsemble, ReadsMember, ReadsMeridian, ReadsNumberOf, ReadsText, ReadsUnit}
-use Rattle.crs_value.specs.ReadsCrs.{ReadsAsDatum, ReadsAsEnsemble, ReadsBase}
-use Rattle.crs_value.specs.Values.{EllipsoidParts, MeridianParts}
+use Rattle.crs_shape.specs.Prelude.{slots_of}
+use Rattle.crs_value.specs.Prelude.{is_a, those, ReadsElse, ReadsFirst, ReadsOptional, ReadsDatum, ReadsEllipsoid, ReadsEnsemble, ReadsMember, ReadsMeridian, ReadsNumberOf, ReadsText, ReadsUnit, ReadsAsDatum, ReadsAsEnsemble, ReadsBase, EllipsoidParts, MeridianParts}
 use Rattle.crs_value.specs.declared.values.frame.Frame.{Frame}
 use Rattle.crs_value.specs.declared.values.frame.Frame.TheVariants as frame
 use Rattle.crs_value.specs.declared.values.level.Level.{Level}

@@ -2,16 +2,10 @@
 use Rattle.std.proofs.Common.{◌≡◌, ℕ, ◌≤◌, length, map, Bool, true, false, Option, Some, None, List, [], ◌∷◌, ◌++◌, if◌then◌else◌, refl, sym, ◌∙◌, ap, subst, arith}
 use Rattle.std.specs.Cmp.Lexicographic.{slice_cmp}
 use Rattle.std.specs.Ordering.{nat_cmp}
-use Rattle.crs_text.specs.Items.{Item, leaf, node, Siblings, End, More, arguments}
-use Rattle.crs_text.specs.Written.{item_text, others_text}
+use Rattle.crs_text.specs.Prelude.{Item, leaf, node, Siblings, End, More, arguments, item_text, others_text}
 use Rattle.crs_shape.specs.declared.class.Class.{Class}
-use Rattle.crs_shape.specs.Shaped.{Shaped, AreShaped}
-use Rattle.crs_shape.specs.ShapeFault.{class_in}
-use Rattle.crs_shape.specs.Slots.{slots_of, is_class}
-use Rattle.crs_value.specs.Checks.{AtClass}
-use Rattle.crs_value.specs.Reading.{is_a, those, ReadsFirst, ReadsOptional, ReadsEach}
-use Rattle.crs_value.specs.Kept.{kept}
-use Rattle.crs_value.specs.KeptLaws.{kept-where_none}
+use Rattle.crs_shape.specs.Prelude.{Shaped, AreShaped, class_in, slots_of, is_class}
+use Rattle.crs_value.specs.Prelude.{AtClass, is_a, those, ReadsFirst, ReadsOptional, ReadsEach, kept, kept-where_none}
 use Rattle.crs_value.specs.declared.values.level.Level.{Level}
 use Rattle.crs_normal.specs.WithoutPlaces.{without_places, all_without_places}
 use Rattle.crs_normal.specs.Normal.{IsNormalIn, AreNormalIn, IsFirstKeyword, KeepsAll}

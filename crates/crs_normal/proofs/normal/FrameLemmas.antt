@@ -1,14 +1,11 @@
 -- Normal reference frames and ensembles are the one form of their values.
 use Rattle.std.proofs.Common.{◌≡◌, ℕ, ◌≤◌, length, Bool, inl, inr, Option, Some, None, List, [], codes, refl, sym, ◌∙◌, ap, subst}
 use Rattle.std.specs.Option.{option_map}
-use Rattle.crs_text.specs.Items.{Item, leaf, node, Siblings, End, More}
+use Rattle.crs_text.specs.Prelude.{Item, leaf, node, Siblings, End, More}
 use Rattle.crs_shape.specs.declared.class.Class.{Class}
 use Rattle.crs_shape.specs.declared.class.Class.TheVariants as class
-use Rattle.crs_shape.specs.Slots.{slots_of}
-use Rattle.crs_value.specs.Checks.{Own}
-use Rattle.crs_value.specs.Reading.{those, ReadsOptional}
-use Rattle.crs_value.specs.Reads.{ReadsDatum, ReadsEllipsoid, ReadsText}
-use Rattle.crs_value.specs.Values.{EllipsoidParts}
+use Rattle.crs_shape.specs.Prelude.{slots_of}
+use Rattle.crs_value.specs.Prelude.{Own, those, ReadsOptional, ReadsDatum, ReadsEllipsoid, ReadsText, EllipsoidParts}
 use Rattle.crs_value.specs.declared.values.level.Level.{Level}
 use Rattle.crs_normal.specs.NormalOwn.{Rise}
 use Rattle.crs_normal.specs.SpelledFrames.{item_datum, item_ellipsoid, norm_datum, norm_ellipsoid}

@@ -1,18 +1,12 @@
 -- Normal geodetic and geographic CRSs are the one form of their values.
 use Rattle.std.proofs.Common.{◌≡◌, ◌≢◌, ℕ, ◌+◌, ◌^◌, ◌≤◌, ◌<◌, length, inl, inr, List, [], codes, refl, sym, ◌∙◌, ap, subst}
-use Rattle.crs_text.specs.Items.{Item, leaf, node, Siblings, End, More, arguments}
+use Rattle.crs_text.specs.Prelude.{Item, leaf, node, Siblings, End, More, arguments}
 use Rattle.crs_shape.specs.declared.class.Class.{Class}
 use Rattle.crs_shape.specs.declared.class.Class.TheVariants as class
 use Rattle.crs_shape.specs.declared.system_type.SystemType.{SystemType}
 use Rattle.crs_shape.specs.declared.system_type.SystemType.TheVariants as types
-use Rattle.crs_shape.specs.Slots.{geodetic_slots, tail}
-use Rattle.crs_shape.specs.Dimensions.{dimensions_of}
-use Rattle.crs_value.specs.Checks.{Own}
-use Rattle.crs_value.specs.CrsValues.{GeodeticParts}
-use Rattle.crs_value.specs.Reading.{those, ReadsEach}
-use Rattle.crs_value.specs.Reads.{ReadsAxis, ReadsMeridian, ReadsText}
-use Rattle.crs_value.specs.ReadsConversion.{ReadsGeoidModel}
-use Rattle.crs_value.specs.ReadsCrs.{ReadsGeodetic}
+use Rattle.crs_shape.specs.Prelude.{geodetic_slots, tail, dimensions_of}
+use Rattle.crs_value.specs.Prelude.{Own, GeodeticParts, those, ReadsEach, ReadsAxis, ReadsMeridian, ReadsText, ReadsGeoidModel, ReadsGeodetic}
 use Rattle.crs_value.specs.declared.values.level.Level.{Level}
 use Rattle.crs_normal.specs.WithoutPlaces.{all_without_places}
 use Rattle.crs_normal.specs.NormalOwn.{Has, HasAxes, HasSets, HasTail, Rise}

@@ -1,23 +1,15 @@
 -- What the checks say of a normal CRS: how many axes there are, of which type its system is, and
 -- what is at its end.
-use Rattle.std.proofs.Common.{◌≡◌, ◌≢◌, ℕ, suc, ◌+◌, ◌^◌, ◌≤◌, ◌<◌, length, map, true, false, inl, inr, List, [], ◌∷◌, codes, refl, sym, ◌∙◌, ap, subst, arith}
-use Rattle.std.specs.Prelude.{nat_lt}
+use Rattle.std.proofs.Common.{◌≡◌, ◌≢◌, ℕ, suc, ◌+◌, ◌^◌, ◌≤◌, ◌<◌, length, map, true, false, inl, inr, List, [], ◌∷◌, codes, refl, sym, ◌∙◌, ap, subst, arith, nat_lt}
 use Rattle.std.proofs.lemmas.Bool.{ltb-true, ltb-false}
-use Rattle.crs_decimal.specs.Number.{Number, SameNumber}
-use Rattle.crs_text.specs.Items.{Item, leaf, node, End, More, arguments, raw_of}
-use Rattle.crs_text.specs.Refusal.{RefusedAt}
+use Rattle.crs_decimal.specs.Prelude.{Number, SameNumber}
+use Rattle.crs_text.specs.Prelude.{Item, leaf, node, End, More, arguments, raw_of, RefusedAt}
 use Rattle.crs_shape.specs.declared.class.Class.{Class}
 use Rattle.crs_shape.specs.declared.class.Class.TheVariants as class
 use Rattle.crs_shape.specs.declared.system_type.SystemType.{SystemType}
 use Rattle.crs_shape.specs.declared.system_type.SystemType.TheVariants as types
-use Rattle.crs_shape.specs.Slots.{slots_of, tail, vertical_tail}
-use Rattle.crs_shape.specs.Dimensions.{IsOneOf, dimensions_of}
-use Rattle.crs_shape.specs.Words.{system_word}
-use Rattle.crs_value.specs.Break.{at}
-use Rattle.crs_value.specs.Checks.{BadSystems}
-use Rattle.crs_value.specs.Reading.{is_a, those, ReadsEach, ReadsFirst}
-use Rattle.crs_value.specs.Reads.{ReadsHead, ReadsType}
-use Rattle.crs_value.specs.Values.{SystemParts}
+use Rattle.crs_shape.specs.Prelude.{slots_of, tail, vertical_tail, IsOneOf, dimensions_of, system_word}
+use Rattle.crs_value.specs.Prelude.{at, BadSystems, is_a, those, ReadsEach, ReadsFirst, ReadsHead, ReadsType, SystemParts}
 use Rattle.crs_value.specs.declared.values.level.Level.{Level}
 use Rattle.crs_normal.specs.NormalOwn.{HasTail, words_in}
 use Rattle.crs_value.specs.Sound.{Each}

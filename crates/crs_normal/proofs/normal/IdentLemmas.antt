@@ -1,21 +1,15 @@
 -- A normal identifier is the one form of its value.
-use Rattle.std.proofs.Common.{◌≡◌, ℕ, ◌≤◌, ◌&&◌, ◌||◌, length, Bool, true, false, inl, inr, Option, Some, None, List, [], ◌∷◌, ◌++◌, if◌then◌else◌, codes, refl, sym, ◌∙◌, ap, subst, arith}
-use Rattle.std.specs.Prelude.{nat_le}
+use Rattle.std.proofs.Common.{◌≡◌, ℕ, ◌≤◌, ◌&&◌, ◌||◌, length, Bool, true, false, inl, inr, Option, Some, None, List, [], ◌∷◌, ◌++◌, if◌then◌else◌, codes, refl, sym, ◌∙◌, ap, subst, arith, nat_le}
 use Rattle.std.specs.List.{list_all}
 use Rattle.std.proofs.lemmas.Bool.{and_parts, and_from, le-leb, leb-true}
 use denote.Enum.Bare.{sameb}
-use Rattle.crs_decimal.specs.Spelling.{is_digit}
-use Rattle.crs_text.specs.Items.{Item, leaf, node, Siblings, End, More, skip}
-use Rattle.crs_text.specs.Tokens.{Kind, number, text, word}
+use Rattle.crs_decimal.specs.Prelude.{is_digit}
+use Rattle.crs_text.specs.Prelude.{Item, leaf, node, Siblings, End, More, skip, Kind, number, text, word}
 use Rattle.crs_shape.specs.contracts.class.Class.{the_type}
 use Rattle.crs_shape.specs.declared.class.Class.{Class}
 use Rattle.crs_shape.specs.declared.class.Class.TheVariants as class
-use Rattle.crs_shape.specs.Keywords.{is_keyword}
-use Rattle.crs_shape.specs.ShapeFault.{class_of_kind}
-use Rattle.crs_shape.specs.Shaped.{Shaped}
-use Rattle.crs_shape.specs.Slots.{one, optional, optional_of, slots_of}
-use Rattle.crs_value.specs.Reading.{is_a, those, ReadsFirst, ReadsOptional}
-use Rattle.crs_value.specs.Reads.{ReadsText, ReadsTextOf, ReadsIdent, single_of}
+use Rattle.crs_shape.specs.Prelude.{is_keyword, class_of_kind, Shaped, one, optional, optional_of, slots_of}
+use Rattle.crs_value.specs.Prelude.{is_a, those, ReadsFirst, ReadsOptional, ReadsText, ReadsTextOf, ReadsIdent, single_of}
 use Rattle.crs_value.specs.Values.{IdentParts}
 use Rattle.crs_value.specs.declared.values.level.Level.{Level}
 use Rattle.crs_normal.specs.WithoutPlaces.{without_places, all_without_places}

@@ -1,17 +1,11 @@
 -- Texts and numbers, and nodes of one text or one number, are the one form of what is read from them.
 use Rattle.std.proofs.Common.{◌≡◌, ℕ, true, false, List, [], ◌∷◌, refl, sym, ◌∙◌, ap, subst}
-use Rattle.crs_decimal.specs.Bounds.{Denotes}
-use Rattle.crs_decimal.specs.Plain.{IsPlain, plain}
-use Rattle.crs_decimal.specs.Value.{Value, IsNormal, exact}
-use Rattle.crs_text.specs.Items.{Item, leaf, node, End, More, raw_of}
-use Rattle.crs_text.specs.Tokens.{number, text, word}
+use Rattle.crs_decimal.specs.Prelude.{Denotes, IsPlain, plain, Value, IsNormal, exact}
+use Rattle.crs_text.specs.Prelude.{Item, leaf, node, End, More, raw_of, number, text, word}
 use Rattle.crs_shape.specs.declared.class.Class.{Class}
 use Rattle.crs_shape.specs.declared.class.Class.TheVariants as class
-use Rattle.crs_shape.specs.Keywords.{is_keyword}
-use Rattle.crs_shape.specs.Shaped.{Shaped}
-use Rattle.crs_shape.specs.Slots.{SlotParts, one, slots_of}
-use Rattle.crs_value.specs.Reading.{those}
-use Rattle.crs_value.specs.Reads.{ReadsText, ReadsNumber, ReadsTextOf, ReadsNumberOf}
+use Rattle.crs_shape.specs.Prelude.{is_keyword, Shaped, SlotParts, one, slots_of}
+use Rattle.crs_value.specs.Prelude.{those, ReadsText, ReadsNumber, ReadsTextOf, ReadsNumberOf}
 use Rattle.crs_value.specs.declared.values.level.Level.{Level}
 use Rattle.crs_normal.specs.WithoutPlaces.{without_places}
 use Rattle.crs_normal.specs.Normal.{IsNormalIn, IsNumberIn, IsFirstKeyword}

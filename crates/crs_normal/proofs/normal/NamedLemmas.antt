@@ -3,18 +3,14 @@
 use Rattle.std.proofs.Common.{◌≡◌, ℕ, ◌≤◌, ◌||◌, length, Bool, true, false, Option, Some, None, List, [], ◌∷◌, if◌then◌else◌, codes, refl, sym, ◌∙◌, ap, subst, arith}
 use Rattle.std.specs.List.{list_any}
 use denote.Enum.Bare.{sameb}
-use Rattle.crs_text.specs.Items.{Item, leaf, node, Siblings, End, More, arguments}
+use Rattle.crs_text.specs.Prelude.{Item, leaf, node, Siblings, End, More, arguments}
 use Rattle.crs_shape.specs.contracts.class.Class.{the_type}
 use Rattle.crs_shape.specs.declared.class.Class.{Class}
 use Rattle.crs_shape.specs.declared.class.Class.TheVariants as class
 use Rattle.crs_shape.specs.declared.unit_kind.UnitKind.TheVariants as kinds
-use Rattle.crs_shape.specs.ShapeFault.{class_in}
-use Rattle.crs_shape.specs.Slots.{SlotParts, is_class, named_slots, slots_of, unit_slots}
-use Rattle.crs_value.specs.Reading.{is_a, those, ReadsElse}
-use Rattle.crs_value.specs.Reads.{ReadsIds, ReadsMember, ReadsNumber, ReadsText, ReadsTextOf}
-use Rattle.crs_value.specs.ReadsConversion.{parameter_units, ReadsAsUnit, ReadsConversion, ReadsGeoidModel, ReadsMethod, ReadsParameter, ReadsUnitOf}
-use Rattle.crs_value.specs.ReadsDynamic.{ReadsDeformationModel}
-use Rattle.crs_value.specs.Values.{IdentParts, UnitParts}
+use Rattle.crs_shape.specs.Prelude.{class_in, SlotParts, is_class, named_slots, slots_of, unit_slots}
+use Rattle.crs_value.specs.Prelude.{is_a, those, ReadsElse, ReadsIds, ReadsMember, ReadsNumber, ReadsText, ReadsTextOf, parameter_units, ReadsAsUnit, ReadsConversion, ReadsGeoidModel, ReadsMethod, ReadsParameter, ReadsUnitOf, ReadsDeformationModel, UnitParts}
+use Rattle.crs_value.specs.Values.{IdentParts}
 use Rattle.crs_value.specs.declared.values.level.Level.{Level}
 use Rattle.crs_normal.specs.WithoutPlaces.{without_places}
 use Rattle.crs_normal.specs.Normal.{IsFirstKeyword}

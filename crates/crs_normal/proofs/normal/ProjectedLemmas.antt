@@ -1,15 +1,10 @@
 -- Normal projected and vertical CRSs are the one form of their values.
 use Rattle.std.proofs.Common.{inl, inr, [], refl, sym, ◌∙◌, subst}
-use Rattle.crs_text.specs.Items.{leaf, node, End, More}
+use Rattle.crs_text.specs.Prelude.{leaf, node, End, More}
 use Rattle.crs_shape.specs.declared.class.Class.{Class}
 use Rattle.crs_shape.specs.declared.class.Class.TheVariants as class
-use Rattle.crs_shape.specs.Slots.{slots_of, tail}
-use Rattle.crs_shape.specs.Dimensions.{dimensions_of}
-use Rattle.crs_value.specs.Checks.{Own}
-use Rattle.crs_value.specs.Reading.{those}
-use Rattle.crs_value.specs.Reads.{ReadsAxis, ReadsText}
-use Rattle.crs_value.specs.ReadsConversion.{ReadsConversion}
-use Rattle.crs_value.specs.ReadsCrs.{ReadsBase, ReadsProjected, ReadsVertical}
+use Rattle.crs_shape.specs.Prelude.{slots_of, tail, dimensions_of}
+use Rattle.crs_value.specs.Prelude.{Own, those, ReadsAxis, ReadsText, ReadsConversion, ReadsBase, ReadsProjected, ReadsVertical}
 use Rattle.crs_value.specs.declared.values.level.Level.{Level}
 use Rattle.crs_normal.specs.NormalOwn.{Rise}
 use Rattle.crs_normal.specs.SpelledConversions.{item_conversion, norm_conversion}

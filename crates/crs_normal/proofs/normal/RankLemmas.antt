@@ -2,14 +2,12 @@
 -- the usages, the identifiers and the remark, one sort after the other.
 use Rattle.std.proofs.Common.{◌≡◌, ℕ, ◌≤◌, ◌||◌, Bool, true, false, inl, inr, ◌⊎◌, Option, Some, None, List, [], ◌∷◌, ◌++◌, if◌then◌else◌, refl, sym, ◌∙◌, ap, subst, arith}
 use denote.Enum.Bare.{sameb}
-use Rattle.crs_text.specs.Items.{Item, Siblings, End, More}
+use Rattle.crs_text.specs.Prelude.{Item, Siblings, End, More}
 use Rattle.crs_shape.specs.contracts.class.Class.{the_type}
 use Rattle.crs_shape.specs.declared.class.Class.{Class}
 use Rattle.crs_shape.specs.declared.class.Class.TheVariants as class
-use Rattle.crs_shape.specs.ShapeFault.{class_in}
-use Rattle.crs_shape.specs.Slots.{is_class, tail, vertical_tail}
-use Rattle.crs_value.specs.Checks.{AtClass}
-use Rattle.crs_value.specs.Reading.{is_a, those}
+use Rattle.crs_shape.specs.Prelude.{class_in, is_class, tail, vertical_tail}
+use Rattle.crs_value.specs.Prelude.{AtClass, is_a, those}
 use Rattle.crs_normal.specs.NormalOwn.{Rise, rank}
 use Rattle.crs_value.specs.Sound.{Each}
 use Rattle.crs_normal.proofs.read.ViewLemmas.{InSlot, onto, same_class}

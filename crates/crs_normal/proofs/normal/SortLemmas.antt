@@ -1,10 +1,9 @@
 -- Arguments of several sorts, one sort after the other.
 use Rattle.std.proofs.Common.{◌≡◌, Bool, true, false, Some, List, [], ◌∷◌, ◌++◌, if◌then◌else◌, refl, ◌∙◌, ap}
-use Rattle.crs_text.specs.Items.{Item, Siblings, End, More}
+use Rattle.crs_text.specs.Prelude.{Item, Siblings, End, More}
 use Rattle.crs_shape.specs.declared.class.Class.{Class}
-use Rattle.crs_shape.specs.ShapeFault.{class_in}
-use Rattle.crs_shape.specs.Slots.{is_class}
-use Rattle.crs_value.specs.Reading.{is_a, those}
+use Rattle.crs_shape.specs.Prelude.{class_in, is_class}
+use Rattle.crs_value.specs.Prelude.{is_a, those}
 use Rattle.crs_value.specs.Sound.{Each}
 use Rattle.crs_normal.specs.WithoutPlaces.{without_places}
 use Rattle.crs_normal.proofs.read.ViewLemmas.{each-so, without_places_onto, onto}

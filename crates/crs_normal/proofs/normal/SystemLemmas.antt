@@ -3,14 +3,11 @@ use Rattle.std.proofs.Common.{◌≡◌, ℕ, suc, ◌+◌, ◌^◌, ◌≤◌, 
 use Rattle.std.specs.Str.{bytes_eq}
 use Rattle.std.proofs.lemmas.Fmt.{decimal_injective}
 use Rattle.std.proofs.lemmas.Slice.Eq.{bytes_eq-Decides}
-use Rattle.crs_text.specs.Items.{Item, leaf, node, Siblings, More, arguments}
+use Rattle.crs_text.specs.Prelude.{Item, leaf, node, Siblings, More, arguments}
 use Rattle.crs_shape.specs.declared.class.Class.{Class}
 use Rattle.crs_shape.specs.declared.class.Class.TheVariants as class
-use Rattle.crs_shape.specs.Slots.{slots_of}
-use Rattle.crs_shape.specs.Words.{system_word}
-use Rattle.crs_value.specs.Reading.{those, ReadsEach}
-use Rattle.crs_value.specs.Reads.{ReadsAxis, ReadsHead, ReadsNumber, ReadsSystem, ReadsType}
-use Rattle.crs_value.specs.Values.{AxisParts, SystemParts}
+use Rattle.crs_shape.specs.Prelude.{slots_of, system_word}
+use Rattle.crs_value.specs.Prelude.{those, ReadsEach, ReadsAxis, ReadsHead, ReadsNumber, ReadsSystem, ReadsType, AxisParts, SystemParts}
 use Rattle.crs_value.specs.declared.values.level.Level.{Level}
 use Rattle.crs_normal.specs.NormalOwn.{AreOrdered, Has, HasAxes}
 use Rattle.crs_value.specs.Sound.{Each}

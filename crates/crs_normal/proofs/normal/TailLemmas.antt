@@ -1,21 +1,14 @@
 -- The end of a normal CRS is the one form of its value.
 use Rattle.std.proofs.Common.{IsSome, List, None, Option, Some, ℕ, [], ap, ap₂, codes, false, inl, inr, length, map, refl, sym, true, ◌++◌, ◌∙◌, ◌≡◌, ◌≤◌}
-use Rattle.crs_text.specs.Items.{Item, End, arguments}
+use Rattle.crs_text.specs.Prelude.{Item, End, arguments, item_text}
 use Rattle.crs_shape.specs.declared.class.Class.{Class}
 use Rattle.crs_shape.specs.declared.class.Class.TheVariants as class
-use Rattle.crs_value.specs.ConversionValues.{GeoidModelParts}
-use Rattle.crs_value.specs.Reading.{those, ReadsEach, ReadsOptional}
-use Rattle.crs_value.specs.Reads.{ReadsBare, ReadsTail, ReadsTextOf, ReadsUsage}
-use Rattle.crs_value.specs.ReadsConversion.{ReadsGeoidModel}
-use Rattle.crs_value.specs.Values.{SaysSome, TailParts, UsageParts}
-use Rattle.crs_value.specs.Kept.{kept}
-use Rattle.crs_value.specs.KeptLaws.{kept-where_none-one}
+use Rattle.crs_value.specs.Prelude.{GeoidModelParts, those, ReadsEach, ReadsOptional, ReadsBare, ReadsTail, ReadsTextOf, ReadsUsage, ReadsGeoidModel, SaysSome, TailParts, UsageParts, kept, kept-where_none-one}
 use Rattle.crs_value.specs.declared.values.level.Level.{Level}
-use Rattle.crs_matching.specs.SameUsages.{usages_of, with_bare}
+use Rattle.crs_matching.specs.Prelude.{usages_of, with_bare}
 use Rattle.crs_normal.specs.NormalOwn.{HasSets, HasTail, Rise}
 use Rattle.crs_value.specs.Sound.{Each}
 use Rattle.crs_normal.specs.Ordered.{in_order}
-use Rattle.crs_text.specs.Written.{item_text}
 use Rattle.crs_normal.specs.SpelledConversions.{item_geoid_model, norm_geoid_model, set_geoid_models}
 use Rattle.crs_normal.specs.SpelledItems.{each, opt, text_node}
 use Rattle.crs_normal.specs.SpelledUnits.{item_ident, set_idents}

@@ -1,14 +1,9 @@
 -- A normal text is the one form of the value that it spells, written.
 use Rattle.std.proofs.Common.{◌≡◌, ◌↔◌, ℕ, inr, List, sym, ◌∙◌, ap, subst}
-use Rattle.crs_text.specs.Items.{Item}
-use Rattle.crs_text.specs.TextFault.{SpellsNode}
-use Rattle.crs_text.specs.Written.{item_text}
+use Rattle.crs_text.specs.Prelude.{Item, SpellsNode, item_text}
 use Rattle.crs_shape.specs.declared.class.Class.{Class}
-use Rattle.crs_shape.specs.Shaped.{Shaped}
-use Rattle.crs_shape.specs.ShapeFault.{Inside, IsFree}
-use Rattle.crs_value.specs.ReadsCrs.{ReadsCrs}
-use Rattle.crs_value.specs.Spells.{SpellsCrs}
-use Rattle.crs_value.specs.SpellsText.{Spells}
+use Rattle.crs_shape.specs.Prelude.{Shaped, Inside, IsFree}
+use Rattle.crs_value.specs.Prelude.{ReadsCrs, SpellsCrs, Spells}
 use Rattle.crs_value.specs.declared.values.crs.Crs.{Crs}
 use Rattle.crs_value.specs.declared.values.level.Level.{Level}
 use Rattle.crs_normal.specs.Normal.{IsNormalIn, IsNormalText}

@@ -1,19 +1,15 @@
 -- Normal units and lists of identifiers are the one form of their values.
 use Rattle.std.proofs.Common.{◌≡◌, ℕ, map, inl, inr, List, [], ◌∷◌, refl, sym, ◌∙◌, ap, subst}
-use Rattle.crs_text.specs.Items.{Item, leaf, node, Siblings, End, More, arguments}
-use Rattle.crs_text.specs.Written.{item_text}
+use Rattle.crs_text.specs.Prelude.{Item, leaf, node, Siblings, End, More, arguments, item_text}
 use Rattle.crs_shape.specs.declared.class.Class.{Class}
 use Rattle.crs_shape.specs.declared.class.Class.TheVariants as class
 use Rattle.crs_shape.specs.declared.unit_kind.UnitKind.{UnitKind}
 use Rattle.crs_shape.specs.declared.unit_kind.UnitKind.TheVariants as kinds
-use Rattle.crs_shape.specs.Slots.{SlotParts, slots_of, unit_slots}
-use Rattle.crs_shape.specs.Words.{SpellsWord, unit_word}
-use Rattle.crs_value.specs.Reading.{those, ReadsEach}
-use Rattle.crs_value.specs.Reads.{ReadsIdent, ReadsNumber, ReadsText, ReadsUnit}
+use Rattle.crs_shape.specs.Prelude.{SlotParts, slots_of, unit_slots, SpellsWord, unit_word}
+use Rattle.crs_value.specs.Prelude.{those, ReadsEach, ReadsIdent, ReadsNumber, ReadsText, ReadsUnit, kept}
 use Rattle.crs_value.specs.Values.{IdentParts}
-use Rattle.crs_value.specs.Kept.{kept}
 use Rattle.crs_value.specs.declared.values.level.Level.{Level}
-use Rattle.crs_matching.specs.SameUnits.{kind_as}
+use Rattle.crs_matching.specs.Prelude.{kind_as}
 use Rattle.crs_normal.specs.Normal.{IsFirstKeyword}
 use Rattle.crs_normal.specs.NormalOwn.{Ascend}
 use Rattle.crs_value.specs.Sound.{Each}

@@ -1,13 +1,11 @@
 -- Normal boxes, extents and usages are the one form of their values.
 use Rattle.std.proofs.Common.{◌≡◌, true, false, codes, refl, ◌∙◌}
-use Rattle.crs_text.specs.Items.{leaf, node, End, More}
-use Rattle.crs_text.specs.Tokens.{number, text, word}
+use Rattle.crs_text.specs.Prelude.{leaf, node, End, More, number, text, word}
 use Rattle.crs_shape.specs.declared.class.Class.{Class}
 use Rattle.crs_shape.specs.declared.class.Class.TheVariants as class
 use Rattle.crs_shape.specs.declared.unit_kind.UnitKind.TheVariants as kinds
-use Rattle.crs_shape.specs.Slots.{slots_of}
-use Rattle.crs_value.specs.Reading.{those}
-use Rattle.crs_value.specs.Reads.{ReadsBox, ReadsExtent, ReadsTextOf, ReadsUnit, ReadsUsage}
+use Rattle.crs_shape.specs.Prelude.{slots_of}
+use Rattle.crs_value.specs.Prelude.{those, ReadsBox, ReadsExtent, ReadsTextOf, ReadsUnit, ReadsUsage}
 use Rattle.crs_value.specs.declared.values.level.Level.{Level}
 use Rattle.crs_value.specs.declared.values.level.Level.TheVariants as levels
 use Rattle.crs_normal.specs.SpelledItems.{text_node}

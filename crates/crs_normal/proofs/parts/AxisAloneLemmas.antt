@@ -1,18 +1,11 @@
 -- An axis by itself, normal but for a unit that is `UNIT`, is the one form of its value.
 use Rattle.std.proofs.Common.{◌≡◌, ◌≢◌, true, false, IsTrue, Option, Some, None, List, [], ◌∷◌, codes, if◌then◌else◌, inl, inr, refl, sym, ◌∙◌, ap, subst}
-use Rattle.crs_text.specs.Items.{Item, leaf, node, Siblings, End, More, arguments}
+use Rattle.crs_text.specs.Prelude.{Item, leaf, node, Siblings, End, More, arguments}
 use Rattle.crs_shape.specs.declared.class.Class.{Class}
 use Rattle.crs_shape.specs.declared.class.Class.TheVariants as class
 use Rattle.crs_shape.specs.declared.unit_kind.UnitKind.TheVariants as kinds
-use Rattle.crs_shape.specs.Keywords.{is_keyword}
-use Rattle.crs_shape.specs.Shaped.{AreShaped, Shaped}
-use Rattle.crs_shape.specs.ShapeFault.{class_in}
-use Rattle.crs_shape.specs.Slots.{class_named, is_class, slots_of}
-use Rattle.crs_shape.specs.Words.{direction_word}
-use Rattle.crs_value.specs.Checks.{AtClass}
-use Rattle.crs_value.specs.Reading.{ReadsEach, ReadsFirst, is_a, those}
-use Rattle.crs_value.specs.Reads.{ReadsAxis, ReadsAxisMeridian, ReadsDirection, ReadsIdent, ReadsNumber, ReadsNumberOf, ReadsText, ReadsUnit}
-use Rattle.crs_value.specs.Values.{AxisParts, UnitParts}
+use Rattle.crs_shape.specs.Prelude.{is_keyword, AreShaped, Shaped, class_in, class_named, is_class, slots_of, direction_word}
+use Rattle.crs_value.specs.Prelude.{AtClass, ReadsEach, ReadsFirst, is_a, those, ReadsAxis, ReadsAxisMeridian, ReadsDirection, ReadsIdent, ReadsNumber, ReadsNumberOf, ReadsText, ReadsUnit, AxisParts, UnitParts}
 use Rattle.crs_value.specs.declared.values.level.Level.{Level}
 use Rattle.crs_normal.specs.AxisAlone.{AreNormalArguments, IsNormalArgument, IsNormalAxis}
 use Rattle.crs_normal.specs.WithoutPlaces.{without_places}

@@ -1,19 +1,13 @@
 -- Reference frames and ensembles by themselves: geodetic where they have an ellipsoid, else vertical.
-use Rattle.std.proofs.Common.{◌≡◌, ◌↔◌, ◌∙◌, ℕ, true≢false, codes, Option, Some, None, List, [], ◌∷◌, ◌++◌, refl, sym, ap, arith}
+use Rattle.std.proofs.Common.{◌≡◌, ◌↔◌, ◌∙◌, ℕ, true≢false, codes, Option, Some, None, List, [], ◌∷◌, ◌++◌, refl, sym, ap, arith, IsNone, IsSome}
 use Rattle.std.specs.Option.{option_map}
-use Rattle.std.specs.Prelude.{IsNone, IsSome}
-use Rattle.crs_text.specs.Written.{at_place}
+use Rattle.crs_text.specs.Prelude.{at_place}
 use Rattle.crs_shape.specs.declared.class.Class.TheVariants as class
-use Rattle.crs_value.specs.Reads.{ReadsDatum, ReadsEnsemble}
-use Rattle.crs_value.specs.SoundFrames.{IsDatum, IsEnsemble}
-use Rattle.crs_value.specs.SoundSingle.{IsGeodeticFrame, IsVerticalFrame}
-use Rattle.crs_value.specs.ReadOnce.{IsReadAs}
-use Rattle.crs_value.specs.Values.{DatumParts, EllipsoidParts, EnsembleParts}
+use Rattle.crs_value.specs.Prelude.{ReadsDatum, ReadsEnsemble, IsDatum, IsEnsemble, IsGeodeticFrame, IsVerticalFrame, IsReadAs, DatumParts, EllipsoidParts, EnsembleParts}
 use Rattle.crs_value.specs.declared.values.frame.Frame.{Frame}
 use Rattle.crs_value.specs.declared.values.frame.Frame.TheVariants as frame
 use Rattle.crs_value.specs.declared.values.level.Level.{Level}
-use Rattle.crs_same.specs.Parts.{AreSame}
-use Rattle.crs_same.specs.PartsOfFrames.{parts_of_datum, parts_of_ensemble, parts_of_frame}
+use Rattle.crs_same.specs.Prelude.{AreSame, parts_of_datum, parts_of_ensemble, parts_of_frame}
 use Rattle.crs_normal.specs.WrittenForm.{IsWrittenForm}
 use Rattle.crs_normal.specs.AcceptedNormal.{IsAcceptedNormal, geodetic_frame_class, vertical_frame_class}
 use Rattle.crs_normal.specs.OneForm.{IsItsForm, IsItsFormUnbroken}

@@ -4,19 +4,14 @@ use Rattle.crs_shape.specs.declared.class.Class.{Class}
 use Rattle.crs_shape.specs.declared.class.Class.TheVariants as class
 use Rattle.crs_shape.specs.declared.system_type.SystemType.{SystemType}
 use Rattle.crs_shape.specs.declared.system_type.SystemType.TheVariants as types
-use Rattle.crs_text.specs.Written.{item_text}
-use Rattle.crs_value.specs.CrsValues.{GeodeticParts}
-use Rattle.crs_value.specs.ReadsCrs.{ReadsGeodetic}
-use Rattle.crs_value.specs.SoundCrs.{IsCrs}
-use Rattle.crs_value.specs.SoundSingle.{IsGeodetic, IsProjected}
+use Rattle.crs_text.specs.Prelude.{item_text}
+use Rattle.crs_value.specs.Prelude.{GeodeticParts, ReadsGeodetic, IsCrs, IsGeodetic, IsProjected}
 use Rattle.crs_value.specs.declared.values.compound.Horizontal.{Horizontal}
 use Rattle.crs_value.specs.declared.values.compound.Horizontal.TheVariants as horizontal
 use Rattle.crs_value.specs.declared.values.crs.Crs.{Crs}
 use Rattle.crs_value.specs.declared.values.crs.Crs.TheVariants as crs
 use Rattle.crs_value.specs.declared.values.level.Level.{Level}
-use Rattle.crs_same.specs.Parts.{AreSame}
-use Rattle.crs_same.specs.PartsOfCrs.{parts_of_geodetic, parts_of_projected, parts_of_horizontal}
-use Rattle.crs_same.specs.SameCrs.{SameCrs}
+use Rattle.crs_same.specs.Prelude.{AreSame, parts_of_geodetic, parts_of_projected, parts_of_horizontal, SameCrs}
 use Rattle.crs_normal.specs.WrittenForm.{IsWrittenForm}
 use Rattle.crs_normal.specs.Decides.{FormDecides}
 use Rattle.crs_normal.specs.CrsClass.{geodetic_class}

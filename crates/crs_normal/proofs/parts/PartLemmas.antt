@@ -1,15 +1,11 @@
 -- Values of one kind: from the laws of their one form and its item, what their spellings have in
 -- common.
 use Rattle.std.proofs.Common.{◌≡◌, ◌↔◌, ◌≤◌, ◌∙◌, ℕ, Some, List, sym, ap, subst, arith}
-use Rattle.crs_text.specs.Items.{Item, IsNode, depth}
-use Rattle.crs_text.specs.Refusal.{RefusedAt}
-use Rattle.crs_text.specs.TextFault.{SpellsNode}
-use Rattle.crs_text.specs.Written.{AreFormed, at_place, item_text}
+use Rattle.crs_text.specs.Prelude.{Item, IsNode, depth, RefusedAt, SpellsNode, AreFormed, at_place, item_text}
 use Rattle.crs_shape.specs.declared.class.Class.{Class}
-use Rattle.crs_shape.specs.Shaped.{Shaped}
-use Rattle.crs_value.specs.Checks.{Breaks, IsSound}
+use Rattle.crs_shape.specs.Prelude.{Shaped}
+use Rattle.crs_value.specs.Prelude.{Breaks, IsSound, IsReadAs, IsReadOnce}
 use Rattle.crs_value.specs.declared.values.level.Level.{Level}
-use Rattle.crs_value.specs.ReadOnce.{IsReadAs, IsReadOnce}
 use Rattle.crs_normal.specs.WrittenForm.{IsWrittenForm}
 use Rattle.crs_normal.specs.Closed.{IsClosed}
 use Rattle.crs_normal.specs.Decides.{FormDecides}

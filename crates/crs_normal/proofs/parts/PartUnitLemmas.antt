@@ -4,11 +4,10 @@ use Rattle.crs_shape.specs.declared.class.Class.{Class}
 use Rattle.crs_shape.specs.declared.class.Class.TheVariants as class
 use Rattle.crs_shape.specs.declared.unit_kind.UnitKind.{UnitKind}
 use Rattle.crs_shape.specs.declared.unit_kind.UnitKind.TheVariants as kinds
-use Rattle.crs_shape.specs.Keywords.{is_keyword}
-use Rattle.crs_shape.specs.Slots.{class_named}
-use Rattle.crs_value.specs.Reads.{IsUnitClass, ReadsUnit}
+use Rattle.crs_shape.specs.Prelude.{is_keyword, class_named}
+use Rattle.crs_value.specs.Prelude.{IsUnitClass, ReadsUnit}
 use Rattle.crs_value.specs.declared.values.level.Level.{Level}
-use Rattle.crs_matching.specs.SameUnits.{kind_as}
+use Rattle.crs_matching.specs.Prelude.{kind_as}
 use Rattle.crs_normal.specs.AcceptedNormal.{IsKindIn}
 use Rattle.crs_normal.specs.OneForm.{IsItsForm}
 use Rattle.crs_normal.specs.PartSpellings.{unit_class}

@@ -1,23 +1,17 @@
 -- Compound CRSs, and with them all CRSs, in their one form are read back from their items.
 use Rattle.std.proofs.Common.{◌≡◌, ◌⊎◌, ℕ, ◌+◌, List, [], ◌∷◌, inl, inr, refl, sym, ◌∙◌, ap, subst, codes}
-use Rattle.crs_text.specs.Items.{Item, arguments}
-use Rattle.crs_text.specs.Written.{at_place}
+use Rattle.crs_text.specs.Prelude.{Item, arguments, at_place}
 use Rattle.crs_shape.specs.declared.class.Class.{Class}
 use Rattle.crs_shape.specs.declared.class.Class.TheVariants as class
 use Rattle.crs_shape.specs.declared.system_type.SystemType.{SystemType}
 use Rattle.crs_shape.specs.declared.system_type.SystemType.TheVariants as types
-use Rattle.crs_shape.specs.Slots.{class_named}
-use Rattle.crs_value.specs.CompoundValues.{CompoundParts}
-use Rattle.crs_value.specs.CrsValues.{GeodeticParts}
+use Rattle.crs_shape.specs.Prelude.{class_named}
+use Rattle.crs_value.specs.Prelude.{CompoundParts, GeodeticParts, those, ReadsElse, ReadsFirst, ReadsAsHorizontal, ReadsCompound, ReadsCrs, ReadsVertical, IsCompound, IsHorizontal, IsCrs}
 use Rattle.crs_value.specs.declared.values.compound.Horizontal.{Horizontal}
 use Rattle.crs_value.specs.declared.values.compound.Horizontal.TheVariants as horizontal
 use Rattle.crs_value.specs.declared.values.crs.Crs.{Crs}
 use Rattle.crs_value.specs.declared.values.crs.Crs.TheVariants as crs
 use Rattle.crs_value.specs.declared.values.level.Level.{Level}
-use Rattle.crs_value.specs.Reading.{those, ReadsElse, ReadsFirst}
-use Rattle.crs_value.specs.ReadsCrs.{ReadsAsHorizontal, ReadsCompound, ReadsCrs, ReadsVertical}
-use Rattle.crs_value.specs.SoundCompound.{IsCompound, IsHorizontal}
-use Rattle.crs_value.specs.SoundCrs.{IsCrs}
 use Rattle.crs_normal.specs.LowerLaws.{LowerLaws}
 use Rattle.crs_normal.specs.CrsClass.{crs_class, geodetic_class}
 use Rattle.crs_normal.specs.SpelledCrs.{geodetic_keyword, item_compound, item_crs, item_geodetic, item_horizontal, item_projected, item_vertical, norm_compound, norm_crs, norm_geodetic, norm_horizontal, norm_projected, norm_vertical}

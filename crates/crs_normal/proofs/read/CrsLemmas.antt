@@ -1,19 +1,12 @@
 -- CRSs of one kind in their one form are read back from their items.
 use Rattle.std.proofs.Common.{◌≡◌, ◌≤◌, ℕ, suc, zero, ◌+◌, codes, IfSome, Some, List, [], ◌∷◌, length, refl, arith}
-use Rattle.crs_text.specs.Written.{at_place}
+use Rattle.crs_text.specs.Prelude.{at_place}
 use Rattle.crs_shape.specs.declared.class.Class.{Class}
 use Rattle.crs_shape.specs.declared.class.Class.TheVariants as class
 use Rattle.crs_shape.specs.declared.unit_kind.UnitKind.TheVariants as kinds
-use Rattle.crs_shape.specs.Slots.{class_named}
-use Rattle.crs_shape.specs.Dimensions.{IsOneOf, dimensions_of}
-use Rattle.crs_value.specs.CrsValues.{BaseParts, GeodeticParts, ProjectedParts, VerticalParts}
+use Rattle.crs_shape.specs.Prelude.{class_named, IsOneOf, dimensions_of}
+use Rattle.crs_value.specs.Prelude.{BaseParts, GeodeticParts, ProjectedParts, VerticalParts, ReadsMeridian, ReadsUnit, ReadsConversion, ReadsGeoidModel, ReadsBase, ReadsGeodetic, ReadsProjected, ReadsVertical, IsBase, IsGeodetic, IsProjected, IsVertical, IsSystem, SystemParts}
 use Rattle.crs_value.specs.declared.values.level.Level.{Level}
-use Rattle.crs_value.specs.Reads.{ReadsMeridian, ReadsUnit}
-use Rattle.crs_value.specs.ReadsConversion.{ReadsConversion, ReadsGeoidModel}
-use Rattle.crs_value.specs.ReadsCrs.{ReadsBase, ReadsGeodetic, ReadsProjected, ReadsVertical}
-use Rattle.crs_value.specs.SoundSingle.{IsBase, IsGeodetic, IsProjected, IsVertical}
-use Rattle.crs_value.specs.SoundSystem.{IsSystem}
-use Rattle.crs_value.specs.Values.{SystemParts}
 use Rattle.crs_normal.specs.LowerLaws.{LowerLaws}
 use Rattle.crs_normal.specs.SpelledConversions.{item_conversion, item_geoid_model, norm_conversion, set_geoid_models}
 use Rattle.crs_normal.specs.SpelledCrs.{geodetic_keyword, item_base, item_geodetic, item_projected, item_vertical, norm_base, norm_geodetic, norm_projected, norm_vertical}

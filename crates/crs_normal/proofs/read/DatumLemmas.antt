@@ -1,18 +1,14 @@
 -- Frames are read back from the arguments of a CRS: a reference frame, or where there is none an ensemble.
 use Rattle.std.proofs.Common.{◌≡◌, ◌⊎◌, ℕ, false, true≢false, codes, IsNone, Option, Some, None, List, [], inl, inr, sym, subst}
 use Rattle.std.specs.Option.{option_map}
-use Rattle.crs_text.specs.Items.{Item, arguments}
+use Rattle.crs_text.specs.Prelude.{Item, arguments}
 use Rattle.crs_shape.specs.declared.class.Class.{Class}
 use Rattle.crs_shape.specs.declared.class.Class.TheVariants as class
-use Rattle.crs_shape.specs.Slots.{class_named, is_class}
+use Rattle.crs_shape.specs.Prelude.{class_named, is_class}
 use Rattle.crs_value.specs.declared.values.frame.Frame.{Frame}
 use Rattle.crs_value.specs.declared.values.frame.Frame.TheVariants as frame
 use Rattle.crs_value.specs.declared.values.level.Level.{Level}
-use Rattle.crs_value.specs.Reading.{those, ReadsElse, ReadsFirst}
-use Rattle.crs_value.specs.Reads.{ReadsDatum, ReadsEnsemble}
-use Rattle.crs_value.specs.ReadsCrs.{ReadsAsDatum, ReadsAsEnsemble, ReadsFrame}
-use Rattle.crs_value.specs.SoundSingle.{IsGeodeticFrame, IsVerticalFrame}
-use Rattle.crs_value.specs.Values.{EllipsoidParts}
+use Rattle.crs_value.specs.Prelude.{those, ReadsElse, ReadsFirst, ReadsDatum, ReadsEnsemble, ReadsAsDatum, ReadsAsEnsemble, ReadsFrame, IsGeodeticFrame, IsVerticalFrame, EllipsoidParts}
 use Rattle.crs_normal.specs.SpelledFrames.{item_datum, item_ellipsoid, item_ensemble, item_frame, norm_ellipsoid, norm_frame}
 use Rattle.crs_normal.specs.TextLaws.{TextLaws}
 use Rattle.crs_normal.proofs.read.FrameLemmas.{datum-read, ensemble-read, in-geodetic-datum, in-geodetic-ensemble, in-vertical-datum, in-vertical-ensemble}

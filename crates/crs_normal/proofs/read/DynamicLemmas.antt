@@ -1,19 +1,13 @@
 -- Deformation models and dynamic parts in their one form are read back from their items.
 use Rattle.std.proofs.Common.{◌≡◌, ◌+◌, codes, Option, Some, List, [], ◌∷◌, refl}
 use Rattle.std.specs.Option.{option_map}
-use Rattle.crs_text.specs.Items.{Item}
-use Rattle.crs_text.specs.Written.{at_place}
+use Rattle.crs_text.specs.Prelude.{Item, at_place}
 use Rattle.crs_shape.specs.declared.class.Class.{Class}
 use Rattle.crs_shape.specs.declared.class.Class.TheVariants as class
-use Rattle.crs_shape.specs.Slots.{class_named}
-use Rattle.crs_value.specs.DynamicValues.{DeformationModelParts, DynamicParts}
+use Rattle.crs_shape.specs.Prelude.{class_named}
+use Rattle.crs_value.specs.Prelude.{DeformationModelParts, DynamicParts, ReadsIfAny, ReadsNumberOf, ReadsDeformationModel, ReadsDynamic, IsDeformationModel, IsDynamic, IsDynamicOf}
 use Rattle.crs_value.specs.declared.values.frame.Frame.{Frame}
 use Rattle.crs_value.specs.declared.values.level.Level.{Level}
-use Rattle.crs_value.specs.Reading.{ReadsIfAny}
-use Rattle.crs_value.specs.Reads.{ReadsNumberOf}
-use Rattle.crs_value.specs.ReadsDynamic.{ReadsDeformationModel, ReadsDynamic}
-use Rattle.crs_value.specs.SoundDynamic.{IsDeformationModel, IsDynamic}
-use Rattle.crs_value.specs.SoundSingle.{IsDynamicOf}
 use Rattle.crs_normal.specs.SpelledDynamic.{item_deformation_model, item_dynamic, norm_deformation_model, norm_dynamic}
 use Rattle.crs_normal.specs.SpelledItems.{number_node}
 use Rattle.crs_normal.specs.TextLaws.{TextLaws}

@@ -1,21 +1,12 @@
 -- Frames, systems and ends of CRSs are read back from the arguments of a CRS, and conversions from their items.
 use Rattle.std.proofs.Common.{◌≡◌, ◌+◌, codes, None, List, [], ◌∷◌, length, refl}
-use Rattle.crs_text.specs.Items.{Item}
-use Rattle.crs_text.specs.Written.{at_place, item_text}
+use Rattle.crs_text.specs.Prelude.{Item, at_place, item_text}
 use Rattle.crs_shape.specs.declared.class.Class.{Class}
 use Rattle.crs_shape.specs.declared.class.Class.TheVariants as class
-use Rattle.crs_value.specs.ConversionValues.{ConversionParts, GeoidModelParts, MethodParts, ParameterParts}
-use Rattle.crs_value.specs.Kept.{kept, kept_one}
-use Rattle.crs_value.specs.KeptLaws.{kept-each}
+use Rattle.crs_value.specs.Prelude.{ConversionParts, GeoidModelParts, MethodParts, ParameterParts, kept, kept_one, kept-each, ReadsAxis, ReadsHead, ReadsSystem, ReadsTail, ReadsTextOf, ReadsUnit, ReadsUsage, ReadsConversion, ReadsGeoidModel, ReadsMethod, ReadsParameter, IsConversion, IsGeoidModel, IsMethod, IsParameter, IsSystem, IsTail, IsUsage, SystemParts, TailParts, UsageParts}
 use Rattle.crs_value.specs.declared.values.level.Level.{Level}
-use Rattle.crs_value.specs.Reads.{ReadsAxis, ReadsHead, ReadsSystem, ReadsTail, ReadsTextOf, ReadsUnit, ReadsUsage}
-use Rattle.crs_value.specs.ReadsConversion.{ReadsConversion, ReadsGeoidModel, ReadsMethod, ReadsParameter}
 use Rattle.crs_value.specs.Sound.{Each}
-use Rattle.crs_value.specs.SoundConversion.{IsConversion, IsGeoidModel, IsMethod, IsParameter}
-use Rattle.crs_value.specs.SoundSystem.{IsSystem}
-use Rattle.crs_value.specs.SoundUsages.{IsTail, IsUsage}
-use Rattle.crs_value.specs.Values.{SystemParts, TailParts, UsageParts}
-use Rattle.crs_matching.specs.SameUsages.{usages_of}
+use Rattle.crs_matching.specs.Prelude.{usages_of}
 use Rattle.crs_normal.specs.SpelledConversions.{item_conversion, item_geoid_model, item_method, item_parameter, norm_conversion, norm_geoid_model, norm_method, norm_parameter, set_geoid_models, set_parameters}
 use Rattle.crs_normal.specs.SpelledItems.{text_node}
 use Rattle.crs_normal.specs.SpelledSystems.{axes_from, item_axis, item_head, norm_system}

@@ -1,20 +1,17 @@
 -- Ellipsoids, prime meridians, reference frames and ensembles in their one form are read back from their items.
 use Rattle.std.proofs.Common.{◌≡◌, ℕ, ◌+◌, codes, IfSome, Option, Some, None, List, [], ◌∷◌, length, refl, ◌∙◌, ap, if◌then◌else◌, Bool, true, false}
 use Rattle.std.specs.Option.{option_map}
-use Rattle.crs_decimal.specs.Value.{IsNormal}
-use Rattle.crs_text.specs.Items.{Item}
-use Rattle.crs_text.specs.Written.{at_place, item_text}
+use Rattle.crs_decimal.specs.Prelude.{IsNormal}
+use Rattle.crs_text.specs.Prelude.{Item, at_place, item_text}
 use Rattle.crs_shape.specs.declared.class.Class.{Class}
 use Rattle.crs_shape.specs.declared.class.Class.TheVariants as class
 use Rattle.crs_shape.specs.declared.unit_kind.UnitKind.{UnitKind}
 use Rattle.crs_shape.specs.declared.unit_kind.UnitKind.TheVariants as kinds
-use Rattle.crs_shape.specs.Slots.{class_named}
-use Rattle.crs_shape.specs.Words.{unit_word}
+use Rattle.crs_shape.specs.Prelude.{class_named, unit_word}
 use Rattle.crs_value.specs.declared.values.level.Level.{Level}
-use Rattle.crs_value.specs.Reads.{ReadsDatum, ReadsEllipsoid, ReadsEnsemble, ReadsIds, ReadsMember, ReadsMeridian, ReadsNumberOf, ReadsTextOf, ReadsUnit}
-use Rattle.crs_value.specs.Sound.{Each, IsIdent, IsUnit, IsUnitOf}
-use Rattle.crs_value.specs.SoundFrames.{IsDatum, IsEllipsoid, IsEnsemble, IsMember, IsMeridian}
-use Rattle.crs_value.specs.Values.{DatumParts, EllipsoidParts, EnsembleParts, IdentParts, MemberParts, MeridianParts, UnitParts}
+use Rattle.crs_value.specs.Prelude.{ReadsDatum, ReadsEllipsoid, ReadsEnsemble, ReadsIds, ReadsMember, ReadsMeridian, ReadsNumberOf, ReadsTextOf, ReadsUnit, IsIdent, IsUnit, IsUnitOf, IsDatum, IsEllipsoid, IsEnsemble, IsMember, IsMeridian, DatumParts, EllipsoidParts, EnsembleParts, MemberParts, MeridianParts, UnitParts}
+use Rattle.crs_value.specs.Sound.{Each}
+use Rattle.crs_value.specs.Values.{IdentParts}
 use Rattle.crs_normal.specs.SpelledFrames.{greenwich, is_zero, item_datum, item_ellipsoid, item_ensemble, item_member, item_meridian, norm_datum, norm_ellipsoid, norm_ensemble, norm_given, norm_member, norm_meridian, set_members}
 use Rattle.crs_normal.specs.SpelledItems.{number_node, text_node}
 use Rattle.crs_normal.specs.SpelledUnits.{item_ident, item_unit, norm_length, norm_unit, norm_units, set_idents, whole_value}

@@ -2,14 +2,11 @@
 use Rattle.std.proofs.Common.{◌≡◌, suc, ◌≤◌, ◌||◌, length, Bool, true, false, IsTrue, IsFalse, Some, List, [], ◌∷◌, ◌++◌, if◌then◌else◌, refl, sym, ◌∙◌, ap, subst, arith, rules}
 use Rattle.std.specs.List.{list_any}
 use denote.Enum.Bare.{sameb, same_true}
-use Rattle.crs_text.specs.Items.{Item, Siblings, End, More}
+use Rattle.crs_text.specs.Prelude.{Item, Siblings, End, More}
 use Rattle.crs_shape.specs.contracts.class.Class.{the_type}
 use Rattle.crs_shape.specs.declared.class.Class.{Class}
-use Rattle.crs_shape.specs.Shape.{AllTaken, Fills, AllFilled, joined, Allowed}
-use Rattle.crs_shape.specs.Shaped.{Shaped, AreShaped}
-use Rattle.crs_shape.specs.ShapeFault.{class_in}
-use Rattle.crs_shape.specs.Slots.{SlotParts, slots_of, takes, is_class}
-use Rattle.crs_value.specs.Reading.{is_a, those}
+use Rattle.crs_shape.specs.Prelude.{AllTaken, Fills, AllFilled, joined, Allowed, Shaped, AreShaped, class_in, SlotParts, slots_of, takes, is_class}
+use Rattle.crs_value.specs.Prelude.{is_a, those}
 use Rattle.crs_normal.specs.WithoutPlaces.{without_places, all_without_places}
 use Rattle.crs_value.specs.Sound.{Each}
 

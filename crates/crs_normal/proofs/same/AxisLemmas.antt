@@ -3,18 +3,16 @@
 use Rattle.std.proofs.Common.{◌≡◌, ◌↔◌, ◌∙◌, ℕ, ◌+◌, ◌<◌, ◌^◌, inl, inr, Bool, true, false, List, [], ◌∷◌, Option, Some, None, refl, sym, ap, subst, if◌then◌else◌, arith}
 use Rattle.std.proofs.lemmas.Bool.{false≢true}
 use Rattle.std.proofs.lemmas.Bool.Decides.{Decides-eqb}
-use Rattle.crs_decimal.specs.Value.{Value, IsNormal}
+use Rattle.crs_decimal.specs.Prelude.{Value, IsNormal}
 use Rattle.crs_shape.specs.declared.unit_kind.UnitKind.{UnitKind}
 use Rattle.crs_shape.specs.declared.unit_kind.UnitKind.TheVariants as kinds
 use Rattle.crs_shape.specs.declared.unit_kind.UnitKind.TheVariants as kinds
-use Rattle.crs_shape.specs.UnitKinds.{asked_kind}
-use Rattle.crs_value.specs.Sound.{Each, IsAxis, IsAxisMeridian, IsAxisUnit, IsUnit}
-use Rattle.crs_value.specs.Values.{AxisMeridianParts, AxisParts, SystemParts, UnitParts}
+use Rattle.crs_shape.specs.Prelude.{asked_kind}
+use Rattle.crs_value.specs.Prelude.{IsAxis, IsAxisMeridian, IsAxisUnit, IsUnit, AxisMeridianParts, AxisParts, SystemParts, UnitParts}
+use Rattle.crs_value.specs.Sound.{Each}
 use Rattle.crs_value.specs.declared.values.level.Level.{Level}
-use Rattle.crs_same.specs.Agreement.{AgreeAxis}
-use Rattle.crs_matching.specs.SameSystems.{HasAt, IsPositionOf, SameAxisAlone, SameAxisMeridian, own_or}
-use Rattle.crs_matching.specs.SameUnits.{SameUnit, SameValue}
-use Rattle.crs_matching.specs.Sets.{BothOrNeither}
+use Rattle.crs_same.specs.Prelude.{AgreeAxis}
+use Rattle.crs_matching.specs.Prelude.{HasAt, IsPositionOf, SameAxisAlone, SameAxisMeridian, own_or, SameUnit, SameValue, BothOrNeither}
 use Rattle.crs_normal.specs.Decides.{FormDecides, Maybe, SetsDecide}
 use Rattle.crs_normal.specs.LowerLaws.{LowerLaws}
 use Rattle.crs_normal.specs.PartTexts.{norm_axis_alone}

@@ -1,11 +1,10 @@
 -- Methods, parameters, conversions and geoid models have one form exactly where they are the same.
 use Rattle.std.proofs.Common.{ap}
 use Rattle.crs_shape.specs.declared.unit_kind.UnitKind.TheVariants as kinds
-use Rattle.crs_value.specs.ConversionValues.{ConversionParts, MethodParts, ParameterParts}
-use Rattle.crs_value.specs.SoundConversion.{IsConversion, IsMethod, IsParameter}
+use Rattle.crs_value.specs.Prelude.{ConversionParts, MethodParts, ParameterParts, IsConversion, IsMethod, IsParameter}
 use Rattle.crs_value.specs.declared.values.level.Level.{Level}
-use Rattle.crs_same.specs.Agreement.{AgreeConversion, AgreeMethod}
-use Rattle.crs_matching.specs.SameConversions.{SameParameter}
+use Rattle.crs_same.specs.Prelude.{AgreeConversion, AgreeMethod}
+use Rattle.crs_matching.specs.Prelude.{SameParameter}
 use Rattle.crs_normal.specs.Decides.{FormDecides, SetsDecide}
 use Rattle.crs_normal.specs.LowerLaws.{LowerLaws}
 use Rattle.crs_normal.specs.SpelledConversions.{norm_conversion, norm_method, norm_parameter}

@@ -1,15 +1,12 @@
 -- Deformation models and dynamic parts have one form exactly where they are the same.
 use Rattle.std.proofs.Common.{IfSome, Option, Some, None, refl, ap}
 use Rattle.std.specs.Option.{option_map}
-use Rattle.crs_value.specs.DynamicValues.{DynamicParts}
-use Rattle.crs_value.specs.SoundDynamic.{IsDeformationModel, IsDynamic}
-use Rattle.crs_value.specs.SoundSingle.{IsDynamicOf}
+use Rattle.crs_value.specs.Prelude.{DynamicParts, IsDeformationModel, IsDynamic, IsDynamicOf}
 use Rattle.crs_value.specs.declared.values.frame.Frame.{Frame}
 use Rattle.crs_value.specs.declared.values.frame.Frame.TheVariants as frame
 use Rattle.crs_value.specs.declared.values.level.Level.{Level}
-use Rattle.crs_same.specs.Agreement.{AgreeDynamic}
-use Rattle.crs_matching.specs.SameDynamic.{SameDeformationModel}
-use Rattle.crs_matching.specs.Sets.{BothOrNeither}
+use Rattle.crs_same.specs.Prelude.{AgreeDynamic}
+use Rattle.crs_matching.specs.Prelude.{SameDeformationModel, BothOrNeither}
 use Rattle.crs_normal.specs.Decides.{FormDecides, Maybe, SetsDecide}
 use Rattle.crs_normal.specs.LowerLaws.{LowerLaws}
 use Rattle.crs_normal.specs.SpelledDynamic.{norm_deformation_model, norm_dynamic}

@@ -2,20 +2,14 @@
 use Rattle.std.proofs.Common.{◌≡◌, ◌↔◌, ◌∙◌, ◌⊎◌, ◌*◌, ℕ, inl, inr, Bool, true, false, Option, Some, None, codes, refl, sym, ap, arith, if◌then◌else◌}
 use Rattle.std.specs.Option.{option_map}
 use Rattle.std.proofs.lemmas.Bool.{eqb-true, false≢true}
-use Rattle.crs_decimal.specs.Value.{Value, IsNormal}
+use Rattle.crs_decimal.specs.Prelude.{Value, IsNormal}
 use Rattle.crs_shape.specs.declared.unit_kind.UnitKind.TheVariants as kinds
-use Rattle.crs_value.specs.SoundFrames.{IsDatum, IsEllipsoid, IsEnsemble, IsMeridian}
-use Rattle.crs_value.specs.SoundSingle.{IsGeodeticFrame, IsVerticalFrame}
-use Rattle.crs_value.specs.Values.{DatumParts, EllipsoidParts, EnsembleParts, MeridianParts, UnitParts}
+use Rattle.crs_value.specs.Prelude.{IsDatum, IsEllipsoid, IsEnsemble, IsMeridian, IsGeodeticFrame, IsVerticalFrame, DatumParts, EllipsoidParts, EnsembleParts, MeridianParts, UnitParts}
 use Rattle.crs_value.specs.declared.values.frame.Frame.{Frame}
 use Rattle.crs_value.specs.declared.values.frame.Frame.TheVariants as frame
 use Rattle.crs_value.specs.declared.values.level.Level.{Level}
-use Rattle.crs_same.specs.Agreement.{AgreeDatum, AgreeEllipsoid, AgreeEnsemble, AgreeFrame, AgreeGiven, AgreeMeridian}
-use Rattle.crs_same.specs.PartsOfFrames.{or_greenwich}
-use Rattle.crs_matching.specs.SameFrames.{IsZero}
-use Rattle.crs_matching.specs.SameIdents.{SameIdents}
-use Rattle.crs_matching.specs.SameUnits.{SameUnit, SameValue}
-use Rattle.crs_matching.specs.Sets.{BothOrNeither}
+use Rattle.crs_same.specs.Prelude.{AgreeDatum, AgreeEllipsoid, AgreeEnsemble, AgreeFrame, AgreeGiven, AgreeMeridian, or_greenwich}
+use Rattle.crs_matching.specs.Prelude.{IsZero, SameIdents, SameUnit, SameValue, BothOrNeither}
 use Rattle.crs_normal.specs.Decides.{FormDecides, Maybe, SetsDecide}
 use Rattle.crs_normal.specs.LowerLaws.{LowerLaws}
 use Rattle.crs_normal.specs.SpelledFrames.{greenwich, is_zero, norm_datum, norm_ellipsoid, norm_ensemble, norm_frame, norm_given, norm_meridian}

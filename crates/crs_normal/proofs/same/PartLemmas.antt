@@ -1,9 +1,7 @@
 -- Numbers, and parts that may be missing, have one form exactly where they are the same.
 use Rattle.std.proofs.Common.{◌≡◌, ◌↔◌, ◌∙◌, Option, Some, None, refl, sym, ap}
-use Rattle.crs_decimal.specs.Number.{SameNumber}
-use Rattle.crs_decimal.specs.Value.{Value, IsNormal, exact}
-use Rattle.crs_matching.specs.SameUnits.{SameValue}
-use Rattle.crs_matching.specs.Sets.{BothOrNeither}
+use Rattle.crs_decimal.specs.Prelude.{SameNumber, Value, IsNormal, exact}
+use Rattle.crs_matching.specs.Prelude.{SameValue, BothOrNeither}
 use Rattle.crs_normal.specs.Decides.{FormDecides, Maybe}
 
 -- numbers decide which normal values are equal

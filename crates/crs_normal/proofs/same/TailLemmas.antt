@@ -1,11 +1,9 @@
 -- The ends of CRSs have one form exactly where they are the same.
 use Rattle.std.proofs.Common.{◌≡◌, ◌↔◌, None, ap}
-use Rattle.crs_value.specs.SoundUsages.{IsTail}
-use Rattle.crs_value.specs.Values.{TailParts}
-use Rattle.crs_value.specs.Kept.{kept_one}
+use Rattle.crs_value.specs.Prelude.{IsTail, TailParts, kept_one}
 use Rattle.crs_value.specs.declared.values.level.Level.{Level}
-use Rattle.crs_same.specs.Agreement.{AgreeTail}
-use Rattle.crs_matching.specs.SameUsages.{SameRemark, SameUsages, usages_of}
+use Rattle.crs_same.specs.Prelude.{AgreeTail}
+use Rattle.crs_matching.specs.Prelude.{SameRemark, SameUsages, usages_of}
 use Rattle.crs_normal.specs.Decides.{FormDecides, SetsDecide}
 use Rattle.crs_normal.specs.SpelledUsages.{norm_tail, set_usages}
 use Rattle.crs_normal.proofs.made.TailLemmas.{usages-sound}

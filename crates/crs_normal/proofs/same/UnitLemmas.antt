@@ -1,17 +1,12 @@
 -- Units have one form exactly where they are the same: alone, as an asked kind, and where a missing one is the metre.
 use Rattle.std.proofs.Common.{◌≡◌, ◌↔◌, ◌∙◌, ℕ, [], Option, Some, None, codes, refl, sym, ap, arith, inl, inr}
-use Rattle.crs_decimal.specs.Number.{SameNumber, whole_number}
-use Rattle.crs_decimal.specs.Value.{Value, IsNormal, exact}
+use Rattle.crs_decimal.specs.Prelude.{SameNumber, whole_number, Value, IsNormal, exact}
 use Rattle.crs_shape.specs.declared.unit_kind.UnitKind.{UnitKind}
 use Rattle.crs_shape.specs.declared.unit_kind.UnitKind.TheVariants as kinds
-use Rattle.crs_value.specs.Sound.{Each, IsIdent, IsNamed, IsUnit, IsUnitOf, Suits}
-use Rattle.crs_value.specs.NamedValues.{NamedParts}
-use Rattle.crs_value.specs.Values.{UnitParts}
-use Rattle.crs_value.specs.KeptLaws.{kept-none}
+use Rattle.crs_value.specs.Prelude.{IsIdent, IsNamed, IsUnit, IsUnitOf, Suits, NamedParts, UnitParts, kept-none}
+use Rattle.crs_value.specs.Sound.{Each}
 use Rattle.crs_value.specs.declared.values.level.Level.{Level}
-use Rattle.crs_matching.specs.SameIdents.{SameIdents, SameNamed}
-use Rattle.crs_matching.specs.SameUnits.{SameLength, SameUnit, or_metre, kind_as}
-use Rattle.crs_matching.specs.Sets.{BothOrNeither}
+use Rattle.crs_matching.specs.Prelude.{SameIdents, SameNamed, SameLength, SameUnit, or_metre, kind_as, BothOrNeither}
 use Rattle.crs_normal.specs.Decides.{FormDecides, Maybe}
 use Rattle.crs_normal.specs.LowerLaws.{LowerLaws}
 use Rattle.crs_normal.specs.SpelledFrames.{norm_member}

@@ -1,11 +1,10 @@
 -- Boxes, extents and usages have one form exactly where they are the same.
 use Rattle.std.proofs.Common.{Some, refl, ap}
 use Rattle.std.specs.Option.{option_map}
-use Rattle.crs_value.specs.SoundUsages.{IsBox, IsExtent, IsUsage}
-use Rattle.crs_value.specs.Values.{BoxParts, ExtentParts, UsageParts}
+use Rattle.crs_value.specs.Prelude.{IsBox, IsExtent, IsUsage, BoxParts, ExtentParts, UsageParts}
 use Rattle.crs_value.specs.declared.values.level.Level.{Level}
 use Rattle.crs_value.specs.declared.values.level.Level.TheVariants as levels
-use Rattle.crs_matching.specs.SameUsages.{SameBox, SameExtent, SameUsage}
+use Rattle.crs_matching.specs.Prelude.{SameBox, SameExtent, SameUsage}
 use Rattle.crs_normal.specs.Decides.{FormDecides}
 use Rattle.crs_normal.specs.SpelledUnits.{norm_length}
 use Rattle.crs_normal.specs.SpelledUsages.{norm_extent, norm_usage}

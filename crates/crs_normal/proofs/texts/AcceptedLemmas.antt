@@ -1,17 +1,11 @@
 -- The written form of a CRS is an accepted text, which spells the CRS's one form.
 use Rattle.std.proofs.Common.{◌≡◌, ◌↔◌, ◌≤◌, ◌∙◌, ℕ, Some, None, sym, subst, arith, inl, inr}
-use Rattle.crs_text.specs.Items.{Item, depth}
-use Rattle.crs_text.specs.Refusal.{RefusedAt}
-use Rattle.crs_text.specs.TextFault.{SpellsNode}
-use Rattle.crs_text.specs.Written.{WrittenSpells, at_place, item_text}
+use Rattle.crs_text.specs.Prelude.{Item, depth, RefusedAt, SpellsNode, WrittenSpells, at_place, item_text}
 use Rattle.crs_shape.specs.declared.class.Class.{Class}
-use Rattle.crs_shape.specs.ShapeFault.{AtRoot, Inside, IsFree, class_of_root}
-use Rattle.crs_shape.specs.Shaped.{Shaped}
+use Rattle.crs_shape.specs.Prelude.{AtRoot, Inside, IsFree, class_of_root, Shaped}
 use Rattle.crs_value.specs.declared.values.crs.Crs.{Crs}
 use Rattle.crs_value.specs.declared.values.level.Level.{Level}
-use Rattle.crs_value.specs.ReadsCrs.{ReadsCrs}
-use Rattle.crs_value.specs.Spells.{SpellsCrs}
-use Rattle.crs_value.specs.SpellsText.{Spells}
+use Rattle.crs_value.specs.Prelude.{ReadsCrs, SpellsCrs, Spells}
 use Rattle.crs_normal.specs.CrsClass.{crs_class}
 use Rattle.crs_normal.specs.AcceptedNormal.{IsAcceptedNormal}
 use Rattle.crs_normal.specs.SpelledCrs.{item_crs, norm_crs}

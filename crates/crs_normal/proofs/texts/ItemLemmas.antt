@@ -1,19 +1,12 @@
 -- Written items: they are well formed and not too deep, and equal texts are of equal values.
 use Rattle.std.proofs.Common.{◌≡◌, ◌≤◌, ℕ, suc, ◌+◌, IfSome, Option, Some, None, List, [], ◌∷◌, length, refl, sym, subst, arith, ◌≢◌}
-use Rattle.crs_decimal.specs.Bounds.{IsInBounds}
-use Rattle.crs_decimal.specs.Plain.{plain}
-use Rattle.crs_decimal.specs.Spelling.{IsRun}
-use Rattle.crs_decimal.specs.Value.{Value, IsNormal}
-use Rattle.crs_text.specs.Items.{Item, leaf, Siblings, End, More, arguments, depth, depths, IsNode}
-use Rattle.crs_text.specs.TextFault.{SpellsNode}
-use Rattle.crs_text.specs.Tokens.{Kind, number, IsSingle, IsWord}
-use Rattle.crs_text.specs.Written.{AreFormed, AreAllFormed, at_place, at_places, item_text}
+use Rattle.crs_decimal.specs.Prelude.{IsInBounds, plain, IsRun, Value, IsNormal}
+use Rattle.crs_text.specs.Prelude.{Item, leaf, Siblings, End, More, arguments, depth, depths, IsNode, SpellsNode, Kind, number, IsSingle, IsWord, AreFormed, AreAllFormed, at_place, at_places, item_text}
 use Rattle.crs_value.specs.Sound.{Each}
 use Rattle.crs_normal.specs.FormedWithin.{IsFormedWithin}
 use Rattle.crs_normal.specs.SpelledItems.{each, node_of, node_from, number_item, opt}
 use Rattle.crs_normal.specs.TextLaws.{TextLaws}
-use Rattle.crs_shape.specs.ShapeFault.{class_in}
-use Rattle.crs_shape.specs.Slots.{class_named}
+use Rattle.crs_shape.specs.Prelude.{class_in, class_named}
 use Rattle.crs_shape.specs.declared.class.Class.{Class}
 
 -- ---- well-formed items of some depth

@@ -2,15 +2,14 @@
 use Rattle.std.proofs.Common.{◌≡◌, ◌⊎◌, ℕ, Bool, true, false, if◌then◌else◌, IfSome, Option, Some, None, List, [], ◌∷◌, map, inl, inr, refl, sym, ◌∙◌, ap, subst, rules}
 use Rattle.std.specs.Option.{option_map}
 use denote.Enum.Bare.{same_true}
-use Rattle.crs_decimal.specs.Value.{Value}
-use Rattle.crs_text.specs.Items.{Item, Siblings, End, More, arguments}
-use Rattle.crs_text.specs.Written.{at_place, at_places}
+use Rattle.crs_decimal.specs.Prelude.{Value}
+use Rattle.crs_text.specs.Prelude.{Item, Siblings, End, More, arguments, at_place, at_places}
 use Rattle.crs_shape.specs.contracts.class.Class.{the_type}
 use Rattle.crs_shape.specs.declared.class.Class.{Class}
 use Rattle.crs_shape.specs.declared.class.Class.TheVariants as class
-use Rattle.crs_shape.specs.ShapeFault.{class_in}
-use Rattle.crs_shape.specs.Slots.{is_class}
-use Rattle.crs_value.specs.Reading.{those, Each, ReadsAll, ReadsEach, ReadsFirst, ReadsIfAny, ReadsOne, ReadsOptional}
+use Rattle.crs_shape.specs.Prelude.{class_in, is_class}
+use Rattle.crs_value.specs.Prelude.{those, ReadsAll, ReadsEach, ReadsFirst, ReadsIfAny, ReadsOne, ReadsOptional}
+use Rattle.crs_value.specs.Reading.{Each}
 use Rattle.crs_normal.specs.Ordered.{in_order}
 use Rattle.crs_normal.specs.SpelledItems.{each, number_item, opt, text_item, word_item}
 use Rattle.crs_normal.proofs.made.PlaceLemmas.{ArePlaced, those-placed}

@@ -2,7 +2,7 @@
 -- letters has one value.
 use Rattle.std.proofs.Common.{◌≡◌, ℕ, List, [], ◌∷◌, Option, Some, find, refl, sym, ap, ◌∙◌}
 use Rattle.std.specs.Str.{bytes_eq, str_to_ascii_lowercase}
-use Rattle.crs_shape.specs.Words.{SpellsWord, direction_word, system_word, unit_word}
+use Rattle.crs_shape.specs.Prelude.{SpellsWord, direction_word, system_word, unit_word}
 use Rattle.crs_shape.specs.declared.direction.Direction.{Direction}
 use Rattle.crs_shape.specs.declared.direction.Direction.TheVariants.{North, NorthNorthEast, NorthEast, EastNorthEast, East, EastSouthEast, SouthEast, SouthSouthEast, South, SouthSouthWest, SouthWest, WestSouthWest, West, WestNorthWest, NorthWest, NorthNorthWest, GeocentricX, GeocentricY, GeocentricZ, Up, Down, Unspecified}
 use Rattle.crs_shape.specs.declared.system_type.SystemType.{SystemType}

@@ -1,14 +1,10 @@
 -- A text is normal, or isn't, as was computed of its item.
 use Rattle.std.proofs.Common.{◌≡◌, ℕ, List, Some, sym, ap, subst, ◌∙◌}
-use Rattle.crs_text.specs.Items.{Item, IsNode, depth}
-use Rattle.crs_text.specs.TextFault.{SpellsNode}
-use Rattle.crs_text.specs.Written.{WrittenSpells, at_place, item_text}
+use Rattle.crs_text.specs.Prelude.{Item, IsNode, depth, SpellsNode, WrittenSpells, at_place, item_text}
 use Rattle.crs_shape.specs.declared.class.Class.{Class}
-use Rattle.crs_shape.specs.ShapeFault.{class_of_root}
+use Rattle.crs_shape.specs.Prelude.{class_of_root}
 use Rattle.crs_value.specs.declared.values.level.Level.{Level}
-use Rattle.crs_value.specs.ReadsCrs.{ReadsCrs}
-use Rattle.crs_value.specs.Spells.{SpellsCrs}
-use Rattle.crs_value.specs.SpellsText.{Spells}
+use Rattle.crs_value.specs.Prelude.{ReadsCrs, SpellsCrs, Spells}
 use Rattle.crs_value.specs.declared.values.crs.Crs.{Crs}
 use Rattle.crs_normal.specs.Examples.{IsOtherwiseAt}
 use Rattle.crs_normal.specs.Normal.{IsNormalIn, IsNormalText}

@@ -1,23 +1,18 @@
 -- Whether a single item is well formed, and whether it is normal where it is, by computing.
-use Rattle.std.proofs.Common.{◌≡◌, ℕ, zero, suc, ◌+◌, ◌-◌, ◌==◌, Bool, true, false, List, [], ◌∷◌, ◌++◌, length, take, fold, ℤ, pos, negsuc, Option, Some, None, codes, if◌then◌else◌, inl, inr, refl, sym, ap, subst, ◌∙◌, arith}
-use Rattle.std.specs.Prelude.{encode_utf8_all}
+use Rattle.std.proofs.Common.{◌≡◌, ℕ, zero, suc, ◌+◌, ◌-◌, ◌==◌, Bool, true, false, List, [], ◌∷◌, ◌++◌, length, take, fold, ℤ, pos, negsuc, Option, Some, None, codes, if◌then◌else◌, inl, inr, refl, sym, ap, subst, ◌∙◌, arith, encode_utf8_all}
 use Rattle.std.specs.List.{list_all}
 use Rattle.std.specs.Str.{all_scalars, str_to_ascii_lowercase}
 use Rattle.std.proofs.lemmas.Bool.{true≢false}
-use Rattle.crs_decimal.specs.Bounds.{IsInBounds, digits_value, Denotes}
-use Rattle.crs_decimal.specs.Plain.{IsFractionNeeded, IsPlain, plain}
-use Rattle.crs_decimal.specs.Spelling.{Parts, SpellsNumber, unsigned}
-use Rattle.crs_decimal.specs.Value.{Value, IsNormal, exact, is_normal, zero as zero_value}
-use Rattle.crs_text.specs.Items.{Item, leaf, node}
+use Rattle.crs_decimal.specs.Prelude.{IsInBounds, digits_value, Denotes, IsFractionNeeded, IsPlain, plain, Parts, SpellsNumber, unsigned, Value, IsNormal, exact, is_normal}
+use Rattle.crs_decimal.specs.Value.{zero as zero_value}
+use Rattle.crs_text.specs.Prelude.{Item, leaf, node, doubled, Kind, number, text, word, IsSingle, IsWord, is_letter, is_word_byte}
 use Rattle.crs_text.specs.declared.items.ItemKind.TheVariants as kinds
-use Rattle.crs_text.specs.Quoted.{doubled}
-use Rattle.crs_text.specs.Tokens.{Kind, number, text, word, IsSingle, IsWord, is_letter, is_word_byte}
 use Rattle.crs_shape.specs.declared.class.Class.{Class}
 use Rattle.crs_shape.specs.declared.class.Class.TheVariants as class
 use Rattle.crs_shape.specs.declared.direction.Direction.{Direction}
 use Rattle.crs_shape.specs.declared.system_type.SystemType.{SystemType}
-use Rattle.crs_shape.specs.Words.{direction_word, system_word}
-use Rattle.crs_value.specs.Sound.{IsText}
+use Rattle.crs_shape.specs.Prelude.{direction_word, system_word}
+use Rattle.crs_value.specs.Prelude.{IsText}
 use Rattle.crs_normal.specs.DecimalLaws.{DecimalLaws}
 use Rattle.crs_normal.specs.Normal.{IsNumberIn, IsSingleIn, IsWordIn}
 use Rattle.crs_normal.specs.NormalOwn.{IsCode, IsShort}

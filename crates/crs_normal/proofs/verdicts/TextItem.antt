@@ -1,8 +1,7 @@
 -- The item that a text without white space spells, where it has square delimiters and no doubled quote.
 use Rattle.std.proofs.Common.{ℕ, Bool, true, false, ◌==◌, List, [], ◌∷◌, reverse, fold, if◌then◌else◌}
-use Rattle.crs_decimal.specs.Spelling.{is_run_start}
-use Rattle.crs_text.specs.Items.{Item, leaf, Siblings, End, More}
-use Rattle.crs_text.specs.Tokens.{number, text, word}
+use Rattle.crs_decimal.specs.Prelude.{is_run_start}
+use Rattle.crs_text.specs.Prelude.{Item, leaf, Siblings, End, More, number, text, word}
 use Rattle.crs_normal.specs.SpelledItems.{node_from}
 
 -- a node that is open: its keyword, and what comes before it in the node around it, the last first

@@ -1,7 +1,6 @@
 -- The places of the delimiters that are open, token by token.
-use Rattle.std.proofs.Common.{◌≡◌, ℕ, zero, suc, ◌+◌, ◌-◌, ◌≤◌, ◌<◌, ◌≢◌, ◌⊎◌, inl, inr, min, Bool, Option, Some, None, List, [], ◌∷◌, ◌++◌, length, get_or, drop, refl, sym, ap, subst, ◌∙◌, append_assoc, arith, get_or-set_same, get_or-set_other}
+use Rattle.std.proofs.Common.{◌≡◌, ℕ, zero, suc, ◌+◌, ◌-◌, ◌≤◌, ◌<◌, ◌≢◌, ◌⊎◌, inl, inr, min, Bool, Option, Some, None, List, [], ◌∷◌, ◌++◌, length, get_or, drop, refl, sym, ap, subst, ◌∙◌, append_assoc, arith, get_or-set_same, get_or-set_other, MatchOption}
 use Rattle.std.proofs.Math.ListN.{set}
-use Rattle.std.specs.Prelude.{MatchOption}
 use Rattle.std.specs.List.{fold, prefix_len}
 use Rattle.std.proofs.lemmas.List.{append-nil, length-drop, drop-drop}
 use Rattle.std.proofs.lemmas.List.Sums.{fold-append, prefix_len-le-length}

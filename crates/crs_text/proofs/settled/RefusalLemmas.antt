@@ -2,7 +2,7 @@
 use Rattle.std.proofs.Common.{◌≡◌, ℕ, zero, suc, ◌+◌, ◌-◌, ◌≤◌, List, [], ◌∷◌, ◌++◌, length, drop, Option, Some, None, refl, arith, inl, inr, ◌⊎◌}
 use Rattle.std.specs.List.{list_all, prefix_len}
 use Rattle.std.proofs.lemmas.Bool.{cases_Bool}
-use Rattle.crs_decimal.specs.Spelling.{is_run_byte}
+use Rattle.crs_decimal.specs.Prelude.{is_run_byte}
 use Rattle.crs_text.specs.Tokens.{Token, single, comma, opening, closing, is_white, Forms}
 use Rattle.crs_text.specs.State.{start}
 use Rattle.crs_text.specs.Table.{Flat, flat_step}

@@ -1,11 +1,10 @@
 -- What is settled stays settled under any bytes to come, and is one thing.
-use Rattle.std.proofs.Common.{◌≡◌, ℕ, ◌+◌, ◌≤◌, Bool, true, List, [], ◌∷◌, ◌++◌, length, refl, sym, ap, subst, ◌∙◌, append_assoc, arith, inl, inr, ◌⊎◌}
-use Rattle.std.specs.Prelude.{IsTrue, ◌≢◌}
+use Rattle.std.proofs.Common.{◌≡◌, ℕ, ◌+◌, ◌≤◌, Bool, true, List, [], ◌∷◌, ◌++◌, length, refl, sym, ap, subst, ◌∙◌, append_assoc, arith, inl, inr, ◌⊎◌, IsTrue, ◌≢◌}
 use Rattle.std.specs.List.{list_all}
 use Rattle.std.proofs.lemmas.List.{append-nil, length-append}
 use Rattle.std.proofs.lemmas.List.Folds.{list_all-append}
 use Rattle.std.proofs.lemmas.Bool.{cases_lt}
-use Rattle.crs_decimal.specs.Spelling.{is_run_byte}
+use Rattle.crs_decimal.specs.Prelude.{is_run_byte}
 use Rattle.crs_text.specs.Quoted.{StopsAt, is_quote, IsShut, Through}
 use Rattle.crs_text.specs.Utf8.{IsUtf8Front}
 use Rattle.crs_text.specs.Tokens.{Token, single, comma, opening, closing, is_white, takes_byte, Ends, IsPlaced, spelling, Forms, IsAfterWhite, Fronts}

@@ -1,6 +1,5 @@
 -- What the scanners find is a token or a flaw.
-use Rattle.std.proofs.Common.{◌≡◌, ℕ, suc, Bool, true, false, cond, ◌+◌, List, [], ◌∷◌, ◌++◌, length, take, drop, refl, sym, ap, subst, ◌∙◌, append_assoc, arith, inl, inr}
-use Rattle.std.specs.Prelude.{IsUtf8}
+use Rattle.std.proofs.Common.{◌≡◌, ℕ, suc, Bool, true, false, cond, ◌+◌, List, [], ◌∷◌, ◌++◌, length, take, drop, refl, sym, ap, subst, ◌∙◌, append_assoc, arith, inl, inr, IsUtf8}
 use Rattle.std.proofs.lemmas.List.{length-take, drop-drop, drop_at, take-append-drop}
 use Rattle.std.proofs.Math.Seq.{take-add}
 use Rattle.std.proofs.Math.Numerals.{one-add}
@@ -10,8 +9,7 @@ use Rattle.std.specs.List.{list_all, prefix_len}
 use Rattle.crs_text.specs.Quoted.{IsInside, IsShutAt, StopsAt, BeginsWith, is_quote}
 use Rattle.crs_text.specs.Utf8.{IsUtf8Front, IsLongestUtf8}
 use Rattle.crs_text.specs.Tokens.{is_letter, is_word_byte, IsWord}
-use Rattle.crs_decimal.specs.Spelling.{is_run_byte, is_run_start, HasForm}
-use Rattle.crs_decimal.specs.Bounds.{IsInBounds}
+use Rattle.crs_decimal.specs.Prelude.{is_run_byte, is_run_start, HasForm, IsInBounds}
 use Rattle.crs_text.specs.TextFault.{IsFirstRun, IsFlaw}
 use Rattle.crs_text.proofs.tokens.TokenLemmas.{and_from, letter_in_word}
 use Rattle.crs_text.specs.Lexing.{IsLexed}

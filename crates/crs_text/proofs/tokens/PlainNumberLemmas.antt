@@ -6,9 +6,7 @@ use Rattle.std.proofs.lemmas.List.{length-append, length-take, append-nil, take-
 use Rattle.std.proofs.lemmas.List.Folds.{list_all-append}
 use Rattle.std.proofs.lemmas.List.Sums.{prefix_len-le-length}
 use Rattle.std.proofs.Math.Nat.{mul-le-mul_right}
-use Rattle.crs_decimal.specs.Spelling.{Sign, unsigned, sign_text, fraction_text, fraction_digits, Parts, IsForm, AreDigits, mantissa, parts_text, is_digit, is_run_byte, is_run_start, IsRun, SpellsNumber}
-use Rattle.crs_decimal.specs.Bounds.{digits_value, Strips, number_of, IsMeasured, IsBounded, IsInBounds}
-use Rattle.crs_decimal.specs.Mantissa.{no_digits, with_digits}
+use Rattle.crs_decimal.specs.Prelude.{Sign, unsigned, sign_text, fraction_text, fraction_digits, Parts, IsForm, AreDigits, mantissa, parts_text, is_digit, is_run_byte, is_run_start, IsRun, SpellsNumber, digits_value, Strips, number_of, IsMeasured, IsBounded, IsInBounds, no_digits, with_digits}
 use Rattle.crs_decimal.proofs.DigitLemmas.{value-below}
 use Rattle.crs_decimal.proofs.MantissaLemmas.{shown, Shows, IsStripped, long_least, zero_scaled}
 use Rattle.crs_decimal.proofs.PowerLemmas.{power_grows}

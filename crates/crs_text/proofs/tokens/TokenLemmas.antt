@@ -1,9 +1,8 @@
 -- What is left begins with one token at most, and no flaw beside it.
-use Rattle.std.proofs.Common.{◌≡◌, ℕ, ◌+◌, Bool, true, false, ◌&&◌, ◌==◌, cond, List, [], ◌∷◌, ◌++◌, length, Option, Some, None, refl, sym, ap, subst, ◌∙◌, append_assoc, arith}
-use Rattle.std.specs.Prelude.{IsTrue}
+use Rattle.std.proofs.Common.{◌≡◌, ℕ, ◌+◌, Bool, true, false, ◌&&◌, ◌==◌, cond, List, [], ◌∷◌, ◌++◌, length, Option, Some, None, refl, sym, ap, subst, ◌∙◌, append_assoc, arith, IsTrue}
 use Rattle.std.specs.List.{list_all}
 use Rattle.std.proofs.lemmas.Bool.Decides.{nat_tests}
-use Rattle.crs_decimal.specs.Spelling.{is_run_byte, is_run_start}
+use Rattle.crs_decimal.specs.Prelude.{is_run_byte, is_run_start}
 use Rattle.crs_text.specs.Quoted.{BeginsWith, IsShut}
 use Rattle.crs_text.specs.Tokens.{Kind, number, text, word, Token, single, comma, opening, closing, is_letter, is_word_byte, IsWord, opening_byte, closing_byte, Forms}
 use Rattle.crs_text.proofs.tokens.QuotedLemmas.{same_tail, run_split, shut_one}

@@ -1,8 +1,7 @@
 -- The dimension of a compound's horizontal part.
 use Rattle.std.proofs.Common.{◌≡◌, Bool, true, false, not, IsTrue, ◌↔◌, refl, subst}
-use Rattle.crs_decimal.specs.Number.{SameNumber, whole_number}
-use Rattle.crs_decimal.specs.Value.{Value, exact}
-use Rattle.crs_text.specs.Items.{Item}
+use Rattle.crs_decimal.specs.Prelude.{SameNumber, whole_number, Value, exact}
+use Rattle.crs_text.specs.Prelude.{Item}
 use Rattle.crs_value.specs.BadComponent.{IsNotPlane}
 use Rattle.crs_value.specs.Reads.{HasDimension}
 use Rattle.crs_value.proofs.checked.CheckLemmas.{DenotesOne}

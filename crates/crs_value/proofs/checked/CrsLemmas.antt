@@ -1,10 +1,9 @@
 -- The checks of a CRS that has a coordinate system: those of its axes have the highest numbers.
 use Rattle.std.proofs.Common.{◌≡◌, ℕ, ◌<◌, ◌≤◌, ◌++◌, inl, inr, ◌⊎◌, Option, Some, List, [], ◌∷◌, subst, ap, arith}
-use Rattle.crs_text.specs.Items.{Item, arguments}
-use Rattle.crs_text.specs.Refusal.{RefusedAt}
+use Rattle.crs_text.specs.Prelude.{Item, arguments, RefusedAt}
 use Rattle.crs_shape.specs.declared.class.Class.{Class}
 use Rattle.crs_shape.specs.declared.class.Class.TheVariants as class
-use Rattle.crs_shape.specs.Dimensions.{dimensions_of}
+use Rattle.crs_shape.specs.Prelude.{dimensions_of}
 use Rattle.crs_value.specs.BadDynamic.{BadDynamic, IsUnsteady}
 use Rattle.crs_value.specs.BadOrder.{BadOrders, BadOrder, LacksOrder, IsBadOrder, orders_in}
 use Rattle.crs_value.specs.BadUnit.{BadOwnUnit, Misfits, HasOwnUnit, IsSuperfluous, BadUnit, units_in}

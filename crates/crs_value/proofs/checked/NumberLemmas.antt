@@ -1,14 +1,10 @@
 -- The faults of checks: their numbers, and their places within the text.
 use Rattle.std.proofs.Common.{◌≡◌, ℕ, zero, suc, ◌<◌, ◌≤◌, take, drop, length, Bool, true, false, if◌then◌else◌, inl, inr, Option, Some, None, List, [], ◌∷◌, ◌++◌, arith}
-use Rattle.crs_text.specs.Items.{Item, leaf, node, Siblings, End, More, arguments}
-use Rattle.crs_text.specs.Refusal.{RefusedAt}
-use Rattle.crs_text.specs.TextFault.{RefusesText, SpellsNode}
+use Rattle.crs_text.specs.Prelude.{Item, leaf, node, Siblings, End, More, arguments, RefusedAt, RefusesText, SpellsNode}
 use Rattle.crs_shape.specs.declared.class.Class.{Class}
 use Rattle.crs_shape.specs.declared.class.Class.TheVariants as class
-use Rattle.crs_shape.specs.FaultPlace.{IsPlaceIn, IsShapeNumber}
-use Rattle.crs_shape.specs.ShapeFault.{AtRoot, class_in}
+use Rattle.crs_shape.specs.Prelude.{IsPlaceIn, IsShapeNumber, AtRoot, class_in, dimensions_of}
 use Rattle.crs_shape.specs.declared.system_type.SystemType.{SystemType}
-use Rattle.crs_shape.specs.Dimensions.{dimensions_of}
 use Rattle.crs_value.specs.BadValue.{NotAbove, IsNegative}
 use Rattle.crs_value.specs.BadOrder.{LacksOrder, IsBadOrder, BadOrders, BadOrder, orders_in}
 use Rattle.crs_value.specs.BadComponent.{BadComponent, BadComponents}

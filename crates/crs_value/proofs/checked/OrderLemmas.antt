@@ -1,13 +1,11 @@
 -- The checks of the orders of axes.
 use Rattle.std.proofs.Common.{◌≡◌, ◌≢◌, ℕ, zero, suc, ◌+◌, ◌<◌, ◌≤◌, length, take, drop, Bool, IsTrue, ◌↔◌, inl, inr, ◌⊎◌, Option, Some, None, List, [], ◌∷◌, ◌++◌, refl, sym, ◌∙◌, ap, subst, append_assoc, length-append, arith}
 use Rattle.std.proofs.lemmas.List.{append-nil}
-use Rattle.crs_decimal.specs.Number.{Number, SameNumber, whole_number}
-use Rattle.crs_decimal.specs.Value.{Value, exact}
-use Rattle.crs_text.specs.Items.{Item, arguments, rest_of, here}
-use Rattle.crs_text.specs.Refusal.{RefusedAt}
+use Rattle.crs_decimal.specs.Prelude.{Number, SameNumber, whole_number, Value, exact}
+use Rattle.crs_text.specs.Prelude.{Item, arguments, rest_of, here, RefusedAt}
 use Rattle.crs_shape.specs.declared.class.Class.{Class}
 use Rattle.crs_shape.specs.declared.class.Class.TheVariants as class
-use Rattle.crs_shape.specs.Shaped.{Shaped}
+use Rattle.crs_shape.specs.Prelude.{Shaped}
 use Rattle.crs_value.specs.BadOrder.{orders_in, SomeHasOrder, AllHaveOrder, LacksOrder, ReadsOrder, IsPosition, HasThis, OneHas, IsWrongOrder, IsBadOrder, BadOrders, BadOrder}
 use Rattle.crs_value.specs.Break.{at, AnyOf, IsLeast}
 use Rattle.crs_value.specs.FoundArguments.{from_found, AllShaped}

@@ -1,10 +1,9 @@
 -- The checks of a node's own, by its class.
 use Rattle.std.proofs.Common.{◌≡◌, inl, inr, ◌⊎◌, Option, sym, subst}
-use Rattle.crs_text.specs.Items.{Item, arguments}
-use Rattle.crs_text.specs.Refusal.{RefusedAt}
+use Rattle.crs_text.specs.Prelude.{Item, arguments, RefusedAt}
 use Rattle.crs_shape.specs.declared.class.Class.{Class}
 use Rattle.crs_shape.specs.declared.class.Class.TheVariants as class
-use Rattle.crs_shape.specs.Dimensions.{dimensions_of}
+use Rattle.crs_shape.specs.Prelude.{dimensions_of}
 use Rattle.crs_value.specs.BadDynamic.{BadDynamic}
 use Rattle.crs_value.specs.RepeatedPart.{RepeatsAny}
 use Rattle.crs_value.specs.UnknownWord.{UnknownType, UnknownDirection}

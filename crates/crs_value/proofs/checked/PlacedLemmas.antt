@@ -1,12 +1,10 @@
 -- Axes whose orders are the numbers from 1 on, one after another.
 use Rattle.std.proofs.Common.{◌≡◌, ℕ, ◌+◌, ◌<◌, ◌≤◌, length, inl, inr, Option, Some, None, List, [], ◌∷◌, ◌++◌, refl, sym, ◌∙◌, ap, subst, arith}
-use Rattle.crs_decimal.specs.Number.{Number, SameNumber, whole_number}
-use Rattle.crs_decimal.specs.Value.{Value, exact}
-use Rattle.crs_text.specs.Items.{Item, rest_of, here}
-use Rattle.crs_text.specs.Refusal.{RefusedAt}
+use Rattle.crs_decimal.specs.Prelude.{Number, SameNumber, whole_number, Value, exact}
+use Rattle.crs_text.specs.Prelude.{Item, rest_of, here, RefusedAt}
 use Rattle.crs_shape.specs.declared.class.Class.{Class}
 use Rattle.crs_shape.specs.declared.class.Class.TheVariants as class
-use Rattle.crs_shape.specs.Shaped.{Shaped}
+use Rattle.crs_shape.specs.Prelude.{Shaped}
 use Rattle.crs_value.specs.BadOrder.{orders_in, LacksOrder, ReadsOrder, HasThis, OneHas, IsBadOrder, BadOrders, BadOrder}
 use Rattle.crs_value.specs.Break.{AnyOf, IsLeast}
 use Rattle.crs_value.specs.FoundArguments.{from_found, AllShaped, HasPlace, AreInOrder}

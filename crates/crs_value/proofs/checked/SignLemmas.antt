@@ -4,10 +4,8 @@ use Rattle.std.specs.List.{find}
 use Rattle.std.proofs.Math.Nat.{mul_assoc, pow-suc}
 use Rattle.std.proofs.lemmas.Bool.Decides.{nat_tests}
 use Rattle.std.proofs.lemmas.List.Sums.{fold-append}
-use Rattle.crs_decimal.specs.Bounds.{number_of, is_minus, digits_value}
-use Rattle.crs_decimal.specs.Spelling.{Sign, unsigned, plus, minus, Exponent, sign_text, fraction_text, fraction_digits, exponent_text, parts_text, mantissa, IsExponent}
-use Rattle.crs_decimal.specs.Value.{Value, IsNormal, is_normal, is_power, exact}
-use Rattle.crs_text.specs.Items.{Item, raw_of}
+use Rattle.crs_decimal.specs.Prelude.{number_of, is_minus, digits_value, Sign, unsigned, plus, minus, Exponent, sign_text, fraction_text, fraction_digits, exponent_text, parts_text, mantissa, IsExponent, Value, IsNormal, is_normal, is_power, exact}
+use Rattle.crs_text.specs.Prelude.{Item, raw_of}
 use Rattle.crs_value.specs.BadValue.{IsAboveZero, NotAbove, IsNegative}
 use Rattle.crs_value.specs.Break.{IsLeast}
 use Rattle.crs_value.specs.FirstByte.{first_byte, is_telling}

@@ -1,12 +1,11 @@
 -- The checks of a coordinate system's type, dimension and number of axes.
 use Rattle.std.proofs.Common.{◌≡◌, ℕ, suc, ◌*◌, ◌≤◌, length, Bool, true, false, if◌then◌else◌, None, List, [], ◌∷◌, subst, arith}
-use Rattle.crs_decimal.specs.Number.{SameNumber, whole_number}
-use Rattle.crs_decimal.specs.Value.{Value, exact}
-use Rattle.crs_text.specs.Items.{Item, Siblings, End, More, count, arguments, raw_of}
+use Rattle.crs_decimal.specs.Prelude.{SameNumber, whole_number, Value, exact}
+use Rattle.crs_text.specs.Prelude.{Item, Siblings, End, More, count, arguments, raw_of}
 use Rattle.crs_shape.specs.declared.class.Class.{Class}
 use Rattle.crs_shape.specs.declared.class.Class.TheVariants as class
 use Rattle.crs_shape.specs.declared.system_type.SystemType.{SystemType}
-use Rattle.crs_shape.specs.Dimensions.{IsOneOf}
+use Rattle.crs_shape.specs.Prelude.{IsOneOf}
 use Rattle.crs_value.specs.AxisCount.{AxisCount}
 use Rattle.crs_value.specs.BadSystem.{BadSystem}
 use Rattle.crs_value.specs.Break.{IsLeast}

@@ -1,20 +1,12 @@
 -- Arguments: those of a class, one after another, are sound where their node is, and as many as its slots require.
 use Rattle.std.proofs.Common.{◌≡◌, ◌≢◌, ℕ, ◌+◌, ◌<◌, ◌≤◌, length, Bool, true, false, IsTrue, inl, inr, Option, Some, None, List, [], ◌∷◌, if◌then◌else◌, refl, sym, ◌∙◌, ap, subst, arith, rules}
 use denote.Enum.Bare.{sameb, same_true}
-use Rattle.crs_text.specs.Items.{Item, leaf, node, Siblings, End, More, arguments, first_of, rest_of, kind_of_item, HasId, IsAt}
-use Rattle.crs_text.specs.Refusal.{RefusedAt}
-use Rattle.crs_text.specs.Tokens.{Kind, number, text, word}
-use Rattle.crs_text.specs.Written.{AreFormed, AreAllFormed}
+use Rattle.crs_text.specs.Prelude.{Item, leaf, node, Siblings, End, More, arguments, first_of, rest_of, kind_of_item, HasId, IsAt, RefusedAt, Kind, number, text, word, AreFormed, AreAllFormed}
 use Rattle.crs_shape.specs.contracts.class.Class.{the_type}
 use Rattle.crs_text.specs.declared.items.ItemKind.TheVariants as kinds
 use Rattle.crs_shape.specs.declared.class.Class.{Class}
 use Rattle.crs_shape.specs.declared.class.Class.TheVariants as class
-use Rattle.crs_shape.specs.Keywords.{is_keyword}
-use Rattle.crs_shape.specs.Counts.{one_if, how_many, is_bounded, least, most}
-use Rattle.crs_shape.specs.Shape.{Allowed}
-use Rattle.crs_shape.specs.Shaped.{Shaped, AreShaped}
-use Rattle.crs_shape.specs.ShapeFault.{class_in, class_of_kind}
-use Rattle.crs_shape.specs.Slots.{SlotParts, slots_of, is_class}
+use Rattle.crs_shape.specs.Prelude.{is_keyword, one_if, how_many, is_bounded, least, most, Allowed, Shaped, AreShaped, class_in, class_of_kind, SlotParts, slots_of, is_class}
 use Rattle.crs_value.specs.FoundArguments.{from_found, AllShaped}
 use Rattle.crs_value.specs.Checks.{AtClass, Breaks, BreaksAmong, IsSound}
 use Rattle.crs_value.specs.Reading.{item_at, is_same, is_a, those, ahead, Holds, IsFound}

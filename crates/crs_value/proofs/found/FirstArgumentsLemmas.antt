@@ -1,11 +1,9 @@
 -- The first arguments of a node of some classes, found in one walk.
 use Rattle.std.proofs.Common.{◌≡◌, ℕ, ◌+◌, ◌≤◌, length, Bool, true, false, Option, Some, None, sym, ◌∙◌, ap, subst, arith}
-use Rattle.crs_text.specs.Items.{Item, Siblings, rest_of, here, HasId, IsAt}
+use Rattle.crs_text.specs.Prelude.{Item, Siblings, rest_of, here, HasId, IsAt}
 use Rattle.crs_shape.specs.declared.class.Class.{Class}
 use Rattle.crs_shape.specs.declared.class.Class.TheVariants as class
-use Rattle.crs_shape.specs.Counts.{one_if}
-use Rattle.crs_shape.specs.ShapeFault.{class_in}
-use Rattle.crs_shape.specs.Slots.{is_class}
+use Rattle.crs_shape.specs.Prelude.{one_if, class_in, is_class}
 use Rattle.crs_value.specs.declared.reading.firsts.Firsts.{Firsts}
 use Rattle.crs_value.specs.FirstArguments.{first_with}
 use Rattle.crs_value.specs.Reading.{item_at, is_same, is_a, those, ahead, Holds, IsFound}

@@ -1,13 +1,9 @@
 -- A node whose slots require an argument of one of some classes has one.
 use Rattle.std.proofs.Common.{◌≡◌, ◌+◌, ◌≤◌, length, Bool, true, false, ◌||◌, List, [], ◌∷◌, refl, sym, subst, ap, arith}
 use Rattle.std.specs.List.{list_any}
-use Rattle.crs_text.specs.Items.{Item, leaf, node, More, arguments}
-use Rattle.crs_text.specs.Tokens.{Kind, number, text, word}
+use Rattle.crs_text.specs.Prelude.{Item, leaf, node, More, arguments, Kind, number, text, word}
 use Rattle.crs_shape.specs.declared.class.Class.{Class}
-use Rattle.crs_shape.specs.Counts.{one_if, how_many}
-use Rattle.crs_shape.specs.Shaped.{Shaped}
-use Rattle.crs_shape.specs.ShapeFault.{class_of_kind}
-use Rattle.crs_shape.specs.Slots.{slots_of}
+use Rattle.crs_shape.specs.Prelude.{one_if, how_many, Shaped, class_of_kind, slots_of}
 use Rattle.crs_value.specs.Reading.{is_same, those, RequiresOneOf}
 use Rattle.crs_value.proofs.found.ArgumentLemmas.{SlotsCount, those-many, same_class}
 

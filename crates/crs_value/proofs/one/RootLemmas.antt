@@ -1,12 +1,8 @@
 -- From a root without a fault of shape to its shape.
 use Rattle.std.proofs.Common.{◌≡◌, ◌↔◌, ℕ, true, false, inl, inr, Some, List, [], ◌∷◌, if◌then◌else◌, sym, ◌∙◌, subst}
-use Rattle.crs_text.specs.Items.{Item, leaf, node}
-use Rattle.crs_text.specs.Refusal.{RefusedAt}
-use Rattle.crs_text.specs.Written.{AreFormed}
+use Rattle.crs_text.specs.Prelude.{Item, leaf, node, RefusedAt, AreFormed}
 use Rattle.crs_shape.specs.declared.class.Class.{Class}
-use Rattle.crs_shape.specs.Keywords.{is_keyword, first_named, root_classes, root_named}
-use Rattle.crs_shape.specs.Shaped.{Shaped}
-use Rattle.crs_shape.specs.ShapeFault.{IsFree, Inside, AtRoot, class_of_root}
+use Rattle.crs_shape.specs.Prelude.{is_keyword, first_named, root_classes, root_named, Shaped, IsFree, Inside, AtRoot, class_of_root}
 use Rattle.crs_value.specs.declared.values.crs.Crs.{Crs}
 use Rattle.crs_value.specs.Break.{IsLeast}
 use Rattle.crs_value.specs.Checks.{Breaks, IsSound}

@@ -1,12 +1,8 @@
 -- Each text is spelled or refused.
 use Rattle.std.proofs.Common.{◌≡◌, ℕ, ◌⊎◌, inl, inr, Some, None, List, refl, subst}
-use Rattle.crs_text.specs.Items.{Item}
-use Rattle.crs_text.specs.Refusal.{RefusedAt}
-use Rattle.crs_text.specs.TextFault.{SpellsNode, RefusesText}
-use Rattle.crs_text.specs.Written.{AreFormed}
+use Rattle.crs_text.specs.Prelude.{Item, RefusedAt, SpellsNode, RefusesText, AreFormed}
 use Rattle.crs_shape.specs.declared.class.Class.{Class}
-use Rattle.crs_shape.specs.ShapeFault.{IsFree, AtRoot, class_of_root, misplaced}
-use Rattle.crs_shape.specs.Shaped.{Shaped}
+use Rattle.crs_shape.specs.Prelude.{IsFree, AtRoot, class_of_root, misplaced, Shaped}
 use Rattle.crs_value.specs.declared.values.crs.Crs.{Crs}
 use Rattle.crs_value.specs.Checks.{Breaks}
 use Rattle.crs_value.specs.ReadsCrs.{ReadsCrs}

@@ -1,9 +1,9 @@
 -- What a coordinate reference system says, where it is sound and its tokens are well formed: there is a value.
 use Rattle.std.proofs.Common.{◌≡◌, inl, inr, Some, None, List, [], ◌∷◌, refl, sym, subst, arith}
-use Rattle.crs_text.specs.Items.{Item, arguments}
+use Rattle.crs_text.specs.Prelude.{Item, arguments}
 use Rattle.crs_shape.specs.declared.class.Class.{Class}
 use Rattle.crs_shape.specs.declared.class.Class.TheVariants as class
-use Rattle.crs_shape.specs.Keywords.{root_classes}
+use Rattle.crs_shape.specs.Prelude.{root_classes}
 use Rattle.crs_value.specs.declared.values.compound.Horizontal.{Horizontal}
 use Rattle.crs_value.specs.declared.values.compound.Horizontal.TheVariants as horizontals
 use Rattle.crs_value.specs.declared.values.crs.Crs.TheVariants as crs

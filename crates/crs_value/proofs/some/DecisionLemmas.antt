@@ -3,14 +3,12 @@ use Rattle.std.proofs.Common.{◌≡◌, ◌↔◌, ℕ, zero, suc, ◌+◌, ◌
 use Rattle.std.specs.Str.{bytes_eq, str_to_ascii_lowercase}
 use Rattle.std.proofs.lemmas.Bool.{cases_eq}
 use Rattle.std.proofs.lemmas.Slice.Eq.{bytes_eq-Decides}
-use Rattle.crs_decimal.specs.Number.{Number, SameNumber, whole_number}
-use Rattle.crs_decimal.specs.Value.{Value, exact}
+use Rattle.crs_decimal.specs.Prelude.{Number, SameNumber, whole_number, Value, exact}
 use Rattle.crs_shape.specs.declared.system_type.SystemType.{SystemType}
 use Rattle.crs_shape.specs.declared.system_type.SystemType.TheVariants as types
 use Rattle.crs_shape.specs.declared.unit_kind.UnitKind.{UnitKind}
 use Rattle.crs_shape.specs.declared.unit_kind.UnitKind.TheVariants as kinds
-use Rattle.crs_shape.specs.Dimensions.{IsOneOf}
-use Rattle.crs_shape.specs.Words.{SpellsWord, direction_word, every_direction, every_type, system_word}
+use Rattle.crs_shape.specs.Prelude.{IsOneOf, SpellsWord, direction_word, every_direction, every_type, system_word}
 use Rattle.crs_value.specs.BadValue.{IsAboveZero}
 use Rattle.crs_value.specs.BadOrder.{IsPosition}
 use Rattle.crs_value.specs.Sound.{Each, Suits}

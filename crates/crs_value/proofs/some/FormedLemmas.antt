@@ -1,15 +1,12 @@
 -- Items of their shape whose tokens are well formed: the same holds for their arguments, and their numbers
 -- have values.
 use Rattle.std.proofs.Common.{◌≡◌, ℕ, zero, suc, drop, Bool, true, false, if◌then◌else◌, inr, List, [], ◌∷◌, ◌++◌}
-use Rattle.crs_decimal.specs.Bounds.{IsInBounds, Denotes}
-use Rattle.crs_decimal.specs.Value.{Value, IsNormal, exact}
-use Rattle.crs_text.specs.Tokens.{number, text, word}
-use Rattle.crs_text.specs.Items.{Item, leaf, node, Siblings, End, More, arguments}
-use Rattle.crs_text.specs.Written.{AreFormed, AreAllFormed}
+use Rattle.crs_decimal.specs.Prelude.{IsInBounds, Denotes, Value, IsNormal, exact}
+use Rattle.crs_text.specs.Prelude.{number, text, word, Item, leaf, node, Siblings, End, More, arguments, AreFormed, AreAllFormed}
 use Rattle.crs_text.specs.declared.items.ItemKind.TheVariants as item_kinds
 use Rattle.crs_shape.specs.declared.class.Class.{Class}
 use Rattle.crs_shape.specs.declared.class.Class.TheVariants as class
-use Rattle.crs_shape.specs.Shaped.{Shaped}
+use Rattle.crs_shape.specs.Prelude.{Shaped}
 use Rattle.crs_value.specs.FoundArguments.{AllShaped}
 use Rattle.crs_value.specs.Reading.{is_a, those, ReadsFirst}
 use Rattle.crs_value.specs.Reads.{ReadsNumber}

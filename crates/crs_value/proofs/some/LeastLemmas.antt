@@ -1,21 +1,14 @@
 -- In an item of its shape some check is broken first, or none is.
 use Rattle.std.proofs.Common.{◌≡◌, ◌≢◌, ℕ, ◌⊎◌, inl, inr, length, take, drop, true, Option, Some, None, List, [], ◌∷◌, ◌++◌, refl, sym, subst}
-use Rattle.crs_decimal.specs.Number.{SameNumber, whole_number}
-use Rattle.crs_decimal.specs.Value.{Value, exact}
-use Rattle.crs_text.specs.Items.{Item, leaf, node, Siblings, End, More, arguments, raw_of}
-use Rattle.crs_text.specs.Refusal.{RefusedAt}
-use Rattle.crs_text.specs.Written.{AreAllFormed}
+use Rattle.crs_decimal.specs.Prelude.{SameNumber, whole_number, Value, exact}
+use Rattle.crs_text.specs.Prelude.{Item, leaf, node, Siblings, End, More, arguments, raw_of, RefusedAt, AreAllFormed}
 use Rattle.crs_shape.specs.declared.class.Class.{Class}
 use Rattle.crs_shape.specs.declared.class.Class.TheVariants as class
-use Rattle.crs_shape.specs.Shaped.{AreShaped}
-use Rattle.crs_shape.specs.ShapeFault.{class_in}
+use Rattle.crs_shape.specs.Prelude.{AreShaped, class_in, IsOneOf, dimensions_of, asked_kind, unit_word}
 use Rattle.crs_shape.specs.declared.system_type.SystemType.{SystemType}
 use Rattle.crs_shape.specs.declared.system_type.SystemType.TheVariants as types
 use Rattle.crs_shape.specs.declared.unit_kind.UnitKind.{UnitKind}
 use Rattle.crs_shape.specs.declared.unit_kind.UnitKind.TheVariants as kinds
-use Rattle.crs_shape.specs.Dimensions.{IsOneOf, dimensions_of}
-use Rattle.crs_shape.specs.UnitKinds.{asked_kind}
-use Rattle.crs_shape.specs.Words.{unit_word}
 use Rattle.crs_value.specs.BadValue.{IsAboveZero, NotAbove, IsNegative}
 use Rattle.crs_value.specs.AxisCount.{AxisCount}
 use Rattle.crs_value.specs.BadOrder.{orders_in, SomeHasOrder, AllHaveOrder, LacksOrder, ReadsOrder, IsPosition, HasThis, OneHas, IsWrongOrder, IsBadOrder, BadOrders, BadOrder}

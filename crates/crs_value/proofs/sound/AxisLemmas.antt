@@ -1,6 +1,6 @@
 -- What sound axes say is sound.
-use Rattle.crs_text.specs.Items.{arguments}
-use Rattle.crs_decimal.specs.Value.{IsNormal}
+use Rattle.crs_text.specs.Prelude.{arguments}
+use Rattle.crs_decimal.specs.Prelude.{IsNormal}
 use Rattle.crs_shape.specs.declared.class.Class.{Class}
 use Rattle.crs_shape.specs.declared.class.Class.TheVariants as class
 use Rattle.crs_shape.specs.declared.unit_kind.UnitKind.TheVariants as kinds

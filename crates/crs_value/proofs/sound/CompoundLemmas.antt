@@ -1,8 +1,6 @@
 -- What a sound compound CRS says is sound, and so what any sound text says.
 use Rattle.std.proofs.Common.{◌≡◌, inl, inr, List, [], ◌∷◌, refl}
-use Rattle.crs_text.specs.Items.{Item, leaf, node, arguments}
-use Rattle.crs_text.specs.Refusal.{RefusedAt}
-use Rattle.crs_text.specs.Written.{AreFormed}
+use Rattle.crs_text.specs.Prelude.{Item, leaf, node, arguments, RefusedAt, AreFormed}
 use Rattle.crs_shape.specs.declared.class.Class.{Class}
 use Rattle.crs_shape.specs.declared.class.Class.TheVariants as class
 use Rattle.crs_shape.specs.declared.system_type.SystemType.TheVariants as types

@@ -1,7 +1,6 @@
 -- What sound conversions say is sound.
-use Rattle.std.proofs.Common.{Option, Some, None, List, [], ◌∷◌}
-use Rattle.std.specs.Prelude.{IfSome}
-use Rattle.crs_text.specs.Items.{Item, arguments}
+use Rattle.std.proofs.Common.{Option, Some, None, List, [], ◌∷◌, IfSome}
+use Rattle.crs_text.specs.Prelude.{Item, arguments}
 use Rattle.crs_shape.specs.declared.class.Class.{Class}
 use Rattle.crs_shape.specs.declared.class.Class.TheVariants as class
 use Rattle.crs_value.specs.Checks.{IsSound}

@@ -1,17 +1,13 @@
 -- What sound geodetic, projected and vertical CRSs say is sound.
-use Rattle.std.proofs.Common.{◌≡◌, IsTrue, inl, inr, Option, Some, List, [], ◌∷◌, refl, sym, subst, arith}
-use Rattle.std.specs.Prelude.{IsSome, IsNone}
-use Rattle.crs_decimal.specs.Value.{Value}
-use Rattle.crs_text.specs.Items.{Item, arguments}
-use Rattle.crs_text.specs.Refusal.{RefusedAt}
+use Rattle.std.proofs.Common.{◌≡◌, IsTrue, inl, inr, Option, Some, List, [], ◌∷◌, refl, sym, subst, arith, IsSome, IsNone}
+use Rattle.crs_decimal.specs.Prelude.{Value}
+use Rattle.crs_text.specs.Prelude.{Item, arguments, RefusedAt}
 use Rattle.crs_shape.specs.declared.class.Class.{Class}
 use Rattle.crs_shape.specs.declared.class.Class.TheVariants as class
 use Rattle.crs_shape.specs.declared.system_type.SystemType.{SystemType}
 use Rattle.crs_shape.specs.declared.system_type.SystemType.TheVariants as types
 use Rattle.crs_shape.specs.declared.unit_kind.UnitKind.TheVariants as kinds
-use Rattle.crs_shape.specs.Counts.{most, is_bounded}
-use Rattle.crs_shape.specs.Slots.{slots_of}
-use Rattle.crs_shape.specs.Dimensions.{IsOneOf, dimensions_of}
+use Rattle.crs_shape.specs.Prelude.{most, is_bounded, slots_of, IsOneOf, dimensions_of}
 use Rattle.crs_value.specs.declared.values.frame.Frame.{Frame}
 use Rattle.crs_value.specs.declared.values.frame.Frame.TheVariants as frames
 use Rattle.crs_value.specs.BadDynamic.{BadDynamic}

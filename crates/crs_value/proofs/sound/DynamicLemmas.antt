@@ -1,9 +1,7 @@
 -- What sound dynamic parts say is sound, and none is beside an ensemble.
-use Rattle.std.proofs.Common.{◌≢◌, inl, Option, Some, None, List, [], ◌∷◌, refl}
-use Rattle.std.specs.Prelude.{IfSome}
-use Rattle.crs_decimal.specs.Value.{IsNormal}
-use Rattle.crs_text.specs.Items.{Item, leaf, node, arguments}
-use Rattle.crs_text.specs.Refusal.{RefusedAt}
+use Rattle.std.proofs.Common.{◌≢◌, inl, Option, Some, None, List, [], ◌∷◌, refl, IfSome}
+use Rattle.crs_decimal.specs.Prelude.{IsNormal}
+use Rattle.crs_text.specs.Prelude.{Item, leaf, node, arguments, RefusedAt}
 use Rattle.crs_shape.specs.declared.class.Class.{Class}
 use Rattle.crs_shape.specs.declared.class.Class.TheVariants as class
 use Rattle.crs_value.specs.declared.values.frame.Frame.{Frame}

@@ -1,9 +1,8 @@
 -- What sound ellipsoids, prime meridians, reference frames and ensembles say is sound.
 use Rattle.std.proofs.Common.{◌≡◌, false, inl, inr, take, drop, List, [], ◌∷◌, refl, subst}
 use Rattle.std.proofs.lemmas.Bool.{false_from_ne_true}
-use Rattle.crs_decimal.specs.Value.{Value, IsNormal}
-use Rattle.crs_text.specs.Items.{Item, leaf, node, More, arguments}
-use Rattle.crs_text.specs.Refusal.{RefusedAt}
+use Rattle.crs_decimal.specs.Prelude.{Value, IsNormal}
+use Rattle.crs_text.specs.Prelude.{Item, leaf, node, More, arguments, RefusedAt}
 use Rattle.crs_shape.specs.declared.class.Class.{Class}
 use Rattle.crs_shape.specs.declared.class.Class.TheVariants as class
 use Rattle.crs_shape.specs.declared.unit_kind.UnitKind.TheVariants as kinds

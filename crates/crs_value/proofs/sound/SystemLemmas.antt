@@ -1,17 +1,13 @@
 -- What the nodes of a sound coordinate system say is sound: its count, its orders and its units.
-use Rattle.std.proofs.Common.{◌≡◌, ◌≢◌, ℕ, suc, length, inl, inr, ◌⊎◌, Option, Some, None, List, [], ◌∷◌, ◌++◌, refl, sym, ap, subst}
-use Rattle.std.specs.Prelude.{IsSomeAnd}
-use Rattle.crs_decimal.specs.Number.{SameNumber, whole_number}
-use Rattle.crs_decimal.specs.Value.{Value, IsNormal, exact}
-use Rattle.crs_text.specs.Items.{Item, leaf, node, arguments, raw_of}
-use Rattle.crs_text.specs.Refusal.{RefusedAt}
+use Rattle.std.proofs.Common.{◌≡◌, ◌≢◌, ℕ, suc, length, inl, inr, ◌⊎◌, Option, Some, None, List, [], ◌∷◌, ◌++◌, refl, sym, ap, subst, IsSomeAnd}
+use Rattle.crs_decimal.specs.Prelude.{SameNumber, whole_number, Value, IsNormal, exact}
+use Rattle.crs_text.specs.Prelude.{Item, leaf, node, arguments, raw_of, RefusedAt}
 use Rattle.crs_shape.specs.declared.class.Class.{Class}
 use Rattle.crs_shape.specs.declared.class.Class.TheVariants as class
 use Rattle.crs_shape.specs.declared.system_type.SystemType.{SystemType}
 use Rattle.crs_shape.specs.declared.unit_kind.UnitKind.{UnitKind}
 use Rattle.crs_shape.specs.declared.unit_kind.UnitKind.TheVariants as kinds
-use Rattle.crs_shape.specs.Dimensions.{IsOneOf, dimensions_of}
-use Rattle.crs_shape.specs.UnitKinds.{asked_kind}
+use Rattle.crs_shape.specs.Prelude.{IsOneOf, dimensions_of, asked_kind}
 use Rattle.crs_value.specs.BadOrder.{IsPosition, orders_in, SomeHasOrder, AllHaveOrder, LacksOrder, OneHas, ReadsOrder, IsBadOrder, BadOrders, BadOrder}
 use Rattle.crs_value.specs.BadUnit.{Asks, Fits, units_in, Misfits, BadOwnUnit, IsSuperfluous, HasOwnUnit, AllAsk, SharedFits, BadUnit}
 use Rattle.crs_value.specs.Break.{at, AnyOf}

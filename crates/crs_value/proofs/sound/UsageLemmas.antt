@@ -1,15 +1,10 @@
 -- What sound usages and ends of CRSs say is sound.
-use Rattle.std.proofs.Common.{◌≡◌, ℕ, ◌+◌, ◌≤◌, Bool, true, false, ◌||◌, not, IsTrue, inl, inr, drop, Option, Some, None, List, [], ◌∷◌, refl, ◌∙◌, ap, arith}
-use Rattle.std.specs.Prelude.{IfSome, IsSome}
+use Rattle.std.proofs.Common.{◌≡◌, ℕ, ◌+◌, ◌≤◌, Bool, true, false, ◌||◌, not, IsTrue, inl, inr, drop, Option, Some, None, List, [], ◌∷◌, refl, ◌∙◌, ap, arith, IfSome, IsSome}
 use Rattle.std.proofs.lemmas.Bool.{or_cases}
-use Rattle.crs_text.specs.Items.{Item, leaf, node, More, arguments}
-use Rattle.crs_text.specs.Tokens.{number, text, word}
+use Rattle.crs_text.specs.Prelude.{Item, leaf, node, More, arguments, number, text, word}
 use Rattle.crs_shape.specs.declared.class.Class.{Class}
 use Rattle.crs_shape.specs.declared.class.Class.TheVariants as class
-use Rattle.crs_shape.specs.Counts.{one_if, how_many, most, is_bounded}
-use Rattle.crs_shape.specs.Shape.{Allowed}
-use Rattle.crs_shape.specs.Shaped.{Shaped}
-use Rattle.crs_shape.specs.Slots.{slots_of, is_class}
+use Rattle.crs_shape.specs.Prelude.{one_if, how_many, most, is_bounded, Allowed, Shaped, slots_of, is_class}
 use Rattle.crs_shape.specs.declared.unit_kind.UnitKind.TheVariants as kinds
 use Rattle.crs_value.specs.Reading.{is_same, those, ReadsOptional}
 use Rattle.crs_value.specs.Reads.{ReadsTextOf, ReadsUnit, LacksUsage, ReadsBare, ReadsBox, ReadsExtent, ReadsUsage, ReadsTail}

@@ -1,12 +1,9 @@
 -- What is seen of an axis: its direction, its order and its unit.
 use Rattle.std.proofs.Common.{◌≡◌, ℕ, ◌≤◌, length, true, false, Option, Some, None, List, ◌∷◌, IsTrue, refl, sym, ◌∙◌, ap, subst, arith}
-use Rattle.crs_text.specs.Items.{Item, arguments, rest_of, here, IsAt}
+use Rattle.crs_text.specs.Prelude.{Item, arguments, rest_of, here, IsAt}
 use Rattle.crs_shape.specs.declared.class.Class.{Class}
 use Rattle.crs_shape.specs.declared.class.Class.TheVariants as class
-use Rattle.crs_shape.specs.Counts.{is_bounded, most}
-use Rattle.crs_shape.specs.Shaped.{Shaped}
-use Rattle.crs_shape.specs.ShapeFault.{class_in}
-use Rattle.crs_shape.specs.Slots.{slots_of, is_class}
+use Rattle.crs_shape.specs.Prelude.{is_bounded, most, Shaped, class_in, slots_of, is_class}
 use Rattle.crs_value.specs.declared.judging.axes.Seen.{Seen}
 use Rattle.crs_value.specs.BadOrder.{orders_in}
 use Rattle.crs_value.specs.BadUnit.{units_in}

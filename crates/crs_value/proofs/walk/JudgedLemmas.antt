@@ -3,15 +3,10 @@ use Rattle.std.proofs.Common.{◌≡◌, ◌≢◌, ℕ, ◌||◌, Bool, true, f
 use Rattle.std.specs.List.{list_any}
 use Rattle.std.proofs.Math.Bool.{or-true}
 use denote.Enum.Bare.{sameb, same_true, true_same}
-use Rattle.crs_text.specs.Items.{Item, leaf, node, Siblings, End, More, arguments, first_of, rest_of, close_of, here, HasId, IsAt}
-use Rattle.crs_text.specs.Refusal.{RefusedAt}
+use Rattle.crs_text.specs.Prelude.{Item, leaf, node, Siblings, End, More, arguments, first_of, rest_of, close_of, here, HasId, IsAt, RefusedAt}
 use Rattle.crs_shape.specs.contracts.class.Class.{the_type}
 use Rattle.crs_shape.specs.declared.class.Class.{Class}
-use Rattle.crs_shape.specs.FirstFault.{or_later, fault_by, step_as, first_inside, first_in_arguments}
-use Rattle.crs_shape.specs.Shaped.{Shaped}
-use Rattle.crs_shape.specs.ShapeFault.{class_in, is_of, misplaced, missing}
-use Rattle.crs_shape.specs.Slots.{SlotParts, is_class, takes, slots_of}
-use Rattle.crs_shape.specs.Walk.{again}
+use Rattle.crs_shape.specs.Prelude.{or_later, fault_by, step_as, first_inside, first_in_arguments, Shaped, class_in, is_of, misplaced, missing, SlotParts, is_class, takes, slots_of, again}
 use Rattle.crs_value.specs.Break.{IsLeast}
 use Rattle.crs_value.specs.Checks.{AtClass, Own, Breaks, BreaksAmong}
 use Rattle.crs_value.specs.Judged.{is_in, Gives, Judged, Walked, Passed, Answers}

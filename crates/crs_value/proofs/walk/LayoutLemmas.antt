@@ -2,15 +2,11 @@
 use Rattle.std.proofs.Common.{◌≡◌, ◌≢◌, ℕ, ◌&&◌, ◌||◌, Bool, true, false, not, length, Option, Some, None, List, [], ◌∷◌, ◌++◌, refl, sym, ◌∙◌, ap, subst, append_assoc}
 use Rattle.std.specs.List.{list_any}
 use Rattle.std.proofs.lemmas.List.{append-nil}
-use Rattle.crs_text.specs.Items.{Item, Siblings, End, More, arguments, rest_of, here, HasId, IsAt}
-use Rattle.crs_text.specs.Refusal.{RefusedAt}
+use Rattle.crs_text.specs.Prelude.{Item, Siblings, End, More, arguments, rest_of, here, HasId, IsAt, RefusedAt}
 use Rattle.crs_shape.specs.declared.class.Class.{Class}
 use Rattle.crs_shape.specs.declared.class.Class.TheVariants as class
 use Rattle.crs_shape.specs.declared.system_type.SystemType.{SystemType}
-use Rattle.crs_shape.specs.Dimensions.{dimensions_of}
-use Rattle.crs_shape.specs.FirstFault.{first_in_arguments}
-use Rattle.crs_shape.specs.Shaped.{Shaped}
-use Rattle.crs_shape.specs.Slots.{SlotParts, takes, one, some, optional}
+use Rattle.crs_shape.specs.Prelude.{dimensions_of, first_in_arguments, Shaped, SlotParts, takes, one, some, optional}
 use Rattle.crs_value.specs.declared.judging.quiet.Layout.{Layout}
 use Rattle.crs_value.specs.declared.judging.axes.Axes.{Axes}
 use Rattle.crs_value.specs.declared.judging.axes.Seen.{Seen}

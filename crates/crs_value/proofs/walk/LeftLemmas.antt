@@ -1,14 +1,11 @@
 -- Arguments that are judged in a slot, or in some slots: which of a class are from there on.
-use Rattle.std.proofs.Common.{◌≡◌, ℕ, ◌||◌, Bool, true, false, Option, Some, None, List, ◌∷◌, ◌++◌, refl, sym, ◌∙◌, ap, subst}
+use Rattle.std.proofs.Common.{◌≡◌, ℕ, ◌||◌, Bool, true, false, Option, Some, None, List, ◌∷◌, ◌++◌, refl, sym, ◌∙◌, ap, subst, IfSome}
 use Rattle.std.specs.List.{list_any}
-use Rattle.std.specs.Prelude.{IfSome}
 use denote.Enum.Bare.{sameb}
-use Rattle.crs_text.specs.Items.{Item, rest_of, here, HasId, IsAt}
-use Rattle.crs_text.specs.Refusal.{RefusedAt}
+use Rattle.crs_text.specs.Prelude.{Item, rest_of, here, HasId, IsAt, RefusedAt}
 use Rattle.crs_shape.specs.contracts.class.Class.{the_type}
 use Rattle.crs_shape.specs.declared.class.Class.{Class}
-use Rattle.crs_shape.specs.Slots.{SlotParts, is_class, takes}
-use Rattle.crs_shape.specs.Walk.{again}
+use Rattle.crs_shape.specs.Prelude.{SlotParts, is_class, takes, again}
 use Rattle.crs_value.specs.Judged.{AllLeave, AllPassed, Answers, Leaves, Passed}
 use Rattle.crs_value.specs.Reading.{item_at, is_a, those}
 use Rattle.crs_value.proofs.found.ArgumentLemmas.{ahead_at, same_class, those-later}

@@ -1,19 +1,15 @@
 -- What is checked of a CRS as a whole: orders, units, dimensions and repeated parts.
 use Rattle.std.proofs.Common.{◌≡◌, ℕ, ◌+◌, ◌<◌, ◌≤◌, length, drop, Bool, true, false, inl, inr, ◌⊎◌, Option, Some, None, List, [], ◌∷◌, ◌++◌, refl, sym, ◌∙◌, ap, subst, arith}
 use denote.Enum.Bare.{true_same}
-use Rattle.crs_decimal.specs.Number.{SameNumber, whole_number}
-use Rattle.crs_decimal.specs.Value.{exact}
-use Rattle.crs_text.specs.Items.{Item, Siblings, arguments, rest_of, here, HasId, IsAt}
-use Rattle.crs_text.specs.Refusal.{RefusedAt}
+use Rattle.crs_decimal.specs.Prelude.{SameNumber, whole_number, exact}
+use Rattle.crs_text.specs.Prelude.{Item, Siblings, arguments, rest_of, here, HasId, IsAt, RefusedAt}
 use Rattle.crs_shape.specs.contracts.class.Class.{the_type}
 use Rattle.crs_shape.specs.declared.class.Class.{Class}
 use Rattle.crs_shape.specs.declared.class.Class.TheVariants as class
 use Rattle.crs_shape.specs.declared.system_type.SystemType.{SystemType}
 use Rattle.crs_shape.specs.declared.unit_kind.UnitKind.{UnitKind}
 use Rattle.crs_shape.specs.declared.unit_kind.UnitKind.TheVariants as kinds
-use Rattle.crs_shape.specs.ShapeFault.{class_in}
-use Rattle.crs_shape.specs.Slots.{is_class}
-use Rattle.crs_shape.specs.Dimensions.{dimensions_of}
+use Rattle.crs_shape.specs.Prelude.{class_in, is_class, dimensions_of}
 use Rattle.crs_value.specs.declared.judging.axes.Axes.{Axes}
 use Rattle.crs_value.specs.declared.judging.axes.Places.{Places}
 use Rattle.crs_value.specs.BadDynamic.{BadDynamic}

@@ -1,11 +1,8 @@
 -- The judge of a whole text: what it answers of the root.
 use Rattle.std.proofs.Common.{◌≡◌, Bool, true, false, inl, inr, Option, Some, None, refl, sym, ◌∙◌, subst}
-use Rattle.crs_text.specs.Items.{Item}
-use Rattle.crs_text.specs.Refusal.{RefusedAt}
+use Rattle.crs_text.specs.Prelude.{Item, RefusedAt}
 use Rattle.crs_shape.specs.declared.class.Class.{Class}
-use Rattle.crs_shape.specs.FirstFault.{first_inside}
-use Rattle.crs_shape.specs.Shaped.{Shaped}
-use Rattle.crs_shape.specs.ShapeFault.{class_of_root, misplaced, AtRoot, Inside, IsFree, IsOnly}
+use Rattle.crs_shape.specs.Prelude.{first_inside, Shaped, class_of_root, misplaced, AtRoot, Inside, IsFree, IsOnly}
 use Rattle.crs_value.specs.Break.{IsLeast}
 use Rattle.crs_value.specs.Checks.{Breaks}
 use Rattle.crs_value.specs.Judged.{Gives, Judged}

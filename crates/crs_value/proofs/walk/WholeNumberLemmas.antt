@@ -1,11 +1,7 @@
 -- Whole numbers that are read: of one digit at sight, and others as decimals.
-use Rattle.std.proofs.Common.{◌≡◌, ◌⊎◌, inl, inr, ap, ℕ, ◌+◌, ◌-◌, ◌*◌, ◌<◌, ◌≤◌, nat_le, ◌&&◌, Bool, true, false, Option, Some, None, List, [], ◌∷◌, length, refl, sym, subst, arith, le-leb}
-use Rattle.std.specs.Prelude.{IfSome, MatchOption}
-use Rattle.crs_decimal.specs.Bounds.{IsBounded, IsInBounds, Denotes, number_of}
-use Rattle.crs_decimal.specs.Number.{Number, SameNumber, whole_number}
-use Rattle.crs_decimal.specs.Spelling.{Sign, unsigned, plus, Parts, IsForm, SpellsNumber, AreDigits}
-use Rattle.crs_decimal.specs.Value.{Value, IsNormal, exact}
-use Rattle.crs_text.specs.Items.{Item, arguments, raw_of}
+use Rattle.std.proofs.Common.{◌≡◌, ◌⊎◌, inl, inr, ap, ℕ, ◌+◌, ◌-◌, ◌*◌, ◌<◌, ◌≤◌, nat_le, ◌&&◌, Bool, true, false, Option, Some, None, List, [], ◌∷◌, length, refl, sym, subst, arith, le-leb, IfSome, MatchOption}
+use Rattle.crs_decimal.specs.Prelude.{IsBounded, IsInBounds, Denotes, number_of, Number, SameNumber, whole_number, Sign, unsigned, plus, Parts, IsForm, SpellsNumber, AreDigits, Value, IsNormal, exact}
+use Rattle.crs_text.specs.Prelude.{Item, arguments, raw_of}
 use Rattle.crs_shape.specs.declared.class.Class.{Class}
 use Rattle.crs_shape.specs.declared.class.Class.TheVariants as class
 use Rattle.crs_value.specs.Reading.{item_at, those, IsFound, ReadsFirst}

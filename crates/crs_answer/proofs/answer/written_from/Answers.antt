@@ -1,8 +1,7 @@
 use Rattle.std.proofs.Common.{◌≡◌, [], ap, subst, ◌∙◌, rules}
-use Rattle.crs_text.specs.Items.{first_of}
-use Rattle.crs_text.specs.Written.{AreFormed}
-use Rattle.crs_value.specs.Reading.{item_at}
-use Rattle.crs_writer.specs.CrsText.{crs_text}
+use Rattle.crs_text.specs.Prelude.{first_of, AreFormed}
+use Rattle.crs_value.specs.Prelude.{item_at}
+use Rattle.crs_writer.specs.Prelude.{crs_text}
 use Rattle.crs_answer.proofs.AnswerLemmas.{from-items, spelled-read}
 use Rattle.crs_answer.proofs.answer.written_from.Goals as goal
 

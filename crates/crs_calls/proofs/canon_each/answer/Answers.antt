@@ -1,6 +1,6 @@
 use Rattle.std.proofs.Common.{refl, subst, List, ℕ}
-use Rattle.crs_value.specs.SpellsText.{IsFaultOfText}
-use Rattle.crs_writer.specs.Canonical.{IsCanonicalOf}
+use Rattle.crs_value.specs.Prelude.{IsFaultOfText}
+use Rattle.crs_writer.specs.Prelude.{IsCanonicalOf}
 use Rattle.crs_calls.specs.Turns.{IsWritten}
 use Rattle.crs_calls.proofs.EachLemmas.{turn_refused, turn_written}
 use Rattle.crs_calls.proofs.canon_each.answer.Goals as goal

@@ -1,4 +1,4 @@
-use Rattle.crs_same.specs.SameCrs.{SameCrs}
+use Rattle.crs_same.specs.Prelude.{SameCrs}
 use Rattle.crs_calls.proofs.WordLemmas.{no-words}
 use Rattle.crs_calls.proofs.first_part.part_of.Goals as goal
 

@@ -1,5 +1,5 @@
 use Rattle.std.proofs.Common.{◌≡◌, rules}
-use Rattle.crs_writer.specs.CrsText.{crs_text}
+use Rattle.crs_writer.specs.Prelude.{crs_text}
 use Rattle.crs_canon.proofs.answer.written.Goals as goal
 
 pub returns-clause-text : goal.returns-clause-text

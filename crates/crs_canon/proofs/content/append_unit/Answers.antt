@@ -1,8 +1,7 @@
 use Rattle.std.proofs.Common.{◌≡◌, ◌++◌, MatchResult, ap, rules, subst, sym}
-use Rattle.crs_text.specs.Written.{item_text}
+use Rattle.crs_text.specs.Prelude.{item_text}
 use Rattle.crs_same.specs.declared.content.Content.TheVariants as content
-use Rattle.crs_normal.specs.PartTexts.{unit_text}
-use Rattle.crs_normal.specs.SpelledUnits.{item_unit, norm_unit}
+use Rattle.crs_normal.specs.Prelude.{unit_text, item_unit, norm_unit}
 use Rattle.crs_canon.specs.ContentText.{IsContentText}
 use Rattle.crs_canon.proofs.ContentLemmas.{as_asked, asked-alone, asked-is, spelled-asked}
 use Rattle.crs_canon.proofs.SpellingLemmas.{appended, by-result, whole}

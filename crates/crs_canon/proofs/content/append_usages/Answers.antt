@@ -1,9 +1,8 @@
 use Rattle.std.proofs.Common.{◌≡◌, [], rules, subst}
 use Rattle.crs_same.specs.declared.content.Content.TheVariants as content
-use Rattle.crs_normal.specs.PartSpellings.{IsSpelledUsage}
+use Rattle.crs_normal.specs.Prelude.{IsSpelledUsage}
 use Rattle.crs_canon.specs.ContentText.{IsContentText}
-use Rattle.crs_writer.specs.Members.{ArePut, lacking, spellings}
-use Rattle.crs_writer.specs.SetText.{comma_separated}
+use Rattle.crs_writer.specs.Prelude.{ArePut, lacking, spellings, comma_separated}
 use Rattle.crs_canon.proofs.LackingLemmas.{lacking-text}
 use Rattle.crs_canon.proofs.SpellingLemmas.{appended}
 use Rattle.crs_canon.proofs.content.append_usages.Goals as goal

@@ -1,9 +1,7 @@
 use Rattle.std.proofs.Common.{◌≡◌, ◌∷◌, ◌∙◌, ap, map, refl, rules, subst}
 use Rattle.std.proofs.lemmas.Result.{on_ok_weaker}
-use Rattle.crs_normal.specs.Ordered.{put_all}
-use Rattle.crs_normal.specs.PartSpellings.{IsSpelledUsage}
-use Rattle.crs_normal.specs.PartTexts.{usage_text}
-use Rattle.crs_writer.specs.Members.{ArePut, spellings}
+use Rattle.crs_normal.specs.Prelude.{put_all, IsSpelledUsage, usage_text}
+use Rattle.crs_writer.specs.Prelude.{ArePut, spellings}
 use Rattle.crs_canon.proofs.SetTextLemmas.{all-put, only-spelling}
 use Rattle.crs_canon.proofs.content.gather_usages.Goals as goal
 

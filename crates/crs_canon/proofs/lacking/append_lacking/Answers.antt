@@ -1,6 +1,5 @@
 use Rattle.std.proofs.Common.{◌≡◌, ◌++◌, ◌∙◌, ap}
-use Rattle.crs_writer.specs.Members.{lacking, spellings}
-use Rattle.crs_writer.specs.SetText.{commas}
+use Rattle.crs_writer.specs.Prelude.{lacking, spellings, commas}
 use Rattle.crs_canon.proofs.lacking.append_lacking.Goals as goal
 
 pub returns : goal.returns

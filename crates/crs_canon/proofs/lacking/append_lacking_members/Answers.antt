@@ -1,7 +1,6 @@
 use Rattle.std.proofs.Common.{◌≡◌, [], refl, rules}
 use Rattle.crs_canon.specs.ContentText.{IsLackingText}
-use Rattle.crs_writer.specs.Members.{lacking, spellings}
-use Rattle.crs_writer.specs.SetText.{comma_separated}
+use Rattle.crs_writer.specs.Prelude.{lacking, spellings, comma_separated}
 use Rattle.crs_canon.proofs.LackingLemmas.{lacking-text}
 use Rattle.crs_canon.proofs.SetTextLemmas.{all-put}
 use Rattle.crs_canon.proofs.SpellingLemmas.{appended}

@@ -1,6 +1,5 @@
 use Rattle.std.proofs.Common.{◌++◌, ◌∙◌, ap}
-use Rattle.crs_writer.specs.Members.{spellings}
-use Rattle.crs_writer.specs.SetText.{commas}
+use Rattle.crs_writer.specs.Prelude.{spellings, commas}
 use Rattle.crs_canon.proofs.LackingLemmas.{lacking-spelled}
 use Rattle.crs_canon.proofs.lacking.write_lacking.Goals as goal
 

@@ -1,6 +1,5 @@
 use Rattle.std.proofs.Common.{◌≡◌, ◌++◌}
-use Rattle.crs_writer.specs.Members.{lacking, spellings}
-use Rattle.crs_writer.specs.SetText.{commas}
+use Rattle.crs_writer.specs.Prelude.{lacking, spellings, commas}
 use Rattle.crs_canon.proofs.lacking.write_lacking.Given as goal
 
 abbrev pub invariant-loop-bytes : goal.invariant-loop-bytes

@@ -1,10 +1,8 @@
 use Rattle.std.proofs.Common.{◌≡◌, [], not, rules}
-use Rattle.crs_normal.specs.PartSpellings.{IsSpelledParameter}
-use Rattle.crs_normal.specs.PartTexts.{parameter_text}
+use Rattle.crs_normal.specs.Prelude.{IsSpelledParameter, parameter_text}
 use Rattle.crs_canon.specs.ContentText.{IsLackingText}
 use Rattle.crs_canon.specs.Named.{is_paired, unpaired}
-use Rattle.crs_writer.specs.Members.{lacking, spellings}
-use Rattle.crs_writer.specs.SetText.{comma_separated}
+use Rattle.crs_writer.specs.Prelude.{lacking, spellings, comma_separated}
 use Rattle.crs_canon.proofs.LackingLemmas.{lacking-text}
 use Rattle.crs_canon.proofs.NamedLemmas.{spelled-passed}
 use Rattle.crs_canon.proofs.SetTextLemmas.{all-put}

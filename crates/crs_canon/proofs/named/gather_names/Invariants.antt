@@ -1,6 +1,6 @@
 use Rattle.std.proofs.Common.{◌≡◌, filter, map, drop}
-use Rattle.crs_normal.specs.Ordered.{put_all}
-use Rattle.crs_writer.specs.Members.{spellings}
+use Rattle.crs_normal.specs.Prelude.{put_all}
+use Rattle.crs_writer.specs.Prelude.{spellings}
 use Rattle.crs_canon.specs.Named.{is_paired}
 use Rattle.crs_canon.specs.PairedNames.{names_paired}
 use Rattle.crs_canon.proofs.named.gather_names.Given as goal

@@ -1,8 +1,7 @@
 use Rattle.std.proofs.Common.{◌≡◌, ◌∷◌, ◌+◌, arith, drop, false, not, rules, true}
 use Rattle.std.proofs.lemmas.Grind.{common_steps}
-use Rattle.crs_normal.specs.Ordered.{put}
-use Rattle.crs_normal.specs.PartTexts.{parameter_text}
-use Rattle.crs_writer.specs.Members.{spellings}
+use Rattle.crs_normal.specs.Prelude.{put, parameter_text}
+use Rattle.crs_writer.specs.Prelude.{spellings}
 use Rattle.crs_canon.specs.Named.{is_paired}
 use Rattle.crs_canon.proofs.NamedLemmas.{left-out, put-in}
 use Rattle.crs_canon.proofs.named.gather_unpaired.Goals as goal

@@ -1,5 +1,5 @@
 use Rattle.std.proofs.Common.{◌≡◌, [], rules}
-use Rattle.crs_writer.specs.Members.{spellings}
+use Rattle.crs_writer.specs.Prelude.{spellings}
 use Rattle.crs_canon.proofs.NamedLemmas.{names-known}
 use Rattle.crs_canon.proofs.named.paired_names.Goals as goal
 

@@ -1,8 +1,7 @@
 use Rattle.std.proofs.Common.{◌≡◌, map, refl}
 use Rattle.std.proofs.lemmas.Result.{MatchResult-weaker}
-use Rattle.crs_normal.specs.Ordered.{in_order}
-use Rattle.crs_writer.specs.Members.{set_text}
-use Rattle.crs_writer.specs.SetText.{commas}
+use Rattle.crs_normal.specs.Prelude.{in_order}
+use Rattle.crs_writer.specs.Prelude.{set_text, commas}
 use Rattle.crs_canon.proofs.SpellingLemmas.{whole}
 use Rattle.crs_canon.proofs.set_view.append_set.Goals as goal
 

@@ -1,5 +1,5 @@
 use Rattle.std.proofs.Common.{◌≡◌, ◌++◌, drop}
-use Rattle.crs_streams.specs.Json.{json_more}
+use Rattle.crs_streams.specs.Prelude.{json_more}
 use Rattle.crs_catalogue.specs.GroupObjects.{json_name}
 use Rattle.crs_catalogue.proofs.group_objects.write_more_names.Given as goal
 

@@ -1,5 +1,5 @@
 use Rattle.std.proofs.Common.{◌≡◌, ◌++◌, decimal, drop}
-use Rattle.crs_streams.specs.Json.{json_more}
+use Rattle.crs_streams.specs.Prelude.{json_more}
 use Rattle.crs_catalogue.proofs.group_objects.write_more_numbers.Given as goal
 
 abbrev pub invariant-loop-number : goal.invariant-loop-number

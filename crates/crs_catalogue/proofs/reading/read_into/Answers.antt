@@ -1,5 +1,4 @@
-use Rattle.std.proofs.Common.{◌≡◌, ◌++◌, arith, false, length, length-take, refl, rules, subst, sym, take, Ok}
-use Rattle.std.specs.Prelude.{IfErr, IsErr}
+use Rattle.std.proofs.Common.{◌≡◌, ◌++◌, arith, false, length, length-take, refl, rules, subst, sym, take, Ok, IfErr, IsErr}
 use Rattle.std.proofs.lemmas.Result.{IfErr-weaker}
 use Rattle.crs_catalogue.specs.GroupRun.{IsReadingFault}
 use Rattle.crs_streams.specs.declared.fault.RunFault.TheVariants.{ReadFailed}

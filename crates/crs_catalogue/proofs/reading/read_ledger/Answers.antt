@@ -1,5 +1,4 @@
-use Rattle.std.proofs.Common.{◌≡◌, rules, ℕ, List}
-use Rattle.std.specs.Prelude.{IfOk}
+use Rattle.std.proofs.Common.{◌≡◌, rules, ℕ, List, IfOk}
 use Rattle.crs_catalogue.specs.GroupCutting.{IsCutTo, IsLedgerFor}
 use Rattle.crs_catalogue.proofs.GroupCutLemmas.{cut-fresh}
 use Rattle.crs_catalogue.proofs.GroupRunLemmas.{kept, read-fits, whole-ledger}

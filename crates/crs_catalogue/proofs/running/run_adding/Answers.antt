@@ -1,6 +1,5 @@
-use Rattle.std.proofs.Common.{subst}
+use Rattle.std.proofs.Common.{subst, Bool}
 use Rattle.std.proofs.lemmas.Result.{IfOk-weaker}
-use Rattle.std.specs.Prelude.{Bool}
 use Rattle.crs_catalogue.specs.GroupReading.{IsLedgerWhole}
 use Rattle.crs_catalogue.proofs.GroupRunLemmas.{grouped}
 use Rattle.crs_catalogue.proofs.running.run_adding.Goals as goal

@@ -1,5 +1,4 @@
-use Rattle.std.proofs.Common.{◌≡◌, rules, subst, sym}
-use Rattle.std.specs.Prelude.{IfErr}
+use Rattle.std.proofs.Common.{◌≡◌, rules, subst, sym, IfErr}
 use Rattle.std.proofs.lemmas.Result.{IfErr-weaker}
 use Rattle.crs_desk.specs.FileAnswers.{IsFileFault, NoFront}
 use Rattle.crs_desk.proofs.FileLemmas.{unread-file}

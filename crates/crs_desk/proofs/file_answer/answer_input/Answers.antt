@@ -1,5 +1,4 @@
-use Rattle.std.proofs.Common.{◌≡◌, rules, subst, sym}
-use Rattle.std.specs.Prelude.{IfErr}
+use Rattle.std.proofs.Common.{◌≡◌, rules, subst, sym, IfErr}
 use Rattle.crs_desk.specs.FileAnswers.{IsFileFault}
 use Rattle.crs_desk.specs.FilesRun.{IsTaskFront}
 use Rattle.crs_desk.specs.declared.file_task.FileTask.{FileTask}

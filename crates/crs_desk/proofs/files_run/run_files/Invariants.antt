@@ -1,5 +1,4 @@
-use Rattle.std.proofs.Common.{◌++◌, ℕ, List, drop}
-use Rattle.std.specs.Prelude.{max}
+use Rattle.std.proofs.Common.{◌++◌, ℕ, List, drop, max}
 use Rattle.std.specs.Io.KnownBytes.{Appends}
 use Rattle.crs_desk.specs.FilesRun.{AreFileOutputs, name_prefix}
 use Rattle.crs_desk.specs.LineCutting.{IsHealthy}

@@ -1,5 +1,4 @@
-use Rattle.std.proofs.Common.{◌≡◌, ◌++◌}
-use Rattle.std.specs.Prelude.{encode_utf8}
+use Rattle.std.proofs.Common.{◌≡◌, ◌++◌, encode_utf8}
 use Rattle.std.specs.List.{flat_map}
 use Rattle.crs_explain.specs.Excerpt.{printed}
 use Rattle.crs_explain.proofs.excerpt.append_printed.Given as goal

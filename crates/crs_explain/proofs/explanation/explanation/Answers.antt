@@ -1,5 +1,5 @@
 use Rattle.std.proofs.Common.{ℕ, subst}
-use Rattle.crs_text.specs.Position.{IsPosition}
+use Rattle.crs_text.specs.Prelude.{IsPosition}
 use Rattle.crs_explain.specs.Excerpt.{IsExcerpt}
 use Rattle.crs_explain.proofs.explanation.explanation.Goals as goal
 

@@ -1,5 +1,5 @@
 use Rattle.std.proofs.Common.{◌≡◌, ◌∙◌, ap, rules, subst}
-use Rattle.crs_value.specs.Kept.{kept}
+use Rattle.crs_value.specs.Prelude.{kept}
 use Rattle.crs_same.specs.declared.content.Content.TheVariants as content
 use Rattle.crs_canon.specs.ContentText.{IsContentText}
 use Rattle.crs_explain.proofs.set_texts.identifiers_text.Goals as goal

@@ -1,7 +1,7 @@
 use Rattle.std.proofs.Common.{◌≡◌, Some, rules, subst, sym}
 use Rattle.std.specs.Option.{option_copied}
 use Rattle.crs_shape.specs.declared.unit_kind.UnitKind.TheVariants as kinds
-use Rattle.crs_same.specs.Contents.{given}
+use Rattle.crs_same.specs.Prelude.{given}
 use Rattle.crs_same.specs.declared.content.Content.TheVariants as content
 use Rattle.crs_canon.specs.ContentText.{IsContentText}
 use Rattle.crs_explain.proofs.set_texts.unit_text.Goals as goal

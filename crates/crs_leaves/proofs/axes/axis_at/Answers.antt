@@ -1,8 +1,7 @@
 use Rattle.std.proofs.Common.{ℕ, Option, subst, sym, arith, ◌∙◌}
-use Rattle.crs_text.specs.Items.{arguments}
+use Rattle.crs_text.specs.Prelude.{arguments}
 use Rattle.crs_shape.specs.declared.class.Class.TheVariants as class
-use Rattle.crs_value.specs.Reading.{item_at, those}
-use Rattle.crs_value.specs.Reads.{ReadsAxis}
+use Rattle.crs_value.specs.Prelude.{item_at, those, ReadsAxis}
 use Rattle.crs_value.proofs.checked.SystemLemmas.{those-few}
 use Rattle.crs_leaves.proofs.AxisLemmas.{Seeking, counting-less, seeking-first, seeking-on}
 use Rattle.crs_leaves.proofs.axes.axis_at.Goals as goal

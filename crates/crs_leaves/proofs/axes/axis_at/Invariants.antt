@@ -1,9 +1,7 @@
 use Rattle.std.proofs.Common.{length}
-use Rattle.crs_text.specs.Items.{arguments}
+use Rattle.crs_text.specs.Prelude.{arguments}
 use Rattle.crs_shape.specs.declared.class.Class.TheVariants as class
-use Rattle.crs_value.specs.FoundArguments.{from_found}
-use Rattle.crs_value.specs.Reading.{item_at, those}
-use Rattle.crs_value.specs.Reads.{ReadsAxis}
+use Rattle.crs_value.specs.Prelude.{from_found, item_at, those, ReadsAxis}
 use Rattle.crs_leaves.proofs.AxisLemmas.{Seeking}
 use Rattle.crs_leaves.proofs.axes.axis_at.Given as goal
 

@@ -1,7 +1,7 @@
 use Rattle.std.proofs.Common.{ℕ, Option, subst, arith}
-use Rattle.crs_text.specs.Items.{arguments}
+use Rattle.crs_text.specs.Prelude.{arguments}
 use Rattle.crs_shape.specs.declared.class.Class.TheVariants as class
-use Rattle.crs_value.specs.Reading.{item_at, those}
+use Rattle.crs_value.specs.Prelude.{item_at, those}
 use Rattle.crs_value.proofs.checked.SystemLemmas.{those-few}
 use Rattle.crs_leaves.proofs.AxisLemmas.{Counting, counting-end, counting-first, counting-less, counting-on}
 use Rattle.crs_leaves.proofs.axes.axis_count.Goals as goal

@@ -1,7 +1,7 @@
 use Rattle.std.proofs.Common.{◌≡◌, ◌∙◌, rules, subst}
 use Rattle.std.proofs.lemmas.Option.{IfSome_then}
 use Rattle.crs_shape.specs.declared.class.Class.TheVariants as class
-use Rattle.crs_value.specs.Reads.{ReadsDatum}
+use Rattle.crs_value.specs.Prelude.{ReadsDatum}
 use Rattle.crs_nodes.specs.Cursor.{item}
 use Rattle.crs_nodes.proofs.CopiedDatumLemmas.{datum-copied}
 use Rattle.crs_nodes.proofs.copied.datum.Goals as goal

@@ -1,7 +1,7 @@
 use Rattle.std.proofs.Common.{◌≡◌, ◌∙◌, None, codes, rules, sym, ap}
-use Rattle.crs_text.specs.Items.{More, raw_of}
+use Rattle.crs_text.specs.Prelude.{More, raw_of}
 use Rattle.crs_text.specs.declared.items.ItemKind.TheVariants as items
-use Rattle.crs_value.specs.Reading.{item_at}
+use Rattle.crs_value.specs.Prelude.{item_at}
 use Rattle.crs_nodes.specs.Copied.{IsNext}
 use Rattle.crs_nodes.proofs.CopiedLemmas.{none-ahead, number-by}
 use Rattle.crs_nodes.proofs.copied.is_plain_box.Goals as goal

@@ -1,7 +1,7 @@
 use Rattle.std.proofs.Common.{◌≡◌, IsTrue, ◌∙◌, codes, rules, sym, ap}
-use Rattle.crs_text.specs.Items.{More, raw_of}
+use Rattle.crs_text.specs.Prelude.{More, raw_of}
 use Rattle.crs_text.specs.declared.items.ItemKind.TheVariants as items
-use Rattle.crs_value.specs.Reading.{ahead, item_at}
+use Rattle.crs_value.specs.Prelude.{ahead, item_at}
 use Rattle.crs_nodes.specs.Copied.{IsEnd, IsNext, IsSaidUnit}
 use Rattle.crs_nodes.proofs.CopiedLemmas.{number-by}
 use Rattle.crs_nodes.proofs.copied.is_plain_parameter.Goals as goal

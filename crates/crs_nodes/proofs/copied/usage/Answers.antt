@@ -1,7 +1,7 @@
 use Rattle.std.proofs.Common.{◌≡◌, ◌∙◌, rules, subst}
 use Rattle.std.proofs.lemmas.Option.{IfSome_then}
 use Rattle.crs_shape.specs.declared.class.Class.TheVariants as class
-use Rattle.crs_value.specs.Reads.{ReadsUsage}
+use Rattle.crs_value.specs.Prelude.{ReadsUsage}
 use Rattle.crs_nodes.specs.Cursor.{item}
 use Rattle.crs_nodes.proofs.CopiedUsageLemmas.{usage-copied}
 use Rattle.crs_nodes.proofs.copied.usage.Goals as goal

@@ -1,6 +1,6 @@
 use Rattle.std.proofs.Common.{◌≡◌}
-use Rattle.crs_text.specs.Items.{count}
-use Rattle.crs_value.specs.Reading.{ahead, Holds, those}
+use Rattle.crs_text.specs.Prelude.{count}
+use Rattle.crs_value.specs.Prelude.{ahead, Holds, those}
 use Rattle.crs_nodes.proofs.lookup.found.Given as goal
 
 abbrev pub invariant-loop-at : goal.invariant-loop-at

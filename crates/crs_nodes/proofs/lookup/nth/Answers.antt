@@ -1,6 +1,6 @@
 use Rattle.std.proofs.Common.{ℕ, drop, Option, subst, arith}
-use Rattle.crs_text.specs.Items.{arguments}
-use Rattle.crs_value.specs.Reading.{item_at, those, IsFound}
+use Rattle.crs_text.specs.Prelude.{arguments}
+use Rattle.crs_value.specs.Prelude.{item_at, those, IsFound}
 use Rattle.crs_value.proofs.found.NodeLemmas.{number-next}
 use Rattle.crs_nodes.proofs.LookupLemmas.{drop-past}
 use Rattle.crs_nodes.proofs.lookup.nth.Goals as goal

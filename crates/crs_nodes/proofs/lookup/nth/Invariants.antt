@@ -1,6 +1,6 @@
 use Rattle.std.proofs.Common.{drop}
-use Rattle.crs_text.specs.Items.{arguments}
-use Rattle.crs_value.specs.Reading.{item_at, those, IsFound}
+use Rattle.crs_text.specs.Prelude.{arguments}
+use Rattle.crs_value.specs.Prelude.{item_at, those, IsFound}
 use Rattle.crs_nodes.proofs.lookup.nth.Given as goal
 
 abbrev pub invariant-loop-step : goal.invariant-loop-step

@@ -1,5 +1,5 @@
 use Rattle.std.proofs.Common.{ap, drop, subst, take, ◌∙◌}
-use Rattle.crs_decimal.specs.Plain.{IsTrim}
+use Rattle.crs_decimal.specs.Prelude.{IsTrim}
 use Rattle.crs_nodes.specs.PlainBytes.{IsPlainRest}
 use Rattle.crs_nodes.proofs.DirectPlainLemmas.{plain-by}
 use Rattle.crs_nodes.proofs.plain.is_unsigned.Goals as goal

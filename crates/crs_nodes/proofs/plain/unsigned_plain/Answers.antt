@@ -1,7 +1,5 @@
 use Rattle.std.proofs.Common.{◌≡◌, ◌∷◌, [], drop, take, sym, subst, ap, ◌∙◌, arith}
-use Rattle.crs_decimal.specs.Bounds.{Denotes}
-use Rattle.crs_decimal.specs.Plain.{IsTrim}
-use Rattle.crs_decimal.specs.Spelling.{AreDigits}
+use Rattle.crs_decimal.specs.Prelude.{Denotes, IsTrim, AreDigits}
 use Rattle.crs_nodes.specs.PlainBytes.{IsUnsigned}
 use Rattle.crs_nodes.proofs.DirectPlainLemmas.{nothing-left, some-front, trim-off, trim-plain, whole-plain}
 use Rattle.crs_nodes.proofs.plain.unsigned_plain.Goals as goal

@@ -1,7 +1,7 @@
 use Rattle.std.proofs.Common.{◌≡◌, subst}
 use Rattle.std.specs.Str.{bytes_eq}
-use Rattle.crs_decimal.specs.Plain.{plain}
-use Rattle.crs_value.specs.Values.{UnitParts}
+use Rattle.crs_decimal.specs.Prelude.{plain}
+use Rattle.crs_value.specs.Prelude.{UnitParts}
 use Rattle.crs_rules.specs.Rules.{UnitAliasParts}
 use Rattle.crs_rules.proofs.FactorLemmas.{factor-tested}
 use Rattle.crs_rules.proofs.aliases.has_factor.Goals as goal

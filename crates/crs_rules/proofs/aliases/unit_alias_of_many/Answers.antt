@@ -1,7 +1,7 @@
 use Rattle.std.proofs.Common.{ap, drop, subst, sym, ◌∙◌}
-use Rattle.crs_decimal.specs.Value.{IsNormal}
+use Rattle.crs_decimal.specs.Prelude.{IsNormal}
 use Rattle.crs_value.specs.Sound.{Each}
-use Rattle.crs_value.specs.Values.{UnitParts}
+use Rattle.crs_value.specs.Prelude.{UnitParts}
 use Rattle.crs_rules.specs.Firsts.{unit_digest}
 use Rattle.crs_rules.specs.Rules.{first_that, is_unit_alias}
 use Rattle.crs_rules.specs.SoundRules.{IsUnitAlias}

@@ -1,7 +1,7 @@
 use Rattle.std.proofs.Common.{subst, sym}
-use Rattle.crs_value.specs.SpellsText.{Spells}
+use Rattle.crs_value.specs.Prelude.{Spells}
 use Rattle.crs_value.specs.declared.values.level.Level.TheVariants as levels
-use Rattle.crs_normal.specs.PartTexts.{axis_text}
+use Rattle.crs_normal.specs.Prelude.{axis_text}
 use Rattle.crs_canon.specs.MainTheorem.{IsAccepted}
 use Rattle.crs_rules.proofs.FormLemmas.{texts-of-axes}
 use Rattle.crs_rules.proofs.form.canon_under.Goals as goal

@@ -1,10 +1,7 @@
 use Rattle.crs_shape.specs.declared.class.Class.TheVariants as class
-use Rattle.crs_value.specs.Reads.{ReadsAxis}
-use Rattle.crs_value.specs.Sound.{IsAxis}
+use Rattle.crs_value.specs.Prelude.{ReadsAxis, IsAxis}
 use Rattle.crs_value.specs.declared.values.level.Level.TheVariants as levels
-use Rattle.crs_normal.specs.AxisAlone.{IsNormalAxis}
-use Rattle.crs_normal.specs.PartTexts.{norm_axis_alone}
-use Rattle.crs_normal.specs.SpelledSystems.{item_axis}
+use Rattle.crs_normal.specs.Prelude.{IsNormalAxis, norm_axis_alone, item_axis}
 use Rattle.crs_normal.proofs.made.AloneLemmas.{axis-stands}
 use Rattle.crs_normal.proofs.members.ParameterLemmas.{parameter-told}
 use Rattle.crs_normal.proofs.parts.PartLemmas.{told-by}

@@ -1,4 +1,4 @@
-use Rattle.crs_text.specs.Items.{here}
+use Rattle.crs_text.specs.Prelude.{here}
 use Rattle.crs_shape.specs.declared.unit_kind.UnitKind.TheVariants as unit_kind
 use Rattle.crs_rules_file.proofs.MemberLemmas.{false-true, no-factor}
 use Rattle.crs_rules_file.proofs.member.factor_at.Goals as goal

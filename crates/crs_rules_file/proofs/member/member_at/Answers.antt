@@ -1,5 +1,5 @@
 use Rattle.std.proofs.Common.{subst, sym}
-use Rattle.crs_text.specs.Items.{here}
+use Rattle.crs_text.specs.Prelude.{here}
 use Rattle.crs_rules_file.specs.Members.{SaysName}
 use Rattle.crs_rules_file.proofs.MemberLemmas.{no-text, not-text}
 use Rattle.crs_rules_file.proofs.member.member_at.Goals as goal

@@ -1,7 +1,6 @@
 use Rattle.std.proofs.Common.{subst, sym}
-use Rattle.crs_text.specs.Items.{here, rest_of}
-use Rattle.crs_value.specs.Reading.{IsReading, item_at}
-use Rattle.crs_value.specs.Sound.{IsText}
+use Rattle.crs_text.specs.Prelude.{here, rest_of}
+use Rattle.crs_value.specs.Prelude.{IsReading, item_at, IsText}
 use Rattle.crs_rules_file.specs.Members.{kind_of}
 use Rattle.crs_rules_file.specs.Named.{SaysNamed}
 use Rattle.crs_rules_file.proofs.MemberLemmas.{is-factor, is-text, no-name}

@@ -1,5 +1,5 @@
 use Rattle.std.proofs.Common.{◌∙◌, ap, sym}
-use Rattle.crs_value.specs.Reading.{item_at}
+use Rattle.crs_value.specs.Prelude.{item_at}
 use Rattle.crs_rules_file.specs.Statements.{with_word}
 use Rattle.crs_rules_file.proofs.ReaderLemmas.{word-item}
 use Rattle.crs_rules_file.proofs.words.with_item.Goals as goal

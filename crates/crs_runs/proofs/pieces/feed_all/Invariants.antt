@@ -1,5 +1,5 @@
 use Rattle.std.proofs.Common.{◌≡◌, ◌≤◌, ℕ, List, length, false}
-use Rattle.crs_streams.specs.Given.{HasGiven}
+use Rattle.crs_streams.specs.Prelude.{HasGiven}
 use Rattle.crs_runs.specs.Pieces.{IsHeld}
 use Rattle.crs_runs.proofs.pieces.feed_all.Given as goal
 

@@ -1,5 +1,5 @@
 use Rattle.std.proofs.Common.{[], subst}
-use Rattle.crs_value.specs.SoundSingle.{IsGeodetic}
+use Rattle.crs_value.specs.Prelude.{IsGeodetic}
 use Rattle.crs_same.specs.PartsOfCrs.{parts_of_geodetic}
 use Rattle.crs_same.proofs.AllSameLemmas.{walked-same}
 use Rattle.crs_same.proofs.SettledLemmas.{geodetic}

@@ -1,5 +1,5 @@
 use Rattle.crs_shape.specs.declared.unit_kind.UnitKind.TheVariants as kinds
-use Rattle.crs_matching.specs.SamenessLaws.{agree-as, same-as}
+use Rattle.crs_matching.specs.Prelude.{agree-as, same-as}
 use Rattle.crs_same.proofs.SamenessOfCrsLemmas.{base}
 use Rattle.crs_same.proofs.laws.same_base_is_equivalence.Goals as goal
 

@@ -1,4 +1,4 @@
-use Rattle.crs_matching.specs.SamenessLaws.{same-as}
+use Rattle.crs_matching.specs.Prelude.{same-as}
 use Rattle.crs_same.proofs.SamenessOfFramesLemmas.{ellipsoid}
 use Rattle.crs_same.proofs.laws.same_ellipsoid_is_equivalence.Goals as goal
 

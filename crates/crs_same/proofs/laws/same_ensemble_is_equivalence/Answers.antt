@@ -1,4 +1,4 @@
-use Rattle.crs_matching.specs.SamenessLaws.{agree-as, same-as}
+use Rattle.crs_matching.specs.Prelude.{agree-as, same-as}
 use Rattle.crs_same.proofs.SamenessOfFramesLemmas.{ensemble}
 use Rattle.crs_same.proofs.laws.same_ensemble_is_equivalence.Goals as goal
 

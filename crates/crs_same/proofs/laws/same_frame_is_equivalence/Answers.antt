@@ -1,4 +1,4 @@
-use Rattle.crs_matching.specs.SamenessLaws.{agree-as, same-as}
+use Rattle.crs_matching.specs.Prelude.{agree-as, same-as}
 use Rattle.crs_same.proofs.SamenessOfFramesLemmas.{frame-of}
 use Rattle.crs_same.proofs.laws.same_frame_is_equivalence.Goals as goal
 

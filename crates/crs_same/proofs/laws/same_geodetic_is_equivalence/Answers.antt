@@ -1,4 +1,4 @@
-use Rattle.crs_matching.specs.SamenessLaws.{agree-as, agree-as-of, same-as-of}
+use Rattle.crs_matching.specs.Prelude.{agree-as, agree-as-of, same-as-of}
 use Rattle.crs_same.proofs.SamenessOfCrsLemmas.{geodetic}
 use Rattle.crs_same.proofs.laws.same_geodetic_is_equivalence.Goals as goal
 

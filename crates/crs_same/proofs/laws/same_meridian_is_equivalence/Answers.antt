@@ -1,5 +1,5 @@
 use Rattle.crs_shape.specs.declared.unit_kind.UnitKind.TheVariants as kinds
-use Rattle.crs_matching.specs.SamenessLaws.{same-as}
+use Rattle.crs_matching.specs.Prelude.{same-as}
 use Rattle.crs_same.proofs.SamenessOfFramesLemmas.{given, meridian}
 use Rattle.crs_same.proofs.laws.same_meridian_is_equivalence.Goals as goal
 

@@ -1,4 +1,4 @@
-use Rattle.crs_matching.specs.SamenessLaws.{same-as}
+use Rattle.crs_matching.specs.Prelude.{same-as}
 use Rattle.crs_same.proofs.SamenessOfPartsLemmas.{method}
 use Rattle.crs_same.proofs.laws.same_method_is_equivalence.Goals as goal
 

@@ -1,4 +1,4 @@
-use Rattle.crs_matching.specs.SamenessLaws.{agree-as, agree-as-of, same-as-of}
+use Rattle.crs_matching.specs.Prelude.{agree-as, agree-as-of, same-as-of}
 use Rattle.crs_same.proofs.SamenessOfCrsLemmas.{projected}
 use Rattle.crs_same.proofs.laws.same_projected_is_equivalence.Goals as goal
 

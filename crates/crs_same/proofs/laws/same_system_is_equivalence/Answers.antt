@@ -1,4 +1,4 @@
-use Rattle.crs_matching.specs.SamenessLaws.{same-as-of}
+use Rattle.crs_matching.specs.Prelude.{same-as-of}
 use Rattle.crs_same.proofs.SamenessOfSystemsLemmas.{system}
 use Rattle.crs_same.proofs.laws.same_system_is_equivalence.Goals as goal
 

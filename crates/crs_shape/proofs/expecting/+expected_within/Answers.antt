@@ -1,5 +1,5 @@
 use Rattle.std.proofs.Common.{◌<◌, sym, subst, List, rules}
-use Rattle.crs_text.specs.Items.{first_of, here, size_of}
+use Rattle.crs_text.specs.Prelude.{first_of, here, size_of}
 use Rattle.crs_shape.specs.Slots.{SlotParts}
 use Rattle.crs_shape.specs.Walk.{left_of}
 use Rattle.crs_shape.specs.declared.fitting.Walk.{Walk}

@@ -1,5 +1,5 @@
 use Rattle.std.proofs.Common.{◌≡◌, sym, ◌∙◌, ap, Some, subst, List, rules}
-use Rattle.crs_text.specs.Items.{first_of, here}
+use Rattle.crs_text.specs.Prelude.{first_of, here}
 use Rattle.crs_shape.specs.Slots.{SlotParts}
 use Rattle.crs_shape.proofs.FitLemmas.{Going, going_first, going_wrong, going_inside, going_on, going_end, going_short, going_at, no_arguments, going_class}
 use Rattle.crs_shape.specs.FirstFault.{first_inside}

@@ -1,4 +1,4 @@
-use Rattle.crs_text.specs.Items.{first_of, here, size_of, sizes}
+use Rattle.crs_text.specs.Prelude.{first_of, here, size_of, sizes}
 use Rattle.crs_shape.specs.Walk.{left_of}
 use Rattle.crs_shape.proofs.FitLemmas.{Going, from}
 use Rattle.crs_shape.proofs.fitting.+fault_within.Given as goal

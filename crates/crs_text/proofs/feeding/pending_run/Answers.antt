@@ -1,5 +1,5 @@
 use Rattle.std.proofs.Common.{arith}
-use Rattle.crs_decimal.specs.Spelling.{is_run_byte}
+use Rattle.crs_decimal.specs.Prelude.{is_run_byte}
 use Rattle.crs_text.proofs.settled.FeedingLemmas.{all_full}
 use Rattle.crs_text.proofs.feeding.pending_run.Goals as goal
 

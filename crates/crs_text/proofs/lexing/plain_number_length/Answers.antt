@@ -1,6 +1,6 @@
 use Rattle.std.proofs.Common.{ap, ◌∙◌, drop, subst, arith}
 use Rattle.std.specs.List.{prefix_len}
-use Rattle.crs_decimal.specs.Spelling.{is_digit, is_run_byte}
+use Rattle.crs_decimal.specs.Prelude.{is_digit, is_run_byte}
 use Rattle.crs_text.specs.Quoted.{StopsAt}
 use Rattle.crs_text.specs.Runs.{IsFractional}
 use Rattle.crs_text.proofs.tokens.PlainNumberLemmas.{plain_lexed, one_digit_lexed}

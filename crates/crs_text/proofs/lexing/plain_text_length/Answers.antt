@@ -1,6 +1,5 @@
-use Rattle.std.proofs.Common.{drop, ap, sym, subst, ◌∙◌}
+use Rattle.std.proofs.Common.{drop, ap, sym, subst, ◌∙◌, IsUtf8}
 use Rattle.std.specs.List.{prefix_len}
-use Rattle.std.specs.Prelude.{IsUtf8}
 use Rattle.crs_text.specs.Runs.{is_plain_ascii, IsClosing}
 use Rattle.crs_text.proofs.tokens.LexedLemmas.{lexed_text, with_quote}
 use Rattle.crs_text.proofs.tokens.RunLemmas.{ascii_shut, ascii_utf8}

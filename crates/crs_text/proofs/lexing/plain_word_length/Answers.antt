@@ -1,6 +1,5 @@
-use Rattle.std.proofs.Common.{Option, None, Some}
+use Rattle.std.proofs.Common.{Option, None, Some, ◌≡◌, ℕ, List, IfSome}
 use Rattle.std.specs.List.{prefix_len}
-use Rattle.std.specs.Prelude.{◌≡◌, ℕ, List, IfSome}
 use Rattle.crs_text.specs.Quoted.{BeginsWith}
 use Rattle.crs_text.specs.Tokens.{is_letter, is_word_byte}
 use Rattle.crs_text.specs.Lexing.{IsLexed}

@@ -1,9 +1,7 @@
 use Rattle.std.proofs.Common.{sym, subst, arith}
 use Rattle.std.proofs.lemmas.List.Sums.{prefix_len-le-length}
-use Rattle.crs_decimal.specs.Spelling.{is_run_byte}
-use Rattle.crs_decimal.specs.Bounds.{IsInBounds}
+use Rattle.crs_decimal.specs.Prelude.{is_run_byte, IsInBounds, IsFault}
 use Rattle.crs_decimal.specs.declared.fault.NumberFault.TheVariants.{Malformed, Range}
-use Rattle.crs_decimal.specs.Fault.{IsFault}
 use Rattle.crs_text.specs.Lexing.{IsLexed}
 use Rattle.crs_text.proofs.tokens.LexedLemmas.{lexed_number, flawed_number, flawed_range}
 use Rattle.crs_text.proofs.lexing.run.Goals as goal

@@ -1,5 +1,5 @@
 use Rattle.std.proofs.Common.{refl}
-use Rattle.crs_decimal.specs.Spelling.{unsigned, plus, minus}
+use Rattle.crs_decimal.specs.Prelude.{unsigned, plus, minus}
 use Rattle.crs_text.proofs.lexing.sign_length.Goals as goal
 
 pub returns-then-begins_with_minus-clause-signed : goal.returns-then-begins_with_minus-clause-signed

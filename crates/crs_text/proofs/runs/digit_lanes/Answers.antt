@@ -1,6 +1,6 @@
 use Rattle.std.proofs.Common.{ℕ, leb, cond, refl}
 use Rattle.std.proofs.lemmas.Simd.{zip2_splat}
-use Rattle.crs_decimal.specs.Spelling.{is_digit}
+use Rattle.crs_decimal.specs.Prelude.{is_digit}
 use Rattle.crs_text.proofs.tokens.RunLemmas.{joined, splat_is, counted}
 use Rattle.crs_text.proofs.runs.digit_lanes.Goals as goal
 

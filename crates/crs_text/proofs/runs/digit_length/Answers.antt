@@ -1,6 +1,6 @@
 use Rattle.std.proofs.Common.{arith, ap, ◌∙◌}
 use Rattle.std.specs.List.{prefix_len}
-use Rattle.crs_decimal.specs.Spelling.{is_digit}
+use Rattle.crs_decimal.specs.Prelude.{is_digit}
 use Rattle.crs_text.proofs.tokens.RunLemmas.{run_bound, run_through, run_stops}
 use Rattle.crs_text.proofs.runs.digit_length.Goals as goal
 

@@ -1,6 +1,6 @@
 use Rattle.std.proofs.Common.{◌≡◌, ◌+◌, ◌-◌, ◌≤◌, length, drop}
 use Rattle.std.specs.List.{prefix_len}
-use Rattle.crs_decimal.specs.Spelling.{is_digit}
+use Rattle.crs_decimal.specs.Prelude.{is_digit}
 use Rattle.crs_text.proofs.runs.digit_length.Given as goal
 
 abbrev pub invariant-loop-at : goal.invariant-loop-at

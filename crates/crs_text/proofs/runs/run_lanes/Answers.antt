@@ -1,6 +1,6 @@
 use Rattle.std.proofs.Common.{ℕ, leb, cond, bit_and, refl}
 use Rattle.std.proofs.lemmas.Simd.{zip2_splat}
-use Rattle.crs_decimal.specs.Spelling.{is_run_byte}
+use Rattle.crs_decimal.specs.Prelude.{is_run_byte}
 use Rattle.crs_text.proofs.tokens.RunLemmas.{joined, splat_is, counted}
 use Rattle.crs_text.proofs.runs.run_lanes.Goals as goal
 

@@ -1,4 +1,4 @@
-use Rattle.crs_text.specs.Items.{arguments}
+use Rattle.crs_text.specs.Prelude.{arguments}
 use Rattle.crs_value.specs.Cursor.{item}
 use Rattle.crs_value.specs.Reading.{those, IsFound}
 use Rattle.std.proofs.Common.{arith, subst}

@@ -1,7 +1,6 @@
 use Rattle.std.proofs.Common.{◌≡◌, subst}
 use Rattle.std.proofs.lemmas.Result.{MatchResult-weaker}
-use Rattle.crs_writer.specs.Canonical.{AppendsSpelling}
-use Rattle.crs_writer.specs.SetText.{IsSetText}
+use Rattle.crs_writer.specs.Prelude.{AppendsSpelling, IsSetText}
 use Rattle.crs_canon.proofs.SetTextLemmas.{set-text}
 use Rattle.crs_canon.proofs.set_view.Set.write.Goals as goal
 

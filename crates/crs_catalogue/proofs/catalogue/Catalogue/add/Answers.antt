@@ -1,6 +1,5 @@
-use Rattle.std.proofs.Common.{◌≡◌, ap, refl, subst, sym, ◌∙◌}
-use Rattle.std.specs.Prelude.{IfOk}
-use Rattle.crs_writer.specs.Canonical.{IsCanonicalOf}
+use Rattle.std.proofs.Common.{◌≡◌, ap, refl, subst, sym, ◌∙◌, IfOk}
+use Rattle.crs_writer.specs.Prelude.{IsCanonicalOf}
 use Rattle.crs_placed.specs.Catalogue.{CatalogueParts}
 use Rattle.crs_placed.specs.Putting.{IsPut, IsRefused}
 use Rattle.crs_placed.specs.declared.placed.Placed.TheVariants.{Blank}

@@ -1,5 +1,4 @@
-use Rattle.std.proofs.Common.{subst}
-use Rattle.std.specs.Prelude.{IfSome}
+use Rattle.std.proofs.Common.{subst, IfSome}
 use Rattle.crs_placed.specs.Catalogue.{CatalogueParts, canons}
 use Rattle.crs_catalogue.specs.Known.{HasGroup}
 use Rattle.crs_catalogue.proofs.KnownLemmas.{all-within, found-known}

@@ -1,5 +1,5 @@
 use Rattle.std.proofs.Common.{[], refl}
-use Rattle.crs_writer.specs.Canonical.{IsCanonicalOf}
+use Rattle.crs_writer.specs.Prelude.{IsCanonicalOf}
 use Rattle.crs_rules.specs.Under.{IsForm}
 use Rattle.crs_placed.specs.Catalogue.{CatalogueParts, canons}
 use Rattle.crs_catalogue.specs.Partition.{ShareWhereSame}

@@ -1,5 +1,4 @@
-use Rattle.std.proofs.Common.{subst, sym}
-use Rattle.std.specs.Prelude.{IfOk}
+use Rattle.std.proofs.Common.{subst, sym, IfOk}
 use Rattle.crs_placed.specs.Catalogue.{CatalogueParts, canons}
 use Rattle.crs_placed.specs.Putting.{IsPut}
 use Rattle.crs_catalogue.specs.Known.{AreKnown}

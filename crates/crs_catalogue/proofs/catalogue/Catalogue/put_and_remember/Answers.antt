@@ -1,6 +1,6 @@
 use Rattle.std.proofs.Common.{subst, sym}
 use Rattle.crs_value.specs.declared.values.level.Level.{Level}
-use Rattle.crs_writer.specs.Canonical.{IsCanonicalOf}
+use Rattle.crs_writer.specs.Prelude.{IsCanonicalOf}
 use Rattle.crs_placed.specs.Catalogue.{canons}
 use Rattle.crs_catalogue.specs.GroupTexts.{IsUnder}
 use Rattle.crs_catalogue.proofs.KnownLemmas.{put-under}

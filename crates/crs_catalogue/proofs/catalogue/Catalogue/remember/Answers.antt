@@ -1,5 +1,5 @@
 use Rattle.std.proofs.Common.{subst, sym}
-use Rattle.crs_writer.specs.Canonical.{IsCanonicalOf}
+use Rattle.crs_writer.specs.Prelude.{IsCanonicalOf}
 use Rattle.crs_placed.specs.Catalogue.{CatalogueParts, canons}
 use Rattle.crs_placed.specs.declared.placed.Placed.{Placed}
 use Rattle.crs_catalogue.specs.GroupTexts.{IsUnder}

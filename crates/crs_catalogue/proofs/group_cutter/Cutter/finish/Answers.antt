@@ -1,5 +1,4 @@
-use Rattle.std.proofs.Common.{◌≡◌, ◌∙◌, ap, length, rules, sym, vec_len}
-use Rattle.std.specs.Prelude.{◌==◌}
+use Rattle.std.proofs.Common.{◌≡◌, ◌∙◌, ap, length, rules, sym, vec_len, ◌==◌}
 use Rattle.crs_catalogue.proofs.GroupCutLemmas.{ended-ledger, last-ledger}
 use Rattle.crs_catalogue.proofs.group_cutter.Cutter.finish.Goals as goal
 

@@ -1,7 +1,6 @@
-use Rattle.std.proofs.Common.{◌≡◌, ◌+◌, ◌≤◌, ◌++◌, ◌∷◌, [], ℕ, List, ap, append-nil, arith, length, length-append, refl, rules, subst, sym}
-use Rattle.std.specs.Prelude.{IfErr}
+use Rattle.std.proofs.Common.{◌≡◌, ◌+◌, ◌≤◌, ◌++◌, ◌∷◌, [], ℕ, List, ap, append-nil, arith, length, length-append, refl, rules, subst, sym, IfErr}
 use Rattle.std.proofs.lemmas.Result.{IfErr-weaker, IfOk-weaker}
-use Rattle.crs_streams.specs.Lines.{HasNoFeed}
+use Rattle.crs_streams.specs.Prelude.{HasNoFeed}
 use Rattle.crs_catalogue.specs.GroupCutting.{IsCutFault, IsCutTo}
 use Rattle.crs_catalogue.proofs.GroupCutLemmas.{keep-fault, piece-end-fault, piece-fault, piece-kept, piece-step}
 use Rattle.crs_catalogue.proofs.group_cutter.Cutter.take.Goals as goal

@@ -1,7 +1,6 @@
-use Rattle.std.proofs.Common.{List, subst, ◌∙◌}
-use Rattle.std.specs.Prelude.{IfSome}
+use Rattle.std.proofs.Common.{List, subst, ◌∙◌, IfSome}
 use Rattle.crs_value.specs.declared.values.level.Level.{Level}
-use Rattle.crs_writer.specs.Canonical.{CanonicalText}
+use Rattle.crs_writer.specs.Prelude.{CanonicalText}
 use Rattle.crs_catalogue.specs.Known.{AreKnown, HasGroup}
 use Rattle.crs_catalogue.proofs.KnownLemmas.{found-at}
 use Rattle.crs_catalogue.proofs.recent.Recent.group_at.Goals as goal

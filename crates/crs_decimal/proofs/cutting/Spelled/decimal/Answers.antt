@@ -1,6 +1,5 @@
-use Rattle.std.proofs.Common.{◌≡◌, ◌≤◌, length, ap, ◌∙◌, arith, rules, w32}
+use Rattle.std.proofs.Common.{◌≡◌, ◌≤◌, length, ap, ◌∙◌, arith, rules, w32, SFits}
 use Rattle.std.proofs.lemmas.Int.{to_z-of_z}
-use mir.Val.{SFits}
 use Rattle.crs_decimal.specs.Bounds.{digits_value, exponent_digits}
 use Rattle.crs_decimal.specs.Spelling.{mantissa}
 use Rattle.crs_decimal.proofs.BoundLemmas.{cut_shows, long_unbounded, short_strips, short_zero, up_cut, down_cut, far_cut, near_cut, far_unbounded, near_bounded, near_same, zero_same, zero_bounded}

@@ -1,6 +1,5 @@
-use Rattle.std.proofs.Common.{sym, ◌∙◌, arith, rules, pos, ◌<ℤ◌, w32}
+use Rattle.std.proofs.Common.{sym, ◌∙◌, arith, rules, pos, ◌<ℤ◌, w32, SFits}
 use Rattle.std.proofs.lemmas.Int.{ints}
-use mir.Val.{SFits}
 use Rattle.crs_decimal.proofs.NumberLemmas.{negative_not_whole, below_not_whole}
 use Rattle.crs_decimal.proofs.decimal.Decimal.whole.Goals as goal
 use Rattle.crs_decimal.proofs.decimal.Decimal.whole.Goals.{then-is_negative-via-then-is_negative, then-is_negative-via-else-is_negative+then-power-lt0}

@@ -1,6 +1,5 @@
-use Rattle.std.proofs.Common.{arith, rules, w32, ◌≡◌, ◌∙◌}
+use Rattle.std.proofs.Common.{arith, rules, w32, ◌≡◌, ◌∙◌, SFits}
 use Rattle.std.proofs.lemmas.Int.{to_z-of_z}
-use mir.Val.{SFits}
 use Rattle.crs_decimal.proofs.ShortLemmas.{zeros_few, short_number}
 use Rattle.crs_decimal.proofs.short.Short.decimal.Goals as goal
 

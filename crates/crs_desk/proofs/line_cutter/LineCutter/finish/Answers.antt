@@ -1,5 +1,4 @@
-use Rattle.std.proofs.Common.{◌≡◌, ◌∙◌, ap, rules, subst, sym, true}
-use Rattle.std.specs.Prelude.{IfErr}
+use Rattle.std.proofs.Common.{◌≡◌, ◌∙◌, ap, rules, subst, sym, true, IfErr}
 use Rattle.std.proofs.lemmas.Result.{IfErr-weaker}
 use Rattle.crs_desk.specs.LineCutting.{CutterParts, IsPutOut, IsStopped, IsWrittenOut, WriterParts}
 use Rattle.crs_desk.proofs.LineCutLemmas.{end-sent, end-starved, end-unsent}

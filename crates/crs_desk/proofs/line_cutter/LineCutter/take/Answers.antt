@@ -1,7 +1,6 @@
-use Rattle.std.proofs.Common.{◌≡◌, ◌∙◌, ◌++◌, ◌∷◌, [], ap, append-nil, arith, false, length, length-append, refl, rules, subst, sym}
-use Rattle.std.specs.Prelude.{IfErr}
+use Rattle.std.proofs.Common.{◌≡◌, ◌∙◌, ◌++◌, ◌∷◌, [], ap, append-nil, arith, false, length, length-append, refl, rules, subst, sym, IfErr}
 use Rattle.std.proofs.lemmas.Result.{IfErr-weaker, IfOk-weaker}
-use Rattle.crs_streams.specs.Lines.{HasNoFeed}
+use Rattle.crs_streams.specs.Prelude.{HasNoFeed}
 use Rattle.crs_desk.specs.LineCutting.{CutterParts, IsLinesCut, IsStopped, WriterParts}
 use Rattle.crs_desk.proofs.LineCutLemmas.{cut-emptied, cutter_of, piece-end-stopped, piece-kept, piece-step, piece-stopped, piece-unsent, split-small}
 use Rattle.crs_desk.proofs.line_cutter.LineCutter.take.Goals as goal

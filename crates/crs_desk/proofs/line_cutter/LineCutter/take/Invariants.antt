@@ -1,5 +1,5 @@
 use Rattle.std.proofs.Common.{◌≡◌, ◌+◌, ◌≤◌, ◌++◌, ℕ, List, length}
-use Rattle.crs_streams.specs.Streams.{SinkState}
+use Rattle.crs_streams.specs.Prelude.{SinkState}
 use Rattle.crs_desk.specs.LineCutting.{IsLinesCut}
 use Rattle.crs_desk.proofs.line_cutter.LineCutter.take.Given as goal
 

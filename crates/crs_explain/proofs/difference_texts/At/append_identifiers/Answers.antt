@@ -1,6 +1,6 @@
 use Rattle.std.proofs.Common.{◌∷◌, [], refl}
-use Rattle.crs_value.specs.Kept.{kept}
-use Rattle.crs_matching.specs.SameIdents.{SameIdents}
+use Rattle.crs_value.specs.Prelude.{kept}
+use Rattle.crs_matching.specs.Prelude.{SameIdents}
 use Rattle.crs_same.specs.declared.content.Content.TheVariants as content
 use Rattle.crs_same.specs.declared.step.Step.TheVariants as step
 use Rattle.crs_explain.specs.DifferingTexts.{PartTexts}

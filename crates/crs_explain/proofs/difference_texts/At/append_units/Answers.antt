@@ -1,9 +1,8 @@
 use Rattle.std.proofs.Common.{◌∷◌, [], refl}
 use Rattle.std.specs.Option.{option_copied}
 use Rattle.crs_shape.specs.declared.unit_kind.UnitKind.TheVariants as kinds
-use Rattle.crs_matching.specs.SameUnits.{SameUnit}
-use Rattle.crs_matching.specs.Sets.{BothOrNeither}
-use Rattle.crs_same.specs.Contents.{given}
+use Rattle.crs_matching.specs.Prelude.{SameUnit, BothOrNeither}
+use Rattle.crs_same.specs.Prelude.{given}
 use Rattle.crs_same.specs.declared.content.Content.TheVariants as content
 use Rattle.crs_same.specs.declared.step.Step.TheVariants as step
 use Rattle.crs_explain.specs.DifferingTexts.{PartTexts}

@@ -1,5 +1,5 @@
 use Rattle.std.proofs.lemmas.Result.{on_ok_weaker}
-use Rattle.crs_matching.specs.SameUnits.{SameValue}
+use Rattle.crs_matching.specs.Prelude.{SameValue}
 use Rattle.crs_same.specs.declared.content.Content.TheVariants as content
 use Rattle.crs_explain.proofs.DifferingLemmas.{told-here, untrue}
 use Rattle.crs_explain.proofs.difference_texts.At.append_value.Goals as goal

@@ -1,10 +1,9 @@
 use Rattle.std.proofs.Common.{◌≡◌, ℕ, List, refl}
 use Rattle.std.specs.Fmt.{digits}
-use Rattle.crs_shape.specs.Keywords.{is_keyword, root_named}
-use Rattle.crs_shape.specs.Slots.{class_named}
+use Rattle.crs_shape.specs.Prelude.{is_keyword, root_named, class_named}
 use Rattle.crs_shape.specs.declared.class.Class.{Class}
 use Rattle.crs_shape.specs.declared.class.Class.TheVariants as class
-use Rattle.crs_value.specs.ReadsCrs.{ReadsCrs}
+use Rattle.crs_value.specs.Prelude.{ReadsCrs}
 use Rattle.crs_value.specs.declared.values.crs.Crs.{Crs}
 use Rattle.crs_value.specs.declared.values.crs.Crs.TheVariants as crs
 use Rattle.crs_value.specs.declared.values.level.Level.TheVariants as levels

@@ -1,4 +1,4 @@
-use Rattle.crs_matching.specs.SameUnits.{kind_as}
+use Rattle.crs_matching.specs.Prelude.{kind_as}
 use Rattle.crs_normal.proofs.made.UnitLemmas.{unit-made}
 use Rattle.crs_normal.proofs.laws.made.made_unit_is_normal.Goals as goal
 

@@ -1,10 +1,8 @@
 use Rattle.std.proofs.Common.{arith}
-use Rattle.crs_text.specs.Written.{at_place}
+use Rattle.crs_text.specs.Prelude.{at_place}
 use Rattle.crs_shape.specs.declared.class.Class.TheVariants as class
-use Rattle.crs_value.specs.Reads.{ReadsDatum, ReadsEnsemble}
-use Rattle.crs_value.specs.SoundFrames.{IsDatum, IsEnsemble}
-use Rattle.crs_same.specs.Parts.{AreSame}
-use Rattle.crs_same.specs.PartsOfFrames.{parts_of_datum, parts_of_ensemble}
+use Rattle.crs_value.specs.Prelude.{ReadsDatum, ReadsEnsemble, IsDatum, IsEnsemble}
+use Rattle.crs_same.specs.Prelude.{AreSame, parts_of_datum, parts_of_ensemble}
 use Rattle.crs_normal.specs.Normal.{IsNormalIn}
 use Rattle.crs_normal.specs.PartSpellings.{datum_class, ensemble_class}
 use Rattle.crs_normal.specs.PartTexts.{item_own_datum}

@@ -1,9 +1,8 @@
 use Rattle.std.proofs.Common.{arith}
 use Rattle.crs_shape.specs.declared.class.Class.TheVariants as class
-use Rattle.crs_value.specs.ReadsDynamic.{ReadsDeformationModel, ReadsDynamic}
-use Rattle.crs_value.specs.SoundDynamic.{IsDeformationModel, IsDynamic}
-use Rattle.crs_same.specs.SameCrs.{SameDynamic}
-use Rattle.crs_matching.specs.SameDynamic.{SameDeformationModel}
+use Rattle.crs_value.specs.Prelude.{ReadsDeformationModel, ReadsDynamic, IsDeformationModel, IsDynamic}
+use Rattle.crs_same.specs.Prelude.{SameDynamic}
+use Rattle.crs_matching.specs.Prelude.{SameDeformationModel}
 use Rattle.crs_normal.specs.SpelledDynamic.{item_deformation_model, item_dynamic, norm_deformation_model, norm_dynamic}
 use Rattle.crs_normal.proofs.parts.PartLemmas.{canonical-of, unbroken-form}
 use Rattle.crs_normal.proofs.laws.parts.dynamic_parts_are_canonical.Goals as goal

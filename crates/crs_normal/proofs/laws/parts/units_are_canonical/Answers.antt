@@ -1,8 +1,7 @@
 use Rattle.std.proofs.Common.{arith}
 use Rattle.crs_shape.specs.declared.unit_kind.UnitKind.TheVariants as kinds
-use Rattle.crs_value.specs.Reads.{ReadsUnit}
-use Rattle.crs_value.specs.Sound.{IsUnit}
-use Rattle.crs_matching.specs.SameUnits.{SameUnit}
+use Rattle.crs_value.specs.Prelude.{ReadsUnit, IsUnit}
+use Rattle.crs_matching.specs.Prelude.{SameUnit}
 use Rattle.crs_normal.specs.PartSpellings.{unit_class}
 use Rattle.crs_normal.specs.SpelledUnits.{item_unit, norm_unit}
 use Rattle.crs_normal.proofs.parts.PartLemmas.{canonical-form, made-stands, sound-form, unbroken-form}

@@ -1,9 +1,7 @@
 use Rattle.std.proofs.Common.{IfSome, sym, subst}
 use Rattle.crs_shape.specs.declared.class.Class.TheVariants as class
 use Rattle.crs_shape.specs.declared.unit_kind.UnitKind.TheVariants as kinds
-use Rattle.crs_value.specs.Sound.{IsUnitOf}
-use Rattle.crs_value.specs.SoundFrames.{IsMeridian}
-use Rattle.crs_value.specs.SoundSingle.{IsDynamicOf, IsGeodeticFrame}
+use Rattle.crs_value.specs.Prelude.{IsUnitOf, IsMeridian, IsDynamicOf, IsGeodeticFrame}
 use Rattle.crs_rules.specs.Rewritten.{dynamics, meridian}
 use Rattle.crs_rules.specs.Rules.{Meaning, meaning}
 use Rattle.crs_rules.proofs.PartLemmas.{counted-sound, dynamics-sound, geodetic-frame-sound, meridian-sound, some-map}

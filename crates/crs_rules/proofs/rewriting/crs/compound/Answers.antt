@@ -1,7 +1,5 @@
 use Rattle.std.proofs.Common.{sym, subst}
-use Rattle.crs_value.specs.SoundCompound.{IsHorizontal}
-use Rattle.crs_value.specs.SoundSingle.{IsVertical}
-use Rattle.crs_value.specs.SoundUsages.{IsTail}
+use Rattle.crs_value.specs.Prelude.{IsHorizontal, IsVertical, IsTail}
 use Rattle.crs_rules.specs.Rules.{Meaning, meaning}
 use Rattle.crs_rules.proofs.PartLemmas.{tail-sound}
 use Rattle.crs_rules.proofs.CrsLemmas.{across-sound, vertical-sound}

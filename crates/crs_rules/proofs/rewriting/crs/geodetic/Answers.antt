@@ -1,10 +1,7 @@
 use Rattle.std.proofs.Common.{IfSome, sym, subst}
 use Rattle.crs_shape.specs.declared.class.Class.TheVariants as class
-use Rattle.crs_shape.specs.Dimensions.{dimensions_of}
-use Rattle.crs_value.specs.SoundFrames.{IsMeridian}
-use Rattle.crs_value.specs.SoundSingle.{IsDynamicOf, IsGeodeticFrame}
-use Rattle.crs_value.specs.SoundSystem.{IsAllowed, IsSystem}
-use Rattle.crs_value.specs.SoundUsages.{IsTail}
+use Rattle.crs_shape.specs.Prelude.{dimensions_of}
+use Rattle.crs_value.specs.Prelude.{IsMeridian, IsDynamicOf, IsGeodeticFrame, IsAllowed, IsSystem, IsTail}
 use Rattle.crs_rules.specs.Rewritten.{dynamics, meridian}
 use Rattle.crs_rules.specs.Rules.{Meaning, meaning}
 use Rattle.crs_rules.proofs.PartLemmas.{dynamics-sound, geodetic-frame-sound, meridian-sound, some-map, tail-sound}

@@ -1,10 +1,7 @@
 use Rattle.std.proofs.Common.{sym, subst}
 use Rattle.crs_shape.specs.declared.class.Class.TheVariants as class
-use Rattle.crs_shape.specs.Dimensions.{dimensions_of}
-use Rattle.crs_value.specs.SoundConversion.{IsConversion}
-use Rattle.crs_value.specs.SoundSingle.{IsBase}
-use Rattle.crs_value.specs.SoundSystem.{IsAllowed, IsSystem}
-use Rattle.crs_value.specs.SoundUsages.{IsTail}
+use Rattle.crs_shape.specs.Prelude.{dimensions_of}
+use Rattle.crs_value.specs.Prelude.{IsConversion, IsBase, IsAllowed, IsSystem, IsTail}
 use Rattle.crs_rules.specs.Rules.{Meaning, meaning}
 use Rattle.crs_rules.proofs.PartLemmas.{conversion-sound, tail-sound}
 use Rattle.crs_rules.proofs.CrsLemmas.{base-sound, system-sound}

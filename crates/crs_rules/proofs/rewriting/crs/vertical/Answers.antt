@@ -1,10 +1,8 @@
 use Rattle.std.proofs.Common.{[], sym, subst}
 use Rattle.crs_shape.specs.declared.class.Class.TheVariants as class
-use Rattle.crs_shape.specs.Dimensions.{dimensions_of}
-use Rattle.crs_value.specs.Sound.{Each, IsNamed}
-use Rattle.crs_value.specs.SoundSingle.{IsDynamicOf, IsVerticalFrame}
-use Rattle.crs_value.specs.SoundSystem.{IsAllowed, IsSystem}
-use Rattle.crs_value.specs.SoundUsages.{IsTail}
+use Rattle.crs_shape.specs.Prelude.{dimensions_of}
+use Rattle.crs_value.specs.Prelude.{IsNamed, IsDynamicOf, IsVerticalFrame, IsAllowed, IsSystem, IsTail}
+use Rattle.crs_value.specs.Sound.{Each}
 use Rattle.crs_rules.specs.Rewritten.{dynamics, named}
 use Rattle.crs_rules.specs.Rules.{Meaning, meaning}
 use Rattle.crs_rules.proofs.PartLemmas.{dynamics-sound, each-map, named-sound, tail-sound, vertical-frame-sound}

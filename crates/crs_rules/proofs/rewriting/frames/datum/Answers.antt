@@ -1,7 +1,6 @@
 use Rattle.std.proofs.Common.{IfSome, sym, subst}
-use Rattle.crs_decimal.specs.Value.{IsNormal}
-use Rattle.crs_value.specs.Sound.{IsText}
-use Rattle.crs_value.specs.SoundFrames.{IsEllipsoid}
+use Rattle.crs_decimal.specs.Prelude.{IsNormal}
+use Rattle.crs_value.specs.Prelude.{IsText, IsEllipsoid}
 use Rattle.crs_rules.specs.Rewritten.{ellipsoid}
 use Rattle.crs_rules.specs.Rules.{Meaning, meaning}
 use Rattle.crs_rules.proofs.PartLemmas.{counted-sound, ellipsoid-sound, some-map}

@@ -1,6 +1,6 @@
 use Rattle.std.proofs.Common.{IfSome, sym, subst}
 use Rattle.crs_shape.specs.declared.class.Class.TheVariants as class
-use Rattle.crs_value.specs.Sound.{IsNamed}
+use Rattle.crs_value.specs.Prelude.{IsNamed}
 use Rattle.crs_rules.specs.Rewritten.{named}
 use Rattle.crs_rules.specs.Rules.{Meaning, meaning}
 use Rattle.crs_rules.proofs.PartLemmas.{named-sound, some-map}

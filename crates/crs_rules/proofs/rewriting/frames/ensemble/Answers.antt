@@ -1,7 +1,7 @@
 use Rattle.std.proofs.Common.{◌≢◌, [], IfSome, sym, subst}
 use Rattle.crs_shape.specs.declared.class.Class.TheVariants as class
-use Rattle.crs_value.specs.Sound.{Each, IsNamed}
-use Rattle.crs_value.specs.SoundFrames.{IsEllipsoid}
+use Rattle.crs_value.specs.Prelude.{IsNamed, IsEllipsoid}
+use Rattle.crs_value.specs.Sound.{Each}
 use Rattle.crs_rules.specs.Rewritten.{ellipsoid}
 use Rattle.crs_rules.specs.Rules.{Meaning, meaning}
 use Rattle.crs_rules.proofs.PartLemmas.{each-map, ellipsoid-sound, map-some, named-sound, some-map}

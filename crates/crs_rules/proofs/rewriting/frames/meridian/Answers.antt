@@ -1,6 +1,6 @@
 use Rattle.std.proofs.Common.{IfSome, sym, subst}
 use Rattle.crs_shape.specs.declared.unit_kind.UnitKind.TheVariants as kinds
-use Rattle.crs_value.specs.Sound.{IsUnitOf}
+use Rattle.crs_value.specs.Prelude.{IsUnitOf}
 use Rattle.crs_rules.specs.Rules.{Meaning, meaning}
 use Rattle.crs_rules.proofs.PartLemmas.{some-map}
 use Rattle.crs_rules.proofs.AliasLemmas.{sound-meaning, unit-of}

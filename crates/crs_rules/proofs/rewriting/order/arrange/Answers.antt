@@ -1,8 +1,7 @@
 use Rattle.std.proofs.Common.{sym, subst}
-use Rattle.crs_value.specs.SoundSystem.{IsSystem}
-use Rattle.crs_value.specs.Values.{SystemParts}
+use Rattle.crs_value.specs.Prelude.{IsSystem, SystemParts}
 use Rattle.crs_value.specs.declared.values.level.Level.TheVariants as levels
-use Rattle.crs_normal.specs.PartTexts.{axis_text}
+use Rattle.crs_normal.specs.Prelude.{axis_text}
 use Rattle.crs_rules.specs.Sinking.{IsOrderless}
 use Rattle.crs_rules.proofs.CrsLemmas.{arranged-sound}
 use Rattle.crs_rules.proofs.rewriting.order.arrange.Goals as goal

@@ -1,9 +1,7 @@
 use Rattle.std.proofs.Common.{sym, subst}
-use Rattle.crs_value.specs.CompoundValues.{CompoundParts}
-use Rattle.crs_value.specs.SoundCompound.{IsHorizontal}
-use Rattle.crs_value.specs.SoundSingle.{IsVertical}
+use Rattle.crs_value.specs.Prelude.{CompoundParts, IsHorizontal, IsVertical}
 use Rattle.crs_value.specs.declared.values.level.Level.TheVariants as levels
-use Rattle.crs_normal.specs.PartTexts.{axis_text}
+use Rattle.crs_normal.specs.Prelude.{axis_text}
 use Rattle.crs_rules.specs.Rewritten.{arranged_vertical}
 use Rattle.crs_rules.specs.Sinking.{IsOrderless, IsOrderlessAcross}
 use Rattle.crs_rules.proofs.CrsLemmas.{across-arranged, either-way, vertical-arranged}

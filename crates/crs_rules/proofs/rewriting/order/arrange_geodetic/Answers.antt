@@ -1,8 +1,7 @@
 use Rattle.std.proofs.Common.{subst, sym}
-use Rattle.crs_value.specs.CrsValues.{GeodeticParts}
-use Rattle.crs_value.specs.SoundSingle.{IsGeodetic}
+use Rattle.crs_value.specs.Prelude.{GeodeticParts, IsGeodetic}
 use Rattle.crs_value.specs.declared.values.level.Level.TheVariants as levels
-use Rattle.crs_normal.specs.PartTexts.{axis_text}
+use Rattle.crs_normal.specs.Prelude.{axis_text}
 use Rattle.crs_rules.specs.Rewritten.{arranged}
 use Rattle.crs_rules.specs.Sinking.{IsOrderless}
 use Rattle.crs_rules.proofs.CrsLemmas.{either-way, geodetic-arranged}

@@ -4,7 +4,7 @@ use Rattle.std.specs.List.{slice_index_or}
 use Rattle.std.specs.Ordering.{nat_cmp}
 use Rattle.std.specs.declared.cmp.Ordering.TheVariants.{Greater}
 use Rattle.crs_value.specs.declared.values.level.Level.TheVariants as levels
-use Rattle.crs_normal.specs.PartTexts.{axis_text}
+use Rattle.crs_normal.specs.Prelude.{axis_text}
 use Rattle.crs_rules.proofs.SortLemmas.{IsAboveNext, sinks-end, sinks-next, sinks-on}
 use Rattle.crs_rules.proofs.rewriting.order.sink.Goals as goal
 

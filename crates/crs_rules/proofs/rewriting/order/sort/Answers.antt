@@ -1,6 +1,6 @@
 use Rattle.std.proofs.Common.{◌≡◌, ◌-◌, ◌++◌, suc, ap, arith, drop, length, subst, take}
 use Rattle.crs_value.specs.declared.values.level.Level.TheVariants as levels
-use Rattle.crs_normal.specs.PartTexts.{axis_text}
+use Rattle.crs_normal.specs.Prelude.{axis_text}
 use Rattle.crs_rules.specs.Rewritten.{ascending}
 use Rattle.crs_rules.proofs.SortLemmas.{sorts-on, sorts-start, sorts-within}
 use Rattle.crs_rules.proofs.rewriting.order.sort.Goals as goal

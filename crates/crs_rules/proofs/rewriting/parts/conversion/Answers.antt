@@ -1,7 +1,7 @@
 use Rattle.std.proofs.Common.{sym, subst}
 use Rattle.crs_shape.specs.declared.class.Class.TheVariants as class
-use Rattle.crs_value.specs.Sound.{Each, IsNamed}
-use Rattle.crs_value.specs.SoundConversion.{IsParameter}
+use Rattle.crs_value.specs.Prelude.{IsNamed, IsParameter}
+use Rattle.crs_value.specs.Sound.{Each}
 use Rattle.crs_rules.specs.Rules.{Meaning, meaning}
 use Rattle.crs_rules.proofs.PartLemmas.{each-map, named-sound, parameter-sound}
 use Rattle.crs_rules.proofs.AliasLemmas.{sound-meaning}

@@ -1,5 +1,5 @@
 use Rattle.std.proofs.Common.{IfSome, sym, subst}
-use Rattle.crs_value.specs.Sound.{IsUnit}
+use Rattle.crs_value.specs.Prelude.{IsUnit}
 use Rattle.crs_rules.specs.Rules.{Meaning, meaning}
 use Rattle.crs_rules.proofs.PartLemmas.{some-map}
 use Rattle.crs_rules.proofs.AliasLemmas.{sound-meaning, unit-sound}

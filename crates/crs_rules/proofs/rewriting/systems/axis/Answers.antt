@@ -1,6 +1,6 @@
 use Rattle.std.proofs.Common.{IfSome, sym, subst}
-use Rattle.crs_decimal.specs.Value.{IsNormal}
-use Rattle.crs_value.specs.Sound.{IsAxisMeridian, IsAxisUnit}
+use Rattle.crs_decimal.specs.Prelude.{IsNormal}
+use Rattle.crs_value.specs.Prelude.{IsAxisMeridian, IsAxisUnit}
 use Rattle.crs_rules.specs.Rewritten.{axis_meridian}
 use Rattle.crs_rules.specs.Rules.{Meaning, meaning}
 use Rattle.crs_rules.proofs.PartLemmas.{counted-sound, some-map}

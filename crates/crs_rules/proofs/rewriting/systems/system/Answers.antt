@@ -1,5 +1,5 @@
 use Rattle.std.proofs.Common.{sym, subst}
-use Rattle.crs_value.specs.SoundSystem.{IsSystem}
+use Rattle.crs_value.specs.Prelude.{IsSystem}
 use Rattle.crs_rules.specs.Rules.{Meaning, meaning}
 use Rattle.crs_rules.proofs.CrsLemmas.{system-sound}
 use Rattle.crs_rules.proofs.AliasLemmas.{sound-meaning}

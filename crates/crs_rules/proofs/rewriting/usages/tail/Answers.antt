@@ -1,6 +1,6 @@
 use Rattle.std.proofs.Common.{IfSome, sym, subst}
 use Rattle.crs_value.specs.Sound.{Each}
-use Rattle.crs_value.specs.SoundUsages.{IsUsage}
+use Rattle.crs_value.specs.Prelude.{IsUsage}
 use Rattle.crs_rules.specs.Rewritten.{usage}
 use Rattle.crs_rules.specs.Rules.{Meaning, meaning}
 use Rattle.crs_rules.proofs.PartLemmas.{each-map, some-map, usage-sound}

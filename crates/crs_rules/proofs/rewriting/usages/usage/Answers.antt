@@ -1,6 +1,6 @@
 use Rattle.std.proofs.Common.{sym, subst}
 use Rattle.std.specs.Option.{option_copied}
-use Rattle.crs_value.specs.SoundUsages.{IsUsage}
+use Rattle.crs_value.specs.Prelude.{IsUsage}
 use Rattle.crs_rules.specs.Rules.{Meaning, meaning}
 use Rattle.crs_rules.proofs.PartLemmas.{usage-sound}
 use Rattle.crs_rules.proofs.AliasLemmas.{sound-meaning}

@@ -1,5 +1,5 @@
 use Rattle.std.proofs.Common.{Some}
-use Rattle.crs_value.specs.Reading.{ahead}
+use Rattle.crs_value.specs.Prelude.{ahead}
 use Rattle.crs_rules_file.specs.Statements.{FaultOfNode, Joins, listed}
 use Rattle.crs_rules_file.proofs.GrownLemmas.{grown_on}
 use Rattle.crs_rules_file.proofs.WalkLemmas.{refused-over, walks-on}

@@ -1,6 +1,6 @@
 use Rattle.std.proofs.Common.{Some}
-use Rattle.crs_text.specs.Items.{count}
-use Rattle.crs_value.specs.Reading.{Holds, ahead}
+use Rattle.crs_text.specs.Prelude.{count}
+use Rattle.crs_value.specs.Prelude.{Holds, ahead}
 use Rattle.crs_rules_file.specs.Grown.{HasGrown}
 use Rattle.crs_rules_file.specs.Statements.{FaultOfNode, Joins, listed}
 use Rattle.crs_rules_file.proofs.WalkLemmas.{Leads}

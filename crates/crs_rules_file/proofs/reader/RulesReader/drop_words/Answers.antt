@@ -1,4 +1,4 @@
-use Rattle.crs_value.specs.Reading.{ahead}
+use Rattle.crs_value.specs.Prelude.{ahead}
 use Rattle.crs_rules_file.specs.Statements.{Drops, FaultOfWord, listed}
 use Rattle.crs_rules_file.proofs.GrownLemmas.{grown_on}
 use Rattle.crs_rules_file.proofs.WalkLemmas.{walks-on}

@@ -1,5 +1,5 @@
-use Rattle.crs_text.specs.Items.{count}
-use Rattle.crs_value.specs.Reading.{Holds, ahead}
+use Rattle.crs_text.specs.Prelude.{count}
+use Rattle.crs_value.specs.Prelude.{Holds, ahead}
 use Rattle.crs_rules_file.specs.Grown.{HasGrown}
 use Rattle.crs_rules_file.specs.Statements.{Drops, FaultOfWord, listed}
 use Rattle.crs_rules_file.proofs.WalkLemmas.{Leads}

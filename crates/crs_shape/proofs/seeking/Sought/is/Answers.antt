@@ -1,7 +1,7 @@
 use Rattle.std.proofs.Common.{sym, ◌∙◌, ap, None}
 use denote.Enum.Bare.{sameb}
 use Rattle.crs_text.specs.contracts.items.ItemKind as kinds
-use Rattle.crs_text.specs.Items.{first_of, here}
+use Rattle.crs_text.specs.Prelude.{first_of, here}
 use Rattle.crs_shape.specs.ClassSet.{has_bit, keyword_bit}
 use Rattle.crs_shape.specs.ShapeFault.{class_in}
 use Rattle.crs_shape.specs.Slots.{is_class}

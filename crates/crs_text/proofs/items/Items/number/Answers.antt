@@ -1,5 +1,5 @@
 use Rattle.std.proofs.Common.{◌≡◌, ◌∙◌, rules, subst, sym}
-use Rattle.crs_decimal.specs.Bounds.{IsInBounds}
+use Rattle.crs_decimal.specs.Prelude.{IsInBounds}
 use Rattle.crs_text.specs.Items.{tokens}
 use Rattle.crs_text.specs.Tokens.{IsFormed}
 use Rattle.crs_text.specs.Tree.{EachToken}

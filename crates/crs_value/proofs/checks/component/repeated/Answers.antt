@@ -1,5 +1,5 @@
 use Rattle.std.proofs.Common.{None, subst}
-use Rattle.crs_text.specs.Items.{Siblings, arguments}
+use Rattle.crs_text.specs.Prelude.{Siblings, arguments}
 use Rattle.crs_shape.specs.declared.class.Class.TheVariants as class
 use Rattle.crs_value.specs.Break.{IsLeast}
 use Rattle.crs_value.specs.Checks.{once}

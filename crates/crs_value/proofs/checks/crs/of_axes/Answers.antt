@@ -1,5 +1,4 @@
-use Rattle.crs_text.specs.Items.{arguments}
-use Rattle.crs_text.specs.Refusal.{RefusedAt}
+use Rattle.crs_text.specs.Prelude.{arguments, RefusedAt}
 use Rattle.crs_shape.specs.declared.class.Class.TheVariants as class
 use Rattle.crs_value.specs.Cursor.{item}
 use Rattle.crs_value.specs.BadDynamic.{BadDynamic}

@@ -1,8 +1,7 @@
 use Rattle.std.proofs.Common.{ℕ, ◌⊎◌, subst}
-use Rattle.crs_text.specs.Items.{arguments}
-use Rattle.crs_text.specs.Refusal.{RefusedAt}
+use Rattle.crs_text.specs.Prelude.{arguments, RefusedAt}
 use Rattle.crs_shape.specs.declared.class.Class.TheVariants as class
-use Rattle.crs_shape.specs.Dimensions.{dimensions_of}
+use Rattle.crs_shape.specs.Prelude.{dimensions_of}
 use Rattle.crs_value.specs.Cursor.{item}
 use Rattle.crs_value.specs.AxisCount.{AxisCount}
 use Rattle.crs_value.specs.BadSystem.{BadSystem}

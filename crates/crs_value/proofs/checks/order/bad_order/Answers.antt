@@ -1,5 +1,5 @@
 use Rattle.std.proofs.Common.{None, List, subst, sym}
-use Rattle.crs_text.specs.Items.{Item, arguments}
+use Rattle.crs_text.specs.Prelude.{Item, arguments}
 use Rattle.crs_shape.specs.declared.class.Class.TheVariants as class
 use Rattle.crs_value.specs.Cursor.{item}
 use Rattle.crs_value.specs.BadOrder.{LacksOrder, BadOrder}

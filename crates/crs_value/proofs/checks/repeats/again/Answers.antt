@@ -1,5 +1,5 @@
 use Rattle.std.proofs.Common.{ℕ, Option, List, Some, sym, subst, drop}
-use Rattle.crs_text.specs.Items.{Item, arguments}
+use Rattle.crs_text.specs.Prelude.{Item, arguments}
 use Rattle.crs_value.specs.Cursor.{item}
 use Rattle.crs_value.specs.Break.{AnyOf, IsLeast}
 use Rattle.crs_value.specs.RepeatedPart.{IsRepeated}

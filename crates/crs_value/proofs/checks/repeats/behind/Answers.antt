@@ -1,4 +1,4 @@
-use Rattle.crs_text.specs.Items.{rest_of, here}
+use Rattle.crs_text.specs.Prelude.{rest_of, here}
 use Rattle.crs_value.specs.RepeatedPart.{IsRepeated}
 use Rattle.crs_value.specs.Reading.{those}
 use Rattle.crs_value.proofs.found.ArgumentLemmas.{found-is, all-shaped}

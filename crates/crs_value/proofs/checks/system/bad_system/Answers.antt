@@ -1,5 +1,5 @@
 use Rattle.std.proofs.Common.{refl}
-use Rattle.crs_shape.specs.Dimensions.{dimensions_of}
+use Rattle.crs_shape.specs.Prelude.{dimensions_of}
 use Rattle.crs_value.specs.Reading.{item_at}
 use Rattle.crs_value.proofs.checked.SystemLemmas.{system-none}
 use Rattle.crs_value.proofs.checks.system.bad_system.Goals as goal

@@ -1,5 +1,5 @@
 use Rattle.std.proofs.Common.{refl}
-use Rattle.crs_text.specs.Items.{raw_of}
+use Rattle.crs_text.specs.Prelude.{raw_of}
 use Rattle.crs_value.specs.Reading.{item_at}
 use Rattle.crs_value.proofs.checked.UnitLemmas.{fits-none}
 use Rattle.crs_value.proofs.checks.unit.fits.Goals as goal

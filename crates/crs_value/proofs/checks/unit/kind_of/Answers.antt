@@ -1,4 +1,4 @@
-use Rattle.crs_text.specs.Items.{raw_of}
+use Rattle.crs_text.specs.Prelude.{raw_of}
 use Rattle.crs_value.specs.Reading.{item_at}
 use Rattle.crs_value.proofs.checked.UnitLemmas.{keyword-raw, kind-read}
 use Rattle.crs_value.proofs.checks.unit.kind_of.Goals as goal

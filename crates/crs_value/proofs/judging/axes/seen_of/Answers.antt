@@ -1,5 +1,5 @@
 use Rattle.std.proofs.Common.{ℕ, List, subst}
-use Rattle.crs_shape.specs.Words.{SpellsWord, direction_word}
+use Rattle.crs_shape.specs.Prelude.{SpellsWord, direction_word}
 use Rattle.crs_value.specs.Reading.{item_at}
 use Rattle.crs_value.proofs.walk.AxesLemmas.{axis-has}
 use Rattle.crs_value.proofs.judging.axes.seen_of.Goals as goal

@@ -1,6 +1,6 @@
 use Rattle.std.proofs.Common.{◌++◌, None, refl, sym, true, false}
-use Rattle.crs_text.specs.Items.{arguments}
-use Rattle.crs_shape.specs.Slots.{any_of}
+use Rattle.crs_text.specs.Prelude.{arguments}
+use Rattle.crs_shape.specs.Prelude.{any_of}
 use Rattle.crs_value.specs.Reading.{item_at}
 use Rattle.crs_value.specs.Seen.{rest_slots}
 use Rattle.crs_value.proofs.found.ArgumentLemmas.{holds_at}

@@ -1,5 +1,5 @@
 use Rattle.std.proofs.Common.{true, false}
-use Rattle.crs_text.specs.Items.{arguments}
+use Rattle.crs_text.specs.Prelude.{arguments}
 use Rattle.crs_value.specs.Reading.{item_at}
 use Rattle.crs_value.proofs.found.ArgumentLemmas.{holds_at}
 use Rattle.crs_value.proofs.walk.JudgedLemmas.{shaped-by, walked-all, with-fault, with-own}

@@ -1,4 +1,4 @@
-use Rattle.crs_text.specs.Items.{count}
+use Rattle.crs_text.specs.Prelude.{count}
 use Rattle.crs_value.specs.Reading.{ahead}
 use Rattle.crs_value.proofs.walk.LayoutLemmas.{Noted}
 use Rattle.crs_value.proofs.judging.quiet.axes_until.Given as goal

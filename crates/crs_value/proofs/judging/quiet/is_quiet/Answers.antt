@@ -1,4 +1,4 @@
-use Rattle.crs_text.specs.Items.{arguments}
+use Rattle.crs_text.specs.Prelude.{arguments}
 use Rattle.crs_value.specs.Reading.{item_at}
 use Rattle.crs_value.proofs.walk.LayoutLemmas.{axes-shaped, laid-quiet, system-shaped}
 use Rattle.crs_value.proofs.judging.quiet.is_quiet.Goals as goal

@@ -1,4 +1,4 @@
-use Rattle.crs_shape.specs.Dimensions.{dimensions_of}
+use Rattle.crs_shape.specs.Prelude.{dimensions_of}
 use Rattle.crs_value.specs.Reading.{item_at}
 use Rattle.crs_value.proofs.walk.RestLemmas.{head-none}
 use Rattle.crs_value.proofs.judging.rest.head_fits.Goals as goal

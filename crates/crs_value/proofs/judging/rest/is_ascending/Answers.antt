@@ -1,4 +1,4 @@
-use Rattle.crs_text.specs.Items.{rest_of, here}
+use Rattle.crs_text.specs.Prelude.{rest_of, here}
 use Rattle.crs_value.specs.Reading.{ahead}
 use Rattle.crs_value.proofs.found.ArgumentLemmas.{has-some, holds_at}
 use Rattle.crs_value.proofs.walk.RestLemmas.{climbing-first, climbing-on}

@@ -1,4 +1,4 @@
-use Rattle.crs_text.specs.Items.{count}
+use Rattle.crs_text.specs.Prelude.{count}
 use Rattle.crs_value.specs.Reading.{ahead, Holds}
 use Rattle.crs_value.proofs.walk.RestLemmas.{Climbing}
 use Rattle.crs_value.proofs.judging.rest.is_ascending.Given as goal

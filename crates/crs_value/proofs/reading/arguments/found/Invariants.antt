@@ -1,5 +1,5 @@
 use Rattle.std.proofs.Common.{◌≡◌}
-use Rattle.crs_text.specs.Items.{count}
+use Rattle.crs_text.specs.Prelude.{count}
 use Rattle.crs_value.specs.Reading.{ahead, Holds, those}
 use Rattle.crs_value.proofs.reading.arguments.found.Given as goal
 

@@ -1,5 +1,5 @@
 use Rattle.std.proofs.Common.{Option, ℕ, subst, sym, ◌∙◌, arith}
-use Rattle.crs_text.specs.Items.{arguments}
+use Rattle.crs_text.specs.Prelude.{arguments}
 use Rattle.crs_shape.specs.declared.class.Class.TheVariants as class
 use Rattle.crs_value.specs.Reading.{item_at}
 use Rattle.crs_value.proofs.found.FirstArgumentsLemmas.{Seen, axis-among, seen-on, seen-past}

@@ -1,4 +1,4 @@
-use Rattle.crs_text.specs.Items.{raw_of}
+use Rattle.crs_text.specs.Prelude.{raw_of}
 use Rattle.crs_value.specs.Reading.{item_at}
 use Rattle.crs_value.proofs.walk.WholeNumberLemmas.{decimal-read}
 use Rattle.crs_value.proofs.reading.node.whole_at.Goals as goal

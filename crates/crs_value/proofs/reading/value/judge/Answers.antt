@@ -1,7 +1,6 @@
 use Rattle.std.proofs.Common.{sym, ap, subst, ◌≡◌, Option, None, Some}
-use Rattle.crs_text.specs.Items.{Item, first_of}
-use Rattle.crs_text.specs.Refusal.{RefusedAt}
-use Rattle.crs_shape.specs.ShapeFault.{class_of_root}
+use Rattle.crs_text.specs.Prelude.{Item, first_of, RefusedAt}
+use Rattle.crs_shape.specs.Prelude.{class_of_root}
 use Rattle.crs_value.specs.Judged.{Judged}
 use Rattle.crs_value.specs.Reading.{item_at}
 use Rattle.crs_value.proofs.some.AnswerLemmas.{judged-spells}

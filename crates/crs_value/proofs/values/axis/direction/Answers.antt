@@ -1,6 +1,6 @@
 use Rattle.std.proofs.Common.{List, ℕ, subst}
 use Rattle.crs_shape.specs.declared.direction.Direction.{Direction}
-use Rattle.crs_shape.specs.Words.{SpellsWord, direction_word}
+use Rattle.crs_shape.specs.Prelude.{SpellsWord, direction_word}
 use Rattle.crs_value.specs.Reading.{item_at}
 use Rattle.crs_value.proofs.sound.KnownWordLemmas.{known-direction}
 use Rattle.crs_value.proofs.values.axis.direction.Goals as goal

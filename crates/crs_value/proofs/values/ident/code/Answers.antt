@@ -1,4 +1,4 @@
-use Rattle.crs_text.specs.Items.{arguments, skip}
+use Rattle.crs_text.specs.Prelude.{arguments, skip}
 use Rattle.crs_value.specs.Cursor.{item}
 use Rattle.crs_value.specs.Reads.{ReadsText, single_of}
 use Rattle.crs_value.proofs.found.IdentLemmas.{code-there}

@@ -1,6 +1,6 @@
 use Rattle.std.proofs.Common.{List, ℕ, subst}
 use Rattle.crs_shape.specs.declared.system_type.SystemType.{SystemType}
-use Rattle.crs_shape.specs.Words.{SpellsWord, system_word}
+use Rattle.crs_shape.specs.Prelude.{SpellsWord, system_word}
 use Rattle.crs_value.specs.Reading.{item_at}
 use Rattle.crs_value.proofs.sound.KnownWordLemmas.{known-type}
 use Rattle.crs_value.proofs.values.system.system_type.Goals as goal

@@ -1,6 +1,6 @@
 use Rattle.std.proofs.Common.{List, ℕ, subst}
 use Rattle.crs_shape.specs.declared.unit_kind.UnitKind.{UnitKind}
-use Rattle.crs_shape.specs.Words.{SpellsWord, unit_word}
+use Rattle.crs_shape.specs.Prelude.{SpellsWord, unit_word}
 use Rattle.crs_value.specs.Cursor.{item}
 use Rattle.crs_value.proofs.sound.KnownWordLemmas.{known-kind}
 use Rattle.crs_value.proofs.values.unit.kind.Goals as goal

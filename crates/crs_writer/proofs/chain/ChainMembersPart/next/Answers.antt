@@ -1,6 +1,5 @@
 use Rattle.std.proofs.Common.{subst}
-use Rattle.crs_value.specs.FoundArguments.{from_found}
-use Rattle.crs_value.specs.Reading.{Holds, ReadsEach}
+use Rattle.crs_value.specs.Prelude.{from_found, Holds, ReadsEach}
 use Rattle.crs_value.proofs.found.ArgumentLemmas.{found-holds}
 use Rattle.crs_nodes.specs.Cursor.{item}
 use Rattle.crs_nodes.specs.declared.chain.Chain.{Chain}

@@ -1,7 +1,6 @@
 use Rattle.std.proofs.lemmas.Result.{on_ok_weaker}
-use Rattle.crs_text.specs.Items.{More, Siblings}
-use Rattle.crs_normal.specs.SpelledCrs.{item_horizontal, item_vertical, norm_horizontal, norm_vertical}
-use Rattle.crs_normal.specs.SpelledUsages.{norm_tail, tail_items}
+use Rattle.crs_text.specs.Prelude.{More, Siblings}
+use Rattle.crs_normal.specs.Prelude.{item_horizontal, item_vertical, norm_horizontal, norm_vertical, norm_tail, tail_items}
 use Rattle.crs_leaves.specs.Openings.{opened}
 use Rattle.crs_writer.proofs.PieceLemmas.{then-more}
 use Rattle.crs_writer.proofs.DirectLemmas.{closed}

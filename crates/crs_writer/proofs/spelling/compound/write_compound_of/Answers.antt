@@ -1,6 +1,6 @@
 use Rattle.std.proofs.lemmas.Result.{on_ok_weaker}
 use Rattle.crs_shape.specs.declared.class.Class.TheVariants as class
-use Rattle.crs_value.specs.ReadsCrs.{ReadsVertical}
+use Rattle.crs_value.specs.Prelude.{ReadsVertical}
 use Rattle.crs_writer.proofs.CursorLemmas.{one-said, some-first}
 use Rattle.crs_writer.proofs.spelling.compound.write_compound_of.Goals as goal
 

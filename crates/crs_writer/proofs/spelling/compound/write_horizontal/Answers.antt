@@ -1,5 +1,5 @@
 use Rattle.crs_shape.specs.declared.class.Class.TheVariants as class
-use Rattle.crs_value.specs.ReadsCrs.{ReadsAsHorizontal}
+use Rattle.crs_value.specs.Prelude.{ReadsAsHorizontal}
 use Rattle.crs_writer.proofs.CursorLemmas.{else-passed, horizontal-geodetic, horizontal-projected, some-first}
 use Rattle.crs_writer.proofs.spelling.compound.write_horizontal.Goals as goal
 

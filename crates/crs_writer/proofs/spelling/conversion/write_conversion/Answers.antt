@@ -1,8 +1,6 @@
 use Rattle.std.proofs.lemmas.Result.{on_ok_weaker}
-use Rattle.crs_text.specs.Items.{End, More, Siblings}
-use Rattle.crs_normal.specs.SpelledConversions.{item_method, item_parameter, norm_method, set_parameters}
-use Rattle.crs_normal.specs.SpelledItems.{each}
-use Rattle.crs_normal.specs.SpelledUnits.{item_ident, set_idents}
+use Rattle.crs_text.specs.Prelude.{End, More, Siblings}
+use Rattle.crs_normal.specs.Prelude.{item_method, item_parameter, norm_method, set_parameters, each, item_ident, set_idents}
 use Rattle.crs_leaves.specs.Openings.{opened}
 use Rattle.crs_writer.proofs.PieceLemmas.{then-more}
 use Rattle.crs_writer.proofs.DirectLemmas.{closed}

@@ -1,5 +1,5 @@
 use Rattle.std.proofs.Common.{rules}
-use Rattle.crs_value.specs.ReadsCrs.{IsGeodeticClass}
+use Rattle.crs_value.specs.Prelude.{IsGeodeticClass}
 use Rattle.crs_nodes.specs.Cursor.{item}
 use Rattle.crs_writer.proofs.CursorLemmas.{crs-compound, crs-geodetic, crs-projected, crs-vertical}
 use Rattle.crs_writer.proofs.spelling.crs.write_crs.Goals as goal

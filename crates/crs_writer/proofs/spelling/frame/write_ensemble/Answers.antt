@@ -1,10 +1,8 @@
 use Rattle.std.proofs.Common.{codes}
 use Rattle.std.proofs.lemmas.Result.{on_ok_weaker}
 use Rattle.std.specs.Option.{option_map}
-use Rattle.crs_text.specs.Items.{End, More, Siblings}
-use Rattle.crs_normal.specs.SpelledFrames.{item_ellipsoid, item_member, norm_ellipsoid, set_members}
-use Rattle.crs_normal.specs.SpelledItems.{each, number_node, opt}
-use Rattle.crs_normal.specs.SpelledUnits.{item_ident, set_idents}
+use Rattle.crs_text.specs.Prelude.{End, More, Siblings}
+use Rattle.crs_normal.specs.Prelude.{item_ellipsoid, item_member, norm_ellipsoid, set_members, each, number_node, opt, item_ident, set_idents}
 use Rattle.crs_leaves.specs.Openings.{opened}
 use Rattle.crs_writer.proofs.PieceLemmas.{then-more}
 use Rattle.crs_writer.proofs.DirectLemmas.{closed}

@@ -1,7 +1,6 @@
 use Rattle.std.proofs.lemmas.Result.{on_ok_weaker}
 use Rattle.crs_shape.specs.declared.class.Class.TheVariants as class
-use Rattle.crs_value.specs.Reads.{ReadsEllipsoid}
-use Rattle.crs_value.specs.ReadsNamed.{ReadsNamed}
+use Rattle.crs_value.specs.Prelude.{ReadsEllipsoid, ReadsNamed}
 use Rattle.crs_writer.proofs.CursorLemmas.{all-said, first-said}
 use Rattle.crs_writer.proofs.spelling.frame.write_ensemble_in.Goals as goal
 

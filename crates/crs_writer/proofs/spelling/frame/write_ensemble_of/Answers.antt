@@ -1,5 +1,5 @@
 use Rattle.std.proofs.lemmas.Result.{on_ok_weaker}
-use Rattle.crs_value.specs.Reads.{ReadsEnsemble}
+use Rattle.crs_value.specs.Prelude.{ReadsEnsemble}
 use Rattle.crs_writer.proofs.CursorLemmas.{one-said}
 use Rattle.crs_writer.proofs.spelling.frame.write_ensemble_of.Goals as goal
 

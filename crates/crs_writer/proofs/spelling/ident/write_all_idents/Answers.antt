@@ -1,7 +1,7 @@
 use Rattle.crs_shape.specs.declared.class.Class.TheVariants as class
-use Rattle.crs_text.specs.Written.{item_text}
-use Rattle.crs_value.specs.Reads.{ReadsIdent}
-use Rattle.crs_normal.specs.SpelledUnits.{item_ident}
+use Rattle.crs_text.specs.Prelude.{item_text}
+use Rattle.crs_value.specs.Prelude.{ReadsIdent}
+use Rattle.crs_normal.specs.Prelude.{item_ident}
 use Rattle.crs_writer.proofs.DirectPartLemmas.{none-written}
 use Rattle.crs_writer.proofs.spelling.ident.write_all_idents.Goals as goal
 

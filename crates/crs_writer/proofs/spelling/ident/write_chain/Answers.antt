@@ -1,6 +1,6 @@
 use Rattle.std.proofs.lemmas.Result.{on_ok_weaker}
 use Rattle.crs_shape.specs.declared.class.Class.TheVariants as class
-use Rattle.crs_value.specs.Reads.{ReadsIdent}
+use Rattle.crs_value.specs.Prelude.{ReadsIdent}
 use Rattle.crs_writer.proofs.CursorLemmas.{all-said}
 use Rattle.crs_writer.proofs.spelling.ident.write_chain.Goals as goal
 

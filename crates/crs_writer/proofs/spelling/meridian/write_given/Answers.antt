@@ -1,11 +1,9 @@
 use Rattle.std.proofs.Common.{None, Option, if◌then◌else◌}
 use Rattle.std.proofs.lemmas.Result.{on_ok_weaker}
-use Rattle.crs_text.specs.Items.{End, More, Siblings}
+use Rattle.crs_text.specs.Prelude.{End, More, Siblings}
 use Rattle.crs_shape.specs.declared.unit_kind.UnitKind.TheVariants as kinds
-use Rattle.crs_value.specs.Values.{UnitParts}
-use Rattle.crs_normal.specs.SpelledFrames.{is_zero}
-use Rattle.crs_normal.specs.SpelledItems.{each, number_item, opt}
-use Rattle.crs_normal.specs.SpelledUnits.{item_ident, item_unit, norm_units, set_idents}
+use Rattle.crs_value.specs.Prelude.{UnitParts}
+use Rattle.crs_normal.specs.Prelude.{is_zero, each, number_item, opt, item_ident, item_unit, norm_units, set_idents}
 use Rattle.crs_leaves.specs.Openings.{opened}
 use Rattle.crs_writer.proofs.PieceLemmas.{then-more, then-opt}
 use Rattle.crs_writer.proofs.DirectLemmas.{closed}

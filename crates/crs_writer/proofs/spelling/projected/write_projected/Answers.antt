@@ -1,9 +1,6 @@
 use Rattle.std.proofs.lemmas.Result.{on_ok_weaker}
-use Rattle.crs_text.specs.Items.{More, Siblings}
-use Rattle.crs_normal.specs.SpelledConversions.{item_conversion, norm_conversion}
-use Rattle.crs_normal.specs.SpelledCrs.{item_base, norm_base}
-use Rattle.crs_normal.specs.SpelledSystems.{norm_system, system_items}
-use Rattle.crs_normal.specs.SpelledUsages.{norm_tail, tail_items}
+use Rattle.crs_text.specs.Prelude.{More, Siblings}
+use Rattle.crs_normal.specs.Prelude.{item_conversion, norm_conversion, item_base, norm_base, norm_system, system_items, norm_tail, tail_items}
 use Rattle.crs_leaves.specs.Openings.{opened}
 use Rattle.crs_writer.proofs.PieceLemmas.{then-more}
 use Rattle.crs_writer.proofs.DirectLemmas.{closed}

@@ -1,7 +1,6 @@
 use Rattle.std.proofs.lemmas.Result.{on_ok_weaker}
 use Rattle.crs_shape.specs.declared.class.Class.TheVariants as class
-use Rattle.crs_value.specs.ReadsConversion.{ReadsConversion}
-use Rattle.crs_value.specs.ReadsCrs.{ReadsBase}
+use Rattle.crs_value.specs.Prelude.{ReadsConversion, ReadsBase}
 use Rattle.crs_writer.proofs.CursorLemmas.{one-said, some-first}
 use Rattle.crs_writer.proofs.spelling.projected.write_projected_of.Goals as goal
 

@@ -1,8 +1,6 @@
 use Rattle.std.proofs.Common.{◌+◌, ◌-◌, ◌++◌, length, arith}
-use Rattle.crs_text.specs.Items.{End}
-use Rattle.crs_text.specs.Written.{others_text}
-use Rattle.crs_normal.specs.SpelledItems.{each}
-use Rattle.crs_normal.specs.SpelledSystems.{axes_from, item_axis}
+use Rattle.crs_text.specs.Prelude.{End, others_text}
+use Rattle.crs_normal.specs.Prelude.{each, axes_from, item_axis}
 use Rattle.crs_writer.proofs.AxisLemmas.{axes-ended}
 use Rattle.crs_writer.proofs.SystemLemmas.{next-axis}
 use Rattle.crs_writer.proofs.spelling.system.write_axes.Goals as goal

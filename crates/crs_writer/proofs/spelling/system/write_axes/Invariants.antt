@@ -1,9 +1,7 @@
 use Rattle.std.proofs.Common.{◌≡◌, ◌+◌, ◌-◌, ◌++◌, length}
-use Rattle.crs_text.specs.Items.{End}
-use Rattle.crs_text.specs.Written.{others_text}
-use Rattle.crs_value.specs.Values.{SystemParts}
-use Rattle.crs_normal.specs.SpelledItems.{each}
-use Rattle.crs_normal.specs.SpelledSystems.{axes_from, item_axis}
+use Rattle.crs_text.specs.Prelude.{End, others_text}
+use Rattle.crs_value.specs.Prelude.{SystemParts}
+use Rattle.crs_normal.specs.Prelude.{each, axes_from, item_axis}
 use Rattle.crs_writer.proofs.spelling.system.write_axes.Given as goal
 
 abbrev pub invariant-loop-index : goal.invariant-loop-index

@@ -1,10 +1,10 @@
 use Rattle.std.proofs.Common.{◌++◌, ◌∷◌, ℕ, List, Some, ap, refl, sym, ◌∙◌}
 use Rattle.std.proofs.lemmas.Result.{on_ok_weaker}
-use Rattle.crs_shape.specs.UnitKinds.{asked_kind}
+use Rattle.crs_shape.specs.Prelude.{asked_kind}
 use Rattle.crs_shape.specs.declared.class.Class.TheVariants as class
-use Rattle.crs_value.specs.Reads.{ReadsAxisMeridian, ReadsUnit}
-use Rattle.crs_matching.specs.SameSystems.{own_or}
-use Rattle.crs_normal.specs.SpelledUnits.{whole_value}
+use Rattle.crs_value.specs.Prelude.{ReadsAxisMeridian, ReadsUnit}
+use Rattle.crs_matching.specs.Prelude.{own_or}
+use Rattle.crs_normal.specs.Prelude.{whole_value}
 use Rattle.crs_nodes.specs.Cursor.{item}
 use Rattle.crs_nodes.specs.declared.node.Node.{Node}
 use Rattle.crs_writer.proofs.CursorLemmas.{first-said}

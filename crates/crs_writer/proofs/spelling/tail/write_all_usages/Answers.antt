@@ -1,7 +1,7 @@
 use Rattle.std.proofs.Common.{◌≡◌, ◌∙◌, false, sym, true}
 use Rattle.std.proofs.lemmas.Result.{on_ok_weaker}
 use Rattle.crs_shape.specs.declared.class.Class.TheVariants as class
-use Rattle.crs_value.specs.Reads.{ReadsUsage}
+use Rattle.crs_value.specs.Prelude.{ReadsUsage}
 use Rattle.crs_nodes.specs.Cursor.{item}
 use Rattle.crs_writer.proofs.CursorLemmas.{all-said}
 use Rattle.crs_writer.proofs.DirectPartLemmas.{with-some, without-bare}

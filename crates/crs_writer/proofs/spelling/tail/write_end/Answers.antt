@@ -1,8 +1,7 @@
 use Rattle.std.proofs.Common.{codes}
 use Rattle.std.proofs.lemmas.Result.{on_ok_weaker}
-use Rattle.crs_text.specs.Items.{End}
-use Rattle.crs_normal.specs.SpelledItems.{opt, text_node}
-use Rattle.crs_normal.specs.SpelledUnits.{item_ident, set_idents}
+use Rattle.crs_text.specs.Prelude.{End}
+use Rattle.crs_normal.specs.Prelude.{opt, text_node, item_ident, set_idents}
 use Rattle.crs_leaves.specs.Openings.{text_behind}
 use Rattle.crs_writer.proofs.PieceLemmas.{then-each}
 use Rattle.crs_writer.proofs.DirectLemmas.{last-text}

@@ -1,10 +1,9 @@
 use Rattle.std.proofs.Common.{◌≡◌, ◌++◌, ◌∙◌, ℕ, List, ap, codes, length, rules}
 use Rattle.std.proofs.lemmas.Result.{on_ok_weaker}
 use Rattle.std.specs.Option.{option_map}
-use Rattle.crs_text.specs.Items.{End, Siblings}
+use Rattle.crs_text.specs.Prelude.{End, Siblings}
 use Rattle.crs_value.specs.declared.values.level.Level.TheVariants as levels
-use Rattle.crs_normal.specs.SpelledItems.{opt, text_node}
-use Rattle.crs_normal.specs.SpelledUsages.{item_box, item_extent, norm_extent}
+use Rattle.crs_normal.specs.Prelude.{opt, text_node, item_box, item_extent, norm_extent}
 use Rattle.crs_leaves.specs.Openings.{enclosed}
 use Rattle.crs_writer.proofs.EncloseLemmas.{from-enclosed}
 use Rattle.crs_writer.proofs.spelling.usage.write_usage.Goals as goal

@@ -1,13 +1,8 @@
 use Rattle.std.proofs.Common.{codes}
 use Rattle.std.proofs.lemmas.Result.{on_ok_weaker}
 use Rattle.std.specs.Option.{option_map}
-use Rattle.crs_text.specs.Items.{More, Siblings}
-use Rattle.crs_normal.specs.SpelledConversions.{item_geoid_model, set_geoid_models}
-use Rattle.crs_normal.specs.SpelledDynamic.{item_dynamic, norm_dynamic}
-use Rattle.crs_normal.specs.SpelledFrames.{item_frame, norm_frame}
-use Rattle.crs_normal.specs.SpelledItems.{each, opt}
-use Rattle.crs_normal.specs.SpelledSystems.{norm_system, system_items}
-use Rattle.crs_normal.specs.SpelledUsages.{norm_tail, tail_items}
+use Rattle.crs_text.specs.Prelude.{More, Siblings}
+use Rattle.crs_normal.specs.Prelude.{item_geoid_model, set_geoid_models, item_dynamic, norm_dynamic, item_frame, norm_frame, each, opt, norm_system, system_items, norm_tail, tail_items}
 use Rattle.crs_leaves.specs.Openings.{opened}
 use Rattle.crs_writer.proofs.PieceLemmas.{then-more}
 use Rattle.crs_writer.proofs.DirectLemmas.{closed}

@@ -1,7 +1,6 @@
 use Rattle.std.proofs.lemmas.Result.{on_ok_weaker}
 use Rattle.crs_shape.specs.declared.class.Class.TheVariants as class
-use Rattle.crs_value.specs.ReadsDynamic.{ReadsDynamic}
-use Rattle.crs_value.specs.ReadsNamed.{ReadsNamed}
+use Rattle.crs_value.specs.Prelude.{ReadsDynamic, ReadsNamed}
 use Rattle.crs_writer.proofs.CursorLemmas.{all-said, first-said}
 use Rattle.crs_writer.proofs.spelling.vertical.write_vertical_of.Goals as goal
 

@@ -1,5 +1,5 @@
 use Rattle.std.proofs.Common.{◌≤◌, length, take, List, refl, sym, subst}
-use Rattle.crs_text.specs.Items.{Item, arguments}
+use Rattle.crs_text.specs.Prelude.{Item, arguments}
 use Rattle.crs_shape.specs.declared.class.Class.TheVariants as class
 use Rattle.crs_value.specs.BadOrder.{OneHas}
 use Rattle.crs_value.specs.Reading.{item_at, those}

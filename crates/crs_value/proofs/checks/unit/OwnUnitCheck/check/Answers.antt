@@ -1,6 +1,6 @@
 use Rattle.std.proofs.Common.{subst}
 use Rattle.crs_shape.specs.declared.class.Class.{Class}
-use Rattle.crs_shape.specs.Shaped.{Shaped}
+use Rattle.crs_shape.specs.Prelude.{Shaped}
 use Rattle.crs_value.specs.Reading.{item_at}
 use Rattle.crs_value.proofs.checked.UnitLemmas.{own-some}
 use Rattle.crs_value.proofs.checks.unit.OwnUnitCheck.check.Goals as goal

@@ -1,5 +1,5 @@
-use Rattle.crs_text.specs.Items.{count}
-use Rattle.crs_shape.specs.Slots.{any_of}
+use Rattle.crs_text.specs.Prelude.{count}
+use Rattle.crs_shape.specs.Prelude.{any_of}
 use Rattle.crs_value.specs.Judged.{Leaves}
 use Rattle.crs_value.specs.Reading.{ahead, Holds}
 use Rattle.crs_value.proofs.walk.JudgedLemmas.{Reaches}

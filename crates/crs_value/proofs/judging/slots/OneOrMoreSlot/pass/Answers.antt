@@ -1,5 +1,5 @@
 use Rattle.std.proofs.Common.{refl, ap, None, Some}
-use Rattle.crs_shape.specs.Slots.{some_of}
+use Rattle.crs_shape.specs.Prelude.{some_of}
 use Rattle.crs_value.proofs.found.ArgumentLemmas.{has-some}
 use Rattle.crs_value.proofs.walk.JudgedLemmas.{passed-short, passed-wrong, passed-more, passed-stop}
 use Rattle.crs_value.proofs.walk.LeftLemmas.{leaves-judged, leaves-again}

@@ -1,5 +1,5 @@
 use Rattle.std.proofs.Common.{ℕ, drop, Option, subst, arith}
-use Rattle.crs_text.specs.Items.{arguments}
+use Rattle.crs_text.specs.Prelude.{arguments}
 use Rattle.crs_shape.specs.declared.class.Class.TheVariants as class
 use Rattle.crs_value.specs.Cursor.{item}
 use Rattle.crs_value.specs.Reading.{those, IsFound}

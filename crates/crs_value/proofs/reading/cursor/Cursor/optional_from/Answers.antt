@@ -1,5 +1,5 @@
 use Rattle.std.proofs.Common.{ℕ, Option, refl, subst}
-use Rattle.crs_text.specs.Items.{arguments}
+use Rattle.crs_text.specs.Prelude.{arguments}
 use Rattle.crs_value.specs.Cursor.{item}
 use Rattle.crs_value.specs.Reading.{those, IsFound}
 use Rattle.crs_value.proofs.found.ArgumentLemmas.{first-sound}

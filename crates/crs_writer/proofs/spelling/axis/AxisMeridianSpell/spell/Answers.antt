@@ -1,6 +1,6 @@
 use Rattle.std.proofs.Common.{Some, refl}
 use Rattle.std.proofs.lemmas.Result.{on_ok_weaker}
-use Rattle.crs_normal.specs.PartTexts.{axis_meridian_text}
+use Rattle.crs_normal.specs.Prelude.{axis_meridian_text}
 use Rattle.crs_writer.proofs.FlatLemmas.{as-said}
 use Rattle.crs_writer.proofs.spelling.axis.AxisMeridianSpell.spell.Goals as goal
 

@@ -1,7 +1,7 @@
 use Rattle.std.proofs.Common.{Some}
 use Rattle.std.proofs.lemmas.Result.{on_ok_weaker}
 use Rattle.crs_shape.specs.declared.class.Class.TheVariants as class
-use Rattle.crs_value.specs.Reads.{ReadsUnit}
+use Rattle.crs_value.specs.Prelude.{ReadsUnit}
 use Rattle.crs_writer.proofs.CursorLemmas.{first-said, needed}
 use Rattle.crs_writer.proofs.spelling.axis.RefNodePartAxisMeridian.put.Goals as goal
 

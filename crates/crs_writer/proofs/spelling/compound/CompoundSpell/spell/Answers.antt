@@ -1,6 +1,6 @@
 use Rattle.std.proofs.Common.{refl}
 use Rattle.std.proofs.lemmas.Result.{on_ok_weaker}
-use Rattle.crs_normal.specs.PartTexts.{compound_text}
+use Rattle.crs_normal.specs.Prelude.{compound_text}
 use Rattle.crs_writer.proofs.FlatLemmas.{as-said}
 use Rattle.crs_writer.proofs.spelling.compound.CompoundSpell.spell.Goals as goal
 

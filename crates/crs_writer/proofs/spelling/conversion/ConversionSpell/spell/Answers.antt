@@ -1,6 +1,6 @@
 use Rattle.std.proofs.Common.{refl, sym}
 use Rattle.std.proofs.lemmas.Result.{on_ok_weaker}
-use Rattle.crs_normal.specs.PartTexts.{conversion_text}
+use Rattle.crs_normal.specs.Prelude.{conversion_text}
 use Rattle.crs_writer.proofs.FlatLemmas.{as-said}
 use Rattle.crs_writer.proofs.spelling.conversion.ConversionSpell.spell.Goals as goal
 

@@ -1,5 +1,5 @@
 use Rattle.std.proofs.lemmas.Result.{on_ok_weaker}
-use Rattle.crs_value.specs.Reads.{ReadsUnit}
+use Rattle.crs_value.specs.Prelude.{ReadsUnit}
 use Rattle.crs_nodes.specs.Cursor.{item}
 use Rattle.crs_nodes.specs.declared.node.Node.{Node}
 use Rattle.crs_writer.proofs.CopyLemmas.{copy-writes}

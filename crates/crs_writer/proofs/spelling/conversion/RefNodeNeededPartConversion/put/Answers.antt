@@ -1,7 +1,6 @@
 use Rattle.std.proofs.lemmas.Result.{on_ok_weaker}
 use Rattle.crs_shape.specs.declared.class.Class.TheVariants as class
-use Rattle.crs_value.specs.ReadsConversion.{ReadsParameter}
-use Rattle.crs_value.specs.ReadsNamed.{ReadsNamed}
+use Rattle.crs_value.specs.Prelude.{ReadsParameter, ReadsNamed}
 use Rattle.crs_writer.proofs.CursorLemmas.{all-said, one-said, some-first}
 use Rattle.crs_writer.proofs.spelling.conversion.RefNodeNeededPartConversion.put.Goals as goal
 

@@ -1,6 +1,6 @@
 use Rattle.std.proofs.Common.{refl}
 use Rattle.std.proofs.lemmas.Result.{on_ok_weaker}
-use Rattle.crs_normal.specs.PartTexts.{dynamic_text}
+use Rattle.crs_normal.specs.Prelude.{dynamic_text}
 use Rattle.crs_writer.proofs.FlatLemmas.{as-said, copied}
 use Rattle.crs_writer.proofs.spelling.dynamic.DynamicSpell.spell.Goals as goal
 

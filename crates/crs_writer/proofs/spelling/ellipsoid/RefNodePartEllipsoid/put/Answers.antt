@@ -1,6 +1,6 @@
 use Rattle.std.proofs.lemmas.Result.{on_ok_weaker}
 use Rattle.crs_shape.specs.declared.class.Class.TheVariants as class
-use Rattle.crs_value.specs.Reads.{ReadsUnit}
+use Rattle.crs_value.specs.Prelude.{ReadsUnit}
 use Rattle.crs_writer.proofs.CursorLemmas.{first-said}
 use Rattle.crs_writer.proofs.spelling.ellipsoid.RefNodePartEllipsoid.put.Goals as goal
 

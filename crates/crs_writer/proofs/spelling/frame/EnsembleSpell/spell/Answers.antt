@@ -1,6 +1,6 @@
 use Rattle.std.proofs.Common.{refl, sym}
 use Rattle.std.proofs.lemmas.Result.{on_ok_weaker}
-use Rattle.crs_normal.specs.PartTexts.{ensemble_text}
+use Rattle.crs_normal.specs.Prelude.{ensemble_text}
 use Rattle.crs_writer.proofs.FlatLemmas.{as-said, copied}
 use Rattle.crs_writer.proofs.spelling.frame.EnsembleSpell.spell.Goals as goal
 

@@ -1,6 +1,6 @@
 use Rattle.std.proofs.Common.{refl}
 use Rattle.std.proofs.lemmas.Result.{on_ok_weaker}
-use Rattle.crs_normal.specs.PartTexts.{base_text}
+use Rattle.crs_normal.specs.Prelude.{base_text}
 use Rattle.crs_writer.proofs.FlatLemmas.{as-said, copied}
 use Rattle.crs_writer.proofs.spelling.projected.BaseSpell.spell.Goals as goal
 

@@ -1,7 +1,6 @@
 use Rattle.std.proofs.lemmas.Result.{on_ok_weaker}
 use Rattle.crs_shape.specs.declared.class.Class.TheVariants as class
-use Rattle.crs_value.specs.Reads.{ReadsMeridian, ReadsUnit}
-use Rattle.crs_value.specs.ReadsDynamic.{ReadsDynamic}
+use Rattle.crs_value.specs.Prelude.{ReadsMeridian, ReadsUnit, ReadsDynamic}
 use Rattle.crs_writer.proofs.CursorLemmas.{first-said}
 use Rattle.crs_writer.proofs.spelling.projected.RefNodeNeededPartBase.put.Goals as goal
 

@@ -1,4 +1,4 @@
-use Rattle.crs_value.specs.Reads.{ReadsHead}
+use Rattle.crs_value.specs.Prelude.{ReadsHead}
 use Rattle.crs_writer.proofs.CursorLemmas.{some-first}
 use Rattle.crs_writer.proofs.spelling.system.RefNodeSystemPart.put_head.Goals as goal
 

@@ -1,0 +1,14 @@
+-- The names that proofs of the crates above cite, passed on from one place. Declares nothing.
+pub use Rattle.crs_same.specs.Agreement.{AgreeAt, AgreeAxes, AgreeBase, AgreeCompound, AgreeConversion, AgreeCrs, AgreeDatum, AgreeDynamic, AgreeEllipsoid, AgreeEnsemble, AgreeFrame, AgreeGeodetic, AgreeGiven, AgreeHorizontal, AgreeMeridian, AgreeMethod, AgreeProjected, AgreeSystem, AgreeTail, AgreeVertical}
+unfoldable pub use Rattle.crs_same.specs.Agreement.{AgreeAxis}
+pub use Rattle.crs_same.specs.Contents.{given}
+pub use Rattle.crs_same.specs.Parts.{DifferenceParts, Differences, Parts, exchanged, part, ◌⨾◌}
+unfoldable pub use Rattle.crs_same.specs.Parts.{AreSame}
+pub use Rattle.crs_same.specs.PartsOfCrs.{DifferencesInCrs, FirstInCrs}
+unfoldable pub use Rattle.crs_same.specs.PartsOfCrs.{parts_of_base, parts_of_compound, parts_of_conversion, parts_of_geodetic, parts_of_horizontal, parts_of_method, parts_of_projected, parts_of_vertical}
+pub use Rattle.crs_same.specs.PartsOfFrames.{or_greenwich, parts_of_datum, parts_of_ellipsoid, parts_of_ensemble, parts_of_given}
+unfoldable pub use Rattle.crs_same.specs.PartsOfFrames.{parts_of_frame}
+pub use Rattle.crs_same.specs.Paths.{further_text, path_text}
+pub use Rattle.crs_same.specs.SameCrs.{IsHorizontalPart}
+unfoldable pub use Rattle.crs_same.specs.SameCrs.{SameCrs, SameDynamic}
+pub use Rattle.crs_same.specs.SingleParts.{identifiers, numbers, units}
