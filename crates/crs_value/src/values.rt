@@ -1,4 +1,5 @@
-//! The values of nodes, each with its reading.
+//! The values of nodes, each with its reading. Their drops are written by hand: a derived drop is expanded wherever a
+//! value is dropped, which slows the proofs.
 
 pub(crate) mod axis;
 pub(crate) mod compound;

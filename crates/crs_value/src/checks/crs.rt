@@ -3,6 +3,7 @@ ghost use Rattle.std.specs.Prelude.{◌≡◌, ◌<◌, ◌⊎◌, IfSome, Some}
 ghost use Rattle.crs_text.specs.Items.{HasId, arguments};
 ghost use Rattle.crs_shape.specs.Shaped.{Shaped};
 ghost use Rattle.crs_shape.specs.Dimensions.{dimensions_of};
+ghost use Rattle.crs_shape.specs.declared.class.Class.TheVariants as classes;
 ghost use Rattle.crs_value.specs.Cursor.{args, item};
 ghost use Rattle.crs_value.specs.BadDynamic.{BadDynamic};
 ghost use Rattle.crs_value.specs.Break.{AnyOf, IsLeast};
@@ -35,7 +36,6 @@ struct HeadOf {
 
 impl Check for HeadOf {
     ghost use Rattle.std.specs.Prelude.{◌≡◌, ◌⊎◌};
-    ghost use Rattle.crs_shape.specs.declared.class.Class.TheVariants as classes;
     ghost use Rattle.crs_shape.specs.Dimensions.{dimensions_of};
     ghost use Rattle.crs_value.specs.AxisCount.{AxisCount};
     ghost use Rattle.crs_value.specs.BadSystem.{BadSystem};
@@ -66,7 +66,6 @@ impl Check for UnitsOf {
     ghost use Rattle.std.specs.Prelude.{◌≡◌};
     ghost use Rattle.crs_text.specs.Items.{HasId, arguments};
     ghost use Rattle.crs_shape.specs.Shaped.{Shaped};
-    ghost use Rattle.crs_shape.specs.declared.class.Class.TheVariants as classes;
     ghost use Rattle.crs_value.specs.BadUnit.{BadUnit};
     ghost use Rattle.crs_value.specs.Reading.{item_at, those, IsFound};
 

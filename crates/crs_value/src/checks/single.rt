@@ -2,6 +2,7 @@
 ghost use Rattle.std.specs.Prelude.{◌≡◌, ◌≤◌, ◌≢◌, IsTrue, ◌↔◌, None};
 ghost use Rattle.std.specs.List.{find};
 ghost use Rattle.crs_text.specs.Items.{HasId};
+ghost use Rattle.crs_shape.specs.declared.class.Class.TheVariants as classes;
 ghost use Rattle.crs_value.specs.BadValue.{IsAboveZero, NotAbove, IsNegative};
 ghost use Rattle.crs_value.specs.Break.{IsLeast};
 ghost use Rattle.crs_value.specs.FirstByte.{first_byte, is_telling};
@@ -134,7 +135,6 @@ pub(crate) struct AboveZero;
 
 impl Check for AboveZero {
     ghost use Rattle.std.specs.Prelude.{◌≡◌};
-    ghost use Rattle.crs_shape.specs.declared.class.Class.TheVariants as classes;
     ghost use Rattle.crs_value.specs.BadValue.{NotAbove};
 
     ghost Fits = { λ s tree class. class ≡ classes.Number };
@@ -161,7 +161,6 @@ pub(crate) struct NotNegative;
 
 impl Check for NotNegative {
     ghost use Rattle.std.specs.Prelude.{◌≡◌};
-    ghost use Rattle.crs_shape.specs.declared.class.Class.TheVariants as classes;
     ghost use Rattle.crs_value.specs.BadValue.{IsNegative};
 
     ghost Fits = { λ s tree class. class ≡ classes.Number };

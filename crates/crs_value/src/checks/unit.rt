@@ -2,6 +2,7 @@
 ghost use Rattle.std.specs.Prelude.{◌≡◌, ◌↔◌, IsTrue};
 ghost use Rattle.crs_text.specs.Items.{HasId, arguments};
 ghost use Rattle.crs_shape.specs.Shaped.{Shaped};
+ghost use Rattle.crs_shape.specs.declared.class.Class.TheVariants as classes;
 ghost use Rattle.crs_value.specs.Cursor.{args, item};
 ghost use Rattle.crs_value.specs.BadUnit.{Asks, Fits, AllAsk, SharedFits, BadShared, BadUnit};
 ghost use Rattle.crs_value.specs.Break.{IsLeast};
@@ -79,7 +80,6 @@ pub(crate) struct Misfit {
 impl Check for Misfit {
     ghost use Rattle.crs_text.specs.Items.{HasId};
     ghost use Rattle.crs_shape.specs.Shaped.{Shaped};
-    ghost use Rattle.crs_shape.specs.declared.class.Class.TheVariants as classes;
     ghost use Rattle.crs_value.specs.BadUnit.{Misfits};
     ghost use Rattle.crs_value.specs.Reading.{item_at, IsReading};
     ghost use Rattle.crs_value.specs.Reads.{HasType};
@@ -109,7 +109,6 @@ struct OwnUnit {
 
 impl Check for OwnUnit {
     ghost use Rattle.std.specs.Prelude.{◌≡◌};
-    ghost use Rattle.crs_shape.specs.declared.class.Class.TheVariants as classes;
     ghost use Rattle.crs_value.specs.BadUnit.{BadOwnUnit};
     ghost use Rattle.crs_value.specs.Reading.{item_at, IsReading};
     ghost use Rattle.crs_value.specs.Reads.{HasType};
@@ -159,7 +158,6 @@ struct NoUnit;
 
 impl Check for NoUnit {
     ghost use Rattle.std.specs.Prelude.{◌≡◌};
-    ghost use Rattle.crs_shape.specs.declared.class.Class.TheVariants as classes;
     ghost use Rattle.crs_value.specs.BadUnit.{HasOwnUnit};
 
     ghost Fits = { λ s tree class. class ≡ classes.Axis };
@@ -209,7 +207,6 @@ struct Sharing<'i, 'a> {
 }
 
 impl Sharing<'_, '_> {
-    ghost use Rattle.crs_shape.specs.declared.class.Class.TheVariants as classes;
     ghost use Rattle.crs_value.specs.Cursor.{args, item};
 
     // Whether all axes ask for this kind of unit.

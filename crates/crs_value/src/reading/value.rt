@@ -50,14 +50,10 @@ pub fn kind_of(items: &Items<'_>) -> Result<Kind, Refusal>
         (RefusesCrs items.now) }
 {
     crs_shape::laws::no_fault_is_shape();
-    let root = items.root();
-    items.formed(root);
+    let id = items.root();
+    items.formed(id);
     let class = judge(items)?;
-    Ok(kind_of_root(&Cursor {
-        items,
-        id: root,
-        class,
-    }))
+    Ok(kind_of_root(&Cursor { items, id, class }))
 }
 
 /// The value that the items of a text spell, with the text's bytes borrowed.
@@ -70,17 +66,10 @@ pub fn value_of<'a>(alloc: Global, items: &Items<'a>) -> Result<Crs<'a>, Fault>
     ensures { MatchResult result (SpellsCrs items.now) (IsFaultOf items.now) }
 {
     crs_shape::laws::no_fault_is_shape();
-    let root = items.root();
-    items.formed(root);
+    let id = items.root();
+    items.formed(id);
     match judge(items) {
-        Ok(class) => read_crs(
-            alloc,
-            &Cursor {
-                items,
-                id: root,
-                class,
-            },
-        ),
+        Ok(class) => read_crs(alloc, &Cursor { items, id, class }),
         Err(refusal) => Err(Fault::Refused(refusal)),
     }
 }

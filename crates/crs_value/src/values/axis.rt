@@ -1,5 +1,6 @@
 //! Axes.
 ghost use Rattle.crs_text.specs.Items.{arguments};
+ghost use Rattle.crs_shape.specs.declared.class.Class.TheVariants as classes;
 ghost use Rattle.crs_value.specs.Cursor.{item};
 ghost use Rattle.crs_value.specs.Checks.{IsSound};
 ghost use Rattle.crs_value.specs.Reading.{those, ReadsFirst};
@@ -52,7 +53,6 @@ impl<'a> Model for Axis<'a> {
     ghost invariant = { λ a. IsAxis (view a) };
 }
 
-// Hand-written: a derived drop is expanded wherever a value is dropped, which slows the proofs.
 impl Drop for Axis<'_> {
     fn drop(self) {
         let Axis {
@@ -86,7 +86,6 @@ impl<'a> Model for AxisMeridian<'a> {
     ghost invariant = { λ m. IsAxisMeridian (view m) };
 }
 
-// Hand-written: a derived drop is expanded wherever a value is dropped, which slows the proofs.
 impl Drop for AxisMeridian<'_> {
     fn drop(self) {
         let AxisMeridian {
@@ -97,7 +96,6 @@ impl Drop for AxisMeridian<'_> {
 }
 
 impl<'a> Node<'a> for AxisMeridian<'a> {
-    ghost use Rattle.crs_shape.specs.declared.class.Class.TheVariants as classes;
     ghost use Rattle.crs_value.specs.Reading.{Requires};
     ghost use Rattle.crs_value.specs.Reads.{ReadsAxisMeridian};
 
@@ -115,7 +113,6 @@ impl<'a> Node<'a> for AxisMeridian<'a> {
 
 impl<'a> Node<'a> for Axis<'a> {
     ghost use Rattle.std.specs.Prelude.{◌≡◌};
-    ghost use Rattle.crs_shape.specs.declared.class.Class.TheVariants as classes;
     ghost use Rattle.crs_value.specs.Reads.{ReadsAxis};
 
     ghost Suits = { λ c. c ≡ classes.Axis };

@@ -24,7 +24,6 @@ pub enum Horizontal<'a> {
     Projected(Projected<'a>),
 }
 
-// Hand-written: a derived drop is expanded wherever a value is dropped, which slows the proofs.
 impl Drop for Horizontal<'_> {
     fn drop(self) {
         match self {
@@ -63,7 +62,6 @@ impl<'a> Model for Compound<'a> {
     ghost invariant = { λ c. IsCompound (view c) };
 }
 
-// Hand-written: a derived drop is expanded wherever a value is dropped, which slows the proofs.
 impl Drop for Compound<'_> {
     fn drop(self) {
         let Compound {

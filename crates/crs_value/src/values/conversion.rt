@@ -1,5 +1,6 @@
 //! Conversions: their method and parameters.
 ghost use Rattle.std.specs.Prelude.{IfOk};
+ghost use Rattle.crs_shape.specs.declared.class.Class.TheVariants as classes;
 ghost use Rattle.crs_value.specs.Cursor.{item};
 ghost use Rattle.crs_value.specs.Checks.{IsSound};
 ghost use Rattle.crs_value.specs.ReadsConversion.{ReadsUnitOf, parameter_units};
@@ -41,7 +42,6 @@ impl<'a> Model for Conversion<'a> {
     ghost invariant = { λ c. IsConversion (view c) };
 }
 
-// Hand-written: a derived drop is expanded wherever a value is dropped, which slows the proofs.
 impl Drop for Conversion<'_> {
     fn drop(self) {
         let Conversion {
@@ -73,7 +73,6 @@ impl<'a> Model for Method<'a> {
     ghost invariant = { λ m. IsNamed (view m) };
 }
 
-// Hand-written: a derived drop is expanded wherever a value is dropped, which slows the proofs.
 impl Drop for Method<'_> {
     fn drop(self) {
         let Method {
@@ -107,7 +106,6 @@ impl<'a> Model for Parameter<'a> {
     ghost invariant = { λ p. IsParameter (view p) };
 }
 
-// Hand-written: a derived drop is expanded wherever a value is dropped, which slows the proofs.
 impl Drop for Parameter<'_> {
     fn drop(self) {
         let Parameter {
@@ -142,7 +140,6 @@ fn parameter_unit<'a>(alloc: Global, node: &Cursor<'_, 'a>) -> Result<Option<Uni
 
 impl<'a> Node<'a> for Conversion<'a> {
     ghost use Rattle.std.specs.Prelude.{◌≡◌};
-    ghost use Rattle.crs_shape.specs.declared.class.Class.TheVariants as classes;
     ghost use Rattle.crs_value.specs.ReadsConversion.{ReadsConversion};
 
     ghost Suits = { λ c. c ≡ classes.Conversion };
@@ -160,7 +157,6 @@ impl<'a> Node<'a> for Conversion<'a> {
 }
 
 impl<'a> Node<'a> for Method<'a> {
-    ghost use Rattle.crs_shape.specs.declared.class.Class.TheVariants as classes;
     ghost use Rattle.crs_value.specs.Reading.{Requires};
     ghost use Rattle.crs_value.specs.ReadsNamed.{ReadsNamed};
 
@@ -178,7 +174,6 @@ impl<'a> Node<'a> for Method<'a> {
 
 impl<'a> Node<'a> for Parameter<'a> {
     ghost use Rattle.std.specs.Prelude.{◌≡◌};
-    ghost use Rattle.crs_shape.specs.declared.class.Class.TheVariants as classes;
     ghost use Rattle.crs_value.specs.ReadsConversion.{ReadsParameter};
 
     ghost Suits = { λ c. c ≡ classes.Parameter };

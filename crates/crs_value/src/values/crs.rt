@@ -20,7 +20,6 @@ pub enum Crs<'a> {
     Compound(Compound<'a>),
 }
 
-// Hand-written: a derived drop is expanded wherever a value is dropped, which slows the proofs.
 impl Drop for Crs<'_> {
     fn drop(self) {
         match self {

@@ -1,5 +1,7 @@
 //! What dynamic frames say.
 
+ghost use Rattle.crs_shape.specs.declared.class.Class.TheVariants as classes;
+
 use crate::reading::cursor::Cursor;
 use crate::reading::node::Node;
 use crate::values::ident::Ident;
@@ -28,7 +30,6 @@ impl<'a> Model for Dynamic<'a> {
     ghost invariant = { λ d. IsDynamic (view d) };
 }
 
-// Hand-written: a derived drop is expanded wherever a value is dropped, which slows the proofs.
 impl Drop for Dynamic<'_> {
     fn drop(self) {
         let Dynamic { epoch: _, model: _ } = self;
@@ -54,7 +55,6 @@ impl<'a> Model for DeformationModel<'a> {
     ghost invariant = { λ m. IsNamed (view m) };
 }
 
-// Hand-written: a derived drop is expanded wherever a value is dropped, which slows the proofs.
 impl Drop for DeformationModel<'_> {
     fn drop(self) {
         let DeformationModel {
@@ -66,7 +66,6 @@ impl Drop for DeformationModel<'_> {
 
 impl<'a> Node<'a> for Dynamic<'a> {
     ghost use Rattle.std.specs.Prelude.{◌≡◌};
-    ghost use Rattle.crs_shape.specs.declared.class.Class.TheVariants as classes;
     ghost use Rattle.crs_value.specs.ReadsDynamic.{ReadsDynamic};
 
     ghost Suits = { λ c. c ≡ classes.Dynamic };
@@ -83,7 +82,6 @@ impl<'a> Node<'a> for Dynamic<'a> {
 }
 
 impl<'a> Node<'a> for DeformationModel<'a> {
-    ghost use Rattle.crs_shape.specs.declared.class.Class.TheVariants as classes;
     ghost use Rattle.crs_value.specs.Reading.{Requires};
     ghost use Rattle.crs_value.specs.ReadsNamed.{ReadsNamed};
 

@@ -42,7 +42,6 @@ impl<'a> Model for Ellipsoid<'a> {
     ghost invariant = { λ e. IsEllipsoid (view e) };
 }
 
-// Hand-written: a derived drop is expanded wherever a value is dropped, which slows the proofs.
 impl Drop for Ellipsoid<'_> {
     fn drop(self) {
         let Ellipsoid {

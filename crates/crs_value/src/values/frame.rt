@@ -1,5 +1,7 @@
 //! Reference frames and datum ensembles.
 ghost use Rattle.std.specs.Prelude.{◌≡◌};
+ghost use Rattle.crs_shape.specs.declared.class.Class.TheVariants as classes;
+ghost use Rattle.crs_value.specs.Reading.{Requires};
 ghost use Rattle.crs_value.specs.EnsembleFrames.{datum_of, frame_of};
 
 use crate::reading::cursor::Cursor;
@@ -23,7 +25,6 @@ pub enum Frame<'a> {
     Ensemble(Ensemble<'a>),
 }
 
-// Hand-written: a derived drop is expanded wherever a value is dropped, which slows the proofs.
 impl Drop for Frame<'_> {
     fn drop(self) {
         match self {
@@ -87,7 +88,6 @@ impl<'a> Model for Datum<'a> {
     ghost invariant = { λ d. IsDatum (view d) };
 }
 
-// Hand-written: a derived drop is expanded wherever a value is dropped, which slows the proofs.
 impl Drop for Datum<'_> {
     fn drop(self) {
         let Datum {
@@ -145,7 +145,6 @@ impl<'a> Model for Ensemble<'a> {
     ghost invariant = { λ e. IsEnsemble (view e) };
 }
 
-// Hand-written: a derived drop is expanded wherever a value is dropped, which slows the proofs.
 impl Drop for Ensemble<'_> {
     fn drop(self) {
         let Ensemble {
@@ -199,7 +198,6 @@ impl<'a> Model for Member<'a> {
     ghost invariant = { λ m. IsNamed (view m) };
 }
 
-// Hand-written: a derived drop is expanded wherever a value is dropped, which slows the proofs.
 impl Drop for Member<'_> {
     fn drop(self) {
         let Member {
@@ -210,8 +208,6 @@ impl Drop for Member<'_> {
 }
 
 impl<'a> Node<'a> for Datum<'a> {
-    ghost use Rattle.crs_shape.specs.declared.class.Class.TheVariants as classes;
-    ghost use Rattle.crs_value.specs.Reading.{Requires};
     ghost use Rattle.crs_value.specs.Reads.{ReadsDatum};
 
     ghost Suits = { λ c. Requires c classes.Text 0 };
@@ -230,8 +226,6 @@ impl<'a> Node<'a> for Datum<'a> {
 }
 
 impl<'a> Node<'a> for Ensemble<'a> {
-    ghost use Rattle.crs_shape.specs.declared.class.Class.TheVariants as classes;
-    ghost use Rattle.crs_value.specs.Reading.{Requires};
     ghost use Rattle.crs_value.specs.Reads.{ReadsEnsemble};
 
     ghost Suits = { λ c. Requires c classes.Text 0 × Requires c classes.Member 0
@@ -252,8 +246,6 @@ impl<'a> Node<'a> for Ensemble<'a> {
 }
 
 impl<'a> Node<'a> for Member<'a> {
-    ghost use Rattle.crs_shape.specs.declared.class.Class.TheVariants as classes;
-    ghost use Rattle.crs_value.specs.Reading.{Requires};
     ghost use Rattle.crs_value.specs.ReadsNamed.{ReadsNamed};
 
     ghost Suits = { λ c. Requires c classes.Text 0 };

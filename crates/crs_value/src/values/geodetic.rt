@@ -51,7 +51,6 @@ impl<'a> Model for Geodetic<'a> {
     ghost invariant = { λ g. IsGeodetic (view g) };
 }
 
-// Hand-written: a derived drop is expanded wherever a value is dropped, which slows the proofs.
 impl Drop for Geodetic<'_> {
     fn drop(self) {
         let Geodetic {

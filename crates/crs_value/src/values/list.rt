@@ -42,7 +42,6 @@ impl<T> Model for List<T> {
     ghost invariant = { λ a. IfSome a.lookup (λ lookup. AreFollowedByOnce lookup.value.count a.members.items) };
 }
 
-// Hand-written: a derived drop is expanded wherever a value is dropped, which slows the proofs.
 impl<T: Drop> Drop for List<T> {
     fn drop(self) {
         let List {

@@ -34,7 +34,6 @@ impl<'a> Model for Meridian<'a> {
     ghost invariant = { λ m. IsMeridian (view m) };
 }
 
-// Hand-written: a derived drop is expanded wherever a value is dropped, which slows the proofs.
 impl Drop for Meridian<'_> {
     fn drop(self) {
         let Meridian {

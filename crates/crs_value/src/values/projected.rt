@@ -1,5 +1,7 @@
 //! Projected CRSs and their base CRSs.
 
+ghost use Rattle.crs_shape.specs.declared.class.Class.TheVariants as classes;
+
 use crate::reading::cursor::Cursor;
 use crate::reading::firsts::firsts_of;
 use crate::reading::node::Node;
@@ -49,7 +51,6 @@ impl<'a> Model for Projected<'a> {
     ghost invariant = { λ p. IsProjected (view p) };
 }
 
-// Hand-written: a derived drop is expanded wherever a value is dropped, which slows the proofs.
 impl Drop for Projected<'_> {
     fn drop(self) {
         let Projected {
@@ -97,7 +98,6 @@ impl<'a> Model for Base<'a> {
     ghost invariant = { λ b. IsBase (view b) };
 }
 
-// Hand-written: a derived drop is expanded wherever a value is dropped, which slows the proofs.
 impl Drop for Base<'_> {
     fn drop(self) {
         let Base {
@@ -113,7 +113,6 @@ impl Drop for Base<'_> {
 
 impl<'a> Node<'a> for Projected<'a> {
     ghost use Rattle.std.specs.Prelude.{◌≡◌};
-    ghost use Rattle.crs_shape.specs.declared.class.Class.TheVariants as classes;
     ghost use Rattle.crs_value.specs.ReadsCrs.{ReadsProjected};
 
     ghost Suits = { λ c. c ≡ classes.ProjectedCrs };
@@ -135,7 +134,6 @@ impl<'a> Node<'a> for Projected<'a> {
 
 impl<'a> Node<'a> for Base<'a> {
     ghost use Rattle.std.specs.Prelude.{◌≡◌};
-    ghost use Rattle.crs_shape.specs.declared.class.Class.TheVariants as classes;
     ghost use Rattle.crs_value.specs.ReadsCrs.{ReadsBase};
 
     ghost Suits = { λ c. c ≡ classes.BaseCrs };

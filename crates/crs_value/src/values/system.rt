@@ -54,7 +54,6 @@ impl<'a> Model for System<'a> {
     ghost invariant = { λ s. IsSystem (view s) };
 }
 
-// Hand-written: a derived drop is expanded wherever a value is dropped, which slows the proofs.
 impl Drop for System<'_> {
     fn drop(self) {
         let System {

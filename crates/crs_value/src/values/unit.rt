@@ -36,7 +36,6 @@ impl<'a> Model for Unit<'a> {
     ghost invariant = { λ u. IsUnit (view u) };
 }
 
-// Hand-written: a derived drop is expanded wherever a value is dropped, which slows the proofs.
 impl Drop for Unit<'_> {
     fn drop(self) {
         let Unit {

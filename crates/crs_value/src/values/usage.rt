@@ -2,6 +2,8 @@
 ghost use Rattle.std.specs.Prelude.{◌↔◌, IsTrue, IfOk};
 ghost use Rattle.std.specs.Option.{option_copied};
 ghost use Rattle.crs_text.specs.Items.{arguments};
+ghost use Rattle.crs_shape.specs.declared.class.Class.TheVariants as classes;
+ghost use Rattle.crs_value.specs.Reading.{Requires};
 ghost use Rattle.crs_value.specs.Cursor.{item};
 ghost use Rattle.crs_value.specs.Checks.{IsSound};
 ghost use Rattle.crs_value.specs.FirstArguments.{AreFirsts};
@@ -51,7 +53,6 @@ impl<'a> Model for Usage<'a> {
     ghost invariant = { λ u. IsUsage (view u) };
 }
 
-// Hand-written: a derived drop is expanded wherever a value is dropped, which slows the proofs.
 impl Drop for Usage<'_> {
     fn drop(self) {
         let Usage {
@@ -109,7 +110,6 @@ impl<'a> Model for Extent<'a> {
     ghost invariant = { λ e. IsExtent (view e) };
 }
 
-// Hand-written: a derived drop is expanded wherever a value is dropped, which slows the proofs.
 impl Drop for Extent<'_> {
     fn drop(self) {
         let Extent {
@@ -145,7 +145,6 @@ impl<'a> Model for Tail<'a> {
     ghost invariant = { λ t. IsTail (view t) };
 }
 
-// Hand-written: a derived drop is expanded wherever a value is dropped, which slows the proofs.
 impl Drop for Tail<'_> {
     fn drop(self) {
         let Tail {
@@ -158,8 +157,6 @@ impl Drop for Tail<'_> {
 }
 
 impl<'a> Node<'a> for BoundingBox {
-    ghost use Rattle.crs_shape.specs.declared.class.Class.TheVariants as classes;
-    ghost use Rattle.crs_value.specs.Reading.{Requires};
     ghost use Rattle.crs_value.specs.Reads.{ReadsBox};
 
     ghost Suits = { λ c. Requires c classes.Number 3 };
@@ -177,8 +174,6 @@ impl<'a> Node<'a> for BoundingBox {
 }
 
 impl<'a> Node<'a> for Extent<'a> {
-    ghost use Rattle.crs_shape.specs.declared.class.Class.TheVariants as classes;
-    ghost use Rattle.crs_value.specs.Reading.{Requires};
     ghost use Rattle.crs_value.specs.Reads.{ReadsExtent};
 
     ghost Suits = { λ c. Requires c classes.Number 1 };
@@ -196,7 +191,6 @@ impl<'a> Node<'a> for Extent<'a> {
 
 impl<'a> Node<'a> for Usage<'a> {
     ghost use Rattle.std.specs.Prelude.{◌≡◌};
-    ghost use Rattle.crs_shape.specs.declared.class.Class.TheVariants as classes;
     ghost use Rattle.crs_value.specs.Reads.{ReadsUsage};
 
     ghost Suits = { λ c. c ≡ classes.Usage };

@@ -1,5 +1,7 @@
 //! Vertical CRSs and their geoid models.
 
+ghost use Rattle.crs_shape.specs.declared.class.Class.TheVariants as classes;
+
 use crate::reading::cursor::Cursor;
 use crate::reading::firsts::firsts_of;
 use crate::reading::node::Node;
@@ -51,7 +53,6 @@ impl<'a> Model for Vertical<'a> {
     ghost invariant = { λ v. IsVertical (view v) };
 }
 
-// Hand-written: a derived drop is expanded wherever a value is dropped, which slows the proofs.
 impl Drop for Vertical<'_> {
     fn drop(self) {
         let Vertical {
@@ -84,7 +85,6 @@ impl<'a> Model for GeoidModel<'a> {
     ghost invariant = { λ g. IsNamed (view g) };
 }
 
-// Hand-written: a derived drop is expanded wherever a value is dropped, which slows the proofs.
 impl Drop for GeoidModel<'_> {
     fn drop(self) {
         let GeoidModel {
@@ -96,7 +96,6 @@ impl Drop for GeoidModel<'_> {
 
 impl<'a> Node<'a> for Vertical<'a> {
     ghost use Rattle.std.specs.Prelude.{◌≡◌};
-    ghost use Rattle.crs_shape.specs.declared.class.Class.TheVariants as classes;
     ghost use Rattle.crs_value.specs.ReadsCrs.{ReadsVertical};
 
     ghost Suits = { λ c. c ≡ classes.VerticalCrs };
@@ -118,7 +117,6 @@ impl<'a> Node<'a> for Vertical<'a> {
 }
 
 impl<'a> Node<'a> for GeoidModel<'a> {
-    ghost use Rattle.crs_shape.specs.declared.class.Class.TheVariants as classes;
     ghost use Rattle.crs_value.specs.Reading.{Requires};
     ghost use Rattle.crs_value.specs.ReadsNamed.{ReadsNamed};
 

@@ -6,7 +6,7 @@ use Rattle.crs_value.proofs.reading.value.kind_of.Goals as goal
 
 pub kind_of_root-requires-clause-sound : goal.kind_of_root-requires-clause-sound
 kind_of_root-requires-clause-sound c =
-    spelled-sound c.no_fault_is_shape.ensures c.args.items.now (item_at c.args.items.now c.root-root.result) c.in_ok-class.class (ap first_of c.root-root.ensures.root)
+    spelled-sound c.no_fault_is_shape.ensures c.args.items.now (item_at c.args.items.now c.root-id.result) c.in_ok-class.class (ap first_of c.root-id.ensures.root)
     c.in_ok-class.ensures.class c.formed.ensures c.in_ok-class.ensures.answer.1
 
 pub kind_of_root-requires-clause-root : goal.kind_of_root-requires-clause-root

@@ -6,7 +6,7 @@ use Rattle.crs_value.proofs.reading.value.value_of.Goals as goal
 
 pub read_crs-requires-clause-sound : goal.read_crs-requires-clause-sound
 read_crs-requires-clause-sound c =
-    spelled-sound c.no_fault_is_shape.ensures c.args.items.now (item_at c.args.items.now c.root-root.result) c.in-Ok.class (ap first_of c.root-root.ensures.root)
+    spelled-sound c.no_fault_is_shape.ensures c.args.items.now (item_at c.args.items.now c.root-id.result) c.in-Ok.class (ap first_of c.root-id.ensures.root)
     c.in-Ok.ensures.class c.formed.ensures c.in-Ok.ensures.answer.1
 
 pub read_crs-requires-clause-root : goal.read_crs-requires-clause-root
