@@ -84,29 +84,37 @@ pub(crate) struct AxisFields<'n, M, N, U, I> {
     pub(crate) ids: I,
 }
 
-// After an opening; with this order, and this unit, where that kind is asked.
-pub(crate) fn write_axis<'a, M: Part<AxisMeridian<'a>>, N: NumberPart, U: UnitPart, I: IdentsPart>(
-    out: &mut Vec<u8>,
-    opening: &[u8],
-    fields: AxisFields<'_, M, N, U, I>,
-    level: Level,
-) -> Result<(), AllocError>
-    ensures { OnOk result ((n : List ℕ) (d : Direction) (m : Option AxisMeridianParts) (o : Option Value) (k : UnitKind)
-        (u : Option UnitParts) (is : List IdentParts) → n ≡ fields.entry.name.now → d ≡ fields.entry.direction →
-        SaysIfAny M.Says fields.entry.meridian m → SaysIfAny N.Says fields.entry.order o → k ≡ fields.entry.asked →
-        SaysIfAny U.Says fields.entry.unit u → I.Says fields.entry.ids is →
-        out.new.items ≡ out.old.items ++ named_node opening.now n
-        (More (word_item (direction_word d)) (opt item_axis_meridian (norm_axis_meridians level m)
-        (opt (number_node (codes "ORDER")) o (opt item_unit (norm_units level k u)
-        (each item_ident (set_idents level is) End)))))) }
-{
-    open_text(out, opening, fields.name)?;
-    write_direction(out, fields.direction)?;
-    write_optional::<AxisMeridian<'a>, M>(out, fields.meridian, level)?;
-    write_optional_number(out, b",ORDER[", fields.order)?;
-    write_optional_unit(out, fields.asked, fields.unit, level)?;
-    fields.ids.put(out, level)?;
-    append(out, b"]")
+impl<'n, 'a, M: Part<AxisMeridian<'a>>, N: NumberPart, U: UnitPart, I: IdentsPart> AxisFields<
+    'n,
+    M,
+    N,
+    U,
+    I,
+> {
+    // After an opening; with this order, and this unit, where that kind is asked.
+    pub(crate) fn write(
+        self,
+        out: &mut Vec<u8>,
+        opening: &[u8],
+        level: Level,
+    ) -> Result<(), AllocError>
+        ensures { OnOk result ((n : List ℕ) (d : Direction) (m : Option AxisMeridianParts) (o : Option Value) (k : UnitKind)
+            (u : Option UnitParts) (is : List IdentParts) → n ≡ self.entry.name.now → d ≡ self.entry.direction →
+            SaysIfAny M.Says self.entry.meridian m → SaysIfAny N.Says self.entry.order o → k ≡ self.entry.asked →
+            SaysIfAny U.Says self.entry.unit u → I.Says self.entry.ids is →
+            out.new.items ≡ out.old.items ++ named_node opening.now n
+            (More (word_item (direction_word d)) (opt item_axis_meridian (norm_axis_meridians level m)
+            (opt (number_node (codes "ORDER")) o (opt item_unit (norm_units level k u)
+            (each item_ident (set_idents level is) End)))))) }
+    {
+        open_text(out, opening, self.name)?;
+        write_direction(out, self.direction)?;
+        write_optional::<AxisMeridian<'a>, M>(out, self.meridian, level)?;
+        write_optional_number(out, b",ORDER[", self.order)?;
+        write_optional_unit(out, self.asked, self.unit, level)?;
+        self.ids.put(out, level)?;
+        append(out, b"]")
+    }
 }
 
 // By itself: with its own order and unit, of which `UNIT` is a kind of its own.
@@ -115,19 +123,15 @@ impl Spell for Axis<'_> {
 
     #[tactic(auto, using(crate::proofs::FlatLemmas::value_rules))]
     fn spell(&self, out: &mut Vec<u8>, level: Level) -> Result<(), AllocError> {
-        write_axis(
-            out,
-            b"AXIS[\"",
-            AxisFields {
-                name: self.name,
-                direction: self.direction,
-                meridian: self.meridian.as_ref(),
-                order: self.order.as_ref(),
-                asked: UnitKind::Plain,
-                unit: self.unit.as_ref(),
-                ids: &self.identifiers,
-            },
-            level,
-        )
+        AxisFields {
+            name: self.name,
+            direction: self.direction,
+            meridian: self.meridian.as_ref(),
+            order: self.order.as_ref(),
+            asked: UnitKind::Plain,
+            unit: self.unit.as_ref(),
+            ids: &self.identifiers,
+        }
+        .write(out, b"AXIS[\"", level)
     }
 }

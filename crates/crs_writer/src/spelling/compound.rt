@@ -72,43 +72,42 @@ struct CompoundFields<'n, H, V, T> {
     tail: T,
 }
 
-// After an opening.
-fn write_compound<'a, H: NeededPart<Horizontal<'a>>, V: NeededPart<Vertical<'a>>, T: TailPart>(
-    out: &mut Vec<u8>,
-    opening: &[u8],
-    fields: CompoundFields<'_, H, V, T>,
-    level: Level,
-) -> Result<(), AllocError>
-    requires horizontal { IsRead (H.Says fields.horizontal) }
-    requires vertical { IsRead (V.Says fields.vertical) }
-    ensures { OnOk result ((p : CompoundParts) → p.name ≡ fields.entry.name.now →
-        H.Says fields.entry.horizontal p.horizontal → V.Says fields.entry.vertical p.vertical →
-        T.Says fields.entry.tail p.tail → out.new.items ≡ out.old.items ++ named_node opening.now p.name
-        (More (item_horizontal (norm_horizontal level p.horizontal)) (More (item_vertical (norm_vertical level p.vertical))
-        (tail_items (norm_tail level p.tail))))) }
-{
-    open_text(out, opening, fields.name)?;
-    fields.horizontal.put(out, level)?;
-    fields.vertical.put(out, level)?;
-    fields.tail.put(out, level)?;
-    append(out, b"]")
+impl<
+    'n,
+    'a,
+    H: NeededPart<Horizontal<'a>>,
+    V: NeededPart<Vertical<'a>>,
+    T: TailPart,
+> CompoundFields<'n, H, V, T> {
+    // After an opening.
+    fn write(self, out: &mut Vec<u8>, opening: &[u8], level: Level) -> Result<(), AllocError>
+        requires horizontal { IsRead (H.Says self.horizontal) }
+        requires vertical { IsRead (V.Says self.vertical) }
+        ensures { OnOk result ((p : CompoundParts) → p.name ≡ self.entry.name.now →
+            H.Says self.entry.horizontal p.horizontal → V.Says self.entry.vertical p.vertical →
+            T.Says self.entry.tail p.tail → out.new.items ≡ out.old.items ++ named_node opening.now p.name
+            (More (item_horizontal (norm_horizontal level p.horizontal)) (More (item_vertical (norm_vertical level p.vertical))
+            (tail_items (norm_tail level p.tail))))) }
+    {
+        open_text(out, opening, self.name)?;
+        self.horizontal.put(out, level)?;
+        self.vertical.put(out, level)?;
+        self.tail.put(out, level)?;
+        append(out, b"]")
+    }
 }
 
 impl Spell for Compound<'_> {
     ghost spelling = { compound_text };
 
     fn spell(&self, out: &mut Vec<u8>, level: Level) -> Result<(), AllocError> {
-        write_compound(
-            out,
-            b"COMPOUNDCRS[\"",
-            CompoundFields {
-                name: self.name,
-                horizontal: &self.horizontal,
-                vertical: &self.vertical,
-                tail: &self.tail,
-            },
-            level,
-        )
+        CompoundFields {
+            name: self.name,
+            horizontal: &self.horizontal,
+            vertical: &self.vertical,
+            tail: &self.tail,
+        }
+        .write(out, b"COMPOUNDCRS[\"", level)
     }
 }
 
@@ -124,15 +123,11 @@ pub(crate) fn write_compound_of(
 {
     let tail = node;
     let vertical = node.one(Class::VerticalCrs);
-    write_compound(
-        out,
-        b"COMPOUNDCRS[\"",
-        CompoundFields {
-            name: node.text(),
-            horizontal: node,
-            vertical: &vertical,
-            tail,
-        },
-        level,
-    )
+    CompoundFields {
+        name: node.text(),
+        horizontal: node,
+        vertical: &vertical,
+        tail,
+    }
+    .write(out, b"COMPOUNDCRS[\"", level)
 }

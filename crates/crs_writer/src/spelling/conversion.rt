@@ -54,41 +54,34 @@ struct ParameterFields<'n, N, U, I> {
     ids: I,
 }
 
-// After an opening.
-#[tactic(auto, using(crate::proofs::FlatLemmas::flat_rules))]
-fn write_parameter<N: NumberPart, U: UnitPart, I: IdentsPart>(
-    out: &mut Vec<u8>,
-    opening: &[u8],
-    fields: ParameterFields<'_, N, U, I>,
-    level: Level,
-) -> Result<(), AllocError>
-    ensures { OnOk result ((p : ParameterParts) → p.name ≡ fields.entry.name.now → N.Says fields.entry.value p.value →
-        SaysIfAny U.Says fields.entry.unit p.unit → I.Says fields.entry.ids p.identifiers →
-        out.new.items ≡ out.old.items ++ named_node opening.now p.name (More (number_item p.value)
-        (opt item_unit (norm_units level kinds.Plain p.unit) (each item_ident (set_idents level p.identifiers) End)))) }
-{
-    open_text(out, opening, fields.name)?;
-    fields.value.open(out, b",")?;
-    write_optional_unit(out, UnitKind::Plain, fields.unit, level)?;
-    fields.ids.put(out, level)?;
-    append(out, b"]")
+impl<'n, N: NumberPart, U: UnitPart, I: IdentsPart> ParameterFields<'n, N, U, I> {
+    // After an opening.
+    #[tactic(auto, using(crate::proofs::FlatLemmas::flat_rules))]
+    fn write(self, out: &mut Vec<u8>, opening: &[u8], level: Level) -> Result<(), AllocError>
+        ensures { OnOk result ((p : ParameterParts) → p.name ≡ self.entry.name.now → N.Says self.entry.value p.value →
+            SaysIfAny U.Says self.entry.unit p.unit → I.Says self.entry.ids p.identifiers →
+            out.new.items ≡ out.old.items ++ named_node opening.now p.name (More (number_item p.value)
+            (opt item_unit (norm_units level kinds.Plain p.unit) (each item_ident (set_idents level p.identifiers) End)))) }
+    {
+        open_text(out, opening, self.name)?;
+        self.value.open(out, b",")?;
+        write_optional_unit(out, UnitKind::Plain, self.unit, level)?;
+        self.ids.put(out, level)?;
+        append(out, b"]")
+    }
 }
 
 impl Spell for Parameter<'_> {
     ghost spelling = { parameter_text };
 
     fn spell(&self, out: &mut Vec<u8>, level: Level) -> Result<(), AllocError> {
-        write_parameter(
-            out,
-            b"PARAMETER[\"",
-            ParameterFields {
-                name: self.name,
-                value: &self.value,
-                unit: self.unit.as_ref(),
-                ids: &self.identifiers,
-            },
-            level,
-        )
+        ParameterFields {
+            name: self.name,
+            value: &self.value,
+            unit: self.unit.as_ref(),
+            ids: &self.identifiers,
+        }
+        .write(out, b"PARAMETER[\"", level)
     }
 }
 
@@ -102,17 +95,13 @@ impl<'a> ReadAs<'a> for Parameter<'a> {
             return append(out, bytes);
         }
         let unit = node.parameter_unit();
-        write_parameter(
-            out,
-            b"PARAMETER[\"",
-            ParameterFields {
-                name: node.text(),
-                value: node.number(),
-                unit: unit.as_ref(),
-                ids: node,
-            },
-            level,
-        )
+        ParameterFields {
+            name: node.text(),
+            value: node.number(),
+            unit: unit.as_ref(),
+            ids: node,
+        }
+        .write(out, b"PARAMETER[\"", level)
     }
 }
 
@@ -125,25 +114,29 @@ struct ConversionFields<'n, 'm, M, P, I> {
     ids: I,
 }
 
-// After an opening.
-fn write_conversion<'a, M: Part<Method<'a>>, P: MembersPart<Parameter<'a>>, I: IdentsPart>(
-    out: &mut Vec<u8>,
-    opening: &[u8],
-    fields: ConversionFields<'_, '_, M, P, I>,
-    level: Level,
-) -> Result<(), AllocError>
-    requires { P.Hold fields.parameters.now }
-    ensures { OnOk result ((x : ConversionParts) → x.name ≡ fields.entry.name.now →
-        M.Says fields.entry.method x.method → P.Say fields.entry.parameters.now x.parameters →
-        I.Says fields.entry.ids x.identifiers →
-        out.new.items ≡ out.old.items ++ named_node opening.now x.name (More (item_method (norm_method level x.method))
-        (each item_parameter (set_parameters level x.parameters) (each item_ident (set_idents level x.identifiers) End)))) }
-{
-    open_text(out, opening, fields.name)?;
-    fields.method.put(out, level)?;
-    write_set::<Parameter<'a>, P>(out, fields.parameters, level)?;
-    fields.ids.put(out, level)?;
-    append(out, b"]")
+impl<
+    'n,
+    'm,
+    'a,
+    M: Part<Method<'a>>,
+    P: MembersPart<Parameter<'a>>,
+    I: IdentsPart,
+> ConversionFields<'n, 'm, M, P, I> {
+    // After an opening.
+    fn write(self, out: &mut Vec<u8>, opening: &[u8], level: Level) -> Result<(), AllocError>
+        requires { P.Hold self.parameters.now }
+        ensures { OnOk result ((x : ConversionParts) → x.name ≡ self.entry.name.now →
+            M.Says self.entry.method x.method → P.Say self.entry.parameters.now x.parameters →
+            I.Says self.entry.ids x.identifiers →
+            out.new.items ≡ out.old.items ++ named_node opening.now x.name (More (item_method (norm_method level x.method))
+            (each item_parameter (set_parameters level x.parameters) (each item_ident (set_idents level x.identifiers) End)))) }
+    {
+        open_text(out, opening, self.name)?;
+        self.method.put(out, level)?;
+        write_set::<Parameter<'a>, P>(out, self.parameters, level)?;
+        self.ids.put(out, level)?;
+        append(out, b"]")
+    }
 }
 
 impl<'a> Spell for Conversion<'a> {
@@ -151,17 +144,13 @@ impl<'a> Spell for Conversion<'a> {
 
     fn spell(&self, out: &mut Vec<u8>, level: Level) -> Result<(), AllocError> {
         let parameters = self.parameters.as_slice();
-        write_conversion(
-            out,
-            b"CONVERSION[\"",
-            ConversionFields {
-                name: self.name,
-                method: &self.method,
-                parameters: &parameters,
-                ids: &self.identifiers,
-            },
-            level,
-        )
+        ConversionFields {
+            name: self.name,
+            method: &self.method,
+            parameters: &parameters,
+            ids: &self.identifiers,
+        }
+        .write(out, b"CONVERSION[\"", level)
     }
 }
 
@@ -174,17 +163,13 @@ impl<'c, 'i, 'a> NeededPart<Conversion<'a>> for &'c Node<'i, 'a> {
     fn put(&self, out: &mut Vec<u8>, level: Level) -> Result<(), AllocError> {
         let method = self.one(Class::Method);
         let parameters = self.all(Class::Parameter);
-        write_conversion(
-            out,
-            b",CONVERSION[\"",
-            ConversionFields {
-                name: self.text(),
-                method: &method,
-                parameters: &parameters,
-                ids: *self,
-            },
-            level,
-        )
+        ConversionFields {
+            name: self.text(),
+            method: &method,
+            parameters: &parameters,
+            ids: *self,
+        }
+        .write(out, b",CONVERSION[\"", level)
     }
 }
 

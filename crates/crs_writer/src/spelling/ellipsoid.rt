@@ -27,45 +27,38 @@ struct EllipsoidFields<'n, A, F, U, I> {
     ids: I,
 }
 
-// After an opening.
-#[tactic(auto, using(crate::proofs::FlatLemmas::flat_rules))]
-fn write_ellipsoid<A: NumberPart, F: NumberPart, U: UnitPart, I: IdentsPart>(
-    out: &mut Vec<u8>,
-    opening: &[u8],
-    fields: EllipsoidFields<'_, A, F, U, I>,
-    level: Level,
-) -> Result<(), AllocError>
-    ensures { OnOk result ((e : EllipsoidParts) → e.name ≡ fields.entry.name.now →
-        A.Says fields.entry.axis e.semi_major_axis → F.Says fields.entry.flattening e.inverse_flattening →
-        SaysIfAny U.Says fields.entry.unit e.unit → I.Says fields.entry.ids e.identifiers →
-        out.new.items ≡ out.old.items ++ named_node opening.now e.name
-        (More (number_item e.semi_major_axis) (More (number_item e.inverse_flattening)
-        (opt item_unit (Some (norm_length level e.unit)) (each item_ident (set_idents level e.identifiers) End))))) }
-{
-    open_text(out, opening, fields.name)?;
-    fields.axis.open(out, b",")?;
-    fields.flattening.open(out, b",")?;
-    write_length(out, fields.unit, level)?;
-    fields.ids.put(out, level)?;
-    append(out, b"]")
+impl<'n, A: NumberPart, F: NumberPart, U: UnitPart, I: IdentsPart> EllipsoidFields<'n, A, F, U, I> {
+    // After an opening.
+    #[tactic(auto, using(crate::proofs::FlatLemmas::flat_rules))]
+    fn write(self, out: &mut Vec<u8>, opening: &[u8], level: Level) -> Result<(), AllocError>
+        ensures { OnOk result ((e : EllipsoidParts) → e.name ≡ self.entry.name.now →
+            A.Says self.entry.axis e.semi_major_axis → F.Says self.entry.flattening e.inverse_flattening →
+            SaysIfAny U.Says self.entry.unit e.unit → I.Says self.entry.ids e.identifiers →
+            out.new.items ≡ out.old.items ++ named_node opening.now e.name
+            (More (number_item e.semi_major_axis) (More (number_item e.inverse_flattening)
+            (opt item_unit (Some (norm_length level e.unit)) (each item_ident (set_idents level e.identifiers) End))))) }
+    {
+        open_text(out, opening, self.name)?;
+        self.axis.open(out, b",")?;
+        self.flattening.open(out, b",")?;
+        write_length(out, self.unit, level)?;
+        self.ids.put(out, level)?;
+        append(out, b"]")
+    }
 }
 
 impl Spell for Ellipsoid<'_> {
     ghost spelling = { ellipsoid_text };
 
     fn spell(&self, out: &mut Vec<u8>, level: Level) -> Result<(), AllocError> {
-        write_ellipsoid(
-            out,
-            b"ELLIPSOID[\"",
-            EllipsoidFields {
-                name: self.name,
-                axis: &self.semi_major_axis,
-                flattening: &self.inverse_flattening,
-                unit: self.unit.as_ref(),
-                ids: &self.identifiers,
-            },
-            level,
-        )
+        EllipsoidFields {
+            name: self.name,
+            axis: &self.semi_major_axis,
+            flattening: &self.inverse_flattening,
+            unit: self.unit.as_ref(),
+            ids: &self.identifiers,
+        }
+        .write(out, b"ELLIPSOID[\"", level)
     }
 }
 
@@ -77,17 +70,13 @@ impl<'c, 'i, 'a> Part<Ellipsoid<'a>> for &'c Node<'i, 'a> {
 
     fn put(&self, out: &mut Vec<u8>, level: Level) -> Result<(), AllocError> {
         let unit = self.first(Class::LengthUnit);
-        write_ellipsoid(
-            out,
-            b",ELLIPSOID[\"",
-            EllipsoidFields {
-                name: self.text(),
-                axis: self.nth_number(0),
-                flattening: self.nth_number(1),
-                unit: unit.as_ref(),
-                ids: *self,
-            },
-            level,
-        )
+        EllipsoidFields {
+            name: self.text(),
+            axis: self.nth_number(0),
+            flattening: self.nth_number(1),
+            unit: unit.as_ref(),
+            ids: *self,
+        }
+        .write(out, b",ELLIPSOID[\"", level)
     }
 }

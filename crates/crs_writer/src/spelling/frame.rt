@@ -59,29 +59,26 @@ struct DatumFields<'n, E, N, I> {
     ids: I,
 }
 
-// After an opening.
-#[tactic(auto, using(crate::proofs::FlatLemmas::flat_rules))]
-fn write_datum<'a, E: Part<Ellipsoid<'a>>, N: NumberPart, I: IdentsPart>(
-    out: &mut Vec<u8>,
-    opening: &[u8],
-    fields: DatumFields<'_, E, N, I>,
-    level: Level,
-) -> Result<(), AllocError>
-    ensures { OnOk result ((d : DatumParts) → d.name ≡ fields.entry.name.now →
-        SaysIfAny E.Says fields.entry.ellipsoid d.ellipsoid → d.anchor ≡ option_copied fields.entry.anchor →
-        SaysIfAny N.Says fields.entry.epoch d.anchor_epoch → I.Says fields.entry.ids d.identifiers →
-        out.new.items ≡ out.old.items ++ named_node opening.now d.name
-        (opt item_ellipsoid (option_map (norm_ellipsoid level) d.ellipsoid)
-        (opt (text_node (codes "ANCHOR")) d.anchor
-        (opt (number_node (codes "ANCHOREPOCH")) d.anchor_epoch
-        (each item_ident (set_idents level d.identifiers) End))))) }
-{
-    open_text(out, opening, fields.name)?;
-    write_optional::<Ellipsoid<'a>, E>(out, fields.ellipsoid, level)?;
-    write_optional_text(out, b",ANCHOR[\"", fields.anchor)?;
-    write_optional_number(out, b",ANCHOREPOCH[", fields.epoch)?;
-    fields.ids.put(out, level)?;
-    append(out, b"]")
+impl<'n, 'a, E: Part<Ellipsoid<'a>>, N: NumberPart, I: IdentsPart> DatumFields<'n, E, N, I> {
+    // After an opening.
+    #[tactic(auto, using(crate::proofs::FlatLemmas::flat_rules))]
+    fn write(self, out: &mut Vec<u8>, opening: &[u8], level: Level) -> Result<(), AllocError>
+        ensures { OnOk result ((d : DatumParts) → d.name ≡ self.entry.name.now →
+            SaysIfAny E.Says self.entry.ellipsoid d.ellipsoid → d.anchor ≡ option_copied self.entry.anchor →
+            SaysIfAny N.Says self.entry.epoch d.anchor_epoch → I.Says self.entry.ids d.identifiers →
+            out.new.items ≡ out.old.items ++ named_node opening.now d.name
+            (opt item_ellipsoid (option_map (norm_ellipsoid level) d.ellipsoid)
+            (opt (text_node (codes "ANCHOR")) d.anchor
+            (opt (number_node (codes "ANCHOREPOCH")) d.anchor_epoch
+            (each item_ident (set_idents level d.identifiers) End))))) }
+    {
+        open_text(out, opening, self.name)?;
+        write_optional::<Ellipsoid<'a>, E>(out, self.ellipsoid, level)?;
+        write_optional_text(out, b",ANCHOR[\"", self.anchor)?;
+        write_optional_number(out, b",ANCHOREPOCH[", self.epoch)?;
+        self.ids.put(out, level)?;
+        append(out, b"]")
+    }
 }
 
 // Of a value.
@@ -98,18 +95,14 @@ fn write_datum_in(
         (opt (number_node (codes "ANCHOREPOCH")) datum.now.anchor_epoch
         (each item_ident (set_idents level datum.now.identifiers) End))))) }
 {
-    write_datum(
-        out,
-        opening,
-        DatumFields {
-            name: datum.name,
-            ellipsoid: datum.ellipsoid.as_ref(),
-            anchor: datum.anchor,
-            epoch: datum.anchor_epoch.as_ref(),
-            ids: &datum.identifiers,
-        },
-        level,
-    )
+    DatumFields {
+        name: datum.name,
+        ellipsoid: datum.ellipsoid.as_ref(),
+        anchor: datum.anchor,
+        epoch: datum.anchor_epoch.as_ref(),
+        ids: &datum.identifiers,
+    }
+    .write(out, opening, level)
 }
 
 // Of an item.
@@ -126,18 +119,14 @@ fn write_datum_of(
         (each item_ident (set_idents level d.identifiers) End))))) out.old.items out.new.items) }
 {
     let ellipsoid = node.first(Class::Ellipsoid);
-    write_datum(
-        out,
-        opening,
-        DatumFields {
-            name: node.text(),
-            ellipsoid: ellipsoid.as_ref(),
-            anchor: node.text_in(Class::Anchor),
-            epoch: node.number_in(Class::AnchorEpoch),
-            ids: node,
-        },
-        level,
-    )
+    DatumFields {
+        name: node.text(),
+        ellipsoid: ellipsoid.as_ref(),
+        anchor: node.text_in(Class::Anchor),
+        epoch: node.number_in(Class::AnchorEpoch),
+        ids: node,
+    }
+    .write(out, opening, level)
 }
 
 // Of an item, after a comma, as a geodetic one.
@@ -177,33 +166,32 @@ struct EnsembleFields<'n, 'm, M, E, N, I> {
     ids: I,
 }
 
-// After an opening.
-fn write_ensemble<
+impl<
+    'n,
+    'm,
     'a,
     M: MembersPart<Member<'a>>,
     E: Part<Ellipsoid<'a>>,
     N: NumberPart,
     I: IdentsPart,
->(
-    out: &mut Vec<u8>,
-    opening: &[u8],
-    fields: EnsembleFields<'_, '_, M, E, N, I>,
-    level: Level,
-) -> Result<(), AllocError>
-    requires { M.Hold fields.members.now }
-    ensures { OnOk result ((e : EnsembleParts) → e.name ≡ fields.entry.name.now →
-        M.Say fields.entry.members.now e.members → SaysIfAny E.Says fields.entry.ellipsoid e.ellipsoid →
-        N.Says fields.entry.accuracy e.accuracy → I.Says fields.entry.ids e.identifiers →
-        out.new.items ≡ out.old.items ++ named_node opening.now e.name (each item_member (set_members level e.members)
-        (opt item_ellipsoid (option_map (norm_ellipsoid level) e.ellipsoid)
-        (More (number_node (codes "ENSEMBLEACCURACY") e.accuracy) (each item_ident (set_idents level e.identifiers) End))))) }
-{
-    open_text(out, opening, fields.name)?;
-    write_set::<Member<'a>, M>(out, fields.members, level)?;
-    write_optional::<Ellipsoid<'a>, E>(out, fields.ellipsoid, level)?;
-    write_number_node(out, b",ENSEMBLEACCURACY[", fields.accuracy)?;
-    fields.ids.put(out, level)?;
-    append(out, b"]")
+> EnsembleFields<'n, 'm, M, E, N, I> {
+    // After an opening.
+    fn write(self, out: &mut Vec<u8>, opening: &[u8], level: Level) -> Result<(), AllocError>
+        requires { M.Hold self.members.now }
+        ensures { OnOk result ((e : EnsembleParts) → e.name ≡ self.entry.name.now →
+            M.Say self.entry.members.now e.members → SaysIfAny E.Says self.entry.ellipsoid e.ellipsoid →
+            N.Says self.entry.accuracy e.accuracy → I.Says self.entry.ids e.identifiers →
+            out.new.items ≡ out.old.items ++ named_node opening.now e.name (each item_member (set_members level e.members)
+            (opt item_ellipsoid (option_map (norm_ellipsoid level) e.ellipsoid)
+            (More (number_node (codes "ENSEMBLEACCURACY") e.accuracy) (each item_ident (set_idents level e.identifiers) End))))) }
+    {
+        open_text(out, opening, self.name)?;
+        write_set::<Member<'a>, M>(out, self.members, level)?;
+        write_optional::<Ellipsoid<'a>, E>(out, self.ellipsoid, level)?;
+        write_number_node(out, b",ENSEMBLEACCURACY[", self.accuracy)?;
+        self.ids.put(out, level)?;
+        append(out, b"]")
+    }
 }
 
 impl Spell for Ensemble<'_> {
@@ -211,18 +199,14 @@ impl Spell for Ensemble<'_> {
 
     fn spell(&self, out: &mut Vec<u8>, level: Level) -> Result<(), AllocError> {
         let members = self.members.as_slice();
-        write_ensemble(
-            out,
-            b"ENSEMBLE[\"",
-            EnsembleFields {
-                name: self.name,
-                members: &members,
-                ellipsoid: self.ellipsoid.as_ref(),
-                accuracy: &self.accuracy,
-                ids: &self.identifiers,
-            },
-            level,
-        )
+        EnsembleFields {
+            name: self.name,
+            members: &members,
+            ellipsoid: self.ellipsoid.as_ref(),
+            accuracy: &self.accuracy,
+            ids: &self.identifiers,
+        }
+        .write(out, b"ENSEMBLE[\"", level)
     }
 }
 
@@ -233,18 +217,14 @@ fn write_ensemble_in(out: &mut Vec<u8>, node: &Node<'_, '_>, level: Level) -> Re
 {
     let ellipsoid = node.first(Class::Ellipsoid);
     let members = node.all(Class::Member);
-    write_ensemble(
-        out,
-        b",ENSEMBLE[\"",
-        EnsembleFields {
-            name: node.text(),
-            members: &members,
-            ellipsoid: ellipsoid.as_ref(),
-            accuracy: node.one_number(Class::EnsembleAccuracy),
-            ids: node,
-        },
-        level,
-    )
+    EnsembleFields {
+        name: node.text(),
+        members: &members,
+        ellipsoid: ellipsoid.as_ref(),
+        accuracy: node.one_number(Class::EnsembleAccuracy),
+        ids: node,
+    }
+    .write(out, b",ENSEMBLE[\"", level)
 }
 
 impl Spell for Frame<'_> {

@@ -51,41 +51,40 @@ struct GeodeticFields<'n, D, F, M, S, T> {
     tail: T,
 }
 
-#[tactic(auto, using(crate::proofs::FlatLemmas::crs_rules))]
-fn write_geodetic<
+impl<
+    'n,
     'a,
     D: Part<Dynamic<'a>>,
     F: FramePart,
     M: Part<Meridian<'a>>,
     S: SystemPart,
     T: TailPart,
->(
-    out: &mut Vec<u8>,
-    fields: GeodeticFields<'_, D, F, M, S, T>,
-    level: Level,
-) -> Result<(), AllocError>
-    requires frame { IsRead (F.SaysGeodetic fields.frame) }
-    requires system { IsRead (S.Says fields.system) }
-    ensures { OnOk result ((n : List ℕ) (d : Option DynamicParts) (f : Frame) (m : Option MeridianParts)
-        (s : SystemParts) (t : TailParts) → n ≡ fields.entry.name.now → SaysIfAny D.Says fields.entry.dynamic d →
-        F.SaysGeodetic fields.entry.frame f → SaysIfAny M.Says fields.entry.meridian m → S.Says fields.entry.system s →
-        T.Says fields.entry.tail t → out.new.items ≡ out.old.items
-        ++ item_text (node_of (geodetic_keyword s.system_type) (text_item n)
-        (opt item_dynamic (option_map (norm_dynamic level) d) (More (item_frame (codes "DATUM") (norm_frame level f))
-        (opt item_meridian (norm_meridian level m)
-        (system_items (norm_system level s) (tail_items (norm_tail level t)))))))) }
-{
-    open_text(
-        out,
-        geodetic_opening(fields.system.system_type()).as_bytes(),
-        fields.name,
-    )?;
-    write_optional::<Dynamic<'a>, D>(out, fields.dynamic, level)?;
-    fields.frame.put_geodetic(out, level)?;
-    write_meridian::<M>(out, fields.meridian, level)?;
-    write_system(out, fields.system, level)?;
-    fields.tail.put(out, level)?;
-    append(out, b"]")
+> GeodeticFields<'n, D, F, M, S, T> {
+    #[tactic(auto, using(crate::proofs::FlatLemmas::crs_rules))]
+    fn write(self, out: &mut Vec<u8>, level: Level) -> Result<(), AllocError>
+        requires frame { IsRead (F.SaysGeodetic self.frame) }
+        requires system { IsRead (S.Says self.system) }
+        ensures { OnOk result ((n : List ℕ) (d : Option DynamicParts) (f : Frame) (m : Option MeridianParts)
+            (s : SystemParts) (t : TailParts) → n ≡ self.entry.name.now → SaysIfAny D.Says self.entry.dynamic d →
+            F.SaysGeodetic self.entry.frame f → SaysIfAny M.Says self.entry.meridian m → S.Says self.entry.system s →
+            T.Says self.entry.tail t → out.new.items ≡ out.old.items
+            ++ item_text (node_of (geodetic_keyword s.system_type) (text_item n)
+            (opt item_dynamic (option_map (norm_dynamic level) d) (More (item_frame (codes "DATUM") (norm_frame level f))
+            (opt item_meridian (norm_meridian level m)
+            (system_items (norm_system level s) (tail_items (norm_tail level t)))))))) }
+    {
+        open_text(
+            out,
+            geodetic_opening(self.system.system_type()).as_bytes(),
+            self.name,
+        )?;
+        write_optional::<Dynamic<'a>, D>(out, self.dynamic, level)?;
+        self.frame.put_geodetic(out, level)?;
+        write_meridian::<M>(out, self.meridian, level)?;
+        write_system(out, self.system, level)?;
+        self.tail.put(out, level)?;
+        append(out, b"]")
+    }
 }
 
 impl Spell for Geodetic<'_> {
@@ -93,18 +92,15 @@ impl Spell for Geodetic<'_> {
 
     #[tactic(auto, using(crate::proofs::FlatLemmas::value_rules))]
     fn spell(&self, out: &mut Vec<u8>, level: Level) -> Result<(), AllocError> {
-        write_geodetic(
-            out,
-            GeodeticFields {
-                name: self.name,
-                dynamic: self.dynamic.as_ref(),
-                frame: &self.frame,
-                meridian: self.meridian.as_ref(),
-                system: &self.system,
-                tail: &self.tail,
-            },
-            level,
-        )
+        GeodeticFields {
+            name: self.name,
+            dynamic: self.dynamic.as_ref(),
+            frame: &self.frame,
+            meridian: self.meridian.as_ref(),
+            system: &self.system,
+            tail: &self.tail,
+        }
+        .write(out, level)
     }
 }
 
@@ -122,16 +118,13 @@ pub(crate) fn write_geodetic_of(
     let tail = node;
     let dynamic = node.first(Class::Dynamic);
     let meridian = node.first(Class::PrimeMeridian);
-    write_geodetic(
-        out,
-        GeodeticFields {
-            name: node.text(),
-            dynamic: dynamic.as_ref(),
-            frame: node,
-            meridian: meridian.as_ref(),
-            system,
-            tail,
-        },
-        level,
-    )
+    GeodeticFields {
+        name: node.text(),
+        dynamic: dynamic.as_ref(),
+        frame: node,
+        meridian: meridian.as_ref(),
+        system,
+        tail,
+    }
+    .write(out, level)
 }

@@ -43,21 +43,23 @@ struct IdentFields<'n> {
     references: (Option<&'n [u8]>, Option<&'n [u8]>),
 }
 
-// After an opening.
-#[inline(always)]
-fn write_ident(out: &mut Vec<u8>, opening: &[u8], fields: IdentFields<'_>) -> Result<(), AllocError>
-    ensures { OnOk result ((a c : List ℕ) (v r u : Option (List ℕ)) → a ≡ fields.entry.authority.now →
-        c ≡ fields.entry.code.now → v ≡ option_copied fields.entry.version →
-        r ≡ option_copied fields.entry.references.0 → u ≡ option_copied fields.entry.references.1 →
-        out.new.items ≡ out.old.items ++ named_node opening.now a (More (code_item c) (opt code_item v
-        (opt (text_node (codes "CITATION")) r (opt (text_node (codes "URI")) u End))))) }
-{
-    open_text(out, opening, fields.authority)?;
-    write_code(out, fields.code)?;
-    write_version(out, fields.version)?;
-    write_optional_text(out, b",CITATION[\"", fields.references.0)?;
-    write_optional_text(out, b",URI[\"", fields.references.1)?;
-    append(out, b"]")
+impl<'n> IdentFields<'n> {
+    // After an opening.
+    #[inline(always)]
+    fn write(self, out: &mut Vec<u8>, opening: &[u8]) -> Result<(), AllocError>
+        ensures { OnOk result ((a c : List ℕ) (v r u : Option (List ℕ)) → a ≡ self.entry.authority.now →
+            c ≡ self.entry.code.now → v ≡ option_copied self.entry.version →
+            r ≡ option_copied self.entry.references.0 → u ≡ option_copied self.entry.references.1 →
+            out.new.items ≡ out.old.items ++ named_node opening.now a (More (code_item c) (opt code_item v
+            (opt (text_node (codes "CITATION")) r (opt (text_node (codes "URI")) u End))))) }
+    {
+        open_text(out, opening, self.authority)?;
+        write_code(out, self.code)?;
+        write_version(out, self.version)?;
+        write_optional_text(out, b",CITATION[\"", self.references.0)?;
+        write_optional_text(out, b",URI[\"", self.references.1)?;
+        append(out, b"]")
+    }
 }
 
 impl Spell for Ident<'_> {
@@ -65,16 +67,13 @@ impl Spell for Ident<'_> {
 
     fn spell(&self, out: &mut Vec<u8>, _level: Level) -> Result<(), AllocError> {
         let references = (self.citation, self.uri);
-        write_ident(
-            out,
-            b"ID[\"",
-            IdentFields {
-                authority: self.authority,
-                code: self.code,
-                version: self.version,
-                references,
-            },
-        )
+        IdentFields {
+            authority: self.authority,
+            code: self.code,
+            version: self.version,
+            references,
+        }
+        .write(out, b"ID[\"")
     }
 }
 
@@ -87,16 +86,13 @@ impl<'a> ReadAs<'a> for Ident<'a> {
         if let Some(bytes) = copied::ident(node) {
             return append(out, bytes);
         }
-        write_ident(
-            out,
-            b"ID[\"",
-            IdentFields {
-                authority: node.text(),
-                code: node.code(),
-                version: node.version(),
-                references: node.references(),
-            },
-        )
+        IdentFields {
+            authority: node.text(),
+            code: node.code(),
+            version: node.version(),
+            references: node.references(),
+        }
+        .write(out, b"ID[\"")
     }
 }
 

@@ -50,24 +50,21 @@ struct MeridianFields<'n, N, U, I> {
     ids: I,
 }
 
-// After an opening.
-fn write_given<N: NumberPart, U: UnitPart, I: IdentsPart>(
-    out: &mut Vec<u8>,
-    opening: &[u8],
-    fields: MeridianFields<'_, N, U, I>,
-    level: Level,
-) -> Result<(), AllocError>
-    ensures { OnOk result ((n : List ℕ) (l : Value) (u : Option UnitParts) (is : List IdentParts) →
-        n ≡ fields.entry.name.now → N.Says fields.entry.longitude l → SaysIfAny U.Says fields.entry.unit u →
-        I.Says fields.entry.ids is →
-        out.new.items ≡ out.old.items ++ named_node opening.now n (More (number_item l) (opt item_unit
-        (if is_zero l then None else norm_units level kinds.Angle u) (each item_ident (set_idents level is) End)))) }
-{
-    open_text(out, opening, fields.name)?;
-    fields.longitude.open(out, b",")?;
-    write_unit_of(out, fields.longitude, fields.unit, level)?;
-    fields.ids.put(out, level)?;
-    append(out, b"]")
+impl<'n, N: NumberPart, U: UnitPart, I: IdentsPart> MeridianFields<'n, N, U, I> {
+    // After an opening.
+    fn write(self, out: &mut Vec<u8>, opening: &[u8], level: Level) -> Result<(), AllocError>
+        ensures { OnOk result ((n : List ℕ) (l : Value) (u : Option UnitParts) (is : List IdentParts) →
+            n ≡ self.entry.name.now → N.Says self.entry.longitude l → SaysIfAny U.Says self.entry.unit u →
+            I.Says self.entry.ids is →
+            out.new.items ≡ out.old.items ++ named_node opening.now n (More (number_item l) (opt item_unit
+            (if is_zero l then None else norm_units level kinds.Angle u) (each item_ident (set_idents level is) End)))) }
+    {
+        open_text(out, opening, self.name)?;
+        self.longitude.open(out, b",")?;
+        write_unit_of(out, self.longitude, self.unit, level)?;
+        self.ids.put(out, level)?;
+        append(out, b"]")
+    }
 }
 
 impl Spell for Meridian<'_> {
@@ -75,17 +72,13 @@ impl Spell for Meridian<'_> {
 
     #[tactic(auto, using(crate::proofs::FlatLemmas::value_rules))]
     fn spell(&self, out: &mut Vec<u8>, level: Level) -> Result<(), AllocError> {
-        write_given(
-            out,
-            b"PRIMEM[\"",
-            MeridianFields {
-                name: self.name,
-                longitude: &self.longitude,
-                unit: self.unit.as_ref(),
-                ids: &self.identifiers,
-            },
-            level,
-        )
+        MeridianFields {
+            name: self.name,
+            longitude: &self.longitude,
+            unit: self.unit.as_ref(),
+            ids: &self.identifiers,
+        }
+        .write(out, b"PRIMEM[\"", level)
     }
 }
 
@@ -97,17 +90,13 @@ impl<'c, 'i, 'a> Part<Meridian<'a>> for &'c Node<'i, 'a> {
 
     fn put(&self, out: &mut Vec<u8>, level: Level) -> Result<(), AllocError> {
         let unit = self.first(Class::AngleUnit);
-        write_given(
-            out,
-            b",PRIMEM[\"",
-            MeridianFields {
-                name: self.text(),
-                longitude: self.number(),
-                unit: unit.as_ref(),
-                ids: *self,
-            },
-            level,
-        )
+        MeridianFields {
+            name: self.text(),
+            longitude: self.number(),
+            unit: unit.as_ref(),
+            ids: *self,
+        }
+        .write(out, b",PRIMEM[\"", level)
     }
 }
 

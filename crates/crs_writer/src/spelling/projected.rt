@@ -46,56 +46,50 @@ struct BaseFields<'n, D, F, M, U, I> {
     ids: I,
 }
 
-// After an opening.
-#[tactic(auto, using(crate::proofs::FlatLemmas::crs_rules))]
-fn write_base<
+impl<
+    'n,
     'a,
     D: Part<Dynamic<'a>>,
     F: FramePart,
     M: Part<Meridian<'a>>,
     U: UnitPart,
     I: IdentsPart,
->(
-    out: &mut Vec<u8>,
-    opening: &[u8],
-    fields: BaseFields<'_, D, F, M, U, I>,
-    level: Level,
-) -> Result<(), AllocError>
-    requires { IsRead (F.SaysGeodetic fields.frame) }
-    ensures { OnOk result ((n : List ℕ) (d : Option DynamicParts) (f : Frame) (m : Option MeridianParts)
-        (u : Option UnitParts) (is : List IdentParts) → n ≡ fields.entry.name.now → SaysIfAny D.Says fields.entry.dynamic d →
-        F.SaysGeodetic fields.entry.frame f → SaysIfAny M.Says fields.entry.meridian m →
-        SaysIfAny U.Says fields.entry.unit u → I.Says fields.entry.ids is →
-        out.new.items ≡ out.old.items ++ named_node opening.now n (opt item_dynamic (option_map (norm_dynamic level) d)
-        (More (item_frame (codes "DATUM") (norm_frame level f)) (opt item_meridian (norm_meridian level m)
-        (opt item_unit (norm_units level kinds.Angle u) (each item_ident (set_idents level is) End)))))) }
-{
-    open_text(out, opening, fields.name)?;
-    write_optional::<Dynamic<'a>, D>(out, fields.dynamic, level)?;
-    fields.frame.put_geodetic(out, level)?;
-    write_meridian::<M>(out, fields.meridian, level)?;
-    write_optional_unit(out, UnitKind::Angle, fields.unit, level)?;
-    fields.ids.put(out, level)?;
-    append(out, b"]")
+> BaseFields<'n, D, F, M, U, I> {
+    // After an opening.
+    #[tactic(auto, using(crate::proofs::FlatLemmas::crs_rules))]
+    fn write(self, out: &mut Vec<u8>, opening: &[u8], level: Level) -> Result<(), AllocError>
+        requires { IsRead (F.SaysGeodetic self.frame) }
+        ensures { OnOk result ((n : List ℕ) (d : Option DynamicParts) (f : Frame) (m : Option MeridianParts)
+            (u : Option UnitParts) (is : List IdentParts) → n ≡ self.entry.name.now → SaysIfAny D.Says self.entry.dynamic d →
+            F.SaysGeodetic self.entry.frame f → SaysIfAny M.Says self.entry.meridian m →
+            SaysIfAny U.Says self.entry.unit u → I.Says self.entry.ids is →
+            out.new.items ≡ out.old.items ++ named_node opening.now n (opt item_dynamic (option_map (norm_dynamic level) d)
+            (More (item_frame (codes "DATUM") (norm_frame level f)) (opt item_meridian (norm_meridian level m)
+            (opt item_unit (norm_units level kinds.Angle u) (each item_ident (set_idents level is) End)))))) }
+    {
+        open_text(out, opening, self.name)?;
+        write_optional::<Dynamic<'a>, D>(out, self.dynamic, level)?;
+        self.frame.put_geodetic(out, level)?;
+        write_meridian::<M>(out, self.meridian, level)?;
+        write_optional_unit(out, UnitKind::Angle, self.unit, level)?;
+        self.ids.put(out, level)?;
+        append(out, b"]")
+    }
 }
 
 impl Spell for Base<'_> {
     ghost spelling = { base_text };
 
     fn spell(&self, out: &mut Vec<u8>, level: Level) -> Result<(), AllocError> {
-        write_base(
-            out,
-            b"BASEGEOGCRS[\"",
-            BaseFields {
-                name: self.name,
-                dynamic: self.dynamic.as_ref(),
-                frame: &self.frame,
-                meridian: self.meridian.as_ref(),
-                unit: self.unit.as_ref(),
-                ids: &self.identifiers,
-            },
-            level,
-        )
+        BaseFields {
+            name: self.name,
+            dynamic: self.dynamic.as_ref(),
+            frame: &self.frame,
+            meridian: self.meridian.as_ref(),
+            unit: self.unit.as_ref(),
+            ids: &self.identifiers,
+        }
+        .write(out, b"BASEGEOGCRS[\"", level)
     }
 }
 
@@ -109,19 +103,15 @@ impl<'c, 'i, 'a> NeededPart<Base<'a>> for &'c Node<'i, 'a> {
         let dynamic = self.first(Class::Dynamic);
         let meridian = self.first(Class::PrimeMeridian);
         let unit = self.first(Class::AngleUnit);
-        write_base(
-            out,
-            b",BASEGEOGCRS[\"",
-            BaseFields {
-                name: self.text(),
-                dynamic: dynamic.as_ref(),
-                frame: *self,
-                meridian: meridian.as_ref(),
-                unit: unit.as_ref(),
-                ids: *self,
-            },
-            level,
-        )
+        BaseFields {
+            name: self.text(),
+            dynamic: dynamic.as_ref(),
+            frame: *self,
+            meridian: meridian.as_ref(),
+            unit: unit.as_ref(),
+            ids: *self,
+        }
+        .write(out, b",BASEGEOGCRS[\"", level)
     }
 }
 
@@ -135,53 +125,47 @@ struct ProjectedFields<'n, B, C, S, T> {
     tail: T,
 }
 
-// After an opening.
-fn write_projected<
+impl<
+    'n,
     'a,
     B: NeededPart<Base<'a>>,
     C: NeededPart<Conversion<'a>>,
     S: SystemPart,
     T: TailPart,
->(
-    out: &mut Vec<u8>,
-    opening: &[u8],
-    fields: ProjectedFields<'_, B, C, S, T>,
-    level: Level,
-) -> Result<(), AllocError>
-    requires base { IsRead (B.Says fields.base) }
-    requires conversion { IsRead (C.Says fields.conversion) }
-    requires system { IsRead (S.Says fields.system) }
-    ensures { OnOk result ((p : ProjectedParts) → p.name ≡ fields.entry.name.now → B.Says fields.entry.base p.base →
-        C.Says fields.entry.conversion p.conversion → S.Says fields.entry.system p.system →
-        T.Says fields.entry.tail p.tail →
-        out.new.items ≡ out.old.items ++ named_node opening.now p.name (More (item_base (norm_base level p.base))
-        (More (item_conversion (norm_conversion level p.conversion))
-        (system_items (norm_system level p.system) (tail_items (norm_tail level p.tail)))))) }
-{
-    open_text(out, opening, fields.name)?;
-    fields.base.put(out, level)?;
-    fields.conversion.put(out, level)?;
-    write_system(out, fields.system, level)?;
-    fields.tail.put(out, level)?;
-    append(out, b"]")
+> ProjectedFields<'n, B, C, S, T> {
+    // After an opening.
+    fn write(self, out: &mut Vec<u8>, opening: &[u8], level: Level) -> Result<(), AllocError>
+        requires base { IsRead (B.Says self.base) }
+        requires conversion { IsRead (C.Says self.conversion) }
+        requires system { IsRead (S.Says self.system) }
+        ensures { OnOk result ((p : ProjectedParts) → p.name ≡ self.entry.name.now → B.Says self.entry.base p.base →
+            C.Says self.entry.conversion p.conversion → S.Says self.entry.system p.system →
+            T.Says self.entry.tail p.tail →
+            out.new.items ≡ out.old.items ++ named_node opening.now p.name (More (item_base (norm_base level p.base))
+            (More (item_conversion (norm_conversion level p.conversion))
+            (system_items (norm_system level p.system) (tail_items (norm_tail level p.tail)))))) }
+    {
+        open_text(out, opening, self.name)?;
+        self.base.put(out, level)?;
+        self.conversion.put(out, level)?;
+        write_system(out, self.system, level)?;
+        self.tail.put(out, level)?;
+        append(out, b"]")
+    }
 }
 
 impl Spell for Projected<'_> {
     ghost spelling = { projected_text };
 
     fn spell(&self, out: &mut Vec<u8>, level: Level) -> Result<(), AllocError> {
-        write_projected(
-            out,
-            b"PROJCRS[\"",
-            ProjectedFields {
-                name: self.name,
-                base: &self.base,
-                conversion: &self.conversion,
-                system: &self.system,
-                tail: &self.tail,
-            },
-            level,
-        )
+        ProjectedFields {
+            name: self.name,
+            base: &self.base,
+            conversion: &self.conversion,
+            system: &self.system,
+            tail: &self.tail,
+        }
+        .write(out, b"PROJCRS[\"", level)
     }
 }
 
@@ -198,16 +182,12 @@ pub(crate) fn write_projected_of(
     let tail = node;
     let base = node.one(Class::BaseCrs);
     let conversion = node.one(Class::Conversion);
-    write_projected(
-        out,
-        b"PROJCRS[\"",
-        ProjectedFields {
-            name: node.text(),
-            base: &base,
-            conversion: &conversion,
-            system: node,
-            tail,
-        },
-        level,
-    )
+    ProjectedFields {
+        name: node.text(),
+        base: &base,
+        conversion: &conversion,
+        system: node,
+        tail,
+    }
+    .write(out, b"PROJCRS[\"", level)
 }

@@ -17,7 +17,7 @@ ghost use Rattle.crs_leaves.specs.Direct.{IsRead, Writes};
 ghost use Rattle.crs_nodes.specs.Found.{SaysIfAny};
 
 use crate::parts::{IdentsPart, NumberPart};
-use crate::spelling::axis::{AxisFields, write_axis};
+use crate::spelling::axis::AxisFields;
 use crs_leaves::{append, append_item, axes, is_at};
 use crs_nodes::{Node, copied};
 use crs_shape::Class;
@@ -135,20 +135,16 @@ fn write_axis_in<'a>(
         ≡ out.old.items ++ 44 ∷ item_text (item_axis (norm_axis level system.now position axis.now))) }
 {
     let unit = system.unit_of(axis);
-    write_axis(
-        out,
-        b",AXIS[\"",
-        AxisFields {
-            name: axis.name,
-            direction: axis.direction,
-            meridian: axis.meridian.as_ref(),
-            order: Some(position),
-            asked: system.system_type.asked_kind(axis.direction),
-            unit,
-            ids: &axis.identifiers,
-        },
-        level,
-    )
+    AxisFields {
+        name: axis.name,
+        direction: axis.direction,
+        meridian: axis.meridian.as_ref(),
+        order: Some(position),
+        asked: system.system_type.asked_kind(axis.direction),
+        unit,
+        ids: &axis.identifiers,
+    }
+    .write(out, b",AXIS[\"", level)
 }
 
 impl<'b, 'a> SystemPart for &'b System<'a> {
@@ -254,20 +250,16 @@ fn write_axis_of<'i, 'a>(
     let direction = axis.direction();
     let meridian = axis.first(Class::AxisMeridian);
     let unit = unit_of(crs, axis);
-    write_axis(
-        out,
-        b",AXIS[\"",
-        AxisFields {
-            name: axis.text(),
-            direction,
-            meridian: meridian.as_ref(),
-            order: Some(seat.position),
-            asked: seat.system_type.asked_kind(direction),
-            unit: unit.as_ref(),
-            ids: axis,
-        },
-        level,
-    )
+    AxisFields {
+        name: axis.text(),
+        direction,
+        meridian: meridian.as_ref(),
+        order: Some(seat.position),
+        asked: seat.system_type.asked_kind(direction),
+        unit: unit.as_ref(),
+        ids: axis,
+    }
+    .write(out, b",AXIS[\"", level)
 }
 
 impl<'c, 'i, 'a> SystemPart for &'c Node<'i, 'a> {

@@ -57,25 +57,22 @@ struct UnitFields<'n, N, I> {
     ids: I,
 }
 
-// After a comma; where this kind is asked, as which `UNIT` counts.
-fn write_unit<N: NumberPart, I: IdentsPart>(
-    out: &mut Vec<u8>,
-    asked: UnitKind,
-    fields: UnitFields<'_, N, I>,
-    level: Level,
-) -> Result<(), AllocError>
-    ensures { OnOk result ((u : UnitParts) → u.kind ≡ fields.entry.kind → u.name ≡ fields.entry.name.now →
-        N.Says fields.entry.factor u.factor → I.Says fields.entry.ids u.identifiers →
-        out.new.items ≡ out.old.items ++ 44 ∷ item_text (item_unit (norm_unit level asked u))) }
-{
-    open_text(
-        out,
-        unit_opening(fields.kind.as_asked(asked)).as_bytes(),
-        fields.name,
-    )?;
-    fields.factor.open(out, b",")?;
-    fields.ids.put(out, level)?;
-    append(out, b"]")
+impl<'n, N: NumberPart, I: IdentsPart> UnitFields<'n, N, I> {
+    // After a comma; where this kind is asked, as which `UNIT` counts.
+    fn write(self, out: &mut Vec<u8>, asked: UnitKind, level: Level) -> Result<(), AllocError>
+        ensures { OnOk result ((u : UnitParts) → u.kind ≡ self.entry.kind → u.name ≡ self.entry.name.now →
+            N.Says self.entry.factor u.factor → I.Says self.entry.ids u.identifiers →
+            out.new.items ≡ out.old.items ++ 44 ∷ item_text (item_unit (norm_unit level asked u))) }
+    {
+        open_text(
+            out,
+            unit_opening(self.kind.as_asked(asked)).as_bytes(),
+            self.name,
+        )?;
+        self.factor.open(out, b",")?;
+        self.ids.put(out, level)?;
+        append(out, b"]")
+    }
 }
 
 impl<'b, 'a> UnitPart for &'b Unit<'a> {
@@ -83,17 +80,13 @@ impl<'b, 'a> UnitPart for &'b Unit<'a> {
 
     fn put(&self, out: &mut Vec<u8>, asked: UnitKind, level: Level) -> Result<(), AllocError> {
         let unit: &'b Unit<'a> = *self;
-        write_unit(
-            out,
-            asked,
-            UnitFields {
-                kind: unit.kind,
-                name: unit.name,
-                factor: &unit.factor,
-                ids: &unit.identifiers,
-            },
-            level,
-        )
+        UnitFields {
+            kind: unit.kind,
+            name: unit.name,
+            factor: &unit.factor,
+            ids: &unit.identifiers,
+        }
+        .write(out, asked, level)
     }
 }
 
@@ -104,17 +97,13 @@ impl<'c, 'i, 'a> UnitPart for &'c Node<'i, 'a> {
     ghost Says = { λ n u. ReadsUnit n.now.class (item n.now) u };
 
     fn put(&self, out: &mut Vec<u8>, asked: UnitKind, level: Level) -> Result<(), AllocError> {
-        write_unit(
-            out,
-            asked,
-            UnitFields {
-                kind: self.kind(),
-                name: self.text(),
-                factor: self.number(),
-                ids: *self,
-            },
-            level,
-        )
+        UnitFields {
+            kind: self.kind(),
+            name: self.text(),
+            factor: self.number(),
+            ids: *self,
+        }
+        .write(out, asked, level)
     }
 }
 

@@ -32,38 +32,33 @@ struct BoxFields<N> {
     east: N,
 }
 
-// After an opening.
-#[tactic(auto, using(crate::proofs::FlatLemmas::number_rules))]
-fn write_box<N: NumberPart>(
-    out: &mut Vec<u8>,
-    opening: &[u8],
-    fields: BoxFields<N>,
-) -> Result<(), AllocError>
-    ensures { OnOk result ((s w n e : Value) → N.Says fields.south s → N.Says fields.west w → N.Says fields.north n →
-        N.Says fields.east e → out.new.items ≡ out.old.items ++ numbered_node opening.now s
-        (More (number_item w) (More (number_item n) (More (number_item e) End)))) }
-{
-    fields.south.open(out, opening)?;
-    fields.west.open(out, b",")?;
-    fields.north.open(out, b",")?;
-    fields.east.open(out, b",")?;
-    append(out, b"]")
+impl<N: NumberPart> BoxFields<N> {
+    // After an opening.
+    #[tactic(auto, using(crate::proofs::FlatLemmas::number_rules))]
+    fn write(self, out: &mut Vec<u8>, opening: &[u8]) -> Result<(), AllocError>
+        ensures { OnOk result ((s w n e : Value) → N.Says self.south s → N.Says self.west w → N.Says self.north n →
+            N.Says self.east e → out.new.items ≡ out.old.items ++ numbered_node opening.now s
+            (More (number_item w) (More (number_item n) (More (number_item e) End)))) }
+    {
+        self.south.open(out, opening)?;
+        self.west.open(out, b",")?;
+        self.north.open(out, b",")?;
+        self.east.open(out, b",")?;
+        append(out, b"]")
+    }
 }
 
 impl Spell for BoundingBox {
     ghost spelling = { box_text };
 
     fn spell(&self, out: &mut Vec<u8>, _level: Level) -> Result<(), AllocError> {
-        write_box(
-            out,
-            b"BBOX[",
-            BoxFields {
-                south: &self.south,
-                west: &self.west,
-                north: &self.north,
-                east: &self.east,
-            },
-        )
+        BoxFields {
+            south: &self.south,
+            west: &self.west,
+            north: &self.north,
+            east: &self.east,
+        }
+        .write(out, b"BBOX[")
     }
 }
 
@@ -74,16 +69,13 @@ impl<'c, 'i, 'a> Part<BoundingBox> for &'c Node<'i, 'a> {
     ghost Says = { λ n b. ReadsBox n.now.class (item n.now) b };
 
     fn put(&self, out: &mut Vec<u8>, _level: Level) -> Result<(), AllocError> {
-        write_box(
-            out,
-            b",BBOX[",
-            BoxFields {
-                south: self.nth_number(0),
-                west: self.nth_number(1),
-                north: self.nth_number(2),
-                east: self.nth_number(3),
-            },
-        )
+        BoxFields {
+            south: self.nth_number(0),
+            west: self.nth_number(1),
+            north: self.nth_number(2),
+            east: self.nth_number(3),
+        }
+        .write(out, b",BBOX[")
     }
 }
 
@@ -95,22 +87,19 @@ struct ExtentFields<N, U> {
     unit: Option<U>,
 }
 
-// After an opening.
-#[tactic(auto, using(crate::proofs::FlatLemmas::number_rules))]
-fn write_extent<N: NumberPart, U: UnitPart>(
-    out: &mut Vec<u8>,
-    opening: &[u8],
-    fields: ExtentFields<N, U>,
-    level: Level,
-) -> Result<(), AllocError>
-    ensures { OnOk result ((l h : Value) (u : Option UnitParts) → N.Says fields.minimum l → N.Says fields.maximum h →
-        SaysIfAny U.Says fields.unit u → out.new.items ≡ out.old.items ++ numbered_node opening.now l
-        (More (number_item h) (opt item_unit (Some (norm_length level u)) End))) }
-{
-    fields.minimum.open(out, opening)?;
-    fields.maximum.open(out, b",")?;
-    write_length(out, fields.unit, level)?;
-    append(out, b"]")
+impl<N: NumberPart, U: UnitPart> ExtentFields<N, U> {
+    // After an opening.
+    #[tactic(auto, using(crate::proofs::FlatLemmas::number_rules))]
+    fn write(self, out: &mut Vec<u8>, opening: &[u8], level: Level) -> Result<(), AllocError>
+        ensures { OnOk result ((l h : Value) (u : Option UnitParts) → N.Says self.minimum l → N.Says self.maximum h →
+            SaysIfAny U.Says self.unit u → out.new.items ≡ out.old.items ++ numbered_node opening.now l
+            (More (number_item h) (opt item_unit (Some (norm_length level u)) End))) }
+    {
+        self.minimum.open(out, opening)?;
+        self.maximum.open(out, b",")?;
+        write_length(out, self.unit, level)?;
+        append(out, b"]")
+    }
 }
 
 impl Spell for Extent<'_> {
@@ -118,16 +107,12 @@ impl Spell for Extent<'_> {
 
     fn spell(&self, out: &mut Vec<u8>, level: Level) -> Result<(), AllocError> {
         let unit = self.unit.as_ref();
-        write_extent(
-            out,
-            b"VERTICALEXTENT[",
-            ExtentFields {
-                minimum: &self.minimum,
-                maximum: &self.maximum,
-                unit,
-            },
-            level,
-        )
+        ExtentFields {
+            minimum: &self.minimum,
+            maximum: &self.maximum,
+            unit,
+        }
+        .write(out, b"VERTICALEXTENT[", level)
     }
 }
 
@@ -139,16 +124,12 @@ impl<'c, 'i, 'a> Part<Extent<'a>> for &'c Node<'i, 'a> {
 
     fn put(&self, out: &mut Vec<u8>, level: Level) -> Result<(), AllocError> {
         let unit = self.first(Class::LengthUnit);
-        write_extent(
-            out,
-            b",VERTICALEXTENT[",
-            ExtentFields {
-                minimum: self.nth_number(0),
-                maximum: self.nth_number(1),
-                unit: unit.as_ref(),
-            },
-            level,
-        )
+        ExtentFields {
+            minimum: self.nth_number(0),
+            maximum: self.nth_number(1),
+            unit: unit.as_ref(),
+        }
+        .write(out, b",VERTICALEXTENT[", level)
     }
 }
 

@@ -40,38 +40,37 @@ struct VerticalFields<'n, 'm, D, F, S, G, T> {
     tail: T,
 }
 
-// After an opening.
-fn write_vertical<
+impl<
+    'n,
+    'm,
     'a,
     D: Part<Dynamic<'a>>,
     F: FramePart,
     S: SystemPart,
     G: MembersPart<GeoidModel<'a>>,
     T: TailPart,
->(
-    out: &mut Vec<u8>,
-    opening: &[u8],
-    fields: VerticalFields<'_, '_, D, F, S, G, T>,
-    level: Level,
-) -> Result<(), AllocError>
-    requires frame { IsRead (F.SaysVertical fields.frame) }
-    requires system { IsRead (S.Says fields.system) }
-    requires models { G.Hold fields.models.now }
-    ensures { OnOk result ((v : VerticalParts) → v.name ≡ fields.entry.name.now →
-        SaysIfAny D.Says fields.entry.dynamic v.dynamic → F.SaysVertical fields.entry.frame v.frame →
-        S.Says fields.entry.system v.system → G.Say fields.entry.models.now v.geoid_models →
-        T.Says fields.entry.tail v.tail → out.new.items ≡ out.old.items ++ named_node opening.now v.name
-        (opt item_dynamic (option_map (norm_dynamic level) v.dynamic)
-        (More (item_frame (codes "VDATUM") (norm_frame level v.frame)) (system_items (norm_system level v.system)
-        (each item_geoid_model (set_geoid_models level v.geoid_models) (tail_items (norm_tail level v.tail))))))) }
-{
-    open_text(out, opening, fields.name)?;
-    write_optional::<Dynamic<'a>, D>(out, fields.dynamic, level)?;
-    fields.frame.put_vertical(out, level)?;
-    write_system(out, fields.system, level)?;
-    write_set::<GeoidModel<'a>, G>(out, fields.models, level)?;
-    fields.tail.put(out, level)?;
-    append(out, b"]")
+> VerticalFields<'n, 'm, D, F, S, G, T> {
+    // After an opening.
+    fn write(self, out: &mut Vec<u8>, opening: &[u8], level: Level) -> Result<(), AllocError>
+        requires frame { IsRead (F.SaysVertical self.frame) }
+        requires system { IsRead (S.Says self.system) }
+        requires models { G.Hold self.models.now }
+        ensures { OnOk result ((v : VerticalParts) → v.name ≡ self.entry.name.now →
+            SaysIfAny D.Says self.entry.dynamic v.dynamic → F.SaysVertical self.entry.frame v.frame →
+            S.Says self.entry.system v.system → G.Say self.entry.models.now v.geoid_models →
+            T.Says self.entry.tail v.tail → out.new.items ≡ out.old.items ++ named_node opening.now v.name
+            (opt item_dynamic (option_map (norm_dynamic level) v.dynamic)
+            (More (item_frame (codes "VDATUM") (norm_frame level v.frame)) (system_items (norm_system level v.system)
+            (each item_geoid_model (set_geoid_models level v.geoid_models) (tail_items (norm_tail level v.tail))))))) }
+    {
+        open_text(out, opening, self.name)?;
+        write_optional::<Dynamic<'a>, D>(out, self.dynamic, level)?;
+        self.frame.put_vertical(out, level)?;
+        write_system(out, self.system, level)?;
+        write_set::<GeoidModel<'a>, G>(out, self.models, level)?;
+        self.tail.put(out, level)?;
+        append(out, b"]")
+    }
 }
 
 impl Spell for Vertical<'_> {
@@ -79,19 +78,15 @@ impl Spell for Vertical<'_> {
 
     fn spell(&self, out: &mut Vec<u8>, level: Level) -> Result<(), AllocError> {
         let models = self.geoid_models.as_slice();
-        write_vertical(
-            out,
-            b"VERTCRS[\"",
-            VerticalFields {
-                name: self.name,
-                dynamic: self.dynamic.as_ref(),
-                frame: &self.frame,
-                system: &self.system,
-                models: &models,
-                tail: &self.tail,
-            },
-            level,
-        )
+        VerticalFields {
+            name: self.name,
+            dynamic: self.dynamic.as_ref(),
+            frame: &self.frame,
+            system: &self.system,
+            models: &models,
+            tail: &self.tail,
+        }
+        .write(out, b"VERTCRS[\"", level)
     }
 }
 
@@ -109,19 +104,15 @@ pub(crate) fn write_vertical_of(
     let tail = node;
     let dynamic = node.first(Class::Dynamic);
     let models = node.all(Class::GeoidModel);
-    write_vertical(
-        out,
-        b"VERTCRS[\"",
-        VerticalFields {
-            name: node.text(),
-            dynamic: dynamic.as_ref(),
-            frame: node,
-            system,
-            models: &models,
-            tail,
-        },
-        level,
-    )
+    VerticalFields {
+        name: node.text(),
+        dynamic: dynamic.as_ref(),
+        frame: node,
+        system,
+        models: &models,
+        tail,
+    }
+    .write(out, b"VERTCRS[\"", level)
 }
 
 impl<'c, 'i, 'a> NeededPart<Vertical<'a>> for &'c Node<'i, 'a> {

@@ -5,9 +5,9 @@ use Rattle.crs_writer.proofs.CursorLemmas.{all-said, first-said}
 use Rattle.crs_writer.proofs.spelling.frame.write_ensemble_in.Goals as goal
 
 pub returns : goal.returns
-returns c = on_ok_weaker c.write_ensemble.result (λ w. record {
+returns c = on_ok_weaker c.write.result (λ w. record {
   writes = λ e r. w e (c.text.ensures e.name r.name)
       (all-said ReadsNamed class.Member _ _ _ e.members c.all-members.ensures.class c.all-members.ensures.all r.members)
       (first-said ReadsEllipsoid c.args.node.now class.Ellipsoid _ _ e.ellipsoid c.first-ellipsoid.ensures c.as_ref.ensures.value r.ellipsoid)
       (c.one_number.ensures e.accuracy r.accuracy) r.identifiers;
-}) c.write_ensemble.ensures
+}) c.write.ensures

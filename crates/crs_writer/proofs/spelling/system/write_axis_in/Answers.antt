@@ -13,7 +13,7 @@ returns c =
     let axis = c.args.axis.now in
     let system = c.args.system.now in
     let seen = sym c.axis.view_is in
-    on_ok_weaker c.write_axis.result (λ w. placed c.args.level system c.args.position axis _ _
+    on_ok_weaker c.write.result (λ w. placed c.args.level system c.args.position axis _ _
     (w axis.name axis.direction axis.meridian (Some (whole_value c.args.position)) (asked_kind system.system_type axis.direction)
     (own_or axis.unit system.unit) axis.identifiers
     (ap (λ (a : AxisParts). a.name) seen) (ap (λ (a : AxisParts). a.direction) seen)
@@ -21,4 +21,4 @@ returns c =
     (ap (λ (s : SystemParts). asked_kind s.system_type axis.direction) (sym c.system.view_is)
     ∙ ap (λ (a : AxisParts). asked_kind c.system.inside.system_type a.direction) seen ∙ sym c.asked_kind.ensures) (copied _ _ c.unit_of-unit.ensures)
     (ap (λ (a : AxisParts). a.identifiers) seen)))
-    c.write_axis.ensures
+    c.write.ensures

@@ -17,7 +17,7 @@ returns-in-Some c = on_ok_weaker c.append_item.result
     (λ e s a type shared r. e ∙ ap (λ (x : List ℕ). c.args.out.now.items ++ 44 ∷ x) (c.in-Some.ensures s a r)) c.append_item.ensures
 
 pub returns : goal.returns
-returns c = on_ok_weaker c.write_axis.result (λ w s a type shared r.
+returns c = on_ok_weaker c.write.result (λ w s a type shared r.
     let direction = c.direction-direction.ensures a.direction r.direction in
     placed c.args.level s c.args.seat.position a _ _
     (w a.name a.direction a.meridian (Some (whole_value c.args.seat.position)) (asked_kind s.system_type a.direction) (own_or a.unit s.unit) a.identifiers
@@ -25,4 +25,4 @@ returns c = on_ok_weaker c.write_axis.result (λ w s a type shared r.
     (first-said ReadsAxisMeridian c.args.axis.now class.AxisMeridian _ _ a.meridian c.first-meridian.ensures c.as_ref.ensures.value r.meridian) refl
     (ap (λ t. asked_kind t a.direction) type ∙ ap (λ d. asked_kind c.args.seat.system_type d) direction ∙ sym c.asked_kind.ensures)
     (through (λ (n : Node) u. ReadsUnit n.class (item n) u) _ _ _ c.as_ref-2.ensures.value (c.unit_of-unit.ensures a.unit s.unit r.unit shared))
-    r.identifiers)) c.write_axis.ensures
+    r.identifiers)) c.write.ensures

@@ -5,6 +5,6 @@ use Rattle.crs_writer.proofs.FlatLemmas.{as-said}
 use Rattle.crs_writer.proofs.spelling.compound.CompoundSpell.spell.Goals as goal
 
 pub returns : goal.returns
-returns c = on_ok_weaker c.write_compound.result (λ w. as-said (compound_text c.args.level) _ _ _ _ c.self.view_is
+returns c = on_ok_weaker c.write.result (λ w. as-said (compound_text c.args.level) _ _ _ _ c.self.view_is
     (w _ refl refl refl refl))
-    c.write_compound.ensures
+    c.write.ensures

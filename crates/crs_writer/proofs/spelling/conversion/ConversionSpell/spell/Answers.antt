@@ -5,6 +5,6 @@ use Rattle.crs_writer.proofs.FlatLemmas.{as-said}
 use Rattle.crs_writer.proofs.spelling.conversion.ConversionSpell.spell.Goals as goal
 
 pub returns : goal.returns
-returns c = on_ok_weaker c.write_conversion.result (λ w. as-said (conversion_text c.args.level) _ _ _ _ c.self.view_is
+returns c = on_ok_weaker c.write.result (λ w. as-said (conversion_text c.args.level) _ _ _ _ c.self.view_is
     (w _ refl refl (sym c.as_slice-parameters.ensures) refl))
-    c.write_conversion.ensures
+    c.write.ensures

@@ -10,8 +10,8 @@ pub returns-in-Some : goal.returns-in-Some
 returns-in-Some c = on_ok_weaker c.append.result (λ e. copy-writes _ _ _ _ _ c.in-Some.ensures e) c.append.ensures
 
 pub returns : goal.returns
-returns c = on_ok_weaker c.write_parameter.result (λ w. record {
+returns c = on_ok_weaker c.write.result (λ w. record {
   writes = λ p r. w p (c.text.ensures p.name r.name) (c.number.ensures p.value r.value)
       (through (λ (n : Node) u. ReadsUnit n.class (item n) u) _ _ _ c.as_ref.ensures.value (c.parameter_unit-unit.ensures p.unit r.unit))
       r.identifiers;
-}) c.write_parameter.ensures
+}) c.write.ensures

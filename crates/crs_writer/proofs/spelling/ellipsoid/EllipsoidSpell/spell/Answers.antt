@@ -5,6 +5,6 @@ use Rattle.crs_writer.proofs.FlatLemmas.{as-said, copied}
 use Rattle.crs_writer.proofs.spelling.ellipsoid.EllipsoidSpell.spell.Goals as goal
 
 pub returns : goal.returns
-returns c = on_ok_weaker c.write_ellipsoid.result (λ w. as-said (ellipsoid_text c.args.level) _ _ _ _ c.self.view_is
+returns c = on_ok_weaker c.write.result (λ w. as-said (ellipsoid_text c.args.level) _ _ _ _ c.self.view_is
     (w _ refl refl refl (copied _ _ c.as_ref.ensures.value) refl))
-    c.write_ellipsoid.ensures
+    c.write.ensures

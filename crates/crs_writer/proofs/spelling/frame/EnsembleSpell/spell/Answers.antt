@@ -5,6 +5,6 @@ use Rattle.crs_writer.proofs.FlatLemmas.{as-said, copied}
 use Rattle.crs_writer.proofs.spelling.frame.EnsembleSpell.spell.Goals as goal
 
 pub returns : goal.returns
-returns c = on_ok_weaker c.write_ensemble.result (λ w. as-said (ensemble_text c.args.level) _ _ _ _ c.self.view_is
+returns c = on_ok_weaker c.write.result (λ w. as-said (ensemble_text c.args.level) _ _ _ _ c.self.view_is
     (w _ refl (sym c.as_slice-members.ensures) (copied _ _ c.as_ref.ensures.value) refl refl))
-    c.write_ensemble.ensures
+    c.write.ensures

@@ -5,6 +5,6 @@ use Rattle.crs_writer.proofs.FlatLemmas.{as-said, copied}
 use Rattle.crs_writer.proofs.spelling.vertical.VerticalSpell.spell.Goals as goal
 
 pub returns : goal.returns
-returns c = on_ok_weaker c.write_vertical.result (λ w. as-said (vertical_text c.args.level) _ _ _ _ c.self.view_is
+returns c = on_ok_weaker c.write.result (λ w. as-said (vertical_text c.args.level) _ _ _ _ c.self.view_is
     (w _ refl (copied _ _ c.as_ref.ensures.value) refl refl (sym c.as_slice-models.ensures) refl))
-    c.write_vertical.ensures
+    c.write.ensures

@@ -8,7 +8,7 @@ use Rattle.crs_writer.proofs.PieceLemmas.{then-more}
 use Rattle.crs_writer.proofs.DirectLemmas.{closed}
 use Rattle.crs_writer.proofs.FlatLemmas.{then-models, then-part, told}
 use Rattle.crs_writer.proofs.SystemLemmas.{then-system}
-use Rattle.crs_writer.proofs.spelling.vertical.write_vertical.Goals as goal
+use Rattle.crs_writer.proofs.spelling.vertical.VerticalFields.write.Goals as goal
 
 pub returns : goal.returns
 returns g c = on_ok_weaker c.append.result (λ closes v n d f s m t.

@@ -8,7 +8,7 @@ use Rattle.crs_leaves.specs.Openings.{opened}
 use Rattle.crs_writer.proofs.PieceLemmas.{then-more, then-opt}
 use Rattle.crs_writer.proofs.DirectLemmas.{closed}
 use Rattle.crs_writer.proofs.FlatLemmas.{told}
-use Rattle.crs_writer.proofs.spelling.meridian.write_given.Goals as goal
+use Rattle.crs_writer.proofs.spelling.meridian.MeridianFields.write.Goals as goal
 
 pub returns : goal.returns
 returns g c = on_ok_weaker c.append.result (λ closes name longitude unit ids n l u i.

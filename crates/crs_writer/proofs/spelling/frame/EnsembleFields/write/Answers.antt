@@ -7,7 +7,7 @@ use Rattle.crs_leaves.specs.Openings.{opened}
 use Rattle.crs_writer.proofs.PieceLemmas.{then-more}
 use Rattle.crs_writer.proofs.DirectLemmas.{closed}
 use Rattle.crs_writer.proofs.FlatLemmas.{then-members, then-part, told}
-use Rattle.crs_writer.proofs.spelling.frame.write_ensemble.Goals as goal
+use Rattle.crs_writer.proofs.spelling.frame.EnsembleFields.write.Goals as goal
 
 pub returns : goal.returns
 returns g c = on_ok_weaker c.append.result (λ closes e n m l a i.

@@ -8,7 +8,7 @@ use Rattle.crs_writer.specs.Parts.{opt_text}
 use Rattle.crs_writer.proofs.PieceLemmas.{then-more}
 use Rattle.crs_writer.proofs.DirectLemmas.{closed}
 use Rattle.crs_writer.proofs.FlatLemmas.{then-along, then-number, then-unit, told}
-use Rattle.crs_writer.proofs.spelling.axis.write_axis.Goals as goal
+use Rattle.crs_writer.proofs.spelling.axis.AxisFields.write.Goals as goal
 
 pub returns : goal.returns
 returns g c = on_ok_weaker c.append.result (λ closes name direction meridian order kind unit ids n d m o k u i.

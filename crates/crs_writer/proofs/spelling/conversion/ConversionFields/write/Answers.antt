@@ -5,7 +5,7 @@ use Rattle.crs_leaves.specs.Openings.{opened}
 use Rattle.crs_writer.proofs.PieceLemmas.{then-more}
 use Rattle.crs_writer.proofs.DirectLemmas.{closed}
 use Rattle.crs_writer.proofs.FlatLemmas.{then-parameters, told}
-use Rattle.crs_writer.proofs.spelling.conversion.write_conversion.Goals as goal
+use Rattle.crs_writer.proofs.spelling.conversion.ConversionFields.write.Goals as goal
 
 pub returns : goal.returns
 returns g c = on_ok_weaker c.append.result (λ closes x n m p i.
