@@ -43,7 +43,8 @@ fn has_ensemble(items: &Items<'_>, id: ItemId, class: Class) -> bool
         || has_some(items, id, class, Class::VerticalEnsemble)
 }
 
-// 29: the dynamic parts beside an ensemble, of which the first was found.
+// 29: the dynamic parts beside an ensemble, of which the first was found. In line, the cursor needs no place in memory.
+#[inline(always)]
 pub(crate) fn bad_dynamic(node: &Cursor<'_, '_>, dynamic: Option<ItemId>) -> Option<Refusal>
     requires shaped { Shaped node.now.class (item node.now) }
     requires found { IsFound node.now.items.now node.now.class Class.Dynamic (args Class.Dynamic node.now) dynamic }
@@ -56,6 +57,7 @@ pub(crate) fn bad_dynamic(node: &Cursor<'_, '_>, dynamic: Option<ItemId>) -> Opt
 }
 
 // The same where the first dynamic part wasn't looked for yet.
+#[inline(always)]
 pub(crate) fn bad_dynamic_in(node: &Cursor<'_, '_>) -> Option<Refusal>
     requires shaped { Shaped node.now.class (item node.now) }
     ensures { IsLeast (BadDynamic node.now.class (item node.now)) result }

@@ -18,6 +18,7 @@ use crs_shape::Class;
 use crs_text::{ItemId, Items, Refusal};
 
 // The first node of this class after the first one.
+#[inline(always)]
 fn repeats(node: &Cursor<'_, '_>, class: Class) -> Option<Refusal>
     requires shaped { Shaped node.now.class (item node.now) }
     ensures { IsLeast (Repeats node.now.class (arguments (item node.now)) class) result }
@@ -25,7 +26,9 @@ fn repeats(node: &Cursor<'_, '_>, class: Class) -> Option<Refusal>
     again(node, class, first(node.items, node.id, node.class, class))
 }
 
-// The first anchor or anchor's epoch of a reference frame after the first one of its class.
+// The first anchor or anchor's epoch of a reference frame after the first one of its class. In line, the cursor needs no
+// place in memory.
+#[inline(always)]
 pub(crate) fn repeated_anchors(node: &Cursor<'_, '_>) -> Option<Refusal>
     requires shaped { Shaped node.now.class (item node.now) }
     ensures { IsLeast (RepeatsAny node.now.class (arguments (item node.now)) anchors) result }

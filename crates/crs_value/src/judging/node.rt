@@ -150,12 +150,11 @@ fn whole(
     ensures { IsLeast (λ f. BreaksAmong class (arguments (item_at items.now id)) f
         ⊎ Own class (item_at items.now id) f) result }
 {
-    let node = Cursor { items, id, class };
     let dynamic = first_dynamic(items, id, class, &layout);
     if is_quiet(items, id, class, layout) {
-        return lesser(inside, bad_dynamic(&node, dynamic));
+        return lesser(inside, bad_dynamic(&Cursor { items, id, class }, dynamic));
     }
-    whole_crs(&node, inside)
+    whole_crs(&Cursor { items, id, class }, inside)
 }
 
 // Whether an item that may be a CRS of this class, which has a coordinate system, has no fault of shape as one; what it
