@@ -1,16 +1,13 @@
 ghost use Rattle.std.specs.Prelude.{◌≡◌, [], map, IfOk, IfErr, IsOkAnd, IsSome, Some, false, option_and_then};
 ghost use Rattle.clap.specs.Built.{AddsArg, AddsSubcommand};
-ghost use Rattle.clap.specs.Words.{app_of, fault_of, rule_of, shape_of};
-ghost use Rattle.clap.specs.Words.{subcommand_rows_of};
+ghost use Rattle.clap.specs.Words.{app_of, fault_of, rule_of, shape_of, subcommand_rows_of};
 ghost use Rattle.clap.specs.Simple.{new_shape};
 ghost use Rattle.clap.specs.declared.builder.command.Command.TheViews.{out-Command as fields_of};
-ghost use Rattle.crs_command_line.specs.CommandLine.{HandsOn, IsRefusal, asked, desk, lone_desk, operand};
-ghost use Rattle.crs_command_line.specs.CommandLine.{canon_shape, check_shape, explain_shape};
-ghost use Rattle.crs_command_line.specs.CommandLine.{file_operands, first_option, flag, group_shape};
-ghost use Rattle.crs_command_line.specs.CommandLine.{level_option};
-ghost use Rattle.crs_requests.specs.Requests.{request_of};
-ghost use Rattle.crs_command_line.specs.CommandLine.{rules_option, same_shape};
+ghost use Rattle.crs_command_line.specs.CommandLine.{HandsOn, IsRefusal, asked, desk, lone_desk, operand, canon_shape};
+ghost use Rattle.crs_command_line.specs.CommandLine.{check_shape, explain_shape, file_operands, first_option, flag};
+ghost use Rattle.crs_command_line.specs.CommandLine.{group_shape, level_option, rules_option, same_shape};
 ghost use Rattle.crs_command_line.specs.CommandLine.{spare_operand, with_listing, with_options};
+ghost use Rattle.crs_requests.specs.Requests.{request_of};
 
 use clap::error::ErrorKind;
 use clap::{Arg, ArgAction, ArgMatches, Command};

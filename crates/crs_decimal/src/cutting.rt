@@ -5,8 +5,7 @@ ghost use Rattle.crs_decimal.specs.Cut.{IsExponentCut, IsCut};
 ghost use Rattle.crs_decimal.specs.Mantissa.{with_digits};
 ghost use Rattle.crs_decimal.specs.Spelling.{AreDigits, fraction_digits, is_digit};
 ghost use Rattle.crs_decimal.specs.Split.{leading_digits, behind_digits, sign_of, behind_sign, fraction_of};
-ghost use Rattle.crs_decimal.specs.Split.{behind_fraction, exponent_of, HasExponentDigits, parts_of};
-ghost use Rattle.crs_decimal.specs.Split.{IsCutWhole};
+ghost use Rattle.crs_decimal.specs.Split.{behind_fraction, exponent_of, HasExponentDigits, parts_of, IsCutWhole};
 
 use crate::mantissa::Mantissa;
 

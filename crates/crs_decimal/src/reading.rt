@@ -1,5 +1,4 @@
-ghost use Rattle.std.specs.Prelude.{◌≡◌, ◌+◌, ◌<◌, ◌≤◌, length, if◌then◌else◌, MatchOption};
-ghost use Rattle.std.specs.Prelude.{MatchResult};
+ghost use Rattle.std.specs.Prelude.{◌≡◌, ◌+◌, ◌<◌, ◌≤◌, length, if◌then◌else◌, MatchOption, MatchResult};
 ghost use Rattle.crs_decimal.specs.Bounds.{digits_value, IsBounded, number_of, Denotes};
 ghost use Rattle.crs_decimal.specs.Cut.{IsCut, IsFar, IsPowerBetween};
 ghost use Rattle.crs_decimal.specs.Fault.{IsFault};

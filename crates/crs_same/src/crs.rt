@@ -2,13 +2,12 @@
 ghost use Rattle.std.specs.Prelude.{◌≡◌, ◌<◌, ◌≤◌, ◌↔◌, [], IfOk, IfSome, IsTrue, None, length};
 ghost use Rattle.crs_value.specs.ReadsCrs.{kind_by, kind_of};
 ghost use Rattle.crs_same.specs.declared.step.Step.TheVariants as step;
-ghost use Rattle.crs_same.specs.Parts.{◌▸◌};
-ghost use Rattle.crs_same.specs.PartsOfCrs.{kind_word, horizontal_word};
-ghost use Rattle.crs_same.specs.PartsOfCrs.{parts_of_geodetic, parts_of_base, parts_of_projected, parts_of_vertical};
-ghost use Rattle.crs_same.specs.PartsOfCrs.{parts_of_horizontal, parts_of_compound, parts_of_crs, FirstInCrs, DifferencesInCrs};
+ghost use Rattle.crs_same.specs.Parts.{◌▸◌, AreSame};
+ghost use Rattle.crs_same.specs.PartsOfCrs.{kind_word, horizontal_word, parts_of_geodetic, parts_of_base};
+ghost use Rattle.crs_same.specs.PartsOfCrs.{parts_of_projected, parts_of_vertical, parts_of_horizontal};
+ghost use Rattle.crs_same.specs.PartsOfCrs.{parts_of_compound, parts_of_crs, FirstInCrs, DifferencesInCrs};
 ghost use Rattle.crs_same.specs.SingleParts.{words, unlike};
 ghost use Rattle.crs_same.specs.Walked.{Walked};
-ghost use Rattle.crs_same.specs.Parts.{AreSame};
 ghost use Rattle.crs_same.specs.SameCrs.{SameCrs};
 
 use crate::content::Content;

@@ -7,8 +7,7 @@ ghost use Rattle.crs_same.specs.declared.step.Step.TheVariants as step;
 ghost use Rattle.crs_same.specs.Parts.{◌▸◌};
 ghost use Rattle.crs_same.specs.SingleParts.{words, optional, nodes};
 ghost use Rattle.crs_same.specs.Walked.{Walked};
-ghost use Rattle.crs_same.specs.PartsOfSystems.{parts_of_axis, parts_at, parts_of_axes};
-ghost use Rattle.crs_same.specs.PartsOfSystems.{parts_of_system};
+ghost use Rattle.crs_same.specs.PartsOfSystems.{parts_of_axis, parts_at, parts_of_axes, parts_of_system};
 ghost use Rattle.crs_matching.specs.SameSystems.{SameAxisMeridian};
 
 use crate::content::Content;

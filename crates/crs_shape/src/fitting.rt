@@ -1,13 +1,12 @@
 //! Whether items have the shape of a class.
-ghost use Rattle.std.specs.Prelude.{◌≡◌, ◌+◌, ◌^◌, ◌<◌, ◌&&◌, not, true, false, Some, IsTrue, IsFalse, MatchResult, All};
-ghost use Rattle.std.specs.Prelude.{option_map};
+ghost use Rattle.std.specs.Prelude.{◌≡◌, ◌+◌, ◌^◌, ◌<◌, ◌&&◌, not, true, false, Some, IsTrue, IsFalse, MatchResult};
+ghost use Rattle.std.specs.Prelude.{All, option_map};
 ghost use Rattle.crs_text.specs.Items.{first_of, close_of, kind_of_item, raw_of, here, HasId};
 ghost use Rattle.crs_shape.specs.Keywords.{is_known};
 ghost use Rattle.crs_text.specs.Refusal.{is_refusal};
 ghost use Rattle.crs_shape.specs.ClassSet.{HasSet};
 ghost use Rattle.crs_shape.specs.FirstFault.{step_of, first_inside};
-ghost use Rattle.crs_shape.specs.ShapeFault.{class_in, is_of, misplaced, IsFree, IsOnly, Inside, AtRoot};
-ghost use Rattle.crs_shape.specs.ShapeFault.{class_of_root};
+ghost use Rattle.crs_shape.specs.ShapeFault.{class_in, is_of, misplaced, IsFree, IsOnly, Inside, AtRoot, class_of_root};
 ghost use Rattle.crs_shape.specs.Walk.{after, may_end, left_of};
 
 use crate::class::Class;

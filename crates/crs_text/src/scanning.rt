@@ -1,6 +1,5 @@
 //! One pass over the text: each token is found, and the table takes it or refuses it.
-ghost use Rattle.std.specs.Prelude.{◌≡◌, ◌+◌, ◌≤◌, ◌<◌, ◌∷◌, length, drop, true, MatchResult, MatchBool};
-ghost use Rattle.std.specs.Prelude.{IsTrue};
+ghost use Rattle.std.specs.Prelude.{◌≡◌, ◌+◌, ◌≤◌, ◌<◌, ◌∷◌, length, drop, true, MatchResult, MatchBool, IsTrue};
 ghost use Rattle.crs_text.specs.Tokens.{Forms, comma, opening, closing, is_letter, is_white};
 ghost use Rattle.crs_text.specs.Quoted.{BeginsWith};
 ghost use Rattle.std.specs.List.{prefix_len};

@@ -6,9 +6,8 @@ ghost use Rattle.crs_same.specs.Parts.{AreSame};
 ghost use Rattle.crs_same.specs.PartsOfCrs.{parts_of_base, parts_of_compound, parts_of_geodetic, parts_of_horizontal};
 ghost use Rattle.crs_same.specs.PartsOfCrs.{parts_of_projected, parts_of_vertical};
 ghost use Rattle.crs_same.specs.SameCrs.{SameCrs};
-ghost use Rattle.crs_normal.specs.PartSpellings.{IsHorizontalPart, IsSpelledBase, IsSpelledCompound};
-ghost use Rattle.crs_normal.specs.PartSpellings.{IsSpelledGeodetic, IsSpelledHorizontal, IsSpelledProjected};
-ghost use Rattle.crs_normal.specs.PartSpellings.{IsSpelledVertical};
+ghost use Rattle.crs_normal.specs.PartSpellings.{IsHorizontalPart, IsSpelledBase, IsSpelledCompound, IsSpelledGeodetic};
+ghost use Rattle.crs_normal.specs.PartSpellings.{IsSpelledHorizontal, IsSpelledProjected, IsSpelledVertical};
 ghost use Rattle.crs_writer.specs.Canonical.{IsCanonicalText};
 
 use crate::canonical::Canonical;
