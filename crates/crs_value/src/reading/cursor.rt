@@ -29,6 +29,8 @@ impl<'i, 'a> Cursor<'i, 'a> {
     ghost use Rattle.crs_value.specs.Reading.{IsFound, ReadsAll, ReadsIfAny, ReadsOne, Requires};
     ghost use Rattle.crs_value.specs.Reads.{ReadsNumberAt, ReadsNumberOf, ReadsTextOf};
 
+    // What identifiers are read by is compiled in place: a cursor that is lent to a call goes through memory.
+
     // The value of an argument of this class that the slots require.
     pub(crate) fn one<T: Node<'a>>(&self, alloc: Global, class: Class) -> Result<T, AllocError>
         requires sound { IsSound self.now.class (item self.now) }
@@ -74,6 +76,7 @@ impl<'i, 'a> Cursor<'i, 'a> {
     }
 
     // The values of all arguments of this class.
+    #[inline(always)]
     pub(crate) fn many<T: Node<'a> + Keyed>(
         &self,
         alloc: Global,
@@ -120,6 +123,7 @@ impl<'i, 'a> Cursor<'i, 'a> {
     }
 
     // The text of an argument of this class that may be missing.
+    #[inline(always)]
     pub(crate) fn optional_text(&self, class: Class) -> Option<&'a [u8]>
         requires sound { IsSound self.now.class (item self.now) }
         requires enough { Requires class classes.Text 0 }
@@ -129,6 +133,7 @@ impl<'i, 'a> Cursor<'i, 'a> {
     }
 
     // The same, the first of the class having been looked for.
+    #[inline(always)]
     pub(crate) fn optional_text_from(&self, class: Class, found: Option<ItemId>) -> Option<&'a [u8]>
         requires sound { IsSound self.now.class (item self.now) }
         requires enough { Requires class classes.Text 0 }
