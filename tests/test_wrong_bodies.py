@@ -60,6 +60,21 @@ def test_folders() -> None:
 
 
 @pytest.mark.parametrize(
+    "head, name",
+    [
+        ("fn first() {", "crs::short::first"),
+        ("impl Short {\n    fn second() {", "Short::second"),
+        ("impl<'a> Part<Frame<'a>> for &'a Node<'_> {\n    fn second() {", "RefNodePart::second"),
+        ("impl<'a, P: Part<Frame<'a>>> Fields<'a, P> {\n    fn second() {", "Fields::second"),
+        ("impl<\n    'a,\n    P: Part<Frame<'a>>,\n> Fields<'a, P> {\n    fn second() {", "Fields::second"),
+    ],
+)
+def test_enclosing(head: str, name: str) -> None:
+    before = ["impl Other {", "    fn none() {}", "}", ""]
+    assert wrong_bodies.enclosing("src/crs/short.rt", [*before, *head.split("\n")]) == name
+
+
+@pytest.mark.parametrize(
     "told, is_of_names",
     [
         ("record .. has no field stripped (nearest: .short ..)", True),

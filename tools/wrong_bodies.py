@@ -50,9 +50,11 @@ from build import Crate
 MOST = 12
 GATE, FURTHER, WHOLE = "wrong-bodies", "more-wrong-bodies", "must-fail"
 FUNCTION = re.compile(r'\s*(?:pub(?:\([a-z]+\))? )?(?:const )?(?:unsafe )?(?:extern "C" )?fn (\w+)')
+# What an impl is generic over, with types in types in types.
+GENERICS = r"<(?:->|[^<>]|<(?:[^<>]|<[^<>]*>)*>)*>"
 BLOCK = re.compile(
     r"(?:pub(?:\([a-z]+\))? )?"
-    r"(?:impl(?:<[^>]*>)? (?:(?:\w+::)*(\w+)(?:<.*?>)? for )?(&?)(?:'\w+ )?(?:\w+::)*(\w+)|trait (\w+))"
+    rf"(?:impl(?:{GENERICS})? (?:(?:\w+::)*(\w+)(?:<.*?>)? for )?(&?)(?:'\w+ )?(?:\w+::)*(\w+)|trait (\w+))"
 )
 # What the prover says of a function that rests on others, or on answers, of others too, that are refused; and of an answer
 # that names what a body took away.
@@ -97,20 +99,28 @@ class Fault(Exception):
     """Why a body can't be applied."""
 
 
+def block_head(lines: List[str], begin: int) -> str:
+    """The head that a line begins, in one line: one that is generic over much has several."""
+    if lines[begin] != "impl<":
+        return lines[begin]
+    end = next(at for at in range(begin, len(lines)) if lines[at].endswith("{"))
+    return " ".join(line.strip() for line in lines[begin : end + 1])
+
+
 def enclosing(path: str, lines: List[str]) -> Optional[str]:
     """The function that the last of these lines of a file stands in, or None: its path, or a method's type and name, since
     the prover names a method by the module of its type."""
     inside = path.removeprefix("src/").removesuffix(".rt")
     names = [] if inside in ("lib", "main") else inside.split("/")
     function = None
-    for line in reversed(lines):
+    for at in reversed(range(len(lines))):
         if function is None:
-            found = FUNCTION.match(line)
+            found = FUNCTION.match(lines[at])
             if found:
                 function = found[1]
-                if not line.startswith(" "):
+                if not lines[at].startswith(" "):
                     return "::".join([*names, function])
-        elif found := BLOCK.match(line):
+        elif found := BLOCK.match(block_head(lines, at)):
             trait, lent, owner, declared = found.groups()
             return "::".join([declared or ("Ref" if lent else "") + owner + (trait or ""), function])
     return None
