@@ -12,7 +12,7 @@ use Rattle.crs_value.specs.Prelude.{those, IsBox, IsExtent, IsUsage, BoxParts, E
 use Rattle.crs_value.specs.Sound.{Each}
 use Rattle.crs_normal.specs.DecimalLaws.{DecimalLaws}
 use Rattle.crs_normal.specs.AcceptedNormal.{IsAcceptedNormal}
-use Rattle.crs_normal.specs.SpelledItems.{node_from, opt, text_node}
+use Rattle.crs_normal.specs.SpelledItems.{node_from}
 use Rattle.crs_normal.specs.SpelledUnits.{item_unit, norm_length}
 use Rattle.crs_normal.specs.SpelledUsages.{item_box, item_extent, item_usage, norm_extent, norm_usage}
 use Rattle.crs_normal.proofs.made.EllipsoidLemmas.{length-argument, placed-some}

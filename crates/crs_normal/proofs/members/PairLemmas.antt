@@ -1,19 +1,19 @@
 -- Several numbers in slots of their own, and optional units, as they are written.
-use Rattle.std.proofs.Common.{◌≡◌, ◌≢◌, drop, Option, Some, None, List, [], ◌∷◌, refl, ◌∙◌, ap, subst}
-use Rattle.std.specs.Option.{option_map}
+use Rattle.std.proofs.Common.{◌≡◌, ◌≢◌, ℕ, drop, Option, Some, None, List, [], ◌∷◌, refl, ◌∙◌, ap, subst}
 use Rattle.crs_decimal.specs.Prelude.{Value}
-use Rattle.crs_text.specs.Prelude.{Item, Siblings, More}
+use Rattle.crs_text.specs.Prelude.{Item, Siblings, More, arguments}
 use Rattle.crs_shape.specs.declared.class.Class.{Class}
 use Rattle.crs_shape.specs.declared.class.Class.TheVariants as class
+use Rattle.crs_shape.specs.Prelude.{SlotParts}
 use Rattle.crs_shape.specs.declared.unit_kind.UnitKind.{UnitKind}
 use Rattle.crs_shape.specs.declared.unit_kind.UnitKind.TheVariants as kinds
-use Rattle.crs_value.specs.Prelude.{ReadsFirst, ReadsOptional, ReadsNumber, UnitParts}
+use Rattle.crs_value.specs.Prelude.{those, ReadsFirst, ReadsOptional, ReadsNumber, UnitParts}
 use Rattle.crs_value.specs.declared.values.level.Level.{Level}
 use Rattle.crs_normal.specs.WithoutPlaces.{without_places}
 use Rattle.crs_value.specs.Sound.{Each}
 use Rattle.crs_normal.specs.SpelledItems.{number_item, opt}
 use Rattle.crs_normal.specs.SpelledUnits.{item_unit, norm_length, norm_unit, norm_units}
-use Rattle.crs_normal.proofs.normal.FormLemmas.{IsGood}
+use Rattle.crs_normal.proofs.normal.FormLemmas.{IsGood, Looked, Opened, found-in, good-in}
 use Rattle.crs_normal.proofs.normal.LeafLemmas.{ArePlain, PlainIsOne, number-form}
 use Rattle.crs_normal.proofs.read.ViewLemmas.{and_then, without_places_onto}
 
@@ -21,15 +21,16 @@ abbrev pub Alone : List Item → Type 0
 Alone front = (item : Item) × (front ≡ item ∷ [])
 
 -- two numbers, each in a slot of its own
-pub two-spelled : PlainIsOne → (level : Level) (c : Class) → ArePlain c → (found f g : List Item) →
-    Each (IsGood level c class.Number) found →
-    found ≡ and_then f g → Alone f → Alone g → (x y : Value) → ReadsFirst ReadsNumber (drop 0 found) x →
-    ReadsFirst ReadsNumber (drop 1 found) y →
-    (rest after : Siblings) → rest ≡ after →
+pub two-in : PlainIsOne → {level : Level} {c : Class} {slots : List SlotParts} {item : Item} {keyword : List ℕ}
+    (o : Opened level c slots item keyword) → ArePlain c → (f g : List Item) →
+    Looked o class.Number (and_then f g) → Alone f → Alone g → (x y : Value) →
+    ReadsFirst ReadsNumber (drop 0 (those c class.Number (arguments item))) x →
+    ReadsFirst ReadsNumber (drop 1 (those c class.Number (arguments item))) y →
+    {rest after : Siblings} → rest ≡ after →
     without_places_onto f (without_places_onto g rest) ≡ More (number_item x) (More (number_item y) after)
-two-spelled law level c plains found f g good e p q x y a b rest after same =
-    let are : found ≡ p.0 ∷ q.0 ∷ [] = e ∙ ap (λ xs. and_then xs g) p.1 ∙ ap (and_then (p.0 ∷ [])) q.1 in
-    let goods = subst (Each (IsGood level c class.Number)) are good in
+two-in law {level = level} {c = c} o plains f g e p q x y a b {rest = rest} same =
+    let are = found-in o class.Number (e ∙ ap (λ xs. and_then xs g) p.1 ∙ ap (and_then (p.0 ∷ [])) q.1) in
+    let goods = subst (Each (IsGood level c class.Number)) are (good-in o class.Number) in
     let first = number-form law level c plains p.0 x goods.0
     (subst (λ (xs : List Item). ReadsFirst ReadsNumber (drop 0 xs) x) are a) in
     let second = number-form law level c plains q.0 y goods.1.0
@@ -41,21 +42,23 @@ two-spelled law level c plains found f g good e p q x y a b rest after same =
     joined h k l = cc
 
 -- four numbers likewise
-pub four-spelled : PlainIsOne → (level : Level) (c : Class) → ArePlain c → (found f g h k : List Item) →
-    Each (IsGood level c class.Number) found →
-    found ≡ and_then f (and_then g (and_then h k)) → Alone f → Alone g → Alone h → Alone k → (x y z w : Value) →
-    ReadsFirst ReadsNumber (drop 0 found) x → ReadsFirst ReadsNumber (drop 1 found) y →
-    ReadsFirst ReadsNumber (drop 2 found) z → ReadsFirst ReadsNumber (drop 3 found) w →
-    (rest after : Siblings) → rest ≡ after →
+pub four-in : PlainIsOne → {level : Level} {c : Class} {slots : List SlotParts} {item : Item} {keyword : List ℕ}
+    (o : Opened level c slots item keyword) → ArePlain c → (f g h k : List Item) →
+    Looked o class.Number (and_then f (and_then g (and_then h k))) → Alone f → Alone g → Alone h → Alone k →
+    (x y z w : Value) → ReadsFirst ReadsNumber (drop 0 (those c class.Number (arguments item))) x →
+    ReadsFirst ReadsNumber (drop 1 (those c class.Number (arguments item))) y →
+    ReadsFirst ReadsNumber (drop 2 (those c class.Number (arguments item))) z →
+    ReadsFirst ReadsNumber (drop 3 (those c class.Number (arguments item))) w →
+    {rest after : Siblings} → rest ≡ after →
     without_places_onto f (without_places_onto g (without_places_onto h (without_places_onto k rest))) ≡ More (number_item x)
     (More (number_item y) (More (number_item z) (More (number_item w) after)))
-four-spelled law level c plains found f g h k good e p q r s x y z w a b d t rest after same =
-    let are : found ≡ p.0 ∷ q.0 ∷ r.0 ∷ s.0 ∷ [] =
-    e ∙ ap (λ xs. and_then xs (and_then g (and_then h k))) p.1
+four-in law {level = level} {c = c} o plains f g h k e p q r s x y z w a b d t {rest = rest} same =
+    let are = found-in o class.Number
+    (e ∙ ap (λ xs. and_then xs (and_then g (and_then h k))) p.1
     ∙ ap (λ xs. and_then (p.0 ∷ []) (and_then xs (and_then h k))) q.1
     ∙ ap (λ xs. and_then (p.0 ∷ []) (and_then (q.0 ∷ []) (and_then xs k))) r.1
-    ∙ ap (λ xs. and_then (p.0 ∷ []) (and_then (q.0 ∷ []) (and_then (r.0 ∷ []) xs))) s.1 in
-    let goods = subst (Each (IsGood level c class.Number)) are good in
+    ∙ ap (λ xs. and_then (p.0 ∷ []) (and_then (q.0 ∷ []) (and_then (r.0 ∷ []) xs))) s.1) in
+    let goods = subst (Each (IsGood level c class.Number)) are (good-in o class.Number) in
     let first = number-form law level c plains p.0 x goods.0
     (subst (λ (xs : List Item). ReadsFirst ReadsNumber (drop 0 xs) x) are a) in
     let second = number-form law level c plains q.0 y goods.1.0
@@ -80,11 +83,6 @@ pub opt-units : (level : Level) (asked : UnitKind) (unit : Option UnitParts) (re
     opt (λ u. item_unit (norm_unit level asked u)) unit rest ≡ opt item_unit (norm_units level asked unit) rest
 opt-units level asked None rest = refl
 opt-units level asked (Some u) rest = refl
-
-pub opt-mapped : {V W : Type 0} (spell : W → Item) (norm : V → W) (value : Option V) (rest : Siblings) →
-    opt (λ v. spell (norm v)) value rest ≡ opt spell (option_map norm value) rest
-opt-mapped spell norm None rest = refl
-opt-mapped spell norm (Some v) rest = refl
 
 -- a unit of length that is there
 pub opt-length : (R : Item → UnitParts → Type 0) (level : Level) (found : List Item) (unit : Option UnitParts) →

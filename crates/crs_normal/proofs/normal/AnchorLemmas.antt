@@ -1,20 +1,20 @@
 -- The anchor of a normal reference frame and its epoch are the one form of their values: by their
 -- ranks the anchor comes first.
-use Rattle.std.proofs.Common.{◌≡◌, ℕ, ◌≤◌, ◌||◌, length, Bool, true, false, inl, inr, ◌⊎◌, Option, Some, List, [], ◌∷◌, ◌++◌, codes, refl, ◌∙◌, ap, arith}
+use Rattle.std.proofs.Common.{◌≡◌, ℕ, ◌≤◌, ◌||◌, Bool, true, false, inl, inr, ◌⊎◌, Option, Some, List, [], ◌∷◌, ◌++◌, codes, refl, ◌∙◌, ap, arith}
 use denote.Enum.Bare.{sameb}
 use Rattle.crs_decimal.specs.Prelude.{Value}
-use Rattle.crs_text.specs.Prelude.{Item, Siblings, End}
+use Rattle.crs_text.specs.Prelude.{Item, Siblings, End, RefusedAt, arguments}
 use Rattle.crs_shape.specs.contracts.class.Class.{the_type}
 use Rattle.crs_shape.specs.declared.class.Class.{Class}
 use Rattle.crs_shape.specs.declared.class.Class.TheVariants as class
-use Rattle.crs_shape.specs.Prelude.{class_in, anchor_slot}
-use Rattle.crs_value.specs.Prelude.{those, ReadsOptional, ReadsNumberOf, ReadsTextOf}
+use Rattle.crs_shape.specs.Prelude.{SlotParts, class_in, anchor_slot}
+use Rattle.crs_value.specs.Prelude.{RepeatsAny, anchors, those, ReadsOptional, ReadsNumberOf, ReadsTextOf}
 use Rattle.crs_value.specs.Sound.{Each}
 use Rattle.crs_value.specs.declared.values.level.Level.{Level}
 use Rattle.crs_normal.specs.NormalOwn.{Rise}
 use Rattle.crs_normal.specs.SpelledItems.{number_node, opt, text_node}
-use Rattle.crs_normal.proofs.normal.CheckedLemmas.{as-few}
-use Rattle.crs_normal.proofs.normal.FormLemmas.{Kept, kept-good, optional-spelled}
+use Rattle.crs_normal.proofs.normal.CheckedLemmas.{as-few, once-only}
+use Rattle.crs_normal.proofs.normal.FormLemmas.{Looked, Opened, found-in, good-in, optional-spelled}
 use Rattle.crs_normal.proofs.normal.LeafLemmas.{PlainIsOne, number-node-form, text-node-form}
 use Rattle.crs_normal.proofs.normal.RankLemmas.{named-so, rise-as}
 use Rattle.crs_normal.proofs.normal.SortLemmas.{as-class, without_places-joined, those-kept, those-passed}
@@ -90,35 +90,29 @@ found-epochs c m front s =
     (as-class c class.AnchorEpoch class.AnchorEpoch true refl s.epochs s.as_epoch)
 
 -- a node has at most one of each in the slot, and nothing else
-pub record IsAnchorSlot (d : Class) (items : Siblings) (front : List Item) : Type 0 where
-  pub least : ℕ
-  pub rest : Siblings
-  pub rise : Rise d least (onto front rest)
-  pub inside : Each (InSlot d anchor_slot) front
-  pub found : those d class.Anchor items ≡ those d class.Anchor (onto front End)
-  pub found_epochs : those d class.AnchorEpoch items ≡ those d class.AnchorEpoch (onto front End)
-  pub single : length (those d class.Anchor items) ≤ 1
-  pub single_epoch : length (those d class.AnchorEpoch items) ≤ 1
-
-pub anchors-spelled : PlainIsOne → (level : Level) (d : Class) (items : Siblings) → Kept level d items →
-    (front : List Item) → IsAnchorSlot d items front → (anchor : Option (List ℕ)) (epoch : Option Value) →
-    ReadsOptional (ReadsTextOf class.Anchor) (those d class.Anchor items) anchor →
-    ReadsOptional (ReadsNumberOf class.AnchorEpoch) (those d class.AnchorEpoch items) epoch →
-    (rest after : Siblings) → rest ≡ after →
+pub anchors-in : PlainIsOne → {level : Level} {c : Class} {slots : List SlotParts} {item : Item} {keyword : List ℕ}
+    (o : Opened level c slots item keyword)
+    (front : List Item) → Each (InSlot c anchor_slot) front →
+    (least : ℕ) (behind : Siblings) → Rise c least (onto front behind) →
+    Looked o class.Anchor (those c class.Anchor (onto front End)) →
+    Looked o class.AnchorEpoch (those c class.AnchorEpoch (onto front End)) →
+    ((fault : RefusedAt) → ¬ (RepeatsAny c (arguments item) anchors fault)) →
+    (anchor : Option (List ℕ)) (epoch : Option Value) →
+    ReadsOptional (ReadsTextOf class.Anchor) (those c class.Anchor (arguments item)) anchor →
+    ReadsOptional (ReadsNumberOf class.AnchorEpoch) (those c class.AnchorEpoch (arguments item)) epoch →
+    {rest after : Siblings} → rest ≡ after →
     without_places_onto front rest ≡ opt (text_node (codes "ANCHOR")) anchor (opt (number_node (codes "ANCHOREPOCH")) epoch
     after)
-anchors-spelled law level d items k front a anchor epoch reads reads_epoch rest after same =
-    let s = anchored d a.least front a.rest a.rise (each-so (InSlot d anchor_slot) (IsEither d) (either-as d) front a.inside)
-    in
-    let firsts = a.found ∙ found-firsts d a.least front s in
-    let epochs = a.found_epochs ∙ found-epochs d a.least front s in
+anchors-in law {level = level} {c = c} o front inside least behind rise same same_epoch free anchor epoch reads
+    reads_epoch {rest = rest} after =
+    let s = anchored c least front behind rise (each-so (InSlot c anchor_slot) (IsEither c) (either-as c) front inside) in
+    let firsts = found-in o class.Anchor same ∙ found-firsts c least front s in
+    let epochs = found-in o class.AnchorEpoch same_epoch ∙ found-epochs c least front s in
     ap (λ xs. without_places_onto xs rest) s.are
     ∙ without_places-joined s.firsts s.epochs rest
-    ∙ optional-spelled level d class.Anchor (ReadsTextOf class.Anchor) (text_node (codes "ANCHOR"))
-    (text-node-form level d class.Anchor (codes "ANCHOR") refl (λ bytes h. h))
-    (those d class.Anchor items) s.firsts (kept-good level d class.Anchor items k) firsts
-    (as-few _ _ firsts a.single) anchor reads _ _
-    (optional-spelled level d class.AnchorEpoch (ReadsNumberOf class.AnchorEpoch) (number_node (codes "ANCHOREPOCH"))
-    (number-node-form law level d class.AnchorEpoch (codes "ANCHOREPOCH") refl (λ bytes h. h) (λ raw h. h))
-    (those d class.AnchorEpoch items) s.epochs (kept-good level d class.AnchorEpoch items k) epochs
-    (as-few _ _ epochs a.single_epoch) epoch reads_epoch rest after same)
+    ∙ optional-spelled (text-node-form level c class.Anchor (codes "ANCHOR") refl (λ bytes h. h)) _ s.firsts
+    (good-in o class.Anchor) firsts (as-few _ _ firsts (once-only _ (λ fault b. free fault (inl b)))) anchor reads
+    (optional-spelled
+    (number-node-form law level c class.AnchorEpoch (codes "ANCHOREPOCH") refl (λ bytes h. h) (λ raw h. h)) _ s.epochs
+    (good-in o class.AnchorEpoch) epochs (as-few _ _ epochs (once-only _ (λ fault b. free fault (inr (inl b))))) epoch
+    reads_epoch after)

@@ -7,21 +7,20 @@ use Rattle.crs_shape.specs.declared.class.Class.TheVariants as class
 use Rattle.crs_shape.specs.declared.system_type.SystemType.{SystemType}
 use Rattle.crs_shape.specs.declared.unit_kind.UnitKind.{UnitKind}
 use Rattle.crs_shape.specs.declared.unit_kind.UnitKind.TheVariants as kinds
-use Rattle.crs_shape.specs.Prelude.{Shaped, slots_of, asked_kind, SpellsWord, direction_word, system_word}
-use Rattle.crs_value.specs.Prelude.{those, ReadsFirst, ReadsOptional, ReadsAxis, ReadsAxisMeridian, ReadsDirection, ReadsNumber, ReadsNumberOf, ReadsText, ReadsType, ReadsUnit, AxisMeridianParts, AxisParts, SystemParts, UnitParts}
+use Rattle.crs_shape.specs.Prelude.{Shaped, asked_kind, SpellsWord, direction_word, system_word}
+use Rattle.crs_value.specs.Prelude.{those, ReadsFirst, ReadsOptional, ReadsAxis, ReadsAxisMeridian, ReadsDirection, ReadsNumber, ReadsNumberOf, ReadsType, ReadsUnit, AxisMeridianParts, AxisParts, SystemParts, UnitParts}
 use Rattle.crs_value.specs.declared.values.level.Level.{Level}
 use Rattle.crs_matching.specs.Prelude.{own_or}
 use Rattle.crs_normal.specs.WithoutPlaces.{without_places}
 use Rattle.crs_normal.specs.Normal.{IsNormalIn, IsWordIn}
 use Rattle.crs_normal.specs.NormalOwn.{Has, HasOneOrder, numbers_in}
 use Rattle.crs_value.specs.Sound.{Each}
-use Rattle.crs_normal.specs.SpelledItems.{number_item, number_node, opt, text_item, word_item}
+use Rattle.crs_normal.specs.SpelledItems.{number_node, opt, word_item}
 use Rattle.crs_normal.specs.SpelledSystems.{item_axis, item_axis_meridian, norm_axis, norm_axis_meridian, norm_axis_meridians}
 use Rattle.crs_normal.specs.SpelledUnits.{item_unit, norm_unit, norm_units, whole_value}
-use Rattle.crs_normal.proofs.normal.FormLemmas.{Form, IsGood, kept-good, node-spelled, opened, one-in, optional-in}
+use Rattle.crs_normal.proofs.normal.FormLemmas.{Form, IsGood, kept-good, one-in, opened, optional-in, spelled-by}
 use Rattle.crs_normal.proofs.normal.LeafLemmas.{PlainIsOne, without_places-word-leaf, no-word, number-form, number-node-form, number-normal, text-form}
 use Rattle.crs_normal.proofs.normal.UnitLemmas.{in-angle, in-axis, unit-form, idents-in}
-use Rattle.crs_normal.proofs.read.ViewLemmas.{without_places-spread}
 use Rattle.crs_normal.proofs.texts.WordFormLemmas.{direction-one, type-one}
 
 -- ---- directions and types in their own letters
@@ -62,16 +61,13 @@ pub axis_meridian-form : PlainIsOne → (level : Level) (c : Class) →
 axis_meridian-form law level c (leaf kind place raw) x good reads = absurd reads.longitude
 axis_meridian-form law level c (node place keyword square first others close) x good reads =
     let d = class.AxisMeridian in
-    let o = opened level c d place keyword square first others close good.shaped good.normal in
-    let items = More first others in
+    let o = opened refl good in
     let v = o.slots in
     let v1 = v.1.1.1.1 in
-    node-spelled place keyword _ square first others close _ o.written
-    (without_places-spread d (slots_of d) items v
-    ∙ one-in o class.Number ReadsNumber number_item (number-form law level d (λ raw h. h)) v.0 refl
+    spelled-by o o.written
+    (one-in o (number-form law level d (λ raw h. h)) v.0 refl
     (v.1.1.0.not_more refl) x.longitude reads.longitude
-    (one-in o class.AngleUnit (ReadsUnit class.AngleUnit) (λ u. item_unit (norm_unit level kinds.Angle u))
-    (unit-form law level d class.AngleUnit kinds.Angle refl (in-angle kinds.Angle) (λ raw h. h)) v1.0 refl
+    (one-in o (unit-form law level d class.AngleUnit kinds.Angle refl (in-angle kinds.Angle) (λ raw h. h)) v1.0 refl
     (v1.1.1.0.not_more refl) x.unit reads.unit refl))
 
 pub opt-meridians : (level : Level) (m : Option AxisMeridianParts) (rest : Siblings) →
@@ -88,7 +84,7 @@ pub order-plain : PlainIsOne → (level : Level) (k : ℕ) (item : Item) (value 
     numbers_in class.Order item ≡ decimal k ∷ [] → plain value ≡ decimal k
 order-plain law level k (leaf kind place raw) value good reads are = absurd reads
 order-plain law level k (node place keyword square first others close) value good reads are =
-    let o = opened level class.Axis class.Order place keyword square first others close good.shaped good.normal in
+    let o = opened refl good in
     first-of (those class.Order class.Number (More first others))
     (kept-good level class.Order class.Number (More first others) o.kept) reads are
   where
@@ -156,7 +152,7 @@ unfolding norm_axis
 axis-form law level c system k (leaf kind place raw) x good ordered own reads = absurd reads.name
 axis-form law level c system k (node place keyword square first others close) x good ordered own reads =
     let d = class.Axis in
-    let o = opened level c d place keyword square first others close good.shaped good.normal in
+    let o = opened refl good in
     let items = More first others in
     let v = o.slots in
     let v1 = v.1.1.1.1 in
@@ -167,20 +163,16 @@ axis-form law level c system k (node place keyword square first others close) x 
     let asked = asked_kind system.system_type x.direction in
     let known = order-known law level k (those d class.Order items) x.order (kept-good level d class.Order items o.kept)
     ordered reads.order in (
-      node-spelled place keyword _ square first others close _ o.written
-          (without_places-spread d (slots_of d) items v
-          ∙ one-in o class.Text ReadsText text_item (text-form level d) v.0 refl (v.1.1.0.not_more refl) x.name
+      spelled-by o o.written
+          (one-in o (text-form level d) v.0 refl (v.1.1.0.not_more refl) x.name
           reads.name
-          (one-in o class.Word ReadsDirection (λ w. word_item (direction_word w)) (direction-form level) v1.0 refl
+          (one-in o (direction-form level) v1.0 refl
           (v1.1.1.0.not_more refl) x.direction reads.direction
-          (optional-in o class.AxisMeridian (ReadsAxisMeridian class.AxisMeridian)
-          (λ m. item_axis_meridian (norm_axis_meridian level m)) (axis_meridian-form law level d) v2.0 refl
+          (optional-in o (axis_meridian-form law level d) v2.0 refl
           (v2.1.1.0.not_more refl) x.meridian reads.meridian
-          (optional-in o class.Order (ReadsNumberOf class.Order) (number_node (codes "ORDER"))
-          (number-node-form law level d class.Order (codes "ORDER") refl (λ bytes h. h) (λ raw h. h)) v3.0 refl
+          (optional-in o (number-node-form law level d class.Order (codes "ORDER") refl (λ bytes h. h) (λ raw h. h)) v3.0 refl
           (v3.1.1.0.not_more refl) x.order reads.order
-          (optional-in o class.AxisUnit (ReadsUnit class.AxisUnit) (λ u. item_unit (norm_unit level asked u))
-          (unit-form law level d class.AxisUnit asked refl (in-axis asked) (λ raw h. h)) v4.0 refl
+          (optional-in o (unit-form law level d class.AxisUnit asked refl (in-axis asked) (λ raw h. h)) v4.0 refl
           (v4.1.1.0.not_more refl) x.unit reads.unit
           (idents-in o v5.0 refl x.identifiers reads.identifiers refl)
           ∙ opt-own level system asked (those d class.AxisUnit items) x.unit own reads.unit _)

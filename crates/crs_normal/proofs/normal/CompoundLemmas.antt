@@ -1,43 +1,28 @@
 -- Normal compound CRSs, and normal CRSs of any kind, are the one form of their values.
-use Rattle.std.proofs.Common.{◌≡◌, Bool, true, false, inl, inr, List, [], ◌∷◌, if◌then◌else◌, refl, sym, ◌∙◌, ap, subst}
-use Rattle.crs_text.specs.Prelude.{Item, leaf, node, End, More}
+use Rattle.std.proofs.Common.{◌≡◌, ℕ, inl, inr, List, refl, ◌∙◌, ap, subst}
+use Rattle.crs_text.specs.Prelude.{Item, leaf, node, End, More, RefusedAt, arguments}
 use Rattle.crs_shape.specs.declared.class.Class.{Class}
 use Rattle.crs_shape.specs.declared.class.Class.TheVariants as class
-use Rattle.crs_shape.specs.Prelude.{slots_of, tail}
-use Rattle.crs_value.specs.Prelude.{Own, is_a, those, ReadsElse, ReadsFirst, ReadsText, ReadsAsHorizontal, ReadsCompound, ReadsCrs, ReadsProjected, ReadsVertical}
+use Rattle.crs_shape.specs.Prelude.{SlotParts}
+use Rattle.crs_value.specs.Prelude.{BreaksAmong, Own, those, ReadsElse, ReadsFirst, ReadsAsHorizontal, ReadsCompound, ReadsCrs, ReadsProjected, ReadsVertical}
 use Rattle.crs_value.specs.declared.values.compound.Horizontal.{Horizontal}
 use Rattle.crs_value.specs.declared.values.compound.Horizontal.TheVariants as horizontal
 use Rattle.crs_value.specs.declared.values.crs.Crs.{Crs}
 use Rattle.crs_value.specs.declared.values.crs.Crs.TheVariants as crs
 use Rattle.crs_value.specs.declared.values.level.Level.{Level}
 use Rattle.crs_normal.specs.WithoutPlaces.{without_places}
-use Rattle.crs_normal.specs.NormalOwn.{Rise}
-use Rattle.crs_value.specs.Sound.{Each}
-use Rattle.crs_normal.specs.SpelledCrs.{item_compound, item_crs, item_horizontal, item_vertical, norm_compound, norm_crs, norm_horizontal, norm_vertical}
-use Rattle.crs_normal.specs.SpelledItems.{text_item}
-use Rattle.crs_normal.proofs.normal.CheckedLemmas.{Checked, IsUnbroken, first-checked, once-only, those-unbroken}
-use Rattle.crs_normal.proofs.normal.FormLemmas.{Form, IsGood, kept-good, node-spelled, opened, one-in}
-use Rattle.crs_normal.proofs.normal.GeodeticLemmas.{found-of, geodetic-form, geographic-form, no-models, none-read-each, rise-six}
-use Rattle.crs_normal.proofs.normal.HeadLemmas.{Laws, ends-of}
+use Rattle.crs_normal.specs.SpelledCrs.{item_compound, item_crs, item_horizontal, norm_compound, norm_crs, norm_horizontal}
+use Rattle.crs_normal.proofs.normal.CheckedLemmas.{Checked, IsUnbroken, by-class, first-checked, first-or-none, unbroken-in}
+use Rattle.crs_normal.proofs.normal.FormLemmas.{Form, IsGood, Looked, Opened, found-in, good-in, one-in, opened, spelled-by}
+use Rattle.crs_normal.proofs.normal.GeodeticLemmas.{geodetic-form, geographic-form}
+use Rattle.crs_normal.proofs.normal.HeadLemmas.{Laws}
 use Rattle.crs_normal.proofs.normal.LeafLemmas.{text-form}
 use Rattle.crs_normal.proofs.members.PairLemmas.{Alone}
 use Rattle.crs_normal.proofs.normal.ProjectedLemmas.{projected-form, vertical-form}
-use Rattle.crs_normal.proofs.normal.TailLemmas.{tail-spelled}
-use Rattle.crs_normal.proofs.read.ViewLemmas.{alone, without_places_onto, without_places-spread, items-rebuilt, onto, slot-lacks, those-looked}
+use Rattle.crs_normal.proofs.normal.TailLemmas.{plain_tail-in}
+use Rattle.crs_normal.proofs.read.ViewLemmas.{alone, onto, without_places_onto}
 
 -- ---- the horizontal part
-
--- arguments of a class in a slot for one, good and unbroken
-record Candidates (level : Level) (c d : Class) (front found : List Item) : Type 0 where
-  are : found ≡ those c d (onto front End)
-  good : Each (IsGood level c d) found
-  free : Each (IsUnbroken d) found
-
-found-as : (level : Level) (c d : Class) (front found : List Item) (p : Alone front) →
-    Candidates level c d front found → (b : Bool) → is_a c d p.0 ≡ b →
-    found ≡ (if b then p.0 ∷ [] else [])
-found-as level c d front found p k b is = k.are ∙ ap (λ xs. those c d (onto xs End)) p.1
-    ∙ ap (λ t. if t then p.0 ∷ [] else []) is
 
 abbrev HorizontalForm : Level → Class → Class → Item → Type 0
 HorizontalForm level c d item = (value : Horizontal) → IsGood level c d item → IsUnbroken d item →
@@ -66,57 +51,34 @@ as_projected laws level c item (horizontal.Projected p) good free reads =
     projected-form laws level c item p good (free, reads.1)
 
 -- the one of three classes
-horizontal-spelled : Laws →
-    (level : Level) (c : Class) (front geodetic geographic projected : List Item) (p : Alone front) →
-    Candidates level c class.GeodeticCrs front geodetic → Candidates level c class.GeographicCrs front geographic →
-    Candidates level c class.ProjectedCrs front projected →
-    (value : Horizontal) →
-    ReadsElse (ReadsAsHorizontal class.GeodeticCrs) geodetic
-    (ReadsElse (ReadsAsHorizontal class.GeographicCrs) geographic
-    (ReadsFirst (ReadsAsHorizontal class.ProjectedCrs) projected)) value →
+horizontal-in : Laws → {level : Level} {c : Class} {slots : List SlotParts} {item : Item} {keyword : List ℕ}
+    (o : Opened level c slots item keyword) (front : List Item) (p : Alone front) →
+    Looked o class.GeodeticCrs (those c class.GeodeticCrs (onto front End)) →
+    Looked o class.GeographicCrs (those c class.GeographicCrs (onto front End)) →
+    Looked o class.ProjectedCrs (those c class.ProjectedCrs (onto front End)) →
+    ((fault : RefusedAt) → ¬ (BreaksAmong c (arguments item) fault)) → (value : Horizontal) →
+    ReadsElse (ReadsAsHorizontal class.GeodeticCrs) (those c class.GeodeticCrs (arguments item))
+    (ReadsElse (ReadsAsHorizontal class.GeographicCrs) (those c class.GeographicCrs (arguments item))
+    (ReadsFirst (ReadsAsHorizontal class.ProjectedCrs) (those c class.ProjectedCrs (arguments item)))) value →
     without_places p.0 ≡ item_horizontal (norm_horizontal level value)
-horizontal-spelled laws level c front f g h p k l m value reads = first (is_a c class.GeodeticCrs p.0) refl
+horizontal-in laws {level = level} {c = c} {item = item} o front p geodetic geographic projected free value reads =
+    one-of class.GeodeticCrs (ReadsElse (ReadsAsHorizontal class.GeographicCrs) (those c class.GeographicCrs (arguments item))
+    last) geodetic (as_geodetic laws level c p.0) reads (λ others.
+    one-of class.GeographicCrs last geographic (as_geographic laws level c p.0) others (λ other.
+    one-of class.ProjectedCrs (λ v. ⊥) projected (as_projected laws level c p.0)
+    (first-or-none (ReadsAsHorizontal class.ProjectedCrs) (those c class.ProjectedCrs (arguments item)) value other)
+    (λ none. absurd none)))
   where
-    third : (b : Bool) → is_a c class.ProjectedCrs p.0 ≡ b → ReadsFirst (ReadsAsHorizontal class.ProjectedCrs) h value →
+    last : Horizontal → Type 0
+    last = ReadsFirst (ReadsAsHorizontal class.ProjectedCrs) (those c class.ProjectedCrs (arguments item))
+
+    one-of : (d : Class) (otherwise : Horizontal → Type 0) → Looked o d (those c d (onto front End)) →
+        HorizontalForm level c d p.0 → ReadsElse (ReadsAsHorizontal d) (those c d (arguments item)) otherwise value →
+        (otherwise value → without_places p.0 ≡ item_horizontal (norm_horizontal level value)) →
         without_places p.0 ≡ item_horizontal (norm_horizontal level value)
-    third true is r =
-        let at = found-as level c class.ProjectedCrs front h p m true is in
-        as_projected laws level c p.0 value (subst (Each (IsGood level c class.ProjectedCrs)) at m.good).0
-        (subst (Each (IsUnbroken class.ProjectedCrs)) at m.free).0
-        (subst (λ (xs : List Item). ReadsFirst (ReadsAsHorizontal class.ProjectedCrs) xs value) at r)
-    third false is r =
-        absurd (subst (λ (xs : List Item). ReadsFirst (ReadsAsHorizontal class.ProjectedCrs) xs value)
-        (found-as level c class.ProjectedCrs front h p m false is) r)
-
-    second : (b : Bool) → is_a c class.GeographicCrs p.0 ≡ b →
-        ReadsElse (ReadsAsHorizontal class.GeographicCrs) g (ReadsFirst (ReadsAsHorizontal class.ProjectedCrs) h)
-        value → without_places p.0 ≡ item_horizontal (norm_horizontal level value)
-    second true is r =
-        let at = found-as level c class.GeographicCrs front g p l true is in
-        as_geographic laws level c p.0 value (subst (Each (IsGood level c class.GeographicCrs)) at l.good).0
-        (subst (Each (IsUnbroken class.GeographicCrs)) at l.free).0
-        (subst (λ (xs : List Item). ReadsElse (ReadsAsHorizontal class.GeographicCrs) xs
-        (ReadsFirst (ReadsAsHorizontal class.ProjectedCrs) h) value) at r)
-    second false is r =
-        third (is_a c class.ProjectedCrs p.0) refl
-        (subst (λ (xs : List Item). ReadsElse (ReadsAsHorizontal class.GeographicCrs) xs
-        (ReadsFirst (ReadsAsHorizontal class.ProjectedCrs) h) value)
-        (found-as level c class.GeographicCrs front g p l false is) r)
-
-    first : (b : Bool) → is_a c class.GeodeticCrs p.0 ≡ b → without_places p.0 ≡ item_horizontal (norm_horizontal level value)
-    first true is =
-        let at = found-as level c class.GeodeticCrs front f p k true is in
-        as_geodetic laws level c p.0 value (subst (Each (IsGood level c class.GeodeticCrs)) at k.good).0
-        (subst (Each (IsUnbroken class.GeodeticCrs)) at k.free).0
-        (subst (λ (xs : List Item). ReadsElse (ReadsAsHorizontal class.GeodeticCrs) xs
-        (ReadsElse (ReadsAsHorizontal class.GeographicCrs) g
-        (ReadsFirst (ReadsAsHorizontal class.ProjectedCrs) h)) value) at reads)
-    first false is =
-        second (is_a c class.GeographicCrs p.0) refl
-        (subst (λ (xs : List Item). ReadsElse (ReadsAsHorizontal class.GeodeticCrs) xs
-        (ReadsElse (ReadsAsHorizontal class.GeographicCrs) g
-        (ReadsFirst (ReadsAsHorizontal class.ProjectedCrs) h)) value)
-        (found-as level c class.GeodeticCrs front f p k false is) reads)
+    one-of d otherwise same form read other =
+        by-class (ReadsAsHorizontal d) otherwise c d p.0 (found-in o d same ∙ ap (λ xs. those c d (onto xs End)) p.1) read
+        (λ has. form value (has (IsGood level c d) (good-in o d)) (has (IsUnbroken d) (unbroken-in o d free))) other
 
 -- ---- compound CRSs
 
@@ -127,64 +89,25 @@ unfolding Own
 compound-form laws level c (leaf kind place raw) x good checked = absurd checked.1.name
 compound-form laws level c (node place keyword square first others close) x good checked =
     let d = class.CompoundCrs in
-    let law = laws.plain_one in
-    let item = node place keyword square first others close in
     let reads = checked.1 in
-    let o = opened level c d place keyword square first others close good.shaped good.normal in
-    let items = More first others in
-    let k = o.kept in
+    let o = opened refl good in
     let v = o.slots in
     let v1 = v.1.1.1.1 in
     let v2 = v1.1.1.1.1 in
     let v3 = v2.1.1.1.1 in
-    let looked = λ (e : Class). those-looked d e (slots_of d) items v in
-    let free = λ (e : Class). those-unbroken d e k.classes items k.shaped (λ fault b. checked.0 fault (inr b)) in
-    let remarks = once-only (those d class.Remark items)
-    (λ fault b. checked.0 fault (inl (inl (inr (inr (inr (inr (inl b)))))))) in
-    let has_tail = o.own in
-    let rise = rise-six d 0 [] [] [] v.0 v1.0 v2.0 (onto v3.0 End)
-    (subst (Rise d 0) (items-rebuilt d (slots_of d) items v) has_tail.in_order) in
-    let ends = ends-of d item v3.0 has_tail (looked class.Scope) (looked class.Area) (looked class.BoundingBox)
-    (looked class.VerticalExtent) v3.1.1.0.inside in
-    let models = looked class.GeoidModel in
-    let found = found-of d item v3.0 (models
-    ∙ sym (slot-lacks d class.GeoidModel tail v3.0 refl v3.1.1.0)) (looked class.Usage) (looked class.Identifier)
-    (looked class.Remark) in
+    let free : (fault : RefusedAt) → ¬ (BreaksAmong d (More first others) fault) = λ fault b. checked.0 fault (inr b) in
     let p = alone v1.0 v1.1.1.0 refl refl in
-    let part = horizontal-spelled laws level d v1.0 (those d class.GeodeticCrs items)
-    (those d class.GeographicCrs items) (those d class.ProjectedCrs items) p
-    (record {
-      are = looked class.GeodeticCrs;
-      good = kept-good level d class.GeodeticCrs items k;
-      free =
-          free class.GeodeticCrs;
-    })
-    (record {
-      are = looked class.GeographicCrs;
-      good = kept-good level d class.GeographicCrs items k;
-      free =
-          free class.GeographicCrs;
-    })
-    (record {
-      are = looked class.ProjectedCrs;
-      good = kept-good level d class.ProjectedCrs items k;
-      free =
-          free class.ProjectedCrs;
-    })
-    x.horizontal reads.horizontal in
-    node-spelled place keyword _ square first others close _ o.written
-    (without_places-spread d (slots_of d) items v
-    ∙ one-in o class.Text ReadsText text_item (text-form level d) v.0 refl (v.1.1.0.not_more refl) x.name reads.name
-    (ap (λ xs. without_places_onto xs (without_places_onto v2.0 (without_places_onto v3.0 End))) p.1
-    ∙ ap (λ i. More i (without_places_onto v2.0 (without_places_onto v3.0 End))) part
+    let behind = without_places_onto v2.0 (without_places_onto v3.0 End) in
+    spelled-by o o.written
+    (one-in o (text-form level d) v.0 refl (v.1.1.0.not_more refl) x.name reads.name
+    (ap (λ xs. without_places_onto xs behind) p.1
+    ∙ ap (λ i. More i behind) (horizontal-in laws o v1.0 p refl refl refl free x.horizontal reads.horizontal)
     ∙ ap (More (item_horizontal (norm_horizontal level x.horizontal)))
-    (one-in o class.VerticalCrs (Checked class.VerticalCrs (ReadsVertical class.VerticalCrs))
-    (λ w. item_vertical (norm_vertical level w)) (vertical-form laws level d) v2.0 refl (v2.1.1.0.not_more refl)
-    x.vertical (first-checked class.VerticalCrs (ReadsVertical class.VerticalCrs) (those d class.VerticalCrs items)
-    x.vertical (free class.VerticalCrs) reads.vertical)
-    (tail-spelled law level d item k o.sets has_tail v3.0 rise.0 rise.1 ends found remarks [] (none-read-each _ models)
-    x.tail reads.tail
-    ∙ no-models level _))))
+    (one-in o (vertical-form laws level d) v2.0 refl (v2.1.1.0.not_more refl) x.vertical
+    (first-checked class.VerticalCrs (ReadsVertical class.VerticalCrs) _ x.vertical (unbroken-in o class.VerticalCrs free)
+    reads.vertical)
+    (plain_tail-in laws.plain_one o o.own (λ fault b. checked.0 fault (inl (inl b))) v3.1.1.0 refl
+    (refl, (refl, (refl, (refl, (refl, (refl, (refl, tt))))))) x.tail reads.tail))))
 
 -- ---- CRSs of any kind
 

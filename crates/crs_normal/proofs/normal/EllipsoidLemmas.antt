@@ -7,39 +7,35 @@ use Rattle.crs_shape.specs.declared.class.Class.{Class}
 use Rattle.crs_shape.specs.declared.class.Class.TheVariants as class
 use Rattle.crs_shape.specs.declared.unit_kind.UnitKind.TheVariants as kinds
 use Rattle.crs_shape.specs.Prelude.{slots_of}
-use Rattle.crs_value.specs.Prelude.{those, ReadsFirst, ReadsOptional, ReadsEllipsoid, ReadsMeridian, ReadsNumber, ReadsText, ReadsUnit, UnitParts}
+use Rattle.crs_value.specs.Prelude.{those, ReadsFirst, ReadsOptional, ReadsEllipsoid, ReadsMeridian, ReadsNumber, ReadsUnit, UnitParts}
 use Rattle.crs_value.specs.declared.values.level.Level.{Level}
 use Rattle.crs_value.specs.Sound.{Each}
 use Rattle.crs_normal.specs.SpelledFrames.{is_zero, item_ellipsoid, item_meridian, norm_ellipsoid, norm_given}
-use Rattle.crs_normal.specs.SpelledItems.{number_item, opt, text_item}
+use Rattle.crs_normal.specs.SpelledItems.{opt}
 use Rattle.crs_normal.specs.SpelledUnits.{item_unit, norm_unit, norm_units}
-use Rattle.crs_normal.proofs.normal.FormLemmas.{Form, IsGood, kept-good, node-spelled, opened, one-in, optional-in}
+use Rattle.crs_normal.proofs.normal.FormLemmas.{Form, IsGood, kept-good, one-in, opened, optional-in, spelled-by}
 use Rattle.crs_normal.proofs.normal.LeafLemmas.{PlainIsOne, number-form, number-normal, text-form}
-use Rattle.crs_normal.proofs.members.PairLemmas.{Alone, opt-length, opt-units, two-spelled}
+use Rattle.crs_normal.proofs.members.PairLemmas.{Alone, opt-length, opt-units, two-in}
 use Rattle.crs_normal.proofs.normal.UnitLemmas.{in-angle, in-length, unit-form, idents-in}
-use Rattle.crs_normal.proofs.read.ViewLemmas.{alone, without_places-spread, those-looked}
+use Rattle.crs_normal.proofs.read.ViewLemmas.{alone, those-looked}
 
 pub ellipsoid-form : PlainIsOne → (level : Level) (c : Class) →
     Form level c class.Ellipsoid (ReadsEllipsoid class.Ellipsoid) (λ e. item_ellipsoid (norm_ellipsoid level e))
 ellipsoid-form law level c (leaf kind place raw) x good reads = absurd reads.name
 ellipsoid-form law level c (node place keyword square first others close) x good reads =
     let d = class.Ellipsoid in
-    let o = opened level c d place keyword square first others close good.shaped good.normal in
+    let o = opened refl good in
     let items = More first others in
     let v = o.slots in
     let v1 = v.1.1.1.1 in
     let v2 = v1.1.1.1.1 in
     let v3 = v2.1.1.1.1 in
     let v4 = v3.1.1.1.1 in
-    node-spelled place keyword _ square first others close _ o.written
-    (without_places-spread d (slots_of d) items v
-    ∙ one-in o class.Text ReadsText text_item (text-form level d) v.0 refl (v.1.1.0.not_more refl) x.name reads.name
-    (two-spelled law level d (λ raw h. h) (those d class.Number items) v1.0 v2.0
-    (kept-good level d class.Number items o.kept)
-    (those-looked d class.Number (slots_of d) items v) (alone v1.0 v1.1.1.0 refl refl) (alone v2.0 v2.1.1.0 refl refl)
-    x.semi_major_axis x.inverse_flattening reads.semi_major_axis reads.inverse_flattening _ _
-    (optional-in o class.LengthUnit (ReadsUnit class.LengthUnit) (λ u. item_unit (norm_unit level kinds.Length u))
-    (unit-form law level d class.LengthUnit kinds.Length refl (in-length kinds.Length) (λ raw h. h)) v3.0 refl
+    spelled-by o o.written
+    (one-in o (text-form level d) v.0 refl (v.1.1.0.not_more refl) x.name reads.name
+    (two-in law o (λ raw h. h) v1.0 v2.0 refl (alone v1.0 v1.1.1.0 refl refl) (alone v2.0 v2.1.1.0 refl refl)
+    x.semi_major_axis x.inverse_flattening reads.semi_major_axis reads.inverse_flattening
+    (optional-in o (unit-form law level d class.LengthUnit kinds.Length refl (in-length kinds.Length) (λ raw h. h)) v3.0 refl
     (v3.1.1.0.not_more refl) x.unit reads.unit
     (idents-in o v4.0 refl x.identifiers reads.identifiers refl)
     ∙ opt-length (ReadsUnit class.LengthUnit) level (those d class.LengthUnit items) x.unit o.own reads.unit _)))
@@ -94,19 +90,17 @@ pub meridian-form : PlainIsOne → ZeroPlain → (level : Level) (c : Class) →
 meridian-form law zero_plain level c (leaf kind place raw) x good reads = absurd reads.name
 meridian-form law zero_plain level c (node place keyword square first others close) x good reads =
     let d = class.PrimeMeridian in
-    let o = opened level c d place keyword square first others close good.shaped good.normal in
+    let o = opened refl good in
     let items = More first others in
     let v = o.slots in
     let v1 = v.1.1.1.1 in
     let v2 = v1.1.1.1.1 in
     let v3 = v2.1.1.1.1 in
-    node-spelled place keyword _ square first others close _ o.written
-    (without_places-spread d (slots_of d) items v
-    ∙ one-in o class.Text ReadsText text_item (text-form level d) v.0 refl (v.1.1.0.not_more refl) x.name reads.name
-    (one-in o class.Number ReadsNumber number_item (number-form law level d (λ raw h. h)) v1.0 refl
+    spelled-by o o.written
+    (one-in o (text-form level d) v.0 refl (v.1.1.0.not_more refl) x.name reads.name
+    (one-in o (number-form law level d (λ raw h. h)) v1.0 refl
     (v1.1.1.0.not_more refl) x.longitude reads.longitude
-    (optional-in o class.AngleUnit (ReadsUnit class.AngleUnit) (λ u. item_unit (norm_unit level kinds.Angle u))
-    (unit-form law level d class.AngleUnit kinds.Angle refl (in-angle kinds.Angle) (λ raw h. h)) v2.0 refl
+    (optional-in o (unit-form law level d class.AngleUnit kinds.Angle refl (in-angle kinds.Angle) (λ raw h. h)) v2.0 refl
     (v2.1.1.0.not_more refl) x.unit reads.unit
     (idents-in o v3.0 refl x.identifiers reads.identifiers refl)
     ∙ opt-angle level (is_zero x.longitude) (those d class.AngleUnit items) x.unit

@@ -1,10 +1,11 @@
 -- From the arguments of a normal node to what is written for what is read from them.
 use Rattle.std.proofs.Common.{◌≡◌, ℕ, ◌≤◌, length, map, Bool, true, false, Option, Some, None, List, [], ◌∷◌, ◌++◌, if◌then◌else◌, refl, sym, ◌∙◌, ap, subst, arith}
 use Rattle.std.specs.Cmp.Lexicographic.{slice_cmp}
+use Rattle.std.specs.Option.{option_map}
 use Rattle.std.specs.Ordering.{nat_cmp}
 use Rattle.crs_text.specs.Prelude.{Item, leaf, node, Siblings, End, More, arguments, item_text, others_text}
 use Rattle.crs_shape.specs.declared.class.Class.{Class}
-use Rattle.crs_shape.specs.Prelude.{Shaped, AreShaped, class_in, slots_of, is_class}
+use Rattle.crs_shape.specs.Prelude.{Shaped, AreShaped, SlotParts, class_in, slots_of, is_class}
 use Rattle.crs_value.specs.Prelude.{AtClass, is_a, those, ReadsFirst, ReadsOptional, ReadsEach, kept, kept-where_none}
 use Rattle.crs_value.specs.declared.values.level.Level.{Level}
 use Rattle.crs_normal.specs.WithoutPlaces.{without_places, all_without_places}
@@ -15,7 +16,7 @@ use Rattle.crs_normal.specs.Ascending.{Ascends}
 use Rattle.crs_normal.specs.Ordered.{in_order}
 use Rattle.crs_normal.specs.SpelledItems.{each, node_from, opt}
 use Rattle.crs_normal.proofs.members.SetLemmas.{IsBelow, in_order-of}
-use Rattle.crs_normal.proofs.read.ViewLemmas.{View, looked, same_class, those-looked, view, without_places_onto}
+use Rattle.crs_normal.proofs.read.ViewLemmas.{View, looked, same_class, spread, those-looked, view, without_places_onto, without_places-spread}
 
 -- ---- the text of an item doesn't depend on places
 
@@ -80,20 +81,20 @@ kept-good level c d items k = those-good level c d k.classes items k.shaped k.no
 
 -- ---- a node, opened
 
-pub record Opened (level : Level) (c : Class) (item : Item) (keyword : List ℕ) : Type 0 where
+pub record Opened (level : Level) (c : Class) (shape : List SlotParts) (item : Item) (keyword : List ℕ) : Type 0 where
   pub written : IsFirstKeyword c keyword
   pub own : HasOwnForm c item
   pub sets : HasSets c item
   pub kept : Kept level c (arguments item)
-  pub slots : View c (slots_of c) (arguments item)
+  pub slots : View c shape (arguments item)
 
-pub opened : (level : Level) (parent c : Class) (place : ℕ) (keyword : List ℕ) (square : Bool) (first : Item)
-    (others : Siblings) (close : ℕ) →
-    Shaped c (node place keyword square first others close) →
-    IsNormalIn level parent c (node place keyword square first others close) →
-    Opened level c (node place keyword square first others close) keyword
-opened level parent c place keyword square first others close shaped normal =
-    let s = shaped.1 in
+pub opened : {level : Level} {parent c : Class} {slots : List SlotParts} {place : ℕ} {keyword : List ℕ} {square : Bool}
+    {first : Item} {others : Siblings} {close : ℕ} → slots_of c ≡ slots →
+    IsGood level parent c (node place keyword square first others close) →
+    Opened level c slots (node place keyword square first others close) keyword
+opened {c = c} {first = first} {others = others} are_slots good =
+    let s = good.shaped.1 in
+    let normal = good.normal in
     let are : AreShaped c (s.0 ∷ s.1.0) (More first others) = (s.1.1.0, (s.1.1.1.0, s.1.1.1.1.0)) in
     record {
       written = normal.first_keyword;
@@ -105,7 +106,8 @@ opened level parent c place keyword square first others close shaped normal =
         normal = normal.normal_arguments;
         left = normal.at_level;
       };
-      slots = view c (s.0 ∷ s.1.0) (More first others) s.1.1.1.1.1 are;
+      slots = subst (λ (ss : List SlotParts). View c ss (More first others)) are_slots
+          (view c (s.0 ∷ s.1.0) (More first others) s.1.1.1.1.1 are);
     }
 
 pub node-spelled : (place : ℕ) (keyword word : List ℕ) (square : Bool) (first : Item) (others : Siblings) (close : ℕ)
@@ -114,6 +116,16 @@ pub node-spelled : (place : ℕ) (keyword word : List ℕ) (square : Bool) (firs
 node-spelled place keyword word square first others close items e f =
     ap (λ w. node_from w (all_without_places (More first others))) e ∙ ap (node_from word) f
 
+-- a node is what is written for its slots, one after another
+pub spelled-by : {level : Level} {c : Class} {slots : List SlotParts} {place : ℕ} {keyword word : List ℕ} {square : Bool}
+    {first : Item} {others items : Siblings} {close : ℕ}
+    (o : Opened level c slots (node place keyword square first others close) keyword) → keyword ≡ word →
+    spread c slots (More first others) o.slots ≡ items →
+    without_places (node place keyword square first others close) ≡ node_from word items
+spelled-by {c = c} {slots = slots} {place = place} {square = square} {first = first} {others = others} {close = close} o
+    e f =
+    node-spelled place _ _ square first others close _ e (without_places-spread c slots (More first others) o.slots ∙ f)
+
 -- ---- what is written for the values
 
 -- the item of a class in another, without its places, is what is written for the value
@@ -121,12 +133,13 @@ abbrev pub Form : {V : Type 0} → Level → Class → Class → (Item → V →
 Form {V = V} level c d R spell = (item : Item) (value : V) → IsGood level c d item → R item value →
     without_places item ≡ spell value
 
-pub one-spelled : {V : Type 0} (level : Level) (c d : Class) (R : Item → V → Type 0) (spell : V → Item) →
+pub one-spelled : {V : Type 0} {level : Level} {c d : Class} {R : Item → V → Type 0} {spell : V → Item} →
     Form level c d R spell →
     (found front : List Item) → Each (IsGood level c d) found → found ≡ front → length front ≤ 1 → (value : V) →
     ReadsFirst R found value →
-    (rest after : Siblings) → rest ≡ after → without_places_onto front rest ≡ More (spell value) after
-one-spelled {V = V} level c d R spell form found front good e few value reads rest after f =
+    {rest after : Siblings} → rest ≡ after → without_places_onto front rest ≡ More (spell value) after
+one-spelled {V = V} {level = level} {c = c} {d = d} {R = R} {spell = spell} form found front good e few value reads
+    {rest = rest} f =
     alone front few (subst (Each (IsGood level c d)) e good) (subst (λ (xs : List Item). ReadsFirst R xs value) e reads)
     ∙ ap (More (spell value)) f
   where
@@ -137,12 +150,12 @@ one-spelled {V = V} level c d R spell form found front good e few value reads re
     alone (item ∷ other ∷ others) few good reads = absurd (omega arith)
 
 -- an optional part, where a good item is what is written for its value
-pub optional-by : {V : Type 0} (Good : Item → Type 0) (R : Item → V → Type 0) (spell : V → Item) →
+pub optional-by : {V : Type 0} (Good : Item → Type 0) {R : Item → V → Type 0} {spell : V → Item} →
     ((item : Item) (value : V) → Good item → R item value → without_places item ≡ spell value) →
     (found front : List Item) → Each Good found → found ≡ front → length front ≤ 1 → (value : Option V) →
-    ReadsOptional R found value → (rest after : Siblings) → rest ≡ after →
+    ReadsOptional R found value → {rest after : Siblings} → rest ≡ after →
     without_places_onto front rest ≡ opt spell value after
-optional-by {V = V} Good R spell form found front good e few value reads rest after f =
+optional-by {V = V} Good {R = R} {spell = spell} form found front good e few value reads {rest = rest} f =
     alone front few (subst (Each Good) e good) value
     (subst (λ (xs : List Item). ReadsOptional R xs value) e reads) ∙ ap (opt spell value) f
   where
@@ -154,12 +167,17 @@ optional-by {V = V} Good R spell form found front good e few value reads rest af
     alone (item ∷ []) few good (Some v) reads = ap (λ i. More i rest) (form item v good.0 reads)
     alone (item ∷ other ∷ others) few good (Some v) reads = absurd (omega arith)
 
-pub optional-spelled : {V : Type 0} (level : Level) (c d : Class) (R : Item → V → Type 0) (spell : V → Item) →
+pub optional-spelled : {V : Type 0} {level : Level} {c d : Class} {R : Item → V → Type 0} {spell : V → Item} →
     Form level c d R spell →
     (found front : List Item) → Each (IsGood level c d) found → found ≡ front → length front ≤ 1 → (value : Option V) →
     ReadsOptional R found value →
-    (rest after : Siblings) → rest ≡ after → without_places_onto front rest ≡ opt spell value after
-optional-spelled level c d R spell form = optional-by (IsGood level c d) R spell form
+    {rest after : Siblings} → rest ≡ after → without_places_onto front rest ≡ opt spell value after
+optional-spelled {level = level} {c = c} {d = d} form = optional-by (IsGood level c d) form
+
+pub opt-mapped : {V W : Type 0} (spell : W → Item) (norm : V → W) (value : Option V) (rest : Siblings) →
+    opt (λ v. spell (norm v)) value rest ≡ opt spell (option_map norm value) rest
+opt-mapped spell norm None rest = refl
+opt-mapped spell norm (Some v) rest = refl
 
 -- the items are what is written for the values
 abbrev pub AreWritten : {V : Type 0} → (V → Item) → List Item → List V → Type 0
@@ -243,33 +261,37 @@ set-spelled level c d R spell norm form found front good e up values reads rest 
 
 -- ---- the arguments in a slot, which those of a class are
 
-module _ {level : Level} {c : Class} {item : Item} {keyword : List ℕ} (o : Opened level c item keyword) (d : Class) where
-  abbrev pub Looked : List Item → Type 0
-  Looked front = looked c d (slots_of c) (arguments item) o.slots ≡ front
+module _ {level : Level} {c : Class} {slots : List SlotParts} {item : Item} {keyword : List ℕ} (o : Opened level c slots item keyword) where
+  abbrev pub Looked : Class → List Item → Type 0
+  Looked d front = looked c d slots (arguments item) o.slots ≡ front
 
-  abbrev pub found : List Item
-  found = those c d (arguments item)
+  pub found-in : (d : Class) {front : List Item} → Looked d front → those c d (arguments item) ≡ front
+  found-in d same = those-looked c d slots (arguments item) o.slots ∙ same
 
-  pub found-in : (front : List Item) → Looked front → found ≡ front
-  found-in front same = those-looked c d (slots_of c) (arguments item) o.slots ∙ same
+  pub good-in : (d : Class) → Each (IsGood level c d) (those c d (arguments item))
+  good-in d = kept-good level c d (arguments item) o.kept
 
-  module _ {V : Type 0} (R : Item → V → Type 0) (spell : V → Item) (form : Form level c d R spell) (front : List Item) (same : Looked front) (few : length front ≤ 1) where
-    pub one-in : (value : V) → ReadsFirst R found value → {rest after : Siblings} → rest ≡ after →
+  module _ {d : Class} {V : Type 0} {R : Item → V → Type 0} {spell : V → Item} (form : Form level c d R spell) (front : List Item) (same : Looked d front) (few : length front ≤ 1) where
+    pub one-in : (value : V) → ReadsFirst R (those c d (arguments item)) value → {rest after : Siblings} → rest ≡ after →
         without_places_onto front rest ≡ More (spell value) after
-    one-in value reads f =
-        one-spelled level c d R spell form found front (kept-good level c d (arguments item) o.kept)
-        (found-in front same) few value reads _ _ f
+    one-in = one-spelled form _ front (good-in d) (found-in d same) few
 
-    pub optional-in : (value : Option V) → ReadsOptional R found value → {rest after : Siblings} → rest ≡ after →
-        without_places_onto front rest ≡ opt spell value after
-    optional-in value reads f =
-        optional-spelled level c d R spell form found front (kept-good level c d (arguments item) o.kept)
-        (found-in front same) few value reads _ _ f
+    pub optional-in : (value : Option V) → ReadsOptional R (those c d (arguments item)) value →
+        {rest after : Siblings} → rest ≡ after → without_places_onto front rest ≡ opt spell value after
+    optional-in = optional-spelled form _ front (good-in d) (found-in d same) few
 
-  pub set-in : {V W : Type 0} (R : Item → V → Type 0) (spell : W → Item) (norm : V → W) →
-      Form level c d R (λ v. spell (norm v)) → (front : List Item) → Looked front → Ascend found → (values : List V) →
-      ReadsEach R found values → {rest after : Siblings} → rest ≡ after →
+  -- an optional part in its normal form
+  pub mapped-in : {d : Class} {V W : Type 0} {R : Item → V → Type 0} (spell : W → Item) (norm : V → W) →
+      Form level c d R (λ v. spell (norm v)) → (front : List Item) → Looked d front → length front ≤ 1 →
+      (value : Option V) → ReadsOptional R (those c d (arguments item)) value → {rest after : Siblings} →
+      rest ≡ after → without_places_onto front rest ≡ opt spell (option_map norm value) after
+  mapped-in spell norm form front same few value reads f =
+      optional-in form front same few value reads f ∙ opt-mapped spell norm value _
+
+  pub set-in : {d : Class} {V W : Type 0} {R : Item → V → Type 0} (spell : W → Item) (norm : V → W) →
+      Form level c d R (λ v. spell (norm v)) → (front : List Item) → Looked d front →
+      Ascend (those c d (arguments item)) → (values : List V) → ReadsEach R (those c d (arguments item)) values →
+      {rest after : Siblings} → rest ≡ after →
       without_places_onto front rest ≡ each spell (in_order (λ w. item_text (spell w)) (map norm values)) after
-  set-in R spell norm form front same up values reads f =
-      set-spelled level c d R spell norm form found front (kept-good level c d (arguments item) o.kept)
-      (found-in front same) up values reads _ _ f
+  set-in {d = d} {R = R} spell norm form front same up values reads f =
+      set-spelled level c d R spell norm form _ front (good-in d) (found-in d same) up values reads _ _ f

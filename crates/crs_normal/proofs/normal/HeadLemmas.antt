@@ -8,7 +8,7 @@ use Rattle.crs_shape.specs.declared.class.Class.{Class}
 use Rattle.crs_shape.specs.declared.class.Class.TheVariants as class
 use Rattle.crs_shape.specs.declared.system_type.SystemType.{SystemType}
 use Rattle.crs_shape.specs.declared.system_type.SystemType.TheVariants as types
-use Rattle.crs_shape.specs.Prelude.{slots_of, tail, vertical_tail, IsOneOf, dimensions_of, system_word}
+use Rattle.crs_shape.specs.Prelude.{slots_of, IsOneOf, dimensions_of, system_word}
 use Rattle.crs_value.specs.Prelude.{at, BadSystems, is_a, those, ReadsEach, ReadsFirst, ReadsHead, ReadsType, SystemParts}
 use Rattle.crs_value.specs.declared.values.level.Level.{Level}
 use Rattle.crs_normal.specs.NormalOwn.{HasTail, words_in}
@@ -18,8 +18,8 @@ use Rattle.crs_normal.proofs.normal.DimensionLemmas.{AreSmall, few-axes as count
 use Rattle.crs_normal.proofs.normal.EllipsoidLemmas.{ZeroPlain}
 use Rattle.crs_normal.proofs.normal.FormLemmas.{IsGood, kept-good, opened}
 use Rattle.crs_normal.proofs.normal.LeafLemmas.{PlainIsOne}
-use Rattle.crs_normal.proofs.normal.RankLemmas.{EndsAs, HasNoBare, end-as, none-here, vertical_end-as}
-use Rattle.crs_normal.proofs.read.ViewLemmas.{InSlot, alone, onto, those-looked}
+use Rattle.crs_normal.proofs.normal.RankLemmas.{HasNoBare, none-here}
+use Rattle.crs_normal.proofs.read.ViewLemmas.{alone, onto, those-looked}
 
 -- the laws of decimals that are needed
 pub record Laws : Type 0 where
@@ -126,7 +126,7 @@ head-word level c (leaf kind place raw) x good reads = absurd reads.dimension
 head-word level c (node place keyword square first others close) x good reads =
     let d = class.CoordinateSystem in
     let items = More first others in
-    let o = opened level c d place keyword square first others close good.shaped good.normal in
+    let o = opened refl good in
     let v = o.slots in
     let p = alone v.0 v.1.1.0 refl refl in
     let are = those-looked d class.Word (slots_of d) items v ∙ p.1 in
@@ -149,7 +149,7 @@ not-ellipsoidal level c (cs ∷ more) good none x reads e =
 abbrev pub SameThose : Class → Item → List Item → Class → Type 0
 SameThose c item front d = those c d (arguments item) ≡ those c d (onto front End)
 
-no-bare : (c : Class) (item : Item) (front : List Item) → HasTail c item → SameThose c item front class.Scope →
+pub no-bare : (c : Class) (item : Item) (front : List Item) → HasTail c item → SameThose c item front class.Scope →
     SameThose c item front class.Area →
     SameThose c item front class.BoundingBox → SameThose c item front class.VerticalExtent → Each (HasNoBare c) front
 no-bare c item front has a b d e =
@@ -164,20 +164,3 @@ no-bare c item front has a b d e =
         Each (HasNoBare c) xs
     all [] p q r s = tt
     all (x ∷ xs) p q r s = (record { scope = p.0; area = q.0; bbox = r.0; extent = s.0 }, all xs p.1 q.1 r.1 s.1)
-
-both : {P Q R : Item → Type 0} → ((i : Item) → P i → Q i → R i) → (xs : List Item) → Each P xs → Each Q xs → Each R xs
-both f [] p q = tt
-both f (x ∷ xs) p q = (f x p.0 q.0, both f xs p.1 q.1)
-
-pub ends-of : (c : Class) (item : Item) (front : List Item) → HasTail c item → SameThose c item front class.Scope →
-    SameThose c item front class.Area →
-    SameThose c item front class.BoundingBox → SameThose c item front class.VerticalExtent →
-    Each (InSlot c tail) front → Each (EndsAs c) front
-ends-of c item front has a b d e inside = both (end-as c) front (no-bare c item front has a b d e) inside
-
-pub vertical_ends-of : (c : Class) (item : Item) (front : List Item) → HasTail c item →
-    SameThose c item front class.Scope → SameThose c item front class.Area →
-    SameThose c item front class.BoundingBox → SameThose c item front class.VerticalExtent →
-    Each (InSlot c vertical_tail) front → Each (EndsAs c) front
-vertical_ends-of c item front has a b d e inside =
-    both (vertical_end-as c) front (no-bare c item front has a b d e) inside

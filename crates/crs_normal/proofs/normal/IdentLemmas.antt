@@ -9,17 +9,16 @@ use Rattle.crs_shape.specs.contracts.class.Class.{the_type}
 use Rattle.crs_shape.specs.declared.class.Class.{Class}
 use Rattle.crs_shape.specs.declared.class.Class.TheVariants as class
 use Rattle.crs_shape.specs.Prelude.{is_keyword, class_of_kind, Shaped, one, optional, optional_of, slots_of}
-use Rattle.crs_value.specs.Prelude.{is_a, those, ReadsFirst, ReadsOptional, ReadsText, ReadsTextOf, ReadsIdent, single_of}
-use Rattle.crs_value.specs.Values.{IdentParts}
+use Rattle.crs_value.specs.Prelude.{is_a, those, ReadsFirst, ReadsOptional, ReadsText, ReadsIdent, single_of}
 use Rattle.crs_value.specs.declared.values.level.Level.{Level}
-use Rattle.crs_normal.specs.WithoutPlaces.{without_places, all_without_places}
+use Rattle.crs_normal.specs.WithoutPlaces.{without_places}
 use Rattle.crs_normal.specs.NormalOwn.{IsCode, IsShort}
 use Rattle.crs_value.specs.Sound.{Each}
-use Rattle.crs_normal.specs.SpelledItems.{code_item, is_short, opt, text_item, text_node}
+use Rattle.crs_normal.specs.SpelledItems.{code_item, is_short, opt, text_item}
 use Rattle.crs_normal.specs.SpelledUnits.{item_ident}
-use Rattle.crs_normal.proofs.normal.FormLemmas.{Form, Kept, kept-good, node-spelled, opened, optional-spelled}
+use Rattle.crs_normal.proofs.normal.FormLemmas.{Form, opened, optional-in, spelled-by}
 use Rattle.crs_normal.proofs.normal.LeafLemmas.{without_places-text-leaf, no-number, no-text, text-node-form}
-use Rattle.crs_normal.proofs.read.ViewLemmas.{InSlot, View, items-rebuilt, alone, without_places_onto, without_places-spread, of-one, onto, or-false, same_class, those-looked}
+use Rattle.crs_normal.proofs.read.ViewLemmas.{InSlot, items-rebuilt, alone, without_places_onto, of-one, onto, or-false, same_class}
 
 -- ---- codes
 
@@ -156,19 +155,12 @@ text-without_places item rest s value reads =
     ∙ ap text_item (first-of class.Identifier class.Text item rest value
     (of-one class.Identifier class.Text class.Text (one class.Text) refl refl item s) reads)
 
-ident-args : (level : Level) (items : Siblings) → Kept level class.Identifier items →
-    (v : View class.Identifier (slots_of class.Identifier) items) →
-    Each IsCode (single_of (skip 1 items) ++ single_of (skip 2 items)) → (x : IdentParts) →
-    ReadsFirst ReadsText (those class.Identifier class.Text items) x.authority →
-    ReadsFirst ReadsText (single_of (skip 1 items)) x.code →
-    ReadsOptional ReadsText (single_of (skip 2 items)) x.version →
-    ReadsOptional (ReadsTextOf class.Citation) (those class.Identifier class.Citation items) x.citation →
-    ReadsOptional (ReadsTextOf class.Uri) (those class.Identifier class.Uri items) x.uri →
-    all_without_places items ≡ More (text_item x.authority)
-    (More (code_item x.code)
-    (opt code_item x.version
-    (opt (text_node (codes "CITATION")) x.citation (opt (text_node (codes "URI")) x.uri End))))
-ident-args level items k v are_codes x authority code version citation uri =
+pub ident-form : (level : Level) (c : Class) → Form level c class.Identifier (ReadsIdent class.Identifier) item_ident
+ident-form level c (leaf kind place raw) x good reads = absurd reads.authority
+ident-form level c (node place keyword square first others close) x good reads =
+    let o = opened refl good in
+    let items = More first others in
+    let v = o.slots in
     let v1 = v.1.1.1.1 in
     let v2 = v1.1.1.1.1 in
     let v3 = v2.1.1.1.1 in
@@ -181,38 +173,23 @@ ident-args level items k v are_codes x authority code version citation uri =
     items-rebuilt class.Identifier (slots_of class.Identifier) items v
     ∙ ap (λ xs. onto xs (onto v1.0 rest)) a.1 ∙ ap (λ xs. More a.0 (onto xs rest)) b.1 in
     let coded = code-without_places b.0 rest x.code (single_of rest)
-    (subst (λ (is : Siblings). ReadsFirst ReadsText (single_of (skip 1 is)) x.code) are code)
-    (subst (λ (is : Siblings). Each IsCode (single_of (skip 1 is) ++ single_of (skip 2 is))) are are_codes) in
+    (subst (λ (is : Siblings). ReadsFirst ReadsText (single_of (skip 1 is)) x.code) are reads.code)
+    (subst (λ (is : Siblings). Each IsCode (single_of (skip 1 is) ++ single_of (skip 2 is))) are o.own) in
     let text-first = (subst (Each (InSlot class.Identifier (one class.Text))) a.1 v.1.1.0.inside).0 in
     let named = text-without_places a.0 (More b.0 rest) text-first x.authority
-    (subst (λ (is : Siblings). ReadsFirst ReadsText (those class.Identifier class.Text is) x.authority) are authority)
+    (subst (λ (is : Siblings). ReadsFirst ReadsText (those class.Identifier class.Text is) x.authority) are reads.authority)
     in
-    let citations = optional-spelled level class.Identifier class.Citation (ReadsTextOf class.Citation)
-    (text_node (codes "CITATION"))
-    (text-node-form level class.Identifier class.Citation (codes "CITATION") refl (λ bytes h. h))
-    (those class.Identifier class.Citation items) v3.0 (kept-good level class.Identifier class.Citation items k)
-    (those-looked class.Identifier class.Citation (slots_of class.Identifier) items v) (v3.1.1.0.not_more refl)
-    x.citation citation in
-    let uris = optional-spelled level class.Identifier class.Uri (ReadsTextOf class.Uri) (text_node (codes "URI"))
-    (text-node-form level class.Identifier class.Uri (codes "URI") refl (λ bytes h. h))
-    (those class.Identifier class.Uri items) v4.0 (kept-good level class.Identifier class.Uri items k)
-    (those-looked class.Identifier class.Uri (slots_of class.Identifier) items v) (v4.1.1.0.not_more refl) x.uri uri in
-    without_places-spread class.Identifier (slots_of class.Identifier) items v
-    ∙ ap (λ xs. without_places_onto xs (without_places_onto v1.0 (without_places_onto v2.0 (without_places_onto v3.0 (without_places_onto v4.0 End))))) a.1
+    spelled-by o o.written
+    (ap (λ xs. without_places_onto xs (without_places_onto v1.0 (without_places_onto v2.0 (without_places_onto v3.0 (without_places_onto v4.0 End))))) a.1
     ∙ ap (λ xs. More (without_places a.0) (without_places_onto xs (without_places_onto v2.0 (without_places_onto v3.0 (without_places_onto v4.0 End))))) b.1
     ∙ three named coded.0
     (version-without_places v2.0 behind v2.1.1.0.inside (v2.1.1.0.not_more refl)
     (behind-version v3.0 v4.0 v3.1.1.0.inside v4.1.1.0.inside) x.version
-    (subst (λ (is : Siblings). ReadsOptional ReadsText (single_of (skip 2 is)) x.version) are version) coded.1
-    _ _ (citations _ _ (uris End End refl)))
+    (subst (λ (is : Siblings). ReadsOptional ReadsText (single_of (skip 2 is)) x.version) are reads.version) coded.1 _ _
+    (optional-in o (text-node-form level class.Identifier class.Citation (codes "CITATION") refl (λ bytes h. h)) v3.0
+    refl (v3.1.1.0.not_more refl) x.citation reads.citation
+    (optional-in o (text-node-form level class.Identifier class.Uri (codes "URI") refl (λ bytes h. h)) v4.0 refl
+    (v4.1.1.0.not_more refl) x.uri reads.uri refl))))
   where
     three : {i j k l : Item} {m n : Siblings} → i ≡ j → k ≡ l → m ≡ n → More i (More k m) ≡ More j (More l n)
     three e f g = cc
-
-pub ident-form : (level : Level) (c : Class) → Form level c class.Identifier (ReadsIdent class.Identifier) item_ident
-ident-form level c (leaf kind place raw) x good reads = absurd reads.authority
-ident-form level c (node place keyword square first others close) x good reads =
-    let o = opened level c class.Identifier place keyword square first others close good.shaped good.normal in
-    node-spelled place keyword (codes "ID") square first others close _ o.written
-    (ident-args level (More first others) o.kept o.slots o.own x reads.authority reads.code reads.version reads.citation
-    reads.uri)

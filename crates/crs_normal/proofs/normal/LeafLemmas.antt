@@ -1,17 +1,16 @@
 -- Texts and numbers, and nodes of one text or one number, are the one form of what is read from them.
-use Rattle.std.proofs.Common.{◌≡◌, ℕ, true, false, List, [], ◌∷◌, refl, sym, ◌∙◌, ap, subst}
+use Rattle.std.proofs.Common.{◌≡◌, ℕ, true, false, List, [], ◌∷◌, refl, sym, ◌∙◌, ap}
 use Rattle.crs_decimal.specs.Prelude.{Denotes, IsPlain, plain, Value, IsNormal, exact}
-use Rattle.crs_text.specs.Prelude.{Item, leaf, node, End, More, raw_of, number, text, word}
+use Rattle.crs_text.specs.Prelude.{Item, leaf, node, raw_of, number, text, word}
 use Rattle.crs_shape.specs.declared.class.Class.{Class}
 use Rattle.crs_shape.specs.declared.class.Class.TheVariants as class
-use Rattle.crs_shape.specs.Prelude.{is_keyword, Shaped, SlotParts, one, slots_of}
-use Rattle.crs_value.specs.Prelude.{those, ReadsText, ReadsNumber, ReadsTextOf, ReadsNumberOf}
+use Rattle.crs_shape.specs.Prelude.{is_keyword, Shaped, one, slots_of}
+use Rattle.crs_value.specs.Prelude.{ReadsText, ReadsNumber, ReadsTextOf, ReadsNumberOf}
 use Rattle.crs_value.specs.declared.values.level.Level.{Level}
 use Rattle.crs_normal.specs.WithoutPlaces.{without_places}
 use Rattle.crs_normal.specs.Normal.{IsNormalIn, IsNumberIn, IsFirstKeyword}
 use Rattle.crs_normal.specs.SpelledItems.{number_item, number_node, text_item, text_node}
-use Rattle.crs_normal.proofs.normal.FormLemmas.{Form, kept-good, node-spelled, one-spelled, opened}
-use Rattle.crs_normal.proofs.read.ViewLemmas.{View, without_places-spread, those-looked}
+use Rattle.crs_normal.proofs.normal.FormLemmas.{Form, spelled-by, one-in, opened}
 
 -- the law of plain spellings: a normal value has just one
 abbrev pub PlainIsOne : Type 0
@@ -79,14 +78,10 @@ pub text-node-form : (level : Level) (c d : Class) (keyword : List ℕ) → slot
     Form level c d (ReadsTextOf d) (text_node keyword)
 text-node-form level c d keyword slots its (leaf kind place raw) value good reads = absurd reads
 text-node-form level c d keyword slots its (node place bytes square first others close) value good reads =
-    let o = opened level c d place bytes square first others close good.shaped good.normal in
-    let items = More first others in
-    let v = subst (λ (ss : List SlotParts). View d ss items) slots o.slots in
-    node-spelled place bytes keyword square first others close (More (text_item value) End) (its bytes o.written)
-    (without_places-spread d (one class.Text ∷ []) items v
-    ∙ one-spelled level d class.Text ReadsText text_item (text-form level d) (those d class.Text items) v.0
-    (kept-good level d class.Text items o.kept)
-    (those-looked d class.Text (one class.Text ∷ []) items v) (v.1.1.0.not_more refl) value reads End End refl)
+    let o = opened slots good in
+    let v = o.slots in
+    spelled-by o (its bytes o.written)
+    (one-in o (text-form level d) v.0 refl (v.1.1.0.not_more refl) value reads refl)
 
 pub number-node-form : PlainIsOne → (level : Level) (c d : Class) (keyword : List ℕ) →
     slots_of d ≡ one class.Number ∷ [] →
@@ -94,12 +89,7 @@ pub number-node-form : PlainIsOne → (level : Level) (c d : Class) (keyword : L
     Form level c d (ReadsNumberOf d) (number_node keyword)
 number-node-form law level c d keyword slots its plains (leaf kind place raw) value good reads = absurd reads
 number-node-form law level c d keyword slots its plains (node place bytes square first others close) value good reads =
-    let o = opened level c d place bytes square first others close good.shaped good.normal in
-    let items = More first others in
-    let v = subst (λ (ss : List SlotParts). View d ss items) slots o.slots in
-    node-spelled place bytes keyword square first others close (More (number_item value) End) (its bytes o.written)
-    (without_places-spread d (one class.Number ∷ []) items v
-    ∙ one-spelled level d class.Number ReadsNumber number_item (number-form law level d plains)
-    (those d class.Number items) v.0
-    (kept-good level d class.Number items o.kept)
-    (those-looked d class.Number (one class.Number ∷ []) items v) (v.1.1.0.not_more refl) value reads End End refl)
+    let o = opened slots good in
+    let v = o.slots in
+    spelled-by o (its bytes o.written)
+    (one-in o (number-form law level d plains) v.0 refl (v.1.1.0.not_more refl) value reads refl)

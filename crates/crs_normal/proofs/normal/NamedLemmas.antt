@@ -8,8 +8,8 @@ use Rattle.crs_shape.specs.contracts.class.Class.{the_type}
 use Rattle.crs_shape.specs.declared.class.Class.{Class}
 use Rattle.crs_shape.specs.declared.class.Class.TheVariants as class
 use Rattle.crs_shape.specs.declared.unit_kind.UnitKind.TheVariants as kinds
-use Rattle.crs_shape.specs.Prelude.{class_in, SlotParts, is_class, named_slots, slots_of, unit_slots}
-use Rattle.crs_value.specs.Prelude.{is_a, those, ReadsElse, ReadsIds, ReadsMember, ReadsNumber, ReadsText, ReadsTextOf, parameter_units, ReadsAsUnit, ReadsConversion, ReadsGeoidModel, ReadsMethod, ReadsParameter, ReadsUnitOf, ReadsDeformationModel, UnitParts}
+use Rattle.crs_shape.specs.Prelude.{class_in, is_class, named_slots, slots_of, unit_slots}
+use Rattle.crs_value.specs.Prelude.{is_a, those, ReadsElse, ReadsIds, ReadsMember, ReadsTextOf, parameter_units, ReadsAsUnit, ReadsConversion, ReadsGeoidModel, ReadsMethod, ReadsParameter, ReadsUnitOf, ReadsDeformationModel, UnitParts}
 use Rattle.crs_value.specs.Values.{IdentParts}
 use Rattle.crs_value.specs.declared.values.level.Level.{Level}
 use Rattle.crs_normal.specs.WithoutPlaces.{without_places}
@@ -18,12 +18,12 @@ use Rattle.crs_value.specs.Sound.{Each}
 use Rattle.crs_normal.specs.SpelledConversions.{item_conversion, item_geoid_model, item_method, item_parameter, norm_conversion, norm_geoid_model, norm_method, norm_parameter, set_parameters}
 use Rattle.crs_normal.specs.SpelledDynamic.{item_deformation_model, norm_deformation_model}
 use Rattle.crs_normal.specs.SpelledFrames.{item_member, norm_member}
-use Rattle.crs_normal.specs.SpelledItems.{each, node_of, number_item, opt, text_item}
+use Rattle.crs_normal.specs.SpelledItems.{each, node_of, opt, text_item}
 use Rattle.crs_normal.specs.SpelledUnits.{item_ident, item_unit, norm_units, set_idents}
-use Rattle.crs_normal.proofs.normal.FormLemmas.{Form, IsGood, Kept, kept-good, node-spelled, one-spelled, opened, one-in, set-in}
+use Rattle.crs_normal.proofs.normal.FormLemmas.{Form, IsGood, Kept, kept-good, one-in, opened, set-in, spelled-by}
 use Rattle.crs_normal.proofs.normal.LeafLemmas.{ArePlain, PlainIsOne, number-form, text-form}
-use Rattle.crs_normal.proofs.normal.UnitLemmas.{KindIn, idents-spelled, in-angle, in-length, in-plain, in-scale, unit-form, idents-in}
-use Rattle.crs_normal.proofs.read.ViewLemmas.{View, each-so, without_places_onto, without_places-spread, onto, same_class, those-looked}
+use Rattle.crs_normal.proofs.normal.UnitLemmas.{KindIn, in-angle, in-length, in-plain, in-scale, unit-form, idents-in}
+use Rattle.crs_normal.proofs.read.ViewLemmas.{each-so, without_places_onto, onto, same_class, those-looked}
 
 -- a node of a name and identifiers
 named-without_places : (level : Level) (c d : Class) (keyword : List ℕ) → slots_of d ≡ named_slots →
@@ -33,18 +33,12 @@ named-without_places : (level : Level) (c d : Class) (keyword : List ℕ) → sl
     without_places item ≡ node_of keyword (text_item name) (each item_ident (set_idents level identifiers) End)
 named-without_places level c d keyword slots its (leaf kind place raw) good name identifiers a b = absurd a
 named-without_places level c d keyword slots its (node place bytes square first others close) good name identifiers a b =
-    let o = opened level c d place bytes square first others close good.shaped good.normal in
-    let items = More first others in
-    let v = subst (λ (ss : List SlotParts). View d ss items) slots o.slots in
+    let o = opened slots good in
+    let v = o.slots in
     let v1 = v.1.1.1.1 in
-    node-spelled place bytes keyword square first others close
-    (More (text_item name) (each item_ident (set_idents level identifiers) End)) (its bytes o.written)
-    (without_places-spread d named_slots items v
-    ∙ one-spelled level d class.Text ReadsText text_item (text-form level d) (those d class.Text items) v.0
-    (kept-good level d class.Text items o.kept)
-    (those-looked d class.Text named_slots items v) (v.1.1.0.not_more refl) name a _ _
-    (idents-spelled level d items v1.0 o.kept (those-looked d class.Identifier named_slots items v) o.sets.0 identifiers b End
-    End refl))
+    spelled-by o (its bytes o.written)
+    (one-in o (text-form level d) v.0 refl (v.1.1.0.not_more refl) name a
+    (idents-in o v1.0 refl identifiers b refl))
 
 pub member-form : (level : Level) (c : Class) →
     Form level c class.Member (ReadsMember class.Member) (λ m. item_member (norm_member level m))
@@ -156,17 +150,16 @@ pub parameter-form : PlainIsOne → (level : Level) (c : Class) →
 parameter-form law level c (leaf kind place raw) x good reads = absurd reads.name
 parameter-form law level c (node place keyword square first others close) x good reads =
     let d = class.Parameter in
-    let o = opened level c d place keyword square first others close good.shaped good.normal in
+    let o = opened refl good in
     let items = More first others in
     let v = o.slots in
     let v1 = v.1.1.1.1 in
     let v2 = v1.1.1.1.1 in
     let v3 = v2.1.1.1.1 in
     let looked = λ (e : Class). those-looked d e (slots_of d) items v in
-    node-spelled place keyword _ square first others close _ o.written
-    (without_places-spread d (slots_of d) items v
-    ∙ one-in o class.Text ReadsText text_item (text-form level d) v.0 refl (v.1.1.0.not_more refl) x.name reads.name
-    (one-in o class.Number ReadsNumber number_item (number-form law level d (λ raw h. h)) v1.0 refl
+    spelled-by o o.written
+    (one-in o (text-form level d) v.0 refl (v.1.1.0.not_more refl) x.name reads.name
+    (one-in o (number-form law level d (λ raw h. h)) v1.0 refl
     (v1.1.1.0.not_more refl) x.value reads.value
     (ap (without_places_onto v2.0)
     (idents-in o v3.0 refl x.identifiers reads.identifiers refl)
@@ -182,17 +175,14 @@ unfolding set_parameters
 conversion-form law level c (leaf kind place raw) x good reads = absurd reads.name
 conversion-form law level c (node place keyword square first others close) x good reads =
     let d = class.Conversion in
-    let o = opened level c d place keyword square first others close good.shaped good.normal in
-    let items = More first others in
+    let o = opened refl good in
     let v = o.slots in
     let v1 = v.1.1.1.1 in
     let v2 = v1.1.1.1.1 in
     let v3 = v2.1.1.1.1 in
-    node-spelled place keyword _ square first others close _ o.written
-    (without_places-spread d (slots_of d) items v
-    ∙ one-in o class.Text ReadsText text_item (text-form level d) v.0 refl (v.1.1.0.not_more refl) x.name reads.name
-    (one-in o class.Method (ReadsMethod class.Method) (λ m. item_method (norm_method level m)) (method-form level d)
+    spelled-by o o.written
+    (one-in o (text-form level d) v.0 refl (v.1.1.0.not_more refl) x.name reads.name
+    (one-in o (method-form level d)
     v1.0 refl (v1.1.1.0.not_more refl) x.method reads.method
-    (set-in o class.Parameter (ReadsParameter class.Parameter) item_parameter (norm_parameter level)
-    (parameter-form law level d) v2.0 refl o.sets.1.1.1.0 x.parameters reads.parameters
+    (set-in o item_parameter (norm_parameter level) (parameter-form law level d) v2.0 refl o.sets.1.1.1.0 x.parameters reads.parameters
     (idents-in o v3.0 refl x.identifiers reads.identifiers refl))))

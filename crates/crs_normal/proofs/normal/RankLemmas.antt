@@ -6,11 +6,11 @@ use Rattle.crs_text.specs.Prelude.{Item, Siblings, End, More}
 use Rattle.crs_shape.specs.contracts.class.Class.{the_type}
 use Rattle.crs_shape.specs.declared.class.Class.{Class}
 use Rattle.crs_shape.specs.declared.class.Class.TheVariants as class
-use Rattle.crs_shape.specs.Prelude.{class_in, is_class, tail, vertical_tail}
+use Rattle.crs_shape.specs.Prelude.{SlotParts, class_in, is_class, tail, vertical_tail}
 use Rattle.crs_value.specs.Prelude.{AtClass, is_a, those}
 use Rattle.crs_normal.specs.NormalOwn.{Rise, rank}
 use Rattle.crs_value.specs.Sound.{Each}
-use Rattle.crs_normal.proofs.read.ViewLemmas.{InSlot, onto, same_class}
+use Rattle.crs_normal.proofs.read.ViewLemmas.{InSlot, View, onto, same_class}
 
 -- ---- ranks rise after the first arguments too
 
@@ -24,6 +24,20 @@ rise-behind c least (item ∷ items) rest rise = by (class_in c item) (λ k h. r
         (m : ℕ) × Rise c m rest
     by None more h = absurd h
     by (Some d) more h = more (rank d) h.1
+
+-- the items in the last slot
+abbrev pub last_front : (c : Class) (slots : List SlotParts) (items : Siblings) → View c slots items → List Item
+last_front c [] items v = []
+last_front c (slot ∷ []) items v = v.0
+last_front c (slot ∷ next ∷ slots) items v = last_front c (next ∷ slots) v.1.0 v.1.1.1.1
+
+pub rise-last : (c : Class) (slots : List SlotParts) (items : Siblings) (v : View c slots items) (least : ℕ) →
+    Rise c least items → (m : ℕ) × Rise c m (onto (last_front c slots items v) End)
+rise-last c [] items v least rise = (least, subst (Rise c least) v rise)
+rise-last c (slot ∷ []) items v least rise = (least, subst (Rise c least) (v.1.1.1.0 ∙ ap (onto v.0) v.1.1.1.1) rise)
+rise-last c (slot ∷ next ∷ slots) items v least rise =
+    let behind = rise-behind c least v.0 v.1.0 (subst (Rise c least) v.1.1.1.0 rise) in
+    rise-last c (next ∷ slots) v.1.0 v.1.1.1.1 behind.0 behind.1
 
 -- ---- the classes at the end
 

@@ -6,18 +6,21 @@ use Rattle.std.proofs.lemmas.Slice.Eq.{bytes_eq-Decides}
 use Rattle.crs_text.specs.Prelude.{Item, leaf, node, Siblings, More, arguments}
 use Rattle.crs_shape.specs.declared.class.Class.{Class}
 use Rattle.crs_shape.specs.declared.class.Class.TheVariants as class
-use Rattle.crs_shape.specs.Prelude.{slots_of, system_word}
-use Rattle.crs_value.specs.Prelude.{those, ReadsEach, ReadsAxis, ReadsHead, ReadsNumber, ReadsSystem, ReadsType, AxisParts, SystemParts}
+use Rattle.crs_shape.specs.declared.system_type.SystemType.{SystemType}
+use Rattle.crs_shape.specs.Prelude.{SlotParts}
+use Rattle.crs_value.specs.Prelude.{those, ReadsEach, ReadsAxis, ReadsHead, ReadsSystem, AxisParts, SystemParts}
 use Rattle.crs_value.specs.declared.values.level.Level.{Level}
 use Rattle.crs_normal.specs.NormalOwn.{AreOrdered, Has, HasAxes}
 use Rattle.crs_value.specs.Sound.{Each}
-use Rattle.crs_normal.specs.SpelledItems.{each, number_item, word_item}
+use Rattle.crs_normal.specs.SpelledItems.{each}
 use Rattle.crs_normal.specs.SpelledSystems.{axes_from, axis_at, is_at, item_axis, item_head, norm_axis, norm_system, system_items, with_axis}
 use Rattle.crs_normal.proofs.normal.AxisLemmas.{IsNumbered, axis-form, type-form}
-use Rattle.crs_normal.proofs.normal.FormLemmas.{Form, IsGood, Kept, kept-good, node-spelled, one-spelled, opened, one-in}
+use Rattle.crs_normal.proofs.normal.FormLemmas.{Form, IsGood, Looked, Opened, found-in, good-in, one-in, opened, spelled-by}
+use Rattle.crs_normal.proofs.normal.DimensionLemmas.{AreSmall}
+use Rattle.crs_normal.proofs.normal.HeadLemmas.{AreFree, Laws, each-length, few-axes}
 use Rattle.crs_normal.proofs.normal.LeafLemmas.{PlainIsOne, number-form}
 use Rattle.crs_normal.proofs.normal.UnitLemmas.{idents-in}
-use Rattle.crs_normal.proofs.read.ViewLemmas.{without_places_onto, without_places-spread}
+use Rattle.crs_normal.proofs.read.ViewLemmas.{without_places_onto}
 
 -- ---- the axes at their positions
 
@@ -141,36 +144,37 @@ head-form : PlainIsOne → (level : Level) (c : Class) →
 head-form law level c (leaf kind place raw) x good reads = absurd reads.dimension
 head-form law level c (node place keyword square first others close) x good reads =
     let d = class.CoordinateSystem in
-    let o = opened level c d place keyword square first others close good.shaped good.normal in
-    let items = More first others in
+    let o = opened refl good in
     let v = o.slots in
     let v1 = v.1.1.1.1 in
     let v2 = v1.1.1.1.1 in
-    node-spelled place keyword _ square first others close _ o.written
-    (without_places-spread d (slots_of d) items v
-    ∙ one-in o class.Word ReadsType (λ t. word_item (system_word t)) (type-form level) v.0 refl (v.1.1.0.not_more refl)
+    spelled-by o o.written
+    (one-in o (type-form level) v.0 refl (v.1.1.0.not_more refl)
     x.system_type reads.system_type
-    (one-in o class.Number ReadsNumber number_item (number-form law level d (λ raw h. h)) v1.0 refl
+    (one-in o (number-form law level d (λ raw h. h)) v1.0 refl
     (v1.1.1.0.not_more refl) x.dimension reads.dimension
     (idents-in o v2.0 refl x.identifiers reads.identifiers refl)))
 
 -- the node `CS`, the axes and no shared unit
-pub system-spelled : PlainIsOne → (level : Level) (c : Class) (item : Item) → Kept level c (arguments item) →
-    HasAxes c item → (heads axes units : List Item) →
-    those c class.CoordinateSystem (arguments item) ≡ heads → length heads ≤ 1 →
-    those c class.Axis (arguments item) ≡ axes →
-    those c class.AxisUnit (arguments item) ≡ units → (x : SystemParts) → ReadsSystem c item x →
-    length x.axes + 1 < 2 ^ 64 → (rest after : Siblings) → rest ≡ after →
+pub system-in : Laws → {level : Level} {c : Class} {slots : List SlotParts} {item : Item} {keyword : List ℕ}
+    (o : Opened level c slots item keyword) → HasAxes c item → (dimensions : SystemType → List ℕ) →
+    ((t : SystemType) → AreSmall (dimensions t)) → AreFree dimensions (those c class.CoordinateSystem (arguments item))
+    (those c class.Axis (arguments item)) (those c class.AxisUnit (arguments item)) → (heads axes units : List Item) →
+    Looked o class.CoordinateSystem heads → length heads ≤ 1 → Looked o class.Axis axes → Looked o class.AxisUnit units →
+    (x : SystemParts) → ReadsSystem c item x → {rest after : Siblings} → rest ≡ after →
     without_places_onto heads (without_places_onto axes (without_places_onto units rest)) ≡ system_items (norm_system level x) after
-system-spelled law level c item k has heads axes units e few f g x reads within rest after same =
-    let items = arguments item in
-    let read = axes-read law level c x 1 (those c class.Axis items) x.axes (kept-good level c class.Axis items k)
-    has.ordered has.own_units reads.axes after in
-    one-spelled level c class.CoordinateSystem ReadsHead (λ s. item_head (norm_system level s)) (head-form law level c)
-    (those c class.CoordinateSystem items) heads
-    (kept-good level c class.CoordinateSystem items k) e few x reads.head _ _
-    (ap (λ us. without_places_onto axes (without_places_onto us rest)) (sym g ∙ has.none_shared)
-    ∙ ap (without_places_onto axes) same ∙ ap (λ xs. without_places_onto xs after) (sym f) ∙ read.spelled
+system-in laws {level = level} {c = c} {item = item} o has dimensions small free heads axes units e few f g x reads
+    {rest = rest} {after = after} same =
+    let found = those c class.Axis (arguments item) in
+    let read = axes-read laws.plain_one level c x 1 found x.axes (good-in o class.Axis) has.ordered has.own_units reads.axes
+    after in
+    let within = few-axes laws dimensions small _ _ _ free x reads.head
+    (each-length (ReadsAxis class.Axis) found x.axes reads.axes) in
+    one-in o (head-form laws.plain_one level c) heads e few x reads.head
+    (ap (λ us. without_places_onto axes (without_places_onto us rest)) (sym (found-in o class.AxisUnit g)
+    ∙ has.none_shared)
+    ∙ ap (without_places_onto axes) same ∙ ap (λ xs. without_places_onto xs after) (sym (found-in o class.Axis f))
+    ∙ read.spelled
     ∙ ap (λ xs. each item_axis xs after)
     (sym (from-numbered level x 1 [] x.axes refl tt read.numbered_so refl (more (length x.axes) within))))
   where

@@ -1,28 +1,30 @@
 -- The end of a normal CRS is the one form of its value.
-use Rattle.std.proofs.Common.{IsSome, List, None, Option, Some, ℕ, [], ap, ap₂, codes, false, inl, inr, length, map, refl, sym, true, ◌++◌, ◌∙◌, ◌≡◌, ◌≤◌}
-use Rattle.crs_text.specs.Prelude.{Item, End, arguments, item_text}
+use Rattle.std.proofs.Common.{IsSome, List, None, Option, Some, ℕ, [], ap, ap₂, codes, false, inl, inr, map, refl, sym, true, ◌++◌, ◌∙◌, ◌≡◌, subst}
+use Rattle.crs_text.specs.Prelude.{Item, End, RefusedAt, arguments, item_text}
 use Rattle.crs_shape.specs.declared.class.Class.{Class}
 use Rattle.crs_shape.specs.declared.class.Class.TheVariants as class
-use Rattle.crs_value.specs.Prelude.{GeoidModelParts, those, ReadsEach, ReadsOptional, ReadsBare, ReadsTail, ReadsTextOf, ReadsUsage, ReadsGeoidModel, SaysSome, TailParts, UsageParts, kept, kept-where_none-one}
+use Rattle.crs_shape.specs.Prelude.{SlotParts, tail}
+use Rattle.crs_value.specs.Prelude.{RepeatsAny, once, GeoidModelParts, those, ReadsEach, ReadsOptional, ReadsBare, ReadsTail, ReadsTextOf, ReadsUsage, ReadsGeoidModel, SaysSome, TailParts, UsageParts, kept, kept-where_none-one}
 use Rattle.crs_value.specs.declared.values.level.Level.{Level}
 use Rattle.crs_matching.specs.Prelude.{usages_of, with_bare}
-use Rattle.crs_normal.specs.NormalOwn.{HasSets, HasTail, Rise}
+use Rattle.crs_normal.specs.NormalOwn.{HasTail}
 use Rattle.crs_value.specs.Sound.{Each}
 use Rattle.crs_normal.specs.Ordered.{in_order}
 use Rattle.crs_normal.specs.SpelledConversions.{item_geoid_model, norm_geoid_model, set_geoid_models}
 use Rattle.crs_normal.specs.SpelledItems.{each, opt, text_node}
 use Rattle.crs_normal.specs.SpelledUnits.{item_ident, set_idents}
 use Rattle.crs_normal.specs.SpelledUsages.{item_usage, norm_tail, norm_usage, set_usages, tail_items}
-use Rattle.crs_normal.proofs.normal.CheckedLemmas.{as-few}
-use Rattle.crs_normal.proofs.normal.FormLemmas.{Kept, kept-good, optional-spelled, reads-kept, set-spelled}
+use Rattle.crs_normal.proofs.normal.CheckedLemmas.{as-few, once-only}
+use Rattle.crs_normal.proofs.normal.FormLemmas.{Looked, Opened, found-in, good-in, optional-spelled, reads-kept, set-spelled}
 use Rattle.crs_normal.proofs.normal.FrameLemmas.{none-read}
+use Rattle.crs_normal.proofs.normal.HeadLemmas.{no-bare}
 use Rattle.crs_normal.proofs.normal.LeafLemmas.{PlainIsOne, text-node-form}
 use Rattle.crs_normal.proofs.normal.NamedLemmas.{geoid_model-form}
-use Rattle.crs_normal.proofs.normal.RankLemmas.{EndsAs, Split, split}
+use Rattle.crs_normal.proofs.normal.RankLemmas.{EndsAs, HasNoBare, Split, end-as, last_front, rise-last, split}
 use Rattle.crs_normal.proofs.normal.SortLemmas.{as-class, without_places-joined, those-kept, those-passed}
 use Rattle.crs_normal.proofs.normal.UnitLemmas.{idents-spelled}
 use Rattle.crs_normal.proofs.normal.UsageLemmas.{usage-form}
-use Rattle.crs_normal.proofs.read.ViewLemmas.{without_places_onto, onto, all-those, none-those, nothing-behind}
+use Rattle.crs_normal.proofs.read.ViewLemmas.{Front, InSlot, both, slot-lacks, without_places_onto, onto, all-those, none-those, nothing-behind}
 
 -- ---- a front of several sorts
 
@@ -102,49 +104,72 @@ usages-bare c item has t reads = by t.bare_parts reads.bare_parts
 
 -- ---- tails
 
-abbrev pub EndsIn : Class → Type 0
-EndsIn class.GeoidModel = Unit {0}
-EndsIn class.Usage = Unit {0}
-EndsIn class.Identifier = Unit {0}
-EndsIn class.Remark = Unit {0}
-EndsIn other = ⊥
+abbrev AtEnd : {level : Level} {c : Class} {slots : List SlotParts} {item : Item} {keyword : List ℕ}
+    (o : Opened level c slots item keyword) → Class → Type 0
+AtEnd {c = c} {slots = slots} {item = item} o d =
+    Looked o d (those c d (onto (last_front c slots (arguments item) o.slots) End))
 
 -- the arguments at the end: geoid models, if there are any, and the tail
-pub tail-spelled : PlainIsOne → (level : Level) (c : Class) (item : Item) → Kept level c (arguments item) →
-    HasSets c item → HasTail c item → (front : List Item) (k : ℕ) →
-    Rise c k (onto front End) → Each (EndsAs c) front →
-    ((d : Class) → EndsIn d → those c d (arguments item) ≡ those c d (onto front End)) →
-    length (those c class.Remark (arguments item)) ≤ 1 →
+pub tail-in : PlainIsOne → {level : Level} {c : Class} {slots : List SlotParts} {item : Item} {keyword : List ℕ}
+    (o : Opened level c slots item keyword) → HasTail c item →
+    ((fault : RefusedAt) → ¬ (RepeatsAny c (arguments item) once fault)) → (slot : SlotParts) →
+    ((i : Item) → HasNoBare c i → InSlot c slot i → EndsAs c i) →
+    Each (InSlot c slot) (last_front c slots (arguments item) o.slots) →
+    AtEnd o class.GeoidModel → Each (AtEnd o) tail.classes →
     (models : List GeoidModelParts) →
     ReadsEach (ReadsGeoidModel class.GeoidModel) (those c class.GeoidModel (arguments item)) models →
     (t : TailParts) → ReadsTail c item t →
-    without_places_onto front End ≡ each item_geoid_model (set_geoid_models level models) (tail_items (norm_tail level t))
+    without_places_onto (last_front c slots (arguments item) o.slots) End ≡ each item_geoid_model (set_geoid_models level models) (tail_items (norm_tail level t))
 unfolding set_geoid_models set_usages
-tail-spelled law level c item k sets has front n rise ends found few models read_models t reads =
-    let items = arguments item in
-    let s = split c n front rise ends in
-    let o = sorted-of c n front s in
-    let remarks = found class.Remark tt ∙ o.remarks in
-    ap (λ xs. without_places_onto xs End) o.are
-    ∙ without_places-joined s.models (s.usages ++ (s.identifiers ++ s.remarks)) End
-    ∙ ap (without_places_onto s.models) (without_places-joined s.usages (s.identifiers ++ s.remarks) End
-    ∙ ap (without_places_onto s.usages) (without_places-joined s.identifiers s.remarks End))
-    ∙ set-spelled level c class.GeoidModel (ReadsGeoidModel class.GeoidModel) item_geoid_model (norm_geoid_model level)
-    (geoid_model-form level c)
-    (those c class.GeoidModel items) s.models (kept-good level c class.GeoidModel items k) (found class.GeoidModel tt
-    ∙ o.models)
-    sets.1.1.1.1.0 models read_models _ _
-    (set-spelled level c class.Usage (ReadsUsage class.Usage) item_usage norm_usage (usage-form law level c)
-    (those c class.Usage items) s.usages (kept-good level c class.Usage items k) (found class.Usage tt
-    ∙ o.usages) sets.1.0 t.usages reads.usages _ _
-    (idents-spelled level c items s.identifiers k (found class.Identifier tt ∙ o.identifiers) sets.0 t.identifiers reads.identifiers _ _
-    (optional-spelled level c class.Remark (ReadsTextOf class.Remark) (text_node (codes "REMARK"))
-    (text-node-form level c class.Remark (codes "REMARK") refl (λ bytes h. h))
-    (those c class.Remark items) s.remarks (kept-good level c class.Remark items k) remarks (as-few _ _ remarks few)
-    t.remark reads.remark End End refl))
-    ∙ ap₂ (λ us remark. each item_usage (in_order (λ u. item_text (item_usage u)) (map norm_usage us))
-    (each item_ident (set_idents level t.identifiers) (opt (text_node (codes "REMARK")) remark End)))
-    (sym (ap (kept level) (usages-bare c item has t reads)
-    ∙ reads-kept level (ReadsUsage class.Usage) (those c class.Usage items) t.usages reads.usages k.left.1.0))
-    (sym (kept-where_none-one level (those c class.Remark items) t.remark
-    (λ e. none-read (ReadsTextOf class.Remark) (those c class.Remark items) e t.remark reads.remark) k.left.1.1.0)))
+tail-in law {level = level} {c = c} {slots = slots} {item = item} o has free slot ends inside at_models at models
+    read_models t reads =
+    let rise = rise-last c slots (arguments item) o.slots 0 has.in_order in
+    let bare = no-bare c item front has (found-in o class.Scope at.1.0) (found-in o class.Area at.1.1.0)
+    (found-in o class.BoundingBox at.1.1.1.0) (found-in o class.VerticalExtent at.1.1.1.1.0) in
+    by rise.0 (split c rise.0 front rise.1 (both ends front bare inside))
+  where
+    front : List Item
+    front = last_front c slots (arguments item) o.slots
+
+    by : (k : ℕ) → Split c k front →
+        without_places_onto front End ≡ each item_geoid_model (set_geoid_models level models) (tail_items (norm_tail level t))
+    by k s =
+        let sorted = sorted-of c k front s in
+        let remarks = found-in o class.Remark at.1.1.1.1.1.1.0 ∙ sorted.remarks in
+        let few = once-only _ (λ fault b. free fault (inr (inr (inr (inr (inl b)))))) in
+        ap (λ xs. without_places_onto xs End) sorted.are
+        ∙ without_places-joined s.models (s.usages ++ (s.identifiers ++ s.remarks)) End
+        ∙ ap (without_places_onto s.models) (without_places-joined s.usages (s.identifiers ++ s.remarks) End
+        ∙ ap (without_places_onto s.usages) (without_places-joined s.identifiers s.remarks End))
+        ∙ set-spelled level c class.GeoidModel (ReadsGeoidModel class.GeoidModel) item_geoid_model (norm_geoid_model level)
+        (geoid_model-form level c) _ s.models (good-in o class.GeoidModel) (found-in o class.GeoidModel at_models
+        ∙ sorted.models)
+        o.sets.1.1.1.1.0 models read_models _ _
+        (set-spelled level c class.Usage (ReadsUsage class.Usage) item_usage norm_usage (usage-form law level c) _ s.usages
+        (good-in o class.Usage) (found-in o class.Usage at.0 ∙ sorted.usages) o.sets.1.0 t.usages reads.usages _ _
+        (idents-spelled level c (arguments item) s.identifiers o.kept (found-in o class.Identifier at.1.1.1.1.1.0
+        ∙ sorted.identifiers) o.sets.0 t.identifiers reads.identifiers _ _
+        (optional-spelled (text-node-form level c class.Remark (codes "REMARK") refl (λ bytes h. h)) _ s.remarks
+        (good-in o class.Remark) remarks (as-few _ _ remarks few) t.remark reads.remark refl))
+        ∙ ap₂ (λ us remark. each item_usage (in_order (λ u. item_text (item_usage u)) (map norm_usage us))
+        (each item_ident (set_idents level t.identifiers) (opt (text_node (codes "REMARK")) remark End)))
+        (sym (ap (kept level) (usages-bare c item has t reads)
+        ∙ reads-kept level (ReadsUsage class.Usage) (those c class.Usage (arguments item)) t.usages reads.usages
+        o.kept.left.1.0))
+        (sym (kept-where_none-one level (those c class.Remark (arguments item)) t.remark
+        (λ e. none-read (ReadsTextOf class.Remark) (those c class.Remark (arguments item)) e t.remark reads.remark)
+        o.kept.left.1.1.0)))
+
+-- without geoid models
+pub plain_tail-in : PlainIsOne → {level : Level} {c : Class} {slots : List SlotParts} {item : Item} {keyword : List ℕ}
+    (o : Opened level c slots item keyword) → HasTail c item →
+    ((fault : RefusedAt) → ¬ (RepeatsAny c (arguments item) once fault)) →
+    Front c tail (last_front c slots (arguments item) o.slots) →
+    Looked o class.GeoidModel [] → Each (AtEnd o) tail.classes → (t : TailParts) → ReadsTail c item t →
+    without_places_onto (last_front c slots (arguments item) o.slots) End ≡ tail_items (norm_tail level t)
+unfolding set_geoid_models
+plain_tail-in law {c = c} {slots = slots} {item = item} o has free front none at t reads =
+    tail-in law o has free tail (end-as c) front.inside
+    (none ∙ sym (slot-lacks c class.GeoidModel tail (last_front c slots (arguments item) o.slots) refl front)) at []
+    (subst (λ (xs : List Item). ReadsEach (ReadsGeoidModel class.GeoidModel) xs [])
+    (sym (found-in o class.GeoidModel none)) tt) t reads

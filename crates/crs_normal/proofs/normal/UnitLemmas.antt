@@ -1,12 +1,12 @@
 -- Normal units and lists of identifiers are the one form of their values.
 use Rattle.std.proofs.Common.{◌≡◌, ℕ, map, inl, inr, List, [], ◌∷◌, refl, sym, ◌∙◌, ap, subst}
-use Rattle.crs_text.specs.Prelude.{Item, leaf, node, Siblings, End, More, arguments, item_text}
+use Rattle.crs_text.specs.Prelude.{Item, leaf, node, Siblings, arguments, item_text}
 use Rattle.crs_shape.specs.declared.class.Class.{Class}
 use Rattle.crs_shape.specs.declared.class.Class.TheVariants as class
 use Rattle.crs_shape.specs.declared.unit_kind.UnitKind.{UnitKind}
 use Rattle.crs_shape.specs.declared.unit_kind.UnitKind.TheVariants as kinds
 use Rattle.crs_shape.specs.Prelude.{SlotParts, slots_of, unit_slots, SpellsWord, unit_word}
-use Rattle.crs_value.specs.Prelude.{those, ReadsEach, ReadsIdent, ReadsNumber, ReadsText, ReadsUnit, kept}
+use Rattle.crs_value.specs.Prelude.{those, ReadsEach, ReadsIdent, ReadsUnit, kept}
 use Rattle.crs_value.specs.Values.{IdentParts}
 use Rattle.crs_value.specs.declared.values.level.Level.{Level}
 use Rattle.crs_matching.specs.Prelude.{kind_as}
@@ -14,12 +14,12 @@ use Rattle.crs_normal.specs.Normal.{IsFirstKeyword}
 use Rattle.crs_normal.specs.NormalOwn.{Ascend}
 use Rattle.crs_value.specs.Sound.{Each}
 use Rattle.crs_normal.specs.Ordered.{in_order}
-use Rattle.crs_normal.specs.SpelledItems.{each, number_item, text_item}
+use Rattle.crs_normal.specs.SpelledItems.{each}
 use Rattle.crs_normal.specs.SpelledUnits.{item_ident, item_unit, norm_unit, set_idents}
-use Rattle.crs_normal.proofs.normal.FormLemmas.{IsGood, Form, Kept, Opened, found-in, kept-good, node-spelled, one-spelled, opened, reads-kept, set-spelled}
+use Rattle.crs_normal.proofs.normal.FormLemmas.{IsGood, Form, Kept, Looked, Opened, found-in, kept-good, spelled-by, one-in, opened, reads-kept, set-spelled}
 use Rattle.crs_normal.proofs.normal.IdentLemmas.{ident-form}
 use Rattle.crs_normal.proofs.normal.LeafLemmas.{ArePlain, PlainIsOne, number-form, text-form}
-use Rattle.crs_normal.proofs.read.ViewLemmas.{View, looked, without_places_onto, without_places-spread, those-looked}
+use Rattle.crs_normal.proofs.read.ViewLemmas.{without_places_onto}
 use Rattle.crs_normal.proofs.texts.WordFormLemmas.{kind-one}
 
 map-same : {A : Type 0} (xs : List A) → map (λ x. x) xs ≡ xs
@@ -49,14 +49,14 @@ pub idents-spelled : (level : Level) (c : Class) (items : Siblings) (front : Lis
 idents-spelled level c items front k e up =
     idents-found-spelled level c items front (kept-good level c class.Identifier items k) e up k.left.0
 
-pub idents-in : {level : Level} {c : Class} {item : Item} {keyword : List ℕ} (o : Opened level c item keyword)
-    (front : List Item) → looked c class.Identifier (slots_of c) (arguments item) o.slots ≡ front →
+pub idents-in : {level : Level} {c : Class} {slots : List SlotParts} {item : Item} {keyword : List ℕ}
+    (o : Opened level c slots item keyword) (front : List Item) → Looked o class.Identifier front →
     (identifiers : List IdentParts) →
     ReadsEach (ReadsIdent class.Identifier) (those c class.Identifier (arguments item)) identifiers →
     {rest after : Siblings} → rest ≡ after →
     without_places_onto front rest ≡ each item_ident (set_idents level identifiers) after
 idents-in {level = level} {c = c} {item = item} o front same identifiers reads f =
-    idents-spelled level c (arguments item) front o.kept (found-in o class.Identifier front same) o.sets.0 identifiers
+    idents-spelled level c (arguments item) front o.kept (found-in o class.Identifier same) o.sets.0 identifiers
     reads _ _ f
 
 -- ---- units
@@ -94,21 +94,12 @@ pub unit-form : PlainIsOne → (level : Level) (c d : Class) (asked : UnitKind) 
     Form level c d (ReadsUnit d) (λ u. item_unit (norm_unit level asked u))
 unit-form law level c d asked slots kind_in plains (leaf kind place raw) x good reads = absurd reads.name
 unit-form law level c d asked slots kind_in plains (node place keyword square first others close) x good reads =
-    let o = opened level c d place keyword square first others close good.shaped good.normal in
-    let items = More first others in
-    let v = subst (λ (ss : List SlotParts). View d ss items) slots o.slots in
+    let o = opened slots good in
+    let v = o.slots in
     let v1 = v.1.1.1.1 in
     let v2 = v1.1.1.1.1 in
     let k = kind_in keyword o.written in
-    node-spelled place keyword _ square first others close _
-    (keyword-of asked keyword k.0 x.kind k.1.0 k.1.1 reads.kind)
-    (without_places-spread d unit_slots items v
-    ∙ one-spelled level d class.Text ReadsText text_item (text-form level d) (those d class.Text items) v.0
-    (kept-good level d class.Text items o.kept)
-    (those-looked d class.Text unit_slots items v) (v.1.1.0.not_more refl) x.name reads.name _ _
-    (one-spelled level d class.Number ReadsNumber number_item (number-form law level d plains)
-    (those d class.Number items) v1.0
-    (kept-good level d class.Number items o.kept) (those-looked d class.Number unit_slots items v)
-    (v1.1.1.0.not_more refl) x.factor reads.factor _ _
-    (idents-spelled level d items v2.0 o.kept (those-looked d class.Identifier unit_slots items v) o.sets.0 x.identifiers
-    reads.identifiers End End refl)))
+    spelled-by o (keyword-of asked keyword k.0 x.kind k.1.0 k.1.1 reads.kind)
+    (one-in o (text-form level d) v.0 refl (v.1.1.0.not_more refl) x.name reads.name
+    (one-in o (number-form law level d plains) v1.0 refl (v1.1.1.0.not_more refl) x.factor reads.factor
+    (idents-in o v2.0 refl x.identifiers reads.identifiers refl)))

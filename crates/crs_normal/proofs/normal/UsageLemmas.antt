@@ -4,58 +4,45 @@ use Rattle.crs_text.specs.Prelude.{leaf, node, End, More, number, text, word}
 use Rattle.crs_shape.specs.declared.class.Class.{Class}
 use Rattle.crs_shape.specs.declared.class.Class.TheVariants as class
 use Rattle.crs_shape.specs.declared.unit_kind.UnitKind.TheVariants as kinds
-use Rattle.crs_shape.specs.Prelude.{slots_of}
-use Rattle.crs_value.specs.Prelude.{those, ReadsBox, ReadsExtent, ReadsTextOf, ReadsUnit, ReadsUsage}
+use Rattle.crs_value.specs.Prelude.{those, ReadsBox, ReadsExtent, ReadsUnit, ReadsUsage}
 use Rattle.crs_value.specs.declared.values.level.Level.{Level}
 use Rattle.crs_value.specs.declared.values.level.Level.TheVariants as levels
-use Rattle.crs_normal.specs.SpelledItems.{text_node}
-use Rattle.crs_normal.specs.SpelledUnits.{item_unit, norm_unit}
 use Rattle.crs_normal.specs.SpelledUsages.{item_box, item_extent, item_usage, norm_extent, norm_usage}
-use Rattle.crs_normal.proofs.normal.FormLemmas.{Form, kept-good, node-spelled, opened, optional-in}
+use Rattle.crs_normal.proofs.normal.FormLemmas.{Form, mapped-in, opened, optional-in, spelled-by}
 use Rattle.crs_normal.proofs.normal.LeafLemmas.{PlainIsOne, text-node-form}
 use Rattle.crs_normal.proofs.normal.LevelLemmas.{normal-in}
-use Rattle.crs_normal.proofs.members.PairLemmas.{four-spelled, opt-length, opt-mapped, two-spelled}
+use Rattle.crs_normal.proofs.members.PairLemmas.{four-in, opt-length, two-in}
 use Rattle.crs_normal.proofs.normal.UnitLemmas.{in-length, unit-form}
-use Rattle.crs_normal.proofs.read.ViewLemmas.{alone, without_places-spread, those-looked}
+use Rattle.crs_normal.proofs.read.ViewLemmas.{alone}
 
 pub box-form : PlainIsOne → (level : Level) (c : Class) →
     Form level c class.BoundingBox (ReadsBox class.BoundingBox) item_box
 box-form law level c (leaf kind place raw) x good reads = absurd reads.south
 box-form law level c (node place keyword square first others close) x good reads =
-    let d = class.BoundingBox in
-    let o = opened level c d place keyword square first others close good.shaped good.normal in
-    let items = More first others in
+    let o = opened refl good in
     let v = o.slots in
     let v1 = v.1.1.1.1 in
     let v2 = v1.1.1.1.1 in
     let v3 = v2.1.1.1.1 in
-    node-spelled place keyword _ square first others close _ o.written
-    (without_places-spread d (slots_of d) items v
-    ∙ four-spelled law level d (λ raw h. h) (those d class.Number items) v.0 v1.0 v2.0 v3.0
-    (kept-good level d class.Number items o.kept)
-    (those-looked d class.Number (slots_of d) items v) (alone v.0 v.1.1.0 refl refl) (alone v1.0 v1.1.1.0 refl refl)
+    spelled-by o o.written
+    (four-in law o (λ raw h. h) v.0 v1.0 v2.0 v3.0 refl (alone v.0 v.1.1.0 refl refl) (alone v1.0 v1.1.1.0 refl refl)
     (alone v2.0 v2.1.1.0 refl refl)
-    (alone v3.0 v3.1.1.0 refl refl) x.south x.west x.north x.east reads.south reads.west reads.north reads.east End End
-    refl)
+    (alone v3.0 v3.1.1.0 refl refl) x.south x.west x.north x.east reads.south reads.west reads.north reads.east refl)
 
 pub extent-form : PlainIsOne → (level : Level) (c : Class) →
     Form level c class.VerticalExtent (ReadsExtent class.VerticalExtent) (λ e. item_extent (norm_extent level e))
 extent-form law level c (leaf kind place raw) x good reads = absurd reads.minimum
 extent-form law level c (node place keyword square first others close) x good reads =
     let d = class.VerticalExtent in
-    let o = opened level c d place keyword square first others close good.shaped good.normal in
+    let o = opened refl good in
     let items = More first others in
     let v = o.slots in
     let v1 = v.1.1.1.1 in
     let v2 = v1.1.1.1.1 in
-    node-spelled place keyword _ square first others close _ o.written
-    (without_places-spread d (slots_of d) items v
-    ∙ two-spelled law level d (λ raw h. h) (those d class.Number items) v.0 v1.0
-    (kept-good level d class.Number items o.kept)
-    (those-looked d class.Number (slots_of d) items v) (alone v.0 v.1.1.0 refl refl) (alone v1.0 v1.1.1.0 refl refl)
-    x.minimum x.maximum reads.minimum reads.maximum _ _
-    (optional-in o class.LengthUnit (ReadsUnit class.LengthUnit) (λ u. item_unit (norm_unit level kinds.Length u))
-    (unit-form law level d class.LengthUnit kinds.Length refl (in-length kinds.Length) (λ raw h. h)) v2.0 refl
+    spelled-by o o.written
+    (two-in law o (λ raw h. h) v.0 v1.0 refl (alone v.0 v.1.1.0 refl refl) (alone v1.0 v1.1.1.0 refl refl)
+    x.minimum x.maximum reads.minimum reads.maximum
+    (optional-in o (unit-form law level d class.LengthUnit kinds.Length refl (in-length kinds.Length) (λ raw h. h)) v2.0 refl
     (v2.1.1.0.not_more refl) x.unit reads.unit refl
     ∙ opt-length (ReadsUnit class.LengthUnit) level (those d class.LengthUnit items) x.unit o.own reads.unit End))
 
@@ -67,25 +54,20 @@ full-usage-form law c (leaf word place raw) x good reads = let h : false ≡ tru
 full-usage-form law c (node place keyword square first others close) x good reads =
     let level = levels.Full in
     let d = class.Usage in
-    let o = opened level c d place keyword square first others close good.shaped good.normal in
-    let items = More first others in
+    let o = opened refl good in
     let v = o.slots in
     let v1 = v.1.1.1.1 in
     let v2 = v1.1.1.1.1 in
     let v3 = v2.1.1.1.1 in
-    node-spelled place keyword (codes "USAGE") square first others close _ o.written
-    (without_places-spread d (slots_of d) items v
-    ∙ optional-in o class.Scope (ReadsTextOf class.Scope) (text_node (codes "SCOPE"))
-    (text-node-form level d class.Scope (codes "SCOPE") refl (λ bytes h. h)) v.0 refl (v.1.1.0.not_more refl) x.scope
+    spelled-by o o.written
+    (optional-in o (text-node-form level d class.Scope (codes "SCOPE") refl (λ bytes h. h)) v.0 refl (v.1.1.0.not_more refl) x.scope
     reads.scope
-    (optional-in o class.Area (ReadsTextOf class.Area) (text_node (codes "AREA"))
-    (text-node-form level d class.Area (codes "AREA") refl (λ bytes h. h)) v1.0 refl (v1.1.1.0.not_more refl) x.area
+    (optional-in o (text-node-form level d class.Area (codes "AREA") refl (λ bytes h. h)) v1.0 refl (v1.1.1.0.not_more refl) x.area
     reads.area
-    (optional-in o class.BoundingBox (ReadsBox class.BoundingBox) item_box (box-form law level d) v2.0 refl
+    (optional-in o (box-form law level d) v2.0 refl
     (v2.1.1.0.not_more refl) x.bbox reads.bbox
-    (optional-in o class.VerticalExtent (ReadsExtent class.VerticalExtent) (λ e. item_extent (norm_extent level e))
-    (extent-form law level d) v3.0 refl (v3.1.1.0.not_more refl) x.extent reads.extent refl
-    ∙ opt-mapped item_extent (norm_extent level) x.extent End))))
+    (mapped-in o item_extent (norm_extent level) (extent-form law level d) v3.0 refl (v3.1.1.0.not_more refl) x.extent
+    reads.extent refl))))
 
 -- with all that it holds, at each level
 pub usage-form : PlainIsOne → (level : Level) (c : Class) →

@@ -4,16 +4,16 @@ use Rattle.crs_text.specs.Prelude.{Item, leaf, node, Siblings, End, More, argume
 use Rattle.crs_shape.specs.declared.class.Class.{Class}
 use Rattle.crs_shape.specs.declared.class.Class.TheVariants as class
 use Rattle.crs_shape.specs.declared.unit_kind.UnitKind.TheVariants as kinds
-use Rattle.crs_shape.specs.Prelude.{is_keyword, AreShaped, Shaped, class_in, class_named, is_class, slots_of, direction_word}
-use Rattle.crs_value.specs.Prelude.{AtClass, ReadsEach, ReadsFirst, is_a, those, ReadsAxis, ReadsAxisMeridian, ReadsDirection, ReadsIdent, ReadsNumber, ReadsNumberOf, ReadsText, ReadsUnit, AxisParts, UnitParts}
+use Rattle.crs_shape.specs.Prelude.{is_keyword, AreShaped, Shaped, class_in, class_named, is_class, slots_of}
+use Rattle.crs_value.specs.Prelude.{AtClass, ReadsEach, ReadsFirst, is_a, those, ReadsAxis, ReadsIdent, ReadsNumber, ReadsText, ReadsUnit, AxisParts, UnitParts}
 use Rattle.crs_value.specs.declared.values.level.Level.{Level}
 use Rattle.crs_normal.specs.AxisAlone.{AreNormalArguments, IsNormalArgument, IsNormalAxis}
 use Rattle.crs_normal.specs.WithoutPlaces.{without_places}
 use Rattle.crs_normal.specs.Normal.{IsNormalIn}
 use Rattle.crs_value.specs.Sound.{Each}
 use Rattle.crs_normal.specs.PartTexts.{norm_axis_alone}
-use Rattle.crs_normal.specs.SpelledItems.{number_node, opt, text_item, word_item}
-use Rattle.crs_normal.specs.SpelledSystems.{item_axis, item_axis_meridian, norm_axis_meridian}
+use Rattle.crs_normal.specs.SpelledItems.{opt}
+use Rattle.crs_normal.specs.SpelledSystems.{item_axis}
 use Rattle.crs_normal.specs.SpelledUnits.{item_unit, norm_unit, norm_units}
 use Rattle.crs_normal.proofs.normal.AxisLemmas.{axis_meridian-form, direction-form, opt-meridians}
 use Rattle.crs_normal.proofs.normal.FormLemmas.{IsGood, node-spelled, one-spelled, optional-spelled, optional-by}
@@ -140,30 +140,22 @@ axis-alone-form law level (node place keyword square first others close) x shape
     let v5 = v4.1.1.1.1 in
     let fair : (e : Class) → Each (IsFair level e) (those d e items) =
     λ e. those-fair level e (s.0 ∷ s.1.0) items are normal.normal_arguments in
+    let looked = λ (e : Class). those-looked d e (slots_of d) items v in
+    let good : (e : Class) → e ≢ class.AxisUnit → Each (IsGood level d e) (those d e items) =
+    λ e other. each-good level e other (those d e items) (fair e) in
     node-spelled place keyword _ square first others close _ normal.first_keyword
     (without_places-spread d (slots_of d) items v
-    ∙ one-spelled level d class.Text ReadsText text_item (text-form level d) (those d class.Text items) v.0
-    (each-good level class.Text (λ e. cc) (those d class.Text items) (fair class.Text))
-    (those-looked d class.Text (slots_of d) items v) (v.1.1.0.not_more refl) x.name reads.name _ _
-    (one-spelled level d class.Word ReadsDirection (λ w. word_item (direction_word w)) (direction-form level)
-    (those d class.Word items) v1.0
-    (each-good level class.Word (λ e. cc) (those d class.Word items) (fair class.Word))
-    (those-looked d class.Word (slots_of d) items v) (v1.1.1.0.not_more refl) x.direction reads.direction _ _
-    (optional-spelled level d class.AxisMeridian (ReadsAxisMeridian class.AxisMeridian)
-    (λ m. item_axis_meridian (norm_axis_meridian level m)) (axis_meridian-form law level d)
-    (those d class.AxisMeridian items) v2.0
-    (each-good level class.AxisMeridian (λ e. cc) (those d class.AxisMeridian items) (fair class.AxisMeridian))
-    (those-looked d class.AxisMeridian (slots_of d) items v) (v2.1.1.0.not_more refl) x.meridian reads.meridian _ _
-    (optional-spelled level d class.Order (ReadsNumberOf class.Order) (number_node (codes "ORDER"))
-    (number-node-form law level d class.Order (codes "ORDER") refl (λ bytes h. h) (λ raw h. h))
-    (those d class.Order items) v3.0
-    (each-good level class.Order (λ e. cc) (those d class.Order items) (fair class.Order))
-    (those-looked d class.Order (slots_of d) items v) (v3.1.1.0.not_more refl) x.order reads.order _ _
-    (optional-by (IsFair level class.AxisUnit) (ReadsUnit class.AxisUnit) (plain_item level) (unit-alone-form law level)
-    (those d class.AxisUnit items) v4.0 (fair class.AxisUnit)
-    (those-looked d class.AxisUnit (slots_of d) items v) (v4.1.1.0.not_more refl) x.unit reads.unit _ _
-    (idents-found-spelled level d items v5.0
-    (each-good level class.Identifier (λ e. cc) (those d class.Identifier items) (fair class.Identifier))
-    (those-looked d class.Identifier (slots_of d) items v) normal.ascending_sets.0 normal.at_level.0 x.identifiers reads.identifiers End End refl)
+    ∙ one-spelled (text-form level d) _ v.0 (good class.Text (λ e. cc)) (looked class.Text) (v.1.1.0.not_more refl) x.name
+    reads.name
+    (one-spelled (direction-form level) _ v1.0 (good class.Word (λ e. cc)) (looked class.Word) (v1.1.1.0.not_more refl)
+    x.direction reads.direction
+    (optional-spelled (axis_meridian-form law level d) _ v2.0 (good class.AxisMeridian (λ e. cc))
+    (looked class.AxisMeridian) (v2.1.1.0.not_more refl) x.meridian reads.meridian
+    (optional-spelled (number-node-form law level d class.Order (codes "ORDER") refl (λ bytes h. h) (λ raw h. h)) _ v3.0
+    (good class.Order (λ e. cc)) (looked class.Order) (v3.1.1.0.not_more refl) x.order reads.order
+    (optional-by (IsFair level class.AxisUnit) (unit-alone-form law level) (those d class.AxisUnit items) v4.0
+    (fair class.AxisUnit) (looked class.AxisUnit) (v4.1.1.0.not_more refl) x.unit reads.unit
+    (idents-found-spelled level d items v5.0 (good class.Identifier (λ e. cc)) (looked class.Identifier)
+    normal.ascending_sets.0 normal.at_level.0 x.identifiers reads.identifiers End End refl)
     ∙ opt-plain level x.unit _))
     ∙ opt-meridians level x.meridian _)))

@@ -170,6 +170,11 @@ pub each-so : {A : Type 0} (P Q : A → Type 0) → ((x : A) → P x → Q x) �
 each-so P Q f [] h = tt
 each-so P Q f (x ∷ xs) h = (f x h.0, each-so P Q f xs h.1)
 
+pub both : {A : Type 0} {P Q R : A → Type 0} → ((x : A) → P x → Q x → R x) → (xs : List A) → Each P xs → Each Q xs →
+    Each R xs
+both f [] p q = tt
+both f (x ∷ xs) p q = (f x p.0 q.0, both f xs p.1 q.1)
+
 pub same_class : (d c : Class) → sameb the_type d c ≡ true → d ≡ c
 same_class d c e = same_true the_type (search rules) d c e
 
