@@ -187,7 +187,7 @@ module _ {level : Level} {most : ℕ} {parent : Class} where
       (if if_asked s.required a.there then (if (if s.many then true else a.single) then fit ss rest else false) else false)
       else false
 
-  fit-runs : (ss : List SlotParts) (all : List (Argument level most parent)) → fit ss all ≡ true → FitRuns ss (as_runs all)
+  pub fit-runs : (ss : List SlotParts) (all : List (Argument level most parent)) → fit ss all ≡ true → FitRuns ss (as_runs all)
   fit-runs [] [] e = tt
   fit-runs [] (a ∷ rest) e = absurd (true≢false (sym e))
   fit-runs (s ∷ ss) [] e = absurd (true≢false (sym e))

@@ -1,12 +1,12 @@
 -- Compound CRSs are made, and with them all CRSs.
-use Rattle.std.proofs.Common.{◌≡◌, ◌⊎◌, ℕ, Bool, true, false, Some, List, [], ◌∷◌, codes, inl, inr, refl, sym, subst, ◌∙◌, arith}
+use Rattle.std.proofs.Common.{◌≡◌, ◌⊎◌, ℕ, Bool, true, false, Some, List, [], ◌∷◌, ◌++◌, ap, codes, if◌then◌else◌, inl, inr, refl, sym, subst, take, ◌∙◌, arith}
 use Rattle.crs_decimal.specs.Prelude.{SameNumber, whole_number, Value, IsNormal, exact}
 use Rattle.crs_text.specs.Prelude.{Item, More, arguments, RefusedAt, at_place}
 use Rattle.crs_shape.specs.declared.class.Class.{Class}
 use Rattle.crs_shape.specs.declared.class.Class.TheVariants as class
 use Rattle.crs_shape.specs.declared.system_type.SystemType.{SystemType}
 use Rattle.crs_shape.specs.declared.system_type.SystemType.TheVariants as types
-use Rattle.crs_shape.specs.Prelude.{is_keyword, class_named, one, one_of, tail, takes}
+use Rattle.crs_shape.specs.Prelude.{is_keyword, class_named, one_of, slots_of, takes}
 use Rattle.crs_value.specs.Prelude.{BadComponent, IsNotEllipsoidal, IsNotHorizontal, IsNotPlane, AnyOf, FirstIs, OfCompound, horizontal_classes, CompoundParts, GeodeticParts, ProjectedParts, VerticalParts, those, IsText, IsCompound, IsHorizontal, IsPlane, IsGeodetic, IsProjected, IsVertical, IsTail, TailParts}
 use Rattle.crs_value.specs.Checks.{Own as BreaksOwn}
 use Rattle.crs_value.specs.declared.values.compound.Horizontal.{Horizontal}
@@ -23,15 +23,14 @@ use Rattle.crs_normal.specs.SpelledItems.{node_of, text_item}
 use Rattle.crs_normal.specs.SpelledUsages.{norm_tail, tail_items}
 use Rattle.crs_normal.proofs.made.BehindLemmas.{AxisEach, Shows, tail-seen, tail_classes}
 use Rattle.crs_normal.proofs.made.CheckLemmas.{first-number, word-type}
-use Rattle.crs_normal.proofs.made.FitLemmas.{fills-one, fit-before, last-fits}
-use Rattle.crs_normal.proofs.made.GeodeticLemmas.{end_classes, geodetic-made, geodetic-seen}
+use Rattle.crs_normal.proofs.made.GeodeticLemmas.{geodetic-made, geodetic-seen}
 use Rattle.crs_normal.proofs.made.IdentLemmas.{identifiers-ascend}
-use Rattle.crs_normal.proofs.made.NodeLemmas.{KeepsRuns, Made, Run, alone, as-argument, classes, items_in, views, Sees}
+use Rattle.crs_normal.proofs.made.NodeLemmas.{KeepsRuns, Made, Run, alone, as-argument, items_in, views, Sees}
 use Rattle.crs_normal.proofs.made.PlaceLemmas.{ArePlaced}
 use Rattle.crs_normal.proofs.made.ProjectedLemmas.{projected-made, projected-seen}
 use Rattle.crs_normal.proofs.made.SystemLemmas.{IsHeadItem}
 use Rattle.crs_normal.proofs.made.RiseLemmas.{rises}
-use Rattle.crs_normal.proofs.made.TailLemmas.{IsTailSeen, has-tail, no-repeats, tail-fits, tail-left, tail_runs, usages-ascend, tail_arguments, compound-names}
+use Rattle.crs_normal.proofs.made.TailLemmas.{IsTailSeen, has-tail, fits-before-tail, no-repeats, tail-left, tail_runs, usages-ascend, tail_arguments, compound-names}
 use Rattle.crs_normal.proofs.made.VerticalLemmas.{vertical-made}
 use Rattle.crs_normal.proofs.made.ArgumentLemmas.{Argument, made-where, one-of, runs-made, text-of}
 
@@ -175,17 +174,13 @@ side-made : DecimalLaws → AxisEach →
     (More j (More (item_vertical (norm_vertical level v)) (tail_items (norm_tail level t))))))
 unfolding BreaksOwn is_keyword
 side-made l each_at level b j name v t s n h g =
-    let all : List (Argument level 7 class.CompoundCrs) = text-of name n ∷ one-of (side_class b) j s.made ∷
-    one-of class.VerticalCrs (item_vertical (norm_vertical level v)) (vertical-part l each_at level v h) ∷
-    tail_arguments l level 7 class.CompoundCrs t (omega arith) compound-names g in
+    let front : List (Argument level 7 class.CompoundCrs) = text-of name n ∷ one-of (side_class b) j s.made ∷
+    one-of class.VerticalCrs (item_vertical (norm_vertical level v)) (vertical-part l each_at level v h) ∷ [] in
+    let all = front ++ tail_arguments l level 7 class.CompoundCrs t (omega arith) compound-names g in
     let seen = λ (item : Item) (q : Sees class.CompoundCrs (compound_runs level b j name v t) item). tail-seen level class.CompoundCrs item t (side-shows level b j name v t item
     (views class.CompoundCrs (compound_runs level b j name v t) item tail_classes q)) in
     made-where level 7 class.CompoundCrs (codes "COMPOUNDCRS") _ _ all refl (refl, refl) refl refl
-    (fit-before (one class.Text ∷ one_of horizontal_classes ∷ one class.VerticalCrs ∷ []) (tail ∷ [])
-    (alone class.Text (text_item name) ∷ alone (side_class b) j ∷ alone class.VerticalCrs
-    (item_vertical (norm_vertical level v)) ∷ []) (tail_runs level t)
-    (fills-one refl, (fills-one (side-taken b), (fills-one refl, tt)))
-    (last-fits end_classes (classes (tail_runs level t)) (tail-fits end_classes level t refl refl refl)))
+    (fits-before-tail (take 3 (slots_of class.CompoundCrs)) front t (ap (λ b. if b then true else false) (side-taken b)))
     (side-sets level b j name v t) (side-left level b j name v t)
     (λ item q. has-tail level 7 class.CompoundCrs (compound_runs level b j name v t) item q (runs-made all)
     (side-rise level b j name v t) (seen item q))

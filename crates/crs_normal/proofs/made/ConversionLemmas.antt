@@ -1,11 +1,11 @@
 -- Parameters and conversions are made.
-use Rattle.std.proofs.Common.{◌≡◌, ℕ, ◌++◌, true, Option, Some, None, List, [], ◌∷◌, map, codes, IfSome, refl, arith}
+use Rattle.std.proofs.Common.{◌≡◌, ℕ, ◌++◌, true, Option, Some, None, List, [], ◌∷◌, map, ap, codes, false, if◌then◌else◌, IfSome, refl, arith}
 use Rattle.crs_text.specs.Prelude.{at_place}
 use Rattle.crs_shape.specs.declared.class.Class.{Class}
 use Rattle.crs_shape.specs.declared.class.Class.TheVariants as class
 use Rattle.crs_shape.specs.declared.unit_kind.UnitKind.{UnitKind}
 use Rattle.crs_shape.specs.declared.unit_kind.UnitKind.TheVariants as kinds
-use Rattle.crs_shape.specs.Prelude.{is_keyword, class_named, optional_of, slots_of, takes}
+use Rattle.crs_shape.specs.Prelude.{is_keyword, class_named, optional_of, takes}
 use Rattle.crs_value.specs.Checks.{Own as BreaksOwn}
 use Rattle.crs_value.specs.Prelude.{ConversionParts, ParameterParts, IsUnit, IsConversion, IsParameter, UnitParts}
 use Rattle.crs_value.specs.declared.values.level.Level.{Level}
@@ -19,13 +19,12 @@ use Rattle.crs_normal.specs.SpelledConversions.{item_conversion, item_method, it
 use Rattle.crs_normal.specs.SpelledItems.{number_item, text_item}
 use Rattle.crs_normal.specs.SpelledUnits.{item_unit, norm_unit, norm_units}
 use Rattle.crs_normal.proofs.made.AscendLemmas.{set-ascends, set-each}
-use Rattle.crs_normal.proofs.made.FitLemmas.{fills-any, fills-one, fills-optional, runs-fit}
 use Rattle.crs_normal.proofs.made.IdentLemmas.{identifiers-ascend, identifiers-left, ids_run}
 use Rattle.crs_normal.proofs.made.NodeLemmas.{KeepsRuns, Made, Run, alone, as-argument, given, items_in}
 use Rattle.crs_normal.proofs.made.NamedLemmas.{method-made}
 use Rattle.crs_normal.proofs.made.UnitLemmas.{unit-made}
 use Rattle.crs_normal.proofs.members.ParameterLemmas.{named-as}
-use Rattle.crs_normal.proofs.made.ArgumentLemmas.{any-of, ids-of, made-of, one-of, text-of, made-where, may-of, number-of}
+use Rattle.crs_normal.proofs.made.ArgumentLemmas.{any-of, ids-of, made-of, one-of, text-of, may-of, number-of}
 
 -- ---- parameters: the class of the unit is that of its keyword
 
@@ -88,16 +87,10 @@ pub parameter-made : DecimalLaws → (level : Level) (m : ParameterParts) → Is
     IsAcceptedNormal level class.Parameter 4 (at_place p (item_parameter (norm_parameter level m)))
 unfolding BreaksOwn class_named is_keyword
 parameter-made l level m h =
-    made-where level 3 class.Parameter (codes "PARAMETER") _ _ (text-of m.name h.name ∷ number-of l m.value h.value ∷
+    made-of level 3 class.Parameter (codes "PARAMETER") _ _ (text-of m.name h.name ∷ number-of l m.value h.value ∷
     may-of (given_class m.unit) item_unit (norm_units level kinds.Plain m.unit) (parameter-unit l level m.unit h.unit) ∷
     ids-of l m.identifiers (omega arith) refl h.identifiers ∷ []) refl (refl, refl) refl refl
-    (runs-fit (slots_of class.Parameter) (parameter_runs level (given_class m.unit) m) (
-      fills-one refl,
-      (
-        fills-one refl,
-        (fills-optional item_unit (norm_units level kinds.Plain m.unit) (given-taken m.unit), (fills-any refl, tt)),
-      ),
-    ))
+    (ap (λ b. if b then true else false) (given-taken m.unit))
     (parameter-sets level m.unit m) (parameter-left level m.unit m) (λ item s. tt) (λ item fault s b. b)
 
 -- ---- conversions

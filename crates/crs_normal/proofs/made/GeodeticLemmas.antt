@@ -1,5 +1,5 @@
 -- Geodetic and geographic CRSs are made.
-use Rattle.std.proofs.Common.{◌≡◌, ◌≢◌, ℕ, IsTrue, Some, None, List, [], ◌∷◌, map, codes, refl, sym, ap, subst, ◌∙◌, arith, true}
+use Rattle.std.proofs.Common.{◌≡◌, ◌≢◌, ℕ, IsTrue, Some, List, [], ◌∷◌, map, codes, refl, sym, ap, subst, ◌∙◌, arith, false, if◌then◌else◌, take, true}
 use Rattle.std.specs.Option.{option_map}
 use Rattle.crs_decimal.specs.Prelude.{Value}
 use Rattle.crs_text.specs.Prelude.{Item, arguments, raw_of, RefusedAt, IsWord, at_place}
@@ -7,7 +7,7 @@ use Rattle.crs_shape.specs.declared.class.Class.{Class}
 use Rattle.crs_shape.specs.declared.class.Class.TheVariants as class
 use Rattle.crs_shape.specs.declared.system_type.SystemType.{SystemType}
 use Rattle.crs_shape.specs.declared.system_type.SystemType.TheVariants as types
-use Rattle.crs_shape.specs.Prelude.{is_keyword, Allowed, class_named, geodetic_slots, one, one_of, optional, slots_of, some, tail, IsOneOf, dimensions_of, system_word}
+use Rattle.crs_shape.specs.Prelude.{is_keyword, Allowed, class_named, geodetic_slots, slots_of, IsOneOf, dimensions_of, system_word}
 use Rattle.crs_value.specs.Prelude.{OfCrs, GeodeticParts, those, IsGeodetic}
 use Rattle.crs_value.specs.Checks.{Own as BreaksOwn}
 use Rattle.crs_value.specs.declared.values.level.Level.{Level}
@@ -22,19 +22,16 @@ use Rattle.crs_normal.specs.SpelledCrs.{geodetic_keyword, item_geodetic, norm_ge
 use Rattle.crs_normal.specs.SpelledDynamic.{item_dynamic, norm_dynamic}
 use Rattle.crs_normal.specs.SpelledFrames.{item_frame, item_meridian, norm_frame, norm_meridian}
 use Rattle.crs_normal.specs.SpelledItems.{text_item, word_item}
-use Rattle.crs_normal.specs.SpelledSystems.{item_head, norm_system}
-use Rattle.crs_normal.specs.SpelledUnits.{item_unit}
-use Rattle.crs_normal.proofs.made.BehindLemmas.{AxisEach, IsFew, NamesSystem, Shows, axes-some, axes_run, behind, few-system, no_unit_run, system-seen, tail-seen, behind_arguments}
+use Rattle.crs_normal.proofs.made.BehindLemmas.{AxisEach, IsFew, NamesSystem, Shows, behind, few-system, system-seen, tail-seen, behind_arguments}
 use Rattle.crs_normal.proofs.made.CheckLemmas.{IsSystemSeen, has-axes}
 use Rattle.crs_normal.proofs.made.DynamicLemmas.{IsSteady, dynamic-argument, dynamic_classes}
-use Rattle.crs_normal.proofs.made.FitLemmas.{fills-one, fills-optional, fills-some, fit-before, last-fits}
 use Rattle.crs_normal.proofs.made.FrontLemmas.{NamesFrame, frame-argument, frame-left, frame-sets, frame-shows, frame-steady, frame-taken, framed_runs, geodetic_classes, meridian-there, crs-breaks, frame-rises}
 use Rattle.crs_normal.proofs.made.IdentLemmas.{identifiers-ascend}
-use Rattle.crs_normal.proofs.made.NodeLemmas.{IsKept, Run, Sees, alone, classes, given, items_in, node-made, views}
+use Rattle.crs_normal.proofs.made.NodeLemmas.{IsKept, Run, Sees, classes, given, items_in, node-made, views}
 use Rattle.crs_normal.proofs.made.PlaceLemmas.{ArePlaced}
 use Rattle.crs_normal.proofs.made.MeridianLemmas.{meridian-argument}
 use Rattle.crs_normal.proofs.made.RiseLemmas.{rises}
-use Rattle.crs_normal.proofs.made.TailLemmas.{NamesTail, has-tail, tail-fits, tail-left, tail_runs, usages-ascend, tail_arguments}
+use Rattle.crs_normal.proofs.made.TailLemmas.{NamesTail, fits-before-tail, has-tail, tail-left, usages-ascend, tail_arguments}
 use Rattle.crs_normal.proofs.normal.DimensionLemmas.{small-geodetic}
 use Rattle.crs_normal.proofs.made.ArgumentLemmas.{Argument, arguments-seen, laid, may-of, one-of, runs-made, text-of}
 
@@ -131,52 +128,26 @@ abbrev geodetic_runs : Level → GeodeticParts → List Run
 geodetic_runs level g =
     framed_runs true level (text_item g.name) g.dynamic g.frame (frame_item level g) (geodetic_rest level g)
 
-abbrev pub end_classes : List Class
-end_classes =
-    class.Usage ∷ class.Scope ∷ class.Area ∷ class.BoundingBox ∷ class.VerticalExtent ∷ class.Identifier ∷
-    class.Remark ∷ []
-
-geodetic-allowed : DecimalLaws → (level : Level) (g : GeodeticParts) → IsFew g.system →
-    Allowed geodetic_slots (classes (geodetic_runs level g))
-geodetic-allowed l level g few =
-    fit-before (one class.Text ∷ optional class.Dynamic ∷ one_of (class.GeodeticFrame ∷ class.GeodeticEnsemble ∷ []) ∷
-    optional class.PrimeMeridian ∷
-    one class.CoordinateSystem ∷ some class.Axis ∷ optional class.AxisUnit ∷ []) (tail ∷ [])
-    (framed_runs true level (text_item g.name) g.dynamic g.frame (frame_item level g) (meridian_run level g ∷
-    alone class.CoordinateSystem (item_head (norm_system level g.system)) ∷ axes_run level g.system ∷ no_unit_run ∷ []))
-    (tail_runs level g.tail) (
-      fills-one refl,
-      (
-        fills-optional item_dynamic (option_map (norm_dynamic level) g.dynamic) refl,
-        (
-          fills-one (frame-taken g.frame),
-          (
-            fills-optional item_meridian (norm_meridian level g.meridian) refl,
-            (
-              fills-one refl,
-              (fills-some refl (axes-some l level g.system few), (fills-optional item_unit None refl, tt)),
-            ),
-          ),
-        ),
-      ),
-    )
-    (last-fits end_classes (classes (tail_runs level g.tail)) (tail-fits end_classes level g.tail refl refl refl))
-
 pub end-sets : (level : Level) (g : GeodeticParts) →
     Each (λ d. Ascend (items_in d (geodetic_rest level g))) set_classes
 end-sets level g = (identifiers-ascend level g.tail.identifiers, (usages-ascend level (usages_of g.tail), (tt, (tt, (tt, tt)))))
 
-abbrev geodetic_arguments : DecimalLaws → (level : Level) (c : Class) (keyword : List ℕ) (g : GeodeticParts) →
-    IsRootClass g.system.system_type c keyword → IsFew g.system → IsGeodetic g → List (Argument level 5 c)
-geodetic_arguments l level c keyword g r few h =
+abbrev geodetic_before : DecimalLaws → (level : Level) (c : Class) (keyword : List ℕ) (g : GeodeticParts) →
+    IsRootClass g.system.system_type c keyword → IsFew g.system → IsGeodetic g → List (Argument level 5 c) →
+    List (Argument level 5 c)
+geodetic_before l level c keyword g r few h rest =
     text-of g.name h.name ∷ may-of class.Dynamic item_dynamic (option_map (norm_dynamic level) g.dynamic)
     (dynamic-argument l level 5 c g.dynamic g.frame (omega arith) r.dynamic h.dynamic) ∷
     one-of (geodetic_frame_class g.frame) (frame_item level g)
     (frame-argument l level 5 c g.frame (omega arith) r.frames h.frame) ∷
     may-of class.PrimeMeridian item_meridian (norm_meridian level g.meridian)
     (meridian-argument l level 5 c g.meridian (omega arith) r.meridian h.meridian) ∷
-    behind_arguments l level 5 c g.system (tail_arguments l level 5 c g.tail (omega arith) r.tails h.tail) (omega arith)
-    r.systems few
+    behind_arguments l level 5 c g.system rest (omega arith) r.systems few
+
+abbrev geodetic_arguments : DecimalLaws → (level : Level) (c : Class) (keyword : List ℕ) (g : GeodeticParts) →
+    IsRootClass g.system.system_type c keyword → IsFew g.system → IsGeodetic g → List (Argument level 5 c)
+geodetic_arguments l level c keyword g r few h =
+    geodetic_before l level c keyword g r few h (tail_arguments l level 5 c g.tail (omega arith) r.tails h.tail)
 
 geodetic-rise : (level : Level) (g : GeodeticParts) → rises 0 (geodetic_runs level g) ≡ true
 geodetic-rise level g =
@@ -204,7 +175,8 @@ geodetic-kept l level c keyword g r few h = record {
   written = r.written;
   made = runs-made (geodetic_arguments l level c keyword g r few h);
   allowed = subst (λ slots. Allowed slots (classes (geodetic_runs level g))) (sym r.slots)
-      (geodetic-allowed l level g few);
+      (fits-before-tail (take 7 geodetic_slots) (geodetic_before l level c keyword g r few h []) g.tail
+      (ap (λ b. if b then true else false) (frame-taken g.frame)));
   sets = frame-sets level (text_item g.name) g.dynamic true g.frame (frame_item level g) (geodetic_rest level g)
       (end-sets level g);
   left = frame-left level (text_item g.name) g.dynamic true g.frame (frame_item level g) (geodetic_rest level g)

@@ -1,10 +1,10 @@
 -- Base CRSs and projected CRSs are made.
-use Rattle.std.proofs.Common.{ℕ, None, List, [], ◌∷◌, codes, inl, refl, arith, true}
+use Rattle.std.proofs.Common.{ℕ, List, [], ◌∷◌, ap, codes, false, if◌then◌else◌, inl, refl, arith, take, true}
 use Rattle.std.specs.Option.{option_map}
 use Rattle.crs_text.specs.Prelude.{Item, arguments, at_place}
 use Rattle.crs_shape.specs.declared.class.Class.TheVariants as class
 use Rattle.crs_shape.specs.declared.unit_kind.UnitKind.TheVariants as kinds
-use Rattle.crs_shape.specs.Prelude.{is_keyword, Allowed, class_named, one, optional, slots_of, some, tail, dimensions_of}
+use Rattle.crs_shape.specs.Prelude.{is_keyword, class_named, slots_of, dimensions_of}
 use Rattle.crs_value.specs.Checks.{Own as BreaksOwn}
 use Rattle.crs_value.specs.Prelude.{BaseParts, ProjectedParts, those, IsBase, IsProjected}
 use Rattle.crs_value.specs.declared.values.level.Level.{Level}
@@ -16,22 +16,19 @@ use Rattle.crs_normal.specs.SpelledCrs.{item_base, item_projected, norm_base, no
 use Rattle.crs_normal.specs.SpelledDynamic.{item_dynamic, norm_dynamic}
 use Rattle.crs_normal.specs.SpelledFrames.{item_frame, item_meridian, norm_frame, norm_meridian}
 use Rattle.crs_normal.specs.SpelledItems.{text_item}
-use Rattle.crs_normal.specs.SpelledSystems.{item_head, norm_system}
 use Rattle.crs_normal.specs.SpelledUnits.{item_unit, norm_units}
-use Rattle.crs_normal.proofs.made.BehindLemmas.{AxisEach, IsFew, axes-some, axes_run, behind, crs_classes, few-system, no_unit_run, system-seen, tail-seen, behind_arguments, projected-names}
+use Rattle.crs_normal.proofs.made.BehindLemmas.{AxisEach, IsFew, behind, crs_classes, few-system, system-seen, tail-seen, behind_arguments, projected-names}
 use Rattle.crs_normal.proofs.made.CheckLemmas.{IsSystemSeen, has-axes}
 use Rattle.crs_normal.proofs.made.ConversionLemmas.{conversion-made}
 use Rattle.crs_normal.proofs.made.DynamicLemmas.{IsSteady, dynamic-argument, dynamic_classes, no-bad-dynamic, none-shown}
 use Rattle.crs_normal.proofs.made.EllipsoidLemmas.{given-unit}
-use Rattle.crs_normal.proofs.made.FitLemmas.{fills-any, fills-one, fills-optional, fills-some, fit-before, last-fits, runs-fit}
 use Rattle.crs_normal.proofs.made.FrontLemmas.{frame-argument, frame-left, frame-sets, frame-shows, frame-steady, frame-taken, framed_runs, geodetic_classes, meridian-there, crs-breaks}
-use Rattle.crs_normal.proofs.made.GeodeticLemmas.{end_classes}
 use Rattle.crs_normal.proofs.made.IdentLemmas.{identifiers-ascend, identifiers-left, ids_run}
-use Rattle.crs_normal.proofs.made.NodeLemmas.{IsKept, Run, Sees, alone, as-argument, classes, given, node-made, views, Made}
+use Rattle.crs_normal.proofs.made.NodeLemmas.{IsKept, Run, Sees, alone, as-argument, given, node-made, views, Made}
 use Rattle.crs_normal.proofs.made.MeridianLemmas.{meridian-argument}
-use Rattle.crs_normal.proofs.made.TailLemmas.{has-tail, tail-fits, tail-left, tail_runs, usages-ascend, tail_arguments}
+use Rattle.crs_normal.proofs.made.TailLemmas.{fits-before-tail, has-tail, tail-left, usages-ascend, tail_arguments}
 use Rattle.crs_normal.proofs.normal.DimensionLemmas.{small-projected}
-use Rattle.crs_normal.proofs.made.ArgumentLemmas.{Argument, arguments-seen, ids-of, laid, made-where, may-of, one-of, runs-made, text-of}
+use Rattle.crs_normal.proofs.made.ArgumentLemmas.{Argument, arguments-seen, ids-of, laid, made-of, may-of, one-of, runs-made, text-of}
 
 -- ---- base CRSs
 
@@ -58,7 +55,7 @@ pub base-made : DecimalLaws → (level : Level) (b : BaseParts) → IsBase b →
     IsAcceptedNormal level class.BaseCrs 6 (at_place p (item_base (norm_base level b)))
 unfolding BreaksOwn class_named is_keyword
 base-made l level b h =
-    made-where level 5 class.BaseCrs (codes "BASEGEOGCRS") _ _ (text-of b.name h.name ∷
+    made-of level 5 class.BaseCrs (codes "BASEGEOGCRS") _ _ (text-of b.name h.name ∷
     may-of class.Dynamic item_dynamic (option_map (norm_dynamic level) b.dynamic)
     (dynamic-argument l level 5 class.BaseCrs b.dynamic b.frame (omega arith) refl h.dynamic) ∷
     one-of (geodetic_frame_class b.frame) (base_frame level b) (frame-argument l level 5 class.BaseCrs b.frame
@@ -68,19 +65,7 @@ base-made l level b h =
     may-of class.AngleUnit item_unit (norm_units level kinds.Angle b.unit)
     (given-unit l level 5 class.BaseCrs class.AngleUnit kinds.Angle b.unit (omega arith) refl refl h.unit) ∷
     ids-of l b.identifiers (omega arith) refl h.identifiers ∷ []) refl (refl, refl) refl refl
-    (runs-fit (slots_of class.BaseCrs) (base_runs level b) (
-      fills-one refl,
-      (
-        fills-optional item_dynamic (option_map (norm_dynamic level) b.dynamic) refl,
-        (
-          fills-one (frame-taken b.frame),
-          (
-            fills-optional item_meridian (norm_meridian level b.meridian) refl,
-            (fills-optional item_unit (norm_units level kinds.Angle b.unit) refl, (fills-any refl, tt)),
-          ),
-        ),
-      ),
-    ))
+    (ap (λ b. if b then true else false) (frame-taken b.frame))
     (frame-sets level (text_item b.name) b.dynamic true b.frame (base_frame level b) (base_rest level b)
     (identifiers-ascend level b.identifiers, (tt, (tt, (tt, (tt, tt))))))
     (frame-left level (text_item b.name) b.dynamic true b.frame (base_frame level b) (base_rest level b)
@@ -100,30 +85,6 @@ projected_runs level g =
 projected-few : DecimalLaws → AxisEach → (g : ProjectedParts) → IsProjected g → IsFew g.system
 projected-few l each_at g h = few-system l each_at (dimensions_of class.ProjectedCrs) small-projected g.system h.system h.dimension
 
-projected-allowed : DecimalLaws → (level : Level) (g : ProjectedParts) → IsFew g.system →
-    Allowed (slots_of class.ProjectedCrs) (classes (projected_runs level g))
-projected-allowed l level g few =
-    fit-before (one class.Text ∷ one class.BaseCrs ∷ one class.Conversion ∷ one class.CoordinateSystem ∷
-    some class.Axis ∷
-    optional class.AxisUnit ∷ []) (tail ∷ [])
-    (alone class.Text (text_item g.name) ∷ alone class.BaseCrs (item_base (norm_base level g.base)) ∷
-    alone class.Conversion (item_conversion (norm_conversion level g.conversion)) ∷
-    alone class.CoordinateSystem (item_head (norm_system level g.system)) ∷ axes_run level g.system ∷ no_unit_run ∷ [])
-    (tail_runs level g.tail) (
-      fills-one refl,
-      (
-        fills-one refl,
-        (
-          fills-one refl,
-          (
-            fills-one refl,
-            (fills-some refl (axes-some l level g.system few), (fills-optional item_unit None refl, tt)),
-          ),
-        ),
-      ),
-    )
-    (last-fits end_classes (classes (tail_runs level g.tail)) (tail-fits end_classes level g.tail refl refl refl))
-
 projected-base : DecimalLaws → (level : Level) (g : ProjectedParts) → IsProjected g →
     Made level 6 class.ProjectedCrs class.BaseCrs (item_base (norm_base level g.base))
 unfolding class_named is_keyword
@@ -138,13 +99,18 @@ projected-conversion l level g h =
     as-argument level 5 6 class.ProjectedCrs class.Conversion (item_conversion (norm_conversion level g.conversion))
     (omega arith) refl (conversion-made l level g.conversion h.conversion)
 
+abbrev projected_before : DecimalLaws → (level : Level) (g : ProjectedParts) → IsFew g.system → IsProjected g →
+    List (Argument level 6 class.ProjectedCrs) → List (Argument level 6 class.ProjectedCrs)
+projected_before l level g few h rest =
+    text-of g.name h.name ∷ one-of class.BaseCrs (item_base (norm_base level g.base)) (projected-base l level g h) ∷
+    one-of class.Conversion (item_conversion (norm_conversion level g.conversion)) (projected-conversion l level g h) ∷
+    behind_arguments l level 6 class.ProjectedCrs g.system rest (omega arith) projected-names.systems few
+
 abbrev projected_arguments : DecimalLaws → (level : Level) (g : ProjectedParts) → IsFew g.system → IsProjected g →
     List (Argument level 6 class.ProjectedCrs)
 projected_arguments l level g few h =
-    text-of g.name h.name ∷ one-of class.BaseCrs (item_base (norm_base level g.base)) (projected-base l level g h) ∷
-    one-of class.Conversion (item_conversion (norm_conversion level g.conversion)) (projected-conversion l level g h) ∷
-    behind_arguments l level 6 class.ProjectedCrs g.system
-    (tail_arguments l level 6 class.ProjectedCrs g.tail (omega arith) projected-names.tails h.tail) (omega arith) projected-names.systems few
+    projected_before l level g few h
+    (tail_arguments l level 6 class.ProjectedCrs g.tail (omega arith) projected-names.tails h.tail)
 
 projected-kept : DecimalLaws → (level : Level) (g : ProjectedParts) → IsFew g.system → IsProjected g →
     IsKept level 6 class.ProjectedCrs (codes "PROJCRS") (projected_runs level g)
@@ -154,7 +120,7 @@ projected-kept l level g few h = record {
   known = refl;
   written = refl;
   made = runs-made (projected_arguments l level g few h);
-  allowed = projected-allowed l level g few;
+  allowed = fits-before-tail (take 6 (slots_of class.ProjectedCrs)) (projected_before l level g few h []) g.tail refl;
   sets = (identifiers-ascend level g.tail.identifiers, (usages-ascend level (usages_of g.tail), (tt, (tt, (tt, tt)))));
   left = tail-left level g.tail;
   own = λ item s.

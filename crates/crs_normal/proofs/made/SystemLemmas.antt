@@ -5,12 +5,12 @@ use Rattle.std.proofs.lemmas.Bool.Decides.{Decides-eqb}
 use Rattle.std.proofs.lemmas.List.{append-nil}
 use Rattle.std.proofs.lemmas.Slice.Eq.{bytes_eq-Decides}
 use Rattle.crs_decimal.specs.Prelude.{plain, Value, IsNormal}
-use Rattle.crs_text.specs.Prelude.{Item, End, More, arguments, RefusedAt, at_place}
+use Rattle.crs_text.specs.Prelude.{Item, arguments, RefusedAt, at_place}
 use Rattle.crs_shape.specs.declared.class.Class.{Class}
 use Rattle.crs_shape.specs.declared.class.Class.TheVariants as class
 use Rattle.crs_shape.specs.declared.system_type.SystemType.{SystemType}
 use Rattle.crs_shape.specs.declared.unit_kind.UnitKind.{UnitKind}
-use Rattle.crs_shape.specs.Prelude.{is_keyword, class_named, slots_of, asked_kind, system_word}
+use Rattle.crs_shape.specs.Prelude.{is_keyword, class_named, asked_kind, system_word}
 use Rattle.crs_value.specs.Prelude.{UnknownType, AnyOf, those, ReadsType, IsAxis, IsAxisUnit, Suits, HasUnits, IsSystem, SuitsAxis, AxisParts, SystemParts, UnitParts}
 use Rattle.crs_value.specs.Checks.{Own as BreaksOwn}
 use Rattle.crs_value.specs.declared.values.level.Level.{Level}
@@ -18,16 +18,17 @@ use Rattle.crs_value.specs.Sound.{Each}
 use Rattle.crs_matching.specs.Prelude.{HasAt, IsPositionOf, own_or}
 use Rattle.crs_normal.specs.DecimalLaws.{DecimalLaws}
 use Rattle.crs_normal.specs.AcceptedNormal.{IsAcceptedNormal}
-use Rattle.crs_normal.specs.SpelledItems.{each, number_item, word_item}
+use Rattle.crs_normal.specs.SpelledItems.{number_item, word_item}
 use Rattle.crs_normal.specs.SpelledSystems.{axes_from, axis_at, is_at, item_axis, item_head, norm_axis, norm_system, with_axis}
-use Rattle.crs_normal.specs.SpelledUnits.{item_ident, set_idents, whole_value}
+use Rattle.crs_normal.specs.SpelledUnits.{whole_value}
 use Rattle.crs_normal.proofs.made.AxisLemmas.{Fits, IsAxisItem, axis-made, axis-seen, whole-normal}
-use Rattle.crs_normal.proofs.made.FitLemmas.{fills-any, fills-one, runs-fit}
-use Rattle.crs_normal.proofs.made.IdentLemmas.{identifiers-ascend, identifiers-left, identifiers-made, ids_run}
-use Rattle.crs_normal.proofs.made.LeafLemmas.{number-made, word-made}
-use Rattle.crs_normal.proofs.made.NodeLemmas.{Made, Run, RunsMade, alone, as-argument, each-line, node-made, sees}
+use Rattle.crs_normal.proofs.made.ArgumentLemmas.{Argument, arguments-seen, ids-of, made-of, number-of, one-of}
+use Rattle.crs_normal.proofs.made.IdentLemmas.{identifiers-ascend, identifiers-left}
+use Rattle.crs_normal.proofs.made.LeafLemmas.{word-made}
+use Rattle.crs_normal.proofs.made.NodeLemmas.{Made, as-argument}
 use Rattle.crs_normal.proofs.made.PlaceLemmas.{ArePlaced}
 use Rattle.crs_normal.proofs.made.WordLemmas.{system-letters}
+use Rattle.crs_normal.proofs.read.NameLemmas.{keyword-names}
 
 -- ---- each axis has a unit that fits
 
@@ -183,26 +184,13 @@ axes-seen l level s k (item ∷ items) (a ∷ rest) p h low high =
 
 -- ---- the node `CS`
 
-abbrev head_runs : Level → SystemParts → List Run
-head_runs level s = alone class.Word (word_item (system_word s.system_type)) ∷ alone class.Number
-    (number_item s.dimension) ∷ ids_run level s.identifiers ∷ []
-
-head-runs-made : DecimalLaws → (level : Level) (s : SystemParts) → IsSystem s →
-    RunsMade level 2 class.CoordinateSystem (head_runs level s)
-unfolding class_named is_keyword
-head-runs-made l level s h = (
-  (
-    word-made level 2 class.CoordinateSystem (system_word s.system_type) (system-letters s.system_type) (
-      s.system_type,
-      refl,
-    ),
-    tt,
-  ),
-  (
-    (number-made l level 2 class.CoordinateSystem s.dimension h.dimension, tt),
-    (identifiers-made l level 2 class.CoordinateSystem s.identifiers (omega arith) refl h.identifiers, tt),
-  ),
-)
+abbrev head_arguments : DecimalLaws → (level : Level) (s : SystemParts) → IsSystem s →
+    List (Argument level 2 class.CoordinateSystem)
+head_arguments l level s h =
+    one-of class.Word (word_item (system_word s.system_type)) (word-made level 2 class.CoordinateSystem
+    (system_word s.system_type) (system-letters s.system_type) (s.system_type, refl)) ∷
+    number-of l s.dimension h.dimension ∷
+    ids-of l s.identifiers (omega arith) (keyword-names class.CoordinateSystem (codes "ID")) h.identifiers ∷ []
 
 known-type : (t : SystemType) (words : List Item) (fault : RefusedAt) →
     ArePlaced words (word_item (system_word t) ∷ []) → ¬ (AnyOf UnknownType words fault)
@@ -215,23 +203,10 @@ pub head-made : DecimalLaws → (level : Level) (s : SystemParts) → IsSystem s
     IsAcceptedNormal level class.CoordinateSystem 3 (at_place p (item_head (norm_system level s)))
 unfolding BreaksOwn is_keyword
 head-made l level s h =
-    node-made level 2 class.CoordinateSystem (codes "CS") (word_item (system_word s.system_type))
-    (More (number_item s.dimension) (each item_ident (set_idents level s.identifiers) End)) (head_runs level s)
-    (simp each-line) (record {
-      letters = (refl, refl);
-      known = refl;
-      written = refl;
-      made = head-runs-made l level s h;
-      allowed = runs-fit (slots_of class.CoordinateSystem) (head_runs level s) (
-        fills-one refl,
-        (fills-one refl, (fills-any refl, tt)),
-      );
-      sets = (identifiers-ascend level s.identifiers, (tt, (tt, (tt, (tt, tt)))));
-      left = identifiers-left level s.identifiers;
-      own = λ item v. tt;
-      unbroken = λ item fault v b. known-type s.system_type (those class.CoordinateSystem class.Word (arguments item))
-          fault (v.view class.Word) b;
-    })
+    made-of level 2 class.CoordinateSystem (codes "CS") _ _ (head_arguments l level s h) refl (refl, refl) refl refl refl
+    (identifiers-ascend level s.identifiers, (tt, (tt, (tt, (tt, tt))))) (identifiers-left level s.identifiers)
+    (λ item v. tt) (λ item fault v b. known-type s.system_type
+    (those class.CoordinateSystem class.Word (arguments item)) fault (v.view class.Word) b)
 
 -- what is in a node `CS`, as the checks of a system see it
 pub record IsHeadItem (t : SystemType) (dimension : Value) (item : Item) : Type 0 where
@@ -241,7 +216,5 @@ pub record IsHeadItem (t : SystemType) (dimension : Value) (item : Item) : Type 
 pub head-seen : DecimalLaws → (level : Level) (s : SystemParts) → IsSystem s → (p : ℕ) →
     IsHeadItem s.system_type s.dimension (at_place p (item_head (norm_system level s)))
 head-seen l level s h p =
-    let look = sees level 2 class.CoordinateSystem (codes "CS") (word_item (system_word s.system_type))
-    (More (number_item s.dimension) (each item_ident (set_idents level s.identifiers) End)) (head_runs level s) p
-    (simp each-line) (head-runs-made l level s h) in
+    let look = arguments-seen level 2 class.CoordinateSystem (codes "CS") _ _ (head_arguments l level s h) refl p in
     record { words = look.view class.Word; numbers = look.view class.Number }

@@ -3,7 +3,7 @@ use Rattle.std.proofs.Common.{◌≡◌, ℕ, ◌≤◌, ◌++◌, true, Option,
 use Rattle.crs_text.specs.Prelude.{Item, arguments, RefusedAt, at_place, item_text}
 use Rattle.crs_shape.specs.declared.class.Class.{Class}
 use Rattle.crs_shape.specs.declared.class.Class.TheVariants as class
-use Rattle.crs_shape.specs.Prelude.{is_keyword, AllTaken, any_of, class_named, slots_of, takes}
+use Rattle.crs_shape.specs.Prelude.{is_keyword, AllTaken, Allowed, SlotParts, any_of, class_named, slots_of, tail, takes}
 use Rattle.crs_value.specs.Prelude.{AnyOf, once, kept, kept_one, kept-each, kept-if_some, kept-made, kept-made_one, those, IsRepeated, RepeatsAny, IsText, IsTail, IsUsage, TailParts, UsageParts}
 use Rattle.crs_value.specs.Checks.{Own as BreaksOwn}
 use Rattle.crs_value.specs.declared.values.level.Level.{Level}
@@ -19,14 +19,14 @@ use Rattle.crs_normal.specs.SpelledUnits.{item_ident, set_idents}
 use Rattle.crs_normal.specs.SpelledUsages.{item_usage, norm_usage, set_usages}
 use Rattle.crs_normal.proofs.made.AscendLemmas.{set-ascends, set-each}
 use Rattle.crs_normal.proofs.made.DatumLemmas.{not-repeated}
-use Rattle.crs_normal.proofs.made.FitLemmas.{fills-one, runs-fit, taken-more}
+use Rattle.crs_normal.proofs.made.FitLemmas.{fills-one, fit-before, last-fits, runs-fit, taken-more}
 use Rattle.crs_normal.proofs.made.IdentLemmas.{given-made, identifiers-left, ids_run, text-node-made}
 use Rattle.crs_normal.proofs.made.NodeLemmas.{Keeps, Made, Run, RunsMade, Sees, alone, as-argument, classes, given}
 use Rattle.crs_normal.proofs.made.PlaceLemmas.{ArePlaced}
 use Rattle.crs_normal.proofs.made.RiseLemmas.{has-rise, rises}
 use Rattle.crs_normal.proofs.made.UsageLemmas.{usage-made, usage-named}
 use Rattle.crs_normal.proofs.read.ViewLemmas.{each-so}
-use Rattle.crs_normal.proofs.made.ArgumentLemmas.{Argument, any-of, ids-of, may-of}
+use Rattle.crs_normal.proofs.made.ArgumentLemmas.{Argument, any-of, as_runs, fit, fit-runs, ids-of, may-of}
 use Rattle.crs_normal.proofs.read.NameLemmas.{keyword-names}
 
 -- ---- the usages, the bare parts being one more
@@ -125,6 +125,14 @@ tail-fits cs level t u i r =
     (taken-more (any_of cs) class.Identifier ((ids_run level t.identifiers).items)
     (classes (record { of = class.Remark; items = remark_items level t } ∷ [])) i
     (taken-more (any_of cs) class.Remark (remark_items level t) [] r tt))
+
+-- arguments that fit the slots before it, and the end
+pub fits-before-tail : {level : Level} {most : ℕ} {c : Class} (slots : List SlotParts) (front : List (Argument level most c))
+    (t : TailParts) → fit slots front ≡ true →
+    Allowed (slots ++ tail ∷ []) (classes (as_runs front ++ tail_runs level t))
+fits-before-tail {level = level} slots front t e =
+    fit-before slots (tail ∷ []) (as_runs front) (tail_runs level t) (fit-runs slots front e)
+    (last-fits tail.classes (classes (tail_runs level t)) (tail-fits tail.classes level t refl refl refl))
 
 -- the level keeps all that is written at the end
 pub tail-left : (level : Level) (t : TailParts) → Keeps level (map item_ident (set_idents level t.identifiers) ++ [])

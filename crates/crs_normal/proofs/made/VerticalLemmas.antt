@@ -1,10 +1,9 @@
 -- Vertical CRSs are made.
-use Rattle.std.proofs.Common.{◌≡◌, ℕ, ◌++◌, true, Some, None, List, [], ◌∷◌, map, codes, refl, arith, false}
+use Rattle.std.proofs.Common.{◌≡◌, ℕ, ◌++◌, true, Some, List, [], ◌∷◌, map, ap, codes, refl, arith, false, if◌then◌else◌, take}
 use Rattle.std.specs.Option.{option_map}
 use Rattle.crs_text.specs.Prelude.{Item, at_place}
-use Rattle.crs_shape.specs.declared.class.Class.{Class}
 use Rattle.crs_shape.specs.declared.class.Class.TheVariants as class
-use Rattle.crs_shape.specs.Prelude.{is_keyword, Allowed, class_in, any_of, class_named, one, one_of, optional, slots_of, some, takes, vertical_tail, dimensions_of}
+use Rattle.crs_shape.specs.Prelude.{is_keyword, Allowed, class_in, class_named, one_of, slots_of, takes, vertical_tail, dimensions_of}
 use Rattle.crs_value.specs.Checks.{Own as BreaksOwn}
 use Rattle.crs_value.specs.Prelude.{GeoidModelParts, VerticalParts, IsGeoidModel, IsVertical}
 use Rattle.crs_value.specs.declared.values.frame.Frame.{Frame}
@@ -21,21 +20,19 @@ use Rattle.crs_normal.specs.SpelledDynamic.{item_dynamic, norm_dynamic}
 use Rattle.crs_normal.specs.SpelledFrames.{item_frame, norm_frame}
 use Rattle.crs_normal.specs.SpelledItems.{text_item}
 use Rattle.crs_normal.specs.SpelledSystems.{item_head, norm_system}
-use Rattle.crs_normal.specs.SpelledUnits.{item_unit}
 use Rattle.crs_normal.proofs.made.AscendLemmas.{set-ascends, set-each}
-use Rattle.crs_normal.proofs.made.BehindLemmas.{AxisEach, IsFew, Shows, axes-some, axes_run, behind, crs_classes, few-system, no_unit_run, system-seen, tail-seen, behind_arguments, vertical-names}
+use Rattle.crs_normal.proofs.made.BehindLemmas.{AxisEach, IsFew, Shows, axes_run, behind, crs_classes, few-system, no_unit_run, system-seen, tail-seen, behind_arguments, vertical-names}
 use Rattle.crs_normal.proofs.made.CheckLemmas.{has-axes}
 use Rattle.crs_normal.proofs.made.DynamicLemmas.{dynamic-argument, dynamic_classes}
-use Rattle.crs_normal.proofs.made.FitLemmas.{fills-one, fills-optional, fills-some, fit-before, last-fits, taken-more}
+use Rattle.crs_normal.proofs.made.FitLemmas.{fit-before, last-fits, taken-more}
 use Rattle.crs_normal.proofs.made.FrameLemmas.{vertical-frame-made}
-use Rattle.crs_normal.proofs.made.GeodeticLemmas.{end_classes}
 use Rattle.crs_normal.proofs.made.IdentLemmas.{identifiers-ascend}
 use Rattle.crs_normal.proofs.made.NodeLemmas.{IsKept, Made, Run, Sees, alone, as-argument, classes, node-made, views}
 use Rattle.crs_normal.proofs.made.NamedLemmas.{geoid-model-made}
 use Rattle.crs_normal.proofs.made.RiseLemmas.{rises}
 use Rattle.crs_normal.proofs.made.TailLemmas.{has-tail, tail-fits, tail-left, tail_runs, usages-ascend, tail_arguments}
 use Rattle.crs_normal.proofs.normal.DimensionLemmas.{small-vertical}
-use Rattle.crs_normal.proofs.made.ArgumentLemmas.{Argument, any-of, laid, may-of, one-of, runs-made, text-of}
+use Rattle.crs_normal.proofs.made.ArgumentLemmas.{Argument, any-of, as_runs, fit-runs, laid, may-of, one-of, runs-made, text-of}
 use Rattle.crs_normal.proofs.made.FrontLemmas.{crs-breaks, frame-left, frame-rises, frame-sets, frame-shows, frame-steady, framed_runs, geodetic_classes}
 
 -- ---- the frame, of one class or the other
@@ -89,51 +86,37 @@ abbrev vertical_runs : Level → VerticalParts → List Run
 vertical_runs level g =
     framed_runs false level (text_item g.name) g.dynamic g.frame (frame_item level g) (vertical_rest level g)
 
-abbrev model_classes : List Class
-model_classes = class.GeoidModel ∷ end_classes
-
-vertical-allowed : DecimalLaws → (level : Level) (g : VerticalParts) → IsFew g.system →
-    Allowed (slots_of class.VerticalCrs) (classes (vertical_runs level g))
-vertical-allowed l level g few =
-    fit-before (one class.Text ∷ optional class.Dynamic ∷ one_of (class.VerticalFrame ∷ class.VerticalEnsemble ∷ []) ∷
-    one class.CoordinateSystem ∷ some class.Axis ∷
-    optional class.AxisUnit ∷ []) (vertical_tail ∷ [])
-    (framed_runs false level (text_item g.name) g.dynamic g.frame (frame_item level g)
-    (alone class.CoordinateSystem (item_head (norm_system level g.system)) ∷ axes_run level g.system ∷ no_unit_run ∷ []))
-    (models_run level g ∷ tail_runs level g.tail) (
-      fills-one refl,
-      (
-        fills-optional item_dynamic (option_map (norm_dynamic level) g.dynamic) refl,
-        (
-          fills-one (vertical-taken g.frame),
-          (
-            fills-one refl,
-            (fills-some refl (axes-some l level g.system few), (fills-optional item_unit None refl, tt)),
-          ),
-        ),
-      ),
-    )
-    (last-fits model_classes (classes (models_run level g ∷ tail_runs level g.tail))
-    (taken-more (any_of model_classes) class.GeoidModel (map item_geoid_model (set_geoid_models level g.geoid_models))
-    (classes (tail_runs level g.tail)) refl
-    (tail-fits model_classes level g.tail refl refl refl)))
-
 dynamic-named : class_named class.VerticalCrs (codes "DYNAMIC") ≡ Some class.Dynamic
 unfolding class_named is_keyword
 dynamic-named = refl
 
-abbrev vertical_arguments : DecimalLaws → (level : Level) (g : VerticalParts) → IsFew g.system → IsVertical g →
-    List (Argument level 5 class.VerticalCrs)
-vertical_arguments l level g few h =
+abbrev vertical_before : DecimalLaws → (level : Level) (g : VerticalParts) → IsFew g.system → IsVertical g →
+    List (Argument level 5 class.VerticalCrs) → List (Argument level 5 class.VerticalCrs)
+vertical_before l level g few h rest =
     text-of g.name h.name ∷ may-of class.Dynamic item_dynamic (option_map (norm_dynamic level) g.dynamic)
     (dynamic-argument l level 5 class.VerticalCrs g.dynamic g.frame (omega arith) dynamic-named h.dynamic) ∷
     one-of (vertical_frame_class g.frame) (frame_item level g) (as-argument level 5 5 class.VerticalCrs
     (vertical_frame_class g.frame) (frame_item level g) (omega arith) (vertical-named level g.frame)
     (vertical-frame-made l level g.frame h.frame)) ∷
-    behind_arguments l level 5 class.VerticalCrs g.system
-    (any-of class.GeoidModel item_geoid_model (set_geoid_models level g.geoid_models)
+    behind_arguments l level 5 class.VerticalCrs g.system rest (omega arith) vertical-names.systems few
+
+abbrev vertical_arguments : DecimalLaws → (level : Level) (g : VerticalParts) → IsFew g.system → IsVertical g →
+    List (Argument level 5 class.VerticalCrs)
+vertical_arguments l level g few h =
+    vertical_before l level g few h (any-of class.GeoidModel item_geoid_model (set_geoid_models level g.geoid_models)
     (models-made l level g.geoid_models h.geoid_models) ∷
-    tail_arguments l level 5 class.VerticalCrs g.tail (omega arith) vertical-names.tails h.tail) (omega arith) vertical-names.systems few
+    tail_arguments l level 5 class.VerticalCrs g.tail (omega arith) vertical-names.tails h.tail)
+
+vertical-allowed : DecimalLaws → (level : Level) (g : VerticalParts) → IsFew g.system → IsVertical g →
+    Allowed (slots_of class.VerticalCrs) (classes (vertical_runs level g))
+vertical-allowed l level g few h =
+    let slots = take 6 (slots_of class.VerticalCrs) in
+    let front = vertical_before l level g few h [] in
+    fit-before slots (vertical_tail ∷ []) (as_runs front) (models_run level g ∷ tail_runs level g.tail)
+    (fit-runs slots front (ap (λ b. if b then true else false) (vertical-taken g.frame)))
+    (last-fits vertical_tail.classes (classes (models_run level g ∷ tail_runs level g.tail))
+    (taken-more vertical_tail class.GeoidModel (map item_geoid_model (set_geoid_models level g.geoid_models))
+    (classes (tail_runs level g.tail)) refl (tail-fits vertical_tail.classes level g.tail refl refl refl)))
 
 vertical-rise : (level : Level) (g : VerticalParts) → rises 0 (vertical_runs level g) ≡ true
 vertical-rise level g =
@@ -154,7 +137,7 @@ vertical-kept l level g few h = record {
   known = refl;
   written = refl;
   made = runs-made (vertical_arguments l level g few h);
-  allowed = vertical-allowed l level g few;
+  allowed = vertical-allowed l level g few h;
   sets = frame-sets level (text_item g.name) g.dynamic false g.frame (frame_item level g) (vertical_rest level g) (
     identifiers-ascend level g.tail.identifiers,
     (

@@ -1,6 +1,6 @@
 -- Normal dynamic parts are the one form of their values.
 use Rattle.std.proofs.Common.{codes, refl}
-use Rattle.crs_text.specs.Prelude.{leaf, node, More}
+use Rattle.crs_text.specs.Prelude.{leaf, node}
 use Rattle.crs_shape.specs.declared.class.Class.{Class}
 use Rattle.crs_shape.specs.declared.class.Class.TheVariants as class
 use Rattle.crs_value.specs.Prelude.{ReadsDynamic}
