@@ -1,5 +1,7 @@
 -- A text is normal, or isn't, as was computed of its item.
 use Rattle.std.proofs.Common.{◌≡◌, ℕ, List, Some, sym, ap, subst, ◌∙◌}
+use Rattle.crs_normal.specs.DecimalLaws.{DecimalLaws}
+use Rattle.crs_decimal.specs.Prelude.{Parts, SpellsNumber}
 use Rattle.crs_text.specs.Prelude.{Item, IsNode, depth, SpellsNode, WrittenSpells, at_place, item_text}
 use Rattle.crs_shape.specs.declared.class.Class.{Class}
 use Rattle.crs_shape.specs.Prelude.{class_of_root}
@@ -18,6 +20,11 @@ pub record TextLaws : Type 0 where
   pub numbers : NumberLaws
   pub written : WrittenSpells
   pub one_node : (bytes : List ℕ) (i j : Item) → SpellsNode bytes i → SpellsNode bytes j → i ≡ j
+
+abbrev pub text-laws : DecimalLaws → ((bytes : List ℕ) (p q : Parts) → SpellsNumber bytes p → SpellsNumber bytes q → p ≡ q) →
+    WrittenSpells → ((bytes : List ℕ) (i j : Item) → SpellsNode bytes i → SpellsNode bytes j → i ≡ j) → TextLaws
+text-laws decimals one_form written one_node =
+    record { numbers = record { decimals = decimals; one_form = one_form }; written = written; one_node = one_node }
 
 -- the item of the text
 abbrev pub placed : List ℕ → Item

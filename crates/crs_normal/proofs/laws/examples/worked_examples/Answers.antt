@@ -8,7 +8,7 @@ use Rattle.crs_value.specs.declared.values.crs.Crs.{Crs}
 use Rattle.crs_value.specs.declared.values.crs.Crs.TheVariants as crs
 use Rattle.crs_value.specs.declared.values.level.Level.TheVariants as levels
 use Rattle.crs_normal.specs.Examples as example
-use Rattle.crs_normal.proofs.verdicts.ExampleLemmas.{IsRead, TextLaws, is-normal, is-otherwise, placed, read-here}
+use Rattle.crs_normal.proofs.verdicts.ExampleLemmas.{IsRead, TextLaws, is-normal, is-otherwise, placed, read-here, text-laws}
 use Rattle.crs_normal.proofs.verdicts.NormalVerdict.{normal_in}
 use Rattle.crs_normal.proofs.verdicts.Verdicts.{Fails, Holds}
 use Rattle.crs_normal.proofs.laws.examples.worked_examples.Goals as goal
@@ -16,11 +16,7 @@ use Rattle.crs_normal.proofs.laws.examples.worked_examples.Goals as goal
 pub returns-clause-normal : goal.returns-clause-normal
 unfolding digits class_named is_keyword lib.Utf8.encode root_named
 returns-clause-normal c =
-    let l : TextLaws = record {
-      numbers = record { decimals = c.decimal_laws.ensures; one_form = c.one_form.ensures };
-      written = c.written_items.ensures.spells;
-      one_node = c.one_answer.ensures.node;
-    } in (
+    let l = text-laws c.decimal_laws.ensures c.one_form.ensures c.written_items.ensures.spells c.one_answer.ensures.node in (
       is-normal l levels.Full class.VerticalCrs example.height (refl, refl, tt, tt, tt) tt,
       is-normal l levels.Full class.GeographicCrs example.geographic (refl, refl, tt, tt, tt) tt,
       is-normal l levels.Full class.GeographicCrs example.wgs_84 (refl, refl, tt, tt, tt) tt,
@@ -33,11 +29,7 @@ returns-clause-normal c =
 pub returns-clause-by_definition : goal.returns-clause-by_definition
 unfolding digits class_named is_keyword lib.Utf8.encode root_named
 returns-clause-by_definition c =
-    let l : TextLaws = record {
-      numbers = record { decimals = c.decimal_laws.ensures; one_form = c.one_form.ensures };
-      written = c.written_items.ensures.spells;
-      one_node = c.one_answer.ensures.node;
-    } in (
+    let l = text-laws c.decimal_laws.ensures c.one_form.ensures c.written_items.ensures.spells c.one_answer.ensures.node in (
       is-normal l levels.Definition class.VerticalCrs example.height (refl, refl, tt, tt, tt) tt,
       is-normal l levels.Definition class.GeographicCrs example.geographic (refl, refl, tt, tt, tt) tt,
       is-normal l levels.Definition class.GeographicCrs example.wgs_84_alone (refl, refl, tt, tt, tt) tt,
@@ -52,11 +44,7 @@ says-more l c bytes r h f = (is-normal l levels.Full c bytes r h, is-otherwise l
 pub returns-clause-at_full_alone : goal.returns-clause-at_full_alone
 unfolding digits class_named is_keyword lib.Utf8.encode root_named
 returns-clause-at_full_alone c =
-    let l : TextLaws = record {
-      numbers = record { decimals = c.decimal_laws.ensures; one_form = c.one_form.ensures };
-      written = c.written_items.ensures.spells;
-      one_node = c.one_answer.ensures.node;
-    } in (
+    let l = text-laws c.decimal_laws.ensures c.one_form.ensures c.written_items.ensures.spells c.one_answer.ensures.node in (
       says-more l class.VerticalCrs example.unit_with_identifier (refl, refl, tt, tt, tt) tt tt,
       says-more l class.VerticalCrs example.with_identifier (refl, refl, tt, tt, tt) tt tt,
       says-more l class.VerticalCrs example.with_usage (refl, refl, tt, tt, tt) tt tt,
@@ -67,11 +55,7 @@ returns-clause-at_full_alone c =
 pub returns-clause-dynamics : goal.returns-clause-dynamics
 unfolding digits class_named is_keyword lib.Utf8.encode root_named
 returns-clause-dynamics c =
-    let l : TextLaws = record {
-      numbers = record { decimals = c.decimal_laws.ensures; one_form = c.one_form.ensures };
-      written = c.written_items.ensures.spells;
-      one_node = c.one_answer.ensures.node;
-    } in (
+    let l = text-laws c.decimal_laws.ensures c.one_form.ensures c.written_items.ensures.spells c.one_answer.ensures.node in (
       is-otherwise l levels.Full class.VerticalCrs example.velocity_grid (refl, refl, tt, tt, tt) tt,
       is-otherwise l levels.Full class.VerticalCrs example.frame_epoch_with_fraction (refl, refl, tt, tt, tt) tt,
       is-otherwise l levels.Full class.VerticalCrs example.anchor_epoch_with_fraction (refl, refl, tt, tt, tt) tt,
@@ -81,11 +65,7 @@ returns-clause-dynamics c =
 pub returns-clause-heights : goal.returns-clause-heights
 unfolding digits class_named is_keyword lib.Utf8.encode root_named
 returns-clause-heights c =
-    let l : TextLaws = record {
-      numbers = record { decimals = c.decimal_laws.ensures; one_form = c.one_form.ensures };
-      written = c.written_items.ensures.spells;
-      one_node = c.one_answer.ensures.node;
-    } in (
+    let l = text-laws c.decimal_laws.ensures c.one_form.ensures c.written_items.ensures.spells c.one_answer.ensures.node in (
       is-otherwise l levels.Full class.VerticalCrs example.second_keyword (refl, refl, tt, tt, tt) tt,
       is-otherwise l levels.Full class.VerticalCrs example.no_order (refl, refl, tt, tt, tt) tt,
       is-otherwise l levels.Full class.VerticalCrs example.unit_of_no_kind (refl, refl, tt, tt, tt) tt,
@@ -105,11 +85,7 @@ returns-clause-heights c =
 pub returns-clause-geographics : goal.returns-clause-geographics
 unfolding digits class_named is_keyword lib.Utf8.encode root_named
 returns-clause-geographics c =
-    let l : TextLaws = record {
-      numbers = record { decimals = c.decimal_laws.ensures; one_form = c.one_form.ensures };
-      written = c.written_items.ensures.spells;
-      one_node = c.one_answer.ensures.node;
-    } in (
+    let l = text-laws c.decimal_laws.ensures c.one_form.ensures c.written_items.ensures.spells c.one_answer.ensures.node in (
       is-otherwise l levels.Full class.GeographicCrs example.meridian_with_unit (refl, refl, tt, tt, tt) tt,
       is-otherwise l levels.Full class.GeographicCrs example.no_meridian (refl, refl, tt, tt, tt) tt,
       is-otherwise l levels.Full class.GeodeticCrs example.geodetic_for_geographic (refl, refl, tt, tt, tt) tt,
@@ -127,11 +103,7 @@ no-value (crs.Compound p) h = let k : class.VerticalCrs ≡ class.CompoundCrs = 
 pub returns-clause-beyond : goal.returns-clause-beyond
 unfolding digits class_named is_keyword lib.Utf8.encode root_named
 returns-clause-beyond c =
-    let l : TextLaws = record {
-      numbers = record { decimals = c.decimal_laws.ensures; one_form = c.one_form.ensures };
-      written = c.written_items.ensures.spells;
-      one_node = c.one_answer.ensures.node;
-    } in (
+    let l = text-laws c.decimal_laws.ensures c.one_form.ensures c.written_items.ensures.spells c.one_answer.ensures.node in (
       is-normal l levels.Full class.VerticalCrs example.name_alone (refl, refl, tt, tt, tt) tt,
       λ value s. no-value value (read-here l class.VerticalCrs example.name_alone (refl, refl, tt, tt, tt) value s),
     )

@@ -1,52 +1,8 @@
-use Rattle.crs_normal.proofs.normal.CompoundLemmas.{compound-form, crs-form}
-use Rattle.crs_normal.proofs.normal.GeodeticLemmas.{geodetic-form, geographic-form}
-use Rattle.crs_normal.proofs.normal.ProjectedLemmas.{projected-form, vertical-form}
+use Rattle.std.proofs.Common.{refl}
+use Rattle.crs_shape.specs.declared.class.Class.TheVariants as class
+use Rattle.crs_value.specs.declared.values.crs.Crs.TheVariants as crs
+use Rattle.crs_normal.proofs.normal.CompoundLemmas.{crs-form}
 use Rattle.crs_normal.proofs.laws.normal.normal_crs_is_its_form.Goals as goal
-
-pub returns-clause-geodetic : goal.returns-clause-geodetic
-returns-clause-geodetic c = λ level parent item value shaped normal free reads.
-    geodetic-form (record {
-      plain_one = c.plain_is_the_one.ensures.only;
-      zero_plain = c.worked_examples.ensures.plain.3;
-      symmetric = c.same_number_is_equivalence.ensures.symmetric;
-      transitive = c.same_number_is_equivalence.ensures.transitive;
-    }) level parent item value (record { shaped = shaped; normal = normal }) (free, reads)
-
-pub returns-clause-geographic : goal.returns-clause-geographic
-returns-clause-geographic c = λ level parent item value shaped normal free reads.
-    geographic-form (record {
-      plain_one = c.plain_is_the_one.ensures.only;
-      zero_plain = c.worked_examples.ensures.plain.3;
-      symmetric = c.same_number_is_equivalence.ensures.symmetric;
-      transitive = c.same_number_is_equivalence.ensures.transitive;
-    }) level parent item value (record { shaped = shaped; normal = normal }) (free, reads)
-
-pub returns-clause-projected : goal.returns-clause-projected
-returns-clause-projected c = λ level parent item value shaped normal free reads.
-    projected-form (record {
-      plain_one = c.plain_is_the_one.ensures.only;
-      zero_plain = c.worked_examples.ensures.plain.3;
-      symmetric = c.same_number_is_equivalence.ensures.symmetric;
-      transitive = c.same_number_is_equivalence.ensures.transitive;
-    }) level parent item value (record { shaped = shaped; normal = normal }) (free, reads)
-
-pub returns-clause-vertical : goal.returns-clause-vertical
-returns-clause-vertical c = λ level parent item value shaped normal free reads.
-    vertical-form (record {
-      plain_one = c.plain_is_the_one.ensures.only;
-      zero_plain = c.worked_examples.ensures.plain.3;
-      symmetric = c.same_number_is_equivalence.ensures.symmetric;
-      transitive = c.same_number_is_equivalence.ensures.transitive;
-    }) level parent item value (record { shaped = shaped; normal = normal }) (free, reads)
-
-pub returns-clause-compound : goal.returns-clause-compound
-returns-clause-compound c = λ level parent item value shaped normal free reads.
-    compound-form (record {
-      plain_one = c.plain_is_the_one.ensures.only;
-      zero_plain = c.worked_examples.ensures.plain.3;
-      symmetric = c.same_number_is_equivalence.ensures.symmetric;
-      transitive = c.same_number_is_equivalence.ensures.transitive;
-    }) level parent item value (record { shaped = shaped; normal = normal }) (free, reads)
 
 pub returns-clause-any : goal.returns-clause-any
 returns-clause-any c = λ level of parent item value shaped normal free reads.
@@ -56,3 +12,23 @@ returns-clause-any c = λ level of parent item value shaped normal free reads.
       symmetric = c.same_number_is_equivalence.ensures.symmetric;
       transitive = c.same_number_is_equivalence.ensures.transitive;
     }) level parent of item value (record { shaped = shaped; normal = normal }) free reads
+
+pub returns-clause-geodetic : goal.returns-clause-geodetic
+returns-clause-geodetic c = λ level parent item value shaped normal free reads.
+    returns-clause-any c level class.GeodeticCrs parent item (crs.Geodetic value) shaped normal free (tt, reads)
+
+pub returns-clause-geographic : goal.returns-clause-geographic
+returns-clause-geographic c = λ level parent item value shaped normal free reads.
+    returns-clause-any c level class.GeographicCrs parent item (crs.Geodetic value) shaped normal free (tt, reads)
+
+pub returns-clause-projected : goal.returns-clause-projected
+returns-clause-projected c = λ level parent item value shaped normal free reads.
+    returns-clause-any c level class.ProjectedCrs parent item (crs.Projected value) shaped normal free (refl, reads)
+
+pub returns-clause-vertical : goal.returns-clause-vertical
+returns-clause-vertical c = λ level parent item value shaped normal free reads.
+    returns-clause-any c level class.VerticalCrs parent item (crs.Vertical value) shaped normal free (refl, reads)
+
+pub returns-clause-compound : goal.returns-clause-compound
+returns-clause-compound c = λ level parent item value shaped normal free reads.
+    returns-clause-any c level class.CompoundCrs parent item (crs.Compound value) shaped normal free (refl, reads)
