@@ -26,10 +26,6 @@ pub fills-any : {cs : List Class} {d : Class} {js : List Item} → takes (any_of
     FillsRun (any_of cs) (record { of = d; items = js })
 fills-any t = record { taken = t; enough = λ h. cc; not_more = λ h. cc }
 
-pub fills-some : {cs : List Class} {d : Class} {js : List Item} → takes (some_of cs) d ≡ true → js ≢ [] →
-    FillsRun (some_of cs) (record { of = d; items = js })
-fills-some t some = record { taken = t; enough = λ h. some; not_more = λ h. cc }
-
 pub given-few : {A : Type 0} (spell : A → Item) (x : Option A) → length (given spell x) ≤ 1
 given-few spell None = omega arith
 given-few spell (Some a) = omega arith

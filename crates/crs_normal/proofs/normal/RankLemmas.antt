@@ -1,6 +1,6 @@
--- The end of a normal CRS: its arguments are in order of rank, so that they are the geoid models,
--- the usages, the identifiers and the remark, one sort after the other.
-use Rattle.std.proofs.Common.{◌≡◌, ℕ, ◌≤◌, ◌||◌, Bool, true, false, inl, inr, ◌⊎◌, Option, Some, None, List, [], ◌∷◌, ◌++◌, if◌then◌else◌, refl, sym, ◌∙◌, ap, subst, arith}
+-- The end of a normal CRS: ranks rise to it, and its arguments are geoid models, usages, identifiers and
+-- the remark.
+use Rattle.std.proofs.Common.{◌≡◌, ℕ, ◌≤◌, ◌||◌, Bool, true, false, inl, inr, ◌⊎◌, Option, Some, None, List, [], ◌∷◌, if◌then◌else◌, refl, sym, ◌∙◌, ap, subst}
 use denote.Enum.Bare.{sameb}
 use Rattle.crs_text.specs.Prelude.{Item, Siblings, End, More}
 use Rattle.crs_shape.specs.contracts.class.Class.{the_type}
@@ -25,6 +25,11 @@ rise-behind c least (item ∷ items) rest rise = by (class_in c item) (λ k h. r
     by None more h = absurd h
     by (Some d) more h = more (rank d) h.1
 
+pub rise-as : (c : Class) (m : ℕ) (item : Item) (rest : Siblings) (d : Class) → class_in c item ≡ Some d →
+    Rise c m (More item rest) → (m ≤ rank d) × Rise c (rank d) rest
+rise-as c m item rest d named rise =
+    subst (λ (o : Option Class). AtClass o (λ x. (m ≤ rank x) × Rise c (rank x) rest)) named rise
+
 -- the items in the last slot
 abbrev pub last_front : (c : Class) (slots : List SlotParts) (items : Siblings) → View c slots items → List Item
 last_front c [] items v = []
@@ -41,10 +46,13 @@ rise-last c (slot ∷ next ∷ slots) items v least rise =
 
 -- ---- the classes at the end
 
+-- an argument of one of these classes
+abbrev pub IsOneOf : Class → List Class → Item → Type 0
+IsOneOf c [] item = ⊥
+IsOneOf c (d ∷ ds) item = (class_in c item ≡ Some d) ⊎ IsOneOf c ds item
+
 abbrev pub EndsAs : Class → Item → Type 0
-EndsAs c item =
-    (class_in c item ≡ Some class.GeoidModel) ⊎ ((class_in c item ≡ Some class.Usage)
-    ⊎ ((class_in c item ≡ Some class.Identifier) ⊎ (class_in c item ≡ Some class.Remark)))
+EndsAs c = IsOneOf c (class.GeoidModel ∷ class.Usage ∷ class.Identifier ∷ class.Remark ∷ [])
 
 -- no argument is a part of a usage
 pub record HasNoBare (c : Class) (item : Item) : Type 0 where
@@ -74,7 +82,7 @@ end-as c item none s =
     (test _ _ (λ e. clash none.extent
     (ap (is_class class.VerticalExtent) (named-so c item s.at class.VerticalExtent s.named e)))
     (test _ _ (λ e. inr (inr (inl (named-so c item s.at class.Identifier s.named e))))
-    (test _ _ (λ e. inr (inr (inr (named-so c item s.at class.Remark s.named e)))) (λ e. let h : false ≡ true = e in
+    (test _ _ (λ e. inr (inr (inr (inl (named-so c item s.at class.Remark s.named e))))) (λ e. let h : false ≡ true = e in
     absurd (cc)))))))) s.taken
 
 pub vertical_end-as : (c : Class) (item : Item) → HasNoBare c item → InSlot c vertical_tail item → EndsAs c item
@@ -92,123 +100,3 @@ none-here c d (item ∷ items) e =
       | true ↦ λ is h. absurd (cc)
       | false ↦ λ is h. (is, none-here c d items h)
     ] refl e
-
--- ---- one sort after the other
-
-pub record Split (c : Class) (m : ℕ) (front : List Item) : Type 0 where
-  pub models : List Item
-  pub usages : List Item
-  pub identifiers : List Item
-  pub remarks : List Item
-  pub are : front ≡ models ++ (usages ++ (identifiers ++ remarks))
-  pub as_model : Each (λ i. class_in c i ≡ Some class.GeoidModel) models
-  pub as_usage : Each (λ i. class_in c i ≡ Some class.Usage) usages
-  pub as_id : Each (λ i. class_in c i ≡ Some class.Identifier) identifiers
-  pub as_remark : Each (λ i. class_in c i ≡ Some class.Remark) remarks
-  pub no_model : 2 ≤ m → models ≡ []
-  pub no_usage : 3 ≤ m → usages ≡ []
-  pub no_id : 4 ≤ m → identifiers ≡ []
-
-pub rise-as : (c : Class) (m : ℕ) (item : Item) (rest : Siblings) (d : Class) → class_in c item ≡ Some d →
-    Rise c m (More item rest) → (m ≤ rank d) × Rise c (rank d) rest
-rise-as c m item rest d named rise =
-    subst (λ (o : Option Class). AtClass o (λ x. (m ≤ rank x) × Rise c (rank x) rest)) named rise
-
-pub split : (c : Class) (m : ℕ) (front : List Item) → Rise c m (onto front End) → Each (EndsAs c) front →
-    Split c m front
-split c m [] rise ends = record {
-  models = [];
-  usages = [];
-  identifiers = [];
-  remarks = [];
-  are = refl;
-  as_model = tt;
-  as_usage = tt;
-  as_id = tt;
-  as_remark = tt;
-  no_model = λ h. refl;
-  no_usage = λ h. refl;
-  no_id = λ h. refl;
-}
-split c m (item ∷ items) rise (inl named, ends) =
-    let r = rise-as c m item (onto items End) class.GeoidModel named rise in
-    let s = split c 1 items r.1 ends in
-    let low : m ≤ 1 = r.0 in
-    record {
-      models = item ∷ s.models;
-      usages = s.usages;
-      identifiers = s.identifiers;
-      remarks = s.remarks;
-      are = ap (λ xs. item ∷ xs) s.are;
-      as_model = (named, s.as_model);
-      as_usage = s.as_usage;
-      as_id = s.as_id;
-      as_remark = s.as_remark;
-      no_model = λ h. absurd (omega arith);
-      no_usage = λ h. absurd (omega arith);
-      no_id = λ h. absurd (omega arith);
-    }
-split c m (item ∷ items) rise (inr (inl named), ends) =
-    let r = rise-as c m item (onto items End) class.Usage named rise in
-    let s = split c 2 items r.1 ends in
-    let low : m ≤ 2 = r.0 in
-    let no_models = s.no_model (omega arith) in
-    record {
-      models = [];
-      usages = item ∷ s.usages;
-      identifiers = s.identifiers;
-      remarks = s.remarks;
-      are = ap (λ xs. item ∷ xs) (s.are ∙ ap (λ xs. xs ++ (s.usages ++ (s.identifiers ++ s.remarks))) no_models);
-      as_model = tt;
-      as_usage = (named, s.as_usage);
-      as_id = s.as_id;
-      as_remark = s.as_remark;
-      no_model = λ h. refl;
-      no_usage = λ h. absurd (omega arith);
-      no_id = λ h. absurd (omega arith);
-    }
-split c m (item ∷ items) rise (inr (inr (inl named)), ends) =
-    let r = rise-as c m item (onto items End) class.Identifier named rise in
-    let s = split c 3 items r.1 ends in
-    let low : m ≤ 3 = r.0 in
-    let no_models = s.no_model (omega arith) in
-    let no_usages = s.no_usage (omega arith) in
-    record {
-      models = [];
-      usages = [];
-      identifiers = item ∷ s.identifiers;
-      remarks = s.remarks;
-      are = ap (λ xs. item ∷ xs)
-          (s.are ∙ ap (λ xs. xs ++ (s.usages ++ (s.identifiers ++ s.remarks))) no_models
-          ∙ ap (λ xs. xs ++ (s.identifiers ++ s.remarks)) no_usages);
-      as_model = tt;
-      as_usage = tt;
-      as_id = (named, s.as_id);
-      as_remark = s.as_remark;
-      no_model = λ h. refl;
-      no_usage = λ h. refl;
-      no_id = λ h. absurd (omega arith);
-    }
-split c m (item ∷ items) rise (inr (inr (inr named)), ends) =
-    let r = rise-as c m item (onto items End) class.Remark named rise in
-    let s = split c 4 items r.1 ends in
-    let no_models = s.no_model (omega arith) in
-    let no_usages = s.no_usage (omega arith) in
-    let no_ids = s.no_id (omega arith) in
-    record {
-      models = [];
-      usages = [];
-      identifiers = [];
-      remarks = item ∷ s.remarks;
-      are = ap (λ xs. item ∷ xs)
-          (s.are ∙ ap (λ xs. xs ++ (s.usages ++ (s.identifiers ++ s.remarks))) no_models
-          ∙ ap (λ xs. xs ++ (s.identifiers ++ s.remarks)) no_usages
-          ∙ ap (λ xs. xs ++ s.remarks) no_ids);
-      as_model = tt;
-      as_usage = tt;
-      as_id = tt;
-      as_remark = (named, s.as_remark);
-      no_model = λ h. refl;
-      no_usage = λ h. refl;
-      no_id = λ h. refl;
-    }

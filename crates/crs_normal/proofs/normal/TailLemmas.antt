@@ -1,5 +1,5 @@
 -- The end of a normal CRS is the one form of its value.
-use Rattle.std.proofs.Common.{IsSome, List, None, Option, Some, ℕ, [], ap, ap₂, codes, false, inl, inr, map, refl, sym, true, ◌++◌, ◌∙◌, ◌≡◌, subst}
+use Rattle.std.proofs.Common.{IsSome, List, None, Option, Some, ℕ, [], ap, ap₂, codes, inl, inr, map, refl, sym, ◌∙◌, ◌≡◌, ◌∷◌, arith, subst}
 use Rattle.crs_text.specs.Prelude.{Item, End, RefusedAt, arguments, item_text}
 use Rattle.crs_shape.specs.declared.class.Class.{Class}
 use Rattle.crs_shape.specs.declared.class.Class.TheVariants as class
@@ -20,65 +20,11 @@ use Rattle.crs_normal.proofs.normal.FrameLemmas.{none-read}
 use Rattle.crs_normal.proofs.normal.HeadLemmas.{no-bare}
 use Rattle.crs_normal.proofs.normal.LeafLemmas.{PlainIsOne, text-node-form}
 use Rattle.crs_normal.proofs.normal.NamedLemmas.{geoid_model-form}
-use Rattle.crs_normal.proofs.normal.RankLemmas.{EndsAs, HasNoBare, Split, end-as, last_front, rise-last, split}
-use Rattle.crs_normal.proofs.normal.SortLemmas.{as-class, without_places-joined, those-kept, those-passed}
+use Rattle.crs_normal.proofs.normal.RankLemmas.{EndsAs, HasNoBare, end-as, last_front, rise-last}
+use Rattle.crs_normal.proofs.normal.SortLemmas.{Sorted, all-one, sorted, without_places-joined}
 use Rattle.crs_normal.proofs.normal.UnitLemmas.{idents-spelled}
 use Rattle.crs_normal.proofs.normal.UsageLemmas.{usage-form}
-use Rattle.crs_normal.proofs.read.ViewLemmas.{Front, InSlot, both, slot-lacks, without_places_onto, onto, all-those, none-those, nothing-behind}
-
--- ---- a front of several sorts
-
-record Sorted (c : Class) (front : List Item) (m u i r : List Item) : Type 0 where
-  are : front ≡ m ++ (u ++ (i ++ r))
-  models : those c class.GeoidModel (onto front End) ≡ m
-  usages : those c class.Usage (onto front End) ≡ u
-  identifiers : those c class.Identifier (onto front End) ≡ i
-  remarks : those c class.Remark (onto front End) ≡ r
-
-sorted-of : (c : Class) (k : ℕ) (front : List Item) (s : Split c k front) →
-    Sorted c front s.models s.usages s.identifiers s.remarks
-sorted-of c k front s =
-    let m = s.models in
-    let u = s.usages in
-    let i = s.identifiers in
-    let r = s.remarks in
-    record {
-      are = s.are;
-      models = at class.GeoidModel
-          ∙ those-kept c class.GeoidModel m (u ++ (i ++ r))
-          (as-class c class.GeoidModel class.GeoidModel true refl m s.as_model)
-          ∙ ap (λ xs. m ++ xs) (those-passed c class.GeoidModel u (i ++ r)
-          (as-class c class.Usage class.GeoidModel false refl u s.as_usage)
-          ∙ those-passed c class.GeoidModel i r (as-class c class.Identifier class.GeoidModel false refl i s.as_id)
-          ∙ none-those c class.GeoidModel r (as-class c class.Remark class.GeoidModel false refl r s.as_remark))
-          ∙ nothing-behind m;
-      usages = at class.Usage
-          ∙ those-passed c class.Usage m (u ++ (i ++ r))
-          (as-class c class.GeoidModel class.Usage false refl m s.as_model)
-          ∙ those-kept c class.Usage u (i ++ r) (as-class c class.Usage class.Usage true refl u s.as_usage)
-          ∙ ap (λ xs. u ++ xs) (those-passed c class.Usage i r
-          (as-class c class.Identifier class.Usage false refl i s.as_id)
-          ∙ none-those c class.Usage r (as-class c class.Remark class.Usage false refl r s.as_remark))
-          ∙ nothing-behind u;
-      identifiers = at class.Identifier
-          ∙ those-passed c class.Identifier m (u ++ (i ++ r))
-          (as-class c class.GeoidModel class.Identifier false refl m s.as_model)
-          ∙ those-passed c class.Identifier u (i ++ r) (as-class c class.Usage class.Identifier false refl u s.as_usage)
-          ∙ those-kept c class.Identifier i r (as-class c class.Identifier class.Identifier true refl i s.as_id)
-          ∙ ap (λ xs. i ++ xs) (none-those c class.Identifier r
-          (as-class c class.Remark class.Identifier false refl r s.as_remark))
-          ∙ nothing-behind i;
-      remarks = at class.Remark
-          ∙ those-passed c class.Remark m (u ++ (i ++ r))
-          (as-class c class.GeoidModel class.Remark false refl m s.as_model)
-          ∙ those-passed c class.Remark u (i ++ r) (as-class c class.Usage class.Remark false refl u s.as_usage)
-          ∙ those-passed c class.Remark i r (as-class c class.Identifier class.Remark false refl i s.as_id)
-          ∙ all-those c class.Remark r (as-class c class.Remark class.Remark true refl r s.as_remark);
-    }
-  where
-    at : (d : Class) → those c d (onto front End) ≡ those c d
-        (onto (s.models ++ (s.usages ++ (s.identifiers ++ s.remarks))) End)
-    at d = ap (λ xs. those c d (onto xs End)) s.are
+use Rattle.crs_normal.proofs.read.ViewLemmas.{Front, InSlot, both, slot-lacks, without_places_onto, onto}
 
 -- ---- no part of a usage is bare
 
@@ -126,30 +72,41 @@ tail-in law {level = level} {c = c} {slots = slots} {item = item} o has free slo
     let rise = rise-last c slots (arguments item) o.slots 0 has.in_order in
     let bare = no-bare c item front has (found-in o class.Scope at.1.0) (found-in o class.Area at.1.1.0)
     (found-in o class.BoundingBox at.1.1.1.0) (found-in o class.VerticalExtent at.1.1.1.1.0) in
-    by rise.0 (split c rise.0 front rise.1 (both ends front bare inside))
+    let models_first = sorted c class.GeoidModel (class.Usage ∷ class.Identifier ∷ class.Remark ∷ []) rise.0 front End refl
+    (omega arith, (omega arith, (omega arith, tt))) rise.1 (both ends front bare inside) in
+    let usages_next = sorted c class.Usage (class.Identifier ∷ class.Remark ∷ []) models_first.least models_first.others End
+    refl (omega arith, (omega arith, tt)) models_first.rise models_first.ones in
+    by models_first usages_next (sorted c class.Identifier (class.Remark ∷ []) usages_next.least usages_next.others End refl
+    (omega arith, tt) usages_next.rise usages_next.ones)
   where
     front : List Item
     front = last_front c slots (arguments item) o.slots
 
-    by : (k : ℕ) → Split c k front →
+    by : (m : Sorted c class.GeoidModel (class.Usage ∷ class.Identifier ∷ class.Remark ∷ []) front End)
+        (u : Sorted c class.Usage (class.Identifier ∷ class.Remark ∷ []) m.others End)
+        (i : Sorted c class.Identifier (class.Remark ∷ []) u.others End) →
         without_places_onto front End ≡ each item_geoid_model (set_geoid_models level models) (tail_items (norm_tail level t))
-    by k s =
-        let sorted = sorted-of c k front s in
-        let remarks = found-in o class.Remark at.1.1.1.1.1.1.0 ∙ sorted.remarks in
+    by m u i =
+        let of_models = those c class.GeoidModel (onto front End) in
+        let of_usages = those c class.Usage (onto m.others End) in
+        let of_identifiers = those c class.Identifier (onto u.others End) in
+        let remarks = found-in o class.Remark at.1.1.1.1.1.1.0 ∙ m.same class.Remark refl ∙ u.same class.Remark refl
+        ∙ i.same class.Remark refl ∙ all-one c class.Remark i.others refl i.ones in
         let few = once-only _ (λ fault b. free fault (inr (inr (inr (inr (inl b)))))) in
-        ap (λ xs. without_places_onto xs End) sorted.are
-        ∙ without_places-joined s.models (s.usages ++ (s.identifiers ++ s.remarks)) End
-        ∙ ap (without_places_onto s.models) (without_places-joined s.usages (s.identifiers ++ s.remarks) End
-        ∙ ap (without_places_onto s.usages) (without_places-joined s.identifiers s.remarks End))
+        ap (λ xs. without_places_onto xs End) m.are
+        ∙ without_places-joined of_models m.others End
+        ∙ ap (without_places_onto of_models) (ap (λ xs. without_places_onto xs End) u.are
+        ∙ without_places-joined of_usages u.others End
+        ∙ ap (without_places_onto of_usages) (ap (λ xs. without_places_onto xs End) i.are
+        ∙ without_places-joined of_identifiers i.others End))
         ∙ set-spelled level c class.GeoidModel (ReadsGeoidModel class.GeoidModel) item_geoid_model (norm_geoid_model level)
-        (geoid_model-form level c) _ s.models (good-in o class.GeoidModel) (found-in o class.GeoidModel at_models
-        ∙ sorted.models)
+        (geoid_model-form level c) _ of_models (good-in o class.GeoidModel) (found-in o class.GeoidModel at_models)
         o.sets.1.1.1.1.0 models read_models _ _
-        (set-spelled level c class.Usage (ReadsUsage class.Usage) item_usage norm_usage (usage-form law level c) _ s.usages
-        (good-in o class.Usage) (found-in o class.Usage at.0 ∙ sorted.usages) o.sets.1.0 t.usages reads.usages _ _
-        (idents-spelled level c (arguments item) s.identifiers o.kept (found-in o class.Identifier at.1.1.1.1.1.0
-        ∙ sorted.identifiers) o.sets.0 t.identifiers reads.identifiers _ _
-        (optional-spelled (text-node-form level c class.Remark (codes "REMARK") refl (λ bytes h. h)) _ s.remarks
+        (set-spelled level c class.Usage (ReadsUsage class.Usage) item_usage norm_usage (usage-form law level c) _ of_usages
+        (good-in o class.Usage) (found-in o class.Usage at.0 ∙ m.same class.Usage refl) o.sets.1.0 t.usages reads.usages _ _
+        (idents-spelled level c (arguments item) of_identifiers o.kept (found-in o class.Identifier at.1.1.1.1.1.0
+        ∙ m.same class.Identifier refl ∙ u.same class.Identifier refl) o.sets.0 t.identifiers reads.identifiers _ _
+        (optional-spelled (text-node-form level c class.Remark (codes "REMARK") refl (λ bytes h. h)) _ i.others
         (good-in o class.Remark) remarks (as-few _ _ remarks few) t.remark reads.remark refl))
         ∙ ap₂ (λ us remark. each item_usage (in_order (λ u. item_text (item_usage u)) (map norm_usage us))
         (each item_ident (set_idents level t.identifiers) (opt (text_node (codes "REMARK")) remark End)))
