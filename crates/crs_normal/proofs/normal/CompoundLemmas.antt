@@ -24,31 +24,26 @@ use Rattle.crs_normal.proofs.read.ViewLemmas.{alone, onto, without_places_onto}
 
 -- ---- the horizontal part
 
-abbrev HorizontalForm : Level → Class → Class → Item → Type 0
-HorizontalForm level c d item = (value : Horizontal) → IsGood level c d item → IsUnbroken d item →
-    ReadsAsHorizontal d item value →
+-- an item of a class, where it is of this one
+as-one : {V : Type 0} (level : Level) (parent c d : Class) (R : Class → Item → V → Type 0) {spell : V → Item} →
+    Form level parent d (Checked d (R d)) spell → (item : Item) (value : V) → IsGood level parent c item →
+    IsUnbroken c item → (c ≡ d) × R c item value → without_places item ≡ spell value
+as-one level parent c d R form item value good free reads =
+    form item value (subst (λ (x : Class). IsGood level parent x item) reads.0 good) (
+      subst (λ (x : Class). IsUnbroken x item) reads.0 free,
+      subst (λ (x : Class). R x item value) reads.0 reads.1,
+    )
+
+horizontal-form : Laws → (level : Level) (parent c : Class) (item : Item) (value : Horizontal) →
+    IsGood level parent c item → IsUnbroken c item → ReadsAsHorizontal c item value →
     without_places item ≡ item_horizontal (norm_horizontal level value)
-
-as_geodetic : Laws → (level : Level) (c : Class) (item : Item) → HorizontalForm level c class.GeodeticCrs item
-as_geodetic laws level c item (horizontal.Geodetic g) good free reads =
-    geodetic-form laws level c item g good (free, reads.1)
-as_geodetic laws level c item (horizontal.Projected p) good free reads = absurd (other reads.0)
-  where
-    other : class.GeodeticCrs ≡ class.ProjectedCrs → ⊥
-    other e = cc
-
-as_geographic : Laws → (level : Level) (c : Class) (item : Item) → HorizontalForm level c class.GeographicCrs item
-as_geographic laws level c item (horizontal.Geodetic g) good free reads =
-    geographic-form laws level c item g good (free, reads.1)
-as_geographic laws level c item (horizontal.Projected p) good free reads = absurd (other reads.0)
-  where
-    other : class.GeographicCrs ≡ class.ProjectedCrs → ⊥
-    other e = cc
-
-as_projected : Laws → (level : Level) (c : Class) (item : Item) → HorizontalForm level c class.ProjectedCrs item
-as_projected laws level c item (horizontal.Geodetic g) good free reads = absurd reads.0
-as_projected laws level c item (horizontal.Projected p) good free reads =
-    projected-form laws level c item p good (free, reads.1)
+horizontal-form laws level parent class.GeodeticCrs item (horizontal.Geodetic g) good free reads =
+    geodetic-form laws level parent item g good (free, reads.1)
+horizontal-form laws level parent class.GeographicCrs item (horizontal.Geodetic g) good free reads =
+    geographic-form laws level parent item g good (free, reads.1)
+horizontal-form laws level parent other item (horizontal.Geodetic g) good free reads = absurd reads.0
+horizontal-form laws level parent c item (horizontal.Projected p) good free reads =
+    as-one level parent c class.ProjectedCrs ReadsProjected (projected-form laws level parent) item p good free reads
 
 -- the one of three classes
 horizontal-in : Laws → {level : Level} {c : Class} {slots : List SlotParts} {item : Item} {keyword : List ℕ}
@@ -63,9 +58,9 @@ horizontal-in : Laws → {level : Level} {c : Class} {slots : List SlotParts} {i
     without_places p.0 ≡ item_horizontal (norm_horizontal level value)
 horizontal-in laws {level = level} {c = c} {item = item} o front p geodetic geographic projected free value reads =
     one-of class.GeodeticCrs (ReadsElse (ReadsAsHorizontal class.GeographicCrs) (those c class.GeographicCrs (arguments item))
-    last) geodetic (as_geodetic laws level c p.0) reads (λ others.
-    one-of class.GeographicCrs last geographic (as_geographic laws level c p.0) others (λ other.
-    one-of class.ProjectedCrs (λ v. ⊥) projected (as_projected laws level c p.0)
+    last) geodetic reads (λ others.
+    one-of class.GeographicCrs last geographic others (λ other.
+    one-of class.ProjectedCrs (λ v. ⊥) projected
     (first-or-none (ReadsAsHorizontal class.ProjectedCrs) (those c class.ProjectedCrs (arguments item)) value other)
     (λ none. absurd none)))
   where
@@ -73,12 +68,13 @@ horizontal-in laws {level = level} {c = c} {item = item} o front p geodetic geog
     last = ReadsFirst (ReadsAsHorizontal class.ProjectedCrs) (those c class.ProjectedCrs (arguments item))
 
     one-of : (d : Class) (otherwise : Horizontal → Type 0) → Looked o d (those c d (onto front End)) →
-        HorizontalForm level c d p.0 → ReadsElse (ReadsAsHorizontal d) (those c d (arguments item)) otherwise value →
+        ReadsElse (ReadsAsHorizontal d) (those c d (arguments item)) otherwise value →
         (otherwise value → without_places p.0 ≡ item_horizontal (norm_horizontal level value)) →
         without_places p.0 ≡ item_horizontal (norm_horizontal level value)
-    one-of d otherwise same form read other =
+    one-of d otherwise same read other =
         by-class (ReadsAsHorizontal d) otherwise c d p.0 (found-in o d same ∙ ap (λ xs. those c d (onto xs End)) p.1) read
-        (λ has. form value (has (IsGood level c d) (good-in o d)) (has (IsUnbroken d) (unbroken-in o d free))) other
+        (λ has. horizontal-form laws level c d p.0 value (has (IsGood level c d) (good-in o d))
+        (has (IsUnbroken d) (unbroken-in o d free))) other
 
 -- ---- compound CRSs
 
@@ -114,26 +110,11 @@ compound-form laws level c (node place keyword square first others close) x good
 pub crs-form : Laws → (level : Level) (parent c : Class) (item : Item) (value : Crs) → IsGood level parent c item →
     IsUnbroken c item → ReadsCrs c item value →
     without_places item ≡ item_crs (norm_crs level value)
-crs-form laws level parent class.GeodeticCrs item (crs.Geodetic x) good free reads =
-    geodetic-form laws level parent item x good (free, reads.1)
-crs-form laws level parent class.GeographicCrs item (crs.Geodetic x) good free reads =
-    geographic-form laws level parent item x good (free, reads.1)
-crs-form laws level parent other item (crs.Geodetic x) good free reads = absurd reads.0
+crs-form laws level parent c item (crs.Geodetic x) good free reads =
+    horizontal-form laws level parent c item (horizontal.Geodetic x) good free reads
 crs-form laws level parent c item (crs.Projected x) good free reads =
-    projected-form laws level parent item x (subst (λ (d : Class). IsGood level parent d item) reads.0 good) (
-      subst (λ (d : Class). IsUnbroken d item) reads.0 free,
-      subst (λ (d : Class). ReadsProjected d item x) reads.0
-          reads.1,
-    )
+    as-one level parent c class.ProjectedCrs ReadsProjected (projected-form laws level parent) item x good free reads
 crs-form laws level parent c item (crs.Vertical x) good free reads =
-    vertical-form laws level parent item x (subst (λ (d : Class). IsGood level parent d item) reads.0 good) (
-      subst (λ (d : Class). IsUnbroken d item) reads.0 free,
-      subst (λ (d : Class). ReadsVertical d item x) reads.0
-          reads.1,
-    )
+    as-one level parent c class.VerticalCrs ReadsVertical (vertical-form laws level parent) item x good free reads
 crs-form laws level parent c item (crs.Compound x) good free reads =
-    compound-form laws level parent item x (subst (λ (d : Class). IsGood level parent d item) reads.0 good) (
-      subst (λ (d : Class). IsUnbroken d item) reads.0 free,
-      subst (λ (d : Class). ReadsCompound d item x) reads.0
-          reads.1,
-    )
+    as-one level parent c class.CompoundCrs ReadsCompound (compound-form laws level parent) item x good free reads

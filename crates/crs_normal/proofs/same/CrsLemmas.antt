@@ -2,6 +2,7 @@
 use Rattle.std.proofs.Common.{◌≤◌, ℕ, ◌<◌, ◌^◌, List, length, refl, ap, arith}
 use Rattle.crs_shape.specs.declared.class.Class.TheVariants as class
 use Rattle.crs_shape.specs.declared.unit_kind.UnitKind.TheVariants as kinds
+use Rattle.crs_shape.specs.declared.system_type.SystemType.{SystemType}
 use Rattle.crs_shape.specs.Prelude.{IsOneOf, dimensions_of}
 use Rattle.crs_value.specs.Prelude.{CompoundParts, BaseParts, GeodeticParts, ProjectedParts, VerticalParts, kind_by, IsCompound, IsHorizontal, IsCrs, IsBase, IsGeodetic, IsProjected, IsVertical, IsSystem, SystemParts}
 use Rattle.crs_value.specs.declared.values.compound.Horizontal.{Horizontal}
@@ -25,28 +26,15 @@ use Rattle.crs_normal.proofs.same.UnitLemmas.{units-of-agree}
 small-numbered : (n : ℕ) → n ≤ 3 → n < 10 ^ 18
 small-numbered n l = omega arith
 
-numbered : LowerLaws → (system : SystemParts) → IsSystem system → (ns : List ℕ) → AreSmall ns →
-    IsOneOf system.dimension ns → IsNumbered system
-numbered laws system sound ns small one = (
+numbered : LowerLaws → (dimensions : SystemType → List ℕ) → ((t : SystemType) → AreSmall (dimensions t)) →
+    (system : SystemParts) → IsSystem system → IsOneOf system.dimension (dimensions system.system_type) →
+    IsNumbered system
+numbered laws dimensions small system sound one = (
   sound,
   small-numbered (length system.axes)
-      (few-axes laws.symmetric laws.transitive system.dimension (length system.axes) ns small one sound.count),
+      (few-axes laws.symmetric laws.transitive system.dimension (length system.axes) (dimensions system.system_type)
+      (small system.system_type) one sound.count),
 )
-
-geodetic-numbered : LowerLaws → (g : GeodeticParts) → IsGeodetic g → IsNumbered g.system
-geodetic-numbered laws g sound =
-    let type = g.system.system_type in
-    numbered laws g.system sound.system (dimensions_of class.GeodeticCrs type) (small-geodetic type) sound.dimension
-
-projected-numbered : LowerLaws → (p : ProjectedParts) → IsProjected p → IsNumbered p.system
-projected-numbered laws p sound =
-    let type = p.system.system_type in
-    numbered laws p.system sound.system (dimensions_of class.ProjectedCrs type) (small-projected type) sound.dimension
-
-vertical-numbered : LowerLaws → (v : VerticalParts) → IsVertical v → IsNumbered v.system
-vertical-numbered laws v sound =
-    let type = v.system.system_type in
-    numbered laws v.system sound.system (dimensions_of class.VerticalCrs type) (small-vertical type) sound.dimension
 
 module _ (laws : LowerLaws) (sets : SetsDecide) (level : Level) where
   -- ---- geodetic and geographic CRSs
@@ -58,9 +46,9 @@ module _ (laws : LowerLaws) (sets : SetsDecide) (level : Level) where
       (dynamics-sound b.dynamic b.frame in-b.dynamic) in
       let frame = geodetic-frame-agrees laws sets level a.frame b.frame in-a.frame in-b.frame in
       let meridian = meridian-agrees laws sets level a.meridian b.meridian in-a.meridian in-b.meridian in
-      let numbered-a = geodetic-numbered laws a in-a in
-      let numbered-b = geodetic-numbered laws b in-b in
-      let system = system-agrees laws sets level a.system b.system numbered-a numbered-b in
+      let in-dimensions = numbered laws (dimensions_of class.GeodeticCrs) small-geodetic in
+      let system = system-agrees laws sets level a.system b.system (in-dimensions a.system in-a.system in-a.dimension)
+      (in-dimensions b.system in-b.system in-b.dimension) in
       let tail = tail-agrees sets level a.tail b.tail in-a.tail in-b.tail in (
         λ e. let alike : AgreeSystem level a.system b.system = system.0 (ap (λ (x : GeodeticParts). x.system) e) in
             record {
@@ -115,9 +103,9 @@ module _ (laws : LowerLaws) (sets : SetsDecide) (level : Level) where
   projected-agrees a b in-a in-b =
       let base = base-agrees a.base b.base in-a.base in-b.base in
       let conversion = conversion-agrees laws sets level a.conversion b.conversion in-a.conversion in-b.conversion in
-      let numbered-a = projected-numbered laws a in-a in
-      let numbered-b = projected-numbered laws b in-b in
-      let system = system-agrees laws sets level a.system b.system numbered-a numbered-b in
+      let in-dimensions = numbered laws (dimensions_of class.ProjectedCrs) small-projected in
+      let system = system-agrees laws sets level a.system b.system (in-dimensions a.system in-a.system in-a.dimension)
+      (in-dimensions b.system in-b.system in-b.dimension) in
       let tail = tail-agrees sets level a.tail b.tail in-a.tail in-b.tail in (
         λ e. record {
           name = ap (λ (x : ProjectedParts). x.name) e;
@@ -143,9 +131,9 @@ module _ (laws : LowerLaws) (sets : SetsDecide) (level : Level) where
       dynamics-agree laws sets level a.dynamic b.dynamic (dynamics-sound a.dynamic a.frame in-a.dynamic)
       (dynamics-sound b.dynamic b.frame in-b.dynamic) in
       let frame = vertical-frame-agrees laws sets level a.frame b.frame in-a.frame in-b.frame in
-      let numbered-a = vertical-numbered laws a in-a in
-      let numbered-b = vertical-numbered laws b in-b in
-      let system = system-agrees laws sets level a.system b.system numbered-a numbered-b in
+      let in-dimensions = numbered laws (dimensions_of class.VerticalCrs) small-vertical in
+      let system = system-agrees laws sets level a.system b.system (in-dimensions a.system in-a.system in-a.dimension)
+      (in-dimensions b.system in-b.system in-b.dimension) in
       let models = sets.geoid_models level a.geoid_models b.geoid_models in-a.geoid_models in-b.geoid_models in
       let tail = tail-agrees sets level a.tail b.tail in-a.tail in-b.tail in (
         λ e. record {
