@@ -1,13 +1,13 @@
 -- An axis by itself is accepted, and normal but for a unit that is `UNIT`.
-use Rattle.std.proofs.Common.{◌≡◌, ◌≢◌, ℕ, suc, ◌+◌, ◌≤◌, IsTrue, Option, Some, None, List, [], ◌∷◌, codes, IfSome, length, inl, inr, refl, sym, subst, ◌∙◌, arith}
+use Rattle.std.proofs.Common.{◌≡◌, ◌≢◌, ℕ, ◌+◌, ◌≤◌, Option, Some, None, List, [], ◌∷◌, codes, IfSome, length, inl, inr, refl, sym, subst, ◌∙◌, arith}
 use Rattle.crs_decimal.specs.Prelude.{Value, IsNormal}
-use Rattle.crs_text.specs.Prelude.{Item, Siblings, End, More, IsNode, arguments, depth, depths, RefusedAt, IsWord, AreFormed, at_place, at_places, item_text}
+use Rattle.crs_text.specs.Prelude.{Item, Siblings, End, More, arguments, depth, RefusedAt, at_place, at_places, item_text}
 use Rattle.crs_shape.specs.declared.class.Class.{Class}
 use Rattle.crs_shape.specs.declared.class.Class.TheVariants as class
 use Rattle.crs_shape.specs.declared.unit_kind.UnitKind.{UnitKind}
 use Rattle.crs_shape.specs.declared.unit_kind.UnitKind.TheVariants as kinds
-use Rattle.crs_shape.specs.Prelude.{is_keyword, Allowed, class_in, Shaped, class_named, slots_of, direction_word}
-use Rattle.crs_value.specs.Prelude.{Breaks, those, IsAxis, IsAxisUnit, IsUnit, AxisParts, UnitParts}
+use Rattle.crs_shape.specs.Prelude.{is_keyword, Allowed, class_in, class_named, slots_of, direction_word}
+use Rattle.crs_value.specs.Prelude.{those, IsAxis, IsAxisUnit, IsUnit, AxisParts, UnitParts}
 use Rattle.crs_value.specs.Checks.{Own as BreaksOwn}
 use Rattle.crs_value.specs.declared.values.level.Level.{Level}
 use Rattle.crs_value.specs.Sound.{Each}
@@ -17,59 +17,20 @@ use Rattle.crs_normal.specs.DecimalLaws.{DecimalLaws}
 use Rattle.crs_normal.specs.Normal.{IsNormalIn}
 use Rattle.crs_normal.specs.NormalOwn.{set_classes}
 use Rattle.crs_normal.specs.PartTexts.{norm_axis_alone}
-use Rattle.crs_normal.specs.SpelledItems.{each, node_of, number_item, number_node, opt, text_item, word_item}
+use Rattle.crs_normal.specs.SpelledItems.{each, number_item, number_node, opt, text_item, word_item}
 use Rattle.crs_normal.specs.SpelledSystems.{item_axis, item_axis_meridian, norm_axis_meridians}
 use Rattle.crs_normal.specs.SpelledUnits.{item_ident, item_unit, norm_units, set_idents}
 use Rattle.crs_normal.proofs.made.AxisLemmas.{axis-meridians-made, known-direction, order-made}
 use Rattle.crs_normal.proofs.made.FitLemmas.{fills-any, fills-one, fills-optional, runs-fit}
 use Rattle.crs_normal.proofs.made.IdentLemmas.{identifiers-ascend, identifiers-left, identifiers-made, ids_run}
 use Rattle.crs_normal.proofs.made.LeafLemmas.{text-made, word-made}
-use Rattle.crs_normal.proofs.made.NodeLemmas.{AreMade, Made, MadeBy, Run, RunsMadeBy, Sees, all-formed, all-shaped, all-unbroken, all-within, alone, as-argument, at-class, at-level, classes, each-line, each-set, given, lines, made-lines, opt-line, sees-by, unbroken-node}
+use Rattle.crs_normal.proofs.made.NodeLemmas.{AreMade, Stands, node-stands, Made, MadeBy, Run, RunsMadeBy, Sees, alone, as-argument, at-class, at-level, classes, each-line, each-set, given, lines, made-lines, opt-line, sees-by}
 use Rattle.crs_normal.proofs.made.PlaceLemmas.{class-at}
 use Rattle.crs_normal.proofs.made.UnitLemmas.{unit-arguments, unit-kept, unit-made, unit_as}
 use Rattle.crs_normal.proofs.made.WordLemmas.{direction-letters}
 use Rattle.crs_normal.proofs.parts.PartLemmas.{IsStanding}
 use Rattle.crs_normal.proofs.read.NameLemmas.{keyword-names}
 use Rattle.crs_normal.proofs.made.ArgumentLemmas.{as_runs, laid}
-
--- ---- nodes that are accepted
-
--- the item is accepted as one of its class
-record Stands (c : Class) (most : ℕ) (item : Item) : Type 0 where
-  is_node : IsNode item
-  formed : AreFormed item
-  within : depth item ≤ most
-  shaped : Shaped c item
-  unbroken : (fault : RefusedAt) → ¬ (Breaks c item fault)
-
-module _ (N : Class → Class → Item → Type 0) (most : ℕ) (c : Class) (keyword : List ℕ) (first : Item) (others : Siblings) (runs : List Run) (same : More first others ≡ lines runs) (letters : IsWord keyword) (known : IsTrue (is_keyword c keyword)) (made : RunsMadeBy N most c runs) (allowed : Allowed (slots_of c) (classes runs)) (unbroken : (item : Item) (fault : RefusedAt) → Sees c runs item → ¬ (BreaksOwn c item fault)) where
-  stands-at : (ds : List Class) (p : ℕ) → ds ≡ classes runs → AreMade N most c ds (More first others) →
-      Stands c (suc most) (at_place p (node_of keyword first others))
-  stands-at [] p q h = absurd h
-  stands-at (d ∷ ds) p q h =
-      let f = h.0.fine (p + length keyword + 1) in
-      let s : ℕ = p + length keyword + 1 + length (item_text first) in
-      let i : Item = at_place p (node_of keyword first others) in
-      let n : class_in c (at_place (p + length keyword + 1) first) ≡ Some d =
-      class-at c (p + length keyword + 1) first ∙ h.0.named in
-      let deep : depths (at_places s others) ≤ most = all-within N most c s ds others h.1 in
-      let high : depth (at_place (p + length keyword + 1) first) ≤ most = f.within in
-      record {
-        is_node = tt;
-        formed = (letters, f.formed, all-formed N most c s ds others h.1);
-        within = omega arith;
-        shaped = (
-          known,
-          (d, (ds, (n, (f.shaped, (all-shaped N most c s ds others h.1, subst (Allowed (slots_of c)) (sym q) allowed))))),
-        );
-        unbroken = λ fault b. unbroken-node c fault d (at_place (p + length keyword + 1) first) f.unbroken n
-            (all-unbroken N most c fault s ds others h.1)
-            (unbroken i fault (sees-by N most c keyword first others runs p same made)) b;
-      }
-
-  node-stands : (p : ℕ) → Stands c (suc most) (at_place p (node_of keyword first others))
-  node-stands p =
-      stands-at (classes runs) p refl (subst (AreMade N most c (classes runs)) (sym same) (made-lines N most c runs made))
 
 -- ---- the arguments of an axis by itself
 

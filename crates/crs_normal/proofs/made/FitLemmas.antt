@@ -3,7 +3,7 @@ use Rattle.std.proofs.Common.{◌≡◌, ◌≤◌, ◌≢◌, true, IsTrue, IsF
 use Rattle.std.proofs.lemmas.List.{append-nil}
 use Rattle.crs_text.specs.Prelude.{Item}
 use Rattle.crs_shape.specs.declared.class.Class.{Class}
-use Rattle.crs_shape.specs.Prelude.{AllTaken, Allowed, Fills, SlotParts, any_of, one_of, optional_of, some_of, takes}
+use Rattle.crs_shape.specs.Prelude.{AllTaken, Allowed, Fills, SlotParts, any_of, one_of, optional_of, takes}
 use Rattle.crs_normal.proofs.made.NodeLemmas.{Run, alone, classes, given, repeated}
 
 -- a run fills a slot by itself

@@ -1,7 +1,7 @@
 -- A node of arguments that are accepted and normal is accepted and normal itself: what it asks of
 -- its arguments is said of them as runs of one class each, with all places left out.
 use Rattle.std.proofs.Common.{◌≡◌, ℕ, suc, ◌+◌, ◌≤◌, ◌⊎◌, Bool, true, false, IsTrue, Option, Some, None, List, [], ◌∷◌, ◌++◌, map, length, if◌then◌else◌, inl, inr, refl, sym, ap, subst, ◌∙◌, arith}
-use Rattle.crs_text.specs.Prelude.{Item, Siblings, End, More, arguments, depth, depths, RefusedAt, IsWord, AreFormed, AreAllFormed, at_place, at_places, item_text}
+use Rattle.crs_text.specs.Prelude.{Item, IsNode, Siblings, End, More, arguments, depth, depths, RefusedAt, IsWord, AreFormed, AreAllFormed, at_place, at_places, item_text}
 use Rattle.crs_shape.specs.declared.class.Class.{Class}
 use Rattle.crs_shape.specs.declared.class.Class.TheVariants as class
 use Rattle.crs_shape.specs.Prelude.{is_keyword, Allowed, class_in, Shaped, AreShaped, is_class, slots_of}
@@ -269,58 +269,42 @@ unbroken-node c fault d j u n m o (inl b) = o b
 unbroken-node c fault d j u n m o (inr (inl b)) = not-at-class (λ e. Breaks e j fault) (class_in c j) d n (u fault) b
 unbroken-node c fault d j u n m o (inr (inr b)) = m b
 
-node-at : (level : Level) (most : ℕ) (c : Class) (keyword : List ℕ) (first : Item) (others : Siblings) (runs : List Run)
-    (ds : List Class) (p : ℕ) →
-    More first others ≡ lines runs → ds ≡ classes runs → AreMade (IsNormalIn level) most c ds (More first others) →
-    IsKept level most c keyword runs →
-    IsAcceptedNormal level c (suc most) (at_place p (node_of keyword first others))
-node-at level most c keyword first others runs [] p same ds h k = absurd h
-node-at level most c keyword first others runs (d ∷ ds) p same q h k =
-    let f = h.0.fine (p + length keyword + 1) in
-    let s : ℕ = p + length keyword + 1 + length (item_text first) in
-    let i : Item = at_place p (node_of keyword first others) in
-    let look : Sees c runs i = sees level most c keyword first others runs p same k.made in
-    let n : class_in c (at_place (p + length keyword + 1) first) ≡ Some d = class-at c (p + length keyword + 1) first
-    ∙ h.0.named in
-    let deep : depths (at_places s others) ≤ most = all-within (IsNormalIn level) most c s ds others h.1 in
-    let high : depth (at_place (p + length keyword + 1) first) ≤ most = f.within in
-    record {
-      is_node = tt;
-      formed = (k.letters, f.formed, all-formed (IsNormalIn level) most c s ds others h.1);
-      within = omega arith;
-      shaped = (
-        k.known,
-        (
-          d,
-          (
-            ds,
-            (
-              n,
-              (
-                f.shaped,
-                (
-                  all-shaped (IsNormalIn level) most c s ds others h.1,
-                  subst (Allowed (slots_of c)) (sym q) k.allowed,
-                ),
-              ),
-            ),
-          ),
-        ),
-      );
-      unbroken = λ fault b. unbroken-node c fault d (at_place (p + length keyword + 1) first) f.unbroken n
-          (all-unbroken (IsNormalIn level) most c fault s ds others h.1) (k.unbroken i fault look) b;
-      normal = λ parent. record {
-        first_keyword = k.written;
-        at_level = at-level level c runs i look k.left;
-        own_form = k.own i look;
-        ascending_sets = each-set c runs i set_classes look k.sets;
-        normal_arguments = (
-          at-class (λ e. IsNormalIn level c e (at_place (p + length keyword + 1) first))
-              (class_in c (at_place (p + length keyword + 1) first)) d n f.normal,
-          all-normal level most c s ds others h.1,
+-- the item is accepted as one of its class
+pub record Stands (c : Class) (most : ℕ) (item : Item) : Type 0 where
+  pub is_node : IsNode item
+  pub formed : AreFormed item
+  pub within : depth item ≤ most
+  pub shaped : Shaped c item
+  pub unbroken : (fault : RefusedAt) → ¬ (Breaks c item fault)
+
+module _ (N : Class → Class → Item → Type 0) (most : ℕ) (c : Class) (keyword : List ℕ) (first : Item) (others : Siblings) (runs : List Run) (same : More first others ≡ lines runs) (letters : IsWord keyword) (known : IsTrue (is_keyword c keyword)) (made : RunsMadeBy N most c runs) (allowed : Allowed (slots_of c) (classes runs)) (unbroken : (item : Item) (fault : RefusedAt) → Sees c runs item → ¬ (BreaksOwn c item fault)) where
+  stands-at : (ds : List Class) (p : ℕ) → ds ≡ classes runs → AreMade N most c ds (More first others) →
+      Stands c (suc most) (at_place p (node_of keyword first others))
+  stands-at [] p q h = absurd h
+  stands-at (d ∷ ds) p q h =
+      let f = h.0.fine (p + length keyword + 1) in
+      let s : ℕ = p + length keyword + 1 + length (item_text first) in
+      let i : Item = at_place p (node_of keyword first others) in
+      let n : class_in c (at_place (p + length keyword + 1) first) ≡ Some d =
+      class-at c (p + length keyword + 1) first ∙ h.0.named in
+      let deep : depths (at_places s others) ≤ most = all-within N most c s ds others h.1 in
+      let high : depth (at_place (p + length keyword + 1) first) ≤ most = f.within in
+      record {
+        is_node = tt;
+        formed = (letters, f.formed, all-formed N most c s ds others h.1);
+        within = omega arith;
+        shaped = (
+          known,
+          (d, (ds, (n, (f.shaped, (all-shaped N most c s ds others h.1, subst (Allowed (slots_of c)) (sym q) allowed))))),
         );
-      };
-    }
+        unbroken = λ fault b. unbroken-node c fault d (at_place (p + length keyword + 1) first) f.unbroken n
+            (all-unbroken N most c fault s ds others h.1)
+            (unbroken i fault (sees-by N most c keyword first others runs p same made)) b;
+      }
+
+  pub node-stands : (p : ℕ) → Stands c (suc most) (at_place p (node_of keyword first others))
+  node-stands p =
+      stands-at (classes runs) p refl (subst (AreMade N most c (classes runs)) (sym same) (made-lines N most c runs made))
 
 -- a node whose arguments are these runs is made
 pub node-made : (level : Level) (most : ℕ) (c : Class) (keyword : List ℕ) (first : Item) (others : Siblings)
@@ -328,8 +312,26 @@ pub node-made : (level : Level) (most : ℕ) (c : Class) (keyword : List ℕ) (f
     More first others ≡ lines runs → IsKept level most c keyword runs → (p : ℕ) →
     IsAcceptedNormal level c (suc most) (at_place p (node_of keyword first others))
 node-made level most c keyword first others runs same k p =
-    node-at level most c keyword first others runs (classes runs) p same refl
-    (subst (AreMade (IsNormalIn level) most c (classes runs)) (sym same) (made-lines (IsNormalIn level) most c runs k.made)) k
+    let i : Item = at_place p (node_of keyword first others) in
+    let look : Sees c runs i = sees level most c keyword first others runs p same k.made in
+    let s = node-stands (IsNormalIn level) most c keyword first others runs same k.letters k.known k.made k.allowed
+    k.unbroken p in
+    record {
+      is_node = s.is_node;
+      formed = s.formed;
+      within = s.within;
+      shaped = s.shaped;
+      unbroken = s.unbroken;
+      normal = λ parent. record {
+        first_keyword = k.written;
+        at_level = at-level level c runs i look k.left;
+        own_form = k.own i look;
+        ascending_sets = each-set c runs i set_classes look k.sets;
+        normal_arguments = all-normal level most c (p + length keyword) (classes runs) (More first others)
+            (subst (AreMade (IsNormalIn level) most c (classes runs)) (sym same)
+            (made-lines (IsNormalIn level) most c runs k.made));
+      };
+    }
 
 -- a made node as an argument of another
 pub as-argument : (level : Level) (n most : ℕ) (parent c : Class) (j : Item) → n ≤ most → class_in parent j ≡ Some c →

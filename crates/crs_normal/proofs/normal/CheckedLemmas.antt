@@ -1,13 +1,13 @@
 -- Arguments of a node that breaks no check break none.
-use Rattle.std.proofs.Common.{◌≡◌, ℕ, ◌≤◌, length, drop, Bool, true, false, inl, inr, Option, Some, List, [], ◌∷◌, if◌then◌else◌, refl, sym, ◌∙◌, ap, subst, arith}
-use Rattle.crs_text.specs.Prelude.{Item, Siblings, End, More, RefusedAt, arguments}
+use Rattle.std.proofs.Common.{◌≡◌, ℕ, ◌≤◌, length, drop, Bool, true, false, inl, inr, Option, List, [], ◌∷◌, if◌then◌else◌, refl, sym, ◌∙◌, ap, subst, arith}
+use Rattle.crs_text.specs.Prelude.{Item, End, More, RefusedAt, arguments}
 use Rattle.crs_shape.specs.declared.class.Class.{Class}
-use Rattle.crs_shape.specs.Prelude.{AreShaped, SlotParts, class_in, is_class}
+use Rattle.crs_shape.specs.Prelude.{SlotParts}
 use Rattle.crs_value.specs.Prelude.{AnyOf, AtClass, Breaks, BreaksAmong, is_a, those, ReadsElse, ReadsFirst, IsRepeated}
 use Rattle.crs_value.specs.Sound.{Each}
 use Rattle.crs_value.specs.declared.values.level.Level.{Level}
 use Rattle.crs_normal.proofs.normal.FormLemmas.{Opened}
-use Rattle.crs_normal.proofs.read.ViewLemmas.{same_class}
+use Rattle.crs_normal.proofs.read.ViewLemmas.{those-at}
 
 abbrev pub IsUnbroken : Class → Item → Type 0
 IsUnbroken c item = (fault : RefusedAt) → ¬ (Breaks c item fault)
@@ -15,26 +15,6 @@ IsUnbroken c item = (fault : RefusedAt) → ¬ (Breaks c item fault)
 -- the item breaks no check, and this is read from it
 abbrev pub Checked : {V : Type 0} → Class → (Item → V → Type 0) → Item → V → Type 0
 Checked c R item value = IsUnbroken c item × R item value
-
-unbroken-as : (c d : Class) (item : Item) (e : Class) → class_in c item ≡ Some e → is_a c d item ≡ true →
-    ((fault : RefusedAt) → ¬ (AtClass (class_in c item) (λ x. Breaks x item fault))) → IsUnbroken d item
-unbroken-as c d item e named is free fault broken =
-    let same : e ≡ d = same_class e d (sym (ap (is_class d) named) ∙ is) in
-    let P : Option Class → Type 0 = λ o. AtClass o (λ x. Breaks x item fault) in
-    free fault (subst P (sym named) (subst (λ (x : Class). Breaks x item fault) (sym same) broken))
-
-pub those-unbroken : (c d : Class) (classes : List Class) (items : Siblings) → AreShaped c classes items →
-    ((fault : RefusedAt) → ¬ (BreaksAmong c items fault)) →
-    Each (IsUnbroken d) (those c d items)
-those-unbroken c d classes End shaped free = tt
-those-unbroken c d [] (More item items) shaped free = absurd shaped
-those-unbroken c d (e ∷ es) (More item items) shaped free =
-    let rest = those-unbroken c d es items shaped.1.1 (λ fault b. free fault (inr b)) in
-    elim (is_a c d item) as (λ b. is_a c d item ≡ b →
-    Each (IsUnbroken d) (if b then item ∷ those c d items else those c d items)) [
-      | true ↦ λ is. (unbroken-as c d item e shaped.0 is (λ fault b. free fault (inl b)), rest)
-      | false ↦ λ is. rest
-    ] refl
 
 pub first-checked : {V : Type 0} (d : Class) (R : Item → V → Type 0) (items : List Item) (value : V) →
     Each (IsUnbroken d) items → ReadsFirst R items value →
@@ -55,7 +35,12 @@ pub unbroken-in : {level : Level} {c : Class} {slots : List SlotParts} {item : I
     (o : Opened level c slots item keyword) (d : Class) →
     ((fault : RefusedAt) → ¬ (BreaksAmong c (arguments item) fault)) →
     Each (IsUnbroken d) (those c d (arguments item))
-unbroken-in {c = c} {item = item} o d = those-unbroken c d o.kept.classes (arguments item) o.kept.shaped
+unbroken-in {c = c} {item = item} o d =
+    those-at c d IsUnbroken (λ items. (fault : RefusedAt) → ¬ (BreaksAmong c items fault))
+    (λ i items e named shaped free. (
+      λ fault b. free fault (inl (subst (λ (o : Option Class). AtClass o (λ x. Breaks x i fault)) (sym named) b)),
+      λ fault b. free fault (inr b),
+    )) o.kept.classes (arguments item) o.kept.shaped
 
 -- ---- an item of one of several classes
 

@@ -1,12 +1,12 @@
 -- From the arguments of a normal node to what is written for what is read from them.
-use Rattle.std.proofs.Common.{◌≡◌, ℕ, ◌≤◌, length, map, Bool, true, false, Option, Some, None, List, [], ◌∷◌, ◌++◌, if◌then◌else◌, refl, sym, ◌∙◌, ap, subst, arith}
+use Rattle.std.proofs.Common.{◌≡◌, ℕ, ◌≤◌, length, map, Bool, Option, Some, None, List, [], ◌∷◌, ◌++◌, refl, sym, ◌∙◌, ap, subst, arith}
 use Rattle.std.specs.Cmp.Lexicographic.{slice_cmp}
 use Rattle.std.specs.Option.{option_map}
 use Rattle.std.specs.Ordering.{nat_cmp}
 use Rattle.crs_text.specs.Prelude.{Item, leaf, node, Siblings, End, More, arguments, item_text, others_text}
 use Rattle.crs_shape.specs.declared.class.Class.{Class}
-use Rattle.crs_shape.specs.Prelude.{Shaped, AreShaped, SlotParts, class_in, slots_of, is_class}
-use Rattle.crs_value.specs.Prelude.{AtClass, is_a, those, ReadsFirst, ReadsOptional, ReadsEach, kept, kept-where_none}
+use Rattle.crs_shape.specs.Prelude.{Shaped, AreShaped, SlotParts, slots_of}
+use Rattle.crs_value.specs.Prelude.{AtClass, those, ReadsFirst, ReadsOptional, ReadsEach, kept, kept-where_none}
 use Rattle.crs_value.specs.declared.values.level.Level.{Level}
 use Rattle.crs_normal.specs.WithoutPlaces.{without_places, all_without_places}
 use Rattle.crs_normal.specs.Normal.{IsNormalIn, AreNormalIn, IsFirstKeyword, KeepsAll}
@@ -16,7 +16,7 @@ use Rattle.crs_normal.specs.Ascending.{Ascends}
 use Rattle.crs_normal.specs.Ordered.{in_order}
 use Rattle.crs_normal.specs.SpelledItems.{each, node_from, opt}
 use Rattle.crs_normal.proofs.members.SetLemmas.{IsBelow, in_order-of}
-use Rattle.crs_normal.proofs.read.ViewLemmas.{View, looked, same_class, spread, those-looked, view, without_places_onto, without_places-spread}
+use Rattle.crs_normal.proofs.read.ViewLemmas.{View, looked, spread, those-at, those-looked, view, without_places_onto, without_places-spread}
 
 -- ---- the text of an item doesn't depend on places
 
@@ -52,32 +52,16 @@ pub record Kept (level : Level) (c : Class) (items : Siblings) : Type 0 where
   pub normal : AreNormalIn level c items
   pub left : KeepsAll level c items
 
-good-as : (level : Level) (c d : Class) (item : Item) (e : Class) → class_in c item ≡ Some e → Shaped e item →
-    AtClass (class_in c item) (λ x. IsNormalIn level c x item) → is_a c d item ≡ true → IsGood level c d item
-good-as level c d item e named shaped normal is =
-    let same : e ≡ d = same_class e d (sym (ap (is_class d) named) ∙ is) in
-    let P : Option Class → Type 0 = λ o. AtClass o (λ x. IsNormalIn level c x item) in
-    record {
-      shaped = subst (λ (x : Class). Shaped x item) same shaped;
-      normal = subst (λ (x : Class). IsNormalIn level c x item) same (subst P named normal);
-    }
-
-those-good : (level : Level) (c d : Class) (classes : List Class) (items : Siblings) → AreShaped c classes items →
-    AreNormalIn level c items →
-    Each (IsGood level c d) (those c d items)
-those-good level c d classes End shaped normal = tt
-those-good level c d [] (More item items) shaped normal = absurd shaped
-those-good level c d (e ∷ es) (More item items) shaped normal =
-    let rest = those-good level c d es items shaped.1.1 normal.1 in
-    elim (is_a c d item) as (λ b. is_a c d item ≡ b →
-    Each (IsGood level c d) (if b then item ∷ those c d items else those c d items)) [
-      | true ↦ λ is. (good-as level c d item e shaped.0 shaped.1.0 normal.0 is, rest)
-      | false ↦ λ is. rest
-    ] refl
-
 pub kept-good : (level : Level) (c d : Class) (items : Siblings) → Kept level c items →
     Each (IsGood level c d) (those c d items)
-kept-good level c d items k = those-good level c d k.classes items k.shaped k.normal
+kept-good level c d items k =
+    those-at c d (IsGood level c) (AreNormalIn level c) (λ item items e named shaped normal. (
+      record {
+        shaped = shaped;
+        normal = subst (λ (o : Option Class). AtClass o (λ x. IsNormalIn level c x item)) named normal.0;
+      },
+      normal.1,
+    )) k.classes items k.shaped k.normal
 
 -- ---- a node, opened
 

@@ -1,11 +1,11 @@
 -- An axis by itself, normal but for a unit that is `UNIT`, is the one form of its value.
-use Rattle.std.proofs.Common.{◌≡◌, ◌≢◌, true, false, IsTrue, Option, Some, None, List, [], ◌∷◌, codes, if◌then◌else◌, inl, inr, refl, sym, ◌∙◌, ap, subst}
+use Rattle.std.proofs.Common.{◌≡◌, ◌≢◌, IsTrue, Option, Some, None, List, [], ◌∷◌, codes, if◌then◌else◌, inl, inr, refl, sym, ◌∙◌, ap, subst}
 use Rattle.crs_text.specs.Prelude.{Item, leaf, node, Siblings, End, More, arguments}
 use Rattle.crs_shape.specs.declared.class.Class.{Class}
 use Rattle.crs_shape.specs.declared.class.Class.TheVariants as class
 use Rattle.crs_shape.specs.declared.unit_kind.UnitKind.TheVariants as kinds
 use Rattle.crs_shape.specs.Prelude.{is_keyword, AreShaped, Shaped, class_in, class_named, is_class, slots_of}
-use Rattle.crs_value.specs.Prelude.{AtClass, ReadsEach, ReadsFirst, is_a, those, ReadsAxis, ReadsIdent, ReadsNumber, ReadsText, ReadsUnit, AxisParts, UnitParts}
+use Rattle.crs_value.specs.Prelude.{AtClass, ReadsEach, ReadsFirst, those, ReadsAxis, ReadsIdent, ReadsNumber, ReadsText, ReadsUnit, AxisParts, UnitParts}
 use Rattle.crs_value.specs.declared.values.level.Level.{Level}
 use Rattle.crs_normal.specs.AxisAlone.{AreNormalArguments, IsNormalArgument, IsNormalAxis}
 use Rattle.crs_normal.specs.WithoutPlaces.{without_places}
@@ -19,7 +19,7 @@ use Rattle.crs_normal.proofs.normal.AxisLemmas.{axis_meridian-form, direction-fo
 use Rattle.crs_normal.proofs.normal.FormLemmas.{IsGood, node-spelled, one-spelled, optional-spelled, optional-by}
 use Rattle.crs_normal.proofs.normal.LeafLemmas.{PlainIsOne, number-node-form, text-form}
 use Rattle.crs_normal.proofs.normal.UnitLemmas.{idents-found-spelled, in-axis, in-plain, unit-form}
-use Rattle.crs_normal.proofs.read.ViewLemmas.{without_places-spread, same_class, those-looked, view}
+use Rattle.crs_normal.proofs.read.ViewLemmas.{without_places-spread, those-looked, view, those-at}
 
 -- ---- a unit of an axis as a plain unit
 
@@ -64,28 +64,16 @@ record IsFair (level : Level) (d : Class) (item : Item) : Type 0 where
   shaped : Shaped d item
   normal : IsNormalArgument level d item
 
-fair-as : (level : Level) (d : Class) (item : Item) (e : Class) → class_in class.Axis item ≡ Some e → Shaped e item →
-    AtClass (class_in class.Axis item) (λ x. IsNormalArgument level x item) → is_a class.Axis d item ≡ true →
-    IsFair level d item
-fair-as level d item e named shaped normal is =
-    let same : e ≡ d = same_class e d (sym (ap (is_class d) named) ∙ is) in
-    let P : Option Class → Type 0 = λ o. AtClass o (λ x. IsNormalArgument level x item) in
-    record {
-      shaped = subst (λ (x : Class). Shaped x item) same shaped;
-      normal = subst (λ (x : Class). IsNormalArgument level x item) same (subst P named normal);
-    }
-
 those-fair : (level : Level) (d : Class) (classes : List Class) (items : Siblings) → AreShaped class.Axis classes items →
     AreNormalArguments level items → Each (IsFair level d) (those class.Axis d items)
-those-fair level d classes End shaped normal = tt
-those-fair level d [] (More item items) shaped normal = absurd shaped
-those-fair level d (e ∷ es) (More item items) shaped normal =
-    let rest = those-fair level d es items shaped.1.1 normal.1 in
-    elim (is_a class.Axis d item) as (λ b. is_a class.Axis d item ≡ b →
-    Each (IsFair level d) (if b then item ∷ those class.Axis d items else those class.Axis d items)) [
-      | true ↦ λ is. (fair-as level d item e shaped.0 shaped.1.0 normal.0 is, rest)
-      | false ↦ λ is. rest
-    ] refl
+those-fair level d =
+    those-at class.Axis d (IsFair level) (AreNormalArguments level) (λ item items e named shaped normal. (
+      record {
+        shaped = shaped;
+        normal = subst (λ (o : Option Class). AtClass o (λ x. IsNormalArgument level x item)) named normal.0;
+      },
+      normal.1,
+    ))
 
 good-of : (level : Level) (d : Class) → d ≢ class.AxisUnit → (item : Item) → IsFair level d item →
     IsGood level class.Axis d item

@@ -178,6 +178,22 @@ both f (x ∷ xs) p q = (f x p.0 q.0, both f xs p.1 q.1)
 pub same_class : (d c : Class) → sameb the_type d c ≡ true → d ≡ c
 same_class d c e = same_true the_type (search rules) d c e
 
+-- what holds of all arguments, and so of each at its class, holds of those of a class
+pub those-at : (c d : Class) (P : Class → Item → Type 0) (All : Siblings → Type 0) →
+    ((item : Item) (items : Siblings) (e : Class) → class_in c item ≡ Some e → Shaped e item → All (More item items) →
+    P e item × All items) → (classes : List Class) (items : Siblings) → AreShaped c classes items → All items →
+    Each (P d) (those c d items)
+those-at c d P All each classes End shaped all = tt
+those-at c d P All each [] (More item items) shaped all = absurd shaped
+those-at c d P All each (e ∷ es) (More item items) shaped all =
+    let h = each item items e shaped.0 shaped.1.0 all in
+    let rest = those-at c d P All each es items shaped.1.1 h.1 in
+    elim (is_a c d item) as (λ b. is_a c d item ≡ b →
+    Each (P d) (if b then item ∷ those c d items else those c d items)) [
+      | true ↦ λ is. (subst (λ (x : Class). P x item) (same_class e d (sym (ap (is_class d) shaped.0) ∙ is)) h.0, rest)
+      | false ↦ λ is. rest
+    ] refl
+
 named-as : (c d : Class) (item : Item) (at : Class) → class_in c item ≡ Some at → is_a c d item ≡ sameb the_type at d
 named-as c d item at e = ap (is_class d) e
 
