@@ -1,12 +1,12 @@
 -- An axis by itself is accepted, and normal but for a unit that is `UNIT`.
-use Rattle.std.proofs.Common.{◌≡◌, ◌≢◌, ℕ, ◌+◌, ◌≤◌, Option, Some, None, List, [], ◌∷◌, codes, IfSome, length, inl, inr, refl, sym, subst, ◌∙◌, arith}
+use Rattle.std.proofs.Common.{◌≢◌, ℕ, ◌+◌, ◌≤◌, Option, Some, None, List, [], ◌∷◌, codes, IfSome, length, map, inl, inr, refl, sym, subst, ◌∙◌, arith}
 use Rattle.crs_decimal.specs.Prelude.{Value, IsNormal}
 use Rattle.crs_text.specs.Prelude.{Item, Siblings, End, More, arguments, depth, RefusedAt, at_place, at_places, item_text}
 use Rattle.crs_shape.specs.declared.class.Class.{Class}
 use Rattle.crs_shape.specs.declared.class.Class.TheVariants as class
 use Rattle.crs_shape.specs.declared.unit_kind.UnitKind.{UnitKind}
 use Rattle.crs_shape.specs.declared.unit_kind.UnitKind.TheVariants as kinds
-use Rattle.crs_shape.specs.Prelude.{is_keyword, Allowed, class_in, class_named, slots_of, direction_word}
+use Rattle.crs_shape.specs.Prelude.{is_keyword, class_in, class_named, slots_of, direction_word}
 use Rattle.crs_value.specs.Prelude.{those, IsAxis, IsAxisUnit, IsUnit, AxisParts, UnitParts}
 use Rattle.crs_value.specs.Checks.{Own as BreaksOwn}
 use Rattle.crs_value.specs.declared.values.level.Level.{Level}
@@ -21,16 +21,15 @@ use Rattle.crs_normal.specs.SpelledItems.{each, number_item, number_node, opt, t
 use Rattle.crs_normal.specs.SpelledSystems.{item_axis, item_axis_meridian, norm_axis_meridians}
 use Rattle.crs_normal.specs.SpelledUnits.{item_ident, item_unit, norm_units, set_idents}
 use Rattle.crs_normal.proofs.made.AxisLemmas.{axis-meridians-made, known-direction, order-made}
-use Rattle.crs_normal.proofs.made.FitLemmas.{fills-any, fills-one, fills-optional, runs-fit}
-use Rattle.crs_normal.proofs.made.IdentLemmas.{identifiers-ascend, identifiers-left, identifiers-made, ids_run}
+use Rattle.crs_normal.proofs.made.IdentLemmas.{identifiers-ascend, identifiers-left, identifiers-made}
 use Rattle.crs_normal.proofs.made.LeafLemmas.{text-made, word-made}
-use Rattle.crs_normal.proofs.made.NodeLemmas.{AreMade, Stands, node-stands, Made, MadeBy, Run, RunsMadeBy, Sees, alone, as-argument, at-class, at-level, classes, each-line, each-set, given, lines, made-lines, opt-line, sees-by}
+use Rattle.crs_normal.proofs.made.NodeLemmas.{AreMade, Stands, node-stands, Made, MadeBy, Run, Sees, as-argument, at-class, at-level, classes, each-set, given, made-lines, sees-by}
 use Rattle.crs_normal.proofs.made.PlaceLemmas.{class-at}
 use Rattle.crs_normal.proofs.made.UnitLemmas.{unit-arguments, unit-kept, unit-made, unit_as}
 use Rattle.crs_normal.proofs.made.WordLemmas.{direction-letters}
 use Rattle.crs_normal.proofs.parts.PartLemmas.{IsStanding}
 use Rattle.crs_normal.proofs.read.NameLemmas.{keyword-names}
-use Rattle.crs_normal.proofs.made.ArgumentLemmas.{as_runs, laid}
+use Rattle.crs_normal.proofs.made.ArgumentLemmas.{ArgumentBy, any-of, as_runs, fits, laid, may-of, one-of, runs-made}
 
 -- ---- the arguments of an axis by itself
 
@@ -125,67 +124,33 @@ orders-alone l level (Some v) h = (
 -- ---- the axis
 
 module _ (l : DecimalLaws) (level : Level) (x : AxisParts) (h : IsAxis x) where
+  alone-ids : Each (Made level 4 class.Axis class.Identifier) (map item_ident (set_idents level x.identifiers))
+  alone-ids = identifiers-made l level 4 class.Axis x.identifiers (omega arith) (keyword-names class.Axis (codes "ID"))
+      h.identifiers
+
+  abbrev alone_arguments : List (ArgumentBy (AsArgument level) 4 class.Axis)
+  alone_arguments =
+      one-of class.Text (text_item x.name) (made-alone level 4 class.Text (text_item x.name)
+      (text-made level 4 class.Axis x.name h.name)) ∷
+      one-of class.Word (word_item (direction_word x.direction)) (made-alone level 4 class.Word
+      (word_item (direction_word x.direction)) (word-made level 4 class.Axis (direction_word x.direction)
+      (direction-letters x.direction) (x.direction, refl))) ∷
+      may-of class.AxisMeridian item_axis_meridian (norm_axis_meridians level x.meridian)
+      (each-alone level 4 class.AxisMeridian _ (axis-meridians-made l level x.meridian h.meridian)) ∷
+      may-of class.Order (number_node (codes "ORDER")) x.order
+      (each-alone level 4 class.Order _ (orders-alone l level x.order h.order)) ∷
+      may-of class.AxisUnit item_unit (norm_units level kinds.Plain x.unit) (units-alone l level x.unit h.unit) ∷
+      any-of class.Identifier item_ident (set_idents level x.identifiers)
+      (each-alone level 4 class.Identifier _ alone-ids) ∷ []
+
   abbrev alone_runs : List Run
-  alone_runs =
-      alone class.Text (text_item x.name) ∷ alone class.Word (word_item (direction_word x.direction)) ∷
-      record { of = class.AxisMeridian; items = given item_axis_meridian (norm_axis_meridians level x.meridian) } ∷
-      record { of = class.Order; items = given (number_node (codes "ORDER")) x.order } ∷
-      record { of = class.AxisUnit; items = given item_unit (norm_units level kinds.Plain x.unit) } ∷
-      ids_run level x.identifiers ∷ []
+  alone_runs = as_runs alone_arguments
 
   abbrev alone_others : Siblings
   alone_others =
       More (word_item (direction_word x.direction)) (opt item_axis_meridian (norm_axis_meridians level x.meridian)
       (opt (number_node (codes "ORDER")) x.order (opt item_unit (norm_units level kinds.Plain x.unit)
       (each item_ident (set_idents level x.identifiers) End))))
-
-  alone-lines : More (text_item x.name) alone_others ≡ lines alone_runs
-  alone-lines = simp (opt-line, each-line)
-
-  alone-made : RunsMadeBy (AsArgument level) 4 class.Axis alone_runs
-  unfolding class_named is_keyword
-  alone-made = (
-    (made-alone level 4 class.Text (text_item x.name) (text-made level 4 class.Axis x.name h.name), tt),
-    (
-      (
-        made-alone level 4 class.Word (word_item (direction_word x.direction))
-            (word-made level 4 class.Axis (direction_word x.direction) (direction-letters x.direction)
-            (x.direction, refl)),
-        tt,
-      ),
-      (
-        each-alone level 4 class.AxisMeridian (given item_axis_meridian (norm_axis_meridians level x.meridian))
-            (axis-meridians-made l level x.meridian h.meridian),
-        (
-          each-alone level 4 class.Order (given (number_node (codes "ORDER")) x.order)
-              (orders-alone l level x.order h.order),
-          (
-            units-alone l level x.unit h.unit,
-            (
-              each-alone level 4 class.Identifier (ids_run level x.identifiers).items
-                  (identifiers-made l level 4 class.Axis x.identifiers (omega arith) refl h.identifiers),
-              tt,
-            ),
-          ),
-        ),
-      ),
-    ),
-  )
-
-  alone-allowed : Allowed (slots_of class.Axis) (classes alone_runs)
-  alone-allowed = runs-fit (slots_of class.Axis) alone_runs (
-    fills-one refl,
-    (
-      fills-one refl,
-      (
-        fills-optional item_axis_meridian (norm_axis_meridians level x.meridian) refl,
-        (
-          fills-optional (number_node (codes "ORDER")) x.order refl,
-          (fills-optional item_unit (norm_units level kinds.Plain x.unit) refl, (fills-any refl, tt)),
-        ),
-      ),
-    ),
-  )
 
   alone-unbroken : (item : Item) (fault : RefusedAt) → Sees class.Axis alone_runs item → ¬ (BreaksOwn class.Axis item fault)
   unfolding BreaksOwn
@@ -196,12 +161,13 @@ module _ (l : DecimalLaws) (level : Level) (x : AxisParts) (h : IsAxis x) where
   unfolding is_keyword
   axis-stands =
       let s = node-stands (AsArgument level) 4 class.Axis (codes "AXIS") (text_item x.name) alone_others alone_runs
-      alone-lines (refl, refl) refl alone-made alone-allowed alone-unbroken 0 in
+      (laid alone_arguments) (refl, refl) refl (runs-made alone_arguments)
+      (fits (slots_of class.Axis) alone_arguments refl) alone-unbroken 0 in
       let i : Item = at_place 0 (item_axis (norm_axis_alone level x)) in
       let w : depth i ≤ 5 = s.within in
       let look : Sees class.Axis alone_runs i =
-      sees-by (AsArgument level) 4 class.Axis (codes "AXIS") (text_item x.name) alone_others alone_runs 0 alone-lines
-      alone-made in
+      sees-by (AsArgument level) 4 class.Axis (codes "AXIS") (text_item x.name) alone_others alone_runs 0
+      (laid alone_arguments) (runs-made alone_arguments) in
       record {
         is_node = s.is_node;
         formed = s.formed;
@@ -215,7 +181,7 @@ module _ (l : DecimalLaws) (level : Level) (x : AxisParts) (h : IsAxis x) where
           ascending_sets = each-set class.Axis alone_runs i set_classes look
               (identifiers-ascend level x.identifiers, (tt, (tt, (tt, (tt, tt)))));
           normal_arguments = all-normal-alone level 4 4 (classes alone_runs) (More (text_item x.name) alone_others)
-              (subst (AreMade (AsArgument level) 4 class.Axis (classes alone_runs)) (sym alone-lines)
-              (made-lines (AsArgument level) 4 class.Axis alone_runs alone-made));
+              (subst (AreMade (AsArgument level) 4 class.Axis (classes alone_runs)) (sym (laid alone_arguments))
+              (made-lines (AsArgument level) 4 class.Axis alone_runs (runs-made alone_arguments)));
         };
       }

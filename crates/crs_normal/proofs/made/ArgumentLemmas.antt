@@ -12,26 +12,29 @@ use Rattle.crs_value.specs.Sound.{Each}
 use Rattle.crs_value.specs.Values.{IdentParts}
 use Rattle.crs_normal.specs.AcceptedNormal.{IsAcceptedNormal}
 use Rattle.crs_normal.specs.DecimalLaws.{DecimalLaws}
-use Rattle.crs_normal.specs.Normal.{IsFirstKeyword}
+use Rattle.crs_normal.specs.Normal.{IsFirstKeyword, IsNormalIn}
 use Rattle.crs_normal.specs.NormalOwn.{Ascend, HasOwnForm, set_classes}
 use Rattle.crs_normal.specs.SpelledItems.{each, node_of, number_item, number_node, opt, text_item, text_node}
 use Rattle.crs_normal.specs.SpelledUnits.{item_ident, set_idents}
 use Rattle.crs_normal.proofs.made.FitLemmas.{FitRuns, fills-one, given-few, runs-fit}
 use Rattle.crs_normal.proofs.made.IdentLemmas.{given-made, identifiers-made, number-node-made, text-node-made}
 use Rattle.crs_normal.proofs.made.LeafLemmas.{number-made, text-made}
-use Rattle.crs_normal.proofs.made.NodeLemmas.{KeepsRuns, Made, Run, RunsMade, Sees, as-argument, classes, each-line, given, items_in, line, lines, node-made, opt-line, sees}
+use Rattle.crs_normal.proofs.made.NodeLemmas.{KeepsRuns, Made, MadeBy, Run, RunsMadeBy, Sees, as-argument, classes, each-line, given, items_in, line, lines, node-made, opt-line, sees}
 
 -- arguments of one class, before others: whether there is one at least, and whether there is one at most
-pub record Argument (level : Level) (most : ℕ) (parent : Class) : Type 0 where
+pub record ArgumentBy (N : Class → Class → Item → Type 0) (most : ℕ) (parent : Class) : Type 0 where
   pub of : Class
   pub items : List Item
   pub onto : Siblings → Siblings
   pub lined : (rest : Siblings) → onto rest ≡ line items rest
-  pub made : Each (Made level most parent of) items
+  pub made : Each (MadeBy N most parent of) items
   pub there : Bool
   pub single : Bool
   pub is_there : IsTrue there → items ≢ []
   pub is_single : IsTrue single → length items ≤ 1
+
+abbrev pub Argument : Level → ℕ → Class → Type 0
+Argument level = ArgumentBy (IsNormalIn level)
 
 pub not-none : (j : Item) → IsTrue true → j ∷ [] ≢ []
 not-none j h e = cc
@@ -66,8 +69,8 @@ unless : (b c : Bool) → (if b then true else c) ≡ true → IsFalse b → IsT
 unless true c e h = absurd (true≢false h)
 unless false c e h = e
 
-module _ {level : Level} {most : ℕ} {parent : Class} where
-  abbrev pub one-of : (of : Class) (j : Item) → Made level most parent of j → Argument level most parent
+module _ {N : Class → Class → Item → Type 0} {most : ℕ} {parent : Class} where
+  abbrev pub one-of : (of : Class) (j : Item) → MadeBy N most parent of j → ArgumentBy N most parent
   one-of of j m = record {
     of = of;
     items = j ∷ [];
@@ -81,7 +84,7 @@ module _ {level : Level} {most : ℕ} {parent : Class} where
   }
 
   module _ {A : Type 0} (of : Class) (spell : A → Item) where
-    abbrev pub may-of : (o : Option A) → Each (Made level most parent of) (given spell o) → Argument level most parent
+    abbrev pub may-of : (o : Option A) → Each (MadeBy N most parent of) (given spell o) → ArgumentBy N most parent
     may-of o m = record {
       of = of;
       items = given spell o;
@@ -94,7 +97,7 @@ module _ {level : Level} {most : ℕ} {parent : Class} where
       is_single = few-given spell o;
     }
 
-    abbrev pub any-of : (xs : List A) → Each (Made level most parent of) (map spell xs) → Argument level most parent
+    abbrev pub any-of : (xs : List A) → Each (MadeBy N most parent of) (map spell xs) → ArgumentBy N most parent
     any-of xs m = record {
       of = of;
       items = map spell xs;
@@ -107,8 +110,8 @@ module _ {level : Level} {most : ℕ} {parent : Class} where
       is_single = no-claim;
     }
 
-    abbrev pub some-of : (xs : List A) → map spell xs ≢ [] → Each (Made level most parent of) (map spell xs) →
-        Argument level most parent
+    abbrev pub some-of : (xs : List A) → map spell xs ≢ [] → Each (MadeBy N most parent of) (map spell xs) →
+        ArgumentBy N most parent
     some-of xs some m = record {
       of = of;
       items = map spell xs;
@@ -121,6 +124,7 @@ module _ {level : Level} {most : ℕ} {parent : Class} where
       is_single = no-claim;
     }
 
+module _ {level : Level} {most : ℕ} {parent : Class} where
   abbrev pub text-of : (raw : List ℕ) → IsText raw → Argument level most parent
   text-of raw h = one-of class.Text (text_item raw) (text-made level most parent raw h)
 
@@ -159,26 +163,27 @@ module _ {level : Level} {most : ℕ} {parent : Class} where
         Argument level most parent
     one-number l slots v h = one-of of (number_node keyword v) (a-number l slots v h)
 
-  -- ---- all arguments
+-- ---- all arguments
 
-  abbrev pub as_runs : List (Argument level most parent) → List Run
+module _ {N : Class → Class → Item → Type 0} {most : ℕ} {parent : Class} where
+  abbrev pub as_runs : List (ArgumentBy N most parent) → List Run
   as_runs [] = []
   as_runs (a ∷ rest) = record { of = a.of; items = a.items } ∷ as_runs rest
 
-  abbrev pub lay : List (Argument level most parent) → Siblings
+  abbrev pub lay : List (ArgumentBy N most parent) → Siblings
   lay [] = End
   lay (a ∷ rest) = a.onto (lay rest)
 
-  pub laid : (all : List (Argument level most parent)) → lay all ≡ lines (as_runs all)
+  pub laid : (all : List (ArgumentBy N most parent)) → lay all ≡ lines (as_runs all)
   laid [] = refl
   laid (a ∷ rest) = a.lined (lay rest) ∙ ap (line a.items) (laid rest)
 
-  pub runs-made : (all : List (Argument level most parent)) → RunsMade level most parent (as_runs all)
+  pub runs-made : (all : List (ArgumentBy N most parent)) → RunsMadeBy N most parent (as_runs all)
   runs-made [] = tt
   runs-made (a ∷ rest) = (a.made, runs-made rest)
 
   -- whether the arguments fill the slots, one after the other
-  abbrev pub fit : List SlotParts → List (Argument level most parent) → Bool
+  abbrev pub fit : List SlotParts → List (ArgumentBy N most parent) → Bool
   fit [] [] = true
   fit [] (a ∷ rest) = false
   fit (s ∷ ss) [] = false
@@ -187,7 +192,7 @@ module _ {level : Level} {most : ℕ} {parent : Class} where
       (if if_asked s.required a.there then (if (if s.many then true else a.single) then fit ss rest else false) else false)
       else false
 
-  pub fit-runs : (ss : List SlotParts) (all : List (Argument level most parent)) → fit ss all ≡ true → FitRuns ss (as_runs all)
+  pub fit-runs : (ss : List SlotParts) (all : List (ArgumentBy N most parent)) → fit ss all ≡ true → FitRuns ss (as_runs all)
   fit-runs [] [] e = tt
   fit-runs [] (a ∷ rest) e = absurd (true≢false (sym e))
   fit-runs (s ∷ ss) [] e = absurd (true≢false (sym e))
@@ -203,7 +208,7 @@ module _ {level : Level} {most : ℕ} {parent : Class} where
         fit-runs ss rest r.1,
       )
 
-  pub fits : (ss : List SlotParts) (all : List (Argument level most parent)) → fit ss all ≡ true →
+  pub fits : (ss : List SlotParts) (all : List (ArgumentBy N most parent)) → fit ss all ≡ true →
       Allowed ss (classes (as_runs all))
   fits ss all e = runs-fit ss (as_runs all) (fit-runs ss all e)
 
