@@ -14,9 +14,9 @@ use Rattle.crs_value.specs.declared.values.level.Level.{Level}
 use Rattle.crs_normal.specs.NormalOwn.{Rise}
 use Rattle.crs_normal.specs.SpelledItems.{number_node, opt, text_node}
 use Rattle.crs_normal.proofs.normal.CheckedLemmas.{as-few, once-only}
-use Rattle.crs_normal.proofs.normal.FormLemmas.{Looked, Opened, found-in, good-in, optional-spelled}
+use Rattle.crs_normal.proofs.normal.FormLemmas.{front_in, Looked, Opened, found-in, good-in, optional-spelled}
 use Rattle.crs_normal.proofs.normal.LeafLemmas.{PlainIsOne, number-node-form, text-node-form}
-use Rattle.crs_normal.proofs.normal.RankLemmas.{IsOneOf, named-so}
+use Rattle.crs_normal.proofs.normal.RankLemmas.{rise-at, IsOneOf, named-so}
 use Rattle.crs_normal.proofs.normal.SortLemmas.{all-one, sorted, without_places-joined}
 use Rattle.crs_normal.proofs.read.ViewLemmas.{InSlot, each-so, without_places_onto, onto, or-false}
 
@@ -32,21 +32,22 @@ either-as c item s = by (sameb the_type class.Anchor s.at) refl s.taken
 
 -- a node has at most one of each in the slot, and nothing else
 pub anchors-in : PlainIsOne → {level : Level} {c : Class} {slots : List SlotParts} {item : Item} {keyword : List ℕ}
-    (o : Opened level c slots item keyword)
-    (front : List Item) → Each (InSlot c anchor_slot) front →
-    (least : ℕ) (behind : Siblings) → Rise c least (onto front behind) →
-    Looked o class.Anchor (those c class.Anchor (onto front End)) →
-    Looked o class.AnchorEpoch (those c class.AnchorEpoch (onto front End)) →
+    (o : Opened level c slots item keyword) → Rise c 0 (arguments item) → (k : ℕ) → Each (InSlot c anchor_slot) (front_in o k) →
+    Looked o class.Anchor (those c class.Anchor (onto (front_in o k) End)) →
+    Looked o class.AnchorEpoch (those c class.AnchorEpoch (onto (front_in o k) End)) →
     ((fault : RefusedAt) → ¬ (RepeatsAny c (arguments item) anchors fault)) →
     (anchor : Option (List ℕ)) (epoch : Option Value) →
     ReadsOptional (ReadsTextOf class.Anchor) (those c class.Anchor (arguments item)) anchor →
     ReadsOptional (ReadsNumberOf class.AnchorEpoch) (those c class.AnchorEpoch (arguments item)) epoch →
     {rest after : Siblings} → rest ≡ after →
-    without_places_onto front rest ≡ opt (text_node (codes "ANCHOR")) anchor (opt (number_node (codes "ANCHOREPOCH")) epoch
+    without_places_onto (front_in o k) rest ≡ opt (text_node (codes "ANCHOR")) anchor
+    (opt (number_node (codes "ANCHOREPOCH")) epoch
     after)
-anchors-in law {level = level} {c = c} o front inside least behind rise same same_epoch free anchor epoch reads
+anchors-in law {level = level} {c = c} {slots = slots} {item = item} o own k inside same same_epoch free anchor epoch reads
     reads_epoch {rest = rest} after =
-    let s = sorted c class.Anchor (class.AnchorEpoch ∷ []) least front behind refl (omega arith, tt) rise
+    let front = front_in o k in
+    let rise = rise-at c slots (arguments item) o.slots 0 own k in
+    let s = sorted c class.Anchor (class.AnchorEpoch ∷ []) rise.0 front rise.1.0 refl (omega arith, tt) rise.1.1
     (each-so (InSlot c anchor_slot) (IsOneOf c anchors) (either-as c) front inside) in
     let firsts = found-in o class.Anchor same in
     let epochs = found-in o class.AnchorEpoch same_epoch ∙ s.same class.AnchorEpoch refl

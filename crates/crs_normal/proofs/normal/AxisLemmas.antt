@@ -62,13 +62,10 @@ axis_meridian-form law level c (leaf kind place raw) x good reads = absurd reads
 axis_meridian-form law level c (node place keyword square first others close) x good reads =
     let d = class.AxisMeridian in
     let o = opened refl good in
-    let v = o.slots in
-    let v1 = v.1.1.1.1 in
     spelled-by o o.written
-    (one-in o (number-form law level d (λ raw h. h)) v.0 refl
-    (v.1.1.0.not_more refl) x.longitude reads.longitude
-    (one-in o (unit-form law level d class.AngleUnit kinds.Angle refl (in-angle kinds.Angle) (λ raw h. h)) v1.0 refl
-    (v1.1.1.0.not_more refl) x.unit reads.unit refl))
+    (one-in o 0 (number-form law level d (λ raw h. h)) refl refl x.longitude reads.longitude
+    (one-in o 1 (unit-form law level d class.AngleUnit kinds.Angle refl (in-angle kinds.Angle) (λ raw h. h)) refl refl
+    x.unit reads.unit refl))
 
 pub opt-meridians : (level : Level) (m : Option AxisMeridianParts) (rest : Siblings) →
     opt (λ x. item_axis_meridian (norm_axis_meridian level x)) m rest ≡ opt item_axis_meridian
@@ -154,27 +151,17 @@ axis-form law level c system k (node place keyword square first others close) x 
     let d = class.Axis in
     let o = opened refl good in
     let items = More first others in
-    let v = o.slots in
-    let v1 = v.1.1.1.1 in
-    let v2 = v1.1.1.1.1 in
-    let v3 = v2.1.1.1.1 in
-    let v4 = v3.1.1.1.1 in
-    let v5 = v4.1.1.1.1 in
     let asked = asked_kind system.system_type x.direction in
     let known = order-known law level k (those d class.Order items) x.order (kept-good level d class.Order items o.kept)
     ordered reads.order in (
       spelled-by o o.written
-          (one-in o (text-form level d) v.0 refl (v.1.1.0.not_more refl) x.name
+          (one-in o 0 (text-form level d) refl refl x.name
           reads.name
-          (one-in o (direction-form level) v1.0 refl
-          (v1.1.1.0.not_more refl) x.direction reads.direction
-          (optional-in o (axis_meridian-form law level d) v2.0 refl
-          (v2.1.1.0.not_more refl) x.meridian reads.meridian
-          (optional-in o (number-node-form law level d class.Order (codes "ORDER") refl (λ bytes h. h) (λ raw h. h)) v3.0 refl
-          (v3.1.1.0.not_more refl) x.order reads.order
-          (optional-in o (unit-form law level d class.AxisUnit asked refl (in-axis asked) (λ raw h. h)) v4.0 refl
-          (v4.1.1.0.not_more refl) x.unit reads.unit
-          (idents-in o v5.0 refl x.identifiers reads.identifiers refl)
+          (one-in o 1 (direction-form level) refl refl x.direction reads.direction
+          (optional-in o 2 (axis_meridian-form law level d) refl refl x.meridian reads.meridian
+          (optional-in o 3 (number-node-form law level d class.Order (codes "ORDER") refl (λ bytes h. h) (λ raw h. h)) refl refl x.order reads.order
+          (optional-in o 4 (unit-form law level d class.AxisUnit asked refl (in-axis asked) (λ raw h. h)) refl refl x.unit reads.unit
+          (idents-in o 5 refl x.identifiers reads.identifiers refl)
           ∙ opt-own level system asked (those d class.AxisUnit items) x.unit own reads.unit _)
           ∙ opt-order k x.order known.0 known.1.0 known.1.1 _)
           ∙ opt-meridians level x.meridian _))),

@@ -13,7 +13,7 @@ use Rattle.crs_value.specs.declared.values.level.Level.{Level}
 use Rattle.crs_normal.specs.WithoutPlaces.{without_places}
 use Rattle.crs_normal.specs.SpelledCrs.{item_compound, item_crs, item_horizontal, norm_compound, norm_crs, norm_horizontal}
 use Rattle.crs_normal.proofs.normal.CheckedLemmas.{Checked, IsUnbroken, by-class, first-checked, first-or-none, unbroken-in}
-use Rattle.crs_normal.proofs.normal.FormLemmas.{Form, IsGood, Looked, Opened, found-in, good-in, one-in, opened, spelled-by}
+use Rattle.crs_normal.proofs.normal.FormLemmas.{Form, IsGood, Looked, Opened, found-in, front-in, front_in, good-in, one-in, opened, spelled-by}
 use Rattle.crs_normal.proofs.normal.GeodeticLemmas.{geodetic-form, geographic-form}
 use Rattle.crs_normal.proofs.normal.HeadLemmas.{Laws}
 use Rattle.crs_normal.proofs.normal.LeafLemmas.{text-form}
@@ -87,22 +87,18 @@ compound-form laws level c (node place keyword square first others close) x good
     let d = class.CompoundCrs in
     let reads = checked.1 in
     let o = opened refl good in
-    let v = o.slots in
-    let v1 = v.1.1.1.1 in
-    let v2 = v1.1.1.1.1 in
-    let v3 = v2.1.1.1.1 in
     let free : (fault : RefusedAt) → ¬ (BreaksAmong d (More first others) fault) = λ fault b. checked.0 fault (inr b) in
-    let p = alone v1.0 v1.1.1.0 refl refl in
-    let behind = without_places_onto v2.0 (without_places_onto v3.0 End) in
+    let p = alone (front_in o 1) (front-in o 1) refl refl in
+    let behind = without_places_onto (front_in o 2) (without_places_onto (front_in o 3) End) in
     spelled-by o o.written
-    (one-in o (text-form level d) v.0 refl (v.1.1.0.not_more refl) x.name reads.name
+    (one-in o 0 (text-form level d) refl refl x.name reads.name
     (ap (λ xs. without_places_onto xs behind) p.1
-    ∙ ap (λ i. More i behind) (horizontal-in laws o v1.0 p refl refl refl free x.horizontal reads.horizontal)
+    ∙ ap (λ i. More i behind) (horizontal-in laws o (front_in o 1) p refl refl refl free x.horizontal reads.horizontal)
     ∙ ap (More (item_horizontal (norm_horizontal level x.horizontal)))
-    (one-in o (vertical-form laws level d) v2.0 refl (v2.1.1.0.not_more refl) x.vertical
+    (one-in o 2 (vertical-form laws level d) refl refl x.vertical
     (first-checked class.VerticalCrs (ReadsVertical class.VerticalCrs) _ x.vertical (unbroken-in o class.VerticalCrs free)
     reads.vertical)
-    (plain_tail-in laws.plain_one o o.own (λ fault b. checked.0 fault (inl (inl b))) v3.1.1.0 refl
+    (plain_tail-in laws.plain_one o o.own (λ fault b. checked.0 fault (inl (inl b))) (front-in o 3) refl
     (refl, (refl, (refl, (refl, (refl, (refl, (refl, tt))))))) x.tail reads.tail))))
 
 -- ---- CRSs of any kind

@@ -16,10 +16,8 @@ dynamic-form law level c (leaf kind place raw) x good reads = absurd reads.epoch
 dynamic-form law level c (node place keyword square first others close) x good reads =
     let d = class.Dynamic in
     let o = opened refl good in
-    let v = o.slots in
-    let v1 = v.1.1.1.1 in
     spelled-by o o.written
-    (one-in o (number-node-form law level d class.FrameEpoch (codes "FRAMEEPOCH") refl (λ bytes h. h) (λ raw h. h)) v.0 refl
-    (v.1.1.0.not_more refl) x.epoch reads.epoch
-    (mapped-in o item_deformation_model (norm_deformation_model level) (deformation_model-form level d) v1.0 refl
-    (v1.1.1.0.not_more refl) x.model reads.model refl))
+    (one-in o 0 (number-node-form law level d class.FrameEpoch (codes "FRAMEEPOCH") refl (λ bytes h. h) (λ raw h. h))
+    refl refl x.epoch reads.epoch
+    (mapped-in o item_deformation_model (norm_deformation_model level) (deformation_model-form level d) 1 refl refl
+    x.model reads.model refl))

@@ -13,11 +13,11 @@ use Rattle.crs_value.specs.Sound.{Each}
 use Rattle.crs_normal.specs.SpelledFrames.{is_zero, item_ellipsoid, item_meridian, norm_ellipsoid, norm_given}
 use Rattle.crs_normal.specs.SpelledItems.{opt}
 use Rattle.crs_normal.specs.SpelledUnits.{item_unit, norm_unit, norm_units}
-use Rattle.crs_normal.proofs.normal.FormLemmas.{Form, IsGood, kept-good, one-in, opened, optional-in, spelled-by}
+use Rattle.crs_normal.proofs.normal.FormLemmas.{Form, IsGood, front_in, kept-good, one-in, only-in, opened, optional-in, spelled-by}
 use Rattle.crs_normal.proofs.normal.LeafLemmas.{PlainIsOne, number-form, number-normal, text-form}
 use Rattle.crs_normal.proofs.members.PairLemmas.{Alone, opt-length, opt-units, two-in}
 use Rattle.crs_normal.proofs.normal.UnitLemmas.{in-angle, in-length, unit-form, idents-in}
-use Rattle.crs_normal.proofs.read.ViewLemmas.{alone, those-looked}
+use Rattle.crs_normal.proofs.read.ViewLemmas.{those-looked}
 
 pub ellipsoid-form : PlainIsOne → (level : Level) (c : Class) →
     Form level c class.Ellipsoid (ReadsEllipsoid class.Ellipsoid) (λ e. item_ellipsoid (norm_ellipsoid level e))
@@ -26,18 +26,13 @@ ellipsoid-form law level c (node place keyword square first others close) x good
     let d = class.Ellipsoid in
     let o = opened refl good in
     let items = More first others in
-    let v = o.slots in
-    let v1 = v.1.1.1.1 in
-    let v2 = v1.1.1.1.1 in
-    let v3 = v2.1.1.1.1 in
-    let v4 = v3.1.1.1.1 in
     spelled-by o o.written
-    (one-in o (text-form level d) v.0 refl (v.1.1.0.not_more refl) x.name reads.name
-    (two-in law o (λ raw h. h) v1.0 v2.0 refl (alone v1.0 v1.1.1.0 refl refl) (alone v2.0 v2.1.1.0 refl refl)
+    (one-in o 0 (text-form level d) refl refl x.name reads.name
+    (two-in law o (λ raw h. h) (front_in o 1) (front_in o 2) refl (only-in o 1 refl refl) (only-in o 2 refl refl)
     x.semi_major_axis x.inverse_flattening reads.semi_major_axis reads.inverse_flattening
-    (optional-in o (unit-form law level d class.LengthUnit kinds.Length refl (in-length kinds.Length) (λ raw h. h)) v3.0 refl
-    (v3.1.1.0.not_more refl) x.unit reads.unit
-    (idents-in o v4.0 refl x.identifiers reads.identifiers refl)
+    (optional-in o 3 (unit-form law level d class.LengthUnit kinds.Length refl (in-length kinds.Length) (λ raw h. h))
+    refl refl x.unit reads.unit
+    (idents-in o 4 refl x.identifiers reads.identifiers refl)
     ∙ opt-length (ReadsUnit class.LengthUnit) level (those d class.LengthUnit items) x.unit o.own reads.unit _)))
 
 -- ---- prime meridians
@@ -93,18 +88,14 @@ meridian-form law zero_plain level c (node place keyword square first others clo
     let o = opened refl good in
     let items = More first others in
     let v = o.slots in
-    let v1 = v.1.1.1.1 in
-    let v2 = v1.1.1.1.1 in
-    let v3 = v2.1.1.1.1 in
     spelled-by o o.written
-    (one-in o (text-form level d) v.0 refl (v.1.1.0.not_more refl) x.name reads.name
-    (one-in o (number-form law level d (λ raw h. h)) v1.0 refl
-    (v1.1.1.0.not_more refl) x.longitude reads.longitude
-    (optional-in o (unit-form law level d class.AngleUnit kinds.Angle refl (in-angle kinds.Angle) (λ raw h. h)) v2.0 refl
-    (v2.1.1.0.not_more refl) x.unit reads.unit
-    (idents-in o v3.0 refl x.identifiers reads.identifiers refl)
+    (one-in o 0 (text-form level d) refl refl x.name reads.name
+    (one-in o 1 (number-form law level d (λ raw h. h)) refl refl x.longitude reads.longitude
+    (optional-in o 2 (unit-form law level d class.AngleUnit kinds.Angle refl (in-angle kinds.Angle) (λ raw h. h)) refl
+    refl x.unit reads.unit
+    (idents-in o 3 refl x.identifiers reads.identifiers refl)
     ∙ opt-angle level (is_zero x.longitude) (those d class.AngleUnit items) x.unit
-    (λ e. o.own (zero-written law zero_plain level (those d class.Number items) v1.0
+    (λ e. o.own (zero-written law zero_plain level (those d class.Number items) (front_in o 1)
     (kept-good level d class.Number items o.kept)
-    (those-looked d class.Number (slots_of d) items v) (alone v1.0 v1.1.1.0 refl refl) x.longitude reads.longitude e))
+    (those-looked d class.Number (slots_of d) items v) (only-in o 1 refl refl) x.longitude reads.longitude e))
     reads.unit _)))

@@ -1,5 +1,5 @@
 -- Normal ensembles, frames of either sort, and base CRSs are the one form of their values.
-use Rattle.std.proofs.Common.{◌≡◌, ◌≢◌, ℕ, inr, Option, Some, None, List, [], ◌∷◌, codes, refl, ◌∙◌, ap, arith}
+use Rattle.std.proofs.Common.{◌≡◌, ◌≢◌, ℕ, inr, Option, Some, None, List, [], ◌∷◌, codes, refl, ◌∙◌, ap}
 use Rattle.crs_text.specs.Prelude.{Item, leaf, node, Siblings, End, More, RefusedAt, arguments}
 use Rattle.crs_shape.specs.declared.class.Class.{Class}
 use Rattle.crs_shape.specs.declared.class.Class.TheVariants as class
@@ -17,13 +17,13 @@ use Rattle.crs_normal.specs.SpelledItems.{opt}
 use Rattle.crs_normal.proofs.normal.CheckedLemmas.{Checked, IsUnbroken, by-class, first-or-none, unbroken-in}
 use Rattle.crs_normal.proofs.normal.DynamicLemmas.{dynamic-form}
 use Rattle.crs_normal.proofs.normal.EllipsoidLemmas.{ZeroPlain, ellipsoid-form, meridian-form}
-use Rattle.crs_normal.proofs.normal.FormLemmas.{Form, IsGood, Looked, Opened, found-in, good-in, mapped-in, one-in, opened, optional-in, set-in, spelled-by}
+use Rattle.crs_normal.proofs.normal.FormLemmas.{Form, IsGood, Looked, Opened, found-in, front_in, good-in, mapped-in, missing-in, one-in, only-in, opened, optional-in, set-in, spelled-by}
 use Rattle.crs_normal.proofs.normal.FrameLemmas.{geodetic_datum-form, vertical_datum-form}
 use Rattle.crs_normal.proofs.normal.LeafLemmas.{PlainIsOne, number-node-form, text-form}
 use Rattle.crs_normal.proofs.normal.NamedLemmas.{member-form}
 use Rattle.crs_normal.proofs.members.PairLemmas.{Alone, opt-units}
 use Rattle.crs_normal.proofs.normal.UnitLemmas.{in-angle, unit-form, idents-in}
-use Rattle.crs_normal.proofs.read.ViewLemmas.{alone, without_places_onto, onto}
+use Rattle.crs_normal.proofs.read.ViewLemmas.{without_places_onto, onto}
 
 pub geodetic_ensemble-form : PlainIsOne → (level : Level) (c : Class) →
     Form level c class.GeodeticEnsemble (ReadsEnsemble class.GeodeticEnsemble)
@@ -33,19 +33,15 @@ geodetic_ensemble-form law level c (leaf kind place raw) x good reads = absurd r
 geodetic_ensemble-form law level c (node place keyword square first others close) x good reads =
     let d = class.GeodeticEnsemble in
     let o = opened refl good in
-    let v = o.slots in
-    let v1 = v.1.1.1.1 in
-    let v2 = v1.1.1.1.1 in
-    let v3 = v2.1.1.1.1 in
-    let v4 = v3.1.1.1.1 in
     spelled-by o o.written
-    (one-in o (text-form level d) v.0 refl (v.1.1.0.not_more refl) x.name reads.name
-    (set-in o item_member (norm_member level) (member-form level d) v1.0 refl
+    (one-in o 0 (text-form level d) refl refl x.name reads.name
+    (set-in o item_member (norm_member level) (member-form level d) 1 refl
     o.sets.1.1.0 x.members reads.members
-    (mapped-in o item_ellipsoid (norm_ellipsoid level) (ellipsoid-form law level d) v2.0 refl (v2.1.1.0.not_more refl) x.ellipsoid reads.ellipsoid
-    (one-in o (number-node-form law level d class.EnsembleAccuracy (codes "ENSEMBLEACCURACY") refl (λ bytes h. h) (λ raw h. h))
-    v3.0 refl (v3.1.1.0.not_more refl) x.accuracy reads.accuracy
-    (idents-in o v4.0 refl x.identifiers reads.identifiers refl)))))
+    (mapped-in o item_ellipsoid (norm_ellipsoid level) (ellipsoid-form law level d) 2 refl refl x.ellipsoid
+    reads.ellipsoid
+    (one-in o 3 (number-node-form law level d class.EnsembleAccuracy (codes "ENSEMBLEACCURACY") refl (λ bytes h. h)
+    (λ raw h. h)) refl refl x.accuracy reads.accuracy
+    (idents-in o 4 refl x.identifiers reads.identifiers refl)))))
 
 pub vertical_ensemble-form : PlainIsOne → (level : Level) (c : Class) →
     Form level c class.VerticalEnsemble (ReadsEnsemble class.VerticalEnsemble)
@@ -55,19 +51,14 @@ vertical_ensemble-form law level c (leaf kind place raw) x good reads = absurd r
 vertical_ensemble-form law level c (node place keyword square first others close) x good reads =
     let d = class.VerticalEnsemble in
     let o = opened refl good in
-    let v = o.slots in
-    let v1 = v.1.1.1.1 in
-    let v2 = v1.1.1.1.1 in
-    let v3 = v2.1.1.1.1 in
     spelled-by o o.written
-    (one-in o (text-form level d) v.0 refl (v.1.1.0.not_more refl) x.name reads.name
-    (set-in o item_member (norm_member level) (member-form level d) v1.0 refl
+    (one-in o 0 (text-form level d) refl refl x.name reads.name
+    (set-in o item_member (norm_member level) (member-form level d) 1 refl
     o.sets.1.1.0 x.members reads.members
-    (mapped-in o item_ellipsoid (norm_ellipsoid level) (ellipsoid-form law level d) [] refl (omega arith) x.ellipsoid
-    reads.ellipsoid
-    (one-in o (number-node-form law level d class.EnsembleAccuracy (codes "ENSEMBLEACCURACY") refl (λ bytes h. h) (λ raw h. h))
-    v2.0 refl (v2.1.1.0.not_more refl) x.accuracy reads.accuracy
-    (idents-in o v3.0 refl x.identifiers reads.identifiers refl)))))
+    (missing-in o item_ellipsoid (norm_ellipsoid level) (ellipsoid-form law level d) refl x.ellipsoid reads.ellipsoid
+    (one-in o 2 (number-node-form law level d class.EnsembleAccuracy (codes "ENSEMBLEACCURACY") refl (λ bytes h. h)
+    (λ raw h. h)) refl refl x.accuracy reads.accuracy
+    (idents-in o 3 refl x.identifiers reads.identifiers refl)))))
 
 -- ---- frames of either sort
 
@@ -144,22 +135,16 @@ base-form law zero_plain level c (node place keyword square first others close) 
     let reads = checked.1 in
     let o = opened refl good in
     let items = More first others in
-    let v = o.slots in
-    let v1 = v.1.1.1.1 in
-    let v2 = v1.1.1.1.1 in
-    let v3 = v2.1.1.1.1 in
-    let v4 = v3.1.1.1.1 in
-    let v5 = v4.1.1.1.1 in
     spelled-by o o.written
-    (one-in o (text-form level d) v.0 refl (v.1.1.0.not_more refl) x.name reads.name
-    (mapped-in o item_dynamic (norm_dynamic level) (dynamic-form law level d) v1.0 refl (v1.1.1.0.not_more refl) x.dynamic
-    reads.dynamic
-    (geodetic_frame-in law o v2.0 (alone v2.0 v2.1.1.0 refl refl) refl refl (λ fault b. checked.0 fault (inr b)) x.frame
+    (one-in o 0 (text-form level d) refl refl x.name reads.name
+    (mapped-in o item_dynamic (norm_dynamic level) (dynamic-form law level d) 1 refl refl x.dynamic reads.dynamic
+    (geodetic_frame-in law o (front_in o 2) (only-in o 2 refl refl) refl refl (λ fault b. checked.0 fault (inr b))
+    x.frame
     reads.frame _ _
-    (optional-in o (meridian-form law zero_plain level d) v3.0 refl (v3.1.1.0.not_more refl) x.meridian reads.meridian
-    (optional-in o (unit-form law level d class.AngleUnit kinds.Angle refl (in-angle kinds.Angle) (λ raw h. h)) v4.0 refl
-    (v4.1.1.0.not_more refl) x.unit reads.unit
-    (idents-in o v5.0 refl x.identifiers reads.identifiers refl)
+    (optional-in o 3 (meridian-form law zero_plain level d) refl refl x.meridian reads.meridian
+    (optional-in o 4 (unit-form law level d class.AngleUnit kinds.Angle refl (in-angle kinds.Angle) (λ raw h. h)) refl
+    refl x.unit reads.unit
+    (idents-in o 5 refl x.identifiers reads.identifiers refl)
     ∙ opt-units level kinds.Angle x.unit _)
     ∙ opt-meridian (ReadsMeridian class.PrimeMeridian) level (those d class.PrimeMeridian items) x.meridian o.own
     reads.meridian _))))

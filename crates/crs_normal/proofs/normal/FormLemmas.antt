@@ -1,5 +1,5 @@
 -- From the arguments of a normal node to what is written for what is read from them.
-use Rattle.std.proofs.Common.{◌≡◌, ℕ, ◌≤◌, length, map, Bool, Option, Some, None, List, [], ◌∷◌, ◌++◌, refl, sym, ◌∙◌, ap, subst, arith}
+use Rattle.std.proofs.Common.{IsTrue, IsFalse, ◌≡◌, ℕ, ◌≤◌, length, map, Bool, Option, Some, None, List, [], ◌∷◌, ◌++◌, refl, sym, ◌∙◌, ap, subst, arith}
 use Rattle.std.specs.Cmp.Lexicographic.{slice_cmp}
 use Rattle.std.specs.Option.{option_map}
 use Rattle.std.specs.Ordering.{nat_cmp}
@@ -16,7 +16,7 @@ use Rattle.crs_normal.specs.Ascending.{Ascends}
 use Rattle.crs_normal.specs.Ordered.{in_order}
 use Rattle.crs_normal.specs.SpelledItems.{each, node_from, opt}
 use Rattle.crs_normal.proofs.members.SetLemmas.{IsBelow, in_order-of}
-use Rattle.crs_normal.proofs.read.ViewLemmas.{View, looked, spread, those-at, those-looked, view, without_places_onto, without_places-spread}
+use Rattle.crs_normal.proofs.read.ViewLemmas.{View, looked, spread, those-at, those-looked, view, without_places_onto, without_places-spread, Front, alone, front-at, front_at, slot_at}
 
 -- ---- the text of an item doesn't depend on places
 
@@ -255,27 +255,43 @@ module _ {level : Level} {c : Class} {slots : List SlotParts} {item : Item} {key
   pub good-in : (d : Class) → Each (IsGood level c d) (those c d (arguments item))
   good-in d = kept-good level c d (arguments item) o.kept
 
-  module _ {d : Class} {V : Type 0} {R : Item → V → Type 0} {spell : V → Item} (form : Form level c d R spell) (front : List Item) (same : Looked d front) (few : length front ≤ 1) where
+  -- those in the slot at this position
+  abbrev pub front_in : ℕ → List Item
+  front_in k = front_at c slots (arguments item) o.slots k
+
+  pub front-in : (k : ℕ) → Front c (slot_at slots k) (front_in k)
+  front-in k = front-at c slots (arguments item) o.slots k
+
+  pub only-in : (k : ℕ) → IsTrue (slot_at slots k).required → IsFalse (slot_at slots k).many →
+      (i : Item) × (front_in k ≡ i ∷ [])
+  only-in k required single = alone (front_in k) (front-in k) required single
+
+  module _ (k : ℕ) {d : Class} {V : Type 0} {R : Item → V → Type 0} {spell : V → Item} (form : Form level c d R spell) (same : Looked d (front_in k)) (single : IsFalse (slot_at slots k).many) where
     pub one-in : (value : V) → ReadsFirst R (those c d (arguments item)) value → {rest after : Siblings} → rest ≡ after →
-        without_places_onto front rest ≡ More (spell value) after
-    one-in = one-spelled form _ front (good-in d) (found-in d same) few
+        without_places_onto (front_in k) rest ≡ More (spell value) after
+    one-in = one-spelled form _ (front_in k) (good-in d) (found-in d same) ((front-in k).not_more single)
 
     pub optional-in : (value : Option V) → ReadsOptional R (those c d (arguments item)) value →
-        {rest after : Siblings} → rest ≡ after → without_places_onto front rest ≡ opt spell value after
-    optional-in = optional-spelled form _ front (good-in d) (found-in d same) few
+        {rest after : Siblings} → rest ≡ after → without_places_onto (front_in k) rest ≡ opt spell value after
+    optional-in = optional-spelled form _ (front_in k) (good-in d) (found-in d same) ((front-in k).not_more single)
 
   -- an optional part in its normal form
-  pub mapped-in : {d : Class} {V W : Type 0} {R : Item → V → Type 0} (spell : W → Item) (norm : V → W) →
-      Form level c d R (λ v. spell (norm v)) → (front : List Item) → Looked d front → length front ≤ 1 →
-      (value : Option V) → ReadsOptional R (those c d (arguments item)) value → {rest after : Siblings} →
-      rest ≡ after → without_places_onto front rest ≡ opt spell (option_map norm value) after
-  mapped-in spell norm form front same few value reads f =
-      optional-in form front same few value reads f ∙ opt-mapped spell norm value _
+  module _ {d : Class} {V W : Type 0} {R : Item → V → Type 0} (spell : W → Item) (norm : V → W) (form : Form level c d R (λ v. spell (norm v))) where
+    pub mapped-in : (k : ℕ) → Looked d (front_in k) → IsFalse (slot_at slots k).many → (value : Option V) →
+        ReadsOptional R (those c d (arguments item)) value → {rest after : Siblings} → rest ≡ after →
+        without_places_onto (front_in k) rest ≡ opt spell (option_map norm value) after
+    mapped-in k same single value reads f = optional-in k form same single value reads f ∙ opt-mapped spell norm value _
+
+    -- where no slot takes it
+    pub missing-in : Looked d [] → (value : Option V) → ReadsOptional R (those c d (arguments item)) value →
+        {rest after : Siblings} → rest ≡ after → rest ≡ opt spell (option_map norm value) after
+    missing-in same value reads f =
+        optional-spelled form _ [] (good-in d) (found-in d same) (omega arith) value reads f ∙ opt-mapped spell norm value _
 
   pub set-in : {d : Class} {V W : Type 0} {R : Item → V → Type 0} (spell : W → Item) (norm : V → W) →
-      Form level c d R (λ v. spell (norm v)) → (front : List Item) → Looked d front →
+      Form level c d R (λ v. spell (norm v)) → (k : ℕ) → Looked d (front_in k) →
       Ascend (those c d (arguments item)) → (values : List V) → ReadsEach R (those c d (arguments item)) values →
       {rest after : Siblings} → rest ≡ after →
-      without_places_onto front rest ≡ each spell (in_order (λ w. item_text (spell w)) (map norm values)) after
-  set-in {d = d} {R = R} spell norm form front same up values reads f =
-      set-spelled level c d R spell norm form _ front (good-in d) (found-in d same) up values reads _ _ f
+      without_places_onto (front_in k) rest ≡ each spell (in_order (λ w. item_text (spell w)) (map norm values)) after
+  set-in {d = d} {R = R} spell norm form k same up values reads f =
+      set-spelled level c d R spell norm form _ (front_in k) (good-in d) (found-in d same) up values reads _ _ f

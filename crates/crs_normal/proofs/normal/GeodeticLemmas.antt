@@ -17,12 +17,11 @@ use Rattle.crs_normal.proofs.normal.DimensionLemmas.{AreSmall, small-geodetic, s
 use Rattle.crs_normal.proofs.normal.DynamicLemmas.{dynamic-form}
 use Rattle.crs_normal.proofs.normal.EllipsoidLemmas.{meridian-form}
 use Rattle.crs_normal.proofs.normal.EnsembleLemmas.{geodetic_frame-in, opt-meridian}
-use Rattle.crs_normal.proofs.normal.FormLemmas.{Form, Opened, good-in, mapped-in, one-in, opened, optional-in, spelled-by}
+use Rattle.crs_normal.proofs.normal.FormLemmas.{Form, front_in, Opened, front-in, good-in, mapped-in, one-in, only-in, opened, optional-in, spelled-by}
 use Rattle.crs_normal.proofs.normal.HeadLemmas.{Laws, geographic-type, not-ellipsoidal}
 use Rattle.crs_normal.proofs.normal.LeafLemmas.{text-form}
 use Rattle.crs_normal.proofs.normal.SystemLemmas.{system-in}
 use Rattle.crs_normal.proofs.normal.TailLemmas.{plain_tail-in}
-use Rattle.crs_normal.proofs.read.ViewLemmas.{alone}
 
 geodetic-node : Laws → {level : Level} {c : Class} {place : ℕ} {keyword : List ℕ} {square : Bool} {first : Item}
     {others : Siblings} {close : ℕ}
@@ -36,25 +35,15 @@ geodetic-node : Laws → {level : Level} {c : Class} {place : ℕ} {keyword : Li
     without_places (node place keyword square first others close) ≡ item_geodetic (norm_geodetic level x)
 geodetic-node laws {level = level} {c = c} o has_meridian has_axes has_tail small free x reads named =
     let law = laws.plain_one in
-    let v = o.slots in
-    let v1 = v.1.1.1.1 in
-    let v2 = v1.1.1.1.1 in
-    let v3 = v2.1.1.1.1 in
-    let v4 = v3.1.1.1.1 in
-    let v5 = v4.1.1.1.1 in
-    let v6 = v5.1.1.1.1 in
-    let v7 = v6.1.1.1.1 in
     spelled-by o named
-    (one-in o (text-form level c) v.0 refl (v.1.1.0.not_more refl) x.name reads.name
-    (mapped-in o item_dynamic (norm_dynamic level) (dynamic-form law level c) v1.0 refl (v1.1.1.0.not_more refl) x.dynamic
-    reads.dynamic
-    (geodetic_frame-in law o v2.0 (alone v2.0 v2.1.1.0 refl refl) refl refl (λ fault b. free fault (inr b)) x.frame
+    (one-in o 0 (text-form level c) refl refl x.name reads.name
+    (mapped-in o item_dynamic (norm_dynamic level) (dynamic-form law level c) 1 refl refl x.dynamic reads.dynamic
+    (geodetic_frame-in law o (front_in o 2) (only-in o 2 refl refl) refl refl (λ fault b. free fault (inr b)) x.frame
     reads.frame _ _
-    (optional-in o (meridian-form law laws.zero_plain level c) v3.0 refl (v3.1.1.0.not_more refl) x.meridian
-    reads.meridian
-    (system-in laws o has_axes (dimensions_of c) small (λ fault b. free fault (inl (inr (inl b)))) v4.0 v5.0 v6.0 refl
-    (v4.1.1.0.not_more refl) refl refl x.system reads.system
-    (plain_tail-in law o has_tail (λ fault b. free fault (inl (inl b))) v7.1.1.0 refl
+    (optional-in o 3 (meridian-form law laws.zero_plain level c) refl refl x.meridian reads.meridian
+    (system-in laws o has_axes (dimensions_of c) small (λ fault b. free fault (inl (inr (inl b)))) 4 refl refl refl
+    refl x.system reads.system
+    (plain_tail-in law o has_tail (λ fault b. free fault (inl (inl b))) (front-in o 7) refl
     (refl, (refl, (refl, (refl, (refl, (refl, (refl, tt))))))) x.tail reads.tail))
     ∙ opt-meridian (ReadsMeridian class.PrimeMeridian) level _ x.meridian has_meridian reads.meridian _))))
 

@@ -87,8 +87,7 @@ few-axes laws dimensions small (cs ∷ more) axes units free x reads count =
 
 -- that of a CRS called geographic is ellipsoidal
 pub geographic-type : (systems axes units : List Item) → AreFree (dimensions_of class.GeographicCrs) systems axes units →
-    (x : SystemParts) → ReadsFirst ReadsHead systems x →
-    x.system_type ≡ types.Ellipsoidal
+    (x : SystemParts) → ReadsFirst ReadsHead systems x → x.system_type ≡ types.Ellipsoidal
 geographic-type [] axes units free x reads = absurd reads
 geographic-type (cs ∷ more) axes units free x reads = by x.system_type reads.system_type
   where

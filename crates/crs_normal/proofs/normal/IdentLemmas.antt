@@ -186,10 +186,10 @@ ident-form level c (node place keyword square first others close) x good reads =
     (version-without_places v2.0 behind v2.1.1.0.inside (v2.1.1.0.not_more refl)
     (behind-version v3.0 v4.0 v3.1.1.0.inside v4.1.1.0.inside) x.version
     (subst (λ (is : Siblings). ReadsOptional ReadsText (single_of (skip 2 is)) x.version) are reads.version) coded.1 _ _
-    (optional-in o (text-node-form level class.Identifier class.Citation (codes "CITATION") refl (λ bytes h. h)) v3.0
-    refl (v3.1.1.0.not_more refl) x.citation reads.citation
-    (optional-in o (text-node-form level class.Identifier class.Uri (codes "URI") refl (λ bytes h. h)) v4.0 refl
-    (v4.1.1.0.not_more refl) x.uri reads.uri refl))))
+    (optional-in o 3 (text-node-form level class.Identifier class.Citation (codes "CITATION") refl (λ bytes h. h))
+    refl refl x.citation reads.citation
+    (optional-in o 4 (text-node-form level class.Identifier class.Uri (codes "URI") refl (λ bytes h. h)) refl refl
+    x.uri reads.uri refl))))
   where
     three : {i j k l : Item} {m n : Siblings} → i ≡ j → k ≡ l → m ≡ n → More i (More k m) ≡ More j (More l n)
     three e f g = cc

@@ -10,7 +10,7 @@ use Rattle.crs_value.specs.declared.values.level.Level.{Level}
 use Rattle.crs_normal.specs.WithoutPlaces.{without_places}
 use Rattle.crs_normal.specs.Normal.{IsNormalIn, IsNumberIn, IsFirstKeyword}
 use Rattle.crs_normal.specs.SpelledItems.{number_item, number_node, text_item, text_node}
-use Rattle.crs_normal.proofs.normal.FormLemmas.{Form, spelled-by, one-in, opened}
+use Rattle.crs_normal.proofs.normal.FormLemmas.{Form, one-in, opened, spelled-by}
 
 -- the law of plain spellings: a normal value has just one
 abbrev pub PlainIsOne : Type 0
@@ -79,9 +79,8 @@ pub text-node-form : (level : Level) (c d : Class) (keyword : List ℕ) → slot
 text-node-form level c d keyword slots its (leaf kind place raw) value good reads = absurd reads
 text-node-form level c d keyword slots its (node place bytes square first others close) value good reads =
     let o = opened slots good in
-    let v = o.slots in
     spelled-by o (its bytes o.written)
-    (one-in o (text-form level d) v.0 refl (v.1.1.0.not_more refl) value reads refl)
+    (one-in o 0 (text-form level d) refl refl value reads refl)
 
 pub number-node-form : PlainIsOne → (level : Level) (c d : Class) (keyword : List ℕ) →
     slots_of d ≡ one class.Number ∷ [] →
@@ -90,6 +89,5 @@ pub number-node-form : PlainIsOne → (level : Level) (c d : Class) (keyword : L
 number-node-form law level c d keyword slots its plains (leaf kind place raw) value good reads = absurd reads
 number-node-form law level c d keyword slots its plains (node place bytes square first others close) value good reads =
     let o = opened slots good in
-    let v = o.slots in
     spelled-by o (its bytes o.written)
-    (one-in o (number-form law level d plains) v.0 refl (v.1.1.0.not_more refl) value reads refl)
+    (one-in o 0 (number-form law level d plains) refl refl value reads refl)

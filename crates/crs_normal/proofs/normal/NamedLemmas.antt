@@ -20,10 +20,10 @@ use Rattle.crs_normal.specs.SpelledDynamic.{item_deformation_model, norm_deforma
 use Rattle.crs_normal.specs.SpelledFrames.{item_member, norm_member}
 use Rattle.crs_normal.specs.SpelledItems.{each, node_of, opt, text_item}
 use Rattle.crs_normal.specs.SpelledUnits.{item_ident, item_unit, norm_units, set_idents}
-use Rattle.crs_normal.proofs.normal.FormLemmas.{Form, IsGood, Kept, kept-good, one-in, opened, set-in, spelled-by}
+use Rattle.crs_normal.proofs.normal.FormLemmas.{found-in, Form, IsGood, Kept, front-in, front_in, kept-good, one-in, opened, set-in, spelled-by}
 use Rattle.crs_normal.proofs.normal.LeafLemmas.{ArePlain, PlainIsOne, number-form, text-form}
 use Rattle.crs_normal.proofs.normal.UnitLemmas.{KindIn, in-angle, in-length, in-plain, in-scale, unit-form, idents-in}
-use Rattle.crs_normal.proofs.read.ViewLemmas.{each-so, without_places_onto, onto, same_class, those-looked}
+use Rattle.crs_normal.proofs.read.ViewLemmas.{each-so, without_places_onto, onto, same_class}
 
 -- a node of a name and identifiers
 named-without_places : (level : Level) (c d : Class) (keyword : List ℕ) → slots_of d ≡ named_slots →
@@ -34,11 +34,9 @@ named-without_places : (level : Level) (c d : Class) (keyword : List ℕ) → sl
 named-without_places level c d keyword slots its (leaf kind place raw) good name identifiers a b = absurd a
 named-without_places level c d keyword slots its (node place bytes square first others close) good name identifiers a b =
     let o = opened slots good in
-    let v = o.slots in
-    let v1 = v.1.1.1.1 in
     spelled-by o (its bytes o.written)
-    (one-in o (text-form level d) v.0 refl (v.1.1.0.not_more refl) name a
-    (idents-in o v1.0 refl identifiers b refl))
+    (one-in o 0 (text-form level d) refl refl name a
+    (idents-in o 1 refl identifiers b refl))
 
 pub member-form : (level : Level) (c : Class) →
     Form level c class.Member (ReadsMember class.Member) (λ m. item_member (norm_member level m))
@@ -151,22 +149,25 @@ parameter-form law level c (leaf kind place raw) x good reads = absurd reads.nam
 parameter-form law level c (node place keyword square first others close) x good reads =
     let d = class.Parameter in
     let o = opened refl good in
-    let items = More first others in
-    let v = o.slots in
-    let v1 = v.1.1.1.1 in
-    let v2 = v1.1.1.1.1 in
-    let v3 = v2.1.1.1.1 in
-    let looked = λ (e : Class). those-looked d e (slots_of d) items v in
     spelled-by o o.written
-    (one-in o (text-form level d) v.0 refl (v.1.1.0.not_more refl) x.name reads.name
-    (one-in o (number-form law level d (λ raw h. h)) v1.0 refl
-    (v1.1.1.0.not_more refl) x.value reads.value
-    (ap (without_places_onto v2.0)
-    (idents-in o v3.0 refl x.identifiers reads.identifiers refl)
-    ∙ unit-of law level d (node place keyword square first others close) o.kept v2.0 (v2.1.1.0.not_more refl)
-    parameter_units every-unit
-    (looked class.PlainUnit, (looked class.LengthUnit, (looked class.AngleUnit, (looked class.ScaleUnit, tt))))
-    (each-so _ _ (λ i s. record { at = s.at; named = s.named; taken = s.taken }) v2.0 v2.1.1.0.inside) x.unit reads.unit
+    (one-in o 0 (text-form level d) refl refl x.name reads.name
+    (one-in o 1 (number-form law level d (λ raw h. h)) refl refl x.value reads.value
+    (ap (without_places_onto (front_in o 2))
+    (idents-in o 3 refl x.identifiers reads.identifiers refl)
+    ∙ unit-of law level d (node place keyword square first others close) o.kept (front_in o 2)
+    ((front-in o 2).not_more refl)
+    parameter_units every-unit (
+      found-in o class.PlainUnit refl,
+      (
+        found-in o class.LengthUnit refl,
+        (
+          found-in o class.AngleUnit refl,
+          (found-in o class.ScaleUnit refl, tt),
+        ),
+      ),
+    )
+    (each-so _ _ (λ i s. record { at = s.at; named = s.named; taken = s.taken }) (front_in o 2) (front-in o 2).inside)
+    x.unit reads.unit
     _)))
 
 pub conversion-form : PlainIsOne → (level : Level) (c : Class) →
@@ -176,13 +177,9 @@ conversion-form law level c (leaf kind place raw) x good reads = absurd reads.na
 conversion-form law level c (node place keyword square first others close) x good reads =
     let d = class.Conversion in
     let o = opened refl good in
-    let v = o.slots in
-    let v1 = v.1.1.1.1 in
-    let v2 = v1.1.1.1.1 in
-    let v3 = v2.1.1.1.1 in
     spelled-by o o.written
-    (one-in o (text-form level d) v.0 refl (v.1.1.0.not_more refl) x.name reads.name
-    (one-in o (method-form level d)
-    v1.0 refl (v1.1.1.0.not_more refl) x.method reads.method
-    (set-in o item_parameter (norm_parameter level) (parameter-form law level d) v2.0 refl o.sets.1.1.1.0 x.parameters reads.parameters
-    (idents-in o v3.0 refl x.identifiers reads.identifiers refl))))
+    (one-in o 0 (text-form level d) refl refl x.name reads.name
+    (one-in o 1 (method-form level d) refl refl x.method reads.method
+    (set-in o item_parameter (norm_parameter level) (parameter-form law level d) 2 refl o.sets.1.1.1.0 x.parameters
+    reads.parameters
+    (idents-in o 3 refl x.identifiers reads.identifiers refl))))

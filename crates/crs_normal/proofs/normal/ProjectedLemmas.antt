@@ -11,7 +11,7 @@ use Rattle.crs_normal.specs.SpelledCrs.{item_projected, item_vertical, norm_proj
 use Rattle.crs_normal.proofs.normal.CheckedLemmas.{Checked, first-checked, unbroken-in}
 use Rattle.crs_normal.proofs.normal.DynamicLemmas.{dynamic-form}
 use Rattle.crs_normal.proofs.normal.EnsembleLemmas.{base-form, vertical_frame-in}
-use Rattle.crs_normal.proofs.normal.FormLemmas.{Form, mapped-in, one-in, opened, spelled-by}
+use Rattle.crs_normal.proofs.normal.FormLemmas.{Form, front-in, front_in, mapped-in, one-in, only-in, opened, spelled-by}
 use Rattle.crs_normal.proofs.normal.DimensionLemmas.{small-projected, small-vertical}
 use Rattle.crs_normal.proofs.normal.HeadLemmas.{Laws}
 use Rattle.crs_normal.proofs.normal.LeafLemmas.{text-form}
@@ -19,7 +19,6 @@ use Rattle.crs_normal.proofs.normal.NamedLemmas.{conversion-form}
 use Rattle.crs_normal.proofs.normal.RankLemmas.{vertical_end-as}
 use Rattle.crs_normal.proofs.normal.SystemLemmas.{system-in}
 use Rattle.crs_normal.proofs.normal.TailLemmas.{plain_tail-in, tail-in}
-use Rattle.crs_normal.proofs.read.ViewLemmas.{alone}
 
 pub projected-form : Laws → (level : Level) (c : Class) →
     Form level c class.ProjectedCrs (Checked class.ProjectedCrs (ReadsProjected class.ProjectedCrs))
@@ -31,22 +30,15 @@ projected-form laws level c (node place keyword square first others close) x goo
     let law = laws.plain_one in
     let reads = checked.1 in
     let o = opened refl good in
-    let v = o.slots in
-    let v1 = v.1.1.1.1 in
-    let v2 = v1.1.1.1.1 in
-    let v3 = v2.1.1.1.1 in
-    let v4 = v3.1.1.1.1 in
-    let v5 = v4.1.1.1.1 in
-    let v6 = v5.1.1.1.1 in
     let bases = unbroken-in o class.BaseCrs (λ fault b. checked.0 fault (inr b)) in
     spelled-by o o.written
-    (one-in o (text-form level d) v.0 refl (v.1.1.0.not_more refl) x.name reads.name
-    (one-in o (base-form law laws.zero_plain level d) v1.0 refl (v1.1.1.0.not_more refl) x.base
+    (one-in o 0 (text-form level d) refl refl x.name reads.name
+    (one-in o 1 (base-form law laws.zero_plain level d) refl refl x.base
     (first-checked class.BaseCrs (ReadsBase class.BaseCrs) _ x.base bases reads.base)
-    (one-in o (conversion-form law level d) v2.0 refl (v2.1.1.0.not_more refl) x.conversion reads.conversion
-    (system-in laws o o.own.0 (dimensions_of d) small-projected (λ fault b. checked.0 fault (inl (inr (inl b)))) v3.0 v4.0
-    v5.0 refl (v3.1.1.0.not_more refl) refl refl x.system reads.system
-    (plain_tail-in law o o.own.1 (λ fault b. checked.0 fault (inl (inl b))) v6.1.1.0 refl
+    (one-in o 2 (conversion-form law level d) refl refl x.conversion reads.conversion
+    (system-in laws o o.own.0 (dimensions_of d) small-projected (λ fault b. checked.0 fault (inl (inr (inl b)))) 3
+    refl refl refl refl x.system reads.system
+    (plain_tail-in law o o.own.1 (λ fault b. checked.0 fault (inl (inl b))) (front-in o 6) refl
     (refl, (refl, (refl, (refl, (refl, (refl, (refl, tt))))))) x.tail reads.tail)))))
 
 pub vertical-form : Laws → (level : Level) (c : Class) →
@@ -59,20 +51,14 @@ vertical-form laws level c (node place keyword square first others close) x good
     let law = laws.plain_one in
     let reads = checked.1 in
     let o = opened refl good in
-    let v = o.slots in
-    let v1 = v.1.1.1.1 in
-    let v2 = v1.1.1.1.1 in
-    let v3 = v2.1.1.1.1 in
-    let v4 = v3.1.1.1.1 in
-    let v5 = v4.1.1.1.1 in
-    let v6 = v5.1.1.1.1 in
     spelled-by o o.written
-    (one-in o (text-form level d) v.0 refl (v.1.1.0.not_more refl) x.name reads.name
-    (mapped-in o item_dynamic (norm_dynamic level) (dynamic-form law level d) v1.0 refl (v1.1.1.0.not_more refl) x.dynamic
-    reads.dynamic
-    (vertical_frame-in law o v2.0 (alone v2.0 v2.1.1.0 refl refl) refl refl (λ fault b. checked.0 fault (inr b)) x.frame
+    (one-in o 0 (text-form level d) refl refl x.name reads.name
+    (mapped-in o item_dynamic (norm_dynamic level) (dynamic-form law level d) 1 refl refl x.dynamic reads.dynamic
+    (vertical_frame-in law o (front_in o 2) (only-in o 2 refl refl) refl refl (λ fault b. checked.0 fault (inr b))
+    x.frame
     reads.frame _ _
-    (system-in laws o o.own.0 (dimensions_of d) small-vertical (λ fault b. checked.0 fault (inl (inr (inl b)))) v3.0 v4.0
-    v5.0 refl (v3.1.1.0.not_more refl) refl refl x.system reads.system
-    (tail-in law o o.own.1 (λ fault b. checked.0 fault (inl (inl b))) vertical_tail (vertical_end-as d) v6.1.1.0.inside refl
+    (system-in laws o o.own.0 (dimensions_of d) small-vertical (λ fault b. checked.0 fault (inl (inr (inl b)))) 3 refl
+    refl refl refl x.system reads.system
+    (tail-in law o o.own.1 (λ fault b. checked.0 fault (inl (inl b))) vertical_tail (vertical_end-as d)
+    (front-in o 6).inside refl
     (refl, (refl, (refl, (refl, (refl, (refl, (refl, tt))))))) x.geoid_models reads.geoid_models x.tail reads.tail)))))

@@ -1,6 +1,6 @@
 -- The end of a normal CRS: ranks rise to it, and its arguments are geoid models, usages, identifiers and
 -- the remark.
-use Rattle.std.proofs.Common.{◌≡◌, ℕ, ◌≤◌, ◌||◌, Bool, true, false, inl, inr, ◌⊎◌, Option, Some, None, List, [], ◌∷◌, if◌then◌else◌, refl, sym, ◌∙◌, ap, subst}
+use Rattle.std.proofs.Common.{zero, suc, ◌≡◌, ℕ, ◌≤◌, ◌||◌, Bool, true, false, inl, inr, ◌⊎◌, Option, Some, None, List, [], ◌∷◌, if◌then◌else◌, refl, sym, ◌∙◌, ap, subst}
 use denote.Enum.Bare.{sameb}
 use Rattle.crs_text.specs.Prelude.{Item, Siblings, End, More}
 use Rattle.crs_shape.specs.contracts.class.Class.{the_type}
@@ -10,11 +10,11 @@ use Rattle.crs_shape.specs.Prelude.{SlotParts, class_in, is_class, tail, vertica
 use Rattle.crs_value.specs.Prelude.{AtClass, is_a, those}
 use Rattle.crs_normal.specs.NormalOwn.{Rise, rank}
 use Rattle.crs_value.specs.Sound.{Each}
-use Rattle.crs_normal.proofs.read.ViewLemmas.{InSlot, View, onto, same_class}
+use Rattle.crs_normal.proofs.read.ViewLemmas.{InSlot, View, front_at, onto, same_class}
 
 -- ---- ranks rise after the first arguments too
 
-pub rise-behind : (c : Class) (least : ℕ) (front : List Item) (rest : Siblings) → Rise c least (onto front rest) →
+rise-behind : (c : Class) (least : ℕ) (front : List Item) (rest : Siblings) → Rise c least (onto front rest) →
     (m : ℕ) × Rise c m rest
 rise-behind c least [] rest rise = (least, rise)
 rise-behind c least (item ∷ items) rest rise = by (class_in c item) (λ k h. rise-behind c k items rest h) rise
@@ -29,6 +29,15 @@ pub rise-as : (c : Class) (m : ℕ) (item : Item) (rest : Siblings) (d : Class) 
     Rise c m (More item rest) → (m ≤ rank d) × Rise c (rank d) rest
 rise-as c m item rest d named rise =
     subst (λ (o : Option Class). AtClass o (λ x. (m ≤ rank x) × Rise c (rank x) rest)) named rise
+
+pub rise-at : (c : Class) (slots : List SlotParts) (items : Siblings) (v : View c slots items) (least : ℕ) →
+    Rise c least items → (k : ℕ) →
+    (m : ℕ) × ((rest : Siblings) × Rise c m (onto (front_at c slots items v k) rest))
+rise-at c [] items v least rise k = (least, (items, rise))
+rise-at c (slot ∷ slots) items v least rise zero = (least, (v.1.0, subst (Rise c least) v.1.1.1.0 rise))
+rise-at c (slot ∷ slots) items v least rise (suc k) =
+    let behind = rise-behind c least v.0 v.1.0 (subst (Rise c least) v.1.1.1.0 rise) in
+    rise-at c slots v.1.0 v.1.1.1.1 behind.0 behind.1 k
 
 -- the items in the last slot
 abbrev pub last_front : (c : Class) (slots : List SlotParts) (items : Siblings) → View c slots items → List Item

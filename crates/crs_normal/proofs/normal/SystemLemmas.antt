@@ -1,5 +1,5 @@
 -- A normal coordinate system is the one form of its value: its axes are in order of position.
-use Rattle.std.proofs.Common.{◌≡◌, ℕ, suc, ◌+◌, ◌^◌, ◌≤◌, ◌<◌, length, true, false, Some, List, [], ◌∷◌, ◌++◌, if◌then◌else◌, decimal, refl, sym, ◌∙◌, ap, subst, arith, append_assoc, length-append}
+use Rattle.std.proofs.Common.{IsFalse, ◌≡◌, ℕ, suc, ◌+◌, ◌^◌, ◌<◌, length, true, false, Some, List, [], ◌∷◌, ◌++◌, if◌then◌else◌, decimal, refl, sym, ◌∙◌, ap, subst, arith, append_assoc, length-append}
 use Rattle.std.specs.Str.{bytes_eq}
 use Rattle.std.proofs.lemmas.Fmt.{decimal_injective}
 use Rattle.std.proofs.lemmas.Slice.Eq.{bytes_eq-Decides}
@@ -15,12 +15,12 @@ use Rattle.crs_value.specs.Sound.{Each}
 use Rattle.crs_normal.specs.SpelledItems.{each}
 use Rattle.crs_normal.specs.SpelledSystems.{axes_from, axis_at, is_at, item_axis, item_head, norm_axis, norm_system, system_items, with_axis}
 use Rattle.crs_normal.proofs.normal.AxisLemmas.{IsNumbered, axis-form, type-form}
-use Rattle.crs_normal.proofs.normal.FormLemmas.{Form, IsGood, Looked, Opened, found-in, good-in, one-in, opened, spelled-by}
+use Rattle.crs_normal.proofs.normal.FormLemmas.{Form, IsGood, Looked, Opened, found-in, front_in, good-in, one-in, opened, spelled-by}
 use Rattle.crs_normal.proofs.normal.DimensionLemmas.{AreSmall}
 use Rattle.crs_normal.proofs.normal.HeadLemmas.{AreFree, Laws, each-length, few-axes}
 use Rattle.crs_normal.proofs.normal.LeafLemmas.{PlainIsOne, number-form}
 use Rattle.crs_normal.proofs.normal.UnitLemmas.{idents-in}
-use Rattle.crs_normal.proofs.read.ViewLemmas.{without_places_onto}
+use Rattle.crs_normal.proofs.read.ViewLemmas.{without_places_onto, slot_at}
 
 -- ---- the axes at their positions
 
@@ -145,35 +145,34 @@ head-form law level c (leaf kind place raw) x good reads = absurd reads.dimensio
 head-form law level c (node place keyword square first others close) x good reads =
     let d = class.CoordinateSystem in
     let o = opened refl good in
-    let v = o.slots in
-    let v1 = v.1.1.1.1 in
-    let v2 = v1.1.1.1.1 in
     spelled-by o o.written
-    (one-in o (type-form level) v.0 refl (v.1.1.0.not_more refl)
-    x.system_type reads.system_type
-    (one-in o (number-form law level d (λ raw h. h)) v1.0 refl
-    (v1.1.1.0.not_more refl) x.dimension reads.dimension
-    (idents-in o v2.0 refl x.identifiers reads.identifiers refl)))
+    (one-in o 0 (type-form level) refl refl x.system_type reads.system_type
+    (one-in o 1 (number-form law level d (λ raw h. h)) refl refl x.dimension reads.dimension
+    (idents-in o 2 refl x.identifiers reads.identifiers refl)))
 
 -- the node `CS`, the axes and no shared unit
 pub system-in : Laws → {level : Level} {c : Class} {slots : List SlotParts} {item : Item} {keyword : List ℕ}
     (o : Opened level c slots item keyword) → HasAxes c item → (dimensions : SystemType → List ℕ) →
     ((t : SystemType) → AreSmall (dimensions t)) → AreFree dimensions (those c class.CoordinateSystem (arguments item))
-    (those c class.Axis (arguments item)) (those c class.AxisUnit (arguments item)) → (heads axes units : List Item) →
-    Looked o class.CoordinateSystem heads → length heads ≤ 1 → Looked o class.Axis axes → Looked o class.AxisUnit units →
+    (those c class.Axis (arguments item)) (those c class.AxisUnit (arguments item)) → (k : ℕ) →
+    Looked o class.CoordinateSystem (front_in o k) → IsFalse (slot_at slots k).many →
+    Looked o class.Axis (front_in o (suc k)) → Looked o class.AxisUnit (front_in o (suc (suc k))) →
     (x : SystemParts) → ReadsSystem c item x → {rest after : Siblings} → rest ≡ after →
-    without_places_onto heads (without_places_onto axes (without_places_onto units rest)) ≡ system_items (norm_system level x) after
-system-in laws {level = level} {c = c} {item = item} o has dimensions small free heads axes units e few f g x reads
+    without_places_onto (front_in o k) (without_places_onto (front_in o (suc k))
+    (without_places_onto (front_in o (suc (suc k))) rest)) ≡ system_items (norm_system level x) after
+system-in laws {level = level} {c = c} {item = item} o has dimensions small free k e single f g x reads
     {rest = rest} {after = after} same =
     let found = those c class.Axis (arguments item) in
     let read = axes-read laws.plain_one level c x 1 found x.axes (good-in o class.Axis) has.ordered has.own_units reads.axes
     after in
     let within = few-axes laws dimensions small _ _ _ free x reads.head
     (each-length (ReadsAxis class.Axis) found x.axes reads.axes) in
-    one-in o (head-form laws.plain_one level c) heads e few x reads.head
-    (ap (λ us. without_places_onto axes (without_places_onto us rest)) (sym (found-in o class.AxisUnit g)
+    one-in o k (head-form laws.plain_one level c) e single x reads.head
+    (ap (λ us. without_places_onto (front_in o (suc k)) (without_places_onto us rest))
+    (sym (found-in o class.AxisUnit g)
     ∙ has.none_shared)
-    ∙ ap (without_places_onto axes) same ∙ ap (λ xs. without_places_onto xs after) (sym (found-in o class.Axis f))
+    ∙ ap (without_places_onto (front_in o (suc k))) same ∙ ap (λ xs. without_places_onto xs after)
+    (sym (found-in o class.Axis f))
     ∙ read.spelled
     ∙ ap (λ xs. each item_axis xs after)
     (sym (from-numbered level x 1 [] x.axes refl tt read.numbered_so refl (more (length x.axes) within))))

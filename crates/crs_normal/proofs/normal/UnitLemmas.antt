@@ -16,7 +16,7 @@ use Rattle.crs_value.specs.Sound.{Each}
 use Rattle.crs_normal.specs.Ordered.{in_order}
 use Rattle.crs_normal.specs.SpelledItems.{each}
 use Rattle.crs_normal.specs.SpelledUnits.{item_ident, item_unit, norm_unit, set_idents}
-use Rattle.crs_normal.proofs.normal.FormLemmas.{IsGood, Form, Kept, Looked, Opened, found-in, kept-good, spelled-by, one-in, opened, reads-kept, set-spelled}
+use Rattle.crs_normal.proofs.normal.FormLemmas.{Form, IsGood, Kept, Looked, Opened, found-in, front_in, kept-good, one-in, opened, reads-kept, set-spelled, spelled-by}
 use Rattle.crs_normal.proofs.normal.IdentLemmas.{ident-form}
 use Rattle.crs_normal.proofs.normal.LeafLemmas.{ArePlain, PlainIsOne, number-form, text-form}
 use Rattle.crs_normal.proofs.read.ViewLemmas.{without_places_onto}
@@ -50,13 +50,14 @@ idents-spelled level c items front k e up =
     idents-found-spelled level c items front (kept-good level c class.Identifier items k) e up k.left.0
 
 pub idents-in : {level : Level} {c : Class} {slots : List SlotParts} {item : Item} {keyword : List ℕ}
-    (o : Opened level c slots item keyword) (front : List Item) → Looked o class.Identifier front →
+    (o : Opened level c slots item keyword) (k : ℕ) → Looked o class.Identifier (front_in o k) →
     (identifiers : List IdentParts) →
     ReadsEach (ReadsIdent class.Identifier) (those c class.Identifier (arguments item)) identifiers →
     {rest after : Siblings} → rest ≡ after →
-    without_places_onto front rest ≡ each item_ident (set_idents level identifiers) after
-idents-in {level = level} {c = c} {item = item} o front same identifiers reads f =
-    idents-spelled level c (arguments item) front o.kept (found-in o class.Identifier same) o.sets.0 identifiers
+    without_places_onto (front_in o k) rest ≡ each item_ident (set_idents level identifiers) after
+idents-in {level = level} {c = c} {item = item} o k same identifiers reads f =
+    idents-spelled level c (arguments item) (front_in o k) o.kept (found-in o class.Identifier same) o.sets.0
+    identifiers
     reads _ _ f
 
 -- ---- units
@@ -95,11 +96,8 @@ pub unit-form : PlainIsOne → (level : Level) (c d : Class) (asked : UnitKind) 
 unit-form law level c d asked slots kind_in plains (leaf kind place raw) x good reads = absurd reads.name
 unit-form law level c d asked slots kind_in plains (node place keyword square first others close) x good reads =
     let o = opened slots good in
-    let v = o.slots in
-    let v1 = v.1.1.1.1 in
-    let v2 = v1.1.1.1.1 in
     let k = kind_in keyword o.written in
     spelled-by o (keyword-of asked keyword k.0 x.kind k.1.0 k.1.1 reads.kind)
-    (one-in o (text-form level d) v.0 refl (v.1.1.0.not_more refl) x.name reads.name
-    (one-in o (number-form law level d plains) v1.0 refl (v1.1.1.0.not_more refl) x.factor reads.factor
-    (idents-in o v2.0 refl x.identifiers reads.identifiers refl)))
+    (one-in o 0 (text-form level d) refl refl x.name reads.name
+    (one-in o 1 (number-form law level d plains) refl refl x.factor reads.factor
+    (idents-in o 2 refl x.identifiers reads.identifiers refl)))

@@ -8,26 +8,22 @@ use Rattle.crs_value.specs.Prelude.{those, ReadsBox, ReadsExtent, ReadsUnit, Rea
 use Rattle.crs_value.specs.declared.values.level.Level.{Level}
 use Rattle.crs_value.specs.declared.values.level.Level.TheVariants as levels
 use Rattle.crs_normal.specs.SpelledUsages.{item_box, item_extent, item_usage, norm_extent, norm_usage}
-use Rattle.crs_normal.proofs.normal.FormLemmas.{Form, mapped-in, opened, optional-in, spelled-by}
+use Rattle.crs_normal.proofs.normal.FormLemmas.{Form, front_in, mapped-in, only-in, opened, optional-in, spelled-by}
 use Rattle.crs_normal.proofs.normal.LeafLemmas.{PlainIsOne, text-node-form}
 use Rattle.crs_normal.proofs.normal.LevelLemmas.{normal-in}
 use Rattle.crs_normal.proofs.members.PairLemmas.{four-in, opt-length, two-in}
 use Rattle.crs_normal.proofs.normal.UnitLemmas.{in-length, unit-form}
-use Rattle.crs_normal.proofs.read.ViewLemmas.{alone}
 
 pub box-form : PlainIsOne → (level : Level) (c : Class) →
     Form level c class.BoundingBox (ReadsBox class.BoundingBox) item_box
 box-form law level c (leaf kind place raw) x good reads = absurd reads.south
 box-form law level c (node place keyword square first others close) x good reads =
     let o = opened refl good in
-    let v = o.slots in
-    let v1 = v.1.1.1.1 in
-    let v2 = v1.1.1.1.1 in
-    let v3 = v2.1.1.1.1 in
     spelled-by o o.written
-    (four-in law o (λ raw h. h) v.0 v1.0 v2.0 v3.0 refl (alone v.0 v.1.1.0 refl refl) (alone v1.0 v1.1.1.0 refl refl)
-    (alone v2.0 v2.1.1.0 refl refl)
-    (alone v3.0 v3.1.1.0 refl refl) x.south x.west x.north x.east reads.south reads.west reads.north reads.east refl)
+    (four-in law o (λ raw h. h) (front_in o 0) (front_in o 1) (front_in o 2) (front_in o 3) refl
+    (only-in o 0 refl refl) (only-in o 1 refl refl)
+    (only-in o 2 refl refl)
+    (only-in o 3 refl refl) x.south x.west x.north x.east reads.south reads.west reads.north reads.east refl)
 
 pub extent-form : PlainIsOne → (level : Level) (c : Class) →
     Form level c class.VerticalExtent (ReadsExtent class.VerticalExtent) (λ e. item_extent (norm_extent level e))
@@ -36,14 +32,11 @@ extent-form law level c (node place keyword square first others close) x good re
     let d = class.VerticalExtent in
     let o = opened refl good in
     let items = More first others in
-    let v = o.slots in
-    let v1 = v.1.1.1.1 in
-    let v2 = v1.1.1.1.1 in
     spelled-by o o.written
-    (two-in law o (λ raw h. h) v.0 v1.0 refl (alone v.0 v.1.1.0 refl refl) (alone v1.0 v1.1.1.0 refl refl)
+    (two-in law o (λ raw h. h) (front_in o 0) (front_in o 1) refl (only-in o 0 refl refl) (only-in o 1 refl refl)
     x.minimum x.maximum reads.minimum reads.maximum
-    (optional-in o (unit-form law level d class.LengthUnit kinds.Length refl (in-length kinds.Length) (λ raw h. h)) v2.0 refl
-    (v2.1.1.0.not_more refl) x.unit reads.unit refl
+    (optional-in o 2 (unit-form law level d class.LengthUnit kinds.Length refl (in-length kinds.Length) (λ raw h. h))
+    refl refl x.unit reads.unit refl
     ∙ opt-length (ReadsUnit class.LengthUnit) level (those d class.LengthUnit items) x.unit o.own reads.unit End))
 
 full-usage-form : PlainIsOne → (c : Class) →
@@ -55,19 +48,13 @@ full-usage-form law c (node place keyword square first others close) x good read
     let level = levels.Full in
     let d = class.Usage in
     let o = opened refl good in
-    let v = o.slots in
-    let v1 = v.1.1.1.1 in
-    let v2 = v1.1.1.1.1 in
-    let v3 = v2.1.1.1.1 in
     spelled-by o o.written
-    (optional-in o (text-node-form level d class.Scope (codes "SCOPE") refl (λ bytes h. h)) v.0 refl (v.1.1.0.not_more refl) x.scope
+    (optional-in o 0 (text-node-form level d class.Scope (codes "SCOPE") refl (λ bytes h. h)) refl refl x.scope
     reads.scope
-    (optional-in o (text-node-form level d class.Area (codes "AREA") refl (λ bytes h. h)) v1.0 refl (v1.1.1.0.not_more refl) x.area
+    (optional-in o 1 (text-node-form level d class.Area (codes "AREA") refl (λ bytes h. h)) refl refl x.area
     reads.area
-    (optional-in o (box-form law level d) v2.0 refl
-    (v2.1.1.0.not_more refl) x.bbox reads.bbox
-    (mapped-in o item_extent (norm_extent level) (extent-form law level d) v3.0 refl (v3.1.1.0.not_more refl) x.extent
-    reads.extent refl))))
+    (optional-in o 2 (box-form law level d) refl refl x.bbox reads.bbox
+    (mapped-in o item_extent (norm_extent level) (extent-form law level d) 3 refl refl x.extent reads.extent refl))))
 
 -- with all that it holds, at each level
 pub usage-form : PlainIsOne → (level : Level) (c : Class) →

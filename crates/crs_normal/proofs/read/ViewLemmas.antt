@@ -1,11 +1,11 @@
 -- A shaped node slot by slot: the arguments in each slot, and how those of a class are found among them.
-use Rattle.std.proofs.Common.{◌≡◌, suc, ◌≤◌, ◌||◌, length, Bool, true, false, IsTrue, IsFalse, Some, List, [], ◌∷◌, ◌++◌, if◌then◌else◌, refl, sym, ◌∙◌, ap, subst, arith, rules}
+use Rattle.std.proofs.Common.{◌≡◌, ℕ, zero, suc, ◌≤◌, ◌||◌, length, Bool, true, false, true≢false, IsTrue, IsFalse, Some, List, [], ◌∷◌, ◌++◌, if◌then◌else◌, refl, sym, ◌∙◌, ap, subst, arith, rules}
 use Rattle.std.specs.List.{list_any}
 use denote.Enum.Bare.{sameb, same_true}
 use Rattle.crs_text.specs.Prelude.{Item, Siblings, End, More}
 use Rattle.crs_shape.specs.contracts.class.Class.{the_type}
 use Rattle.crs_shape.specs.declared.class.Class.{Class}
-use Rattle.crs_shape.specs.Prelude.{AllTaken, Fills, AllFilled, joined, Allowed, Shaped, AreShaped, class_in, SlotParts, slots_of, takes, is_class}
+use Rattle.crs_shape.specs.Prelude.{AllTaken, Fills, AllFilled, joined, Allowed, Shaped, AreShaped, class_in, SlotParts, optional_of, slots_of, takes, is_class}
 use Rattle.crs_value.specs.Prelude.{is_a, those}
 use Rattle.crs_normal.specs.WithoutPlaces.{without_places, all_without_places}
 use Rattle.crs_value.specs.Sound.{Each}
@@ -116,6 +116,23 @@ pub items-rebuilt : (c : Class) (slots : List SlotParts) (items : Siblings) (v :
     items ≡ rebuilt c slots items v
 items-rebuilt c [] items v = v
 items-rebuilt c (slot ∷ slots) items v = v.1.1.1.0 ∙ ap (onto v.0) (items-rebuilt c slots v.1.0 v.1.1.1.1)
+
+-- the items in the slot at this position, from 0
+abbrev pub front_at : (c : Class) (slots : List SlotParts) (items : Siblings) → View c slots items → ℕ → List Item
+front_at c [] items v k = []
+front_at c (slot ∷ slots) items v zero = v.0
+front_at c (slot ∷ slots) items v (suc k) = front_at c slots v.1.0 v.1.1.1.1 k
+
+abbrev pub slot_at : List SlotParts → ℕ → SlotParts
+slot_at [] k = optional_of []
+slot_at (slot ∷ slots) zero = slot
+slot_at (slot ∷ slots) (suc k) = slot_at slots k
+
+pub front-at : (c : Class) (slots : List SlotParts) (items : Siblings) (v : View c slots items) (k : ℕ) →
+    Front c (slot_at slots k) (front_at c slots items v k)
+front-at c [] items v k = record { inside = tt; enough = λ h. absurd (true≢false (sym h)); not_more = λ h. omega arith }
+front-at c (slot ∷ slots) items v zero = v.1.1.0
+front-at c (slot ∷ slots) items v (suc k) = front-at c slots v.1.0 v.1.1.1.1 k
 
 -- ---- those of a class
 
