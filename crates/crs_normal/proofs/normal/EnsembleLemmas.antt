@@ -35,8 +35,7 @@ geodetic_ensemble-form law level c (node place keyword square first others close
     let o = opened refl good in
     spelled-by o o.written
     (one-in o 0 (text-form level d) refl refl x.name reads.name
-    (set-in o item_member (norm_member level) (member-form level d) 1 refl
-    o.sets.1.1.0 x.members reads.members
+    (set-in o item_member (norm_member level) (member-form level d) 1 refl o.sets.1.1.0 x.members reads.members
     (mapped-in o item_ellipsoid (norm_ellipsoid level) (ellipsoid-form law level d) 2 refl refl x.ellipsoid
     reads.ellipsoid
     (one-in o 3 (number-node-form law level d class.EnsembleAccuracy (codes "ENSEMBLEACCURACY") refl (λ bytes h. h)
@@ -53,8 +52,7 @@ vertical_ensemble-form law level c (node place keyword square first others close
     let o = opened refl good in
     spelled-by o o.written
     (one-in o 0 (text-form level d) refl refl x.name reads.name
-    (set-in o item_member (norm_member level) (member-form level d) 1 refl
-    o.sets.1.1.0 x.members reads.members
+    (set-in o item_member (norm_member level) (member-form level d) 1 refl o.sets.1.1.0 x.members reads.members
     (missing-in o item_ellipsoid (norm_ellipsoid level) (ellipsoid-form law level d) refl x.ellipsoid reads.ellipsoid
     (one-in o 2 (number-node-form law level d class.EnsembleAccuracy (codes "ENSEMBLEACCURACY") refl (λ bytes h. h)
     (λ raw h. h)) refl refl x.accuracy reads.accuracy
@@ -139,8 +137,7 @@ base-form law zero_plain level c (node place keyword square first others close) 
     (one-in o 0 (text-form level d) refl refl x.name reads.name
     (mapped-in o item_dynamic (norm_dynamic level) (dynamic-form law level d) 1 refl refl x.dynamic reads.dynamic
     (geodetic_frame-in law o (front_in o 2) (only-in o 2 refl refl) refl refl (λ fault b. checked.0 fault (inr b))
-    x.frame
-    reads.frame _ _
+    x.frame reads.frame _ _
     (optional-in o 3 (meridian-form law zero_plain level d) refl refl x.meridian reads.meridian
     (optional-in o 4 (unit-form law level d class.AngleUnit kinds.Angle refl (in-angle kinds.Angle) (λ raw h. h)) refl
     refl x.unit reads.unit

@@ -34,8 +34,7 @@ geodetic_datum-form law level c (node place keyword square first others close) x
     (mapped-in o item_ellipsoid (norm_ellipsoid level) (ellipsoid-form law level d) 1 refl refl x.ellipsoid
     reads.ellipsoid
     (anchors-in law o o.own 2 (front-in o 2).inside refl refl (λ fault b. checked.0 fault (inl b)) x.anchor
-    x.anchor_epoch
-    reads.anchor reads.anchor_epoch
+    x.anchor_epoch reads.anchor reads.anchor_epoch
     (idents-in o 3 refl x.identifiers reads.identifiers refl))))
 
 pub vertical_datum-form : PlainIsOne → (level : Level) (c : Class) →
@@ -51,6 +50,5 @@ vertical_datum-form law level c (node place keyword square first others close) x
     (one-in o 0 (text-form level d) refl refl x.name reads.name
     (missing-in o item_ellipsoid (norm_ellipsoid level) (ellipsoid-form law level d) refl x.ellipsoid reads.ellipsoid
     (anchors-in law o o.own 1 (front-in o 1).inside refl refl (λ fault b. checked.0 fault (inl b)) x.anchor
-    x.anchor_epoch
-    reads.anchor reads.anchor_epoch
+    x.anchor_epoch reads.anchor reads.anchor_epoch
     (idents-in o 2 refl x.identifiers reads.identifiers refl))))

@@ -55,8 +55,7 @@ vertical-form laws level c (node place keyword square first others close) x good
     (one-in o 0 (text-form level d) refl refl x.name reads.name
     (mapped-in o item_dynamic (norm_dynamic level) (dynamic-form law level d) 1 refl refl x.dynamic reads.dynamic
     (vertical_frame-in law o (front_in o 2) (only-in o 2 refl refl) refl refl (λ fault b. checked.0 fault (inr b))
-    x.frame
-    reads.frame _ _
+    x.frame reads.frame _ _
     (system-in laws o o.own.0 (dimensions_of d) small-vertical (λ fault b. checked.0 fault (inl (inr (inl b)))) 3 refl
     refl refl refl x.system reads.system
     (tail-in law o o.own.1 (λ fault b. checked.0 fault (inl (inl b))) vertical_tail (vertical_end-as d)

@@ -51,8 +51,7 @@ full-usage-form law c (node place keyword square first others close) x good read
     spelled-by o o.written
     (optional-in o 0 (text-node-form level d class.Scope (codes "SCOPE") refl (λ bytes h. h)) refl refl x.scope
     reads.scope
-    (optional-in o 1 (text-node-form level d class.Area (codes "AREA") refl (λ bytes h. h)) refl refl x.area
-    reads.area
+    (optional-in o 1 (text-node-form level d class.Area (codes "AREA") refl (λ bytes h. h)) refl refl x.area reads.area
     (optional-in o 2 (box-form law level d) refl refl x.bbox reads.bbox
     (mapped-in o item_extent (norm_extent level) (extent-form law level d) 3 refl refl x.extent reads.extent refl))))
 
