@@ -1,6 +1,6 @@
-use Rattle.crs_c.proofs.Steps.{◌≡◌, List, [], ◌∷◌, ◌++◌, refl, ap, ◌∙◌, w64, proved, full_share, id⊢, ftrue, fat, Val, vint, vstruct, of_list, fact, tables, ‵, raw, ◌⊛◌, some, later, prop, ◌$◌, ◌∵◌, !, qed, done, move, drop, use1, use2, split, join, fsplit, fpick, feq_l, pick, await, rewrite, regoal, suffices, frame, group, whole, sub, enter, of_opd, load, look, store, stop, fld, no_more, and_then, assigns, returns, alloc_all, pass_all, free_all, look_at, get, get_in, through, sets, lands_as, usize, yes, shows, Is, layout, uint_Makes, uint_Tells, Ptr, RawPtr, block_ptr, lies_at, in_a_block, rawptr_vals, rawptr_Tells, plain, nothing, owned, heard, peeks, only, Tuple, calls_at, lasts, on_entry, triple_of, Stays, walk_of, says, stay_dropped, Goes-dropped, ends_at, framed, part_out, part_in, Good, one, both_true, uint_vals, has_ty, part_at}
+use Rattle.crs_c.proofs.Held.{held_at, hands_over, both_heard, pair_out, dropped, goes_dropped, ends}
+use Rattle.crs_c.proofs.Steps.{◌≡◌, [], ◌∷◌, ◌++◌, refl, w64, proved, full_share, id⊢, vint, tables, ‵, raw, prop, ◌$◌, ◌∵◌, !, qed, done, move, drop, use2, join, rewrite, suffices, frame, whole, sub, enter, of_opd, load, look, store, stop, fld, no_more, and_then, assigns, returns, alloc_all, pass_all, free_all, look_at, get, get_in, through, sets, lands_as, usize, layout, uint_Makes, uint_Tells, Ptr, block_ptr, lies_at, rawptr_vals, rawptr_Tells, nothing, owned, on_entry, triple_of, walk_of, says, framed, part_in, both_true, uint_vals, has_ty, part_at}
 use prog.Wp.{WpFn}
-use denote.Triple.Clauses.{Lasts}
 use Rattle.crs_c.specs.Places.{catalogue_at}
 use Rattle.crs_placed.specs.Catalogue.{CatalogueParts}
 use Rattle.crs_catalogue.specs.contracts.catalogue.Catalogue as catalogue
@@ -12,30 +12,22 @@ use Rattle.crs_calls.proofs.looked_up.Met.{met}
 use Rattle.crs_catalogue.proofs.catalogue.Catalogue.TheLaws.{the_row_laws}
 use Rattle.crs_calls.specs.Catalogues.{line_at}
 use Rattle.crs_calls.specs.contracts.catalogue_answers.Numbered as numbered
-use Rattle.crs_calls.specs.declared.catalogue_answers.Numbered.{Numbered}
 use Rattle.crs_calls.proofs.catalogue_answers.Numbered.TheLaws as numbered_laws
-
-abbrev stayed : Stays f.ended.signature.params f.ended.kept
-stayed = (stay_dropped _ yes, (stay_dropped _ yes, (stay_dropped _ yes, tt)))
 
 pub crsdesk_catalogue_line_spec : {M : Type 1} → statement M
 unfolding catalogue_at
 crsdesk_catalogue_line_spec 𝓤 𝓛 𝓜 𝓡 wired =
-    let c = f.clauses 𝓛 𝓜.mem 𝓡.returns in let W = walk_of 𝓛 f.ended stayed c in let 𝓣 = tables 𝓤 𝓛.H 𝓜 𝓡 𝓡.env in
+    let c = f.clauses 𝓛 𝓜.mem 𝓡.returns in let W = walk_of 𝓛 f.ended (dropped f.ended) c in let 𝓣 = tables 𝓤 𝓛.H 𝓜 𝓡 𝓡.env in
     let R = catalogue.the_row in let P = numbered.the_row in
-    let goes = Goes-dropped 𝓛 0 (plain (λ _. usize)) yes (λ κs x w. refl) in
-    proved 𝓛 f.ended stayed c 𝓜 𝓡 (Goes-dropped 𝓛 0 (plain (λ _. RawPtr)) yes (λ κs x w. refl), (goes, (goes, tt)))
+    let is_R = the_row_laws.lawful 𝓛 in let is_P = numbered_laws.the_row_laws.lawful 𝓛 in
+    proved 𝓛 f.ended (dropped f.ended) c 𝓜 𝓡 (goes_dropped 𝓛 f.ended (λ κs x w. refl, (λ κs x w. refl, (λ κs x w. refl, tt))))
     f.Key.name code.function (code.unfolded 𝓤 𝓛.H 𝓜 𝓡 wired)
     (λ κs. (rawptr_vals, (uint_vals w64, (uint_vals w64, tt)))) (λ κs. (rawptr_Tells, (uint_Tells w64, (uint_Tells w64, tt)))) (λ κs qs bounds a n are.
     let i = a.1.0 in let j = a.1.1.0 in
     let y : Ptr → W.Ghost = λ p. ((κs, qs, bounds, (p, (i, (j, tt))), (rawptr_vals p, (uint_vals w64 i, (uint_vals w64 j, tt)))), n) in
     let G = triple_of 𝓛 g.signature (g.spec 𝓛 𝓜.mem 𝓡.returns) in
     qed 𝓛 (raw (on_entry 𝓛 f.signature κs qs a (y a.0).0.4) ∷ ‵ (lies_at R full_share a.0 n) ∷ []) ∵ drop ! $
-    in_a_block ! a.0 (λ p. lies_at R full_share p n) (id⊢ 𝓤 _) (λ b o e.
-    regoal ! (λ p. prop (WpFn 𝓤 𝓛.H 𝓣.C 𝓣.Λ code.function (rawptr_vals p ++ (vint w64 i ∷ vint w64 j ∷ [])) (W.post (y p)))) e refl $
-    use1 𝓛 (some (λ (v : Val). ‵ (fat full_share (layout R) b o v) ⊛ ‵ (R.own_val n (v ∷ [])))) (part_out 𝓛 R refl full_share n b o) $ pick ! (λ v. split ! $ move ! (1 ∷ []) $
-    peeks ! R (Is R) (shows 𝓛 R) n (v ∷ []) (λ is.
-    let good : Good (layout R) v = ((the_row_laws.lawful 𝓛).typed n (v ∷ []) is).0 in
+    held_at ! R refl is_R a.0 n (λ p. prop (WpFn 𝓤 𝓛.H 𝓣.C 𝓣.Λ code.function (rawptr_vals p ++ (vint w64 i ∷ vint w64 j ∷ [])) (W.post (y p)))) refl (λ b o v good.
     -- [the value; its cell; the locals]
     enter ! _ _ _ _ _ $ alloc_all ! (λ l. pass_all ! refl ((tt, tt), ((tt, record { fits = are.1.0.1 }), ((tt, record { fits = are.1.1.0.1 }), tt))) $
     sets ! (of_opd ! (get ! refl)) refl (tt, tt) $
@@ -45,28 +37,18 @@ crsdesk_catalogue_line_spec 𝓤 𝓛 𝓜 𝓡 wired =
     nothing ! $ owned ! usize _ (uint_Makes 𝓛 w64) j _ (refl, are.1.1.0.1) $ join ! $ owned ! usize _ (uint_Makes 𝓛 w64) i _ (refl, are.1.0.1) $ join ! $
     move ! (1 ∷ 0 ∷ []) $ join ! $ nothing ! $ join ! $ nothing ! $ move ! (1 ∷ 0 ∷ []) $
     use2 𝓛 (raw (G.pre z)) (id⊢ 𝓤 _) $
-    calls_at ! (framed 𝓤 𝓛.H 𝓜 (tables 𝓤 𝓛.H 𝓜 𝓡 𝓡.env)) G (met 𝓤 𝓛 𝓜 𝓡 (code.calls-crs_calls::looked_up 𝓡.env wired)) z
-    (and_then ! (get ! refl) (and_then ! (get ! refl) (and_then ! (get ! refl) (no_more !)))) (λ u.
-    use1 𝓛 (later (some (λ (r : CatalogueParts × Numbered). (‵ ftrue ⊛ ‵ ((Tuple (R ∷ P ∷ [])).own_val r (u ∷ []))) ⊛
-    some (λ (ws : Lasts g.ended κs (n, (i, (j, tt)))). ‵ (lasts g.ended κs (n, (i, (j, tt))) ws) ⊛ (raw (fact 𝓤 (r.0 ≡ n)) ⊛ raw (fact 𝓤 (r.1 ≡ line_at n i j))))))) (id⊢ 𝓤 _) $
-    await ! tt $ pick ! (λ r. split ! $ split ! $ drop ! $ move ! (1 ∷ []) $ pick ! (λ ws. split ! $ drop ! $ split ! $
-    heard ! _ (λ same. heard ! _ (λ found.
-    fpick ! (λ vss. fsplit ! $ feq_l ! (λ eu. fsplit ! $
-    peeks ! R (Is R) (shows 𝓛 R) r.0 vss.0 (λ is₀. move ! (1 ∷ []) $ fsplit ! $
-    peeks ! P (Is P) (shows 𝓛 P) r.1 vss.1.0 (λ is₁.
-    let g₀ = one (layout R) vss.0 ((the_row_laws.lawful 𝓛).typed r.0 vss.0 is₀) in
-    let g₁ = one (layout P) vss.1.0 ((numbered_laws.the_row_laws.lawful 𝓛).typed r.1 vss.1.0 is₁) in
-    lands_as ! (ap only (eu ∙ (λ k. vstruct (of_list (g₀.1 k ++ (g₁.1 k ++ []))) ∷ []))) refl (both_true (has_ty (layout R) g₀.0) (has_ty (layout P) g₁.0) g₀.2.0 g₁.2.0, (g₀.2.1, (g₁.2.1, tt))) $
-    sets ! (of_opd ! (get_in ! (fld ! refl (stop !)) (sub ! 0 refl (whole !)))) refl g₀.2 $
-    sets ! (of_opd ! (get_in ! (fld ! refl (stop !)) (sub ! 1 refl (whole !)))) refl g₁.2 $
-    sets ! (of_opd ! (get ! refl)) refl g₀.2 $
-    assigns ! (of_opd ! (get ! refl)) (through ! refl (stop !)) (store ! 3 refl g₀.2) $
-    sets ! (of_opd ! (get ! refl)) refl g₁.2 $
+    hands_over ! (framed 𝓤 𝓛.H 𝓜 𝓣) g.ended (g.clauses 𝓛 𝓜.mem 𝓡.returns) (met 𝓤 𝓛 𝓜 𝓡 (code.calls-crs_calls::looked_up 𝓡.env wired)) z
+    (and_then ! (get ! refl) (and_then ! (get ! refl) (and_then ! (get ! refl) (no_more !)))) (λ u r ws.
+    both_heard ! (r.0 ≡ n) (r.1 ≡ line_at n i j) (λ same found.
+    pair_out ! R P refl refl is_R is_P r u (λ v' w good' good_w eu.
+    -- [what is told; the value; the tokens; the cell; the locals]
+    lands_as ! eu refl (both_true (has_ty (layout R) v') (has_ty (layout P) w) good'.0 good_w.0, (good'.1, (good_w.1, tt))) $
+    sets ! (of_opd ! (get_in ! (fld ! refl (stop !)) (sub ! 0 refl (whole !)))) refl good' $
+    sets ! (of_opd ! (get_in ! (fld ! refl (stop !)) (sub ! 1 refl (whole !)))) refl good_w $
+    sets ! (of_opd ! (get ! refl)) refl good' $
+    assigns ! (of_opd ! (get ! refl)) (through ! refl (stop !)) (store ! 3 refl good') $
+    sets ! (of_opd ! (get ! refl)) refl good_w $
     returns ! (look_at ! 0 refl) $ free_all ! refl $
-    move ! (1 ∷ []) $ drop ! $
-    rewrite ! 0 (λ (ws : List Val). ‵ (P.own_val r.1 ws)) g₁.1 refl $
-    rewrite ! 1 (λ (ws : List Val). ‵ (R.own_val r.0 ws)) g₀.1 refl $
-    move ! (2 ∷ 1 ∷ []) $ use2 𝓛 (‵ (part_at R full_share r.0 b o)) (part_in 𝓛 R refl full_share r.0 b o g₀.0) $
+    move ! (3 ∷ 1 ∷ []) $ use2 𝓛 (‵ (part_at R full_share r.0 b o)) (part_in 𝓛 R refl full_share r.0 b o v') $
     rewrite ! 0 (λ (x : CatalogueParts). ‵ (lies_at R full_share (block_ptr b o) x)) same refl $
-    suffices ! _ (ends_at 𝓛 f.ended stayed c (y (block_ptr b o)) g₁.0 r.1 (tt, (tt, (tt, tt))) (tt, (tt, (tt, tt)))) $
-    move ! (1 ∷ []) $ nothing ! $ nothing ! $ join ! $ nothing ! $ join ! $ nothing ! $ join ! $ nothing ! $ group ! 3 $ frame ! $ says ! found $ done !))))))))))))))
+    suffices ! _ (ends 𝓛 f.ended c (y (block_ptr b o)) w r.1 (tt, (tt, (tt, tt)))) $ move ! (2 ∷ 1 ∷ []) $ frame ! $ frame ! $ says ! found $ done !))))))

@@ -1,4 +1,5 @@
-use Rattle.crs_c.proofs.Steps.{◌≡◌, List, [], ◌∷◌, ◌++◌, refl, sym, subst, proved_at, full_share, id⊢, ent, ftrue, froom, Val, fact, tables, ‵, raw, ◌⊛◌, some, later, prop, ◌$◌, ◌∵◌, !, qed, done, move, drop, use1, use2, split, join, fsplit, pick, await, rewrite, regoal, suffices, group, enter, of_opd, init, stop, no_more, and_then, assigns, returns, alloc_all, pass_all, free_all, look_at, get, through, sets, lands_as, unit_lit, vunit, feq_i, Good, yes, shows, Is, layout, Ptr, RawPtr, block_ptr, room_at, lies_at, in_a_block, rawptr_vals, rawptr_Tells, types_at, owns, plain, nothing, heard, peeks, calls_at, lasts, Lasts, triple_of, Stays, walk_of, stay_dropped, Goes-dropped, ends_at, framed, part_in, one, part_at}
+use Rattle.crs_c.proofs.Held.{hands_over, dropped, goes_dropped, ends}
+use Rattle.crs_c.proofs.Steps.{◌≡◌, List, [], ◌∷◌, ◌++◌, refl, sym, subst, proved_at, full_share, id⊢, ent, ftrue, froom, Val, tables, ‵, raw, ◌⊛◌, prop, ◌$◌, ◌∵◌, !, qed, done, move, drop, use1, use2, split, join, fsplit, rewrite, regoal, suffices, frame, enter, of_opd, init, stop, no_more, and_then, assigns, returns, alloc_all, pass_all, free_all, look_at, get, through, sets, lands_as, unit_lit, vunit, feq_i, Good, shows, Is, layout, Ptr, block_ptr, room_at, lies_at, in_a_block, rawptr_vals, rawptr_Tells, types_at, owns, nothing, heard, peeks, triple_of, walk_of, framed, part_in, one, part_at}
 use prog.Wp.{WpFn}
 use Rattle.std.specs.contracts.alloc.Global as global
 use Rattle.std.proofs.alloc.Global.TheLaws as global_laws
@@ -12,16 +13,12 @@ use Rattle.crs_c.proofs.rules.crsdesk_rules_new.Code as code
 use Rattle.crs_calls.specs.contracts.no_rules as g
 use Rattle.crs_calls.proofs.no_rules.Met.{met}
 
-abbrev stayed : Stays f.ended.signature.params f.ended.kept
-stayed = (stay_dropped _ yes, (stay_dropped _ yes, tt))
-
 pub crsdesk_rules_new_spec : {M : Type 1} → statement M
 unfolding rules_at has_room_for_rules
 crsdesk_rules_new_spec 𝓤 𝓛 𝓜 𝓡 wired =
-    let c = f.clauses 𝓛 𝓜.mem 𝓡.returns in let W = walk_of 𝓛 f.ended stayed c in let 𝓣 = tables 𝓤 𝓛.H 𝓜 𝓡 𝓡.env in
+    let c = f.clauses 𝓛 𝓜.mem 𝓡.returns in let W = walk_of 𝓛 f.ended (dropped f.ended) c in let 𝓣 = tables 𝓤 𝓛.H 𝓜 𝓡 𝓡.env in
     let R = held.the_row in let A = global.the_row in
-    proved_at 𝓛 f.ended stayed c 𝓜 𝓡
-    (Goes-dropped 𝓛 0 (plain (λ _. global.the_row)) yes (λ κs x w. refl), (Goes-dropped 𝓛 0 (plain (λ _. RawPtr)) yes (λ κs x w. refl), tt))
+    proved_at 𝓛 f.ended (dropped f.ended) c 𝓜 𝓡 (goes_dropped 𝓛 f.ended (λ κs x w. refl, (λ κs x w. refl, tt)))
     f.Key.name code.function (code.unfolded 𝓤 𝓛.H 𝓜 𝓡 wired) (λ x are.
     let κs = x.0.0 in let qs = x.0.1 in let a = x.0.3.0 in
     let Y : List Val → List Val → Ptr → W.Ghost = λ us vs p. ((κs, qs, x.0.2, (a, (p, tt)), (us, (vs, tt))), x.1) in
@@ -42,23 +39,19 @@ crsdesk_rules_new_spec 𝓤 𝓛 𝓜 𝓡 wired =
     move ! (1 ∷ []) $ rewrite ! 0 (λ (ws : List Val). ‵ (A.own_val a ws)) refl refl $
     nothing ! $ move ! (1 ∷ 0 ∷ []) $ join ! $ nothing ! $ join ! $ nothing ! $ move ! (1 ∷ 0 ∷ []) $
     use2 𝓛 (raw (G.pre z)) (id⊢ 𝓤 _) $
-    calls_at ! (framed 𝓤 𝓛.H 𝓜 (tables 𝓤 𝓛.H 𝓜 𝓡 𝓡.env)) G (met 𝓤 𝓛 𝓜 𝓡 (code.calls-crs_calls::no_rules 𝓡.env wired)) z
-    (and_then ! (get ! refl) (no_more !)) (λ u.
-    use1 𝓛 (later (some (λ (r : HeldParts). (‵ ftrue ⊛ ‵ (R.own_val r (u ∷ []))) ⊛
-    some (λ (ws : Lasts g.ended κs (a, tt)). ‵ (lasts g.ended κs (a, tt) ws) ⊛ raw (fact 𝓤 (r ≡ nothing_held)))))) (id⊢ 𝓤 _) $
-    await ! tt $ pick ! (λ r. split ! $ split ! $ drop ! $ move ! (1 ∷ []) $ pick ! (λ ws. split ! $ drop ! $
-    heard ! _ (λ none.
+    hands_over ! (framed 𝓤 𝓛.H 𝓜 𝓣) g.ended (g.clauses 𝓛 𝓜.mem 𝓡.returns) (met 𝓤 𝓛 𝓜 𝓡 (code.calls-crs_calls::no_rules 𝓡.env wired)) z
+    (and_then ! (get ! refl) (no_more !)) (λ u r ws. heard ! (r ≡ nothing_held) (λ none.
     peeks ! R (Is R) (shows 𝓛 R) r (u ∷ []) (λ is.
     let good : Good (layout R) u = ((the_row_laws.lawful 𝓛).typed r (u ∷ []) is).0 in
-    -- [the rules; the room; the locals]
+    -- [the rules; the tokens; the room; the locals]
     lands_as ! refl refl good $
     sets ! (of_opd ! (get ! refl)) refl good $
-    assigns ! (of_opd ! (get ! refl)) (through ! refl (stop !)) (init ! 1 refl good) $
+    assigns ! (of_opd ! (get ! refl)) (through ! refl (stop !)) (init ! 2 refl good) $
     sets ! (of_opd ! (unit_lit !)) refl (tt, tt) $
     returns ! (look_at ! 0 refl) $ free_all ! refl $
-    move ! (1 ∷ 0 ∷ []) $ use2 𝓛 (‵ (part_at R full_share r b o)) (part_in 𝓛 R refl full_share r b o u) $
+    move ! (2 ∷ 0 ∷ []) $ use2 𝓛 (‵ (part_at R full_share r b o)) (part_in 𝓛 R refl full_share r b o u) $
     rewrite ! 0 (λ (x : HeldParts). ‵ (lies_at R full_share (block_ptr b o) x)) none refl $
-    suffices ! _ (ends_at 𝓛 f.ended stayed c (y (block_ptr b o)) vunit tt (tt, (tt, tt)) (tt, (tt, tt))) $
-    feq_i ! _ (vunit ∷ []) _ refl $ nothing ! $ nothing ! $ join ! $ nothing ! $ join ! $ nothing ! $ group ! 3 $ done !))))))) in
+    suffices ! _ (ends 𝓛 f.ended c (y (block_ptr b o)) vunit tt (tt, (tt, tt))) $
+    feq_i ! _ (vunit ∷ []) _ refl $ move ! (2 ∷ 0 ∷ []) $ frame ! $ frame ! $ done !))))) in
     subst (λ (us : List Val). Goes us x.0.4.1.0) (sym h.1)
     (subst (λ (vs : List Val). Goes (h.0 ∷ []) vs) (sym (rawptr_Tells x.0.3.1.0 x.0.4.1.0 are.1.0)) walk))
