@@ -1,3 +1,4 @@
+-- The names that the walks of this crate use, and that conjunctions of what is true are true.
 pub use Rattle.std.proofs.Common.{◌≡◌, ℕ, List, [], ◌∷◌, ◌++◌, refl, sym, ap, ◌∙◌, w32, w64, subst, length}
 pub use Rattle.std.proofs.raw_atomic.Walks.{proved, proved_at}
 pub use base.Fraction.{full_share}
@@ -30,6 +31,20 @@ pub use denote.Triple.Walked.{Stays, walk_of, says, stay_dropped, Goes-dropped, 
 pub use denote.Triple.Table.{framed}
 pub use borrow.Table.OneValue.{part_out, part_in}
 pub use Rattle.std.proofs.cell.Inside.{Good, one}
+pub use prog.Wp.{WpFn}
+pub use Rattle.std.specs.contracts.alloc.Global.{the_row as global_row}
+pub use Rattle.std.proofs.alloc.Global.TheLaws.{the_row_laws as global_laws}
+pub use Rattle.crs_placed.specs.Catalogue.{CatalogueParts}
+pub use Rattle.crs_catalogue.specs.contracts.catalogue.Catalogue.{the_row as catalogue_row}
+pub use Rattle.crs_catalogue.proofs.catalogue.Catalogue.TheLaws.{the_row_laws as catalogue_laws}
+pub use Rattle.crs_calls.specs.Held.{HeldParts}
+pub use Rattle.crs_calls.specs.contracts.held_rules.HeldRules.{the_row as rules_row}
+pub use Rattle.crs_calls.proofs.held_rules.HeldRules.TheLaws.{the_row_laws as rules_laws}
+pub use Rattle.crs_calls.specs.contracts.piece.Piece.{the_row as piece_row}
+pub use Rattle.crs_calls.proofs.piece.Piece.TheLaws.{the_row_laws as piece_laws}
+pub use Rattle.crs_calls.specs.contracts.catalogue_answers.Standing.{the_row as standing_row}
+pub use Rattle.crs_calls.proofs.catalogue_answers.Standing.TheLaws.{the_row_laws as standing_laws}
+unfoldable pub use Rattle.crs_c.specs.Places.{catalogue_at, has_room, rules_at, has_room_for_rules}
 use lib.Dec.{T}
 use mathlib.Core.Bool.{Bool, true, false, ◌&&◌}
 

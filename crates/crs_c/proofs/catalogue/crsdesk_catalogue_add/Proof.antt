@@ -1,13 +1,6 @@
 use Rattle.crs_c.proofs.Held.{held_at, hands_over, pair_out, dropped, goes_dropped, ends}
-use Rattle.crs_c.proofs.Steps.{[], ◌∷◌, ◌++◌, refl, w64, proved, full_share, id⊢, sep, sem, ftrue, flft, named, vint, fact, tables, ‵, raw, ◌⊛◌, prop, ◌$◌, ◌∵◌, !, qed, done, move, drop, show, use2, split, join, fsplit, suffices, frame, whole, sub, enter, of_opd, load, look, store, stop, fld, no_more, and_then, assigns, returns, alloc_all, pass_all, free_all, look_at, get, get_in, through, sets, lands_as, u8, u64, layout, uint_Makes, uint_vals, uint_Tells, Ptr, block_ptr, lies_at, rawptr_vals, rawptr_Tells, shr_slice_vals, shr_slice_Tells, types_at, owns, nothing, owned, heard, triple_of, walk_of, says, framed, part_in, both_true, has_ty, part_at}
-use prog.Wp.{WpFn}
-use Rattle.crs_c.specs.Places.{catalogue_at}
+use Rattle.crs_c.proofs.Steps.{[], ◌∷◌, ◌++◌, refl, w64, proved, full_share, id⊢, sep, sem, ftrue, flft, named, vint, fact, tables, ‵, raw, ◌⊛◌, prop, ◌$◌, ◌∵◌, !, qed, done, move, drop, show, use2, split, join, fsplit, suffices, frame, whole, sub, enter, of_opd, load, look, store, stop, fld, no_more, and_then, assigns, returns, alloc_all, pass_all, free_all, look_at, get, get_in, through, sets, lands_as, u8, u64, layout, uint_Makes, uint_vals, uint_Tells, Ptr, block_ptr, lies_at, rawptr_vals, rawptr_Tells, shr_slice_vals, shr_slice_Tells, types_at, owns, nothing, owned, heard, triple_of, walk_of, says, framed, part_in, both_true, has_ty, part_at, WpFn, CatalogueParts, catalogue_row, catalogue_laws, standing_row, standing_laws, catalogue_at}
 use Rattle.crs_calls.specs.Catalogues.{IsAdded}
-use Rattle.crs_placed.specs.Catalogue.{CatalogueParts}
-use Rattle.crs_catalogue.specs.contracts.catalogue.Catalogue as catalogue
-use Rattle.crs_catalogue.proofs.catalogue.Catalogue.TheLaws.{the_row_laws}
-use Rattle.crs_calls.specs.contracts.catalogue_answers.Standing as standing
-use Rattle.crs_calls.proofs.catalogue_answers.Standing.TheLaws as standing_laws
 use Rattle.crs_c.specs.contracts.catalogue.crsdesk_catalogue_add as f
 use Rattle.crs_c.proofs.catalogue.crsdesk_catalogue_add.Statement.{statement}
 use Rattle.crs_c.proofs.catalogue.crsdesk_catalogue_add.Code as code
@@ -18,8 +11,8 @@ pub crsdesk_catalogue_add_spec : {M : Type 1} → statement M
 unfolding catalogue_at
 crsdesk_catalogue_add_spec 𝓤 𝓛 𝓜 𝓡 wired =
     let c = f.clauses 𝓛 𝓜.mem 𝓡.returns in let W = walk_of 𝓛 f.ended (dropped f.ended) c in let 𝓣 = tables 𝓤 𝓛.H 𝓜 𝓡 𝓡.env in
-    let R = catalogue.the_row in let P = standing.the_row in
-    let is_R = the_row_laws.lawful 𝓛 in let is_P = standing_laws.the_row_laws.lawful 𝓛 in
+    let R = catalogue_row in let P = standing_row in
+    let is_R = catalogue_laws.lawful 𝓛 in let is_P = standing_laws.lawful 𝓛 in
     proved 𝓛 f.ended (dropped f.ended) c 𝓜 𝓡 (goes_dropped 𝓛 f.ended (λ κs x w. refl, (λ κs x w. refl, (λ κs x w. refl, tt))))
     f.Key.name code.function (code.unfolded 𝓤 𝓛.H 𝓜 𝓡 wired)
     (λ κs. (rawptr_vals, (uint_vals w64, (shr_slice_vals, tt)))) (λ κs. (rawptr_Tells, (uint_Tells w64, (shr_slice_Tells (named 0) κs.0 u8, tt)))) (λ κs qs bounds a n are.

@@ -1,15 +1,10 @@
 use Rattle.crs_c.proofs.Held.{held_at, hands_over, both_heard, pair_out, dropped, goes_dropped, ends}
-use Rattle.crs_c.proofs.Steps.{◌≡◌, [], ◌∷◌, ◌++◌, refl, w64, proved, full_share, id⊢, vint, tables, ‵, raw, prop, ◌$◌, ◌∵◌, !, qed, done, move, drop, use2, join, rewrite, suffices, frame, whole, sub, enter, of_opd, load, look, store, stop, fld, no_more, and_then, assigns, returns, alloc_all, pass_all, free_all, look_at, get, get_in, through, sets, lands_as, usize, layout, uint_Makes, uint_Tells, Ptr, block_ptr, lies_at, rawptr_vals, rawptr_Tells, nothing, owned, on_entry, triple_of, walk_of, says, framed, part_in, both_true, uint_vals, has_ty, part_at}
-use prog.Wp.{WpFn}
-use Rattle.crs_c.specs.Places.{catalogue_at}
-use Rattle.crs_placed.specs.Catalogue.{CatalogueParts}
-use Rattle.crs_catalogue.specs.contracts.catalogue.Catalogue as catalogue
+use Rattle.crs_c.proofs.Steps.{◌≡◌, [], ◌∷◌, ◌++◌, refl, w64, proved, full_share, id⊢, vint, tables, ‵, raw, prop, ◌$◌, ◌∵◌, !, qed, done, move, drop, use2, join, rewrite, suffices, frame, whole, sub, enter, of_opd, load, look, store, stop, fld, no_more, and_then, assigns, returns, alloc_all, pass_all, free_all, look_at, get, get_in, through, sets, lands_as, usize, layout, uint_Makes, uint_Tells, Ptr, block_ptr, lies_at, rawptr_vals, rawptr_Tells, nothing, owned, on_entry, triple_of, walk_of, says, framed, part_in, both_true, uint_vals, has_ty, part_at, WpFn, CatalogueParts, catalogue_row, catalogue_laws, catalogue_at}
 use Rattle.crs_c.specs.contracts.catalogue.crsdesk_catalogue_line as f
 use Rattle.crs_c.proofs.catalogue.crsdesk_catalogue_line.Statement.{statement}
 use Rattle.crs_c.proofs.catalogue.crsdesk_catalogue_line.Code as code
 use Rattle.crs_calls.specs.contracts.looked_up as g
 use Rattle.crs_calls.proofs.looked_up.Met.{met}
-use Rattle.crs_catalogue.proofs.catalogue.Catalogue.TheLaws.{the_row_laws}
 use Rattle.crs_calls.specs.Catalogues.{line_at}
 use Rattle.crs_calls.specs.contracts.catalogue_answers.Numbered as numbered
 use Rattle.crs_calls.proofs.catalogue_answers.Numbered.TheLaws as numbered_laws
@@ -18,8 +13,8 @@ pub crsdesk_catalogue_line_spec : {M : Type 1} → statement M
 unfolding catalogue_at
 crsdesk_catalogue_line_spec 𝓤 𝓛 𝓜 𝓡 wired =
     let c = f.clauses 𝓛 𝓜.mem 𝓡.returns in let W = walk_of 𝓛 f.ended (dropped f.ended) c in let 𝓣 = tables 𝓤 𝓛.H 𝓜 𝓡 𝓡.env in
-    let R = catalogue.the_row in let P = numbered.the_row in
-    let is_R = the_row_laws.lawful 𝓛 in let is_P = numbered_laws.the_row_laws.lawful 𝓛 in
+    let R = catalogue_row in let P = numbered.the_row in
+    let is_R = catalogue_laws.lawful 𝓛 in let is_P = numbered_laws.the_row_laws.lawful 𝓛 in
     proved 𝓛 f.ended (dropped f.ended) c 𝓜 𝓡 (goes_dropped 𝓛 f.ended (λ κs x w. refl, (λ κs x w. refl, (λ κs x w. refl, tt))))
     f.Key.name code.function (code.unfolded 𝓤 𝓛.H 𝓜 𝓡 wired)
     (λ κs. (rawptr_vals, (uint_vals w64, (uint_vals w64, tt)))) (λ κs. (rawptr_Tells, (uint_Tells w64, (uint_Tells w64, tt)))) (λ κs qs bounds a n are.

@@ -1,13 +1,6 @@
 use Rattle.crs_c.proofs.Held.{hands_over, pair_out, dropped, goes_dropped, ends}
-use Rattle.crs_c.proofs.Steps.{List, [], ◌∷◌, ◌++◌, refl, sym, subst, w32, proved_at, full_share, id⊢, sep, ent, sem, ftrue, froom, Val, vint, fact, tables, ‵, raw, ◌⊛◌, prop, ◌$◌, ◌∵◌, !, qed, done, move, drop, show, use1, use2, split, join, fsplit, rewrite, regoal, suffices, frame, whole, sub, enter, of_opd, init, stop, fld, no_more, and_then, assigns, returns, alloc_all, pass_all, free_all, look_at, get, get_in, through, sets, lands_as, u32, layout, uint_Makes, uint_Tells, uint_Lawful, Ptr, block_ptr, room_at, lies_at, in_a_block, rawptr_vals, rawptr_Tells, types_at, owns, nothing, owned, heard, triple_of, walk_of, says, framed, part_in, one, both_true, has_ty, part_at}
-use prog.Wp.{WpFn}
-use Rattle.std.specs.contracts.alloc.Global as global
-use Rattle.std.proofs.alloc.Global.TheLaws as global_laws
-use Rattle.crs_c.specs.Places.{catalogue_at, has_room}
+use Rattle.crs_c.proofs.Steps.{List, [], ◌∷◌, ◌++◌, refl, sym, subst, w32, proved_at, full_share, id⊢, sep, ent, sem, ftrue, froom, Val, vint, fact, tables, ‵, raw, ◌⊛◌, prop, ◌$◌, ◌∵◌, !, qed, done, move, drop, show, use1, use2, split, join, fsplit, rewrite, regoal, suffices, frame, whole, sub, enter, of_opd, init, stop, fld, no_more, and_then, assigns, returns, alloc_all, pass_all, free_all, look_at, get, get_in, through, sets, lands_as, u32, layout, uint_Makes, uint_Tells, uint_Lawful, Ptr, block_ptr, room_at, lies_at, in_a_block, rawptr_vals, rawptr_Tells, types_at, owns, nothing, owned, heard, triple_of, walk_of, says, framed, part_in, one, both_true, has_ty, part_at, WpFn, global_row, global_laws, CatalogueParts, catalogue_row, catalogue_laws, catalogue_at, has_room}
 use Rattle.crs_calls.specs.Catalogues.{IsMadeEmpty}
-use Rattle.crs_placed.specs.Catalogue.{CatalogueParts}
-use Rattle.crs_catalogue.specs.contracts.catalogue.Catalogue as catalogue
-use Rattle.crs_catalogue.proofs.catalogue.Catalogue.TheLaws.{the_row_laws}
 use Rattle.crs_c.specs.contracts.catalogue.crsdesk_catalogue_new as f
 use Rattle.crs_c.proofs.catalogue.crsdesk_catalogue_new.Statement.{statement}
 use Rattle.crs_c.proofs.catalogue.crsdesk_catalogue_new.Code as code
@@ -18,13 +11,13 @@ pub crsdesk_catalogue_new_spec : {M : Type 1} → statement M
 unfolding catalogue_at has_room
 crsdesk_catalogue_new_spec 𝓤 𝓛 𝓜 𝓡 wired =
     let c = f.clauses 𝓛 𝓜.mem 𝓡.returns in let W = walk_of 𝓛 f.ended (dropped f.ended) c in let 𝓣 = tables 𝓤 𝓛.H 𝓜 𝓡 𝓡.env in
-    let R = catalogue.the_row in let A = global.the_row in
+    let R = catalogue_row in let A = global_row in
     proved_at 𝓛 f.ended (dropped f.ended) c 𝓜 𝓡 (goes_dropped 𝓛 f.ended (λ κs x w. refl, (λ κs x w. refl, (λ κs x w. refl, tt))))
     f.Key.name code.function (code.unfolded 𝓤 𝓛.H 𝓜 𝓡 wired) (λ x are.
     let κs = x.0.0 in let qs = x.0.1 in let a = x.0.3.0 in let k = x.0.3.1.1.0 in
     let Y : List Val → List Val → List Val → Ptr → W.Ghost = λ us vs ws p. ((κs, qs, x.0.2, (a, (p, (k, tt))), (us, (vs, (ws, tt)))), x.1) in
     let Goes : List Val → List Val → List Val → Type 1 = λ us vs ws. ent 𝓤 (W.pre (Y us vs ws x.0.3.1.0)) (WpFn 𝓤 𝓛.H 𝓣.C 𝓣.Λ code.function (us ++ (vs ++ (ws ++ []))) (W.post (Y us vs ws x.0.3.1.0))) in
-    let h = one (layout A) x.0.4.0 ((global_laws.the_row_laws.lawful 𝓛).typed a x.0.4.0 are.0) in
+    let h = one (layout A) x.0.4.0 ((global_laws.lawful 𝓛).typed a x.0.4.0 are.0) in
     let y : Ptr → W.Ghost = λ p. Y (h.0 ∷ []) (rawptr_vals p) (vint w32 k ∷ []) p in
     let G = triple_of 𝓛 g.signature (g.spec 𝓛 𝓜.mem 𝓡.returns) in
     let walk : Goes (h.0 ∷ []) (rawptr_vals x.0.3.1.0) (vint w32 k ∷ []) =
@@ -43,7 +36,7 @@ crsdesk_catalogue_new_spec 𝓤 𝓛 𝓜 𝓡 wired =
     hands_over ! (framed 𝓤 𝓛.H 𝓜 𝓣) g.ended (g.clauses 𝓛 𝓜.mem 𝓡.returns) (met 𝓤 𝓛 𝓜 𝓡 (code.calls-crs_calls::made 𝓡.env wired)) z
     (and_then ! (get ! refl) (and_then ! (get ! refl) (no_more !))) (λ u r ws.
     heard ! (IsMadeEmpty k r.0 r.1) (λ told.
-    pair_out ! R u32 refl refl (the_row_laws.lawful 𝓛) (uint_Lawful 𝓛 w32) r u (λ v w good good_w eu.
+    pair_out ! R u32 refl refl (catalogue_laws.lawful 𝓛) (uint_Lawful 𝓛 w32) r u (λ v w good good_w eu.
     -- [the code; the catalogue; the tokens; the room; the locals]
     lands_as ! eu refl (both_true (has_ty (layout R) v) (has_ty (layout u32) w) good.0 good_w.0, (good.1, (good_w.1, tt))) $
     sets ! (of_opd ! (get_in ! (fld ! refl (stop !)) (sub ! 0 refl (whole !)))) refl good $

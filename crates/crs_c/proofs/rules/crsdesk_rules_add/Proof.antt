@@ -1,11 +1,6 @@
 use Rattle.crs_c.proofs.Held.{held_at, hands_over, pair_out, dropped, goes_dropped, ends}
-use Rattle.crs_c.proofs.Steps.{[], ◌∷◌, ◌++◌, refl, proved, full_share, id⊢, sep, sem, ftrue, flft, named, fact, tables, ‵, raw, ◌⊛◌, prop, ◌$◌, ◌∵◌, !, qed, done, move, drop, show, use2, split, join, fsplit, suffices, frame, whole, sub, enter, of_opd, load, look, store, stop, fld, no_more, and_then, assigns, returns, alloc_all, pass_all, free_all, look_at, get, get_in, through, sets, lands_as, u8, layout, Ptr, block_ptr, lies_at, rawptr_vals, rawptr_Tells, shr_slice_vals, shr_slice_Tells, types_at, owns, nothing, heard, triple_of, walk_of, says, framed, part_in, both_true, has_ty, part_at}
-use prog.Wp.{WpFn}
-use Rattle.crs_c.specs.Places.{rules_at}
+use Rattle.crs_c.proofs.Steps.{[], ◌∷◌, ◌++◌, refl, proved, full_share, id⊢, sep, sem, ftrue, flft, named, fact, tables, ‵, raw, ◌⊛◌, prop, ◌$◌, ◌∵◌, !, qed, done, move, drop, show, use2, split, join, fsplit, suffices, frame, whole, sub, enter, of_opd, load, look, store, stop, fld, no_more, and_then, assigns, returns, alloc_all, pass_all, free_all, look_at, get, get_in, through, sets, lands_as, u8, layout, Ptr, block_ptr, lies_at, rawptr_vals, rawptr_Tells, shr_slice_vals, shr_slice_Tells, types_at, owns, nothing, heard, triple_of, walk_of, says, framed, part_in, both_true, has_ty, part_at, WpFn, rules_row, rules_laws, rules_at, HeldParts}
 use Rattle.crs_calls.specs.RulesCalls.{IsFileRead}
-use Rattle.crs_calls.specs.Held.{HeldParts}
-use Rattle.crs_calls.specs.contracts.held_rules.HeldRules as held
-use Rattle.crs_calls.proofs.held_rules.HeldRules.TheLaws.{the_row_laws}
 use Rattle.crs_calls.specs.contracts.rules_answers.RulesStanding as told_type
 use Rattle.crs_calls.proofs.rules_answers.RulesStanding.TheLaws as told_laws
 use Rattle.crs_c.specs.contracts.rules.crsdesk_rules_add as f
@@ -18,8 +13,8 @@ pub crsdesk_rules_add_spec : {M : Type 1} → statement M
 unfolding rules_at
 crsdesk_rules_add_spec 𝓤 𝓛 𝓜 𝓡 wired =
     let c = f.clauses 𝓛 𝓜.mem 𝓡.returns in let W = walk_of 𝓛 f.ended (dropped f.ended) c in let 𝓣 = tables 𝓤 𝓛.H 𝓜 𝓡 𝓡.env in
-    let R = held.the_row in let P = told_type.the_row in
-    let is_R = the_row_laws.lawful 𝓛 in let is_P = told_laws.the_row_laws.lawful 𝓛 in
+    let R = rules_row in let P = told_type.the_row in
+    let is_R = rules_laws.lawful 𝓛 in let is_P = told_laws.the_row_laws.lawful 𝓛 in
     proved 𝓛 f.ended (dropped f.ended) c 𝓜 𝓡 (goes_dropped 𝓛 f.ended (λ κs x w. refl, (λ κs x w. refl, tt)))
     f.Key.name code.function (code.unfolded 𝓤 𝓛.H 𝓜 𝓡 wired)
     (λ κs. (rawptr_vals, (shr_slice_vals, tt))) (λ κs. (rawptr_Tells, (shr_slice_Tells (named 0) κs.0 u8, tt))) (λ κs qs bounds a n are.

@@ -1,12 +1,6 @@
 use Rattle.crs_c.proofs.Held.{hands_over, dropped, goes_dropped, ends}
-use Rattle.crs_c.proofs.Steps.{◌≡◌, List, [], ◌∷◌, ◌++◌, refl, sym, subst, proved_at, full_share, id⊢, ent, ftrue, froom, Val, tables, ‵, raw, ◌⊛◌, prop, ◌$◌, ◌∵◌, !, qed, done, move, drop, use1, use2, split, join, fsplit, rewrite, regoal, suffices, frame, enter, of_opd, init, stop, no_more, and_then, assigns, returns, alloc_all, pass_all, free_all, look_at, get, through, sets, lands_as, unit_lit, vunit, feq_i, Good, shows, Is, layout, Ptr, block_ptr, room_at, lies_at, in_a_block, rawptr_vals, rawptr_Tells, types_at, owns, nothing, heard, peeks, triple_of, walk_of, framed, part_in, one, part_at}
-use prog.Wp.{WpFn}
-use Rattle.std.specs.contracts.alloc.Global as global
-use Rattle.std.proofs.alloc.Global.TheLaws as global_laws
-use Rattle.crs_c.specs.Places.{rules_at, has_room_for_rules}
-use Rattle.crs_calls.specs.Held.{HeldParts, nothing_held}
-use Rattle.crs_calls.specs.contracts.held_rules.HeldRules as held
-use Rattle.crs_calls.proofs.held_rules.HeldRules.TheLaws.{the_row_laws}
+use Rattle.crs_c.proofs.Steps.{◌≡◌, List, [], ◌∷◌, ◌++◌, refl, sym, subst, proved_at, full_share, id⊢, ent, ftrue, froom, Val, tables, ‵, raw, ◌⊛◌, prop, ◌$◌, ◌∵◌, !, qed, done, move, drop, use1, use2, split, join, fsplit, rewrite, regoal, suffices, frame, enter, of_opd, init, stop, no_more, and_then, assigns, returns, alloc_all, pass_all, free_all, look_at, get, through, sets, lands_as, unit_lit, vunit, feq_i, Good, shows, Is, layout, Ptr, block_ptr, room_at, lies_at, in_a_block, rawptr_vals, rawptr_Tells, types_at, owns, nothing, heard, peeks, triple_of, walk_of, framed, part_in, one, part_at, WpFn, global_row, global_laws, rules_row, rules_laws, rules_at, has_room_for_rules, HeldParts}
+use Rattle.crs_calls.specs.Held.{nothing_held}
 use Rattle.crs_c.specs.contracts.rules.crsdesk_rules_new as f
 use Rattle.crs_c.proofs.rules.crsdesk_rules_new.Statement.{statement}
 use Rattle.crs_c.proofs.rules.crsdesk_rules_new.Code as code
@@ -17,13 +11,13 @@ pub crsdesk_rules_new_spec : {M : Type 1} → statement M
 unfolding rules_at has_room_for_rules
 crsdesk_rules_new_spec 𝓤 𝓛 𝓜 𝓡 wired =
     let c = f.clauses 𝓛 𝓜.mem 𝓡.returns in let W = walk_of 𝓛 f.ended (dropped f.ended) c in let 𝓣 = tables 𝓤 𝓛.H 𝓜 𝓡 𝓡.env in
-    let R = held.the_row in let A = global.the_row in
+    let R = rules_row in let A = global_row in
     proved_at 𝓛 f.ended (dropped f.ended) c 𝓜 𝓡 (goes_dropped 𝓛 f.ended (λ κs x w. refl, (λ κs x w. refl, tt)))
     f.Key.name code.function (code.unfolded 𝓤 𝓛.H 𝓜 𝓡 wired) (λ x are.
     let κs = x.0.0 in let qs = x.0.1 in let a = x.0.3.0 in
     let Y : List Val → List Val → Ptr → W.Ghost = λ us vs p. ((κs, qs, x.0.2, (a, (p, tt)), (us, (vs, tt))), x.1) in
     let Goes : List Val → List Val → Type 1 = λ us vs. ent 𝓤 (W.pre (Y us vs x.0.3.1.0)) (WpFn 𝓤 𝓛.H 𝓣.C 𝓣.Λ code.function (us ++ (vs ++ [])) (W.post (Y us vs x.0.3.1.0))) in
-    let h = one (layout A) x.0.4.0 ((global_laws.the_row_laws.lawful 𝓛).typed a x.0.4.0 are.0) in
+    let h = one (layout A) x.0.4.0 ((global_laws.lawful 𝓛).typed a x.0.4.0 are.0) in
     let y : Ptr → W.Ghost = λ p. Y (h.0 ∷ []) (rawptr_vals p) p in
     let G = triple_of 𝓛 g.signature (g.spec 𝓛 𝓜.mem 𝓡.returns) in
     let walk : Goes (h.0 ∷ []) (rawptr_vals x.0.3.1.0) =
@@ -42,7 +36,7 @@ crsdesk_rules_new_spec 𝓤 𝓛 𝓜 𝓡 wired =
     hands_over ! (framed 𝓤 𝓛.H 𝓜 𝓣) g.ended (g.clauses 𝓛 𝓜.mem 𝓡.returns) (met 𝓤 𝓛 𝓜 𝓡 (code.calls-crs_calls::no_rules 𝓡.env wired)) z
     (and_then ! (get ! refl) (no_more !)) (λ u r ws. heard ! (r ≡ nothing_held) (λ none.
     peeks ! R (Is R) (shows 𝓛 R) r (u ∷ []) (λ is.
-    let good : Good (layout R) u = ((the_row_laws.lawful 𝓛).typed r (u ∷ []) is).0 in
+    let good : Good (layout R) u = ((rules_laws.lawful 𝓛).typed r (u ∷ []) is).0 in
     -- [the rules; the tokens; the room; the locals]
     lands_as ! refl refl good $
     sets ! (of_opd ! (get ! refl)) refl good $

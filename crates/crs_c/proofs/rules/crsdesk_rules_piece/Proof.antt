@@ -1,25 +1,18 @@
 use Rattle.crs_c.proofs.Held.{held_at, hands_over, both_heard, pair_out, dropped, goes_dropped, ends}
-use Rattle.crs_c.proofs.Steps.{◌≡◌, [], ◌∷◌, ◌++◌, refl, w64, proved, full_share, id⊢, vint, tables, ‵, raw, prop, ◌$◌, ◌∵◌, !, qed, done, move, drop, use2, join, rewrite, suffices, frame, whole, sub, enter, of_opd, load, look, store, stop, fld, no_more, and_then, assigns, returns, alloc_all, pass_all, free_all, look_at, get, get_in, through, sets, lands_as, usize, layout, uint_Makes, uint_Tells, Ptr, block_ptr, lies_at, rawptr_vals, rawptr_Tells, nothing, owned, on_entry, triple_of, walk_of, says, framed, part_in, both_true, uint_vals, has_ty, part_at}
-use prog.Wp.{WpFn}
-use Rattle.crs_c.specs.Places.{rules_at}
-use Rattle.crs_calls.specs.Held.{HeldParts}
-use Rattle.crs_calls.specs.contracts.held_rules.HeldRules as held
+use Rattle.crs_c.proofs.Steps.{◌≡◌, [], ◌∷◌, ◌++◌, refl, w64, proved, full_share, id⊢, vint, tables, ‵, raw, prop, ◌$◌, ◌∵◌, !, qed, done, move, drop, use2, join, rewrite, suffices, frame, whole, sub, enter, of_opd, load, look, store, stop, fld, no_more, and_then, assigns, returns, alloc_all, pass_all, free_all, look_at, get, get_in, through, sets, lands_as, usize, layout, uint_Makes, uint_Tells, Ptr, block_ptr, lies_at, rawptr_vals, rawptr_Tells, nothing, owned, on_entry, triple_of, walk_of, says, framed, part_in, both_true, uint_vals, has_ty, part_at, WpFn, rules_row, rules_laws, piece_row, piece_laws, rules_at, HeldParts}
 use Rattle.crs_c.specs.contracts.rules.crsdesk_rules_piece as f
 use Rattle.crs_c.proofs.rules.crsdesk_rules_piece.Statement.{statement}
 use Rattle.crs_c.proofs.rules.crsdesk_rules_piece.Code as code
 use Rattle.crs_calls.specs.contracts.cut_form as g
 use Rattle.crs_calls.proofs.cut_form.Met.{met}
-use Rattle.crs_calls.proofs.held_rules.HeldRules.TheLaws.{the_row_laws}
 use Rattle.crs_calls.specs.Pieces.{IsPiece}
-use Rattle.crs_calls.specs.contracts.piece.Piece as piece
-use Rattle.crs_calls.proofs.piece.Piece.TheLaws as piece_laws
 
 pub crsdesk_rules_piece_spec : {M : Type 1} → statement M
 unfolding rules_at
 crsdesk_rules_piece_spec 𝓤 𝓛 𝓜 𝓡 wired =
     let c = f.clauses 𝓛 𝓜.mem 𝓡.returns in let W = walk_of 𝓛 f.ended (dropped f.ended) c in let 𝓣 = tables 𝓤 𝓛.H 𝓜 𝓡 𝓡.env in
-    let R = held.the_row in let P = piece.the_row in
-    let is_R = the_row_laws.lawful 𝓛 in let is_P = piece_laws.the_row_laws.lawful 𝓛 in
+    let R = rules_row in let P = piece_row in
+    let is_R = rules_laws.lawful 𝓛 in let is_P = piece_laws.lawful 𝓛 in
     proved 𝓛 f.ended (dropped f.ended) c 𝓜 𝓡 (goes_dropped 𝓛 f.ended (λ κs x w. refl, (λ κs x w. refl, tt)))
     f.Key.name code.function (code.unfolded 𝓤 𝓛.H 𝓜 𝓡 wired)
     (λ κs. (rawptr_vals, (uint_vals w64, tt))) (λ κs. (rawptr_Tells, (uint_Tells w64, tt))) (λ κs qs bounds a n are.
