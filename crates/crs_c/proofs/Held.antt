@@ -5,7 +5,7 @@
 --     word_out       what is owned at some words is owned at one word, which fits the type
 --     pair_out       a pair is two words, each of which fits its type
 --     dropped        nothing is left of a parameter.        goes_dropped     where nothing is said of it at exit.        ends     how such a walk ends
-use Rattle.crs_c.proofs.Steps.{◌≡◌, ℕ, List, [], ◌∷◌, ◌++◌, refl, ap, ◌∙◌, subst, full_share, id⊢, sep, ent, sem, fat, Val, vstruct, of_list, ‵, raw, ◌⊛◌, some, later, ◌$◌, ◌∵◌, !, qed, done, move, drop, use1, split, join, fsplit, fpick, feq_l, pick, await, rewrite, regoal, suffices, shows, Is, layout, Ptr, block_ptr, lies_at, in_a_block, peeks, heard, fact, only, Tuple, lasts, Lasts, triple_of, Stays, walk_of, stay_dropped, Goes-dropped, ends_at, part_out, Good, one}
+use Rattle.crs_c.proofs.Steps.{◌≡◌, ℕ, List, [], ◌∷◌, ◌++◌, refl, ap, ◌∙◌, subst, full_share, id⊢, sep, ent, sem, fat, Val, vstruct, of_list, ‵, raw, ◌⊛◌, some, later, ◌$◌, ◌∵◌, !, qed, done, move, drop, use1, split, join, fsplit, fpick, feq_l, pick, await, rewrite, regoal, suffices, shows, Is, layout, Ptr, block_ptr, lies_at, in_a_block, peeks, nothing, heard, fact, only, Tuple, lasts, Lasts, triple_of, Stays, walk_of, stay_dropped, Goes-dropped, ends_at, part_out, Good, one}
 use seplogic.Ra.Ura.{Ura}
 use mir.Syntax.{Ty, Callee, Place, Opd as Operand, Body, seq, call}
 use base.Logic.{emp, via, emp∗, mono_r}
@@ -13,7 +13,7 @@ use prog.Wp.{Env, Calls, Loops}
 use sound.WpLaws.{FmC}
 use contract.Lifetimes.{Lfts}
 use types.Logic.{Logic}
-use types.Kit.{Item, Goal, Post, Seq, runs, lands, use0}
+use types.Kit.{Item, Goal, Post, Seq, mean, runs, lands, use0, use2}
 use types.Run.{Opds}
 use denote.Laws.{Lawful, Typed}
 use denote.RattleType.{RattleType, Denots, Valss}
@@ -22,7 +22,7 @@ use denote.Triple.Call.{calls_at}
 use denote.Triple.Clauses.{Ended, Clauses, at_exit, closing}
 use denote.Triple.End.{Kepts, Fins}
 use denote.Triple.Entry.{Res, alive}
-use denote.Triple.Statement.{Triple}
+use denote.Triple.Statement.{Contract, Triple}
 use denote.Triple.Walked.{Silent, AllGo, fits_of, has_of}
 use borrow.Table.OneValue.{One}
 
@@ -53,12 +53,15 @@ module _ {M : Type 1} {𝓤 : Ura M} {𝓛 : Logic 𝓤} {K : Type 0} {Γ : List
       word_out t P one_P LP r.1 vss.1.0 (λ w w_good e₁. move t (1 ∷ []) $ drop t $
       k v w v_good w_good (ap only (eu ∙ (λ i. vstruct (of_list (e₀ i ++ (e₁ i ++ []))) ∷ [])))))))
 
+abbrev asked : {M : Type 1} {𝓤 : Ura M} (𝓛 : Logic 𝓤) (T : Ended) → Clauses 𝓤 T → Contract 𝓤
+asked 𝓛 T c = triple_of 𝓛 T.signature (closing 𝓛 T c)
+
 module _ {M : Type 1} {𝓤 : Ura M} {𝓛 : Logic 𝓤} {K : Type 0} {Γ : List (Item 𝓤)} {E : Env 𝓤 𝓛.H} {C : Calls 𝓤 𝓛.H} {f : Callee} {xs : List Operand} {Λ : Loops 𝓤 𝓛.H} {q : Post 𝓤 𝓛.H} {d : Place} {rest : Body} where
-  pub hands_over : K → FmC 𝓤 𝓛.H 𝓛.laws C → (T : Ended) (c : Clauses 𝓤 T) → Triple 𝓤 (C f) (triple_of 𝓛 T.signature (closing 𝓛 T c)) → (y : (triple_of 𝓛 T.signature (closing 𝓛 T c)).Ghost)
-      → Opds K 𝓛 (raw ((triple_of 𝓛 T.signature (closing 𝓛 T c)).pre y) ∷ Γ) E xs ((triple_of 𝓛 T.signature (closing 𝓛 T c)).args y)
+  pub hands_over : K → FmC 𝓤 𝓛.H 𝓛.laws C → (T : Ended) (c : Clauses 𝓤 T) → Triple 𝓤 (C f) (asked 𝓛 T c) → (y : (asked 𝓛 T c).Ghost) {i : Item 𝓤} → ent 𝓤 (sep 𝓤 (mean 𝓛 i) (emp 𝓤)) ((asked 𝓛 T c).pre y)
+      → Opds K 𝓛 (raw ((asked 𝓛 T c).pre y) ∷ Γ) E xs ((asked 𝓛 T c).args y)
       → ((u : Val) (r : Res T.signature y.0.0) (ws : Lasts T y.0.0 y.0.3) → Seq K 𝓛 (raw ((c y.0.0 y.0.3).ensures y.1 r (at_exit T y.0.0 y.0.3 ws)) ∷ ‵ ((type_at T.signature.result y.0.0).own_val r (u ∷ [])) ∷ raw (alive 𝓛 T.signature y.0.0 y.0.1) ∷ Γ) (lands C Λ E d u rest q))
-      → Seq K 𝓛 (raw ((triple_of 𝓛 T.signature (closing 𝓛 T c)).pre y) ∷ Γ) (runs C Λ E (seq (call f xs d) rest) q)
-  hands_over t fm T c met y opds k = calls_at t fm (triple_of 𝓛 T.signature (closing 𝓛 T c)) met y opds (λ u.
+      → Seq K 𝓛 (i ∷ Γ) (runs C Λ E (seq (call f xs d) rest) q)
+  hands_over t fm T c met y had opds k = nothing t $ move t (1 ∷ 0 ∷ []) $ use2 𝓛 (raw ((asked 𝓛 T c).pre y)) had $ calls_at t fm (asked 𝓛 T c) met y opds (λ u.
       use1 𝓛 (later (some (λ (r : Res T.signature y.0.0). (raw (alive 𝓛 T.signature y.0.0 y.0.1) ⊛ ‵ ((type_at T.signature.result y.0.0).own_val r (u ∷ []))) ⊛
       some (λ (ws : Lasts T y.0.0 y.0.3). ‵ (lasts T y.0.0 y.0.3 ws) ⊛ raw ((c y.0.0 y.0.3).ensures y.1 r (at_exit T y.0.0 y.0.3 ws)))))) (id⊢ 𝓤 _) $
       await t tt $ pick t (λ r. split t $ split t $ move t (2 ∷ []) $ pick t (λ ws. split t $ drop t $ move t (0 ∷ 2 ∷ 1 ∷ []) $ k u r ws)))

@@ -18,7 +18,6 @@ crsdesk_catalogue_add_under_spec 𝓤 𝓛 𝓜 𝓡 wired =
     (λ κs. (rawptr_vals, (rawptr_vals, (uint_vals w64, (shr_slice_vals, tt))))) (λ κs. (rawptr_Tells, (rawptr_Tells, (uint_Tells w64, (shr_slice_Tells (named 0) κs.0 u8, tt))))) (λ κs qs bounds a n are.
     let κ = κs.0 in let q = qs.0 in let i = a.1.1.0 in let s = a.1.1.1.0 in
     let y : Ptr → Ptr → W.Ghost = λ p p'. ((κs, qs, bounds, (p, (p', (i, (s, tt)))), (rawptr_vals p, (rawptr_vals p', (uint_vals w64 i, (shr_slice_vals s, tt))))), n) in
-    let G = triple_of 𝓛 g.signature (g.spec 𝓛 𝓜.mem 𝓡.returns) in
     qed 𝓛 (((‵ (flft κ q) ⊛ ‵ ftrue) ⊛ ‵ (owns (types_at f.ended.signature.params κs) a (y a.0 a.1.0).0.4)) ∷ (‵ (lies_at R full_share a.0 n.0) ⊛ ‵ (lies_at S full_share a.1.0 n.1)) ∷ []) ∵
     split ! $ move ! (1 ∷ []) $ fsplit ! $ drop ! $ fsplit ! $ drop ! $ fsplit ! $ drop ! $ fsplit ! $ move ! (1 ∷ []) $ drop ! $ move ! (2 ∷ []) $ split ! $
     -- [the catalogue; the rules; the text; the token]
@@ -33,12 +32,10 @@ crsdesk_catalogue_add_under_spec 𝓤 𝓛 𝓜 𝓡 wired =
     sets ! (of_opd ! (load ! (through ! refl (stop !)) (look ! 1 refl))) refl good' $
     sets ! (of_opd ! (get ! refl)) refl good $
     sets ! (of_opd ! (get ! refl)) refl good' $
-    let z : G.Ghost = ((κs, qs, tt, (n.0, (n.1, (i, (s, tt)))), (v ∷ [], (v' ∷ [], (vint w64 i ∷ [], (shr_slice_vals s, tt))))), tt) in
     nothing ! $ move ! (5 ∷ 0 ∷ []) $ join ! $ owned ! u64 _ (uint_Makes 𝓛 w64) i _ (refl, are.1.1.0.1) $ join ! $ move ! (1 ∷ 0 ∷ []) $ join ! $
-    move ! (2 ∷ 0 ∷ []) $ join ! $ move ! (3 ∷ 0 ∷ []) $ join ! $ nothing ! $ move ! (1 ∷ 0 ∷ []) $
-    use2 𝓛 (raw (G.pre z)) (id⊢ 𝓤 _) $
-    hands_over ! (framed 𝓤 𝓛.H 𝓜 𝓣) g.ended (g.clauses 𝓛 𝓜.mem 𝓡.returns) (met 𝓤 𝓛 𝓜 𝓡 (code.calls-crs_calls::added_under 𝓡.env wired)) z
-    (and_then ! (get ! refl) (and_then ! (get ! refl) (and_then ! (get ! refl) (and_then ! (get ! refl) (no_more !))))) (λ u r ws.
+    move ! (2 ∷ 0 ∷ []) $ join ! $ move ! (3 ∷ 0 ∷ []) $ join ! $
+    hands_over ! (framed 𝓤 𝓛.H 𝓜 𝓣) g.ended (g.clauses 𝓛 𝓜.mem 𝓡.returns) (met 𝓤 𝓛 𝓜 𝓡 (code.calls-crs_calls::added_under 𝓡.env wired))
+    ((κs, qs, tt, (n.0, (n.1, (i, (s, tt)))), (v ∷ [], (v' ∷ [], (vint w64 i ∷ [], (shr_slice_vals s, tt))))), tt) (id⊢ 𝓤 _) (and_then ! (get ! refl) (and_then ! (get ! refl) (and_then ! (get ! refl) (and_then ! (get ! refl) (no_more !))))) (λ u r ws.
     heard ! ((r.1 ≡ n.1) × IsAddedUnder n.1.reading.rules i s.now n.0 r.0 r.2) (λ told.
     fpick ! (λ vss. fsplit ! $ feq_l ! (λ eu. fsplit ! $
     word_out ! R refl is_R r.0 vss.0 (λ w₀ g₀ e₀. move ! (1 ∷ []) $ fsplit ! $

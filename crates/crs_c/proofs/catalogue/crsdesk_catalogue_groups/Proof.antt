@@ -16,7 +16,6 @@ crsdesk_catalogue_groups_spec 𝓤 𝓛 𝓜 𝓡 wired =
     f.Key.name code.function (code.unfolded 𝓤 𝓛.H 𝓜 𝓡 wired)
     (λ κs. (rawptr_vals, tt)) (λ κs. (rawptr_Tells, tt)) (λ κs qs bounds a n are.
     let y : Ptr → W.Ghost = λ p. ((κs, qs, bounds, (p, tt), (rawptr_vals p, tt)), n) in
-    let G = triple_of 𝓛 g.signature (g.spec 𝓛 𝓜.mem 𝓡.returns) in
     qed 𝓛 (raw (on_entry 𝓛 f.signature κs qs a (y a.0).0.4) ∷ ‵ (lies_at R full_share a.0 n) ∷ []) ∵ drop ! $
     held_at ! R refl is_R a.0 n (λ p. prop (WpFn 𝓤 𝓛.H 𝓣.C 𝓣.Λ code.function (rawptr_vals p) (W.post (y p)))) refl (λ b o v good.
     -- [the value; its cell; the locals]
@@ -24,11 +23,9 @@ crsdesk_catalogue_groups_spec 𝓤 𝓛 𝓜 𝓡 wired =
     sets ! (of_opd ! (get ! refl)) refl (tt, tt) $
     sets ! (of_opd ! (load ! (through ! refl (stop !)) (look ! 1 refl))) refl good $
     sets ! (of_opd ! (get ! refl)) refl good $
-    let z : G.Ghost = ((κs, qs, tt, (n, tt), (v ∷ [], tt)), tt) in
-    nothing ! $ move ! (1 ∷ 0 ∷ []) $ join ! $ nothing ! $ join ! $ nothing ! $ move ! (1 ∷ 0 ∷ []) $
-    use2 𝓛 (raw (G.pre z)) (id⊢ 𝓤 _) $
-    hands_over ! (framed 𝓤 𝓛.H 𝓜 𝓣) g.ended (g.clauses 𝓛 𝓜.mem 𝓡.returns) (met 𝓤 𝓛 𝓜 𝓡 (code.calls-crs_calls::counted 𝓡.env wired)) z
-    (and_then ! (get ! refl) (no_more !)) (λ u r ws.
+    nothing ! $ move ! (1 ∷ 0 ∷ []) $ join ! $ nothing ! $ join ! $
+    hands_over ! (framed 𝓤 𝓛.H 𝓜 𝓣) g.ended (g.clauses 𝓛 𝓜.mem 𝓡.returns) (met 𝓤 𝓛 𝓜 𝓡 (code.calls-crs_calls::counted 𝓡.env wired))
+    ((κs, qs, tt, (n, tt), (v ∷ [], tt)), tt) (id⊢ 𝓤 _) (and_then ! (get ! refl) (no_more !)) (λ u r ws.
     both_heard ! (r.0 ≡ n) (r.1 ≡ length n.groups) (λ same count.
     pair_out ! R P refl refl is_R is_P r u (λ v' w good' good_w eu.
     -- [what is told; the value; the tokens; the cell; the locals]

@@ -19,7 +19,6 @@ crsdesk_catalogue_new_spec 𝓤 𝓛 𝓜 𝓡 wired =
     let Goes : List Val → List Val → List Val → Type 1 = λ us vs ws. ent 𝓤 (W.pre (Y us vs ws x.0.3.1.0)) (WpFn 𝓤 𝓛.H 𝓣.C 𝓣.Λ code.function (us ++ (vs ++ (ws ++ []))) (W.post (Y us vs ws x.0.3.1.0))) in
     let h = one (layout A) x.0.4.0 ((global_laws.lawful 𝓛).typed a x.0.4.0 are.0) in
     let y : Ptr → W.Ghost = λ p. Y (h.0 ∷ []) (rawptr_vals p) (vint w32 k ∷ []) p in
-    let G = triple_of 𝓛 g.signature (g.spec 𝓛 𝓜.mem 𝓡.returns) in
     let walk : Goes (h.0 ∷ []) (rawptr_vals x.0.3.1.0) (vint w32 k ∷ []) =
     qed 𝓛 ((‵ ftrue ⊛ ‵ (owns (types_at f.ended.signature.params κs) x.0.3 (y x.0.3.1.0).0.4)) ∷ ‵ (room_at R x.0.3.1.0) ∷ []) ∵
     split ! $ drop ! $ fsplit ! $ move ! (1 ∷ []) $ drop ! $ move ! (1 ∷ []) $
@@ -29,12 +28,10 @@ crsdesk_catalogue_new_spec 𝓤 𝓛 𝓜 𝓡 wired =
     -- [the room; the allocator; the locals]
     enter ! _ _ _ _ _ $ alloc_all ! (λ l. pass_all ! refl (h.2, ((tt, tt), ((tt, record { fits = are.1.1.0.1 }), tt))) $
     sets ! (of_opd ! (get ! refl)) refl (tt, tt) $
-    let z : G.Ghost = ((κs, qs, tt, (a, (k, tt)), (h.0 ∷ [], (vint w32 k ∷ [], tt))), tt) in
     move ! (1 ∷ []) $ rewrite ! 0 (λ (ws : List Val). ‵ (A.own_val a ws)) refl refl $
-    nothing ! $ owned ! u32 _ (uint_Makes 𝓛 w32) k _ (refl, are.1.1.0.1) $ join ! $ move ! (1 ∷ 0 ∷ []) $ join ! $ nothing ! $ join ! $ nothing ! $ move ! (1 ∷ 0 ∷ []) $
-    use2 𝓛 (raw (G.pre z)) (id⊢ 𝓤 _) $
-    hands_over ! (framed 𝓤 𝓛.H 𝓜 𝓣) g.ended (g.clauses 𝓛 𝓜.mem 𝓡.returns) (met 𝓤 𝓛 𝓜 𝓡 (code.calls-crs_calls::made 𝓡.env wired)) z
-    (and_then ! (get ! refl) (and_then ! (get ! refl) (no_more !))) (λ u r ws.
+    nothing ! $ owned ! u32 _ (uint_Makes 𝓛 w32) k _ (refl, are.1.1.0.1) $ join ! $ move ! (1 ∷ 0 ∷ []) $ join ! $ nothing ! $ join ! $
+    hands_over ! (framed 𝓤 𝓛.H 𝓜 𝓣) g.ended (g.clauses 𝓛 𝓜.mem 𝓡.returns) (met 𝓤 𝓛 𝓜 𝓡 (code.calls-crs_calls::made 𝓡.env wired))
+    ((κs, qs, tt, (a, (k, tt)), (h.0 ∷ [], (vint w32 k ∷ [], tt))), tt) (id⊢ 𝓤 _) (and_then ! (get ! refl) (and_then ! (get ! refl) (no_more !))) (λ u r ws.
     heard ! (IsMadeEmpty k r.0 r.1) (λ told.
     pair_out ! R u32 refl refl (catalogue_laws.lawful 𝓛) (uint_Lawful 𝓛 w32) r u (λ v w good good_w eu.
     -- [the code; the catalogue; the tokens; the room; the locals]

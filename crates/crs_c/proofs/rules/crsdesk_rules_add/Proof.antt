@@ -20,7 +20,6 @@ crsdesk_rules_add_spec 𝓤 𝓛 𝓜 𝓡 wired =
     (λ κs. (rawptr_vals, (shr_slice_vals, tt))) (λ κs. (rawptr_Tells, (shr_slice_Tells (named 0) κs.0 u8, tt))) (λ κs qs bounds a n are.
     let κ = κs.0 in let q = qs.0 in let s = a.1.0 in
     let y : Ptr → W.Ghost = λ p. ((κs, qs, bounds, (p, (s, tt)), (rawptr_vals p, (shr_slice_vals s, tt))), n) in
-    let G = triple_of 𝓛 g.signature (g.spec 𝓛 𝓜.mem 𝓡.returns) in
     qed 𝓛 (((‵ (flft κ q) ⊛ ‵ ftrue) ⊛ ‵ (owns (types_at f.ended.signature.params κs) a (y a.0).0.4)) ∷ ‵ (lies_at R full_share a.0 n) ∷ []) ∵
     split ! $ move ! (1 ∷ []) $ fsplit ! $ drop ! $ fsplit ! $ move ! (1 ∷ []) $ drop ! $ move ! (2 ∷ []) $
     -- [the rules; the text; the token]
@@ -30,12 +29,10 @@ crsdesk_rules_add_spec 𝓤 𝓛 𝓜 𝓡 wired =
     sets ! (of_opd ! (get ! refl)) refl (tt, tt) $
     sets ! (of_opd ! (load ! (through ! refl (stop !)) (look ! 1 refl))) refl good $
     sets ! (of_opd ! (get ! refl)) refl good $
-    let z : G.Ghost = ((κs, qs, tt, (n, (s, tt)), (v ∷ [], (shr_slice_vals s, tt))), tt) in
     nothing ! $ move ! (3 ∷ 0 ∷ []) $ join ! $ move ! (1 ∷ 0 ∷ []) $ join ! $
-    move ! (2 ∷ 0 ∷ []) $ join ! $ nothing ! $ move ! (1 ∷ 0 ∷ []) $
-    use2 𝓛 (raw (G.pre z)) (id⊢ 𝓤 _) $
-    hands_over ! (framed 𝓤 𝓛.H 𝓜 𝓣) g.ended (g.clauses 𝓛 𝓜.mem 𝓡.returns) (met 𝓤 𝓛 𝓜 𝓡 (code.calls-crs_calls::with_file 𝓡.env wired)) z
-    (and_then ! (get ! refl) (and_then ! (get ! refl) (no_more !))) (λ u r ws.
+    move ! (2 ∷ 0 ∷ []) $ join ! $
+    hands_over ! (framed 𝓤 𝓛.H 𝓜 𝓣) g.ended (g.clauses 𝓛 𝓜.mem 𝓡.returns) (met 𝓤 𝓛 𝓜 𝓡 (code.calls-crs_calls::with_file 𝓡.env wired))
+    ((κs, qs, tt, (n, (s, tt)), (v ∷ [], (shr_slice_vals s, tt))), tt) (id⊢ 𝓤 _) (and_then ! (get ! refl) (and_then ! (get ! refl) (no_more !))) (λ u r ws.
     heard ! (IsFileRead s.now n r.0 r.1) (λ told.
     pair_out ! R P refl refl is_R is_P r u (λ v' w good' good_w eu.
     -- [what is told; the value; the tokens; the cell; the locals]

@@ -19,7 +19,6 @@ crsdesk_rules_new_spec 𝓤 𝓛 𝓜 𝓡 wired =
     let Goes : List Val → List Val → Type 1 = λ us vs. ent 𝓤 (W.pre (Y us vs x.0.3.1.0)) (WpFn 𝓤 𝓛.H 𝓣.C 𝓣.Λ code.function (us ++ (vs ++ [])) (W.post (Y us vs x.0.3.1.0))) in
     let h = one (layout A) x.0.4.0 ((global_laws.lawful 𝓛).typed a x.0.4.0 are.0) in
     let y : Ptr → W.Ghost = λ p. Y (h.0 ∷ []) (rawptr_vals p) p in
-    let G = triple_of 𝓛 g.signature (g.spec 𝓛 𝓜.mem 𝓡.returns) in
     let walk : Goes (h.0 ∷ []) (rawptr_vals x.0.3.1.0) =
     qed 𝓛 ((‵ ftrue ⊛ ‵ (owns (types_at f.ended.signature.params κs) x.0.3 (y x.0.3.1.0).0.4)) ∷ ‵ (room_at R x.0.3.1.0) ∷ []) ∵
     split ! $ drop ! $ fsplit ! $ move ! (1 ∷ []) $ drop ! $ move ! (1 ∷ []) $
@@ -29,12 +28,10 @@ crsdesk_rules_new_spec 𝓤 𝓛 𝓜 𝓡 wired =
     -- [the room; the allocator; the locals]
     enter ! _ _ _ _ _ $ alloc_all ! (λ l. pass_all ! refl (h.2, ((tt, tt), tt)) $
     sets ! (of_opd ! (get ! refl)) refl (tt, tt) $
-    let z : G.Ghost = ((κs, qs, tt, (a, tt), (h.0 ∷ [], tt)), tt) in
     move ! (1 ∷ []) $ rewrite ! 0 (λ (ws : List Val). ‵ (A.own_val a ws)) refl refl $
-    nothing ! $ move ! (1 ∷ 0 ∷ []) $ join ! $ nothing ! $ join ! $ nothing ! $ move ! (1 ∷ 0 ∷ []) $
-    use2 𝓛 (raw (G.pre z)) (id⊢ 𝓤 _) $
-    hands_over ! (framed 𝓤 𝓛.H 𝓜 𝓣) g.ended (g.clauses 𝓛 𝓜.mem 𝓡.returns) (met 𝓤 𝓛 𝓜 𝓡 (code.calls-crs_calls::no_rules 𝓡.env wired)) z
-    (and_then ! (get ! refl) (no_more !)) (λ u r ws. heard ! (r ≡ nothing_held) (λ none.
+    nothing ! $ move ! (1 ∷ 0 ∷ []) $ join ! $ nothing ! $ join ! $
+    hands_over ! (framed 𝓤 𝓛.H 𝓜 𝓣) g.ended (g.clauses 𝓛 𝓜.mem 𝓡.returns) (met 𝓤 𝓛 𝓜 𝓡 (code.calls-crs_calls::no_rules 𝓡.env wired))
+    ((κs, qs, tt, (a, tt), (h.0 ∷ [], tt)), tt) (id⊢ 𝓤 _) (and_then ! (get ! refl) (no_more !)) (λ u r ws. heard ! (r ≡ nothing_held) (λ none.
     peeks ! R (Is R) (shows 𝓛 R) r (u ∷ []) (λ is.
     let good : Good (layout R) u = ((rules_laws.lawful 𝓛).typed r (u ∷ []) is).0 in
     -- [the rules; the tokens; the room; the locals]

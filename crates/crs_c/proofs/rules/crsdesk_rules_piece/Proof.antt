@@ -18,7 +18,6 @@ crsdesk_rules_piece_spec 𝓤 𝓛 𝓜 𝓡 wired =
     (λ κs. (rawptr_vals, (uint_vals w64, tt))) (λ κs. (rawptr_Tells, (uint_Tells w64, tt))) (λ κs qs bounds a n are.
     let i = a.1.0 in
     let y : Ptr → W.Ghost = λ p. ((κs, qs, bounds, (p, (i, tt)), (rawptr_vals p, (uint_vals w64 i, tt))), n) in
-    let G = triple_of 𝓛 g.signature (g.spec 𝓛 𝓜.mem 𝓡.returns) in
     qed 𝓛 (raw (on_entry 𝓛 f.signature κs qs a (y a.0).0.4) ∷ ‵ (lies_at R full_share a.0 n) ∷ []) ∵ drop ! $
     held_at ! R refl is_R a.0 n (λ p. prop (WpFn 𝓤 𝓛.H 𝓣.C 𝓣.Λ code.function (rawptr_vals p ++ (vint w64 i ∷ [])) (W.post (y p)))) refl (λ b o v good.
     -- [the value; its cell; the locals]
@@ -26,12 +25,10 @@ crsdesk_rules_piece_spec 𝓤 𝓛 𝓜 𝓡 wired =
     sets ! (of_opd ! (get ! refl)) refl (tt, tt) $
     sets ! (of_opd ! (load ! (through ! refl (stop !)) (look ! 1 refl))) refl good $
     sets ! (of_opd ! (get ! refl)) refl good $
-    let z : G.Ghost = ((κs, qs, tt, (n, (i, tt)), (v ∷ [], (vint w64 i ∷ [], tt))), tt) in
     nothing ! $ owned ! usize _ (uint_Makes 𝓛 w64) i _ (refl, are.1.0.1) $ join ! $
-    move ! (1 ∷ 0 ∷ []) $ join ! $ nothing ! $ join ! $ nothing ! $ move ! (1 ∷ 0 ∷ []) $
-    use2 𝓛 (raw (G.pre z)) (id⊢ 𝓤 _) $
-    hands_over ! (framed 𝓤 𝓛.H 𝓜 𝓣) g.ended (g.clauses 𝓛 𝓜.mem 𝓡.returns) (met 𝓤 𝓛 𝓜 𝓡 (code.calls-crs_calls::cut_form 𝓡.env wired)) z
-    (and_then ! (get ! refl) (and_then ! (get ! refl) (no_more !))) (λ u r ws.
+    move ! (1 ∷ 0 ∷ []) $ join ! $ nothing ! $ join ! $
+    hands_over ! (framed 𝓤 𝓛.H 𝓜 𝓣) g.ended (g.clauses 𝓛 𝓜.mem 𝓡.returns) (met 𝓤 𝓛 𝓜 𝓡 (code.calls-crs_calls::cut_form 𝓡.env wired))
+    ((κs, qs, tt, (n, (i, tt)), (v ∷ [], (vint w64 i ∷ [], tt))), tt) (id⊢ 𝓤 _) (and_then ! (get ! refl) (and_then ! (get ! refl) (no_more !))) (λ u r ws.
     both_heard ! (r.0 ≡ n) (IsPiece i r.1 n.form) (λ same found.
     pair_out ! R P refl refl is_R is_P r u (λ v' w good' good_w eu.
     -- [what is told; the value; the tokens; the cell; the locals]
