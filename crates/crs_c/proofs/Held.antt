@@ -3,15 +3,16 @@
 --     hands_over     a call of a safe function: what it says, its answer, and the tokens
 --     both_heard     two facts are learned
 --     word_out       what is owned at some words is owned at one word, which fits the type
---     pair_out       a pair is two words, each of which fits its type
+--     pair_out       a pair is two words, each of which fits its type, and together they fit the pair's
 --     dropped        nothing is left of a parameter.        goes_dropped     where nothing is said of it at exit.        ends     how such a walk ends
-use Rattle.crs_c.proofs.Steps.{◌≡◌, ℕ, List, [], ◌∷◌, ◌++◌, refl, ap, ◌∙◌, subst, full_share, id⊢, sep, ent, sem, fat, Val, vstruct, of_list, ‵, raw, ◌⊛◌, some, later, ◌$◌, ◌∵◌, !, qed, done, move, drop, use1, split, join, fsplit, fpick, feq_l, pick, await, rewrite, regoal, suffices, shows, Is, layout, Ptr, block_ptr, lies_at, in_a_block, peeks, nothing, heard, fact, only, Tuple, lasts, Lasts, triple_of, Stays, walk_of, stay_dropped, Goes-dropped, ends_at, part_out, Good, one}
+use Rattle.crs_c.proofs.Steps.{◌≡◌, ℕ, List, [], ◌∷◌, ◌++◌, refl, ap, ◌∙◌, subst, full_share, id⊢, sep, ent, sem, fat, Val, vstruct, of_list, ‵, raw, ◌⊛◌, some, later, ◌$◌, ◌∵◌, !, qed, done, move, drop, use1, split, join, fsplit, fpick, feq_l, pick, await, rewrite, regoal, suffices, shows, Is, layout, Ptr, block_ptr, lies_at, in_a_block, peeks, nothing, heard, fact, only, Tuple, lasts, Lasts, triple_of, Stays, walk_of, stay_dropped, Goes-dropped, ends_at, part_out, Good, one, T, true, ◌&&◌, both, has_ty}
 use seplogic.Ra.Ura.{Ura}
 use mir.Syntax.{Ty, Callee, Place, Opd as Operand, Body, seq, call}
 use base.Logic.{emp, via, emp∗, mono_r}
 use prog.Wp.{Env, Calls, Loops}
 use sound.WpLaws.{FmC}
 use contract.Lifetimes.{Lfts}
+use mir.Val.{WT}
 use types.Logic.{Logic}
 use types.Kit.{Item, Goal, Post, Seq, mean, runs, lands, use0, use2}
 use types.Run.{Opds}
@@ -46,12 +47,13 @@ module _ {M : Type 1} {𝓤 : Ura M} {𝓛 : Logic 𝓤} {K : Type 0} {Γ : List
 module _ {M : Type 1} {𝓤 : Ura M} {𝓛 : Logic 𝓤} {K : Type 0} {Γ : List (Item 𝓤)} {G : Goal 𝓤 𝓛.H} where
   -- [the second; the first; the rest]
   pub pair_out : K → (R P : RattleType) → One R → One P → Lawful 𝓛 R → Lawful 𝓛 P → (r : R.Denot × P.Denot) (u : Val)
-      → ((v w : Val) → Good (layout R) v → Good (layout P) w → u ≡ vstruct (of_list (v ∷ w ∷ [])) → Seq K 𝓛 (‵ (P.own_val r.1 (w ∷ [])) ∷ ‵ (R.own_val r.0 (v ∷ [])) ∷ Γ) G)
+      → ((v w : Val) → Good (layout R) v → Good (layout P) w → u ≡ vstruct (of_list (v ∷ w ∷ [])) → T (has_ty (layout R) v && (has_ty (layout P) w && true)) × WT (vstruct (of_list (v ∷ w ∷ []))) → Seq K 𝓛 (‵ (P.own_val r.1 (w ∷ [])) ∷ ‵ (R.own_val r.0 (v ∷ [])) ∷ Γ) G)
       → Seq K 𝓛 (‵ ((Tuple (R ∷ P ∷ [])).own_val r (u ∷ [])) ∷ Γ) G
   pair_out t R P one_R one_P LR LP r u k = fpick t (λ vss. fsplit t $ feq_l t (λ eu. fsplit t $
       word_out t R one_R LR r.0 vss.0 (λ v v_good e₀. move t (1 ∷ []) $ fsplit t $
       word_out t P one_P LP r.1 vss.1.0 (λ w w_good e₁. move t (1 ∷ []) $ drop t $
-      k v w v_good w_good (ap only (eu ∙ (λ i. vstruct (of_list (e₀ i ++ (e₁ i ++ []))) ∷ [])))))))
+      k v w v_good w_good (ap only (eu ∙ (λ i. vstruct (of_list (e₀ i ++ (e₁ i ++ []))) ∷ [])))
+      (both (has_ty (layout R) v) (has_ty (layout P) w && true) v_good.0 (both (has_ty (layout P) w) true w_good.0 tt), (v_good.1, (w_good.1, tt)))))))
 
 abbrev asked : {M : Type 1} {𝓤 : Ura M} (𝓛 : Logic 𝓤) (T : Ended) → Clauses 𝓤 T → Contract 𝓤
 asked 𝓛 T c = triple_of 𝓛 T.signature (closing 𝓛 T c)

@@ -1,4 +1,4 @@
--- The names that the walks of this crate use, and that conjunctions of what is true are true.
+-- The names that the walks of this crate use.
 pub use Rattle.std.proofs.Common.{◌≡◌, ℕ, List, [], ◌∷◌, ◌++◌, refl, sym, ap, ◌∙◌, w32, w64, subst, length}
 pub use Rattle.std.proofs.raw_atomic.Walks.{proved, proved_at}
 pub use base.Fraction.{full_share}
@@ -45,17 +45,6 @@ pub use Rattle.crs_calls.proofs.piece.Piece.TheLaws.{the_row_laws as piece_laws}
 pub use Rattle.crs_calls.specs.contracts.catalogue_answers.Standing.{the_row as standing_row}
 pub use Rattle.crs_calls.proofs.catalogue_answers.Standing.TheLaws.{the_row_laws as standing_laws}
 unfoldable pub use Rattle.crs_c.specs.Places.{catalogue_at, has_room, rules_at, has_room_for_rules}
-use lib.Dec.{T}
-use mathlib.Core.Bool.{Bool, true, false, ◌&&◌}
-
-pub and_true : (x : Bool) → T x → T (x && true)
-and_true true t = tt
-and_true false t = absurd t
-
-pub both_true : (x y : Bool) → T x → T y → T (x && (y && true))
-both_true true y s t = and_true y t
-both_true false y s t = absurd s
-
-pub three_true : (x y z : Bool) → T x → T y → T z → T (x && (y && (z && true)))
-three_true true y z s t u = both_true y z t u
-three_true false y z s t u = absurd s
+pub use lib.Dec.{T}
+pub use mathlib.Core.Bool.{true, ◌&&◌}
+pub use prog.Align.{both}

@@ -1,5 +1,5 @@
 use Rattle.crs_c.proofs.Held.{held_at, hands_over, word_out, dropped, goes_dropped, ends}
-use Rattle.crs_c.proofs.Steps.{◌≡◌, [], ◌∷◌, ◌++◌, refl, ap, ◌∙◌, w64, proved, full_share, id⊢, sep, sem, ftrue, flft, named, vint, vstruct, of_list, fact, tables, ‵, raw, ◌⊛◌, prop, ◌$◌, ◌∵◌, !, qed, done, move, drop, show, use2, split, join, fsplit, fpick, feq_l, rewrite, suffices, frame, whole, sub, enter, of_opd, load, look, store, stop, fld, no_more, and_then, assigns, returns, alloc_all, pass_all, free_all, look_at, get, get_in, through, sets, lands_as, u8, u64, layout, uint_Makes, uint_vals, uint_Tells, Ptr, block_ptr, lies_at, rawptr_vals, rawptr_Tells, shr_slice_vals, shr_slice_Tells, types_at, owns, nothing, owned, heard, only, triple_of, walk_of, says, framed, part_in, three_true, has_ty, part_at, WpFn, CatalogueParts, catalogue_row, catalogue_laws, rules_row, rules_laws, standing_row, standing_laws, catalogue_at, rules_at, HeldParts}
+use Rattle.crs_c.proofs.Steps.{◌≡◌, [], ◌∷◌, ◌++◌, refl, ap, ◌∙◌, w64, proved, full_share, id⊢, sep, sem, ftrue, flft, named, vint, vstruct, of_list, fact, tables, ‵, ◌⊛◌, prop, ◌$◌, ◌∵◌, !, qed, done, move, drop, show, use2, split, join, fsplit, fpick, feq_l, rewrite, suffices, frame, whole, sub, enter, of_opd, load, look, store, stop, fld, no_more, and_then, assigns, returns, alloc_all, pass_all, free_all, look_at, get, get_in, through, sets, lands_as, u8, u64, layout, uint_Makes, uint_vals, uint_Tells, Ptr, block_ptr, lies_at, rawptr_vals, rawptr_Tells, shr_slice_vals, shr_slice_Tells, types_at, owns, nothing, owned, heard, only, walk_of, says, framed, part_in, both, true, ◌&&◌, has_ty, part_at, WpFn, CatalogueParts, catalogue_row, catalogue_laws, rules_row, rules_laws, standing_row, standing_laws, catalogue_at, rules_at, HeldParts}
 use Rattle.crs_calls.specs.Catalogues.{IsAddedUnder}
 use Rattle.crs_c.specs.contracts.catalogue.crsdesk_catalogue_add_under as f
 use Rattle.crs_c.proofs.catalogue.crsdesk_catalogue_add_under.Statement.{statement}
@@ -42,7 +42,7 @@ crsdesk_catalogue_add_under_spec 𝓤 𝓛 𝓜 𝓡 wired =
     word_out ! S refl is_S r.1 vss.1.0 (λ w₁ g₁ e₁. move ! (1 ∷ []) $ fsplit ! $
     word_out ! P refl is_P r.2 vss.1.1.0 (λ w₂ g₂ e₂. move ! (1 ∷ []) $ drop ! $
     -- [what is told; the rules; the value; the token; the rules' cell; the cell; the locals]
-    lands_as ! (ap only (eu ∙ (λ k. vstruct (of_list (e₀ k ++ (e₁ k ++ (e₂ k ++ [])))) ∷ []))) refl (three_true (has_ty (layout R) w₀) (has_ty (layout S) w₁) (has_ty (layout P) w₂) g₀.0 g₁.0 g₂.0, (g₀.1, (g₁.1, (g₂.1, tt)))) $
+    lands_as ! (ap only (eu ∙ (λ k. vstruct (of_list (e₀ k ++ (e₁ k ++ (e₂ k ++ [])))) ∷ []))) refl (both (has_ty (layout R) w₀) (has_ty (layout S) w₁ && (has_ty (layout P) w₂ && true)) g₀.0 (both (has_ty (layout S) w₁) (has_ty (layout P) w₂ && true) g₁.0 (both (has_ty (layout P) w₂) true g₂.0 tt)), (g₀.1, (g₁.1, (g₂.1, tt)))) $
     sets ! (of_opd ! (get_in ! (fld ! refl (stop !)) (sub ! 0 refl (whole !)))) refl g₀ $
     sets ! (of_opd ! (get_in ! (fld ! refl (stop !)) (sub ! 1 refl (whole !)))) refl g₁ $
     sets ! (of_opd ! (get_in ! (fld ! refl (stop !)) (sub ! 2 refl (whole !)))) refl g₂ $

@@ -1,5 +1,5 @@
 use Rattle.crs_c.proofs.Held.{hands_over, pair_out, dropped, goes_dropped, ends}
-use Rattle.crs_c.proofs.Steps.{List, [], ◌∷◌, ◌++◌, refl, sym, subst, w32, proved_at, full_share, id⊢, sep, ent, sem, ftrue, froom, Val, vint, fact, tables, ‵, raw, ◌⊛◌, prop, ◌$◌, ◌∵◌, !, qed, done, move, drop, show, use1, use2, split, join, fsplit, rewrite, regoal, suffices, frame, whole, sub, enter, of_opd, init, stop, fld, no_more, and_then, assigns, returns, alloc_all, pass_all, free_all, look_at, get, get_in, through, sets, lands_as, u32, layout, uint_Makes, uint_Tells, uint_Lawful, Ptr, block_ptr, room_at, lies_at, in_a_block, rawptr_vals, rawptr_Tells, types_at, owns, nothing, owned, heard, triple_of, walk_of, says, framed, part_in, one, both_true, has_ty, part_at, WpFn, global_row, global_laws, CatalogueParts, catalogue_row, catalogue_laws, catalogue_at, has_room}
+use Rattle.crs_c.proofs.Steps.{List, [], ◌∷◌, ◌++◌, refl, sym, subst, w32, proved_at, full_share, id⊢, sep, ent, sem, ftrue, froom, Val, vint, fact, tables, ‵, ◌⊛◌, prop, ◌$◌, ◌∵◌, !, qed, done, move, drop, show, use1, use2, split, join, fsplit, rewrite, regoal, suffices, frame, whole, sub, enter, of_opd, init, stop, fld, no_more, and_then, assigns, returns, alloc_all, pass_all, free_all, look_at, get, get_in, through, sets, lands_as, u32, layout, uint_Makes, uint_Tells, uint_Lawful, Ptr, block_ptr, room_at, lies_at, in_a_block, rawptr_vals, rawptr_Tells, types_at, owns, nothing, owned, heard, walk_of, says, framed, part_in, one, part_at, WpFn, global_row, global_laws, CatalogueParts, catalogue_row, catalogue_laws, catalogue_at, has_room}
 use Rattle.crs_calls.specs.Catalogues.{IsMadeEmpty}
 use Rattle.crs_c.specs.contracts.catalogue.crsdesk_catalogue_new as f
 use Rattle.crs_c.proofs.catalogue.crsdesk_catalogue_new.Statement.{statement}
@@ -33,9 +33,9 @@ crsdesk_catalogue_new_spec 𝓤 𝓛 𝓜 𝓡 wired =
     hands_over ! (framed 𝓤 𝓛.H 𝓜 𝓣) g.ended (g.clauses 𝓛 𝓜.mem 𝓡.returns) (met 𝓤 𝓛 𝓜 𝓡 (code.calls-crs_calls::made 𝓡.env wired))
     ((κs, qs, tt, (a, (k, tt)), (h.0 ∷ [], (vint w32 k ∷ [], tt))), tt) (id⊢ 𝓤 _) (and_then ! (get ! refl) (and_then ! (get ! refl) (no_more !))) (λ u r ws.
     heard ! (IsMadeEmpty k r.0 r.1) (λ told.
-    pair_out ! R u32 refl refl (catalogue_laws.lawful 𝓛) (uint_Lawful 𝓛 w32) r u (λ v w good good_w eu.
+    pair_out ! R u32 refl refl (catalogue_laws.lawful 𝓛) (uint_Lawful 𝓛 w32) r u (λ v w good good_w eu fits.
     -- [the code; the catalogue; the tokens; the room; the locals]
-    lands_as ! eu refl (both_true (has_ty (layout R) v) (has_ty (layout u32) w) good.0 good_w.0, (good.1, (good_w.1, tt))) $
+    lands_as ! eu refl fits $
     sets ! (of_opd ! (get_in ! (fld ! refl (stop !)) (sub ! 0 refl (whole !)))) refl good $
     sets ! (of_opd ! (get_in ! (fld ! refl (stop !)) (sub ! 1 refl (whole !)))) refl good_w $
     sets ! (of_opd ! (get ! refl)) refl good $

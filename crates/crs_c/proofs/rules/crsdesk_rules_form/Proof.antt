@@ -1,5 +1,5 @@
 use Rattle.crs_c.proofs.Held.{held_at, hands_over, pair_out, dropped, goes_dropped, ends}
-use Rattle.crs_c.proofs.Steps.{[], ◌∷◌, ◌++◌, refl, w32, proved, full_share, id⊢, sep, sem, ftrue, flft, named, vint, fact, tables, ‵, raw, ◌⊛◌, prop, ◌$◌, ◌∵◌, !, qed, done, move, drop, show, use2, split, join, fsplit, suffices, frame, whole, sub, enter, of_opd, load, look, store, stop, fld, no_more, and_then, assigns, returns, alloc_all, pass_all, free_all, look_at, get, get_in, through, sets, lands_as, u8, u32, layout, uint_Makes, uint_vals, uint_Tells, Ptr, block_ptr, lies_at, rawptr_vals, rawptr_Tells, shr_slice_vals, shr_slice_Tells, types_at, owns, nothing, owned, heard, triple_of, walk_of, says, framed, part_in, both_true, has_ty, part_at, WpFn, rules_row, rules_laws, rules_at, HeldParts}
+use Rattle.crs_c.proofs.Steps.{[], ◌∷◌, ◌++◌, refl, w32, proved, full_share, id⊢, sep, sem, ftrue, flft, named, vint, fact, tables, ‵, ◌⊛◌, prop, ◌$◌, ◌∵◌, !, qed, done, move, drop, show, use2, split, join, fsplit, suffices, frame, whole, sub, enter, of_opd, load, look, store, stop, fld, no_more, and_then, assigns, returns, alloc_all, pass_all, free_all, look_at, get, get_in, through, sets, lands_as, u8, u32, uint_Makes, uint_vals, uint_Tells, Ptr, block_ptr, lies_at, rawptr_vals, rawptr_Tells, shr_slice_vals, shr_slice_Tells, types_at, owns, nothing, owned, heard, walk_of, says, framed, part_in, part_at, WpFn, rules_row, rules_laws, rules_at, HeldParts}
 use Rattle.crs_calls.specs.RulesCalls.{IsFormed}
 use Rattle.crs_calls.specs.contracts.rules_answers.Form as told_type
 use Rattle.crs_calls.proofs.rules_answers.Form.TheLaws as told_laws
@@ -34,9 +34,9 @@ crsdesk_rules_form_spec 𝓤 𝓛 𝓜 𝓡 wired =
     hands_over ! (framed 𝓤 𝓛.H 𝓜 𝓣) g.ended (g.clauses 𝓛 𝓜.mem 𝓡.returns) (met 𝓤 𝓛 𝓜 𝓡 (code.calls-crs_calls::formed 𝓡.env wired))
     ((κs, qs, tt, (n, (i, (s, tt))), (v ∷ [], (vint w32 i ∷ [], (shr_slice_vals s, tt)))), tt) (id⊢ 𝓤 _) (and_then ! (get ! refl) (and_then ! (get ! refl) (and_then ! (get ! refl) (no_more !)))) (λ u r ws.
     heard ! (IsFormed i s.now n r.0 r.1) (λ told.
-    pair_out ! R P refl refl is_R is_P r u (λ v' w good' good_w eu.
+    pair_out ! R P refl refl is_R is_P r u (λ v' w good' good_w eu fits.
     -- [what is told; the value; the tokens; the cell; the locals]
-    lands_as ! eu refl (both_true (has_ty (layout R) v') (has_ty (layout P) w) good'.0 good_w.0, (good'.1, (good_w.1, tt))) $
+    lands_as ! eu refl fits $
     sets ! (of_opd ! (get_in ! (fld ! refl (stop !)) (sub ! 0 refl (whole !)))) refl good' $
     sets ! (of_opd ! (get_in ! (fld ! refl (stop !)) (sub ! 1 refl (whole !)))) refl good_w $
     sets ! (of_opd ! (get ! refl)) refl good' $

@@ -1,5 +1,5 @@
 use Rattle.crs_c.proofs.Held.{held_at, hands_over, dropped, goes_dropped, ends}
-use Rattle.crs_c.proofs.Steps.{[], ◌∷◌, refl, ap, proved, full_share, id⊢, vunit, tables, ‵, raw, prop, ◌$◌, ◌∵◌, !, qed, done, move, drop, use1, use2, join, feq_i, feq_l, suffices, frame, enter, of_opd, unit_lit, load, look, stop, forget, no_more, and_then, returns, alloc_all, pass_all, free_all, look_at, get, through, sets, lands_as, Ptr, block_ptr, room_at, lies_at, rawptr_vals, rawptr_Tells, nothing, only, on_entry, triple_of, walk_of, framed, WpFn, rules_row, rules_laws, rules_at, has_room_for_rules}
+use Rattle.crs_c.proofs.Steps.{[], ◌∷◌, refl, ap, proved, full_share, id⊢, vunit, tables, ‵, raw, prop, ◌$◌, ◌∵◌, !, qed, done, move, drop, use1, join, feq_i, feq_l, suffices, frame, enter, of_opd, unit_lit, load, look, stop, forget, no_more, and_then, returns, alloc_all, pass_all, free_all, look_at, get, through, sets, lands_as, Ptr, block_ptr, room_at, lies_at, rawptr_vals, rawptr_Tells, nothing, only, on_entry, walk_of, framed, WpFn, rules_row, rules_laws, rules_at, has_room_for_rules}
 use Rattle.crs_c.specs.contracts.rules.crsdesk_rules_free as f
 use Rattle.crs_c.proofs.rules.crsdesk_rules_free.Statement.{statement}
 use Rattle.crs_c.proofs.rules.crsdesk_rules_free.Code as code
