@@ -25,7 +25,7 @@ pub use denote.RawPtr.{Ptr, block_ptr, room_at, lies_at, in_a_block, rawptr_vals
 pub use denote.Steps.{nothing, owned, heard, peeks, only}
 pub use denote.Struct.Tuple.{Tuple}
 pub use denote.Triple.Clauses.{Lasts, lasts}
-pub use denote.Triple.Entry.{on_entry}
+pub use denote.Triple.Entry.{Vals, on_entry}
 pub use denote.Triple.Spec.{triple_of}
 pub use denote.Triple.Walked.{Stays, walk_of, says, stay_dropped, Goes-dropped, ends_at}
 pub use denote.Triple.Table.{framed}

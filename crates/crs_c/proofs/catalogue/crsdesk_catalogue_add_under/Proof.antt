@@ -16,9 +16,9 @@ crsdesk_catalogue_add_under_spec 𝓤 𝓛 𝓜 𝓡 wired =
     proved 𝓛 f.ended (dropped f.ended) c 𝓜 𝓡 (goes_dropped 𝓛 f.ended (λ κs x w. refl, (λ κs x w. refl, (λ κs x w. refl, (λ κs x w. refl, tt)))))
     f.Key.name code.function (code.unfolded 𝓤 𝓛.H 𝓜 𝓡 wired)
     (λ κs. (rawptr_vals, (rawptr_vals, (uint_vals w64, (shr_slice_vals, tt))))) (λ κs. (rawptr_Tells, (rawptr_Tells, (uint_Tells w64, (shr_slice_Tells (named 0) κs.0 u8, tt))))) (λ κs qs bounds a n are.
-    let κ = κs.0 in let q = qs.0 in let i = a.1.1.0 in let s = a.1.1.1.0 in
+    let i = a.1.1.0 in let s = a.1.1.1.0 in
     let y : Ptr → Ptr → W.Ghost = λ p p'. ((κs, qs, bounds, (p, (p', (i, (s, tt)))), (rawptr_vals p, (rawptr_vals p', (uint_vals w64 i, (shr_slice_vals s, tt))))), n) in
-    qed 𝓛 (((‵ (flft κ q) ⊛ ‵ ftrue) ⊛ ‵ (owns (types_at f.ended.signature.params κs) a (y a.0 a.1.0).0.4)) ∷ (‵ (lies_at R full_share a.0 n.0) ⊛ ‵ (lies_at S full_share a.1.0 n.1)) ∷ []) ∵
+    qed 𝓛 (((‵ (flft κs.0 qs.0) ⊛ ‵ ftrue) ⊛ ‵ (owns (types_at f.ended.signature.params κs) a (y a.0 a.1.0).0.4)) ∷ (‵ (lies_at R full_share a.0 n.0) ⊛ ‵ (lies_at S full_share a.1.0 n.1)) ∷ []) ∵
     split ! $ move ! (1 ∷ []) $ fsplit ! $ drop ! $ fsplit ! $ drop ! $ fsplit ! $ drop ! $ fsplit ! $ move ! (1 ∷ []) $ drop ! $ move ! (2 ∷ []) $ split ! $
     -- [the catalogue; the rules; the text; the token]
     held_at ! R refl is_R a.0 n.0 (λ p. prop (WpFn 𝓤 𝓛.H 𝓣.C 𝓣.Λ code.function (rawptr_vals p ++ (rawptr_vals a.1.0 ++ (vint w64 i ∷ shr_slice_vals s))) (W.post (y p a.1.0)))) refl (λ b o v good. move ! (2 ∷ []) $
