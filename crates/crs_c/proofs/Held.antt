@@ -4,18 +4,20 @@
 --     both_heard     two facts are learned
 --     word_out       what is owned at some words is owned at one word, which fits the type
 --     pair_out       a pair is two words, each of which fits its type, and together they fit the pair's
+--     writes_back    the answer's first part goes to the place, and its second stays in a local
 --     dropped        nothing is left of a parameter.        goes_dropped     where nothing is said of it at exit.        ends     how such a walk ends
-use Rattle.crs_c.proofs.Steps.{◌≡◌, ℕ, List, [], ◌∷◌, ◌++◌, refl, ap, ◌∙◌, subst, full_share, id⊢, sep, ent, sem, fat, Val, vstruct, of_list, ‵, raw, ◌⊛◌, some, later, ◌$◌, ◌∵◌, !, qed, done, move, drop, use1, split, join, fsplit, fpick, feq_l, pick, await, rewrite, regoal, suffices, shows, Is, layout, Ptr, block_ptr, lies_at, in_a_block, peeks, nothing, heard, fact, only, Tuple, lasts, Lasts, triple_of, Stays, walk_of, stay_dropped, Goes-dropped, ends_at, part_out, Good, one, T, true, ◌&&◌, both, has_ty}
+use Rattle.crs_c.proofs.Steps.{◌≡◌, ℕ, List, [], ◌∷◌, ◌++◌, refl, ap, ◌∙◌, subst, full_share, id⊢, sep, ent, sem, fat, Val, vstruct, of_list, ‵, raw, ◌⊛◌, some, later, ◌$◌, ◌∵◌, !, qed, done, move, drop, use1, split, join, fsplit, fpick, feq_l, pick, await, rewrite, regoal, suffices, shows, Is, layout, Ptr, block_ptr, lies_at, in_a_block, peeks, nothing, heard, fact, only, Tuple, lasts, Lasts, triple_of, Stays, walk_of, stay_dropped, Goes-dropped, ends_at, part_out, Good, one, T, true, ◌&&◌, both, has_ty, sym, part_at, part_in, froom, of_opd, load, look, store, init, stop, fld, assigns, whole, sub}
 use seplogic.Ra.Ura.{Ura}
-use mir.Syntax.{Ty, Callee, Place, Opd as Operand, Body, seq, call}
+use mir.Syntax.{Sym, Ty, ty_ptr, ty_struct, tcons, tnil, Callee, Place, place, Step as PStep, deref, field, Opd as Operand, copy, rv_opd, Body, seq, assign, call}
 use base.Logic.{emp, via, emp∗, mono_r}
-use prog.Wp.{Env, Calls, Loops}
+use prog.Wp.{Env, Spot, spot_of, Calls, Loops}
 use sound.WpLaws.{FmC}
 use contract.Lifetimes.{Lfts}
-use mir.Val.{WT}
+use mir.Val.{WT, vptr}
 use types.Logic.{Logic}
-use types.Kit.{Item, Goal, Post, Seq, mean, runs, lands, use0, use2}
-use types.Run.{Opds}
+use types.Kit.{Item, Goal, Post, Seq, Sq, mean, runs, lands, use0, use2}
+use types.Part.{look_in}
+use types.Run.{Opds, Walks, Finds, from, hop, land}
 use denote.Laws.{Lawful, Typed}
 use denote.RattleType.{RattleType, Denots, Valss}
 use denote.Signature.{Slot, type_at, types_at}
@@ -67,6 +69,32 @@ module _ {M : Type 1} {𝓤 : Ura M} {𝓛 : Logic 𝓤} {K : Type 0} {Γ : List
       use1 𝓛 (later (some (λ (r : Res T.signature y.0.0). (raw (alive 𝓛 T.signature y.0.0 y.0.1) ⊛ ‵ ((type_at T.signature.result y.0.0).own_val r (u ∷ []))) ⊛
       some (λ (ws : Lasts T y.0.0 y.0.3). ‵ (lasts T y.0.0 y.0.3 ws) ⊛ raw ((c y.0.0 y.0.3).ensures y.1 r (at_exit T y.0.0 y.0.3 ws)))))) (id⊢ 𝓤 _) $
       await t tt $ pick t (λ r. split t $ split t $ move t (2 ∷ []) $ pick t (λ ws. split t $ drop t $ move t (0 ∷ 2 ∷ 1 ∷ []) $ k u r ws)))
+
+finds : {M : Type 1} {𝓤 : Ura M} {𝓛 : Logic 𝓤} {K : Type 0} {Γ : List (Item 𝓤)} {E : Env 𝓤 𝓛.H} → K → {i : ℕ} {st : List PStep} {sp sp' : Spot 𝓤 𝓛.H} → spot_of 𝓤 𝓛.H E i ≡ sp → Walks K 𝓛 Γ E sp st sp' → Finds K 𝓛 Γ E (place i st) sp'
+finds {𝓛 = 𝓛} {K = K} {Γ = Γ} {E = E} t {st = st} {sp' = sp'} e w = from t (subst (λ (sp : Spot _ 𝓛.H). Walks K 𝓛 Γ E sp st sp') (sym e) w)
+
+abbrev pair_type : Sym → RattleType → RattleType → Ty
+pair_type ν R P = ty_struct ν (tcons (layout R) (tcons (layout P) tnil))
+
+abbrev sets_to : Place → Place → Body → Body
+sets_to p p' = seq (assign p (rv_opd (copy p')))
+
+module _ {M : Type 1} {𝓤 : Ura M} {𝓛 : Logic 𝓤} {Δ : List (Item 𝓤)} {E : Env 𝓤 𝓛.H} {C : Calls 𝓤 𝓛.H} {Λ : Loops 𝓤 𝓛.H} {q : Post 𝓤 𝓛.H} {rest : Body} where
+  -- i is the local with the place, j and k those of the parts, l that of the pair, and m that of what is written
+  pub writes_back : (R P : RattleType) → One R → One P → Lawful 𝓛 R → Lawful 𝓛 P → (r : R.Denot × P.Denot) (u : Val) {i j k l m bi bj bk bl bm b o : ℕ} {v₀ : Val} {ν : Sym} {A X₁ X₂ D₁ D₂ D₃ D₄ D₅ D₆ D₇ : Item 𝓤}
+      → spot_of 𝓤 𝓛.H E i ≡ (ty_ptr, bi, 0) → spot_of 𝓤 𝓛.H E j ≡ (layout R, bj, 0) → spot_of 𝓤 𝓛.H E k ≡ (layout P, bk, 0) → spot_of 𝓤 𝓛.H E l ≡ (pair_type ν R P, bl, 0) → spot_of 𝓤 𝓛.H E m ≡ (layout R, bm, 0)
+      → ((v w : Val) → Good (layout P) w → Sq 𝓛 (‵ (part_at R full_share r.0 b o) ∷ ‵ (P.own_val r.1 (w ∷ [])) ∷ A ∷ ‵ (fat full_share (layout R) bm 0 v) ∷ D₁ ∷ X₁ ∷ D₂ ∷ ‵ (fat full_share (pair_type ν R P) bl 0 (vstruct (of_list (v ∷ w ∷ [])))) ∷ D₃
+      ∷ ‵ (fat full_share (layout P) bk 0 w) ∷ D₄ ∷ ‵ (fat full_share (layout R) bj 0 v) ∷ D₅ ∷ X₂ ∷ D₆ ∷ ‵ (fat full_share ty_ptr bi 0 (vptr b o)) ∷ D₇ ∷ Δ) (runs C Λ E rest q))
+      → Sq 𝓛 (‵ ((Tuple (R ∷ P ∷ [])).own_val r (u ∷ [])) ∷ A ∷ ‵ (fat full_share (layout R) b o v₀) ∷ ‵ (froom (layout R) bm 0) ∷ D₁ ∷ X₁ ∷ D₂ ∷ ‵ (froom (pair_type ν R P) bl 0) ∷ D₃
+      ∷ ‵ (froom (layout P) bk 0) ∷ D₄ ∷ ‵ (froom (layout R) bj 0) ∷ D₅ ∷ X₂ ∷ D₆ ∷ ‵ (fat full_share ty_ptr bi 0 (vptr b o)) ∷ D₇ ∷ Δ)
+      (lands C Λ E (place l []) u (sets_to (place j []) (place l (field 0 ∷ [])) (sets_to (place k []) (place l (field 1 ∷ [])) (sets_to (place m []) (place j []) (sets_to (place i (deref (layout R) ∷ [])) (place m []) rest)))) q)
+  writes_back R P one_R one_P is_R is_P r u {bl = bl} {b = b} {o = o} {ν = ν} at_i at_j at_k at_l at_m next = pair_out ! R P one_R one_P is_R is_P r u (λ v w good good_w eu fits.
+      land ! (finds ! at_l (stop !)) (init ! 8 refl (subst (Good (pair_type ν R P)) (sym eu) fits)) $ rewrite ! 8 (λ (z : Val). ‵ (fat full_share (pair_type ν R P) bl 0 z)) eu refl $
+      assigns ! (of_opd ! (load ! (finds ! at_l (fld ! refl (stop !))) (look_in ! 8 (sub ! 0 refl (whole !))))) (finds ! at_j (stop !)) (init ! 12 refl good) $
+      assigns ! (of_opd ! (load ! (finds ! at_l (fld ! refl (stop !))) (look_in ! 8 (sub ! 1 refl (whole !))))) (finds ! at_k (stop !)) (init ! 10 refl good_w) $
+      assigns ! (of_opd ! (load ! (finds ! at_j (stop !)) (look ! 12 refl))) (finds ! at_m (stop !)) (init ! 4 refl good) $
+      assigns ! (of_opd ! (load ! (finds ! at_m (stop !)) (look ! 4 refl))) (finds ! at_i (hop ! (look ! 16 refl) (stop !))) (store ! 3 refl good) $
+      move ! (3 ∷ 1 ∷ []) $ use2 𝓛 (‵ (part_at R full_share r.0 b o)) (part_in 𝓛 R one_R full_share r.0 b o v) $ next v w good_w)
 
 -- ---- parameters of which nothing is left
 module _ {n : ℕ} where

@@ -1,5 +1,5 @@
-use Rattle.crs_c.proofs.Held.{held_at, hands_over, both_heard, pair_out, dropped, goes_dropped, ends}
-use Rattle.crs_c.proofs.Steps.{◌≡◌, [], ◌∷◌, ◌++◌, refl, w64, proved, full_share, id⊢, vint, tables, ‵, raw, prop, ◌$◌, ◌∵◌, !, qed, done, move, drop, use2, join, rewrite, suffices, frame, whole, sub, enter, of_opd, load, look, store, stop, fld, no_more, and_then, assigns, returns, alloc_all, pass_all, free_all, look_at, get, get_in, through, sets, lands_as, usize, uint_Makes, uint_Tells, Ptr, block_ptr, lies_at, rawptr_vals, rawptr_Tells, nothing, owned, on_entry, walk_of, says, framed, part_in, uint_vals, part_at, WpFn, CatalogueParts, catalogue_row, catalogue_laws, catalogue_at}
+use Rattle.crs_c.proofs.Held.{held_at, hands_over, both_heard, writes_back, dropped, goes_dropped, ends}
+use Rattle.crs_c.proofs.Steps.{◌≡◌, [], ◌∷◌, ◌++◌, refl, w64, proved, full_share, id⊢, vint, tables, ‵, raw, prop, ◌$◌, ◌∵◌, !, qed, done, move, drop, join, rewrite, suffices, frame, enter, of_opd, load, look, stop, no_more, and_then, returns, alloc_all, pass_all, free_all, look_at, get, through, sets, usize, uint_Makes, uint_Tells, Ptr, block_ptr, lies_at, rawptr_vals, rawptr_Tells, nothing, owned, on_entry, walk_of, says, framed, uint_vals, WpFn, CatalogueParts, catalogue_row, catalogue_laws, catalogue_at}
 use Rattle.crs_c.specs.contracts.catalogue.crsdesk_catalogue_line as f
 use Rattle.crs_c.proofs.catalogue.crsdesk_catalogue_line.Statement.{statement}
 use Rattle.crs_c.proofs.catalogue.crsdesk_catalogue_line.Code as code
@@ -32,15 +32,9 @@ crsdesk_catalogue_line_spec 𝓤 𝓛 𝓜 𝓡 wired =
     hands_over ! (framed 𝓤 𝓛.H 𝓜 𝓣) g.ended (g.clauses 𝓛 𝓜.mem 𝓡.returns) (met 𝓤 𝓛 𝓜 𝓡 (code.calls-crs_calls::looked_up 𝓡.env wired))
     ((κs, qs, tt, (n, (i, (j, tt))), (v ∷ [], (vint w64 i ∷ [], (vint w64 j ∷ [], tt)))), tt) (id⊢ 𝓤 _) (and_then ! (get ! refl) (and_then ! (get ! refl) (and_then ! (get ! refl) (no_more !)))) (λ u r ws.
     both_heard ! (r.0 ≡ n) (r.1 ≡ line_at n i j) (λ same found.
-    pair_out ! R P refl refl is_R is_P r u (λ v' w good' good_w eu fits.
-    -- [what is told; the value; the tokens; the cell; the locals]
-    lands_as ! eu refl fits $
-    sets ! (of_opd ! (get_in ! (fld ! refl (stop !)) (sub ! 0 refl (whole !)))) refl good' $
-    sets ! (of_opd ! (get_in ! (fld ! refl (stop !)) (sub ! 1 refl (whole !)))) refl good_w $
-    sets ! (of_opd ! (get ! refl)) refl good' $
-    assigns ! (of_opd ! (get ! refl)) (through ! refl (stop !)) (store ! 3 refl good') $
+    writes_back R P refl refl is_R is_P r u refl refl refl refl refl (λ v' w good_w.
+    -- [the catalogue; what is told; the tokens; the locals]
     sets ! (of_opd ! (get ! refl)) refl good_w $
     returns ! (look_at ! 0 refl) $ free_all ! refl $
-    move ! (3 ∷ 1 ∷ []) $ use2 𝓛 (‵ (part_at R full_share r.0 b o)) (part_in 𝓛 R refl full_share r.0 b o v') $
     rewrite ! 0 (λ (x : CatalogueParts). ‵ (lies_at R full_share (block_ptr b o) x)) same refl $
     suffices ! _ (ends 𝓛 f.ended c (y (block_ptr b o)) w r.1 (tt, (tt, (tt, tt)))) $ move ! (2 ∷ 1 ∷ []) $ frame ! $ frame ! $ says ! found $ done !))))))

@@ -1,5 +1,5 @@
-use Rattle.crs_c.proofs.Held.{held_at, hands_over, pair_out, dropped, goes_dropped, ends}
-use Rattle.crs_c.proofs.Steps.{[], ◌∷◌, ◌++◌, refl, w32, proved, full_share, id⊢, sep, sem, ftrue, flft, named, vint, fact, tables, ‵, ◌⊛◌, prop, ◌$◌, ◌∵◌, !, qed, done, move, drop, show, use2, split, join, fsplit, suffices, frame, whole, sub, enter, of_opd, load, look, store, stop, fld, no_more, and_then, assigns, returns, alloc_all, pass_all, free_all, look_at, get, get_in, through, sets, lands_as, u8, u32, uint_Makes, uint_vals, uint_Tells, Ptr, block_ptr, lies_at, rawptr_vals, rawptr_Tells, shr_slice_vals, shr_slice_Tells, types_at, owns, nothing, owned, heard, walk_of, says, framed, part_in, part_at, WpFn, rules_row, rules_laws, rules_at, HeldParts}
+use Rattle.crs_c.proofs.Held.{held_at, hands_over, writes_back, dropped, goes_dropped, ends}
+use Rattle.crs_c.proofs.Steps.{[], ◌∷◌, ◌++◌, refl, w32, proved, full_share, id⊢, sep, sem, ftrue, flft, named, vint, fact, tables, ‵, ◌⊛◌, prop, ◌$◌, ◌∵◌, !, qed, done, move, drop, show, split, join, fsplit, suffices, frame, enter, of_opd, load, look, stop, no_more, and_then, returns, alloc_all, pass_all, free_all, look_at, get, through, sets, u8, u32, uint_Makes, uint_vals, uint_Tells, Ptr, block_ptr, lies_at, rawptr_vals, rawptr_Tells, shr_slice_vals, shr_slice_Tells, types_at, owns, nothing, owned, heard, walk_of, says, framed, WpFn, rules_row, rules_laws, rules_at, HeldParts}
 use Rattle.crs_calls.specs.RulesCalls.{IsFormed}
 use Rattle.crs_calls.specs.contracts.rules_answers.Form as told_type
 use Rattle.crs_calls.proofs.rules_answers.Form.TheLaws as told_laws
@@ -34,16 +34,9 @@ crsdesk_rules_form_spec 𝓤 𝓛 𝓜 𝓡 wired =
     hands_over ! (framed 𝓤 𝓛.H 𝓜 𝓣) g.ended (g.clauses 𝓛 𝓜.mem 𝓡.returns) (met 𝓤 𝓛 𝓜 𝓡 (code.calls-crs_calls::formed 𝓡.env wired))
     ((κs, qs, tt, (n, (i, (s, tt))), (v ∷ [], (vint w32 i ∷ [], (shr_slice_vals s, tt)))), tt) (id⊢ 𝓤 _) (and_then ! (get ! refl) (and_then ! (get ! refl) (and_then ! (get ! refl) (no_more !)))) (λ u r ws.
     heard ! (IsFormed i s.now n r.0 r.1) (λ told.
-    pair_out ! R P refl refl is_R is_P r u (λ v' w good' good_w eu fits.
-    -- [what is told; the value; the tokens; the cell; the locals]
-    lands_as ! eu refl fits $
-    sets ! (of_opd ! (get_in ! (fld ! refl (stop !)) (sub ! 0 refl (whole !)))) refl good' $
-    sets ! (of_opd ! (get_in ! (fld ! refl (stop !)) (sub ! 1 refl (whole !)))) refl good_w $
-    sets ! (of_opd ! (get ! refl)) refl good' $
-    assigns ! (of_opd ! (get ! refl)) (through ! refl (stop !)) (store ! 3 refl good') $
+    writes_back R P refl refl is_R is_P r u refl refl refl refl refl (λ v' w good_w.
+    -- [the rules; what is told; the tokens; the locals]
     sets ! (of_opd ! (get ! refl)) refl good_w $
     returns ! (look_at ! 0 refl) $ free_all ! refl $
-    move ! (3 ∷ 1 ∷ []) $ use2 𝓛 (‵ (part_at R full_share r.0 b o)) (part_in 𝓛 R refl full_share r.0 b o v') $
-    -- [the rules; what is told; the token]
     suffices ! _ (ends 𝓛 f.ended c (y (block_ptr b o)) w r.1 (tt, (tt, (tt, tt)))) $ move ! (2 ∷ 1 ∷ []) $ frame ! $ frame ! $
     show ! (λ (new : HeldParts). sep 𝓤 (sem 𝓛 (lies_at R full_share (block_ptr b o) new)) (fact 𝓤 (IsFormed i s.now n new r.1))) r.0 $ says ! told $ done !))))))
