@@ -52,14 +52,15 @@ counted q f v r long fits lanes found all =
 
 -- ---- blocks
 
-pub run_bound : (q : ℕ → Bool) (d : List ℕ) (at : ℕ) → at ≤ length d → at + prefix_len q (drop at d) ≤ length d
-run_bound q d at h = omega (arith, prefix_len-le-length q (drop at d), length-drop at d)
+-- the bytes before this place are all of a run
+abbrev pub IsRunTo : (ℕ → Bool) → List ℕ → ℕ → Type 0
+IsRunTo q d at = (prefix_len q d ≡ at + prefix_len q (drop at d)) × (at ≤ length d)
 
 split : (q : ℕ → Bool) (d : List ℕ) (at n : ℕ)
     → prefix_len q (drop at d) ≡ cond (eqb (prefix_len q (chunk at n d)) (length (chunk at n d))) (length (chunk at n d) + prefix_len q (drop (at + n) d)) (prefix_len q (chunk at n d))
 split q d at n = ap (prefix_len q) (chunk-drop at n d) ∙ prefix_len-append q (chunk at n d) (drop (at + n) d)
 
-pub run_through : (q : ℕ → Bool) (d : List ℕ) (at n : ℕ) → at + n ≤ length d → n ≤ prefix_len q (chunk at n d) → prefix_len q (drop at d) ≡ n + prefix_len q (drop (at + n) d)
+run_through : (q : ℕ → Bool) (d : List ℕ) (at n : ℕ) → at + n ≤ length d → n ≤ prefix_len q (chunk at n d) → prefix_len q (drop at d) ≡ n + prefix_len q (drop (at + n) d)
 run_through q d at n room whole =
     let c = chunk at n d in
     let long = length-chunk at n d room in
@@ -71,6 +72,17 @@ run_stops q d at n room short =
     let c = chunk at n d in
     let some : prefix_len q c ≡ length c → ⊥ = λ e. omega (arith, e, length-chunk at n d room) in
     split q d at n ∙ ap (λ b. cond b (length c + prefix_len q (drop (at + n) d)) (prefix_len q c)) (ne_eqb _ _ some)
+
+-- a block in which the run ends, one that it passes, and what is left behind the last
+module _ (q : ℕ → Bool) (d : List ℕ) (at count : ℕ) (before : IsRunTo q d at) where
+  pub run_ends : at + 16 ≤ length d → count ≡ prefix_len q (chunk at 16 d) → count < 16 → at + count ≡ prefix_len q d
+  run_ends room found short = omega (arith, run_stops q d at 16 room (omega (arith, found)), found, before.0)
+
+  pub run_passes : at + 16 ≤ length d → count ≡ prefix_len q (chunk at 16 d) → 16 ≤ count → IsRunTo q d (at + 16)
+  run_passes room found whole = (omega (arith, run_through q d at 16 room (omega (arith, found)), before.0), omega arith)
+
+  pub run_bound : (rest : List ℕ) → count ≡ prefix_len q rest → rest ≡ drop at d → at + count ≤ length d
+  run_bound rest found e = omega (arith, found ∙ ap (prefix_len q) e, prefix_len-le-length q (drop at d), length-drop at d, before.1)
 
 -- ---- words
 

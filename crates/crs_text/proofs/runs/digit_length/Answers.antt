@@ -1,27 +1,16 @@
-use Rattle.std.proofs.Common.{arith, ap, ◌∙◌}
-use Rattle.std.specs.List.{prefix_len}
+use Rattle.std.proofs.Common.{arith}
 use Rattle.crs_decimal.specs.Prelude.{is_digit}
-use Rattle.crs_text.proofs.tokens.RunLemmas.{run_bound, run_through, run_stops}
+use Rattle.crs_text.proofs.tokens.RunLemmas.{run_ends, run_passes, run_bound}
 use Rattle.crs_text.proofs.runs.digit_length.Goals as goal
 
 pub returns-then-count-lt-LANES-clause-value : goal.returns-then-count-lt-LANES-clause-value
-returns-then-count-lt-LANES-clause-value c =
-    let found = c.digit_lanes-count.ensures in
-    let run = run_stops is_digit c.args.left.now c.loop-at.at 16 (omega arith) (omega (arith, found)) in
-    omega (arith, run, found, c.loop-at.invariant.0)
+returns-then-count-lt-LANES-clause-value c = run_ends is_digit c.args.left.now c.loop-at.at _ c.loop-at.invariant (omega arith) c.digit_lanes-count.ensures (omega arith)
 
 pub loop-at-preserved : goal.loop-at-preserved
-loop-at-preserved c =
-    let found = c.digit_lanes-count.ensures in
-    let run = run_through is_digit c.args.left.now c.loop-at.at 16 (omega arith) (omega (arith, found)) in
-    (omega (arith, run, c.loop-at.invariant.0), omega arith)
+loop-at-preserved c = run_passes is_digit c.args.left.now c.loop-at.at _ c.loop-at.invariant (omega arith) c.digit_lanes-count.ensures (omega arith)
 
 pub overflow_add-result-2 : goal.overflow_add-result-2
-overflow_add-result-2 c =
-    let last = c.last_digit_length.ensures ∙ ap (prefix_len is_digit) c.rest_of.ensures in
-    omega (arith, last, run_bound is_digit c.args.left.now c.loop-at.at c.loop-at.invariant.1)
+overflow_add-result-2 c = omega (arith, run_bound is_digit c.args.left.now c.loop-at.at _ c.loop-at.invariant _ c.last_digit_length.ensures c.rest_of.ensures)
 
 pub returns-clause-within : goal.returns-clause-within
-returns-clause-within c =
-    let last = c.last_digit_length.ensures ∙ ap (prefix_len is_digit) c.rest_of.ensures in
-    omega (arith, last, run_bound is_digit c.args.left.now c.loop-at.at c.loop-at.invariant.1)
+returns-clause-within c = omega (arith, run_bound is_digit c.args.left.now c.loop-at.at _ c.loop-at.invariant _ c.last_digit_length.ensures c.rest_of.ensures)
