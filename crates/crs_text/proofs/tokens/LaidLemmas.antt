@@ -209,26 +209,22 @@ span_of source (node place keyword square first others close) row h is k =
     subst (λ p. IsSpanned source p row.close ts) (sym (ap (λ r. r.place) is))
     (subst (λ c. IsSpanned source place c ts) (sym (ap (λ r. r.close) is)) h)
 
-module _ (source : List ℕ) (tree : Item) (id : ℕ) (row : Row) (laid : AreLaid source (tokens tree)) (has : HasId tree id)
-    (is : row ≡ row_of row.depth (first_of (here tree id))) where
-  own-rows : (part table : List Row) (at : ℕ) → part ≡ take row.size (drop at table) → at ≡ id → table ≡ rows 0 tree →
-      (depth : ℕ) × (part ≡ rows depth (first_of (here tree id)))
-  own-rows part table at p a t =
-      let r = rows_here tree id (lt_from_has tree id has) in (
-        r.0,
-        p ∙ ap (λ n. take row.size (drop n table)) a ∙ ap (λ rs. take row.size (drop id rs)) t
-            ∙ ap (λ n. take n (drop id (rows 0 tree))) (ap (λ r. r.size) is) ∙ r.1,
-      )
+-- the rows of a node, and its bytes
+pub record IsOwn (source : List ℕ) (item : Item) (row : Row) (part : List Row) : Type 0 where
+  pub long : bytes_of_rows part ≡ length (bytes_of (tokens item))
+  pub text : AreSquare part → bytes_of (tokens item) ≡ item_text item
+  pub span : IsSpanned source row.place row.close (tokens item)
 
-  pub own-length : (part table : List Row) (at : ℕ) → part ≡ take row.size (drop at table) → at ≡ id → table ≡ rows 0 tree →
-      bytes_of_rows part ≡ length (bytes_of (tokens (first_of (here tree id))))
-  own-length part table at p a t =
-      let r = own-rows part table at p a t in ap bytes_of_rows r.1 ∙ rows-length (first_of (here tree id)) r.0
-
-  pub own-text : (part table : List Row) (at : ℕ) → part ≡ take row.size (drop at table) → at ≡ id → table ≡ rows 0 tree → AreSquare part →
-      bytes_of (tokens (first_of (here tree id))) ≡ item_text (first_of (here tree id))
-  own-text part table at p a t h =
-      let r = own-rows part table at p a t in square_text (first_of (here tree id)) r.0 (subst AreSquare r.1 h)
-
-  pub own-span : row.kind ≡ Node → IsSpanned source row.place row.close (tokens (first_of (here tree id)))
-  own-span k = span_of source (first_of (here tree id)) row (spanned source tree id laid has) is k
+pub own : (source : List ℕ) (laid tree : Item) (id at : ℕ) (row : Row) (part table : List Row) → AreLaid source (tokens laid) → laid ≡ tree → HasId tree id
+    → row ≡ row_of row.depth (first_of (here tree id)) → row.kind ≡ Node → table ≡ rows 0 laid → at ≡ id → part ≡ take row.size (drop at table) → IsOwn source (first_of (here tree id)) row part
+own source laid tree id at row part table h same has is k t a p =
+    let item = first_of (here tree id) in
+    let r = rows_here tree id (lt_from_has tree id has) in
+    let e : part ≡ rows r.0 item =
+    p ∙ ap (λ n. take row.size (drop n table)) a ∙ ap (λ rs. take row.size (drop id rs)) (t ∙ ap (λ z. rows 0 z) same)
+    ∙ ap (λ n. take n (drop id (rows 0 tree))) (ap (λ r. r.size) is) ∙ r.1 in
+    record {
+      long = ap bytes_of_rows e ∙ rows-length item r.0;
+      text = λ square. square_text item r.0 (subst AreSquare e square);
+      span = span_of source item row (spanned source tree id (subst (λ z. AreLaid source (tokens z)) same h) has) is k;
+    }
