@@ -1,5 +1,5 @@
 -- The table that tokens lead to shows which token may follow, and whether they are a whole node.
-use Rattle.std.proofs.Common.{◌≡◌, Bool, true, false, Option, Some, None, List, [], ◌∷◌, ◌++◌, refl, sym, ◌∙◌, ap}
+use Rattle.std.proofs.Common.{◌≡◌, ◌≢◌, Bool, true, false, Option, Some, None, List, [], ◌∷◌, ◌++◌, refl, sym, ◌∙◌, ap}
 use Rattle.std.specs.Option.{option_map}
 use Rattle.crs_text.specs.Tokens.{Token, opening}
 use Rattle.crs_text.specs.Items.{Item, AreNode}
@@ -47,9 +47,9 @@ not_viable_from_shows ts f t h e = go (step 12 h.0 t) refl
         let m : option_map flat (step 12 h.0 t) ≡ Some (flat n) = ap (option_map flat) k in
         absurd (let n : None ≡ Some (flat n) = sym e ∙ step-flat ts f t h ∙ m in cc)
 
--- an opening delimiter that is too deep
-pub deep_from_shows : (ts : List Token) (f g : Flat) (square : Bool) → Shows ts f → IsOpened f square TooDeep g → IsViableAtAnyDepth (ts ++ opening square ∷ [])
-deep_from_shows ts f g square h o = go h.0 h.1 (sym (ap (λ f. f.position) h.2) ∙ o.0)
+-- an opening delimiter after a word is allowed, but for the depth
+pub deep_from_shows : (ts : List Token) (f : Flat) (square : Bool) → Shows ts f → f.position ≡ AfterWord → IsViableAtAnyDepth (ts ++ opening square ∷ [])
+deep_from_shows ts f square h is_word = go h.0 h.1 (sym (ap (λ f. f.position) h.2) ∙ is_word)
   where
     go : (s : State) → run 12 start ts ≡ Some s → (flat s).position ≡ AfterWord → IsViableAtAnyDepth (ts ++ opening square ∷ [])
     go (wants []) r e = cc
@@ -61,10 +61,10 @@ pub none_from_deep : (f g : Flat) (square : Bool) → IsOpened f square TooDeep 
 none_from_deep f g square o = rw (o.0, o.1) refl
 
 -- an opening delimiter that isn't allowed there at all
-pub refused_from_shows : (ts : List Token) (f g : Flat) (square : Bool) → Shows ts f → IsOpened f square Refused g → ¬ (IsViableAtAnyDepth (ts ++ opening square ∷ []))
-refused_from_shows ts f g square h o v =
+pub refused_from_shows : (ts : List Token) (f : Flat) (square : Bool) → Shows ts f → f.position ≢ AfterWord → ¬ (IsViableAtAnyDepth (ts ++ opening square ∷ []))
+refused_from_shows ts f square h other v =
     let w = worded_from_deep ts h.0 square h.1 v in
-    o.0 (ap (λ f. f.position) h.2 ∙ ap (λ s. (flat s).position) w.3)
+    other (ap (λ f. f.position) h.2 ∙ ap (λ s. (flat s).position) w.3)
 
 pub none_from_refused : (f g : Flat) (square : Bool) → IsOpened f square Refused g → flat_step f (opening square) ≡ None
 none_from_refused f g square o = go f.position refl

@@ -6,7 +6,7 @@ use Rattle.std.proofs.lemmas.List.Sums.{prefix_len-le-length}
 use Rattle.crs_text.specs.Tokens as tokens
 use Rattle.crs_text.specs.Tokens.{Kind, Token, single, comma, opening, closing, opening_byte, closing_byte, is_white, Forms, Fronts, IsAfterWhite}
 use Rattle.crs_text.specs.Items.{Item}
-use Rattle.crs_text.specs.TextFault.{reason_number, IsFlaw, IsStop, IsTextFault, RefusesText, SpellsNode}
+use Rattle.crs_text.specs.TextFault.{reason_number, IsFlaw, IsTooDeep, IsStop, IsTextFault, RefusesText, SpellsNode}
 use Rattle.crs_text.specs.Table.{Flat, flat_step, with_leaf, IsStep, IsOpened, IsNodeBegun, is_whole}
 use Rattle.crs_text.specs.Rows.{Shows, flat}
 use Rattle.crs_text.specs.State.{start, after}
@@ -23,86 +23,31 @@ use Rattle.crs_text.specs.declared.table.Opened.TheVariants as opened
 use Rattle.crs_text.proofs.tokens.LexedLemmas.{prefix_taken, prefix_ends}
 use Rattle.crs_text.proofs.rows.FlatLemmas.{word_begun, delimiter_begun}
 use Rattle.crs_text.proofs.tokens.FrontsLemmas.{fronts_more, forms_shorter}
-use Rattle.crs_text.proofs.rows.ShowsLemmas.{shows_start, viable_from_shows, shows_more, not_viable_from_shows, deep_from_shows, none_from_deep, refused_from_shows, none_from_refused, whole_from_shows, not_whole_from_shows}
+use Rattle.crs_text.proofs.rows.ShowsLemmas.{shows_start, viable_from_shows, shows_more, not_viable_from_shows, deep_from_shows, none_from_deep, whole_from_shows, not_whole_from_shows}
 
 -- ---- why nothing goes on
 
 pub stop_flaw : (reason : Reason) (total : ℕ) (ts : List Token) (left : List ℕ) (skip : ℕ) → IsFlaw reason left skip → IsStop reason total ts left skip
-stop_flaw BadCharacter total ts left skip f = f
-stop_flaw BadNumber total ts left skip f = f
-stop_flaw NumberRange total ts left skip f = f
-stop_flaw NotUtf8 total ts left skip f = f
-stop_flaw OpenText total ts left skip f = f
 stop_flaw Unexpected total ts left skip f = absurd f
 stop_flaw UnexpectedEnd total ts left skip f = absurd f
 stop_flaw TooDeep total ts left skip f = absurd f
-
-no_skip : (at place : ℕ) → place ≡ at → place ≡ at + 0
-no_skip at place e = omega arith
+stop_flaw r total ts left skip f = f
 
 module _ (text : List ℕ) (at : ℕ) (table : Flat) (r : RefusedAt) (is_place : r.place ≡ at) where
-  pub stopped_single : (kind : Kind) (place : ℕ) (raw rest : List ℕ) → r.number ≡ reason_number Unexpected → Forms (length text) (single kind place raw) (drop at text) rest → flat_step table (single kind place raw) ≡ None → IsStopped text at table r
-  stopped_single kind place raw rest n f none =
-      record {
-        reason = Unexpected;
-        skip = 0;
-        is_number = n;
-        is_place = no_skip at r.place is_place;
-        stop = λ ts shows. (single kind place raw, rest, f, not_viable_from_shows ts table (single kind place raw) shows none, λ h. h, refl);
-      }
+  stopped : (reason : Reason) → r.number ≡ reason_number reason → ((ts : List Token) → Shows ts table → IsStop reason (length text) ts (drop at text) 0) → IsStopped text at table r
+  stopped reason n stop = record { reason = reason; skip = 0; is_number = n; is_place = omega (arith, is_place); stop = stop }
 
-  pub stopped_comma : (rest : List ℕ) → r.number ≡ reason_number Unexpected → Forms (length text) comma (drop at text) rest → flat_step table comma ≡ None → IsStopped text at table r
-  stopped_comma rest n f none =
-      record {
-        reason = Unexpected;
-        skip = 0;
-        is_number = n;
-        is_place = no_skip at r.place is_place;
-        stop = λ ts shows. (comma, rest, f, not_viable_from_shows ts table comma shows none, λ h. h, refl);
-      }
-
-  pub stopped_closing : (place : ℕ) (square : Bool) (rest : List ℕ) → r.number ≡ reason_number Unexpected → Forms (length text) (closing place square) (drop at text) rest → flat_step table (closing place square) ≡ None → IsStopped text at table r
-  stopped_closing place square rest n f none =
-      record {
-        reason = Unexpected;
-        skip = 0;
-        is_number = n;
-        is_place = no_skip at r.place is_place;
-        stop = λ ts shows. (closing place square, rest, f, not_viable_from_shows ts table (closing place square) shows none, λ h. h, refl);
-      }
-
-  pub stopped_opening : (square : Bool) (behind : Flat) (rest : List ℕ) → r.number ≡ reason_number Unexpected → Forms (length text) (opening square) (drop at text) rest → IsOpened table square opened.Refused behind → IsStopped text at table r
-  stopped_opening square behind rest n f refused =
-      record {
-        reason = Unexpected;
-        skip = 0;
-        is_number = n;
-        is_place = no_skip at r.place is_place;
-        stop = λ ts shows. (
-          opening square,
-          rest,
-          f,
-          not_viable_from_shows ts table (opening square) shows (none_from_refused table behind square refused),
-          λ deep. refused_from_shows ts table behind square shows refused deep.0,
-          refl,
-        );
-      }
+  -- a token that isn't taken, and isn't one too many
+  pub stopped_token : (t : Token) (rest : List ℕ) → r.number ≡ reason_number Unexpected → Forms (length text) t (drop at text) rest → flat_step table t ≡ None
+      → ((ts : List Token) → Shows ts table → ¬ (IsTooDeep ts t)) → IsStopped text at table r
+  stopped_token t rest n f none few =
+      stopped Unexpected n (λ ts shows. (t, rest, f, not_viable_from_shows ts table t shows none, few ts shows, refl))
 
   pub stopped_too_deep : (square : Bool) (behind : Flat) (rest : List ℕ) → r.number ≡ reason_number TooDeep → Forms (length text) (opening square) (drop at text) rest → IsOpened table square opened.TooDeep behind → IsStopped text at table r
   stopped_too_deep square behind rest n f deep =
-      record {
-        reason = TooDeep;
-        skip = 0;
-        is_number = n;
-        is_place = no_skip at r.place is_place;
-        stop = λ ts shows. (
-          opening square,
-          rest,
-          f,
-          (deep_from_shows ts table behind square shows deep, not_viable_from_shows ts table (opening square) shows (none_from_deep table behind square deep)),
-          refl,
-        );
-      }
+      stopped TooDeep n (λ ts shows.
+      let not = not_viable_from_shows ts table (opening square) shows (none_from_deep table behind square deep) in
+      (opening square, rest, f, (deep_from_shows ts table square shows deep.0, not), refl))
 
 -- ---- the tokens at a place
 
@@ -252,9 +197,7 @@ flaw_within BadNumber left skip f = omega (arith, f.4)
 flaw_within NumberRange left skip f = omega (arith, f.5)
 flaw_within NotUtf8 left skip f = let l : length left ≡ suc (length f.0) = ap length f.2 in let w : f.5 ≤ length f.0 = f.6.within in omega (arith, f.7)
 flaw_within OpenText left skip f = omega (arith, f.4)
-flaw_within Unexpected left skip f = absurd f
-flaw_within UnexpectedEnd left skip f = absurd f
-flaw_within TooDeep left skip f = absurd f
+flaw_within r left skip f = absurd f
 
 pub place_within : (text : List ℕ) (at : ℕ) (r : Reason) (skip : ℕ) → at ≤ length text → IsFlaw r (drop at text) skip → at + skip ≤ length text
 place_within text at r skip le f = omega (arith, flaw_within r (drop at text) skip f, length-drop at text)

@@ -2,7 +2,7 @@ use Rattle.std.proofs.Common.{◌≡◌, None, sym, ap, ◌∙◌, subst, refl, 
 use Rattle.crs_text.specs.Tokens.{single}
 use Rattle.crs_text.specs.Table.{flat_step, flat_single}
 use Rattle.crs_text.specs.Scan.{IsStoppedBy}
-use Rattle.crs_text.proofs.tokens.ScanLemmas.{stopped_single, not_taken}
+use Rattle.crs_text.proofs.tokens.ScanLemmas.{stopped_token, not_taken}
 use Rattle.crs_text.proofs.scanning.take_single.Goals as goal
 
 pub returns-in-Ok-false : goal.returns-in-Ok-false
@@ -11,4 +11,4 @@ returns-in-Ok-false c =
     let e : flat_step c.args.table.now (single c.requires.single.of_kind c.args.at c.args.raw.now) ≡ None =
     ap (λ z. flat_single c.args.table.now z c.args.at c.args.raw.now) (sym c.requires.single.is_kind) ∙ none in
     subst (IsStoppedBy c.args.text.now c.args.at c.args.table.now) (sym c.unexpected.ensures)
-    (stopped_single c.args.text.now c.args.at c.args.table.now _ refl c.requires.single.of_kind c.args.at c.args.raw.now (drop (c.args.at + c.args.size) c.args.text.now) refl c.requires.single.forms e)
+    (stopped_token c.args.text.now c.args.at c.args.table.now _ refl (single c.requires.single.of_kind c.args.at c.args.raw.now) (drop (c.args.at + c.args.size) c.args.text.now) refl c.requires.single.forms e (λ ts shows deep. deep))
