@@ -46,12 +46,9 @@ depth-gather place keyword square (b ∷ before) item later close limit n each h
 
 sound-behind : (limit : ℕ) (item : Item) (fs : List Frame) (t : Token) (n : State) → AreSound limit fs → depth item + length fs ≤ limit →
     behind_item item fs t ≡ Some n → IsSound limit n
-sound-behind limit item [] t n s d e = cc
-sound-behind limit item (f ∷ fs) (single kind place raw) n s d e = cc
 sound-behind limit item (f ∷ fs) comma n s d e =
     let h : wants (record f { before = item ∷ f.before } ∷ fs) ≡ n = cc in
     subst (IsSound limit) h (((omega arith), s.0), s.1, s.2)
-sound-behind limit item (f ∷ fs) (opening square) n s d e = cc
 sound-behind limit item (f ∷ fs) (closing place square) n s d e =
     let h = only_if-some _ _ n e in
     subst (IsSound limit) h.1 (
@@ -59,6 +56,7 @@ sound-behind limit item (f ∷ fs) (closing place square) n s d e =
       IsEnded-node fs _ (IsNode-gather f.place f.keyword f.square f.before item End place),
       depth-gather f.place f.keyword f.square f.before item End place limit (length fs) s.0 (omega arith) (omega arith),
     )
+sound-behind limit item fs t n s d e = cc
 
 sound-leaf : (limit : ℕ) (kind : Kind) (place : ℕ) (raw : List ℕ) (f : Frame) (fs : List Frame) → AreSound limit (f ∷ fs) → IsSound limit (behind_leaf kind place raw (f ∷ fs))
 sound-leaf limit number place raw f fs s = (s, tt, omega arith)
@@ -66,27 +64,16 @@ sound-leaf limit text place raw f fs s = (s, tt, omega arith)
 sound-leaf limit word place raw f fs s = s
 
 pub sound-step : (limit : ℕ) (s : State) (t : Token) (n : State) → IsSound limit s → step limit s t ≡ Some n → IsSound limit n
-sound-step limit (wants []) (single number place raw) n s e = cc
-sound-step limit (wants []) (single text place raw) n s e = cc
 sound-step limit (wants []) (single word place raw) n s e = let h : worded place raw [] ≡ n = cc in subst (IsSound limit) h tt
-sound-step limit (wants []) comma n s e = cc
-sound-step limit (wants []) (opening square) n s e = cc
-sound-step limit (wants []) (closing place square) n s e = cc
 sound-step limit (wants (f ∷ fs)) (single kind place raw) n s e =
     let h : behind_leaf kind place raw (f ∷ fs) ≡ n = cc in subst (IsSound limit) h (sound-leaf limit kind place raw f fs s)
-sound-step limit (wants (f ∷ fs)) comma n s e = cc
-sound-step limit (wants (f ∷ fs)) (opening square) n s e = cc
-sound-step limit (wants (f ∷ fs)) (closing place square) n s e = cc
+sound-step limit (wants fs) t n s e = cc
 sound-step limit (worded place raw fs) (opening square) n s e =
     let h = only_if-some _ _ n e in
     let lt = ltb-true _ _ h.0 in
     subst (IsSound limit) h.1 (tt, omega arith, s)
-sound-step limit (worded place raw []) (single k p r) n s e = cc
-sound-step limit (worded place raw (f ∷ fs)) (single k p r) n s e = cc
-sound-step limit (worded place raw []) comma n s e = cc
-sound-step limit (worded place raw (f ∷ fs)) comma n s e = sound-behind limit (leaf word place raw) (f ∷ fs) comma n s (omega arith) e
-sound-step limit (worded place raw []) (closing p square) n s e = cc
-sound-step limit (worded place raw (f ∷ fs)) (closing p square) n s e = sound-behind limit (leaf word place raw) (f ∷ fs) (closing p square) n s (omega arith) e
+sound-step limit (worded place raw []) t n s e = cc
+sound-step limit (worded place raw (f ∷ fs)) t n s e = sound-behind limit (leaf word place raw) (f ∷ fs) t n s (omega arith) e
 sound-step limit (after item fs) t n s e = sound-behind limit item fs t n s.0 s.2 e
 
 pub run-cons : (limit : ℕ) (s : State) (t : Token) (n : State) (ts : List Token) → step limit s t ≡ Some n → run limit s (t ∷ ts) ≡ run limit n ts

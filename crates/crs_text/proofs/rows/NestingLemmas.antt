@@ -135,17 +135,9 @@ passed_single text at places raw kind n s = record { token = single s.of_kind at
 
 -- inside 12 open delimiters no further one is opened
 no_thirteenth : (last : Option Token) (held : List Bool) (square : Bool) → length held ≡ 12 → MayFollow last held (opening square) → ⊥
-no_thirteenth None held square e m = m
-no_thirteenth (Some (single tokens.number place raw)) [] square e m = m
-no_thirteenth (Some (single tokens.number place raw)) (h ∷ hs) square e m = m
-no_thirteenth (Some (single tokens.text place raw)) [] square e m = m
-no_thirteenth (Some (single tokens.text place raw)) (h ∷ hs) square e m = m
-no_thirteenth (Some (single tokens.word place raw)) [] square e m = absurd (omega arith)
+no_thirteenth last [] square e m = absurd (omega arith)
 no_thirteenth (Some (single tokens.word place raw)) (h ∷ hs) square e m = elim m [ inl never ↦ never | inr lt ↦ absurd (omega (arith, lt.1, e)) ]
-no_thirteenth (Some comma) held square e m = m
-no_thirteenth (Some (opening other)) held square e m = m
-no_thirteenth (Some (closing place other)) [] square e m = m
-no_thirteenth (Some (closing place other)) (h ∷ hs) square e m = m
+no_thirteenth last held square e m = m
 
 pub nested_start : (text : List ℕ) (place at : ℕ) → at ≡ prefix_len is_white text → IsNested text place at []
 nested_start text place at e =

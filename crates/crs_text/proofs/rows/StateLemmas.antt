@@ -29,16 +29,14 @@ tokens-gather place keyword square (b ∷ before) item later close =
     tokens-gather place keyword square before b (More item later) close ∙ simp append_assoc
 
 unread-behind : (item : Item) (fs : List Frame) (t : Token) (n : State) → behind_item item fs t ≡ Some n → unread n ≡ (frames_tokens fs ++ tokens item) ++ t ∷ []
-unread-behind item [] t n e = cc
-unread-behind item (f ∷ fs) (single kind place raw) n e = cc
 unread-behind item (f ∷ fs) comma n e =
     let h : wants (record f { before = item ∷ f.before } ∷ fs) ≡ n = cc in
     rw (← h) (simp append_assoc)
-unread-behind item (f ∷ fs) (opening square) n e = cc
 unread-behind item (f ∷ fs) (closing place square) n e =
     let h = only_if-some (same_square square f.square) _ n e in
     let g = same_square-true square f.square h.0 in
     rw (← h.1, g) (simp (tokens-gather, append_assoc))
+unread-behind item fs t n e = cc
 
 unread-leaf : (kind : Kind) (place : ℕ) (raw : List ℕ) (fs : List Frame) → unread (behind_leaf kind place raw fs) ≡ frames_tokens fs ++ single kind place raw ∷ []
 unread-leaf number place raw fs = refl
@@ -46,23 +44,14 @@ unread-leaf text place raw fs = refl
 unread-leaf word place raw fs = refl
 
 pub unread-step : (limit : ℕ) (s : State) (t : Token) (n : State) → step limit s t ≡ Some n → unread n ≡ unread s ++ t ∷ []
-unread-step limit (wants []) (single number place raw) n e = cc
-unread-step limit (wants []) (single text place raw) n e = cc
 unread-step limit (wants []) (single word place raw) n e = let h : worded place raw [] ≡ n = cc in rw (← h) refl
-unread-step limit (wants []) comma n e = cc
-unread-step limit (wants []) (opening square) n e = cc
-unread-step limit (wants []) (closing place square) n e = cc
 unread-step limit (wants (f ∷ fs)) (single kind place raw) n e =
     let h : behind_leaf kind place raw (f ∷ fs) ≡ n = cc in
     rw (← h) (unread-leaf kind place raw (f ∷ fs))
-unread-step limit (wants (f ∷ fs)) comma n e = cc
-unread-step limit (wants (f ∷ fs)) (opening square) n e = cc
-unread-step limit (wants (f ∷ fs)) (closing place square) n e = cc
+unread-step limit (wants fs) t n e = cc
 unread-step limit (worded place raw fs) (opening square) n e =
     let h = only_if-some _ _ n e in rw (← h.1) (simp append_assoc)
-unread-step limit (worded place raw fs) (single k p r) n e = unread-behind (leaf word place raw) fs (single k p r) n e
-unread-step limit (worded place raw fs) comma n e = unread-behind (leaf word place raw) fs comma n e
-unread-step limit (worded place raw fs) (closing p square) n e = unread-behind (leaf word place raw) fs (closing p square) n e
+unread-step limit (worded place raw fs) t n e = unread-behind (leaf word place raw) fs t n e
 unread-step limit (after item fs) t n e = unread-behind item fs t n e
 
 pub fold-none : (limit : ℕ) (ts : List Token) → fold (move limit) None ts ≡ None

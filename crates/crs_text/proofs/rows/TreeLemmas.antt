@@ -148,9 +148,7 @@ IsBoundedHere item = kind_of_item item ≡ Number → IsInBounds (raw_of item)
 
 bounded_here : (item : Item) → EachToken IsFormed (tokens item) → IsBoundedHere item
 bounded_here (leaf number place raw) h = λ e. h.0.2
-bounded_here (leaf text place raw) h = λ e. cc
-bounded_here (leaf word place raw) h = λ e. cc
-bounded_here (node place keyword square first others close) h = λ e. cc
+bounded_here item h = λ e. cc
 
 -- each number of a tree is within the bounds
 pub bounded : (tree : Item) (id : ℕ) → EachToken IsFormed (tokens tree) → HasId tree id → IsBoundedHere (first_of (here tree id))

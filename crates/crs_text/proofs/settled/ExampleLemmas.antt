@@ -1,8 +1,10 @@
 -- The worked texts of which a part is settled.
-use Rattle.std.proofs.Common.{◌≡◌, ℕ, true, false, codes, List, [], ◌∷◌, ◌++◌, length, refl, arith, IsUtf8}
+use Rattle.std.proofs.Common.{◌≡◌, ℕ, ◌+◌, Some, None, true, false, codes, List, [], ◌∷◌, ◌++◌, length, refl, arith, IsUtf8}
 use Rattle.crs_text.specs.Quoted.{is_quote}
 use Rattle.crs_text.specs.Tokens as tokens
 use Rattle.crs_text.specs.Tokens.{Token, single, comma, opening, closing, is_white}
+use Rattle.crs_text.specs.State.{State, start, step, run}
+use Rattle.crs_text.specs.TextFault.{IsTooDeep}
 use Rattle.crs_text.specs.declared.refusal.Reason.TheVariants.{BadCharacter, Unexpected}
 use Rattle.crs_text.specs.Settled.{FormsSettled, SettledFronts, IsSettledRefusal, IsTakenSoFar}
 use Rattle.crs_text.specs.SettledExamples.{begun}
@@ -78,45 +80,30 @@ run_so_far =
     taken_so_far (begun ++ codes ",1") (with_name ++ comma ∷ []) (codes "1") (listed_fronts 49 [] refl) (viable_from_run (with_name ++ comma ∷ []) _ refl)
     (run_held (codes "1") (refl, refl) 13 (omega arith) (with_name ++ comma ∷ []))
 
-pub word_refused : IsSettledRefusal (begun ++ codes "]x ") 6 12
-word_refused = record {
+-- a settled token that the state after those before it doesn't take
+unexpected : (bytes : List ℕ) (before : List Token) (left rest : List ℕ) (t : Token) (place : ℕ) (s : State) → SettledFronts (length bytes) bytes before left → run 12 start before ≡ Some s
+    → FormsSettled (length bytes) t left rest → step 12 s t ≡ None → ¬ (IsTooDeep before t) → place + length left ≡ length bytes + 0 → IsSettledRefusal bytes 6 place
+unexpected bytes before left rest t place s fronts e f none few at = record {
   reason = Unexpected;
-  before = with_name ++ closing 11 true ∷ [];
-  left = codes "x ";
+  before = before;
+  left = left;
   skip = 0;
-  fronts = closed_fronts 120 (32 ∷ []) refl;
-  viable = viable_from_run (with_name ++ closing 11 true ∷ []) _ refl;
-  stop = (
-    single tokens.word 12 (codes "x"),
-    32 ∷ [],
-    record { forms = record { spelled = refl; formed = (refl, refl); ends = refl; placed = refl }; settled = λ e. absurd cc },
-    not_viable_from_none (with_name ++ closing 11 true ∷ []) _ (single tokens.word 12 (codes "x")) refl refl,
-    λ deep. deep,
-    refl,
-  );
+  fronts = fronts;
+  viable = viable_from_run before s e;
+  stop = (t, rest, f, not_viable_from_none before s t e none, few, refl);
   is_number = refl;
-  is_place = refl;
+  is_place = at;
 }
 
+pub word_refused : IsSettledRefusal (begun ++ codes "]x ") 6 12
+word_refused =
+    unexpected (begun ++ codes "]x ") (with_name ++ closing 11 true ∷ []) (codes "x ") (32 ∷ []) (single tokens.word 12 (codes "x")) 12 _ (closed_fronts 120 (32 ∷ []) refl) refl
+    (record { forms = record { spelled = refl; formed = (refl, refl); ends = refl; placed = refl }; settled = λ e. absurd cc }) refl (λ deep. deep) refl
+
 pub closing_refused : IsSettledRefusal (begun ++ codes ",]") 6 12
-closing_refused = record {
-  reason = Unexpected;
-  before = with_name ++ comma ∷ [];
-  left = codes "]";
-  skip = 0;
-  fronts = listed_fronts 93 [] refl;
-  viable = viable_from_run (with_name ++ comma ∷ []) _ refl;
-  stop = (
-    closing 12 true,
-    [],
-    record { forms = record { spelled = refl; formed = tt; ends = tt; placed = refl }; settled = tt },
-    not_viable_from_none (with_name ++ comma ∷ []) _ (closing 12 true) refl refl,
-    λ deep. deep,
-    refl,
-  );
-  is_number = refl;
-  is_place = refl;
-}
+closing_refused =
+    unexpected (begun ++ codes ",]") (with_name ++ comma ∷ []) (codes "]") [] (closing 12 true) 12 _ (listed_fronts 93 [] refl) refl
+    (record { forms = record { spelled = refl; formed = tt; ends = tt; placed = refl }; settled = tt }) refl (λ deep. deep) refl
 
 pub character_refused : IsSettledRefusal (begun ++ codes "#") 1 11
 character_refused = record {

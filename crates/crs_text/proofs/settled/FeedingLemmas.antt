@@ -99,10 +99,9 @@ module _ (total : ℕ) (left : List ℕ) where
   no_stop_without ts none flaw BadNumber k s = flaw BadNumber k s.0 s.1
   no_stop_without ts none flaw NumberRange k s = flaw NumberRange k s.0 s.1
   no_stop_without ts none flaw NotUtf8 k s = flaw NotUtf8 k s tt
-  no_stop_without ts none flaw OpenText k s = s
   no_stop_without ts none flaw Unexpected k s = none s.0 s.1 s.2
-  no_stop_without ts none flaw UnexpectedEnd k s = s
   no_stop_without ts none flaw TooDeep k s = none s.0 s.1 s.2
+  no_stop_without ts none flaw r k s = s
 
   pub held_without : (ts : List Token) → ((t : Token) (rest : List ℕ) → ¬ (FormsSettled total t left rest)) → ((r : Reason) (k : ℕ) → IsFlaw r left k → ¬ (IsFlawSettled r left)) → IsUnsettled total ts left
   held_without ts none flaw = record { no_token = none; no_stop = no_stop_without ts none flaw }
@@ -151,10 +150,8 @@ module _ (text : List ℕ) (at : ℕ) (lt : at < length text) where
       let a = text_at text at lt n l in token_held (length text) (drop at text) ts (single a.of_kind at (take n (drop 1 (drop at text)))) (drop (at + (n + 2)) text) a.forms (λ some. some (rest_none (n + 2) s))
   held_from_lexed (lexed.Word n) l s ts =
       let a = word_at text at lt n l in token_held (length text) (drop at text) ts (single a.of_kind at (take n (drop at text))) (drop (at + n) text) a.forms (λ some. some (rest_none n s))
-  held_from_lexed lexed.Comma l s ts = absurd (s tt)
-  held_from_lexed (lexed.Opening square) l s ts = absurd (s tt)
-  held_from_lexed (lexed.Closing square) l s ts = absurd (s tt)
   held_from_lexed (lexed.Flaw r k) l s ts = flaw_held (length text) (drop at text) ts r k l s
+  held_from_lexed k l s ts = absurd (s tt)
 
   pub settled_refused : (table : Flat) (r : RefusedAt) → AllSettled (length text) (drop at text) → IsSettledTo text table at → IsStopped text at table r → IsSettledRefusal text r.number r.place
   settled_refused table r all reached s = record {

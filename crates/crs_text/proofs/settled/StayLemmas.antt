@@ -7,7 +7,7 @@ use Rattle.std.proofs.lemmas.Bool.{cases_lt}
 use Rattle.crs_decimal.specs.Prelude.{is_run_byte}
 use Rattle.crs_text.specs.Quoted.{StopsAt, is_quote, IsShut, Through}
 use Rattle.crs_text.specs.Utf8.{IsUtf8Front}
-use Rattle.crs_text.specs.Tokens.{Token, single, comma, opening, closing, is_white, takes_byte, Ends, IsPlaced, spelling, Forms, IsAfterWhite, Fronts}
+use Rattle.crs_text.specs.Tokens.{Token, single, closing, is_white, takes_byte, Ends, IsPlaced, spelling, Forms, IsAfterWhite, Fronts}
 use Rattle.crs_text.specs.Viable.{IsViable}
 use Rattle.crs_text.specs.declared.refusal.Reason.{Reason}
 use Rattle.crs_text.specs.declared.refusal.Reason.TheVariants.{BadCharacter, BadNumber, NumberRange, NotUtf8, OpenText, Unexpected, UnexpectedEnd, TooDeep}
@@ -30,14 +30,13 @@ fronts_from_settled total [] bytes left p = p
 fronts_from_settled total (t ∷ ts) bytes left p = (p.0, p.1, p.2, p.3.forms, fronts_from_settled total ts p.1 left p.4)
 
 pub stop_from_settled : (r : Reason) (total : ℕ) (ts : List Token) (left : List ℕ) (k : ℕ) → IsSettledStop r total ts left k → IsStop r total ts left k
-stop_from_settled BadCharacter total ts left k s = s
 stop_from_settled BadNumber total ts left k s = s.0
 stop_from_settled NumberRange total ts left k s = s.0
-stop_from_settled NotUtf8 total ts left k s = s
 stop_from_settled OpenText total ts left k s = absurd s
 stop_from_settled Unexpected total ts left k s = (s.0, s.1, s.2.forms, s.3, s.4, s.5)
 stop_from_settled UnexpectedEnd total ts left k s = absurd s
 stop_from_settled TooDeep total ts left k s = (s.0, s.1, s.2.forms, s.3, s.4)
+stop_from_settled r total ts left k s = s
 
 -- a settled refusal is one
 pub refuses_from_settled : (bytes : List ℕ) (n place : ℕ) → IsSettledRefusal bytes n place → RefusesText bytes n place
@@ -64,18 +63,15 @@ stops_more test (b ∷ bs) more some s = s
 
 ends_more : (t : Token) (rest more : List ℕ) → IsSettled t rest → Ends t rest → Ends t (rest ++ more)
 ends_more (single kind place raw) rest more some e = stops_more (takes_byte kind) rest more some e
-ends_more comma rest more some e = tt
-ends_more (opening square) rest more some e = tt
-ends_more (closing place square) rest more some e = tt
+ends_more t rest more some e = tt
 
 longer_place : (place total : ℕ) (left more : List ℕ) → place + length left ≡ total → place + length (left ++ more) ≡ total + length more
 longer_place place total left more e = omega (arith, e, length-append left more)
 
 placed_more : (total : ℕ) (t : Token) (left more : List ℕ) → IsPlaced total t left → IsPlaced (total + length more) t (left ++ more)
 placed_more total (single kind place raw) left more p = longer_place place total left more p
-placed_more total comma left more p = tt
-placed_more total (opening square) left more p = tt
 placed_more total (closing place square) left more p = longer_place place total left more p
+placed_more total t left more p = tt
 
 some_more : (left more : List ℕ) → left ≢ [] → left ++ more ≢ []
 some_more [] more some e = some refl
@@ -83,9 +79,7 @@ some_more (b ∷ bs) more some e = absurd cc
 
 settled_more : (t : Token) (rest more : List ℕ) → IsSettled t rest → IsSettled t (rest ++ more)
 settled_more (single kind place raw) rest more s = some_more rest more s
-settled_more comma rest more s = tt
-settled_more (opening square) rest more s = tt
-settled_more (closing place square) rest more s = tt
+settled_more t rest more s = tt
 
 pub forms_more : (total : ℕ) (t : Token) (left rest more : List ℕ) → FormsSettled total t left rest → FormsSettled (total + length more) t (left ++ more) (rest ++ more)
 forms_more total t left rest more f = record {
@@ -232,8 +226,7 @@ stop_some BadCharacter total ts left k s e = flaw_some BadCharacter left k s e
 stop_some BadNumber total ts left k s e = flaw_some BadNumber left k s.0 e
 stop_some NumberRange total ts left k s e = flaw_some NumberRange left k s.0 e
 stop_some NotUtf8 total ts left k s e = flaw_some NotUtf8 left k s e
-stop_some OpenText total ts left k s e = s
-stop_some UnexpectedEnd total ts left k s e = s
+stop_some r total ts left k s e = s
 
 pub fronts_dark : (total : ℕ) (ts : List Token) (bytes left : List ℕ) → SettledFronts total bytes ts left → StopsAt is_white left
 fronts_dark total [] bytes left p = p.ends

@@ -1,7 +1,7 @@
 -- A text is one node at most, or is refused with one number and place at most, and never both.
 use Rattle.std.proofs.Common.{◌≡◌, ℕ, ◌+◌, List, [], ◌∷◌, ◌++◌, length, refl, sym, ap, subst, ◌∙◌, append_assoc, arith, inl, inr}
 use Rattle.std.proofs.lemmas.List.{append-nil}
-use Rattle.crs_text.specs.Tokens.{Token, single, comma, opening, closing, Forms, Fronts, AreTokens}
+use Rattle.crs_text.specs.Tokens.{Token, opening, Forms, Fronts, AreTokens}
 use Rattle.crs_text.specs.Items.{Item, AreNode}
 use Rattle.crs_text.specs.Viable.{IsViable}
 use Rattle.crs_text.specs.declared.refusal.Reason.{Reason}
@@ -19,10 +19,8 @@ tokens_one bytes ts us p q = elim (fronts_compare (length bytes) ts us bytes [] 
     same ts us (t ∷ more, e, f) = let r = front_token (length bytes) t more [] [] tt f in absurd (forms_some (length bytes) t [] r.0 r.1 refl)
 
 too_deep_refused : (ts : List Token) (t : Token) → IsTooDeep ts t → IsViable (ts ++ t ∷ []) → ⊥
-too_deep_refused ts (single kind place raw) h v = h
-too_deep_refused ts comma h v = h
 too_deep_refused ts (opening square) h v = h.1 v
-too_deep_refused ts (closing place square) h v = h
+too_deep_refused ts t h v = h
 
 -- where it stops, there is no viable token
 pub stop_no_token : (r : Reason) (total : ℕ) (ts : List Token) (left : List ℕ) (k : ℕ) (t : Token) (rest : List ℕ) → IsStop r total ts left k → Forms total t left rest → IsViable (ts ++ t ∷ []) → ⊥

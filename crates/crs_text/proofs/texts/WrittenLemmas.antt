@@ -180,8 +180,7 @@ mutual
       let f : item_text first ≡ item_text first2 = same_text first first2 same.1 in
       let o : others_text others ≡ others_text others2 = same_texts others others2 same.2 in
       cc
-  same_text (leaf kind place raw) (node place2 keyword2 square2 first2 others2 close2) same = absurd same
-  same_text (node place keyword square first others close) (leaf kind2 place2 raw2) same = absurd same
+  same_text a b same = absurd same
 
   same_texts : (a b : Siblings) → SameItems a b → others_text a ≡ others_text b
   same_texts End End same = refl
@@ -189,8 +188,7 @@ mutual
       let f : item_text item ≡ item_text item2 = same_text item item2 same.0 in
       let o : others_text items ≡ others_text items2 = same_texts items items2 same.1 in
       cc
-  same_texts End (More item items) same = absurd same
-  same_texts (More item items) End same = absurd same
+  same_texts a b same = absurd same
 
 pub item_text-at_place : (place : ℕ) (item : Item) → item_text (at_place place item) ≡ item_text item
 item_text-at_place place item = sym (same_text item (at_place place item) (at_place-same place item))

@@ -4,7 +4,7 @@ use Rattle.std.specs.List.{fold, last_or}
 use Rattle.std.proofs.lemmas.Bool.{ltb-true, ltb-false}
 use Rattle.std.proofs.lemmas.List.{append-nil}
 use Rattle.std.proofs.lemmas.List.Sums.{fold-append}
-use Rattle.crs_text.specs.Tokens.{number, text, word, Token, single, comma, opening, closing}
+use Rattle.crs_text.specs.Tokens.{word, Token, single, comma, opening, closing}
 use Rattle.crs_text.specs.Items.{Item, leaf, node, Siblings, End, More, tokens, others_tokens, depth}
 use Rattle.crs_text.specs.Viable.{IsViable, IsViableAtAnyDepth, open_after, opens, last_of, GoesOn, IsOpening, MayFollow, Allows, IsFull}
 use Rattle.crs_text.specs.State.{Frame, State, wants, worded, after, start, gather, only_if, behind_leaf, behind_item, step, run, before_tokens, frames_tokens, unread}
@@ -122,13 +122,8 @@ from_wants f fs t e = go f.before t e.0 e.1
   where
     go : (before : List Item) (t : Token) (n : State) → step 12 (wants (f ∷ fs)) t ≡ Some n → MayFollow (Some (last_of_open (record f { before = before }))) (f.square ∷ squares fs) t
     go [] (single kind place raw) n e = tt
-    go [] comma n e = cc
-    go [] (opening square) n e = cc
-    go [] (closing place square) n e = cc
     go (item ∷ before) (single kind place raw) n e = tt
-    go (item ∷ before) comma n e = cc
-    go (item ∷ before) (opening square) n e = cc
-    go (item ∷ before) (closing place square) n e = cc
+    go before t n e = cc
 
 into_wants : (f : Frame) (fs : List Frame) (t : Token) → MayFollow (Some (last_of_open f)) (f.square ∷ squares fs) t → Takes 12 (wants (f ∷ fs)) t
 into_wants f fs t h = go f.before t h
@@ -144,63 +139,39 @@ into_wants f fs t h = go f.before t h
 
 into_word : (place : ℕ) (raw : List ℕ) (f : Frame) (fs : List Frame) (t : Token) → GoesOn f.square t ⊎ (IsOpening t × (length (f.square ∷ squares fs) < 12)) →
     Takes 12 (worded place raw (f ∷ fs)) t
-into_word place raw f fs (single k p r) (inl h) = absurd h
-into_word place raw f fs (single k p r) (inr h) = absurd h.0
-into_word place raw f fs comma h = behind_from_goes_on (leaf word place raw) f fs comma tt
 into_word place raw f fs (opening square) (inl h) = absurd h
 into_word place raw f fs (opening square) (inr h) =
     (wants (record { place = place; keyword = raw; square = square; before = [] } ∷ f ∷ fs), step-opening 12 place raw (f ∷ fs) square (omega (arith, length-squares fs)))
-into_word place raw f fs (closing p square) (inl h) = behind_from_goes_on (leaf word place raw) f fs (closing p square) h
-into_word place raw f fs (closing p square) (inr h) = absurd h.0
+into_word place raw f fs t (inl h) = behind_from_goes_on (leaf word place raw) f fs t h
+into_word place raw f fs t (inr h) = absurd h.0
 
 follows_from_takes : (s : State) (t : Token) → IsSound 12 s → Takes 12 s t → MayFollow (last_token s) (squares (frames_of s)) t
-follows_from_takes (wants []) (single number place raw) s e = cc
-follows_from_takes (wants []) (single text place raw) s e = cc
 follows_from_takes (wants []) (single word place raw) s e = tt
-follows_from_takes (wants []) comma s e = cc
-follows_from_takes (wants []) (opening square) s e = cc
-follows_from_takes (wants []) (closing place square) s e = cc
+follows_from_takes (wants []) t s e = cc
 follows_from_takes (wants (f ∷ fs)) t s e = from_wants f fs t e
-follows_from_takes (worded place raw []) (single k p r) s e = cc
-follows_from_takes (worded place raw []) comma s e = cc
 follows_from_takes (worded place raw []) (opening square) s e = tt
-follows_from_takes (worded place raw []) (closing p square) s e = cc
+follows_from_takes (worded place raw []) t s e = cc
 follows_from_takes (worded place raw (f ∷ fs)) (single k p r) s e = cc
 follows_from_takes (worded place raw (f ∷ fs)) comma s e = inl tt
 follows_from_takes (worded place raw (f ∷ fs)) (opening square) s e =
     let h = ltb-true _ _ (only_if-some _ _ e.0 e.1).0 in
     inr (tt, omega (arith, length-squares fs))
 follows_from_takes (worded place raw (f ∷ fs)) (closing p square) s e = inl (goes_on_from_behind (leaf word place raw) f fs (closing p square) e.0 e.1)
-follows_from_takes (after (leaf kind place raw) []) t s e = cc
-follows_from_takes (after (node place keyword square first others close) []) t s e = cc
-follows_from_takes (after (leaf number place raw) (f ∷ fs)) t s e = goes_on_from_behind (leaf number place raw) f fs t e.0 e.1
-follows_from_takes (after (leaf text place raw) (f ∷ fs)) t s e = goes_on_from_behind (leaf text place raw) f fs t e.0 e.1
+follows_from_takes (after item []) t s e = cc
 follows_from_takes (after (leaf word place raw) (f ∷ fs)) t s e = absurd s.1
-follows_from_takes (after (node place keyword square first others close) (f ∷ fs)) t s e =
-    goes_on_from_behind (node place keyword square first others close) f fs t e.0 e.1
+follows_from_takes (after item (f ∷ fs)) t s e = goes_on_from_behind item f fs t e.0 e.1
 
 takes_from_follows : (s : State) (t : Token) → IsSound 12 s → MayFollow (last_token s) (squares (frames_of s)) t → Takes 12 s t
-takes_from_follows (wants []) (single number place raw) s h = absurd h
-takes_from_follows (wants []) (single text place raw) s h = absurd h
 takes_from_follows (wants []) (single word place raw) s h = (worded place raw [], refl)
-takes_from_follows (wants []) comma s h = absurd h
-takes_from_follows (wants []) (opening square) s h = absurd h
-takes_from_follows (wants []) (closing place square) s h = absurd h
+takes_from_follows (wants []) t s h = absurd h
 takes_from_follows (wants (f ∷ fs)) t s h = into_wants f fs t h
-takes_from_follows (worded place raw []) (single k p r) s h = absurd h
-takes_from_follows (worded place raw []) comma s h = absurd h
 takes_from_follows (worded place raw []) (opening square) s h = (wants (record { place = place; keyword = raw; square = square; before = [] } ∷ []), step-opening 12 place raw [] square (omega arith))
-takes_from_follows (worded place raw []) (closing p square) s h = absurd h
+takes_from_follows (worded place raw []) t s h = absurd h
 takes_from_follows (worded place raw (f ∷ fs)) t s h = into_word place raw f fs t h
-takes_from_follows (after (leaf number place raw) []) t s h = absurd h
-takes_from_follows (after (leaf text place raw) []) t s h = absurd h
 takes_from_follows (after (leaf word place raw) []) t s h = absurd s.1
-takes_from_follows (after (node place keyword square first others close) []) t s h = absurd h
-takes_from_follows (after (leaf number place raw) (f ∷ fs)) t s h = behind_from_goes_on (leaf number place raw) f fs t h
-takes_from_follows (after (leaf text place raw) (f ∷ fs)) t s h = behind_from_goes_on (leaf text place raw) f fs t h
 takes_from_follows (after (leaf word place raw) (f ∷ fs)) t s h = absurd s.1
-takes_from_follows (after (node place keyword square first others close) (f ∷ fs)) t s h =
-    behind_from_goes_on (node place keyword square first others close) f fs t h
+takes_from_follows (after item []) t s h = absurd h
+takes_from_follows (after item (f ∷ fs)) t s h = behind_from_goes_on item f fs t h
 
 -- a list and the state that it leads to agree on which token may follow
 allows-unread : (ts : List Token) (s : State) (t : Token) → run 12 start ts ≡ Some s → Allows ts t ≡ MayFollow (last_token s) (squares (frames_of s)) t
@@ -223,24 +194,14 @@ viable_from_allows ts t v h =
 
 -- a higher limit takes what a lower one does
 weaker-step : (limit : ℕ) (s : State) (t : Token) (n : State) → 12 ≤ limit → step 12 s t ≡ Some n → step limit s t ≡ Some n
-weaker-step limit (wants []) (single number place raw) n h e = cc
-weaker-step limit (wants []) (single text place raw) n h e = cc
 weaker-step limit (wants []) (single word place raw) n h e = e
-weaker-step limit (wants []) comma n h e = cc
-weaker-step limit (wants []) (opening square) n h e = cc
-weaker-step limit (wants []) (closing place square) n h e = cc
 weaker-step limit (wants (f ∷ fs)) (single k p r) n h e = e
-weaker-step limit (wants (f ∷ fs)) comma n h e = cc
-weaker-step limit (wants (f ∷ fs)) (opening square) n h e = cc
-weaker-step limit (wants (f ∷ fs)) (closing place square) n h e = cc
+weaker-step limit (wants fs) t n h e = cc
 weaker-step limit (worded place raw fs) (opening square) n h e =
     let k = only_if-some _ _ n e in
     let lt = ltb-true _ _ k.0 in
     step-opening limit place raw fs square (omega arith) ∙ ap (λ m. Some m) k.1
-weaker-step limit (worded place raw fs) (single k p r) n h e = e
-weaker-step limit (worded place raw fs) comma n h e = e
-weaker-step limit (worded place raw fs) (closing p square) n h e = e
-weaker-step limit (after item fs) t n h e = e
+weaker-step limit s t n h e = e
 
 weaker-run : (limit : ℕ) (ts : List Token) (s n : State) → 12 ≤ limit → run 12 s ts ≡ Some n → run limit s ts ≡ Some n
 weaker-run limit [] s n h e = e
@@ -335,10 +296,8 @@ word_from_last (wants (f ∷ fs)) place raw s e = go f.before e
     go (item ∷ before) e = cc
 word_from_last (worded p r fs) place raw s e = (p, r, fs, refl)
 word_from_last (after (leaf kind p r) []) place raw s e = absurd s.1
-word_from_last (after (leaf number p r) (f ∷ fs)) place raw s e = cc
-word_from_last (after (leaf text p r) (f ∷ fs)) place raw s e = cc
 word_from_last (after (leaf word p r) (f ∷ fs)) place raw s e = absurd s.1
-word_from_last (after (node p keyword square first others close) fs) place raw s e = cc
+word_from_last (after item fs) place raw s e = cc
 
 pub deep_from_full : (ts : List Token) (square : Bool) → IsViable ts → IsFull ts → IsViableAtAnyDepth (ts ++ opening square ∷ []) × ¬ (IsViable (ts ++ opening square ∷ []))
 deep_from_full ts square v h =

@@ -48,14 +48,11 @@ run_shape left run rest r = shape_at_start run rest left r.starts r.parts
 
 -- what a flaw begins with
 abbrev shape_for : Reason → Option Shape
-shape_for BadCharacter = None
 shape_for BadNumber = Some (a_single number)
 shape_for NumberRange = Some (a_single number)
 shape_for NotUtf8 = Some (a_single text)
 shape_for OpenText = Some (a_single text)
-shape_for Unexpected = None
-shape_for UnexpectedEnd = None
-shape_for TooDeep = None
+shape_for r = None
 
 flaw_shape : (r : Reason) (left : List ℕ) (skip : ℕ) → IsFlaw r left skip → shape_at left ≡ shape_for r
 flaw_shape BadCharacter left skip f = no_shape_at left f.0
@@ -63,9 +60,7 @@ flaw_shape BadNumber left skip f = run_shape left f.0 f.1 f.2
 flaw_shape NumberRange left skip f = run_shape left f.0 f.1 f.2
 flaw_shape NotUtf8 left skip f = ap shape_at f.2
 flaw_shape OpenText left skip f = ap shape_at f.1
-flaw_shape Unexpected left skip f = absurd f
-flaw_shape UnexpectedEnd left skip f = absurd f
-flaw_shape TooDeep left skip f = absurd f
+flaw_shape r left skip f = absurd f
 
 -- ---- no token beside a flaw
 
@@ -163,6 +158,4 @@ flaw_some BadNumber left k f e = run_some f.0 f.1 f.2.starts (sym e ∙ f.2.part
 flaw_some NumberRange left k f e = run_some f.0 f.1 f.2.starts (sym e ∙ f.2.parts)
 flaw_some NotUtf8 left k f e = let h : [] ≡ 34 ∷ f.0 = sym e ∙ f.2 in absurd cc
 flaw_some OpenText left k f e = let h : [] ≡ 34 ∷ f.0 = sym e ∙ f.1 in absurd cc
-flaw_some Unexpected left k f e = f
-flaw_some UnexpectedEnd left k f e = f
-flaw_some TooDeep left k f e = f
+flaw_some r left k f e = f

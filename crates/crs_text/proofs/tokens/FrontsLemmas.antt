@@ -103,11 +103,8 @@ word_long (b ∷ bs) h = omega arith
 
 spelling_long : (t : Token) → IsFormed t → 0 < length (spelling t)
 spelling_long (single number place raw) f = begins_long is_run_start raw f.0
-spelling_long (single text place raw) f = omega arith
 spelling_long (single word place raw) f = word_long raw f
-spelling_long comma f = omega arith
-spelling_long (opening square) f = omega arith
-spelling_long (closing place square) f = omega arith
+spelling_long t f = omega arith
 
 -- a token takes bytes away
 pub forms_shorter : (total : ℕ) (t : Token) (left rest : List ℕ) → Forms total t left rest → length rest < length left

@@ -8,12 +8,12 @@ use Rattle.bstr.proofs.lemmas.LossyLemmas.{utf8_valid_len-cases}
 use Rattle.crs_decimal.specs.Prelude.{is_run_byte, is_run_start, HasForm, IsInBounds}
 use Rattle.crs_text.specs.Quoted.{IsInside, IsShut, BeginsWith, is_quote}
 use Rattle.crs_text.specs.Utf8.{IsLongestUtf8}
-use Rattle.crs_text.specs.Tokens.{number, text, word, Token, single, comma, opening, closing, is_letter, is_word_byte, Forms}
+use Rattle.crs_text.specs.Tokens.{Kind, number, text, word, Token, single, comma, opening, closing, is_letter, is_word_byte, Forms}
 use Rattle.crs_text.specs.Lexing.{StandsBefore}
 use Rattle.crs_text.specs.declared.refusal.Reason.{Reason}
 use Rattle.crs_text.specs.declared.refusal.Reason.TheVariants.{BadCharacter, BadNumber, NumberRange, NotUtf8, OpenText}
 use Rattle.crs_text.specs.TextFault.{IsFlaw}
-use Rattle.crs_text.proofs.tokens.LexedLemmas.{is_run, lexed_word}
+use Rattle.crs_text.proofs.tokens.LexedLemmas.{lexed_number, lexed_word, flawed_number, flawed_range}
 use Rattle.crs_text.proofs.tokens.Utf8Lemmas.{IsUtf8Front-from, IsUtf8Front-cut, not-IsUtf8Front, not-IsUtf8Front-before_quote, not-IsUtf8, IsLongestUtf8-from, IsLongestUtf8-before_quote}
 
 -- ---- after an opening quote
@@ -83,19 +83,14 @@ module _ (total : ℕ) where
   placed : (left : List ℕ) → length left ≤ total → total - length left + length left ≡ total
   placed left le = omega arith
 
+  a_single : (kind : Kind) (raw left rest : List ℕ) → length left ≤ total → StandsBefore kind raw left rest → IsTokenOrFlaw total left
+  a_single kind raw left rest le s =
+      inl (single kind (total - length left) raw, rest, record { spelled = s.spelled; formed = s.formed; ends = s.ends; placed = placed left le })
+
   -- a text in UTF-8, or not
   shut_text : (raw rest : List ℕ) (after : List ℕ) → length (34 ∷ after) ≤ total → IsShut after raw rest → IsTokenOrFlaw total (34 ∷ after)
   shut_text raw rest after le s = elim (utf8_valid_len-cases raw) [
-    | inl u ↦ inl (
-      single text (total - length (34 ∷ after)) raw,
-      rest,
-      record {
-        spelled = ap (λ (z : List ℕ). 34 ∷ z) (s.parts ∙ sym (append_assoc raw (34 ∷ []) rest));
-        formed = (s.inside, u);
-        ends = s.ends;
-        placed = placed (34 ∷ after) le;
-      },
-    )
+    | inl u ↦ a_single text raw (34 ∷ after) rest le (record { spelled = ap (λ (z : List ℕ). 34 ∷ z) (s.parts ∙ sym (append_assoc raw (34 ∷ []) rest)); formed = (s.inside, u); ends = s.ends })
     | inr v ↦ inr (
       NotUtf8,
       1 + utf8_valid_len raw,
@@ -137,29 +132,17 @@ module _ (total : ℕ) where
   run : DecidesNumbers → (left : List ℕ) → length left ≤ total → BeginsWith is_run_start left → IsTokenOrFlaw total left
   run decides left le begins =
       let n = prefix_len is_run_byte left in
-      let r = is_run left begins in
       elim (decides (take n left)) [
         | inl form ↦ elim form [
-          | inl bounds ↦ inl (
-            single number (total - length left) (take n left),
-            drop n left,
-            record {
-              spelled = r.parts;
-              formed = (r.starts, r.taken, bounds);
-              ends = r.ends;
-              placed = placed left le;
-            },
-          )
-          | inr out ↦ inr (NumberRange, 0, (take n left, drop n left, r, out.0, out.1, refl))
+          | inl bounds ↦ a_single number (take n left) left (drop n left) le (lexed_number left n refl begins bounds).0
+          | inr out ↦ inr (NumberRange, 0, flawed_range left n refl begins out.0 out.1)
         ]
-        | inr no_form ↦ inr (BadNumber, 0, (take n left, drop n left, r, no_form, refl))
+        | inr no_form ↦ inr (BadNumber, 0, flawed_number left n refl begins no_form)
       ]
 
   single_word : (left : List ℕ) → length left ≤ total → BeginsWith is_letter left → IsTokenOrFlaw total left
   single_word left le begins =
-      let n = prefix_len is_word_byte left in
-      let w : StandsBefore word (take n left) left (drop n left) = (lexed_word left n refl begins).0 in
-      inl (single word (total - length left) (take n left), drop n left, record { spelled = w.spelled; formed = w.formed; ends = w.ends; placed = placed left le })
+      let n = prefix_len is_word_byte left in a_single word (take n left) left (drop n left) le (lexed_word left n refl begins).0
 
   -- a comma, a delimiter, or a byte that begins no token
   delimiter : (b : ℕ) (bs : List ℕ) → length (b ∷ bs) ≤ total → (is_letter b || is_run_start b || is_quote b) ≡ false → IsTokenOrFlaw total (b ∷ bs)

@@ -1,14 +1,15 @@
 -- A sign or none, digits, a fraction or none: with at most 38 digits that is a number in bounds, whatever the digits are.
-use Rattle.std.proofs.Common.{◌≡◌, ℕ, ◌+◌, ◌*◌, ◌%◌, ◌^◌, ◌<◌, ◌≤◌, ◌⊎◌, inl, inr, Bool, true, false, IsTrue, List, [], ◌∷◌, ◌++◌, length, take, drop, Option, None, Some, refl, sym, ap, subst, ◌∙◌, append_assoc, arith}
+use Rattle.std.proofs.Common.{◌≡◌, ℕ, ◌+◌, ◌*◌, ◌%◌, ◌^◌, ◌<◌, ◌≤◌, inl, inr, Bool, true, false, IsTrue, List, [], ◌∷◌, ◌++◌, length, take, drop, Option, None, Some, refl, sym, ap, subst, ◌∙◌, append_assoc, arith}
 use Rattle.std.specs.List.{list_all, prefix_len}
 use Rattle.std.proofs.lemmas.Bool.{cases_eq, cases_lt, and_from}
 use Rattle.std.proofs.lemmas.List.{length-append, length-take, append-nil, take-append-drop, take_at, drop_at, drop-drop}
 use Rattle.std.proofs.lemmas.List.Folds.{list_all-append}
 use Rattle.std.proofs.lemmas.List.Sums.{prefix_len-le-length}
 use Rattle.std.proofs.Math.Nat.{mul-le-mul_right}
-use Rattle.crs_decimal.specs.Prelude.{Sign, unsigned, sign_text, fraction_text, fraction_digits, Parts, IsForm, AreDigits, mantissa, parts_text, is_digit, is_run_byte, is_run_start, IsRun, SpellsNumber, digits_value, Strips, number_of, IsMeasured, IsBounded, IsInBounds, no_digits, with_digits}
+use Rattle.crs_decimal.specs.Prelude.{Sign, unsigned, sign_text, fraction_text, fraction_digits, Parts, IsForm, AreDigits, mantissa, parts_text, is_digit, is_run_byte, is_run_start, IsRun, SpellsNumber, digits_value, Strips, IsBounded, IsInBounds, no_digits, with_digits}
+use Rattle.crs_decimal.proofs.BoundLemmas.{zero_bounded}
 use Rattle.crs_decimal.proofs.DigitLemmas.{value-below}
-use Rattle.crs_decimal.proofs.MantissaLemmas.{shown, Shows, IsStripped, long_least, zero_scaled}
+use Rattle.crs_decimal.proofs.MantissaLemmas.{shown, Shows, long_least, zero_scaled}
 use Rattle.crs_decimal.proofs.PowerLemmas.{power_grows}
 use Rattle.crs_decimal.proofs.RunLemmas.{form_is_run}
 use Rattle.crs_text.specs.Quoted.{StopsAt, BeginsWith}
@@ -17,35 +18,13 @@ use Rattle.crs_text.specs.Lexing.{IsLexed}
 use Rattle.crs_text.specs.declared.lexing.Lexed.TheVariants.{Number}
 use Rattle.crs_text.proofs.tokens.LexedLemmas.{prefix_taken}
 
-abbrev IsSmall : ℕ → Type 0
-IsSmall n = (n ≡ 0) ⊎ ((m k : ℕ) × Strips n m k × (m < 10 ^ 38) × (k ≤ 40))
-
-few_zeros : (d z n : ℕ) → n ≡ d * 10 ^ z → 0 < d → n < 10 ^ 38 → z ≤ 40
-few_zeros d z n e some small = elim (cases_lt 40 z) [
-  | inl l ↦ let p = power_grows 40 z (omega arith) in
-      let q : 1 * 10 ^ z ≤ d * 10 ^ z = mul-le-mul_right (10 ^ z) some in absurd (omega arith)
+few_zeros : (d z n : ℕ) → Strips n d z → n < 10 ^ 38 → z ≤ 40
+few_zeros d z n s small = elim (cases_lt 40 z) [
+  | inl l ↦ let some : 0 < d = elim (cases_eq d 0) [ inl e ↦ absurd (s.1 (ap (λ x. x % 10) e)) | inr e ↦ omega arith ] in
+      let p = power_grows 40 z (omega arith) in
+      let q : 1 * 10 ^ z ≤ d * 10 ^ z = mul-le-mul_right (10 ^ z) some in absurd (omega (arith, s.0))
   | inr l ↦ l
 ]
-
-small_measured : (b : Bool) (n d z : ℕ) → Shows b n d z → n < 10 ^ 38 → IsSmall n
-small_measured true n d z s small = let l = long_least n s.0 in absurd (omega arith)
-small_measured false n d z s small = by s.2
-  where
-    by : IsStripped d z → IsSmall n
-    by (inl e) =
-        let some : 0 < d = elim (cases_eq d 0) [ inl f ↦ absurd (e (ap (λ x. x % 10) f)) | inr f ↦ omega arith ] in
-        inr (d, z, (s.0, e), s.1, few_zeros d z n s.0 some small)
-    by (inr e) = inl (s.0 ∙ zero_scaled d z e.0)
-
-digits_small : (ds : List ℕ) → AreDigits ds → length ds ≤ 38 → IsSmall (digits_value ds)
-digits_small ds h l =
-    let m = with_digits no_digits ds in
-    let below = value-below ds h in
-    let most = power_grows (length ds) 38 l in
-    small_measured m.is_long (digits_value ds) m.digits m.zeros (shown ds h) (omega arith)
-
-all_joined : (xs ys : List ℕ) → AreDigits xs → AreDigits ys → AreDigits (xs ++ ys)
-all_joined xs ys h k = list_all-append is_digit xs ys ∙ and_from _ _ h k
 
 -- the parts of such a number
 module _ (sign : Sign) (whole : List ℕ) (fraction : Option (List ℕ)) (digits : AreDigits whole) (some : 0 < length whole) (others : AreDigits (fraction_digits fraction))
@@ -54,17 +33,28 @@ module _ (sign : Sign) (whole : List ℕ) (fraction : Option (List ℕ)) (digits
   parts = record { sign = sign; whole = whole; fraction = fraction; exponent = None }
 
   all_digits : AreDigits (mantissa parts)
-  all_digits = all_joined whole (fraction_digits fraction) digits others
+  all_digits = list_all-append is_digit whole (fraction_digits fraction) ∙ and_from _ _ digits others
 
   count : length (mantissa parts) ≡ length whole + length (fraction_digits fraction)
   count = length-append whole (fraction_digits fraction)
 
+  small : digits_value (mantissa parts) < 10 ^ 38
+  small =
+      let most = power_grows (length (mantissa parts)) 38 (omega (arith, count, few)) in
+      omega (arith, value-below (mantissa parts) all_digits)
+
+  bounded_by : (b : Bool) (d z : ℕ) → Shows b (digits_value (mantissa parts)) d z → IsBounded parts
+  bounded_by true d z s = absurd (omega (arith, small, long_least (digits_value (mantissa parts)) s.0))
+  bounded_by false d z (e, l, inr none) = zero_bounded parts (e ∙ zero_scaled d z none.0) (omega (arith, count, few)) (omega arith)
+  bounded_by false d z (e, l, inl last) = record {
+    mantissa_digits = omega (arith, count, few);
+    exponent_digits = omega arith;
+    measured = inr (d, z, (e, last), l, omega (arith, few), omega (arith, few_zeros d z (digits_value (mantissa parts)) (e, last) small));
+  }
+
   plain_bounded : IsBounded parts
-  plain_bounded = record { mantissa_digits = omega (arith, count, few); exponent_digits = omega arith; measured = measured (digits_small (mantissa parts) all_digits (omega (arith, count, few))) }
-    where
-      measured : IsSmall (digits_value (mantissa parts)) → ((number_of parts).digits ≡ 0) ⊎ IsMeasured (number_of parts)
-      measured (inl e) = inl e
-      measured (inr (m, k, t, u, v)) = inr (m, k, t, u, omega (arith, few), omega arith)
+  plain_bounded =
+      let m = with_digits no_digits (mantissa parts) in bounded_by m.is_long m.digits m.zeros (shown (mantissa parts) all_digits)
 
   plain_form : IsForm parts
   plain_form = record { digits = all_digits; some = omega (arith, count, some); exponent = tt }

@@ -7,7 +7,7 @@ use Rattle.crs_text.specs.Tokens as tokens
 use Rattle.crs_text.specs.Tokens.{Kind, Token, single, comma, opening, closing, opening_byte, closing_byte, is_white, Forms, Fronts, IsAfterWhite}
 use Rattle.crs_text.specs.Items.{Item}
 use Rattle.crs_text.specs.TextFault.{reason_number, IsFlaw, IsTooDeep, IsStop, IsTextFault, RefusesText, SpellsNode}
-use Rattle.crs_text.specs.Table.{Flat, flat_step, with_leaf, IsStep, IsOpened, IsNodeBegun, is_whole}
+use Rattle.crs_text.specs.Table.{Flat, item_kind, flat_step, with_leaf, IsStep, IsOpened, IsNodeBegun, is_whole}
 use Rattle.crs_text.specs.Rows.{Shows, flat}
 use Rattle.crs_text.specs.State.{start, after}
 use Rattle.crs_text.specs.Lexing.{IsLexed, StandsBefore}
@@ -61,37 +61,22 @@ module _ (text : List ℕ) (at : ℕ) (lt : at < length text) where
   further : (n : ℕ) → drop n (drop at text) ≡ drop (at + n) text
   further n = drop-drop n at text
 
-  fits : (n : ℕ) → n ≤ length (drop at text) → at + n ≤ length text
-  fits n le = omega (arith, length-drop at text)
-
   single_at : (kind : Kind) (raw : List ℕ) (n : ℕ) → StandsBefore kind raw (drop at text) (drop n (drop at text)) → Forms (length text) (single kind at raw) (drop at text) (drop (at + n) text)
   single_at kind raw n s =
       subst (λ z. Forms (length text) (single kind at raw) (drop at text) z) (further n)
       (record { spelled = s.spelled; formed = s.formed; ends = s.ends; placed = placed text at private_le })
 
+  single_found : (kind : Kind) (raw : List ℕ) (n : ℕ) → StandsBefore kind raw (drop at text) (drop n (drop at text)) → n ≤ length (drop at text) → IsSingleAt text at (item_kind kind) raw n
+  single_found kind raw n s le = record { of_kind = kind; is_kind = refl; forms = single_at kind raw n s; within = omega (arith, le, length-drop at text) }
+
   pub number_at : (n : ℕ) → IsLexed (drop at text) (lexed.Number n) → IsSingleAt text at kinds.Number (take n (drop at text)) n
-  number_at n l = record {
-    of_kind = tokens.number;
-    is_kind = refl;
-    forms = single_at tokens.number (take n (drop at text)) n l.0;
-    within = fits n l.1;
-  }
+  number_at n l = single_found tokens.number (take n (drop at text)) n l.0 l.1
 
   pub word_at : (n : ℕ) → IsLexed (drop at text) (lexed.Word n) → IsSingleAt text at kinds.Word (take n (drop at text)) n
-  word_at n l = record {
-    of_kind = tokens.word;
-    is_kind = refl;
-    forms = single_at tokens.word (take n (drop at text)) n l.0;
-    within = fits n l.1;
-  }
+  word_at n l = single_found tokens.word (take n (drop at text)) n l.0 l.1
 
   pub text_at : (n : ℕ) → IsLexed (drop at text) (lexed.Text n) → IsSingleAt text at kinds.Text (take n (drop 1 (drop at text))) (n + 2)
-  text_at n l = record {
-    of_kind = tokens.text;
-    is_kind = refl;
-    forms = single_at tokens.text (take n (drop 1 (drop at text))) (n + 2) l.0;
-    within = fits (n + 2) l.1;
-  }
+  text_at n l = single_found tokens.text (take n (drop 1 (drop at text))) (n + 2) l.0 l.1
 
   pub comma_at : IsLexed (drop at text) lexed.Comma → Forms (length text) comma (drop at text) (drop (at + 1) text)
   comma_at l = record { spelled = l ∙ ap (λ (z : List ℕ). 44 ∷ z) (further 1); formed = tt; ends = tt; placed = tt }

@@ -22,15 +22,12 @@ shape_of (closing place square) = a_closing square
 
 abbrev place_of : Token → ℕ
 place_of (single kind place raw) = place
-place_of comma = 0
-place_of (opening square) = 0
 place_of (closing place square) = place
+place_of t = 0
 
 abbrev raw_of : Token → List ℕ
 raw_of (single kind place raw) = raw
-raw_of comma = []
-raw_of (opening square) = []
-raw_of (closing place square) = []
+raw_of t = []
 
 abbrev build : Shape → ℕ → List ℕ → Token
 build (a_single kind) place raw = single kind place raw
