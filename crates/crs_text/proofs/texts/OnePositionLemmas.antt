@@ -1,5 +1,5 @@
 -- A place of a text has one position.
-use Rattle.std.proofs.Common.{◌≡◌, ℕ, ◌+◌, ◌==◌, cond, inl, inr, List, [], ◌∷◌, ◌++◌, length, take, drop, refl, sym, ap, ◌∙◌, append_assoc, arith}
+use Rattle.std.proofs.Common.{◌≡◌, ℕ, ◌+◌, ◌==◌, cond, inl, inr, List, [], ◌∷◌, ◌++◌, length, take, drop, refl, sym, ap, ◌∙◌, append_assoc, arith, subst}
 use Rattle.std.proofs.lemmas.List.Sums.{sum_by-append}
 use Rattle.std.proofs.lemmas.List.{append_cancel_left, length-append}
 use Rattle.std.proofs.Math.Seq.{take-append_seam, drop-append_seam}
@@ -46,14 +46,8 @@ ended_feed y right after (inr (lines, e)) none =
 
 one_end : (right a other b : List ℕ) → right ++ a ≡ other ++ b → EndsLine a → EndsLine b → feeds right ≡ 0 → feeds other ≡ 0 → right ≡ other
 one_end [] a [] b e ends there none neither = refl
-one_end [] a (y ∷ other) b e ends there none neither = absurd (ended_feed y other b (subst_ends a (y ∷ other ++ b) e ends) neither)
-  where
-    subst_ends : (x y : List ℕ) → x ≡ y → EndsLine x → EndsLine y
-    subst_ends x y e h = rw e at h
-one_end (x ∷ right) a [] b e ends there none neither = absurd (ended_feed x right a (subst_ends b (x ∷ right ++ a) (sym e) there) none)
-  where
-    subst_ends : (x y : List ℕ) → x ≡ y → EndsLine x → EndsLine y
-    subst_ends x y e h = rw e at h
+one_end [] a (y ∷ other) b e ends there none neither = absurd (ended_feed y other b (subst EndsLine e ends) neither)
+one_end (x ∷ right) a [] b e ends there none neither = absurd (ended_feed x right a (subst EndsLine (sym e) there) none)
 one_end (x ∷ right) a (y ∷ other) b e ends there none neither =
     let first : x ≡ y = same_head x y (right ++ a) (other ++ b) e in
     let some : feeds (x ∷ right) ≡ feeds (x ∷ []) + feeds right = feeds-append (x ∷ []) right in

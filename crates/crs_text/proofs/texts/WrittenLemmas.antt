@@ -1,5 +1,5 @@
 -- What is written without white space is read as it was.
-use Rattle.std.proofs.Common.{◌≡◌, ℕ, suc, ◌+◌, ◌≤◌, max, true, List, [], ◌∷◌, ◌++◌, length, refl, sym, ap, subst, ◌∙◌, append_assoc, arith}
+use Rattle.std.proofs.Common.{◌≡◌, ℕ, suc, ◌+◌, max, true, List, [], ◌∷◌, ◌++◌, length, refl, sym, ap, subst, ◌∙◌, append_assoc, arith}
 use Rattle.std.proofs.lemmas.List.{append-nil, length-append}
 use Rattle.crs_text.specs.Quoted.{StopsAt}
 use Rattle.crs_text.specs.Tokens.{Kind, number, text, word, Token, single, comma, opening, closing, is_white, IsWord, IsSingle, single_spelling, takes_byte, IsFormed, Forms, Fronts}
@@ -8,6 +8,7 @@ use Rattle.crs_text.specs.TextFault.{SpellsNode}
 use Rattle.crs_text.specs.Tree.{EachToken}
 use Rattle.crs_text.specs.Written.{item_text, others_text, AreFormed, AreAllFormed, SameItem, SameItems, at_place, at_places, WrittenSpells}
 use Rattle.crs_text.proofs.tokens.FrontsLemmas.{dark_start, dark_word, at_once}
+use Rattle.crs_text.proofs.tokens.ViableLemmas.{node_tokens}
 
 -- no token goes on into these bytes
 abbrev IsApart : List ℕ → Type 0
@@ -62,9 +63,6 @@ front_comma total rest end ts more = front total comma ts (44 ∷ rest) rest end
 node_bytes : (keyword first others rest : List ℕ) → (keyword ++ 91 ∷ (first ++ (others ++ 93 ∷ []))) ++ rest ≡ keyword ++ 91 ∷ (first ++ (others ++ 93 ∷ rest))
 node_bytes keyword first others rest = simp append_assoc
 
-node_tokens : (first others ts : List Token) (t : Token) → (first ++ others ++ t ∷ []) ++ ts ≡ first ++ (others ++ t ∷ ts)
-node_tokens first others ts t = simp append_assoc
-
 -- where the parts of a node begin
 place_first : (place total : ℕ) (keyword rest : List ℕ) → place + length (keyword ++ 91 ∷ rest) ≡ total → place + length keyword + 1 + length rest ≡ total
 place_first place total keyword rest e = omega (arith, length-append keyword (91 ∷ rest))
@@ -90,7 +88,7 @@ mutual
       let whole = front_keyword total place keyword (item_text first ++ (others_text others ++ 93 ∷ rest)) end (tokens (at_place start first) ++ (others_tokens (at_places (start + length (item_text first)) others) ++ closing at true ∷ ts)) formed.0 e0 all in
       subst (λ (b : List ℕ). Fronts total b (tokens (at_place place (node here keyword square first others close)) ++ ts) end) (sym bytes)
       (subst (λ (us : List Token). Fronts total (keyword ++ 91 ∷ (item_text first ++ (others_text others ++ 93 ∷ rest))) (single word place keyword ∷ opening true ∷ us) end)
-      (sym (node_tokens (tokens (at_place start first)) (others_tokens (at_places (start + length (item_text first)) others)) ts (closing at true))) whole)
+      (sym (node_tokens (tokens (at_place start first)) (others_tokens (at_places (start + length (item_text first)) others)) (closing at true) ts)) whole)
 
   front_items : (total place : ℕ) (items : Siblings) (rest end : List ℕ) (ts : List Token) → AreAllFormed items → IsApart rest → place + length (others_text items ++ rest) ≡ total
       → Fronts total rest ts end → Fronts total (others_text items ++ rest) (others_tokens (at_places place items) ++ ts) end
@@ -120,7 +118,7 @@ mutual
   formed_item : (item : Item) (rest : List Token) → AllFormed (tokens item ++ rest) → AreFormed item × AllFormed rest
   formed_item (leaf kind place raw) rest all = all
   formed_item (node place keyword square first others close) rest all =
-      let e = node_tokens (tokens first) (others_tokens others) rest (closing close square) in
+      let e = node_tokens (tokens first) (others_tokens others) (closing close square) rest in
       let inside : AllFormed (tokens first ++ (others_tokens others ++ closing close square ∷ rest)) = subst AllFormed e all.1.1 in
       let f = formed_item first (others_tokens others ++ closing close square ∷ rest) inside in
       let g = formed_items others (closing close square ∷ rest) f.1 in
@@ -139,10 +137,7 @@ formed_of item all = (formed_item item [] (subst AllFormed (sym (append-nil (tok
 
 -- the tokens of an item that a text spells are formed
 pub spelled_formed : (bytes : List ℕ) (item : Item) → SpellsNode bytes item → AreFormed item
-spelled_formed bytes item (ts, are, of_node) =
-    let all = fronts_formed (length bytes) bytes [] ts are in
-    let e : ts ≡ tokens item ++ [] = of_node.are ∙ sym (append-nil (tokens item)) in
-    (formed_item item [] (subst AllFormed e all)).0
+spelled_formed bytes item (ts, are, of_node) = formed_of item (subst AllFormed of_node.are (fronts_formed (length bytes) bytes [] ts are))
 
 -- ---- places make no difference
 
@@ -199,9 +194,6 @@ at_place-node place (node here keyword square first others close) h = tt
 
 -- ---- the law
 
-same_depth : (m n : ℕ) → m ≡ n → n ≤ 12 → m ≤ 12
-same_depth m n e h = omega arith
-
 pub written_spells : WrittenSpells
 written_spells item formed is_node within =
     let whole = item_text item in
@@ -210,4 +202,4 @@ written_spells item formed is_node within =
     let fronts = front_item (length whole) 0 item [] [] [] formed apart_none placed (at_once [] tt) in
     let ts = tokens (at_place 0 item) in
     let fronts2 : Fronts (length whole) whole ts [] = subst (λ (us : List Token). Fronts (length whole) whole us []) (append-nil ts) (subst (λ (b : List ℕ). Fronts (length whole) b (ts ++ []) []) e fronts) in
-    (ts, fronts2, record { is_node = at_place-node 0 item is_node; within = same_depth (depth (at_place 0 item)) (depth item) (depth-at_place 0 item) within; are = refl })
+    (ts, fronts2, record { is_node = at_place-node 0 item is_node; within = omega (arith, depth-at_place 0 item, within); are = refl })

@@ -1,45 +1,23 @@
 -- One flaw at most lies in front of what is left, and no token beside it.
-use Rattle.std.proofs.Common.{◌≡◌, ℕ, ◌+◌, ◌≤◌, Bool, true, false, ◌||◌, ◌==◌, List, [], ◌∷◌, ◌++◌, Option, Some, None, refl, sym, ap, subst, ◌∙◌, arith, inl, inr, IsTrue, IsUtf8}
+use Rattle.std.proofs.Common.{◌≡◌, ℕ, ◌+◌, ◌≤◌, false, List, [], ◌∷◌, ◌++◌, Option, Some, None, refl, sym, ap, subst, ◌∙◌, arith, inl, inr, IsTrue, IsUtf8}
 use Rattle.std.specs.List.{list_all}
 use Rattle.std.proofs.lemmas.Str.{IsUtf8-append}
 use Rattle.std.proofs.lemmas.List.{append-nil}
+use Rattle.std.proofs.lemmas.Bool.Decides.{nat_tests}
 use Rattle.crs_decimal.specs.Prelude.{is_run_byte, is_run_start, HasForm, IsInBounds}
-use Rattle.crs_text.specs.Quoted.{IsInside, StopsAt, BeginsWith, is_quote, Through}
+use Rattle.crs_text.specs.Quoted.{IsInside, StopsAt, BeginsWith, Through}
 use Rattle.crs_text.specs.Utf8.{IsUtf8Front, IsLongestUtf8}
-use Rattle.crs_text.specs.Tokens.{number, text, Token, single, is_letter, Forms}
+use Rattle.crs_text.specs.Tokens.{number, text, Token, single, Forms}
 use Rattle.crs_text.specs.declared.refusal.Reason.{Reason}
 use Rattle.crs_text.specs.declared.refusal.Reason.TheVariants.{BadCharacter, BadNumber, NumberRange, NotUtf8, OpenText, Unexpected, UnexpectedEnd, TooDeep}
-use Rattle.crs_text.specs.TextFault.{begins_token, is_delimiter, BeginsNoToken, IsFirstRun, IsFlaw}
+use Rattle.crs_text.specs.TextFault.{begins_token, BeginsNoToken, IsFirstRun, IsFlaw}
 use Rattle.crs_text.proofs.tokens.QuotedLemmas.{same_tail, run_split, shut_one, shut_not_open}
 use Rattle.crs_text.proofs.tokens.TokenLemmas.{Shape, a_single, shape_of, shape_at, shape_by, shape_at_start, Forms-shape, Forms-shut}
 
-or_left : (a b : Bool) → (a || b) ≡ false → a ≡ false
-or_left true b e = absurd cc
-or_left false b e = refl
-
-or_right : (a b : Bool) → (a || b) ≡ false → b ≡ false
-or_right true b e = absurd cc
-or_right false b e = e
-
 no_shape : (b : ℕ) → begins_token b ≡ false → shape_by b ≡ None
-no_shape b e =
-    let d : is_delimiter b ≡ false = or_right (is_letter b || is_run_start b || is_quote b) (is_delimiter b) e in
-    let t = or_left (is_letter b || is_run_start b || is_quote b) (is_delimiter b) e in
-    let q : (b == 34) ≡ false = or_right (is_letter b || is_run_start b) (is_quote b) t in
-    let u = or_left (is_letter b || is_run_start b) (is_quote b) t in
-    let r : is_run_start b ≡ false = or_right (is_letter b) (is_run_start b) u in
-    let l : is_letter b ≡ false = or_left (is_letter b) (is_run_start b) u in
-    let d5 : (b == 41) ≡ false = or_right (b == 44 || b == 91 || b == 40 || b == 93) (b == 41) d in
-    let e4 = or_left (b == 44 || b == 91 || b == 40 || b == 93) (b == 41) d in
-    let d4 : (b == 93) ≡ false = or_right (b == 44 || b == 91 || b == 40) (b == 93) e4 in
-    let e3 = or_left (b == 44 || b == 91 || b == 40) (b == 93) e4 in
-    let d3 : (b == 40) ≡ false = or_right (b == 44 || b == 91) (b == 40) e3 in
-    let e2 = or_left (b == 44 || b == 91) (b == 40) e3 in
-    let d2 : (b == 91) ≡ false = or_right (b == 44) (b == 91) e2 in
-    let d1 : (b == 44) ≡ false = or_left (b == 44) (b == 91) e2 in
-    rw (l, r, q, d1, d2, d3, d4, d5) refl
+no_shape b e = grind (arith, nat_tests)
 
-no_shape_at : (left : List ℕ) → BeginsNoToken left → shape_at left ≡ None
+pub no_shape_at : (left : List ℕ) → BeginsNoToken left → shape_at left ≡ None
 no_shape_at [] h = absurd h
 no_shape_at (b ∷ bs) h = no_shape b h
 

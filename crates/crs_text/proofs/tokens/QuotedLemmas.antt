@@ -1,21 +1,13 @@
 -- Where a run of bytes and where a quoted text ends.
-use Rattle.std.proofs.Common.{◌≡◌, ℕ, zero, suc, Option, Some, None, ◌+◌, ◌<◌, ◌≤◌, not, length, take, drop, get_or, add-one, Bool, true, false, ◌&&◌, cond, eqb, List, [], ◌∷◌, ◌++◌, refl, sym, ap, subst, ◌∙◌, arith, inl, inr, ◌⊎◌}
+use Rattle.std.proofs.Common.{◌≡◌, ℕ, zero, suc, Option, Some, None, ◌+◌, ◌<◌, ◌≤◌, not, length, take, drop, get_or, add-one, Bool, true, false, cond, eqb, List, [], ◌∷◌, ◌++◌, refl, sym, ap, subst, ◌∙◌, arith, inl, inr, ◌⊎◌}
 use Rattle.std.specs.Prelude.{IsTrue, unwrap_or}
 use Rattle.bstr.specs.Find.{IsFirstByte, is_byte}
-use Rattle.std.proofs.lemmas.Bool.{eqb-true}
+use Rattle.std.proofs.lemmas.Bool.{eqb-true, and_parts}
 use Rattle.std.proofs.lemmas.List.{append-nil, length-drop, drop-drop, take-append-drop, take_all}
 use Rattle.std.proofs.Math.Seq.{take-add}
 use Rattle.std.specs.List.{list_all, prefix_len}
 use Rattle.std.proofs.Math.Numerals.{one-add}
 use Rattle.crs_text.specs.Quoted.{doubled, IsInside, StopsAt, is_quote, is_plain, IsShut}
-
-pub and_left : (a b : Bool) → (a && b) ≡ true → a ≡ true
-and_left true b e = refl
-and_left false b e = absurd cc
-
-pub and_right : (a b : Bool) → (a && b) ≡ true → b ≡ true
-and_right true b e = e
-and_right false b e = absurd cc
 
 -- what two lists begin with, and what they go on with
 pub same_head : (x y : ℕ) (xs ys : List ℕ) → x ∷ xs ≡ y ∷ ys → x ≡ y
@@ -33,10 +25,10 @@ stops_not test b bs left passes e stops = true_not_false (test b) passes (subst 
 -- a run that ends where it must is one run
 pub run_split : (test : ℕ → Bool) (a b x y : List ℕ) → IsTrue (list_all test a) → StopsAt test x → IsTrue (list_all test b) → StopsAt test y → a ++ x ≡ b ++ y → (a ≡ b) × (x ≡ y)
 run_split test [] [] x y pa sx pb sy e = (refl, e)
-run_split test [] (c ∷ b) x y pa sx pb sy e = absurd (stops_not test c (b ++ y) x (and_left (test c) (list_all test b) pb) e sx)
-run_split test (c ∷ a) [] x y pa sx pb sy e = absurd (stops_not test c (a ++ x) y (and_left (test c) (list_all test a) pa) (sym e) sy)
+run_split test [] (c ∷ b) x y pa sx pb sy e = absurd (stops_not test c (b ++ y) x (and_parts (test c) (list_all test b) pb).0 e sx)
+run_split test (c ∷ a) [] x y pa sx pb sy e = absurd (stops_not test c (a ++ x) y (and_parts (test c) (list_all test a) pa).0 (sym e) sy)
 run_split test (c ∷ a) (d ∷ b) x y pa sx pb sy e =
-    let rest = run_split test a b x y (and_right (test c) (list_all test a) pa) sx (and_right (test d) (list_all test b) pb) sy (same_tail c d (a ++ x) (b ++ y) e) in
+    let rest = run_split test a b x y (and_parts (test c) (list_all test a) pa).1 sx (and_parts (test d) (list_all test b) pb).1 sy (same_tail c d (a ++ x) (b ++ y) e) in
     let h : c ≡ d = same_head c d (a ++ x) (b ++ y) e in
     let t : a ≡ b = rest.0 in
     (cc, rest.1)

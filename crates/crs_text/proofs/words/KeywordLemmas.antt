@@ -1,11 +1,11 @@
 -- The keywords of a word's length have the keyword that it is, if it is one; letter case doesn't count in it, and a word
 -- is a keyword exactly where it is its spelling, letter case aside.
-use Rattle.std.proofs.Common.{◌≡◌, ◌↔◌, ℕ, Bool, true, false, ◌&&◌, ◌||◌, ◌==◌, IsTrue, List, [], ◌∷◌, Option, Some, None, filter, length, map, if◌then◌else◌, refl, sym, ap, ◌∙◌}
+use Rattle.std.proofs.Common.{◌≡◌, ◌↔◌, ℕ, Bool, true, false, ◌||◌, ◌==◌, IsTrue, List, [], ◌∷◌, Option, Some, None, filter, length, map, if◌then◌else◌, refl, sym, ap, ◌∙◌}
 use Rattle.std.specs.List.{list_all, list_any}
 use Rattle.std.specs.Str.{bytes_eq, str_eq_ignore_ascii_case, str_to_ascii_lowercase}
 use Rattle.std.specs.Char.{to_ascii_lowercase}
 use Rattle.std.proofs.lemmas.List.{length-map}
-use Rattle.std.proofs.lemmas.Bool.{agree_below_at, eqb-false}
+use Rattle.std.proofs.lemmas.Bool.{agree_below_at, eqb-false, and_parts}
 use Rattle.std.proofs.lemmas.Slice.Eq.{bytes_eq-Decides}
 use denote.Enum.Bare.{sameb, same_true}
 use denote.Enum.Declared.{rowss, tag_of}
@@ -81,14 +81,6 @@ spelled-of (j ∷ ks) word k e =
       | false ↦ λ t f. spelled-of ks word k f
     ] refl e
 
-pub and-left : (a b : Bool) → (a && b) ≡ true → a ≡ true
-and-left true b e = refl
-and-left false b e = cc
-
-pub and-right : (a b : Bool) → (a && b) ≡ true → b ≡ true
-and-right true b e = e
-and-right false b e = cc
-
 -- whether two answers are the same
 abbrev same_keyword : Option Keyword → Option Keyword → Bool
 same_keyword None None = true
@@ -123,8 +115,8 @@ passes test [] k all e = cc
 passes test (j ∷ js) k all e =
     elim (sameb the_type j k) as (λ b. sameb the_type j k ≡ b → (b || list_any (λ i. sameb the_type i k) js) ≡ true →
     test k ≡ true) [
-      | true ↦ λ same f. ap test (sym (same_true the_type tt j k same)) ∙ and-left (test j) (list_all test js) all
-      | false ↦ λ other f. passes test js k (and-right (test j) (list_all test js) all) f
+      | true ↦ λ same f. ap test (sym (same_true the_type tt j k same)) ∙ (and_parts (test j) (list_all test js) all).0
+      | false ↦ λ other f. passes test js k (and_parts (test j) (list_all test js) all).1 f
     ] refl e
 
 spelled-by : (k : Keyword) (word : List ℕ) → keyword_of word ≡ Some k →

@@ -9,26 +9,18 @@ use lib.Lanes.{zip2, mask_l, top, Each1}
 use Rattle.crs_text.specs.Runs.{first_set}
 use Rattle.crs_text.specs.declared.keyword.Suspect.{Suspect}
 use Rattle.std.specs.Char.{to_ascii_lowercase}
-use Rattle.std.proofs.lemmas.Bool.{agree_below, agree_below_at, leb-true}
+use Rattle.std.proofs.lemmas.Bool.{agree_below, agree_below_at, leb-true, and_parts}
+use Rattle.std.proofs.lemmas.Grind.{same_number_lists}
 use Rattle.std.specs.List.{list_all, prefix_len}
 use Rattle.crs_text.specs.declared.keyword.Keyword.{Keyword}
 use Rattle.crs_text.specs.Keywords.{spelling_of, every_keyword, keyword_of}
 use Rattle.crs_text.specs.KeywordTable.{spelled, of_length, first_among, is_capital, AreCapitals, AreSpellings, AreSameWithin, IsNamed, IsSuspect, AreSuspects}
-use Rattle.crs_text.proofs.words.KeywordLemmas.{and-left, and-right, keyword-spelled, keyword_of-table, same-keyword_of}
-
-same-lists : (xs ys : List ℕ) → length xs ≡ length ys → ((k : ℕ) → k < length xs → get_or xs k 0 ≡ get_or ys k 0) → xs ≡ ys
-same-lists [] [] e at = refl
-same-lists [] (y ∷ ys) e at = absurd (omega arith)
-same-lists (x ∷ xs) [] e at = absurd (omega arith)
-same-lists (x ∷ xs) (y ∷ ys) e at =
-    let head : x ≡ y = at 0 (omega arith) in
-    let tail : xs ≡ ys = same-lists xs ys (omega arith) (λ k less. at (suc k) (omega arith)) in
-    rw (head, tail) refl
+use Rattle.crs_text.proofs.words.KeywordLemmas.{keyword-spelled, keyword_of-table, same-keyword_of}
 
 pub same-bytes : (letters word : List ℕ) → length letters ≡ length word →
     AreSameWithin letters word 0 (length letters) ↔ (map to_ascii_lowercase letters ≡ map to_ascii_lowercase word)
 same-bytes letters word e = (
-  λ same. same-lists (map to_ascii_lowercase letters) (map to_ascii_lowercase word)
+  λ same. same_number_lists (map to_ascii_lowercase letters) (map to_ascii_lowercase word)
       (omega (arith, length-map letters to_ascii_lowercase, length-map word to_ascii_lowercase))
       (λ k less. get_or-map to_ascii_lowercase letters k 0
       ∙ same k (omega arith) (omega (arith, length-map letters to_ascii_lowercase))
@@ -69,8 +61,8 @@ all_capitals (x ∷ xs) = is_capital x && all_capitals xs
 
 are_capitals : (word : List ℕ) → all_capitals word ≡ true → AreCapitals word
 are_capitals [] e k less = absurd (omega arith)
-are_capitals (x ∷ xs) e zero less = and-left (is_capital x) (all_capitals xs) e
-are_capitals (x ∷ xs) e (suc k) less = are_capitals xs (and-right (is_capital x) (all_capitals xs) e) k (omega arith)
+are_capitals (x ∷ xs) e zero less = (and_parts (is_capital x) (all_capitals xs) e).0
+are_capitals (x ∷ xs) e (suc k) less = are_capitals xs (and_parts (is_capital x) (all_capitals xs) e).1 k (omega arith)
 
 abbrev in_capitals : Keyword → Bool
 in_capitals k = all_capitals (spelling_of k)
@@ -82,9 +74,9 @@ are_spellings : (test : Keyword → Bool) (ks : List Keyword) → list_all in_ca
     AreSpellings (map spelled (filter test ks))
 are_spellings test [] e = tt
 are_spellings test (k ∷ ks) e =
-    let later = are_spellings test ks (and-right (in_capitals k) (list_all in_capitals ks) e) in
+    let later = are_spellings test ks (and_parts (in_capitals k) (list_all in_capitals ks) e).1 in
     elim (test k) as (λ b. AreSpellings (map spelled (if b then k ∷ filter test ks else filter test ks))) [
-      | true ↦ (are_capitals (spelling_of k) (and-left (in_capitals k) (list_all in_capitals ks) e), later)
+      | true ↦ (are_capitals (spelling_of k) (and_parts (in_capitals k) (list_all in_capitals ks) e).0, later)
       | false ↦ later
     ]
 
@@ -104,7 +96,7 @@ same_front (b ∷ bs) [] = 0
 same_front (b ∷ bs) (c ∷ cs) = if bit_and b 223 == c then suc (same_front bs cs) else 0
 
 capital_small : (c : ℕ) → is_capital c ≡ true → c < 256
-capital_small c e = let high = leb-true c 90 (and-right (nat_le 65 c) (nat_le c 90) e) in omega arith
+capital_small c e = let high = leb-true c 90 (and_parts (nat_le 65 c) (nat_le c 90) e).1 in omega arith
 
 pub same_taken : (n : ℕ) (bs cs : List ℕ) → Each1 (Fits w8) bs → n ≤ same_front bs cs → list_all is_capital (take n cs) ≡ true →
     map to_ascii_lowercase (take n cs) ≡ map to_ascii_lowercase (take n bs)
@@ -116,8 +108,8 @@ same_taken (suc n) (b ∷ bs) (c ∷ cs) fits less caps =
     as (λ t. (bit_and b 223 == c) ≡ t → suc n ≤ (if t then suc (same_front bs cs) else 0) →
     map to_ascii_lowercase (take (suc n) (c ∷ cs)) ≡ map to_ascii_lowercase (take (suc n) (b ∷ bs))) [
       | true ↦ λ e l.
-          let capital : is_capital c ≡ true = and-left (is_capital c) (list_all is_capital (take n cs)) caps in
-          let others = and-right (is_capital c) (list_all is_capital (take n cs)) caps in
+          let capital : is_capital c ≡ true = (and_parts (is_capital c) (list_all is_capital (take n cs)) caps).0 in
+          let others = (and_parts (is_capital c) (list_all is_capital (take n cs)) caps).1 in
           let head : to_ascii_lowercase c ≡ to_ascii_lowercase b =
           (tested (to_ascii_lowercase c) (to_ascii_lowercase b)).0 (sym (same_letter-byte c b (capital_small c capital) fits.0.fits capital) ∙ e) in
           ap₂ (λ x (l : List ℕ). x ∷ l) head (same_taken n bs cs fits.1 (omega arith) others)
