@@ -160,17 +160,6 @@ next_by_depth tree at depth (More item items) (x ∷ hs) d e lt h =
     let is = (spot_behind tree at x hs e).0 ∙ h.1 in
     (λ same. (is, λ no. let k : More item items ≡ End = sym is ∙ no in cc), λ other. absurd (other (r ∙ h.0)))
 
-pub next_at : (tree : Item) (id : ℕ) (d e : Row) → id < length (rows 0 tree) → id + size_of (first_of (here tree id)) < length (rows 0 tree) →
-    (get_or (rows 0 tree) (id + size_of (first_of (here tree id))) d).depth ≡ (get_or (rows 0 tree) id e).depth →
-    IsAt tree (rest_of (here tree id)) (Some (id + size_of (first_of (here tree id))))
-next_at tree id d e lt more same =
-    (next_by_depth tree (id + size_of (first_of (here tree id))) (get_or (rows 0 tree) id e).depth (rest_of (here tree id)) _ d refl more (continues_at tree id lt e)).0 same
-
-pub next_last : (tree : Item) (id : ℕ) (d e : Row) → id < length (rows 0 tree) → id + size_of (first_of (here tree id)) < length (rows 0 tree) →
-    (get_or (rows 0 tree) (id + size_of (first_of (here tree id))) d).depth ≢ (get_or (rows 0 tree) id e).depth → rest_of (here tree id) ≡ End
-next_last tree id d e lt more other =
-    (next_by_depth tree (id + size_of (first_of (here tree id))) (get_or (rows 0 tree) id e).depth (rest_of (here tree id)) _ d refl more (continues_at tree id lt e)).1 other
-
 pub here_root : (tree : Item) → here tree 0 ≡ More tree End
 unfolding here
 here_root tree = refl
@@ -198,21 +187,13 @@ module _ (tree : Item) (id : ℕ) (row : Row) (has : HasId tree id) (is : row �
   pub row-end : length (rows 0 tree) ≤ id + row.size → rest_of (here tree id) ≡ End
   row-end le = let e = size in next_none tree id (lt_from_has tree id has) (omega arith)
 
-  pub row-next : (none next : Row) → row ≡ get_or (rows 0 tree) id none → id + row.size < length (rows 0 tree) → next ≡ get_or (rows 0 tree) (id + row.size) none →
-      next.depth ≡ row.depth → IsAt tree (rest_of (here tree id)) (Some (id + row.size))
-  row-next none next at more behind same =
-      let P : ℕ → Type 0 = λ n. n < length (rows 0 tree) → next ≡ get_or (rows 0 tree) n none → IsAt tree (rest_of (here tree id)) (Some n) in
-      subst P (ap (λ n. id + n) (sym size))
-      (λ lt b. next_at tree id none none (lt_from_has tree id has) lt (sym (ap (λ r. r.depth) b) ∙ same ∙ ap (λ r. r.depth) at))
-      more behind
-
-  pub row-last : (none next : Row) → row ≡ get_or (rows 0 tree) id none → id + row.size < length (rows 0 tree) → next ≡ get_or (rows 0 tree) (id + row.size) none →
-      next.depth ≢ row.depth → rest_of (here tree id) ≡ End
-  row-last none next at more behind other =
-      let P : ℕ → Type 0 = λ n. n < length (rows 0 tree) → next ≡ get_or (rows 0 tree) n none → rest_of (here tree id) ≡ End in
-      subst P (ap (λ n. id + n) (sym size))
-      (λ lt b. next_last tree id none none (lt_from_has tree id has) lt (λ e. other (ap (λ r. r.depth) b ∙ e ∙ sym (ap (λ r. r.depth) at))))
-      more behind
+  -- what the row behind an item tells of the argument after it
+  pub row-beside : (none next : Row) → row ≡ get_or (rows 0 tree) id none → id + row.size < length (rows 0 tree) → next ≡ get_or (rows 0 tree) (id + row.size) none →
+      (next.depth ≡ row.depth → IsAt tree (rest_of (here tree id)) (Some (id + row.size))) × (next.depth ≢ row.depth → rest_of (here tree id) ≡ End)
+  row-beside none next at more behind =
+      let on : ℕ → Type 0 = λ n. Continues (get_or (rows 0 tree) id none).depth (rest_of (here tree id)) (drop (id + n) (heres tree)) in
+      let r = next_by_depth tree (id + row.size) (get_or (rows 0 tree) id none).depth (rest_of (here tree id)) _ none refl more (subst on (sym size) (continues_at tree id (lt_from_has tree id has) none)) in
+      (λ same. r.0 (sym (ap (λ r. r.depth) behind) ∙ same ∙ ap (λ r. r.depth) at), λ other. r.1 (λ e. other (ap (λ r. r.depth) behind ∙ e ∙ sym (ap (λ r. r.depth) at))))
 
 pub within_table : (tree : Item) (id : ℕ) (table : List Row) (row : Row) → table ≡ rows 0 tree → HasId tree id → row ≡ get_or table id row → id + row.size ≤ length table
 within_table tree id table row t has e =

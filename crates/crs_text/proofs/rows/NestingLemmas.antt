@@ -141,7 +141,7 @@ no_thirteenth last held square e m = m
 
 pub nested_start : (text : List ℕ) (place at : ℕ) → at ≡ prefix_len is_white text → IsNested text place at []
 nested_start text place at e =
-    let w = subst (λ z. IsAfterWhite text (drop z text)) (sym e) (after_white text (prefix_len is_white text) refl) in
+    let w = after_white text at e in
     record {
       tokens = [];
       fronts = w;

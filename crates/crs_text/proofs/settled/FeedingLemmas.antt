@@ -1,17 +1,18 @@
 -- One settled token more, or the settled reason why nothing goes on, or nothing settled; and what stays pending.
-use Rattle.std.proofs.Common.{◌≡◌, ℕ, suc, ◌+◌, ◌-◌, ◌≤◌, ◌<◌, ◌&&◌, ◌||◌, Bool, true, false, cond, List, [], ◌∷◌, ◌++◌, length, take, drop, Option, Some, None, refl, sym, ap, subst, ◌∙◌, append_assoc, arith, inl, inr, ◌≢◌, IsUtf8}
+use Rattle.std.proofs.Common.{◌≡◌, ℕ, suc, ◌+◌, ◌-◌, ◌≤◌, ◌<◌, ◌&&◌, Bool, true, false, cond, List, [], ◌∷◌, ◌++◌, length, take, drop, Option, Some, None, refl, sym, ap, subst, ◌∙◌, append_assoc, arith, inl, inr, ◌≢◌, IsUtf8}
 use Rattle.std.proofs.lemmas.List.{append-nil, length-append, length-drop, length-take, drop_all, drop-drop, drop_at, take_all, take-append-drop, take-append-le, drop-append-le}
 use Rattle.std.proofs.Math.Seq.{take-add}
 use Rattle.std.proofs.lemmas.Str.{IsUtf8-append}
 use Rattle.std.specs.List.{list_all, prefix_len}
 use Rattle.std.proofs.lemmas.List.Folds.{list_all-append}
 use Rattle.std.proofs.lemmas.List.Sums.{prefix_len-le-length}
+use Rattle.std.proofs.lemmas.Bool.{and_parts}
 use Rattle.crs_decimal.specs.Prelude.{is_run_byte, is_run_start}
 use Rattle.crs_text.specs.Tokens as tokens
 use Rattle.crs_text.specs.Tokens.{number, word, Token, single, comma, opening, closing, is_white, is_letter, is_word_byte, IsWord, Forms, IsAfterWhite}
 use Rattle.crs_text.specs.Quoted.{StopsAt, BeginsWith, doubled, is_quote, IsInside, IsShut, IsShutAt}
 use Rattle.crs_text.specs.Utf8.{IsUtf8Front}
-use Rattle.crs_text.specs.TextFault.{begins_token, is_delimiter, BeginsNoToken, IsFlaw, IsStop, IsTextFault}
+use Rattle.crs_text.specs.TextFault.{BeginsNoToken, IsFlaw, IsStop, IsTextFault}
 use Rattle.crs_text.specs.Settled.{IsSettled, FormsSettled, SettledFronts, IsRunSettled, IsSettledStop, IsSettledRefusal, IsTakenSoFar}
 use Rattle.crs_text.specs.Feeding.{IsFlawSettled, IsLexedSettled, IsUnsettled, IsSettledTo, IsUnsettledAt, IsSettledFault, IsPendingIn, IsPendingBefore, StaysPending, IsUnsettledIn, IsInsideTo, IsOpenTo, IsValidTo, IsFedTo, IsFed, IsRefusalOf}
 use Rattle.crs_text.specs.declared.feeding.Held.{Held}
@@ -29,10 +30,10 @@ use Rattle.crs_text.specs.declared.refusal.Reason.{Reason}
 use Rattle.crs_text.specs.declared.refusal.Reason.TheVariants.{BadCharacter, BadNumber, NumberRange, NotUtf8, OpenText, Unexpected, UnexpectedEnd, TooDeep}
 use Rattle.crs_text.specs.declared.lexing.Lexed.{Lexed}
 use Rattle.crs_text.specs.declared.lexing.Lexed.TheVariants as lexed
-use Rattle.crs_text.proofs.tokens.TokenLemmas.{Shape, a_single, shape_of, shape_at, shape_at_start, Forms-shape, Forms-shut, Forms-one, some_shape}
-use Rattle.crs_text.proofs.tokens.QuotedLemmas.{doubled-append, and_right, true_not_false, same_tail, same_split, shut_one, shut_not_open}
+use Rattle.crs_text.proofs.tokens.TokenLemmas.{a_single, shape_of, shape_at, shape_at_start, Forms-shape, Forms-shut, Forms-one, some_shape}
+use Rattle.crs_text.proofs.tokens.QuotedLemmas.{doubled-append, true_not_false, same_tail, same_split, shut_one, shut_not_open}
 use Rattle.crs_text.proofs.tokens.Utf8Lemmas.{IsUtf8Front-shorter}
-use Rattle.crs_text.proofs.tokens.FlawLemmas.{flaw_no_token, flaw_one}
+use Rattle.crs_text.proofs.tokens.FlawLemmas.{no_shape_at, flaw_no_token, flaw_one}
 use Rattle.crs_text.proofs.tokens.FrontsLemmas.{forms_some, at_once, dark_start, dark_word}
 use Rattle.crs_text.proofs.rows.ShowsLemmas.{shows_start, viable_from_shows, shows_more}
 use Rattle.crs_text.proofs.tokens.ScanLemmas.{reached_first, number_at, word_at, text_at, comma_at, opening_at, closing_at, after_white}
@@ -211,11 +212,11 @@ stops_all test (b ∷ bs) some s = rw s refl
 
 all_behind : (test : ℕ → Bool) (raw rest : List ℕ) → rest ≢ [] → StopsAt test rest → list_all test (raw ++ rest) ≡ true → ⊥
 all_behind test raw rest some s e =
-    true_not_false (list_all test rest) (and_right (list_all test raw) (list_all test rest) (sym (list_all-append test raw rest) ∙ e)) (stops_all test rest some s)
+    true_not_false (list_all test rest) (and_parts (list_all test raw) (list_all test rest) (sym (list_all-append test raw rest) ∙ e)).1 (stops_all test rest some s)
 
 word_from_all : (left : List ℕ) → BeginsWith is_letter left → list_all is_word_byte left ≡ true → IsWord left
 word_from_all [] b e = absurd b
-word_from_all (x ∷ xs) b e = (b, and_right (is_word_byte x) (list_all is_word_byte xs) e)
+word_from_all (x ∷ xs) b e = (b, (and_parts (is_word_byte x) (list_all is_word_byte xs) e).1)
 
 pub word_held : (left : List ℕ) → IsPendingIn left pending.Word → IsUnsettledIn left
 word_held left p total within ts =
@@ -234,15 +235,7 @@ module _ (left : List ℕ) (begins : BeginsWith is_run_start left) (taken : list
   run_no_flaw : (r : Reason) (k : ℕ) → IsFlaw r left k → ¬ (IsFlawSettled r left)
   run_no_flaw BadNumber k f s = true_not_false (list_all is_run_byte left) taken s
   run_no_flaw NumberRange k f s = true_not_false (list_all is_run_byte left) taken s
-  run_no_flaw BadCharacter k f s = run_token left begins f.0
-    where
-      run_token : (left : List ℕ) → BeginsWith is_run_start left → BeginsNoToken left → ⊥
-      run_token [] b n = b
-      run_token (x ∷ xs) b n = true_not_false (begins_token x) (rw b (second (is_letter x) (is_quote x) (is_delimiter x))) n
-        where
-          second : (l q d : Bool) → (l || true || q || d) ≡ true
-          second true q d = refl
-          second false q d = refl
+  run_no_flaw BadCharacter k f s = let e : None ≡ Some (a_single number) = sym (no_shape_at left f.0) ∙ run_shape in absurd cc
   run_no_flaw NotUtf8 k f s = let e : Some (a_single number) ≡ Some (a_single tokens.text) = sym run_shape ∙ ap shape_at f.2 in absurd cc
   run_no_flaw r k f s = s
 
@@ -287,39 +280,27 @@ module _ (left : List ℕ) (quote : left ≡ 34 ∷ drop 1 left) (n : ℕ) (o : 
   pub text_held : IsUnsettledIn left
   text_held total within ts =
       held_without total left ts
-      (λ t rest f. text_no_token total t rest f (same_shape (shape_of t) (sym (Forms-shape total t left rest f.forms) ∙ text_shape))) text_no_flaw
-    where
-      same_shape : (s : Shape) → Some s ≡ Some (a_single tokens.text) → s ≡ a_single tokens.text
-      same_shape s e = cc
+      (λ t rest f. text_no_token total t rest f (some_shape (shape_of t) (a_single tokens.text) (sym (Forms-shape total t left rest f.forms) ∙ text_shape))) text_no_flaw
 
 -- ---- one piece more
 
+-- what a word or a run begins with, and goes on with
+longer_run : (first test : ℕ → Bool) (before piece : List ℕ) → BeginsWith first before × (list_all test before ≡ true) → length piece ≤ prefix_len test piece
+    → BeginsWith first (before ++ piece) × (list_all test (before ++ piece) ≡ true)
+longer_run first test [] piece p le = absurd p.0
+longer_run first test (b ∷ bs) piece p le = (p.0, all_append test (b ∷ bs) piece p.1 (all_full test piece le))
+
 pub word_stays : (left before piece : List ℕ) → left ≡ before ++ piece → IsPendingIn before pending.Word → length piece ≤ prefix_len is_word_byte piece → StaysPending left pending.Word
 word_stays left before piece e p le =
-    subst (λ z. StaysPending z pending.Word) (sym e)
-    (longer, word_held (before ++ piece) longer, dark (before ++ piece) (word_from_all (before ++ piece) longer.0 longer.1))
-  where
-    begins : (before : List ℕ) → BeginsWith is_letter before → BeginsWith is_letter (before ++ piece)
-    begins [] b = absurd b
-    begins (x ∷ xs) b = b
-
-    longer : IsPendingIn (before ++ piece) pending.Word
-    longer = (begins before p.0, all_append is_word_byte before piece p.1 (all_full is_word_byte piece le))
-
-    dark : (left : List ℕ) → IsWord left → StopsAt is_white left
-    dark left w = subst (StopsAt is_white) (append-nil left) (dark_word left [] w)
+    let longer = longer_run is_letter is_word_byte before piece p le in
+    let dark = dark_word (before ++ piece) [] (word_from_all (before ++ piece) longer.0 longer.1) in
+    subst (λ z. StaysPending z pending.Word) (sym e) (longer, word_held (before ++ piece) longer, subst (StopsAt is_white) (append-nil (before ++ piece)) dark)
 
 pub run_stays : (left before piece : List ℕ) → left ≡ before ++ piece → IsPendingIn before pending.Run → length piece ≤ prefix_len is_run_byte piece → StaysPending left pending.Run
 run_stays left before piece e p le =
-    subst (λ z. StaysPending z pending.Run) (sym e)
-    (longer, run_held (before ++ piece) longer, subst (StopsAt is_white) (append-nil (before ++ piece)) (dark_start (before ++ piece) [] longer.0))
-  where
-    begins : (before : List ℕ) → BeginsWith is_run_start before → BeginsWith is_run_start (before ++ piece)
-    begins [] b = absurd b
-    begins (x ∷ xs) b = b
-
-    longer : IsPendingIn (before ++ piece) pending.Run
-    longer = (begins before p.0, all_append is_run_byte before piece p.1 (all_full is_run_byte piece le))
+    let longer = longer_run is_run_start is_run_byte before piece p le in
+    let dark = dark_start (before ++ piece) [] longer.0 in
+    subst (λ z. StaysPending z pending.Run) (sym e) (longer, run_held (before ++ piece) longer, subst (StopsAt is_white) (append-nil (before ++ piece)) dark)
 
 quote_dark : (left : List ℕ) → left ≡ 34 ∷ drop 1 left → StopsAt is_white left
 quote_dark left e = subst (StopsAt is_white) (sym e) refl

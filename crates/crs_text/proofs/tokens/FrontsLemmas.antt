@@ -4,7 +4,7 @@ use Rattle.std.proofs.lemmas.Bool.Decides.{nat_tests}
 use Rattle.std.proofs.lemmas.List.{length-append}
 use Rattle.crs_decimal.specs.Prelude.{is_run_start}
 use Rattle.crs_text.specs.Quoted.{StopsAt, BeginsWith}
-use Rattle.crs_text.specs.Tokens.{number, text, word, Token, single, comma, opening, closing, is_white, is_letter, IsWord, IsFormed, Forms, IsAfterWhite, Fronts, spelling}
+use Rattle.crs_text.specs.Tokens.{number, word, Token, single, is_white, is_letter, IsWord, IsFormed, Forms, IsAfterWhite, Fronts, spelling}
 use Rattle.crs_text.proofs.tokens.QuotedLemmas.{run_split}
 use Rattle.crs_text.proofs.tokens.TokenLemmas.{Forms-one}
 
@@ -26,25 +26,6 @@ dark_start (b ∷ bs) rest h = run_start_dark b h
 pub dark_word : (raw rest : List ℕ) → IsWord raw → StopsAt is_white (raw ++ rest)
 dark_word [] rest h = absurd h
 dark_word (b ∷ bs) rest h = letter_dark b h.0
-
-some_start : (raw rest : List ℕ) → BeginsWith is_run_start raw → raw ++ rest ≡ [] → ⊥
-some_start [] rest h e = h
-some_start (b ∷ bs) rest h e = absurd cc
-
-some_word : (raw rest : List ℕ) → IsWord raw → raw ++ rest ≡ [] → ⊥
-some_word [] rest h e = h
-some_word (b ∷ bs) rest h e = absurd cc
-
--- a token has bytes
-pub forms_some : (total : ℕ) (t : Token) (left rest : List ℕ) → Forms total t left rest → left ≡ [] → ⊥
-forms_some total (single number place raw) left rest f e = some_start raw rest f.formed.0 (sym f.spelled ∙ e)
-forms_some total (single text place raw) left rest f e = let h : 34 ∷ (raw ++ 34 ∷ []) ++ rest ≡ [] = sym f.spelled ∙ e in absurd cc
-forms_some total (single word place raw) left rest f e = some_word raw rest f.formed (sym f.spelled ∙ e)
-forms_some total comma left rest f e = let h : 44 ∷ rest ≡ [] = sym f.spelled ∙ e in absurd cc
-forms_some total (opening true) left rest f e = let h : 91 ∷ rest ≡ [] = sym f.spelled ∙ e in absurd cc
-forms_some total (opening false) left rest f e = let h : 40 ∷ rest ≡ [] = sym f.spelled ∙ e in absurd cc
-forms_some total (closing place true) left rest f e = let h : 93 ∷ rest ≡ [] = sym f.spelled ∙ e in absurd cc
-forms_some total (closing place false) left rest f e = let h : 41 ∷ rest ≡ [] = sym f.spelled ∙ e in absurd cc
 
 -- what is left begins with no white space
 pub fronts_dark : (total : ℕ) (ts : List Token) (bytes left : List ℕ) → Fronts total bytes ts left → StopsAt is_white left
@@ -109,3 +90,7 @@ spelling_long t f = omega arith
 -- a token takes bytes away
 pub forms_shorter : (total : ℕ) (t : Token) (left rest : List ℕ) → Forms total t left rest → length rest < length left
 forms_shorter total t left rest f = omega (arith, ap length f.spelled, length-append (spelling t) rest, spelling_long t f.formed)
+
+-- a token has bytes
+pub forms_some : (total : ℕ) (t : Token) (left rest : List ℕ) → Forms total t left rest → left ≡ [] → ⊥
+forms_some total t left rest f e = omega (arith, forms_shorter total t left rest f, ap length e)

@@ -150,9 +150,6 @@ refused_at text at table r reached s = record {
   is_place = omega (arith, length-drop at text, reached.within, s.is_place);
 }
 
-nothing_left : (text : List ℕ) (at : ℕ) → length text ≤ at → drop at text ≡ []
-nothing_left text at le = drop_all at text le
-
 pub refused_end : (text : List ℕ) (at : ℕ) (table : Flat) (r : RefusedAt) → IsReached text table at → length text ≤ at → is_whole table ≡ false → r.number ≡ reason_number UnexpectedEnd → r.place ≡ length text → RefusesText text r.number r.place
 refused_end text at table r reached le whole n p = record {
   reason = UnexpectedEnd;
@@ -161,7 +158,7 @@ refused_end text at table r reached le whole n p = record {
   skip = 0;
   fronts = reached.fronts;
   viable = viable_from_shows reached.tokens table reached.shows;
-  stop = (nothing_left text at le, not_whole_from_shows reached.tokens table reached.shows whole, refl);
+  stop = (drop_all at text le, not_whole_from_shows reached.tokens table reached.shows whole, refl);
   is_number = n;
   is_place = omega (arith, length-drop at text, p, le);
 }
@@ -169,7 +166,7 @@ refused_end text at table r reached le whole n p = record {
 pub spelled_whole : (text : List ℕ) (at : ℕ) (table : Flat) → IsReached text table at → length text ≤ at → is_whole table ≡ true → (item : Item) × SpellsNode text item × (table ≡ flat (after item []))
 spelled_whole text at table reached le whole =
     let w = whole_from_shows reached.tokens table reached.shows whole in
-    (w.0, (reached.tokens, subst (λ z. Fronts (length text) text reached.tokens z) (nothing_left text at le) reached.fronts, w.1), w.2)
+    (w.0, (reached.tokens, subst (λ z. Fronts (length text) text reached.tokens z) (drop_all at text le) reached.fronts, w.1), w.2)
 
 pub not_taken : (o : Option Flat) (taken : Bool) (before behind : Flat) → IsStep o taken before behind → taken ≡ false → o ≡ None
 not_taken None taken before behind s e = refl
