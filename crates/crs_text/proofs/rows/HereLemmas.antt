@@ -160,38 +160,33 @@ begins-heres_in (node place keyword square first others close) depth hs = refl
 -- an item in front of what is linked
 linked-item : (item : Item) (later : Siblings) (depth : ℕ) (hs : List Here) → IsLessDeep depth hs →
     AreLinked (heres_in depth item ++ (heres_of depth later ++ hs)) →
-    AreLinked (record { depth = depth; item = item; later = later } ∷ (heres_in depth item ++ (heres_of depth later ++ hs)))
+    AreLinked (record { depth = depth; item = item; later = later } ∷ ((heres_in depth item ++ heres_of depth later) ++ hs))
 linked-item item later depth hs less linked =
     let size = length-heres_in item depth in
     let len = length-append (heres_in depth item) (heres_of depth later ++ hs) in
     let h : Here = record { depth = depth; item = item; later = later } in
     let e : drop (size_of item) (h ∷ (heres_in depth item ++ (heres_of depth later ++ hs))) ≡ heres_of depth later ++ hs =
-    rw (← size) (drop-append_seam (heres_in depth item) (heres_of depth later ++ hs)) in (
-      record {
-        inside = record { behind = heres_of depth later ++ hs; is = refl };
-        within = omega (arith, size, len);
-        first = begins-heres_in item depth (heres_of depth later ++ hs);
-        next = subst (Continues depth later) (sym e) (continues-heres_of later depth hs less);
-      },
-      linked,
-    )
+    rw (← size) (drop-append_seam (heres_in depth item) (heres_of depth later ++ hs)) in
+    let one : IsLinked h (heres_in depth item ++ (heres_of depth later ++ hs)) = record {
+      inside = record { behind = heres_of depth later ++ hs; is = refl };
+      within = omega (arith, size, len);
+      first = begins-heres_in item depth (heres_of depth later ++ hs);
+      next = subst (Continues depth later) (sym e) (continues-heres_of later depth hs less);
+    } in
+    subst (λ l. AreLinked (h ∷ l)) (sym (append_assoc (heres_in depth item) (heres_of depth later) hs)) (one, linked)
 
 mutual
   linked-heres_in : (item : Item) (depth : ℕ) (hs : List Here) → IsLessDeep (suc depth) hs → AreLinked hs → AreLinked (heres_in depth item ++ hs)
   linked-heres_in (leaf kind place raw) depth hs less linked = linked
   linked-heres_in (node place keyword square first others close) depth hs less linked =
-      let rest : AreLinked (heres_in (suc depth) first ++ (heres_of (suc depth) others ++ hs)) =
-      linked-heres_in first (suc depth) (heres_of (suc depth) others ++ hs) (less_deep-heres_of others (suc depth) hs less) (linked-heres_of others (suc depth) hs less linked) in
-      let all = linked-item first others (suc depth) hs less rest in
-      subst (λ l. AreLinked (record { depth = suc depth; item = first; later = others } ∷ l)) (sym (append_assoc (heres_in (suc depth) first) (heres_of (suc depth) others) hs)) all
+      linked-item first others (suc depth) hs less
+      (linked-heres_in first (suc depth) (heres_of (suc depth) others ++ hs) (less_deep-heres_of others (suc depth) hs less) (linked-heres_of others (suc depth) hs less linked))
 
   linked-heres_of : (items : Siblings) (depth : ℕ) (hs : List Here) → IsLessDeep depth hs → AreLinked hs → AreLinked (heres_of depth items ++ hs)
   linked-heres_of End depth hs less linked = linked
   linked-heres_of (More item items) depth hs less linked =
-      let rest : AreLinked (heres_in depth item ++ (heres_of depth items ++ hs)) =
-      linked-heres_in item depth (heres_of depth items ++ hs) (less_deep-heres_of items depth hs less) (linked-heres_of items depth hs less linked) in
-      let all = linked-item item items depth hs less rest in
-      subst (λ l. AreLinked (record { depth = depth; item = item; later = items } ∷ l)) (sym (append_assoc (heres_in depth item) (heres_of depth items) hs)) all
+      linked-item item items depth hs less
+      (linked-heres_in item depth (heres_of depth items ++ hs) (less_deep-heres_of items depth hs less) (linked-heres_of items depth hs less linked))
 
 pub linked-heres : (tree : Item) → AreLinked (heres tree)
 linked-heres tree =

@@ -105,17 +105,15 @@ abbrev pub Takes : ℕ → State → Token → Type 0
 Takes limit s t = (n : State) × (step limit s t ≡ Some n)
 
 goes_on_from_behind : (item : Item) (f : Frame) (fs : List Frame) (t : Token) (n : State) → behind_item item (f ∷ fs) t ≡ Some n → GoesOn f.square t
-goes_on_from_behind item f fs (single kind place raw) n e = cc
 goes_on_from_behind item f fs comma n e = tt
-goes_on_from_behind item f fs (opening square) n e = cc
 goes_on_from_behind item f fs (closing place square) n e = same_square-true square f.square (only_if-some _ _ n e).0
+goes_on_from_behind item f fs t n e = cc
 
 behind_from_goes_on : (item : Item) (f : Frame) (fs : List Frame) (t : Token) → GoesOn f.square t → (n : State) × (behind_item item (f ∷ fs) t ≡ Some n)
-behind_from_goes_on item f fs (single kind place raw) h = absurd h
 behind_from_goes_on item f fs comma h = (wants (record f { before = item ∷ f.before } ∷ fs), refl)
-behind_from_goes_on item f fs (opening square) h = absurd h
 behind_from_goes_on item f fs (closing place square) h =
     (after (gather f.place f.keyword f.square f.before item End place) fs, rw (h, same_square-refl f.square) refl)
+behind_from_goes_on item f fs t h = absurd h
 
 from_wants : (f : Frame) (fs : List Frame) (t : Token) → Takes 12 (wants (f ∷ fs)) t → MayFollow (Some (last_of_open f)) (f.square ∷ squares fs) t
 from_wants f fs t e = go f.before t e.0 e.1

@@ -1,5 +1,5 @@
 -- What is left begins with one token at most, and no flaw beside it.
-use Rattle.std.proofs.Common.{◌≡◌, ℕ, ◌+◌, Bool, true, false, ◌==◌, cond, List, [], ◌∷◌, ◌++◌, length, Option, Some, None, refl, sym, ap, subst, ◌∙◌, append_assoc, arith, IsTrue}
+use Rattle.std.proofs.Common.{◌≡◌, ℕ, ◌+◌, Bool, true, false, ◌==◌, cond, List, [], ◌∷◌, ◌++◌, length, Option, Some, None, refl, sym, ap, ◌∙◌, append_assoc, arith, IsTrue}
 use Rattle.std.specs.List.{list_all}
 use Rattle.std.proofs.lemmas.Bool.Decides.{nat_tests}
 use Rattle.std.proofs.lemmas.Bool.{and_from}
@@ -20,27 +20,6 @@ shape_of (single kind place raw) = a_single kind
 shape_of comma = a_comma
 shape_of (opening square) = an_opening square
 shape_of (closing place square) = a_closing square
-
-abbrev place_of : Token → ℕ
-place_of (single kind place raw) = place
-place_of (closing place square) = place
-place_of t = 0
-
-abbrev raw_of : Token → List ℕ
-raw_of (single kind place raw) = raw
-raw_of t = []
-
-abbrev build : Shape → ℕ → List ℕ → Token
-build (a_single kind) place raw = single kind place raw
-build a_comma place raw = comma
-build (an_opening square) place raw = opening square
-build (a_closing square) place raw = closing place square
-
-built : (t : Token) → t ≡ build (shape_of t) (place_of t) (raw_of t)
-built (single kind place raw) = refl
-built comma = refl
-built (opening square) = refl
-built (closing place square) = refl
 
 -- the shape of the token that begins with this byte, if any does
 abbrev pub shape_by : ℕ → Option Shape
@@ -96,30 +75,32 @@ pub Forms-shut : (total place : ℕ) (raw left rest : List ℕ) → Forms total 
 Forms-shut total place raw left rest f after e =
     record { parts = same_tail 34 34 after (raw ++ 34 ∷ rest) (sym e ∙ f.spelled ∙ ap (λ (z : List ℕ). 34 ∷ z) (append_assoc raw (34 ∷ []) rest)); inside = f.formed.0; ends = f.ends }
 
-same_places : (p q n total : ℕ) → p + n ≡ total → q + n ≡ total → p ≡ q
-same_places p q n total a b = omega arith
+single_one : (kind : Kind) (p q n total : ℕ) (raw others rest tail : List ℕ) → p + n ≡ total → q + n ≡ total → (raw ≡ others) × (rest ≡ tail) → (single kind p raw ≡ single kind q others) × (rest ≡ tail)
+single_one kind p q n total raw others rest tail a b t =
+    let h : p ≡ q = omega arith in
+    let k : raw ≡ others = t.0 in
+    (cc, t.1)
 
-same_built : (s : Shape) (total p q : ℕ) (raw others left rest tail : List ℕ) → Forms total (build s p raw) left rest → Forms total (build s q others) left tail → (build s p raw ≡ build s q others) × (rest ≡ tail)
-same_built (a_single number) total p q raw others left rest tail f g =
-    let t = run_split is_run_byte raw others rest tail f.formed.1 f.ends g.formed.1 g.ends (sym f.spelled ∙ g.spelled) in
-    let h : p ≡ q = same_places p q (length left) total f.placed g.placed in
-    let k : raw ≡ others = t.0 in
-    (cc, t.1)
-same_built (a_single text) total p q raw others left rest tail f g =
-    let t = shut_one (raw ++ 34 ∷ rest) raw rest others tail (Forms-shut total p raw left rest f (raw ++ 34 ∷ rest) (f.spelled ∙ ap (λ (z : List ℕ). 34 ∷ z) (append_assoc raw (34 ∷ []) rest))) (Forms-shut total q others left tail g (raw ++ 34 ∷ rest) (f.spelled ∙ ap (λ (z : List ℕ). 34 ∷ z) (append_assoc raw (34 ∷ []) rest))) in
-    let h : p ≡ q = same_places p q (length left) total f.placed g.placed in
-    let k : raw ≡ others = t.0 in
-    (cc, t.1)
-same_built (a_single word) total p q raw others left rest tail f g =
-    let t = run_split is_word_byte raw others rest tail (word_bytes raw f.formed) f.ends (word_bytes others g.formed) g.ends (sym f.spelled ∙ g.spelled) in
-    let h : p ≡ q = same_places p q (length left) total f.placed g.placed in
-    let k : raw ≡ others = t.0 in
-    (cc, t.1)
-same_built a_comma total p q raw others left rest tail f g = (refl, same_tail 44 44 rest tail (sym f.spelled ∙ g.spelled))
-same_built (an_opening square) total p q raw others left rest tail f g = (refl, same_tail (opening_byte square) (opening_byte square) rest tail (sym f.spelled ∙ g.spelled))
-same_built (a_closing square) total p q raw others left rest tail f g =
-    let h : p ≡ q = same_places p q (length left) total f.placed g.placed in
-    (ap (λ z. closing z square) h, same_tail (closing_byte square) (closing_byte square) rest tail (sym f.spelled ∙ g.spelled))
+-- tokens of one shape are one token
+same_token : (total : ℕ) (t u : Token) (left rest tail : List ℕ) → Forms total t left rest → Forms total u left tail → shape_of t ≡ shape_of u → (t ≡ u) × (rest ≡ tail)
+same_token total (single number p raw) (single number q others) left rest tail f g e =
+    single_one number p q (length left) total raw others rest tail f.placed g.placed (run_split is_run_byte raw others rest tail f.formed.1 f.ends g.formed.1 g.ends (sym f.spelled ∙ g.spelled))
+same_token total (single text p raw) (single text q others) left rest tail f g e =
+    let after = raw ++ 34 ∷ rest in
+    let spelled : left ≡ 34 ∷ after = f.spelled ∙ ap (λ (z : List ℕ). 34 ∷ z) (append_assoc raw (34 ∷ []) rest) in
+    single_one text p q (length left) total raw others rest tail f.placed g.placed
+    (shut_one after raw rest others tail (Forms-shut total p raw left rest f after spelled) (Forms-shut total q others left tail g after spelled))
+same_token total (single word p raw) (single word q others) left rest tail f g e =
+    single_one word p q (length left) total raw others rest tail f.placed g.placed
+    (run_split is_word_byte raw others rest tail (word_bytes raw f.formed) f.ends (word_bytes others g.formed) g.ends (sym f.spelled ∙ g.spelled))
+same_token total comma comma left rest tail f g e = (refl, same_tail 44 44 rest tail (sym f.spelled ∙ g.spelled))
+same_token total (opening square) (opening other) left rest tail f g e =
+    let k : square ≡ other = cc in (ap opening k, same_tail (opening_byte square) (opening_byte other) rest tail (sym f.spelled ∙ g.spelled))
+same_token total (closing p square) (closing q other) left rest tail f g e =
+    let k : square ≡ other = cc in
+    let h : p ≡ q = omega (arith, f.placed, g.placed) in
+    (cc, same_tail (closing_byte square) (closing_byte other) rest tail (sym f.spelled ∙ g.spelled))
+same_token total t u left rest tail f g e = absurd cc
 
 pub some_shape : (s u : Shape) → Some s ≡ Some u → s ≡ u
 some_shape s u e = cc
@@ -127,8 +108,4 @@ some_shape s u e = cc
 -- what is left begins with one token at most
 pub Forms-one : (total : ℕ) (t u : Token) (left rest tail : List ℕ) → Forms total t left rest → Forms total u left tail → (t ≡ u) × (rest ≡ tail)
 Forms-one total t u left rest tail f g =
-    let s : shape_of t ≡ shape_of u = some_shape (shape_of t) (shape_of u) (sym (Forms-shape total t left rest f) ∙ Forms-shape total u left tail g) in
-    let f2 = subst (λ z. Forms total (build z (place_of t) (raw_of t)) left rest) s (subst (λ z. Forms total z left rest) (built t) f) in
-    let g2 = subst (λ z. Forms total z left tail) (built u) g in
-    let r = same_built (shape_of u) total (place_of t) (place_of u) (raw_of t) (raw_of u) left rest tail f2 g2 in
-    (built t ∙ ap (λ z. build z (place_of t) (raw_of t)) s ∙ r.0 ∙ sym (built u), r.1)
+    same_token total t u left rest tail f g (some_shape (shape_of t) (shape_of u) (sym (Forms-shape total t left rest f) ∙ Forms-shape total u left tail g))
