@@ -1,5 +1,5 @@
 -- One settled token more, or the settled reason why nothing goes on, or nothing settled; and what stays pending.
-use Rattle.std.proofs.Common.{◌≡◌, ℕ, suc, ◌+◌, ◌-◌, ◌≤◌, ◌<◌, ◌&&◌, Bool, true, false, cond, List, [], ◌∷◌, ◌++◌, length, take, drop, Option, Some, None, refl, sym, ap, subst, ◌∙◌, append_assoc, arith, inl, inr, ◌≢◌, IsUtf8}
+use Rattle.std.proofs.Common.{◌≡◌, ℕ, suc, ◌+◌, ◌-◌, ◌≤◌, ◌<◌, ◌&&◌, Bool, true, false, cond, List, [], ◌∷◌, ◌++◌, length, take, drop, Option, Some, None, refl, sym, ap, subst, ◌∙◌, append_assoc, arith, inl, inr, ◌≢◌, IsUtf8, MatchBool}
 use Rattle.std.proofs.lemmas.List.{append-nil, length-append, length-drop, length-take, drop_all, drop-drop, drop_at, take_all, take-append-drop, take-append-le, drop-append-le}
 use Rattle.std.proofs.Math.Seq.{take-add}
 use Rattle.std.proofs.lemmas.Str.{IsUtf8-append}
@@ -132,7 +132,7 @@ module _ (text : List ℕ) (at : ℕ) (lt : at < length text) where
       over : (n : ℕ) → ¬ (n < length (drop at text)) → length text ≤ at + n
       over n not = omega (arith, length-drop at text)
 
-  pub all_from_lexed : (l : Lexed) → IsLexed (drop at text) l → IsLexedSettled (drop at text) l → AllSettled (length text) (drop at text)
+  all_from_lexed : (l : Lexed) → IsLexed (drop at text) l → IsLexedSettled (drop at text) l → AllSettled (length text) (drop at text)
   all_from_lexed (lexed.Number n) l s =
       let a = number_at text at lt n l in token_all (length text) (drop at text) (single a.of_kind at (take n (drop at text))) (drop (at + n) text) a.forms (rest_some n s)
   all_from_lexed (lexed.Text n) l s =
@@ -144,7 +144,7 @@ module _ (text : List ℕ) (at : ℕ) (lt : at < length text) where
   all_from_lexed (lexed.Closing square) l s = token_all (length text) (drop at text) (closing at square) (drop (at + 1) text) (closing_at text at lt square l) tt
   all_from_lexed (lexed.Flaw r k) l s = flaw_all (length text) (drop at text) r k l s
 
-  pub held_from_lexed : (l : Lexed) → IsLexed (drop at text) l → ¬ (IsLexedSettled (drop at text) l) → IsUnsettledAt text at
+  held_from_lexed : (l : Lexed) → IsLexed (drop at text) l → ¬ (IsLexedSettled (drop at text) l) → IsUnsettledAt text at
   held_from_lexed (lexed.Number n) l s ts =
       let a = number_at text at lt n l in token_held (length text) (drop at text) ts (single a.of_kind at (take n (drop at text))) (drop (at + n) text) a.forms (λ some. some (rest_none n s))
   held_from_lexed (lexed.Text n) l s ts =
@@ -154,7 +154,13 @@ module _ (text : List ℕ) (at : ℕ) (lt : at < length text) where
   held_from_lexed (lexed.Flaw r k) l s ts = flaw_held (length text) (drop at text) ts r k l s
   held_from_lexed k l s ts = absurd (s tt)
 
-  pub settled_refused : (table : Flat) (r : RefusedAt) → AllSettled (length text) (drop at text) → IsSettledTo text table at → IsStopped text at table r → IsSettledRefusal text r.number r.place
+  -- the judgement on a token holds of what is left
+  pub judged : (left : List ℕ) (l : Lexed) (settled : Bool) → left ≡ drop at text → IsLexed left l → MatchBool settled (IsLexedSettled left l) (¬ (IsLexedSettled left l))
+      → MatchBool settled (AllSettled (length text) (drop at text)) (IsUnsettledAt text at)
+  judged left l true e is s = all_from_lexed l (subst (λ z. IsLexed z l) e is) (subst (λ z. IsLexedSettled z l) e s)
+  judged left l false e is s = held_from_lexed l (subst (λ z. IsLexed z l) e is) (subst (λ z. ¬ (IsLexedSettled z l)) e s)
+
+  settled_refused : (table : Flat) (r : RefusedAt) → AllSettled (length text) (drop at text) → IsSettledTo text table at → IsStopped text at table r → IsSettledRefusal text r.number r.place
   settled_refused table r all reached s = record {
     reason = s.reason;
     before = reached.tokens;

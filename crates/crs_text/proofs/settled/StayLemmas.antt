@@ -1,5 +1,5 @@
 -- What is settled stays settled under any bytes to come, and is one thing.
-use Rattle.std.proofs.Common.{◌≡◌, ℕ, ◌+◌, ◌≤◌, Bool, true, List, [], ◌∷◌, ◌++◌, length, refl, sym, ap, subst, ◌∙◌, append_assoc, arith, inl, inr, ◌⊎◌, IsTrue, ◌≢◌}
+use Rattle.std.proofs.Common.{◌≡◌, ℕ, ◌+◌, ◌≤◌, Bool, true, List, [], ◌∷◌, ◌++◌, length, refl, sym, ap, subst, ◌∙◌, append_assoc, arith, inl, inr, IsTrue, ◌≢◌}
 use Rattle.std.specs.List.{list_all}
 use Rattle.std.proofs.lemmas.List.{append-nil, length-append}
 use Rattle.std.proofs.lemmas.List.Folds.{list_all-append}
@@ -19,9 +19,9 @@ use Rattle.crs_text.proofs.tokens.FlawLemmas.{flaw_some}
 use Rattle.crs_text.proofs.tokens.QuotedLemmas.{same_head, same_tail, shut_one, shut_not_open}
 use Rattle.crs_text.proofs.tokens.Utf8Lemmas.{IsUtf8Front-shorter, IsLongestUtf8-longer}
 use Rattle.crs_text.proofs.tokens.LeftLemmas.{shut_or_open}
-use Rattle.crs_text.proofs.tokens.FrontsLemmas.{after_white_one, forms_some, at_once}
+use Rattle.crs_text.proofs.tokens.FrontsLemmas.{after_white_one, forms_some, at_once, fronts_dark, fronts_compare, front_none}
 use Rattle.crs_text.proofs.tokens.ViableLemmas.{viable_front}
-use Rattle.crs_text.proofs.texts.OneAnswerLemmas.{refusal_one, stop_no_token}
+use Rattle.crs_text.proofs.texts.OneAnswerLemmas.{refusal_one, no_further}
 
 -- ---- what is settled is there
 
@@ -228,16 +228,12 @@ stop_some NumberRange total ts left k s e = flaw_some NumberRange left k s.0 e
 stop_some NotUtf8 total ts left k s e = flaw_some NotUtf8 left k s e
 stop_some r total ts left k s e = s
 
-pub fronts_dark : (total : ℕ) (ts : List Token) (bytes left : List ℕ) → SettledFronts total bytes ts left → StopsAt is_white left
-fronts_dark total [] bytes left p = p.ends
-fronts_dark total (t ∷ ts) bytes left p = fronts_dark total ts p.1 left p.4
-
 -- a settled refusal is that of every continuation
 pub settled_longer : (bytes more : List ℕ) (n place : ℕ) → IsSettledRefusal bytes n place → IsSettledRefusal (bytes ++ more) n place
 settled_longer bytes more n place r =
     let total : length bytes + length more ≡ length (bytes ++ more) = omega (arith, length-append bytes more) in
     let some = stop_some r.reason (length bytes) r.before r.left r.skip r.stop in
-    let dark = stops_more is_white r.left more some (fronts_dark (length bytes) r.before bytes r.left r.fronts) in
+    let dark = stops_more is_white r.left more some (fronts_dark (length bytes) r.before bytes r.left (fronts_from_settled (length bytes) r.before bytes r.left r.fronts)) in
     let fronts = fronts_longer (length bytes) r.before bytes r.left more (r.left ++ more) r.fronts (at_once (r.left ++ more) dark) in
     let stop = stop_longer r.reason (length bytes) r.before r.left more r.skip r.stop in
     record {
@@ -254,70 +250,55 @@ settled_longer bytes more n place r =
 
 -- ---- where nothing more is settled
 
--- one of two settled fronts of a text goes on where the other ends
-abbrev pub SettledOn : ℕ → List Token → List ℕ → List Token → List ℕ → Type 0
-SettledOn total us a vs b = (more : List Token) × (vs ≡ us ++ more) × SettledFronts total a more b
-
-settled_on : (total : ℕ) (u v : Token) (us vs : List Token) (a b : List ℕ) → u ≡ v → SettledOn total us a vs b → SettledOn total (u ∷ us) a (v ∷ vs) b
-settled_on total u v us vs a b e g = let k : vs ≡ us ++ g.0 = g.1 in (g.0, cc, g.2)
-
-skip_white : (total : ℕ) (ts : List Token) (bytes at left : List ℕ) → IsAfterWhite bytes at → SettledFronts total bytes ts left → SettledFronts total at ts left
-skip_white total [] bytes at left p q = subst (λ z. IsAfterWhite z left) (after_white_one bytes left at q p) (at_once left q.ends)
-skip_white total (t ∷ ts) bytes at left p q =
-    let h : q.0 ≡ at = after_white_one bytes q.0 at q.2 p in
-    (q.0, q.1, subst (λ z. IsAfterWhite z q.0) h (at_once q.0 q.2.ends), q.3, q.4)
-
-settled_compare : (total : ℕ) (us vs : List Token) (bytes a b : List ℕ) → SettledFronts total bytes us a → SettledFronts total bytes vs b → SettledOn total us a vs b ⊎ SettledOn total vs b us a
-settled_compare total [] vs bytes a b p q = inl (vs, refl, skip_white total vs bytes a b p q)
-settled_compare total (u ∷ us) [] bytes a b p q = inr (u ∷ us, refl, skip_white total (u ∷ us) bytes b a q p)
-settled_compare total (u ∷ us) (v ∷ vs) bytes a b p q =
+-- of settled tokens, the one where some of them end is settled there
+settled_behind : (total : ℕ) (us : List Token) (t : Token) (more : List Token) (bytes a b : List ℕ) → Fronts total bytes us a → SettledFronts total bytes (us ++ t ∷ more) b
+    → (rest : List ℕ) × FormsSettled total t a rest
+settled_behind total [] t more bytes a b p q = let h : q.0 ≡ a = after_white_one bytes q.0 a q.2 p in (q.1, subst (λ z. FormsSettled total t z q.1) h q.3)
+settled_behind total (u ∷ us) t more bytes a b p q =
     let h : q.0 ≡ p.0 = after_white_one bytes q.0 p.0 q.2 p.2 in
-    let r = Forms-one total u v p.0 p.1 q.1 p.3.forms (subst (λ z. Forms total v z q.1) h q.3.forms) in
-    elim (settled_compare total us vs p.1 a b p.4 (subst (λ z. SettledFronts total z vs b) (sym r.1) q.4)) [
-      | inl g ↦ inl (settled_on total u v us vs a b r.0 g)
-      | inr g ↦ inr (settled_on total v u vs us b a (sym r.0) g)
-    ]
-
-front_token : (total : ℕ) (t : Token) (ts : List Token) (left b : List ℕ) → StopsAt is_white left → SettledFronts total left (t ∷ ts) b → (rest : List ℕ) × FormsSettled total t left rest
-front_token total t ts left b ends p =
-    let h : p.0 ≡ left = after_white_one left p.0 left p.2 (at_once left ends) in
-    (p.1, subst (λ z. FormsSettled total t z p.1) h p.3)
+    let r = Forms-one total u u p.0 p.1 q.1 p.3 (subst (λ z. Forms total u z q.1) h q.3.forms) in
+    settled_behind total us t more p.1 a b p.4 (subst (λ z. SettledFronts total z (us ++ t ∷ more) b) (sym r.1) q.4)
 
 module _ (bytes : List ℕ) (ts : List Token) (left : List ℕ) (fronts : SettledFronts (length bytes) bytes ts left) (viable : IsViable ts) (held : IsUnsettled (length bytes) ts left) where
-  dark : StopsAt is_white left
-  dark = fronts_dark (length bytes) ts bytes left fronts
+  before : Fronts (length bytes) bytes ts left
+  before = fronts_from_settled (length bytes) ts bytes left fronts
+
+  none_ahead : (us : List Token) (t : Token) (more : List Token) (b : List ℕ) → us ≡ ts ++ t ∷ more → SettledFronts (length bytes) bytes us b → ⊥
+  none_ahead us t more b e q =
+      let g = settled_behind (length bytes) ts t more bytes left b before (subst (λ z. SettledFronts (length bytes) bytes z b) e q) in held.no_token t g.0 g.1
 
   held_viable : (us : List Token) (b : List ℕ) → SettledFronts (length bytes) bytes us b → IsViable us
-  held_viable us b q = elim (settled_compare (length bytes) ts us bytes left b fronts q) [
-    | inl g ↦ ahead g.0 g.1 g.2
+  held_viable us b q = elim (fronts_compare (length bytes) ts us bytes left b before (fronts_from_settled (length bytes) us bytes b q)) [
+    | inl g ↦ ahead g.0 g.1
     | inr g ↦ viable_front us g.0 (subst IsViable g.1 viable)
   ]
     where
-      ahead : (more : List Token) → us ≡ ts ++ more → SettledFronts (length bytes) left more b → IsViable us
-      ahead [] e f = subst IsViable (sym (append-nil ts) ∙ sym e) viable
-      ahead (t ∷ more) e f = let g = front_token (length bytes) t more left b dark f in absurd (held.no_token t g.0 g.1)
+      ahead : (more : List Token) → us ≡ ts ++ more → IsViable us
+      ahead [] e = subst IsViable (sym (append-nil ts) ∙ sym e) viable
+      ahead (t ∷ more) e = absurd (none_ahead us t more b e q)
 
   held_unrefused : (n place : ℕ) → ¬ (IsSettledRefusal bytes n place)
-  held_unrefused n place r = elim (settled_compare (length bytes) ts r.before bytes left r.left fronts r.fronts) [
+  held_unrefused n place r = elim (fronts_compare (length bytes) ts r.before bytes left r.left before plain) [
     | inl g ↦ ahead g.0 g.1 g.2
     | inr g ↦ behind g.0 g.1 g.2
   ]
     where
+      plain : Fronts (length bytes) bytes r.before r.left
+      plain = fronts_from_settled (length bytes) r.before bytes r.left r.fronts
+
       same_place : r.before ≡ ts → left ≡ r.left → ⊥
       same_place e f =
           held.no_stop r.reason r.skip
           (subst (λ z. IsSettledStop r.reason (length bytes) ts z r.skip) (sym f) (subst (λ z. IsSettledStop r.reason (length bytes) z r.left r.skip) e r.stop))
 
-      ahead : (more : List Token) → r.before ≡ ts ++ more → SettledFronts (length bytes) left more r.left → ⊥
-      ahead [] e f = same_place (e ∙ append-nil ts) (after_white_one left left r.left (at_once left dark) f)
-      ahead (t ∷ more) e f = let g = front_token (length bytes) t more left r.left dark f in held.no_token t g.0 g.1
+      ahead : (more : List Token) → r.before ≡ ts ++ more → Fronts (length bytes) left more r.left → ⊥
+      ahead [] e f = same_place (e ∙ append-nil ts) (front_none (length bytes) left r.left (fronts_dark (length bytes) ts bytes left before) f)
+      ahead (t ∷ more) e f = none_ahead r.before t more r.left e r.fronts
 
-      behind : (more : List Token) → ts ≡ r.before ++ more → SettledFronts (length bytes) r.left more left → ⊥
-      behind [] e f = same_place (sym (e ∙ append-nil r.before)) (sym (after_white_one r.left r.left left (at_once r.left (fronts_dark (length bytes) r.before bytes r.left r.fronts)) f))
-      behind (t ∷ more) e f =
-          let g = front_token (length bytes) t more r.left left (fronts_dark (length bytes) r.before bytes r.left r.fronts) f in
-          let v : IsViable ((r.before ++ t ∷ []) ++ more) = subst IsViable (e ∙ sym (append_assoc r.before (t ∷ []) more)) viable in
-          stop_no_token r.reason (length bytes) r.before r.left r.skip t g.0 (stop_from_settled r.reason (length bytes) r.before r.left r.skip r.stop) g.1.forms (viable_front (r.before ++ t ∷ []) more v)
+      behind : (more : List Token) → ts ≡ r.before ++ more → Fronts (length bytes) r.left more left → ⊥
+      behind [] e f =
+          same_place (sym (e ∙ append-nil r.before)) (sym (front_none (length bytes) r.left left (fronts_dark (length bytes) r.before bytes r.left plain) f))
+      behind (t ∷ more) e f = no_further r.reason (length bytes) r.before ts bytes r.left left r.skip t more plain (stop_from_settled r.reason (length bytes) r.before r.left r.skip r.stop) e f viable
 
   pub taken_so_far : IsTakenSoFar bytes
   taken_so_far = record { viable = held_viable; unrefused = held_unrefused }

@@ -65,7 +65,7 @@ node_viable : (item : Item) (ts : List Token) → AreNode item ts → IsViable t
 node_viable item ts n = ([], item, subst (AreNode item) (sym (append-nil ts)) n)
 
 -- what stops nothing goes past
-no_further : (r : Reason) (total : ℕ) (ts us : List Token) (bytes left b : List ℕ) (k : ℕ) (t : Token) (more : List Token) → Fronts total bytes ts left → IsStop r total ts left k → us ≡ ts ++ t ∷ more → Fronts total left (t ∷ more) b → IsViable us → ⊥
+pub no_further : (r : Reason) (total : ℕ) (ts us : List Token) (bytes left b : List ℕ) (k : ℕ) (t : Token) (more : List Token) → Fronts total bytes ts left → IsStop r total ts left k → us ≡ ts ++ t ∷ more → Fronts total left (t ∷ more) b → IsViable us → ⊥
 no_further r total ts us bytes left b k t more p s e f v =
     let g = front_token total t more left b (fronts_dark total ts bytes left p) f in
     stop_no_token r total ts left k t g.0 s g.1 (viable_front ts more t (subst IsViable e v))
