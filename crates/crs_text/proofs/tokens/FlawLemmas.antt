@@ -54,7 +54,6 @@ quote_utf8 = (34 ∷ [], (refl, refl))
 
 -- no token in front of a flaw, case by case on the token
 beside : (r : Reason) (total : ℕ) (t : Token) (left rest : List ℕ) (skip : ℕ) → IsFlaw r left skip → Forms total t left rest → shape_for r ≡ Some (shape_of t) → ⊥
-beside BadCharacter total t left rest skip f g e = absurd cc
 beside BadNumber total (single number place raw) left rest skip f g e =
     f.3 (subst HasForm (one_run left f.0 f.1 raw rest f.2 g.spelled g.formed.1 g.ends) (IsInBounds-form raw g.formed.2))
 beside NumberRange total (single number place raw) left rest skip f g e =
@@ -66,9 +65,6 @@ beside NotUtf8 total (single text place raw) left rest skip f g e =
       | inr o ↦ shut_not_open f.0 raw rest shut o.0
     ]
 beside OpenText total (single text place raw) left rest skip f g e = shut_not_open f.0 raw rest (Forms-shut total place raw left rest g f.0 f.1) f.2
-beside Unexpected total t left rest skip f g e = absurd f
-beside UnexpectedEnd total t left rest skip f g e = absurd f
-beside TooDeep total t left rest skip f g e = absurd f
 beside r total t left rest skip f g e = absurd cc
 
 pub flaw_no_token : (r : Reason) (total : ℕ) (t : Token) (left rest : List ℕ) (skip : ℕ) → IsFlaw r left skip → Forms total t left rest → ⊥

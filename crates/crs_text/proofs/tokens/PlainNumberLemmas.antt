@@ -62,29 +62,19 @@ module _ (sign : Sign) (whole : List ℕ) (fraction : Option (List ℕ)) (digits
   pub plain_spelled : (p : Parts) × SpellsNumber (parts_text parts) p × IsBounded p
   plain_spelled = (parts, (refl, plain_form), plain_bounded)
 
-taken_from : (left raw rest : List ℕ) (n : ℕ) → left ≡ raw ++ rest → n ≡ length raw → take n left ≡ raw
-taken_from left raw rest n e l = ap (take n) e ∙ take_at raw rest n (sym l)
-
-left_from : (left raw rest : List ℕ) (n : ℕ) → left ≡ raw ++ rest → n ≡ length raw → drop n left ≡ rest
-left_from left raw rest n e l = ap (drop n) e ∙ drop_at raw rest n (sym l)
-
-starts_run : (raw : List ℕ) → IsRun raw → BeginsWith is_run_start raw
-starts_run [] h = h
-starts_run (b ∷ bs) h = h.0
-
-is_run_all : (raw : List ℕ) → IsRun raw → list_all is_run_byte raw ≡ true
-is_run_all [] h = absurd h
-is_run_all (b ∷ bs) h = h.1
+of_run : (raw : List ℕ) → IsRun raw → BeginsWith is_run_start raw × IsTrue (list_all is_run_byte raw)
+of_run [] h = absurd h
+of_run (b ∷ bs) h = h
 
 number_front : (left raw rest : List ℕ) (n : ℕ) → left ≡ raw ++ rest → n ≡ length raw → ((p : Parts) × SpellsNumber raw p × IsBounded p) → StopsAt is_run_byte rest → IsLexed left (Number n)
 number_front left raw rest n e l s ends =
-    let run : IsRun raw = form_is_run raw (s.0, s.1) in
+    let run = of_run raw (form_is_run raw (s.0, s.1)) in
     let bounds : IsInBounds raw = s in
-    let front = sym (taken_from left raw rest n e l) in
-    let behind = sym (left_from left raw rest n e l) in (
+    let front : raw ≡ take n left = sym (ap (take n) e ∙ take_at raw rest n (sym l)) in
+    let behind : rest ≡ drop n left = sym (ap (drop n) e ∙ drop_at raw rest n (sym l)) in (
       record {
         spelled = sym (take-append-drop n left);
-        formed = subst (λ (z : List ℕ). BeginsWith is_run_start z × IsTrue (list_all is_run_byte z) × IsInBounds z) front (starts_run raw run, is_run_all raw run, bounds);
+        formed = subst (λ (z : List ℕ). BeginsWith is_run_start z × IsTrue (list_all is_run_byte z) × IsInBounds z) front (run.0, run.1, bounds);
         ends = subst (StopsAt is_run_byte) behind ends;
       },
       omega (arith, l, ap length e, length-append raw rest),

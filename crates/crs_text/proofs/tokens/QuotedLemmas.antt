@@ -1,5 +1,5 @@
 -- Where a run of bytes and where a quoted text ends.
-use Rattle.std.proofs.Common.{◌≡◌, ℕ, zero, suc, Option, Some, None, ◌+◌, ◌<◌, ◌≤◌, not, length, take, drop, get_or, add-one, Bool, true, false, cond, eqb, List, [], ◌∷◌, ◌++◌, refl, sym, ap, subst, ◌∙◌, arith, inl, inr, ◌⊎◌}
+use Rattle.std.proofs.Common.{◌≡◌, ℕ, zero, suc, Option, Some, None, ◌+◌, ◌<◌, ◌≤◌, not, length, take, drop, get_or, add-one, Bool, true, false, cond, eqb, List, [], ◌∷◌, ◌++◌, refl, sym, ap, subst, ◌∙◌, arith}
 use Rattle.std.specs.Prelude.{IsTrue, unwrap_or}
 use Rattle.bstr.specs.Find.{IsFirstByte, is_byte}
 use Rattle.std.proofs.lemmas.Bool.{eqb-true, and_parts}
@@ -35,14 +35,14 @@ run_split test (c ∷ a) (d ∷ b) x y pa sx pb sy e =
 
 -- ---- quoted texts
 
--- a quote is written twice, any other character once
-doubled_case : (c : ℕ) (cs : List ℕ) → ((c ≡ 34) × (doubled (c ∷ cs) ≡ 34 ∷ 34 ∷ doubled cs)) ⊎ ((eqb c 34 ≡ false) × (doubled (c ∷ cs) ≡ c ∷ doubled cs))
-doubled_case c cs =
-    elim (eqb c 34) as (λ v. eqb c 34 ≡ v → ((c ≡ 34) × (cond v (34 ∷ 34 ∷ doubled cs) (c ∷ doubled cs) ≡ 34 ∷ 34 ∷ doubled cs)) ⊎ ((v ≡ false) × (cond v (34 ∷ 34 ∷ doubled cs) (c ∷ doubled cs) ≡ c ∷ doubled cs)))
-    [ true ↦ λ e. inl (eqb-true c 34 e, refl) | false ↦ λ e. inr (refl, refl) ] refl
+-- what follows the first character, where a quote is written twice and any other once
+abbrev behind : ℕ → List ℕ → List ℕ
+behind c cs = cond (eqb c 34) (34 ∷ doubled cs) (doubled cs)
 
-pub not_quote : (c : ℕ) → eqb c 34 ≡ false → c ≡ 34 → ⊥
-not_quote c f e = true_not_false (eqb c 34) (ap (λ x. eqb x 34) e) f
+doubled-cons : (c : ℕ) (cs : List ℕ) → doubled (c ∷ cs) ≡ c ∷ behind c cs
+doubled-cons c cs =
+    elim (eqb c 34) as (λ v. eqb c 34 ≡ v → cond v (34 ∷ 34 ∷ doubled cs) (c ∷ doubled cs) ≡ c ∷ cond v (34 ∷ doubled cs) (doubled cs))
+    [ true ↦ λ e. ap (λ z. z ∷ 34 ∷ doubled cs) (sym (eqb-true c 34 e)) | false ↦ λ e. refl ] refl
 
 -- where the inside of a quoted text ends: at the end of the bytes, or at a quote that isn't doubled
 abbrev pub IsEnd : List ℕ → Type 0
@@ -51,27 +51,17 @@ IsEnd (b ∷ bs) = (b ≡ 34) × StopsAt is_quote bs
 
 end_not_doubled : (d : ℕ) (ds x y : List ℕ) → IsEnd x → x ≡ doubled (d ∷ ds) ++ y → ⊥
 end_not_doubled d ds x y ends e =
-    elim (doubled_case d ds) [
-      | inl q ↦ true_not_false true refl (subst IsEnd (e ∙ ap (λ z. z ++ y) q.1) ends).1
-      | inr n ↦ not_quote d n.0 (subst IsEnd (e ∙ ap (λ z. z ++ y) n.1) ends).0
-    ]
+    let s : (d ≡ 34) × StopsAt is_quote (behind d ds ++ y) = subst IsEnd (e ∙ ap (λ z. z ++ y) (doubled-cons d ds)) ends in
+    true_not_false true refl (subst (λ z. StopsAt is_quote (behind z ds ++ y)) s.0 s.1)
 
 same_doubled : (c d : ℕ) (cs ds x y : List ℕ) → doubled (c ∷ cs) ++ x ≡ doubled (d ∷ ds) ++ y → (c ≡ d) × (doubled cs ++ x ≡ doubled ds ++ y)
 same_doubled c d cs ds x y e =
-    elim (doubled_case c cs) [
-      | inl p ↦ elim (doubled_case d ds) [
-        | inl q ↦ let f : 34 ∷ 34 ∷ (doubled cs ++ x) ≡ 34 ∷ 34 ∷ (doubled ds ++ y) = ap (λ z. z ++ x) (sym p.1) ∙ e ∙ ap (λ z. z ++ y) q.1 in
-            (p.0 ∙ sym q.0, same_tail 34 34 _ _ (same_tail 34 34 _ _ f))
-        | inr q ↦ let f : 34 ∷ 34 ∷ (doubled cs ++ x) ≡ d ∷ (doubled ds ++ y) = ap (λ z. z ++ x) (sym p.1) ∙ e ∙ ap (λ z. z ++ y) q.1 in
-            absurd (not_quote d q.0 (sym (same_head 34 d _ _ f)))
-      ]
-      | inr p ↦ elim (doubled_case d ds) [
-        | inl q ↦ let f : c ∷ (doubled cs ++ x) ≡ 34 ∷ 34 ∷ (doubled ds ++ y) = ap (λ z. z ++ x) (sym p.1) ∙ e ∙ ap (λ z. z ++ y) q.1 in
-            absurd (not_quote c p.0 (same_head c 34 _ _ f))
-        | inr q ↦ let f : c ∷ (doubled cs ++ x) ≡ d ∷ (doubled ds ++ y) = ap (λ z. z ++ x) (sym p.1) ∙ e ∙ ap (λ z. z ++ y) q.1 in
-            (same_head c d _ _ f, same_tail c d _ _ f)
-      ]
-    ]
+    let f : c ∷ (behind c cs ++ x) ≡ d ∷ (behind d ds ++ y) = ap (λ z. z ++ x) (sym (doubled-cons c cs)) ∙ e ∙ ap (λ z. z ++ y) (doubled-cons d ds) in
+    let h : c ≡ d = same_head c d _ _ f in (
+      h,
+      elim (eqb d 34) as (λ v. cond v (34 ∷ doubled cs) (doubled cs) ++ x ≡ cond v (34 ∷ doubled ds) (doubled ds) ++ y → doubled cs ++ x ≡ doubled ds ++ y)
+          [ true ↦ λ k. same_tail 34 34 _ _ k | false ↦ λ k. k ] (subst (λ z. behind z cs ++ x ≡ behind d ds ++ y) h (same_tail c d _ _ f)),
+    )
 
 -- the inside of a quoted text ends at one place
 inside_split : (cs ds x y : List ℕ) → IsEnd x → IsEnd y → doubled cs ++ x ≡ doubled ds ++ y → (doubled cs ≡ doubled ds) × (x ≡ y)

@@ -90,9 +90,8 @@ same_keyword (Some a) (Some b) = sameb the_type a b
 
 same_keyword-true : (a b : Option Keyword) → same_keyword a b ≡ true → a ≡ b
 same_keyword-true None None e = refl
-same_keyword-true None (Some b) e = cc
-same_keyword-true (Some a) None e = cc
 same_keyword-true (Some a) (Some b) e = ap Some (same_true the_type tt a b e)
+same_keyword-true a b e = cc
 
 -- a keyword is the one of its spelling
 abbrev own : Keyword → Bool
