@@ -1,11 +1,10 @@
 -- What holds in every state that tokens lead to: the open nodes and the items in them keep within the limit.
-use Rattle.std.proofs.Common.{◌≡◌, ℕ, suc, ◌+◌, ◌≤◌, Bool, Option, Some, None, List, [], ◌∷◌, length, refl, sym, ◌∙◌, ap, subst, arith}
-use Rattle.std.specs.List.{fold}
+use Rattle.std.proofs.Common.{◌≡◌, ℕ, suc, ◌+◌, ◌≤◌, Bool, Some, List, [], ◌∷◌, length, subst, arith}
 use Rattle.std.proofs.lemmas.Bool.{ltb-true}
 use Rattle.crs_text.specs.Tokens.{Kind, number, text, word, Token, single, comma, opening, closing}
 use Rattle.crs_text.specs.Items.{Item, leaf, node, Siblings, End, More, depth, depths, IsNode}
-use Rattle.crs_text.specs.State.{Frame, State, wants, worded, after, gather, behind_leaf, behind_item, step, move, run}
-use Rattle.crs_text.proofs.rows.StateLemmas.{only_if-some, fold-none}
+use Rattle.crs_text.specs.State.{Frame, State, wants, worded, after, gather, behind_leaf, behind_item, step, run}
+use Rattle.crs_text.proofs.rows.StateLemmas.{only_if-some, run-some}
 
 abbrev pub EachFits : ℕ → ℕ → List Item → Type 0
 EachFits limit held [] = Unit {0}
@@ -75,19 +74,6 @@ sound-step limit (worded place raw fs) (opening square) n s e =
 sound-step limit (worded place raw []) t n s e = cc
 sound-step limit (worded place raw (f ∷ fs)) t n s e = sound-behind limit (leaf word place raw) (f ∷ fs) t n s (omega arith) e
 sound-step limit (after item fs) t n s e = sound-behind limit item fs t n s.0 s.2 e
-
-pub run-cons : (limit : ℕ) (s : State) (t : Token) (n : State) (ts : List Token) → step limit s t ≡ Some n → run limit s (t ∷ ts) ≡ run limit n ts
-run-cons limit s t n ts e = ap (λ o. fold (move limit) o ts) e
-
-pub run-some : (limit : ℕ) (s : State) (t : Token) (ts : List Token) (n : State) → run limit s (t ∷ ts) ≡ Some n → (m : State) × (step limit s t ≡ Some m) × (run limit m ts ≡ Some n)
-run-some limit s t ts n e = go (step limit s t) refl
-  where
-    go : (o : Option State) → step limit s t ≡ o → (m : State) × (step limit s t ≡ Some m) × (run limit m ts ≡ Some n)
-    go None g =
-        let h : fold (move limit) (step limit s t) ts ≡ fold (move limit) None ts = ap (λ o. fold (move limit) o ts) g in
-        let none = fold-none limit ts in
-        absurd (let k : None ≡ Some n = cc in cc)
-    go (Some m) g = (m, g, sym (run-cons limit s t m ts g) ∙ e)
 
 pub sound-run : (limit : ℕ) (ts : List Token) (s n : State) → IsSound limit s → run limit s ts ≡ Some n → IsSound limit n
 sound-run limit [] s n h e = let k : s ≡ n = cc in subst (IsSound limit) k h

@@ -30,8 +30,6 @@ mutual
   others-cancel : (is js : Siblings) (c c' : ℕ) (s s' : Bool) (a b : List Token) →
       others_tokens is ++ closing c s ∷ a ≡ others_tokens js ++ closing c' s' ∷ b → (is ≡ js) × (c ≡ c') × (a ≡ b)
   others-cancel End End c c' s s' a b e = (refl, cc, cc)
-  others-cancel End (More j js) c c' s s' a b e = cc
-  others-cancel (More i is) End c c' s s' a b e = cc
   others-cancel (More i is) (More j js) c c' s s' a b e =
       let inner : tokens i ++ (others_tokens is ++ closing c s ∷ a) ≡ tokens j ++ (others_tokens js ++ closing c' s' ∷ b) =
       sym (append_assoc (tokens i) (others_tokens is) (closing c s ∷ a)) ∙ (cc) ∙ append_assoc (tokens j) (others_tokens js) (closing c' s' ∷ b) in
@@ -40,6 +38,7 @@ mutual
       let one_first = one.0 in
       let iss = rest.0 in
       (cc, rest.1, rest.2)
+  others-cancel is js c c' s s' a b e = cc
 
 pub one_node : (i j : Item) (ts : List Token) → AreNode i ts → AreNode j ts → i ≡ j
 one_node i j ts h k =

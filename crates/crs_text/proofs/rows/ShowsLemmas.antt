@@ -10,10 +10,10 @@ use Rattle.crs_text.specs.Rows.{flat, Shows}
 use Rattle.crs_text.specs.declared.table.Opened.TheVariants.{TooDeep, Refused}
 use Rattle.crs_text.specs.declared.table.Position.{Position}
 use Rattle.crs_text.specs.declared.table.Position.TheVariants.{BeforeItem, AfterWord, AfterItem}
-use Rattle.crs_text.proofs.rows.LimitLemmas.{run-cons}
-use Rattle.crs_text.proofs.tokens.ViableLemmas.{run-append, viable_from_run, whole_from_run, run_from_whole}
+use Rattle.crs_text.proofs.tokens.ViableLemmas.{viable_from_run, whole_from_run, run_from_whole}
 use Rattle.crs_text.proofs.tokens.AllowedLemmas.{deep_from_word, worded_from_deep, not_viable_from_none}
 use Rattle.crs_text.proofs.rows.FlatLemmas.{flat-step}
+use Rattle.crs_text.proofs.rows.StateLemmas.{run-cons, run-append}
 
 pub shows_start : Shows [] (flat start)
 shows_start = (start, refl, refl)

@@ -3,7 +3,7 @@ use Rattle.std.proofs.Common.{◌≡◌, ℕ, suc, List, [], ◌∷◌, ◌++◌
 use Rattle.std.proofs.lemmas.List.{length-append, drop_at}
 use Rattle.std.proofs.Math.Seq.{take-append_seam}
 use Rattle.crs_text.specs.Tokens as tokens
-use Rattle.crs_text.specs.Tokens.{Token, single, comma, opening, closing, spelling, IsFormed, Forms, Fronts}
+use Rattle.crs_text.specs.Tokens.{Token, single, spelling, IsFormed, Forms, Fronts}
 use Rattle.crs_text.specs.Items.{Item}
 use Rattle.crs_text.specs.Laid.{AreLaid, EndsIn}
 use Rattle.crs_text.specs.Rows.{rows}
@@ -30,9 +30,7 @@ stands source (single tokens.text place raw) left rest (front, e) f =
     (omega (arith, ap length e, length-append front left, f.placed, length-append front (34 ∷ [])))
 stands source (single tokens.word place raw) left rest (front, e) f =
     stands_at source front raw rest place (e ∙ ap (λ z. front ++ z) f.spelled) (omega (arith, ap length e, length-append front left, f.placed))
-stands source comma left rest ends f = tt
-stands source (opening square) left rest ends f = tt
-stands source (closing place square) left rest ends f = tt
+stands source t left rest ends f = tt
 
 all_stand : (source : List ℕ) (ts : List Token) (bytes left : List ℕ) → EndsIn source bytes → Fronts (length source) bytes ts left → AllStand source ts
 all_stand source [] bytes left ends p = tt

@@ -2,6 +2,7 @@
 use Rattle.std.proofs.Common.{◌≡◌, ℕ, Bool, true, false, Option, Some, None, List, [], ◌∷◌, ◌++◌, refl, sym, ◌∙◌, ap, append_assoc}
 use Rattle.std.specs.List.{fold}
 use Rattle.std.proofs.lemmas.List.{append-nil}
+use Rattle.std.proofs.lemmas.List.Sums.{fold-append}
 use Rattle.crs_text.specs.Tokens.{Kind, number, text, word, Token, single, comma, opening, closing}
 use Rattle.crs_text.specs.Items.{Item, leaf, Siblings, More, tokens, others_tokens}
 use Rattle.crs_text.specs.State.{Frame, State, wants, worded, after, gather, only_if, same_square, behind_leaf, behind_item, step, move, run, before_tokens, frames_tokens, unread}
@@ -12,9 +13,8 @@ only_if-some false s n e = cc
 
 pub same_square-true : (a b : Bool) → same_square a b ≡ true → a ≡ b
 same_square-true true true e = refl
-same_square-true true false e = cc
-same_square-true false true e = cc
 same_square-true false false e = refl
+same_square-true a b e = cc
 
 pub same_square-refl : (a : Bool) → same_square a a ≡ true
 same_square-refl true = refl
@@ -54,20 +54,32 @@ unread-step limit (worded place raw fs) (opening square) n e =
 unread-step limit (worded place raw fs) t n e = unread-behind (leaf word place raw) fs t n e
 unread-step limit (after item fs) t n e = unread-behind item fs t n e
 
-pub fold-none : (limit : ℕ) (ts : List Token) → fold (move limit) None ts ≡ None
+fold-none : (limit : ℕ) (ts : List Token) → fold (move limit) None ts ≡ None
 fold-none limit [] = refl
 fold-none limit (t ∷ ts) = fold-none limit ts
 
-unread-more : (limit : ℕ) (s : State) (t : Token) (ts : List Token) (n : State) → run limit s (t ∷ ts) ≡ Some n → (o : Option State) → step limit s t ≡ o →
-    ((m : State) → run limit m ts ≡ Some n → unread n ≡ unread m ++ ts) → unread n ≡ unread s ++ t ∷ ts
-unread-more limit s t ts n e None g next =
-    let h : fold (move limit) (step limit s t) ts ≡ fold (move limit) None ts = ap (λ o. fold (move limit) o ts) g in
-    let none = fold-none limit ts in
-    cc
-unread-more limit s t ts n e (Some m) g next =
-    let h : run limit m ts ≡ Some n = sym (ap (λ o. fold (move limit) o ts) g) ∙ e in
-    next m h ∙ ap (λ l. l ++ ts) (unread-step limit s t m g) ∙ append_assoc (unread s) (t ∷ []) ts
+pub run-cons : (limit : ℕ) (s : State) (t : Token) (n : State) (ts : List Token) → step limit s t ≡ Some n → run limit s (t ∷ ts) ≡ run limit n ts
+run-cons limit s t n ts e = ap (λ o. fold (move limit) o ts) e
+
+pub run-append : (limit : ℕ) (s n : State) (ts us : List Token) → run limit s ts ≡ Some n → run limit s (ts ++ us) ≡ run limit n us
+run-append limit s n ts us e = fold-append (move limit) (Some s) ts us ∙ ap (λ o. fold (move limit) o us) e
+
+-- what begins a list that is taken is taken
+pub run-front : (limit : ℕ) (s n : State) (ts us : List Token) → run limit s (ts ++ us) ≡ Some n → (m : State) × (run limit s ts ≡ Some m) × (run limit m us ≡ Some n)
+run-front limit s n ts us e = go (run limit s ts) refl
+  where
+    go : (o : Option State) → run limit s ts ≡ o → (m : State) × (run limit s ts ≡ Some m) × (run limit m us ≡ Some n)
+    go None g =
+        let h : fold (move limit) (Some s) (ts ++ us) ≡ fold (move limit) None us = fold-append (move limit) (Some s) ts us ∙ ap (λ o. fold (move limit) o us) g in
+        let none = fold-none limit us in
+        absurd (let k : None ≡ Some n = cc in cc)
+    go (Some m) g = (m, g, sym (run-append limit s m ts us g) ∙ e)
+
+pub run-some : (limit : ℕ) (s : State) (t : Token) (ts : List Token) (n : State) → run limit s (t ∷ ts) ≡ Some n → (m : State) × (step limit s t ≡ Some m) × (run limit m ts ≡ Some n)
+run-some limit s t ts n e = run-front limit s n (t ∷ []) ts e
 
 pub unread-run : (limit : ℕ) (ts : List Token) (s n : State) → run limit s ts ≡ Some n → unread n ≡ unread s ++ ts
 unread-run limit [] s n e = let h : s ≡ n = cc in rw (← h) (sym (append-nil _))
-unread-run limit (t ∷ ts) s n e = unread-more limit s t ts n e (step limit s t) refl (λ m h. unread-run limit ts m n h)
+unread-run limit (t ∷ ts) s n e =
+    let r = run-some limit s t ts n e in
+    unread-run limit ts r.0 n r.2 ∙ ap (λ l. l ++ ts) (unread-step limit s t r.0 r.1) ∙ append_assoc (unread s) (t ∷ []) ts

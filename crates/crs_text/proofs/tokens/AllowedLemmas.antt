@@ -8,9 +8,9 @@ use Rattle.crs_text.specs.Tokens.{word, Token, single, comma, opening, closing}
 use Rattle.crs_text.specs.Items.{Item, leaf, node, Siblings, End, More, tokens, others_tokens, depth}
 use Rattle.crs_text.specs.Viable.{IsViable, IsViableAtAnyDepth, open_after, opens, last_of, GoesOn, IsOpening, MayFollow, Allows, IsFull}
 use Rattle.crs_text.specs.State.{Frame, State, wants, worded, after, start, gather, only_if, behind_leaf, behind_item, step, run, before_tokens, frames_tokens, unread}
-use Rattle.crs_text.proofs.rows.StateLemmas.{only_if-some, same_square-true, same_square-refl, unread-run}
-use Rattle.crs_text.proofs.rows.LimitLemmas.{AreSound, IsSound, run-cons, run-some, sound-run}
-use Rattle.crs_text.proofs.tokens.ViableLemmas.{node_tokens, step-opening, run-append, taken, completed, viable_from_run, run_from_viable}
+use Rattle.crs_text.proofs.rows.StateLemmas.{only_if-some, same_square-true, same_square-refl, unread-run, run-cons, run-some, run-append}
+use Rattle.crs_text.proofs.rows.LimitLemmas.{AreSound, IsSound, sound-run}
+use Rattle.crs_text.proofs.tokens.ViableLemmas.{node_tokens, step-opening, taken, completed, viable_from_run, run_from_viable}
 
 mutual
   -- the tokens of an item leave open what is

@@ -1,15 +1,13 @@
 -- The tokens of an item are taken one by one, every state can be completed, and so viable tokens are those that are taken.
-use Rattle.std.proofs.Common.{◌≡◌, ℕ, suc, ◌+◌, ◌≤◌, ◌<◌, Bool, true, Option, Some, None, List, [], ◌∷◌, ◌++◌, length, refl, sym, ◌∙◌, ap, append_assoc, arith}
-use Rattle.std.specs.List.{fold}
+use Rattle.std.proofs.Common.{◌≡◌, ℕ, suc, ◌+◌, ◌≤◌, ◌<◌, Bool, true, Some, List, [], ◌∷◌, ◌++◌, length, refl, sym, ◌∙◌, ap, append_assoc, arith}
 use Rattle.std.proofs.lemmas.Bool.{lt-ltb}
 use Rattle.std.proofs.lemmas.List.{append-nil}
-use Rattle.std.proofs.lemmas.List.Sums.{fold-append}
 use Rattle.crs_text.specs.Tokens.{number, text, word, Token, single, comma, opening, closing}
 use Rattle.crs_text.specs.Items.{Item, leaf, node, Siblings, End, More, tokens, others_tokens, depth, depths, IsNode, AreNode}
 use Rattle.crs_text.specs.Viable.{IsViable}
-use Rattle.crs_text.specs.State.{Frame, State, wants, worded, after, start, gather, behind_leaf, step, move, run}
-use Rattle.crs_text.proofs.rows.StateLemmas.{same_square-refl, fold-none, unread-run}
-use Rattle.crs_text.proofs.rows.LimitLemmas.{run-cons, sound-run}
+use Rattle.crs_text.specs.State.{Frame, State, wants, worded, after, start, gather, behind_leaf, step, run}
+use Rattle.crs_text.proofs.rows.StateLemmas.{same_square-refl, unread-run, run-cons, run-append, run-front}
+use Rattle.crs_text.proofs.rows.LimitLemmas.{sound-run}
 
 abbrev pub IsInPlace : List Frame → Item → Type 0
 IsInPlace [] item = IsNode item
@@ -80,20 +78,6 @@ run-node limit item h d =
     ap (λ ts. run limit start ts) (sym (append-nil (tokens item)))
     ∙ run-item item limit [] [] h (omega arith)
     ∙ ap (λ s. Some s) (ended-node item [] h)
-
-pub run-append : (limit : ℕ) (s n : State) (ts us : List Token) → run limit s ts ≡ Some n → run limit s (ts ++ us) ≡ run limit n us
-run-append limit s n ts us e = fold-append (move limit) (Some s) ts us ∙ ap (λ o. fold (move limit) o us) e
-
--- what begins a list that is taken is taken
-pub run-front : (limit : ℕ) (s n : State) (ts us : List Token) → run limit s (ts ++ us) ≡ Some n → (m : State) × (run limit s ts ≡ Some m) × (run limit m us ≡ Some n)
-run-front limit s n ts us e = go (run limit s ts) refl
-  where
-    go : (o : Option State) → run limit s ts ≡ o → (m : State) × (run limit s ts ≡ Some m) × (run limit m us ≡ Some n)
-    go None g =
-        let h : fold (move limit) (Some s) (ts ++ us) ≡ fold (move limit) None us = fold-append (move limit) (Some s) ts us ∙ ap (λ o. fold (move limit) o us) g in
-        let none = fold-none limit us in
-        absurd (let k : None ≡ Some n = cc in cc)
-    go (Some m) g = (m, g, sym (run-append limit s m ts us g) ∙ e)
 
 -- some tokens close what is open
 abbrev pub Completes : ℕ → State → Type 0
