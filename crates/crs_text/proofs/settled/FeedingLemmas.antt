@@ -38,6 +38,7 @@ use Rattle.crs_text.proofs.tokens.FrontsLemmas.{forms_some, at_once, dark_start,
 use Rattle.crs_text.proofs.rows.ShowsLemmas.{shows_start, viable_from_shows, shows_more}
 use Rattle.crs_text.proofs.tokens.ScanLemmas.{reached_first, number_at, word_at, text_at, comma_at, opening_at, closing_at, after_white}
 use Rattle.crs_text.proofs.settled.StayLemmas.{refuses_from_settled, fronts_from_settled, stop_some, through_front, all_append, fronts_longer, taken_so_far}
+use Rattle.crs_text.proofs.tokens.LexedLemmas.{prefix_taken}
 
 -- ---- runs
 
@@ -48,10 +49,7 @@ all_short test (x ∷ xs) lt =
     [ true ↦ λ k. all_short test xs (omega arith) | false ↦ λ k. refl ] lt
 
 pub all_full : (test : ℕ → Bool) (xs : List ℕ) → length xs ≤ prefix_len test xs → list_all test xs ≡ true
-all_full test [] le = refl
-all_full test (x ∷ xs) le =
-    elim (test x) as (λ v. suc (length xs) ≤ cond v (1 + prefix_len test xs) 0 → (v && list_all test xs) ≡ true)
-    [ true ↦ λ k. all_full test xs (omega arith) | false ↦ λ k. absurd (omega arith) ] le
+all_full test xs le = ap (list_all test) (sym (take_all (prefix_len test xs) xs le)) ∙ prefix_taken test xs
 
 abbrev pub RunRules : Type 0
 RunRules =

@@ -1,7 +1,7 @@
 -- A node that lies in a source with no white space between its tokens, and with square delimiters, is there in its written
 -- form.
 use Rattle.std.proofs.Common.{◌≡◌, ℕ, suc, ◌+◌, ◌≤◌, ◌<◌, Bool, true, false, List, [], ◌∷◌, ◌++◌, length, get_or, take, drop, refl, sym, ap, subst, ◌∙◌, append_assoc, arith}
-use Rattle.std.proofs.lemmas.List.{append-nil, length-append}
+use Rattle.std.proofs.lemmas.List.{append-nil, length-append, nil_from_length}
 use Rattle.std.proofs.Math.Seq.{drop-cons}
 use Rattle.crs_text.specs.Tokens.{number, text, word, Token, single, opening, closing, spelling, closing_byte, IsAfterWhite, Forms, Fronts}
 use Rattle.crs_text.specs.Items.{Item, leaf, node, Siblings, End, More, tokens, others_tokens, count, first_of, here, HasId}
@@ -47,10 +47,6 @@ record IsSpan (total : ℕ) (bytes : List ℕ) (ts : List Token) (close : ℕ) :
   least : length (bytes_of ts) ≤ length front
   whole : length front ≡ length (bytes_of ts) → front ≡ bytes_of ts
 
-none_by_length : (xs : List ℕ) → length xs ≡ 0 → xs ≡ []
-none_by_length [] e = refl
-none_by_length (x ∷ xs) e = absurd (omega (arith, e))
-
 span_more : (total close : ℕ) (t : Token) (ts : List Token) (bytes at rest : List ℕ) → IsAfterWhite bytes at → Forms total t at rest →
     IsSpan total rest ts close → IsSpan total bytes (t ∷ ts) close
 span_more total close t ts bytes at rest w f s = record {
@@ -66,7 +62,7 @@ span_more total close t ts bytes at rest w f s = record {
       let c = length-append (spelling t) (bytes_of ts) in
       let none : length w.white ≡ 0 = omega (arith, e, a, b, c, s.least) in
       let same : length s.front ≡ length (bytes_of ts) = omega (arith, e, a, b, c, s.least) in
-      ap (λ z. z ++ (spelling t ++ s.front)) (none_by_length w.white none) ∙ ap (λ z. spelling t ++ z) (s.whole same);
+      ap (λ z. z ++ (spelling t ++ s.front)) (nil_from_length w.white none) ∙ ap (λ z. spelling t ++ z) (s.whole same);
 }
 
 span_end : (total close : ℕ) (square : Bool) (at rest : List ℕ) → Forms total (closing close square) at rest → IsSpan total rest [] close

@@ -6,7 +6,7 @@ use Rattle.std.specs.Str.Lossy.{utf8_valid_len, utf8_error_len}
 use Rattle.std.proofs.lemmas.Bool.{cases_Bool, eqb-true, or_from}
 use Rattle.bstr.proofs.lemmas.LossyLemmas.{utf8_valid_len-cases}
 use Rattle.crs_decimal.specs.Prelude.{is_run_byte, is_run_start, HasForm, IsInBounds}
-use Rattle.crs_text.specs.Quoted.{IsInside, IsShut, BeginsWith, is_quote}
+use Rattle.crs_text.specs.Quoted.{IsInside, IsShut, BeginsWith, is_quote, doubled}
 use Rattle.crs_text.specs.Utf8.{IsLongestUtf8}
 use Rattle.crs_text.specs.Tokens.{Kind, number, text, word, Token, single, comma, opening, closing, is_letter, is_word_byte, Forms}
 use Rattle.crs_text.specs.Lexing.{StandsBefore}
@@ -21,36 +21,23 @@ use Rattle.crs_text.proofs.tokens.Utf8Lemmas.{IsUtf8Front-from, IsUtf8Front-cut,
 abbrev pub IsShutOrOpen : List ℕ → Type 0
 IsShutOrOpen after = ((raw rest : List ℕ) × IsShut after raw rest) ⊎ IsInside after
 
--- one more byte that is no quote
-past_byte : (c : ℕ) (cs : List ℕ) → eqb c 34 ≡ false → IsShutOrOpen cs → IsShutOrOpen (c ∷ cs)
-past_byte c cs e (inl (raw, rest, s)) = inl (
-  c ∷ raw,
+-- one more character, written so
+past : (c : ℕ) (written : List ℕ) → ((cs : List ℕ) → doubled (c ∷ cs) ≡ written ++ doubled cs) → (bs : List ℕ) → IsShutOrOpen bs → IsShutOrOpen (written ++ bs)
+past c written e bs (inl (raw, rest, s)) = inl (
+  written ++ raw,
   rest,
   record {
-    parts = ap (λ (z : List ℕ). c ∷ z) s.parts;
-    inside = (c ∷ s.inside.0, rw e (ap (λ (z : List ℕ). c ∷ z) s.inside.1));
+    parts = ap (λ z. written ++ z) s.parts ∙ sym (append_assoc written raw (34 ∷ rest));
+    inside = (c ∷ s.inside.0, ap (λ z. written ++ z) s.inside.1 ∙ sym (e s.inside.0));
     ends = s.ends;
   },
 )
-past_byte c cs e (inr (characters, d)) = inr (c ∷ characters, rw e (ap (λ (z : List ℕ). c ∷ z) d))
-
--- two quotes more
-past_quotes : (ds : List ℕ) → IsShutOrOpen ds → IsShutOrOpen (34 ∷ 34 ∷ ds)
-past_quotes ds (inl (raw, rest, s)) = inl (
-  34 ∷ 34 ∷ raw,
-  rest,
-  record {
-    parts = ap (λ (z : List ℕ). 34 ∷ 34 ∷ z) s.parts;
-    inside = (34 ∷ s.inside.0, ap (λ (z : List ℕ). 34 ∷ 34 ∷ z) s.inside.1);
-    ends = s.ends;
-  },
-)
-past_quotes ds (inr (characters, d)) = inr (34 ∷ characters, ap (λ (z : List ℕ). 34 ∷ 34 ∷ z) d)
+past c written e bs (inr (characters, d)) = inr (c ∷ characters, ap (λ z. written ++ z) d ∙ sym (e characters))
 
 at_quote : (cs : List ℕ) → IsShutOrOpen (drop 1 cs) → IsShutOrOpen (34 ∷ cs)
 at_quote [] next = inl ([], [], record { parts = refl; inside = ([], refl); ends = tt })
 at_quote (d ∷ ds) next = elim (cases_Bool (eqb d 34)) [
-  | inl e ↦ subst (λ z. IsShutOrOpen (34 ∷ z ∷ ds)) (sym (eqb-true d 34 e)) (past_quotes ds next)
+  | inl e ↦ subst (λ z. IsShutOrOpen (34 ∷ z ∷ ds)) (sym (eqb-true d 34 e)) (past 34 (34 ∷ 34 ∷ []) (λ cs. refl) ds next)
   | inr e ↦ inl ([], d ∷ ds, record { parts = refl; inside = ([], refl); ends = e })
 ]
 
@@ -61,7 +48,7 @@ shut_or_open_from (c ∷ cs) =
     let r = shut_or_open_from cs in (
       elim (cases_Bool (eqb c 34)) [
         | inl e ↦ subst (λ z. IsShutOrOpen (z ∷ cs)) (sym (eqb-true c 34 e)) (at_quote cs r.1)
-        | inr e ↦ past_byte c cs e r.0
+        | inr e ↦ past c (c ∷ []) (λ ds. rw e refl) cs r.0
       ],
       r.0,
     )

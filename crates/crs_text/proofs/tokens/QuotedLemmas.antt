@@ -1,12 +1,13 @@
 -- Where a run of bytes and where a quoted text ends.
-use Rattle.std.proofs.Common.{◌≡◌, ℕ, zero, suc, Option, Some, None, ◌+◌, ◌<◌, ◌≤◌, not, length, take, drop, get_or, add-one, Bool, true, false, cond, eqb, List, [], ◌∷◌, ◌++◌, refl, sym, ap, subst, ◌∙◌, arith}
+use Rattle.std.proofs.Common.{◌≡◌, ℕ, suc, Option, Some, None, ◌+◌, ◌<◌, ◌≤◌, not, length, take, drop, add-one, Bool, true, false, cond, eqb, List, [], ◌∷◌, ◌++◌, refl, sym, ap, subst, ◌∙◌, arith}
 use Rattle.std.specs.Prelude.{IsTrue, unwrap_or}
 use Rattle.bstr.specs.Find.{IsFirstByte, is_byte}
-use Rattle.std.proofs.lemmas.Bool.{eqb-true, and_parts}
+use Rattle.std.proofs.lemmas.Bool.{eqb-true, and_parts, false_from_ne_true}
 use Rattle.std.proofs.lemmas.List.{append-nil, length-drop, drop-drop, take-append-drop, take_all}
 use Rattle.std.proofs.Math.Seq.{take-add}
 use Rattle.std.specs.List.{list_all, prefix_len}
 use Rattle.std.proofs.Math.Numerals.{one-add}
+use Rattle.std.proofs.lemmas.List.Sums.{prefix_len_is}
 use Rattle.crs_text.specs.Quoted.{doubled, IsInside, StopsAt, is_quote, is_plain, IsShut}
 
 -- what two lists begin with, and what they go on with
@@ -111,24 +112,12 @@ first_quote (x ∷ xs) h =
       | false ↦ λ e k. let m : prefix_len is_plain xs < length xs = omega arith in rw (one-add, add-one) (rw add-one at (first_quote xs m))
     ] refl h
 
-plain_by_index : (xs : List ℕ) (k : ℕ) → k ≤ length xs → ((i : ℕ) → i < k → get_or xs i 0 ≡ 34 → ⊥) → (k < length xs → get_or xs k 0 ≡ 34) → k ≡ prefix_len is_plain xs
-plain_by_index [] k le before here = omega arith
-plain_by_index (x ∷ xs) zero le before here =
-    let h : x ≡ 34 = here (omega arith) in
-    sym (ap (λ v. cond (not v) (1 + prefix_len is_plain xs) 0) (ap (λ z. eqb z 34) h))
-plain_by_index (x ∷ xs) (suc k) le before here =
-    let le2 : k ≤ length xs = omega arith in
-    let r : k ≡ prefix_len is_plain xs = plain_by_index xs k le2 (λ i lt. before (suc i) (omega arith)) (λ lt. here (omega arith)) in
-    elim (eqb x 34) as (λ v. eqb x 34 ≡ v → suc k ≡ cond (not v) (1 + prefix_len is_plain xs) 0) [
-      | true ↦ λ e. absurd (before 0 (omega arith) (eqb-true x 34 e))
-      | false ↦ λ e. rw one-add (ap suc r)
-    ] refl
-
 pub plain_first : (xs : List ℕ) (r : Option ℕ) → IsFirstByte (is_byte 34) xs r → unwrap_or r (length xs) ≡ prefix_len is_plain xs
-plain_first xs None none = plain_by_index xs (length xs) (omega arith) (λ i lt e. none i (omega arith) lt (ap (λ z. eqb z 34) e)) (λ lt. absurd (omega arith))
+plain_first xs None none =
+    sym (prefix_len_is is_plain xs (length xs) 0 (omega arith) (λ i lt. ap not (false_from_ne_true _ (none i (omega arith) lt))) (λ lt. absurd (omega arith)))
 plain_first xs (Some k) found =
     let high : k < length xs = found.0.high in
-    plain_by_index xs k (omega arith) (λ i lt e. found.0.before i (omega arith) lt (ap (λ z. eqb z 34) e)) (λ lt. eqb-true _ 34 found.1)
+    sym (prefix_len_is is_plain xs k 0 (omega arith) (λ i lt. ap not (false_from_ne_true _ (found.0.before i (omega arith) lt))) (λ lt. ap not found.1))
 
 -- ---- the parts of the bytes after an opening quote
 

@@ -151,17 +151,9 @@ refused_at text at table r reached s = record {
 }
 
 pub refused_end : (text : List ℕ) (at : ℕ) (table : Flat) (r : RefusedAt) → IsReached text table at → length text ≤ at → is_whole table ≡ false → r.number ≡ reason_number UnexpectedEnd → r.place ≡ length text → RefusesText text r.number r.place
-refused_end text at table r reached le whole n p = record {
-  reason = UnexpectedEnd;
-  before = reached.tokens;
-  left = drop at text;
-  skip = 0;
-  fronts = reached.fronts;
-  viable = viable_from_shows reached.tokens table reached.shows;
-  stop = (drop_all at text le, not_whole_from_shows reached.tokens table reached.shows whole, refl);
-  is_number = n;
-  is_place = omega (arith, length-drop at text, p, le);
-}
+refused_end text at table r reached le whole n p =
+    refused_at text at table r reached
+    (stopped text at table r (omega (arith, p, le, reached.within)) UnexpectedEnd n (λ ts shows. (drop_all at text le, not_whole_from_shows ts table shows whole, refl)))
 
 pub spelled_whole : (text : List ℕ) (at : ℕ) (table : Flat) → IsReached text table at → length text ≤ at → is_whole table ≡ true → (item : Item) × SpellsNode text item × (table ≡ flat (after item []))
 spelled_whole text at table reached le whole =
