@@ -1,12 +1,12 @@
 use Rattle.std.proofs.Common.{ℕ, leb, cond, refl}
-use Rattle.std.proofs.lemmas.Simd.{zip2_splat}
+use Rattle.std.proofs.lemmas.Simd.{zip2_splat, zip2_of_maps, splat_is_map}
 use Rattle.crs_text.specs.Tokens.{is_letter}
-use Rattle.crs_text.proofs.tokens.RunLemmas.{joined, splat_is, counted}
+use Rattle.crs_text.proofs.tokens.RunLemmas.{counted}
 use Rattle.crs_text.proofs.runs.letter_lanes.Goals as goal
 
 pub returns : goal.returns
 returns c =
     let v = c.args.block in
     let long = c.fits-block.0 in
-    let letters = joined (λ a b. cond (leb a b) 255 0) _ _ v (splat_is v 16 26 long) (joined _ _ _ v (zip2_splat {Y = ℕ} _ v 16 32 long) (splat_is v 16 97 long)) in
+    let letters = zip2_of_maps (λ a b. cond (leb a b) 255 0) _ _ v (splat_is_map v 16 26 long) (zip2_of_maps _ _ _ v (zip2_splat {Y = ℕ} _ v 16 32 long) (splat_is_map v 16 97 long)) in
     counted is_letter _ v _ long c.fits-block.1 letters c.first_set.ensures refl
