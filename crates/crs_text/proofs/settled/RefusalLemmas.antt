@@ -7,7 +7,7 @@ use Rattle.crs_text.specs.Tokens.{Token, single}
 use Rattle.crs_text.specs.Table.{Flat}
 use Rattle.crs_text.specs.Rows.{Shows}
 use Rattle.crs_text.specs.declared.refusal.Reason.{Reason}
-use Rattle.crs_text.specs.declared.refusal.Reason.TheVariants.{BadCharacter, BadNumber, NumberRange, NotUtf8, Unexpected, TooDeep}
+use Rattle.crs_text.specs.declared.refusal.Reason.TheVariants.{BadCharacter, BadNumber, NumberRange, NotUtf8}
 use Rattle.crs_text.specs.TextFault.{reason_number, IsStop}
 use Rattle.crs_text.specs.Settled.{IsSettled, SettledFronts, IsRunSettled, IsSettledRefusal, IsTakenSoFar}
 use Rattle.crs_text.specs.Feeding.{IsFlawSettled, IsUnsettled}
@@ -15,7 +15,7 @@ use Rattle.crs_text.proofs.tokens.QuotedLemmas.{true_not_false}
 use Rattle.crs_text.proofs.rows.ShowsLemmas.{viable_from_shows}
 use Rattle.crs_text.proofs.tokens.ScanLemmas.{stop_flaw}
 use Rattle.crs_text.proofs.tokens.LeftLemmas.{DecidesNumbers}
-use Rattle.crs_text.proofs.texts.AnswerLemmas.{IsMisplaced, decided}
+use Rattle.crs_text.proofs.texts.AnswerLemmas.{decided}
 use Rattle.crs_text.proofs.settled.StayLemmas.{taken_so_far}
 use Rattle.crs_text.proofs.settled.FeedingLemmas.{AllSettled, token_all, flaw_all, settled_stop, token_held, flaw_held, nothing_held, fronts_more}
 
@@ -60,11 +60,6 @@ module _ (bytes : List ℕ) where
   held : (ts : List Token) (left : List ℕ) (table : Flat) → SettledFronts (length bytes) bytes ts left → Shows ts table → IsUnsettled (length bytes) ts left → IsSettledEither bytes
   held ts left table fronts shows h = inr (taken_so_far bytes ts left fronts (viable_from_shows ts table shows) h)
 
-  at_misplaced : (ts : List Token) (left : List ℕ) (table : Flat) → left ≢ [] → length left ≤ length bytes → SettledFronts (length bytes) bytes ts left → Shows ts table
-      → AllSettled (length bytes) left → IsMisplaced (length bytes) ts left → IsSettledEither bytes
-  at_misplaced ts left table some within fronts shows all (inl stop) = refused Unexpected ts left 0 table some within fronts shows all stop
-  at_misplaced ts left table some within fronts shows all (inr stop) = refused TooDeep ts left 0 table some within fronts shows all stop
-
 pub settled_either : DecidesNumbers → (bytes : List ℕ) → IsSettledEither bytes
 settled_either decides bytes =
     decided bytes (IsSettledEither bytes) (SettledFronts (length bytes) bytes) (λ left w. w)
@@ -75,7 +70,7 @@ settled_either decides bytes =
     ])
     (λ ts left rest table t some within fronts shows f. elim (settled_or_not t rest) [
       | inl s ↦ inr (
-        at_misplaced bytes ts left table some within fronts shows (token_all (length bytes) left t rest f s),
+        λ m. refused bytes m.0 ts left 0 table some within fronts shows (token_all (length bytes) left t rest f s) m.1,
         λ far w. fronts_more (length bytes) ts bytes left rest far t fronts (record { forms = f; settled = s }) w,
       )
       | inr not ↦ inl (held bytes ts left table fronts shows (token_held (length bytes) left ts t rest f not))

@@ -24,12 +24,12 @@ IsEither bytes = ((item : Item) × SpellsNode bytes item) ⊎ ((n place : ℕ) �
 
 -- ---- where it stops
 
-pub after_white_shorter : (bytes left : List ℕ) → IsAfterWhite bytes left → length left ≤ length bytes
+after_white_shorter : (bytes left : List ℕ) → IsAfterWhite bytes left → length left ≤ length bytes
 after_white_shorter bytes left w = omega (arith, ap length w.parts, length-append w.white left)
 
 -- a token that the table doesn't take is one too many, or unexpected
 abbrev pub IsMisplaced : ℕ → List Token → List ℕ → Type 0
-IsMisplaced total ts left = IsStop Unexpected total ts left 0 ⊎ IsStop TooDeep total ts left 0
+IsMisplaced total ts left = (r : Reason) × IsStop r total ts left 0
 
 misplaced : (total : ℕ) (ts : List Token) (left rest : List ℕ) (table : Flat) (t : Token) → Shows ts table → Forms total t left rest → flat_step table t ≡ None → IsMisplaced total ts left
 misplaced total ts left rest table (opening square) shows f none = by table.position refl
@@ -38,9 +38,9 @@ misplaced total ts left rest table (opening square) shows f none = by table.posi
     not = not_viable_from_shows ts table (opening square) shows none
 
     by : (position : Position) → table.position ≡ position → IsMisplaced total ts left
-    by AfterWord e = inr (opening square, rest, f, (deep_from_shows ts table square shows e, not), refl)
-    by position e = inl (opening square, rest, f, not, λ deep. refused_from_shows ts table square shows (λ is_word. let h = sym is_word ∙ e in cc) deep.0, refl)
-misplaced total ts left rest table t shows f none = inl (t, rest, f, not_viable_from_shows ts table t shows none, λ h. h, refl)
+    by AfterWord e = (TooDeep, (opening square, rest, f, (deep_from_shows ts table square shows e, not), refl))
+    by position e = (Unexpected, (opening square, rest, f, not, λ deep. refused_from_shows ts table square shows (λ is_word. let h = sym is_word ∙ e in cc) deep.0, refl))
+misplaced total ts left rest table t shows f none = (Unexpected, (t, rest, f, not_viable_from_shows ts table t shows none, λ h. h, refl))
 
 -- ---- token by token
 
@@ -112,16 +112,11 @@ module _ (bytes : List ℕ) where
     | inr part ↦ refused UnexpectedEnd ts [] 0 table (omega arith) fronts shows (refl, not_whole_from_shows ts table shows part, refl)
   ]
 
-  at_misplaced : (ts : List Token) (left : List ℕ) (table : Flat) → length left ≤ length bytes → Fronts (length bytes) bytes ts left → Shows ts table
-      → IsMisplaced (length bytes) ts left → IsEither bytes
-  at_misplaced ts left table within fronts shows (inl stop) = refused Unexpected ts left 0 table within fronts shows stop
-  at_misplaced ts left table within fronts shows (inr stop) = refused TooDeep ts left 0 table within fronts shows stop
-
 -- each list of bytes is one node, or is refused with some number at some place
 pub either : DecidesNumbers → (bytes : List ℕ) → ((item : Item) × SpellsNode bytes item) ⊎ ((n place : ℕ) × RefusesText bytes n place)
 either decides bytes =
     decided bytes (IsEither bytes) (Fronts (length bytes) bytes) (λ left w. w) (at_end bytes)
     (λ ts left table r k some within fronts shows f. refused bytes r ts left k table within fronts shows (stop_flaw r (length bytes) ts left k f))
     (λ ts left rest table t some within fronts shows f.
-    inr (at_misplaced bytes ts left table within fronts shows, λ far w. fronts_more (length bytes) ts bytes left rest far t fronts f w))
+    inr (λ m. refused bytes m.0 ts left 0 table within fronts shows m.1, λ far w. fronts_more (length bytes) ts bytes left rest far t fronts f w))
     decides
