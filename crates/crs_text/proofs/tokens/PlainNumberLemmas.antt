@@ -85,9 +85,7 @@ fraction_short None = omega arith
 fraction_short (Some ds) = omega arith
 
 joined : (left sign whole fraction rest one two : List ℕ) → left ≡ sign ++ one → one ≡ whole ++ two → two ≡ fraction ++ rest → left ≡ (((sign ++ whole) ++ fraction) ++ []) ++ rest
-joined left sign whole fraction rest one two a b c =
-    a ∙ ap (λ z. sign ++ z) (b ∙ ap (λ z. whole ++ z) c) ∙ sym (append_assoc sign whole (fraction ++ rest)) ∙ sym (append_assoc (sign ++ whole) fraction rest)
-    ∙ ap (λ z. z ++ rest) (sym (append-nil ((sign ++ whole) ++ fraction)))
+joined left sign whole fraction rest one two a b c = rw (a, b, c) (simp (append_assoc, append-nil))
 
 pub plain_lexed : (left : List ℕ) (s w f : ℕ) → IsSigned left s → w ≡ prefix_len is_digit (drop s left) → 0 < w → IsFractional (drop w (drop s left)) f → w + f ≤ 38
     → StopsAt is_run_byte (drop f (drop w (drop s left))) → IsLexed left (Number (s + w + f))

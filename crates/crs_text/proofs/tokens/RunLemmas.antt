@@ -1,13 +1,14 @@
 -- From sixteen lanes to the length of a run, and what quoted ASCII is.
-use Rattle.std.proofs.Common.{◌≡◌, ℕ, ◌+◌, ◌%◌, ◌^◌, ◌<◌, ◌≤◌, Bool, true, false, not, cond, eqb, List, [], ◌∷◌, ◌++◌, map, length, take, drop, Fits, w8, refl, sym, ap, ap₂, subst, ◌∙◌, arith, IsUtf8}
+use Rattle.std.proofs.Common.{◌≡◌, ℕ, ◌+◌, ◌%◌, ◌^◌, ◌<◌, ◌≤◌, Bool, true, false, not, cond, eqb, List, [], ◌∷◌, ◌++◌, map, length, take, drop, Fits, w8, refl, sym, ap, ap₂, subst, ◌∙◌, arith, IsUtf8, get_or}
 use Rattle.std.proofs.lemmas.Bool.{agree_below, agree_below_at, eq-eqb, ne_eqb, and_parts, ltb-true}
 use Rattle.std.proofs.lemmas.Simd.{map-map, mask_l-mod, length-chunk, chunk-drop, first_set_mask_l}
 use Rattle.std.proofs.lemmas.List.{length-map, length-drop, drop-drop}
 use Rattle.std.proofs.lemmas.List.Folds.{prefix_len-append}
-use Rattle.std.proofs.lemmas.List.Sums.{prefix_len-le-length}
+use Rattle.std.proofs.lemmas.List.Sums.{prefix_len-le-length, prefix_len_is, prefix_len_passes}
 use Rattle.std.proofs.lemmas.Str.{IsUtf8-from_ascii}
 use Rattle.std.proofs.lemmas.Str.Ascii.{IsAscii-nil, IsAscii-cons}
 use Rattle.std.proofs.Math.Numerals.{one-add}
+use Rattle.std.proofs.Math.Seq.{drop-cons}
 use Rattle.std.specs.Str.{IsAscii}
 use Rattle.std.specs.Char.{is_ascii}
 use Rattle.std.specs.List.{prefix_len}
@@ -15,7 +16,7 @@ use lib.Lanes.{chunk, mask_l, top, Each1}
 use Rattle.crs_text.specs.Tokens.{is_letter, is_word_byte}
 use Rattle.crs_text.specs.Quoted.{IsShutAt, StopsAt, is_plain, is_quote}
 use Rattle.crs_text.specs.Runs.{first_set, is_plain_ascii, IsClosing}
-use Rattle.crs_text.proofs.tokens.QuotedLemmas.{shut_at, within_at}
+use Rattle.crs_text.proofs.tokens.QuotedLemmas.{shut_at, within_at, same_head}
 use Rattle.crs_text.proofs.tokens.TokenLemmas.{letter_in_word}
 use Rattle.crs_text.proofs.tokens.Utf8Lemmas.{IsUtf8-at_quote}
 
@@ -72,29 +73,19 @@ module _ (q : ℕ → Bool) (d : List ℕ) (at count : ℕ) (before : IsRunTo q 
 
 -- letters up to a byte that is in no word are the word
 pub letters_are_word : (xs : List ℕ) → StopsAt is_word_byte (drop (prefix_len is_letter xs) xs) → prefix_len is_letter xs ≡ prefix_len is_word_byte xs
-letters_are_word [] e = refl
-letters_are_word (x ∷ xs) e =
-    elim (is_letter x) as (λ v. is_letter x ≡ v → StopsAt is_word_byte (drop (cond v (1 + prefix_len is_letter xs) 0) (x ∷ xs)) → cond v (1 + prefix_len is_letter xs) 0 ≡ prefix_len is_word_byte (x ∷ xs)) [
-      | true ↦ λ t h.
-          let f : StopsAt is_word_byte (drop (prefix_len is_letter xs) xs) = rw one-add at h in
-          ap₂ (λ b n. cond b (1 + n) 0) (sym (letter_in_word x t)) (letters_are_word xs f)
-      | false ↦ λ t h. sym (ap (λ b. cond b (1 + prefix_len is_word_byte xs) 0) h)
-    ] refl e
+letters_are_word xs e =
+    let n = prefix_len is_letter xs in
+    sym (prefix_len_is is_word_byte xs n 0 (prefix_len-le-length is_letter xs) (λ k lt. letter_in_word (get_or xs k 0) (prefix_len_passes is_letter xs k 0 lt))
+    (λ lt. subst (StopsAt is_word_byte) (drop-cons xs n 0 lt) e))
 
 -- ---- quoted ASCII
 
 -- where a quote ends the plain ASCII, it ends all that is plain
 plain_to_quote : (xs tail : List ℕ) → drop (prefix_len is_plain_ascii xs) xs ≡ 34 ∷ tail → prefix_len is_plain_ascii xs ≡ prefix_len is_plain xs
-plain_to_quote [] tail e = refl
-plain_to_quote (x ∷ xs) tail e =
-    elim (is_plain_ascii x) as (λ v. is_plain_ascii x ≡ v → drop (cond v (1 + prefix_len is_plain_ascii xs) 0) (x ∷ xs) ≡ 34 ∷ tail → cond v (1 + prefix_len is_plain_ascii xs) 0 ≡ prefix_len is_plain (x ∷ xs)) [
-      | true ↦ λ t h.
-          let f : drop (prefix_len is_plain_ascii xs) xs ≡ 34 ∷ tail = rw one-add at h in
-          ap₂ (λ b n. cond b (1 + n) 0) (sym (and_parts (is_plain x) (is_ascii x) t).0) (plain_to_quote xs tail f)
-      | false ↦ λ t h.
-          let q : x ≡ 34 = cc in
-          sym (ap (λ b. cond (not b) (1 + prefix_len is_plain xs) 0) (ap (λ z. eqb z 34) q))
-    ] refl e
+plain_to_quote xs tail e =
+    let n = prefix_len is_plain_ascii xs in
+    sym (prefix_len_is is_plain xs n 0 (prefix_len-le-length is_plain_ascii xs) (λ k lt. (and_parts _ _ (prefix_len_passes is_plain_ascii xs k 0 lt)).0)
+    (λ lt. let q : get_or xs n 0 ≡ 34 = same_head _ _ _ _ (sym (drop-cons xs n 0 lt) ∙ e) in ap is_plain q))
 
 plain_is_ascii : (xs : List ℕ) → IsAscii (take (prefix_len is_plain_ascii xs) xs)
 plain_is_ascii [] = IsAscii-nil
