@@ -250,14 +250,14 @@ settled_longer bytes more n place r =
 
 -- ---- where nothing more is settled
 
--- of settled tokens, the one where some of them end is settled there
-settled_behind : (total : ℕ) (us : List Token) (t : Token) (more : List Token) (bytes a b : List ℕ) → Fronts total bytes us a → SettledFronts total bytes (us ++ t ∷ more) b
+-- among settled tokens, the one that comes where some of them ended is settled
+settled_where_ended : (total : ℕ) (us : List Token) (t : Token) (more : List Token) (bytes a b : List ℕ) → Fronts total bytes us a → SettledFronts total bytes (us ++ t ∷ more) b
     → (rest : List ℕ) × FormsSettled total t a rest
-settled_behind total [] t more bytes a b p q = let h : q.0 ≡ a = after_white_one bytes q.0 a q.2 p in (q.1, subst (λ z. FormsSettled total t z q.1) h q.3)
-settled_behind total (u ∷ us) t more bytes a b p q =
+settled_where_ended total [] t more bytes a b p q = let h : q.0 ≡ a = after_white_one bytes q.0 a q.2 p in (q.1, subst (λ z. FormsSettled total t z q.1) h q.3)
+settled_where_ended total (u ∷ us) t more bytes a b p q =
     let h : q.0 ≡ p.0 = after_white_one bytes q.0 p.0 q.2 p.2 in
     let r = Forms-one total u u p.0 p.1 q.1 p.3 (subst (λ z. Forms total u z q.1) h q.3.forms) in
-    settled_behind total us t more p.1 a b p.4 (subst (λ z. SettledFronts total z (us ++ t ∷ more) b) (sym r.1) q.4)
+    settled_where_ended total us t more p.1 a b p.4 (subst (λ z. SettledFronts total z (us ++ t ∷ more) b) (sym r.1) q.4)
 
 module _ (bytes : List ℕ) (ts : List Token) (left : List ℕ) (fronts : SettledFronts (length bytes) bytes ts left) (viable : IsViable ts) (held : IsUnsettled (length bytes) ts left) where
   before : Fronts (length bytes) bytes ts left
@@ -265,7 +265,7 @@ module _ (bytes : List ℕ) (ts : List Token) (left : List ℕ) (fronts : Settle
 
   none_ahead : (us : List Token) (t : Token) (more : List Token) (b : List ℕ) → us ≡ ts ++ t ∷ more → SettledFronts (length bytes) bytes us b → ⊥
   none_ahead us t more b e q =
-      let g = settled_behind (length bytes) ts t more bytes left b before (subst (λ z. SettledFronts (length bytes) bytes z b) e q) in held.no_token t g.0 g.1
+      let g = settled_where_ended (length bytes) ts t more bytes left b before (subst (λ z. SettledFronts (length bytes) bytes z b) e q) in held.no_token t g.0 g.1
 
   held_viable : (us : List Token) (b : List ℕ) → SettledFronts (length bytes) bytes us b → IsViable us
   held_viable us b q = elim (fronts_compare (length bytes) ts us bytes left b before (fronts_from_settled (length bytes) us bytes b q)) [
