@@ -1,5 +1,5 @@
 -- A line that the command takes asks for something.
-use Rattle.std.proofs.Common.{◌≡◌, ◌≢◌, List, [], ◌∷◌, Option, Some, None, IsSome, Bool, true, false, ◌||◌, inl, inr, cond, ap, ◌∙◌, refl, subst, sym, is_some, option_and_then, option_map, find}
+use Rattle.std.proofs.Common.{◌≡◌, ◌≢◌, List, [], ◌∷◌, Option, Some, None, IsSome, Bool, true, false, inl, inr, cond, ap, ◌∙◌, refl, subst, sym, is_some, option_and_then, option_map, find}
 use Rattle.std.specs.Option.{option_map_or}
 use Rattle.std.proofs.Math.Bool.{or-false}
 use Rattle.clap.specs.Words.{App, HasKind, HasMatchesOf, IsAmong, Row, Shape, Text, app_of, built, fault_of, is_simple, is_simple_and_free, kind_of, subcommand_of, subcommand_rows_of, takes}
@@ -62,10 +62,7 @@ stop_asks (Some stop) free passes some =
           (λ answers taken. refl),
           (
             (λ answers taken. same_asks stop.1 taken),
-            (
-              (λ answers taken. refl),
-              ((λ answers taken. absurd (answers_help stop.0 free (sym (or-false _) ∙ answers))), tt),
-            ),
+            ((λ answers taken. refl), ((λ answers taken. absurd (answers_help stop.0 free (sym (or-false _) ∙ answers))), tt)),
           ),
         ),
       ),

@@ -5,14 +5,13 @@ use Rattle.std.specs.Option.{option_map_or}
 use Rattle.std.specs.Str.{bytes_eq, chars}
 use Rattle.std.proofs.lemmas.Bool.{eqb-true, le-leb, ltb-false, and_from}
 use Rattle.clap.specs.declared.builder.action.ArgAction.{ArgAction}
-use Rattle.clap.specs.declared.builder.action.ArgAction.TheVariants.{Set, Append, SetTrue, SetFalse, Count, Help, HelpShort, HelpLong, Version}
 use Rattle.clap.specs.declared.error.kind.ErrorKind.{ErrorKind}
 use Rattle.clap.specs.declared.error.kind.ErrorKind.TheVariants as kind
 use Rattle.clap.specs.Facts.{explicit_source, unwrap_or_range}
 use Rattle.clap.specs.Lexer.{long_of, short_of}
 use Rattle.clap.specs.Words.{App, Kinds, Row, Rule, Shape, Text, built, fault_of, is_simple, takes}
 use Rattle.clap.specs.Simple.{argument_words, entered, label_of, names_of}
-use Rattle.clap.specs.Walk.{Held, Names, Step, Waiting, Walk, next, trailing, subcommand, value, action_of, answers_to, arg_by_id, arg_by_index, arg_by_long, arg_by_short, attached_value, finished, has_row, is_pending, most_values, nothing_held, reacted, settled, subcommand_met, takes_several, takes_values, values_or_missing, walk, walk_from, walked, word_met}
+use Rattle.clap.specs.Walk.{Held, Names, Step, Waiting, Walk, action_of, answers_to, arg_by_id, arg_by_index, arg_by_long, arg_by_short, attached_value, finished, has_row, is_pending, most_values, nothing_held, reacted, settled, subcommand_met, takes_several, takes_values, values_or_missing, walk, walk_from, walked, word_met}
 use Rattle.clap.specs.Takes.{action_passes, bundle_step_passes, bundle_passes, count_passes, default_passes, entered_passes, flag_word_passes, flags_pass, is_given, is_valid, level_passes, long_passes, option_passes, other_passes, positional_passes, react_passes, set_passes, settle_passes, short_passes, step_passes, turn_passes, use_passes, value_passes, values_pass, walk_passes, word_passes}
 use Rattle.clap.specs.Kinds.{or_else, range_kinds}
 use Rattle.clap.specs.Faults.{action_fault, bundle_step_fault, bundle_fault, check_fault, count_fault, entered_fault, flag_word_fault, flags_fault, has_free_rules, level_fault, long_fault, option_fault, other_fault, positional_fault, react_fault, set_fault, settle_fault, short_fault, step_fault, turn_fault, use_fault, values_fault, walk_fault, word_fault}
@@ -21,35 +20,27 @@ use Rattle.crs_command_line.specs.CommandLine.{desk}
 -- ---- what fails by neither of two steps
 
 first_none : (first second : Kinds) → or_else first second ≡ [] → first ≡ []
-first_none [] second none = refl
-first_none (k ∷ ks) second none = none
+first_none first second none = grind arith
 
 second_none : (first second : Kinds) → or_else first second ≡ [] → second ≡ []
-second_none [] second none = none
-second_none (k ∷ ks) second none = cc
+second_none first second none = grind arith
 
 -- a kind of error comes unless the test holds
 test_holds : (is : Bool) (k : ErrorKind) → cond is [] (k ∷ []) ≡ [] → is ≡ true
-test_holds true k none = refl
-test_holds false k none = cc
+test_holds is k none = grind arith
 
 -- kinds of error come where the test holds, but for an exception
 is_excused : (is excused : Bool) (k : ErrorKind) (ks : Kinds) → cond (is && not excused) (k ∷ ks) [] ≡ [] → (not is || excused) ≡ true
-is_excused true true k ks none = refl
-is_excused true false k ks none = cc
-is_excused false excused k ks none = refl
+is_excused is excused k ks none = grind arith
 
 passes_either : (b : Bool) (f g : Kinds) (p q : Bool) → (f ≡ [] → p ≡ true) → (g ≡ [] → q ≡ true) → cond b f g ≡ [] → cond b p q ≡ true
-passes_either true f g p q left right none = left none
-passes_either false f g p q left right none = right none
+passes_either b f g p q left right none = grind arith
 
 passes_unless : (b : Bool) (f : Kinds) (p : Bool) → (f ≡ [] → p ≡ true) → cond b [] f ≡ [] → (b || p) ≡ true
-passes_unless true f p passes none = refl
-passes_unless false f p passes none = passes none
+passes_unless b f p passes none = grind arith
 
 passes_if_none : (b : Bool) (k : ErrorKind) (f : Kinds) (p : Bool) → (f ≡ [] → p ≡ true) → cond b (k ∷ []) f ≡ [] → (not b && p) ≡ true
-passes_if_none true k f p passes none = cc
-passes_if_none false k f p passes none = passes none
+passes_if_none b k f p passes none = grind arith
 
 passes_where_some : {X : Type 0} (fault : X → Kinds) (passes : X → Bool) (found : Option X)
     → ((x : X) → fault x ≡ [] → passes x ≡ true) → option_map_or fault found [] ≡ [] → option_map_or passes found true ≡ true
@@ -73,26 +64,13 @@ count_taken a (v ∷ vs) rows none = values_taken a (v ∷ vs) none
 
 action_taken : (x : ArgAction) (again : Bool) (a : Rule) (values : List Text) (rows : List Row)
     → action_fault x again a values rows ≡ [] → action_passes x again a values rows ≡ true
-action_taken Set again a values rows none = set_taken again a values rows none
-action_taken SetTrue again a values rows none = set_taken again a values rows none
-action_taken SetFalse again a values rows none = set_taken again a values rows none
-action_taken Append again a values rows none = values_taken a values none
-action_taken Count again a values rows none = count_taken a values rows none
-action_taken Help again a values rows none = cc
-action_taken HelpShort again a values rows none = cc
-action_taken HelpLong again a values rows none = cc
-action_taken Version again a values rows none = cc
+action_taken x again a values rows none = grind (arith, set_taken again a values rows, values_taken a values, count_taken a values rows)
 
 -- none of the tests of a number of values failed
 range_tests : (empty same exact few many : Bool) (k l m n : ErrorKind)
     → cond empty (k ∷ []) (cond same (cond exact [] (l ∷ [])) (cond few (m ∷ []) (cond many (n ∷ []) []))) ≡ []
     → ((same ≡ true) × (exact ≡ true)) ⊎ ((few ≡ false) × (many ≡ false))
-range_tests true same exact few many k l m n none = cc
-range_tests false true true few many k l m n none = inl (refl, refl)
-range_tests false true false few many k l m n none = cc
-range_tests false false exact true many k l m n none = cc
-range_tests false false exact false true k l m n none = cc
-range_tests false false exact false false k l m n none = inr (refl, refl)
+range_tests empty same exact few many k l m n none = grind arith
 
 range_taken : (least most n : ℕ) → range_kinds least most n ≡ [] → (nat_le least n ≡ true) × (nat_le n most ≡ true)
 range_taken least most n none =
@@ -172,8 +150,7 @@ word_taken s names is_trailing waiting word h none =
     passes_unless is_trailing _ _ (other_taken s (subcommand_met names waiting word) word h) none
 
 stray_fails : (is_leaf : Bool) (k : ErrorKind) (ks ls : Kinds) → cond is_leaf (k ∷ ks) (k ∷ ls) ≡ [] → ⊥
-stray_fails true k ks ls none = cc
-stray_fails false k ks ls none = cc
+stray_fails is_leaf k ks ls none = grind arith
 
 positional_taken : (s : Shape) (found : Option Rule) (h : Held)
     → option_map_or (λ a. positional_fault s.rules s.args_override_self a h) found
@@ -184,10 +161,7 @@ positional_taken s (Some a) h none =
     passes_unless (is_pending a h.pending && takes_several a) _ _ (settle_taken s.rules s.args_override_self h) none
 
 step_taken : (s : Shape) (position : ℕ) (h : Held) (step : Step) → step_fault s position h step ≡ [] → step_passes s position h step ≡ true
-step_taken s position h (next waiting) none = refl
-step_taken s position h (trailing at) none = refl
-step_taken s position h (subcommand name) none = refl
-step_taken s position h value none = positional_taken s (arg_by_index s.rules position) h none
+step_taken s position h step none = grind (arith, positional_taken s (arg_by_index s.rules position) h)
 
 turn_taken : (s : Shape) (names : Names) (w : Walk) (word : Text) → turn_fault s names w word ≡ [] → turn_passes s names w word ≡ true
 turn_taken s names w word none =
@@ -209,30 +183,7 @@ walk_taken s names w (word ∷ words) none =
 last_tests : (has help given required free negates missing : Bool) (k l m : ErrorKind) → free ≡ true
     → cond (not has && (help && not given)) (k ∷ []) (cond (not has && required) (l ∷ []) (cond (not (negates && has) && missing) (m ∷ []) [])) ≡ []
     → ((not help || (has || given)) && ((not required || has) && (free && ((negates && has) || not missing)))) ≡ true
-last_tests has help given required false negates missing k l m is none = cc
-last_tests true true given true true true missing k l m is none = refl
-last_tests true true given false true true missing k l m is none = refl
-last_tests true false given true true true missing k l m is none = refl
-last_tests true false given false true true missing k l m is none = refl
-last_tests true true given true true false true k l m is none = cc
-last_tests true true given true true false false k l m is none = refl
-last_tests true true given false true false true k l m is none = cc
-last_tests true true given false true false false k l m is none = refl
-last_tests true false given true true false true k l m is none = cc
-last_tests true false given true true false false k l m is none = refl
-last_tests true false given false true false true k l m is none = cc
-last_tests true false given false true false false k l m is none = refl
-last_tests false true false required true negates missing k l m is none = cc
-last_tests false true true true true negates missing k l m is none = cc
-last_tests false true true false true true true k l m is none = cc
-last_tests false true true false true true false k l m is none = refl
-last_tests false true true false true false true k l m is none = cc
-last_tests false true true false true false false k l m is none = refl
-last_tests false false given true true negates missing k l m is none = cc
-last_tests false false given false true true true k l m is none = cc
-last_tests false false given false true true false k l m is none = refl
-last_tests false false given false true false true k l m is none = cc
-last_tests false false given false true false false k l m is none = refl
+last_tests has help given required free negates missing k l m is none = grind arith
 
 -- no required argument is missing: each is given, or isn't required
 all_given : (rows : List Row) (rules : List Rule)

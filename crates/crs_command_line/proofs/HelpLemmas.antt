@@ -1,12 +1,12 @@
 -- A line that the command takes enters no `help`: `clap` answers that word by an error.
-use Rattle.std.proofs.Common.{◌≡◌, ℕ, List, [], ◌∷◌, Option, Some, None, Bool, true, false, not, ◌||◌, cond, refl, codes, sym}
+use Rattle.std.proofs.Common.{arith, ◌≡◌, ℕ, List, [], ◌∷◌, Option, Some, None, Bool, true, false, not, ◌||◌, cond, refl, codes, sym}
 use Rattle.std.specs.Str.{bytes_eq}
 use Rattle.std.specs.List.{fold}
 use Rattle.std.proofs.lemmas.Slice.Eq.{bytes_eq-Decides}
 use Rattle.clap.specs.Words.{Shape, Text, Rule, built}
 use Rattle.clap.specs.Simple.{names_of}
 use Rattle.crs_command_line.specs.CommandLine.{desk}
-use Rattle.clap.specs.Walk.{Held, Names, Walk, Waiting, Step, Outcome, after_step, next, trailing, subcommand, value, idle, option, positional, done, waits, plain, refused, subcommand_met, subcommand_or_other, long_or_other, short_or_plain, after_flag, plain_word, walked, word_met, to_positional, arg_by_index, bundle, long_met, arg_by_long, walk_from, nothing_held, stop_after}
+use Rattle.clap.specs.Walk.{Held, Names, Walk, Waiting, Step, Outcome, after_step, next, trailing, subcommand, value, subcommand_met, subcommand_or_other, long_or_other, short_or_plain, after_flag, plain_word, walked, word_met, to_positional, arg_by_index, bundle, long_met, arg_by_long, walk_from, nothing_held, stop_after}
 use Rattle.clap.specs.Lexer.{long_of, short_of}
 use Rattle.clap.specs.Takes.{other_passes, word_passes, turn_passes, walk_passes}
 use Rattle.clap.proofs.WalkLemmas.{both}
@@ -26,17 +26,12 @@ IsFree (Some stop) = is_help stop.0 ≡ false
 
 plain_is_usual : (c : List Rule) (waiting : Waiting) (word : Text) (h : Held) → IsUsual (plain_word c waiting word h).1
 unfolding IsUsual
-plain_is_usual c (option id) word h = tt
-plain_is_usual c idle word h = tt
-plain_is_usual c positional word h = tt
+plain_is_usual c waiting word h = grind arith
 
 flag_is_usual : (c : List Rule) (waiting : Waiting) (word : Text) (h : Held) (outcome : Outcome)
     → IsUsual (after_flag c waiting word h outcome).1
 unfolding IsUsual
-flag_is_usual c waiting word h done = tt
-flag_is_usual c waiting word h (waits id) = tt
-flag_is_usual c waiting word h plain = plain_is_usual c waiting word h
-flag_is_usual c waiting word h refused = plain_is_usual c waiting word h
+flag_is_usual c waiting word h outcome = grind (arith, plain_is_usual c waiting word h)
 
 short_is_usual : (c : List Rule) (waiting : Waiting) (word : Text) (flags : Option Text) (h : Held)
     → IsUsual (short_or_plain c waiting word flags h).1
@@ -53,13 +48,10 @@ long_is_usual c waiting word None h = short_is_usual c waiting word (short_of wo
 dashes_are_usual : (are : Bool) (h : Held) (position : ℕ) (other : Held × Step) → IsUsual other.1
     → IsUsual (cond are (h, trailing position) other).1
 unfolding IsUsual
-dashes_are_usual true h position other usual = tt
-dashes_are_usual false h position other usual = usual
+dashes_are_usual are h position other usual = grind arith
 
 no_help : (help disabled : Bool) → disabled ≡ false → (not help || disabled) ≡ true → help ≡ false
-no_help true true enabled passes = cc
-no_help true false enabled passes = cc
-no_help false disabled enabled passes = refl
+no_help help disabled enabled passes = grind arith
 
 word_is_usual : (s : Shape) (found : Option Text) (waiting : Waiting) (position : ℕ) (word : Text) (h : Held)
     → s.disable_help_subcommand ≡ false → other_passes s found word h ≡ true

@@ -4,3 +4,4 @@ mod OperandLemmas
 mod CommandLemmas
 mod LineLemmas
 mod OptionLemmas
+mod SameLemmas

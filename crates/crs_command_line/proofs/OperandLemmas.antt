@@ -1,5 +1,5 @@
 -- Both texts of `same` are there where the command takes the line: no row of its matches is without a value.
-use Rattle.std.proofs.Common.{◌≡◌, ℕ, List, [], ◌∷◌, ◌++◌, length, Option, Some, None, IsSome, Bool, true, false, not, ◌&&◌, ◌||◌, cond, refl, codes, zero, suc, drop, is_some, option_and_then, option_map, find, encode_utf8, slice_get}
+use Rattle.std.proofs.Common.{arith, ◌≡◌, ℕ, List, [], ◌∷◌, ◌++◌, length, Option, Some, None, IsSome, Bool, true, false, not, ◌&&◌, ◌||◌, cond, refl, codes, zero, suc, drop, is_some, option_and_then, option_map, find, encode_utf8, slice_get}
 use Rattle.std.specs.List.{fold, list_all}
 use Rattle.std.specs.Option.{option_map_or}
 use Rattle.std.specs.Str.{bytes_eq, chars}
@@ -10,7 +10,7 @@ use Rattle.clap.specs.Facts.{explicit_source}
 use Rattle.clap.specs.Lexer.{long_of, short_of}
 use Rattle.clap.specs.Words.{Row, Rule, Shape, Text, first_of}
 use Rattle.clap.specs.Simple.{filled, filled_from, help_rule, new_shape, rows_at, with_index}
-use Rattle.clap.specs.Walk.{Held, Names, Outcome, Step, Waiting, Walk, done, waits, plain, refused, idle, option, positional, next, trailing, subcommand, value, after_flag, after_step, arg_by_id, arg_by_index, arg_by_long, arg_by_short, at_row, attached_value, bundle, bundle_met, bundle_step, default_rows, flag_met, has_row, is_pending, long_met, long_or_other, more_values, nothing_held, option_met, option_word, plain_word, reacted, reading_by, rows_after, settled, settled_rows, short_met, short_or_plain, subcommand_met, subcommand_or_other, takes_several, takes_values, to_positional, used, used_by_id, walk, walk_from, walked, with_default, with_values, without, word_met}
+use Rattle.clap.specs.Walk.{Held, Names, Outcome, Step, Waiting, Walk, done, plain, next, trailing, subcommand, value, after_flag, after_step, arg_by_id, arg_by_index, arg_by_long, arg_by_short, at_row, attached_value, bundle, bundle_met, bundle_step, default_rows, flag_met, has_row, is_pending, long_met, long_or_other, more_values, nothing_held, option_met, option_word, plain_word, reacted, reading_by, rows_after, settled, settled_rows, short_met, short_or_plain, subcommand_met, subcommand_or_other, takes_several, takes_values, to_positional, used, used_by_id, walk, walk_from, walked, with_default, with_values, without, word_met}
 use Rattle.clap.specs.Takes.{bundle_passes, bundle_step_passes, flag_word_passes, flags_pass, is_given, is_valid, default_passes, level_passes, long_passes, option_passes, other_passes, positional_passes, react_passes, settle_passes, short_passes, step_passes, turn_passes, use_passes, walk_passes, word_passes}
 use Rattle.clap.proofs.WalkLemmas.{both}
 use Rattle.crs_command_line.specs.CommandLine.{files_flag, level_option, operand, rules_option}
@@ -35,8 +35,7 @@ joined [] ys left right = right
 joined (r ∷ rows) ys left right = (left.0, joined rows ys left.1 right)
 
 either_rows : (b : Bool) (xs ys : List Row) → HaveValues xs → HaveValues ys → HaveValues (cond b xs ys)
-either_rows true xs ys left right = left
-either_rows false xs ys left right = right
+either_rows b xs ys left right = grind arith
 
 at_row_keeps : (id : Text) (change : Row → List Row) (missing rows : List Row) → ((r : Row) → HasValues r.values → HaveValues (change r))
     → HaveValues missing → HaveValues rows → HaveValues (at_row id change missing rows)
@@ -87,8 +86,7 @@ files_keep position again (v ∷ vs) rows passes have =
     (at_row_keeps (codes "files") (λ _. []) [] rows (λ r own. tt) tt have)
 
 kept_either : (here : Bool) (a : Rule) (others : Option Rule) → Keeps a → IsKept others → IsKept (cond here (Some a) others)
-kept_either true a others keeps kept = keeps
-kept_either false a others keeps kept = kept
+kept_either here a others keeps kept = grind arith
 
 kept_found : (p : Rule → Bool) (rules : List Rule) → AreKept rules → IsKept (find p rules)
 kept_found p [] kept = tt
@@ -126,8 +124,7 @@ flag_keeps c again a None h kept keeps passes have = reacted_keeps c again a [] 
 
 either_met : (b : Bool) (x y : Held × Outcome) (p q : Bool) → (p ≡ true → HaveValues x.0.rows) → (q ≡ true → HaveValues y.0.rows)
     → cond b p q ≡ true → HaveValues (cond b x y).0.rows
-either_met true x y p q left right passes = left passes
-either_met false x y p q left right passes = right passes
+either_met b x y p q left right passes = grind arith
 
 long_keeps : (c : List Rule) (again : Bool) (found : Option Rule) (v : Option Text) (h : Held) → AreKept c → IsKept found
     → long_passes c again found v h ≡ true → HaveValues h.rows → HaveValues (long_met c found v h).0.rows
@@ -166,20 +163,14 @@ bundle_keeps c again (suc k) flags skip so_far h kept passes have =
     (λ rest less before held. bundle_keeps c again k rest less before held kept) passes have
 
 option_word_keeps : (found : Option Rule) (id word : Text) (h : Held) → HaveValues h.rows → HaveValues (option_word found id word h).0.rows
-option_word_keeps None id word h have = have
-option_word_keeps (Some a) id word h have = have
+option_word_keeps found id word h have = grind arith
 
 plain_keeps : (c : List Rule) (waiting : Waiting) (word : Text) (h : Held) → HaveValues h.rows → HaveValues (plain_word c waiting word h).0.rows
-plain_keeps c (option id) word h have = option_word_keeps (arg_by_id c id) id word h have
-plain_keeps c idle word h have = have
-plain_keeps c positional word h have = have
+plain_keeps c waiting word h have = grind (arith, option_word_keeps)
 
 after_flag_keeps : (c : List Rule) (waiting : Waiting) (word : Text) (h : Held) (outcome : Outcome) → HaveValues h.rows
     → HaveValues (after_flag c waiting word h outcome).0.rows
-after_flag_keeps c waiting word h done have = have
-after_flag_keeps c waiting word h (waits id) have = have
-after_flag_keeps c waiting word h plain have = plain_keeps c waiting word h have
-after_flag_keeps c waiting word h refused have = plain_keeps c waiting word h have
+after_flag_keeps c waiting word h outcome have = grind (arith, plain_keeps c waiting word h have)
 
 short_word_keeps : (c : List Rule) (again : Bool) (waiting : Waiting) (word : Text) (flags : Option Text) (h : Held) → AreKept c
     → option_map_or (λ f. bundle_passes c again f h) flags true ≡ true → HaveValues h.rows → HaveValues (short_or_plain c waiting word flags h).0.rows
@@ -197,8 +188,7 @@ flag_word_keeps c again waiting word None h kept passes have = short_word_keeps 
 
 either_step : (b : Bool) (x y : Held × Step) (q : Bool) → HaveValues x.0.rows → (q ≡ true → HaveValues y.0.rows)
     → (b || q) ≡ true → HaveValues (cond b x y).0.rows
-either_step true x y q left right passes = left
-either_step false x y q left right passes = right passes
+either_step b x y q left right passes = grind arith
 
 other_keeps : (s : Shape) (met : Option Text) (waiting : Waiting) (position : ℕ) (word : Text) (h : Held) → AreKept s.rules
     → other_passes s met word h ≡ true → HaveValues h.rows → HaveValues (subcommand_or_other s.rules met waiting position word h).0.rows
@@ -290,8 +280,7 @@ given_either : (here : Bool) (r : Row) (others : Option Row) → IsSome (slice_g
     → (option_map_or (λ r. explicit_source r.source) others false ≡ true → IsSome (option_and_then (λ r. slice_get r.values 0) others))
     → option_map_or (λ r. explicit_source r.source) (cond here (Some r) others) false ≡ true
     → IsSome (option_and_then (λ r. slice_get r.values 0) (cond here (Some r) others))
-given_either true r others first rest given = first
-given_either false r others first rest given = rest given
+given_either here r others first rest given = grind arith
 
 -- what was given has a first value
 given_there : (id : Text) (rows : List Row) → HaveValues rows → is_given id rows ≡ true → IsSome (first_of id rows)
@@ -301,9 +290,7 @@ given_there id (r ∷ rows) have given =
 
 both_there : (are_files : Bool) (level : Text) (first second : Option Text) → IsSome first → IsSome second
     → IsSome (same_operands are_files level first second)
-both_there are_files level None second one other = cc
-both_there are_files level (Some first) None one other = cc
-both_there are_files level (Some first) (Some second) one other = refl
+both_there are_files level first second one other = grind arith
 
 -- `same`, as `clap` builds it
 abbrev pub built_same : Shape
@@ -319,19 +306,8 @@ given_texts : (words : List Text) → level_passes built_same [] nothing_held wo
     × ((is_given (codes "first") (rows_after built_same.rules [] words) ≡ true) × (is_given (codes "second") (rows_after built_same.rules [] words) ≡ true))
 given_texts words passes =
     let rows = rows_after built_same.rules [] words in
-    let level = level_rows built_same words (
-      (λ again values. operand_keeps (codes "first") 1 again values),
-      (
-        (λ again values. operand_keeps (codes "second") 2 again values),
-        (
-          (λ again values. level_keeps 3 again values),
-          (
-            (λ again values. rules_keep 3 again values),
-            ((λ again values. files_keep 3 again values), ((λ again values rows uses have. have), tt)),
-          ),
-        ),
-      ),
-    ) passes in
+    let level = level_rows built_same words
+    (operand_keeps (codes "first") 1, (operand_keeps (codes "second") 2, (level_keeps 3, (rules_keep 3, (files_keep 3, ((λ again values rows uses have. have), tt)))))) passes in
     let given = both (is_given (codes "first") rows) _ level.1 in
     (level.0, (given.0, (both (is_given (codes "second") rows) _ given.1).0))
 
@@ -347,8 +323,7 @@ texts_there words passes =
     (given_there (codes "first") rows given.0 given.1.0) (given_there (codes "second") rows given.0 given.1.1)
 
 mapped_there : {A B : Type 0} (f : A → B) (found : Option A) → IsSome found → IsSome (option_map f found)
-mapped_there f None some = cc
-mapped_there f (Some x) some = refl
+mapped_there f found some = grind arith
 
 -- with rules or without, `same` asks for something
 pub same_asks : (words : List Text) → level_passes built_same [] nothing_held words false ≡ true

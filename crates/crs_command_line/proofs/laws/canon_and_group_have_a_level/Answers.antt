@@ -1,8 +1,14 @@
-use Rattle.crs_command_line.proofs.LineLemmas.{canon_level, group_level}
+use Rattle.std.proofs.Common.{[], ◌∷◌, codes, refl}
+use Rattle.clap.proofs.OnLiterals.{clap_on_literals}
+use Rattle.crs_command_line.proofs.LineLemmas.{canon, group, literal, plainly_given, words_asked}
 use Rattle.crs_command_line.proofs.laws.canon_and_group_have_a_level.Goals as goal
 
 pub returns-clause-canon : goal.returns-clause-canon
-returns-clause-canon c = canon_level
+unfolding clap_on_literals
+returns-clause-canon c program level usual =
+    words_asked canon program (literal (codes "--level") ∷ plainly_given level usual ∷ []) refl
 
 pub returns-clause-group : goal.returns-clause-group
-returns-clause-group c = group_level
+unfolding clap_on_literals
+returns-clause-group c program level usual =
+    words_asked group program (literal (codes "--level") ∷ plainly_given level usual ∷ []) refl

@@ -1,5 +1,7 @@
-use Rattle.crs_command_line.proofs.LineLemmas.{check_refuses}
+use Rattle.std.proofs.Common.{refl}
+use Rattle.clap.proofs.OnLiterals.{clap_on_literals}
 use Rattle.crs_command_line.proofs.laws.check_has_no_level.Goals as goal
 
 pub returns : goal.returns
-returns c = check_refuses
+unfolding clap_on_literals
+returns c program level = refl

@@ -1,8 +1,11 @@
-use Rattle.crs_command_line.proofs.LineLemmas.{first_once, first_twice}
+use Rattle.std.proofs.Common.{refl}
+use Rattle.clap.proofs.OnLiterals.{clap_on_literals}
 use Rattle.crs_command_line.proofs.laws.explain_has_an_order.Goals as goal
 
 pub returns-clause-once : goal.returns-clause-once
-returns-clause-once c = first_once
+unfolding clap_on_literals
+returns-clause-once c program word = refl
 
 pub returns-clause-twice : goal.returns-clause-twice
-returns-clause-twice c = first_twice
+unfolding clap_on_literals
+returns-clause-twice c program one other = refl

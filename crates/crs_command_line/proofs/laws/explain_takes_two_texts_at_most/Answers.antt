@@ -1,14 +1,22 @@
-use Rattle.crs_command_line.proofs.LineLemmas.{explain_alone, explain_dashes, explain_one, explain_two}
+use Rattle.std.proofs.Common.{[], ◌∷◌, refl}
+use Rattle.clap.proofs.OnLiterals.{clap_on_literals}
+use Rattle.crs_command_line.proofs.LineLemmas.{explain, plainly_given, words_asked}
 use Rattle.crs_command_line.proofs.laws.explain_takes_two_texts_at_most.Goals as goal
 
 pub returns-clause-alone : goal.returns-clause-alone
-returns-clause-alone c = explain_alone
+unfolding clap_on_literals
+returns-clause-alone c program = refl
 
 pub returns-clause-one : goal.returns-clause-one
-returns-clause-one c = explain_one
+unfolding clap_on_literals
+returns-clause-one c program first one =
+    words_asked explain program (plainly_given first one ∷ []) refl
 
 pub returns-clause-two : goal.returns-clause-two
-returns-clause-two c = explain_two
+unfolding clap_on_literals
+returns-clause-two c program first second one other =
+    words_asked explain program (plainly_given first one ∷ plainly_given second other ∷ []) refl
 
 pub returns-clause-dashes : goal.returns-clause-dashes
-returns-clause-dashes c = explain_dashes
+unfolding clap_on_literals
+returns-clause-dashes c program first second = refl

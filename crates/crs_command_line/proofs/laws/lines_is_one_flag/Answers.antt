@@ -1,14 +1,19 @@
-use Rattle.crs_command_line.proofs.LineLemmas.{check_twice, group_lines, lines_twice, lines_valued}
+use Rattle.std.proofs.Common.{refl}
+use Rattle.clap.proofs.OnLiterals.{clap_on_literals}
 use Rattle.crs_command_line.proofs.laws.lines_is_one_flag.Goals as goal
 
 pub returns-clause-canon : goal.returns-clause-canon
-returns-clause-canon c = lines_twice
+unfolding clap_on_literals
+returns-clause-canon c program = refl
 
 pub returns-clause-check : goal.returns-clause-check
-returns-clause-check c = check_twice
+unfolding clap_on_literals
+returns-clause-check c program = refl
 
 pub returns-clause-bare : goal.returns-clause-bare
-returns-clause-bare c = lines_valued
+unfolding clap_on_literals
+returns-clause-bare c program value = refl
 
 pub returns-clause-group : goal.returns-clause-group
-returns-clause-group c = group_lines
+unfolding clap_on_literals
+returns-clause-group c program = refl

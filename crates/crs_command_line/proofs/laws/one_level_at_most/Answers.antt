@@ -1,8 +1,11 @@
-use Rattle.crs_command_line.proofs.LineLemmas.{level_alone, level_twice}
+use Rattle.std.proofs.Common.{refl}
+use Rattle.clap.proofs.OnLiterals.{clap_on_literals}
 use Rattle.crs_command_line.proofs.laws.one_level_at_most.Goals as goal
 
 pub returns-clause-once : goal.returns-clause-once
-returns-clause-once c = level_twice
+unfolding clap_on_literals
+returns-clause-once c program one other = refl
 
 pub returns-clause-whole : goal.returns-clause-whole
-returns-clause-whole c = level_alone
+unfolding clap_on_literals
+returns-clause-whole c program = refl

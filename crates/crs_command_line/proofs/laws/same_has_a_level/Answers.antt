@@ -1,8 +1,14 @@
-use Rattle.crs_command_line.proofs.LineLemmas.{level_first, level_last}
+use Rattle.std.proofs.Common.{[], ◌∷◌, codes, refl}
+use Rattle.clap.proofs.OnLiterals.{clap_on_literals}
+use Rattle.crs_command_line.proofs.LineLemmas.{literal, plainly_given, same, words_asked}
 use Rattle.crs_command_line.proofs.laws.same_has_a_level.Goals as goal
 
 pub returns-clause-before : goal.returns-clause-before
-returns-clause-before c = level_first
+unfolding clap_on_literals
+returns-clause-before c program level first second usual one other =
+    words_asked same program (literal (codes "--level") ∷ plainly_given level usual ∷ plainly_given first one ∷ plainly_given second other ∷ []) refl
 
 pub returns-clause-after : goal.returns-clause-after
-returns-clause-after c = level_last
+unfolding clap_on_literals
+returns-clause-after c program level first second usual one other =
+    words_asked same program (plainly_given first one ∷ plainly_given second other ∷ literal (codes "--level") ∷ plainly_given level usual ∷ []) refl

@@ -1,4 +1,4 @@
-use Rattle.crs_command_line.proofs.LineLemmas.{flag_refused}
+use Rattle.crs_command_line.proofs.SameLemmas.{flag_refused}
 use Rattle.crs_command_line.proofs.laws.same_has_no_flags.Goals as goal
 
 pub returns : goal.returns

@@ -1,8 +1,11 @@
-use Rattle.crs_command_line.proofs.LineLemmas.{canon_alone, group_alone}
+use Rattle.std.proofs.Common.{refl}
+use Rattle.clap.proofs.OnLiterals.{clap_on_literals}
 use Rattle.crs_command_line.proofs.laws.the_usual_level_is_full.Goals as goal
 
 pub returns-clause-canon : goal.returns-clause-canon
-returns-clause-canon c = canon_alone
+unfolding clap_on_literals
+returns-clause-canon c program = refl
 
 pub returns-clause-group : goal.returns-clause-group
-returns-clause-group c = group_alone
+unfolding clap_on_literals
+returns-clause-group c program = refl
