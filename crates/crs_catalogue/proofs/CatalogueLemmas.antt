@@ -112,14 +112,8 @@ next-is-new texts canon none (suc at) e = none at e
 apart-more : (texts : List CanonicalText) (canon : CanonicalText) → AreApart texts
     → ((at : ℕ) → ¬ (slice_get texts at ≡ Some canon)) → AreApart (texts ++ canon ∷ [])
 apart-more texts canon apart none m n some first second =
-    both (nth-either texts canon m some first) (nth-either texts canon n some second)
-  where
-    both : ((nth m texts ≡ Some some) ⊎ ((m ≡ suc (length texts)) × (some ≡ canon)))
-        → ((nth n texts ≡ Some some) ⊎ ((n ≡ suc (length texts)) × (some ≡ canon))) → m ≡ n
-    both (inl a) (inl b) = apart m n some a b
-    both (inl a) (inr (last, is)) = absurd (next-is-new texts canon none m (a ∙ ap Some is))
-    both (inr (last, is)) (inl b) = absurd (next-is-new texts canon none n (b ∙ ap Some is))
-    both (inr (last, is)) (inr (end, too)) = last ∙ sym end
+    let new = next-is-new texts canon none in
+    grind (arith, nth-either texts canon m some first, nth-either texts canon n some second, apart m n some, new m, new n)
 
 abbrev pub placed_at : ℕ → List ℕ → Placed → PlacedLine
 placed_at number text place = record { line = line_of number text; place = place }

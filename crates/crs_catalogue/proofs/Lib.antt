@@ -9,3 +9,4 @@ pub mod OneCatalogueLemmas
 pub mod PartitionLemmas
 pub mod PlaceLemmas
 pub mod UnitedLemmas
+pub mod FaultLemmas

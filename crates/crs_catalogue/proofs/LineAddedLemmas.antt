@@ -1,11 +1,10 @@
 -- A ledger gets one more line.
 use Rattle.std.proofs.Common.{◌≡◌, ◌+◌, ◌++◌, ◌∷◌, [], ℕ, List, Bool, true, false, length, ap, subst, sym, refl, ◌∙◌, arith, length-append, cond}
 use Rattle.std.specs.List.{list_all}
-use Rattle.std.proofs.lemmas.Bool.{cond-true}
 use Rattle.std.proofs.lemmas.List.{length-map, map-append}
 use Rattle.std.proofs.lemmas.List.Sums.{sum_by-append}
 use Rattle.crs_text.specs.Prelude.{is_white}
-use Rattle.crs_placed.specs.Catalogue.{CatalogueParts, Line, line_of}
+use Rattle.crs_placed.specs.Catalogue.{CatalogueParts, line_of}
 use Rattle.crs_catalogue.specs.GroupCutting.{IsLedgerOf, IsNamed, LedgerParts, blank_count, no_lines, text_in}
 use Rattle.crs_catalogue.specs.GroupTexts.{IsCatalogueBy, IsCatalogueOfBy, then_line}
 use Rattle.crs_streams.specs.Prelude.{blank_in}
@@ -13,24 +12,14 @@ use Rattle.crs_catalogue.specs.GroupOutput.{numbered}
 use Rattle.crs_catalogue.specs.Names.{name_of, names_from, names_in, text_behind, texts_in}
 use Rattle.crs_value.specs.Sound.{Each}
 use Rattle.crs_placed.specs.declared.placed.Placed.{Placed}
-use Rattle.crs_placed.specs.declared.placed.Placed.TheVariants.{Blank, Refused, Group}
 use Rattle.crs_catalogue.specs.Partition.{IsPlacedAs, PlacedLine}
 use Rattle.crs_value.specs.declared.values.level.Level.{Level}
 use Rattle.crs_catalogue.proofs.CatalogueLemmas.{lines-added, none-added}
 
-lines-is : (a b : Line) (xs ys : List Line) → a ≡ b → xs ≡ ys → a ∷ xs ≡ b ∷ ys
-lines-is a b xs ys h t = cc
-
 pub numbered-more : (number : ℕ) (texts : List (List ℕ)) (text : List ℕ)
     → numbered number (texts ++ text ∷ []) ≡ numbered number texts ++ line_of (number + length texts) text ∷ []
-numbered-more number [] text =
-    let place : number ≡ number + 0 = omega arith in
-    lines-is (line_of number text) (line_of (number + 0) text) [] [] (ap (λ n. line_of n text) place) refl
-numbered-more number (first ∷ texts) text =
-    let place : number + 1 + length texts ≡ number + length (first ∷ texts) = omega arith in
-    lines-is (line_of number first) (line_of number first) _ _ refl
-    (numbered-more (number + 1) texts text
-    ∙ ap (λ n. numbered (number + 1) texts ++ line_of n text ∷ []) place)
+numbered-more number [] text = grind arith
+numbered-more number (first ∷ texts) text = grind (arith, numbered-more (number + 1) texts text)
 
 each-last : {A : Type 0} (P : A → Type 0) (xs : List A) (x : A) → Each P (xs ++ x ∷ []) → P x
 each-last P [] x each = each.0
@@ -39,17 +28,7 @@ each-last P (y ∷ ys) x each = each-last P ys x each.1
 -- the count of one text is that of its place
 one-blank : (text : List ℕ) (place : Placed) → IsPlacedAs text place
     → ◌≡◌ {A = ℕ} (cond (list_all is_white text) 1 0) (blank_count place)
-one-blank text Blank white = cond-true _ _ _ white
-one-blank text (Refused refusal) (black, refuses) = by_test (list_all is_white text) black
-  where
-    by_test : (t : Bool) → ¬ (t ≡ true) → ◌≡◌ {A = ℕ} (cond t 1 0) 0
-    by_test true black = absurd (black refl)
-    by_test false black = refl
-one-blank text (Group n) (black, accepted) = by_test (list_all is_white text) black
-  where
-    by_test : (t : Bool) → ¬ (t ≡ true) → ◌≡◌ {A = ℕ} (cond t 1 0) 0
-    by_test true black = absurd (black refl)
-    by_test false black = refl
+one-blank text place is = grind arith
 
 -- the text of one more line is behind those of the others
 pub texts-more : (named : Bool) (lines : List (List ℕ)) (line : List ℕ)
@@ -61,19 +40,10 @@ pub texts-length : (named : Bool) (lines : List (List ℕ)) → length (texts_in
 texts-length true lines = length-map lines text_behind
 texts-length false lines = refl
 
-names-are : (a b : List ℕ) (xs ys : List (List ℕ)) → a ≡ b → xs ≡ ys → a ∷ xs ≡ b ∷ ys
-names-are a b xs ys h t = cc
-
 names-further : (number : ℕ) (lines : List (List ℕ)) (line : List ℕ)
     → names_from number (lines ++ line ∷ []) ≡ names_from number lines ++ name_of (number + length lines) line ∷ []
-names-further number [] line =
-    let place : number ≡ number + 0 = omega arith in
-    names-are (name_of number line) (name_of (number + 0) line) [] [] (ap (λ n. name_of n line) place) refl
-names-further number (first ∷ lines) line =
-    let place : number + 1 + length lines ≡ number + length (first ∷ lines) = omega arith in
-    names-are (name_of number first) (name_of number first) _ _ refl
-    (names-further (number + 1) lines line
-    ∙ ap (λ n. names_from (number + 1) lines ++ name_of n line ∷ []) place)
+names-further number [] line = grind arith
+names-further number (first ∷ lines) line = grind (arith, names-further (number + 1) lines line)
 
 -- the name of one more line is behind those of the others
 pub names-more : (named : Bool) (lines : List (List ℕ)) (line : List ℕ) (before after : List (List ℕ)) (number : ℕ)
@@ -105,17 +75,11 @@ module _ (Form : Level → List ℕ → List ℕ → Type 0) (Share : Level → 
 
   -- the ledger of no lines
   pub none-ledger : (named : Bool) (level : Level) → IsLedgerOf Form Share named [] (no_lines level)
-  none-ledger true level = record {
-    of_lines = record { placed = []; are_lines = refl; whole = none-added Form Share level };
-    names = refl;
+  none-ledger named level = record {
+    of_lines = record { placed = []; are_lines = grind arith; whole = none-added Form Share level };
+    names = grind arith;
     lines = refl;
-    blank = refl;
-  }
-  none-ledger false level = record {
-    of_lines = record { placed = []; are_lines = refl; whole = none-added Form Share level };
-    names = refl;
-    lines = refl;
-    blank = refl;
+    blank = grind arith;
   }
 
   -- the ledger of one more line

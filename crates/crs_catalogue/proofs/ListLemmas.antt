@@ -35,12 +35,7 @@ pub get-either : {A : Type 0} (xs : List A) (x : A) (k : ℕ) (v : A) → slice_
 get-either [] x zero v e = inr (refl, some-is v x (sym e))
 get-either [] x (suc k) v e = absurd (none-is v e)
 get-either (y ∷ ys) x zero v e = inl e
-get-either (y ∷ ys) x (suc k) v e = further (get-either ys x k v e)
-  where
-    further : ((slice_get ys k ≡ Some v) ⊎ ((k ≡ length ys) × (v ≡ x)))
-        → (slice_get ys k ≡ Some v) ⊎ ((suc k ≡ suc (length ys)) × (v ≡ x))
-    further (inl old) = inl old
-    further (inr (last, is)) = inr (ap suc last, is)
+get-either (y ∷ ys) x (suc k) v e = grind (arith, get-either ys x k v e)
 
 -- a changed list has the new member at its place, and the old ones elsewhere
 pub get-changed : {A : Type 0} (xs : List A) (at : ℕ) (x : A) (k : ℕ) (v : A)
@@ -50,12 +45,7 @@ get-changed [] at x k v e = absurd (none-is v e)
 get-changed (y ∷ ys) zero x zero v e = inl (refl, some-is v x (sym e))
 get-changed (y ∷ ys) zero x (suc k) v e = inr (λ h. omega arith, e)
 get-changed (y ∷ ys) (suc at) x zero v e = inr (λ h. omega arith, e)
-get-changed (y ∷ ys) (suc at) x (suc k) v e = further (get-changed ys at x k v e)
-  where
-    further : (((k ≡ at) × (v ≡ x)) ⊎ ((¬ (at ≡ k)) × (slice_get ys k ≡ Some v)))
-        → ((suc k ≡ suc at) × (v ≡ x)) ⊎ ((¬ (suc at ≡ suc k)) × (slice_get ys k ≡ Some v))
-    further (inl (same, is)) = inl (ap suc same, is)
-    further (inr (other, old)) = inr (λ h. other (omega arith), old)
+get-changed (y ∷ ys) (suc at) x (suc k) v e = grind (arith, get-changed ys at x k v e)
 
 -- a change that keeps what f says of a member keeps what f says of the list
 pub map-changed : {A B : Type 0} (f : A → B) (xs : List A) (at : ℕ) (x y : A) → slice_get xs at ≡ Some x → f y ≡ f x
@@ -73,22 +63,12 @@ nth-front xs ys (suc k) v e = get-front xs ys k v e
 pub nth-either : {A : Type 0} (xs : List A) (x : A) (n : ℕ) (v : A) → nth n (xs ++ x ∷ []) ≡ Some v
     → (nth n xs ≡ Some v) ⊎ ((n ≡ suc (length xs)) × (v ≡ x))
 nth-either xs x zero v e = absurd (none-is v e)
-nth-either xs x (suc k) v e = further (get-either xs x k v e)
-  where
-    further : ((slice_get xs k ≡ Some v) ⊎ ((k ≡ length xs) × (v ≡ x)))
-        → (slice_get xs k ≡ Some v) ⊎ ((suc k ≡ suc (length xs)) × (v ≡ x))
-    further (inl old) = inl old
-    further (inr (last, is)) = inr (ap suc last, is)
+nth-either xs x (suc k) v e = grind (arith, get-either xs x k v e)
 
 pub nth-changed : {A : Type 0} (xs : List A) (at : ℕ) (x : A) (n : ℕ) (v : A) → nth n (slice_set xs at x) ≡ Some v
     → ((n ≡ suc at) × (v ≡ x)) ⊎ ((¬ (suc at ≡ n)) × (nth n xs ≡ Some v))
 nth-changed xs at x zero v e = absurd (none-is v e)
-nth-changed xs at x (suc k) v e = further (get-changed xs at x k v e)
-  where
-    further : (((k ≡ at) × (v ≡ x)) ⊎ ((¬ (at ≡ k)) × (slice_get xs k ≡ Some v)))
-        → ((suc k ≡ suc at) × (v ≡ x)) ⊎ ((¬ (suc at ≡ suc k)) × (slice_get xs k ≡ Some v))
-    further (inl (same, is)) = inl (ap suc same, is)
-    further (inr (other, old)) = inr (λ h. other (omega arith), old)
+nth-changed xs at x (suc k) v e = grind (arith, get-changed xs at x k v e)
 
 -- a test of two numbers
 pub if-equal : {A : Type 0} (m n : ℕ) (same other : A) → m ≡ n → (if m == n then same else other) ≡ same

@@ -3,7 +3,7 @@
 use Rattle.std.proofs.Common.{◌≡◌, ◌⊎◌, ◌<◌, ◌≤◌, ◌∷◌, [], ℕ, suc, List, Some, length, map, slice_get, inl, inr, ap, subst, sym, refl, ◌∙◌, arith}
 use Rattle.std.proofs.lemmas.Bool.{cases_lt}
 use Rattle.std.proofs.lemmas.Option.{slice_get_within}
-use Rattle.crs_text.specs.Prelude.{RefusedAt, IsWhite}
+use Rattle.crs_text.specs.Prelude.{RefusedAt}
 use Rattle.crs_value.specs.Prelude.{Spells, Refuses}
 use Rattle.crs_value.specs.declared.values.crs.Crs.{Crs}
 use Rattle.crs_value.specs.declared.values.level.Level.{Level}
@@ -35,24 +35,10 @@ each-in P [] each p h = absurd h
 each-in P (q ∷ qs) each p (inl e) = subst P (sym e) each.0
 each-in P (q ∷ qs) each p (inr h) = each-in P qs each.1 p h
 
-same-head : (a b : Line) (others more : List Line) → a ∷ others ≡ b ∷ more → a ≡ b
-same-head a b others more e = cc
-
-same-tail : (a b : Line) (others more : List Line) → a ∷ others ≡ b ∷ more → others ≡ more
-same-tail a b others more e = cc
-
-none-line : (a : Line) (others : List Line) → [] ≡ a ∷ others → ⊥
-none-line a others e = cc
-
 -- ---- how many groups there are
 
 counts-one : (before : ℕ) (place : Placed) (x y : ℕ) → Counts before place x → Counts before place y → x ≡ y
-counts-one before Blank x y p q = omega arith
-counts-one before (Refused refusal) x y p q = omega arith
-counts-one before (Group n) x y (inl (low, high, same)) (inl (lower, higher, too)) = omega arith
-counts-one before (Group n) x y (inl (low, high, same)) (inr (next, last)) = omega arith
-counts-one before (Group n) x y (inr (next, last)) (inl (low, high, same)) = omega arith
-counts-one before (Group n) x y (inr (next, last)) (inr (too, end)) = omega arith
+counts-one before place x y p q = grind arith
 
 numbered-one : (before : ℕ) (ps : List PlacedLine) (x y : ℕ) → AreNumbered before ps x → AreNumbered before ps y
     → x ≡ y
@@ -102,9 +88,7 @@ found-all Is before (p ∷ ps) behind numbered found n low high =
     (found-next Is before numbered.0 p p.place refl numbered.1 found) n low high)
   where
     more : (q : PlacedLine) → (And Is p q ⊎ In q ps) → Is q ⊎ In q (p ∷ ps)
-    more q (inl (inl h)) = inl h
-    more q (inl (inr e)) = inr (inl e)
-    more q (inr h) = inr (inr h)
+    more q h = grind arith
 
 -- ---- each line has one place
 
@@ -132,19 +116,13 @@ one-place : IsAnsweredOnce → (level : Level) (Is : PlacedLine → Type 0) (bef
     → (s t : Placed) → p.place ≡ s → q.place ≡ t
     → IsPlacedAs p.line.text s → IsPlacedAs q.line.text t
     → (x y : ℕ) → Counts before s x → Counts before t y → s ≡ t
-one-place law level Is before found placing p q e shares too Blank Blank ps qt hp hq x y cx cy = refl
-one-place law level Is before found placing p q e shares too Blank (Refused b) ps qt hp hq x y cx cy =
-    absurd (hq.0 (subst IsWhite e hp))
-one-place law level Is before found placing p q e shares too Blank (Group n) ps qt hp hq x y cx cy =
-    absurd (hq.0 (subst IsWhite e hp))
-one-place law level Is before found placing p q e shares too (Refused a) Blank ps qt hp hq x y cx cy =
-    absurd (hp.0 (subst IsWhite (sym e) hq))
+one-place law level Is before found placing p q e shares too Blank t ps qt hp hq x y cx cy = grind arith
+one-place law level Is before found placing p q e shares too (Refused a) Blank ps qt hp hq x y cx cy = grind arith
 one-place law level Is before found placing p q e shares too (Refused a) (Refused b) ps qt hp hq x y cx cy =
     ap Refused (law.refusal q.line.text a b (subst (λ text. Refuses text a) e hp.1) hq.1)
 one-place law level Is before found placing p q e shares too (Refused a) (Group n) ps qt hp hq x y cx cy =
     absurd (law.apart q.line.text hq.1.0 a hq.1.1 (subst (λ text. Refuses text a) e hp.1))
-one-place law level Is before found placing p q e shares too (Group m) Blank ps qt hp hq x y cx cy =
-    absurd (hp.0 (subst IsWhite (sym e) hq))
+one-place law level Is before found placing p q e shares too (Group m) Blank ps qt hp hq x y cx cy = grind arith
 one-place law level Is before found placing p q e shares too (Group m) (Refused b) ps qt hp hq x y cx cy =
     absurd (law.apart p.line.text hp.1.0 b hp.1.1 (subst (λ text. Refuses text b) (sym e) hq.1))
 one-place law level Is before found placing p q e shares too (Group m) (Group n) ps qt hp hq x y cx cy =
@@ -173,19 +151,18 @@ one-placing : IsAnsweredOnce → (level : Level) (Is : PlacedLine → Type 0) (b
     → Placing Is → (ps qs : List PlacedLine) → map (λ p. p.line) ps ≡ map (λ p. p.line) qs
     → (x y : ℕ) → ArePlaced level Is before ps x → ArePlaced level Is before qs y → ps ≡ qs
 one-placing law level Is before found placing [] [] e x y a b = refl
-one-placing law level Is before found placing [] (q ∷ qs) e x y a b = absurd (none-line q.line (map (λ p. p.line) qs) e)
-one-placing law level Is before found placing (p ∷ ps) [] e x y a b =
-    absurd (none-line p.line (map (λ p. p.line) ps) (sym e))
+one-placing law level Is before found placing [] (q ∷ qs) e x y a b = cc
+one-placing law level Is before found placing (p ∷ ps) [] e x y a b = cc
 one-placing law level Is before found placing (p ∷ ps) (q ∷ qs) e x y a b =
     let rest = one-placing law level (And Is p) a.numbered.0
     (found-next Is before a.numbered.0 p p.place refl a.numbered.1 found) placed ps qs
-    (same-tail p.line q.line (map (λ p. p.line) ps) (map (λ p. p.line) qs) e) x y
+    (cc) x y
     (record { each = a.each.1; same = first; numbered = a.numbered.2 })
     (record { each = b.each.1; same = second; numbered = subst (λ n. AreNumbered n qs y) next b.numbered.2 }) in
     λ i. here i ∷ rest i
   where
     line : p.line ≡ q.line
-    line = same-head p.line q.line (map (λ p. p.line) ps) (map (λ p. p.line) qs) e
+    line = cc
 
     place : p.place ≡ q.place
     place = one-place law level Is before found placing p q (ap (λ l. l.text) line)
@@ -200,9 +177,7 @@ one-placing law level Is before found placing (p ∷ ps) (q ∷ qs) e x y a b =
         (subst (λ s. Counts before s b.numbered.0) (sym place) b.numbered.1) a.numbered.1
 
     first : (r s : PlacedLine) → (And Is p r ⊎ In r ps) → In s ps → ShareWhereSame level r s
-    first r s (inl (inl is)) h = a.same r s (inl is) (inr h)
-    first r s (inl (inr is)) h = a.same r s (inr (inl is)) (inr h)
-    first r s (inr is) h = a.same r s (inr (inr is)) (inr h)
+    first r s is h = a.same r s (grind arith) (inr h)
 
     second : (r s : PlacedLine) → (And Is p r ⊎ In r qs) → In s qs → ShareWhereSame level r s
     second r s (inl (inl is)) h = b.same r s (inl is) (inr h)

@@ -1,11 +1,9 @@
 -- Lists of placed lines that grow.
-use Rattle.std.proofs.Common.{◌≡◌, ◌<◌, ◌≤◌, ◌++◌, ◌∷◌, [], ℕ, List, inl, inr, ap, subst, refl, ◌∙◌, arith}
+use Rattle.std.proofs.Common.{◌≡◌, ◌<◌, ◌≤◌, ◌++◌, ◌∷◌, [], ℕ, List, ap, subst, refl, ◌∙◌, arith}
 use Rattle.std.proofs.lemmas.Grind.{flat_map-append}
 use Rattle.std.proofs.lemmas.List.{append-nil}
 use Rattle.crs_placed.specs.declared.placed.Placed.{Placed}
-use Rattle.crs_placed.specs.declared.placed.Placed.TheVariants.{Blank, Refused, Group}
 use Rattle.crs_catalogue.specs.Partition.{AreNumbered, Counts, PlacedLine, if_refused, in_group, lines_in, refused_in}
-use Rattle.crs_catalogue.proofs.ListLemmas.{if-other}
 
 pub numbered-append : (before : ℕ) (placed : List PlacedLine) (next : ℕ) (p : PlacedLine) (behind : ℕ)
     → AreNumbered before placed next → Counts next p.place behind → AreNumbered before (placed ++ p ∷ []) behind
@@ -28,10 +26,7 @@ refused-append placed p =
 
 -- no group is lost, and the group of a line is counted
 counts-rise : (before : ℕ) (place : Placed) (behind : ℕ) → Counts before place behind → before ≤ behind
-counts-rise before Blank behind counts = omega arith
-counts-rise before (Refused refusal) behind counts = omega arith
-counts-rise before (Group n) behind (inl (low, high, same)) = omega arith
-counts-rise before (Group n) behind (inr (next, last)) = omega arith
+counts-rise before place behind counts = grind arith
 
 numbered-rise : (before : ℕ) (placed : List PlacedLine) (behind : ℕ) → AreNumbered before placed behind
     → before ≤ behind
@@ -42,10 +37,7 @@ numbered-rise before (p ∷ ps) behind numbered =
 
 in-none : (n before : ℕ) (line : ℕ) (place : Placed) (behind : ℕ) → Counts before place behind → behind < n
     → in_group n line place ≡ []
-in-none n before line Blank behind counts over = refl
-in-none n before line (Refused refusal) behind counts over = refl
-in-none n before line (Group m) behind (inl (low, high, same)) over = if-other m n _ _ (λ e. omega arith)
-in-none n before line (Group m) behind (inr (next, last)) over = if-other m n _ _ (λ e. omega arith)
+in-none n before line place behind counts over = grind arith
 
 -- no line is in a group that isn't counted
 pub lines-none : (n before : ℕ) (placed : List PlacedLine) (behind : ℕ) → AreNumbered before placed behind

@@ -1,21 +1,17 @@
-use Rattle.std.proofs.Common.{◌≡◌, ◌++◌, arith, false, length, length-take, refl, rules, subst, sym, take, Ok, IfErr, IsErr}
-use Rattle.std.proofs.lemmas.Result.{IfErr-weaker}
+use Rattle.std.proofs.Common.{◌≡◌, ◌++◌, arith, false, length, length-take, refl, rules, take, Ok}
 use Rattle.crs_catalogue.specs.GroupRun.{IsReadingFault}
 use Rattle.crs_streams.specs.declared.fault.RunFault.TheVariants.{ReadFailed}
 use Rattle.crs_streams.proofs.GivenLemmas.{given-read, taken-read}
+use Rattle.crs_catalogue.proofs.FaultLemmas.{handed-on}
 use Rattle.crs_catalogue.proofs.GroupRunLemmas.{failed-read, fault-in-piece, gives-short, lines-fit}
 use Rattle.crs_catalogue.proofs.reading.read_into.Goals as goal
 
 pub returns-in_err-count-clause-err : goal.returns-in_err-count-clause-err
 returns-in_err-count-clause-err g c =
     let cut = c.loop-turn.invariant.cut in
-    let same : IfErr c.from_residual.result (λ fault. fault ≡ ReadFailed) = search rules in
-    let bad : IsErr c.read.result = search rules in
-    IfErr-weaker c.from_residual.result _ _
-    (λ fault is. subst (IsReadingFault c.args.source.now c.read.new.self) (sym is)
+    handed-on c.from_residual.result ReadFailed (IsReadingFault c.args.source.now c.read.new.self) (search rules)
     (failed-read (g.A.Adding.Form c.args.adding.now) (g.A.Adding.Share c.args.adding.now) (g.A.Adding.named c.args.adding.now) c.args.source.now c.loop-turn.source c.read.new.self cut.0 c.read.new.room c.loop-turn.cutter
-    c.read.result cut.1 cut.2 c.read.ensures.bytes c.read.ensures.counted bad))
-    same
+    c.read.result cut.1 cut.2 c.read.ensures.bytes c.read.ensures.counted (search rules))
 
 pub take-requires-clause-fits : goal.take-requires-clause-fits
 take-requires-clause-fits g c =
@@ -34,15 +30,12 @@ returns-in_err-take-clause-err g c =
     let cut = c.loop-turn.invariant.cut in
     let got : c.read.result ≡ Ok c.in_ok-count.count = search rules in
     let healthy : c.read.new.self.failed ≡ false = search rules in
-    let same : IfErr c.from_residual-in_err-take.result (λ fault. fault ≡ c.in_err-take.field-0.0) = search rules in
     let given = given-read c.args.source.now c.loop-turn.source c.read.new.self cut.0 c.read.new.room
     c.read.new.room c.read.result c.in_ok-count.count cut.1 c.read.ensures.bytes c.read.ensures.counted
     c.read.ensures.bound got refl in
-    IfErr-weaker c.from_residual-in_err-take.result _ _
-    (λ fault is. subst (IsReadingFault c.args.source.now c.read.new.self) (sym is)
+    handed-on c.from_residual-in_err-take.result c.in_err-take.field-0.0 (IsReadingFault c.args.source.now c.read.new.self) (search rules)
     (fault-in-piece c.args.source.now c.read.new.self (cut.0 ++ take c.in_ok-count.count c.read.new.room)
-    c.in_err-take.field-0.0 given healthy (c.in_err-take.ensures.fault cut.0 cut.2)))
-    same
+    c.in_err-take.field-0.0 given healthy (c.in_err-take.ensures.fault cut.0 cut.2))
 
 pub loop-turn-preserved : goal.loop-turn-preserved
 loop-turn-preserved g c =

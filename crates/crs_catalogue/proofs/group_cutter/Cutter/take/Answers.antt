@@ -1,7 +1,8 @@
-use Rattle.std.proofs.Common.{◌≡◌, ◌+◌, ◌≤◌, ◌++◌, ◌∷◌, [], ℕ, List, ap, append-nil, arith, length, length-append, refl, rules, subst, sym, IfErr}
+use Rattle.std.proofs.Common.{◌++◌, ◌∷◌, [], ℕ, List, ap, append-nil, arith, length, length-append, refl, rules, subst, sym}
 use Rattle.std.proofs.lemmas.Result.{IfErr-weaker, IfOk-weaker}
 use Rattle.crs_streams.specs.Prelude.{HasNoFeed}
 use Rattle.crs_catalogue.specs.GroupCutting.{IsCutFault, IsCutTo}
+use Rattle.crs_catalogue.proofs.FaultLemmas.{handed-on}
 use Rattle.crs_catalogue.proofs.GroupCutLemmas.{keep-fault, piece-end-fault, piece-fault, piece-kept, piece-step}
 use Rattle.crs_catalogue.proofs.group_cutter.Cutter.take.Goals as goal
 
@@ -25,14 +26,11 @@ returns-in_err-end_line-clause-fault g c =
     let Share = g.A.Adding.Share c.args.adding.now in
     let named = g.A.Adding.named c.args.adding.now in
     let done = c.loop-line.invariant.done in
-    let same : IfErr c.from_residual.result (λ fault. fault ≡ c.in_err-end_line.field-0.0) = search rules in
-    IfErr-weaker c.from_residual.result _ _
-    (λ fault is. piece-fault Form Share named done.0 c.in-Some.line.now c.in-Some.left.now c.loop-line.rest.now c.args.piece.now
-    c.args.self.now c.loop-line.self fault done.1 c.in-Some.ensures done.2
-    (subst (λ f. (bytes behind : List ℕ) → length c.in-Some.line.now + length behind ≤ 65536
-    → IsCutTo Form Share named bytes c.loop-line.self → IsCutFault (bytes ++ (c.in-Some.line.now ++ behind)) f) (sym is) c.in_err-end_line.ensures.fault)
+    handed-on c.from_residual.result c.in_err-end_line.field-0.0
+    (λ fault. (bytes : List ℕ) → IsCutTo Form Share named bytes c.args.self.now → IsCutFault (bytes ++ c.args.piece.now) fault) (search rules)
+    (piece-fault Form Share named done.0 c.in-Some.line.now c.in-Some.left.now c.loop-line.rest.now c.args.piece.now
+    c.args.self.now c.loop-line.self c.in_err-end_line.field-0.0 done.1 c.in-Some.ensures done.2 c.in_err-end_line.ensures.fault
     c.requires.small)
-    same
 
 pub loop-line-preserved : goal.loop-line-preserved
 loop-line-preserved g c =
