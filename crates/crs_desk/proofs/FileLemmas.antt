@@ -11,18 +11,12 @@ use Rattle.crs_streams.specs.declared.fault.RunFault.TheVariants.{ReadFailed, Wr
 use Rattle.crs_desk.specs.FileAnswers.{Ends, IsAnswerSent, IsFileFault, IsFileSent, IsFrontSent, IsNoWriteFault, NoFront, is_of_file}
 use Rattle.crs_desk.specs.FilesRun.{AreFileOutputs, AreFilesAnswered, IsFileFront, IsFileOutput, IsTaskFront, name_prefix}
 use Rattle.crs_desk.specs.declared.file_task.FileTask.{FileTask}
-use Rattle.crs_desk.specs.declared.file_task.FileTask.TheVariants as task
-use Rattle.crs_runs.specs.Output.{IsCanonOutput, IsCheckOutput}
-use Rattle.crs_desk.specs.RulesOutput.{IsFormOutput}
 use Rattle.crs_desk.specs.LineCutting.{IsHealthy}
-use Rattle.crs_desk.specs.LinesRun.{HasSentAll, IsFrontOutput, IsLineOutput, IsLinesAnswered, IsLinesFault, IsLinesOutput, Outputs}
+use Rattle.crs_desk.specs.LinesRun.{HasSentAll, IsFrontOutput, IsLinesAnswered, IsLinesFault, IsLinesOutput, Outputs}
 use Rattle.crs_runs.specs.Whole.{IsReadFault}
 use Rattle.crs_desk.specs.Prefixed.{PrefixParts}
+use Rattle.crs_desk.proofs.LineOutputLemmas.{appends-none}
 use Rattle.crs_desk.proofs.PrefixedLemmas.{PrefixedOutputs, lines-plain}
-
-pub appends-none : (contents : Option (List ℕ)) → Appends contents contents []
-appends-none None = tt
-appends-none (Some held) = sym (append-nil held)
 
 -- ---- a task over the whole text
 
@@ -37,18 +31,10 @@ none-sent prefix known sink healthy = ([], no-front prefix known, appends-none s
 -- nothing was written before the fault
 pub unread-file : (prefix : PrefixParts) (known : Option (List ℕ)) (sink : SinkState) (fault : RunFault)
     → IsHealthy sink → IsNoWriteFault fault → IsFileFault NoFront prefix known sink sink fault
-unread-file prefix known sink ReadFailed healthy is = none-sent prefix known sink healthy
-unread-file prefix known sink WriteFailed healthy is = absurd is
-unread-file prefix known sink (TooLong line) healthy is = none-sent prefix known sink healthy
-unread-file prefix known sink TooManyReads healthy is = none-sent prefix known sink healthy
-unread-file prefix known sink Memory healthy is = healthy
+unread-file prefix known sink fault healthy is = grind (arith, none-sent prefix known sink healthy)
 
 pub read-no-write : (source : SourceState) (fault : RunFault) → IsReadFault source fault → IsNoWriteFault fault
-read-no-write source ReadFailed is = tt
-read-no-write source WriteFailed is = absurd is
-read-no-write source (TooLong line) is = tt
-read-no-write source TooManyReads is = tt
-read-no-write source Memory is = tt
+read-no-write source fault is = grind arith
 
 -- ---- a task over lines
 
@@ -95,7 +81,7 @@ front-sent Output ends prefix known left lines more before after given begins se
           front = lines;
           rest = [];
           are_bytes = sym (append-nil lines);
-          are_whole = whole begins;
+          are_whole = grind (arith, begins);
           status = sent.status;
           is_output = plain.1;
         },
@@ -104,10 +90,6 @@ front-sent Output ends prefix known left lines more before after given begins se
       sent.is_sent,
       healthy,
     )
-  where
-    whole : (lines ≡ []) ⊎ EndsInFeed lines → (lines ≡ []) ⊎ EndsInFeed lines ⊎ ((◌≡◌ {A = List ℕ} [] []) × (false ≡ true))
-    whole (inl none) = inl none
-    whole (inr feed) = inr (inl feed)
 
 lines-stopped : (Output : Outputs) → Ends Output → (prefix : PrefixParts) (old new : SourceState) (before after : SinkState) (fault : RunFault)
     → IsLinesFault (PrefixedOutputs prefix Output) old new before after fault → after.past_failure ≡ false
@@ -148,15 +130,13 @@ file-more asked prefix known names rest left name one so-far own before now afte
   written ++ one,
   Appends-trans _ _ _ _ _ sent further,
   λ more others outputs.
+      let greatest : max so-far (max own others) ≡ max (max so-far own) others = omega arith in
       let here : AreFileOutputs asked prefix known (name ∷ rest) (one ++ more) (max own others) =
       (one, more, own, others, output, outputs, refl, refl) in
       let all = goes (one ++ more) (max own others) (subst (λ l. AreFileOutputs asked prefix known l (one ++ more) (max own others)) (sym is) here) in
       subst (λ l. AreFileOutputs asked prefix known names l (max (max so-far own) others)) (sym (append_assoc written one more))
-      (subst (λ n. AreFileOutputs asked prefix known names (written ++ (one ++ more)) n) (max-assoc so-far own others) all),
+      (subst (λ n. AreFileOutputs asked prefix known names (written ++ (one ++ more)) n) greatest all),
 )
-  where
-    max-assoc : (a b c : ℕ) → max a (max b c) ≡ max (max a b) c
-    max-assoc a b c = omega arith
 
 -- all files were answered
 pub files-done : (asked : FileTask) (known : List ℕ → Option (List ℕ)) (names left : List (List ℕ)) (status : ℕ)
@@ -186,15 +166,7 @@ front-none Output = record {
 }
 
 nothing-fronts : (asked : FileTask) → IsTaskFront asked [] []
-nothing-fronts (task.Canon level) = refl
-nothing-fronts task.Check = refl
-nothing-fronts (task.Explain how) = refl
-nothing-fronts (task.Group level listing) = refl
-nothing-fronts (task.CanonLines level) = front-none (IsLineOutput (IsCanonOutput level))
-nothing-fronts task.CheckLines = front-none (IsLineOutput IsCheckOutput)
-nothing-fronts (task.Form level rules) = refl
-nothing-fronts (task.FormGroup level listing rules) = refl
-nothing-fronts (task.FormLines level rules) = front-none (IsLineOutput (IsFormOutput rules.now level))
+nothing-fronts asked = grind (arith, front-none)
 
 unopened-front : (asked : FileTask) (prefix : PrefixParts) (known : Option (List ℕ)) → IsFileFront (IsTaskFront asked) prefix known []
 unopened-front asked prefix None = ([], [], tt, [], nothing-fronts asked, refl)
@@ -215,14 +187,8 @@ failed-file asked prefix known before after (written, front, sent, healthy) = (w
 pub file-failed : (asked : FileTask) (prefix : PrefixParts) (left known : Option (List ℕ)) (before after : SinkState) (fault : RunFault)
     → left ≡ known → is_of_file fault ≡ true → IsFileFault (IsTaskFront asked) prefix left before after fault
     → IsFileSent asked prefix known before after 2
-file-failed asked prefix left known before after ReadFailed same is front =
-    subst (λ k. IsFileSent asked prefix k before after 2) same (failed-file asked prefix left before after front)
-file-failed asked prefix left known before after WriteFailed same is front = cc
-file-failed asked prefix left known before after (TooLong line) same is front =
-    subst (λ k. IsFileSent asked prefix k before after 2) same (failed-file asked prefix left before after front)
-file-failed asked prefix left known before after TooManyReads same is front =
-    subst (λ k. IsFileSent asked prefix k before after 2) same (failed-file asked prefix left before after front)
-file-failed asked prefix left known before after Memory same is front = cc
+file-failed asked prefix left known before after fault same is front =
+    subst (λ k. IsFileSent asked prefix k before after 2) same (grind (arith, failed-file asked prefix left before after))
 
 -- ---- groups
 

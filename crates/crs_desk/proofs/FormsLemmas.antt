@@ -25,16 +25,6 @@ unfolding IsPairUnder
 pair-formed rules level Refused Compared first second a b bytes others written status (is, other) same alike compared =
     inr (bytes, others, subst (IsForm rules level first) (sym same) is, subst (IsForm rules level second) (sym alike) other, compared)
 
--- what was found is a refusal
-pub refused-found : {A O : Type 0} (found : Result A O) (First : A → Type 0) (Second : O → Type 0) (output : O)
-    → found ≡ Err output → MatchResult found First Second → Second output
-refused-found found First Second output is all = subst (λ f. MatchResult f First Second) is all
-
--- what was found are two forms
-pub formed-found : {A O : Type 0} (found : Result A O) (First : A → Type 0) (Second : O → Type 0) (forms : A)
-    → found ≡ Ok forms → MatchResult found First Second → First forms
-formed-found found First Second forms is all = subst (λ f. MatchResult f First Second) is all
-
 -- a refusal, of which this holds
 pub refused-formed : {A O : Type 0} (found : Result A O) (First : A → Type 0) (Second Other : O → Type 0)
     → ((output : O) → Other output → Second output) → IsErrAnd found Other → MatchResult found First Second

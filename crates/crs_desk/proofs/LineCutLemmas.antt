@@ -1,15 +1,15 @@
 -- Bytes are cut into lines, one piece further, and what is written for the lines is sent or kept.
-use Rattle.std.proofs.Common.{◌≡◌, ◌⊎◌, ◌+◌, ◌<◌, ◌≤◌, ◌++◌, ◌∷◌, [], ℕ, List, Bool, true, false, Option, Some, None, cond, length, inl, inr, ap, subst, sym, refl, ◌∙◌, arith, append_assoc, append-nil, length-append, true≢false, ◌==◌, max}
+use Rattle.std.proofs.Common.{◌≡◌, ◌⊎◌, ◌+◌, ◌<◌, ◌≤◌, ◌++◌, ◌∷◌, [], ℕ, List, Bool, true, false, length, inl, inr, ap, subst, sym, refl, ◌∙◌, arith, append_assoc, append-nil, length-append, ◌==◌, max}
 use Rattle.std.specs.Io.KnownBytes.{Appends}
 use Rattle.std.proofs.KnownBytes.{Appends-trans}
 use Rattle.crs_streams.specs.Prelude.{AreLines, HasNoFeed, IsSplit, IsTextOf, EndsInFeed, HasShortLines, feeds, SinkState}
 use Rattle.crs_streams.specs.declared.fault.RunFault.{RunFault}
-use Rattle.crs_streams.specs.declared.fault.RunFault.TheVariants.{ReadFailed, WriteFailed, TooLong, TooManyReads, Memory}
+use Rattle.crs_streams.specs.declared.fault.RunFault.TheVariants.{WriteFailed, TooLong, Memory}
 use Rattle.crs_streams.proofs.FeedLemmas.{feeds-append, feeds-none, none-kept, short-ended, short-line, short-more, some-kept}
 use Rattle.crs_streams.proofs.SplitLemmas.{plain-append}
 use Rattle.crs_desk.specs.LinesRun.{AreOutputs, AreWholeLines, HasSent, HasSentAll, IsFrontOutput, Outputs}
 use Rattle.crs_desk.specs.LineCutting.{CutterParts, IsCut, IsEmptied, IsFlushed, IsHealthy, IsKept, IsLinesCut, IsNotKept, IsOver, IsPut, IsPutOut, IsStopped, IsWrittenOut, PutsLine, WriterParts}
-use Rattle.crs_desk.proofs.LineOutputLemmas.{lines-append, outputs-append}
+use Rattle.crs_desk.proofs.LineOutputLemmas.{appends-none, lines-append, outputs-append}
 
 -- some whole lines of bytes are some of more bytes
 front-more : (Output : Outputs) (bytes more written : List ℕ) (end : Bool) → IsFrontOutput Output bytes false written
@@ -18,16 +18,10 @@ front-more Output bytes more written end is = record {
   front = is.front;
   rest = is.rest ++ more;
   are_bytes = ap (λ l. l ++ more) is.are_bytes ∙ append_assoc is.front is.rest more;
-  are_whole = by_end is.are_whole;
+  are_whole = grind (arith, is.are_whole);
   status = is.status;
   is_output = is.is_output;
 }
-  where
-    by_end : ((is.front ≡ []) ⊎ EndsInFeed is.front ⊎ ((is.rest ≡ []) × (false ≡ true)))
-        → (is.front ≡ []) ⊎ EndsInFeed is.front ⊎ ((is.rest ++ more ≡ []) × (end ≡ true))
-    by_end (inl none) = inl none
-    by_end (inr (inl ends)) = inr (inl ends)
-    by_end (inr (inr (none, no-end))) = absurd (true≢false (sym no-end))
 
 front-end : (Output : Outputs) (bytes written : List ℕ) (end : Bool) → IsFrontOutput Output bytes false written
     → IsFrontOutput Output bytes end written
@@ -52,25 +46,14 @@ put-front Output end before after bytes writer put = record {
   front = bytes;
   rest = [];
   are_bytes = sym (append-nil bytes);
-  are_whole = by_end put.are_whole;
+  are_whole = grind (arith, put.are_whole);
   status = writer.status;
   is_output = record { texts = put.texts; are_texts = put.are_texts; are_outputs = put.are_outputs };
 }
-  where
-    by_end : ((bytes ≡ []) ⊎ EndsInFeed bytes ⊎ (end ≡ true))
-        → (bytes ≡ []) ⊎ EndsInFeed bytes ⊎ ((◌≡◌ {A = List ℕ} [] []) × (end ≡ true))
-    by_end (inl none) = inl none
-    by_end (inr (inl ends)) = inr (inl ends)
-    by_end (inr (inr is)) = inr (inr (refl, is))
 
 put-begins : (Output : Outputs) (before after : SinkState) (bytes : List ℕ) (writer : WriterParts)
     → IsPutOut Output false before bytes writer after → (bytes ≡ []) ⊎ EndsInFeed bytes
-put-begins Output before after bytes writer put = by_end put.are_whole
-  where
-    by_end : ((bytes ≡ []) ⊎ EndsInFeed bytes ⊎ (false ≡ true)) → (bytes ≡ []) ⊎ EndsInFeed bytes
-    by_end (inl none) = inl none
-    by_end (inr (inl ends)) = inr ends
-    by_end (inr (inr no-end)) = absurd (true≢false (sym no-end))
+put-begins Output before after bytes writer put = grind (arith, put.are_whole)
 
 outputs-more : (Output : Outputs) (texts : List (List ℕ)) (text sent : List ℕ) (old new : WriterParts)
     → AreOutputs Output texts (sent ++ old.out) old.status → IsPut Output text old new
@@ -133,7 +116,7 @@ put-flushed Output end before now after bytes old new put (inr (block, sent)) =
     put-emptied Output end before now after bytes old new put sent
 
 -- a write that failed took the first bytes of what was kept
-put-cut : (Output : Outputs) (end : Bool) (before now after : SinkState) (bytes : List ℕ) (writer : WriterParts)
+pub put-cut : (Output : Outputs) (end : Bool) (before now after : SinkState) (bytes : List ℕ) (writer : WriterParts)
     (fault : RunFault) → IsPutOut Output end before bytes writer now → IsCut writer now after fault
     → IsStopped Output end before bytes after fault
 put-cut Output end before now after bytes writer fault put cut =
@@ -191,10 +174,6 @@ cut-none Output before cutter healthy is = subst (λ (c : CutterParts). IsLinesC
   is_short = omega arith;
   is_counted = refl;
 })
-  where
-    appends-none : (contents : Option (List ℕ)) → Appends contents contents []
-    appends-none None = tt
-    appends-none (Some held) = sym (append-nil held)
 
 cut-begins : (Output : Outputs) (before after : SinkState) (bytes : List ℕ) (cutter : CutterParts)
     (cut : IsLinesCut Output before bytes cutter after) → (cut.ended ≡ []) ⊎ EndsInFeed cut.ended
@@ -370,16 +349,7 @@ cut-short Output before after bytes cutter cut =
 
 feeds-fit : (bytes : List ℕ) → feeds bytes ≤ length bytes
 feeds-fit [] = omega arith
-feeds-fit (b ∷ bytes) =
-    let both = feeds-append (b ∷ []) bytes in
-    omega (arith, both, one b, feeds-fit bytes)
-  where
-    by_test : (t : Bool) → cond t 1 0 ≤ 1
-    by_test true = omega arith
-    by_test false = omega arith
-
-    one : (b : ℕ) → feeds (b ∷ []) ≤ 1
-    one b = omega (arith, by_test (b == 10))
+feeds-fit (b ∷ bytes) = grind (arith, feeds-append (b ∷ []) bytes, feeds-fit bytes)
 
 pub cut-fits : (Output : Outputs) (before after : SinkState) (bytes : List ℕ) (cutter : CutterParts)
     → IsLinesCut Output before bytes cutter after → cutter.lines ≤ length bytes
@@ -415,13 +385,6 @@ end-sent Output before now after bytes old new put sent =
           (sym (ap (λ l. all.sent ++ l) sent.is_empty ∙ append-nil all.sent)) all.is_sent;
       is_healthy = all.is_healthy;
     }
-
--- the rest can't be sent
-pub end-unsent : (Output : Outputs) (before now after : SinkState) (bytes : List ℕ) (writer : WriterParts) (fault : RunFault)
-    → IsPutOut Output true before bytes writer now → IsCut writer now after fault
-    → IsStopped Output true before bytes after fault
-end-unsent Output before now after bytes writer fault put cut =
-    put-cut Output true before now after bytes writer fault put cut
 
 -- ---- as the code cuts
 
@@ -574,11 +537,7 @@ cut-sent-all Output before after bytes end cutter cut =
 
 pub stopped-first : (Output : Outputs) (end : Bool) (before after : SinkState) (bytes : List ℕ) (fault : RunFault)
     → IsStopped Output end before bytes after fault → after.past_failure ≡ false
-stopped-first Output end before after bytes ReadFailed stopped = absurd stopped
-stopped-first Output end before after bytes WriteFailed stopped = stopped.1
-stopped-first Output end before after bytes (TooLong number) stopped = stopped.0.1
-stopped-first Output end before after bytes TooManyReads stopped = absurd stopped
-stopped-first Output end before after bytes Memory stopped = stopped.0.1
+stopped-first Output end before after bytes fault stopped = grind arith
 
 pub cut-healthy : (Output : Outputs) (before after : SinkState) (bytes : List ℕ) (cutter : CutterParts)
     → IsLinesCut Output before bytes cutter after → IsHealthy after

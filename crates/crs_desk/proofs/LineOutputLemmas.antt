@@ -1,8 +1,14 @@
 -- What is written for lines one after another.
-use Rattle.std.proofs.Common.{◌≡◌, ◌⊎◌, ◌+◌, ◌++◌, ◌∷◌, [], ℕ, List, length, inl, inr, ap, subst, sym, ◌∙◌, arith, append_assoc, length-append, max}
+use Rattle.std.proofs.Common.{Option, Some, None, append-nil, ◌≡◌, ◌⊎◌, ◌+◌, ◌++◌, ◌∷◌, [], ℕ, List, length, inl, inr, ap, subst, sym, ◌∙◌, arith, append_assoc, length-append, max}
+use Rattle.std.specs.Io.KnownBytes.{Appends}
 use Rattle.crs_streams.specs.Prelude.{AreLines, HasNoFeed, EndsInFeed, feeds}
 use Rattle.crs_streams.proofs.FeedLemmas.{feeds-append, feeds-none}
 use Rattle.crs_desk.specs.LinesRun.{AreOutputs, IsLinesOutput, Outputs}
+
+-- where nothing is written, nothing is sent
+pub appends-none : (contents : Option (List ℕ)) → Appends contents contents []
+appends-none None = tt
+appends-none (Some held) = sym (append-nil held)
 
 max-assoc : (a b c : ℕ) → max a (max b c) ≡ max (max a b) c
 max-assoc a b c = omega arith
@@ -26,22 +32,16 @@ outputs-append Output (x ∷ xs) ys a b m n (line, rest, first, others, one, fur
   ap (λ k. max k n) greatest ∙ sym (max-assoc first others n),
 )
 
-tail-of : (a b : ℕ) (xs ys : List ℕ) → a ∷ xs ≡ b ∷ ys → xs ≡ ys
-tail-of a b xs ys h = cc
-
-some-length : (line rest : List ℕ) (b : ℕ) → line ++ b ∷ rest ≡ [] → ⊥
-some-length line rest b e = absurd (omega (arith, ap length e, length-append line (b ∷ rest)))
-
 -- after a feed, bytes that end in one end in one
 ends-behind : (line rest front : List ℕ) → line ++ 10 ∷ rest ≡ front ++ 10 ∷ [] → (rest ≡ []) ⊎ EndsInFeed rest
-ends-behind [] rest [] e = inl (tail-of 10 10 rest [] e)
-ends-behind [] rest (y ∷ ys) e = inr (ys, tail-of 10 y rest (ys ++ 10 ∷ []) e)
-ends-behind (x ∷ xs) rest [] e = absurd (some-length xs rest 10 (tail-of x 10 (xs ++ 10 ∷ rest) [] e))
-ends-behind (x ∷ xs) rest (y ∷ ys) e = ends-behind xs rest ys (tail-of x y (xs ++ 10 ∷ rest) (ys ++ 10 ∷ []) e)
+ends-behind [] rest [] e = inl (cc)
+ends-behind [] rest (y ∷ ys) e = inr (ys, cc)
+ends-behind (x ∷ xs) rest [] e = grind (arith, ap length e, length-append xs (10 ∷ rest))
+ends-behind (x ∷ xs) rest (y ∷ ys) e = ends-behind xs rest ys (cc)
 
 begins-behind : (bytes line rest : List ℕ) → bytes ≡ line ++ 10 ∷ rest → (bytes ≡ []) ⊎ EndsInFeed bytes
     → (rest ≡ []) ⊎ EndsInFeed rest
-begins-behind bytes line rest e (inl none) = absurd (some-length line rest 10 (sym e ∙ none))
+begins-behind bytes line rest e (inl none) = grind (arith, ap length (sym e ∙ none), length-append line (10 ∷ rest))
 begins-behind bytes line rest e (inr (front, ends)) = ends-behind line rest front (sym e ∙ ends)
 
 no-feed-ends : (bytes : List ℕ) → HasNoFeed bytes → EndsInFeed bytes → ⊥

@@ -2,7 +2,7 @@
 -- whole.
 use Rattle.std.proofs.Common.{◌≡◌, ◌+◌, ◌<◌, ◌≤◌, ◌*◌, ◌^◌, [], ℕ, List, Option, Some, None, true, false, ap, subst, sym, refl, arith, Result, Ok, Err, IfErr, IfOk, IsErr}
 use Rattle.std.specs.Io.KnownBytes.{Consumes, ReadConsumes}
-use Rattle.crs_streams.specs.Prelude.{HasGiven, HasShortLines, CountsRead, SinkState, SourceState, fresh_source}
+use Rattle.crs_streams.specs.Prelude.{HasGiven, CountsRead, SinkState, SourceState, fresh_source}
 use Rattle.crs_streams.specs.declared.fault.RunFault.{RunFault}
 use Rattle.crs_streams.specs.declared.fault.RunFault.TheVariants.{ReadFailed, WriteFailed, TooLong, TooManyReads, Memory}
 use Rattle.crs_desk.specs.LinesRun.{HasBegun, IsLinesAnswered, IsLinesFault, Outputs}
@@ -111,15 +111,14 @@ lines-answered Output old new before now after cutter status through finish =
     }
 
 end-fault : (Output : Outputs) (old new : SourceState) (before after : SinkState) (bytes : List ℕ) (fault : RunFault)
-    → HasGiven old new bytes → new.failed ≡ false → new.ended ≡ true → HasShortLines bytes
-    → IsStopped Output new.ended before bytes after fault → IsLinesFault Output old new before after fault
-end-fault Output old new before after bytes ReadFailed given healthy ended short stopped = absurd stopped
-end-fault Output old new before after bytes WriteFailed given healthy ended short (failed, first, (unsent, sent)) =
+    → HasGiven old new bytes → new.failed ≡ false → IsStopped Output new.ended before bytes after fault → IsLinesFault Output old new before after fault
+end-fault Output old new before after bytes ReadFailed given healthy stopped = absurd stopped
+end-fault Output old new before after bytes WriteFailed given healthy (failed, first, (unsent, sent)) =
     (healthy, failed, (bytes, unsent, given, sent))
-end-fault Output old new before after bytes (TooLong number) given healthy ended short (sound, long) =
+end-fault Output old new before after bytes (TooLong number) given healthy (sound, long) =
     (healthy, sound.0, (bytes, given, long))
-end-fault Output old new before after bytes TooManyReads given healthy ended short stopped = absurd stopped
-end-fault Output old new before after bytes Memory given healthy ended short (sound, sent) =
+end-fault Output old new before after bytes TooManyReads given healthy stopped = absurd stopped
+end-fault Output old new before after bytes Memory given healthy (sound, sent) =
     (healthy, sound.0, (bytes, given, sent))
 
 pub lines-fault : (Output : Outputs) (old new : SourceState) (before now after : SinkState) (cutter : CutterParts)
@@ -130,8 +129,7 @@ pub lines-fault : (Output : Outputs) (old new : SourceState) (before now after :
 lines-fault Output old new before now after cutter fault through finish =
     let stopped = finish before through.bytes through.is_cut in
     let ended = through.is_whole.is_ended in
-    end-fault Output old new before after through.bytes fault through.is_whole.is_given through.is_whole.is_healthy ended
-    (cut-short Output before now through.bytes cutter through.is_cut)
+    end-fault Output old new before after through.bytes fault through.is_whole.is_given through.is_whole.is_healthy
     (subst (λ end. IsStopped Output end before through.bytes after fault) (sym ended) stopped)
 
 pub end-first : (Output : Outputs) (old new : SourceState) (before now after : SinkState) (cutter : CutterParts)

@@ -1,26 +1,17 @@
 -- The lines of an explanation, one further.
-use Rattle.std.proofs.Common.{◌≡◌, ◌∙◌, ◌++◌, ◌∷◌, [], ℕ, List, Bool, true, false, not, ◌&&◌, ◌||◌, ap, append-nil, append_assoc, refl, sym, ◌==◌, if◌then◌else◌}
+use Rattle.std.proofs.Common.{arith, ◌≡◌, ◌∙◌, ◌++◌, ◌∷◌, [], ℕ, List, Bool, true, false, not, ◌||◌, ap, append-nil, append_assoc, refl, sym, ◌==◌, if◌then◌else◌}
 use Rattle.std.specs.Str.{bytes_eq}
 use Rattle.crs_streams.specs.Prelude.{HasNoFeed, IsSplit}
 use Rattle.crs_desk.specs.RulesOutput.{has_path, lines_after, lines_in, marked, marked_line, path_in, with_mark}
 use Rattle.crs_desk.specs.declared.manner.Manner.{Manner}
 
-both : (a b : Bool) → (a && b) ≡ true → (a ≡ true) × (b ≡ true)
-both true b is = (refl, is)
-both false b is = cc
-
-is-false : (b : Bool) → not b ≡ true → b ≡ false
-is-false true none = cc
-is-false false none = refl
-
 -- a byte that is no line feed goes on with the line
 goes-on : (front bytes : List ℕ) (b : ℕ) → not (b == 10) ≡ true
     → lines_after front (b ∷ bytes) ≡ lines_after (front ++ b ∷ []) bytes
-goes-on front bytes b none =
-    ap (λ t. if t then front ∷ lines_after [] bytes else lines_after (front ++ b ∷ []) bytes) (is-false (b == 10) none)
+goes-on front bytes b none = grind arith
 
 no-feed-first : (b : ℕ) (bytes : List ℕ) → HasNoFeed (b ∷ bytes) → (not (b == 10) ≡ true) × HasNoFeed bytes
-no-feed-first b bytes none = both (not (b == 10)) _ none
+no-feed-first b bytes none = grind arith
 
 line-ends : (front line rest : List ℕ) → HasNoFeed line
     → lines_after front (line ++ 10 ∷ rest) ≡ (front ++ line) ∷ lines_in rest

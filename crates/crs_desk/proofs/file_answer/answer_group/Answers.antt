@@ -1,14 +1,10 @@
-use Rattle.std.proofs.Common.{◌≡◌, rules, subst, sym, IfErr}
-use Rattle.std.proofs.lemmas.Result.{IfErr-weaker}
-use Rattle.crs_desk.specs.FileAnswers.{IsFileFault, NoFront}
+use Rattle.std.proofs.Common.{rules}
+use Rattle.crs_catalogue.proofs.FaultLemmas.{handed-on}
 use Rattle.crs_desk.proofs.FileLemmas.{unread-file}
 use Rattle.crs_desk.proofs.file_answer.answer_group.Goals as goal
 
 pub returns-in_err-plain-clause-fault : goal.returns-in_err-plain-clause-fault
 returns-in_err-plain-clause-fault g c =
-    let known = g.R.Read.remaining c.args.reader in
-    let same : IfErr c.from_residual.result (λ fault. fault ≡ c.in_err-plain.field-0.0) = search rules in
-    IfErr-weaker c.from_residual.result _ _
-    (λ fault is. subst (IsFileFault NoFront c.args.prefix.now known c.args.sink.now c.args.sink.now) (sym is)
-    (unread-file c.args.prefix.now known c.args.sink.now c.in_err-plain.field-0.0 c.requires c.in_err-plain.ensures.fault))
-    same
+    handed-on c.from_residual.result c.in_err-plain.field-0.0 _ (search rules)
+    (unread-file c.args.prefix.now (g.R.Read.remaining c.args.reader) c.args.sink.now c.in_err-plain.field-0.0 c.requires
+    c.in_err-plain.ensures.fault)

@@ -1,8 +1,7 @@
-use Rattle.std.proofs.Common.{◌≡◌, ◌++◌, [], arith, false, length, length-take, refl, rules, subst, sym, take, Ok, IfErr, IsErr}
-use Rattle.std.proofs.lemmas.Result.{IfErr-weaker}
+use Rattle.std.proofs.Common.{◌≡◌, ◌++◌, [], arith, false, length, length-take, refl, rules, take, Ok}
 use Rattle.crs_streams.specs.declared.fault.RunFault.TheVariants.{ReadFailed}
 use Rattle.crs_streams.proofs.GivenLemmas.{given-read, taken-read}
-use Rattle.crs_desk.specs.LinesRun.{IsLinesFault}
+use Rattle.crs_catalogue.proofs.FaultLemmas.{handed-on}
 use Rattle.crs_desk.proofs.LineCutLemmas.{cut-none, stopped-first}
 use Rattle.crs_desk.proofs.LinesRunLemmas.{failed-read, given-none, lines-fit, many-reads, stopped-fault}
 use Rattle.crs_desk.proofs.lines_run.read_through.Goals as goal
@@ -28,13 +27,9 @@ pub returns-in_err-count-clause-err : goal.returns-in_err-count-clause-err
 returns-in_err-count-clause-err g c =
     let Output = g.C.TextCommand.Output c.args.command.now in
     let cut = c.loop-turn.invariant.cut in
-    let same : IfErr c.from_residual.result (λ fault. fault ≡ ReadFailed) = search rules in
-    let bad : IsErr c.read.result = search rules in
-    IfErr-weaker c.from_residual.result _ _
-    (λ fault is. subst (IsLinesFault Output c.args.source.now c.read.new.self c.args.sink.now c.loop-turn.sink) (sym is)
+    handed-on c.from_residual.result ReadFailed _ (search rules)
     (failed-read Output c.args.source.now c.loop-turn.source c.read.new.self c.args.sink.now c.loop-turn.sink cut.0
-    c.read.new.room c.loop-turn.cutter c.read.result cut.1 cut.2 c.loop-turn.invariant.sent c.read.ensures.bytes c.read.ensures.counted bad))
-    same
+    c.read.new.room c.loop-turn.cutter c.read.result cut.1 cut.2 c.loop-turn.invariant.sent c.read.ensures.bytes c.read.ensures.counted (search rules))
 
 pub take-requires-clause-fits : goal.take-requires-clause-fits
 take-requires-clause-fits g c =
@@ -54,16 +49,13 @@ returns-in_err-take-clause-err g c =
     let cut = c.loop-turn.invariant.cut in
     let got : c.read.result ≡ Ok c.in_ok-count.count = search rules in
     let healthy : c.read.new.self.failed ≡ false = search rules in
-    let same : IfErr c.from_residual-in_err-take.result (λ fault. fault ≡ c.in_err-take.field-0.0) = search rules in
     let given = given-read c.args.source.now c.loop-turn.source c.read.new.self cut.0 c.read.new.room
     c.read.new.room c.read.result c.in_ok-count.count cut.1 c.read.ensures.bytes c.read.ensures.counted
     c.read.ensures.bound got refl in
-    IfErr-weaker c.from_residual-in_err-take.result _ _
-    (λ fault is. subst (IsLinesFault Output c.args.source.now c.read.new.self c.args.sink.now c.take.new.sink) (sym is)
+    handed-on c.from_residual-in_err-take.result c.in_err-take.field-0.0 _ (search rules)
     (stopped-fault Output c.args.source.now c.read.new.self c.args.sink.now c.take.new.sink
     (cut.0 ++ take c.in_ok-count.count c.read.new.room) c.in_err-take.field-0.0 given healthy
-    (c.in_err-take.ensures.fault c.args.sink.now cut.0 cut.2)))
-    same
+    (c.in_err-take.ensures.fault c.args.sink.now cut.0 cut.2))
 
 pub returns-in_err-take-clause-past_failure : goal.returns-in_err-take-clause-past_failure
 returns-in_err-take-clause-past_failure g c =

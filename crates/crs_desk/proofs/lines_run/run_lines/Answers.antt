@@ -1,18 +1,14 @@
-use Rattle.std.proofs.Common.{◌≡◌, rules, subst, sym, IfErr}
+use Rattle.std.proofs.Common.{rules}
 use Rattle.std.proofs.lemmas.Result.{IfErr-weaker, IfOk-weaker}
 use Rattle.crs_streams.specs.declared.fault.RunFault.TheVariants.{Memory}
-use Rattle.crs_desk.specs.LinesRun.{IsLinesFault}
+use Rattle.crs_catalogue.proofs.FaultLemmas.{handed-on}
 use Rattle.crs_desk.proofs.LinesRunLemmas.{end-first, lines-answered, lines-fault, none-begun}
 use Rattle.crs_desk.proofs.lines_run.run_lines.Goals as goal
 
 pub returns-in_err-room-clause-fault : goal.returns-in_err-room-clause-fault
 returns-in_err-room-clause-fault g c =
-    let Output = g.C.TextCommand.Output c.args.command.now in
-    let same : IfErr c.from_residual.result (λ fault. fault ≡ Memory) = search rules in
-    IfErr-weaker c.from_residual.result _ _
-    (λ fault is. subst (IsLinesFault Output c.args.source.now c.args.source.now c.args.sink.now c.args.sink.now) (sym is)
-    (none-begun Output c.args.source.now c.args.sink.now c.requires.source c.requires.sink))
-    same
+    handed-on c.from_residual.result Memory _ (search rules)
+    (none-begun (g.C.TextCommand.Output c.args.command.now) c.args.source.now c.args.sink.now c.requires.source c.requires.sink)
 
 pub returns-clause-answered : goal.returns-clause-answered
 returns-clause-answered g c =

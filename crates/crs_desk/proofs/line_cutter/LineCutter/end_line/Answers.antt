@@ -1,5 +1,6 @@
-use Rattle.std.proofs.Common.{◌≡◌, ◌∙◌, ◌++◌, ◌∷◌, rules, IfErr}
+use Rattle.std.proofs.Common.{◌++◌, ◌∷◌, rules}
 use Rattle.std.proofs.lemmas.Result.{IfErr-weaker, IfOk-weaker}
+use Rattle.crs_catalogue.proofs.FaultLemmas.{handed-on}
 use Rattle.crs_desk.proofs.LineCutLemmas.{line-ended, line-starved, line-unsent, over-end}
 use Rattle.crs_desk.proofs.line_cutter.LineCutter.end_line.Goals as goal
 
@@ -11,11 +12,9 @@ returns-then-is_over-clause-fault g c before bytes rest small cut =
 
 pub returns-in_err-put_line-clause-fault : goal.returns-in_err-put_line-clause-fault
 returns-in_err-put_line-clause-fault g c =
-    let same : IfErr c.from_residual.result (λ fault. fault ≡ c.in_err-put_line.field-0.0) = search rules in
-    IfErr-weaker c.from_residual.result _ _
-    (λ fault is before bytes rest small cut. line-starved (g.C.TextCommand.Output c.args.command.now) before
-    c.args.sink.now bytes (c.args.line.now ++ 10 ∷ rest) c.args.self.now fault (is ∙ c.in_err-put_line.ensures.fault) cut)
-    same
+    handed-on c.from_residual.result c.in_err-put_line.field-0.0 _ (search rules)
+    (λ before bytes rest small cut. line-starved (g.C.TextCommand.Output c.args.command.now) before c.args.sink.now bytes
+    (c.args.line.now ++ 10 ∷ rest) c.args.self.now c.in_err-put_line.field-0.0 c.in_err-put_line.ensures.fault cut)
 
 pub returns-clause-cut : goal.returns-clause-cut
 returns-clause-cut g c =

@@ -1,28 +1,23 @@
-use Rattle.std.proofs.Common.{◌≡◌, ◌∙◌, ap, rules, subst, sym, true, IfErr}
-use Rattle.std.proofs.lemmas.Result.{IfErr-weaker}
-use Rattle.crs_desk.specs.LineCutting.{CutterParts, IsPutOut, IsStopped, IsWrittenOut, WriterParts}
-use Rattle.crs_desk.proofs.LineCutLemmas.{end-sent, end-starved, end-unsent}
+use Rattle.std.proofs.Common.{ap, rules, subst, sym, true}
+use Rattle.crs_catalogue.proofs.FaultLemmas.{handed-on}
+use Rattle.crs_desk.specs.LineCutting.{CutterParts, IsPutOut, IsWrittenOut, WriterParts}
+use Rattle.crs_desk.proofs.LineCutLemmas.{end-sent, end-starved, put-cut}
 use Rattle.crs_desk.proofs.line_cutter.LineCutter.finish.Goals as goal
 
 pub returns-in_err-end_last-clause-fault : goal.returns-in_err-end_last-clause-fault
 returns-in_err-end_last-clause-fault g c =
-    let same : IfErr c.from_residual.result (λ fault. fault ≡ c.in_err-end_last.field-0.0) = search rules in
-    IfErr-weaker c.from_residual.result _ _
-    (λ fault is before bytes cut. end-starved (g.C.TextCommand.Output c.args.command.now) before c.args.sink.now bytes
-    c.args.self.now fault (is ∙ c.in_err-end_last.ensures.fault) cut)
-    same
+    handed-on c.from_residual.result c.in_err-end_last.field-0.0 _ (search rules)
+    (λ before bytes cut. end-starved (g.C.TextCommand.Output c.args.command.now) before c.args.sink.now bytes
+    c.args.self.now c.in_err-end_last.field-0.0 c.in_err-end_last.ensures.fault cut)
 
 pub returns-in_err-send-clause-fault : goal.returns-in_err-send-clause-fault
 returns-in_err-send-clause-fault g c =
     let Output = g.C.TextCommand.Output c.args.command.now in
-    let same : IfErr c.from_residual-in_err-send.result (λ fault. fault ≡ c.in_err-send.field-0.0) = search rules in
-    IfErr-weaker c.from_residual-in_err-send.result _ _
-    (λ fault is before bytes cut. subst (IsStopped Output true before bytes c.send.new.sink) (sym is)
-    (end-unsent Output before c.args.sink.now c.send.new.sink bytes c.self.inside.writer c.in_err-send.field-0.0
+    handed-on c.from_residual-in_err-send.result c.in_err-send.field-0.0 _ (search rules)
+    (λ before bytes cut. put-cut Output true before c.args.sink.now c.send.new.sink bytes c.self.inside.writer c.in_err-send.field-0.0
     (subst (λ (w : WriterParts). IsPutOut Output true before bytes w c.args.sink.now)
     (sym (ap (λ (k : CutterParts). k.writer) c.self.view_is)) (c.in_ok-end_last.ensures.put before c.args.sink.now bytes cut))
-    c.in_err-send.ensures.cut))
-    same
+    c.in_err-send.ensures.cut)
 
 pub returns-clause-written : goal.returns-clause-written
 returns-clause-written g c before bytes cut =

@@ -1,7 +1,8 @@
-use Rattle.std.proofs.Common.{◌≡◌, ◌∙◌, ◌++◌, ◌∷◌, [], ap, append-nil, arith, false, length, length-append, refl, rules, subst, sym, IfErr}
+use Rattle.std.proofs.Common.{◌∙◌, ◌++◌, ◌∷◌, [], ap, append-nil, arith, length, length-append, refl, rules, subst, sym}
 use Rattle.std.proofs.lemmas.Result.{IfErr-weaker, IfOk-weaker}
 use Rattle.crs_streams.specs.Prelude.{HasNoFeed}
-use Rattle.crs_desk.specs.LineCutting.{CutterParts, IsLinesCut, IsStopped, WriterParts}
+use Rattle.crs_catalogue.proofs.FaultLemmas.{handed-on}
+use Rattle.crs_desk.specs.LineCutting.{CutterParts, IsLinesCut, WriterParts}
 use Rattle.crs_desk.proofs.LineCutLemmas.{cut-emptied, cutter_of, piece-end-stopped, piece-kept, piece-step, piece-stopped, piece-unsent, split-small}
 use Rattle.crs_desk.proofs.line_cutter.LineCutter.take.Goals as goal
 
@@ -22,15 +23,12 @@ pub returns-in_err-end_line-clause-fault : goal.returns-in_err-end_line-clause-f
 returns-in_err-end_line-clause-fault g c =
     let Output = g.C.TextCommand.Output c.args.command.now in
     let done = c.loop-line.invariant.done in
-    let same : IfErr c.from_residual.result (λ fault. fault ≡ c.in_err-end_line.field-0.0) = search rules in
-    IfErr-weaker c.from_residual.result _ _
-    (λ fault is before bytes cut. subst (IsStopped Output false before (bytes ++ c.args.piece.now) c.end_line.new.sink) (sym is)
-    (piece-stopped Output before c.end_line.new.sink bytes done.0 c.in-Some.line.now c.in-Some.left.now c.loop-line.rest.now
+    handed-on c.from_residual.result c.in_err-end_line.field-0.0 _ (search rules)
+    (λ before bytes cut. piece-stopped Output before c.end_line.new.sink bytes done.0 c.in-Some.line.now c.in-Some.left.now c.loop-line.rest.now
     c.args.piece.now c.in_err-end_line.field-0.0 done.1 c.in-Some.ensures
     (c.in_err-end_line.ensures.fault before (bytes ++ done.0) c.in-Some.left.now
     (split-small done.0 c.in-Some.line.now c.in-Some.left.now c.loop-line.rest.now c.args.piece.now done.1
-    c.in-Some.ensures c.requires.small) (done.2 before bytes cut))))
-    same
+    c.in-Some.ensures c.requires.small) (done.2 before bytes cut)))
 
 pub loop-line-preserved : goal.loop-line-preserved
 loop-line-preserved g c =
@@ -67,14 +65,11 @@ returns-in_err-send-clause-fault g c =
     let Output = g.C.TextCommand.Output c.args.command.now in
     let done = c.loop-line.invariant.done in
     let now = cutter_of c.self.inside.writer c.self.inside.partial.items c.self.inside.lines in
-    let same : IfErr c.from_residual-in_err-send.result (λ fault. fault ≡ c.in_err-send.field-0.0) = search rules in
-    IfErr-weaker c.from_residual-in_err-send.result _ _
-    (λ fault is before bytes cut. subst (IsStopped Output false before (bytes ++ c.args.piece.now) c.send.new.sink) (sym is)
-    (piece-unsent Output before c.loop-line.sink c.send.new.sink bytes done.0 c.loop-line.rest.now c.args.piece.now now
+    handed-on c.from_residual-in_err-send.result c.in_err-send.field-0.0 _ (search rules)
+    (λ before bytes cut. piece-unsent Output before c.loop-line.sink c.send.new.sink bytes done.0 c.loop-line.rest.now c.args.piece.now now
     c.in_err-send.field-0.0 done.1 c.in_err-send.ensures.cut
     (subst (λ (k : CutterParts). IsLinesCut Output before (bytes ++ done.0) k c.loop-line.sink) (sym c.self.view_is)
-    (done.2 before bytes cut))))
-    same
+    (done.2 before bytes cut)))
 
 pub returns-clause-cut : goal.returns-clause-cut
 returns-clause-cut g c =

@@ -1,8 +1,8 @@
 use Rattle.std.proofs.Common.{◌≡◌, Err, Ok, inl, rules}
-use Rattle.std.proofs.lemmas.Result.{IfOk-weaker}
+use Rattle.std.proofs.lemmas.Result.{IfOk-weaker, MatchResult-at_err, MatchResult-at_ok}
 use Rattle.crs_desk.specs.RulesOutput.{IsPairUnder}
 use Rattle.crs_same_run.specs.SameOutput.{IsSameOutput, WritesRefusalOf}
-use Rattle.crs_desk.proofs.FormsLemmas.{formed-found, pair-formed, refused-found}
+use Rattle.crs_desk.proofs.FormsLemmas.{pair-formed}
 use Rattle.crs_desk.proofs.under_run.SameFormsAnswer.output.Goals as goal
 
 pub returns-in-Ok : goal.returns-in-Ok
@@ -11,7 +11,7 @@ returns-in-Ok c =
     let found : c.in_ok-a.field-0 ≡ Ok (c.in-Ok.a, c.in-Ok.b) = search rules in
     IfOk-weaker c.pair_output.result _ _
     (λ output. pair-formed self.under.rules.now self.under.level WritesRefusalOf (IsSameOutput self.under.level) self.a.now self.b.now
-    c.in-Ok.a c.in-Ok.b c.bytes.result.now c.bytes-in-Ok.result.now output.0.items output.1 (formed-found c.in_ok-a.field-0 _ _ (c.in-Ok.a, c.in-Ok.b) found c.in_ok-a.ensures) c.bytes.ensures
+    c.in-Ok.a c.in-Ok.b c.bytes.result.now c.bytes-in-Ok.result.now output.0.items output.1 (MatchResult-at_ok _ _ (c.in-Ok.a, c.in-Ok.b) found c.in_ok-a.ensures) c.bytes.ensures
     c.bytes-in-Ok.ensures)
     c.pair_output.ensures
 
@@ -19,4 +19,4 @@ pub returns-in-Err : goal.returns-in-Err
 unfolding IsPairUnder
 returns-in-Err c =
     let found : c.in_ok-a.field-0 ≡ Err c.in-Err.output = search rules in
-    inl (refused-found c.in_ok-a.field-0 _ _ c.in-Err.output found c.in_ok-a.ensures)
+    inl (MatchResult-at_err _ _ c.in-Err.output found c.in_ok-a.ensures)
