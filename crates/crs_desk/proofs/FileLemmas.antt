@@ -1,5 +1,5 @@
 -- The answer for one file, of the run over it.
-use Rattle.std.proofs.Common.{◌≡◌, ◌∙◌, ◌++◌, ◌⊎◌, ◌∷◌, [], ℕ, arith, List, Option, Some, None, true, false, ap, append-nil, append_assoc, inl, inr, refl, subst, sym, IfSome, max}
+use Rattle.std.proofs.Common.{◌≡◌, ◌∙◌, ◌++◌, ◌⊎◌, ◌∷◌, [], ℕ, arith, List, Option, Some, None, true, false, ap, append-nil, append_assoc, inr, refl, subst, sym, IfSome, max}
 use Rattle.std.proofs.KnownBytes.{Appends-trans}
 use Rattle.std.proofs.Math.Nat.{max-zero}
 use Rattle.std.specs.Io.KnownBytes.{Appends, Consumes}
@@ -15,7 +15,7 @@ use Rattle.crs_desk.specs.LineCutting.{IsHealthy}
 use Rattle.crs_desk.specs.LinesRun.{HasSentAll, IsFrontOutput, IsLinesAnswered, IsLinesFault, IsLinesOutput, Outputs}
 use Rattle.crs_runs.specs.Whole.{IsReadFault}
 use Rattle.crs_desk.specs.Prefixed.{PrefixParts}
-use Rattle.crs_desk.proofs.LineOutputLemmas.{appends-none}
+use Rattle.crs_desk.proofs.LineOutputLemmas.{appends-none, front-none, whole-front}
 use Rattle.crs_desk.proofs.PrefixedLemmas.{PrefixedOutputs, lines-plain}
 
 -- ---- a task over the whole text
@@ -77,14 +77,7 @@ front-sent Output ends prefix known left lines more before after given begins se
         front.0,
         front.1,
         plain.0,
-        record {
-          front = lines;
-          rest = [];
-          are_bytes = sym (append-nil lines);
-          are_whole = grind (arith, begins);
-          status = sent.status;
-          is_output = plain.1;
-        },
+        whole-front Output lines plain.0 sent.status false (grind (arith, begins)) plain.1,
         plain.2,
       ),
       sent.is_sent,
@@ -154,16 +147,6 @@ files-done asked known names left status before after written none sent healthy 
     )
 
 -- ---- one file
-
-front-none : (Output : Outputs) → IsFrontOutput Output [] false []
-front-none Output = record {
-  front = [];
-  rest = [];
-  are_bytes = refl;
-  are_whole = inl refl;
-  status = 0;
-  is_output = record { texts = []; are_texts = refl; are_outputs = (refl, refl) };
-}
 
 nothing-fronts : (asked : FileTask) → IsTaskFront asked [] []
 nothing-fronts asked = grind (arith, front-none)

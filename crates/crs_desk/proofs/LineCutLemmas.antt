@@ -9,7 +9,7 @@ use Rattle.crs_streams.proofs.FeedLemmas.{feeds-append, feeds-none, none-kept, s
 use Rattle.crs_streams.proofs.SplitLemmas.{plain-append}
 use Rattle.crs_desk.specs.LinesRun.{AreOutputs, AreWholeLines, HasSent, HasSentAll, IsFrontOutput, Outputs}
 use Rattle.crs_desk.specs.LineCutting.{CutterParts, IsCut, IsEmptied, IsFlushed, IsHealthy, IsKept, IsLinesCut, IsNotKept, IsOver, IsPut, IsPutOut, IsStopped, IsWrittenOut, PutsLine, WriterParts}
-use Rattle.crs_desk.proofs.LineOutputLemmas.{appends-none, lines-append, outputs-append}
+use Rattle.crs_desk.proofs.LineOutputLemmas.{appends-none, front-none, whole-front, lines-append, outputs-append}
 
 -- some whole lines of bytes are some of more bytes
 front-more : (Output : Outputs) (bytes more written : List ℕ) (end : Bool) → IsFrontOutput Output bytes false written
@@ -42,14 +42,9 @@ sent-more Output before after bytes more unsent end (written, is, sent) =
 -- what is written for all of them is one too
 put-front : (Output : Outputs) (end : Bool) (before after : SinkState) (bytes : List ℕ) (writer : WriterParts)
     (put : IsPutOut Output end before bytes writer after) → IsFrontOutput Output bytes end (put.sent ++ writer.out)
-put-front Output end before after bytes writer put = record {
-  front = bytes;
-  rest = [];
-  are_bytes = sym (append-nil bytes);
-  are_whole = grind (arith, put.are_whole);
-  status = writer.status;
-  is_output = record { texts = put.texts; are_texts = put.are_texts; are_outputs = put.are_outputs };
-}
+put-front Output end before after bytes writer put =
+    whole-front Output bytes (put.sent ++ writer.out) writer.status end put.are_whole
+    (record { texts = put.texts; are_texts = put.are_texts; are_outputs = put.are_outputs })
 
 put-begins : (Output : Outputs) (before after : SinkState) (bytes : List ℕ) (writer : WriterParts)
     → IsPutOut Output false before bytes writer after → (bytes ≡ []) ⊎ EndsInFeed bytes
@@ -158,14 +153,7 @@ cut-none Output before cutter healthy is = subst (λ (c : CutterParts). IsLinesC
     are_whole = inl refl;
     sent = [];
     are_outputs = (refl, refl);
-    is_front = record {
-      front = [];
-      rest = [];
-      are_bytes = refl;
-      are_whole = inl refl;
-      status = 0;
-      is_output = record { texts = []; are_texts = refl; are_outputs = (refl, refl) };
-    };
+    is_front = front-none Output;
     is_sent = appends-none before.contents;
     is_healthy = healthy;
   };
@@ -472,14 +460,20 @@ pub split-small : (front line left rest piece : List ℕ) → piece ≡ front ++
 split-small front line left rest piece is (split, plain) small =
     omega (arith, ap length is, length-append front rest, ap length split, length-append line (10 ∷ left))
 
+-- the rest of a piece stops the run
+pub rest-stopped : (Output : Outputs) (before after : SinkState) (bytes front rest piece : List ℕ) (fault : RunFault)
+    → piece ≡ front ++ rest → IsStopped Output false before ((bytes ++ front) ++ rest) after fault
+    → IsStopped Output false before (bytes ++ piece) after fault
+rest-stopped Output before after bytes front rest piece fault is stopped =
+    subst (λ b. IsStopped Output false before b after fault)
+    (append_assoc bytes front rest ∙ ap (λ l. bytes ++ l) (sym is)) stopped
+
 pub piece-stopped : (Output : Outputs) (before after : SinkState) (bytes front line left rest piece : List ℕ)
     (fault : RunFault) → piece ≡ front ++ rest → IsSplit rest line left
     → IsStopped Output false before ((bytes ++ front) ++ (line ++ 10 ∷ left)) after fault
     → IsStopped Output false before (bytes ++ piece) after fault
 piece-stopped Output before after bytes front line left rest piece fault is (split, plain) stopped =
-    subst (λ b. IsStopped Output false before b after fault)
-    (append_assoc bytes front (line ++ 10 ∷ left)
-    ∙ ap (λ l. bytes ++ l) (ap (λ r. front ++ r) (sym split) ∙ sym is)) stopped
+    rest-stopped Output before after bytes front (line ++ 10 ∷ left) piece fault (is ∙ ap (λ r. front ++ r) split) stopped
 
 pub piece-step : (Output : Outputs) (front line left rest piece : List ℕ) (old now next : CutterParts)
     (first sink after : SinkState) → piece ≡ front ++ rest → IsSplit rest line left
@@ -505,23 +499,6 @@ piece-kept Output before after bytes front rest piece old new is plain kept cut 
     subst (λ b. IsLinesCut Output before b new after)
     (append_assoc bytes front rest ∙ ap (λ l. bytes ++ l) (sym is))
     (cut-kept Output before after (bytes ++ front) rest old new cut plain kept.are_few kept.is_put kept.is_counted kept.are_more)
-
-pub piece-end-stopped : (Output : Outputs) (before after : SinkState) (bytes front rest piece : List ℕ)
-    (cutter : CutterParts) (fault : RunFault) → piece ≡ front ++ rest → cutter.writer.out ≡ [] → HasNoFeed rest
-    → length rest ≤ 65536 → IsNotKept rest cutter fault → IsLinesCut Output before (bytes ++ front) cutter after
-    → IsStopped Output false before (bytes ++ piece) after fault
-piece-end-stopped Output before after bytes front rest piece cutter fault is none plain small why cut =
-    subst (λ b. IsStopped Output false before b after fault)
-    (append_assoc bytes front rest ∙ ap (λ l. bytes ++ l) (sym is))
-    (keep-stopped Output before after (bytes ++ front) rest cutter fault none plain small why cut)
-
-pub piece-unsent : (Output : Outputs) (before now after : SinkState) (bytes front rest piece : List ℕ)
-    (cutter : CutterParts) (fault : RunFault) → piece ≡ front ++ rest → IsCut cutter.writer now after fault
-    → IsLinesCut Output before (bytes ++ front) cutter now → IsStopped Output false before (bytes ++ piece) after fault
-piece-unsent Output before now after bytes front rest piece cutter fault is unsent cut =
-    subst (λ b. IsStopped Output false before b after fault)
-    (append_assoc bytes front rest ∙ ap (λ l. bytes ++ l) (sym is))
-    (cut-unsendable Output before now after (bytes ++ front) rest cutter fault cut unsent)
 
 -- ---- what a run's fault says
 

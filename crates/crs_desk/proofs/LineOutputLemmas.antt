@@ -1,9 +1,9 @@
 -- What is written for lines one after another.
-use Rattle.std.proofs.Common.{Option, Some, None, append-nil, ◌≡◌, ◌⊎◌, ◌+◌, ◌++◌, ◌∷◌, [], ℕ, List, length, inl, inr, ap, subst, sym, ◌∙◌, arith, append_assoc, length-append, max}
+use Rattle.std.proofs.Common.{Bool, true, false, refl, Option, Some, None, append-nil, ◌≡◌, ◌⊎◌, ◌+◌, ◌++◌, ◌∷◌, [], ℕ, List, length, inl, inr, ap, subst, sym, ◌∙◌, arith, append_assoc, length-append, max}
 use Rattle.std.specs.Io.KnownBytes.{Appends}
 use Rattle.crs_streams.specs.Prelude.{AreLines, HasNoFeed, EndsInFeed, feeds}
 use Rattle.crs_streams.proofs.FeedLemmas.{feeds-append, feeds-none}
-use Rattle.crs_desk.specs.LinesRun.{AreOutputs, IsLinesOutput, Outputs}
+use Rattle.crs_desk.specs.LinesRun.{AreOutputs, IsFrontOutput, IsLinesOutput, Outputs}
 
 -- where nothing is written, nothing is sent
 pub appends-none : (contents : Option (List ℕ)) → Appends contents contents []
@@ -73,3 +73,23 @@ output-append Output a b v w m n begins first other = record {
   are_texts = lines-append a b first.texts other.texts begins first.are_texts other.are_texts;
   are_outputs = outputs-append Output first.texts other.texts v w m n first.are_outputs other.are_outputs;
 }
+
+-- ---- fronts of what is written
+
+-- what is written for whole lines, or for all of them
+pub whole-front : (Output : Outputs) (bytes written : List ℕ) (status : ℕ) (end : Bool)
+    → (bytes ≡ []) ⊎ EndsInFeed bytes ⊎ (end ≡ true) → IsLinesOutput Output bytes written status
+    → IsFrontOutput Output bytes end written
+whole-front Output bytes written status end whole output = record {
+  front = bytes;
+  rest = [];
+  are_bytes = sym (append-nil bytes);
+  are_whole = grind (arith, whole);
+  status = status;
+  is_output = output;
+}
+
+-- of no bytes nothing
+pub front-none : (Output : Outputs) → IsFrontOutput Output [] false []
+front-none Output =
+    whole-front Output [] [] 0 false (inl refl) (record { texts = []; are_texts = refl; are_outputs = (refl, refl) })

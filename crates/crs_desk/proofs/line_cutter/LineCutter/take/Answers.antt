@@ -3,7 +3,7 @@ use Rattle.std.proofs.lemmas.Result.{IfErr-weaker, IfOk-weaker}
 use Rattle.crs_streams.specs.Prelude.{HasNoFeed}
 use Rattle.crs_catalogue.proofs.FaultLemmas.{handed-on}
 use Rattle.crs_desk.specs.LineCutting.{CutterParts, IsLinesCut, WriterParts}
-use Rattle.crs_desk.proofs.LineCutLemmas.{cut-emptied, cutter_of, piece-end-stopped, piece-kept, piece-step, piece-stopped, piece-unsent, split-small}
+use Rattle.crs_desk.proofs.LineCutLemmas.{cut-emptied, cutter_of, cut-unsendable, keep-stopped, piece-kept, piece-step, piece-stopped, rest-stopped, split-small}
 use Rattle.crs_desk.proofs.line_cutter.LineCutter.take.Goals as goal
 
 pub loop-line-init : goal.loop-line-init
@@ -66,10 +66,11 @@ returns-in_err-send-clause-fault g c =
     let done = c.loop-line.invariant.done in
     let now = cutter_of c.self.inside.writer c.self.inside.partial.items c.self.inside.lines in
     handed-on c.from_residual-in_err-send.result c.in_err-send.field-0.0 _ (search rules)
-    (λ before bytes cut. piece-unsent Output before c.loop-line.sink c.send.new.sink bytes done.0 c.loop-line.rest.now c.args.piece.now now
-    c.in_err-send.field-0.0 done.1 c.in_err-send.ensures.cut
+    (λ before bytes cut. rest-stopped Output before c.send.new.sink bytes done.0 c.loop-line.rest.now c.args.piece.now
+    c.in_err-send.field-0.0 done.1
+    (cut-unsendable Output before c.loop-line.sink c.send.new.sink (bytes ++ done.0) c.loop-line.rest.now now c.in_err-send.field-0.0
     (subst (λ (k : CutterParts). IsLinesCut Output before (bytes ++ done.0) k c.loop-line.sink) (sym c.self.view_is)
-    (done.2 before bytes cut)))
+    (done.2 before bytes cut)) c.in_err-send.ensures.cut))
 
 pub returns-clause-cut : goal.returns-clause-cut
 returns-clause-cut g c =
@@ -94,12 +95,13 @@ returns-clause-fault g c =
     let next = cutter_of c.send.new.self c.self.inside.partial.items c.self.inside.lines in
     let plain : HasNoFeed c.loop-line.rest.now = search rules in
     IfErr-weaker c.keep.result _ _
-    (λ fault why before bytes cut. piece-end-stopped Output before c.send.new.sink bytes done.0 c.loop-line.rest.now
-    c.args.piece.now next fault done.1 c.in_ok-send.ensures.sent.is_empty plain
+    (λ fault why before bytes cut. rest-stopped Output before c.send.new.sink bytes done.0 c.loop-line.rest.now
+    c.args.piece.now fault done.1
+    (keep-stopped Output before c.send.new.sink (bytes ++ done.0) c.loop-line.rest.now next fault c.in_ok-send.ensures.sent.is_empty plain
     (omega (arith, c.loop-line.invariant.small, c.requires.small)) why
     (cut-emptied Output before c.loop-line.sink c.send.new.sink (bytes ++ done.0) now next
     (subst (λ (k : CutterParts). IsLinesCut Output before (bytes ++ done.0) k c.loop-line.sink) (sym c.self.view_is)
-    (done.2 before bytes cut)) c.in_ok-send.ensures.sent refl refl))
+    (done.2 before bytes cut)) c.in_ok-send.ensures.sent refl refl)))
     c.keep.ensures.fault
 
 pub returns-clause-sent : goal.returns-clause-sent
