@@ -1,9 +1,6 @@
-use Rattle.std.proofs.Common.{subst, sym}
 use Rattle.crs_value.specs.Prelude.{VerticalParts, IsVertical}
 use Rattle.crs_value.specs.declared.values.level.Level.TheVariants as levels
 use Rattle.crs_normal.specs.Prelude.{axis_text}
-use Rattle.crs_rules.specs.Rewritten.{arranged}
-use Rattle.crs_rules.specs.Sinking.{IsOrderless}
 use Rattle.crs_rules.proofs.CrsLemmas.{either-way, vertical-arranged}
 use Rattle.crs_rules.proofs.rewriting.order.arrange_vertical.Goals as goal
 
@@ -11,7 +8,5 @@ pub invariant_of-value : goal.invariant_of-value
 invariant_of-value c =
     let v = c.value.inside in
     let old : VerticalParts = record { name = v.name.now; dynamic = v.dynamic; frame = v.frame; system = v.system; geoid_models = v.geoid_models; tail = v.tail } in
-    let none : IsOrderless old.system = subst (λ (x : VerticalParts). IsOrderless x.system) (sym c.value.view_is) c.requires in
-    either-way c.arrange.result (λ s. IsVertical (record old { system = s })) old.system c.arrange.new.system
-    (arranged (axis_text levels.Full) old.system) c.arrange.ensures.ok c.arrange.ensures.err c.value.invariant
-    (vertical-arranged (axis_text levels.Full) old none c.value.invariant)
+    either-way c.arrange.result (λ s. IsVertical (record old { system = s })) _ _ _ c.arrange.ensures.ok c.arrange.ensures.err c.value.invariant
+    (vertical-arranged (axis_text levels.Full) old (rw (← c.value.view_is) at c.requires) c.value.invariant)

@@ -1,19 +1,8 @@
-use Rattle.std.proofs.Common.{IfSome, sym, subst}
-use Rattle.crs_shape.specs.declared.unit_kind.UnitKind.TheVariants as kinds
-use Rattle.crs_value.specs.Prelude.{IsUnitOf}
-use Rattle.crs_rules.specs.Rules.{Meaning, meaning}
-use Rattle.crs_rules.proofs.PartLemmas.{some-map}
-use Rattle.crs_rules.proofs.AliasLemmas.{sound-meaning, unit-of}
+use Rattle.crs_rules.proofs.PartLemmas.{extent-sound}
+use Rattle.crs_rules.proofs.AliasLemmas.{sound-meaning}
 use Rattle.crs_rules.proofs.rewriting.usages.extent.Goals as goal
 
 pub invariant_of-value : goal.invariant_of-value
 invariant_of-value c =
-    let M : Meaning = meaning c.args.rules.now in
-    let h = sound-meaning c.args.rules.now c.rules_are_sound.ensures in
-    let k = c.value.invariant in
-    let v = c.value.inside in
-    record {
-      minimum = k.minimum;
-      maximum = k.maximum;
-      unit = subst (λ u. IfSome u (IsUnitOf kinds.Length)) (sym c.optional_unit.ensures) (some-map (IsUnitOf kinds.Length) M.unit v.unit (unit-of M kinds.Length h) k.unit);
-    }
+    simp c.optional_unit.ensures
+    (extent-sound _ (sound-meaning c.args.rules.now c.rules_are_sound.ensures) _ c.value.invariant)
