@@ -49,6 +49,19 @@ pub mapped : {A B : Type 0} (f : A → B) (Q : B → Type 0) (xs : List A) → E
 mapped f Q [] h = tt
 mapped f Q (x ∷ xs) h = (h.0, mapped f Q xs h.1)
 
+-- a function leaves what it wrote as it is, in parts that may be missing and in sets, where it does so in one
+pub some-again : {A : Type 0} (f n : A → A) → ((x : A) → f (n (f (n x))) ≡ n (f (n x))) → (o : Option A) →
+    option_map f (option_map n (option_map f (option_map n o))) ≡ option_map n (option_map f (option_map n o))
+some-again f n h None = refl
+some-again f n h (Some x) = ap (λ y. Some y) (h x)
+
+pub set-again : {A : Type 0} (text : A → List ℕ) (f n : A → A) → StaysInOrder text → ((x : A) → f (n (f x)) ≡ n (f x)) →
+    (xs : List A) → map f (in_order text (map n (map f xs))) ≡ in_order text (map n (map f xs))
+set-again text f n l h xs =
+    let ys = map n (map f xs) in
+    each-fixed f (in_order text ys)
+    (l.fixed f ys (mapped n (λ x. f x ≡ x) (map f xs) (each-map (λ x. f (n x) ≡ n x) f xs h)))
+
 pub all-so : {A : Type 0} (xs : List A) → Each (λ x. Unit {0}) xs
 all-so [] = tt
 all-so (x ∷ xs) = (tt, all-so xs)
@@ -110,12 +123,6 @@ module _ (m : Meaning) (s : IsSteady m) (level : Level) where
       let u = unit-again kinds.Length (norm_length level e.unit) (length-kind e.unit) in
       λ i. record b { name = n i; unit = Some (u i) }
 
-  some-ellipsoid : (e : Option EllipsoidParts) →
-      option_map (ellipsoid m) (option_map (norm_ellipsoid level) (option_map (ellipsoid m) (option_map (norm_ellipsoid level) e)))
-      ≡ option_map (norm_ellipsoid level) (option_map (ellipsoid m) (option_map (norm_ellipsoid level) e))
-  some-ellipsoid None = refl
-  some-ellipsoid (Some e) = ap (λ x. Some x) (ellipsoid-again e)
-
   given-unit : (zero : Bool) (o : Option UnitParts) →
       units m (if zero then None else norm_units level kinds.Angle (units m (if zero then None else norm_units level kinds.Angle o)))
       ≡ (if zero then None else norm_units level kinds.Angle (units m (if zero then None else norm_units level kinds.Angle o)))
@@ -146,7 +153,7 @@ module _ (m : Meaning) (s : IsSteady m) (level : Level) where
   datum-again c d =
       let b : DatumParts = norm_datum level (datum m c (norm_datum level d)) in
       let n = s.name c d.name in
-      let e = some-ellipsoid d.ellipsoid in
+      let e = some-again (ellipsoid m) (norm_ellipsoid level) ellipsoid-again d.ellipsoid in
       let a = counted-again m.uncounted.anchors d.anchor in
       let t = counted-again m.uncounted.anchors d.anchor_epoch in
       λ i. record b { name = n i; ellipsoid = e i; anchor = a i; anchor_epoch = t i }
@@ -155,17 +162,10 @@ module _ (m : Meaning) (s : IsSteady m) (level : Level) where
   member-fixed c n =
       let b : NamedParts = norm_member level (named m c n) in let e = s.name c n.name in λ i. record b { name = e i }
 
-  each-member : (c : Class) (ms : List NamedParts) →
-      Each (λ x. named m c x ≡ x) (map (norm_member level) (map (named m c) ms))
-  each-member c [] = tt
-  each-member c (x ∷ xs) = (member-fixed c x, each-member c xs)
-
   members-again : StaysInOrder (λ (x : NamedParts). item_text (item_member x)) → (c : Class) (ms : List NamedParts) →
       map (named m c) (set_members level (map (named m c) ms)) ≡ set_members level (map (named m c) ms)
   unfolding set_members
-  members-again l c ms =
-      each-fixed (named m c) (in_order (λ x. item_text (item_member x)) (map (norm_member level) (map (named m c) ms)))
-      (l.fixed (named m c) (map (norm_member level) (map (named m c) ms)) (each-member c ms))
+  members-again l c ms = set-again (λ x. item_text (item_member x)) (named m c) (norm_member level) l (member-fixed c) ms
 
   ensemble-again : StaysInOrder (λ (x : NamedParts). item_text (item_member x)) → (c : Class) (e : EnsembleParts) →
       ensemble m c (norm_ensemble level (ensemble m c (norm_ensemble level e)))
@@ -174,7 +174,7 @@ module _ (m : Meaning) (s : IsSteady m) (level : Level) where
       let b : EnsembleParts = norm_ensemble level (ensemble m c (norm_ensemble level e)) in
       let n = s.name c e.name in
       let w = members-again l class.Member (set_members level e.members) in
-      let q = some-ellipsoid e.ellipsoid in
+      let q = some-again (ellipsoid m) (norm_ellipsoid level) ellipsoid-again e.ellipsoid in
       λ i. record b { name = n i; members = w i; ellipsoid = q i }
 
   -- a frame, where ensembles count or not
@@ -190,25 +190,19 @@ module _ (m : Meaning) (s : IsSteady m) (level : Level) where
       ap frames.Datum (datum-again c (frame_of (record e { name = without_ensemble e.name })))
   frame-again l c d false (frames.Ensemble e) = ap frames.Ensemble (ensemble-again l d e)
 
-  model-again : (x : Option NamedParts) →
-      option_map (named m class.DeformationModel) (option_map (norm_member level) (option_map (named m class.DeformationModel) (option_map (norm_member level) x)))
-      ≡ option_map (norm_member level) (option_map (named m class.DeformationModel) (option_map (norm_member level) x))
-  model-again None = refl
-  model-again (Some x) = ap (λ x. Some x) (member-fixed class.DeformationModel (norm_member level x))
-
   dynamic-again : (d : DynamicParts) →
       dynamic m (norm_dynamic level (dynamic m (norm_dynamic level d))) ≡ norm_dynamic level (dynamic m (norm_dynamic level d))
   dynamic-again d =
       let b : DynamicParts = norm_dynamic level (dynamic m (norm_dynamic level d)) in
-      let e = model-again d.model in λ i. record b { model = e i }
+      let e =
+      some-again (named m class.DeformationModel) (norm_member level) (λ x. member-fixed class.DeformationModel (norm_member level x)) d.model in λ i. record b { model = e i }
 
   pub dynamics-again : (uncounted : Bool) (d : Option DynamicParts) →
       counted uncounted (option_map (dynamic m) (option_map (norm_dynamic level)
       (counted uncounted (option_map (dynamic m) (option_map (norm_dynamic level) d)))))
       ≡ option_map (norm_dynamic level) (counted uncounted (option_map (dynamic m) (option_map (norm_dynamic level) d)))
   dynamics-again true d = refl
-  dynamics-again false None = refl
-  dynamics-again false (Some d) = ap (λ x. Some x) (dynamic-again d)
+  dynamics-again false d = some-again (dynamic m) (norm_dynamic level) dynamic-again d
 
   -- ---- coordinate systems
 
@@ -271,17 +265,11 @@ module _ (m : Meaning) (s : IsSteady m) (level : Level) where
       let n = s.name class.Parameter p.name in
       let u = plain-again p.unit in λ i. record b { name = n i; unit = u i }
 
-  each-parameter : (ps : List ParameterParts) →
-      Each (λ x. parameter m x ≡ x) (map (norm_parameter level) (map (parameter m) ps))
-  each-parameter [] = tt
-  each-parameter (p ∷ ps) = (parameter-fixed p, each-parameter ps)
-
   parameters-again : StaysInOrder (λ (x : ParameterParts). item_text (item_parameter x)) → (ps : List ParameterParts) →
       map (parameter m) (set_parameters level (map (parameter m) ps)) ≡ set_parameters level (map (parameter m) ps)
   unfolding set_parameters
   parameters-again l ps =
-      each-fixed (parameter m) (in_order (λ x. item_text (item_parameter x)) (map (norm_parameter level) (map (parameter m) ps)))
-      (l.fixed (parameter m) (map (norm_parameter level) (map (parameter m) ps)) (each-parameter ps))
+      set-again (λ x. item_text (item_parameter x)) (parameter m) (norm_parameter level) l parameter-fixed ps
 
   pub conversion-again : StaysInOrder (λ (x : ParameterParts). item_text (item_parameter x)) → (c : ConversionParts) →
       conversion m (norm_conversion level (conversion m (norm_conversion level c)))

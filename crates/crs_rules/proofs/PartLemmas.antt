@@ -4,12 +4,12 @@ use Rattle.std.specs.Option.{option_map}
 use Rattle.crs_shape.specs.declared.class.Class.{Class}
 use Rattle.crs_shape.specs.declared.class.Class.TheVariants as class
 use Rattle.crs_shape.specs.declared.unit_kind.UnitKind.TheVariants as kinds
-use Rattle.crs_value.specs.Prelude.{ConversionParts, ParameterParts, DynamicParts, datum_of, frame_of, NamedParts, IsText, IsNamed, IsUnitOf, IsConversion, IsParameter, IsDynamic, IsDatum, IsEllipsoid, IsEnsemble, IsMeridian, IsDynamicOf, IsGeodeticFrame, IsVerticalFrame, IsExtent, IsTail, IsUsage, DatumParts, EllipsoidParts, EnsembleParts, ExtentParts, MeridianParts, SaysSome, TailParts, UsageParts}
+use Rattle.crs_value.specs.Prelude.{ConversionParts, ParameterParts, DynamicParts, datum_of, NamedParts, IsText, IsNamed, IsUnitOf, IsConversion, IsParameter, IsDynamic, IsDatum, IsEllipsoid, IsEnsemble, IsMeridian, IsDynamicOf, IsGeodeticFrame, IsVerticalFrame, IsExtent, IsTail, IsUsage, DatumParts, EllipsoidParts, EnsembleParts, ExtentParts, MeridianParts, SaysSome, TailParts, UsageParts}
 use Rattle.crs_value.specs.Sound.{Each}
 use Rattle.crs_value.specs.declared.values.frame.Frame.{Frame}
 use Rattle.crs_value.specs.declared.values.frame.Frame.TheVariants as frames
 use Rattle.crs_rules.specs.Rewritten.{conversion, counted, counted_frame, datum, dynamic, dynamics, ellipsoid, ensemble, extent, frame_or_ensemble, meridian, named, parameter, stemmed, tail, usage}
-use Rattle.crs_rules.specs.Rules.{Meaning, without_ensemble}
+use Rattle.crs_rules.specs.Rules.{Meaning}
 use Rattle.crs_rules.proofs.AliasLemmas.{IsSoundMeaning, choice, counted-name, unit-of, unit-sound}
 use Rattle.crs_rules.proofs.StemLemmas.{stem-sound}
 
@@ -82,40 +82,22 @@ ensemble-sound r c h e k = record {
   identifiers = k.identifiers;
 }
 
-stemmed-ensemble : (e : EnsembleParts) → IsEnsemble e → IsEnsemble (record e { name = without_ensemble e.name })
-stemmed-ensemble e k = record {
+stem-counted : (e : EnsembleParts) → IsEnsemble e → IsDatum (datum_of (stemmed (frames.Ensemble e)))
+stem-counted e k = record {
   name = stem-sound e.name k.name;
-  some = k.some;
-  members = k.members;
-  ellipsoid = k.ellipsoid;
-  accuracy = k.accuracy;
-  identifiers = k.identifiers;
-}
-
-frame-of-sound : (e : EnsembleParts) → IsEnsemble e → IsDatum (frame_of e)
-frame-of-sound e k = record {
-  name = k.name;
   ellipsoid = k.ellipsoid;
   anchor = search arith;
   anchor_epoch = search arith;
   identifiers = k.identifiers;
 }
 
-counted-geodetic : (uncounted : Bool) (x : Frame) → IsGeodeticFrame x → IsGeodeticFrame (counted_frame uncounted x)
-counted-geodetic uncounted (frames.Datum d) k =
-    choice IsGeodeticFrame uncounted (frames.Datum d) (frames.Datum d) k k
-counted-geodetic uncounted (frames.Ensemble e) k =
-    let s : IsEnsemble (record e { name = without_ensemble e.name }) = stemmed-ensemble e k.0 in
-    choice IsGeodeticFrame uncounted (frames.Datum (datum_of (stemmed (frames.Ensemble e)))) (frames.Ensemble e)
-    (frame-of-sound (record e { name = without_ensemble e.name }) s, k.1) k
-
-counted-vertical : (uncounted : Bool) (x : Frame) → IsVerticalFrame x → IsVerticalFrame (counted_frame uncounted x)
-counted-vertical uncounted (frames.Datum d) k =
-    choice IsVerticalFrame uncounted (frames.Datum d) (frames.Datum d) k k
-counted-vertical uncounted (frames.Ensemble e) k =
-    let s : IsEnsemble (record e { name = without_ensemble e.name }) = stemmed-ensemble e k.0 in
-    choice IsVerticalFrame uncounted (frames.Datum (datum_of (stemmed (frames.Ensemble e)))) (frames.Ensemble e)
-    (frame-of-sound (record e { name = without_ensemble e.name }) s, k.1) k
+-- what an ensemble has, and the reference frame that it counts as too, a frame has where ensembles count or not
+counted-frame : (P : Frame → Type 0) (uncounted : Bool) (x : Frame) →
+    ((e : EnsembleParts) → P (frames.Ensemble e) → P (frames.Datum (datum_of (stemmed (frames.Ensemble e))))) →
+    P x → P (counted_frame uncounted x)
+counted-frame P uncounted (frames.Datum d) h k = choice P uncounted (frames.Datum d) (frames.Datum d) k k
+counted-frame P uncounted (frames.Ensemble e) h k =
+    choice P uncounted (frames.Datum (datum_of (stemmed (frames.Ensemble e)))) (frames.Ensemble e) (h e k) k
 
 either-geodetic : (r : Meaning) (c d : Class) → IsSoundMeaning r → (x : Frame) → IsGeodeticFrame x → IsGeodeticFrame (frame_or_ensemble r c d x)
 either-geodetic r c d h (frames.Datum x) k = (datum-sound r c h x k.0, some-stays (ellipsoid r) x.ellipsoid k.1)
@@ -128,12 +110,14 @@ either-vertical r c d h (frames.Ensemble e) k = (ensemble-sound r d h e k.0, non
 pub geodetic-frame-sound : (r : Meaning) (c d : Class) → IsSoundMeaning r → (x : Frame) → IsGeodeticFrame x →
     IsGeodeticFrame (frame_or_ensemble r c d (counted_frame r.uncounted.ensembles x))
 geodetic-frame-sound r c d h x k =
-    either-geodetic r c d h (counted_frame r.uncounted.ensembles x) (counted-geodetic r.uncounted.ensembles x k)
+    either-geodetic r c d h (counted_frame r.uncounted.ensembles x)
+    (counted-frame IsGeodeticFrame r.uncounted.ensembles x (λ e q. (stem-counted e q.0, q.1)) k)
 
 pub vertical-frame-sound : (r : Meaning) (c d : Class) → IsSoundMeaning r → (x : Frame) → IsVerticalFrame x →
     IsVerticalFrame (frame_or_ensemble r c d (counted_frame r.uncounted.ensembles x))
 vertical-frame-sound r c d h x k =
-    either-vertical r c d h (counted_frame r.uncounted.ensembles x) (counted-vertical r.uncounted.ensembles x k)
+    either-vertical r c d h (counted_frame r.uncounted.ensembles x)
+    (counted-frame IsVerticalFrame r.uncounted.ensembles x (λ e q. (stem-counted e q.0, q.1)) k)
 
 -- ---- dynamic parts
 

@@ -23,7 +23,7 @@ use Rattle.crs_rules.specs.LowerLaws.{SetLaws}
 use Rattle.crs_rules.specs.Rewritten.{across, arranged, arranged_compound, arranged_crs, arranged_geodetic, arranged_projected, arranged_vertical, base, compound, counted, extent, geodetic, has_own_unit, is_idle, meridian, named, parameter, projected, renamed, rewritten, system, tail, units, usage, vertical}
 use Rattle.crs_rules.specs.Rules.{Meaning}
 use Rattle.crs_rules.proofs.MatchLemmas.{both}
-use Rattle.crs_rules.proofs.AgainLemmas.{conversion-again, counted-name-again, dynamics-again, each-fixed, each-map, frame-again, length-kind, mapped, member-fixed, meridian-again, system-again, unit-again, units-again}
+use Rattle.crs_rules.proofs.AgainLemmas.{conversion-again, counted-name-again, dynamics-again, each-fixed, each-map, frame-again, length-kind, mapped, member-fixed, meridian-again, set-again, some-again, system-again, unit-again, units-again}
 use Rattle.crs_rules.proofs.AliasLemmas.{IsSoundMeaning}
 use Rattle.crs_rules.proofs.ArrangedLemmas.{arranged-again}
 use Rattle.crs_rules.proofs.PartLemmas.{parameter-sound}
@@ -72,17 +72,11 @@ module _ (m : Meaning) (s : IsSteady m) (level : Level) (o : SetLaws) where
       let u = unit-again m s levels.Full kinds.Length (norm_length levels.Full e.unit) (length-kind m s levels.Full e.unit) in
       λ i. record b { unit = Some (u i) }
 
-  some-extent : (e : Option ExtentParts) →
-      option_map (extent m) (option_map (norm_extent levels.Full) (option_map (extent m) (option_map (norm_extent levels.Full) e)))
-      ≡ option_map (norm_extent levels.Full) (option_map (extent m) (option_map (norm_extent levels.Full) e))
-  some-extent None = refl
-  some-extent (Some e) = ap (λ x. Some x) (extent-again e)
-
   usage-again : (u : UsageParts) →
       ◌≡◌ {A = UsageParts} (usage m (norm_usage (usage m (norm_usage u)))) (norm_usage (usage m (norm_usage u)))
   usage-again u =
       let b : UsageParts = norm_usage (usage m (norm_usage u)) in
-      let e = some-extent u.extent in λ i. record b { extent = e i }
+      let e = some-again (extent m) (norm_extent levels.Full) extent-again u.extent in λ i. record b { extent = e i }
 
   each-kept : (P : UsageParts → Type 0) (l : Level) (us : List UsageParts) → Each P us → Each P (kept l us)
   each-kept P levels.Full us h = h
@@ -111,20 +105,14 @@ module _ (m : Meaning) (s : IsSteady m) (level : Level) (o : SetLaws) where
 
   -- ---- geoid models
 
-  each-model : (xs : List NamedParts) →
-      Each (λ x. named m class.GeoidModel x ≡ x) (map (norm_geoid_model level) (map (named m class.GeoidModel) xs))
-  each-model [] = tt
-  each-model (x ∷ xs) = (member-fixed m s level class.GeoidModel x, each-model xs)
-
   models-by : (b : Bool) (xs : List NamedParts) →
       (if b then [] else map (named m class.GeoidModel) (set_geoid_models level (if b then [] else map (named m class.GeoidModel) xs)))
       ≡ set_geoid_models level (if b then [] else map (named m class.GeoidModel) xs)
   unfolding set_geoid_models
   models-by true xs = refl
   models-by false xs =
-      let ys : List NamedParts = map (norm_geoid_model level) (map (named m class.GeoidModel) xs) in
-      each-fixed (named m class.GeoidModel) (in_order (λ x. item_text (item_geoid_model x)) ys)
-      (o.geoid_models.fixed (named m class.GeoidModel) ys (each-model xs))
+      set-again (λ x. item_text (item_geoid_model x)) (named m class.GeoidModel) (norm_geoid_model level) o.geoid_models
+      (member-fixed m s level class.GeoidModel) xs
 
   -- ---- bases
 
