@@ -41,9 +41,9 @@ pub each-fixed : {A : Type 0} (f : A → A) (xs : List A) → Each (λ x. f x �
 each-fixed f [] h = refl
 each-fixed f (x ∷ xs) h = let t = each-fixed f xs h.1 in λ i. h.0 i ∷ t i
 
-pub each-map : {A B : Type 0} (P : B → Type 0) (f : A → B) (xs : List A) → ((x : A) → P (f x)) → Each P (map f xs)
-each-map P f [] h = tt
-each-map P f (x ∷ xs) h = (h x, each-map P f xs h)
+pub each-all : {A : Type 0} (P : A → Type 0) → ((x : A) → P x) → (xs : List A) → Each P xs
+each-all P h [] = tt
+each-all P h (x ∷ xs) = (h x, each-all P h xs)
 
 pub mapped : {A B : Type 0} (f : A → B) (Q : B → Type 0) (xs : List A) → Each (λ x. Q (f x)) xs → Each Q (map f xs)
 mapped f Q [] h = tt
@@ -60,11 +60,7 @@ pub set-again : {A : Type 0} (text : A → List ℕ) (f n : A → A) → StaysIn
 set-again text f n l h xs =
     let ys = map n (map f xs) in
     each-fixed f (in_order text ys)
-    (l.fixed f ys (mapped n (λ x. f x ≡ x) (map f xs) (each-map (λ x. f (n x) ≡ n x) f xs h)))
-
-pub all-so : {A : Type 0} (xs : List A) → Each (λ x. Unit {0}) xs
-all-so [] = tt
-all-so (x ∷ xs) = (tt, all-so xs)
+    (l.fixed f ys (mapped n (λ x. f x ≡ x) (map f xs) (mapped f (λ x. f (n x) ≡ n x) xs (each-all (λ x. f (n (f x)) ≡ n (f x)) h xs))))
 
 each-at : (Q : AxisParts → Type 0) (k place : ℕ) (xs : List AxisParts) → Each Q xs → IfSome (axis_at k place xs) Q
 each-at Q k place [] h = search arith
@@ -76,12 +72,21 @@ with-each : (level : Level) (R Q : AxisParts → Type 0) (t : SystemParts) (k : 
 with-each level R Q t k f None rest h g = g
 with-each level R Q t k f (Some x) rest h g = (f x h, g)
 
-pub each-from : (level : Level) (R Q : AxisParts → Type 0) (t : SystemParts) → ((k : ℕ) (x : AxisParts) → Q x → R (norm_axis level t k x)) →
+each-from : (level : Level) (R Q : AxisParts → Type 0) (t : SystemParts) → ((k : ℕ) (x : AxisParts) → Q x → R (norm_axis level t k x)) →
     Each Q t.axes → (k n : ℕ) → Each R (axes_from level t k n)
 each-from level R Q t f h k zero = tt
 each-from level R Q t f h k (suc n) =
     with-each level R Q t k (f k) (axis_at k 1 t.axes) (axes_from level t (k + 1) n) (each-at Q k 1 t.axes h)
     (each-from level R Q t f h (k + 1) n)
+
+-- the axes of a system in its one form
+pub each-axis : (level : Level) (R Q : AxisParts → Type 0) (t : SystemParts) → ((k : ℕ) (x : AxisParts) → Q x → R (norm_axis level t k x)) →
+    Each Q t.axes → Each R (norm_system level t).axes
+each-axis level R Q t f h = each-from level R Q t f h 1 (length t.axes)
+
+pub any-axis : (level : Level) (R : AxisParts → Type 0) (t : SystemParts) → ((k : ℕ) (x : AxisParts) → R (norm_axis level t k x)) →
+    Each R (norm_system level t).axes
+any-axis level R t f = each-axis level R (λ x. Unit {0}) t (λ k x u. f k x) (each-all (λ x. Unit {0}) (λ x. tt) t.axes)
 
 pub plain-kind : (kind : UnitKind) → kind_as kinds.Plain kind ≡ kind
 plain-kind kinds.Plain = refl
@@ -96,7 +101,7 @@ module _ (m : Meaning) (s : IsSteady m) (level : Level) where
       m.unit (norm_unit level asked (m.unit u)) ≡ norm_unit level asked (m.unit u)
   unit-again asked u e =
       let ids : List IdentParts = set_idents level (m.unit u).identifiers in
-      let k : kind_as asked (m.unit u).kind ≡ (m.unit u).kind = ap (kind_as asked) (s.kind u) ∙ (e ∙ sym (s.kind u)) in
+      let k : kind_as asked (m.unit u).kind ≡ (m.unit u).kind = ap (kind_as asked) (s.kinds.kind u) ∙ (e ∙ sym (s.kinds.kind u)) in
       let p : ◌≡◌ {A = UnitParts} (norm_unit level asked (m.unit u)) (record (m.unit u) { identifiers = ids }) =
       λ i. record (m.unit u) { kind = k i; identifiers = ids } in
       subst (λ (x : UnitParts). m.unit x ≡ x) (sym p) (s.unit u ids)
@@ -245,9 +250,9 @@ module _ (m : Meaning) (s : IsSteady m) (level : Level) where
       let b : SystemParts = norm_system level r in
       let Q : AxisParts → Type 0 = λ x. (j : ℕ) → axis m (norm_axis level r j x) ≡ norm_axis level r j x in
       let written : Each (λ x. Q (axis m x)) (norm_system level t).axes =
-      each-from level (λ x. Q (axis m x)) (λ x. Unit {0}) t (λ k y h j. axis-again o t k j y r refl refl) (all-so t.axes) 1 (length t.axes) in
+      any-axis level (λ x. Q (axis m x)) t (λ k y j. axis-again o t k j y r refl refl) in
       let fixed : Each (λ x. axis m x ≡ x) b.axes =
-      each-from level (λ x. axis m x ≡ x) Q r (λ k x h. h k) (mapped (axis m) (λ x. Q x) (norm_system level t).axes written) 1 (length r.axes) in
+      each-axis level (λ x. axis m x ≡ x) Q r (λ k x h. h k) (mapped (axis m) (λ x. Q x) (norm_system level t).axes written) in
       let a = each-fixed (axis m) b.axes fixed in
       λ i. record b { axes = a i }
 

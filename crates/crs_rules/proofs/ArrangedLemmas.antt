@@ -18,10 +18,10 @@ use Rattle.crs_text.specs.Prelude.{item_text}
 use Rattle.crs_normal.specs.Prelude.{StaysInOrder, axes_from, axis_at, is_at, norm_axis, norm_axis_meridians, norm_system, with_axis, item_ident, norm_unit, norm_units, set_idents, whole_value}
 use Rattle.crs_rules.specs.Rewritten.{among, arranged, ascending, axis, axis_meridian, counted, system, units}
 use Rattle.crs_rules.specs.Rules.{Meaning}
-use Rattle.crs_rules.proofs.AgainLemmas.{all-so, counted-name-again, each-from, kind-twice, mapped}
+use Rattle.crs_rules.proofs.AgainLemmas.{any-axis, counted-name-again, kind-twice, mapped}
 use Rattle.crs_rules.proofs.CrsLemmas.{each-ascending, none-ordered}
 use Rattle.crs_rules.proofs.SortLemmas.{by-order}
-use Rattle.crs_rules.proofs.SteadyLemmas.{IsSteady}
+use Rattle.crs_rules.proofs.SteadyLemmas.{IsSteady, KeepsKinds}
 
 -- ---- in order twice
 
@@ -125,6 +125,19 @@ unfolding set_idents
 idents-twice ids levels.Full is = ids.twice is
 idents-twice ids levels.Definition is = refl
 
+-- a unit that is written keeps its kind and its identifiers
+pub unit-kept : (m : Meaning) → KeepsKinds m → (level again : Level) (asked kept : UnitKind) (u : UnitParts) →
+    kind_as kept (kind_as asked u.kind) ≡ kind_as asked u.kind →
+    set_idents again (set_idents level u.identifiers) ≡ set_idents level u.identifiers →
+    ◌≡◌ {A = UnitParts} (norm_unit again kept (m.unit (norm_unit level asked u))) (m.unit (norm_unit level asked u))
+unit-kept m s level again asked kept u f g =
+    let x : UnitParts = norm_unit level asked u in
+    let w : UnitParts = m.unit x in
+    let k : kind_as kept w.kind ≡ w.kind = ap (kind_as kept) (s.kind x) ∙ (f ∙ sym (s.kind x)) in
+    let e : w.identifiers ≡ set_idents level u.identifiers = s.identifiers x in
+    let d : set_idents again w.identifiers ≡ w.identifiers = ap (set_idents again) e ∙ (g ∙ sym e) in
+    λ i. record w { kind = k i; identifiers = d i }
+
 -- ---- what is written of a system stays
 
 module _ (m : Meaning) (s : IsSteady m) (level : Level)
@@ -145,21 +158,12 @@ module _ (m : Meaning) (s : IsSteady m) (level : Level)
       ∙ ap (λ zs. norm_axis level r k x ∷ zs)
       (from-rest r h ys (suc i) (k + 1) (drop-behind r.axes i ∙ ap behind d) f)
 
-  unit-fixed : (asked : UnitKind) (u : UnitParts) →
-      ◌≡◌ {A = UnitParts} (norm_unit level asked (m.unit (norm_unit level asked u))) (m.unit (norm_unit level asked u))
-  unit-fixed asked u =
-      let x : UnitParts = norm_unit level asked u in
-      let w : UnitParts = m.unit x in
-      let k : kind_as asked w.kind ≡ w.kind = ap (kind_as asked) (s.kind x) ∙ (kind-twice asked u.kind ∙ sym (s.kind x)) in
-      let e : w.identifiers ≡ set_idents level u.identifiers = s.identifiers x in
-      let d : set_idents level w.identifiers ≡ w.identifiers =
-      ap (set_idents level) e ∙ (idents-twice ids level u.identifiers ∙ sym e) in
-      λ i. record w { kind = k i; identifiers = d i }
-
   renewed : (asked : UnitKind) (u : UnitParts) →
       m.unit (norm_unit level asked (m.unit (norm_unit level asked u))) ≡ m.unit (norm_unit level asked u)
   renewed asked u =
-      let x : UnitParts = norm_unit level asked u in ap m.unit (unit-fixed asked u) ∙ s.unit x (m.unit x).identifiers
+      let x : UnitParts = norm_unit level asked u in
+      ap m.unit (unit-kept m s.kinds level level asked asked u (kind-twice asked u.kind) (idents-twice ids level u.identifiers))
+      ∙ s.unit x (m.unit x).identifiers
 
   along-renewed : (x : Option AxisMeridianParts) →
       option_map (axis_meridian m) (norm_axis_meridians level (option_map (axis_meridian m) (norm_axis_meridians level x)))
@@ -207,8 +211,7 @@ module _ (m : Meaning) (s : IsSteady m) (level : Level)
       let r : SystemParts = arranged text (system m (norm_system level t)) in
       let Q : AxisParts → Type 0 = λ x. (j : ℕ) → axis m (norm_axis level r j x) ≡ x in
       let written : Each (λ y. Q (axis m y)) old =
-      each-from level (λ y. Q (axis m y)) (λ y. Unit {0}) t (λ k y h j. axis-renewed o t k j y r refl refl)
-      (all-so t.axes) 1 (length t.axes) in
+      any-axis level (λ y. Q (axis m y)) t (λ k y j. axis-renewed o t k j y r refl refl) in
       let q : Each Q r.axes = each-ascending text Q xs (mapped (axis m) Q old written) in
       let n : Orderless r.axes = each-ascending text (λ a. a.order ≡ None) xs (none-ordered m o old) in
       let e : map (axis m) (axes_from level r 1 (length r.axes)) ≡ r.axes =

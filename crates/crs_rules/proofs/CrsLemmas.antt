@@ -35,11 +35,6 @@ axis-sound r h a k = record {
   identifiers = k.identifiers;
 }
 
-each-to : (P Q : AxisParts → Type 0) (f : AxisParts → AxisParts) (xs : List AxisParts) → ((x : AxisParts) → P x → Q (f x)) →
-    Each P xs → Each Q (map f xs)
-each-to P Q f [] h k = tt
-each-to P Q f (x ∷ xs) h k = (h x k.0, each-to P Q f xs h k.1)
-
 filled : (n m : List AxisParts) → length n ≡ length m → m ≢ [] → n ≢ []
 filled n [] e h k = h refl
 filled n (x ∷ m) e h k = let z : 0 ≡ suc (length m) = sym (ap length k) ∙ e in absurd (omega arith)
@@ -60,7 +55,7 @@ same-orders r e (x ∷ xs) =
 orders-by : (r : Meaning) (xs : List AxisParts) (b : Bool) → r.uncounted.axis_order ≡ b → HasOrders xs → HasOrders (map (axis r) xs)
 orders-by r xs true e h = inl (none-ordered r e xs)
 orders-by r xs false e (inl k) =
-    inl (each-map (λ a. a.order ≡ None) (axis r) xs (λ x q. ap (λ b. counted b x.order) e ∙ q) k)
+    inl (each-map (λ a. a.order ≡ None) (λ a. a.order ≡ None) (axis r) xs (λ x q. ap (λ b. counted b x.order) e ∙ q) k)
 orders-by r xs false e (inr k) = inr (
   k.0,
   (
@@ -77,21 +72,21 @@ suits-stays : (r : Meaning) (t : SystemType) (a : AxisParts) (u : Option UnitPar
 suits-stays r t a None h s k = k
 suits-stays r t a (Some u) h s k = subst (Suits (asked_kind t a.direction)) (sym (h.unit u s.0).kind) k
 
-both : {A : Type 0} (P Q : A → Type 0) (xs : List A) → Each P xs → Each Q xs → Each (λ a. P a × Q a) xs
+pub both : {A : Type 0} (P Q : A → Type 0) (xs : List A) → Each P xs → Each Q xs → Each (λ a. P a × Q a) xs
 both P Q [] s k = tt
 both P Q (x ∷ xs) s k = ((s.0, k.0), both P Q xs s.1 k.1)
 
 units-sound : (r : Meaning) (t : SystemType) (xs : List AxisParts) (u : Option UnitParts) → IsSoundMeaning r → Each IsAxis xs →
     IfSome u IsAxisUnit → HasUnits t xs u → HasUnits t (map (axis r) xs) (units r u)
 units-sound r t xs None h s w k =
-    each-to (λ a. IsAxis a × IsSomeAnd a.unit (SuitsAxis t a)) (λ a. IsSomeAnd a.unit (SuitsAxis t a)) (axis r) xs
+    each-map (λ a. IsAxis a × IsSomeAnd a.unit (SuitsAxis t a)) (λ a. IsSomeAnd a.unit (SuitsAxis t a)) (axis r) xs
     (λ a p. suits-stays r t a a.unit h p.0.unit p.1) (both IsAxis (λ a. IsSomeAnd a.unit (SuitsAxis t a)) xs s k)
 units-sound r t xs (Some u) h s w k = (
-  each-to (λ a. a.unit ≡ None) (λ a. a.unit ≡ None) (axis r) xs (λ a p. ap (units r) p) k.0,
+  each-map (λ a. a.unit ≡ None) (λ a. a.unit ≡ None) (axis r) xs (λ a p. ap (units r) p) k.0,
   (
     k.1.0,
     (
-      each-to (λ a. asked_kind t a.direction ≡ k.1.0) (λ a. asked_kind t a.direction ≡ k.1.0) (axis r) xs (λ a p. p) k.1.1.0,
+      each-map (λ a. asked_kind t a.direction ≡ k.1.0) (λ a. asked_kind t a.direction ≡ k.1.0) (axis r) xs (λ a p. p) k.1.1.0,
       subst (Suits k.1.0) (sym (h.unit u w.0).kind) k.1.1.1,
     ),
   ),
@@ -102,7 +97,7 @@ system-sound r h s k = record {
   dimension = k.dimension;
   identifiers = k.identifiers;
   some = filled (map (axis r) s.axes) s.axes (length-map s.axes (axis r)) k.some;
-  axes = each-to IsAxis IsAxis (axis r) s.axes (axis-sound r h) k.axes;
+  axes = each-map IsAxis IsAxis (axis r) s.axes (axis-sound r h) k.axes;
   count = subst (λ n. SameNumber (exact s.dimension) (whole_number n)) (sym (length-map s.axes (axis r))) k.count;
   orders = orders-sound r s.axes k.orders;
   unit = some-map IsAxisUnit r.unit s.unit (axis-unit r h) k.unit;
@@ -151,7 +146,7 @@ vertical-sound r h v k = record {
   system = system-sound r h v.system k.system;
   dimension = k.dimension;
   geoid_models = choice (Each IsNamed) r.uncounted.geoid_models [] (map (named r class.GeoidModel) v.geoid_models) tt
-      (each-map IsNamed (named r class.GeoidModel) v.geoid_models (named-sound r class.GeoidModel h) k.geoid_models);
+      (each-map IsNamed IsNamed (named r class.GeoidModel) v.geoid_models (named-sound r class.GeoidModel h) k.geoid_models);
   tail = tail-sound r h v.tail k.tail;
 }
 

@@ -13,10 +13,10 @@ use Rattle.crs_rules.specs.Rules.{Meaning}
 use Rattle.crs_rules.proofs.AliasLemmas.{IsSoundMeaning, choice, counted-name, unit-of, unit-sound}
 use Rattle.crs_rules.proofs.StemLemmas.{stem-sound}
 
-pub each-map : {A : Type 0} (P : A → Type 0) (f : A → A) (xs : List A) → ((x : A) → P x → P (f x)) →
-    Each P xs → Each P (map f xs)
-each-map P f [] h k = tt
-each-map P f (x ∷ xs) h k = (h x k.0, each-map P f xs h k.1)
+pub each-map : {A : Type 0} (P Q : A → Type 0) (f : A → A) (xs : List A) → ((x : A) → P x → Q (f x)) →
+    Each P xs → Each Q (map f xs)
+each-map P Q f [] h k = tt
+each-map P Q f (x ∷ xs) h k = (h x k.0, each-map P Q f xs h k.1)
 
 pub some-map : {A : Type 0} (P : A → Type 0) (f : A → A) (x : Option A) → ((x : A) → P x → P (f x)) →
     IfSome x P → IfSome (option_map f x) P
@@ -76,7 +76,7 @@ pub ensemble-sound : (r : Meaning) (c : Class) → IsSoundMeaning r → (e : Ens
 ensemble-sound r c h e k = record {
   name = h.name c e.name k.name;
   some = map-some (named r class.Member) e.members k.some;
-  members = each-map IsNamed (named r class.Member) e.members (named-sound r class.Member h) k.members;
+  members = each-map IsNamed IsNamed (named r class.Member) e.members (named-sound r class.Member h) k.members;
   ellipsoid = some-map IsEllipsoid (ellipsoid r) e.ellipsoid (ellipsoid-sound r h) k.ellipsoid;
   accuracy = k.accuracy;
   identifiers = k.identifiers;
@@ -164,7 +164,7 @@ usage-sound r h u k = record {
 
 pub tail-sound : (r : Meaning) → IsSoundMeaning r → (t : TailParts) → IsTail t → IsTail (tail r t)
 tail-sound r h t k = record {
-  usages = each-map IsUsage (usage r) t.usages (usage-sound r h) k.usages;
+  usages = each-map IsUsage IsUsage (usage r) t.usages (usage-sound r h) k.usages;
   bare_parts = some-map IsUsage (usage r) t.bare_parts (usage-sound r h) k.bare_parts;
   identifiers = k.identifiers;
   remark = k.remark;
@@ -184,6 +184,6 @@ pub conversion-sound : (r : Meaning) → IsSoundMeaning r → (c : ConversionPar
 conversion-sound r h c k = record {
   name = counted-name r.uncounted.conversion_names c.name k.name;
   method = named-sound r class.Method h c.method k.method;
-  parameters = each-map IsParameter (parameter r) c.parameters (parameter-sound r h) k.parameters;
+  parameters = each-map IsParameter IsParameter (parameter r) c.parameters (parameter-sound r h) k.parameters;
   identifiers = k.identifiers;
 }

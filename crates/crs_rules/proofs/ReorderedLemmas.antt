@@ -4,6 +4,7 @@ use Rattle.std.specs.Cmp.Lexicographic.{slice_cmp}
 use Rattle.std.specs.Option.{option_map}
 use Rattle.std.specs.Ordering.{nat_cmp, match_ordering, ordering_index, ordering_reverse}
 use Rattle.std.proofs.lemmas.Cmp.{nat_list_cmp_total}
+use Rattle.std.proofs.lemmas.List.{map-append}
 use Rattle.std.proofs.lemmas.Map.Lookups.{exact_bytes}
 use Rattle.crs_text.specs.Prelude.{item_text}
 use Rattle.crs_shape.specs.declared.unit_kind.UnitKind.{UnitKind}
@@ -22,10 +23,11 @@ use Rattle.crs_normal.specs.Prelude.{StaysInOrder, norm_axis_alone, norm_compoun
 use Rattle.crs_rules.specs.ReorderedAxes.{AreAxesReordered, IsAcrossReordered, IsCrsReordered, IsGeodeticReordered, IsProjectedReordered, IsReordered, IsVerticalReordered, unordered}
 use Rattle.crs_rules.specs.Rewritten.{across, among, arranged, arranged_across, arranged_compound, arranged_crs, arranged_geodetic, arranged_projected, arranged_vertical, ascending, axis, axis_meridian, compound, counted, geodetic, projected, renamed, system, units, vertical}
 use Rattle.crs_rules.specs.Rules.{Meaning}
-use Rattle.crs_rules.proofs.AgainLemmas.{all-so, each-from, kind-twice, plain-kind}
+use Rattle.crs_rules.proofs.AgainLemmas.{any-axis, kind-twice, plain-kind}
 use Rattle.crs_rules.proofs.AliasLemmas.{IsSoundMeaning}
-use Rattle.crs_rules.proofs.ArrangedLemmas.{Before, before-among, in-front, less-greater}
-use Rattle.crs_rules.proofs.CrsLemmas.{axis-sound}
+use Rattle.crs_rules.proofs.ArrangedLemmas.{Before, before-among, in-front, less-greater, unit-kept}
+use Rattle.crs_rules.proofs.CrsLemmas.{axis-sound, both}
+use Rattle.crs_rules.proofs.PartLemmas.{each-map}
 use Rattle.crs_rules.proofs.SteadyLemmas.{KeepsKinds}
 
 -- ---- axes that have one text are equal: then the order in which they are put among others is nothing
@@ -103,10 +105,6 @@ module _ (text : AxisParts → List ℕ) where
 
 -- ---- lists in some order
 
-map-append : {A B : Type 0} (f : A → B) (xs ys : List A) → map f (xs ++ ys) ≡ map f xs ++ map f ys
-map-append f [] ys = refl
-map-append f (x ∷ xs) ys = ap (λ zs. f x ∷ zs) (map-append f xs ys)
-
 reordered-map : {A B : Type 0} (f : A → B) (xs ys : List A) → IsReordered xs ys → IsReordered (map f xs) (map f ys)
 reordered-map f [] ys r = ap (map f) r
 reordered-map f (x ∷ xs) ys r = (
@@ -125,30 +123,21 @@ module _ (m : Meaning) (s : KeepsKinds m) (h : IsSoundMeaning m) (level : Level)
   idents-full levels.Full is = ids.twice is
   idents-full levels.Definition is = refl
 
-  unit-alone : (kept asked : UnitKind) (u : UnitParts) → kind_as kept (kind_as asked u.kind) ≡ kind_as asked u.kind →
-      ◌≡◌ {A = UnitParts} (norm_unit levels.Full kept (m.unit (norm_unit level asked u))) (m.unit (norm_unit level asked u))
-  unit-alone kept asked u f =
-      let x : UnitParts = norm_unit level asked u in
-      let w : UnitParts = m.unit x in
-      let k : kind_as kept w.kind ≡ w.kind = ap (kind_as kept) (s.kind x) ∙ (f ∙ sym (s.kind x)) in
-      let e : w.identifiers ≡ set_idents level u.identifiers = s.identifiers x in
-      let d : set_idents levels.Full w.identifiers ≡ w.identifiers =
-      ap (set_idents levels.Full) e ∙ (idents-full level u.identifiers ∙ sym e) in
-      λ i. record w { kind = k i; identifiers = d i }
-
   along-alone : (x : Option AxisMeridianParts) →
       norm_axis_meridians levels.Full (option_map (axis_meridian m) (norm_axis_meridians level x))
       ≡ option_map (axis_meridian m) (norm_axis_meridians level x)
   along-alone None = refl
   along-alone (Some x) =
-      let u = unit-alone kinds.Angle kinds.Angle x.unit (kind-twice kinds.Angle x.unit.kind) in
+      let u =
+      unit-kept m s level levels.Full kinds.Angle kinds.Angle x.unit (kind-twice kinds.Angle x.unit.kind) (idents-full level x.unit.identifiers) in
       λ i. Some (record { longitude = x.longitude; unit = u i })
 
   units-alone : (asked : UnitKind) (o : Option UnitParts) →
       norm_units levels.Full kinds.Plain (units m (norm_units level asked o)) ≡ units m (norm_units level asked o)
   units-alone asked None = refl
   units-alone asked (Some u) =
-      ap (λ x. Some x) (unit-alone kinds.Plain asked u (plain-kind (kind_as asked u.kind)))
+      ap (λ x. Some x)
+      (unit-kept m s level levels.Full asked kinds.Plain u (plain-kind (kind_as asked u.kind)) (idents-full level u.identifiers))
 
   axis-alone : (t : SystemParts) (k : ℕ) (y : AxisParts) →
       norm_axis_alone levels.Full (axis m (norm_axis level t k y)) ≡ axis m (norm_axis level t k y)
@@ -164,16 +153,12 @@ module _ (m : Meaning) (s : KeepsKinds m) (h : IsSoundMeaning m) (level : Level)
   abbrev IsWritten : AxisParts → Type 0
   IsWritten x = IsAxis x × (norm_axis_alone levels.Full x ≡ x)
 
-  both-each : (xs : List AxisParts) → Each IsAxis xs → Each (λ x. norm_axis_alone levels.Full (axis m x) ≡ axis m x) xs →
-      Each IsWritten (map (axis m) xs)
-  both-each [] a b = tt
-  both-each (x ∷ xs) a b = ((axis-sound m h x a.0, b.0), both-each xs a.1 b.1)
-
   are-written : (t : SystemParts) → IsSystem (norm_system level t) → Each IsWritten (map (axis m) (norm_system level t).axes)
   are-written t k =
-      both-each (norm_system level t).axes k.axes
-      (each-from level (λ y. norm_axis_alone levels.Full (axis m y) ≡ axis m y) (λ y. Unit {0}) t
-      (λ n y q. axis-alone t n y) (all-so t.axes) 1 (length t.axes))
+      each-map (λ x. IsAxis x × (norm_axis_alone levels.Full (axis m x) ≡ axis m x)) IsWritten (axis m) (norm_system level t).axes
+      (λ x p. (axis-sound m h x p.0, p.1))
+      (both IsAxis (λ x. norm_axis_alone levels.Full (axis m x) ≡ axis m x) (norm_system level t).axes k.axes
+      (any-axis level (λ x. norm_axis_alone levels.Full (axis m x) ≡ axis m x) t (axis-alone t)))
 
   -- ---- CRSs in their one form
 

@@ -3,6 +3,7 @@ use Rattle.std.proofs.Common.{◌≡◌, ◌≢◌, ℕ, zero, suc, ◌+◌, ◌
 use Rattle.std.specs.Cmp.Lexicographic.{slice_cmp}
 use Rattle.std.specs.List.{swap}
 use Rattle.std.specs.Ordering.{nat_cmp, match_ordering}
+use Rattle.std.proofs.Math.ListN.{get_or-map}
 use Rattle.std.proofs.lemmas.List.Edits.{length-swap}
 use Rattle.std.proofs.lemmas.List.{length-map}
 use Rattle.crs_value.specs.Prelude.{AxisParts}
@@ -43,28 +44,6 @@ rests text d (x ∷ y ∷ ys) zero h =
 rests text d (x ∷ y ∷ ys) (suc i) h = ap (λ zs. x ∷ zs)
     (rests text d (y ∷ ys) i (λ l. h (let m : suc (suc i) < length (x ∷ y ∷ ys) = omega (arith, l) in m)))
 
-map-get : {A B : Type 0} (f : A → B) (d : A) (xs : List A) (i : ℕ) → get_or (map f xs) i (f d) ≡ f (get_or xs i d)
-map-get f d [] zero = refl
-map-get f d [] (suc i) = refl
-map-get f d (x ∷ xs) zero = refl
-map-get f d (x ∷ xs) (suc i) = map-get f d xs i
-
-map-set : {A B : Type 0} (f : A → B) (x : A) (xs : List A) (i : ℕ) → map f (set xs i x) ≡ set (map f xs) i (f x)
-map-set f x [] zero = refl
-map-set f x [] (suc i) = refl
-map-set f x (y ∷ ys) zero = refl
-map-set f x (y ∷ ys) (suc i) = ap (λ zs. f y ∷ zs) (map-set f x ys i)
-
--- two members in each other's place, and what a function gives for them
-pub map-swap : {A B : Type 0} (f : A → B) (xs : List A) (i j : ℕ) → map f (swap xs i j) ≡ swap (map f xs) i j
-map-swap f [] i j = refl
-map-swap f (d ∷ ys) i j =
-    let xs = d ∷ ys in
-    map-set f (get_or xs i d) (set xs i (get_or xs j d)) j
-    ∙ (ap (λ zs. set zs j (f (get_or xs i d))) (map-set f (get_or xs j d) xs i)
-    ∙ (ap (λ y. set (set (map f xs) i y) j (f (get_or xs i d))) (sym (map-get f d xs j))
-    ∙ ap (λ y. set (set (map f xs) i (get_or (map f xs) j (f d))) j y) (sym (map-get f d xs i))))
-
 -- an axis sinks: the axes and their texts when it stands at a place, where it was to sink from another among the old ones
 pub record Sinks (text : AxisParts → List ℕ) (old axes : List AxisParts) (from at : ℕ) (texts : List (List ℕ)) : Type 0 where
   pub long : length axes ≡ length old
@@ -83,8 +62,8 @@ sinks-by text [] at n e l g = absurd (omega (arith, l))
 sinks-by text (d ∷ ys) at n e l g =
     let xs : List AxisParts = d ∷ ys in
     let h : slice_cmp nat_cmp (text (get_or xs at d)) (text (get_or xs n d)) ≡ Greater =
-    subst (λ t. slice_cmp nat_cmp t (text (get_or xs n d)) ≡ Greater) (map-get text d xs at)
-    (subst (λ t. slice_cmp nat_cmp (get_or (map text xs) at (text d)) t ≡ Greater) (map-get text d xs n) (g (text d))) in
+    subst (λ t. slice_cmp nat_cmp t (text (get_or xs n d)) ≡ Greater) (get_or-map text xs at d)
+    (subst (λ t. slice_cmp nat_cmp (get_or (map text xs) at (text d)) t ≡ Greater) (get_or-map text xs n d) (g (text d))) in
     subst (λ k. sunk_from text k (swap xs at k) ≡ sunk_from text at xs) (sym e)
     (swap-above text d xs at (subst (λ k. k < length xs) e l) (subst (λ k. slice_cmp nat_cmp (text (get_or xs at d)) (text (get_or xs k d)) ≡ Greater) e h))
 
@@ -130,8 +109,8 @@ sinks-end text old axes from at texts s n =
         subst (λ ts. at + 1 < length ts) (sym e) (subst (λ j. at + 1 < j) (sym (length-map xs text)) (subst (λ j. j < length xs) (sym m) l)) in
         n k (text d)
         (subst (λ ts. slice_cmp nat_cmp (get_or ts at (text d)) (get_or ts (at + 1) (text d)) ≡ Greater) (sym e)
-        (subst (λ t. slice_cmp nat_cmp t (get_or (map text xs) (at + 1) (text d)) ≡ Greater) (sym (map-get text d xs at))
-        (subst (λ t. slice_cmp nat_cmp (text (get_or xs at d)) t ≡ Greater) (sym (map-get text d xs (at + 1)))
+        (subst (λ t. slice_cmp nat_cmp t (get_or (map text xs) (at + 1) (text d)) ≡ Greater) (sym (get_or-map text xs at d))
+        (subst (λ t. slice_cmp nat_cmp (text (get_or xs at d)) t ≡ Greater) (sym (get_or-map text xs (at + 1) d))
         (subst (λ j. slice_cmp nat_cmp (text (get_or xs at d)) (text (get_or xs j d)) ≡ Greater) (sym m) g)))))
 
 -- axes are sorted from this place on

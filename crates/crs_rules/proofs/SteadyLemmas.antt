@@ -22,8 +22,7 @@ pub record KeepsKinds (m : Meaning) : Type 0 where
 -- names and units stay when they are written again
 pub record IsSteady (m : Meaning) : Type 0 where
   pub name : (c : Class) (n : List ℕ) → m.name c (m.name c n) ≡ m.name c n
-  pub kind : (u : UnitParts) → (m.unit u).kind ≡ u.kind
-  pub identifiers : (u : UnitParts) → (m.unit u).identifiers ≡ u.identifiers
+  pub kinds : KeepsKinds m
   pub unit : (u : UnitParts) (ids : List IdentParts) →
       m.unit (record (m.unit u) { identifiers = ids }) ≡ record (m.unit u) { identifiers = ids }
 
@@ -102,16 +101,15 @@ unit-by r h u ids (inr k) =
     subst (λ (x : UnitParts). ◌≡◌ {A = UnitParts} (first_unit r.units (record x { identifiers = ids })) (record x { identifiers = ids }))
     (sym e) (ap (unit_for (record u { identifiers = ids })) k.1)
 
-pub steady : (r : RulesParts) → AreSteady r → IsSteady (meaning r)
-steady r h = record {
-  name = λ c n. name-by r h c n (sought (is_name_alias c n) r.names);
-  kind = λ u. kind-kept u (first_that (is_unit_alias u) r.units);
-  identifiers = λ u. identifiers-kept u (first_that (is_unit_alias u) r.units);
-  unit = λ u ids. unit-by r h u ids (sought (is_unit_alias u) r.units);
-}
-
 pub kinds-kept : (r : RulesParts) → KeepsKinds (meaning r)
 kinds-kept r = record {
   kind = λ u. kind-kept u (first_that (is_unit_alias u) r.units);
   identifiers = λ u. identifiers-kept u (first_that (is_unit_alias u) r.units);
+}
+
+pub steady : (r : RulesParts) → AreSteady r → IsSteady (meaning r)
+steady r h = record {
+  name = λ c n. name-by r h c n (sought (is_name_alias c n) r.names);
+  kinds = kinds-kept r;
+  unit = λ u ids. unit-by r h u ids (sought (is_unit_alias u) r.units);
 }

@@ -23,10 +23,10 @@ use Rattle.crs_rules.specs.LowerLaws.{SetLaws}
 use Rattle.crs_rules.specs.Rewritten.{across, arranged, arranged_compound, arranged_crs, arranged_geodetic, arranged_projected, arranged_vertical, base, compound, counted, extent, geodetic, has_own_unit, is_idle, meridian, named, parameter, projected, renamed, rewritten, system, tail, units, usage, vertical}
 use Rattle.crs_rules.specs.Rules.{Meaning}
 use Rattle.crs_rules.proofs.MatchLemmas.{both}
-use Rattle.crs_rules.proofs.AgainLemmas.{conversion-again, counted-name-again, dynamics-again, each-fixed, each-map, frame-again, length-kind, mapped, member-fixed, meridian-again, set-again, some-again, system-again, unit-again, units-again}
+use Rattle.crs_rules.proofs.AgainLemmas.{conversion-again, counted-name-again, dynamics-again, each-all, each-fixed, frame-again, length-kind, mapped, member-fixed, meridian-again, set-again, some-again, system-again, unit-again, units-again}
 use Rattle.crs_rules.proofs.AliasLemmas.{IsSoundMeaning}
 use Rattle.crs_rules.proofs.ArrangedLemmas.{arranged-again}
-use Rattle.crs_rules.proofs.PartLemmas.{parameter-sound}
+use Rattle.crs_rules.proofs.PartLemmas.{each-map, parameter-sound}
 use Rattle.crs_rules.proofs.SteadyLemmas.{IsSteady}
 
 abbrev usage-text : UsageParts → List ℕ
@@ -55,11 +55,6 @@ all-set told test xs h =
           each-has (λ x. test x ≡ true) ys z (all-to test ys e) (in_order-has parameter-text IsParameter told z xs h q))),
       λ e. all-from test ys (each-in_order parameter-text (λ x. test x ≡ true) xs (all-to test xs e)),
     ) (λ e. e, λ e. e)
-
-each-so : {f : ParameterParts → ParameterParts} → ((p : ParameterParts) → IsParameter p → IsParameter (f p)) →
-    (ps : List ParameterParts) → Each IsParameter ps → Each IsParameter (map f ps)
-each-so g [] h = tt
-each-so g (p ∷ ps) h = (g p h.0, each-so g ps h.1)
 
 module _ (m : Meaning) (s : IsSteady m) (level : Level) (o : SetLaws) where
   -- ---- usages
@@ -91,7 +86,7 @@ module _ (m : Meaning) (s : IsSteady m) (level : Level) (o : SetLaws) where
       let R : UsageParts → Type 0 = λ x. ◌≡◌ {A = UsageParts} (usage m (norm_usage x)) (norm_usage x) in
       let written : Each R xs =
       mapped (usage m) R (in_order usage-text old)
-      (each-in_order usage-text (λ x. R (usage m x)) old (each-map (λ x. R (usage m x)) norm_usage (kept level us) usage-again)) in
+      (each-in_order usage-text (λ x. R (usage m x)) old (mapped norm_usage (λ x. R (usage m x)) (kept level us) (each-all (λ x. R (usage m (norm_usage x))) usage-again (kept level us)))) in
       let fixed : Each (λ x. usage m x ≡ x) (map norm_usage (kept level xs)) =
       mapped norm_usage (λ x. usage m x ≡ x) (kept level xs) (each-kept R level xs written) in
       each-fixed (usage m) (in_order usage-text (map norm_usage (kept level xs)))
@@ -137,15 +132,11 @@ module _ (m : Meaning) (s : IsSteady m) (level : Level) (o : SetLaws) where
   all-there [] = refl
   all-there (p ∷ ps) = let a = unit-there p.unit in let t = all-there ps in λ i. a i && t i
 
-  each-normal : (ps : List ParameterParts) → Each IsParameter ps → Each IsParameter (map (norm_parameter level) ps)
-  each-normal [] h = tt
-  each-normal (p ∷ ps) h = (parameter-kept level p h.0, each-normal ps h.1)
-
   all-stay : (ps : List ParameterParts) → Each IsParameter (map (parameter m) ps) →
       list_all (λ p. is_some p.unit) (set_parameters level (map (parameter m) ps)) ≡ list_all (λ p. is_some p.unit) ps
   unfolding set_parameters
   all-stay ps h =
-      all-set o.told (λ p. is_some p.unit) (map (norm_parameter level) (map (parameter m) ps)) (each-normal (map (parameter m) ps) h)
+      all-set o.told (λ p. is_some p.unit) (map (norm_parameter level) (map (parameter m) ps)) (each-map IsParameter IsParameter (norm_parameter level) (map (parameter m) ps) (parameter-kept level) h)
       ∙ all-there ps
 
   counted-unit : (k : Bool) (u : Option UnitParts) →
@@ -215,7 +206,7 @@ module _ (m : Meaning) (s : IsSteady m) (level : Level) (o : SetLaws) where
     each-written : (x : ProjectedParts) → IsProjected (norm_projected level x) →
         Each IsParameter (map (parameter m) (set_parameters level x.conversion.parameters))
     each-written x k =
-        each-so (parameter-sound m h) (set_parameters level x.conversion.parameters) k.conversion.parameters
+        each-map IsParameter IsParameter (parameter m) (set_parameters level x.conversion.parameters) (parameter-sound m h) k.conversion.parameters
 
     -- ---- where the order of axes counts
 
