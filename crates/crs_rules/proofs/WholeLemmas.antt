@@ -20,7 +20,7 @@ use Rattle.crs_normal.proofs.members.SetLemmas.{each-has, each-in_order, each-of
 use Rattle.crs_normal.specs.Prelude.{StaysInOrder, in_order, item_geoid_model, item_parameter, norm_geoid_model, norm_parameter, set_geoid_models, set_parameters, norm_base, norm_compound, norm_crs, norm_geodetic, norm_horizontal, norm_projected, norm_vertical, is_zero, norm_meridian, norm_system, item_ident, norm_length, norm_units, item_usage, norm_extent, norm_tail, norm_usage, set_usages}
 use Rattle.crs_matching.specs.Prelude.{usages_of}
 use Rattle.crs_rules.specs.LowerLaws.{SetLaws}
-use Rattle.crs_rules.specs.Rewritten.{across, arranged, arranged_compound, arranged_crs, arranged_geodetic, arranged_projected, arranged_vertical, base, compound, counted, extent, geodetic, has_own_unit, is_idle, meridian, named, parameter, projected, renamed, rewritten, system, tail, units, usage, vertical}
+use Rattle.crs_rules.specs.Rewritten.{across, arranged, arranged_across, arranged_crs, base, compound, counted, extent, geodetic, has_own_unit, is_idle, meridian, named, parameter, projected, renamed, rewritten, system, tail, units, usage, vertical}
 use Rattle.crs_rules.specs.Rules.{Meaning}
 use Rattle.crs_rules.proofs.MatchLemmas.{both}
 use Rattle.crs_rules.proofs.AgainLemmas.{conversion-again, counted-name-again, dynamics-again, each-all, each-fixed, frame-again, length-kind, mapped, member-fixed, meridian-again, set-again, some-again, system-again, unit-again, units-again}
@@ -156,25 +156,24 @@ module _ (m : Meaning) (s : IsSteady m) (level : Level) (o : SetLaws) where
       let u = counted-unit (m.uncounted.base_units && idle) b.unit in
       λ i. record c { name = n i; dynamic = d i; frame = f i; meridian = p i; unit = u i }
 
-  -- ---- CRSs, whatever becomes of their systems
+  -- ---- CRSs with this system
 
-  geodetic-by : (g : GeodeticParts) (p q : SystemParts) → p ≡ q →
+  geodetic-by : (g : GeodeticParts) (p : SystemParts) →
       ◌≡◌ {A = GeodeticParts} (record (geodetic m (norm_geodetic level (geodetic m (norm_geodetic level g)))) { system = p })
-      (record (norm_geodetic level (geodetic m (norm_geodetic level g))) { system = q })
-  geodetic-by g p q e =
+      (record (norm_geodetic level (geodetic m (norm_geodetic level g))) { system = p })
+  geodetic-by g p =
       let b : GeodeticParts = norm_geodetic level (geodetic m (norm_geodetic level g)) in
       let n = counted-name-again m.uncounted.crs_names (λ x. x) g.name refl in
       let d = dynamics-again m s level m.uncounted.dynamics g.dynamic in
       let f = frame-again m s level o.members class.GeodeticFrame class.GeodeticEnsemble m.uncounted.ensembles g.frame in
       let w = meridian-again m s level g.meridian in
       let t = tail-again g.tail in
-      λ i. record b { name = n i; dynamic = d i; frame = f i; meridian = w i; system = e i; tail = t i }
+      λ i. record b { name = n i; dynamic = d i; frame = f i; meridian = w i; system = p; tail = t i }
 
-  projected-by : (x : ProjectedParts) (p q : SystemParts) → p ≡ q →
-      Each IsParameter (map (parameter m) (set_parameters level x.conversion.parameters)) →
+  projected-by : (x : ProjectedParts) (p : SystemParts) → Each IsParameter (map (parameter m) (set_parameters level x.conversion.parameters)) →
       ◌≡◌ {A = ProjectedParts} (record (projected m (norm_projected level (projected m (norm_projected level x)))) { system = p })
-      (record (norm_projected level (projected m (norm_projected level x))) { system = q })
-  projected-by x p q e h =
+      (record (norm_projected level (projected m (norm_projected level x))) { system = p })
+  projected-by x p h =
       let b : ProjectedParts = norm_projected level (projected m (norm_projected level x)) in
       let n = counted-name-again m.uncounted.crs_names (λ y. y) x.name refl in
       let ps : List ParameterParts = set_parameters level x.conversion.parameters in
@@ -186,174 +185,114 @@ module _ (m : Meaning) (s : IsSteady m) (level : Level) (o : SetLaws) where
       ap (λ k. base m k b.base) same ∙ base-again idle x.base in
       let v = conversion-again m s level o.parameters x.conversion in
       let t = tail-again x.tail in
-      λ i. record b { name = n i; base = c i; conversion = v i; system = e i; tail = t i }
+      λ i. record b { name = n i; base = c i; conversion = v i; system = p; tail = t i }
 
-  vertical-by : (v : VerticalParts) (p q : SystemParts) → p ≡ q →
+  vertical-by : (v : VerticalParts) (p : SystemParts) →
       ◌≡◌ {A = VerticalParts} (record (vertical m (norm_vertical level (vertical m (norm_vertical level v)))) { system = p })
-      (record (norm_vertical level (vertical m (norm_vertical level v))) { system = q })
-  vertical-by v p q e =
+      (record (norm_vertical level (vertical m (norm_vertical level v))) { system = p })
+  vertical-by v p =
       let b : VerticalParts = norm_vertical level (vertical m (norm_vertical level v)) in
       let n = counted-name-again m.uncounted.crs_names (λ x. x) v.name refl in
       let d = dynamics-again m s level m.uncounted.dynamics v.dynamic in
       let f = frame-again m s level o.members class.VerticalFrame class.VerticalEnsemble m.uncounted.ensembles v.frame in
       let g = models-by m.uncounted.geoid_models (set_geoid_models level v.geoid_models) in
       let t = tail-again v.tail in
-      λ i. record b { name = n i; dynamic = d i; frame = f i; system = e i; geoid_models = g i; tail = t i }
-
-  -- ---- CRSs
+      λ i. record b { name = n i; dynamic = d i; frame = f i; system = p; geoid_models = g i; tail = t i }
 
   module _ (h : IsSoundMeaning m) where
-    each-written : (x : ProjectedParts) → IsProjected (norm_projected level x) →
-        Each IsParameter (map (parameter m) (set_parameters level x.conversion.parameters))
-    each-written x k =
-        each-map IsParameter IsParameter (parameter m) (set_parameters level x.conversion.parameters) (parameter-sound m h) k.conversion.parameters
+    -- ---- CRSs whose systems are put so: the one form of a form stays, where it is put in its one form
+
+    module _ (put : SystemParts → SystemParts) where
+      abbrev system_form : SystemParts → SystemParts
+      system_form t = put (system m (norm_system level t))
+
+      abbrev geodetic_form : GeodeticParts → GeodeticParts
+      geodetic_form g = record (geodetic m (norm_geodetic level g)) { system = system_form g.system }
+
+      abbrev projected_form : ProjectedParts → ProjectedParts
+      projected_form x = record (projected m (norm_projected level x)) { system = system_form x.system }
+
+      abbrev vertical_form : VerticalParts → VerticalParts
+      vertical_form v = record (vertical m (norm_vertical level v)) { system = system_form v.system }
+
+      abbrev compound_form : (Horizontal → Horizontal) → CompoundParts → CompoundParts
+      compound_form form d =
+          record (compound m (norm_compound level d)) { horizontal = form d.horizontal; vertical = vertical_form d.vertical }
+
+      -- a function that gives the form of a part
+      abbrev Stays : {A : Type 0} → (A → A) → (A → A) → A → Type 0
+      Stays norm form x = norm (norm (form x)) ≡ norm (form x) → norm (form (form x)) ≡ norm (form x)
+
+      module _ (stays : (t : SystemParts) → Stays (norm_system level) system_form t) where
+        geodetic-stays : (g : GeodeticParts) → Stays (norm_geodetic level) geodetic_form g
+        geodetic-stays g e =
+            let t = stays g.system (ap (λ (z : GeodeticParts). z.system) e) in
+            ap (norm_geodetic level) (geodetic-by g (system_form (system_form g.system))) ∙ (λ i. record (e i) { system = t i })
+
+        projected-stays : (x : ProjectedParts) → IsProjected (norm_projected level x) → Stays (norm_projected level) projected_form x
+        projected-stays x k e =
+            let t = stays x.system (ap (λ (z : ProjectedParts). z.system) e) in
+            let written = each-map IsParameter IsParameter (parameter m) (set_parameters level x.conversion.parameters) (parameter-sound m h) k.conversion.parameters in
+            ap (norm_projected level) (projected-by x (system_form (system_form x.system)) written) ∙ (λ i. record (e i) { system = t i })
+
+        vertical-stays : (v : VerticalParts) → Stays (norm_vertical level) vertical_form v
+        vertical-stays v e =
+            let t = stays v.system (ap (λ (z : VerticalParts). z.system) e) in
+            ap (norm_vertical level) (vertical-by v (system_form (system_form v.system))) ∙ (λ i. record (e i) { system = t i })
+
+        compound-stays : (form : Horizontal → Horizontal) (d : CompoundParts) → Stays (norm_horizontal level) form d.horizontal →
+            Stays (norm_compound level) (compound_form form) d
+        compound-stays form d across e =
+            let n = counted-name-again m.uncounted.crs_names (λ x. x) d.name refl in
+            let x = across (ap (λ (z : CompoundParts). z.horizontal) e) in
+            let v = vertical-stays d.vertical (ap (λ (z : CompoundParts). z.vertical) e) in
+            let t = ap (norm_tail level) (tail-again d.tail) ∙ ap (λ (z : CompoundParts). z.tail) e in
+            λ i. record (norm_compound level (compound_form form d)) { name = n i; horizontal = x i; vertical = v i; tail = t i }
 
     -- ---- where the order of axes counts
 
     module _ (c : m.uncounted.axis_order ≡ false) where
-      geodetic-again : (g : GeodeticParts) →
-          ◌≡◌ {A = GeodeticParts} (geodetic m (norm_geodetic level (geodetic m (norm_geodetic level g))))
-          (norm_geodetic level (geodetic m (norm_geodetic level g)))
-      geodetic-again g =
-          let r : SystemParts = norm_system level (system m (norm_system level g.system)) in
-          geodetic-by g (system m r) r (system-again m s level c g.system)
+      abbrev as_is : SystemParts → SystemParts
+      as_is t = t
 
-      projected-again : (x : ProjectedParts) → IsProjected (norm_projected level x) →
-          ◌≡◌ {A = ProjectedParts} (projected m (norm_projected level (projected m (norm_projected level x))))
-          (norm_projected level (projected m (norm_projected level x)))
-      projected-again x k =
-          let r : SystemParts = norm_system level (system m (norm_system level x.system)) in
-          projected-by x (system m r) r (system-again m s level c x.system) (each-written x k)
+      kept-stays : (t : SystemParts) → Stays as_is (norm_system level) (system_form as_is) t
+      kept-stays t e = ap (norm_system level) (system-again m s level c t) ∙ e
 
-      vertical-again : (v : VerticalParts) →
-          ◌≡◌ {A = VerticalParts} (vertical m (norm_vertical level (vertical m (norm_vertical level v))))
-          (norm_vertical level (vertical m (norm_vertical level v)))
-      vertical-again v =
-          let r : SystemParts = norm_system level (system m (norm_system level v.system)) in
-          vertical-by v (system m r) r (system-again m s level c v.system)
+      across-renamed : (x : Horizontal) → IsHorizontal (norm_horizontal level x) →
+          Stays as_is (norm_horizontal level) (λ z. across m (norm_horizontal level z)) x
+      across-renamed (horizontals.Geodetic g) k e = ap horizontals.Geodetic (geodetic-stays as_is kept-stays g cc)
+      across-renamed (horizontals.Projected p) k e = ap horizontals.Projected (projected-stays as_is kept-stays p k.0 cc)
 
-      across-again : (x : Horizontal) → IsHorizontal (norm_horizontal level x) →
-          across m (norm_horizontal level (across m (norm_horizontal level x))) ≡ norm_horizontal level (across m (norm_horizontal level x))
-      across-again (horizontals.Geodetic g) k = ap horizontals.Geodetic (geodetic-again g)
-      across-again (horizontals.Projected p) k = ap horizontals.Projected (projected-again p k.0)
+      renamed-stays : (x : Crs) → IsCrs (norm_crs level x) → Stays as_is (norm_crs level) (λ z. renamed m (norm_crs level z)) x
+      renamed-stays (crs.Geodetic g) k e = ap crs.Geodetic (geodetic-stays as_is kept-stays g cc)
+      renamed-stays (crs.Projected p) k e = ap crs.Projected (projected-stays as_is kept-stays p k cc)
+      renamed-stays (crs.Vertical v) k e = ap crs.Vertical (vertical-stays as_is kept-stays v cc)
+      renamed-stays (crs.Compound d) k e =
+          ap crs.Compound
+          (compound-stays as_is kept-stays (λ z. across m (norm_horizontal level z)) d (across-renamed d.horizontal k.horizontal) cc)
 
-      renamed-again : (x : Crs) → IsCrs (norm_crs level x) →
-          renamed m (norm_crs level (renamed m (norm_crs level x))) ≡ norm_crs level (renamed m (norm_crs level x))
-      renamed-again (crs.Geodetic g) k = ap crs.Geodetic (geodetic-again g)
-      renamed-again (crs.Projected p) k = ap crs.Projected (projected-again p k)
-      renamed-again (crs.Vertical v) k = ap crs.Vertical (vertical-again v)
-      renamed-again (crs.Compound d) k =
-          let b : CompoundParts = norm_compound level (compound m (norm_compound level d)) in
-          let n = counted-name-again m.uncounted.crs_names (λ x. x) d.name refl in
-          let x = across-again d.horizontal k.horizontal in
-          let v = vertical-again d.vertical in
-          let t = tail-again d.tail in
-          λ i. crs.Compound (record b { name = n i; horizontal = x i; vertical = v i; tail = t i })
-
-    -- ---- where it doesn't: all but the orders of axes stays
+    -- ---- where it doesn't
 
     module _ (c : m.uncounted.axis_order ≡ true) (ids : StaysInOrder (λ (i : IdentParts). item_text (item_ident i)))
         (text : AxisParts → List ℕ) where
-      abbrev geodetic_form : GeodeticParts → GeodeticParts
-      geodetic_form g = arranged_geodetic text (geodetic m (norm_geodetic level g))
+      system-stays : (t : SystemParts) → Stays (arranged text) (norm_system level) (system_form (arranged text)) t
+      system-stays t e = ap (norm_system level) (arranged-again m s level ids c text t)
 
-      abbrev projected_form : ProjectedParts → ProjectedParts
-      projected_form x = arranged_projected text (projected m (norm_projected level x))
+      across-arranged : (x : Horizontal) → IsHorizontal (norm_horizontal level x) →
+          Stays (arranged text) (norm_horizontal level) (λ z. arranged_across text (across m (norm_horizontal level z))) x
+      across-arranged (horizontals.Geodetic g) k e = ap horizontals.Geodetic (geodetic-stays (arranged text) system-stays g cc)
+      across-arranged (horizontals.Projected p) k e =
+          ap horizontals.Projected (projected-stays (arranged text) system-stays p k.0 cc)
 
-      abbrev vertical_form : VerticalParts → VerticalParts
-      vertical_form v = arranged_vertical text (vertical m (norm_vertical level v))
-
-      abbrev system_form : SystemParts → SystemParts
-      system_form t = arranged text (system m (norm_system level t))
-
-      geodetic-formed : (g : GeodeticParts) →
-          ◌≡◌ {A = GeodeticParts} (geodetic_form (geodetic_form g))
-          (record (norm_geodetic level (geodetic_form g)) { system = system_form g.system })
-      geodetic-formed g =
-          geodetic-by g (system_form (system_form g.system)) (system_form g.system) (arranged-again m s level ids c text g.system)
-
-      projected-formed : (x : ProjectedParts) → IsProjected (norm_projected level x) →
-          ◌≡◌ {A = ProjectedParts} (projected_form (projected_form x))
-          (record (norm_projected level (projected_form x)) { system = system_form x.system })
-      projected-formed x k =
-          projected-by x (system_form (system_form x.system)) (system_form x.system) (arranged-again m s level ids c text x.system)
-          (each-written x k)
-
-      vertical-formed : (v : VerticalParts) →
-          ◌≡◌ {A = VerticalParts} (vertical_form (vertical_form v))
-          (record (norm_vertical level (vertical_form v)) { system = system_form v.system })
-      vertical-formed v =
-          vertical-by v (system_form (system_form v.system)) (system_form v.system) (arranged-again m s level ids c text v.system)
-
-      -- a CRS with these systems
-      abbrev put_across : SystemParts → Horizontal → Horizontal
-      put_across t (horizontals.Geodetic g) = horizontals.Geodetic (record g { system = t })
-      put_across t (horizontals.Projected p) = horizontals.Projected (record p { system = t })
-
-      abbrev put_systems : SystemParts → SystemParts → Crs → Crs
-      put_systems t w (crs.Geodetic g) = crs.Geodetic (record g { system = t })
-      put_systems t w (crs.Projected p) = crs.Projected (record p { system = t })
-      put_systems t w (crs.Vertical v) = crs.Vertical (record v { system = t })
-      put_systems t w (crs.Compound d) =
-          crs.Compound (record d { horizontal = put_across t d.horizontal; vertical = record d.vertical { system = w } })
-
-      abbrev form_of : Crs → Crs
-      form_of x = arranged_crs text (renamed m (norm_crs level x))
-
-      -- the one form of a form is put in its one form
-      abbrev IsTwice : Crs → Type 0
-      IsTwice x = norm_crs level (norm_crs level (form_of x)) ≡ norm_crs level (form_of x)
-
-      abbrev Stays : Crs → Type 0
-      Stays x = norm_crs level (form_of (form_of x)) ≡ norm_crs level (form_of x)
-
-      geodetic-stays : (g : GeodeticParts) → IsTwice (crs.Geodetic g) → Stays (crs.Geodetic g)
-      geodetic-stays g e =
-          let r : SystemParts = norm_system level (system_form g.system) in
-          ap (λ z. crs.Geodetic (norm_geodetic level z)) (geodetic-formed g) ∙ ap (put_systems r r) e
-
-      projected-stays : (x : ProjectedParts) → IsProjected (norm_projected level x) → IsTwice (crs.Projected x) → Stays (crs.Projected x)
-      projected-stays x k e =
-          let r : SystemParts = norm_system level (system_form x.system) in
-          ap (λ z. crs.Projected (norm_projected level z)) (projected-formed x k) ∙ ap (put_systems r r) e
-
-      vertical-stays : (v : VerticalParts) → IsTwice (crs.Vertical v) → Stays (crs.Vertical v)
-      vertical-stays v e =
-          let r : SystemParts = norm_system level (system_form v.system) in
-          ap (λ z. crs.Vertical (norm_vertical level z)) (vertical-formed v) ∙ ap (put_systems r r) e
-
-      abbrev compound_form : CompoundParts → CompoundParts
-      compound_form d = arranged_compound text (compound m (norm_compound level d))
-
-      compound-stays : (n : List ℕ) (x : Horizontal) (v : VerticalParts) (t : TailParts) → IsHorizontal (norm_horizontal level x) →
-          IsTwice (crs.Compound (record { name = n; horizontal = x; vertical = v; tail = t })) →
-          Stays (crs.Compound (record { name = n; horizontal = x; vertical = v; tail = t }))
-      compound-stays n (horizontals.Geodetic g) v t k e =
-          let d : CompoundParts = record { name = n; horizontal = horizontals.Geodetic g; vertical = v; tail = t } in
-          let b : CompoundParts = norm_compound level (compound_form d) in
-          let a = counted-name-again m.uncounted.crs_names (λ y. y) n refl in
-          let f = geodetic-formed g in
-          let w = vertical-formed v in
-          let u = tail-again t in
-          (λ i. crs.Compound (norm_compound level
-          (record b { name = a i; horizontal = horizontals.Geodetic (f i); vertical = w i; tail = u i })))
-          ∙ ap (put_systems (norm_system level (system_form g.system)) (norm_system level (system_form v.system))) e
-      compound-stays n (horizontals.Projected p) v t k e =
-          let d : CompoundParts = record { name = n; horizontal = horizontals.Projected p; vertical = v; tail = t } in
-          let b : CompoundParts = norm_compound level (compound_form d) in
-          let a = counted-name-again m.uncounted.crs_names (λ y. y) n refl in
-          let f = projected-formed p k.0 in
-          let w = vertical-formed v in
-          let u = tail-again t in
-          (λ i. crs.Compound (norm_compound level
-          (record b { name = a i; horizontal = horizontals.Projected (f i); vertical = w i; tail = u i })))
-          ∙ ap (put_systems (norm_system level (system_form p.system)) (norm_system level (system_form v.system))) e
-
-      form-stays : (x : Crs) → IsCrs (norm_crs level x) → IsTwice x → Stays x
-      form-stays (crs.Geodetic g) k e = geodetic-stays g e
-      form-stays (crs.Projected p) k e = projected-stays p k e
-      form-stays (crs.Vertical v) k e = vertical-stays v e
-      form-stays (crs.Compound d) k e = compound-stays d.name d.horizontal d.vertical d.tail k.horizontal e
+      arranged-stays : (x : Crs) → IsCrs (norm_crs level x) →
+          Stays (arranged text) (norm_crs level) (λ z. arranged_crs text (renamed m (norm_crs level z))) x
+      arranged-stays (crs.Geodetic g) k e = ap crs.Geodetic (geodetic-stays (arranged text) system-stays g cc)
+      arranged-stays (crs.Projected p) k e = ap crs.Projected (projected-stays (arranged text) system-stays p k cc)
+      arranged-stays (crs.Vertical v) k e = ap crs.Vertical (vertical-stays (arranged text) system-stays v cc)
+      arranged-stays (crs.Compound d) k e =
+          ap crs.Compound
+          (compound-stays (arranged text) system-stays (λ z. arranged_across text (across m (norm_horizontal level z))) d
+          (across-arranged d.horizontal k.horizontal) cc)
 
     -- ---- both
 
@@ -364,8 +303,8 @@ module _ (m : Meaning) (s : IsSteady m) (level : Level) (o : SetLaws) where
         m.uncounted.axis_order ≡ b → (x : Crs) → IsCrs (norm_crs level x) →
         norm_crs level (norm_crs level (either text b (norm_crs level x))) ≡ norm_crs level (either text b (norm_crs level x)) →
         norm_crs level (either text b (norm_crs level (either text b (norm_crs level x)))) ≡ norm_crs level (either text b (norm_crs level x))
-    either-stays ids text true c x k e = form-stays c ids text x k e
-    either-stays ids text false c x k e = ap (norm_crs level) (renamed-again c x k) ∙ e
+    either-stays ids text true c x k e = arranged-stays c ids text x k e
+    either-stays ids text false c x k e = renamed-stays c x k e
 
     -- the one form of a rewritten CRS is that of itself rewritten
     pub rewritten-stays : StaysInOrder (λ (i : IdentParts). item_text (item_ident i)) → (text : AxisParts → List ℕ) (x : Crs) →
