@@ -49,13 +49,20 @@ pub mapped : {A B : Type 0} (f : A → B) (Q : B → Type 0) (xs : List A) → E
 mapped f Q [] h = tt
 mapped f Q (x ∷ xs) h = (h.0, mapped f Q xs h.1)
 
--- a function leaves what it wrote as it is, in parts that may be missing and in sets, where it does so in one
-pub some-again : {A : Type 0} (f n : A → A) → ((x : A) → f (n (f (n x))) ≡ n (f (n x))) → (o : Option A) →
-    option_map f (option_map n (option_map f (option_map n o))) ≡ option_map n (option_map f (option_map n o))
+-- what a function wrote it leaves as it is, when that was put in its one form
+abbrev pub IsLeft : {A : Type 0} → (A → A) → (A → A) → A → Type 0
+IsLeft f norm x = f (norm (f x)) ≡ norm (f x)
+
+abbrev pub IsAgain : {A : Type 0} → (A → A) → (A → A) → A → Type 0
+IsAgain f norm x = IsLeft f norm (norm x)
+
+-- it does so in parts that may be missing and in sets, where it does so in one of them
+pub some-again : {A : Type 0} (f n : A → A) → ((x : A) → IsAgain f n x) → (o : Option A) →
+    IsAgain (option_map f) (option_map n) o
 some-again f n h None = refl
 some-again f n h (Some x) = ap (λ y. Some y) (h x)
 
-pub set-again : {A : Type 0} (text : A → List ℕ) (f n : A → A) → StaysInOrder text → ((x : A) → f (n (f x)) ≡ n (f x)) →
+pub set-again : {A : Type 0} (text : A → List ℕ) (f n : A → A) → StaysInOrder text → ((x : A) → IsLeft f n x) →
     (xs : List A) → map f (in_order text (map n (map f xs))) ≡ in_order text (map n (map f xs))
 set-again text f n l h xs =
     let ys = map n (map f xs) in
@@ -97,8 +104,7 @@ plain-kind kinds.Scale = refl
 module _ (m : Meaning) (s : IsSteady m) (level : Level) where
   -- ---- units
 
-  pub unit-again : (asked : UnitKind) (u : UnitParts) → kind_as asked u.kind ≡ u.kind →
-      m.unit (norm_unit level asked (m.unit u)) ≡ norm_unit level asked (m.unit u)
+  pub unit-again : (asked : UnitKind) (u : UnitParts) → kind_as asked u.kind ≡ u.kind → IsLeft m.unit (norm_unit level asked) u
   unit-again asked u e =
       let ids : List IdentParts = set_idents level (m.unit u).identifiers in
       let k : kind_as asked (m.unit u).kind ≡ (m.unit u).kind = ap (kind_as asked) (s.kinds.kind u) ∙ (e ∙ sym (s.kinds.kind u)) in
@@ -106,9 +112,7 @@ module _ (m : Meaning) (s : IsSteady m) (level : Level) where
       λ i. record (m.unit u) { kind = k i; identifiers = ids } in
       subst (λ (x : UnitParts). m.unit x ≡ x) (sym p) (s.unit u ids)
 
-  pub units-again : (asked : UnitKind) (o : Option UnitParts) →
-      units m (norm_units level asked (units m (norm_units level asked o)))
-      ≡ norm_units level asked (units m (norm_units level asked o))
+  pub units-again : (asked : UnitKind) (o : Option UnitParts) → IsAgain (units m) (norm_units level asked) o
   units-again asked None = refl
   units-again asked (Some u) =
       ap (λ x. Some x) (unit-again asked (norm_unit level asked u) (kind-twice asked u.kind))
@@ -119,9 +123,7 @@ module _ (m : Meaning) (s : IsSteady m) (level : Level) where
 
   -- ---- frames
 
-  pub ellipsoid-again : (e : EllipsoidParts) →
-      ellipsoid m (norm_ellipsoid level (ellipsoid m (norm_ellipsoid level e)))
-      ≡ norm_ellipsoid level (ellipsoid m (norm_ellipsoid level e))
+  pub ellipsoid-again : (e : EllipsoidParts) → IsAgain (ellipsoid m) (norm_ellipsoid level) e
   ellipsoid-again e =
       let b : EllipsoidParts = norm_ellipsoid level (ellipsoid m (norm_ellipsoid level e)) in
       let n = s.name class.Ellipsoid e.name in
@@ -134,8 +136,7 @@ module _ (m : Meaning) (s : IsSteady m) (level : Level) where
   given-unit true o = refl
   given-unit false o = units-again kinds.Angle o
 
-  given-again : (x : MeridianParts) →
-      meridian m (norm_given level (meridian m (norm_given level x))) ≡ norm_given level (meridian m (norm_given level x))
+  given-again : (x : MeridianParts) → IsAgain (meridian m) (norm_given level) x
   given-again x =
       let b : MeridianParts = norm_given level (meridian m (norm_given level x)) in
       let n = s.name class.PrimeMeridian x.name in
@@ -147,14 +148,11 @@ module _ (m : Meaning) (s : IsSteady m) (level : Level) where
       let b : MeridianParts = norm_given level (meridian m greenwich) in
       let n = s.name class.PrimeMeridian greenwich.name in λ i. record b { name = n i }
 
-  pub meridian-again : (x : Option MeridianParts) →
-      option_map (meridian m) (norm_meridian level (option_map (meridian m) (norm_meridian level x)))
-      ≡ norm_meridian level (option_map (meridian m) (norm_meridian level x))
+  pub meridian-again : (x : Option MeridianParts) → IsAgain (option_map (meridian m)) (norm_meridian level) x
   meridian-again None = ap (λ x. Some x) greenwich-again
   meridian-again (Some x) = ap (λ x. Some x) (given-again x)
 
-  datum-again : (c : Class) (d : DatumParts) →
-      datum m c (norm_datum level (datum m c (norm_datum level d))) ≡ norm_datum level (datum m c (norm_datum level d))
+  datum-again : (c : Class) (d : DatumParts) → IsAgain (datum m c) (norm_datum level) d
   datum-again c d =
       let b : DatumParts = norm_datum level (datum m c (norm_datum level d)) in
       let n = s.name c d.name in
@@ -163,18 +161,17 @@ module _ (m : Meaning) (s : IsSteady m) (level : Level) where
       let t = counted-again m.uncounted.anchors d.anchor_epoch in
       λ i. record b { name = n i; ellipsoid = e i; anchor = a i; anchor_epoch = t i }
 
-  pub member-fixed : (c : Class) (n : NamedParts) → named m c (norm_member level (named m c n)) ≡ norm_member level (named m c n)
+  pub member-fixed : (c : Class) (n : NamedParts) → IsLeft (named m c) (norm_member level) n
   member-fixed c n =
       let b : NamedParts = norm_member level (named m c n) in let e = s.name c n.name in λ i. record b { name = e i }
 
   members-again : StaysInOrder (λ (x : NamedParts). item_text (item_member x)) → (c : Class) (ms : List NamedParts) →
-      map (named m c) (set_members level (map (named m c) ms)) ≡ set_members level (map (named m c) ms)
+      IsLeft (map (named m c)) (set_members level) ms
   unfolding set_members
   members-again l c ms = set-again (λ x. item_text (item_member x)) (named m c) (norm_member level) l (member-fixed c) ms
 
   ensemble-again : StaysInOrder (λ (x : NamedParts). item_text (item_member x)) → (c : Class) (e : EnsembleParts) →
-      ensemble m c (norm_ensemble level (ensemble m c (norm_ensemble level e)))
-      ≡ norm_ensemble level (ensemble m c (norm_ensemble level e))
+      IsAgain (ensemble m c) (norm_ensemble level) e
   ensemble-again l c e =
       let b : EnsembleParts = norm_ensemble level (ensemble m c (norm_ensemble level e)) in
       let n = s.name c e.name in
@@ -187,33 +184,27 @@ module _ (m : Meaning) (s : IsSteady m) (level : Level) where
   framed c d uncounted f = frame_or_ensemble m c d (counted_frame uncounted f)
 
   pub frame-again : StaysInOrder (λ (x : NamedParts). item_text (item_member x)) → (c d : Class) (uncounted : Bool) (f : Frame) →
-      framed c d uncounted (norm_frame level (framed c d uncounted (norm_frame level f)))
-      ≡ norm_frame level (framed c d uncounted (norm_frame level f))
+      IsAgain (framed c d uncounted) (norm_frame level) f
   frame-again l c d true (frames.Datum x) = ap frames.Datum (datum-again c x)
   frame-again l c d false (frames.Datum x) = ap frames.Datum (datum-again c x)
   frame-again l c d true (frames.Ensemble e) =
       ap frames.Datum (datum-again c (frame_of (record e { name = without_ensemble e.name })))
   frame-again l c d false (frames.Ensemble e) = ap frames.Ensemble (ensemble-again l d e)
 
-  dynamic-again : (d : DynamicParts) →
-      dynamic m (norm_dynamic level (dynamic m (norm_dynamic level d))) ≡ norm_dynamic level (dynamic m (norm_dynamic level d))
+  dynamic-again : (d : DynamicParts) → IsAgain (dynamic m) (norm_dynamic level) d
   dynamic-again d =
       let b : DynamicParts = norm_dynamic level (dynamic m (norm_dynamic level d)) in
       let e =
       some-again (named m class.DeformationModel) (norm_member level) (λ x. member-fixed class.DeformationModel (norm_member level x)) d.model in λ i. record b { model = e i }
 
   pub dynamics-again : (uncounted : Bool) (d : Option DynamicParts) →
-      counted uncounted (option_map (dynamic m) (option_map (norm_dynamic level)
-      (counted uncounted (option_map (dynamic m) (option_map (norm_dynamic level) d)))))
-      ≡ option_map (norm_dynamic level) (counted uncounted (option_map (dynamic m) (option_map (norm_dynamic level) d)))
+      IsAgain (λ o. counted uncounted (option_map (dynamic m) o)) (option_map (norm_dynamic level)) d
   dynamics-again true d = refl
   dynamics-again false d = some-again (dynamic m) (norm_dynamic level) dynamic-again d
 
   -- ---- coordinate systems
 
-  along-again : (x : Option AxisMeridianParts) →
-      option_map (axis_meridian m) (norm_axis_meridians level (option_map (axis_meridian m) (norm_axis_meridians level x)))
-      ≡ norm_axis_meridians level (option_map (axis_meridian m) (norm_axis_meridians level x))
+  along-again : (x : Option AxisMeridianParts) → IsAgain (option_map (axis_meridian m)) (norm_axis_meridians level) x
   along-again None = refl
   along-again (Some x) =
       let u = unit-again kinds.Angle (norm_unit level kinds.Angle x.unit) (kind-twice kinds.Angle x.unit.kind) in
@@ -243,8 +234,7 @@ module _ (m : Meaning) (s : IsSteady m) (level : Level) where
       let p : counted m.uncounted.axis_order b.order ≡ b.order = ap (λ c. counted c b.order) o in
       λ i. record b { name = n i; meridian = a i; order = p i; unit = u i }
 
-  pub system-again : m.uncounted.axis_order ≡ false → (t : SystemParts) →
-      system m (norm_system level (system m (norm_system level t))) ≡ norm_system level (system m (norm_system level t))
+  pub system-again : m.uncounted.axis_order ≡ false → (t : SystemParts) → IsAgain (system m) (norm_system level) t
   system-again o t =
       let r : SystemParts = system m (norm_system level t) in
       let b : SystemParts = norm_system level r in
@@ -258,27 +248,24 @@ module _ (m : Meaning) (s : IsSteady m) (level : Level) where
 
   -- ---- conversions
 
-  plain-again : (o : Option UnitParts) →
-      units m (norm_units level kinds.Plain (units m o)) ≡ norm_units level kinds.Plain (units m o)
+  plain-again : (o : Option UnitParts) → IsLeft (units m) (norm_units level kinds.Plain) o
   plain-again None = refl
   plain-again (Some u) = ap (λ x. Some x) (unit-again kinds.Plain u (plain-kind u.kind))
 
-  parameter-fixed : (p : ParameterParts) →
-      parameter m (norm_parameter level (parameter m p)) ≡ norm_parameter level (parameter m p)
+  parameter-fixed : (p : ParameterParts) → IsLeft (parameter m) (norm_parameter level) p
   parameter-fixed p =
       let b : ParameterParts = norm_parameter level (parameter m p) in
       let n = s.name class.Parameter p.name in
       let u = plain-again p.unit in λ i. record b { name = n i; unit = u i }
 
   parameters-again : StaysInOrder (λ (x : ParameterParts). item_text (item_parameter x)) → (ps : List ParameterParts) →
-      map (parameter m) (set_parameters level (map (parameter m) ps)) ≡ set_parameters level (map (parameter m) ps)
+      IsLeft (map (parameter m)) (set_parameters level) ps
   unfolding set_parameters
   parameters-again l ps =
       set-again (λ x. item_text (item_parameter x)) (parameter m) (norm_parameter level) l parameter-fixed ps
 
   pub conversion-again : StaysInOrder (λ (x : ParameterParts). item_text (item_parameter x)) → (c : ConversionParts) →
-      conversion m (norm_conversion level (conversion m (norm_conversion level c)))
-      ≡ norm_conversion level (conversion m (norm_conversion level c))
+      IsAgain (conversion m) (norm_conversion level) c
   conversion-again l c =
       let b : ConversionParts = norm_conversion level (conversion m (norm_conversion level c)) in
       let n = counted-name-again m.uncounted.conversion_names (λ x. x) c.name refl in

@@ -23,7 +23,7 @@ use Rattle.crs_rules.specs.LowerLaws.{SetLaws}
 use Rattle.crs_rules.specs.Rewritten.{across, arranged, arranged_across, arranged_crs, base, compound, counted, extent, geodetic, has_own_unit, is_idle, meridian, named, parameter, projected, renamed, rewritten, system, tail, units, usage, vertical}
 use Rattle.crs_rules.specs.Rules.{Meaning}
 use Rattle.crs_rules.proofs.MatchLemmas.{both}
-use Rattle.crs_rules.proofs.AgainLemmas.{conversion-again, counted-name-again, dynamics-again, each-all, each-fixed, frame-again, length-kind, mapped, member-fixed, meridian-again, set-again, some-again, system-again, unit-again, units-again}
+use Rattle.crs_rules.proofs.AgainLemmas.{IsAgain, IsLeft, conversion-again, counted-name-again, dynamics-again, each-all, each-fixed, frame-again, length-kind, mapped, member-fixed, meridian-again, set-again, some-again, system-again, unit-again, units-again}
 use Rattle.crs_rules.proofs.AliasLemmas.{IsSoundMeaning}
 use Rattle.crs_rules.proofs.ArrangedLemmas.{arranged-again}
 use Rattle.crs_rules.proofs.PartLemmas.{each-map, parameter-sound}
@@ -56,19 +56,20 @@ all-set told test xs h =
       λ e. all-from test ys (each-in_order parameter-text (λ x. test x ≡ true) xs (all-to test xs e)),
     ) (λ e. e, λ e. e)
 
+-- the one form of a form stays, where it is put in its one form
+abbrev pub Stays : {A : Type 0} → (A → A) → (A → A) → A → Type 0
+Stays norm form x = norm (norm (form x)) ≡ norm (form x) → norm (form (form x)) ≡ norm (form x)
+
 module _ (m : Meaning) (s : IsSteady m) (level : Level) (o : SetLaws) where
   -- ---- usages
 
-  extent-again : (e : ExtentParts) →
-      ◌≡◌ {A = ExtentParts} (extent m (norm_extent levels.Full (extent m (norm_extent levels.Full e))))
-      (norm_extent levels.Full (extent m (norm_extent levels.Full e)))
+  extent-again : (e : ExtentParts) → IsAgain (extent m) (norm_extent levels.Full) e
   extent-again e =
       let b : ExtentParts = norm_extent levels.Full (extent m (norm_extent levels.Full e)) in
       let u = unit-again m s levels.Full kinds.Length (norm_length levels.Full e.unit) (length-kind m s levels.Full e.unit) in
       λ i. record b { unit = Some (u i) }
 
-  usage-again : (u : UsageParts) →
-      ◌≡◌ {A = UsageParts} (usage m (norm_usage (usage m (norm_usage u)))) (norm_usage (usage m (norm_usage u)))
+  usage-again : (u : UsageParts) → IsAgain (usage m) norm_usage u
   usage-again u =
       let b : UsageParts = norm_usage (usage m (norm_usage u)) in
       let e = some-again (extent m) (norm_extent levels.Full) extent-again u.extent in λ i. record b { extent = e i }
@@ -77,8 +78,7 @@ module _ (m : Meaning) (s : IsSteady m) (level : Level) (o : SetLaws) where
   each-kept P levels.Full us h = h
   each-kept P levels.Definition us h = tt
 
-  usages-again : (us : List UsageParts) →
-      map (usage m) (set_usages level (map (usage m) (set_usages level us))) ≡ set_usages level (map (usage m) (set_usages level us))
+  usages-again : (us : List UsageParts) → IsAgain (map (usage m)) (set_usages level) us
   unfolding set_usages
   usages-again us =
       let old : List UsageParts = map norm_usage (kept level us) in
@@ -92,8 +92,7 @@ module _ (m : Meaning) (s : IsSteady m) (level : Level) (o : SetLaws) where
       each-fixed (usage m) (in_order usage-text (map norm_usage (kept level xs)))
       (each-in_order usage-text (λ x. usage m x ≡ x) (map norm_usage (kept level xs)) fixed)
 
-  tail-again : (t : TailParts) →
-      ◌≡◌ {A = TailParts} (tail m (norm_tail level (tail m (norm_tail level t)))) (norm_tail level (tail m (norm_tail level t)))
+  tail-again : (t : TailParts) → IsAgain (tail m) (norm_tail level) t
   tail-again t =
       let b : TailParts = norm_tail level (tail m (norm_tail level t)) in
       let u = usages-again (usages_of t) in λ i. record b { usages = u i }
@@ -101,8 +100,7 @@ module _ (m : Meaning) (s : IsSteady m) (level : Level) (o : SetLaws) where
   -- ---- geoid models
 
   models-by : (b : Bool) (xs : List NamedParts) →
-      (if b then [] else map (named m class.GeoidModel) (set_geoid_models level (if b then [] else map (named m class.GeoidModel) xs)))
-      ≡ set_geoid_models level (if b then [] else map (named m class.GeoidModel) xs)
+      IsLeft (λ models. if b then [] else map (named m class.GeoidModel) models) (set_geoid_models level) xs
   unfolding set_geoid_models
   models-by true xs = refl
   models-by false xs =
@@ -139,14 +137,11 @@ module _ (m : Meaning) (s : IsSteady m) (level : Level) (o : SetLaws) where
       all-set o.told (λ p. is_some p.unit) (map (norm_parameter level) (map (parameter m) ps)) (each-map IsParameter IsParameter (norm_parameter level) (map (parameter m) ps) (parameter-kept level) h)
       ∙ all-there ps
 
-  counted-unit : (k : Bool) (u : Option UnitParts) →
-      counted k (units m (norm_units level kinds.Angle (counted k (units m (norm_units level kinds.Angle u)))))
-      ≡ norm_units level kinds.Angle (counted k (units m (norm_units level kinds.Angle u)))
+  counted-unit : (k : Bool) (u : Option UnitParts) → IsAgain (λ o. counted k (units m o)) (norm_units level kinds.Angle) u
   counted-unit true u = refl
   counted-unit false u = units-again m s level kinds.Angle u
 
-  base-again : (idle : Bool) (b : BaseParts) →
-      ◌≡◌ {A = BaseParts} (base m idle (norm_base level (base m idle (norm_base level b)))) (norm_base level (base m idle (norm_base level b)))
+  base-again : (idle : Bool) (b : BaseParts) → IsAgain (base m idle) (norm_base level) b
   base-again idle b =
       let c : BaseParts = norm_base level (base m idle (norm_base level b)) in
       let n = counted-name-again m.uncounted.base_names (λ x. x) b.name refl in
@@ -200,7 +195,7 @@ module _ (m : Meaning) (s : IsSteady m) (level : Level) (o : SetLaws) where
       λ i. record b { name = n i; dynamic = d i; frame = f i; system = p; geoid_models = g i; tail = t i }
 
   module _ (h : IsSoundMeaning m) where
-    -- ---- CRSs whose systems are put so: the one form of a form stays, where it is put in its one form
+    -- ---- CRSs whose systems are put so
 
     module _ (put : SystemParts → SystemParts) where
       abbrev system_form : SystemParts → SystemParts
@@ -218,10 +213,6 @@ module _ (m : Meaning) (s : IsSteady m) (level : Level) (o : SetLaws) where
       abbrev compound_form : (Horizontal → Horizontal) → CompoundParts → CompoundParts
       compound_form form d =
           record (compound m (norm_compound level d)) { horizontal = form d.horizontal; vertical = vertical_form d.vertical }
-
-      -- a function that gives the form of a part
-      abbrev Stays : {A : Type 0} → (A → A) → (A → A) → A → Type 0
-      Stays norm form x = norm (norm (form x)) ≡ norm (form x) → norm (form (form x)) ≡ norm (form x)
 
       module _ (stays : (t : SystemParts) → Stays (norm_system level) system_form t) where
         geodetic-stays : (g : GeodeticParts) → Stays (norm_geodetic level) geodetic_form g
@@ -255,15 +246,15 @@ module _ (m : Meaning) (s : IsSteady m) (level : Level) (o : SetLaws) where
       abbrev as_is : SystemParts → SystemParts
       as_is t = t
 
-      kept-stays : (t : SystemParts) → Stays as_is (norm_system level) (system_form as_is) t
+      kept-stays : (t : SystemParts) → Stays (norm_system level) (system_form as_is) t
       kept-stays t e = ap (norm_system level) (system-again m s level c t) ∙ e
 
       across-renamed : (x : Horizontal) → IsHorizontal (norm_horizontal level x) →
-          Stays as_is (norm_horizontal level) (λ z. across m (norm_horizontal level z)) x
+          Stays (norm_horizontal level) (λ z. across m (norm_horizontal level z)) x
       across-renamed (horizontals.Geodetic g) k e = ap horizontals.Geodetic (geodetic-stays as_is kept-stays g cc)
       across-renamed (horizontals.Projected p) k e = ap horizontals.Projected (projected-stays as_is kept-stays p k.0 cc)
 
-      renamed-stays : (x : Crs) → IsCrs (norm_crs level x) → Stays as_is (norm_crs level) (λ z. renamed m (norm_crs level z)) x
+      renamed-stays : (x : Crs) → IsCrs (norm_crs level x) → Stays (norm_crs level) (λ z. renamed m (norm_crs level z)) x
       renamed-stays (crs.Geodetic g) k e = ap crs.Geodetic (geodetic-stays as_is kept-stays g cc)
       renamed-stays (crs.Projected p) k e = ap crs.Projected (projected-stays as_is kept-stays p k cc)
       renamed-stays (crs.Vertical v) k e = ap crs.Vertical (vertical-stays as_is kept-stays v cc)
@@ -275,17 +266,17 @@ module _ (m : Meaning) (s : IsSteady m) (level : Level) (o : SetLaws) where
 
     module _ (c : m.uncounted.axis_order ≡ true) (ids : StaysInOrder (λ (i : IdentParts). item_text (item_ident i)))
         (text : AxisParts → List ℕ) where
-      system-stays : (t : SystemParts) → Stays (arranged text) (norm_system level) (system_form (arranged text)) t
+      system-stays : (t : SystemParts) → Stays (norm_system level) (system_form (arranged text)) t
       system-stays t e = ap (norm_system level) (arranged-again m s level ids c text t)
 
       across-arranged : (x : Horizontal) → IsHorizontal (norm_horizontal level x) →
-          Stays (arranged text) (norm_horizontal level) (λ z. arranged_across text (across m (norm_horizontal level z))) x
+          Stays (norm_horizontal level) (λ z. arranged_across text (across m (norm_horizontal level z))) x
       across-arranged (horizontals.Geodetic g) k e = ap horizontals.Geodetic (geodetic-stays (arranged text) system-stays g cc)
       across-arranged (horizontals.Projected p) k e =
           ap horizontals.Projected (projected-stays (arranged text) system-stays p k.0 cc)
 
       arranged-stays : (x : Crs) → IsCrs (norm_crs level x) →
-          Stays (arranged text) (norm_crs level) (λ z. arranged_crs text (renamed m (norm_crs level z))) x
+          Stays (norm_crs level) (λ z. arranged_crs text (renamed m (norm_crs level z))) x
       arranged-stays (crs.Geodetic g) k e = ap crs.Geodetic (geodetic-stays (arranged text) system-stays g cc)
       arranged-stays (crs.Projected p) k e = ap crs.Projected (projected-stays (arranged text) system-stays p k cc)
       arranged-stays (crs.Vertical v) k e = ap crs.Vertical (vertical-stays (arranged text) system-stays v cc)
@@ -301,15 +292,11 @@ module _ (m : Meaning) (s : IsSteady m) (level : Level) (o : SetLaws) where
 
     either-stays : StaysInOrder (λ (i : IdentParts). item_text (item_ident i)) → (text : AxisParts → List ℕ) (b : Bool) →
         m.uncounted.axis_order ≡ b → (x : Crs) → IsCrs (norm_crs level x) →
-        norm_crs level (norm_crs level (either text b (norm_crs level x))) ≡ norm_crs level (either text b (norm_crs level x)) →
-        norm_crs level (either text b (norm_crs level (either text b (norm_crs level x)))) ≡ norm_crs level (either text b (norm_crs level x))
+        Stays (norm_crs level) (λ z. either text b (norm_crs level z)) x
     either-stays ids text true c x k e = arranged-stays c ids text x k e
     either-stays ids text false c x k e = renamed-stays c x k e
 
     -- the one form of a rewritten CRS is that of itself rewritten
     pub rewritten-stays : StaysInOrder (λ (i : IdentParts). item_text (item_ident i)) → (text : AxisParts → List ℕ) (x : Crs) →
-        IsCrs (norm_crs level x) →
-        norm_crs level (norm_crs level (rewritten text m (norm_crs level x))) ≡ norm_crs level (rewritten text m (norm_crs level x)) →
-        norm_crs level (rewritten text m (norm_crs level (rewritten text m (norm_crs level x))))
-        ≡ norm_crs level (rewritten text m (norm_crs level x))
+        IsCrs (norm_crs level x) → Stays (norm_crs level) (λ z. rewritten text m (norm_crs level z)) x
     rewritten-stays ids text x k e = either-stays ids text m.uncounted.axis_order refl x k e
