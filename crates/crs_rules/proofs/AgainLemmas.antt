@@ -24,9 +24,7 @@ kind-twice kinds.Length kinds.Plain = refl
 kind-twice kinds.Angle kinds.Plain = refl
 kind-twice kinds.Scale kinds.Plain = refl
 kind-twice kinds.Plain kinds.Plain = refl
-kind-twice asked kinds.Length = refl
-kind-twice asked kinds.Angle = refl
-kind-twice asked kinds.Scale = refl
+kind-twice asked kind = refl
 
 pub counted-name-again : (b : Bool) (f : List ℕ → List ℕ) (n : List ℕ) → f (f n) ≡ f n →
     counted_name b (f (counted_name b (f n))) ≡ counted_name b (f n)
@@ -97,9 +95,7 @@ any-axis level R t f = each-axis level R (λ x. Unit {0}) t (λ k x u. f k x) (e
 
 pub plain-kind : (kind : UnitKind) → kind_as kinds.Plain kind ≡ kind
 plain-kind kinds.Plain = refl
-plain-kind kinds.Length = refl
-plain-kind kinds.Angle = refl
-plain-kind kinds.Scale = refl
+plain-kind kind = refl
 
 module _ (m : Meaning) (s : IsSteady m) (level : Level) where
   -- ---- units

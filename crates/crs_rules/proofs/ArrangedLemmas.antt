@@ -19,8 +19,7 @@ use Rattle.crs_normal.specs.Prelude.{StaysInOrder, axes_from, axis_at, is_at, no
 use Rattle.crs_rules.specs.Rewritten.{among, arranged, ascending, axis, axis_meridian, counted, system, units}
 use Rattle.crs_rules.specs.Rules.{Meaning}
 use Rattle.crs_rules.proofs.AgainLemmas.{any-axis, counted-name-again, kind-twice, mapped}
-use Rattle.crs_rules.proofs.CrsLemmas.{each-ascending, none-ordered}
-use Rattle.crs_rules.proofs.SortLemmas.{by-order}
+use Rattle.crs_rules.proofs.CrsLemmas.{by-order, each-ascending, none-ordered}
 use Rattle.crs_rules.proofs.SteadyLemmas.{IsSteady, KeepsKinds}
 
 -- ---- in order twice
@@ -46,17 +45,13 @@ module _ (text : AxisParts → List ℕ) where
       Before y (among text x zs)
   before-among y x [] h k = k
   before-among y x (z ∷ ws) h k =
-      by-order (Before y) (x ∷ z ∷ ws) (x ∷ z ∷ ws) (z ∷ among text x ws) (slice_cmp nat_cmp (text x) (text z)) k k (λ g. h)
+      by-order (Before y) (x ∷ z ∷ ws) (z ∷ among text x ws) (slice_cmp nat_cmp (text x) (text z)) (λ n. k) (λ g. h)
 
   among-rises : (x : AxisParts) (ys : List AxisParts) → Rising ys → Rising (among text x ys)
   among-rises x [] h = (tt, tt)
-  among-rises x (y ∷ zs) h = by (slice_cmp nat_cmp (text x) (text y)) refl (among-rises x zs h.1)
-    where
-      by : (o : Ordering) → slice_cmp nat_cmp (text x) (text y) ≡ o → Rising (among text x zs) →
-          Rising (match_ordering o (x ∷ y ∷ zs) (x ∷ y ∷ zs) (y ∷ among text x zs))
-      by Less e k = (λ f. less-greater (sym e ∙ f), h)
-      by Equal e k = (λ f. let n : ◌≡◌ {A = ℕ} 1 2 = ap ordering_index (sym e ∙ f) in absurd (omega arith), h)
-      by Greater e k = (before-among y x zs h.0 (below (text x) (text y) e), k)
+  among-rises x (y ∷ zs) h =
+      by-order Rising (x ∷ y ∷ zs) (y ∷ among text x zs) (slice_cmp nat_cmp (text x) (text y)) (λ n. (n, h))
+      (λ g. (before-among y x zs h.0 (below (text x) (text y) g), among-rises x zs h.1))
 
   ascending-rises : (xs : List AxisParts) → Rising (ascending text xs)
   ascending-rises [] = tt
@@ -65,8 +60,8 @@ module _ (text : AxisParts → List ℕ) where
   pub in-front : (x : AxisParts) (xs : List AxisParts) → Before x xs → among text x xs ≡ x ∷ xs
   in-front x [] h = refl
   in-front x (y ∷ ys) h =
-      by-order (λ zs. zs ≡ x ∷ y ∷ ys) (x ∷ y ∷ ys) (x ∷ y ∷ ys) (y ∷ among text x ys)
-      (slice_cmp nat_cmp (text x) (text y)) refl refl (λ g. absurd (h g))
+      by-order (λ zs. zs ≡ x ∷ y ∷ ys) (x ∷ y ∷ ys) (y ∷ among text x ys) (slice_cmp nat_cmp (text x) (text y))
+      (λ n. refl) (λ g. absurd (h g))
 
   risen : (xs : List AxisParts) → Rising xs → ascending text xs ≡ xs
   risen [] h = refl
@@ -108,16 +103,14 @@ at-none (x ∷ xs) h (suc i) p k e =
     ap (λ b. if b then Some x else axis_at k (p + 1) xs) t ∙ at-none xs h.1 i (p + 1) k n
 
 nth-drop : (xs : List AxisParts) (i : ℕ) → nth xs i ≡ nth (drop i xs) 0
-nth-drop [] zero = refl
-nth-drop [] (suc i) = refl
-nth-drop (x ∷ xs) zero = refl
 nth-drop (x ∷ xs) (suc i) = nth-drop xs i
+nth-drop [] (suc i) = refl
+nth-drop xs zero = refl
 
 drop-behind : (xs : List AxisParts) (i : ℕ) → drop (suc i) xs ≡ behind (drop i xs)
-drop-behind [] zero = refl
-drop-behind [] (suc i) = refl
-drop-behind (x ∷ xs) zero = refl
 drop-behind (x ∷ xs) (suc i) = drop-behind xs i
+drop-behind [] (suc i) = refl
+drop-behind xs zero = refl
 
 pub idents-twice : StaysInOrder (λ (i : IdentParts). item_text (item_ident i)) → (l : Level) (is : List IdentParts) →
     set_idents l (set_idents l is) ≡ set_idents l is

@@ -12,7 +12,7 @@ use Rattle.crs_value.specs.declared.values.compound.Horizontal.TheVariants as ho
 use Rattle.crs_value.specs.declared.values.crs.Crs.{Crs}
 use Rattle.crs_value.specs.declared.values.crs.Crs.TheVariants as crs
 use Rattle.std.specs.Cmp.Lexicographic.{slice_cmp}
-use Rattle.std.specs.Ordering.{nat_cmp, match_ordering}
+use Rattle.std.specs.Ordering.{nat_cmp, match_ordering, ordering_index}
 use Rattle.std.proofs.lemmas.List.{length-map}
 use Rattle.crs_rules.specs.Sinking.{IsOrderless, IsOrderlessAcross, IsOrderlessCrs}
 use Rattle.crs_rules.specs.Rewritten.{across, among, arranged, arranged_across, arranged_compound, arranged_crs, arranged_geodetic, arranged_projected, arranged_vertical, ascending, axis, axis_meridian, counted, renamed, base, compound, geodetic, is_idle, meridian, named, projected, rewritten, system, units, vertical}
@@ -170,10 +170,12 @@ renamed-sound r h (crs.Compound c) k = compound-sound r h c k
 
 -- ---- axes in order of their texts
 
-ordered : {X : Type 0} (P : X → Type 0) (o : Ordering) (x y z : X) → P x → P y → P z → P (match_ordering o x y z)
-ordered P Less x y z a b c = a
-ordered P Equal x y z a b c = b
-ordered P Greater x y z a b c = c
+-- what a comparison decides, where less and equal decide alike
+pub by-order : {X : Type 0} (P : X → Type 0) (a b : X) (o : Ordering) → (o ≢ Greater → P a) → (o ≡ Greater → P b) →
+    P (match_ordering o a a b)
+by-order P a b Greater f g = g refl
+by-order P a b Less f g = f (λ e. let k : ◌≡◌ {A = ℕ} 0 2 = ap ordering_index e in absurd (omega arith))
+by-order P a b Equal f g = f (λ e. let k : ◌≡◌ {A = ℕ} 1 2 = ap ordering_index e in absurd (omega arith))
 
 -- what a call that changes something, or out of memory leaves it, has of both
 pub either-way : {A E X : Type 0} (r : Result A E) (P : X → Type 0) (old new other : X) →
@@ -185,8 +187,8 @@ module _ (text : AxisParts → List ℕ) where
   each-among : (P : AxisParts → Type 0) (x : AxisParts) (xs : List AxisParts) → P x → Each P xs → Each P (among text x xs)
   each-among P x [] h k = (h, tt)
   each-among P x (y ∷ ys) h k =
-      ordered (Each P) (slice_cmp nat_cmp (text x) (text y))
-      (x ∷ y ∷ ys) (x ∷ y ∷ ys) (y ∷ among text x ys) (h, k) (h, k) (k.0, each-among P x ys h k.1)
+      by-order (Each P) (x ∷ y ∷ ys) (y ∷ among text x ys) (slice_cmp nat_cmp (text x) (text y)) (λ n. (h, k))
+      (λ g. (k.0, each-among P x ys h k.1))
 
   pub each-ascending : (P : AxisParts → Type 0) (xs : List AxisParts) → Each P xs → Each P (ascending text xs)
   each-ascending P [] k = tt
@@ -195,8 +197,8 @@ module _ (text : AxisParts → List ℕ) where
   among-length : (x : AxisParts) (xs : List AxisParts) → length (among text x xs) ≡ suc (length xs)
   among-length x [] = refl
   among-length x (y ∷ ys) =
-      ordered (λ zs. length zs ≡ suc (suc (length ys))) (slice_cmp nat_cmp (text x) (text y))
-      (x ∷ y ∷ ys) (x ∷ y ∷ ys) (y ∷ among text x ys) refl refl (ap suc (among-length x ys))
+      by-order (λ zs. length zs ≡ suc (suc (length ys))) (x ∷ y ∷ ys) (y ∷ among text x ys) (slice_cmp nat_cmp (text x) (text y))
+      (λ n. refl) (λ g. ap suc (among-length x ys))
 
   pub ascending-length : (xs : List AxisParts) → length (ascending text xs) ≡ length xs
   ascending-length [] = refl

@@ -153,7 +153,10 @@ module _ (m : Meaning) (s : KeepsKinds m) (h : IsSoundMeaning m) (level : Level)
   abbrev IsWritten : AxisParts → Type 0
   IsWritten x = IsAxis x × (norm_axis_alone levels.Full x ≡ x)
 
-  are-written : (t : SystemParts) → IsSystem (norm_system level t) → Each IsWritten (map (axis m) (norm_system level t).axes)
+  abbrev AreWritten : SystemParts → Type 0
+  AreWritten t = Each IsWritten (map (axis m) t.axes)
+
+  are-written : (t : SystemParts) → IsSystem (norm_system level t) → AreWritten (norm_system level t)
   are-written t k =
       each-map (λ x. IsAxis x × (norm_axis_alone levels.Full (axis m x) ≡ axis m x)) IsWritten (axis m) (norm_system level t).axes
       (λ x p. (axis-sound m h x p.0, p.1))
@@ -179,75 +182,56 @@ module _ (m : Meaning) (s : KeepsKinds m) (h : IsSoundMeaning m) (level : Level)
     written-tells : (x y : AxisParts) → IsWritten x → IsWritten y → text x ≡ text y → x ≡ y
     written-tells x y p q e = sym p.1 ∙ (tells x y p.0 q.0 e ∙ q.1)
 
-    system-one : (a b : SystemParts) → IsSystem (norm_system level a) → IsSystem (norm_system level b) →
-        AreAxesReordered (norm_system level a) (norm_system level b) →
-        ◌≡◌ {A = SystemParts} (arranged text (system m (norm_system level a))) (arranged text (system m (norm_system level b)))
-    system-one a b k l r =
-        let s : SystemParts = norm_system level a in
-        let t : SystemParts = norm_system level b in
+    system-one : (s t : SystemParts) → AreWritten s → AreWritten t → AreAxesReordered s t →
+        ◌≡◌ {A = SystemParts} (arranged text (system m s)) (arranged text (system m t))
+    system-one s t k l r =
         let o : IsReordered (map (axis m) s.axes) (map (axis m) t.axes) =
         subst (λ ys. IsReordered (map (axis m) s.axes) ys) (all-unordered t.axes)
         (subst (λ xs. IsReordered xs (map (axis m) (map unordered t.axes))) (all-unordered s.axes)
         (reordered-map (axis m) (map unordered s.axes) (map unordered t.axes) r.axes)) in
-        let x = reordered-ascend text IsWritten written-tells (map (axis m) s.axes) (map (axis m) t.axes) o (are-written a k) (are-written b l) in
+        let x = reordered-ascend text IsWritten written-tells (map (axis m) s.axes) (map (axis m) t.axes) o k l in
         (λ i. record (arranged text (system m s)) { axes = x i }) ∙ ap (λ z. arranged text (system m z)) r.others
 
-    geodetic-one : (g k : GeodeticParts) → IsSystem (norm_system level g.system) → IsSystem (norm_system level k.system) →
-        IsGeodeticReordered (norm_geodetic level g) (norm_geodetic level k) →
-        ◌≡◌ {A = GeodeticParts} (arranged_geodetic text (geodetic m (norm_geodetic level g)))
-        (arranged_geodetic text (geodetic m (norm_geodetic level k)))
+    geodetic-one : (g k : GeodeticParts) → AreWritten g.system → AreWritten k.system → IsGeodeticReordered g k →
+        ◌≡◌ {A = GeodeticParts} (arranged_geodetic text (geodetic m g)) (arranged_geodetic text (geodetic m k))
     geodetic-one g k a b r =
         let x = system-one g.system k.system a b r.system in
-        (λ i. record (arranged_geodetic text (geodetic m (norm_geodetic level g))) { system = x i })
-        ∙ ap (λ z. arranged_geodetic text (geodetic m z)) r.others
+        (λ i. record (arranged_geodetic text (geodetic m g)) { system = x i }) ∙ ap (λ z. arranged_geodetic text (geodetic m z)) r.others
 
-    projected-one : (p q : ProjectedParts) → IsSystem (norm_system level p.system) → IsSystem (norm_system level q.system) →
-        IsProjectedReordered (norm_projected level p) (norm_projected level q) →
-        ◌≡◌ {A = ProjectedParts} (arranged_projected text (projected m (norm_projected level p)))
-        (arranged_projected text (projected m (norm_projected level q)))
+    projected-one : (p q : ProjectedParts) → AreWritten p.system → AreWritten q.system → IsProjectedReordered p q →
+        ◌≡◌ {A = ProjectedParts} (arranged_projected text (projected m p)) (arranged_projected text (projected m q))
     projected-one p q a b r =
         let x = system-one p.system q.system a b r.system in
-        (λ i. record (arranged_projected text (projected m (norm_projected level p))) { system = x i })
-        ∙ ap (λ z. arranged_projected text (projected m z)) r.others
+        (λ i. record (arranged_projected text (projected m p)) { system = x i }) ∙ ap (λ z. arranged_projected text (projected m z)) r.others
 
-    vertical-one : (v w : VerticalParts) → IsSystem (norm_system level v.system) → IsSystem (norm_system level w.system) →
-        IsVerticalReordered (norm_vertical level v) (norm_vertical level w) →
-        ◌≡◌ {A = VerticalParts} (arranged_vertical text (vertical m (norm_vertical level v)))
-        (arranged_vertical text (vertical m (norm_vertical level w)))
+    vertical-one : (v w : VerticalParts) → AreWritten v.system → AreWritten w.system → IsVerticalReordered v w →
+        ◌≡◌ {A = VerticalParts} (arranged_vertical text (vertical m v)) (arranged_vertical text (vertical m w))
     vertical-one v w a b r =
         let x = system-one v.system w.system a b r.system in
-        (λ i. record (arranged_vertical text (vertical m (norm_vertical level v))) { system = x i })
-        ∙ ap (λ z. arranged_vertical text (vertical m z)) r.others
+        (λ i. record (arranged_vertical text (vertical m v)) { system = x i }) ∙ ap (λ z. arranged_vertical text (vertical m z)) r.others
 
     across-one : (x y : Horizontal) → IsHorizontal (norm_horizontal level x) → IsHorizontal (norm_horizontal level y) →
         IsAcrossReordered (norm_horizontal level x) (norm_horizontal level y) →
         arranged_across text (across m (norm_horizontal level x)) ≡ arranged_across text (across m (norm_horizontal level y))
     across-one (horizontals.Geodetic g) (horizontals.Geodetic k) a b r =
-        ap horizontals.Geodetic (geodetic-one g k a.0.system b.0.system r)
+        ap horizontals.Geodetic (geodetic-one (norm_geodetic level g) (norm_geodetic level k) (are-written g.system a.0.system) (are-written k.system b.0.system) r)
     across-one (horizontals.Projected p) (horizontals.Projected q) a b r =
-        ap horizontals.Projected (projected-one p q a.0.system b.0.system r)
-    across-one (horizontals.Geodetic g) (horizontals.Projected q) a b r = absurd r
-    across-one (horizontals.Projected p) (horizontals.Geodetic k) a b r = absurd r
+        ap horizontals.Projected (projected-one (norm_projected level p) (norm_projected level q) (are-written p.system a.0.system) (are-written q.system b.0.system) r)
+    across-one x y a b r = absurd r
 
     pub crs-one : (x y : Crs) → IsCrs (norm_crs level x) → IsCrs (norm_crs level y) → IsCrsReordered (norm_crs level x) (norm_crs level y) →
         arranged_crs text (renamed m (norm_crs level x)) ≡ arranged_crs text (renamed m (norm_crs level y))
-    crs-one (crs.Geodetic g) (crs.Geodetic k) a b r = ap crs.Geodetic (geodetic-one g k a.system b.system r)
-    crs-one (crs.Projected p) (crs.Projected q) a b r = ap crs.Projected (projected-one p q a.system b.system r)
-    crs-one (crs.Vertical v) (crs.Vertical w) a b r = ap crs.Vertical (vertical-one v w a.system b.system r)
+    crs-one (crs.Geodetic g) (crs.Geodetic k) a b r =
+        ap crs.Geodetic (geodetic-one (norm_geodetic level g) (norm_geodetic level k) (are-written g.system a.system) (are-written k.system b.system) r)
+    crs-one (crs.Projected p) (crs.Projected q) a b r =
+        ap crs.Projected (projected-one (norm_projected level p) (norm_projected level q) (are-written p.system a.system) (are-written q.system b.system) r)
+    crs-one (crs.Vertical v) (crs.Vertical w) a b r =
+        ap crs.Vertical (vertical-one (norm_vertical level v) (norm_vertical level w) (are-written v.system a.system) (are-written w.system b.system) r)
     crs-one (crs.Compound d) (crs.Compound e) a b r =
         let x = across-one d.horizontal e.horizontal a.horizontal b.horizontal r.horizontal in
-        let v = vertical-one d.vertical e.vertical a.vertical.system b.vertical.system r.vertical in
+        let v =
+        vertical-one (norm_vertical level d.vertical) (norm_vertical level e.vertical) (are-written d.vertical.system a.vertical.system)
+        (are-written e.vertical.system b.vertical.system) r.vertical in
         (λ i. crs.Compound (record (arranged_compound text (compound m (norm_compound level d))) { horizontal = x i; vertical = v i }))
         ∙ ap (λ z. crs.Compound (arranged_compound text (compound m z))) r.others
-    crs-one (crs.Geodetic g) (crs.Projected q) a b r = absurd r
-    crs-one (crs.Geodetic g) (crs.Vertical w) a b r = absurd r
-    crs-one (crs.Geodetic g) (crs.Compound e) a b r = absurd r
-    crs-one (crs.Projected p) (crs.Geodetic k) a b r = absurd r
-    crs-one (crs.Projected p) (crs.Vertical w) a b r = absurd r
-    crs-one (crs.Projected p) (crs.Compound e) a b r = absurd r
-    crs-one (crs.Vertical v) (crs.Geodetic k) a b r = absurd r
-    crs-one (crs.Vertical v) (crs.Projected q) a b r = absurd r
-    crs-one (crs.Vertical v) (crs.Compound e) a b r = absurd r
-    crs-one (crs.Compound d) (crs.Geodetic k) a b r = absurd r
-    crs-one (crs.Compound d) (crs.Projected q) a b r = absurd r
-    crs-one (crs.Compound d) (crs.Vertical w) a b r = absurd r
+    crs-one x y a b r = absurd r

@@ -9,7 +9,7 @@ use Rattle.std.proofs.lemmas.List.{length-map}
 use Rattle.crs_value.specs.Prelude.{AxisParts}
 use Rattle.crs_rules.specs.Rewritten.{among, ascending}
 use Rattle.crs_rules.specs.Sinking.{sunk_from}
-use Rattle.crs_rules.proofs.CrsLemmas.{ascending-length}
+use Rattle.crs_rules.proofs.CrsLemmas.{ascending-length, by-order}
 
 -- neighbours in each other's place
 abbrev exchanged : {A : Type 0} → A → List A → ℕ → List A
@@ -25,12 +25,6 @@ swap-above text d (x ∷ y ∷ ys) zero l g =
 swap-above text d (x ∷ y ∷ ys) (suc i) l g =
     let m : suc i < length (y ∷ ys) = omega (arith, l) in ap (λ zs. x ∷ zs) (swap-above text d (y ∷ ys) i m g)
 
-pub by-order : {X : Type 0} (P : X → Type 0) (a b c : X) (o : Ordering) → P a → P b → (o ≡ Greater → P c) →
-    P (match_ordering o a b c)
-by-order P a b c Less f g h = f
-by-order P a b c Equal f g h = g
-by-order P a b c Greater f g h = h refl
-
 rests : (text : AxisParts → List ℕ) (d : AxisParts) (xs : List AxisParts) (i : ℕ) →
     (suc i < length xs → slice_cmp nat_cmp (text (get_or xs i d)) (text (get_or xs (suc i) d)) ≢ Greater) →
     sunk_from text i xs ≡ xs
@@ -39,8 +33,8 @@ rests text d [] (suc i) h = refl
 rests text d (x ∷ []) zero h = refl
 rests text d (x ∷ []) (suc i) h = ap (λ zs. x ∷ zs) (rests text d [] i (λ l. absurd (omega (arith, l))))
 rests text d (x ∷ y ∷ ys) zero h =
-    by-order (λ zs. zs ≡ x ∷ y ∷ ys) (x ∷ y ∷ ys) (x ∷ y ∷ ys) (y ∷ among text x ys)
-    (slice_cmp nat_cmp (text x) (text y)) refl refl (λ g. absurd (h (omega arith) g))
+    by-order (λ zs. zs ≡ x ∷ y ∷ ys) (x ∷ y ∷ ys) (y ∷ among text x ys) (slice_cmp nat_cmp (text x) (text y))
+    (λ n. refl) (λ g. absurd (h (omega arith) g))
 rests text d (x ∷ y ∷ ys) (suc i) h = ap (λ zs. x ∷ zs)
     (rests text d (y ∷ ys) i (λ l. h (let m : suc (suc i) < length (x ∷ y ∷ ys) = omega (arith, l) in m)))
 
