@@ -1,5 +1,5 @@
 -- Where the order of axes doesn't count, CRSs that differ in it alone have one form.
-use Rattle.std.proofs.Common.{◌≡◌, ◌++◌, ℕ, true, Option, Some, None, List, [], ◌∷◌, Ordering, Less, Equal, Greater, refl, sym, subst, ap, ◌∙◌, map, length, arith}
+use Rattle.std.proofs.Common.{◌≡◌, ◌++◌, ℕ, true, Option, Some, None, List, [], ◌∷◌, Ordering, Less, Equal, Greater, refl, sym, subst, ap, ◌∙◌, map, arith}
 use Rattle.std.specs.Cmp.Lexicographic.{slice_cmp}
 use Rattle.std.specs.Option.{option_map}
 use Rattle.std.specs.Ordering.{nat_cmp, match_ordering, ordering_index, ordering_reverse}
@@ -19,7 +19,7 @@ use Rattle.crs_value.specs.declared.values.crs.Crs.{Crs}
 use Rattle.crs_value.specs.declared.values.crs.Crs.TheVariants as crs
 use Rattle.crs_value.specs.declared.values.level.Level.{Level}
 use Rattle.crs_value.specs.declared.values.level.Level.TheVariants as levels
-use Rattle.crs_normal.specs.Prelude.{StaysInOrder, norm_axis_alone, norm_compound, norm_crs, norm_geodetic, norm_horizontal, norm_projected, norm_vertical, norm_axis, norm_axis_meridians, norm_system, item_ident, norm_unit, norm_units, set_idents}
+use Rattle.crs_normal.specs.Prelude.{StaysInOrder, norm_axis_alone, norm_compound, norm_crs, norm_geodetic, norm_horizontal, norm_projected, norm_vertical, norm_axis, norm_axis_meridians, norm_system, item_ident, norm_units, set_idents}
 use Rattle.crs_rules.specs.ReorderedAxes.{AreAxesReordered, IsAcrossReordered, IsCrsReordered, IsGeodeticReordered, IsProjectedReordered, IsReordered, IsVerticalReordered, unordered}
 use Rattle.crs_rules.specs.Rewritten.{across, among, arranged, arranged_across, arranged_compound, arranged_crs, arranged_geodetic, arranged_projected, arranged_vertical, ascending, axis, axis_meridian, compound, counted, geodetic, projected, renamed, system, units, vertical}
 use Rattle.crs_rules.specs.Rules.{Meaning}

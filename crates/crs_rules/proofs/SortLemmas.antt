@@ -1,5 +1,5 @@
 -- Axes are put in order of their texts by exchanging neighbours.
-use Rattle.std.proofs.Common.{◌≡◌, ◌≢◌, ℕ, zero, suc, ◌+◌, ◌<◌, ◌≤◌, ◌++◌, List, [], ◌∷◌, Ordering, Less, Equal, Greater, arith, refl, sym, subst, ap, ◌∙◌, map, length, take, drop, get_or, set}
+use Rattle.std.proofs.Common.{◌≡◌, ◌≢◌, ℕ, zero, suc, ◌+◌, ◌<◌, ◌≤◌, ◌++◌, List, [], ◌∷◌, Greater, arith, refl, sym, subst, ap, ◌∙◌, map, length, take, drop, get_or, set}
 use Rattle.std.specs.Cmp.Lexicographic.{slice_cmp}
 use Rattle.std.specs.List.{swap}
 use Rattle.std.specs.Ordering.{nat_cmp, match_ordering}
