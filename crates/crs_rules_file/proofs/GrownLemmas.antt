@@ -1,5 +1,6 @@
 -- What is known of rules files is only added to.
 use Rattle.std.proofs.Common.{◌≡◌, ◌++◌, ◌∷◌, [], ℕ, Bool, true, false, List, Option, None, Some, length, take, refl, sym, ap, subst, ◌∙◌}
+use Rattle.std.proofs.Math.Seq.{take-append_seam}
 use Rattle.std.proofs.lemmas.List.{append-nil, append_assoc}
 use Rattle.crs_shape.specs.declared.unit_kind.UnitKind.{UnitKind}
 use Rattle.crs_rules.specs.Rules.{RulesParts}
@@ -94,12 +95,8 @@ grown_line r n = record {
   units = extends-self r.rules.units;
 }
 
-take-front : {A : Type 0} (xs more : List A) → take (length xs) (xs ++ more) ≡ xs
-take-front [] more = refl
-take-front (x ∷ xs) more = ap (λ l. x ∷ l) (take-front xs more)
-
 taken : {A : Type 0} (n : ℕ) (xs ys : List A) → n ≡ length xs → Extends xs ys → take n ys ≡ xs
-taken n xs ys e (more, f) = ap (λ k. take k ys) e ∙ (ap (take (length xs)) f ∙ take-front xs more)
+taken n xs ys e (more, f) = ap (λ k. take k ys) e ∙ (ap (take (length xs)) f ∙ take-append_seam xs more)
 
 -- a reader is there again
 pub back_there : (mark : Mark) (r s : Reading) → IsMarked r mark → HasGrown r s → gone_back mark s ≡ r

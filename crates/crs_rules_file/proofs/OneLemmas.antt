@@ -47,11 +47,8 @@ over-apart Step Fault h r s (x ∷ xs) f (q, step, more) (inr (p, other, rest)) 
 
 -- ---- nodes
 
-some-one : {A : Type 0} (o : Option A) (a b : A) → o ≡ Some a → o ≡ Some b → a ≡ b
-some-one o a b p q = some-is a b (sym p ∙ q)
-  where
-    some-is : {A : Type 0} (a b : A) → Some a ≡ Some b → a ≡ b
-    some-is a b e = cc
+pub some-one : {A : Type 0} (o : Option A) (a b : A) → o ≡ Some a → o ≡ Some b → a ≡ b
+some-one o a b p q = cc
 
 factor-one : DenotesOne → (o : Option UnitKind) (items : Siblings) (a b : Value) → SaysFactor o items a → SaysFactor o items b → a ≡ b
 factor-one law None items a b p q = p.1 ∙ sym q.1

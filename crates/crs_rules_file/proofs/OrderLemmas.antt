@@ -14,11 +14,11 @@ use Rattle.crs_rules_file.specs.Members.{MemberParts, kind_of}
 use Rattle.crs_rules_file.specs.OrderOfLines.{AreLinesOf, AreReordered}
 use Rattle.crs_rules_file.specs.RulesFile.{Reads, ReadsFile, next, start}
 use Rattle.crs_rules_file.specs.Statements.{Adds, AddsSet, Drops, Joins, Over, Reading, States, joined, listed, with_alias, with_item, with_word}
-use Rattle.crs_rules_file.proofs.OneLemmas.{LinesOne}
+use Rattle.crs_rules_file.proofs.OneLemmas.{LinesOne, some-one}
 
 -- ---- lists
 
-abbrev Stands : {A : Type 0} → List A → A → Type 0
+abbrev pub Stands : {A : Type 0} → List A → A → Type 0
 Stands xs x = OneIs (λ y. x ≡ y) xs
 
 stands-later : {A : Type 0} (y : A) (xs ys : List A) (x : A) → Stands xs x ⊎ Stands ys x → Stands (y ∷ xs) x ⊎ Stands ys x
@@ -30,12 +30,12 @@ stands-either [] ys x h = inr h
 stands-either (y ∷ xs) ys x (inl e) = inl (inl e)
 stands-either (y ∷ xs) ys x (inr h) = stands-later y xs ys x (stands-either xs ys x h)
 
-stands-front : {A : Type 0} (xs ys : List A) (x : A) → Stands xs x → Stands (xs ++ ys) x
+pub stands-front : {A : Type 0} (xs ys : List A) (x : A) → Stands xs x → Stands (xs ++ ys) x
 stands-front [] ys x h = absurd h
 stands-front (y ∷ xs) ys x (inl e) = inl e
 stands-front (y ∷ xs) ys x (inr h) = inr (stands-front xs ys x h)
 
-stands-back : {A : Type 0} (xs ys : List A) (x : A) → Stands ys x → Stands (xs ++ ys) x
+pub stands-back : {A : Type 0} (xs ys : List A) (x : A) → Stands ys x → Stands (xs ++ ys) x
 stands-back [] ys x h = h
 stands-back (y ∷ xs) ys x h = inr (stands-back xs ys x h)
 
@@ -78,19 +78,23 @@ same-members xs ys there back = (
 
 -- ---- what doesn't count
 
-abbrev either : Uncounted → Uncounted → Uncounted
-either w u = record {
-  crs_names = w.crs_names || u.crs_names;
-  base_names = w.base_names || u.base_names;
-  conversion_names = w.conversion_names || u.conversion_names;
-  axis_names = w.axis_names || u.axis_names;
-  dynamics = w.dynamics || u.dynamics;
-  anchors = w.anchors || u.anchors;
-  geoid_models = w.geoid_models || u.geoid_models;
-  base_units = w.base_units || u.base_units;
-  ensembles = w.ensembles || u.ensembles;
-  axis_order = w.axis_order || u.axis_order;
+-- what a test of three words says of each kind of part
+abbrev each_word : (Bool → Bool → Bool → Bool) → Uncounted → Uncounted → Uncounted → Uncounted
+each_word test a b c = record {
+  crs_names = test a.crs_names b.crs_names c.crs_names;
+  base_names = test a.base_names b.base_names c.base_names;
+  conversion_names = test a.conversion_names b.conversion_names c.conversion_names;
+  axis_names = test a.axis_names b.axis_names c.axis_names;
+  dynamics = test a.dynamics b.dynamics c.dynamics;
+  anchors = test a.anchors b.anchors c.anchors;
+  geoid_models = test a.geoid_models b.geoid_models c.geoid_models;
+  base_units = test a.base_units b.base_units c.base_units;
+  ensembles = test a.ensembles b.ensembles c.ensembles;
+  axis_order = test a.axis_order b.axis_order c.axis_order;
 }
+
+abbrev either : Uncounted → Uncounted → Uncounted
+either w u = each_word (λ a b c. a || b) w u u
 
 or-assoc : (a b c : Bool) → (a || (b || c)) ≡ ((a || b) || c)
 or-assoc true b c = refl
@@ -102,32 +106,10 @@ or-swap true false c = refl
 or-swap false b c = refl
 
 either-assoc : (a b c : Uncounted) → either a (either b c) ≡ either (either a b) c
-either-assoc a b c = λ i. record {
-  crs_names = or-assoc a.crs_names b.crs_names c.crs_names i;
-  base_names = or-assoc a.base_names b.base_names c.base_names i;
-  conversion_names = or-assoc a.conversion_names b.conversion_names c.conversion_names i;
-  axis_names = or-assoc a.axis_names b.axis_names c.axis_names i;
-  dynamics = or-assoc a.dynamics b.dynamics c.dynamics i;
-  anchors = or-assoc a.anchors b.anchors c.anchors i;
-  geoid_models = or-assoc a.geoid_models b.geoid_models c.geoid_models i;
-  base_units = or-assoc a.base_units b.base_units c.base_units i;
-  ensembles = or-assoc a.ensembles b.ensembles c.ensembles i;
-  axis_order = or-assoc a.axis_order b.axis_order c.axis_order i;
-}
+either-assoc a b c = λ i. each_word (λ x y z. or-assoc x y z i) a b c
 
 either-swap : (a b c : Uncounted) → either a (either b c) ≡ either b (either a c)
-either-swap a b c = λ i. record {
-  crs_names = or-swap a.crs_names b.crs_names c.crs_names i;
-  base_names = or-swap a.base_names b.base_names c.base_names i;
-  conversion_names = or-swap a.conversion_names b.conversion_names c.conversion_names i;
-  axis_names = or-swap a.axis_names b.axis_names c.axis_names i;
-  dynamics = or-swap a.dynamics b.dynamics c.dynamics i;
-  anchors = or-swap a.anchors b.anchors c.anchors i;
-  geoid_models = or-swap a.geoid_models b.geoid_models c.geoid_models i;
-  base_units = or-swap a.base_units b.base_units c.base_units i;
-  ensembles = or-swap a.ensembles b.ensembles c.ensembles i;
-  axis_order = or-swap a.axis_order b.axis_order c.axis_order i;
-}
+either-swap a b c = λ i. each_word (λ x y z. or-swap x y z i) a b c
 
 -- where it names something, it names that beside anything
 abbrev Names : (Uncounted → Option Uncounted) → Type 0
@@ -360,9 +342,6 @@ set-adds r s (More item items) (first, q, adds, over) =
 
 -- ---- words
 
-some-one : (o : Option Uncounted) (u v : Uncounted) → o ≡ Some u → o ≡ Some v → u ≡ v
-some-one o u v d e = cc
-
 also-words : (w u : Uncounted) (q s : Reading) → u ≡ either w q.rules.uncounted
     → s ≡ record q { rules = record q.rules { uncounted = u } } → HasAlso (record no_addition { words = w }) q s
 also-words w u q s d e = record {
@@ -444,23 +423,29 @@ alike-on r s t h k = record {
 holds-as : {A : Type 0} (xs ys left right : List A) → xs ≡ left → ys ≡ right → Holds left right → Holds xs ys
 holds-as xs ys left right d e h x there = subst (λ l. Stands l x) (sym d) (h x (subst (λ l. Stands l x) e there))
 
+-- each list has the members of the other
+abbrev HoldBoth : {A : Type 0} → List A → List A → Type 0
+HoldBoth xs ys = Holds xs ys × Holds ys xs
+
+both-more : {A : Type 0} (xs ys left right more : List A) → xs ≡ left ++ more → ys ≡ right ++ more → HoldBoth left right → HoldBoth xs ys
+both-more xs ys left right more d e h = (
+  holds-as xs ys (left ++ more) (right ++ more) d e (holds-more left right more h.0),
+  holds-as ys xs (right ++ more) (left ++ more) e d (holds-more right left more h.1),
+)
+
+both-exchanged : {A : Type 0} (xs ys old a b : List A) → xs ≡ (old ++ a) ++ b → ys ≡ (old ++ b) ++ a → HoldBoth xs ys
+both-exchanged xs ys old a b d e = (
+  holds-as xs ys ((old ++ a) ++ b) ((old ++ b) ++ a) d e (holds-exchanged old a b),
+  holds-as ys xs ((old ++ b) ++ a) ((old ++ a) ++ b) e d (holds-exchanged old b a),
+)
+
 -- the same added to both
 alike-more : (added : Addition) (p q s t : Reading) → IsAlike p q → HasAlso added p s → HasAlso added q t → IsAlike s t
 alike-more added p q s t h j k = record {
   seen = holds-as s.seen t.seen (p.seen ++ added.nodes) (q.seen ++ added.nodes) j.seen k.seen
       (holds-more p.seen q.seen added.nodes h.seen);
-  names = (
-    holds-as s.rules.names t.rules.names (p.rules.names ++ added.names) (q.rules.names ++ added.names) j.names k.names
-        (holds-more p.rules.names q.rules.names added.names h.names.0),
-    holds-as t.rules.names s.rules.names (q.rules.names ++ added.names) (p.rules.names ++ added.names) k.names j.names
-        (holds-more q.rules.names p.rules.names added.names h.names.1),
-  );
-  units = (
-    holds-as s.rules.units t.rules.units (p.rules.units ++ added.units) (q.rules.units ++ added.units) j.units k.units
-        (holds-more p.rules.units q.rules.units added.units h.units.0),
-    holds-as t.rules.units s.rules.units (q.rules.units ++ added.units) (p.rules.units ++ added.units) k.units j.units
-        (holds-more q.rules.units p.rules.units added.units h.units.1),
-  );
+  names = both-more s.rules.names t.rules.names p.rules.names q.rules.names added.names j.names k.names h.names;
+  units = both-more s.rules.units t.rules.units p.rules.units q.rules.units added.units j.units k.units h.units;
   uncounted = j.words ∙ (ap (either added.words) h.uncounted ∙ sym k.words);
 }
 
@@ -474,24 +459,12 @@ steps-alike P p q s h alike =
 -- two additions the other way round
 alike-exchanged : (a b : Addition) (r q p o s : Reading) → HasAlso a r q → HasAlso b q p → HasAlso b r o → HasAlso a o s → IsAlike p s
 alike-exchanged a b r q p o s h k l m = record {
-  seen = holds-as p.seen s.seen ((r.seen ++ a.nodes) ++ b.nodes) ((r.seen ++ b.nodes) ++ a.nodes)
-      (k.seen ∙ ap (λ x. x ++ b.nodes) h.seen) (m.seen ∙ ap (λ x. x ++ a.nodes) l.seen) (holds-exchanged r.seen a.nodes b.nodes);
-  names = (
-    holds-as p.rules.names s.rules.names ((r.rules.names ++ a.names) ++ b.names) ((r.rules.names ++ b.names) ++ a.names)
-        (k.names ∙ ap (λ x. x ++ b.names) h.names) (m.names ∙ ap (λ x. x ++ a.names) l.names)
-        (holds-exchanged r.rules.names a.names b.names),
-    holds-as s.rules.names p.rules.names ((r.rules.names ++ b.names) ++ a.names) ((r.rules.names ++ a.names) ++ b.names)
-        (m.names ∙ ap (λ x. x ++ a.names) l.names) (k.names ∙ ap (λ x. x ++ b.names) h.names)
-        (holds-exchanged r.rules.names b.names a.names),
-  );
-  units = (
-    holds-as p.rules.units s.rules.units ((r.rules.units ++ a.units) ++ b.units) ((r.rules.units ++ b.units) ++ a.units)
-        (k.units ∙ ap (λ x. x ++ b.units) h.units) (m.units ∙ ap (λ x. x ++ a.units) l.units)
-        (holds-exchanged r.rules.units a.units b.units),
-    holds-as s.rules.units p.rules.units ((r.rules.units ++ b.units) ++ a.units) ((r.rules.units ++ a.units) ++ b.units)
-        (m.units ∙ ap (λ x. x ++ a.units) l.units) (k.units ∙ ap (λ x. x ++ b.units) h.units)
-        (holds-exchanged r.rules.units b.units a.units),
-  );
+  seen = (both-exchanged p.seen s.seen r.seen a.nodes b.nodes (k.seen ∙ ap (λ x. x ++ b.nodes) h.seen)
+      (m.seen ∙ ap (λ x. x ++ a.nodes) l.seen)).0;
+  names = both-exchanged p.rules.names s.rules.names r.rules.names a.names b.names (k.names ∙ ap (λ x. x ++ b.names) h.names)
+      (m.names ∙ ap (λ x. x ++ a.names) l.names);
+  units = both-exchanged p.rules.units s.rules.units r.rules.units a.units b.units (k.units ∙ ap (λ x. x ++ b.units) h.units)
+      (m.units ∙ ap (λ x. x ++ a.units) l.units);
   uncounted = k.words ∙ (ap (either b.words) h.words ∙ (either-swap b.words a.words r.rules.uncounted
       ∙ sym (m.words ∙ ap (either a.words) l.words)));
 }

@@ -1,39 +1,23 @@
 -- Rules that are read are steady: nothing chains, since no node stands in two sets.
-use Rattle.std.proofs.Common.{◌≡◌, ◌≢◌, ◌⊎◌, ◌&&◌, ℕ, ◌++◌, ◌∷◌, [], List, Bool, true, false, Option, None, Some, inl, inr, refl, sym, subst, ap, ◌∙◌, rules, if◌then◌else◌}
-use Rattle.std.specs.Cmp.{first_so, second_so}
-use Rattle.std.specs.Str.{bytes_eq}
-use Rattle.std.proofs.lemmas.Slice.Eq.{bytes_eq-Decides}
-use denote.Enum.Bare.{sameb, same_true}
+use Rattle.std.proofs.Common.{◌≡◌, ◌≢◌, ℕ, ◌++◌, ◌∷◌, [], List, Bool, true, false, Option, None, Some, inl, inr, refl, sym, subst, ap, ◌∙◌}
 use Rattle.crs_decimal.specs.Prelude.{Denotes, plain, IsNormal, Value, exact, zero}
 use Rattle.crs_text.specs.Prelude.{Item, Siblings, End, More, arguments}
-use Rattle.crs_shape.specs.contracts.class.Class.{the_type}
 use Rattle.crs_shape.specs.declared.class.Class.{Class}
 use Rattle.crs_shape.specs.declared.class.Class.TheVariants as class
 use Rattle.crs_shape.specs.declared.unit_kind.UnitKind.{UnitKind}
 use Rattle.crs_shape.specs.declared.unit_kind.UnitKind.TheVariants as kind
-use Rattle.crs_shape.specs.contracts.unit_kind.UnitKind.{the_type as kind_type}
-use Rattle.crs_value.specs.Prelude.{OneIs, is_same}
 use Rattle.crs_value.specs.Sound.{Each}
 use Rattle.crs_rules.specs.Rules.{NameAliasParts, RulesParts, UnitAliasParts, is_name_alias, is_unit_alias}
 use Rattle.crs_rules.specs.SteadyRules.{AreSteady, NamesAgree, UnitsAgree, unit_written}
+use Rattle.crs_rules.proofs.FactorLemmas.{one-plain}
+use Rattle.crs_rules.proofs.MatchLemmas.{of-name, of-unit}
 use Rattle.crs_rules_file.specs.Members.{MemberParts, Says, SaysFactor, SaysName, kind_of}
 use Rattle.crs_rules_file.specs.RulesFile.{Reads, ReadsFile, SpellsRules, next, start}
 use Rattle.crs_rules_file.specs.Statements.{Adds, AddsSet, Drops, Joins, Over, Reading, listed, with_alias}
 use Rattle.crs_rules_file.proofs.OneLemmas.{DenotesOne}
+use Rattle.crs_rules_file.proofs.OrderLemmas.{Stands, stands-back, stands-front}
 
 -- ---- lists
-
-abbrev Stands : List MemberParts → MemberParts → Type 0
-Stands seen m = OneIs (λ n. m ≡ n) seen
-
-stands-on : (seen : List MemberParts) (m n : MemberParts) → Stands seen m → Stands (seen ++ n ∷ []) m
-stands-on [] m n h = absurd h
-stands-on (x ∷ xs) m n (inl e) = inl e
-stands-on (x ∷ xs) m n (inr h) = inr (stands-on xs m n h)
-
-stands-last : (seen : List MemberParts) (m : MemberParts) → Stands (seen ++ m ∷ []) m
-stands-last [] m = inl refl
-stands-last (x ∷ xs) m = inr (stands-last xs m)
 
 each-to : {A : Type 0} (P Q : A → Type 0) (xs : List A) → ((x : A) → P x → Q x) → Each P xs → Each Q xs
 each-to P Q [] f h = tt
@@ -68,7 +52,7 @@ firm-seen : {X : Type 0} (m f : X → MemberParts) (seen : List MemberParts) (xs
     Firm m f seen xs → Firm m f (seen ++ n ∷ []) xs
 firm-seen m f seen xs n h = record {
   stand = each-to (λ x. Stands seen (m x) × Stands seen (f x)) (λ x. Stands (seen ++ n ∷ []) (m x) × Stands (seen ++ n ∷ []) (f x)) xs
-      (λ x k. (stands-on seen (m x) n k.0, stands-on seen (f x) n k.1)) h.stand;
+      (λ x k. (stands-front seen (n ∷ []) (m x) k.0, stands-front seen (n ∷ []) (f x) k.1)) h.stand;
   agree = h.agree;
 }
 
@@ -76,7 +60,7 @@ firm-on : {X : Type 0} (m f : X → MemberParts) (seen : List MemberParts) (xs :
     Stands seen (f x) → ¬ (Stands seen (m x)) → Each (λ y. f x ≢ m y) xs → Firm m f (seen ++ m x ∷ []) (xs ++ x ∷ [])
 firm-on m f seen xs x h first new free = record {
   stand = each-on (λ y. Stands (seen ++ m x ∷ []) (m y) × Stands (seen ++ m x ∷ []) (f y)) xs x
-      (firm-seen m f seen xs (m x) h).stand (stands-last seen (m x), stands-on seen (f x) (m x) first);
+      (firm-seen m f seen xs (m x) h).stand (stands-back seen (m x ∷ []) (m x) (inl refl), stands-front seen (m x ∷ []) (f x) first);
   agree = each-on (λ y. Each (Agree m f y) (xs ++ x ∷ [])) xs x
       (each-both (λ y. Each (Agree m f y) xs) (λ y. Stands seen (m y) × Stands seen (f y)) (λ y. Each (Agree m f y) (xs ++ x ∷ [])) xs
       (λ y a s. each-on (Agree m f y) xs x a
@@ -146,44 +130,15 @@ fits-normal (Some k) v h = h
 some-is : (x k : UnitKind) → Some x ≡ Some k → x ≡ k
 some-is x k e = cc
 
-step-kind : (t : Bool) (x : UnitKind) (rest : Option UnitKind) (k : UnitKind) → (if t then Some x else rest) ≡ Some k →
-    ((t ≡ true) × (x ≡ k)) ⊎ (rest ≡ Some k)
-step-kind true x rest k e = inl (refl, some-is x k e)
-step-kind false x rest k e = inr e
-
-class-as : (c d : Class) (x k : UnitKind) → is_same c d ≡ true → x ≡ k → class_of x ≡ d → class_of k ≡ c
-class-as c d x k t e f = sym (ap class_of e) ∙ (f ∙ same_true the_type (search rules) d c t)
-
 none-is : (k : UnitKind) → None ≡ Some k → ⊥
 none-is k e = cc
 
 class-kind : (c : Class) (k : UnitKind) → kind_of c ≡ Some k → class_of k ≡ c
-class-kind c k e = by_plain (step-kind (is_same c class.PlainUnit) kind.Plain rest1 k e)
-  where
-    rest3 : Option UnitKind
-    rest3 = if is_same c class.ScaleUnit then Some kind.Scale else None
-
-    rest2 : Option UnitKind
-    rest2 = if is_same c class.AngleUnit then Some kind.Angle else rest3
-
-    rest1 : Option UnitKind
-    rest1 = if is_same c class.LengthUnit then Some kind.Length else rest2
-
-    by_scale : (((is_same c class.ScaleUnit ≡ true) × (kind.Scale ≡ k)) ⊎ (None ≡ Some k)) → class_of k ≡ c
-    by_scale (inl h) = class-as c class.ScaleUnit kind.Scale k h.0 h.1 refl
-    by_scale (inr h) = absurd (none-is k h)
-
-    by_angle : (((is_same c class.AngleUnit ≡ true) × (kind.Angle ≡ k)) ⊎ (rest3 ≡ Some k)) → class_of k ≡ c
-    by_angle (inl h) = class-as c class.AngleUnit kind.Angle k h.0 h.1 refl
-    by_angle (inr h) = by_scale (step-kind (is_same c class.ScaleUnit) kind.Scale None k h)
-
-    by_length : (((is_same c class.LengthUnit ≡ true) × (kind.Length ≡ k)) ⊎ (rest2 ≡ Some k)) → class_of k ≡ c
-    by_length (inl h) = class-as c class.LengthUnit kind.Length k h.0 h.1 refl
-    by_length (inr h) = by_angle (step-kind (is_same c class.AngleUnit) kind.Angle rest3 k h)
-
-    by_plain : (((is_same c class.PlainUnit ≡ true) × (kind.Plain ≡ k)) ⊎ (rest1 ≡ Some k)) → class_of k ≡ c
-    by_plain (inl h) = class-as c class.PlainUnit kind.Plain k h.0 h.1 refl
-    by_plain (inr h) = by_length (step-kind (is_same c class.LengthUnit) kind.Length rest2 k h)
+class-kind class.PlainUnit k e = sym (ap class_of (some-is kind.Plain k e))
+class-kind class.LengthUnit k e = sym (ap class_of (some-is kind.Length k e))
+class-kind class.AngleUnit k e = sym (ap class_of (some-is kind.Angle k e))
+class-kind class.ScaleUnit k e = sym (ap class_of (some-is kind.Scale k e))
+class-kind c k e = absurd (none-is k e)
 
 -- ---- each step keeps it
 
@@ -194,7 +149,7 @@ begun first r s item h adds = subst (Begun first) (sym adds.adds) (record {
     units = firm-seen unit_m unit_f r.seen r.rules.units first h.units;
     normal = each-on (λ n. IsNormal n.factor) r.seen first h.normal (fits-normal (kind_of first.class) first.factor (fits item first adds.says));
   };
-  stands = stands-last r.seen first;
+  stands = stands-back r.seen (first ∷ []) first (inl refl);
   names = each-to (λ a. Stands r.seen (name_m a) × Stands r.seen (name_f a)) (λ a. first ≢ name_m a) r.rules.names
       (λ a k e. adds.new (subst (Stands r.seen) (sym e) k.0)) h.names.stand;
   units = each-to (λ a. Stands r.seen (unit_m a) × Stands r.seen (unit_f a)) (λ a. first ≢ unit_m a) r.rules.units
@@ -216,7 +171,7 @@ with-name first m r h new same normal mz fz =
         units = firm-seen unit_m unit_f r.seen r.rules.units m h.kept.units;
         normal = each-on (λ n. IsNormal n.factor) r.seen m h.kept.normal normal;
       };
-      stands = stands-on r.seen first m h.stands;
+      stands = stands-front r.seen (m ∷ []) first h.stands;
       names = each-on (λ y. first ≢ name_m y) r.rules.names a h.names (λ e. new (subst (Stands r.seen) (e ∙ em) h.stands));
       units = h.units;
     }
@@ -237,7 +192,7 @@ with-unit first m k r h new normal mk fk =
             (each-to (λ y. first ≢ unit_m y) (λ y. unit_f a ≢ unit_m y) r.rules.units (λ y n q. n (sym ef ∙ q)) h.units));
         normal = each-on (λ n. IsNormal n.factor) r.seen m h.kept.normal normal;
       };
-      stands = stands-on r.seen first m h.stands;
+      stands = stands-front r.seen (m ∷ []) first h.stands;
       names = h.names;
       units = each-on (λ y. first ≢ unit_m y) r.rules.units a h.units (λ e. new (subst (Stands r.seen) (e ∙ em) h.stands));
     }
@@ -294,10 +249,7 @@ not-true false f = refl
 
 alias-is : (c : Class) (name : List ℕ) (b : NameAliasParts) → is_name_alias c name b ≡ true →
     ◌≡◌ {A = MemberParts} (record { class = c; name = name; factor = zero }) (name_m b)
-alias-is c name b t =
-    let same : c ≡ b.class = sym (same_true the_type (search rules) b.class c (first_so (is_same c b.class) (bytes_eq name b.alias) t)) in
-    let is : name ≡ b.alias = (bytes_eq-Decides name b.alias).0 (second_so (is_same c b.class) (bytes_eq name b.alias) t) in
-    λ i. record { class = same i; name = is i; factor = zero }
+alias-is c name b t = let k = of-name c name b t in λ i. record { class = k.class i; name = k.alias i; factor = zero }
 
 names-agree : (a b : NameAliasParts) → Agree name_m name_f a b → NamesAgree a b
 names-agree a b g = record {
@@ -308,22 +260,13 @@ names-agree a b g = record {
 abbrev pub PlainDenotes : Type 0
 PlainDenotes = (v : Value) → IsNormal v → Denotes (plain v) (exact v)
 
-plain-one : DenotesOne → PlainDenotes → (v w : Value) → IsNormal v → IsNormal w → plain v ≡ plain w → v ≡ w
-plain-one one law v w nv nw e = one (plain v) v w nv nw (law v nv) (subst (λ b. Denotes b (exact w)) (sym e) (law w nw))
-
 unit-is : DenotesOne → PlainDenotes → (k : UnitKind) (name : List ℕ) (v : Value) (b : UnitAliasParts) → IsNormal v → IsNormal b.alias_factor →
     is_unit_alias (record { kind = k; name = name; factor = v; identifiers = [] }) b ≡ true →
     ◌≡◌ {A = MemberParts} (record { class = class_of k; name = name; factor = v }) (unit_m b)
 unit-is one law k name v b nv nb t =
-    let rest = second_so (sameb kind_type k b.kind) (bytes_eq name b.alias && bytes_eq (plain v) (plain b.alias_factor)) t in
-    let same : k ≡ b.kind = same_true kind_type (search rules) k b.kind
-    (first_so (sameb kind_type k b.kind) (bytes_eq name b.alias && bytes_eq (plain v) (plain b.alias_factor)) t) in
-    let is : name ≡ b.alias = (bytes_eq-Decides name b.alias).0
-    (first_so (bytes_eq name b.alias) (bytes_eq (plain v) (plain b.alias_factor)) rest) in
-    let factor : v ≡ b.alias_factor = plain-one one law v b.alias_factor nv nb
-    ((bytes_eq-Decides (plain v) (plain b.alias_factor)).0
-    (second_so (bytes_eq name b.alias) (bytes_eq (plain v) (plain b.alias_factor)) rest)) in
-    λ i. record { class = class_of (same i); name = is i; factor = factor i }
+    let h = of-unit (record { kind = k; name = name; factor = v; identifiers = [] }) b t in
+    let factor = one-plain one law v b.alias_factor nv nb h.factor in
+    λ i. record { class = class_of (h.kind i); name = h.alias i; factor = factor i }
 
 abbrev Normal : UnitAliasParts → Type 0
 Normal a = IsNormal a.alias_factor × IsNormal a.factor
