@@ -5,105 +5,32 @@ use Rattle.crs_text.specs.Prelude.{Item, RefusedAt, is_before}
 use Rattle.crs_value.specs.Break.{AnyOf, IsLeast}
 use Rattle.crs_value.specs.Least.{lesser}
 
--- a goes before b, or they are at one place with one number
-abbrev Precedes : RefusedAt → RefusedAt → Type 0
-Precedes a b = (a.number < b.number) ⊎ ((a.number ≡ b.number) × (a.place ≤ b.place))
-
 -- b doesn't go before a
 abbrev pub IsFirst : RefusedAt → RefusedAt → Type 0
 IsFirst a b = IsFalse (is_before b a)
 
-precedes-trans : (a b c : RefusedAt) → Precedes a b → Precedes b c → Precedes a c
-precedes-trans a b c (inl p) (inl q) = inl (omega arith)
-precedes-trans a b c (inl p) (inr q) = inl (omega arith)
-precedes-trans a b c (inr p) (inl q) = inl (omega arith)
-precedes-trans a b c (inr p) (inr q) = inr (omega arith, omega arith)
-
-same-or : (m n : ℕ) (b : Bool) → (m == n && b) ≡ true → (m ≡ n) × (b ≡ true)
-same-or m n b e = (grind (arith, nat_tests), grind (arith, nat_tests))
-
-not-less : (m n : ℕ) → nat_lt m n ≡ false → n ≤ m
-not-less m n e = grind (arith, nat_tests)
-
-is-not-less : (m n : ℕ) → n ≤ m → nat_lt m n ≡ false
-is-not-less m n h = grind (arith, nat_tests)
-
-is-same : (m n : ℕ) → (m == n) ≡ true → m ≡ n
-is-same m n e = grind (arith, nat_tests)
-
-not-same : (m n : ℕ) → (m == n) ≡ false → m ≡ n → ⊥
-not-same m n e f = grind (arith, nat_tests)
-
-is-other : (m n : ℕ) → n < m → (m == n) ≡ false
-is-other m n h = grind (arith, nat_tests)
-
-first-precedes : (a b : RefusedAt) → IsFirst a b → Precedes a b
-first-precedes a b e = by (nat_lt b.number a.number) (b.number == a.number) (nat_lt b.place a.place) refl refl refl e
-  where
-    by : (x y z : Bool) → nat_lt b.number a.number ≡ x → (b.number == a.number) ≡ y → nat_lt b.place a.place ≡ z → (x || (y && z)) ≡ false → Precedes a b
-    by true y z p q r h = cc
-    by false true true p q r h = cc
-    by false true false p q r h = let s = is-same b.number a.number q in let t = not-less b.place a.place r in inr (sym s, t)
-    by false false z p q r h =
-        let s = not-less b.number a.number p in
-        inl (strict a.number b.number s (λ e. not-same b.number a.number q (sym e)))
-      where
-        strict : (m n : ℕ) → m ≤ n → (m ≡ n → ⊥) → m < n
-        strict m n le ne = omega arith
-
-precedes-first : (a b : RefusedAt) → Precedes a b → IsFirst a b
-precedes-first a b (inl p) =
-    tests (nat_lt b.number a.number) (b.number == a.number) (nat_lt b.place a.place) (is-not-less b.number a.number (omega arith)) (is-other b.number a.number p)
-  where
-    tests : (x y z : Bool) → x ≡ false → y ≡ false → (x || (y && z)) ≡ false
-    tests false false z e f = refl
-    tests false true z e f = cc
-    tests true y z e f = cc
-precedes-first a b (inr p) =
-    tests (nat_lt b.number a.number) (b.number == a.number) (nat_lt b.place a.place) (is-not-less b.number a.number (omega (arith, p.0))) (is-not-less b.place a.place p.1)
-  where
-    tests : (x y z : Bool) → x ≡ false → z ≡ false → (x || (y && z)) ≡ false
-    tests false true false e f = refl
-    tests false true true e f = cc
-    tests false false false e f = refl
-    tests false false true e f = cc
-    tests true y z e f = cc
-
 pub first-trans : (a b c : RefusedAt) → IsFirst a b → IsFirst b c → IsFirst a c
-first-trans a b c p q = precedes-first a c (precedes-trans a b c (first-precedes a b p) (first-precedes b c q))
+first-trans a b c p q = grind (arith, nat_tests)
 
 -- what goes before another is first of both
 before-first : (a b : RefusedAt) → is_before b a ≡ true → IsFirst b a
-before-first a b e = precedes-first b a (by (nat_lt b.number a.number) refl e)
-  where
-    by : (x : Bool) → nat_lt b.number a.number ≡ x → (x || (b.number == a.number && nat_lt b.place a.place)) ≡ true → Precedes b a
-    by true p f = inl (grind (arith, nat_tests))
-    by false p f =
-        let h = same-or b.number a.number (nat_lt b.place a.place) f in
-        let k : b.place < a.place = grind (arith, nat_tests) in
-        inr (h.0, omega arith)
+before-first a b e = grind (arith, nat_tests)
 
 pub first-self : (a : RefusedAt) → IsFirst a a
-first-self a = precedes-first a a (inr (refl, omega arith))
+first-self a = grind (arith, nat_tests)
 
 pub first-lower : (a b : RefusedAt) → a.number < b.number → IsFirst a b
-first-lower a b p = precedes-first a b (inl p)
+first-lower a b p = grind (arith, nat_tests)
 
 -- two faults of which each is first of both are one
 pub first-both : (a b : RefusedAt) → IsFirst a b → IsFirst b a → a ≡ b
-first-both a b p q = by (first-precedes a b p) (first-precedes b a q)
+first-both a b p q = equal a.number b.number a.place b.place (grind (arith, nat_tests)) (grind (arith, nat_tests))
   where
     made : ℕ → ℕ → RefusedAt
     made number place = record { number = number; place = place }
 
     equal : (m n i j : ℕ) → m ≡ n → i ≡ j → made m i ≡ made n j
     equal m n i j e f = cc
-
-    by : Precedes a b → Precedes b a → a ≡ b
-    by (inl x) (inl y) = absurd (omega arith)
-    by (inl x) (inr y) = absurd (omega arith)
-    by (inr x) (inl y) = absurd (omega arith)
-    by (inr x) (inr y) = equal a.number b.number a.place b.place x.0 (omega arith)
 
 pub lesser-none : (a : Option RefusedAt) → lesser a None ≡ a
 lesser-none None = refl

@@ -143,15 +143,6 @@ compound-one law c item a b p q = λ i. record {
   tail = tail-one law c item a.tail b.tail p.tail q.tail i;
 }
 
-apart-pv : class.ProjectedCrs ≡ class.VerticalCrs → ⊥
-apart-pv e = cc
-
-apart-pc : class.ProjectedCrs ≡ class.CompoundCrs → ⊥
-apart-pc e = cc
-
-apart-vc : class.VerticalCrs ≡ class.CompoundCrs → ⊥
-apart-vc e = cc
-
 pub crs-one : DenotesOne → (c : Class) → IsOne (ReadsCrs c)
 crs-one law c item (crs.Geodetic a) (crs.Geodetic b) p q = ap (λ x. crs.Geodetic x) (geodetic-one law c item a b p.1 q.1)
 crs-one law c item (crs.Geodetic a) (crs.Projected b) p q = absurd (geodetic-no c class.ProjectedCrs p.0 (λ h. h) q.0)
@@ -159,13 +150,13 @@ crs-one law c item (crs.Geodetic a) (crs.Vertical b) p q = absurd (geodetic-no c
 crs-one law c item (crs.Geodetic a) (crs.Compound b) p q = absurd (geodetic-no c class.CompoundCrs p.0 (λ h. h) q.0)
 crs-one law c item (crs.Projected a) (crs.Geodetic b) p q = absurd (geodetic-no c class.ProjectedCrs q.0 (λ h. h) p.0)
 crs-one law c item (crs.Projected a) (crs.Projected b) p q = ap (λ x. crs.Projected x) (projected-one law c item a b p.1 q.1)
-crs-one law c item (crs.Projected a) (crs.Vertical b) p q = absurd (apart-pv (sym p.0 ∙ q.0))
-crs-one law c item (crs.Projected a) (crs.Compound b) p q = absurd (apart-pc (sym p.0 ∙ q.0))
+crs-one law c item (crs.Projected a) (crs.Vertical b) p q = let e : class.ProjectedCrs ≡ class.VerticalCrs = sym p.0 ∙ q.0 in cc
+crs-one law c item (crs.Projected a) (crs.Compound b) p q = let e : class.ProjectedCrs ≡ class.CompoundCrs = sym p.0 ∙ q.0 in cc
 crs-one law c item (crs.Vertical a) (crs.Geodetic b) p q = absurd (geodetic-no c class.VerticalCrs q.0 (λ h. h) p.0)
-crs-one law c item (crs.Vertical a) (crs.Projected b) p q = absurd (apart-pv (sym q.0 ∙ p.0))
+crs-one law c item (crs.Vertical a) (crs.Projected b) p q = let e : class.ProjectedCrs ≡ class.VerticalCrs = sym q.0 ∙ p.0 in cc
 crs-one law c item (crs.Vertical a) (crs.Vertical b) p q = ap (λ x. crs.Vertical x) (vertical-one law c item a b p.1 q.1)
-crs-one law c item (crs.Vertical a) (crs.Compound b) p q = absurd (apart-vc (sym p.0 ∙ q.0))
+crs-one law c item (crs.Vertical a) (crs.Compound b) p q = let e : class.VerticalCrs ≡ class.CompoundCrs = sym p.0 ∙ q.0 in cc
 crs-one law c item (crs.Compound a) (crs.Geodetic b) p q = absurd (geodetic-no c class.CompoundCrs q.0 (λ h. h) p.0)
-crs-one law c item (crs.Compound a) (crs.Projected b) p q = absurd (apart-pc (sym q.0 ∙ p.0))
-crs-one law c item (crs.Compound a) (crs.Vertical b) p q = absurd (apart-vc (sym q.0 ∙ p.0))
+crs-one law c item (crs.Compound a) (crs.Projected b) p q = let e : class.ProjectedCrs ≡ class.CompoundCrs = sym q.0 ∙ p.0 in cc
+crs-one law c item (crs.Compound a) (crs.Vertical b) p q = let e : class.VerticalCrs ≡ class.CompoundCrs = sym q.0 ∙ p.0 in cc
 crs-one law c item (crs.Compound a) (crs.Compound b) p q = ap (λ x. crs.Compound x) (compound-one law c item a b p.1 q.1)

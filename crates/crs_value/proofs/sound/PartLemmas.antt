@@ -1,7 +1,8 @@
 -- What well-formed items of the right shape that break no check say is sound: texts, numbers, identifiers and units.
 use Rattle.std.proofs.Common.{◌≡◌, ◌≢◌, ℕ, zero, suc, ◌<◌, ◌≤◌, Bool, true, false, ◌||◌, ◌&&◌, inl, inr, Option, Some, None, List, [], ◌∷◌, if◌then◌else◌, refl, sym, ◌∙◌, ap, subst, arith, ◌==◌, nat_le, IfSome, IsAscii}
 use Rattle.std.specs.List.{list_all}
-use Rattle.std.proofs.lemmas.Bool.{and_parts, and_from, or_cases, or_left, leb-true, eqb-true}
+use Rattle.std.proofs.lemmas.Bool.{and_parts, and_from}
+use Rattle.std.proofs.lemmas.Bool.Decides.{nat_tests}
 use Rattle.std.proofs.lemmas.Str.{IsUtf8-from_ascii}
 use Rattle.std.proofs.lemmas.Str.Ascii.{IsAscii-nil, IsAscii-cons}
 use Rattle.crs_decimal.specs.Prelude.{is_digit, is_run_byte, Value, IsNormal}
@@ -25,28 +26,10 @@ use Rattle.crs_shape.proofs.WordLemmas.{kind_one}
 
 -- ---- the bytes of numbers and words are texts too
 
-below : (b n m : ℕ) → n ≤ m → b ≤ n → b ≤ m
-below b n m h k = omega arith
-
-either : (x y : Bool) (P : Type 0) → (x ≡ true → P) → (y ≡ true → P) → (x || y) ≡ true → P
-either x y P left right e = elim (or_cases x y e) [ inl h ↦ left h | inr h ↦ right h ]
-
-capital-small : (b : ℕ) → (nat_le 65 b && nat_le b 90) ≡ true → b ≤ 122
-capital-small b e = below b 90 122 (omega arith) (leb-true b 90 (and_parts (nat_le 65 b) (nat_le b 90) e).1)
-
-letter-small : (b : ℕ) → (nat_le 97 b && nat_le b 122) ≡ true → b ≤ 122
-letter-small b e = leb-true b 122 (and_parts (nat_le 97 b) (nat_le b 122) e).1
-
 -- a byte of ASCII that is no quote
 record IsCommon (b : ℕ) : Type 0 where
   small : b < 128
   no_quote : (b == 34) ≡ false
-
-no-quote : (test : ℕ → Bool) (b : ℕ) → test 34 ≡ false → test b ≡ true → (b == 34) ≡ false
-no-quote test b none e = elim (b == 34) as (λ v. (b == 34) ≡ v → v ≡ false) [
-  | true ↦ λ q. sym e ∙ ap test (eqb-true b 34 q) ∙ none
-  | false ↦ λ q. refl
-] refl
 
 unquoted : (test : ℕ → Bool) → ((b : ℕ) → test b ≡ true → IsCommon b) → (raw : List ℕ) → list_all test raw ≡ true → raw ≡ doubled raw
 unquoted test common [] e = refl
@@ -63,42 +46,14 @@ ascii test common (b ∷ bs) e =
 plain-text : (test : ℕ → Bool) → ((b : ℕ) → test b ≡ true → IsCommon b) → (raw : List ℕ) → list_all test raw ≡ true → IsText raw
 plain-text test common raw e = ((raw, unquoted test common raw e), IsUtf8-from_ascii raw (ascii test common raw e))
 
-digit-small : (b : ℕ) → is_digit b ≡ true → b ≤ 122
-digit-small b e = below b 57 122 (omega arith) (leb-true b 57 (and_parts (nat_le 48 b) (nat_le b 57) e).1)
-
-one-small : (b n : ℕ) → n ≤ 122 → (b == n) ≡ true → b ≤ 122
-one-small b n less e = let same = eqb-true b n e in omega (arith, same)
-
-run-small : (b : ℕ) → is_run_byte b ≡ true → b ≤ 122
-run-small b =
-    let capital = nat_le 65 b && nat_le b 90 in
-    let small = nat_le 97 b && nat_le b 122 in
-    either (is_digit b || capital || small || b == 95 || b == 46 || b == 43) (b == 45) (b ≤ 122)
-    (either (is_digit b || capital || small || b == 95 || b == 46) (b == 43) (b ≤ 122)
-    (either (is_digit b || capital || small || b == 95) (b == 46) (b ≤ 122)
-    (either (is_digit b || capital || small) (b == 95) (b ≤ 122)
-    (either (is_digit b || capital) small (b ≤ 122) (either (is_digit b) capital (b ≤ 122) (digit-small b) (capital-small b)) (letter-small b))
-    (one-small b 95 (omega arith)))
-    (one-small b 46 (omega arith)))
-    (one-small b 43 (omega arith)))
-    (one-small b 45 (omega arith))
-
-word-small : (b : ℕ) → is_word_byte b ≡ true → b ≤ 122
-word-small b =
-    either (is_letter b || is_digit b) (b == 95) (b ≤ 122)
-    (either (is_letter b) (is_digit b) (b ≤ 122)
-    (either (nat_le 65 b && nat_le b 90) (nat_le 97 b && nat_le b 122) (b ≤ 122) (capital-small b) (letter-small b))
-    (digit-small b))
-    (one-small b 95 (omega arith))
-
 run-common : (b : ℕ) → is_run_byte b ≡ true → IsCommon b
-run-common b e = record { small = let h = run-small b e in omega (arith, h); no_quote = no-quote is_run_byte b refl e }
+run-common b e = record { small = grind (arith, nat_tests); no_quote = grind (arith, nat_tests) }
 
 word-common : (b : ℕ) → is_word_byte b ≡ true → IsCommon b
-word-common b e = record { small = let h = word-small b e in omega (arith, h); no_quote = no-quote is_word_byte b refl e }
+word-common b e = record { small = grind (arith, nat_tests); no_quote = grind (arith, nat_tests) }
 
 letter-word : (b : ℕ) → is_letter b ≡ true → is_word_byte b ≡ true
-letter-word b e = or_left (is_letter b || is_digit b) (b == 95) (or_left (is_letter b) (is_digit b) e)
+letter-word b e = grind (arith, nat_tests)
 
 word-text : (raw : List ℕ) → IsWord raw → IsText raw
 word-text [] h = absurd h
