@@ -11,7 +11,7 @@ use Rattle.crs_value.specs.Least.{lesser}
 use Rattle.crs_value.specs.Reading.{item_at, those, Holds, IsFound}
 use Rattle.crs_value.specs.Reads.{ReadsNumber}
 use Rattle.crs_value.proofs.found.ArgumentLemmas.{found-is, found-holds, all-shaped, found-shaped, nothing}
-use Rattle.crs_value.proofs.checked.LeastLemmas.{least-more, least-same}
+use Rattle.crs_value.proofs.checked.LeastLemmas.{least-more, least-single}
 
 -- the first break among those before
 pub record Checked (B : Item → RefusedAt → Type 0) (tree : Item) (parent c : Class) (whole : List Item) (least : Option RefusedAt) (at : Option ℕ) : Type 0 where
@@ -77,11 +77,7 @@ pub any-first : (B : Item → RefusedAt → Type 0) (tree : Item) (parent c : Cl
     IsFound tree parent c items (Some id) → IsLeast (B (item_at tree id)) o → IsLeast (λ f. AnyOf B (take 1 items) f) o
 any-first B tree parent c items id o found h =
     let Q : List Item → Type 0 = λ xs. IsLeast (AnyOf B (take 1 xs)) o in
-    subst Q (sym found.0) (least-same (B (item_at tree id)) (λ f. AnyOf B (item_at tree id ∷ []) f) o (λ f k. inl k) back h)
-  where
-    back : (f : RefusedAt) → AnyOf B (item_at tree id ∷ []) f → B (item_at tree id) f
-    back f (inl k) = k
-    back f (inr k) = absurd k
+    subst Q (sym found.0) (least-single B (item_at tree id) o h)
 
 -- where there is no more than the one
 pub only-one : (B : Item → RefusedAt → Type 0) (tree : Item) (parent c : Class) (items : List Item) (id : ℕ) (o : Option RefusedAt) → length items ≤ 1 →
@@ -90,11 +86,7 @@ only-one B tree parent c items id o few found h =
     let rest = those parent c (rest_of (here tree id)) in
     let none : rest ≡ [] = nothing rest (omega (arith, few, ap length found.0)) in
     let P : List Item → Type 0 = λ xs. IsLeast (AnyOf B xs) o in
-    subst P (sym (found.0 ∙ ap (λ xs. item_at tree id ∷ xs) none)) (least-same (B (item_at tree id)) (λ f. AnyOf B (item_at tree id ∷ []) f) o (λ f k. inl k) back h)
-  where
-    back : (f : RefusedAt) → AnyOf B (item_at tree id ∷ []) f → B (item_at tree id) f
-    back f (inl k) = k
-    back f (inr k) = absurd k
+    subst P (sym (found.0 ∙ ap (λ xs. item_at tree id ∷ xs) none)) (least-single B (item_at tree id) o h)
 
 -- those from the first found one on are all of the class
 pub found-any : (B : Item → RefusedAt → Type 0) (tree : Item) (parent c : Class) (items : List Item) (at : Option ℕ) (o : Option RefusedAt) →

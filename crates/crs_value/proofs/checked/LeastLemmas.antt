@@ -97,6 +97,14 @@ any-split B (x ∷ xs) ys f (inr h) = more (any-split B xs ys f h)
     more (inl k) = inl (inr k)
     more (inr k) = inr k
 
+-- one item alone
+any-single : (B : Item → RefusedAt → Type 0) (item : Item) (f : RefusedAt) → AnyOf B (item ∷ []) f → B item f
+any-single B item f (inl h) = h
+any-single B item f (inr h) = absurd h
+
+pub least-single : (B : Item → RefusedAt → Type 0) (item : Item) (o : Option RefusedAt) → IsLeast (B item) o → IsLeast (AnyOf B (item ∷ [])) o
+least-single B item o h = least-same (B item) (AnyOf B (item ∷ [])) o (λ f k. inl k) (any-single B item) h
+
 -- one more item
 pub least-more : (B : Item → RefusedAt → Type 0) (done : List Item) (item : Item) (a b : Option RefusedAt) → IsLeast (AnyOf B done) a → IsLeast (B item) b →
     IsLeast (AnyOf B (done ++ item ∷ [])) (lesser a b)
@@ -107,16 +115,12 @@ least-more B done item a b p q =
     to f (inl h) = any-left B done (item ∷ []) f h
     to f (inr h) = any-right B done (item ∷ []) f (inl h)
 
-    last : (f : RefusedAt) → AnyOf B (item ∷ []) f → B item f
-    last f (inl h) = h
-    last f (inr h) = absurd h
-
     back : (f : RefusedAt) → AnyOf B (done ++ item ∷ []) f → AnyOf B done f ⊎ B item f
     back f h = one (any-split B done (item ∷ []) f h)
       where
         one : AnyOf B done f ⊎ AnyOf B (item ∷ []) f → AnyOf B done f ⊎ B item f
         one (inl k) = inl k
-        one (inr k) = inr (last f k)
+        one (inr k) = inr (any-single B item f k)
 
 -- the refusal at one item, under a condition or none
 pub least-at : (g r : RefusedAt) (C : Type 0) → r ≡ g → C → IsLeast (λ f. (f ≡ g) × C) (Some r)

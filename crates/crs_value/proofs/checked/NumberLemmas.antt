@@ -1,5 +1,5 @@
 -- The faults of checks: their numbers, and their places within the text.
-use Rattle.std.proofs.Common.{◌≡◌, ℕ, zero, suc, ◌<◌, ◌≤◌, take, drop, length, Bool, true, false, if◌then◌else◌, inl, inr, Option, Some, None, List, [], ◌∷◌, ◌++◌, arith}
+use Rattle.std.proofs.Common.{◌≡◌, ℕ, ◌<◌, ◌≤◌, take, drop, length, inl, inr, Option, Some, None, List, [], ◌∷◌, ◌++◌, arith}
 use Rattle.crs_text.specs.Prelude.{Item, leaf, node, Siblings, End, More, arguments, RefusedAt, RefusesText, SpellsNode}
 use Rattle.crs_shape.specs.declared.class.Class.{Class}
 use Rattle.crs_shape.specs.declared.class.Class.TheVariants as class
@@ -14,8 +14,9 @@ use Rattle.crs_value.specs.Break.{at, AnyOf}
 use Rattle.crs_value.specs.BadDynamic.{BadDynamic, IsUnsteady}
 use Rattle.crs_value.specs.Checks.{anchors, once, OfHead, OfAxes, OfCrs, OfCompound, OfUnit, OfEllipsoid, Own, AtClass, Breaks, BreaksAmong, horizontal_classes}
 use Rattle.crs_value.specs.RepeatedPart.{IsRepeated, Repeats, RepeatsAny}
-use Rattle.crs_value.specs.Reading.{is_a, those}
+use Rattle.crs_value.specs.Reading.{Each, is_a, those}
 use Rattle.crs_value.specs.SpellsText.{IsFrom, IsRefusalNumber, Refuses}
+use Rattle.crs_value.proofs.found.ArgumentLemmas.{each-drop, each-first, each-if}
 use Rattle.crs_value.proofs.checked.PlaceLemmas.{Within, AreWithin, Fine, fine-as, node-within, place-within, arguments-within}
 
 module _ (total : ℕ) where
@@ -23,34 +24,17 @@ module _ (total : ℕ) where
   Good fault = Fine 21 29 total fault
 
   abbrev All : List Item → Type 0
-  All [] = Unit {0}
-  All (item ∷ items) = Within total item × All items
+  All items = Each (Within total) items
 
   at-good : (n : ℕ) (item : Item) (fault : RefusedAt) → IsFrom 21 29 n → Within total item → fault ≡ at n item → Good fault
   at-good n item fault from h e = fine-as 21 29 total fault (at n item) e (from, place-within total item h)
 
-  if-all : (b : Bool) (item : Item) (items : List Item) → Within total item → All items → All (if b then item ∷ items else items)
-  if-all true item items h rest = (h, rest)
-  if-all false item items h rest = rest
-
   those-all : (parent c : Class) (items : Siblings) → AreWithin total items → All (those parent c items)
   those-all parent c End h = tt
-  those-all parent c (More item items) h = if-all (is_a parent c item) item (those parent c items) h.0 (those-all parent c items h.1)
+  those-all parent c (More item items) h = each-if (Within total) (is_a parent c item) item (those parent c items) h.0 (those-all parent c items h.1)
 
   inner-all : (parent c : Class) (item : Item) → Within total item → All (those parent c (arguments item))
   inner-all parent c item h = those-all parent c (arguments item) (arguments-within total item h)
-
-  drop-all : (n : ℕ) (items : List Item) → All items → All (drop n items)
-  drop-all zero [] h = tt
-  drop-all (suc n) [] h = tt
-  drop-all zero (item ∷ items) h = h
-  drop-all (suc n) (item ∷ items) h = drop-all n items h.1
-
-  take-all : (n : ℕ) (items : List Item) → All items → All (take n items)
-  take-all zero [] h = tt
-  take-all (suc n) [] h = tt
-  take-all zero (item ∷ items) h = tt
-  take-all (suc n) (item ∷ items) h = (h.0, take-all n items h.1)
 
   any-good : (B : Item → RefusedAt → Type 0) (fault : RefusedAt) → ((item : Item) → Within total item → B item fault → Good fault) → (items : List Item) → All items → AnyOf B items fault → Good fault
   any-good B fault one [] h x = absurd x
@@ -59,7 +43,7 @@ module _ (total : ℕ) where
 
   repeats-good : (parent : Class) (items : Siblings) (c : Class) (fault : RefusedAt) → AreWithin total items → Repeats parent items c fault → Good fault
   repeats-good parent items c fault h x =
-      any-good IsRepeated fault (λ i w y. at-good 22 i fault (omega arith, omega arith) w y) (drop 1 (those parent c items)) (drop-all 1 (those parent c items) (those-all parent c items h)) x
+      any-good IsRepeated fault (λ i w y. at-good 22 i fault (omega arith, omega arith) w y) (drop 1 (those parent c items)) (each-drop (Within total) 1 (those parent c items) (those-all parent c items h)) x
 
   repeats-any-good : (parent : Class) (items : Siblings) (cs : List Class) (fault : RefusedAt) → AreWithin total items → RepeatsAny parent items cs fault → Good fault
   repeats-any-good parent items [] fault h x = absurd x
@@ -126,9 +110,9 @@ module _ (total : ℕ) where
   above-good items fault h x = any-good NotAbove fault (λ i w y. at-good 28 i fault (omega arith, omega arith) w y.0) items h x
 
   ellipsoid-good : (items : List Item) (fault : RefusedAt) → All items → OfEllipsoid items fault → Good fault
-  ellipsoid-good items fault h (inl x) = above-good (take 1 items) fault (take-all 1 items h) x
+  ellipsoid-good items fault h (inl x) = above-good (take 1 items) fault (each-first (Within total) items h) x
   ellipsoid-good items fault h (inr x) =
-      any-good IsNegative fault (λ i w y. at-good 28 i fault (omega arith, omega arith) w y.0) (drop 1 items) (drop-all 1 items h) x
+      any-good IsNegative fault (λ i w y. at-good 28 i fault (omega arith, omega arith) w y.0) (drop 1 items) (each-drop (Within total) 1 items h) x
 
   units-good : (c : Class) (item : Item) (fault : RefusedAt) → Within total item → OfUnit c item fault → Good fault
   units-good c item fault h x = above-good (those c class.Number (arguments item)) fault (inner-all c class.Number item h) x

@@ -1,6 +1,7 @@
 -- The checks of the orders of axes.
 use Rattle.std.proofs.Common.{◌≡◌, ◌≢◌, ℕ, zero, suc, ◌+◌, ◌<◌, ◌≤◌, length, take, drop, Bool, IsTrue, ◌↔◌, inl, inr, ◌⊎◌, Option, Some, None, List, [], ◌∷◌, ◌++◌, refl, sym, ◌∙◌, ap, subst, append_assoc, length-append, arith}
 use Rattle.std.proofs.lemmas.List.{append-nil}
+use Rattle.std.proofs.Math.Seq.{take-append_seam}
 use Rattle.crs_decimal.specs.Prelude.{Number, SameNumber, whole_number, Value, exact}
 use Rattle.crs_text.specs.Prelude.{Item, arguments, rest_of, here, RefusedAt}
 use Rattle.crs_shape.specs.declared.class.Class.{Class}
@@ -13,6 +14,7 @@ use Rattle.crs_value.specs.Least.{lesser}
 use Rattle.crs_value.specs.Reading.{item_at, those, Holds, IsFound, ReadsFirst}
 use Rattle.crs_value.specs.Reads.{ReadsNumber}
 use Rattle.crs_value.proofs.found.ArgumentLemmas.{found-is, found-holds, found-shaped, all-shaped}
+use Rattle.crs_value.proofs.found.NodeLemmas.{drop-more, drop-short}
 use Rattle.crs_value.proofs.checked.CheckLemmas.{DenotesOne, number-one}
 use Rattle.crs_value.proofs.checked.LeastLemmas.{least-same, least-at, least-either}
 use Rattle.crs_value.proofs.checked.SystemLemmas.{first-one, wholes-same}
@@ -75,17 +77,6 @@ has-split v (z ∷ xs) (suc i) x ys e (inr h) = more (has-split v xs i x ys e h)
     more (inl k) = inl (inr k)
     more (inr k) = inr k
 
-drop-tail : (xs : List Item) (i : ℕ) (x : Item) (ys : List Item) → drop i xs ≡ x ∷ ys → drop (suc i) xs ≡ ys
-drop-tail [] zero x ys e = cc
-drop-tail [] (suc k) x ys e = cc
-drop-tail (i ∷ xs) zero x ys e = cc
-drop-tail (i ∷ xs) (suc k) x ys e = drop-tail xs k x ys e
-
-drop-end : (xs : List Item) (i : ℕ) → drop i xs ≡ [] → length xs ≤ i
-drop-end [] i e = omega arith
-drop-end (x ∷ xs) zero e = cc
-drop-end (x ∷ xs) (suc i) e = omega (arith, drop-end xs i e)
-
 pub record Seeking (tree : Item) (parent : Class) (whole : List Item) (v : Value) (i : ℕ) (at : Option ℕ) : Type 0 where
   pub rest : drop i whole ≡ from_found tree parent class.Axis at
   pub holds : Holds tree at
@@ -103,7 +94,7 @@ seek-on tree parent whole v i id at so other found =
     let P : ℕ → Type 0 = λ k. Seeking tree parent whole v k at in
     let more : suc i ≡ i + 1 = omega arith in
     let next : Seeking tree parent whole v (suc i) at = record {
-      rest = drop-tail whole i (item_at tree id) (those parent class.Axis (rest_of (here tree id))) so.rest ∙ e;
+      rest = drop-more whole i (item_at tree id) (those parent class.Axis (rest_of (here tree id))) so.rest ∙ e;
       holds = found-holds tree parent class.Axis _ at found;
       shaped = all-shaped class.Axis _ _ e so.shaped.1;
       none = λ h. none (has-split v whole i (item_at tree id) (those parent class.Axis (rest_of (here tree id))) so.rest h);
@@ -120,7 +111,7 @@ seek-here tree parent whole v i k id so lt h = has-at v whole i k (item_at tree 
 pub seek-there : (tree : Item) (parent : Class) (whole : List Item) (v : Value) (i k : ℕ) (at : Option ℕ) → Seeking tree parent whole v i at → at ≡ None → i < k → k ≤ length whole → ⊥
 seek-there tree parent whole v i k at so none lt le =
     let e : drop i whole ≡ [] = so.rest ∙ ap (from_found tree parent class.Axis) none in
-    omega (arith, drop-end whole i e)
+    omega (arith, drop-short whole i e)
 
 -- ---- some axis has an order
 
@@ -227,27 +218,18 @@ ordering-first tree parent item count at shaped is found = record {
   is_least = λ f h. h;
 }
 
-take-done : (done ys : List Item) → take (length done) (done ++ ys) ≡ done
-take-done [] [] = refl
-take-done [] (y ∷ ys) = refl
-take-done (d ∷ done) ys = ap (λ xs. d ∷ xs) (take-done done ys)
-
-length-one : (done : List Item) (x : Item) → length (done ++ x ∷ []) ≡ length done + 1
-length-one [] x = refl
-length-one (d ∷ done) x = omega (arith, length-one done x)
-
 pub ordering-on : (tree : Item) (parent : Class) (whole : List Item) (count before : ℕ) (least one next : Option RefusedAt) (id : ℕ) (at : Option ℕ) →
     Ordering tree parent whole count before least (Some id) → IsLeast (AnyOf (IsBadOrder count (take before whole)) (orders_in (item_at tree id))) one → next ≡ lesser least one →
     IsFound tree parent class.Axis (those parent class.Axis (rest_of (here tree id))) at → Ordering tree parent whole count (before + 1) next at
 ordering-on tree parent whole count before least one next id at so here-least e found =
     let f = found-is tree parent class.Axis (those parent class.Axis (rest_of (here tree id))) at found in
-    let t : take before whole ≡ so.done = ap (λ k. take k whole) so.many ∙ ap (take (length so.done)) so.parts ∙ take-done so.done (from_found tree parent class.Axis (Some id)) in
+    let t : take before whole ≡ so.done = ap (λ k. take k whole) so.many ∙ ap (take (length so.done)) so.parts ∙ take-append_seam so.done (from_found tree parent class.Axis (Some id)) in
     let P : List Item → Type 0 = λ xs. IsLeast (AnyOf (IsBadOrder count xs) (orders_in (item_at tree id))) one in
     let Q : ℕ → Type 0 = λ n. IsLeast (AnyOf (IsBadOrder n so.done) (orders_in (item_at tree id))) one in
     record {
       done = so.done ++ item_at tree id ∷ [];
       parts = so.parts ∙ ap (λ xs. so.done ++ item_at tree id ∷ xs) f ∙ sym (append_assoc so.done (item_at tree id ∷ []) (from_found tree parent class.Axis at));
-      many = ap (λ k. k + 1) so.many ∙ sym (length-one so.done (item_at tree id));
+      many = ap (λ k. k + 1) so.many ∙ sym (length-append so.done (item_at tree id ∷ []));
       all = so.all;
       holds = found-holds tree parent class.Axis _ at found;
       shaped = all-shaped class.Axis _ _ f so.shaped.1;

@@ -1,5 +1,5 @@
 -- Arguments: those of a class, one after another, are sound where their node is, and as many as its slots require.
-use Rattle.std.proofs.Common.{◌≡◌, ◌≢◌, ℕ, ◌+◌, ◌<◌, ◌≤◌, length, Bool, true, false, IsTrue, inl, inr, Option, Some, None, List, [], ◌∷◌, if◌then◌else◌, refl, sym, ◌∙◌, ap, subst, arith, rules}
+use Rattle.std.proofs.Common.{◌≡◌, ◌≢◌, ℕ, zero, suc, ◌+◌, ◌<◌, ◌≤◌, length, drop, take, Bool, true, false, IsTrue, inl, inr, Option, Some, None, List, [], ◌∷◌, if◌then◌else◌, refl, sym, ◌∙◌, ap, subst, arith, rules}
 use denote.Enum.Bare.{sameb, same_true}
 use Rattle.crs_text.specs.Prelude.{Item, leaf, node, Siblings, End, More, arguments, first_of, rest_of, kind_of_item, HasId, IsAt, RefusedAt, Kind, number, text, word, AreFormed, AreAllFormed}
 use Rattle.crs_shape.specs.contracts.class.Class.{the_type}
@@ -9,7 +9,7 @@ use Rattle.crs_shape.specs.declared.class.Class.TheVariants as class
 use Rattle.crs_shape.specs.Prelude.{is_keyword, one_if, how_many, is_bounded, least, most, Allowed, Shaped, AreShaped, class_in, class_of_kind, SlotParts, slots_of, is_class}
 use Rattle.crs_value.specs.FoundArguments.{from_found, AllShaped}
 use Rattle.crs_value.specs.Checks.{AtClass, Breaks, BreaksAmong, IsSound}
-use Rattle.crs_value.specs.Reading.{item_at, is_same, is_a, those, ahead, Holds, IsFound}
+use Rattle.crs_value.specs.Reading.{Each, item_at, is_same, is_a, those, ahead, Holds, IsFound}
 
 pub ahead_at : (tree : Item) (items : Siblings) (at : Option ℕ) → IsAt tree items at → ahead tree at ≡ items
 ahead_at tree items None e = sym e
@@ -33,11 +33,26 @@ pub those-later : (parent c : Class) (items : Siblings) → items ≢ End → is
 those-later parent c End some e = absurd (some refl)
 those-later parent c (More item items) some e = ap (λ b. if b then item ∷ those parent c items else those parent c items) e
 
+-- ---- a property of each of some items
+
+pub each-drop : (P : Item → Type 0) (n : ℕ) (items : List Item) → Each P items → Each P (drop n items)
+each-drop P zero [] h = tt
+each-drop P (suc n) [] h = tt
+each-drop P zero (item ∷ items) h = h
+each-drop P (suc n) (item ∷ items) h = each-drop P n items h.1
+
+pub each-first : (P : Item → Type 0) (items : List Item) → Each P items → Each P (take 1 items)
+each-first P [] h = tt
+each-first P (item ∷ items) h = (h.0, tt)
+
+pub each-if : (P : Item → Type 0) (b : Bool) (item : Item) (items : List Item) → P item → Each P items → Each P (if b then item ∷ items else items)
+each-if P true item items h rest = (h, rest)
+each-if P false item items h rest = rest
+
 -- ---- soundness goes down
 
 abbrev pub AllSound : Class → List Item → Type 0
-AllSound c [] = Unit {0}
-AllSound c (item ∷ items) = IsSound c item × AllSound c items
+AllSound c items = Each (IsSound c) items
 
 pub same_class : (d c : Class) → sameb the_type d c ≡ true → d ≡ c
 same_class d c e = same_true the_type (search rules) d c e

@@ -7,7 +7,7 @@ use Rattle.crs_shape.specs.Prelude.{least, slots_of, Shaped}
 use Rattle.crs_value.specs.FoundArguments.{from_found, AllShaped}
 use Rattle.crs_value.specs.Checks.{IsSound}
 use Rattle.crs_value.specs.Reading.{item_at, is_same, those, Holds, IsFound, ReadsFirst, ReadsOptional, ReadsEach}
-use Rattle.crs_value.proofs.found.ArgumentLemmas.{AllSound, SlotsCount, arguments-many, found-is, found-holds, all-sound, arguments-sound, all-shaped, arguments-shaped}
+use Rattle.crs_value.proofs.found.ArgumentLemmas.{AllSound, SlotsCount, arguments-many, found-is, found-holds, all-sound, arguments-sound, each-drop, all-shaped, arguments-shaped}
 
 -- the list holds the values of those before; with the values of the rest it is that of all
 pub record Going {V : Type 0} (R : Item → V → Type 0) (tree : Item) (parent c : Class) (whole : List Item) (list : List V) (at : Option ℕ) : Type 0 where
@@ -51,16 +51,10 @@ drop-short [] k e = omega arith
 drop-short (i ∷ xs) zero e = cc
 drop-short (i ∷ xs) (suc k) e = omega (arith, drop-short xs k e)
 
-drop-shaped : (c : Class) (items : List Item) (k : ℕ) → AllShaped c items → AllShaped c (drop k items)
-drop-shaped c [] zero shaped = tt
-drop-shaped c [] (suc k) shaped = tt
-drop-shaped c (item ∷ items) zero shaped = shaped
-drop-shaped c (item ∷ items) (suc k) shaped = drop-shaped c items k shaped.1
-
 pub number-shaped : (tree : Item) (parent c : Class) (item : Item) (k id : ℕ) → Shaped parent item → IsFound tree parent c (drop k (those parent c (arguments item))) (Some id) →
     Shaped c (item_at tree id)
 number-shaped tree parent c item k id shaped found =
-    (all-shaped c _ _ found.0 (drop-shaped c (those parent c (arguments item)) k (arguments-shaped parent c item shaped))).0
+    (all-shaped c _ _ found.0 (each-drop (Shaped c) k (those parent c (arguments item)) (arguments-shaped parent c item shaped))).0
 
 pub number-there : SlotsCount → (tree : Item) (parent c : Class) (item : Item) (k n : ℕ) → Shaped parent item → n < least (is_same c) (slots_of parent) → k ≤ n →
     drop k (those parent c (arguments item)) ≡ [] → ⊥

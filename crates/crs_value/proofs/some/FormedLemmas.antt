@@ -1,6 +1,6 @@
 -- Items of their shape whose tokens are well formed: the same holds for their arguments, and their numbers
 -- have values.
-use Rattle.std.proofs.Common.{◌≡◌, ℕ, zero, suc, drop, Bool, true, false, if◌then◌else◌, inr, List, [], ◌∷◌, ◌++◌}
+use Rattle.std.proofs.Common.{◌≡◌, ℕ, inr, List, [], ◌∷◌, ◌++◌}
 use Rattle.crs_decimal.specs.Prelude.{IsInBounds, Denotes, Value, IsNormal, exact}
 use Rattle.crs_text.specs.Prelude.{number, text, word, Item, leaf, node, Siblings, End, More, arguments, AreFormed, AreAllFormed}
 use Rattle.crs_text.specs.declared.items.ItemKind.TheVariants as item_kinds
@@ -8,9 +8,9 @@ use Rattle.crs_shape.specs.declared.class.Class.{Class}
 use Rattle.crs_shape.specs.declared.class.Class.TheVariants as class
 use Rattle.crs_shape.specs.Prelude.{Shaped}
 use Rattle.crs_value.specs.FoundArguments.{AllShaped}
-use Rattle.crs_value.specs.Reading.{is_a, those, ReadsFirst}
+use Rattle.crs_value.specs.Reading.{Each, is_a, those, ReadsFirst}
 use Rattle.crs_value.specs.Reads.{ReadsNumber}
-use Rattle.crs_value.proofs.found.ArgumentLemmas.{arguments-shaped, shaped-number}
+use Rattle.crs_value.proofs.found.ArgumentLemmas.{each-if, arguments-shaped, shaped-number}
 use Rattle.crs_value.proofs.some.DecisionLemmas.{Known}
 use Rattle.crs_value.proofs.sound.PartLemmas.{arguments-formed}
 
@@ -21,20 +21,14 @@ abbrev pub Ready : Class → Item → Type 0
 Ready c item = Shaped c item × AreFormed item
 
 abbrev pub AllReady : Class → List Item → Type 0
-AllReady c [] = Unit {0}
-AllReady c (item ∷ items) = Ready c item × AllReady c items
+AllReady c items = Each (Ready c) items
 
 abbrev pub AllFormed : List Item → Type 0
-AllFormed [] = Unit {0}
-AllFormed (item ∷ items) = AreFormed item × AllFormed items
-
-if-formed : (b : Bool) (item : Item) (items : List Item) → AreFormed item → AllFormed items → AllFormed (if b then item ∷ items else items)
-if-formed true item items h rest = (h, rest)
-if-formed false item items h rest = rest
+AllFormed items = Each AreFormed items
 
 those-formed : (parent c : Class) (items : Siblings) → AreAllFormed items → AllFormed (those parent c items)
 those-formed parent c End h = tt
-those-formed parent c (More item items) h = if-formed (is_a parent c item) item (those parent c items) h.0 (those-formed parent c items h.1)
+those-formed parent c (More item items) h = each-if AreFormed (is_a parent c item) item (those parent c items) h.0 (those-formed parent c items h.1)
 
 pub inner-formed : (parent c : Class) (item : Item) → AreFormed item → AllFormed (those parent c (arguments item))
 inner-formed parent c item h = those-formed parent c (arguments item) (arguments-formed item h)
@@ -49,12 +43,6 @@ those-ready parent c item h = both-ready c (those parent c (arguments item)) (ar
 pub append-ready : (c : Class) (xs : List Item) (item : Item) → AllReady c xs → Ready c item → AllReady c (xs ++ item ∷ [])
 append-ready c [] item h last = (last, tt)
 append-ready c (x ∷ xs) item h last = (h.0, append-ready c xs item h.1 last)
-
-pub drop-ready : (c : Class) (n : ℕ) (items : List Item) → AllReady c items → AllReady c (drop n items)
-drop-ready c zero [] h = tt
-drop-ready c (suc n) [] h = tt
-drop-ready c zero (item ∷ items) h = h
-drop-ready c (suc n) (item ∷ items) h = drop-ready c n items h.1
 
 pub number-some : Numbers → (item : Item) → Ready class.Number item → (v : Value) × ReadsNumber item v
 number-some law (leaf number place raw) h = let v = law raw h.1.2 in (v.0, v.1)

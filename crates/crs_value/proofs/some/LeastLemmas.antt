@@ -26,7 +26,9 @@ use Rattle.crs_value.specs.Reads.{HasType, HasDimension, ReadsNumber, ReadsType,
 use Rattle.crs_value.proofs.checked.CheckLemmas.{DenotesOne, number-one}
 use Rattle.crs_value.proofs.some.DecisionLemmas.{Decided, Known, decided-as, decided-both, decided-either, decided-not, decided-some, decided-this, decided-word, type-known, direction-known, decided-kind, decided-kinds, decided-none, whether-ellipsoidal, decided-bool, decided-same, decided-value, decided-one-of, decided-position, decided-above}
 use Rattle.crs_value.proofs.checked.LeastLemmas.{least-same, least-either, least-one, least-not, least-is}
-use Rattle.crs_value.proofs.some.FormedLemmas.{Numbers, Ready, AllReady, those-ready, append-ready, drop-ready, number-some, first-known}
+use Rattle.crs_value.proofs.some.FormedLemmas.{Numbers, Ready, AllReady, those-ready, append-ready, number-some, first-known}
+use Rattle.crs_value.proofs.checked.OrderLemmas.{order-one}
+use Rattle.crs_value.proofs.found.ArgumentLemmas.{each-drop, each-first}
 use Rattle.crs_value.proofs.checked.SystemLemmas.{first-one, type-is-one, dimension-is-one}
 use Rattle.crs_value.proofs.checked.UnitLemmas.{asks-one}
 
@@ -141,12 +143,9 @@ module _ (numbers : Numbers) (one : DenotesOne) where
   order-number : (order : Item) → Ready class.Order order → Known (ReadsOrder order)
   order-number order h = first-known ReadsNumber class.Number number-known (those class.Order class.Number (arguments order)) (those-ready class.Order class.Number order h)
 
-  order-one : (order : Item) (a b : Value) → ReadsOrder order a → ReadsOrder order b → a ≡ b
-  order-one order a b p q = first-one ReadsNumber (λ i x y. number-one one i x y) (those class.Order class.Number (arguments order)) a b p q
-
   decided-has : (value : Value) (axis : Item) → Ready class.Axis axis → Decided (HasThis value axis)
   decided-has value axis h =
-      decided-this (λ v. ReadsFirst ReadsOrder (orders_in axis) v) value (λ a b p q. first-one ReadsOrder order-one (orders_in axis) a b p q)
+      decided-this (λ v. ReadsFirst ReadsOrder (orders_in axis) v) value (λ a b p q. first-one ReadsOrder (order-one one) (orders_in axis) a b p q)
       (first-known ReadsOrder class.Order order-number (orders_in axis) (those-ready class.Axis class.Order axis h)) (λ v. decided-value v value)
 
   decided-one : (value : Value) (axes : List Item) → AllReady class.Axis axes → Decided (OneHas value axes)
@@ -156,7 +155,7 @@ module _ (numbers : Numbers) (one : DenotesOne) where
   order-least : (n : ℕ) (before : List Item) → AllReady class.Axis before → (order : Item) → Ready class.Order order → HasLeast (IsBadOrder n before order)
   order-least n before h order r =
       at-least (at 26 order) (IsWrongOrder n before order)
-      (decided-some (ReadsOrder order) (λ v. ¬ (IsPosition n v) ⊎ OneHas v before) (order-one order) (order-number order r)
+      (decided-some (ReadsOrder order) (λ v. ¬ (IsPosition n v) ⊎ OneHas v before) (order-one one order) (order-number order r)
       (λ v x. decided-either (decided-not (decided-position n v)) (decided-one v before h)))
 
   orders-least : (n : ℕ) (before axes : List Item) → AllReady class.Axis before → AllReady class.Axis axes → HasLeast (BadOrders n before axes)
@@ -279,14 +278,10 @@ module _ (numbers : Numbers) (one : DenotesOne) where
       either-least (RepeatsAny class.CompoundCrs (arguments item) once) (BadComponents horizontal_classes (arguments item)) (repeats-any-least class.CompoundCrs (arguments item) once)
       (parts-least horizontal_classes item h)
 
-  take-ready : (items : List Item) → AllReady class.Number items → AllReady class.Number (take 1 items)
-  take-ready [] h = tt
-  take-ready (item ∷ items) h = (h.0, tt)
-
   ellipsoid-least : (items : List Item) → AllReady class.Number items → HasLeast (OfEllipsoid items)
   ellipsoid-least items h =
-      either-least (AnyOf NotAbove (take 1 items)) (AnyOf IsNegative (drop 1 items)) (any-least NotAbove class.Number above-least (take 1 items) (take-ready items h))
-      (any-least IsNegative class.Number negative-least (drop 1 items) (drop-ready class.Number 1 items h))
+      either-least (AnyOf NotAbove (take 1 items)) (AnyOf IsNegative (drop 1 items)) (any-least NotAbove class.Number above-least (take 1 items) (each-first (Ready class.Number) items h))
+      (any-least IsNegative class.Number negative-least (drop 1 items) (each-drop (Ready class.Number) 1 items h))
 
   units-least : (c : Class) (item : Item) → Ready c item → HasLeast (OfUnit c item)
   units-least c item h = any-least NotAbove class.Number above-least (those c class.Number (arguments item)) (those-ready c class.Number item h)

@@ -1,5 +1,5 @@
 -- What an item says, where it is sound and its tokens are well formed: there is a value.
-use Rattle.std.proofs.Common.{◌≡◌, ℕ, zero, suc, inl, inr, drop, Option, Some, None, List, [], ◌∷◌, refl, arith}
+use Rattle.std.proofs.Common.{◌≡◌, ℕ, inl, inr, drop, Option, Some, None, List, [], ◌∷◌, refl, arith}
 use Rattle.crs_decimal.specs.Prelude.{Value}
 use Rattle.crs_text.specs.Prelude.{Item, arguments, raw_of, skip}
 use Rattle.crs_shape.specs.declared.class.Class.{Class}
@@ -13,7 +13,7 @@ use Rattle.crs_value.specs.Reads.{ReadsNumber, ReadsType, ReadsDirection, ReadsK
 use Rattle.crs_value.specs.ReadsNamed.{ReadsText, ReadsTextOf, single_of, ReadsIdent, ReadsIds, ReadsNamed}
 use Rattle.crs_value.specs.NamedValues.{IdentParts}
 use Rattle.crs_value.specs.Values.{AxisParts, UnitParts, SystemParts, BoxParts, ExtentParts}
-use Rattle.crs_value.proofs.found.ArgumentLemmas.{AllSound, SlotsCount, arguments-sound, not-none}
+use Rattle.crs_value.proofs.found.ArgumentLemmas.{AllSound, SlotsCount, arguments-sound, each-drop, not-none}
 use Rattle.crs_value.proofs.some.DecisionLemmas.{Decided, Known, decided-word, decided-kinds, type-known, direction-known}
 use Rattle.crs_value.proofs.found.IdentLemmas.{code-there}
 use Rattle.crs_value.proofs.sound.KnownWordLemmas.{known-direction, known-type, known-kind}
@@ -24,12 +24,6 @@ use Rattle.crs_value.proofs.some.FormedLemmas.{Numbers, number-some}
 -- some value reads so
 abbrev pub Exists : {V : Type 0} → (V → Type 0) → Type 0
 Exists {V = V} R = (value : V) × R value
-
-drop-sound : (c : Class) (n : ℕ) (items : List Item) → AllSound c items → AllSound c (drop n items)
-drop-sound c zero [] h = tt
-drop-sound c (suc n) [] h = tt
-drop-sound c zero (item ∷ items) h = h
-drop-sound c (suc n) (item ∷ items) h = drop-sound c n items h.1
 
 -- ---- readings of lists
 
@@ -100,7 +94,7 @@ module _ (numbers : Numbers) (slots : SlotsCount) where
   pub number-at-some : (k : ℕ) (c : Class) (item : Item) → IsSound c item → Requires c class.Number k → Exists (ReadsNumberAt k c item)
   number-at-some k c item g some =
       first-of ReadsNumber class.Number value-some (drop k (those c class.Number (arguments item)))
-      (λ e. number-there slots item c class.Number item k k g.shaped some (omega arith) e) (drop-sound class.Number k (those c class.Number (arguments item)) (arguments-sound c class.Number item g))
+      (λ e. number-there slots item c class.Number item k k g.shaped some (omega arith) e) (each-drop (IsSound class.Number) k (those c class.Number (arguments item)) (arguments-sound c class.Number item g))
 
   ident-some : (item : Item) → IsSound class.Identifier item → Exists (ReadsIdent class.Identifier item)
   ident-some item g =
@@ -151,37 +145,28 @@ module _ (numbers : Numbers) (slots : SlotsCount) where
       let unit = first-some (ReadsUnit class.AngleUnit) class.AxisMeridian class.AngleUnit item g (omega arith) (unit-some class.AngleUnit tt) in
       (record { longitude = longitude.0; unit = unit.0 }, record { longitude = longitude.1; unit = unit.1 })
 
-  direction-some : (item : Item) → IsSound class.Axis item → Exists (ReadsFirst ReadsDirection (those class.Axis class.Word (arguments item)))
-  direction-some item g = by (those class.Axis class.Word (arguments item)) refl
+  -- the first word of an item, where it reads as something
+  word-some : {V : Type 0} (R : Item → V → Type 0) (c : Class) (item : Item) → IsSound c item → Requires c class.Word 0 → ((word : Item) → Known (R word)) →
+      ((word : Item) (more : List Item) → those c class.Word (arguments item) ≡ word ∷ more → ¬ ((value : V) → ¬ (R word value))) → Exists (ReadsFirst R (those c class.Word (arguments item)))
+  word-some {V = V} R c item g some known sure = by (those c class.Word (arguments item)) refl
     where
-      found : (w : Item) (more : List Item) → those class.Axis class.Word (arguments item) ≡ w ∷ more → Known (ReadsDirection w) → Exists (ReadsDirection w)
+      found : (w : Item) (more : List Item) → those c class.Word (arguments item) ≡ w ∷ more → Known (R w) → Exists (R w)
       found w more e (inl known) = known
-      found w more e (inr none) = absurd (known-direction item w more g e none)
+      found w more e (inr none) = absurd (sure w more e none)
 
-      by : (items : List Item) → those class.Axis class.Word (arguments item) ≡ items → Exists (ReadsFirst ReadsDirection items)
-      by [] e = absurd (not-none slots class.Axis class.Word item g.shaped (omega arith) e)
-      by (w ∷ more) e = found w more e (direction-known (raw_of w))
+      by : (items : List Item) → those c class.Word (arguments item) ≡ items → Exists (ReadsFirst R items)
+      by [] e = absurd (not-none slots c class.Word item g.shaped some e)
+      by (w ∷ more) e = found w more e (known w)
 
   axis-some : (item : Item) → IsSound class.Axis item → Exists (ReadsAxis class.Axis item)
   axis-some item g =
       let name = text-some class.Axis item g (omega arith) in
-      let direction = direction-some item g in
+      let direction = word-some ReadsDirection class.Axis item g (omega arith) (λ w. direction-known (raw_of w)) (λ w more. known-direction item w more g) in
       let meridian = optional-some (ReadsAxisMeridian class.AxisMeridian) class.Axis class.AxisMeridian item g (axis_meridian-some) in
       let order = optional-some (ReadsNumberOf class.Order) class.Axis class.Order item g (λ i h. number-of-some class.Order i h (omega arith)) in
       let unit = optional-some (ReadsUnit class.AxisUnit) class.Axis class.AxisUnit item g (unit-some class.AxisUnit tt) in
       let identifiers = identifiers-some class.Axis item g in
       (record { name = name.0; direction = direction.0; meridian = meridian.0; order = order.0; unit = unit.0; identifiers = identifiers.0 }, record { name = name.1; direction = direction.1; meridian = meridian.1; order = order.1; unit = unit.1; identifiers = identifiers.1 })
-
-  type-some : (item : Item) → IsSound class.CoordinateSystem item → Exists (ReadsFirst ReadsType (those class.CoordinateSystem class.Word (arguments item)))
-  type-some item g = by (those class.CoordinateSystem class.Word (arguments item)) refl
-    where
-      found : (w : Item) (more : List Item) → those class.CoordinateSystem class.Word (arguments item) ≡ w ∷ more → Known (ReadsType w) → Exists (ReadsType w)
-      found w more e (inl known) = known
-      found w more e (inr none) = absurd (known-type item w more g e none)
-
-      by : (items : List Item) → those class.CoordinateSystem class.Word (arguments item) ≡ items → Exists (ReadsFirst ReadsType items)
-      by [] e = absurd (not-none slots class.CoordinateSystem class.Word item g.shaped (omega arith) e)
-      by (w ∷ more) e = found w more e (type-known (raw_of w))
 
   abbrev made : SystemType → Value → List IdentParts → List AxisParts → Option UnitParts → SystemParts
   made system_type dimension identifiers axes unit = record { system_type = system_type; dimension = dimension; identifiers = identifiers; axes = axes; unit = unit }
@@ -192,7 +177,7 @@ module _ (numbers : Numbers) (slots : SlotsCount) where
   head-some : (items : List Item) → (items ≡ [] → ⊥) → AllSound class.CoordinateSystem items → (axes : List AxisParts) (unit : Option UnitParts) → Heads items axes unit
   head-some [] some g axes unit = absurd (some refl)
   head-some (cs ∷ items) some g axes unit =
-      let t = type-some cs g.0 in
+      let t = word-some ReadsType class.CoordinateSystem cs g.0 (omega arith) (λ w. type-known (raw_of w)) (λ w more. known-type cs w more g.0) in
       let d = number-of-some class.CoordinateSystem cs g.0 (omega arith) in
       let identifiers = identifiers-some class.CoordinateSystem cs g.0 in
       (t.0, (d.0, (identifiers.0, record { system_type = t.1; dimension = d.1; identifiers = identifiers.1 })))

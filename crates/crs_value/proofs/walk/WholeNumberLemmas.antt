@@ -1,4 +1,5 @@
 -- Whole numbers that are read: of one digit at sight, and others as decimals.
+use Rattle.std.proofs.lemmas.Bool.Decides.{nat_tests}
 use Rattle.std.proofs.Common.{◌≡◌, ◌⊎◌, inl, inr, ap, ℕ, ◌+◌, ◌-◌, ◌*◌, ◌<◌, ◌≤◌, nat_le, ◌&&◌, Bool, true, false, Option, Some, None, List, [], ◌∷◌, length, refl, sym, subst, arith, le-leb, IfSome, MatchOption}
 use Rattle.crs_decimal.specs.Prelude.{IsBounded, IsInBounds, Denotes, number_of, Number, SameNumber, whole_number, Sign, unsigned, plus, Parts, IsForm, SpellsNumber, AreDigits, Value, IsNormal, exact}
 use Rattle.crs_text.specs.Prelude.{Item, arguments, raw_of}
@@ -25,12 +26,7 @@ abbrev digit_parts : Sign → ℕ → Parts
 digit_parts s b = record { sign = s; whole = b ∷ []; fraction = None; exponent = None }
 
 digit-alone : (b : ℕ) → 48 ≤ b → b ≤ 57 → AreDigits (b ∷ [])
-digit-alone b low high = both (nat_le 48 b) (nat_le b 57) (le-leb 48 b low) (le-leb b 57 high)
-  where
-    both : (x y : Bool) → x ≡ true → y ≡ true → ((x && y) && true) ≡ true
-    both true true p q = refl
-    both true false p q = cc
-    both false y p q = cc
+digit-alone b low high = grind (arith, nat_tests)
 
 digit-form : (s : Sign) (b : ℕ) → AreDigits (b ∷ []) → IsForm (digit_parts s b)
 digit-form s b digits = record { digits = digits; some = omega arith; exponent = tt }
