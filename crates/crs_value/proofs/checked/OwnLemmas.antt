@@ -21,53 +21,37 @@ own-crs class.ProjectedCrs item o is h = h
 own-crs class.VerticalCrs item o is h = h
 own-crs other item o is h = absurd is
 
+-- what such a class breaks by itself, the same class by another name does
+own-as : (Broken : Class → RefusedAt → Type 0) (c d : Class) (item : Item) (o : Option RefusedAt) → c ≡ d → (IsLeast (Broken d) o → IsLeast (Own d item) o) → IsLeast (Broken c) o →
+    IsLeast (Own c item) o
+own-as Broken c d item o e to = let P : Class → Type 0 = λ x. IsLeast (Broken x) o → IsLeast (Own x item) o in subst P (sym e) to
+
 pub own-compound : (c : Class) (item : Item) (o : Option RefusedAt) → c ≡ class.CompoundCrs → IsLeast (OfCompound (arguments item)) o → IsLeast (Own c item) o
 unfolding Own
-own-compound c item o e h = let P : Class → Type 0 = λ x. IsLeast (Own x item) o in subst P (sym e) h
+own-compound c item o e h = own-as (λ x. OfCompound (arguments item)) c class.CompoundCrs item o e (λ k. k) h
 
-module _ (c : Class) (item : Item) (o : Option RefusedAt) (h : IsLeast (OfUnit c item) o) where
-  at-unit : (d : Class) → c ≡ d → ((k : IsLeast (OfUnit d item) o) → IsLeast (Own d item) o) → IsLeast (Own c item) o
-  at-unit d e to =
-      let P : Class → Type 0 = λ x. IsLeast (Own x item) o in
-      let Q : Class → Type 0 = λ x. IsLeast (OfUnit x item) o in
-      subst P (sym e) (to (subst Q e h))
-
-  pub own-unit : (c ≡ class.LengthUnit) ⊎ ((c ≡ class.AngleUnit) ⊎ ((c ≡ class.ScaleUnit) ⊎ ((c ≡ class.PlainUnit) ⊎ (c ≡ class.AxisUnit)))) → IsLeast (Own c item) o
-  unfolding Own
-  own-unit (inl e) = at-unit class.LengthUnit e (λ k. k)
-  own-unit (inr (inl e)) = at-unit class.AngleUnit e (λ k. k)
-  own-unit (inr (inr (inl e))) = at-unit class.ScaleUnit e (λ k. k)
-  own-unit (inr (inr (inr (inl e)))) = at-unit class.PlainUnit e (λ k. k)
-  own-unit (inr (inr (inr (inr e)))) = at-unit class.AxisUnit e (λ k. k)
+pub own-unit : (c : Class) (item : Item) (o : Option RefusedAt) → IsLeast (OfUnit c item) o →
+    (c ≡ class.LengthUnit) ⊎ ((c ≡ class.AngleUnit) ⊎ ((c ≡ class.ScaleUnit) ⊎ ((c ≡ class.PlainUnit) ⊎ (c ≡ class.AxisUnit)))) → IsLeast (Own c item) o
+unfolding Own
+own-unit c item o h (inl e) = own-as (λ x. OfUnit x item) c class.LengthUnit item o e (λ k. k) h
+own-unit c item o h (inr (inl e)) = own-as (λ x. OfUnit x item) c class.AngleUnit item o e (λ k. k) h
+own-unit c item o h (inr (inr (inl e))) = own-as (λ x. OfUnit x item) c class.ScaleUnit item o e (λ k. k) h
+own-unit c item o h (inr (inr (inr (inl e)))) = own-as (λ x. OfUnit x item) c class.PlainUnit item o e (λ k. k) h
+own-unit c item o h (inr (inr (inr (inr e)))) = own-as (λ x. OfUnit x item) c class.AxisUnit item o e (λ k. k) h
 
 pub own-system : (c : Class) (item : Item) (o : Option RefusedAt) → c ≡ class.CoordinateSystem → IsLeast (AnyOf UnknownType (those c class.Word (arguments item))) o → IsLeast (Own c item) o
 unfolding Own
-own-system c item o e h =
-    let P : Class → Type 0 = λ x. IsLeast (Own x item) o in
-    let Q : Class → Type 0 = λ x. IsLeast (AnyOf UnknownType (those x class.Word (arguments item))) o in
-    subst P (sym e) (subst Q e h)
+own-system c item o e h = own-as (λ x. AnyOf UnknownType (those x class.Word (arguments item))) c class.CoordinateSystem item o e (λ k. k) h
 
 pub own-axis : (c : Class) (item : Item) (o : Option RefusedAt) → c ≡ class.Axis → IsLeast (AnyOf UnknownDirection (those c class.Word (arguments item))) o → IsLeast (Own c item) o
 unfolding Own
-own-axis c item o e h =
-    let P : Class → Type 0 = λ x. IsLeast (Own x item) o in
-    let Q : Class → Type 0 = λ x. IsLeast (AnyOf UnknownDirection (those x class.Word (arguments item))) o in
-    subst P (sym e) (subst Q e h)
+own-axis c item o e h = own-as (λ x. AnyOf UnknownDirection (those x class.Word (arguments item))) c class.Axis item o e (λ k. k) h
 
 pub own-base : (c : Class) (item : Item) (o : Option RefusedAt) → c ≡ class.BaseCrs → IsLeast (BadDynamic c item) o → IsLeast (Own c item) o
 unfolding Own
-own-base c item o e h =
-    let P : Class → Type 0 = λ x. IsLeast (Own x item) o in
-    let Q : Class → Type 0 = λ x. IsLeast (BadDynamic x item) o in
-    subst P (sym e) (subst Q e h)
+own-base c item o e h = own-as (λ x. BadDynamic x item) c class.BaseCrs item o e (λ k. k) h
 
 pub own-frame : (c : Class) (item : Item) (o : Option RefusedAt) → (c ≡ class.GeodeticFrame) ⊎ (c ≡ class.VerticalFrame) → IsLeast (RepeatsAny c (arguments item) anchors) o → IsLeast (Own c item) o
 unfolding Own
-own-frame c item o (inl e) h =
-    let P : Class → Type 0 = λ x. IsLeast (Own x item) o in
-    let Q : Class → Type 0 = λ x. IsLeast (RepeatsAny x (arguments item) anchors) o in
-    subst P (sym e) (subst Q e h)
-own-frame c item o (inr e) h =
-    let P : Class → Type 0 = λ x. IsLeast (Own x item) o in
-    let Q : Class → Type 0 = λ x. IsLeast (RepeatsAny x (arguments item) anchors) o in
-    subst P (sym e) (subst Q e h)
+own-frame c item o (inl e) h = own-as (λ x. RepeatsAny x (arguments item) anchors) c class.GeodeticFrame item o e (λ k. k) h
+own-frame c item o (inr e) h = own-as (λ x. RepeatsAny x (arguments item) anchors) c class.VerticalFrame item o e (λ k. k) h

@@ -1,5 +1,5 @@
 -- Arguments: those of a class, one after another, are sound where their node is, and as many as its slots require.
-use Rattle.std.proofs.Common.{◌≡◌, ◌≢◌, ℕ, zero, suc, ◌+◌, ◌<◌, ◌≤◌, length, drop, take, Bool, true, false, IsTrue, inl, inr, Option, Some, None, List, [], ◌∷◌, if◌then◌else◌, refl, sym, ◌∙◌, ap, subst, arith, rules}
+use Rattle.std.proofs.Common.{◌≡◌, ◌≢◌, ℕ, zero, suc, ◌+◌, ◌<◌, ◌≤◌, length, drop, take, Bool, true, false, IsTrue, inl, inr, Option, Some, None, List, [], ◌∷◌, ◌++◌, if◌then◌else◌, refl, sym, ◌∙◌, ap, subst, arith, rules}
 use denote.Enum.Bare.{sameb, same_true}
 use Rattle.crs_text.specs.Prelude.{Item, leaf, node, Siblings, End, More, arguments, first_of, rest_of, kind_of_item, HasId, IsAt, RefusedAt, Kind, number, text, word, AreFormed, AreAllFormed}
 use Rattle.crs_shape.specs.contracts.class.Class.{the_type}
@@ -49,6 +49,10 @@ pub each-if : (P : Item → Type 0) (b : Bool) (item : Item) (items : List Item)
 each-if P true item items h rest = (h, rest)
 each-if P false item items h rest = rest
 
+pub each-on : {V : Type 0} (P : V → Type 0) (xs : List V) (x : V) → Each P xs → P x → Each P (xs ++ x ∷ [])
+each-on P [] x h p = (p, tt)
+each-on P (y ∷ ys) x h p = (h.0, each-on P ys x h.1 p)
+
 -- ---- soundness goes down
 
 abbrev pub AllSound : Class → List Item → Type 0
@@ -56,6 +60,10 @@ AllSound c items = Each (IsSound c) items
 
 pub same_class : (d c : Class) → sameb the_type d c ≡ true → d ≡ c
 same_class d c e = same_true the_type (search rules) d c e
+
+pub class-is : (c : Class) (o : Option Class) → is_class c o ≡ true → o ≡ Some c
+class-is c None e = cc
+class-is c (Some d) e = ap Some (same_class d c e)
 
 class_by : (c : Class) (o : Option Class) (d : Class) → o ≡ Some d → is_class c o ≡ sameb the_type d c
 class_by c o d e = ap (is_class c) e

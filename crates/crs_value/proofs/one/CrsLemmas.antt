@@ -14,7 +14,8 @@ use Rattle.crs_value.specs.ReadsConversion.{ReadsAsUnit, ReadsUnitOf, parameter_
 use Rattle.crs_value.specs.ReadsDynamic.{ReadsDynamic}
 use Rattle.crs_value.specs.ReadsCrs.{IsGeodeticClass, ReadsAsDatum, ReadsAsEnsemble, ReadsFrame, ReadsGeodetic, ReadsBase, ReadsProjected, ReadsVertical, ReadsAsHorizontal, ReadsHorizontal, ReadsCompound, ReadsCrs}
 use Rattle.crs_value.proofs.checked.CheckLemmas.{DenotesOne}
-use Rattle.crs_value.proofs.one.ValueLemmas.{IsOne, one-first, one-optional, one-each, text-of-one, number-of-one, ident-one, named-one, unit-one, meridian-one, datum-one, ensemble-one, tail-one, system-one}
+use Rattle.crs_value.proofs.checked.SystemLemmas.{first-one}
+use Rattle.crs_value.proofs.one.ValueLemmas.{IsOne, one-optional, one-each, text-of-one, number-of-one, ident-one, named-one, unit-one, meridian-one, datum-one, ensemble-one, tail-one, system-one}
 
 one-else : {V : Type 0} (R : Item → V → Type 0) (Other : V → Type 0) → IsOne R → ((a b : V) → Other a → Other b → a ≡ b) → (items : List Item) (a b : V) →
     ReadsElse R items Other a → ReadsElse R items Other b → a ≡ b
@@ -44,7 +45,7 @@ parameter-one law c item a b p q = λ i. record {
 pub conversion-one : DenotesOne → (c : Class) → IsOne (ReadsConversion c)
 conversion-one law c item a b p q = λ i. record {
   name = text-of-one c item a.name b.name p.name q.name i;
-  method = one-first (ReadsNamed class.Method) (named-one class.Method) (those c class.Method (arguments item)) a.method b.method p.method q.method i;
+  method = first-one (ReadsNamed class.Method) (named-one class.Method) (those c class.Method (arguments item)) a.method b.method p.method q.method i;
   parameters = one-each (ReadsParameter class.Parameter) (parameter-one law class.Parameter) (those c class.Parameter (arguments item)) a.parameters b.parameters p.parameters q.parameters i;
   identifiers = one-each (ReadsIdent class.Identifier) (ident-one class.Identifier) (those c class.Identifier (arguments item)) a.identifiers b.identifiers p.identifiers q.identifiers i;
 }
@@ -62,11 +63,11 @@ as_ensemble-one law d item (frames.Datum a) b p q = absurd p
 frame-one : DenotesOne → (d e c : Class) → IsOne (ReadsFrame d e c)
 frame-one law d e c item a b p q =
     one-else (ReadsAsDatum d) (ReadsFirst (ReadsAsEnsemble e) (those c e (arguments item))) (as_datum-one law d)
-    (one-first (ReadsAsEnsemble e) (as_ensemble-one law e) (those c e (arguments item))) (those c d (arguments item)) a b p q
+    (first-one (ReadsAsEnsemble e) (as_ensemble-one law e) (those c e (arguments item))) (those c d (arguments item)) a b p q
 
 pub dynamic-one : DenotesOne → (c : Class) → IsOne (ReadsDynamic c)
 dynamic-one law c item a b p q = λ i. record {
-  epoch = one-first (ReadsNumberOf class.FrameEpoch) (number-of-one law class.FrameEpoch) (those c class.FrameEpoch (arguments item)) a.epoch b.epoch p.epoch q.epoch i;
+  epoch = first-one (ReadsNumberOf class.FrameEpoch) (number-of-one law class.FrameEpoch) (those c class.FrameEpoch (arguments item)) a.epoch b.epoch p.epoch q.epoch i;
   model = one-optional (ReadsNamed class.DeformationModel) (named-one class.DeformationModel) (those c class.DeformationModel (arguments item)) a.model b.model p.model q.model i;
 }
 
@@ -93,8 +94,8 @@ base-one law c item a b p q = λ i. record {
 pub projected-one : DenotesOne → (c : Class) → IsOne (ReadsProjected c)
 projected-one law c item a b p q = λ i. record {
   name = text-of-one c item a.name b.name p.name q.name i;
-  base = one-first (ReadsBase class.BaseCrs) (base-one law class.BaseCrs) (those c class.BaseCrs (arguments item)) a.base b.base p.base q.base i;
-  conversion = one-first (ReadsConversion class.Conversion) (conversion-one law class.Conversion) (those c class.Conversion (arguments item)) a.conversion b.conversion p.conversion q.conversion i;
+  base = first-one (ReadsBase class.BaseCrs) (base-one law class.BaseCrs) (those c class.BaseCrs (arguments item)) a.base b.base p.base q.base i;
+  conversion = first-one (ReadsConversion class.Conversion) (conversion-one law class.Conversion) (those c class.Conversion (arguments item)) a.conversion b.conversion p.conversion q.conversion i;
   system = system-one law c item a.system b.system p.system q.system i;
   tail = tail-one law c item a.tail b.tail p.tail q.tail i;
 }
@@ -132,14 +133,14 @@ horizontal-one law c item a b p q =
     geographic : (x y : Horizontal) → Geographic x → Geographic y → x ≡ y
     geographic x y r t =
         one-else (ReadsAsHorizontal class.GeographicCrs) Projected (as_horizontal-one law class.GeographicCrs)
-        (one-first (ReadsAsHorizontal class.ProjectedCrs) (as_horizontal-one law class.ProjectedCrs) (those c class.ProjectedCrs (arguments item)))
+        (first-one (ReadsAsHorizontal class.ProjectedCrs) (as_horizontal-one law class.ProjectedCrs) (those c class.ProjectedCrs (arguments item)))
         (those c class.GeographicCrs (arguments item)) x y r t
 
 pub compound-one : DenotesOne → (c : Class) → IsOne (ReadsCompound c)
 compound-one law c item a b p q = λ i. record {
   name = text-of-one c item a.name b.name p.name q.name i;
   horizontal = horizontal-one law c item a.horizontal b.horizontal p.horizontal q.horizontal i;
-  vertical = one-first (ReadsVertical class.VerticalCrs) (vertical-one law class.VerticalCrs) (those c class.VerticalCrs (arguments item)) a.vertical b.vertical p.vertical q.vertical i;
+  vertical = first-one (ReadsVertical class.VerticalCrs) (vertical-one law class.VerticalCrs) (those c class.VerticalCrs (arguments item)) a.vertical b.vertical p.vertical q.vertical i;
   tail = tail-one law c item a.tail b.tail p.tail q.tail i;
 }
 

@@ -8,6 +8,7 @@ use Rattle.crs_value.specs.Reading.{those, ReadsFirst, ReadsOptional, ReadsEach}
 use Rattle.crs_value.specs.Reads.{ReadsNumber, ReadsType, ReadsDirection, ReadsKind, ReadsNumberOf, ReadsNumberAt, ReadsUnit, ReadsAxisMeridian, ReadsAxis, ReadsHead, ReadsSystem, ReadsEllipsoid, ReadsMeridian, ReadsDatum, ReadsEnsemble, ReadsBox, ReadsExtent, ReadsUsage, LacksUsage, ReadsBare, ReadsTail}
 use Rattle.crs_value.specs.ReadsNamed.{ReadsText, ReadsTextOf, single_of, ReadsIdent, ReadsNamed}
 use Rattle.crs_value.specs.Values.{SystemParts, UsageParts, SaysSome}
+use Rattle.crs_value.proofs.checked.SystemLemmas.{first-one}
 use Rattle.crs_value.proofs.checked.CheckLemmas.{DenotesOne, number-one}
 use Rattle.crs_value.proofs.checked.LeastLemmas.{first-both}
 use Rattle.crs_shape.proofs.WordLemmas.{direction_one, type_one, kind_one}
@@ -15,10 +16,6 @@ use Rattle.crs_shape.proofs.WordLemmas.{direction_one, type_one, kind_one}
 -- each item reads as one value at most
 abbrev pub IsOne : {V : Type 0} → (Item → V → Type 0) → Type 0
 IsOne {V = V} R = (item : Item) (a b : V) → R item a → R item b → a ≡ b
-
-pub one-first : {V : Type 0} (R : Item → V → Type 0) → IsOne R → (items : List Item) (a b : V) → ReadsFirst R items a → ReadsFirst R items b → a ≡ b
-one-first R one [] a b p q = absurd p
-one-first R one (i ∷ items) a b p q = one i a b p q
 
 pub one-optional : {V : Type 0} (R : Item → V → Type 0) → IsOne R → (items : List Item) (a b : Option V) → ReadsOptional R items a → ReadsOptional R items b → a ≡ b
 one-optional R one [] None None p q = refl
@@ -43,7 +40,7 @@ text-one : IsOne ReadsText
 text-one item a b p q = sym p ∙ q
 
 pub text-of-one : (c : Class) → IsOne (ReadsTextOf c)
-text-of-one c item a b p q = one-first ReadsText text-one (those c class.Text (arguments item)) a b p q
+text-of-one c item a b p q = first-one ReadsText text-one (those c class.Text (arguments item)) a b p q
 
 type-one : IsOne ReadsType
 type-one item a b p q = type_one (raw_of item) a b p q
@@ -58,15 +55,15 @@ number-one-law : DenotesOne → IsOne ReadsNumber
 number-one-law law item a b p q = number-one law item a b p q
 
 pub number-of-one : DenotesOne → (c : Class) → IsOne (ReadsNumberOf c)
-number-of-one law c item a b p q = one-first ReadsNumber (number-one-law law) (those c class.Number (arguments item)) a b p q
+number-of-one law c item a b p q = first-one ReadsNumber (number-one-law law) (those c class.Number (arguments item)) a b p q
 
 number-at-one : DenotesOne → (k : ℕ) (c : Class) → IsOne (ReadsNumberAt k c)
-number-at-one law k c item a b p q = one-first ReadsNumber (number-one-law law) (drop k (those c class.Number (arguments item))) a b p q
+number-at-one law k c item a b p q = first-one ReadsNumber (number-one-law law) (drop k (those c class.Number (arguments item))) a b p q
 
 pub ident-one : (c : Class) → IsOne (ReadsIdent c)
 ident-one c item a b p q = λ i. record {
   authority = text-of-one c item a.authority b.authority p.authority q.authority i;
-  code = one-first ReadsText text-one (single_of (skip 1 (arguments item))) a.code b.code p.code q.code i;
+  code = first-one ReadsText text-one (single_of (skip 1 (arguments item))) a.code b.code p.code q.code i;
   version = one-optional ReadsText text-one (single_of (skip 2 (arguments item))) a.version b.version p.version q.version i;
   citation = one-optional (ReadsTextOf class.Citation) (text-of-one class.Citation) (those c class.Citation (arguments item)) a.citation b.citation p.citation q.citation i;
   uri = one-optional (ReadsTextOf class.Uri) (text-of-one class.Uri) (those c class.Uri (arguments item)) a.uri b.uri p.uri q.uri i;
@@ -83,13 +80,13 @@ unit-one law c item a b p q = λ i. record {
 pub axis_meridian-one : DenotesOne → (c : Class) → IsOne (ReadsAxisMeridian c)
 axis_meridian-one law c item a b p q = λ i. record {
   longitude = number-of-one law c item a.longitude b.longitude p.longitude q.longitude i;
-  unit = one-first (ReadsUnit class.AngleUnit) (unit-one law class.AngleUnit) (those c class.AngleUnit (arguments item)) a.unit b.unit p.unit q.unit i;
+  unit = first-one (ReadsUnit class.AngleUnit) (unit-one law class.AngleUnit) (those c class.AngleUnit (arguments item)) a.unit b.unit p.unit q.unit i;
 }
 
 pub axis-one : DenotesOne → (c : Class) → IsOne (ReadsAxis c)
 axis-one law c item a b p q = λ i. record {
   name = text-of-one c item a.name b.name p.name q.name i;
-  direction = one-first ReadsDirection direction-one (those c class.Word (arguments item)) a.direction b.direction p.direction q.direction i;
+  direction = first-one ReadsDirection direction-one (those c class.Word (arguments item)) a.direction b.direction p.direction q.direction i;
   meridian = one-optional (ReadsAxisMeridian class.AxisMeridian) (axis_meridian-one law class.AxisMeridian) (those c class.AxisMeridian (arguments item)) a.meridian b.meridian p.meridian q.meridian i;
   order = one-optional (ReadsNumberOf class.Order) (number-of-one law class.Order) (those c class.Order (arguments item)) a.order b.order p.order q.order i;
   unit = one-optional (ReadsUnit class.AxisUnit) (unit-one law class.AxisUnit) (those c class.AxisUnit (arguments item)) a.unit b.unit p.unit q.unit i;
@@ -133,7 +130,7 @@ ensemble-one law c item a b p q = λ i. record {
   name = text-of-one c item a.name b.name p.name q.name i;
   members = one-each (ReadsNamed class.Member) (named-one class.Member) (those c class.Member (arguments item)) a.members b.members p.members q.members i;
   ellipsoid = one-optional (ReadsEllipsoid class.Ellipsoid) (ellipsoid-one law class.Ellipsoid) (those c class.Ellipsoid (arguments item)) a.ellipsoid b.ellipsoid p.ellipsoid q.ellipsoid i;
-  accuracy = one-first (ReadsNumberOf class.EnsembleAccuracy) (number-of-one law class.EnsembleAccuracy) (those c class.EnsembleAccuracy (arguments item)) a.accuracy b.accuracy p.accuracy q.accuracy i;
+  accuracy = first-one (ReadsNumberOf class.EnsembleAccuracy) (number-of-one law class.EnsembleAccuracy) (those c class.EnsembleAccuracy (arguments item)) a.accuracy b.accuracy p.accuracy q.accuracy i;
   identifiers = one-each (ReadsIdent class.Identifier) (ident-one class.Identifier) (those c class.Identifier (arguments item)) a.identifiers b.identifiers p.identifiers q.identifiers i;
 }
 
@@ -197,7 +194,7 @@ head-one : DenotesOne → (items : List Item) (a b : SystemParts) → ReadsFirst
     (a.system_type ≡ b.system_type) × ((a.dimension ≡ b.dimension) × (a.identifiers ≡ b.identifiers))
 head-one law [] a b p q = absurd p
 head-one law (i ∷ items) a b p q = (
-  one-first ReadsType type-one (those class.CoordinateSystem class.Word (arguments i)) a.system_type b.system_type p.system_type q.system_type,
+  first-one ReadsType type-one (those class.CoordinateSystem class.Word (arguments i)) a.system_type b.system_type p.system_type q.system_type,
   (
     number-of-one law class.CoordinateSystem i a.dimension b.dimension p.dimension q.dimension,
     one-each (ReadsIdent class.Identifier) (ident-one class.Identifier) (those class.CoordinateSystem class.Identifier (arguments i)) a.identifiers b.identifiers p.identifiers q.identifiers,

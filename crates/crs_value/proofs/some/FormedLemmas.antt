@@ -40,10 +40,6 @@ both-ready c (item ∷ items) shaped formed = ((shaped.0, formed.0), both-ready 
 pub those-ready : (parent c : Class) (item : Item) → Ready parent item → AllReady c (those parent c (arguments item))
 those-ready parent c item h = both-ready c (those parent c (arguments item)) (arguments-shaped parent c item h.0) (inner-formed parent c item h.1)
 
-pub append-ready : (c : Class) (xs : List Item) (item : Item) → AllReady c xs → Ready c item → AllReady c (xs ++ item ∷ [])
-append-ready c [] item h last = (last, tt)
-append-ready c (x ∷ xs) item h last = (h.0, append-ready c xs item h.1 last)
-
 pub number-some : Numbers → (item : Item) → Ready class.Number item → (v : Value) × ReadsNumber item v
 number-some law (leaf number place raw) h = let v = law raw h.1.2 in (v.0, v.1)
 number-some law (leaf text place raw) h = let e : item_kinds.Text ≡ item_kinds.Number = shaped-number (leaf text place raw) h.0 in absurd cc

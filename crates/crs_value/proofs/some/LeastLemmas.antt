@@ -26,9 +26,9 @@ use Rattle.crs_value.specs.Reads.{HasType, HasDimension, ReadsNumber, ReadsType,
 use Rattle.crs_value.proofs.checked.CheckLemmas.{DenotesOne, number-one}
 use Rattle.crs_value.proofs.some.DecisionLemmas.{Decided, Known, decided-as, decided-both, decided-either, decided-not, decided-some, decided-this, decided-word, type-known, direction-known, decided-kind, decided-kinds, decided-none, whether-ellipsoidal, decided-bool, decided-same, decided-value, decided-one-of, decided-position, decided-above}
 use Rattle.crs_value.proofs.checked.LeastLemmas.{least-same, least-either, least-one, least-not, least-is}
-use Rattle.crs_value.proofs.some.FormedLemmas.{Numbers, Ready, AllReady, those-ready, append-ready, number-some, first-known}
+use Rattle.crs_value.proofs.some.FormedLemmas.{Numbers, Ready, AllReady, those-ready, number-some, first-known}
 use Rattle.crs_value.proofs.checked.OrderLemmas.{order-one}
-use Rattle.crs_value.proofs.found.ArgumentLemmas.{each-drop, each-first}
+use Rattle.crs_value.proofs.found.ArgumentLemmas.{each-drop, each-first, each-on}
 use Rattle.crs_value.proofs.checked.SystemLemmas.{first-one, type-is-one, dimension-is-one}
 use Rattle.crs_value.proofs.checked.UnitLemmas.{asks-one}
 
@@ -163,7 +163,7 @@ module _ (numbers : Numbers) (one : DenotesOne) where
   orders-least n before (axis ∷ axes) h g =
       either-least (AnyOf (IsBadOrder n before) (orders_in axis)) (BadOrders n (before ++ axis ∷ []) axes)
       (any-least (IsBadOrder n before) class.Order (order-least n before h) (orders_in axis) (those-ready class.Axis class.Order axis g.0))
-      (orders-least n (before ++ axis ∷ []) axes (append-ready class.Axis before axis h g.0) g.1)
+      (orders-least n (before ++ axis ∷ []) axes (each-on (Ready class.Axis) before axis h g.0) g.1)
 
   decided-some-order : (axes : List Item) → Decided (SomeHasOrder axes)
   decided-some-order [] = inr (λ x. x)

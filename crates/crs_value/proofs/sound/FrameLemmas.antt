@@ -87,7 +87,7 @@ datum-tells c item value sound reads = record {
   identifiers = identifiers-tell c item value.identifiers sound reads.identifiers;
 }
 
-none-read : {V : Type 0} (R : Item → V → Type 0) (items : List Item) (values : List V) → ReadsEach R items values → values ≡ [] → items ≡ []
+pub none-read : {V : Type 0} (R : Item → V → Type 0) (items : List Item) (values : List V) → ReadsEach R items values → values ≡ [] → items ≡ []
 none-read R [] values reads e = refl
 none-read R (item ∷ items) [] reads e = absurd reads
 none-read R (item ∷ items) (value ∷ values) reads e = cc

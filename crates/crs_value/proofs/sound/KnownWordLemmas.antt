@@ -6,7 +6,7 @@ use Rattle.crs_text.specs.declared.keyword.Keyword.{Keyword}
 use Rattle.crs_text.specs.Prelude.{spelling_of, Item, leaf, node, arguments, Kind, number, text, word}
 use Rattle.crs_shape.specs.declared.class.Class.{Class}
 use Rattle.crs_shape.specs.declared.class.Class.TheVariants as class
-use Rattle.crs_shape.specs.Prelude.{is_keyword, is_one_of, keywords_of, Shaped, SpellsWord, unit_word}
+use Rattle.crs_shape.specs.Prelude.{class_of_kind, is_keyword, is_one_of, keywords_of, Shaped, SpellsWord, unit_word}
 use Rattle.crs_shape.specs.declared.direction.Direction.{Direction}
 use Rattle.crs_shape.specs.declared.system_type.SystemType.{SystemType}
 use Rattle.crs_shape.specs.declared.unit_kind.UnitKind.{UnitKind}
@@ -16,6 +16,7 @@ use Rattle.crs_value.specs.Break.{at, AnyOf}
 use Rattle.crs_value.specs.Checks.{Own, IsSound}
 use Rattle.crs_value.specs.Reading.{those}
 use Rattle.crs_value.specs.Reads.{ReadsType, ReadsDirection, ReadsKind, IsUnitClass}
+use Rattle.crs_value.proofs.found.ArgumentLemmas.{same_class}
 
 pub known-direction : (item w : Item) (more : List Item) → IsSound class.Axis item → those class.Axis class.Word (arguments item) ≡ w ∷ more →
     ((d : Direction) → ¬ (ReadsDirection w d)) → ⊥
@@ -59,22 +60,12 @@ unit-words class.AxisUnit raw is none = (none kinds.Length, (none kinds.Angle, (
 unit-words other raw is none = absurd is
 
 pub unit-no-leaf : (c : Class) (kind : Kind) (place : ℕ) (raw : List ℕ) → IsUnitClass c → Shaped c (leaf kind place raw) → ⊥
-unit-no-leaf class.LengthUnit number place raw is shaped = cc
-unit-no-leaf class.LengthUnit text place raw is shaped = cc
-unit-no-leaf class.LengthUnit word place raw is shaped = cc
-unit-no-leaf class.AngleUnit number place raw is shaped = cc
-unit-no-leaf class.AngleUnit text place raw is shaped = cc
-unit-no-leaf class.AngleUnit word place raw is shaped = cc
-unit-no-leaf class.ScaleUnit number place raw is shaped = cc
-unit-no-leaf class.ScaleUnit text place raw is shaped = cc
-unit-no-leaf class.ScaleUnit word place raw is shaped = cc
-unit-no-leaf class.PlainUnit number place raw is shaped = cc
-unit-no-leaf class.PlainUnit text place raw is shaped = cc
-unit-no-leaf class.PlainUnit word place raw is shaped = cc
-unit-no-leaf class.AxisUnit number place raw is shaped = cc
-unit-no-leaf class.AxisUnit text place raw is shaped = cc
-unit-no-leaf class.AxisUnit word place raw is shaped = cc
-unit-no-leaf other kind place raw is shaped = absurd is
+unit-no-leaf c kind place raw is shaped = by kind (subst IsUnitClass (sym (same_class (class_of_kind kind) c shaped)) is)
+  where
+    by : (kind : Kind) → IsUnitClass (class_of_kind kind) → ⊥
+    by number h = h
+    by text h = h
+    by word h = h
 
 pub known-kind : (c : Class) (item : Item) → IsUnitClass c → Shaped c item → ((k : UnitKind) → ¬ (ReadsKind item k)) → ⊥
 unfolding is_keyword

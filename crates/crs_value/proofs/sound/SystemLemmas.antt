@@ -17,6 +17,7 @@ use Rattle.crs_value.specs.Reads.{HasType, ReadsKind, ReadsNumberOf, ReadsUnit, 
 use Rattle.crs_value.specs.Sound.{Each, IsIdent, Suits, IsAxisUnit, IsAxis}
 use Rattle.crs_value.specs.SoundSystem.{AreOrders, AreDistinct, HasOrders, SuitsAxis, SuitsAll, HasUnits, IsSystem}
 use Rattle.crs_value.specs.Values.{UnitParts, AxisParts, SystemParts}
+use Rattle.crs_value.proofs.sound.FrameLemmas.{none-read}
 use Rattle.crs_value.proofs.found.ArgumentLemmas.{AllSound, SlotsCount, arguments-sound, not-none}
 use Rattle.crs_value.proofs.some.DecisionLemmas.{Decided, stable, decided-both, decided-each, decided-kind, decided-kinds, decided-none, decided-one-of, decided-position, decided-same, decided-suits}
 use Rattle.crs_value.proofs.sound.AxisLemmas.{axis-tells}
@@ -285,11 +286,6 @@ head-identifiers : (systems : List Item) (parts : SystemParts) → AllSound clas
 head-identifiers [] parts sound reads = absurd reads
 head-identifiers (cs ∷ more) parts sound reads = identifiers-tell class.CoordinateSystem cs parts.identifiers sound.0 reads.identifiers
 
-no-axis : (axes : List Item) (values : List AxisParts) → ReadAxes axes values → values ≡ [] → axes ≡ []
-no-axis [] values reads e = refl
-no-axis (axis ∷ axes) [] reads e = absurd reads
-no-axis (axis ∷ axes) (value ∷ values) reads e = cc
-
 pub system-tells : SlotsCount → (c : Class) → HasSystem c → Requires c class.Axis 0 → Tells c (ReadsSystem c) IsSystem
 system-tells law c is enough item parts sound reads =
     let systems = those c class.CoordinateSystem (arguments item) in
@@ -301,7 +297,7 @@ system-tells law c is enough item parts sound reads =
     record {
       dimension = head-number systems parts heads reads.head;
       identifiers = head-identifiers systems parts heads reads.head;
-      some = λ none. not-none law c class.Axis item sound.shaped enough (no-axis axes parts.axes reads.axes none);
+      some = λ none. not-none law c class.Axis item sound.shaped enough (none-read (ReadsAxis class.Axis) axes parts.axes reads.axes none);
       axes = each-tells (ReadsAxis class.Axis) IsAxis class.Axis (axis-tells class.Axis) axes parts.axes (arguments-sound c class.Axis item sound) reads.axes;
       count =
           subst P (each-length (ReadsAxis class.Axis) axes parts.axes reads.axes)

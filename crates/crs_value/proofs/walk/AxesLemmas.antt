@@ -10,7 +10,7 @@ use Rattle.crs_value.specs.BadUnit.{units_in}
 use Rattle.crs_value.specs.Reading.{item_at, is_a, is_same, those, IsFound, ReadsFirst}
 use Rattle.crs_value.specs.Reads.{ReadsDirection}
 use Rattle.crs_value.specs.Seen.{the_one, Has, IsBehindName, IsShaped}
-use Rattle.crs_value.proofs.found.ArgumentLemmas.{SlotsBound, arguments-few, nothing, first-shaped, same_class, those-first, those-later}
+use Rattle.crs_value.proofs.found.ArgumentLemmas.{SlotsBound, arguments-few, nothing, first-shaped, class-is, those-first, those-later}
 
 -- the only argument of a class, which was looked for
 only-found : SlotsBound → (tree : Item) (parent c : Class) (item : Item) (at : Option ℕ) → IsTrue (is_bounded (is_same c) (slots_of parent)) →
@@ -55,11 +55,7 @@ axis-has law tree axis word seen shaped behind reads order unit = record {
 
 -- what is of one class isn't of another
 other-class : (c d : Class) (item : Item) → is_a class.Axis c item ≡ true → is_class d (Some c) ≡ false → is_a class.Axis d item ≡ false
-other-class c d item is other = ap (is_class d) (named (class_in class.Axis item) is) ∙ other
-  where
-    named : (o : Option Class) → is_class c o ≡ true → o ≡ Some c
-    named None e = cc
-    named (Some x) e = ap Some (same_class x c e)
+other-class c d item is other = ap (is_class d) (class-is c (class_in class.Axis item) is) ∙ other
 
 pub behind-name : (tree axis : Item) (name word : ℕ) → IsAt tree (arguments axis) (Some name) → is_a class.Axis class.Text (item_at tree name) ≡ true →
     IsAt tree (rest_of (here tree name)) (Some word) → is_a class.Axis class.Word (item_at tree word) ≡ true → IsBehindName tree axis word

@@ -12,7 +12,7 @@ use Rattle.crs_value.specs.Checks.{AtClass, Own, Breaks, BreaksAmong}
 use Rattle.crs_value.specs.Judged.{is_in, Gives, Judged, Walked, Passed, Answers}
 use Rattle.crs_value.specs.Least.{lesser}
 use Rattle.crs_value.specs.Reading.{item_at}
-use Rattle.crs_value.proofs.found.ArgumentLemmas.{ahead_at}
+use Rattle.crs_value.proofs.found.ArgumentLemmas.{ahead_at, class-is}
 use Rattle.crs_value.proofs.checked.LeastLemmas.{IsFirst, first-self, first-trans, least-either, least-same}
 
 -- ---- the least of some faults
@@ -334,10 +334,6 @@ single-not p c item old e = (by (class_in p item) e, refl)
     by : (o : Option Class) → is_class c o ≡ false → is_in (c ∷ []) o ≡ false
     by None nope = refl
     by (Some d) nope = other d (sameb the_type c d) refl nope
-
-class-is : (c : Class) (o : Option Class) → is_class c o ≡ true → o ≡ Some c
-class-is c None e = cc
-class-is c (Some d) e = ap Some (same_true the_type (search rules) d c e)
 
 pub single-is : (p c : Class) (item : Item) (old new : Option RefusedAt) (ok : Bool) → is_class c (class_in p item) ≡ true → Judged c item old ok new → Answers p (c ∷ []) item old (Some ok) new
 single-is p c item old new ok e judged = (c, (class-is c (class_in p item) e, (ap (λ b. b || false) (true_same the_type c c refl), judged)))

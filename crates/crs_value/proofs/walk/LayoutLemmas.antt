@@ -1,7 +1,9 @@
 -- A CRS whose parts were found by the walk for its shape: what is seen of its coordinate system.
 use Rattle.std.proofs.Common.{◌≡◌, ◌≢◌, ℕ, ◌&&◌, ◌||◌, Bool, true, false, not, length, Option, Some, None, List, [], ◌∷◌, ◌++◌, refl, sym, ◌∙◌, ap, subst, append_assoc}
 use Rattle.std.specs.List.{list_any}
+use Rattle.std.proofs.lemmas.Bool.{and_parts, not-true}
 use Rattle.std.proofs.lemmas.List.{append-nil}
+use Rattle.std.proofs.Math.Bool.{or-false}
 use Rattle.crs_text.specs.Prelude.{Item, Siblings, End, More, arguments, rest_of, here, HasId, IsAt, RefusedAt}
 use Rattle.crs_shape.specs.declared.class.Class.{Class}
 use Rattle.crs_shape.specs.declared.class.Class.TheVariants as class
@@ -27,23 +29,11 @@ use Rattle.crs_value.proofs.walk.RunLemmas.{seen-on}
 
 -- ---- where the parts of a CRS begin
 
-and-both : (a b : Bool) → (a && b) ≡ true → (a ≡ true) × (b ≡ true)
-and-both true b e = (refl, e)
-and-both false b e = cc
-
-not-so : (b : Bool) → not b ≡ true → b ≡ false
-not-so true e = cc
-not-so false e = refl
-
 free-of : (slots : List SlotParts) (ds : List Class) → are_free slots ds ≡ true → Each (λ d. list_any (λ s. takes s d) slots ≡ false) ds
 free-of slots [] e = tt
 free-of slots (d ∷ ds) e =
-    let both = and-both (not (list_any (λ s. takes s d) slots)) (are_free slots ds) e in
-    (not-so (list_any (λ s. takes s d) slots) both.0, free-of slots ds both.1)
-
-or-left : (b : Bool) → (b || false) ≡ false → b ≡ false
-or-left true e = cc
-or-left false e = refl
+    let both = and_parts (not (list_any (λ s. takes s d) slots)) (are_free slots ds) e in
+    (not-true (list_any (λ s. takes s d) slots) both.0, free-of slots ds both.1)
 
 pub walked-as : (tree : Item) (c : Class) (close : ℕ) (slots : List SlotParts) (at : Option ℕ) (old new : Option RefusedAt) (ok is : Bool) → ok ≡ is → Walked tree c close slots at old ok new →
     Walked tree c close slots at old is new
@@ -97,7 +87,7 @@ laid-parts tree c front tail at end layout head ends first past-system past-axes
     tails = free-of (tail ∷ []) (class.CoordinateSystem ∷ class.Axis ∷ class.AxisUnit ∷ class.Dynamic ∷ []) ends
 
     behind : (d : Class) → list_any (λ s. takes s d) (tail ∷ []) ≡ false → those c d (ahead tree layout.tail) ≡ []
-    behind d free = last d (or-left (takes tail d) free) ∙ ap (those c d) none
+    behind d free = last d (sym (or-false (takes tail d)) ∙ free) ∙ ap (those c d) none
 
     past : (d : Class) → list_any (λ s. takes s d) front ≡ false → takes (one class.CoordinateSystem) d ≡ false → takes (some class.Axis) d ≡ false →
         takes (optional class.AxisUnit) d ≡ false → those c d (ahead tree at) ≡ those c d (ahead tree layout.tail)

@@ -1,6 +1,7 @@
 -- Arguments that are judged in a slot, or in some slots: which of a class are from there on.
 use Rattle.std.proofs.Common.{◌≡◌, ℕ, ◌||◌, Bool, true, false, Option, Some, None, List, ◌∷◌, ◌++◌, refl, sym, ◌∙◌, ap, subst, IfSome}
 use Rattle.std.specs.List.{list_any}
+use Rattle.std.proofs.lemmas.Bool.{or_parts}
 use denote.Enum.Bare.{sameb}
 use Rattle.crs_text.specs.Prelude.{Item, rest_of, here, HasId, IsAt, RefusedAt}
 use Rattle.crs_shape.specs.contracts.class.Class.{the_type}
@@ -57,15 +58,11 @@ leaves-again tree p slot at next (Some last) one more = λ d none. one d none �
 
 -- ---- slots before others
 
-or-none : (a b : Bool) → (a || b) ≡ false → (a ≡ false) × (b ≡ false)
-or-none true b e = cc
-or-none false b e = (refl, e)
-
 pub all-leave-on : (tree : Item) (p : Class) (slot : SlotParts) (front : List SlotParts) (at next : Option ℕ) (found : Option (Option ℕ)) → Leaves tree p slot at next →
     IfSome found (λ last. AllLeave tree p front next last) → IfSome found (λ last. AllLeave tree p (slot ∷ front) at last)
 all-leave-on tree p slot front at next None one more = more
 all-leave-on tree p slot front at next (Some last) one more = λ d none.
-    let both = or-none (takes slot d) (list_any (λ s. takes s d) front) none in
+    let both = or_parts (takes slot d) (list_any (λ s. takes s d) front) none in
     one d both.0 ∙ more d both.1
 
 pub all-passed-on : (tree : Item) (p : Class) (close : ℕ) (slot : SlotParts) (front : List SlotParts) (at next : Option ℕ) (found : Option (Option ℕ)) (old mid new : Option RefusedAt) →

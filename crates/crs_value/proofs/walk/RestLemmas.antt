@@ -25,7 +25,7 @@ use Rattle.crs_value.specs.RepeatedPart.{IsRepeated, RepeatsAny}
 use Rattle.crs_value.specs.Seen.{the_one, Marks, IsAmong, Differ, AllDiffer, AreAmong, AreWithin, AreOrdered, IsSeen, UnitsFit, IsQuiet, rank, Climbs}
 use Rattle.crs_value.specs.WholeNumbers.{IsWholeOf}
 use Rattle.crs_shape.proofs.DimensionLemmas.{as-whole}
-use Rattle.crs_value.proofs.found.ArgumentLemmas.{ahead_at, same_class, those-first, those-later}
+use Rattle.crs_value.proofs.found.ArgumentLemmas.{ahead_at, class-is, those-first, those-later}
 use Rattle.crs_value.proofs.checked.CheckLemmas.{DenotesOne}
 use Rattle.crs_value.proofs.checked.LeastLemmas.{either-is, least-same}
 use Rattle.crs_value.proofs.checked.OrderLemmas.{wrong-none}
@@ -183,10 +183,6 @@ pub record Climbing (c : Class) (from at : Siblings) (last : ℕ) : Type 0 where
 
 pub climbing-first : (c : Class) (items : Siblings) → Climbing c items items 0
 climbing-first c items = record { unseen = λ d high below. omega arith; few = λ d high. omega arith }
-
-class-is : (c : Class) (o : Option Class) → is_class c o ≡ true → o ≡ Some c
-class-is c None e = cc
-class-is c (Some d) e = ap Some (same_class d c e)
 
 -- an argument of a class is of no other
 pub once-some : (p : Class) (item : Item) (c : Class) → is_a p c item ≡ true → (d : Class) → 1 ≤ rank d → is_a p d item ≡ true → Some c ≡ Some d

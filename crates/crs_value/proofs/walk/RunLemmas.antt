@@ -1,5 +1,5 @@
 -- Axes one after another, with what is seen of them.
-use Rattle.std.proofs.Common.{◌≡◌, ℕ, ◌+◌, length, true, false, Option, Some, None, List, [], ◌∷◌, ◌++◌, refl, sym, ◌∙◌, ap, subst, arith}
+use Rattle.std.proofs.Common.{◌≡◌, ℕ, ◌+◌, length, true, false, Option, Some, None, List, [], ◌∷◌, ◌++◌, refl, sym, ◌∙◌, ap, subst, length-append, arith}
 use Rattle.crs_text.specs.Prelude.{Item}
 use Rattle.crs_shape.specs.declared.system_type.SystemType.{SystemType}
 use Rattle.crs_shape.specs.declared.unit_kind.UnitKind.TheVariants as kinds
@@ -12,14 +12,7 @@ use Rattle.crs_value.specs.Break.{IsLeast}
 use Rattle.crs_value.specs.FoundArguments.{HasPlace}
 use Rattle.crs_value.specs.Reading.{Each}
 use Rattle.crs_value.specs.Seen.{the_one, Has, Marks, IsMarked, ArePlaced, IsNoted, IsAmong, Differ, AllDiffer, AreAmong, IsSeen}
-
-pub each-on : {V : Type 0} → (P : V → Type 0) → (xs : List V) (x : V) → Each P xs → P x → Each P (xs ++ x ∷ [])
-each-on P [] x h p = (p, tt)
-each-on P (y ∷ ys) x h p = (h.0, each-on P ys x h.1 p)
-
-length-on : {V : Type 0} → (xs : List V) (x : V) → length (xs ++ x ∷ []) ≡ length xs + 1
-length-on [] x = refl
-length-on (y ∷ ys) x = let e = length-on ys x in omega (arith, e)
+use Rattle.crs_value.proofs.found.ArgumentLemmas.{each-on}
 
 -- ---- orders
 
@@ -66,7 +59,7 @@ seen-on tree of seen old new before x noted has s = record {
 }
   where
     counted : new.count ≡ length (before ++ x ∷ [])
-    counted = let e = length-on before x in let k = noted.counted in let n = s.count in omega (arith, e, k, n)
+    counted = let e = length-append before (x ∷ []) in let k = noted.counted in let n = s.count in omega (arith, e, k, n)
 
 pub nothing-seen : (of : SystemType) → IsSeen of (record {
   count = 0;

@@ -8,6 +8,7 @@ use Rattle.crs_shape.specs.declared.class.Class.TheVariants as class
 use Rattle.crs_value.specs.Reading.{item_at, those, IsFound, ReadsFirst}
 use Rattle.crs_value.specs.Reads.{ReadsNumber}
 use Rattle.crs_value.specs.WholeNumbers.{IsWhole, IsWholeOf}
+use Rattle.crs_value.proofs.checked.PlacedLemmas.{Symmetric}
 
 abbrev pub DigitsAlone : Type 0
 DigitsAlone = (bytes : List ℕ) → AreDigits bytes → 0 < length bytes → length bytes ≤ 18 → IsInBounds bytes
@@ -17,9 +18,6 @@ OneForm = (bytes : List ℕ) (p q : Parts) → SpellsNumber bytes p → SpellsNu
 
 abbrev pub DenotesSome : Type 0
 DenotesSome = (bytes : List ℕ) → IsInBounds bytes → (v : Value) × (IsNormal v × Denotes bytes (exact v))
-
-abbrev Symmetric : Type 0
-Symmetric = (a b : Number) → SameNumber a b → SameNumber b a
 
 -- a digit alone, or after a sign
 abbrev digit_parts : Sign → ℕ → Parts
