@@ -15,7 +15,7 @@ use Rattle.crs_value.specs.ReadsDynamic.{ReadsDynamic}
 use Rattle.crs_value.specs.ReadsCrs.{IsGeodeticClass, ReadsAsDatum, ReadsAsEnsemble, ReadsFrame, ReadsGeodetic, ReadsBase, ReadsProjected, ReadsVertical, ReadsAsHorizontal, ReadsHorizontal, ReadsCompound, ReadsCrs}
 use Rattle.crs_value.proofs.checked.CheckLemmas.{DenotesOne}
 use Rattle.crs_value.proofs.checked.SystemLemmas.{first-one}
-use Rattle.crs_value.proofs.one.ValueLemmas.{IsOne, one-optional, one-each, text-of-one, number-of-one, ident-one, named-one, unit-one, meridian-one, datum-one, ensemble-one, tail-one, system-one}
+use Rattle.crs_value.proofs.one.ValueLemmas.{IsOne, one-optional, one-each, text-of-one, number-of-one, identifiers-one, named-one, unit-one, meridian-one, datum-one, ensemble-one, tail-one, system-one}
 
 one-else : {V : Type 0} (R : Item → V → Type 0) (Other : V → Type 0) → IsOne R → ((a b : V) → Other a → Other b → a ≡ b) → (items : List Item) (a b : V) →
     ReadsElse R items Other a → ReadsElse R items Other b → a ≡ b
@@ -39,7 +39,7 @@ parameter-one law c item a b p q = λ i. record {
   name = text-of-one c item a.name b.name p.name q.name i;
   value = number-of-one law c item a.value b.value p.value q.value i;
   unit = unit_of-one law parameter_units c item a.unit b.unit p.unit q.unit i;
-  identifiers = one-each (ReadsIdent class.Identifier) (ident-one class.Identifier) (those c class.Identifier (arguments item)) a.identifiers b.identifiers p.identifiers q.identifiers i;
+  identifiers = identifiers-one c item a.identifiers b.identifiers p.identifiers q.identifiers i;
 }
 
 pub conversion-one : DenotesOne → (c : Class) → IsOne (ReadsConversion c)
@@ -47,7 +47,7 @@ conversion-one law c item a b p q = λ i. record {
   name = text-of-one c item a.name b.name p.name q.name i;
   method = first-one (ReadsNamed class.Method) (named-one class.Method) (those c class.Method (arguments item)) a.method b.method p.method q.method i;
   parameters = one-each (ReadsParameter class.Parameter) (parameter-one law class.Parameter) (those c class.Parameter (arguments item)) a.parameters b.parameters p.parameters q.parameters i;
-  identifiers = one-each (ReadsIdent class.Identifier) (ident-one class.Identifier) (those c class.Identifier (arguments item)) a.identifiers b.identifiers p.identifiers q.identifiers i;
+  identifiers = identifiers-one c item a.identifiers b.identifiers p.identifiers q.identifiers i;
 }
 
 as_datum-one : DenotesOne → (d : Class) → IsOne (ReadsAsDatum d)
@@ -88,7 +88,7 @@ base-one law c item a b p q = λ i. record {
   frame = frame-one law class.GeodeticFrame class.GeodeticEnsemble c item a.frame b.frame p.frame q.frame i;
   meridian = one-optional (ReadsMeridian class.PrimeMeridian) (meridian-one law class.PrimeMeridian) (those c class.PrimeMeridian (arguments item)) a.meridian b.meridian p.meridian q.meridian i;
   unit = one-optional (ReadsUnit class.AngleUnit) (unit-one law class.AngleUnit) (those c class.AngleUnit (arguments item)) a.unit b.unit p.unit q.unit i;
-  identifiers = one-each (ReadsIdent class.Identifier) (ident-one class.Identifier) (those c class.Identifier (arguments item)) a.identifiers b.identifiers p.identifiers q.identifiers i;
+  identifiers = identifiers-one c item a.identifiers b.identifiers p.identifiers q.identifiers i;
 }
 
 pub projected-one : DenotesOne → (c : Class) → IsOne (ReadsProjected c)

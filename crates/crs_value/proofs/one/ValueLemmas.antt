@@ -6,7 +6,7 @@ use Rattle.crs_shape.specs.declared.class.Class.TheVariants as class
 use Rattle.crs_value.specs.Break.{IsLeast}
 use Rattle.crs_value.specs.Reading.{those, ReadsFirst, ReadsOptional, ReadsEach}
 use Rattle.crs_value.specs.Reads.{ReadsNumber, ReadsType, ReadsDirection, ReadsKind, ReadsNumberOf, ReadsNumberAt, ReadsUnit, ReadsAxisMeridian, ReadsAxis, ReadsHead, ReadsSystem, ReadsEllipsoid, ReadsMeridian, ReadsDatum, ReadsEnsemble, ReadsBox, ReadsExtent, ReadsUsage, LacksUsage, ReadsBare, ReadsTail}
-use Rattle.crs_value.specs.ReadsNamed.{ReadsText, ReadsTextOf, single_of, ReadsIdent, ReadsNamed}
+use Rattle.crs_value.specs.ReadsNamed.{ReadsText, ReadsTextOf, single_of, ReadsIdent, ReadsIds, ReadsNamed}
 use Rattle.crs_value.specs.Values.{SystemParts, UsageParts, SaysSome}
 use Rattle.crs_value.proofs.checked.SystemLemmas.{first-one}
 use Rattle.crs_value.proofs.checked.CheckLemmas.{DenotesOne, number-one}
@@ -69,12 +69,15 @@ ident-one c item a b p q = λ i. record {
   uri = one-optional (ReadsTextOf class.Uri) (text-of-one class.Uri) (those c class.Uri (arguments item)) a.uri b.uri p.uri q.uri i;
 }
 
+pub identifiers-one : (c : Class) → IsOne (ReadsIds c)
+identifiers-one c item a b p q = one-each (ReadsIdent class.Identifier) (ident-one class.Identifier) (those c class.Identifier (arguments item)) a b p q
+
 pub unit-one : DenotesOne → (c : Class) → IsOne (ReadsUnit c)
 unit-one law c item a b p q = λ i. record {
   kind = kind-one item a.kind b.kind p.kind q.kind i;
   name = text-of-one c item a.name b.name p.name q.name i;
   factor = number-of-one law c item a.factor b.factor p.factor q.factor i;
-  identifiers = one-each (ReadsIdent class.Identifier) (ident-one class.Identifier) (those c class.Identifier (arguments item)) a.identifiers b.identifiers p.identifiers q.identifiers i;
+  identifiers = identifiers-one c item a.identifiers b.identifiers p.identifiers q.identifiers i;
 }
 
 pub axis_meridian-one : DenotesOne → (c : Class) → IsOne (ReadsAxisMeridian c)
@@ -90,7 +93,7 @@ axis-one law c item a b p q = λ i. record {
   meridian = one-optional (ReadsAxisMeridian class.AxisMeridian) (axis_meridian-one law class.AxisMeridian) (those c class.AxisMeridian (arguments item)) a.meridian b.meridian p.meridian q.meridian i;
   order = one-optional (ReadsNumberOf class.Order) (number-of-one law class.Order) (those c class.Order (arguments item)) a.order b.order p.order q.order i;
   unit = one-optional (ReadsUnit class.AxisUnit) (unit-one law class.AxisUnit) (those c class.AxisUnit (arguments item)) a.unit b.unit p.unit q.unit i;
-  identifiers = one-each (ReadsIdent class.Identifier) (ident-one class.Identifier) (those c class.Identifier (arguments item)) a.identifiers b.identifiers p.identifiers q.identifiers i;
+  identifiers = identifiers-one c item a.identifiers b.identifiers p.identifiers q.identifiers i;
 }
 
 pub ellipsoid-one : DenotesOne → (c : Class) → IsOne (ReadsEllipsoid c)
@@ -99,7 +102,7 @@ ellipsoid-one law c item a b p q = λ i. record {
   semi_major_axis = number-at-one law 0 c item a.semi_major_axis b.semi_major_axis p.semi_major_axis q.semi_major_axis i;
   inverse_flattening = number-at-one law 1 c item a.inverse_flattening b.inverse_flattening p.inverse_flattening q.inverse_flattening i;
   unit = one-optional (ReadsUnit class.LengthUnit) (unit-one law class.LengthUnit) (those c class.LengthUnit (arguments item)) a.unit b.unit p.unit q.unit i;
-  identifiers = one-each (ReadsIdent class.Identifier) (ident-one class.Identifier) (those c class.Identifier (arguments item)) a.identifiers b.identifiers p.identifiers q.identifiers i;
+  identifiers = identifiers-one c item a.identifiers b.identifiers p.identifiers q.identifiers i;
 }
 
 pub meridian-one : DenotesOne → (c : Class) → IsOne (ReadsMeridian c)
@@ -107,13 +110,13 @@ meridian-one law c item a b p q = λ i. record {
   name = text-of-one c item a.name b.name p.name q.name i;
   longitude = number-of-one law c item a.longitude b.longitude p.longitude q.longitude i;
   unit = one-optional (ReadsUnit class.AngleUnit) (unit-one law class.AngleUnit) (those c class.AngleUnit (arguments item)) a.unit b.unit p.unit q.unit i;
-  identifiers = one-each (ReadsIdent class.Identifier) (ident-one class.Identifier) (those c class.Identifier (arguments item)) a.identifiers b.identifiers p.identifiers q.identifiers i;
+  identifiers = identifiers-one c item a.identifiers b.identifiers p.identifiers q.identifiers i;
 }
 
 pub named-one : (c : Class) → IsOne (ReadsNamed c)
 named-one c item a b p q = λ i. record {
   name = text-of-one c item a.name b.name p.name q.name i;
-  identifiers = one-each (ReadsIdent class.Identifier) (ident-one class.Identifier) (those c class.Identifier (arguments item)) a.identifiers b.identifiers p.identifiers q.identifiers i;
+  identifiers = identifiers-one c item a.identifiers b.identifiers p.identifiers q.identifiers i;
 }
 
 pub datum-one : DenotesOne → (c : Class) → IsOne (ReadsDatum c)
@@ -122,7 +125,7 @@ datum-one law c item a b p q = λ i. record {
   ellipsoid = one-optional (ReadsEllipsoid class.Ellipsoid) (ellipsoid-one law class.Ellipsoid) (those c class.Ellipsoid (arguments item)) a.ellipsoid b.ellipsoid p.ellipsoid q.ellipsoid i;
   anchor = one-optional (ReadsTextOf class.Anchor) (text-of-one class.Anchor) (those c class.Anchor (arguments item)) a.anchor b.anchor p.anchor q.anchor i;
   anchor_epoch = one-optional (ReadsNumberOf class.AnchorEpoch) (number-of-one law class.AnchorEpoch) (those c class.AnchorEpoch (arguments item)) a.anchor_epoch b.anchor_epoch p.anchor_epoch q.anchor_epoch i;
-  identifiers = one-each (ReadsIdent class.Identifier) (ident-one class.Identifier) (those c class.Identifier (arguments item)) a.identifiers b.identifiers p.identifiers q.identifiers i;
+  identifiers = identifiers-one c item a.identifiers b.identifiers p.identifiers q.identifiers i;
 }
 
 pub ensemble-one : DenotesOne → (c : Class) → IsOne (ReadsEnsemble c)
@@ -131,7 +134,7 @@ ensemble-one law c item a b p q = λ i. record {
   members = one-each (ReadsNamed class.Member) (named-one class.Member) (those c class.Member (arguments item)) a.members b.members p.members q.members i;
   ellipsoid = one-optional (ReadsEllipsoid class.Ellipsoid) (ellipsoid-one law class.Ellipsoid) (those c class.Ellipsoid (arguments item)) a.ellipsoid b.ellipsoid p.ellipsoid q.ellipsoid i;
   accuracy = first-one (ReadsNumberOf class.EnsembleAccuracy) (number-of-one law class.EnsembleAccuracy) (those c class.EnsembleAccuracy (arguments item)) a.accuracy b.accuracy p.accuracy q.accuracy i;
-  identifiers = one-each (ReadsIdent class.Identifier) (ident-one class.Identifier) (those c class.Identifier (arguments item)) a.identifiers b.identifiers p.identifiers q.identifiers i;
+  identifiers = identifiers-one c item a.identifiers b.identifiers p.identifiers q.identifiers i;
 }
 
 pub box-one : DenotesOne → (c : Class) → IsOne (ReadsBox c)
@@ -185,7 +188,7 @@ pub tail-one : DenotesOne → (c : Class) → IsOne (ReadsTail c)
 tail-one law c item a b p q = λ i. record {
   usages = one-each (ReadsUsage class.Usage) (usage-one law class.Usage) (those c class.Usage (arguments item)) a.usages b.usages p.usages q.usages i;
   bare_parts = bare-one law c item a.bare_parts b.bare_parts p.bare_parts q.bare_parts i;
-  identifiers = one-each (ReadsIdent class.Identifier) (ident-one class.Identifier) (those c class.Identifier (arguments item)) a.identifiers b.identifiers p.identifiers q.identifiers i;
+  identifiers = identifiers-one c item a.identifiers b.identifiers p.identifiers q.identifiers i;
   remark = one-optional (ReadsTextOf class.Remark) (text-of-one class.Remark) (those c class.Remark (arguments item)) a.remark b.remark p.remark q.remark i;
 }
 
@@ -197,7 +200,7 @@ head-one law (i ∷ items) a b p q = (
   first-one ReadsType type-one (those class.CoordinateSystem class.Word (arguments i)) a.system_type b.system_type p.system_type q.system_type,
   (
     number-of-one law class.CoordinateSystem i a.dimension b.dimension p.dimension q.dimension,
-    one-each (ReadsIdent class.Identifier) (ident-one class.Identifier) (those class.CoordinateSystem class.Identifier (arguments i)) a.identifiers b.identifiers p.identifiers q.identifiers,
+    identifiers-one class.CoordinateSystem i a.identifiers b.identifiers p.identifiers q.identifiers,
   ),
 )
 

@@ -13,22 +13,14 @@ use Rattle.crs_value.proofs.sound.PartLemmas.{Tells, first-tells, optional-tells
 pub axis-meridian-tells : (c : Class) → Tells c (ReadsAxisMeridian c) IsAxisMeridian
 axis-meridian-tells c item value sound reads = record {
   longitude = number-of-tells c item value.longitude sound reads.longitude;
-  unit =
-      first-tells (ReadsUnit class.AngleUnit) (IsUnitOf kinds.Angle) class.AngleUnit angle-tells (those c class.AngleUnit (arguments item)) value.unit
-      (arguments-sound c class.AngleUnit item sound) reads.unit;
+  unit = first-tells (ReadsUnit class.AngleUnit) (IsUnitOf kinds.Angle) c class.AngleUnit angle-tells item value.unit sound reads.unit;
 }
 
 pub axis-tells : (c : Class) → Tells c (ReadsAxis c) IsAxis
 axis-tells c item value sound reads = record {
   name = text-of-tells c item value.name sound reads.name;
-  meridian =
-      optional-tells (ReadsAxisMeridian class.AxisMeridian) IsAxisMeridian class.AxisMeridian (axis-meridian-tells class.AxisMeridian) (those c class.AxisMeridian (arguments item)) value.meridian
-      (arguments-sound c class.AxisMeridian item sound) reads.meridian;
-  order =
-      optional-tells (ReadsNumberOf class.Order) IsNormal class.Order (number-of-tells class.Order) (those c class.Order (arguments item)) value.order
-      (arguments-sound c class.Order item sound) reads.order;
-  unit =
-      optional-tells (ReadsUnit class.AxisUnit) IsAxisUnit class.AxisUnit axis-unit-tells (those c class.AxisUnit (arguments item)) value.unit
-      (arguments-sound c class.AxisUnit item sound) reads.unit;
+  meridian = optional-tells (ReadsAxisMeridian class.AxisMeridian) IsAxisMeridian c class.AxisMeridian (axis-meridian-tells class.AxisMeridian) item value.meridian sound reads.meridian;
+  order = optional-tells (ReadsNumberOf class.Order) IsNormal c class.Order (number-of-tells class.Order) item value.order sound reads.order;
+  unit = optional-tells (ReadsUnit class.AxisUnit) IsAxisUnit c class.AxisUnit axis-unit-tells item value.unit sound reads.unit;
   identifiers = identifiers-tell c item value.identifiers sound reads.identifiers;
 }

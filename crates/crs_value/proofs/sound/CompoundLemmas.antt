@@ -102,9 +102,7 @@ module _ (law : SlotsCount) (bound : SlotsBound) where
             (those class.CompoundCrs class.ProjectedCrs (arguments item)) value.horizontal (arguments-sound class.CompoundCrs class.GeodeticCrs item sound)
             (arguments-sound class.CompoundCrs class.GeographicCrs item sound) (arguments-sound class.CompoundCrs class.ProjectedCrs item sound)
             (λ fault bad. free fault (inl bad)) (λ fault bad. free fault (inr (inl bad))) (λ fault bad. free fault (inr (inr (inl bad)))) reads.horizontal;
-        vertical =
-            first-tells (ReadsVertical class.VerticalCrs) IsVertical class.VerticalCrs (vertical-tells law bound) (those class.CompoundCrs class.VerticalCrs (arguments item)) value.vertical
-            (arguments-sound class.CompoundCrs class.VerticalCrs item sound) reads.vertical;
+        vertical = first-tells (ReadsVertical class.VerticalCrs) IsVertical class.CompoundCrs class.VerticalCrs (vertical-tells law bound) item value.vertical sound reads.vertical;
         tail = tail-tells bound class.CompoundCrs item value.tail sound reads.tail;
       }
 

@@ -43,11 +43,7 @@ parameter-tells c item value sound reads = record {
 pub conversion-tells : (c : Class) → Tells c (ReadsConversion c) IsConversion
 conversion-tells c item value sound reads = record {
   name = text-of-tells c item value.name sound reads.name;
-  method =
-      first-tells (ReadsNamed class.Method) IsNamed class.Method (named-tells class.Method) (those c class.Method (arguments item)) value.method
-      (arguments-sound c class.Method item sound) reads.method;
-  parameters =
-      each-tells (ReadsParameter class.Parameter) IsParameter class.Parameter (parameter-tells class.Parameter) (those c class.Parameter (arguments item)) value.parameters
-      (arguments-sound c class.Parameter item sound) reads.parameters;
+  method = first-tells (ReadsNamed class.Method) IsNamed c class.Method (named-tells class.Method) item value.method sound reads.method;
+  parameters = each-tells (ReadsParameter class.Parameter) IsParameter c class.Parameter (parameter-tells class.Parameter) item value.parameters sound reads.parameters;
   identifiers = identifiers-tell c item value.identifiers sound reads.identifiers;
 }

@@ -113,9 +113,7 @@ geodetic-tells law bound c is item value sound reads =
           dynamic-of-tells class.GeodeticFrame class.GeodeticEnsemble c item value.frame value.dynamic sound (λ fault bad. own-of-crs c item fault has (inr (inr bad))) (λ some. inl some)
           reads.frame reads.dynamic;
       frame = geodetic-frame-tells law c item value.frame sound reads.frame;
-      meridian =
-          optional-tells (ReadsMeridian class.PrimeMeridian) IsMeridian class.PrimeMeridian (meridian-tells class.PrimeMeridian) (those c class.PrimeMeridian (arguments item)) value.meridian
-          (arguments-sound c class.PrimeMeridian item sound) reads.meridian;
+      meridian = optional-tells (ReadsMeridian class.PrimeMeridian) IsMeridian c class.PrimeMeridian (meridian-tells class.PrimeMeridian) item value.meridian sound reads.meridian;
       system = system-tells law c has (geodetic-axis c is) item value.system sound reads.system;
       dimension = allowed-geodetic c value.system.system_type value.system.dimension is (allowed-by c item value.system has sound reads.system);
       tail = tail-tells bound c item value.tail sound reads.tail;
@@ -134,24 +132,16 @@ base-tells law item value sound reads = let c = class.BaseCrs in record {
       dynamic-of-tells class.GeodeticFrame class.GeodeticEnsemble c item value.frame value.dynamic sound (own-of-base item) (λ some. inl some)
       reads.frame reads.dynamic;
   frame = geodetic-frame-tells law c item value.frame sound reads.frame;
-  meridian =
-      optional-tells (ReadsMeridian class.PrimeMeridian) IsMeridian class.PrimeMeridian (meridian-tells class.PrimeMeridian) (those c class.PrimeMeridian (arguments item)) value.meridian
-      (arguments-sound c class.PrimeMeridian item sound) reads.meridian;
-  unit =
-      optional-tells (ReadsUnit class.AngleUnit) (IsUnitOf kinds.Angle) class.AngleUnit angle-tells (those c class.AngleUnit (arguments item)) value.unit
-      (arguments-sound c class.AngleUnit item sound) reads.unit;
+  meridian = optional-tells (ReadsMeridian class.PrimeMeridian) IsMeridian c class.PrimeMeridian (meridian-tells class.PrimeMeridian) item value.meridian sound reads.meridian;
+  unit = optional-tells (ReadsUnit class.AngleUnit) (IsUnitOf kinds.Angle) c class.AngleUnit angle-tells item value.unit sound reads.unit;
   identifiers = identifiers-tell c item value.identifiers sound reads.identifiers;
 }
 
 pub projected-tells : SlotsCount → SlotsBound → Tells class.ProjectedCrs (ReadsProjected class.ProjectedCrs) IsProjected
 projected-tells law bound item value sound reads = record {
   name = text-of-tells class.ProjectedCrs item value.name sound reads.name;
-  base =
-      first-tells (ReadsBase class.BaseCrs) IsBase class.BaseCrs (base-tells law) (those class.ProjectedCrs class.BaseCrs (arguments item)) value.base
-      (arguments-sound class.ProjectedCrs class.BaseCrs item sound) reads.base;
-  conversion =
-      first-tells (ReadsConversion class.Conversion) IsConversion class.Conversion (conversion-tells class.Conversion) (those class.ProjectedCrs class.Conversion (arguments item)) value.conversion
-      (arguments-sound class.ProjectedCrs class.Conversion item sound) reads.conversion;
+  base = first-tells (ReadsBase class.BaseCrs) IsBase class.ProjectedCrs class.BaseCrs (base-tells law) item value.base sound reads.base;
+  conversion = first-tells (ReadsConversion class.Conversion) IsConversion class.ProjectedCrs class.Conversion (conversion-tells class.Conversion) item value.conversion sound reads.conversion;
   system = system-tells law class.ProjectedCrs tt (omega arith) item value.system sound reads.system;
   dimension = allowed-by class.ProjectedCrs item value.system tt sound reads.system;
   tail = tail-tells bound class.ProjectedCrs item value.tail sound reads.tail;
@@ -168,8 +158,6 @@ vertical-tells law bound item value sound reads = record {
   frame = vertical-frame-tells law bound class.VerticalCrs item value.frame sound reads.frame;
   system = system-tells law class.VerticalCrs tt (omega arith) item value.system sound reads.system;
   dimension = allowed-by class.VerticalCrs item value.system tt sound reads.system;
-  geoid_models =
-      each-tells (ReadsNamed class.GeoidModel) IsNamed class.GeoidModel (named-tells class.GeoidModel) (those class.VerticalCrs class.GeoidModel (arguments item)) value.geoid_models
-      (arguments-sound class.VerticalCrs class.GeoidModel item sound) reads.geoid_models;
+  geoid_models = each-tells (ReadsNamed class.GeoidModel) IsNamed class.VerticalCrs class.GeoidModel (named-tells class.GeoidModel) item value.geoid_models sound reads.geoid_models;
   tail = tail-tells bound class.VerticalCrs item value.tail sound reads.tail;
 }

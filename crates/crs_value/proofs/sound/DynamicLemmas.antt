@@ -23,12 +23,8 @@ use Rattle.crs_value.proofs.sound.PartLemmas.{Tells, first-tells, optional-tells
 
 pub dynamic-tells : (c : Class) → Tells c (ReadsDynamic c) IsDynamic
 dynamic-tells c item value sound reads = record {
-  epoch =
-      first-tells (ReadsNumberOf class.FrameEpoch) IsNormal class.FrameEpoch (number-of-tells class.FrameEpoch) (those c class.FrameEpoch (arguments item)) value.epoch
-      (arguments-sound c class.FrameEpoch item sound) reads.epoch;
-  model =
-      optional-tells (ReadsNamed class.DeformationModel) IsNamed class.DeformationModel (named-tells class.DeformationModel)
-      (those c class.DeformationModel (arguments item)) value.model (arguments-sound c class.DeformationModel item sound) reads.model;
+  epoch = first-tells (ReadsNumberOf class.FrameEpoch) IsNormal c class.FrameEpoch (number-of-tells class.FrameEpoch) item value.epoch sound reads.epoch;
+  model = optional-tells (ReadsNamed class.DeformationModel) IsNamed c class.DeformationModel (named-tells class.DeformationModel) item value.model sound reads.model;
 }
 
 beside : (d e : Class) (datums ensembles parts : List Item) (held : Frame) (dynamic : Option DynamicParts) →
@@ -52,5 +48,4 @@ pub dynamic-of-tells : (d e c : Class) (item : Item) (held : Frame) (dynamic : O
 dynamic-of-tells d e c item held dynamic sound own some frame reads =
     beside d e (those c d (arguments item)) (those c e (arguments item)) (those c class.Dynamic (arguments item)) held dynamic
     (λ there fault bad. dynamic-free c item sound own fault (some there, bad)) frame reads
-    (optional-tells (ReadsDynamic class.Dynamic) IsDynamic class.Dynamic (dynamic-tells class.Dynamic) (those c class.Dynamic (arguments item)) dynamic
-    (arguments-sound c class.Dynamic item sound) reads)
+    (optional-tells (ReadsDynamic class.Dynamic) IsDynamic c class.Dynamic (dynamic-tells class.Dynamic) item dynamic sound reads)

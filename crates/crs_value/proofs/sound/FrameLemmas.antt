@@ -54,9 +54,7 @@ ellipsoid-tells c same item value sound reads =
       above_zero = axis-above item value.semi_major_axis (subst S same sound) (subst A same reads.semi_major_axis);
       inverse_flattening = number-first (drop 1 (those c class.Number (arguments item))) value.inverse_flattening reads.inverse_flattening;
       not_negative = flattening-not-negative item value.inverse_flattening (subst S same sound) (subst F same reads.inverse_flattening);
-      unit =
-          optional-tells (ReadsUnit class.LengthUnit) (IsUnitOf kinds.Length) class.LengthUnit length-tells (those c class.LengthUnit (arguments item)) value.unit
-          (arguments-sound c class.LengthUnit item sound) reads.unit;
+      unit = optional-tells (ReadsUnit class.LengthUnit) (IsUnitOf kinds.Length) c class.LengthUnit length-tells item value.unit sound reads.unit;
       identifiers = identifiers-tell c item value.identifiers sound reads.identifiers;
     }
 
@@ -66,9 +64,7 @@ pub meridian-tells : (c : Class) → Tells c (ReadsMeridian c) IsMeridian
 meridian-tells c item value sound reads = record {
   name = text-of-tells c item value.name sound reads.name;
   longitude = number-of-tells c item value.longitude sound reads.longitude;
-  unit =
-      optional-tells (ReadsUnit class.AngleUnit) (IsUnitOf kinds.Angle) class.AngleUnit angle-tells (those c class.AngleUnit (arguments item)) value.unit
-      (arguments-sound c class.AngleUnit item sound) reads.unit;
+  unit = optional-tells (ReadsUnit class.AngleUnit) (IsUnitOf kinds.Angle) c class.AngleUnit angle-tells item value.unit sound reads.unit;
   identifiers = identifiers-tell c item value.identifiers sound reads.identifiers;
 }
 
@@ -77,13 +73,9 @@ meridian-tells c item value sound reads = record {
 pub datum-tells : (c : Class) → Tells c (ReadsDatum c) IsDatum
 datum-tells c item value sound reads = record {
   name = text-of-tells c item value.name sound reads.name;
-  ellipsoid =
-      optional-tells (ReadsEllipsoid class.Ellipsoid) IsEllipsoid class.Ellipsoid (ellipsoid-tells class.Ellipsoid refl) (those c class.Ellipsoid (arguments item)) value.ellipsoid
-      (arguments-sound c class.Ellipsoid item sound) reads.ellipsoid;
+  ellipsoid = optional-tells (ReadsEllipsoid class.Ellipsoid) IsEllipsoid c class.Ellipsoid (ellipsoid-tells class.Ellipsoid refl) item value.ellipsoid sound reads.ellipsoid;
   anchor = optional-text-tells c class.Anchor item value.anchor sound reads.anchor;
-  anchor_epoch =
-      optional-tells (ReadsNumberOf class.AnchorEpoch) IsNormal class.AnchorEpoch (number-of-tells class.AnchorEpoch) (those c class.AnchorEpoch (arguments item)) value.anchor_epoch
-      (arguments-sound c class.AnchorEpoch item sound) reads.anchor_epoch;
+  anchor_epoch = optional-tells (ReadsNumberOf class.AnchorEpoch) IsNormal c class.AnchorEpoch (number-of-tells class.AnchorEpoch) item value.anchor_epoch sound reads.anchor_epoch;
   identifiers = identifiers-tell c item value.identifiers sound reads.identifiers;
 }
 
@@ -97,14 +89,8 @@ ensemble-tells law c enough item value sound reads = record {
   name = text-of-tells c item value.name sound reads.name;
   some = λ none.
       not-none law c class.Member item sound.shaped enough (none-read (ReadsNamed class.Member) (those c class.Member (arguments item)) value.members reads.members none);
-  members =
-      each-tells (ReadsNamed class.Member) IsNamed class.Member (named-tells class.Member) (those c class.Member (arguments item)) value.members
-      (arguments-sound c class.Member item sound) reads.members;
-  ellipsoid =
-      optional-tells (ReadsEllipsoid class.Ellipsoid) IsEllipsoid class.Ellipsoid (ellipsoid-tells class.Ellipsoid refl) (those c class.Ellipsoid (arguments item)) value.ellipsoid
-      (arguments-sound c class.Ellipsoid item sound) reads.ellipsoid;
-  accuracy =
-      first-tells (ReadsNumberOf class.EnsembleAccuracy) IsNormal class.EnsembleAccuracy (number-of-tells class.EnsembleAccuracy)
-      (those c class.EnsembleAccuracy (arguments item)) value.accuracy (arguments-sound c class.EnsembleAccuracy item sound) reads.accuracy;
+  members = each-tells (ReadsNamed class.Member) IsNamed c class.Member (named-tells class.Member) item value.members sound reads.members;
+  ellipsoid = optional-tells (ReadsEllipsoid class.Ellipsoid) IsEllipsoid c class.Ellipsoid (ellipsoid-tells class.Ellipsoid refl) item value.ellipsoid sound reads.ellipsoid;
+  accuracy = first-tells (ReadsNumberOf class.EnsembleAccuracy) IsNormal c class.EnsembleAccuracy (number-of-tells class.EnsembleAccuracy) item value.accuracy sound reads.accuracy;
   identifiers = identifiers-tell c item value.identifiers sound reads.identifiers;
 }

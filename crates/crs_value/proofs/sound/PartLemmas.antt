@@ -78,24 +78,38 @@ Tells {V = V} c R P = (item : Item) (value : V) → IsSound c item → R item va
 pub tells-as : {V : Type 0} (R : Class → Item → V → Type 0) (P : V → Type 0) (c d : Class) → c ≡ d → Tells d (R d) P → Tells c (R c) P
 tells-as R P c d same tells = let Q : Class → Type 0 = λ x. Tells x (R x) P in subst Q (sym same) tells
 
-pub first-tells : {V : Type 0} (R : Item → V → Type 0) (P : V → Type 0) (c : Class) → Tells c R P → (items : List Item) (value : V) → AllSound c items →
+first-of : {V : Type 0} (R : Item → V → Type 0) (P : V → Type 0) (c : Class) → Tells c R P → (items : List Item) (value : V) → AllSound c items →
     ReadsFirst R items value → P value
-first-tells R P c tells [] value sound reads = absurd reads
-first-tells R P c tells (item ∷ items) value sound reads = tells item value sound.0 reads
+first-of R P c tells [] value sound reads = absurd reads
+first-of R P c tells (item ∷ items) value sound reads = tells item value sound.0 reads
 
-pub optional-tells : {V : Type 0} (R : Item → V → Type 0) (P : V → Type 0) (c : Class) → Tells c R P → (items : List Item) (value : Option V) → AllSound c items →
+optional-of : {V : Type 0} (R : Item → V → Type 0) (P : V → Type 0) (c : Class) → Tells c R P → (items : List Item) (value : Option V) → AllSound c items →
     ReadsOptional R items value → IfSome value P
-optional-tells R P c tells [] None sound reads = tt
-optional-tells R P c tells [] (Some value) sound reads = absurd reads
-optional-tells R P c tells (item ∷ items) None sound reads = absurd reads
-optional-tells R P c tells (item ∷ items) (Some value) sound reads = tells item value sound.0 reads
+optional-of R P c tells [] None sound reads = tt
+optional-of R P c tells [] (Some value) sound reads = absurd reads
+optional-of R P c tells (item ∷ items) None sound reads = absurd reads
+optional-of R P c tells (item ∷ items) (Some value) sound reads = tells item value sound.0 reads
 
-pub each-tells : {V : Type 0} (R : Item → V → Type 0) (P : V → Type 0) (c : Class) → Tells c R P → (items : List Item) (values : List V) → AllSound c items →
+each-of : {V : Type 0} (R : Item → V → Type 0) (P : V → Type 0) (c : Class) → Tells c R P → (items : List Item) (values : List V) → AllSound c items →
     ReadsEach R items values → Each P values
-each-tells R P c tells [] [] sound reads = tt
-each-tells R P c tells [] (value ∷ values) sound reads = absurd reads
-each-tells R P c tells (item ∷ items) [] sound reads = absurd reads
-each-tells R P c tells (item ∷ items) (value ∷ values) sound reads = (tells item value sound.0 reads.0, each-tells R P c tells items values sound.1 reads.1)
+each-of R P c tells [] [] sound reads = tt
+each-of R P c tells [] (value ∷ values) sound reads = absurd reads
+each-of R P c tells (item ∷ items) [] sound reads = absurd reads
+each-of R P c tells (item ∷ items) (value ∷ values) sound reads = (tells item value sound.0 reads.0, each-of R P c tells items values sound.1 reads.1)
+
+-- the same of the arguments of a class
+
+pub first-tells : {V : Type 0} (R : Item → V → Type 0) (P : V → Type 0) (parent c : Class) → Tells c R P → (item : Item) (value : V) → IsSound parent item →
+    ReadsFirst R (those parent c (arguments item)) value → P value
+first-tells R P parent c tells item value sound reads = first-of R P c tells (those parent c (arguments item)) value (arguments-sound parent c item sound) reads
+
+pub optional-tells : {V : Type 0} (R : Item → V → Type 0) (P : V → Type 0) (parent c : Class) → Tells c R P → (item : Item) (value : Option V) → IsSound parent item →
+    ReadsOptional R (those parent c (arguments item)) value → IfSome value P
+optional-tells R P parent c tells item value sound reads = optional-of R P c tells (those parent c (arguments item)) value (arguments-sound parent c item sound) reads
+
+pub each-tells : {V : Type 0} (R : Item → V → Type 0) (P : V → Type 0) (parent c : Class) → Tells c R P → (item : Item) (value : List V) → IsSound parent item →
+    ReadsEach R (those parent c (arguments item)) value → Each P value
+each-tells R P parent c tells item value sound reads = each-of R P c tells (those parent c (arguments item)) value (arguments-sound parent c item sound) reads
 
 -- ---- texts and numbers
 
@@ -104,13 +118,13 @@ text-tells c item value sound reads = subst IsText reads (formed-text item sound
 
 pub text-of-tells : (c : Class) → Tells c (ReadsTextOf c) IsText
 text-of-tells c item value sound reads =
-    first-tells ReadsText IsText class.Text (text-tells class.Text) (those c class.Text (arguments item)) value (arguments-sound c class.Text item sound) reads
+    first-tells ReadsText IsText c class.Text (text-tells class.Text) item value sound reads
 
 -- a node of one text within another
 pub optional-text-tells : (parent c : Class) (item : Item) (value : Option (List ℕ)) → IsSound parent item → ReadsOptional (ReadsTextOf c) (those parent c (arguments item)) value →
     IfSome value IsText
 optional-text-tells parent c item value sound reads =
-    optional-tells (ReadsTextOf c) IsText c (text-of-tells c) (those parent c (arguments item)) value (arguments-sound parent c item sound) reads
+    optional-tells (ReadsTextOf c) IsText parent c (text-of-tells c) item value sound reads
 
 pub number-first : (items : List Item) (value : Value) → ReadsFirst ReadsNumber items value → IsNormal value
 number-first [] value reads = absurd reads
@@ -158,7 +172,7 @@ ident-tells c item value sound reads =
 
 pub identifiers-tell : (c : Class) (item : Item) (identifiers : List IdentParts) → IsSound c item → ReadsIds c item identifiers → Each IsIdent identifiers
 identifiers-tell c item identifiers sound reads =
-    each-tells (ReadsIdent class.Identifier) IsIdent class.Identifier (ident-tells class.Identifier) (those c class.Identifier (arguments item)) identifiers (arguments-sound c class.Identifier item sound) reads
+    each-tells (ReadsIdent class.Identifier) IsIdent c class.Identifier (ident-tells class.Identifier) item identifiers sound reads
 
 pub named-tells : (c : Class) → Tells c (ReadsNamed c) IsNamed
 named-tells c item value sound reads = record {

@@ -298,12 +298,11 @@ system-tells law c is enough item parts sound reads =
       dimension = head-number systems parts heads reads.head;
       identifiers = head-identifiers systems parts heads reads.head;
       some = λ none. not-none law c class.Axis item sound.shaped enough (none-read (ReadsAxis class.Axis) axes parts.axes reads.axes none);
-      axes = each-tells (ReadsAxis class.Axis) IsAxis class.Axis (axis-tells class.Axis) axes parts.axes (arguments-sound c class.Axis item sound) reads.axes;
+      axes = each-tells (ReadsAxis class.Axis) IsAxis c class.Axis (axis-tells class.Axis) item parts.axes sound reads.axes;
       count =
           subst P (each-length (ReadsAxis class.Axis) axes parts.axes reads.axes)
           (system-count (dimensions_of c) axes parts systems (λ fault h. free fault (inl h)) reads.head);
       orders = orders-tell axes parts.axes (λ fault h. free fault (inr (inl h))) reads.axes;
-      unit =
-          optional-tells (ReadsUnit class.AxisUnit) IsAxisUnit class.AxisUnit axis-unit-tells units parts.unit (arguments-sound c class.AxisUnit item sound) reads.unit;
+      unit = optional-tells (ReadsUnit class.AxisUnit) IsAxisUnit c class.AxisUnit axis-unit-tells item parts.unit sound reads.unit;
       units = units-tell systems axes units parts (λ fault h. free fault (inr (inr h))) reads.head reads.axes reads.unit;
     }

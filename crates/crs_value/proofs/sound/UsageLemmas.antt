@@ -30,9 +30,7 @@ pub extent-tells : (c : Class) → Tells c (ReadsExtent c) IsExtent
 extent-tells c item value sound reads = record {
   minimum = number-first (drop 0 (those c class.Number (arguments item))) value.minimum reads.minimum;
   maximum = number-first (drop 1 (those c class.Number (arguments item))) value.maximum reads.maximum;
-  unit =
-      optional-tells (ReadsUnit class.LengthUnit) (IsUnitOf kinds.Length) class.LengthUnit length-tells (those c class.LengthUnit (arguments item)) value.unit
-      (arguments-sound c class.LengthUnit item sound) reads.unit;
+  unit = optional-tells (ReadsUnit class.LengthUnit) (IsUnitOf kinds.Length) c class.LengthUnit length-tells item value.unit sound reads.unit;
 }
 
 pub usage-tells : (c : Class) (item : Item) (value : UsageParts) → IsSound c item → ReadsUsage c item value →
@@ -40,12 +38,8 @@ pub usage-tells : (c : Class) (item : Item) (value : UsageParts) → IsSound c i
 usage-tells c item value sound reads some = record {
   scope = optional-text-tells c class.Scope item value.scope sound reads.scope;
   area = optional-text-tells c class.Area item value.area sound reads.area;
-  bbox =
-      optional-tells (ReadsBox class.BoundingBox) IsBox class.BoundingBox (box-tells class.BoundingBox) (those c class.BoundingBox (arguments item)) value.bbox
-      (arguments-sound c class.BoundingBox item sound) reads.bbox;
-  extent =
-      optional-tells (ReadsExtent class.VerticalExtent) IsExtent class.VerticalExtent (extent-tells class.VerticalExtent) (those c class.VerticalExtent (arguments item)) value.extent
-      (arguments-sound c class.VerticalExtent item sound) reads.extent;
+  bbox = optional-tells (ReadsBox class.BoundingBox) IsBox c class.BoundingBox (box-tells class.BoundingBox) item value.bbox sound reads.bbox;
+  extent = optional-tells (ReadsExtent class.VerticalExtent) IsExtent c class.VerticalExtent (extent-tells class.VerticalExtent) item value.extent sound reads.extent;
   some = some;
 }
 
@@ -123,10 +117,8 @@ bare-tells c item (Some value) sound reads = usage-tells c item value sound read
 
 pub tail-tells : SlotsBound → (c : Class) → Tells c (ReadsTail c) IsTail
 tail-tells law c item value sound reads =
-    let usages = those c class.Usage (arguments item) in
-    let all = arguments-sound c class.Usage item sound in
     record {
-      usages = each-tells (ReadsUsage class.Usage) IsUsage class.Usage (node-tells law class.Usage refl) usages value.usages all reads.usages;
+      usages = each-tells (ReadsUsage class.Usage) IsUsage c class.Usage (node-tells law class.Usage refl) item value.usages sound reads.usages;
       bare_parts = bare-tells c item value.bare_parts sound reads.bare_parts;
       identifiers = identifiers-tell c item value.identifiers sound reads.identifiers;
       remark = optional-text-tells c class.Remark item value.remark sound reads.remark;
