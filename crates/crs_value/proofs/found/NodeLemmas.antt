@@ -38,6 +38,13 @@ going-end {V = V} R tree parent c whole list going =
 pub reads-first : {V : Type 0} (R : Item → V → Type 0) (item : Item) (items more : List Item) (value : V) → items ≡ item ∷ more → R item value → ReadsFirst R items value
 reads-first {V = V} R item items more value e h = let P : List Item → Type 0 = λ xs. ReadsFirst R xs value in subst P (sym e) h
 
+pub read-some : {V : Type 0} (R : Item → V → Type 0) (items : List Item) (o : Option V) (value : V) → ReadsOptional R items o → o ≡ Some value → ReadsFirst R items value
+read-some R items None value reads e = cc
+read-some R [] (Some other) value reads e = absurd reads
+read-some {V = V} R (item ∷ items) (Some other) value reads e =
+    let h : other ≡ value = cc in
+    let P : V → Type 0 = λ v. R item v in subst P h reads
+
 -- ---- number k of a list
 
 pub drop-more : (xs : List Item) (k : ℕ) (x : Item) (ys : List Item) → drop k xs ≡ x ∷ ys → drop (suc k) xs ≡ ys

@@ -15,7 +15,8 @@ use Rattle.crs_value.specs.ReadsNamed.{ReadsNamed}
 use Rattle.crs_value.specs.Sound.{IsNamed, IsUnitOf}
 use Rattle.crs_value.specs.SoundFrames.{IsEllipsoid, IsMeridian, IsDatum, IsEnsemble}
 use Rattle.crs_value.proofs.found.ArgumentLemmas.{SlotsCount, arguments-sound, not-none}
-use Rattle.crs_value.proofs.sound.PartLemmas.{Tells, first-tells, optional-tells, each-tells, text-of-tells, optional-text-tells, number-first, number-of-tells, identifiers-tell, named-tells, above-not-not, length-tells, angle-tells}
+use Rattle.crs_value.proofs.some.DecisionLemmas.{decided-above, stable}
+use Rattle.crs_value.proofs.sound.PartLemmas.{Tells, first-tells, optional-tells, each-tells, text-of-tells, optional-text-tells, number-first, number-of-tells, identifiers-tell, named-tells, length-tells, angle-tells}
 
 -- ---- ellipsoids
 
@@ -25,7 +26,7 @@ own-ellipsoid item fault h = h
 
 above-take : (items : List Item) (value : Value) → ((fault : RefusedAt) → AnyOf NotAbove (take 1 items) fault → ⊥) → ReadsFirst ReadsNumber (drop 0 items) value → IsAboveZero value
 above-take [] value free reads = absurd reads
-above-take (item ∷ items) value free reads = above-not-not value (λ no. free (at 28 item) (inl (refl, (value, (reads, no)))))
+above-take (item ∷ items) value free reads = stable (decided-above value) (λ no. free (at 28 item) (inl (refl, (value, (reads, no)))))
 
 below-first : (items : List Item) (value : Value) → ((fault : RefusedAt) → AnyOf IsNegative items fault → ⊥) → ReadsFirst ReadsNumber items value → value.negative ≡ false
 below-first [] value free reads = absurd reads

@@ -21,6 +21,8 @@ use Rattle.crs_value.specs.ReadsNamed.{ReadsText, ReadsTextOf, single_of, ReadsI
 use Rattle.crs_value.specs.Sound.{Each, IsText, IsIdent, IsNamed, IsUnit, Suits, IsUnitOf, IsAxisUnit}
 use Rattle.crs_value.specs.NamedValues.{IdentParts}
 use Rattle.crs_value.proofs.found.ArgumentLemmas.{AllSound, arguments-sound}
+use Rattle.crs_value.proofs.found.NodeLemmas.{read-some}
+use Rattle.crs_value.proofs.some.DecisionLemmas.{decided-above, decided-suits, stable}
 use Rattle.crs_value.proofs.sound.KnownWordLemmas.{NoneOf, none-of, unit-no-leaf}
 use Rattle.crs_shape.proofs.WordLemmas.{kind_one}
 
@@ -144,11 +146,7 @@ single-tells (More (node place keyword square first others close) items) value f
 
 optional-single-tells : (items : Siblings) (value : Option (List ℕ)) → AreAllFormed items → ReadsOptional ReadsText (single_of items) value → IfSome value IsText
 optional-single-tells items None formed reads = tt
-optional-single-tells End (Some value) formed reads = absurd reads
-optional-single-tells (More (leaf number place raw) items) (Some value) formed reads = subst IsText reads (formed-text (leaf number place raw) formed.0)
-optional-single-tells (More (leaf text place raw) items) (Some value) formed reads = subst IsText reads (formed-text (leaf text place raw) formed.0)
-optional-single-tells (More (leaf word place raw) items) (Some value) formed reads = subst IsText reads (formed-text (leaf word place raw) formed.0)
-optional-single-tells (More (node place keyword square first others close) items) (Some value) formed reads = absurd reads
+optional-single-tells items (Some value) formed reads = single-tells items value formed (read-some ReadsText (single_of items) (Some value) value reads refl)
 
 skip-formed : (n : ℕ) (items : Siblings) → AreAllFormed items → AreAllFormed (skip n items)
 skip-formed zero items formed = formed
@@ -182,16 +180,9 @@ named-tells c item value sound reads = record {
 
 -- ---- units
 
--- a number that isn't not above zero is above it
-pub above-not-not : (value : Value) → (¬ (IsAboveZero value) → ⊥) → IsAboveZero value
-above-not-not value twice = elim value.negative as (λ b. value.negative ≡ b → IsAboveZero value) [
-  | true ↦ λ e. absurd (twice (λ above. let k : true ≡ false = sym e ∙ above.0 in cc))
-  | false ↦ λ e. (e, λ zero. twice (λ above. above.1 zero))
-] refl
-
 pub above-first : (items : List Item) (value : Value) → ((fault : RefusedAt) → AnyOf NotAbove items fault → ⊥) → ReadsFirst ReadsNumber items value → IsAboveZero value
 above-first [] value free reads = absurd reads
-above-first (item ∷ items) value free reads = above-not-not value (λ never. free (at 28 item) (inl (refl, (value, (reads, never)))))
+above-first (item ∷ items) value free reads = stable (decided-above value) (λ never. free (at 28 item) (inl (refl, (value, (reads, never)))))
 
 own-unit : (c : Class) (item : Item) (fault : RefusedAt) → IsUnitClass c → OfUnit c item fault → Own c item fault
 unfolding Own
@@ -226,21 +217,13 @@ other-kind c (node place keyword square first others close) k is shaped reads no
 apart : (raw : List ℕ) (j k : UnitKind) → j ≢ k → SpellsWord raw (unit_word j) → ¬ (SpellsWord raw (unit_word k))
 apart raw j k other p q = other (kind_one raw j k p q)
 
-length-kind : (item : Item) (kind : UnitKind) → Shaped class.LengthUnit item → ReadsKind item kind → Suits kinds.Length kind
-length-kind item kinds.Length shaped reads = inl refl
-length-kind item kinds.Plain shaped reads = inr refl
-length-kind item kinds.Angle shaped reads =
-    absurd (other-kind class.LengthUnit item kinds.Angle tt shaped reads (λ raw p. (apart raw kinds.Angle kinds.Length (λ e. cc) p, (apart raw kinds.Angle kinds.Plain (λ e. cc) p, tt))))
-length-kind item kinds.Scale shaped reads =
-    absurd (other-kind class.LengthUnit item kinds.Scale tt shaped reads (λ raw p. (apart raw kinds.Scale kinds.Length (λ e. cc) p, (apart raw kinds.Scale kinds.Plain (λ e. cc) p, tt))))
-
-angle-kind : (item : Item) (kind : UnitKind) → Shaped class.AngleUnit item → ReadsKind item kind → Suits kinds.Angle kind
-angle-kind item kinds.Angle shaped reads = inl refl
-angle-kind item kinds.Plain shaped reads = inr refl
-angle-kind item kinds.Length shaped reads =
-    absurd (other-kind class.AngleUnit item kinds.Length tt shaped reads (λ raw p. (apart raw kinds.Length kinds.Angle (λ e. cc) p, (apart raw kinds.Length kinds.Plain (λ e. cc) p, tt))))
-angle-kind item kinds.Scale shaped reads =
-    absurd (other-kind class.AngleUnit item kinds.Scale tt shaped reads (λ raw p. (apart raw kinds.Scale kinds.Angle (λ e. cc) p, (apart raw kinds.Scale kinds.Plain (λ e. cc) p, tt))))
+-- a unit of a class with two keywords is of the kind of the first, or of any
+suits-kind : (c : Class) (asked kind : UnitKind) (item : Item) → IsUnitClass c → Shaped c item → ReadsKind item kind →
+    ((raw : List ℕ) → ¬ (SpellsWord raw (unit_word asked)) → ¬ (SpellsWord raw (unit_word kinds.Plain)) → NoneOf (keywords_of c) raw) → Suits asked kind
+suits-kind c asked kind item is shaped reads none =
+    stable (decided-suits asked kind)
+    (λ never. other-kind c item kind is shaped reads
+    (λ raw p. none raw (apart raw kind asked (λ e. never (inl e)) p) (apart raw kind kinds.Plain (λ e. never (inr e)) p)))
 
 axis-kind : (item : Item) → Shaped class.AxisUnit item → ReadsKind item kinds.Scale → ⊥
 axis-kind item shaped reads =
@@ -248,10 +231,10 @@ axis-kind item shaped reads =
     (λ raw p. (apart raw kinds.Scale kinds.Length (λ e. cc) p, (apart raw kinds.Scale kinds.Angle (λ e. cc) p, (apart raw kinds.Scale kinds.Plain (λ e. cc) p, tt))))
 
 pub length-tells : Tells class.LengthUnit (ReadsUnit class.LengthUnit) (IsUnitOf kinds.Length)
-length-tells item value sound reads = (unit-tells class.LengthUnit tt item value sound reads, length-kind item value.kind sound.shaped reads.kind)
+length-tells item value sound reads = (unit-tells class.LengthUnit tt item value sound reads, suits-kind class.LengthUnit kinds.Length value.kind item tt sound.shaped reads.kind (λ raw a b. (a, (b, tt))))
 
 pub angle-tells : Tells class.AngleUnit (ReadsUnit class.AngleUnit) (IsUnitOf kinds.Angle)
-angle-tells item value sound reads = (unit-tells class.AngleUnit tt item value sound reads, angle-kind item value.kind sound.shaped reads.kind)
+angle-tells item value sound reads = (unit-tells class.AngleUnit tt item value sound reads, suits-kind class.AngleUnit kinds.Angle value.kind item tt sound.shaped reads.kind (λ raw a b. (a, (b, tt))))
 
 pub axis-unit-tells : Tells class.AxisUnit (ReadsUnit class.AxisUnit) IsAxisUnit
 axis-unit-tells item value sound reads =

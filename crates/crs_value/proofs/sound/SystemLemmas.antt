@@ -17,6 +17,7 @@ use Rattle.crs_value.specs.Reads.{HasType, ReadsKind, ReadsNumberOf, ReadsUnit, 
 use Rattle.crs_value.specs.Sound.{Each, IsIdent, Suits, IsAxisUnit, IsAxis}
 use Rattle.crs_value.specs.SoundSystem.{AreOrders, AreDistinct, HasOrders, SuitsAxis, SuitsAll, HasUnits, IsSystem}
 use Rattle.crs_value.specs.Values.{UnitParts, AxisParts, SystemParts}
+use Rattle.crs_value.proofs.found.NodeLemmas.{read-some}
 use Rattle.crs_value.proofs.sound.FrameLemmas.{none-read}
 use Rattle.crs_value.proofs.found.ArgumentLemmas.{AllSound, SlotsCount, arguments-sound, not-none}
 use Rattle.crs_value.proofs.some.DecisionLemmas.{Decided, stable, decided-both, decided-each, decided-kind, decided-kinds, decided-none, decided-one-of, decided-position, decided-same, decided-suits}
@@ -26,13 +27,6 @@ use Rattle.crs_value.proofs.checked.UnitLemmas.{asks-one}
 use Rattle.crs_shape.proofs.WordLemmas.{kind_one}
 
 -- ---- optional arguments
-
-pub read-some : {V : Type 0} (R : Item → V → Type 0) (items : List Item) (o : Option V) (value : V) → ReadsOptional R items o → o ≡ Some value → ReadsFirst R items value
-read-some R items None value reads e = cc
-read-some R [] (Some other) value reads e = absurd reads
-read-some {V = V} R (item ∷ items) (Some other) value reads e =
-    let h : other ≡ value = cc in
-    let P : V → Type 0 = λ v. R item v in subst P h reads
 
 pub read-none : {V : Type 0} (R : Item → V → Type 0) (items : List Item) (o : Option V) → ReadsOptional R items o → items ≡ [] → o ≡ None
 read-none R items None reads e = refl
