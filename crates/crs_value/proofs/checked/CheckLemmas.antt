@@ -1,5 +1,5 @@
 -- A check over the items of one class, one after another.
-use Rattle.std.proofs.Common.{◌≡◌, ℕ, ◌≤◌, length, true, false, Option, Some, None, inl, inr, take, drop, List, [], ◌∷◌, ◌++◌, sym, ◌∙◌, ap, subst, arith, append_assoc}
+use Rattle.std.proofs.Common.{◌≡◌, ℕ, ◌≤◌, length, true, false, Option, Some, None, take, drop, List, [], ◌∷◌, ◌++◌, sym, ◌∙◌, ap, subst, arith, append_assoc}
 use Rattle.crs_decimal.specs.Prelude.{Denotes, Value, IsNormal, exact}
 use Rattle.crs_text.specs.Prelude.{Item, arguments, rest_of, raw_of, here, RefusedAt}
 use Rattle.crs_shape.specs.declared.class.Class.{Class}

@@ -1,6 +1,6 @@
 -- Items of their shape whose tokens are well formed: the same holds for their arguments, and their numbers
 -- have values.
-use Rattle.std.proofs.Common.{◌≡◌, ℕ, inr, List, [], ◌∷◌, ◌++◌}
+use Rattle.std.proofs.Common.{◌≡◌, ℕ, inr, List, [], ◌∷◌}
 use Rattle.crs_decimal.specs.Prelude.{IsInBounds, Denotes, Value, IsNormal, exact}
 use Rattle.crs_text.specs.Prelude.{number, text, word, Item, leaf, node, Siblings, End, More, arguments, AreFormed, AreAllFormed}
 use Rattle.crs_text.specs.declared.items.ItemKind.TheVariants as item_kinds

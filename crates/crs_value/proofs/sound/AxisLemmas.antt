@@ -1,13 +1,10 @@
 -- What sound axes say is sound.
-use Rattle.crs_text.specs.Prelude.{arguments}
 use Rattle.crs_decimal.specs.Prelude.{IsNormal}
 use Rattle.crs_shape.specs.declared.class.Class.{Class}
 use Rattle.crs_shape.specs.declared.class.Class.TheVariants as class
 use Rattle.crs_shape.specs.declared.unit_kind.UnitKind.TheVariants as kinds
-use Rattle.crs_value.specs.Reading.{those}
 use Rattle.crs_value.specs.Reads.{ReadsNumberOf, ReadsUnit, ReadsAxisMeridian, ReadsAxis}
 use Rattle.crs_value.specs.Sound.{IsUnitOf, IsAxisUnit, IsAxisMeridian, IsAxis}
-use Rattle.crs_value.proofs.found.ArgumentLemmas.{arguments-sound}
 use Rattle.crs_value.proofs.sound.PartLemmas.{Tells, first-tells, optional-tells, text-of-tells, number-of-tells, identifiers-tell, angle-tells, axis-unit-tells}
 
 pub axis-meridian-tells : (c : Class) → Tells c (ReadsAxisMeridian c) IsAxisMeridian

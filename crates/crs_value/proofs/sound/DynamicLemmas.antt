@@ -18,7 +18,6 @@ use Rattle.crs_value.specs.ReadsNamed.{ReadsNamed}
 use Rattle.crs_value.specs.Sound.{IsNamed}
 use Rattle.crs_value.specs.SoundDynamic.{IsDynamic}
 use Rattle.crs_value.specs.SoundSingle.{IsDynamicOf}
-use Rattle.crs_value.proofs.found.ArgumentLemmas.{arguments-sound}
 use Rattle.crs_value.proofs.sound.PartLemmas.{Tells, first-tells, optional-tells, number-of-tells, named-tells}
 
 pub dynamic-tells : (c : Class) → Tells c (ReadsDynamic c) IsDynamic

@@ -14,7 +14,7 @@ use Rattle.crs_value.specs.Reads.{ReadsNumber, ReadsNumberAt, ReadsNumberOf, Rea
 use Rattle.crs_value.specs.ReadsNamed.{ReadsNamed}
 use Rattle.crs_value.specs.Sound.{IsNamed, IsUnitOf}
 use Rattle.crs_value.specs.SoundFrames.{IsEllipsoid, IsMeridian, IsDatum, IsEnsemble}
-use Rattle.crs_value.proofs.found.ArgumentLemmas.{SlotsCount, arguments-sound, not-none}
+use Rattle.crs_value.proofs.found.ArgumentLemmas.{SlotsCount, not-none}
 use Rattle.crs_value.proofs.some.DecisionLemmas.{decided-above, stable}
 use Rattle.crs_value.proofs.sound.PartLemmas.{Tells, first-tells, optional-tells, each-tells, text-of-tells, optional-text-tells, number-first, number-of-tells, identifiers-tell, named-tells, length-tells, angle-tells}
 

@@ -1,11 +1,11 @@
 -- What well-formed items of the right shape that break no check say is sound: texts, numbers, identifiers and units.
-use Rattle.std.proofs.Common.{◌≡◌, ◌≢◌, ℕ, zero, suc, ◌<◌, ◌≤◌, Bool, true, false, ◌||◌, ◌&&◌, inl, inr, Option, Some, None, List, [], ◌∷◌, if◌then◌else◌, refl, sym, ◌∙◌, ap, subst, arith, ◌==◌, nat_le, IfSome, IsAscii}
+use Rattle.std.proofs.Common.{◌≡◌, ◌≢◌, ℕ, zero, suc, ◌<◌, Bool, true, false, inl, inr, Option, Some, None, List, [], ◌∷◌, if◌then◌else◌, refl, sym, ◌∙◌, ap, subst, arith, ◌==◌, IfSome, IsAscii}
 use Rattle.std.specs.List.{list_all}
 use Rattle.std.proofs.lemmas.Bool.{and_parts, and_from}
 use Rattle.std.proofs.lemmas.Bool.Decides.{nat_tests}
 use Rattle.std.proofs.lemmas.Str.{IsUtf8-from_ascii}
 use Rattle.std.proofs.lemmas.Str.Ascii.{IsAscii-nil, IsAscii-cons}
-use Rattle.crs_decimal.specs.Prelude.{is_digit, is_run_byte, Value, IsNormal}
+use Rattle.crs_decimal.specs.Prelude.{is_run_byte, Value, IsNormal}
 use Rattle.crs_text.specs.Prelude.{Item, leaf, node, Siblings, End, More, arguments, raw_of, skip, doubled, RefusedAt, Kind, number, text, word, IsSingle, IsWord, is_letter, is_word_byte, AreFormed, AreAllFormed}
 use Rattle.crs_shape.specs.declared.class.Class.{Class}
 use Rattle.crs_shape.specs.declared.class.Class.TheVariants as class

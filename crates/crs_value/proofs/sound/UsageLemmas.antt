@@ -12,7 +12,7 @@ use Rattle.crs_value.specs.Sound.{IsUnitOf}
 use Rattle.crs_value.specs.Checks.{IsSound}
 use Rattle.crs_value.specs.SoundUsages.{IsBox, IsExtent, IsUsage, IsTail}
 use Rattle.crs_value.specs.Values.{UsageParts, SaysSome}
-use Rattle.crs_value.proofs.found.ArgumentLemmas.{SlotsBound, arguments-few, arguments-sound, nothing, those-first}
+use Rattle.crs_value.proofs.found.ArgumentLemmas.{SlotsBound, arguments-few, nothing, those-first}
 use Rattle.crs_value.proofs.sound.PartLemmas.{Tells, tells-as, optional-tells, each-tells, optional-text-tells, number-first, identifiers-tell, length-tells}
 use Rattle.crs_value.proofs.found.NodeLemmas.{none-empty}
 
