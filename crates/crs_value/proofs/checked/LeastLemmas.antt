@@ -22,15 +22,12 @@ first-self a = grind (arith, nat_tests)
 pub first-lower : (a b : RefusedAt) → a.number < b.number → IsFirst a b
 first-lower a b p = grind (arith, nat_tests)
 
+pub same-fault : (a b : RefusedAt) → a.number ≡ b.number → a.place ≡ b.place → a ≡ b
+same-fault a b numbers places = λ i. record { number = numbers i; place = places i }
+
 -- two faults of which each is first of both are one
 pub first-both : (a b : RefusedAt) → IsFirst a b → IsFirst b a → a ≡ b
-first-both a b p q = equal a.number b.number a.place b.place (grind (arith, nat_tests)) (grind (arith, nat_tests))
-  where
-    made : ℕ → ℕ → RefusedAt
-    made number place = record { number = number; place = place }
-
-    equal : (m n i j : ℕ) → m ≡ n → i ≡ j → made m i ≡ made n j
-    equal m n i j e f = cc
+first-both a b p q = same-fault a b (grind (arith, nat_tests)) (grind (arith, nat_tests))
 
 pub lesser-none : (a : Option RefusedAt) → lesser a None ≡ a
 lesser-none None = refl

@@ -4,6 +4,7 @@ use Rattle.std.specs.List.{find}
 use Rattle.std.proofs.Math.Nat.{mul_assoc, pow-suc}
 use Rattle.std.proofs.lemmas.Bool.Decides.{nat_tests}
 use Rattle.std.proofs.lemmas.List.Sums.{fold-append}
+use Rattle.std.proofs.lemmas.Option.{same_Some}
 use Rattle.crs_decimal.specs.Prelude.{number_of, is_minus, digits_value, Sign, unsigned, plus, minus, Exponent, sign_text, fraction_text, fraction_digits, exponent_text, parts_text, mantissa, IsExponent, Value, IsNormal, is_normal, is_power, exact}
 use Rattle.crs_text.specs.Prelude.{Item, raw_of}
 use Rattle.crs_value.specs.BadValue.{IsAboveZero, NotAbove, IsNegative}
@@ -41,13 +42,6 @@ below-sure item b e other = λ f h. wrong h.1.0 h.1.1.0 h.1.1.1
 
 -- ---- a first digit that isn't 0
 
-some-byte : {a b : ℕ} → Some a ≡ Some b → a ≡ b
-some-byte e = ap from e
-  where
-    from : Option ℕ → ℕ
-    from None = 0
-    from (Some n) = n
-
 fold-some : (ds : List ℕ) (n : ℕ) → 0 < n → 0 < fold (λ m d. m * 10 + (d - 48)) n ds
 fold-some [] n some = some
 fold-some (d ∷ ds) n some = fold-some ds (n * 10 + (d - 48)) (omega (arith, some))
@@ -59,7 +53,7 @@ telling-in [] rest b e low = inr e
 telling-in (d ∷ ds) rest b e low =
     elim (is_telling d) as (λ t. cond t (Some d) (find is_telling (ds ++ rest)) ≡ Some b →
     ((n : ℕ) → 0 < fold (λ m x. m * 10 + (x - 48)) n (d ∷ ds)) ⊎ (find is_telling rest ≡ Some b)) [
-      | true ↦ λ same. inl (λ n. fold-some ds (n * 10 + (d - 48)) (let k : d ≡ b = some-byte same in omega (arith, low, k)))
+      | true ↦ λ same. inl (λ n. fold-some ds (n * 10 + (d - 48)) (let k : d ≡ b = same_Some d b same in omega (arith, low, k)))
       | false ↦ λ later. more (telling-in ds rest b later low)
     ] e
   where
@@ -78,7 +72,7 @@ telling-letter : (x : Option Exponent) (b : ℕ) → IsExponent x → find is_te
 telling-letter None b is e high = cc
 telling-letter (Some x) b is e high =
     let at : cond (is_telling x.letter) (Some x.letter) (find is_telling (sign_text x.sign ++ x.digits)) ≡ Some b = e in
-    let k : x.letter ≡ b = some-byte (rw (letter-tells x.letter is.0) at at) in
+    let k : x.letter ≡ b = same_Some x.letter b (rw (letter-tells x.letter is.0) at at) in
     omega (arith, high, k, letter-high x.letter is.0)
 
 telling-fraction : (fraction : Option (List ℕ)) (x : Option Exponent) (n b : ℕ) → IsExponent x → find is_telling (fraction_text fraction ++ exponent_text x) ≡ Some b → 49 ≤ b →
@@ -104,7 +98,7 @@ telling-mantissa whole fraction x b is e low high =
 telling-sign : (s : Sign) (rest : List ℕ) (b : ℕ) → find is_telling (sign_text s ++ rest) ≡ Some b → 49 ≤ b → (is_minus s ≡ false) × (find is_telling rest ≡ Some b)
 telling-sign unsigned rest b e low = (refl, e)
 telling-sign plus rest b e low = (refl, e)
-telling-sign minus rest b e low = let k : 45 ≡ b = some-byte e in absurd (omega (arith, low, k))
+telling-sign minus rest b e low = let k : 45 ≡ b = same_Some 45 b e in absurd (omega (arith, low, k))
 
 ten-some : (k : ℕ) (m : ℕ) → 0 < m → 0 < m * 10 ^ k
 ten-some zero m some = omega (arith, some)

@@ -1,5 +1,6 @@
 -- From a root without a fault of shape to its shape.
 use Rattle.std.proofs.Common.{◌≡◌, ◌↔◌, ℕ, true, false, inl, inr, Some, List, [], ◌∷◌, if◌then◌else◌, sym, ◌∙◌, subst}
+use Rattle.std.proofs.lemmas.Option.{same_Some}
 use Rattle.crs_text.specs.Prelude.{Item, leaf, node, RefusedAt, AreFormed}
 use Rattle.crs_shape.specs.declared.class.Class.{Class}
 use Rattle.crs_shape.specs.Prelude.{is_keyword, first_named, root_classes, root_named, Shaped, IsFree, Inside, AtRoot, class_of_root}
@@ -26,12 +27,9 @@ first-among : (cs : List Class) (word : List ℕ) (c : Class) → first_named cs
 first-among [] word c e = cc
 first-among (d ∷ ds) word c e =
     elim (is_keyword d word) as (λ b. (if b then Some d else first_named ds word) ≡ Some c → IsAmong (d ∷ ds) c) [
-      | true ↦ λ h. inl (some-class d c h)
+      | true ↦ λ h. inl (sym (same_Some d c h))
       | false ↦ λ h. inr (first-among ds word c h)
     ] e
-  where
-    some-class : (x y : Class) → Some x ≡ Some y → y ≡ x
-    some-class x y h = cc
 
 pub root-among : (item : Item) (c : Class) → class_of_root item ≡ Some c → IsAmong root_classes c
 unfolding root_named

@@ -6,6 +6,7 @@ use Rattle.crs_value.specs.declared.values.crs.Crs.{Crs}
 use Rattle.crs_value.specs.Spells.{SpellsCrs, RefusesCrs}
 use Rattle.crs_value.specs.SpellsText.{Spells, Refuses}
 use Rattle.crs_value.proofs.checked.CheckLemmas.{DenotesOne}
+use Rattle.crs_value.proofs.checked.LeastLemmas.{same-fault}
 use Rattle.crs_value.proofs.one.RootLemmas.{spelled-one, spelled-not-refused, refused-one}
 
 abbrev pub OneFault : Type 0
@@ -37,15 +38,9 @@ text-apart one apart text value fault p (inr q) =
     let P : Item → Type 0 = λ i. RefusesCrs i fault in
     spelled-not-refused p.0 value fault p.1.1 (subst P (one text q.0 p.0 q.1.0 p.1.0) q.1.1)
 
-abbrev made : ℕ → ℕ → RefusedAt
-made number place = record { number = number; place = place }
-
-same-made : (m n i j : ℕ) → m ≡ n → i ≡ j → made m i ≡ made n j
-same-made m n i j e f = cc
-
 pub text-refused-one : OneFault → OneNode → OneRefusal → NodeApart → (text : List ℕ) (a b : RefusedAt) → Refuses text a → Refuses text b → a ≡ b
 text-refused-one law one refusal apart text a b (inl p) (inl q) =
-    let e = refusal text a.number b.number a.place b.place p q in same-made a.number b.number a.place b.place e.0 e.1
+    let e = refusal text a.number b.number a.place b.place p q in same-fault a b e.0 e.1
 text-refused-one law one refusal apart text a b (inl p) (inr q) = absurd (apart text q.0 a.number a.place q.1.0 p)
 text-refused-one law one refusal apart text a b (inr p) (inl q) = absurd (apart text p.0 b.number b.place p.1.0 q)
 text-refused-one law one refusal apart text a b (inr p) (inr q) =

@@ -43,8 +43,7 @@ module _ (numbers : Numbers) (one : DenotesOne) (slots : SlotsCount) (shape : No
   checked : (item : Item) (c : Class) → class_of_root item ≡ Some c → IsFree (AtRoot item) → AreFormed item → Shaped c item → HasLeast (Breaks c item) → ItemAnswer item
   checked item c e free formed shaped (Some fault, least) = inr (fault, inr (record { class_read = c; root = e; shaped = free; first = least }))
   checked item c e free formed shaped (None, unbroken) =
-      let value = crs-some numbers slots item c (root-among item c e) (record { shaped = shaped; formed = formed; unbroken = unbroken }) in
-      inl (value.0, record { class_read = c; root = e; shaped = free; unbroken = unbroken; reads = value.1 })
+      inl (judged-spells numbers slots shape item item c refl e free formed unbroken)
 
   free-answer : (item : Item) → IsFree (AtRoot item) → AreFormed item → ItemAnswer item
   free-answer item free formed =

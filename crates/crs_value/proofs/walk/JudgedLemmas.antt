@@ -2,6 +2,7 @@
 use Rattle.std.proofs.Common.{◌≡◌, ◌≢◌, ℕ, ◌||◌, Bool, true, false, IsTrue, inl, inr, ◌⊎◌, Option, Some, None, List, [], ◌∷◌, if◌then◌else◌, refl, sym, ◌∙◌, ap, subst, ◌++◌, rules}
 use Rattle.std.specs.List.{list_any}
 use Rattle.std.proofs.Math.Bool.{or-true}
+use Rattle.std.proofs.lemmas.Option.{same_Some}
 use denote.Enum.Bare.{sameb, same_true, true_same}
 use Rattle.crs_text.specs.Prelude.{Item, leaf, node, Siblings, End, More, arguments, first_of, rest_of, close_of, here, HasId, IsAt, RefusedAt}
 use Rattle.crs_shape.specs.contracts.class.Class.{the_type}
@@ -16,9 +17,6 @@ use Rattle.crs_value.proofs.found.ArgumentLemmas.{ahead_at, class-is}
 use Rattle.crs_value.proofs.checked.LeastLemmas.{IsFirst, first-self, first-trans, least-either, least-same}
 
 -- ---- the least of some faults
-
-some-one : {f g : RefusedAt} → Some f ≡ Some g → f ≡ g
-some-one e = cc
 
 -- the least of what was found, joined by more
 least-on : (P Q : RefusedAt → Type 0) (a b c : Option RefusedAt) → IsLeast (λ f. (a ≡ Some f) ⊎ P f) b → IsLeast (λ f. (b ≡ Some f) ⊎ Q f) c →
@@ -47,7 +45,7 @@ least-on P Q a (Some g) (Some l) p q = (member q.0, λ f h. before f h)
     of-old (inr h) = inr (inl h)
 
     member : (Some g ≡ Some l) ⊎ Q l → (a ≡ Some l) ⊎ (P l ⊎ Q l)
-    member (inl e) = let R : RefusedAt → Type 0 = λ x. (a ≡ Some x) ⊎ (P x ⊎ Q x) in subst R (some-one e) (of-old p.0)
+    member (inl e) = let R : RefusedAt → Type 0 = λ x. (a ≡ Some x) ⊎ (P x ⊎ Q x) in subst R (same_Some g l e) (of-old p.0)
     member (inr h) = inr (inr h)
 
     before : (f : RefusedAt) → (a ≡ Some f) ⊎ (P f ⊎ Q f) → IsFirst l f
@@ -60,7 +58,7 @@ old-least None = λ f e. absurd (nope f e)
   where
     nope : (f : RefusedAt) → None ≡ Some f → ⊥
     nope f e = cc
-old-least (Some g) = (refl, λ f e. subst (IsFirst g) (some-one e) (first-self g))
+old-least (Some g) = (refl, λ f e. subst (IsFirst g) (same_Some g f e) (first-self g))
 
 -- nothing joins what was found
 least-alone : (a : Option RefusedAt) → IsLeast (λ f. (a ≡ Some f) ⊎ ⊥) a

@@ -1,5 +1,6 @@
 -- The judge of a whole text: what it answers of the root.
 use Rattle.std.proofs.Common.{◌≡◌, Bool, true, false, inl, inr, Option, Some, None, refl, sym, ◌∙◌, subst}
+use Rattle.std.proofs.lemmas.Option.{same_Some}
 use Rattle.crs_text.specs.Prelude.{Item, RefusedAt}
 use Rattle.crs_shape.specs.declared.class.Class.{Class}
 use Rattle.crs_shape.specs.Prelude.{first_inside, Shaped, class_of_root, misplaced, AtRoot, Inside, IsFree, IsOnly}
@@ -17,10 +18,7 @@ pub root-free : NoFaultIsShape → (item : Item) (c : Class) → class_of_root i
 root-free law item c e shaped fault (inl h) = let k : None ≡ Some c = sym h.0 ∙ e in cc
 root-free law item c e shaped fault (inr (d, h)) =
     let P : Class → Type 0 = λ x. Inside x item fault in
-    (law c item).1 shaped fault (subst P (one (sym h.0 ∙ e)) h.1)
-  where
-    one : {a b : Class} → Some a ≡ Some b → a ≡ b
-    one k = cc
+    (law c item).1 shaped fault (subst P (same_Some d c (sym h.0 ∙ e)) h.1)
 
 pub root-misplaced : (tree item : Item) (refusal : RefusedAt) → item ≡ tree → class_of_root item ≡ None → refusal ≡ misplaced item → RefusesCrs tree refusal
 root-misplaced tree item refusal same none is = let P : Item → Type 0 = λ i. RefusesCrs i refusal in subst P same (inl (inl (none, is)))
@@ -39,9 +37,6 @@ pub root-broken : NoneIsShape → ((c : Class) (item : Item) (fault : RefusedAt)
     (ok : Bool) (refusal : RefusedAt) → item ≡ tree → class_of_root tree ≡ Some c → Judged c item None ok (Some refusal) → RefusesCrs tree refusal
 root-broken law only shape tree item c ok refusal same root judged = by (first_inside c item) refl ok judged
   where
-    some-one : {f g : RefusedAt} → Some f ≡ Some g → g ≡ f
-    some-one e = cc
-
     by : (w : Option RefusedAt) → first_inside c item ≡ w → (b : Bool) → Gives w None (Breaks c item) b (Some refusal) → RefusesCrs tree refusal
     by None e true h =
         let P : Item → Type 0 = λ i. IsLeast (Breaks c i) (Some refusal) in
@@ -55,4 +50,4 @@ root-broken law only shape tree item c ok refusal same root judged = by (first_i
     by (Some fault) e true h = absurd h
     by (Some fault) e false h =
         let P : Item → Type 0 = λ i. Inside c i refusal in
-        inl (inr (c, (root, subst P same (subst (Inside c item) (some-one h) (only c item fault e).0))))
+        inl (inr (c, (root, subst P same (subst (Inside c item) (sym (same_Some refusal fault h)) (only c item fault e).0))))
