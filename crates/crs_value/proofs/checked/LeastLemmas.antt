@@ -69,6 +69,15 @@ pub least-same : (P Q : RefusedAt → Type 0) (o : Option RefusedAt) → ((f : R
 least-same P Q None to back h = λ f q. h f (back f q)
 least-same P Q (Some a) to back h = (to a h.0, λ f q. h.1 f (back f q))
 
+-- the same beside others
+pub least-beside : (A P Q : RefusedAt → Type 0) (o : Option RefusedAt) → ((f : RefusedAt) → P f → Q f) → ((f : RefusedAt) → Q f → P f) → IsLeast (λ f. A f ⊎ P f) o →
+    IsLeast (λ f. A f ⊎ Q f) o
+least-beside A P Q o to back h = least-same (λ f. A f ⊎ P f) (λ f. A f ⊎ Q f) o (on P Q to) (on Q P back) h
+  where
+    on : (X Y : RefusedAt → Type 0) → ((f : RefusedAt) → X f → Y f) → (f : RefusedAt) → A f ⊎ X f → A f ⊎ Y f
+    on X Y each f (inl a) = inl a
+    on X Y each f (inr x) = inr (each f x)
+
 -- one fault under a condition
 pub least-one : (g : RefusedAt) (C : Type 0) → C → IsLeast (λ f. (f ≡ g) × C) (Some g)
 least-one g C holds = ((refl, holds), λ f h. let P : RefusedAt → Type 0 = λ x. IsFirst g x in subst P (sym h.0) (first-self g))

@@ -9,17 +9,30 @@ use Rattle.crs_value.specs.RepeatedPart.{RepeatsAny}
 use Rattle.crs_value.specs.UnknownWord.{UnknownType, UnknownDirection}
 use Rattle.crs_value.specs.Break.{AnyOf, IsLeast}
 use Rattle.crs_value.specs.Checks.{anchors, OfCrs, OfCompound, OfUnit, HasSystem, Own, BreaksAmong}
+use Rattle.crs_value.proofs.checked.LeastLemmas.{least-beside}
 use Rattle.crs_value.specs.Reading.{those}
 
 -- a CRS with a coordinate system breaks by itself what such a CRS breaks
+pub own-of-crs : (c : Class) (item : Item) (fault : RefusedAt) → HasSystem c → OfCrs (dimensions_of c) c item fault → Own c item fault
+unfolding Own
+own-of-crs class.GeodeticCrs item fault is h = h
+own-of-crs class.GeographicCrs item fault is h = h
+own-of-crs class.ProjectedCrs item fault is h = h
+own-of-crs class.VerticalCrs item fault is h = h
+own-of-crs other item fault is h = absurd is
+
+pub crs-of-own : (c : Class) (item : Item) (fault : RefusedAt) → HasSystem c → Own c item fault → OfCrs (dimensions_of c) c item fault
+unfolding Own
+crs-of-own class.GeodeticCrs item fault is h = h
+crs-of-own class.GeographicCrs item fault is h = h
+crs-of-own class.ProjectedCrs item fault is h = h
+crs-of-own class.VerticalCrs item fault is h = h
+crs-of-own other item fault is h = absurd is
+
 pub own-crs : (c : Class) (item : Item) (o : Option RefusedAt) → HasSystem c → IsLeast (λ f. BreaksAmong c (arguments item) f ⊎ OfCrs (dimensions_of c) c item f) o →
     IsLeast (λ f. BreaksAmong c (arguments item) f ⊎ Own c item f) o
-unfolding Own
-own-crs class.GeodeticCrs item o is h = h
-own-crs class.GeographicCrs item o is h = h
-own-crs class.ProjectedCrs item o is h = h
-own-crs class.VerticalCrs item o is h = h
-own-crs other item o is h = absurd is
+own-crs c item o is h =
+    least-beside (BreaksAmong c (arguments item)) (OfCrs (dimensions_of c) c item) (Own c item) o (λ f k. own-of-crs c item f is k) (λ f k. crs-of-own c item f is k) h
 
 -- what such a class breaks by itself, the same class by another name does
 own-as : (Broken : Class → RefusedAt → Type 0) (c d : Class) (item : Item) (o : Option RefusedAt) → c ≡ d → (IsLeast (Broken d) o → IsLeast (Own d item) o) → IsLeast (Broken c) o →

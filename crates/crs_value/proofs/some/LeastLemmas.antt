@@ -75,12 +75,15 @@ direction-least item = unknown (at 21 item) (ReadsDirection item) (direction-kno
 
 -- ---- repeated parts
 
-repeated : (items : List Item) → HasLeast (AnyOf IsRepeated items)
-repeated [] = nothing (AnyOf IsRepeated []) (λ f x. x)
-repeated (item ∷ items) = either-least (IsRepeated item) (AnyOf IsRepeated items) (Some (at 22 item), least-is (at 22 item) (at 22 item) refl) (repeated items)
+all-least : (B : Item → RefusedAt → Type 0) → ((item : Item) → HasLeast (B item)) → (items : List Item) → HasLeast (AnyOf B items)
+all-least B one [] = nothing (AnyOf B []) (λ f x. x)
+all-least B one (item ∷ items) = either-least (B item) (AnyOf B items) (one item) (all-least B one items)
+
+sure-least : (n : ℕ) (item : Item) → HasLeast (λ f. f ≡ at n item)
+sure-least n item = (Some (at n item), least-is (at n item) (at n item) refl)
 
 repeats-least : (parent : Class) (items : Siblings) (c : Class) → HasLeast (Repeats parent items c)
-repeats-least parent items c = repeated (drop 1 (those parent c items))
+repeats-least parent items c = all-least IsRepeated (sure-least 22) (drop 1 (those parent c items))
 
 repeats-any-least : (parent : Class) (items : Siblings) (cs : List Class) → HasLeast (RepeatsAny parent items cs)
 repeats-any-least parent items [] = nothing (RepeatsAny parent items []) (λ f x. x)
@@ -212,14 +215,10 @@ module _ (numbers : Numbers) (one : DenotesOne) where
       either-least (LacksUnit axis) (AnyOf (Misfits cs axis) (units_in axis)) (at-least (at 27 axis) (units_in axis ≡ []) (decided-none (units_in axis)))
       (any-least (Misfits cs axis) class.AxisUnit (λ i r. misfit-least cs axis h g i) (units_in axis) (those-ready class.Axis class.AxisUnit axis g))
 
-  beside-least : (axis : Item) → Ready class.Axis axis → HasLeast (HasOwnUnit axis)
-  beside-least axis g =
-      any-least IsSuperfluous class.AxisUnit (λ i r. (Some (at 27 i), least-is (at 27 i) (at 27 i) refl)) (units_in axis) (those-ready class.Axis class.AxisUnit axis g)
-
   unit-least : (axes units : List Item) → AllReady class.Axis axes → (cs : Item) → Ready class.CoordinateSystem cs → HasLeast (BadUnit axes units cs)
   unit-least axes [] g cs h = any-least (BadOwnUnit cs) class.Axis (own-unit-least cs h) axes g
   unit-least axes (unit ∷ units) g cs h =
-      either-least (AnyOf HasOwnUnit axes) (BadShared cs axes unit) (any-least HasOwnUnit class.Axis beside-least axes g)
+      either-least (AnyOf HasOwnUnit axes) (BadShared cs axes unit) (all-least HasOwnUnit (λ axis. all-least IsSuperfluous (sure-least 27) (units_in axis)) axes)
       (at-least (at 27 unit) (¬ (SharedFits cs axes unit))
       (decided-not (decided-kinds (λ k. AllAsk cs axes k × Fits unit k) (λ k. decided-both (decided-all-ask cs axes k h g) (decided-fits unit k)))))
 
@@ -240,15 +239,11 @@ module _ (numbers : Numbers) (one : DenotesOne) where
   head-least : (dims : SystemType → List ℕ) (axes : List Item) (cs : Item) → Ready class.CoordinateSystem cs → HasLeast (OfHead dims axes cs)
   head-least dims axes cs h = either-least (BadSystem dims cs) (AxisCount (length axes) cs) (system-least dims cs h) (count-least (length axes) cs h)
 
-  unsteady : (items : List Item) → HasLeast (AnyOf IsUnsteady items)
-  unsteady [] = nothing (AnyOf IsUnsteady []) (λ f x. x)
-  unsteady (item ∷ items) = either-least (IsUnsteady item) (AnyOf IsUnsteady items) (Some (at 29 item), least-is (at 29 item) (at 29 item) refl) (unsteady items)
-
   dynamic-least : (c : Class) (item : Item) → HasLeast (BadDynamic c item)
   dynamic-least c item =
       under-least (HasEnsemble c item) (AnyOf IsUnsteady (those c class.Dynamic (arguments item)))
       (decided-either (decided-not (decided-none (those c class.GeodeticEnsemble (arguments item)))) (decided-not (decided-none (those c class.VerticalEnsemble (arguments item)))))
-      (unsteady (those c class.Dynamic (arguments item)))
+      (all-least IsUnsteady (sure-least 29) (those c class.Dynamic (arguments item)))
 
   crs-least : (dims : SystemType → List ℕ) (c : Class) (item : Item) → Ready c item → HasLeast (OfCrs dims c item)
   crs-least dims c item h =

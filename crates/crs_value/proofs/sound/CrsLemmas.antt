@@ -19,15 +19,16 @@ use Rattle.crs_value.specs.ReadsNamed.{ReadsNamed}
 use Rattle.crs_value.specs.ReadsCrs.{ReadsAsDatum, ReadsAsEnsemble, ReadsGeodeticFrame, ReadsVerticalFrame, IsGeodeticClass, ReadsGeodetic, ReadsBase, ReadsProjected, ReadsVertical}
 use Rattle.crs_value.specs.Sound.{IsUnitOf, IsNamed}
 use Rattle.crs_value.specs.SoundConversion.{IsConversion}
-use Rattle.crs_value.specs.SoundFrames.{IsMeridian}
+use Rattle.crs_value.specs.SoundFrames.{IsDatum, IsEnsemble, IsMeridian}
 use Rattle.crs_value.specs.SoundSingle.{IsGeodeticFrame, IsVerticalFrame, IsGeodetic, IsBase, IsProjected, IsVertical}
 use Rattle.crs_value.specs.Values.{SystemParts, EllipsoidParts, DatumParts, EnsembleParts}
+use Rattle.crs_value.proofs.checked.OwnLemmas.{own-of-crs}
 use Rattle.crs_value.proofs.found.ArgumentLemmas.{SlotsBound, AllSound, SlotsCount, arguments-sound, not-none}
 use Rattle.crs_value.proofs.sound.ConversionLemmas.{conversion-tells}
 use Rattle.crs_value.proofs.sound.DynamicLemmas.{dynamic-of-tells}
 use Rattle.crs_value.proofs.sound.FrameLemmas.{datum-tells, ensemble-tells, meridian-tells}
 use Rattle.crs_value.proofs.sound.PartLemmas.{Tells, first-tells, optional-tells, each-tells, text-of-tells, identifiers-tell, angle-tells, named-tells}
-use Rattle.crs_value.proofs.sound.SystemLemmas.{own-of-crs, read-none, read-there, system-allowed, system-free, system-tells}
+use Rattle.crs_value.proofs.sound.SystemLemmas.{read-none, read-there, system-allowed, system-free, system-tells}
 use Rattle.crs_value.proofs.sound.UsageLemmas.{arguments-none, tail-tells}
 
 -- ---- frames
@@ -35,17 +36,31 @@ use Rattle.crs_value.proofs.sound.UsageLemmas.{arguments-none, tail-tells}
 some-there : {V : Type 0} (o : Option V) → ((value : V) × (o ≡ Some value)) → IsSome o
 some-there {V = V} o h = let P : Option V → Type 0 = λ x. IsSome x in subst P (sym h.1) refl
 
-pub has-ellipsoid : SlotsCount → (c : Class) (item : Item) (value : Option EllipsoidParts) → Requires c class.Ellipsoid 0 → IsSound c item →
+has-ellipsoid : SlotsCount → (c : Class) (item : Item) (value : Option EllipsoidParts) → Requires c class.Ellipsoid 0 → IsSound c item →
     ReadsOptional (ReadsEllipsoid class.Ellipsoid) (those c class.Ellipsoid (arguments item)) value → IsSome value
 has-ellipsoid law c item value enough sound reads =
     some-there value (read-there (ReadsEllipsoid class.Ellipsoid) (those c class.Ellipsoid (arguments item)) value reads
     (λ none. not-none law c class.Ellipsoid item sound.shaped enough none))
 
-pub no-ellipsoid : SlotsBound → (c : Class) (item : Item) (value : Option EllipsoidParts) → IsTrue (is_bounded (is_same class.Ellipsoid) (slots_of c)) →
+no-ellipsoid : SlotsBound → (c : Class) (item : Item) (value : Option EllipsoidParts) → IsTrue (is_bounded (is_same class.Ellipsoid) (slots_of c)) →
     most (is_same class.Ellipsoid) (slots_of c) ≡ 0 → IsSound c item → ReadsOptional (ReadsEllipsoid class.Ellipsoid) (those c class.Ellipsoid (arguments item)) value → IsNone value
 no-ellipsoid bound c item value bounded none sound reads =
     let P : Option EllipsoidParts → Type 0 = λ x. IsNone x in
     subst P (sym (read-none (ReadsEllipsoid class.Ellipsoid) (those c class.Ellipsoid (arguments item)) value reads (arguments-none bound c class.Ellipsoid item bounded none sound.shaped))) refl
+
+pub geodetic-datum-tells : SlotsCount → Tells class.GeodeticFrame (ReadsDatum class.GeodeticFrame) (λ datum. IsDatum datum × IsSome datum.ellipsoid)
+geodetic-datum-tells law item datum s r = (datum-tells class.GeodeticFrame item datum s r, has-ellipsoid law class.GeodeticFrame item datum.ellipsoid (omega arith) s r.ellipsoid)
+
+pub geodetic-ensemble-tells : SlotsCount → Tells class.GeodeticEnsemble (ReadsEnsemble class.GeodeticEnsemble) (λ ensemble. IsEnsemble ensemble × IsSome ensemble.ellipsoid)
+geodetic-ensemble-tells law item ensemble s r =
+    (ensemble-tells law class.GeodeticEnsemble (omega arith) item ensemble s r, has-ellipsoid law class.GeodeticEnsemble item ensemble.ellipsoid (omega arith) s r.ellipsoid)
+
+pub vertical-datum-tells : SlotsBound → Tells class.VerticalFrame (ReadsDatum class.VerticalFrame) (λ datum. IsDatum datum × IsNone datum.ellipsoid)
+vertical-datum-tells bound item datum s r = (datum-tells class.VerticalFrame item datum s r, no-ellipsoid bound class.VerticalFrame item datum.ellipsoid refl refl s r.ellipsoid)
+
+pub vertical-ensemble-tells : SlotsCount → SlotsBound → Tells class.VerticalEnsemble (ReadsEnsemble class.VerticalEnsemble) (λ ensemble. IsEnsemble ensemble × IsNone ensemble.ellipsoid)
+vertical-ensemble-tells law bound item ensemble s r =
+    (ensemble-tells law class.VerticalEnsemble (omega arith) item ensemble s r, no-ellipsoid bound class.VerticalEnsemble item ensemble.ellipsoid refl refl s r.ellipsoid)
 
 -- a frame is a reference frame of the one class, or an ensemble of the other
 frame-tells : (d e : Class) (P : Frame → Type 0) → ((item : Item) (datum : DatumParts) → IsSound d item → ReadsDatum d item datum → P (frames.Datum datum)) →
@@ -61,18 +76,14 @@ frame-tells d e P first second (item ∷ items) ensembles (frames.Ensemble ensem
 geodetic-frame-tells : SlotsCount → (c : Class) → Tells c (ReadsGeodeticFrame c) IsGeodeticFrame
 geodetic-frame-tells law c item value sound reads =
     frame-tells class.GeodeticFrame class.GeodeticEnsemble IsGeodeticFrame
-    (λ i datum s r. (datum-tells class.GeodeticFrame i datum s r, has-ellipsoid law class.GeodeticFrame i datum.ellipsoid (omega arith) s r.ellipsoid))
-    (λ i ensemble s r.
-    (ensemble-tells law class.GeodeticEnsemble (omega arith) i ensemble s r, has-ellipsoid law class.GeodeticEnsemble i ensemble.ellipsoid (omega arith) s r.ellipsoid))
+    (geodetic-datum-tells law) (geodetic-ensemble-tells law)
     (those c class.GeodeticFrame (arguments item)) (those c class.GeodeticEnsemble (arguments item)) value
     (arguments-sound c class.GeodeticFrame item sound) (arguments-sound c class.GeodeticEnsemble item sound) reads
 
 vertical-frame-tells : SlotsCount → SlotsBound → (c : Class) → Tells c (ReadsVerticalFrame c) IsVerticalFrame
 vertical-frame-tells law bound c item value sound reads =
     frame-tells class.VerticalFrame class.VerticalEnsemble IsVerticalFrame
-    (λ i datum s r. (datum-tells class.VerticalFrame i datum s r, no-ellipsoid bound class.VerticalFrame i datum.ellipsoid refl refl s r.ellipsoid))
-    (λ i ensemble s r.
-    (ensemble-tells law class.VerticalEnsemble (omega arith) i ensemble s r, no-ellipsoid bound class.VerticalEnsemble i ensemble.ellipsoid refl refl s r.ellipsoid))
+    (vertical-datum-tells bound) (vertical-ensemble-tells law bound)
     (those c class.VerticalFrame (arguments item)) (those c class.VerticalEnsemble (arguments item)) value
     (arguments-sound c class.VerticalFrame item sound) (arguments-sound c class.VerticalEnsemble item sound) reads
 

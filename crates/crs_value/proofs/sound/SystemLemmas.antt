@@ -11,12 +11,13 @@ use Rattle.crs_shape.specs.Prelude.{IsOneOf, dimensions_of, asked_kind}
 use Rattle.crs_value.specs.BadOrder.{IsPosition, orders_in, SomeHasOrder, AllHaveOrder, LacksOrder, OneHas, ReadsOrder, IsBadOrder, BadOrders, BadOrder}
 use Rattle.crs_value.specs.BadUnit.{Asks, Fits, units_in, Misfits, BadOwnUnit, IsSuperfluous, HasOwnUnit, AllAsk, SharedFits, BadUnit}
 use Rattle.crs_value.specs.Break.{at, AnyOf}
-use Rattle.crs_value.specs.Checks.{OfHead, BadSystems, OfCrs, HasSystem, Own, IsSound}
+use Rattle.crs_value.specs.Checks.{OfHead, BadSystems, HasSystem, IsSound}
 use Rattle.crs_value.specs.Reading.{those, Requires, ReadsFirst, ReadsOptional, ReadsEach}
 use Rattle.crs_value.specs.Reads.{HasType, ReadsKind, ReadsNumberOf, ReadsUnit, ReadsAxis, ReadsHead, ReadsSystem}
 use Rattle.crs_value.specs.Sound.{Each, IsIdent, Suits, IsAxisUnit, IsAxis}
 use Rattle.crs_value.specs.SoundSystem.{AreOrders, AreDistinct, HasOrders, SuitsAxis, SuitsAll, HasUnits, IsSystem}
 use Rattle.crs_value.specs.Values.{UnitParts, AxisParts, SystemParts}
+use Rattle.crs_value.proofs.checked.OwnLemmas.{own-of-crs}
 use Rattle.crs_value.proofs.found.NodeLemmas.{read-some}
 use Rattle.crs_value.proofs.sound.FrameLemmas.{none-read}
 use Rattle.crs_value.proofs.found.ArgumentLemmas.{AllSound, SlotsCount, arguments-sound, not-none}
@@ -256,14 +257,6 @@ units-tell (cs ∷ more) axes units parts free head reads unit =
     units-suit cs parts.system_type head.system_type axes units parts.axes parts.unit (λ fault h. free fault (inl h)) reads unit
 
 -- ---- the whole system
-
-pub own-of-crs : (c : Class) (item : Item) (fault : RefusedAt) → HasSystem c → OfCrs (dimensions_of c) c item fault → Own c item fault
-unfolding Own
-own-of-crs class.GeodeticCrs item fault is h = h
-own-of-crs class.GeographicCrs item fault is h = h
-own-of-crs class.ProjectedCrs item fault is h = h
-own-of-crs class.VerticalCrs item fault is h = h
-own-of-crs other item fault is h = absurd is
 
 -- the nodes `CS`, the axes and the shared units of a sound CRS break no check
 pub system-free : (c : Class) (item : Item) (parts : SystemParts) → HasSystem c → IsSound c item → ReadsSystem c item parts → (fault : RefusedAt) →

@@ -14,7 +14,7 @@ use Rattle.crs_value.specs.Judged.{is_in, Gives, Judged, Walked, Passed, Answers
 use Rattle.crs_value.specs.Least.{lesser}
 use Rattle.crs_value.specs.Reading.{item_at}
 use Rattle.crs_value.proofs.found.ArgumentLemmas.{ahead_at, class-is}
-use Rattle.crs_value.proofs.checked.LeastLemmas.{IsFirst, first-self, first-trans, least-either, least-same}
+use Rattle.crs_value.proofs.checked.LeastLemmas.{IsFirst, first-self, first-trans, least-either, least-same, least-beside}
 
 -- ---- the least of some faults
 
@@ -386,15 +386,7 @@ breaks-node c (node place keyword square first others end) close e f (inr h) = i
 joined-least : (c : Class) (item : Item) (close : ℕ) (old new : Option RefusedAt) → close_of item ≡ Some close →
     IsLeast (λ g. (old ≡ Some g) ⊎ (BreaksAmong c (arguments item) g ⊎ Own c item g)) new → IsLeast (λ g. (old ≡ Some g) ⊎ Breaks c item g) new
 joined-least c item close old new f h =
-    least-same (λ g. (old ≡ Some g) ⊎ (BreaksAmong c (arguments item) g ⊎ Own c item g)) (λ g. (old ≡ Some g) ⊎ Breaks c item g) new to back h
-  where
-    to : (g : RefusedAt) → (old ≡ Some g) ⊎ (BreaksAmong c (arguments item) g ⊎ Own c item g) → (old ≡ Some g) ⊎ Breaks c item g
-    to g (inl h) = inl h
-    to g (inr h) = inr (node-breaks c item close f g h)
-
-    back : (g : RefusedAt) → (old ≡ Some g) ⊎ Breaks c item g → (old ≡ Some g) ⊎ (BreaksAmong c (arguments item) g ⊎ Own c item g)
-    back g (inl h) = inl h
-    back g (inr h) = inr (breaks-node c item close f g h)
+    least-beside (λ g. old ≡ Some g) (λ g. BreaksAmong c (arguments item) g ⊎ Own c item g) (Breaks c item) new (node-breaks c item close f) (breaks-node c item close f) h
 
 -- no fault of shape: what the node breaks by itself joins what its arguments break
 pub with-own : (c : Class) (item : Item) (close : ℕ) (old mid own new : Option RefusedAt) → close_of item ≡ Some close → WalkedAll c item old true mid → IsLeast (Own c item) own →

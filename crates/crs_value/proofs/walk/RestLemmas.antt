@@ -25,9 +25,10 @@ use Rattle.crs_value.specs.RepeatedPart.{IsRepeated, RepeatsAny}
 use Rattle.crs_value.specs.Seen.{the_one, Marks, IsAmong, Differ, AllDiffer, AreAmong, AreWithin, AreOrdered, IsSeen, UnitsFit, IsQuiet, rank, Climbs}
 use Rattle.crs_value.specs.WholeNumbers.{IsWholeOf}
 use Rattle.crs_shape.proofs.DimensionLemmas.{as-whole}
+use Rattle.crs_value.proofs.checked.OwnLemmas.{crs-of-own, own-of-crs}
 use Rattle.crs_value.proofs.found.ArgumentLemmas.{ahead_at, class-is, those-first, those-later}
 use Rattle.crs_value.proofs.checked.CheckLemmas.{DenotesOne}
-use Rattle.crs_value.proofs.checked.LeastLemmas.{either-is, least-same}
+use Rattle.crs_value.proofs.checked.LeastLemmas.{either-is, least-beside}
 use Rattle.crs_value.proofs.checked.OrderLemmas.{wrong-none}
 use Rattle.crs_value.proofs.checked.PlacedLemmas.{Symmetric, Transitive, place-one}
 use Rattle.crs_value.proofs.checked.SystemLemmas.{system-none, count-none}
@@ -237,32 +238,11 @@ crs-dynamic dims c item repeats systems f (inr (inl h)) = absurd (systems f h)
 crs-dynamic dims c item repeats systems f (inr (inr h)) = h
 
 own-dynamic : (c : Class) (item : Item) → HasSystem c → IsQuiet c (arguments item) → (f : RefusedAt) → Own c item f → BadDynamic c item f
-unfolding Own
-own-dynamic class.GeodeticCrs item s q f h = crs-dynamic (dimensions_of class.GeodeticCrs) class.GeodeticCrs item q.repeats q.systems f h
-own-dynamic class.GeographicCrs item s q f h = crs-dynamic (dimensions_of class.GeographicCrs) class.GeographicCrs item q.repeats q.systems f h
-own-dynamic class.ProjectedCrs item s q f h = crs-dynamic (dimensions_of class.ProjectedCrs) class.ProjectedCrs item q.repeats q.systems f h
-own-dynamic class.VerticalCrs item s q f h = crs-dynamic (dimensions_of class.VerticalCrs) class.VerticalCrs item q.repeats q.systems f h
-own-dynamic other item s q f h = absurd s
-
-dynamic-own : (c : Class) (item : Item) → HasSystem c → (f : RefusedAt) → BadDynamic c item f → Own c item f
-unfolding Own
-dynamic-own class.GeodeticCrs item s f h = inr (inr h)
-dynamic-own class.GeographicCrs item s f h = inr (inr h)
-dynamic-own class.ProjectedCrs item s f h = inr (inr h)
-dynamic-own class.VerticalCrs item s f h = inr (inr h)
-dynamic-own other item s f h = absurd s
+own-dynamic c item s q f h = crs-dynamic (dimensions_of c) c item q.repeats q.systems f (crs-of-own c item f s h)
 
 -- what such a CRS breaks, within it and by itself
 pub quiet-whole : (c : Class) (item : Item) (inside dynamic whole : Option RefusedAt) → HasSystem c → IsQuiet c (arguments item) → IsLeast (BreaksAmong c (arguments item)) inside →
     IsLeast (BadDynamic c item) dynamic → whole ≡ lesser inside dynamic → IsLeast (λ f. BreaksAmong c (arguments item) f ⊎ Own c item f) whole
 quiet-whole c item inside dynamic whole system quiet within bad is =
-    least-same (λ f. BreaksAmong c (arguments item) f ⊎ BadDynamic c item f) (λ f. BreaksAmong c (arguments item) f ⊎ Own c item f) whole to back
+    least-beside (BreaksAmong c (arguments item)) (BadDynamic c item) (Own c item) whole (λ f h. own-of-crs c item f system (inr (inr h))) (own-dynamic c item system quiet)
     (either-is (BreaksAmong c (arguments item)) (BadDynamic c item) inside dynamic whole is within bad)
-  where
-    to : (f : RefusedAt) → BreaksAmong c (arguments item) f ⊎ BadDynamic c item f → BreaksAmong c (arguments item) f ⊎ Own c item f
-    to f (inl h) = inl h
-    to f (inr h) = inr (dynamic-own c item system f h)
-
-    back : (f : RefusedAt) → BreaksAmong c (arguments item) f ⊎ Own c item f → BreaksAmong c (arguments item) f ⊎ BadDynamic c item f
-    back f (inl h) = inl h
-    back f (inr h) = inr (own-dynamic c item system quiet f h)

@@ -1,10 +1,10 @@
-use Rattle.std.proofs.Common.{refl, arith}
+use Rattle.std.proofs.Common.{refl}
 use Rattle.crs_shape.specs.declared.class.Class.TheVariants as class
 use Rattle.crs_value.proofs.sound.AxisLemmas.{axis-meridian-tells, axis-tells}
 use Rattle.crs_value.proofs.sound.ConversionLemmas.{conversion-tells, parameter-tells}
-use Rattle.crs_value.proofs.sound.CrsLemmas.{base-tells, has-ellipsoid, no-ellipsoid}
+use Rattle.crs_value.proofs.sound.CrsLemmas.{base-tells, geodetic-datum-tells, geodetic-ensemble-tells, vertical-datum-tells, vertical-ensemble-tells}
 use Rattle.crs_value.proofs.sound.DynamicLemmas.{dynamic-tells}
-use Rattle.crs_value.proofs.sound.FrameLemmas.{datum-tells, ellipsoid-tells, ensemble-tells, meridian-tells}
+use Rattle.crs_value.proofs.sound.FrameLemmas.{ellipsoid-tells, meridian-tells}
 use Rattle.crs_value.proofs.sound.PartLemmas.{ident-tells, named-tells, unit-tells}
 use Rattle.crs_value.proofs.sound.UsageLemmas.{box-tells, extent-tells, says-some, usage-tells}
 use Rattle.crs_value.proofs.laws.parts.parts_are_sound.Goals as goal
@@ -31,28 +31,16 @@ pub returns-clause-member : goal.returns-clause-member
 returns-clause-member c = named-tells
 
 pub returns-clause-datum : goal.returns-clause-datum
-returns-clause-datum c item value s r = (
-  datum-tells class.GeodeticFrame item value s r,
-  has-ellipsoid c.slots_count.ensures.least class.GeodeticFrame item value.ellipsoid (omega arith) s r.ellipsoid,
-)
+returns-clause-datum c = geodetic-datum-tells c.slots_count.ensures.least
 
 pub returns-clause-vertical_datum : goal.returns-clause-vertical_datum
-returns-clause-vertical_datum c item value s r = (
-  datum-tells class.VerticalFrame item value s r,
-  no-ellipsoid c.slots_count.ensures.most class.VerticalFrame item value.ellipsoid refl refl s r.ellipsoid,
-)
+returns-clause-vertical_datum c = vertical-datum-tells c.slots_count.ensures.most
 
 pub returns-clause-ensemble : goal.returns-clause-ensemble
-returns-clause-ensemble c item value s r = (
-  ensemble-tells c.slots_count.ensures.least class.GeodeticEnsemble (omega arith) item value s r,
-  has-ellipsoid c.slots_count.ensures.least class.GeodeticEnsemble item value.ellipsoid (omega arith) s r.ellipsoid,
-)
+returns-clause-ensemble c = geodetic-ensemble-tells c.slots_count.ensures.least
 
 pub returns-clause-vertical_ensemble : goal.returns-clause-vertical_ensemble
-returns-clause-vertical_ensemble c item value s r = (
-  ensemble-tells c.slots_count.ensures.least class.VerticalEnsemble (omega arith) item value s r,
-  no-ellipsoid c.slots_count.ensures.most class.VerticalEnsemble item value.ellipsoid refl refl s r.ellipsoid,
-)
+returns-clause-vertical_ensemble c = vertical-ensemble-tells c.slots_count.ensures.least c.slots_count.ensures.most
 
 pub returns-clause-bounding_box : goal.returns-clause-bounding_box
 returns-clause-bounding_box c = box-tells
