@@ -2,39 +2,18 @@
 -- at most the slots that take them.
 use Rattle.std.proofs.Common.{◌≡◌, ◌+◌, ◌≤◌, Bool, true, false, not, ◌&&◌, ◌||◌, List, [], ◌∷◌, ◌++◌, length, refl, sym, ◌∙◌, ap, arith, rules}
 use Rattle.std.specs.List.{list_any, list_all}
+use Rattle.std.proofs.lemmas.Bool.{and_parts}
 use denote.Enum.Bare.{sameb, same_true}
 use Rattle.crs_shape.specs.contracts.class.Class.{the_type}
 use Rattle.crs_shape.specs.declared.class.Class.{Class}
 use Rattle.crs_shape.specs.Slots.{SlotParts}
 use Rattle.crs_shape.specs.Shape.{AllTaken, Fills, AllFilled, joined, Allowed}
 use Rattle.crs_shape.specs.Counts.{one_if, how_many, least, most, is_bounded}
-use Rattle.crs_shape.proofs.BoolLemmas.{or-none-left, or-none-right, or-other, and-left, and-right}
+use Rattle.crs_shape.proofs.ListLemmas.{passes-all, passes-none}
 
 how_many-append : (p : Class → Bool) (xs ys : List Class) → how_many p (xs ++ ys) ≡ how_many p xs + how_many p ys
 how_many-append p [] ys = omega arith
 how_many-append p (x ∷ xs) ys = omega (arith, how_many-append p xs ys)
-
-passes-all : (p : Class → Bool) (c : Class) (ds : List Class) → list_any (λ d. sameb the_type d c) ds ≡ true → list_all p ds ≡ true → p c ≡ true
-passes-all p c [] e f = cc
-passes-all p c (d ∷ ds) e f =
-    elim (sameb the_type d c) as (λ b. sameb the_type d c ≡ b → p c ≡ true) [
-      | true ↦ λ same. ap p (sym (same_true the_type (search rules) d c same)) ∙ and-left _ _ f
-      | false ↦ λ other. passes-all p c ds (or-other _ _ e other) (and-right _ _ f)
-    ] refl
-
-passes-none : (p : Class → Bool) (c : Class) (ds : List Class) → list_any (λ d. sameb the_type d c) ds ≡ true → list_any p ds ≡ false → p c ≡ false
-passes-none p c [] e f = cc
-passes-none p c (d ∷ ds) e f =
-    elim (sameb the_type d c) as (λ b. sameb the_type d c ≡ b → p c ≡ false) [
-      | true ↦ λ same. ap p (sym (same_true the_type (search rules) d c same)) ∙ or-none-left _ _ f
-      | false ↦ λ other. passes-none p c ds (or-other _ _ e other) (or-none-right _ _ f)
-    ] refl
-
-one-if : (b : Bool) → b ≡ true → one_if b ≡ 1
-one-if b e = ap one_if e
-
-none-if : (b : Bool) → b ≡ false → one_if b ≡ 0
-none-if b e = ap one_if e
 
 few-if : (b : Bool) → one_if b ≤ 1
 few-if true = omega arith
@@ -45,13 +24,13 @@ few-if false = omega arith
 run-least : (p : Class → Bool) (s : SlotParts) (run : List Class) → Fills s run → s.required ≡ true → list_all p s.classes ≡ true → 1 ≤ how_many p run
 run-least p s [] f needed all = let h : 1 ≤ 0 = f.enough needed in absurd (omega (arith, h))
 run-least p s (c ∷ run) f needed all =
-    let one : one_if (p c) ≡ 1 = one-if (p c) (passes-all p c s.classes f.taken.0 all) in
+    let one : one_if (p c) ≡ 1 = ap one_if (passes-all p (λ d. sameb the_type d c) c (λ d. same_true the_type (search rules) d c) s.classes f.taken.0 all) in
     omega (arith, one)
 
 slot-least : (p : Class → Bool) (s : SlotParts) (run : List Class) → Fills s run → one_if (s.required && list_all p s.classes) ≤ how_many p run
 slot-least p s run f =
     elim (s.required && list_all p s.classes) as (λ b. (s.required && list_all p s.classes) ≡ b → one_if b ≤ how_many p run) [
-      | true ↦ λ e. run-least p s run f (and-left _ _ e) (and-right _ _ e)
+      | true ↦ λ e. run-least p s run f (and_parts _ _ e).0 (and_parts _ _ e).1
       | false ↦ λ e. omega arith
     ] refl
 
@@ -70,7 +49,7 @@ allowed-least p ss cs (runs, (fit, e)) = omega (arith, ap (how_many p) e, fit-le
 run-none : (p : Class → Bool) (s : SlotParts) (run : List Class) → AllTaken s run → list_any p s.classes ≡ false → how_many p run ≡ 0
 run-none p s [] taken none = refl
 run-none p s (c ∷ run) taken none =
-    omega (arith, none-if (p c) (passes-none p c s.classes taken.0 none), run-none p s run taken.1 none)
+    omega (arith, ap one_if (passes-none p (λ d. sameb the_type d c) c (λ d. same_true the_type (search rules) d c) s.classes taken.0 none), run-none p s run taken.1 none)
 
 run-few : (p : Class → Bool) (run : List Class) → length run ≤ 1 → how_many p run ≤ 1
 run-few p [] few = omega arith
@@ -94,7 +73,7 @@ fit-most p [] [] fit bounded = omega arith
 fit-most p [] (run ∷ runs) fit bounded = absurd fit
 fit-most p (s ∷ ss) [] fit bounded = absurd fit
 fit-most p (s ∷ ss) (run ∷ runs) fit bounded =
-    omega (arith, how_many-append p run (joined runs), slot-most p s run fit.0 (and-left _ _ bounded), fit-most p ss runs fit.1 (and-right _ _ bounded))
+    omega (arith, how_many-append p run (joined runs), slot-most p s run fit.0 (and_parts _ _ bounded).0, fit-most p ss runs fit.1 (and_parts _ _ bounded).1)
 
 pub allowed-most : (p : Class → Bool) (ss : List SlotParts) (cs : List Class) → is_bounded p ss ≡ true → Allowed ss cs → how_many p cs ≤ most p ss
 allowed-most p ss cs bounded (runs, (fit, e)) = omega (arith, ap (how_many p) e, fit-most p ss runs fit bounded)

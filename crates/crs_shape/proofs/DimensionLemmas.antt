@@ -1,13 +1,13 @@
 -- Dimensions as whole numbers, and as they are read.
 use Rattle.std.proofs.Common.{◌≡◌, ℕ, ◌*◌, ◌^◌, ◌<◌, inl, inr, nat_le, Bool, true, List, [], ◌∷◌, refl, subst, arith, leb-true}
 use Rattle.std.specs.List.{list_all}
+use Rattle.std.proofs.lemmas.Bool.{and_parts}
 use Rattle.crs_decimal.specs.Prelude.{Number, SameNumber, whole_number, Value, exact}
 use Rattle.crs_shape.specs.Choice.{OneIs}
 use Rattle.crs_shape.specs.declared.class.Class.{Class}
 use Rattle.crs_shape.specs.declared.system_type.SystemType.{SystemType}
 use Rattle.crs_shape.specs.declared.system_type.SystemType.TheVariants as types
 use Rattle.crs_shape.specs.Dimensions.{IsOneOf, dimensions_of}
-use Rattle.crs_shape.proofs.BoolLemmas.{and-left, and-right}
 use Rattle.crs_shape.proofs.KeywordTableLemmas.{every-class}
 
 -- no dimension of the table is above 3
@@ -22,8 +22,8 @@ small types.Vertical c = every-class (λ d. are_small (dimensions_of d types.Ver
 
 none-of : (v : Value) → ((n : ℕ) → n < 2 ^ 64 → ¬ (SameNumber (exact v) (whole_number n))) → (ns : List ℕ) → are_small ns ≡ true → IsOneOf v ns → ⊥
 none-of v none [] few h = h
-none-of v none (n ∷ ns) few (inl h) = let low = leb-true n 3 (and-left (nat_le n 3) (are_small ns) few) in none n (omega (arith, low)) h
-none-of v none (n ∷ ns) few (inr h) = none-of v none ns (and-right (nat_le n 3) (are_small ns) few) h
+none-of v none (n ∷ ns) few (inl h) = let low = leb-true n 3 (and_parts (nat_le n 3) (are_small ns) few).0 in none n (omega (arith, low)) h
+none-of v none (n ∷ ns) few (inr h) = none-of v none ns (and_parts (nat_le n 3) (are_small ns) few).1 h
 
 -- a number that isn't whole is no dimension
 pub no-dimension : (c : Class) (t : SystemType) (v : Value) → ((n : ℕ) → n < 2 ^ 64 → ¬ (SameNumber (exact v) (whole_number n))) → IsOneOf v (dimensions_of c t) → ⊥

@@ -1,6 +1,8 @@
 -- What could come at a fault of shape, as the loop over an item's arguments finds it.
 use Rattle.std.proofs.Common.{◌≡◌, ◌≢◌, ℕ, ◌<◌, inl, inr, Bool, true, false, ◌&&◌, Option, Some, None, List, [], ◌∷◌, ◌++◌, drop, filter, map, option_map, refl, sym, ◌∙◌, ap, subst, arith, rules}
 use Rattle.std.specs.List.{list_any}
+use Rattle.std.proofs.Math.Bool.{and-true}
+use Rattle.std.proofs.lemmas.List.{append-nil}
 use Rattle.std.proofs.lemmas.Map.Views.{any-filter_same}
 use denote.Enum.Bare.{sameb, same_true}
 use Rattle.crs_text.specs.Prelude.{Item, leaf, node, Siblings, End, More, arguments, first_of, rest_of, close_of, place_of, size_of, sizes, here, IsAt}
@@ -19,20 +21,16 @@ use Rattle.crs_shape.specs.Expected.{ExpectedParts, Follows, ExpectedIn, Expecte
 use Rattle.crs_shape.proofs.KeywordTableLemmas.{class-among}
 use Rattle.crs_shape.proofs.TableLemmas.{apart_tables}
 use Rattle.crs_shape.proofs.SlotLemmas.{end-allowed}
-use Rattle.crs_shape.proofs.FaultLemmas.{Reached, reached-start, reached-more, reached-begins, reached-not, exact-free, end-free, end-not, append-none}
+use Rattle.crs_shape.proofs.FaultLemmas.{Reached, reached-start, reached-more, reached-begins, reached-not, exact-free, end-free, end-not}
 use Rattle.crs_shape.proofs.FitLemmas.{from, HasNext, from_at, has_at, arguments-less, rest-less, first-has, step-is_of}
 
 -- ---- the classes
-
-both-true : (b : Bool) → (b && true) ≡ b
-both-true true = refl
-both-true false = refl
 
 -- the classes that a test takes from all classes are those that pass it
 pub among-passing : (p : Class → Bool) (c : Class) → list_any (λ d. sameb the_type d c) (filter p every_class) ≡ p c
 among-passing p c =
     any-filter_same (λ d. sameb the_type d c) p (p c) (λ d e. ap p (same_true the_type (search rules) d c e)) every_class
-    ∙ ap (λ b. p c && b) (class-among c) ∙ both-true (p c)
+    ∙ ap (λ b. p c && b) (class-among c) ∙ and-true (p c)
 
 -- a class may go where an allowed list goes on with it
 may_go-begins : (row : List SlotParts) (before : List Class) (slots : List SlotParts) (c : Class) → Reached row before slots → may_go slots c ≡ true → Begins row (before ++ c ∷ [])
@@ -61,7 +59,7 @@ follows parent place before slots r e is = record {
         (λ begins. same ∙ begins-may_go (slots_of parent) before slots c r begins),
       );
   may_end = (
-    (λ ends. subst (Allowed (slots_of parent)) (append-none before) (r.back [] (end-allowed slots (sym (ap (λ x. x.may_end) is) ∙ ends)))),
+    (λ ends. subst (Allowed (slots_of parent)) (append-nil before) (r.back [] (end-allowed slots (sym (ap (λ x. x.may_end) is) ∙ ends)))),
     (λ allowed. ap (λ x. x.may_end) is ∙ by_end (may_end slots) refl allowed),
   );
 }
@@ -166,7 +164,7 @@ free_later : (c d : Class) (close : ℕ) (before : List Class) (items : Siblings
     IsFree (Inside d (first_of items)) → IsFree (Among c close (before ++ d ∷ []) (rest_of items)) → IsFree (Among c close before items)
 free_later c d close before End some stands free later = absurd (some refl)
 free_later c d close before (More item items) some stands free later =
-    exact-free c before item (λ x f. Inside x item f) (λ b f. Among c close b items f) d stands.named stands free later
+    exact-free c before item (λ x f. Inside x item f) (λ b f. Among c close b items f) d stands free later
 
 module _ (tree : Item) (c : Class) (item : Item) (slots : List SlotParts) (id : ℕ) (going : Going tree c item slots (Some id)) where
   -- an argument that isn't allowed there
@@ -221,12 +219,6 @@ pub answered : (c : Class) (row : List Slot) (walk : Walk) (place other : ℕ) (
 answered c row walk place other e slots same is =
     let P : List SlotParts → ℕ → Type 0 = λ ss p. e ≡ record { parent = Some c; place = p; classes = filter (may_go (left walk.filled (drop walk.at ss))) every_class; may_end = may_end (left walk.filled (drop walk.at ss)) } in
     subst (λ ss. P ss place) (sym slots) (subst (P (slots_of c)) same is)
-
--- a text is of the class of its root
-pub root_is_of : (c : Class) (item : Item) → class_of_root item ≡ Some c → is_of c item ≡ true
-unfolding root_named
-root_is_of c (leaf kind place raw) e = cc
-root_is_of c (node place keyword square first others close) e = first-has root_classes keyword c e
 
 -- a class may come where the walk may go with it
 pub comes : (other : Option Class) (parent c : Class) (walk : Walk) (classes : List Class) → other ≡ Some parent → classes_left other walk ≡ classes →

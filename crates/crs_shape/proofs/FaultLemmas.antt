@@ -1,5 +1,7 @@
 -- The fault that the walk finds first is the one that the definition names, and there is no other.
 use Rattle.std.proofs.Common.{◌≡◌, ℕ, Bool, true, false, IsTrue, IsFalse, ◌⊎◌, inl, inr, Option, Some, None, List, [], ◌∷◌, ◌++◌, if◌then◌else◌, refl, sym, ◌∙◌, ap, subst, append_assoc}
+use Rattle.std.proofs.lemmas.Bool.{true≢false, false≢true}
+use Rattle.std.proofs.lemmas.List.{append-nil}
 use Rattle.crs_text.specs.Prelude.{Item, leaf, node, Siblings, End, More, RefusedAt}
 use Rattle.crs_shape.specs.declared.class.Class.{Class}
 use Rattle.crs_shape.specs.Keywords.{is_keyword}
@@ -15,10 +17,6 @@ abbrev pub IsExact : (RefusedAt → Type 0) → Option RefusedAt → Type 0
 IsExact Fault None = IsFree Fault
 IsExact Fault (Some fault) = IsOnly Fault fault
 
-pub append-none : (cs : List Class) → cs ++ [] ≡ cs
-append-none [] = refl
-append-none (c ∷ cs) = ap (λ r. c ∷ r) (append-none cs)
-
 -- these slots are left of a row after arguments of the classes `before`
 pub record Reached (row : List SlotParts) (before : List Class) (slots : List SlotParts) : Type 0 where
   pub apart : is_apart slots ≡ true
@@ -28,11 +26,12 @@ pub record Reached (row : List SlotParts) (before : List Class) (slots : List Sl
 pub reached-start : (row : List SlotParts) → is_apart row ≡ true → Reached row [] row
 reached-start row apart = record { apart = apart; there = λ cs h. h; back = λ cs h. h }
 
-one-more : (row : List SlotParts) (before : List Class) (c : Class) (cs : List Class) → Allowed row (before ++ (c ∷ cs)) → Allowed row ((before ++ c ∷ []) ++ cs)
-one-more row before c cs h = let P : List Class → Type 0 = λ r. Allowed row r in subst P (sym (append_assoc before (c ∷ []) cs)) h
+-- one more class stands behind those before, or before those behind
+pub one-more : (row : List SlotParts) (before : List Class) (c : Class) (cs : List Class) → Allowed row (before ++ (c ∷ cs)) → Allowed row ((before ++ c ∷ []) ++ cs)
+one-more row before c cs = subst (Allowed row) (sym (append_assoc before (c ∷ []) cs))
 
-one-less : (row : List SlotParts) (before : List Class) (c : Class) (cs : List Class) → Allowed row ((before ++ c ∷ []) ++ cs) → Allowed row (before ++ (c ∷ cs))
-one-less row before c cs h = let P : List Class → Type 0 = λ r. Allowed row r in subst P (append_assoc before (c ∷ []) cs) h
+pub one-less : (row : List SlotParts) (before : List Class) (c : Class) (cs : List Class) → Allowed row ((before ++ c ∷ []) ++ cs) → Allowed row (before ++ (c ∷ cs))
+one-less row before c cs = subst (Allowed row) (append_assoc before (c ∷ []) cs)
 
 goes : (slots : List SlotParts) → is_apart slots ≡ true → (c : Class) (cs : List Class) → Allowed slots (c ∷ cs) → Goes slots c cs
 goes slots apart c cs h = goes-along slots apart h.0 h.1.0 c cs (sym h.1.1)
@@ -44,8 +43,7 @@ reached-more row before slots next c r e = record {
   there = λ cs h.
       let g : Goes slots c cs = goes slots r.apart c cs (r.there (c ∷ cs) (one-less row before c cs h)) in
       let same : g.0 ≡ next = let s : Some g.0 ≡ Some next = sym g.1.0 ∙ e in cc in
-      let P : List SlotParts → Type 0 = λ n. Allowed n cs in
-      subst P same g.1.1;
+      subst (λ n. Allowed n cs) same g.1.1;
   back = λ cs h. one-more row before c cs (r.back (c ∷ cs) (goes-back slots c next cs e h));
 }
 
@@ -71,61 +69,39 @@ OrLater Within Later before fault c = Within c fault ⊎ (IsFree (Within c) × L
 pub same_class : (parent : Class) (before : List Class) (item : Item) (c d : Class) → class_in parent item ≡ Some c → Stands parent before item d → d ≡ c
 same_class parent before item c d e stands = let both : Some d ≡ Some c = sym stands.named ∙ e in cc
 
-exact-none : (parent : Class) (before : List Class) (item : Item) (Within : Class → RefusedAt → Type 0) (Later : List Class → RefusedAt → Type 0) →
-    ((c : Class) → Stands parent before item c → ⊥) → IsOnly (ArgumentFault parent before item Within Later) (misplaced item)
-exact-none parent before item Within Later none = (inl (none, refl), only)
-  where
-    only : (other : RefusedAt) → ArgumentFault parent before item Within Later other → other ≡ misplaced item
-    only other (inl (n, e)) = e
-    only other (inr (c, (stands, rest))) = absurd (none c stands)
+module _ (parent : Class) (before : List Class) (item : Item) (Within : Class → RefusedAt → Type 0) (Later : List Class → RefusedAt → Type 0) where
+  exact-none : ((c : Class) → Stands parent before item c → ⊥) → IsOnly (ArgumentFault parent before item Within Later) (misplaced item)
+  exact-none none = (inl (none, refl), only)
+    where
+      only : (other : RefusedAt) → ArgumentFault parent before item Within Later other → other ≡ misplaced item
+      only other (inl (n, e)) = e
+      only other (inr (c, (stands, rest))) = absurd (none c stands)
 
-exact-within : (parent : Class) (before : List Class) (item : Item) (Within : Class → RefusedAt → Type 0) (Later : List Class → RefusedAt → Type 0) (c : Class) (g : RefusedAt) →
-    class_in parent item ≡ Some c → Stands parent before item c → IsOnly (Within c) g → IsOnly (ArgumentFault parent before item Within Later) g
-exact-within parent before item Within Later c g e stands w = (inr (c, (stands, inl w.0)), only)
-  where
-    only_rest : (other : RefusedAt) → OrLater Within Later before other c → other ≡ g
-    only_rest other (inl x) = w.1 other x
-    only_rest other (inr (free, later)) = absurd (free g w.0)
+  -- an argument that stands there as a class has its faults as that
+  stands-as : (c : Class) → Stands parent before item c → (fault : RefusedAt) → ArgumentFault parent before item Within Later fault → OrLater Within Later before fault c
+  stands-as c stands fault (inl (none, e)) = absurd (none c stands)
+  stands-as c stands fault (inr (d, (other, rest))) = subst (OrLater Within Later before fault) (same_class parent before item c d stands.named other) rest
 
-    only : (other : RefusedAt) → ArgumentFault parent before item Within Later other → other ≡ g
-    only other (inl (none, e2)) = absurd (none c stands)
-    only other (inr (d, (stands2, rest))) =
-        only_rest other (subst (OrLater Within Later before other) (same_class parent before item c d e stands2) rest)
+  exact-or_later : (c : Class) → Stands parent before item c → (w l : Option RefusedAt) → IsExact (Within c) w → IsExact (Later (before ++ c ∷ [])) l →
+      IsExact (ArgumentFault parent before item Within Later) (or_later w l)
+  exact-or_later c stands (Some g) l w later = (inr (c, (stands, inl w.0)), λ other h. only other (stands-as c stands other h))
+    where
+      only : (other : RefusedAt) → OrLater Within Later before other c → other ≡ g
+      only other (inl x) = w.1 other x
+      only other (inr (free, x)) = absurd (free g w.0)
+  exact-or_later c stands None (Some g) w later = (inr (c, (stands, inr (w, later.0))), λ other h. only other (stands-as c stands other h))
+    where
+      only : (other : RefusedAt) → OrLater Within Later before other c → other ≡ g
+      only other (inl x) = absurd (w other x)
+      only other (inr (free, x)) = later.1 other x
+  exact-or_later c stands None None w later = λ other h. no (stands-as c stands other h)
+    where
+      no : {other : RefusedAt} → OrLater Within Later before other c → ⊥
+      no {other} (inl x) = w other x
+      no {other} (inr (free, x)) = later other x
 
-exact-later : (parent : Class) (before : List Class) (item : Item) (Within : Class → RefusedAt → Type 0) (Later : List Class → RefusedAt → Type 0) (c : Class) (g : RefusedAt) →
-    class_in parent item ≡ Some c → Stands parent before item c → IsFree (Within c) → IsOnly (Later (before ++ c ∷ [])) g →
-    IsOnly (ArgumentFault parent before item Within Later) g
-exact-later parent before item Within Later c g e stands free l = (inr (c, (stands, inr (free, l.0))), only)
-  where
-    only_rest : (other : RefusedAt) → OrLater Within Later before other c → other ≡ g
-    only_rest other (inl x) = absurd (free other x)
-    only_rest other (inr (f, later)) = l.1 other later
-
-    only : (other : RefusedAt) → ArgumentFault parent before item Within Later other → other ≡ g
-    only other (inl (none, e2)) = absurd (none c stands)
-    only other (inr (d, (stands2, rest))) =
-        only_rest other (subst (OrLater Within Later before other) (same_class parent before item c d e stands2) rest)
-
-pub exact-free : (parent : Class) (before : List Class) (item : Item) (Within : Class → RefusedAt → Type 0) (Later : List Class → RefusedAt → Type 0) (c : Class) →
-    class_in parent item ≡ Some c → Stands parent before item c → IsFree (Within c) → IsFree (Later (before ++ c ∷ [])) →
-    IsFree (ArgumentFault parent before item Within Later)
-exact-free parent before item Within Later c e stands free l = only
-  where
-    only_rest : (other : RefusedAt) → OrLater Within Later before other c → ⊥
-    only_rest other (inl x) = free other x
-    only_rest other (inr (f, later)) = l other later
-
-    only : (other : RefusedAt) → ArgumentFault parent before item Within Later other → ⊥
-    only other (inl (none, e2)) = none c stands
-    only other (inr (d, (stands2, rest))) =
-        only_rest other (subst (OrLater Within Later before other) (same_class parent before item c d e stands2) rest)
-
-exact-or_later : (parent : Class) (before : List Class) (item : Item) (Within : Class → RefusedAt → Type 0) (Later : List Class → RefusedAt → Type 0) (c : Class) →
-    class_in parent item ≡ Some c → Stands parent before item c → (w l : Option RefusedAt) → IsExact (Within c) w → IsExact (Later (before ++ c ∷ [])) l →
-    IsExact (ArgumentFault parent before item Within Later) (or_later w l)
-exact-or_later parent before item Within Later c e stands (Some g) l hw hl = exact-within parent before item Within Later c g e stands hw
-exact-or_later parent before item Within Later c e stands None (Some g) hw hl = exact-later parent before item Within Later c g e stands hw hl
-exact-or_later parent before item Within Later c e stands None None hw hl = exact-free parent before item Within Later c e stands hw hl
+  pub exact-free : (c : Class) → Stands parent before item c → IsFree (Within c) → IsFree (Later (before ++ c ∷ [])) → IsFree (ArgumentFault parent before item Within Later)
+  exact-free c stands = exact-or_later c stands None None
 
 exact-argument : (parent : Class) (before : List Class) (slots : List SlotParts) (item : Item)
     (Within : Class → RefusedAt → Type 0) (Later : List Class → RefusedAt → Type 0) (within : Class → Option RefusedAt) (later : List SlotParts → Option RefusedAt) →
@@ -139,10 +115,10 @@ exact-argument parent before slots item Within Later within later r hw hl =
           elim (after slots c) as (λ o. after slots c ≡ o → IsExact (ArgumentFault parent before item Within Later) (fault_by item within later (step_to c o))) [
             | None ↦ λ f. exact-none parent before item Within Later
                 (λ d stands.
-                let P : Class → Type 0 = λ x. Begins (slots_of parent) (before ++ x ∷ []) in
-                reached-not (slots_of parent) before slots c r f (subst P (same_class parent before item c d e stands) stands.begins))
+                reached-not (slots_of parent) before slots c r f
+                (subst (λ x. Begins (slots_of parent) (before ++ x ∷ [])) (same_class parent before item c d e stands) stands.begins))
             | Some next ↦ λ f.
-                exact-or_later parent before item Within Later c e
+                exact-or_later parent before item Within Later c
                 (record { named = e; begins = reached-begins (slots_of parent) before slots next c r f })
                 (within c) (later next) (hw c) (hl (before ++ c ∷ []) next (reached-more (slots_of parent) before slots next c r f))
           ] refl
@@ -151,68 +127,51 @@ exact-argument parent before slots item Within Later within later r hw hl =
 pub end-free : (parent : Class) (close : ℕ) (before : List Class) (slots : List SlotParts) → Reached (slots_of parent) before slots → may_end slots ≡ true →
     IsFree (Among parent close before End)
 end-free parent close before slots r e fault (refused, same) =
-    let P : List Class → Type 0 = λ x. Allowed (slots_of parent) x in
-    refused (subst P (append-none before) (r.back [] (end-allowed slots e)))
+    refused (subst (Allowed (slots_of parent)) (append-nil before) (r.back [] (end-allowed slots e)))
 
 pub end-not : (parent : Class) (before : List Class) (slots : List SlotParts) → Reached (slots_of parent) before slots → may_end slots ≡ false →
     Allowed (slots_of parent) before → ⊥
 end-not parent before slots r e h =
-    let P : List Class → Type 0 = λ x. Allowed (slots_of parent) x in
-    let a : Allowed slots [] = r.there [] (subst P (sym (append-none before)) h) in
+    let a : Allowed slots [] = r.there [] (subst (Allowed (slots_of parent)) (sym (append-nil before)) h) in
     let t : may_end slots ≡ true = allowed-end slots a.0 a.1.0 a.1.1 in
     cc
-
-end-missing : (parent : Class) (close : ℕ) (before : List Class) → (Allowed (slots_of parent) before → ⊥) → IsOnly (Among parent close before End) (missing close)
-end-missing parent close before refused = ((refused, refl), (λ other h. h.1))
 
 exact-end : (parent : Class) (close : ℕ) (before : List Class) (slots : List SlotParts) → Reached (slots_of parent) before slots →
     IsExact (Among parent close before End) (if may_end slots then None else Some (missing close))
 exact-end parent close before slots r =
     elim (may_end slots) as (λ b. may_end slots ≡ b → IsExact (Among parent close before End) (if b then None else Some (missing close))) [
       | true ↦ λ e. end-free parent close before slots r e
-      | false ↦ λ e. end-missing parent close before (end-not parent before slots r e)
+      | false ↦ λ e. ((end-not parent before slots r e, refl), λ other h. h.1)
     ] refl
-
-leaf-missing : (item : Item) → IsOnly (λ fault. IsFalse false × (fault ≡ misplaced item)) (misplaced item)
-leaf-missing item = ((refl, refl), (λ other h. h.1))
-
-leaf-free : (item : Item) → IsFree (λ fault. IsFalse true × (fault ≡ misplaced item))
-leaf-free item fault h = let e : true ≡ false = h.0 in cc
 
 exact-leaf : (c : Class) (item : Item) → IsExact (λ fault. IsFalse (is_of c item) × (fault ≡ misplaced item)) (if is_of c item then None else Some (misplaced item))
 exact-leaf c item =
     elim (is_of c item) as (λ b. IsExact (λ fault. IsFalse b × (fault ≡ misplaced item)) (if b then None else Some (misplaced item))) [
-      | true ↦ leaf-free item
-      | false ↦ leaf-missing item
+      | true ↦ λ fault h. absurd (true≢false h.0)
+      | false ↦ ((refl, refl), λ other h. h.1)
     ]
 
 -- the fault of an item by its keyword, where `Arguments` are the faults of its arguments
 abbrev ByKeyword : Bool → Item → (RefusedAt → Type 0) → RefusedAt → Type 0
 ByKeyword b item Arguments fault = (IsFalse b × (fault ≡ misplaced item)) ⊎ (IsTrue b × Arguments fault)
 
-keyword-missing : (item : Item) (Arguments : RefusedAt → Type 0) → IsOnly (ByKeyword false item Arguments) (misplaced item)
-keyword-missing item Arguments = (inl (refl, refl), only)
-  where
-    only : (other : RefusedAt) → ByKeyword false item Arguments other → other ≡ misplaced item
-    only other (inl h) = h.1
-    only other (inr h) = let e : false ≡ true = h.0 in cc
-
-keyword-rest : (item : Item) (Arguments : RefusedAt → Type 0) (found : Option RefusedAt) → IsExact Arguments found → IsExact (ByKeyword true item Arguments) found
-keyword-rest item Arguments None h = free
-  where
-    free : (fault : RefusedAt) → ByKeyword true item Arguments fault → ⊥
-    free fault (inl x) = let e : true ≡ false = x.0 in cc
-    free fault (inr x) = h fault x.1
-keyword-rest item Arguments (Some g) h = (inr (refl, h.0), only)
-  where
-    only : (other : RefusedAt) → ByKeyword true item Arguments other → other ≡ g
-    only other (inl x) = let e : true ≡ false = x.0 in cc
-    only other (inr x) = h.1 other x.1
-
 by-keyword : (b : Bool) (item : Item) (Arguments : RefusedAt → Type 0) (found : Option RefusedAt) → IsExact Arguments found →
     IsExact (ByKeyword b item Arguments) (if b then found else Some (misplaced item))
-by-keyword true item Arguments found h = keyword-rest item Arguments found h
-by-keyword false item Arguments found h = keyword-missing item Arguments
+by-keyword false item Arguments found h = (inl (refl, refl), only)
+  where
+    only : (other : RefusedAt) → ByKeyword false item Arguments other → other ≡ misplaced item
+    only other (inl x) = x.1
+    only other (inr x) = absurd (false≢true x.0)
+by-keyword true item Arguments None h = free
+  where
+    free : (fault : RefusedAt) → ByKeyword true item Arguments fault → ⊥
+    free fault (inl x) = true≢false x.0
+    free fault (inr x) = h fault x.1
+by-keyword true item Arguments (Some g) h = (inr (refl, h.0), only)
+  where
+    only : (other : RefusedAt) → ByKeyword true item Arguments other → other ≡ g
+    only other (inl x) = absurd (true≢false x.0)
+    only other (inr x) = h.1 other x.1
 
 mutual
   unfolding first_inside first_in_arguments
@@ -258,11 +217,11 @@ root-err item c g e h = (inr (c, (e, h.0)), only)
   where
     only : (other : RefusedAt) → AtRoot item other → other ≡ g
     only other (inl x) = let both : Some c ≡ None = sym e ∙ x.0 in cc
-    only other (inr (d, x)) = let P : Class → Type 0 = λ y. Inside y item other in h.1 other (subst P (root-same item c d e x.0) x.1)
+    only other (inr (d, x)) = h.1 other (subst (λ y. Inside y item other) (root-same item c d e x.0) x.1)
 
 pub root-ok : (item : Item) (c : Class) → class_of_root item ≡ Some c → IsFree (Inside c item) → IsFree (AtRoot item)
 root-ok item c e h = free
   where
     free : (other : RefusedAt) → AtRoot item other → ⊥
     free other (inl x) = let both : Some c ≡ None = sym e ∙ x.0 in cc
-    free other (inr (d, x)) = let P : Class → Type 0 = λ y. Inside y item other in h other (subst P (root-same item c d e x.0) x.1)
+    free other (inr (d, x)) = h other (subst (λ y. Inside y item other) (root-same item c d e x.0) x.1)

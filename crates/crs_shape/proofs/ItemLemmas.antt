@@ -1,6 +1,7 @@
 -- What the keyword that an item was read with says of a node, whose word it is.
 use Rattle.std.proofs.Common.{◌≡◌, Bool, true, false, List, [], ◌∷◌, Some, if◌then◌else◌, refl}
 use Rattle.std.specs.List.{find}
+use Rattle.std.proofs.lemmas.Bool.{or_parts}
 use denote.Enum.Bare.{sameb}
 use Rattle.crs_text.specs.Prelude.{number, text, word, Item, leaf, node, kind_of_item, raw_of, keyword_in, AreSpelled}
 use Rattle.crs_text.specs.declared.items.ItemKind.TheVariants.{Node}
@@ -11,7 +12,6 @@ use Rattle.crs_shape.specs.KeywordTable.{classes_by, is_among, is_part, is_root}
 use Rattle.crs_shape.specs.Shape.{has_class}
 use Rattle.crs_shape.specs.ShapeFault.{class_in, class_of_root, is_of}
 use Rattle.crs_shape.specs.Slots.{is_class}
-use Rattle.crs_shape.proofs.BoolLemmas.{or-none-left, or-none-right}
 use Rattle.crs_shape.proofs.KeywordLemmas.{class_named-table, root_named-table, is_known-table, is_keyword-table}
 
 pub class_in-node : AreSpelled → (parent : Class) (item : Item) → Node ≡ kind_of_item item →
@@ -44,6 +44,6 @@ pub not-among : (c : Class) (test : Class → Bool) (cs : List Class) → is_amo
 not-among c test [] e = refl
 not-among c test (d ∷ ds) e =
     elim (test d) as (λ b. is_class c (if b then Some d else find test ds) ≡ false) [
-      | true ↦ or-none-left (sameb the_type d c) (is_among c ds) e
-      | false ↦ not-among c test ds (or-none-right (sameb the_type d c) (is_among c ds) e)
+      | true ↦ (or_parts (sameb the_type d c) (is_among c ds) e).0
+      | false ↦ not-among c test ds (or_parts (sameb the_type d c) (is_among c ds) e).1
     ]

@@ -2,7 +2,9 @@
 -- letter case aside, each keyword's classes are right, and no keyword of a class is left out.
 use Rattle.std.proofs.Common.{◌≡◌, ℕ, Bool, true, false, ◌||◌, ◌&&◌, List, [], ◌∷◌, Some, None, filter, if◌then◌else◌, refl, sym, ap, ◌∙◌, rules}
 use Rattle.std.specs.List.{list_any, find}
+use Rattle.std.specs.Cmp.{both_ways}
 use Rattle.std.specs.Str.{str_eq_ignore_ascii_case, str_to_ascii_lowercase}
+use Rattle.std.proofs.Math.Bool.{and-true}
 use Rattle.std.proofs.lemmas.Map.Views.{any-filter_same}
 use Rattle.std.proofs.lemmas.Slice.Eq.{bytes_eq-Decides}
 use denote.Enum.Bare.{sameb, same_true, true_same}
@@ -19,31 +21,18 @@ use Rattle.crs_shape.proofs.KeywordTableLemmas.{class-among, named, named_root}
 
 -- A word that is a keyword
 
-pub true-false : true ≡ false → ⊥
-true-false p = cc
-
 abbrev is_this : Keyword → Keyword → Bool
 is_this k j = sameb keywords.the_type j k
 
 spells-one : AreSpelled → (word : List ℕ) (k j : Keyword) → keyword_of word ≡ Some k →
     str_eq_ignore_ascii_case (spelling_of j) word ≡ is_this k j
 spells-one law word k j e =
-    elim (str_eq_ignore_ascii_case (spelling_of j) word)
-    as (λ b. str_eq_ignore_ascii_case (spelling_of j) word ≡ b → b ≡ is_this k j) [
-      | true ↦ λ f. sym (true_same keywords.the_type j k (some-same (sym ((law j word).0 f) ∙ e)))
-      | false ↦ λ f. not-this f
-    ] refl
+    both_ways _ _
+    (λ f. true_same keywords.the_type j k (some-same (sym ((law j word).0 f) ∙ e)))
+    (λ g. (law j word).1 (e ∙ ap Some (sym (same_true keywords.the_type (search rules) j k g))))
   where
     some-same : {a b : Keyword} → Some a ≡ Some b → a ≡ b
     some-same p = cc
-
-    not-this : str_eq_ignore_ascii_case (spelling_of j) word ≡ false → false ≡ is_this k j
-    not-this f =
-        elim (is_this k j) as (λ b. is_this k j ≡ b → false ≡ b) [
-          | true ↦ λ g. absurd (true-false
-              (sym ((law j word).1 (e ∙ ap Some (sym (same_true keywords.the_type (search rules) j k g)))) ∙ f))
-          | false ↦ λ g. refl
-        ] refl
 
 one-of : AreSpelled → (word : List ℕ) (k : Keyword) → keyword_of word ≡ Some k →
     (ks : List Keyword) → is_one_of ks word ≡ list_any (is_this k) ks
@@ -152,10 +141,6 @@ among-classes_of c k =
     (λ d e. ap (λ x. has_keyword x k) (same_true classes.the_type (search rules) d c e)) every_class
     ∙ ap (λ b. has_keyword c k && b) (class-among c)
     ∙ and-true (has_keyword c k)
-  where
-    and-true : (b : Bool) → (b && true) ≡ b
-    and-true true = refl
-    and-true false = refl
 
 pub is_keyword-table : AreSpelled → (c : Class) (word : List ℕ) → is_among c (classes_by (keyword_of word)) ≡ is_keyword c word
 is_keyword-table law c word =

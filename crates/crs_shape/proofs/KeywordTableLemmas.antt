@@ -1,7 +1,7 @@
 -- What the table of keywords says, row by row, by computation.
-use Rattle.std.proofs.Common.{◌≡◌, ℕ, Bool, true, false, not, List, length, Option, Some, None, ◌==◌, ◌&&◌, ◌||◌, [], ◌∷◌, if◌then◌else◌, ap, subst, sym, ◌∙◌, refl, rules}
+use Rattle.std.proofs.Common.{◌≡◌, ℕ, Bool, true, false, not, List, length, Option, Some, None, ◌==◌, ◌&&◌, ◌||◌, [], ◌∷◌, if◌then◌else◌, inl, inr, ap, subst, sym, ◌∙◌, refl, rules}
 use Rattle.std.specs.List.{list_all, list_any, find}
-use Rattle.std.proofs.lemmas.Bool.{agree_below_at}
+use Rattle.std.proofs.lemmas.Bool.{agree_below_at, and_parts, cases_Bool}
 use denote.Enum.Bare.{sameb, same_true}
 use denote.Enum.Declared.{rowss, tag_of}
 use denote.Enum.Enum.{tag_below}
@@ -13,7 +13,7 @@ use Rattle.crs_shape.specs.declared.class.Class.{Class}
 use Rattle.crs_shape.specs.Keywords.{every_class, has_keyword, is_keyword, root_named}
 use Rattle.crs_shape.specs.KeywordTable.{classes_of, is_among, is_part, is_root, rivals_of, IsClear}
 use Rattle.crs_shape.specs.Slots.{class_named}
-use Rattle.crs_shape.proofs.BoolLemmas.{and-left, and-right}
+use Rattle.crs_shape.proofs.ListLemmas.{passes-all, passes-none}
 
 -- each class is among all, and each keyword: by its number
 
@@ -29,24 +29,13 @@ keyword-among k =
 
 -- what all pass, each passes
 
-among-passes : {X : Type 0} (test same : X → Bool) (xs : List X) (x : X) → ((y : X) → same y ≡ true → y ≡ x) →
-    list_all test xs ≡ true → list_any same xs ≡ true → test x ≡ true
-among-passes test same [] x is all e = cc
-among-passes test same (y ∷ ys) x is all e =
-    elim (same y) as (λ b. same y ≡ b → (b || list_any same ys) ≡ true → test x ≡ true) [
-      | true ↦ λ f g. ap test (sym (is y f)) ∙ and-left (test y) (list_all test ys) all
-      | false ↦ λ f g. among-passes test same ys x is (and-right (test y) (list_all test ys) all) g
-    ] refl e
-
 pub every-class : (test : Class → Bool) → list_all test every_class ≡ true → (c : Class) → test c ≡ true
 every-class test all c =
-    among-passes test (λ d. sameb classes.the_type d c) every_class c
-    (λ d e. same_true classes.the_type (search rules) d c e) all (class-among c)
+    passes-all test (λ d. sameb classes.the_type d c) c (λ d. same_true classes.the_type (search rules) d c) every_class (class-among c) all
 
 pub every-keyword : (test : Keyword → Bool) → list_all test every_keyword ≡ true → (k : Keyword) → test k ≡ true
 every-keyword test all k =
-    among-passes test (λ j. sameb keywords.the_type j k) every_keyword k
-    (λ j e. same_true keywords.the_type (search rules) j k e) all (keyword-among k)
+    passes-all test (λ j. sameb keywords.the_type j k) k (λ j. same_true keywords.the_type (search rules) j k) every_keyword (keyword-among k) all
 
 -- whether two answers are the same
 abbrev same_class : Option Class → Option Class → Bool
@@ -111,18 +100,17 @@ settled c k has =
     unless true b e f = f
     unless false b e f = cc
 
--- where none of some classes passes, each of them doesn't
+-- none is found where none passes
+find-none : (test : Class → Bool) (cs : List Class) → find test cs ≡ None → list_any test cs ≡ false
+find-none test [] none = refl
+find-none test (c ∷ cs) none = elim (cases_Bool (test c)) [
+  | inl e ↦ absurd (let never : ◌≡◌ {A = Option Class} (Some c) None = rw e at none in cc)
+  | inr e ↦ rw e (find-none test cs (rw e at none))
+]
+
 none-passes : (test : Class → Bool) (cs : List Class) (d : Class) → find test cs ≡ None → is_among d cs ≡ true → test d ≡ false
-none-passes test [] d none among = cc
-none-passes test (c ∷ cs) d none among =
-    elim (test c) as (λ b. test c ≡ b → (if b then Some c else find test cs) ≡ None → test d ≡ false) [
-      | true ↦ λ e n. cc
-      | false ↦ λ e n.
-          elim (sameb classes.the_type c d) as (λ b. sameb classes.the_type c d ≡ b → (b || is_among d cs) ≡ true → test d ≡ false) [
-            | true ↦ λ f a. ap test (sym (same_true classes.the_type (search rules) c d f)) ∙ e
-            | false ↦ λ f a. none-passes test cs d n a
-          ] refl among
-    ] refl none
+none-passes test cs d none among =
+    passes-none test (λ c. sameb classes.the_type c d) d (λ c. same_true classes.the_type (search rules) c d) cs among (find-none test cs none)
 
 first-settled : (test : Class → Bool) (c : Class) (cs : List Class) → is_among c cs ≡ true → is_settled c cs ≡ true → test c ≡ true → find test (rivals_of c) ≡ None →
     find test cs ≡ Some c
@@ -134,8 +122,8 @@ first-settled test c (d ∷ ds) among settled own none =
           let P : Class → Type 0 = λ x. (if test x then Some x else find test ds) ≡ Some c in
           subst P (sym (same_true classes.the_type (search rules) d c e)) (ap (λ b. if b then Some c else find test ds) own)
       | false ↦ λ e a s.
-          ap (λ b. if b then Some d else find test ds) (none-passes test (rivals_of c) d none (and-left (is_among d (rivals_of c)) (is_settled c ds) s))
-          ∙ first-settled test c ds a (and-right (is_among d (rivals_of c)) (is_settled c ds) s) own none
+          ap (λ b. if b then Some d else find test ds) (none-passes test (rivals_of c) d none (and_parts _ _ s).0)
+          ∙ first-settled test c ds a (and_parts _ _ s).1 own none
     ] refl among settled
 
 -- a keyword of a class names it where it is clear

@@ -1,4 +1,3 @@
-pub mod BoolLemmas
 pub mod ClassSetLemmas
 pub mod CountLemmas
 pub mod DimensionLemmas

@@ -1,13 +1,14 @@
 -- A refusal of shape and what could come there.
 use Rattle.std.proofs.Common.{◌≡◌, ℕ, Bool, true, false, IsTrue, inl, inr, ◌⊎◌, Some, None, List, [], ◌∷◌, ◌++◌, refl, sym, ◌∙◌, ap, subst}
+use Rattle.std.specs.Cmp.{both_ways}
+use Rattle.std.proofs.lemmas.Bool.{false_from_ne_true}
 use Rattle.crs_text.specs.Prelude.{Item, leaf, node, Siblings, End, More, RefusedAt}
 use Rattle.crs_shape.specs.declared.class.Class.{Class}
 use Rattle.crs_shape.specs.ShapeFault.{class_in, is_of, misplaced, missing, IsFree, Stands, Inside, Among, class_of_root, AtRoot}
 use Rattle.crs_shape.specs.Expected.{ExpectedParts, may_come, Follows, ExpectedIn, ExpectedAmong, ExpectedAtRoot}
 use Rattle.crs_shape.specs.RefusedItem.{IsWithin, IsWithinAny, class_at, IsRefusedThere, AreAlike}
 use Rattle.crs_shape.proofs.FaultLemmas.{same_class}
-use Rattle.crs_shape.proofs.FitLemmas.{class-is_of}
-use Rattle.crs_shape.proofs.ExpectedLemmas.{root_is_of}
+use Rattle.crs_shape.proofs.FitLemmas.{class-is_of, root-is_of}
 
 -- ---- where something could come, there is a fault
 
@@ -43,18 +44,12 @@ not_free parent c d before item e one other free x =
 
 -- ---- the answer is one
 
-same_bool : (a b : Bool) → (IsTrue a → IsTrue b) → (IsTrue b → IsTrue a) → a ≡ b
-same_bool true true f g = refl
-same_bool false false f g = refl
-same_bool true false f g = sym (f refl)
-same_bool false true f g = g refl
-
 alike_there : (parent : Class) (place : ℕ) (before : List Class) (a b : ExpectedParts) → Follows parent place before a → Follows parent place before b → AreAlike a b
 alike_there parent place before a b x y = record {
   parent = x.is_parent ∙ sym y.is_parent;
   place = x.is_place ∙ sym y.is_place;
-  classes = λ c. same_bool (may_come a c) (may_come b c) (λ t. (y.classes c).1 ((x.classes c).0 t)) (λ t. (x.classes c).1 ((y.classes c).0 t));
-  may_end = same_bool a.may_end b.may_end (λ t. y.may_end.1 (x.may_end.0 t)) (λ t. x.may_end.1 (y.may_end.0 t));
+  classes = λ c. both_ways (may_come a c) (may_come b c) (λ t. (y.classes c).1 ((x.classes c).0 t)) (λ t. (x.classes c).1 ((y.classes c).0 t));
+  may_end = both_ways a.may_end b.may_end (λ t. y.may_end.1 (x.may_end.0 t)) (λ t. x.may_end.1 (y.may_end.0 t));
 }
 
 mutual
@@ -99,16 +94,12 @@ alike_at_root item a b (inr (d, (some, x))) (inr (k, (other, y))) =
 
 -- ---- the refused item
 
-not_true : (b : Bool) → (IsTrue b → ⊥) → b ≡ false
-not_true true no_way = absurd (no_way refl)
-not_true false no_way = refl
-
 -- an argument that isn't allowed there
 refused_here : (parent : Class) (place : ℕ) (before : List Class) (item : Item) (e : ExpectedParts) → ((d : Class) → Stands parent before item d → ⊥) → Follows parent place before e →
     (c : Class) → class_at e.parent item ≡ Some c → may_come e c ≡ false
 refused_here parent place before item e none follows c named =
     let is : class_in parent item ≡ Some c = ap (λ o. class_at o item) (sym follows.is_parent) ∙ named in
-    not_true (may_come e c) (λ t. none c (record { named = is; begins = (follows.classes c).0 t }))
+    false_from_ne_true (may_come e c) (λ t. none c (record { named = is; begins = (follows.classes c).0 t }))
 
 -- a refused item of an argument, or of those after it, is one of the whole
 outwards : (item whole : Item) (fault : RefusedAt) (e : ExpectedParts) → ((found : Item) → IsWithin item found → IsWithin whole found) → IsRefusedThere item fault e → IsRefusedThere whole fault e
@@ -160,7 +151,7 @@ mutual
 
   refused_among : (c : Class) (place close : ℕ) (before : List Class) (items : Siblings) (fault : RefusedAt) (e : ExpectedParts) →
       Among c close before items fault → ExpectedAmong c place before items e → IsRefusedAmong items fault e
-  refused_among c place close before End fault e x y = inr (ap (λ z. z.number) x.1, not_true e.may_end (λ t. x.0 (y.1.may_end.0 t)))
+  refused_among c place close before End fault e x y = inr (ap (λ z. z.number) x.1, false_from_ne_true e.may_end (λ t. x.0 (y.1.may_end.0 t)))
   refused_among c place close before (More item items) fault e (inl (none, x)) (inl (neither, y)) =
       inl (item, (inl (itself item), x, refused_here c place before item e none y))
   refused_among c place close before (More item items) fault e (inl (none, x)) (inr (d, (stands, y))) = absurd (none d stands)
@@ -193,4 +184,4 @@ refused_at_root item fault e (inr (d, (some, x))) (inl (none, y)) = absurd (let 
 refused_at_root item fault e (inr (d, (some, x))) (inr (k, (other, y))) =
     let both : Some k ≡ Some d = sym other ∙ some in
     let same : k ≡ d = cc in
-    refused_inside d item fault e (root_is_of d item some) x (subst (λ z. ExpectedIn z item e) same y)
+    refused_inside d item fault e (root-is_of d item some) x (subst (λ z. ExpectedIn z item e) same y)

@@ -1,5 +1,7 @@
 -- An item has no fault of shape exactly where it is shaped.
 use Rattle.std.proofs.Common.{◌≡◌, ℕ, Bool, true, false, inl, inr, Option, Some, None, List, [], ◌∷◌, ◌++◌, if◌then◌else◌, refl, sym, ◌∙◌, subst, append_assoc}
+use Rattle.std.proofs.lemmas.Bool.{true≢false}
+use Rattle.std.proofs.lemmas.List.{append-nil}
 use Rattle.crs_text.specs.Prelude.{Item, leaf, node, Siblings, End, More, RefusedAt}
 use Rattle.crs_shape.specs.declared.class.Class.{Class}
 use Rattle.crs_shape.specs.Keywords.{is_keyword}
@@ -11,7 +13,7 @@ use Rattle.crs_shape.specs.ShapeFault.{class_in, is_of, misplaced, missing, IsFr
 use Rattle.crs_shape.specs.FirstFault.{ArgumentFault, or_later, step_to, step_as, fault_by, fault_from, first_inside, first_in_arguments}
 use Rattle.crs_shape.proofs.TableLemmas.{apart_tables}
 use Rattle.crs_shape.proofs.SlotLemmas.{end-allowed}
-use Rattle.crs_shape.proofs.FaultLemmas.{IsExact, Reached, reached-start, reached-more, exact_inside, append-none, same_class}
+use Rattle.crs_shape.proofs.FaultLemmas.{IsExact, Reached, reached-start, reached-more, one-more, one-less, exact-free, exact_inside}
 
 -- what shaped arguments are, as a pair that the walk gives back
 abbrev Left : Class → List Class → Siblings → Type 0
@@ -40,22 +42,15 @@ by-step item Goal within later slots (Some d) go e =
     both None g next f h = go d next refl f g h
     both (Some fault) g next f h = cc
 
-one-more-class : (c : Class) (before : List Class) (d : Class) (ds : List Class) → Allowed (slots_of c) ((before ++ d ∷ []) ++ ds) → Allowed (slots_of c) (before ++ (d ∷ ds))
-one-more-class c before d ds h = let P : List Class → Type 0 = λ x. Allowed (slots_of c) x in subst P (append_assoc before (d ∷ []) ds) h
-
 by-test : (b : Bool) (item : Item) (found : Option RefusedAt) → (if b then found else Some (misplaced item)) ≡ None → (b ≡ true) × (found ≡ None)
 by-test true item found e = (refl, e)
 by-test false item found e = cc
-
-leaf-test : (b : Bool) (item : Item) → (if b then None else Some (misplaced item)) ≡ None → b ≡ true
-leaf-test true item e = refl
-leaf-test false item e = cc
 
 mutual
   unfolding first_inside first_in_arguments
 
   shaped-none : (c : Class) (item : Item) → first_inside c item ≡ None → Shaped c item
-  shaped-none c (leaf kind place raw) e = leaf-test (is_of c (leaf kind place raw)) (leaf kind place raw) e
+  shaped-none c (leaf kind place raw) e = (by-test (is_of c (leaf kind place raw)) (leaf kind place raw) None e).0
   shaped-none c (node place keyword square first others close) e =
       let h = by-test (is_keyword c keyword) (node place keyword square first others close)
       (fault_from c (slots_of c) first (λ d. first_inside d first) (λ next. first_in_arguments c close next others)) e in (
@@ -76,7 +71,7 @@ mutual
       (λ d next named f w l.
       let rest : Left c (before ++ d ∷ []) items =
       left-none c close (before ++ d ∷ []) next items (reached-more (slots_of c) before slots next d r f) l in
-      (d ∷ rest.0, ((named, (shaped-none d item w, rest.1.0)), one-more-class c before d rest.0 rest.1.1)))
+      (d ∷ rest.0, ((named, (shaped-none d item w, rest.1.0)), one-less (slots_of c) before d rest.0 rest.1.1)))
       e
 
 shaped-inside : (c : Class) (item : Item) → IsFree (Inside c item) → first_inside c item ≡ None
@@ -91,37 +86,26 @@ free-shaped c item free = shaped-none c item (shaped-inside c item free)
 
 -- and back
 
-argument-free : (parent : Class) (before : List Class) (item : Item) (Within : Class → RefusedAt → Type 0) (Later : List Class → RefusedAt → Type 0) (c : Class) →
-    Stands parent before item c → IsFree (Within c) → IsFree (Later (before ++ c ∷ [])) → IsFree (ArgumentFault parent before item Within Later)
-argument-free parent before item Within Later c stands free later fault (inl (none, e)) = none c stands
-argument-free parent before item Within Later c stands free later fault (inr (d, (other, inl inside))) =
-    let P : Class → Type 0 = λ x. Within x fault in free fault (subst P (same_class parent before item c d stands.named other) inside)
-argument-free parent before item Within Later c stands free later fault (inr (d, (other, inr (none, rest)))) =
-    let P : Class → Type 0 = λ x. Later (before ++ x ∷ []) fault in later fault (subst P (same_class parent before item c d stands.named other) rest)
-
-one-less-class : (c : Class) (before : List Class) (d : Class) (ds : List Class) → Allowed (slots_of c) (before ++ (d ∷ ds)) → Allowed (slots_of c) ((before ++ d ∷ []) ++ ds)
-one-less-class c before d ds h = let P : List Class → Type 0 = λ x. Allowed (slots_of c) x in subst P (sym (append_assoc before (d ∷ []) ds)) h
-
 stands-by : (c : Class) (before : List Class) (item : Item) (d : Class) (ds : List Class) → class_in c item ≡ Some d → Allowed (slots_of c) (before ++ (d ∷ ds)) →
     Stands c before item d
-stands-by c before item d ds named allowed = record { named = named; begins = (ds, one-less-class c before d ds allowed) }
+stands-by c before item d ds named allowed = record { named = named; begins = (ds, one-more (slots_of c) before d ds allowed) }
 
 mutual
   pub shaped-free : (c : Class) (item : Item) → Shaped c item → IsFree (Inside c item)
-  shaped-free c (leaf kind place raw) shaped fault h = let e : true ≡ false = sym shaped ∙ h.0 in cc
-  shaped-free c (node place keyword square first others close) shaped fault (inl h) = let e : true ≡ false = sym shaped.0 ∙ h.0 in cc
+  shaped-free c (leaf kind place raw) shaped fault h = true≢false (sym shaped ∙ h.0)
+  shaped-free c (node place keyword square first others close) shaped fault (inl h) = true≢false (sym shaped.0 ∙ h.0)
   shaped-free c (node place keyword square first others close) (is, (d, (ds, (named, (inner, (rest, allowed)))))) fault (inr h) =
-      argument-free c [] first (λ x f. Inside x first f) (λ before f. Among c close before others f) d
+      exact-free c [] first (λ x f. Inside x first f) (λ before f. Among c close before others f) d
       (stands-by c [] first d ds named allowed) (shaped-free d first inner)
       (among-free c close (d ∷ []) ds others rest allowed) fault h.1
 
   among-free : (c : Class) (close : ℕ) (before ds : List Class) (items : Siblings) → AreShaped c ds items → Allowed (slots_of c) (before ++ ds) →
       IsFree (Among c close before items)
   among-free c close before [] End shaped allowed fault h =
-      let P : List Class → Type 0 = λ x. Allowed (slots_of c) x in h.0 (subst P (append-none before) allowed)
+      h.0 (subst (Allowed (slots_of c)) (append-nil before) allowed)
   among-free c close before (d ∷ ds) End shaped allowed fault h = absurd shaped
   among-free c close before [] (More item items) shaped allowed fault h = absurd shaped
   among-free c close before (d ∷ ds) (More item items) (named, (inner, rest)) allowed fault h =
-      argument-free c before item (λ x f. Inside x item f) (λ b f. Among c close b items f) d
+      exact-free c before item (λ x f. Inside x item f) (λ b f. Among c close b items f) d
       (stands-by c before item d ds named allowed) (shaped-free d item inner)
-      (among-free c close (before ++ d ∷ []) ds items rest (one-less-class c before d ds allowed)) fault h
+      (among-free c close (before ++ d ∷ []) ds items rest (one-more (slots_of c) before d ds allowed)) fault h

@@ -1,39 +1,35 @@
 -- Slots that are apart: the walk is exact, and an allowed list fits them in one way.
-use Rattle.std.proofs.Common.{◌≡◌, ◌≤◌, Bool, true, false, not, ◌&&◌, Some, None, List, [], ◌∷◌, ◌++◌, length, if◌then◌else◌, refl, sym, ◌∙◌, ap, subst, arith, rules}
+use Rattle.std.proofs.Common.{◌≡◌, ◌≤◌, Bool, true, false, not, ◌&&◌, ◌||◌, Some, None, List, [], ◌∷◌, ◌++◌, length, if◌then◌else◌, refl, sym, ◌∙◌, ap, subst, arith, rules}
 use Rattle.std.specs.List.{list_any}
+use Rattle.std.proofs.lemmas.Bool.{and_parts, and_from, or_left, or_right, not-true, not_from_false, false_from_ne_true}
 use denote.Enum.Bare.{sameb, same_true, true_same}
 use Rattle.crs_shape.specs.contracts.class.Class.{the_type}
 use Rattle.crs_shape.specs.declared.class.Class.{Class}
 use Rattle.crs_shape.specs.Slots.{SlotParts, takes}
 use Rattle.crs_shape.specs.Shape.{AllTaken, Fills, AllFilled, joined, Allowed, reaches, has_class, is_apart}
 use Rattle.crs_shape.specs.Walk.{again, after, may_end}
-use Rattle.crs_shape.proofs.BoolLemmas.{or-left, or-right, or-none-left, or-none-right, or-other, and-left, and-right, and-both, not-true, not-false, false-unless}
+use Rattle.crs_shape.proofs.ListLemmas.{passes-none}
 
 -- what is apart
 
 apart-tail : (s : SlotParts) (ss : List SlotParts) → is_apart (s ∷ ss) ≡ true → is_apart ss ≡ true
-apart-tail s ss e = and-right _ _ e
+apart-tail s ss e = (and_parts _ _ e).1
 
 apart-class : (s : SlotParts) (ss : List SlotParts) → is_apart (s ∷ ss) ≡ true → has_class s.classes ≡ true
-apart-class s ss e = and-left _ _ (and-left _ _ e)
+apart-class s ss e = (and_parts _ _ (and_parts _ _ e).0).0
 
-none_reached : (ss : List SlotParts) (c : Class) (ds : List Class) →
-    list_any (λ d. sameb the_type d c) ds ≡ true → list_any (λ d. reaches ss d) ds ≡ false → reaches ss c ≡ false
-none_reached ss c [] e f = cc
-none_reached ss c (d ∷ ds) e f =
-    elim (sameb the_type d c) as (λ b. sameb the_type d c ≡ b → reaches ss c ≡ false) [
-      | true ↦ λ p. ap (reaches ss) (sym (same_true the_type (search rules) d c p)) ∙ or-none-left _ _ f
-      | false ↦ λ p. none_reached ss c ds (or-other _ _ e p) (or-none-right _ _ f)
-    ] refl
+or-other : (a b : Bool) → (a || b) ≡ true → a ≡ false → b ≡ true
+or-other true b e f = cc
+or-other false b e f = e
 
 loose-apart : (s : SlotParts) (ss : List SlotParts) → is_apart (s ∷ ss) ≡ true → (s.required && not s.many) ≡ false →
     (c : Class) → takes s c ≡ true → reaches ss c ≡ false
 loose-apart s ss e loose c taken =
-    none_reached ss c s.classes taken (not-true _ (or-other _ _ (and-right _ _ (and-left _ _ e)) loose))
+    passes-none (reaches ss) (λ d. sameb the_type d c) c (λ d. same_true the_type (search rules) d c) s.classes taken (not-true _ (or-other _ _ (and_parts _ _ (and_parts _ _ e).0).1 loose))
 
 -- a slot that is required has a class, so a slot with none isn't required
 free-none : (s : SlotParts) → Fills s [] → s.required ≡ false
-free-none s f = false-unless s.required (λ e. let h : 1 ≤ 0 = f.enough e in absurd (omega (arith, h)))
+free-none s f = false_from_ne_true s.required (λ e. let h : 1 ≤ 0 = f.enough e in absurd (omega (arith, h)))
 
 -- the first of all the classes in slots is reached by them
 reaches-first : (ss : List SlotParts) (runs : List (List Class)) (c : Class) (cs : List Class) → AllFilled ss runs → joined runs ≡ c ∷ cs →
@@ -42,10 +38,10 @@ reaches-first [] [] c cs fit e = cc
 reaches-first [] (run ∷ runs) c cs fit e = absurd fit
 reaches-first (s ∷ ss) [] c cs fit e = absurd fit
 reaches-first (s ∷ ss) ([] ∷ runs) c cs fit e =
-    or-right _ _ (and-both _ _ (ap not (free-none s fit.0)) (reaches-first ss runs c cs fit.1 e))
+    or_right _ _ (and_from _ _ (ap not (free-none s fit.0)) (reaches-first ss runs c cs fit.1 e))
 reaches-first (s ∷ ss) ((d ∷ run) ∷ runs) c cs fit e =
     let same : d ≡ c = cc in
-    or-left _ _ (ap (takes s) (sym same) ∙ fit.0.taken.0)
+    or_left _ _ (ap (takes s) (sym same) ∙ fit.0.taken.0)
 
 -- at most one way
 
@@ -78,8 +74,8 @@ first_run : (s : SlotParts) (ss : List SlotParts) → is_apart (s ∷ ss) ≡ tr
 first_run s ss apart a b xs ys fa fb fx fy e =
     elim (s.required && not s.many) as (λ t. (s.required && not s.many) ≡ t → a ≡ b) [
       | true ↦ λ single.
-          let needed : s.required ≡ true = and-left _ _ single in
-          let few : s.many ≡ false = not-true _ (and-right _ _ single) in
+          let needed : s.required ≡ true = (and_parts _ _ single).0 in
+          let few : s.many ≡ false = not-true _ (and_parts _ _ single).1 in
           single_run a b (joined xs) (joined ys) (fa.enough needed) (fa.not_more few) (fb.enough needed) (fb.not_more few) e
       | false ↦ λ loose. same_run s ss (loose-apart s ss apart loose) a b xs ys fa.taken fb.taken fx fy e
     ] refl
@@ -111,7 +107,7 @@ after-apart (s ∷ ss) c next apart e =
             let same : again s ∷ ss ≡ next = cc in
             let loose : (s.required && not s.many) ≡ false = by_many s.required s.many many in
             let kept : is_apart (again s ∷ ss) ≡ true =
-            and-both _ _ (and-both _ _ (apart-class s ss apart) (or-other _ _ (and-right _ _ (and-left _ _ apart)) loose)) (apart-tail s ss apart) in
+            and_from _ _ (and_from _ _ (apart-class s ss apart) (or-other _ _ (and_parts _ _ (and_parts _ _ apart).0).1 loose)) (apart-tail s ss apart) in
             ap is_apart (sym same) ∙ kept
         | false ↦ λ many h. let same : ss ≡ next = cc in ap is_apart (sym same) ∙ apart-tail s ss apart
       ] refl
@@ -165,7 +161,7 @@ goes-along (s ∷ ss) apart ([] ∷ runs) fit c cs e =
     let free : s.required ≡ false = free-none s fit.0 in
     let reached : reaches ss c ≡ true = reaches-first ss runs c cs fit.1 e in
     let loose : (s.required && not s.many) ≡ false = ap (λ r. r && not s.many) free in
-    let missed : takes s c ≡ false = false-unless (takes s c) (λ t. let no : reaches ss c ≡ false = loose-apart s ss apart loose c t in cc) in
+    let missed : takes s c ≡ false = false_from_ne_true (takes s c) (λ t. let no : reaches ss c ≡ false = loose-apart s ss apart loose c t in cc) in
     let below : Goes ss c cs = goes-along ss (apart-tail s ss apart) runs fit.1 c cs e in
     (below.0, (after-skip s ss c below.0 missed free below.1.0, below.1.1))
 goes-along (s ∷ ss) apart ((d ∷ run) ∷ runs) fit c cs e =
@@ -229,7 +225,7 @@ takes-own s e = own s.classes e
   where
     own : (cs : List Class) → has_class cs ≡ true → (d : Class) × (list_any (λ x. sameb the_type x d) cs ≡ true)
     own [] h = cc
-    own (c ∷ cs) h = (c, or-left _ _ (true_same the_type c c refl))
+    own (c ∷ cs) h = (c, or_left _ _ (true_same the_type c c refl))
 
 pub allows-some : (ss : List SlotParts) → is_apart ss ≡ true → (runs : List (List Class)) × AllFilled ss runs
 allows-some [] apart = ([], tt)
@@ -242,12 +238,12 @@ allows-some (s ∷ ss) apart =
 pub end-allowed : (ss : List SlotParts) → may_end ss ≡ true → Allowed ss []
 end-allowed [] e = ([], (tt, refl))
 end-allowed (s ∷ ss) e =
-    let below : Allowed ss [] = end-allowed ss (and-right _ _ e) in
-    ([] ∷ below.0, ((fills-none s (not-true _ (and-left _ _ e)), below.1.0), below.1.1))
+    let below : Allowed ss [] = end-allowed ss (and_parts _ _ e).1 in
+    ([] ∷ below.0, ((fills-none s (not-true _ (and_parts _ _ e).0), below.1.0), below.1.1))
 
 pub allowed-end : (ss : List SlotParts) (runs : List (List Class)) → AllFilled ss runs → [] ≡ joined runs → may_end ss ≡ true
 allowed-end [] [] fit e = refl
 allowed-end [] (run ∷ runs) fit e = absurd fit
 allowed-end (s ∷ ss) [] fit e = absurd fit
-allowed-end (s ∷ ss) ([] ∷ runs) fit e = and-both _ _ (not-false _ (free-none s fit.0)) (allowed-end ss runs fit.1 e)
+allowed-end (s ∷ ss) ([] ∷ runs) fit e = and_from _ _ (not_from_false _ (free-none s fit.0)) (allowed-end ss runs fit.1 e)
 allowed-end (s ∷ ss) ((d ∷ run) ∷ runs) fit e = cc

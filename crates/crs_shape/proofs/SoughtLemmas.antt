@@ -1,6 +1,7 @@
 -- What isn't of the kind of a class, or has none of its keywords, isn't of the class.
 use Rattle.std.proofs.Common.{◌≡◌, ◌≢◌, ℕ, true, false, ◌==◌, List, map, Option, Some, refl, sym, ◌∙◌, ap, rules}
 use Rattle.std.specs.List.{find}
+use Rattle.std.proofs.lemmas.Bool.{true≢false}
 use denote.Enum.Bare.{sameb, same_true, true_same}
 use Rattle.crs_text.specs.contracts.items.ItemKind as kinds
 use Rattle.crs_text.specs.declared.items.ItemKind.{ItemKind}
@@ -18,7 +19,7 @@ use Rattle.crs_shape.specs.Slots.{is_class}
 use Rattle.crs_shape.specs.Sought.{kind_for}
 use Rattle.crs_shape.proofs.ClassSetLemmas.{has_bit-word_of}
 use Rattle.crs_shape.proofs.ItemLemmas.{class_in-node, not-among}
-use Rattle.crs_shape.proofs.KeywordLemmas.{among-classes_of, class_named-table, is_keyword-table, true-false}
+use Rattle.crs_shape.proofs.KeywordLemmas.{among-classes_of, class_named-table, is_keyword-table}
 use Rattle.crs_shape.proofs.KeywordTableLemmas.{clear-named}
 use Rattle.crs_shape.proofs.ListLemmas.{list_any-map}
 
@@ -58,7 +59,7 @@ leaf-other c d k right other =
     sameb-refl kind.Node = refl
 
 node-other : (c : Class) (k : ItemKind) → k ≡ kind_for c → sameb kinds.the_type kind.Node k ≡ false → kind_for c ≢ kind.Node
-node-other c k right other e = true-false (ap (sameb kinds.the_type kind.Node) (sym (right ∙ e)) ∙ other)
+node-other c k right other e = true≢false (ap (sameb kinds.the_type kind.Node) (sym (right ∙ e)) ∙ other)
 
 pub other_kind : AreSpelled → (parent c : Class) (k : ItemKind) (item : Item) → k ≡ kind_for c → sameb kinds.the_type (kind_of_item item) k ≡ false →
     false ≡ is_class c (class_in parent item)
