@@ -10,11 +10,11 @@ use Rattle.crs_shape.specs.contracts.class.Class.{the_type}
 use Rattle.crs_shape.specs.declared.class.Class.{Class}
 use Rattle.crs_shape.specs.declared.fitting.Walk.{Walk}
 use Rattle.crs_shape.specs.declared.slot.Slot.{Slot}
-use Rattle.crs_shape.specs.Keywords.{every_class, root_classes, root_named}
+use Rattle.crs_shape.specs.Keywords.{every_class}
 use Rattle.crs_shape.specs.Slots.{SlotParts, shown, slots_of}
 use Rattle.crs_shape.specs.Shape.{Allowed, Begins}
 use Rattle.crs_shape.specs.Walk.{left, left_of, after, may_end}
-use Rattle.crs_shape.specs.ShapeFault.{class_in, is_of, IsFree, Stands, Inside, Among, class_of_root}
+use Rattle.crs_shape.specs.ShapeFault.{class_in, is_of, IsFree, Stands, Inside, Among}
 use Rattle.crs_shape.specs.FirstFault.{step_to, step_as, step_of}
 use Rattle.crs_shape.specs.Left.{has_some, may_go, slots_left, classes_left, end_left}
 use Rattle.crs_shape.specs.Expected.{ExpectedParts, Follows, ExpectedIn, ExpectedAmong}
@@ -22,7 +22,7 @@ use Rattle.crs_shape.proofs.KeywordTableLemmas.{class-among}
 use Rattle.crs_shape.proofs.TableLemmas.{apart_tables}
 use Rattle.crs_shape.proofs.SlotLemmas.{end-allowed}
 use Rattle.crs_shape.proofs.FaultLemmas.{Reached, reached-start, reached-more, reached-begins, reached-not, exact-free, end-free, end-not}
-use Rattle.crs_shape.proofs.FitLemmas.{from, HasNext, from_at, has_at, arguments-less, rest-less, first-has, step-is_of}
+use Rattle.crs_shape.proofs.FitLemmas.{from, HasNext, from_at, has_at, arguments-less, rest-less, step-is_of}
 
 -- ---- the classes
 

@@ -1,5 +1,5 @@
 -- A refusal of shape and what could come there.
-use Rattle.std.proofs.Common.{◌≡◌, ℕ, Bool, true, false, IsTrue, inl, inr, ◌⊎◌, Some, None, List, [], ◌∷◌, ◌++◌, refl, sym, ◌∙◌, ap, subst}
+use Rattle.std.proofs.Common.{◌≡◌, ℕ, true, false, inl, inr, ◌⊎◌, Some, None, List, [], ◌∷◌, ◌++◌, refl, sym, ◌∙◌, ap, subst}
 use Rattle.std.specs.Cmp.{both_ways}
 use Rattle.std.proofs.lemmas.Bool.{false_from_ne_true}
 use Rattle.crs_text.specs.Prelude.{Item, leaf, node, Siblings, End, More, RefusedAt}
@@ -35,12 +35,28 @@ mutual
       (fault, inr (d, (stands, inr (free, after))))
 
 -- so nothing could come in an item without a fault
-not_free : (parent c d : Class) (before : List Class) (item : Item) (e : ExpectedParts) → Stands parent before item c → Stands parent before item d →
-    IsFree (Inside c item) → ExpectedIn d item e → ⊥
-not_free parent c d before item e one other free x =
-    let same : d ≡ c = same_class parent before item c d one.named other in
-    let there : (fault : RefusedAt) × Inside c item fault = some_inside c item e (class-is_of parent c item one.named) (subst (λ k. ExpectedIn k item e) same x) in
-    free there.0 there.1
+not_free : (parent c : Class) (before : List Class) (item : Item) (e : ExpectedParts) → Stands parent before item c → IsFree (Inside c item) → ExpectedIn c item e → ⊥
+not_free parent c before item e stands free x = let (fault, inside) = some_inside c item e (class-is_of parent c item stands.named) x in free fault inside
+
+-- Where two things are said of one argument, both say that it isn't allowed there, or both are about what is inside, or
+-- both about what is after: it stands there as one class, and is free inside or isn't.
+at_both : (parent : Class) (before : List Class) (item : Item) {Own Other : Type 0} {Within Inner Free Clear Later After : Class → Type 0} (Goal : Type 0) →
+    (((c : Class) → Stands parent before item c → ⊥) → Own → Other → Goal) → ((c : Class) → Stands parent before item c → Within c → Inner c → Goal) →
+    ((c : Class) → Stands parent before item c → Within c → Clear c → ⊥) → ((c : Class) → Stands parent before item c → Free c → Inner c → ⊥) →
+    ((c : Class) → Stands parent before item c → Later c → After c → Goal) →
+    (((c : Class) → Stands parent before item c → ⊥) × Own) ⊎ ((c : Class) × (Stands parent before item c × (Within c ⊎ (Free c × Later c)))) →
+    (((c : Class) → Stands parent before item c → ⊥) × Other) ⊎ ((c : Class) × (Stands parent before item c × (Inner c ⊎ (Clear c × After c)))) → Goal
+at_both parent before item Goal own within left right later (inl (none, x)) (inl (neither, y)) = own none x y
+at_both parent before item Goal own within left right later (inl (none, x)) (inr (d, (stands, y))) = absurd (none d stands)
+at_both parent before item Goal own within left right later (inr (c, (stands, x))) (inl (none, y)) = absurd (none c stands)
+at_both parent before item {Within = Within} {Inner = Inner} {Free = Free} {Clear = Clear} {Later = Later} {After = After} Goal own within left right later (inr (c, (stands, x))) (inr (d, (other, y))) =
+    both x (subst (λ k. Inner k ⊎ (Clear k × After k)) (same_class parent before item c d stands.named other) y)
+  where
+    both : Within c ⊎ (Free c × Later c) → Inner c ⊎ (Clear c × After c) → Goal
+    both (inl x) (inl y) = within c stands x y
+    both (inl x) (inr (clear, y)) = absurd (left c stands x clear)
+    both (inr (free, x)) (inl y) = absurd (right c stands free y)
+    both (inr (free, x)) (inr (clear, y)) = later c stands x y
 
 -- ---- the answer is one
 
@@ -55,31 +71,17 @@ alike_there parent place before a b x y = record {
 mutual
   alike_inside : (c : Class) (item : Item) (a b : ExpectedParts) → ExpectedIn c item a → ExpectedIn c item b → AreAlike a b
   alike_inside c (leaf kind place raw) a b x y = absurd x
-  alike_inside c (node place keyword square first others close) a b (inl (none, x)) (inl (neither, y)) = alike_there c place [] a b x y
-  alike_inside c (node place keyword square first others close) a b (inl (none, x)) (inr (d, (stands, y))) = absurd (none d stands)
-  alike_inside c (node place keyword square first others close) a b (inr (d, (stands, x))) (inl (none, y)) = absurd (none d stands)
-  alike_inside c (node place keyword square first others close) a b (inr (d, (stands, inl x))) (inr (k, (other, inl y))) =
-      alike_inside d first a b x (subst (λ z. ExpectedIn z first b) (same_class c [] first d k stands.named other) y)
-  alike_inside c (node place keyword square first others close) a b (inr (d, (stands, inl x))) (inr (k, (other, inr (free, y)))) =
-      absurd (not_free c k d [] first a other stands free x)
-  alike_inside c (node place keyword square first others close) a b (inr (d, (stands, inr (free, x)))) (inr (k, (other, inl y))) =
-      absurd (not_free c d k [] first b stands other free y)
-  alike_inside c (node place keyword square first others close) a b (inr (d, (stands, inr (free, x)))) (inr (k, (other, inr (clear, y)))) =
-      alike_among c place (d ∷ []) others a b x (subst (λ z. ExpectedAmong c place (z ∷ []) others b) (same_class c [] first d k stands.named other) y)
+  alike_inside c (node place keyword square first others close) a b x y =
+      at_both c [] first (AreAlike a b) (λ none. alike_there c place [] a b) (λ d stands. alike_inside d first a b)
+      (λ d stands within free. not_free c d [] first a stands free within) (λ d. not_free c d [] first b)
+      (λ d stands. alike_among c place (d ∷ []) others a b) x y
 
   alike_among : (c : Class) (place : ℕ) (before : List Class) (items : Siblings) (a b : ExpectedParts) → ExpectedAmong c place before items a → ExpectedAmong c place before items b → AreAlike a b
   alike_among c place before End a b x y = alike_there c place before a b x.1 y.1
-  alike_among c place before (More item items) a b (inl (none, x)) (inl (neither, y)) = alike_there c place before a b x y
-  alike_among c place before (More item items) a b (inl (none, x)) (inr (d, (stands, y))) = absurd (none d stands)
-  alike_among c place before (More item items) a b (inr (d, (stands, x))) (inl (none, y)) = absurd (none d stands)
-  alike_among c place before (More item items) a b (inr (d, (stands, inl x))) (inr (k, (other, inl y))) =
-      alike_inside d item a b x (subst (λ z. ExpectedIn z item b) (same_class c before item d k stands.named other) y)
-  alike_among c place before (More item items) a b (inr (d, (stands, inl x))) (inr (k, (other, inr (free, y)))) =
-      absurd (not_free c k d before item a other stands free x)
-  alike_among c place before (More item items) a b (inr (d, (stands, inr (free, x)))) (inr (k, (other, inl y))) =
-      absurd (not_free c d k before item b stands other free y)
-  alike_among c place before (More item items) a b (inr (d, (stands, inr (free, x)))) (inr (k, (other, inr (clear, y)))) =
-      alike_among c place (before ++ d ∷ []) items a b x (subst (λ z. ExpectedAmong c place (before ++ z ∷ []) items b) (same_class c before item d k stands.named other) y)
+  alike_among c place before (More item items) a b x y =
+      at_both c before item (AreAlike a b) (λ none. alike_there c place before a b) (λ d stands. alike_inside d item a b)
+      (λ d stands within free. not_free c d before item a stands free within) (λ d. not_free c d before item b)
+      (λ d stands. alike_among c place (before ++ d ∷ []) items a b) x y
 
 pub alike_at_root : (item : Item) (a b : ExpectedParts) → ExpectedAtRoot item a → ExpectedAtRoot item b → AreAlike a b
 alike_at_root item a b (inl (none, x)) (inl (neither, y)) =
@@ -101,29 +103,17 @@ refused_here parent place before item e none follows c named =
     let is : class_in parent item ≡ Some c = ap (λ o. class_at o item) (sym follows.is_parent) ∙ named in
     false_from_ne_true (may_come e c) (λ t. none c (record { named = is; begins = (follows.classes c).0 t }))
 
--- a refused item of an argument, or of those after it, is one of the whole
-outwards : (item whole : Item) (fault : RefusedAt) (e : ExpectedParts) → ((found : Item) → IsWithin item found → IsWithin whole found) → IsRefusedThere item fault e → IsRefusedThere whole fault e
-outwards item whole fault e wider (inl (found, (within, is, rest))) = inl (found, (wider found within, is, rest))
-outwards item whole fault e wider (inr x) = inr x
-
--- the same among arguments
-abbrev IsRefusedAmong : Siblings → RefusedAt → ExpectedParts → Type 0
-IsRefusedAmong items fault e =
-    ((found : Item) × (IsWithinAny items found × (fault ≡ misplaced found)
+-- the refused item is among some, or the node lacks an argument
+abbrev IsRefusedIn : (Item → Type 0) → RefusedAt → ExpectedParts → Type 0
+IsRefusedIn Within fault e =
+    ((found : Item) × (Within found × (fault ≡ misplaced found)
     × ((c : Class) → class_at e.parent found ≡ Some c → may_come e c ≡ false)))
     ⊎ ((fault.number ≡ 13) × (e.may_end ≡ false))
 
-all_outwards : (items : Siblings) (whole : Item) (fault : RefusedAt) (e : ExpectedParts) → ((found : Item) → IsWithinAny items found → IsWithin whole found) → IsRefusedAmong items fault e → IsRefusedThere whole fault e
-all_outwards items whole fault e wider (inl (found, (within, is, rest))) = inl (found, (wider found within, is, rest))
-all_outwards items whole fault e wider (inr x) = inr x
-
-first_outwards : (item : Item) (items : Siblings) (fault : RefusedAt) (e : ExpectedParts) → IsRefusedThere item fault e → IsRefusedAmong (More item items) fault e
-first_outwards item items fault e (inl (found, (within, is, rest))) = inl (found, (inl within, is, rest))
-first_outwards item items fault e (inr x) = inr x
-
-later_outwards : (item : Item) (items : Siblings) (fault : RefusedAt) (e : ExpectedParts) → IsRefusedAmong items fault e → IsRefusedAmong (More item items) fault e
-later_outwards item items fault e (inl (found, (within, is, rest))) = inl (found, (inr within, is, rest))
-later_outwards item items fault e (inr x) = inr x
+-- a refused item of an argument, or of those after it, is one of the whole
+outwards : (Within Wider : Item → Type 0) (fault : RefusedAt) (e : ExpectedParts) → ((found : Item) → Within found → Wider found) → IsRefusedIn Within fault e → IsRefusedIn Wider fault e
+outwards Within Wider fault e wider (inl (found, (within, is, rest))) = inl (found, (wider found within, is, rest))
+outwards Within Wider fault e wider (inr x) = inr x
 
 itself : (item : Item) → IsWithin item item
 itself (leaf kind place raw) = refl
@@ -134,38 +124,24 @@ mutual
   refused_inside c (leaf kind place raw) fault e is x y = absurd y
   refused_inside c (node place keyword square first others close) fault e is (inl (other, x)) y =
       absurd (let both : true ≡ false = sym is ∙ other in cc)
-  refused_inside c (node place keyword square first others close) fault e is (inr (same, inl (none, x))) (inl (neither, y)) =
-      inl (first, (inr (inl (itself first)), x, refused_here c place [] first e none y))
-  refused_inside c (node place keyword square first others close) fault e is (inr (same, inl (none, x))) (inr (d, (stands, y))) = absurd (none d stands)
-  refused_inside c (node place keyword square first others close) fault e is (inr (same, inr (d, (stands, x)))) (inl (none, y)) = absurd (none d stands)
-  refused_inside c (node place keyword square first others close) fault e is (inr (same, inr (d, (stands, inl x)))) (inr (k, (other, inl y))) =
-      outwards first (node place keyword square first others close) fault e (λ found within. inr (inl within))
-      (refused_inside d first fault e (class-is_of c d first stands.named) x (subst (λ z. ExpectedIn z first e) (same_class c [] first d k stands.named other) y))
-  refused_inside c (node place keyword square first others close) fault e is (inr (same, inr (d, (stands, inl x)))) (inr (k, (other, inr (free, y)))) =
-      absurd (free fault (subst (λ z. Inside z first fault) (same_class c [] first k d other.named stands) x))
-  refused_inside c (node place keyword square first others close) fault e is (inr (same, inr (d, (stands, inr (free, x))))) (inr (k, (other, inl y))) =
-      absurd (not_free c d k [] first e stands other free y)
-  refused_inside c (node place keyword square first others close) fault e is (inr (same, inr (d, (stands, inr (free, x))))) (inr (k, (other, inr (clear, y)))) =
-      all_outwards others (node place keyword square first others close) fault e (λ found within. inr (inr within))
-      (refused_among c place close (d ∷ []) others fault e x (subst (λ z. ExpectedAmong c place (z ∷ []) others e) (same_class c [] first d k stands.named other) y))
+  refused_inside c (node place keyword square first others close) fault e is (inr (same, x)) y =
+      let item = node place keyword square first others close in
+      at_both c [] first (IsRefusedThere item fault e) (λ none x y. inl (first, (inr (inl (itself first)), x, refused_here c place [] first e none y)))
+      (λ d stands x y. outwards (IsWithin first) (IsWithin item) fault e (λ found within. inr (inl within)) (refused_inside d first fault e (class-is_of c d first stands.named) x y))
+      (λ d stands within free. free fault within) (λ d. not_free c d [] first e)
+      (λ d stands x y. outwards (IsWithinAny others) (IsWithin item) fault e (λ found within. inr (inr within)) (refused_among c place close (d ∷ []) others fault e x y))
+      x y
 
   refused_among : (c : Class) (place close : ℕ) (before : List Class) (items : Siblings) (fault : RefusedAt) (e : ExpectedParts) →
-      Among c close before items fault → ExpectedAmong c place before items e → IsRefusedAmong items fault e
+      Among c close before items fault → ExpectedAmong c place before items e → IsRefusedIn (IsWithinAny items) fault e
   refused_among c place close before End fault e x y = inr (ap (λ z. z.number) x.1, false_from_ne_true e.may_end (λ t. x.0 (y.1.may_end.0 t)))
-  refused_among c place close before (More item items) fault e (inl (none, x)) (inl (neither, y)) =
-      inl (item, (inl (itself item), x, refused_here c place before item e none y))
-  refused_among c place close before (More item items) fault e (inl (none, x)) (inr (d, (stands, y))) = absurd (none d stands)
-  refused_among c place close before (More item items) fault e (inr (d, (stands, x))) (inl (none, y)) = absurd (none d stands)
-  refused_among c place close before (More item items) fault e (inr (d, (stands, inl x))) (inr (k, (other, inl y))) =
-      first_outwards item items fault e
-      (refused_inside d item fault e (class-is_of c d item stands.named) x (subst (λ z. ExpectedIn z item e) (same_class c before item d k stands.named other) y))
-  refused_among c place close before (More item items) fault e (inr (d, (stands, inl x))) (inr (k, (other, inr (free, y)))) =
-      absurd (free fault (subst (λ z. Inside z item fault) (same_class c before item k d other.named stands) x))
-  refused_among c place close before (More item items) fault e (inr (d, (stands, inr (free, x)))) (inr (k, (other, inl y))) =
-      absurd (not_free c d k before item e stands other free y)
-  refused_among c place close before (More item items) fault e (inr (d, (stands, inr (free, x)))) (inr (k, (other, inr (clear, y)))) =
-      later_outwards item items fault e
-      (refused_among c place close (before ++ d ∷ []) items fault e x (subst (λ z. ExpectedAmong c place (before ++ z ∷ []) items e) (same_class c before item d k stands.named other) y))
+  refused_among c place close before (More item items) fault e x y =
+      let Any : Item → Type 0 = IsWithinAny (More item items) in
+      at_both c before item (IsRefusedIn Any fault e) (λ none x y. inl (item, (inl (itself item), x, refused_here c place before item e none y)))
+      (λ d stands x y. outwards (IsWithin item) Any fault e (λ found within. inl within) (refused_inside d item fault e (class-is_of c d item stands.named) x y))
+      (λ d stands within free. free fault within) (λ d. not_free c d before item e)
+      (λ d stands x y. outwards (IsWithinAny items) Any fault e (λ found within. inr within) (refused_among c place close (before ++ d ∷ []) items fault e x y))
+      x y
 
 pub refused_at_root : (item : Item) (fault : RefusedAt) (e : ExpectedParts) → AtRoot item fault → ExpectedAtRoot item e → IsRefusedThere item fault e
 refused_at_root item fault e (inl (none, x)) (inl (neither, y)) =

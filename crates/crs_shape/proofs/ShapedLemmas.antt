@@ -1,5 +1,5 @@
 -- An item has no fault of shape exactly where it is shaped.
-use Rattle.std.proofs.Common.{◌≡◌, ℕ, Bool, true, false, inl, inr, Option, Some, None, List, [], ◌∷◌, ◌++◌, if◌then◌else◌, refl, sym, ◌∙◌, subst, append_assoc}
+use Rattle.std.proofs.Common.{◌≡◌, ℕ, Bool, true, false, inl, inr, Option, Some, None, List, [], ◌∷◌, ◌++◌, if◌then◌else◌, refl, sym, ◌∙◌, subst}
 use Rattle.std.proofs.lemmas.Bool.{true≢false}
 use Rattle.std.proofs.lemmas.List.{append-nil}
 use Rattle.crs_text.specs.Prelude.{Item, leaf, node, Siblings, End, More, RefusedAt}
@@ -10,7 +10,7 @@ use Rattle.crs_shape.specs.Shape.{Allowed}
 use Rattle.crs_shape.specs.Shaped.{Shaped, AreShaped}
 use Rattle.crs_shape.specs.Walk.{after, may_end}
 use Rattle.crs_shape.specs.ShapeFault.{class_in, is_of, misplaced, missing, IsFree, Stands, Inside, Among}
-use Rattle.crs_shape.specs.FirstFault.{ArgumentFault, or_later, step_to, step_as, fault_by, fault_from, first_inside, first_in_arguments}
+use Rattle.crs_shape.specs.FirstFault.{or_later, step_to, step_as, fault_by, fault_from, first_inside, first_in_arguments}
 use Rattle.crs_shape.proofs.TableLemmas.{apart_tables}
 use Rattle.crs_shape.proofs.SlotLemmas.{end-allowed}
 use Rattle.crs_shape.proofs.FaultLemmas.{IsExact, Reached, reached-start, reached-more, one-more, one-less, exact-free, exact_inside}
