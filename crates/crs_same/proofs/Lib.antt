@@ -4,6 +4,7 @@ mod AxisLemmas
 mod CountLemmas
 mod DefinitionLemmas
 mod DifferenceLemmas
+mod EachPartLemmas
 mod ExchangedLemmas
 mod FirstPartLemmas
 mod FrontLemmas

@@ -1,11 +1,7 @@
-use Rattle.std.proofs.Common.{[]}
-use Rattle.crs_same.specs.PartsOfCrs.{parts_of_base}
 use Rattle.crs_same.proofs.AllSameLemmas.{walked-same}
-use Rattle.crs_same.proofs.SettledLemmas.{base}
+use Rattle.crs_same.proofs.EachPartLemmas.{base}
+use Rattle.crs_same.proofs.SettledLemmas.{without}
 use Rattle.crs_same.proofs.crs.same_base.Goals as goal
 
 pub returns : goal.returns
-returns c =
-    walked-same parts_of_base c.args.level c.args.a.now c.args.b.now
-    (base c.args.level [] c.args.a.now c.args.b.now)
-    c.start.ensures c.first.ensures c.walk_base.ensures c.is_same.ensures
+returns c = walked-same _ _ _ _ (base (without _) _ _ _ tt) c.start.ensures c.first.ensures c.walk_base.ensures c.is_same.ensures

@@ -1,12 +1,11 @@
-use Rattle.std.proofs.Common.{[], subst}
+use Rattle.std.proofs.Common.{subst}
 use Rattle.crs_value.specs.Prelude.{IsVertical}
-use Rattle.crs_same.specs.PartsOfCrs.{parts_of_vertical}
 use Rattle.crs_same.proofs.AllSameLemmas.{walked-same}
-use Rattle.crs_same.proofs.SettledLemmas.{vertical}
+use Rattle.crs_same.proofs.EachPartLemmas.{vertical}
+use Rattle.crs_same.proofs.SettledLemmas.{of-systems}
 use Rattle.crs_same.proofs.crs.same_vertical.Goals as goal
 
 pub returns : goal.returns
 returns c =
-    walked-same parts_of_vertical c.args.level c.args.a.now c.args.b.now
-    (vertical c.args.level c.one_axis_each.ensures.one [] c.args.a.now c.args.b.now (subst IsVertical c.a.view_is c.a.invariant) (subst IsVertical c.b.view_is c.b.invariant))
+    walked-same _ _ _ _ (vertical (of-systems _ c.one_axis_each.ensures.one) _ _ _ (subst IsVertical c.a.view_is c.a.invariant).system (subst IsVertical c.b.view_is c.b.invariant).system tt)
     c.start.ensures c.first.ensures c.walk_vertical.ensures c.is_same.ensures
