@@ -1,5 +1,6 @@
 -- Numbers from 1 to n, each at most once: if there are n of them, each is among them.
-use Rattle.std.proofs.Common.{◌≡◌, ◌≢◌, ℕ, zero, suc, ◌≤◌, length, List, [], ◌∷◌, ◌⊎◌, inl, inr, ap, sym, subst, arith}
+use Rattle.std.proofs.Common.{◌≡◌, ◌≢◌, ℕ, zero, suc, ◌≤◌, length, List, [], ◌∷◌, ◌⊎◌, inl, inr, sym, subst, arith}
+use Rattle.std.proofs.lemmas.Bool.{cases_eq}
 
 -- from 1 to this number
 abbrev pub Within : ℕ → List ℕ → Type 0
@@ -18,18 +19,9 @@ abbrev pub Apart : List ℕ → Type 0
 Apart [] = Unit {0}
 Apart (k ∷ ks) = Lacks k ks × Apart ks
 
-equal-or-not : (j k : ℕ) → (j ≡ k) ⊎ (j ≢ k)
-equal-or-not zero zero = inl (λ i. zero)
-equal-or-not zero (suc k) = inr (λ e. omega (arith, e))
-equal-or-not (suc j) zero = inr (λ e. omega (arith, e))
-equal-or-not (suc j) (suc k) = elim (equal-or-not j k) [
-  | inl e ↦ inl (ap suc e)
-  | inr n ↦ inr (λ e. n (omega (arith, e)))
-]
-
 pub seek : (k : ℕ) (ks : List ℕ) → Among k ks ⊎ Lacks k ks
 seek k [] = inr tt
-seek k (j ∷ js) = elim (equal-or-not k j) [
+seek k (j ∷ js) = elim (cases_eq k j) [
   | inl e ↦ inl (inl e)
   | inr n ↦ elim (seek k js) [
     | inl a ↦ inl (inr a)
@@ -62,7 +54,7 @@ record Cut (n : ℕ) (ks : List ℕ) : Type 0 where
 
 cut : (n : ℕ) (ks : List ℕ) → Within (suc n) ks → Apart ks → Cut n ks
 cut n [] w a = record { rest = []; within = tt; apart = tt; long = omega arith; lacks = λ j l. tt }
-cut n (k ∷ ks) w a = elim (equal-or-not k (suc n)) [
+cut n (k ∷ ks) w a = elim (cases_eq k (suc n)) [
   | inl e ↦ record {
     rest = ks;
     within = shrink n ks w.2 (subst (λ m. Lacks m ks) e a.0);

@@ -1,12 +1,12 @@
 -- Two values in the other order differ in the same parts, each with its values exchanged.
-use Rattle.std.proofs.Common.{ℕ, zero, suc, max, Option, Some, None, List, [], ◌∷◌, length, map, sym, subst, ap, ◌∙◌}
+use Rattle.std.proofs.Common.{◌≡◌, ℕ, zero, suc, max, Option, Some, None, List, [], ◌∷◌, length, map, sym, subst, ap, ◌∙◌}
 use Rattle.std.specs.Option.{option_map, option_and_then}
 use Rattle.std.proofs.Math.Nat.{max_comm}
 use Rattle.std.proofs.lemmas.List.{map-append}
 use Rattle.crs_decimal.specs.Prelude.{Value}
 use Rattle.crs_shape.specs.declared.unit_kind.UnitKind.{UnitKind}
 use Rattle.crs_shape.specs.declared.unit_kind.UnitKind.TheVariants as kinds
-use Rattle.crs_shape.specs.Prelude.{asked_kind, direction_word, system_word}
+use Rattle.crs_shape.specs.Prelude.{asked_kind}
 use Rattle.crs_value.specs.declared.values.compound.Horizontal.{Horizontal}
 use Rattle.crs_value.specs.declared.values.compound.Horizontal.TheVariants as horizontal
 use Rattle.crs_value.specs.declared.values.crs.Crs.{Crs}
@@ -14,18 +14,17 @@ use Rattle.crs_value.specs.declared.values.crs.Crs.TheVariants as crs
 use Rattle.crs_value.specs.declared.values.frame.Frame.{Frame}
 use Rattle.crs_value.specs.declared.values.frame.Frame.TheVariants as frame
 use Rattle.crs_value.specs.declared.values.level.Level.{Level}
-use Rattle.crs_value.specs.Prelude.{CompoundParts, MethodParts, ConversionParts, GeodeticParts, BaseParts, ProjectedParts, VerticalParts, DynamicParts, kept, kept_one, NamedParts, kind_by, AxisMeridianParts, AxisParts, EllipsoidParts, MeridianParts, DatumParts, EnsembleParts, SystemParts, TailParts, UnitParts}
-use Rattle.crs_value.specs.Values.{IdentParts}
+use Rattle.crs_value.specs.Prelude.{CompoundParts, MethodParts, ConversionParts, GeodeticParts, BaseParts, ProjectedParts, VerticalParts, DynamicParts, NamedParts, AxisMeridianParts, AxisParts, EllipsoidParts, MeridianParts, DatumParts, EnsembleParts, SystemParts, TailParts, UnitParts}
 use Rattle.crs_same.specs.declared.content.Content.{Content}
 use Rattle.crs_same.specs.declared.content.Content.TheVariants as content
 use Rattle.crs_same.specs.declared.step.Step.{Step}
 use Rattle.crs_same.specs.declared.step.Step.TheVariants as step
 use Rattle.crs_same.specs.Parts.{◌▸◌, Parts, none, part, ◌⨾◌, DifferenceParts, exchanged, Differences}
-use Rattle.crs_same.specs.PartsOfCrs.{kind_word, parts_of_method, parts_of_conversion, parts_of_dynamic, parts_of_tail, parts_of_geodetic, parts_of_base, parts_of_projected, parts_of_vertical, parts_of_horizontal, parts_of_compound, parts_of_crs}
+use Rattle.crs_same.specs.PartsOfCrs.{parts_of_method, parts_of_conversion, parts_of_dynamic, parts_of_tail, parts_of_geodetic, parts_of_base, parts_of_projected, parts_of_vertical, parts_of_horizontal, parts_of_compound, parts_of_crs}
 use Rattle.crs_same.specs.PartsOfFrames.{unit_of, parts_of_ellipsoid, parts_of_ellipsoids, parts_of_given, or_greenwich, parts_of_meridian, parts_of_datum, parts_of_ensemble, parts_of_frame}
 use Rattle.crs_same.specs.PartsOfSystems.{parts_of_axis, parts_at, parts_of_axes, parts_of_system}
-use Rattle.crs_matching.specs.Prelude.{SameParameter, SameGeoidModel, SameMember, SameNamed, SameAxisMeridian, own_or, SameValue, SameUnitAsked, or_metre, SameUsage, usages_of, BothOrNeither}
-use Rattle.crs_same.specs.SingleParts.{texts, optional_texts, words, numbers, optional, optional_numbers, units, sets, identifiers, nodes}
+use Rattle.crs_matching.specs.Prelude.{SameNamed, SameAxisMeridian, own_or, SameValue, SameUnitAsked, or_metre, BothOrNeither}
+use Rattle.crs_same.specs.SingleParts.{numbers, optional, optional_numbers, units, nodes}
 
 -- what differs among these parts does so among those, with its values exchanged
 pub record Turns (these those : Parts) : Type 0 where
@@ -53,24 +52,15 @@ one {path} {Same} {Other} {first} {second} there back = record { turned = each }
     each [] same = there same
     each (d ∷ further) (differs, is, last) = (λ other. differs (back other), ap exchanged is, ap (map exchanged) last)
 
-text : (path : List Step) (a b : List ℕ) → Turns (texts path a b) (texts path b a)
-text path a b = one sym sym
-
-optional-text : (path : List Step) (a b : Option (List ℕ)) → Turns (optional_texts path a b) (optional_texts path b a)
-optional-text path a b = one sym sym
-
-word : {V : Type 0} (path : List Step) (word_of : V → List ℕ) (a b : V) → Turns (words path word_of a b) (words path word_of b a)
-word path word_of a b = one sym sym
+equal : {V : Type 0} {path : List Step} {a b : V} {first second : Content} → Turns (part path (a ≡ b) first second) (part path (b ≡ a) second first)
+equal = one sym sym
 
 never : {path : List Step} {first second : Content} → Turns (part path ⊥ first second) (part path ⊥ second first)
 never = one (λ s. s) (λ s. s)
 
-set : {V : Type 0} (path : List Step) (Same : V → V → Type 0) (members_of : List V → List V → Content) (a b : List V) →
-    Turns (sets path Same members_of a b) (sets path Same members_of b a)
-set path Same members_of a b = one (λ s. (s.1, s.0)) (λ s. (s.1, s.0))
-
-idents : (path : List Step) (level : Level) (a b : List IdentParts) → Turns (identifiers path level a b) (identifiers path level b a)
-idents path level a b = one (λ s. (s.1, s.0)) (λ s. (s.1, s.0))
+-- each way of two that are the same set
+set : {There Back : Type 0} {path : List Step} {first second : Content} → Turns (part path (There × Back) first second) (part path (Back × There) second first)
+set = one (λ s. (s.1, s.0)) (λ s. (s.1, s.0))
 
 both : {V : Type 0} (Same Other : V → V → Type 0) → ((x y : V) → Same x y → Other y x) → (a b : Option V) → BothOrNeither Same a b →
     BothOrNeither Other b a
@@ -133,20 +123,19 @@ module _ (level : Level) (same-turned : (a b : Value) → SameValue a b → Same
 
   ellipsoid : (at : List Step) (a b : EllipsoidParts) → Turns (parts_of_ellipsoid at level a b) (parts_of_ellipsoid at level b a)
   ellipsoid at a b =
-      text (at ▸ step.Name) a.name b.name ⨟ number (at ▸ step.SemiMajor) a.semi_major_axis b.semi_major_axis
+      equal ⨟ number (at ▸ step.SemiMajor) a.semi_major_axis b.semi_major_axis
       ⨟ number (at ▸ step.Flattening) a.inverse_flattening b.inverse_flattening
       ⨟ one (unit kinds.Length kinds.Length (or_metre a.unit) (or_metre b.unit))
       (unit kinds.Length kinds.Length (or_metre b.unit) (or_metre a.unit))
-      ⨟ idents (at ▸ step.Id) level a.identifiers b.identifiers
+      ⨟ set
 
   ellipsoids : (at : List Step) (a b : Option EllipsoidParts) → Turns (parts_of_ellipsoids at level a b) (parts_of_ellipsoids at level b a)
   ellipsoids at a b = either at (λ e. e.name) (parts_of_ellipsoid at level) (parts_of_ellipsoid at level) (ellipsoid at) a b
 
   given : (at : List Step) (a b : MeridianParts) → Turns (parts_of_given at level a b) (parts_of_given at level b a)
   given at a b =
-      text (at ▸ step.Name) a.name b.name ⨟ number (at ▸ step.Longitude) a.longitude b.longitude
-      ⨟ units-if-any (at ▸ step.Unit) kinds.Angle kinds.Angle (unit_of a) (unit_of b)
-      ⨟ idents (at ▸ step.Id) level a.identifiers b.identifiers
+      equal ⨟ number (at ▸ step.Longitude) a.longitude b.longitude
+      ⨟ units-if-any (at ▸ step.Unit) kinds.Angle kinds.Angle (unit_of a) (unit_of b) ⨟ set
 
   meridian : (at : List Step) (a b : Option MeridianParts) → Turns (parts_of_meridian at level a b) (parts_of_meridian at level b a)
   unfolding parts_of_meridian
@@ -154,37 +143,32 @@ module _ (level : Level) (same-turned : (a b : Value) → SameValue a b → Same
 
   datum : (at : List Step) (a b : DatumParts) → Turns (parts_of_datum at level a b) (parts_of_datum at level b a)
   datum at a b =
-      text (at ▸ step.Name) a.name b.name ⨟ ellipsoids (at ▸ step.Ellipsoid) a.ellipsoid b.ellipsoid
-      ⨟ optional-text (at ▸ step.Anchor) a.anchor b.anchor ⨟ numbers-if-any (at ▸ step.AnchorEpoch) a.anchor_epoch b.anchor_epoch
-      ⨟ idents (at ▸ step.Id) level a.identifiers b.identifiers
+      equal ⨟ ellipsoids (at ▸ step.Ellipsoid) a.ellipsoid b.ellipsoid
+      ⨟ equal ⨟ numbers-if-any (at ▸ step.AnchorEpoch) a.anchor_epoch b.anchor_epoch ⨟ set
 
   ensemble : (at : List Step) (a b : EnsembleParts) → Turns (parts_of_ensemble at level a b) (parts_of_ensemble at level b a)
   ensemble at a b =
-      text (at ▸ step.Name) a.name b.name ⨟ set (at ▸ step.Members) (SameMember level) content.Members a.members b.members
+      equal ⨟ set
       ⨟ ellipsoids (at ▸ step.Ellipsoid) a.ellipsoid b.ellipsoid ⨟ number (at ▸ step.Accuracy) a.accuracy b.accuracy
-      ⨟ idents (at ▸ step.Id) level a.identifiers b.identifiers
+      ⨟ set
 
   frame-of : (at : List Step) (a b : Frame) → Turns (parts_of_frame at level a b) (parts_of_frame at level b a)
   unfolding parts_of_frame
   frame-of at (frame.Datum a) (frame.Datum b) = datum at a b
   frame-of at (frame.Ensemble a) (frame.Ensemble b) = ensemble at a b
-  frame-of at (frame.Datum a) (frame.Ensemble b) =
-      never ⨟ text (at ▸ step.Name) a.name b.name ⨟ ellipsoids (at ▸ step.Ellipsoid) a.ellipsoid b.ellipsoid
-      ⨟ idents (at ▸ step.Id) level a.identifiers b.identifiers
-  frame-of at (frame.Ensemble a) (frame.Datum b) =
-      never ⨟ text (at ▸ step.Name) a.name b.name ⨟ ellipsoids (at ▸ step.Ellipsoid) a.ellipsoid b.ellipsoid
-      ⨟ idents (at ▸ step.Id) level a.identifiers b.identifiers
+  frame-of at (frame.Datum a) (frame.Ensemble b) = never ⨟ equal ⨟ ellipsoids (at ▸ step.Ellipsoid) a.ellipsoid b.ellipsoid ⨟ set
+  frame-of at (frame.Ensemble a) (frame.Datum b) = never ⨟ equal ⨟ ellipsoids (at ▸ step.Ellipsoid) a.ellipsoid b.ellipsoid ⨟ set
 
   -- ---- coordinate systems
 
   axis : (at : List Step) (a b : SystemParts) (x y : AxisParts) → Turns (parts_of_axis at level a b x y) (parts_of_axis at level b a y x)
   unfolding parts_of_axis
   axis at a b x y =
-      text (at ▸ step.Name) x.name y.name ⨟ word (at ▸ step.Direction) direction_word x.direction y.direction
+      equal ⨟ equal
       ⨟ if-any (at ▸ step.Meridian) (SameAxisMeridian level) content.Meridian axis-meridian x.meridian y.meridian
       ⨟ units-if-any (at ▸ step.Unit) (asked_kind a.system_type x.direction) (asked_kind b.system_type y.direction)
       (own_or x.unit a.unit) (own_or y.unit b.unit)
-      ⨟ idents (at ▸ step.Id) level x.identifiers y.identifiers
+      ⨟ set
 
   axes-at : (at : List Step) (a b : SystemParts) (position : ℕ) → Turns (parts_at at level a b position) (parts_at at level b a position)
   axes-at at a b position = record { turned = turn }
@@ -208,8 +192,7 @@ module _ (level : Level) (same-turned : (a b : Value) → SameValue a b → Same
   system : (at : List Step) (a b : SystemParts) → Turns (parts_of_system at level a b) (parts_of_system at level b a)
   unfolding parts_of_system
   system at a b =
-      word (at ▸ step.SystemType) system_word a.system_type b.system_type ⨟ number (at ▸ step.Dimension) a.dimension b.dimension
-      ⨟ idents (at ▸ step.Id) level a.identifiers b.identifiers
+      equal ⨟ number (at ▸ step.Dimension) a.dimension b.dimension ⨟ set
       ⨟ subst (λ count. Turns (parts_of_axes at level a b (max (length a.axes) (length b.axes))) (parts_of_axes at level b a count))
       (max_comm (length a.axes) (length b.axes)) (axes at a b (max (length a.axes) (length b.axes)))
 
@@ -217,52 +200,44 @@ module _ (level : Level) (same-turned : (a b : Value) → SameValue a b → Same
 
   method : (at : List Step) (a b : MethodParts) → Turns (parts_of_method at level a b) (parts_of_method at level b a)
   unfolding parts_of_method
-  method at a b = text (at ▸ step.Name) a.name b.name ⨟ idents (at ▸ step.Id) level a.identifiers b.identifiers
+  method at a b = equal ⨟ set
 
   conversion : (at : List Step) (a b : ConversionParts) → Turns (parts_of_conversion at level a b) (parts_of_conversion at level b a)
   unfolding parts_of_conversion
-  conversion at a b =
-      text (at ▸ step.Name) a.name b.name ⨟ method (at ▸ step.Method) a.method b.method
-      ⨟ set (at ▸ step.Parameters) (SameParameter level) content.Parameters a.parameters b.parameters
-      ⨟ idents (at ▸ step.Id) level a.identifiers b.identifiers
+  conversion at a b = equal ⨟ method (at ▸ step.Method) a.method b.method ⨟ set ⨟ set
 
   -- ---- CRSs
 
   tail : (at : List Step) (a b : TailParts) → Turns (parts_of_tail at level a b) (parts_of_tail at level b a)
   unfolding parts_of_tail
-  tail at a b =
-      set (at ▸ step.Usage) SameUsage content.Usages (kept level (usages_of a)) (kept level (usages_of b))
-      ⨟ idents (at ▸ step.Id) level a.identifiers b.identifiers
-      ⨟ optional-text (at ▸ step.Remark) (kept_one level a.remark) (kept_one level b.remark)
+  tail at a b = set ⨟ set ⨟ equal
 
   geodetic : (at : List Step) (a b : GeodeticParts) → Turns (parts_of_geodetic at level a b) (parts_of_geodetic at level b a)
   unfolding parts_of_geodetic
   geodetic at a b =
-      word (at ▸ step.Kind) kind_word (kind_by a.system.system_type) (kind_by b.system.system_type)
-      ⨟ text (at ▸ step.Name) a.name b.name ⨟ dynamic (at ▸ step.Dynamic) a.dynamic b.dynamic
+      equal ⨟ equal ⨟ dynamic (at ▸ step.Dynamic) a.dynamic b.dynamic
       ⨟ frame-of (at ▸ step.Datum) a.frame b.frame ⨟ meridian (at ▸ step.Meridian) a.meridian b.meridian
       ⨟ system (at ▸ step.System) a.system b.system ⨟ tail at a.tail b.tail
 
   base : (at : List Step) (a b : BaseParts) → Turns (parts_of_base at level a b) (parts_of_base at level b a)
   unfolding parts_of_base
   base at a b =
-      text (at ▸ step.Name) a.name b.name ⨟ dynamic (at ▸ step.Dynamic) a.dynamic b.dynamic
+      equal ⨟ dynamic (at ▸ step.Dynamic) a.dynamic b.dynamic
       ⨟ frame-of (at ▸ step.Datum) a.frame b.frame ⨟ meridian (at ▸ step.Meridian) a.meridian b.meridian
-      ⨟ units-if-any (at ▸ step.Unit) kinds.Angle kinds.Angle a.unit b.unit ⨟ idents (at ▸ step.Id) level a.identifiers b.identifiers
+      ⨟ units-if-any (at ▸ step.Unit) kinds.Angle kinds.Angle a.unit b.unit ⨟ set
 
   projected : (at : List Step) (a b : ProjectedParts) → Turns (parts_of_projected at level a b) (parts_of_projected at level b a)
   unfolding parts_of_projected
   projected at a b =
-      text (at ▸ step.Name) a.name b.name ⨟ base (at ▸ step.Base) a.base b.base
+      equal ⨟ base (at ▸ step.Base) a.base b.base
       ⨟ conversion (at ▸ step.Conversion) a.conversion b.conversion ⨟ system (at ▸ step.System) a.system b.system
       ⨟ tail at a.tail b.tail
 
   vertical : (at : List Step) (a b : VerticalParts) → Turns (parts_of_vertical at level a b) (parts_of_vertical at level b a)
   unfolding parts_of_vertical
   vertical at a b =
-      text (at ▸ step.Name) a.name b.name ⨟ dynamic (at ▸ step.Dynamic) a.dynamic b.dynamic
-      ⨟ frame-of (at ▸ step.Datum) a.frame b.frame ⨟ system (at ▸ step.System) a.system b.system
-      ⨟ set (at ▸ step.Geoid) (SameGeoidModel level) content.GeoidModels a.geoid_models b.geoid_models
+      equal ⨟ dynamic (at ▸ step.Dynamic) a.dynamic b.dynamic
+      ⨟ frame-of (at ▸ step.Datum) a.frame b.frame ⨟ system (at ▸ step.System) a.system b.system ⨟ set
       ⨟ tail at a.tail b.tail
 
   horizontal-of : (at : List Step) (a b : Horizontal) → Turns (parts_of_horizontal at level a b) (parts_of_horizontal at level b a)
@@ -275,7 +250,7 @@ module _ (level : Level) (same-turned : (a b : Value) → SameValue a b → Same
   compound : (at : List Step) (a b : CompoundParts) → Turns (parts_of_compound at level a b) (parts_of_compound at level b a)
   unfolding parts_of_compound
   compound at a b =
-      text (at ▸ step.Name) a.name b.name ⨟ horizontal-of (at ▸ step.Horizontal) a.horizontal b.horizontal
+      equal ⨟ horizontal-of (at ▸ step.Horizontal) a.horizontal b.horizontal
       ⨟ vertical (at ▸ step.Vertical) a.vertical b.vertical ⨟ tail at a.tail b.tail
 
   pub crs-of : (a b : Crs) → Turns (parts_of_crs level a b) (parts_of_crs level b a)

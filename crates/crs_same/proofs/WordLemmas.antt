@@ -18,36 +18,7 @@ some-byte (x ∷ xs) is = omega arith
 
 word : (s : Step) → IsSomeText (step_text s)
 word step.Kind = tt
-word step.Name = tt
-word step.Datum = tt
-word step.Meridian = tt
-word step.System = tt
-word step.Usage = tt
-word step.Id = tt
-word step.Remark = tt
-word step.Base = tt
-word step.Conversion = tt
-word step.Geoid = tt
-word step.Horizontal = tt
-word step.Vertical = tt
-word step.Unit = tt
-word step.Ellipsoid = tt
-word step.Anchor = tt
-word step.Dynamic = tt
-word step.Epoch = tt
-word step.Model = tt
-word step.AnchorEpoch = tt
-word step.Members = tt
-word step.Accuracy = tt
-word step.SemiMajor = tt
-word step.Flattening = tt
-word step.Longitude = tt
-word step.SystemType = tt
-word step.Dimension = tt
-word (step.Axis position) = tt
-word step.Direction = tt
-word step.Method = tt
-word step.Parameters = tt
+word other = tt
 
 pub path-has-words : (path : List Step) → 1 ≤ length path → 1 ≤ length (path_text path)
 path-has-words [] some = absurd (omega (arith, some))
