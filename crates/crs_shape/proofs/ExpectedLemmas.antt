@@ -1,11 +1,11 @@
 -- What could come at a fault of shape, as the loop over an item's arguments finds it.
-use Rattle.std.proofs.Common.{◌≡◌, ◌≢◌, ℕ, ◌<◌, inl, inr, Bool, true, false, ◌&&◌, Option, Some, None, List, [], ◌∷◌, ◌++◌, drop, filter, map, option_map, refl, sym, ◌∙◌, ap, subst, arith, rules}
+use Rattle.std.proofs.Common.{◌≡◌, ℕ, ◌<◌, inl, inr, Bool, true, false, ◌&&◌, Option, Some, None, List, [], ◌∷◌, ◌++◌, drop, filter, map, refl, sym, ◌∙◌, ap, subst, arith, rules}
 use Rattle.std.specs.List.{list_any}
 use Rattle.std.proofs.Math.Bool.{and-true}
 use Rattle.std.proofs.lemmas.List.{append-nil}
 use Rattle.std.proofs.lemmas.Map.Views.{any-filter_same}
 use denote.Enum.Bare.{sameb, same_true}
-use Rattle.crs_text.specs.Prelude.{Item, leaf, node, Siblings, End, More, arguments, first_of, rest_of, close_of, place_of, size_of, sizes, here, IsAt}
+use Rattle.crs_text.specs.Prelude.{Item, leaf, node, Siblings, More, arguments, first_of, rest_of, close_of, place_of, size_of, sizes, here, IsAt}
 use Rattle.crs_shape.specs.contracts.class.Class.{the_type}
 use Rattle.crs_shape.specs.declared.class.Class.{Class}
 use Rattle.crs_shape.specs.declared.fitting.Walk.{Walk}
@@ -14,7 +14,7 @@ use Rattle.crs_shape.specs.Keywords.{every_class}
 use Rattle.crs_shape.specs.Slots.{SlotParts, shown, slots_of}
 use Rattle.crs_shape.specs.Shape.{Allowed, Begins}
 use Rattle.crs_shape.specs.Walk.{left, left_of, after, may_end}
-use Rattle.crs_shape.specs.ShapeFault.{class_in, is_of, IsFree, Stands, Inside, Among}
+use Rattle.crs_shape.specs.ShapeFault.{is_of, IsFree, Stands, Inside, Among}
 use Rattle.crs_shape.specs.FirstFault.{step_to, step_as, step_of}
 use Rattle.crs_shape.specs.Left.{has_some, may_go, slots_left, classes_left, end_left}
 use Rattle.crs_shape.specs.Expected.{ExpectedParts, Follows, ExpectedIn, ExpectedAmong}
@@ -22,7 +22,7 @@ use Rattle.crs_shape.proofs.KeywordTableLemmas.{class-among}
 use Rattle.crs_shape.proofs.TableLemmas.{apart_tables}
 use Rattle.crs_shape.proofs.SlotLemmas.{end-allowed}
 use Rattle.crs_shape.proofs.FaultLemmas.{Reached, reached-start, reached-more, reached-begins, reached-not, exact-free, end-free, end-not}
-use Rattle.crs_shape.proofs.FitLemmas.{from, HasNext, from_at, has_at, arguments-less, rest-less, step-is_of}
+use Rattle.crs_shape.proofs.FitLemmas.{from, HasNext, from_at, has_at, arguments-less, rest-less, step_class, step-is_of, by_more}
 
 -- ---- the classes
 
@@ -119,24 +119,6 @@ none_stands parent before slots item r e d stands = by (after slots d) refl
         let never : ◌≡◌ {A = Option (Class × List SlotParts)} None (Some (d, next)) = e ∙ s in
         absurd cc
 
-to_class : (c d : Class) (later : List SlotParts) (o : Option (List SlotParts)) → Some (c, later) ≡ step_to d o → (d ≡ c) × (o ≡ Some later)
-to_class c d later None e = absurd cc
-to_class c d later (Some next) e =
-    let p : Some c ≡ Some d = ap (option_map (λ s. s.0)) e in
-    let q : Some later ≡ Some next = ap (option_map (λ s. s.1)) e in
-    let one : c ≡ d = cc in
-    let two : later ≡ next = cc in
-    (sym one, ap Some (sym two))
-
-step_class : (parent c : Class) (slots later : List SlotParts) (item : Item) → Some (c, later) ≡ step_of parent slots item → (class_in parent item ≡ Some c) × (after slots c ≡ Some later)
-step_class parent c slots later item e = by (class_in parent item) refl
-  where
-    by : (o : Option Class) → class_in parent item ≡ o → (class_in parent item ≡ Some c) × (after slots c ≡ Some later)
-    by None f = absurd (let never : ◌≡◌ {A = Option (Class × List SlotParts)} (Some (c, later)) None = e ∙ ap (step_as slots) f in cc)
-    by (Some d) f =
-        let t = to_class c d later (after slots d) (e ∙ ap (step_as slots) f) in
-        (f ∙ ap Some t.0, ap (after slots) (sym t.0) ∙ t.1)
-
 step_stands : (parent c : Class) (before : List Class) (slots later : List SlotParts) (item : Item) → Reached (slots_of parent) before slots → Some (c, later) ≡ step_of parent slots item →
     Stands parent before item c
 step_stands parent c before slots later item r e =
@@ -145,36 +127,19 @@ step_stands parent c before slots later item r e =
 
 -- an argument and those after it
 
-among_wrong : (c : Class) (place : ℕ) (before : List Class) (items : Siblings) (e : ExpectedParts) → items ≢ End → ((d : Class) → Stands c before (first_of items) d → ⊥) →
-    Follows c place before e → ExpectedAmong c place before items e
-among_wrong c place before End e some none f = absurd (some refl)
-among_wrong c place before (More item items) e some none f = inl (none, f)
-
-among_inside : (c d : Class) (place : ℕ) (before : List Class) (items : Siblings) (e : ExpectedParts) → items ≢ End → Stands c before (first_of items) d →
-    ExpectedIn d (first_of items) e → ExpectedAmong c place before items e
-among_inside c d place before End e some stands h = absurd (some refl)
-among_inside c d place before (More item items) e some stands h = inr (d, (stands, inl h))
-
-among_later : (c d : Class) (place : ℕ) (before : List Class) (items : Siblings) (e : ExpectedParts) → items ≢ End → Stands c before (first_of items) d →
-    IsFree (Inside d (first_of items)) → ExpectedAmong c place (before ++ d ∷ []) (rest_of items) e → ExpectedAmong c place before items e
-among_later c d place before End e some stands free h = absurd (some refl)
-among_later c d place before (More item items) e some stands free h = inr (d, (stands, inr (free, h)))
-
-free_later : (c d : Class) (close : ℕ) (before : List Class) (items : Siblings) → items ≢ End → Stands c before (first_of items) d →
-    IsFree (Inside d (first_of items)) → IsFree (Among c close (before ++ d ∷ []) (rest_of items)) → IsFree (Among c close before items)
-free_later c d close before End some stands free later = absurd (some refl)
-free_later c d close before (More item items) some stands free later =
-    exact-free c before item (λ x f. Inside x item f) (λ b f. Among c close b items f) d stands free later
-
 module _ (tree : Item) (c : Class) (item : Item) (slots : List SlotParts) (id : ℕ) (going : Going tree c item slots (Some id)) where
+  found-here : (e : ExpectedParts) → ExpectedAmong c (place_of item) going.before (More (first_of (here tree id)) (rest_of (here tree id))) e → ExpectedIn c item e
+  found-here e h = going.found e (subst (λ z. ExpectedAmong c (place_of item) going.before z e) (by_more (here tree id) going.has) h)
+
   -- an argument that isn't allowed there
   pub going_wrong : (e : ExpectedParts) → None ≡ step_of c slots (first_of (here tree id)) →
       e ≡ record { parent = Some c; place = place_of item; classes = filter (may_go slots) every_class; may_end = may_end slots } → ExpectedIn c item e
   going_wrong e none is =
-      going.found e
-      (among_wrong c (place_of item) going.before (here tree id) e going.has
-      (none_stands c going.before slots (first_of (here tree id)) going.reached none)
-      (follows c (place_of item) going.before slots going.reached e is))
+      found-here e
+      (inl (
+        none_stands c going.before slots (first_of (here tree id)) going.reached none,
+        follows c (place_of item) going.before slots going.reached e is,
+      ))
 
   module _ (named : Class) (later : List SlotParts) (step : Some (named, later) ≡ step_of c slots (first_of (here tree id))) where
     stands : Stands c going.before (first_of (here tree id)) named
@@ -185,7 +150,7 @@ module _ (tree : Item) (c : Class) (item : Item) (slots : List SlotParts) (id : 
 
     -- an argument with a fault inside
     pub going_inside : (e : ExpectedParts) → ExpectedIn named (first_of (here tree id)) e → ExpectedIn c item e
-    going_inside e h = going.found e (among_inside c named (place_of item) going.before (here tree id) e going.has stands h)
+    going_inside e h = found-here e (inr (named, (stands, inl h)))
 
     -- an argument without
     pub going_on : (next : Option ℕ) → IsFree (Inside named (first_of (here tree id))) → IsAt tree (rest_of (here tree id)) next → Going tree c item later next
@@ -195,9 +160,11 @@ module _ (tree : Item) (c : Class) (item : Item) (slots : List SlotParts) (id : 
           close = going.close;
           before = going.before ++ named ∷ [];
           reached = reached-more (slots_of c) going.before slots later named going.reached (step_class c named slots later (first_of (here tree id)) step).1;
-          free = λ h. going.free (free_later c named going.close going.before (here tree id) going.has stands free (subst (λ z. IsFree (Among c going.close (going.before ++ named ∷ []) z)) same h));
-          found = λ e h. going.found e
-              (among_later c named (place_of item) going.before (here tree id) e going.has stands free (subst (λ z. ExpectedAmong c (place_of item) (going.before ++ named ∷ []) z e) same h));
+          free = λ h. going.free
+              (subst (λ z. IsFree (Among c going.close going.before z)) (by_more (here tree id) going.has)
+              (exact-free c going.before (first_of (here tree id)) (λ x f. Inside x (first_of (here tree id)) f) (λ b f. Among c going.close b (rest_of (here tree id)) f) named stands free
+              (subst (λ z. IsFree (Among c going.close (going.before ++ named ∷ []) z)) same h)));
+          found = λ e h. found-here e (inr (named, (stands, inr (free, subst (λ z. ExpectedAmong c (place_of item) (going.before ++ named ∷ []) z e) same h))));
           has = has_at tree (rest_of (here tree id)) next at;
           less = omega (arith, rest-less tree id next going.has at, going.less);
         }

@@ -8,7 +8,7 @@ use Rattle.crs_shape.specs.Keywords.{is_keyword, first_named, root_classes, root
 use Rattle.crs_shape.specs.Slots.{SlotParts, slots_of, named_in, class_named}
 use Rattle.crs_shape.specs.Walk.{after, may_end}
 use Rattle.crs_shape.specs.ShapeFault.{class_of_kind, class_in, class_of_root, is_of, misplaced, missing}
-use Rattle.crs_shape.specs.FirstFault.{or_later, step_to, step_of, fault_by, fault_from, first_inside, first_in_arguments}
+use Rattle.crs_shape.specs.FirstFault.{or_later, step_to, step_as, step_of, fault_by, fault_from, first_inside, first_in_arguments}
 
 -- the items from one on, where there is one
 abbrev pub from : Item → Option ℕ → Siblings
@@ -67,15 +67,17 @@ going_first tree c item close next e f at = record {
   less = let same : sizes (from tree next) ≡ sizes (arguments item) = ap sizes (from_at tree (arguments item) next at) in omega (arith, arguments-less item);
 }
 
+pub by_more : (items : Siblings) → items ≢ End → More (first_of items) (rest_of items) ≡ items
+by_more End some = absurd (some refl)
+by_more (More item items) some = refl
+
 by_items : (c : Class) (close : ℕ) (slots : List SlotParts) (items : Siblings) → items ≢ End →
     first_in_arguments c close slots items ≡ fault_from c slots (first_of items) (λ d. first_inside d (first_of items)) (λ next. first_in_arguments c close next (rest_of items))
 unfolding first_inside first_in_arguments
-by_items c close slots End some = absurd (some refl)
-by_items c close slots (More item items) some = refl
+by_items c close slots items some = sym (ap (first_in_arguments c close slots) (by_more items some))
 
 sizes-first : (items : Siblings) → items ≢ End → sizes items ≡ size_of (first_of items) + sizes (rest_of items)
-sizes-first End some = absurd (some refl)
-sizes-first (More item items) some = refl
+sizes-first items some = sym (ap sizes (by_more items some))
 
 pub argument-less : (tree : Item) (id : ℕ) (n : ℕ) → HasId tree id → sizes (here tree id) < n → size_of (first_of (here tree id)) < n
 argument-less tree id n has less = omega (arith, sizes-first (here tree id) has)
@@ -162,19 +164,26 @@ unfolding root_named
 root-is_of c (leaf kind place raw) e = cc
 root-is_of c (node place keyword square first others close) e = first-has root_classes keyword c e
 
-pub step-is_of : (parent c : Class) (slots left : List SlotParts) (item : Item) → Some (c, left) ≡ step_of parent slots item → is_of c item ≡ true
-step-is_of parent c slots left item e =
-    elim (class_in parent item) as (λ o. class_in parent item ≡ o → is_of c item ≡ true) [
-      | None ↦ λ f. absurd (none (rw f at e))
-      | Some d ↦ λ f. class-is_of parent c item (f ∙ to (after slots d) (rw f at e))
-    ] refl
-  where
-    none : {X : Type 0} {x : X} → Some x ≡ None → ⊥
-    none p = cc
+to_class : (c d : Class) (later : List SlotParts) (o : Option (List SlotParts)) → Some (c, later) ≡ step_to d o → (d ≡ c) × (o ≡ Some later)
+to_class c d later None e = absurd cc
+to_class c d later (Some next) e =
+    let p : Some c ≡ Some d = ap (option_map (λ s. s.0)) e in
+    let q : Some later ≡ Some next = ap (option_map (λ s. s.1)) e in
+    let one : c ≡ d = cc in
+    let two : later ≡ next = cc in
+    (sym one, ap Some (sym two))
 
-    to : {d : Class} (o : Option (List SlotParts)) → Some (c, left) ≡ step_to d o → Some d ≡ Some c
-    to None p = cc
-    to (Some next) p = sym (ap (option_map (λ s. s.0)) p)
+pub step_class : (parent c : Class) (slots later : List SlotParts) (item : Item) → Some (c, later) ≡ step_of parent slots item → (class_in parent item ≡ Some c) × (after slots c ≡ Some later)
+step_class parent c slots later item e = by (class_in parent item) refl
+  where
+    by : (o : Option Class) → class_in parent item ≡ o → (class_in parent item ≡ Some c) × (after slots c ≡ Some later)
+    by None f = absurd (let never : ◌≡◌ {A = Option (Class × List SlotParts)} (Some (c, later)) None = e ∙ ap (step_as slots) f in cc)
+    by (Some d) f =
+        let t = to_class c d later (after slots d) (e ∙ ap (step_as slots) f) in
+        (f ∙ ap Some t.0, ap (after slots) (sym t.0) ∙ t.1)
+
+pub step-is_of : (parent c : Class) (slots left : List SlotParts) (item : Item) → Some (c, left) ≡ step_of parent slots item → is_of c item ≡ true
+step-is_of parent c slots left item e = class-is_of parent c item (step_class parent c slots left item e).0
 
 pub going_class : (tree : Item) (c : Class) (item : Item) (close : ℕ) (slots left : List SlotParts) (named : Class) (id : ℕ) → Going tree c item close slots (Some id) →
     Some (named, left) ≡ step_of c slots (first_of (here tree id)) → is_of named (first_of (here tree id)) ≡ true
