@@ -125,16 +125,17 @@ after-apart (s ∷ ss) c next apart e =
 abbrev pub Goes : List SlotParts → Class → List Class → Type 0
 Goes ss c cs = (next : List SlotParts) × ((after ss c ≡ Some next) × Allowed next cs)
 
+-- a slot of the same classes takes the same
+taken-as : (s t : SlotParts) → s.classes ≡ t.classes → (cs : List Class) → AllTaken s cs → AllTaken t cs
+taken-as s t same [] h = tt
+taken-as s t same (c ∷ cs) h = (ap (list_any (λ d. sameb the_type d c)) (sym same) ∙ h.0, taken-as s t same cs h.1)
+
 fills-again : (s : SlotParts) (d : Class) (run : List Class) → s.many ≡ true → Fills s (d ∷ run) → Fills (again s) run
 fills-again s d run many f = record {
-  taken = taken-again run f.taken.1;
+  taken = taken-as s (again s) refl run f.taken.1;
   enough = λ e. cc;
   not_more = λ e. cc;
 }
-  where
-    taken-again : (cs : List Class) → AllTaken s cs → AllTaken (again s) cs
-    taken-again [] h = tt
-    taken-again (x ∷ xs) h = (h.0, taken-again xs h.1)
 
 few-none : (s : SlotParts) (d : Class) (run : List Class) → s.many ≡ false → Fills s (d ∷ run) → run ≡ []
 few-none s d [] few f = refl
@@ -174,14 +175,10 @@ goes-along (s ∷ ss) apart ((d ∷ run) ∷ runs) fit c cs e =
 -- a class may come first where it is allowed
 fills-more : (s : SlotParts) (d : Class) (run : List Class) → s.many ≡ true → takes s d ≡ true → AllTaken (again s) run → Fills s (d ∷ run)
 fills-more s d run many taken h = record {
-  taken = (taken, taken-more run h);
+  taken = (taken, taken-as (again s) s refl run h);
   enough = λ e. omega arith;
   not_more = λ e. cc;
 }
-  where
-    taken-more : (cs : List Class) → AllTaken (again s) cs → AllTaken s cs
-    taken-more [] h = tt
-    taken-more (x ∷ xs) h = (h.0, taken-more xs h.1)
 
 fills-one : (s : SlotParts) (d : Class) → takes s d ≡ true → Fills s (d ∷ [])
 fills-one s d taken = record { taken = (taken, tt); enough = λ e. omega arith; not_more = λ e. omega arith }
