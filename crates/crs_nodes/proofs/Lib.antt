@@ -4,5 +4,4 @@ pub mod CopiedLemmas
 pub mod CopiedUsageLemmas
 pub mod DirectFlatLemmas
 pub mod DirectPlainLemmas
-pub mod LookupLemmas
 pub mod PlainLemmas
