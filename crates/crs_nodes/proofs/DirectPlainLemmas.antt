@@ -1,11 +1,11 @@
 -- Bytes that are a plain spelling.
-use Rattle.std.proofs.Common.{◌≡◌, ◌≢◌, ◌⊎◌, ℕ, IsTrue, zero, suc, ◌*◌, ◌%◌, ◌^◌, Bool, ◌-◌, ◌<◌, List, [], ◌∷◌, ◌++◌, Option, Some, None, length, take, drop, replicate, get_or, ◌==◌, if◌then◌else◌, true, false, take-add, length-take-le, append_assoc, ◌+◌, ◌≤◌, inl, inr, refl, sym, ap, subst, ◌∙◌, arith}
-use Rattle.std.specs.List.{list_all, prefix_len, slice_get}
+use Rattle.std.proofs.Common.{◌≡◌, ◌≢◌, ◌⊎◌, ℕ, zero, suc, ◌*◌, ◌%◌, ◌^◌, Bool, ◌-◌, ◌<◌, List, [], ◌∷◌, ◌++◌, Option, Some, None, length, take, drop, replicate, get_or, ◌==◌, if◌then◌else◌, true, false, take-add, append_assoc, ◌+◌, ◌≤◌, inl, inr, refl, sym, ap, subst, ◌∙◌, arith}
+use Rattle.std.specs.List.{prefix_len, slice_get}
 use Rattle.std.proofs.Math.Nat.{mul-one, mul_assoc}
-use Rattle.std.proofs.lemmas.Bool.{and_parts, eqb-true}
+use Rattle.std.proofs.lemmas.Bool.{eqb-false, eqb-true}
 use Rattle.std.proofs.lemmas.List.{append-nil, length-append, take-append-drop, take_more}
 use Rattle.std.proofs.lemmas.List.Sums.{fold-append}
-use Rattle.crs_decimal.specs.Prelude.{EndsTrim, IsPlain, IsTrim, digits_value, number_of, Denotes, IsBounded, IsMeasured, Number, SameNumber, SameSize, AreDigits, is_digit, Sign, unsigned, plus, minus, sign_text, Exponent, Parts, SpellsNumber, exponent_text, fraction_digits, fraction_text}
+use Rattle.crs_decimal.specs.Prelude.{EndsTrim, IsFractionNeeded, IsPlain, IsTrim, digits_value, number_of, Denotes, IsBounded, IsMeasured, Number, SameNumber, SameSize, AreDigits, is_digit, Sign, unsigned, plus, minus, Exponent, Parts, SpellsNumber, exponent_text, fraction_digits, fraction_text}
 use Rattle.crs_decimal.proofs.PowerLemmas.{power_next}
 use Rattle.crs_decimal.proofs.SplitLemmas.{digits-append, digits_parts, front_digits, parts_one}
 use Rattle.crs_decimal.proofs.BoundLemmas.{same_scaled}
@@ -19,41 +19,41 @@ ends-by (x ∷ y ∷ ds) d e n =
     let k : length (x ∷ y ∷ ds) - 1 ≡ suc (length (y ∷ ds) - 1) = omega arith in
     ends-by (y ∷ ds) d (subst (λ i. slice_get (x ∷ y ∷ ds) i ≡ Some d) k e) n
 
-some-whole : (whole rest : List ℕ) → IsTrim whole → 0 < length (whole ++ rest)
-some-whole [] rest trim = absurd trim
-some-whole (d ∷ whole) rest trim = omega arith
+abbrev of_parts : List ℕ → Option (List ℕ) → Parts
+of_parts whole fraction = record { sign = unsigned; whole = whole; fraction = fraction; exponent = None }
+
+spelled : (whole : List ℕ) (fraction : Option (List ℕ)) → AreDigits whole → AreDigits (fraction_digits fraction) → 0 < length whole →
+    SpellsNumber (whole ++ fraction_text fraction) (of_parts whole fraction)
+spelled whole fraction dw df some = (
+  sym (append-nil (whole ++ fraction_text fraction)),
+  record {
+    digits = digits-append whole (fraction_digits fraction) dw df;
+    some = omega (arith, some, length-append whole (fraction_digits fraction));
+    exponent = tt;
+  },
+)
+
+some-whole : (whole : List ℕ) → IsTrim whole → 0 < length whole
+some-whole [] trim = absurd trim
+some-whole (d ∷ whole) trim = omega arith
+
+unsigned-by : (raw whole : List ℕ) (fraction : Option (List ℕ)) → raw ≡ whole ++ fraction_text fraction → AreDigits whole → AreDigits (fraction_digits fraction) →
+    IsTrim whole → IsFractionNeeded fraction → IsUnsigned raw
+unsigned-by raw whole fraction e dw df trim ends = rw e (record {
+  plain = record {
+    parts = of_parts whole fraction;
+    spells = spelled whole fraction dw df (some-whole whole trim);
+    sign = inl refl;
+    whole = trim;
+    fraction = ends;
+    exponent = refl;
+  };
+  sign = refl;
+})
 
 joined : (raw whole rest : List ℕ) → raw ≡ whole ++ rest → AreDigits whole → IsTrim whole → IsPlainRest rest → IsUnsigned raw
-joined raw whole [] e digits trim h = let p : IsPlain raw = record {
-  parts = record { sign = unsigned; whole = whole; fraction = None; exponent = None };
-  spells = (
-    e ∙ sym (append-nil (whole ++ [])),
-    record {
-      digits = digits-append whole [] digits refl;
-      some = some-whole whole [] trim;
-      exponent = tt;
-    },
-  );
-  sign = inl refl;
-  whole = trim;
-  fraction = tt;
-  exponent = refl;
-} in record { plain = p; sign = refl }
-joined raw whole (b ∷ fraction) e digits trim (period, behind, ends) = let p : IsPlain raw = record {
-  parts = record { sign = unsigned; whole = whole; fraction = Some fraction; exponent = None };
-  spells = (
-    e ∙ ap (λ c. whole ++ c ∷ fraction) period ∙ sym (append-nil (whole ++ 46 ∷ fraction)),
-    record {
-      digits = digits-append whole fraction digits behind;
-      some = some-whole whole fraction trim;
-      exponent = tt;
-    },
-  );
-  sign = inl refl;
-  whole = trim;
-  fraction = ends;
-  exponent = refl;
-} in record { plain = p; sign = refl }
+joined raw whole [] e digits trim h = unsigned-by raw whole None e digits refl trim tt
+joined raw whole (b ∷ fraction) e digits trim (period, behind, ends) = unsigned-by raw whole (Some fraction) (rw period at e) digits behind trim ends
 
 pub plain-by : (raw : List ℕ) → IsTrim (take (prefix_len is_digit raw) raw) → IsPlainRest (drop (prefix_len is_digit raw) raw) → IsUnsigned raw
 plain-by raw trim rest =
@@ -62,32 +62,24 @@ plain-by raw trim rest =
 
 -- ---- signs
 
-abbrev first_byte : List ℕ → ℕ
-first_byte [] = 0
-first_byte (b ∷ bytes) = b
-
 sign-needed : (rest whole : List ℕ) (fraction : Option (List ℕ)) (exponent : Option Exponent) → exponent ≡ None →
     rest ≡ whole ++ fraction_text fraction ++ exponent_text exponent → rest ≢ 48 ∷ [] → (whole ≢ 48 ∷ []) ⊎ (fraction ≢ None)
 sign-needed rest whole None exponent none is other =
     inl (λ e. other (is ∙ ap (λ (w : List ℕ). w ++ fraction_text None ++ exponent_text exponent) e ∙ ap (λ x. 48 ∷ exponent_text x) none))
 sign-needed rest whole (Some ds) exponent none is other = inr (λ e. let h : ⊥ = cc in h)
 
-minus-plain : (rest : List ℕ) → rest ≢ 48 ∷ [] → IsUnsigned rest → IsPlain (45 ∷ rest)
-minus-plain rest other u =
+pub below-zero : (rest : List ℕ) → 1 < length rest → IsUnsigned rest → IsPlain (45 ∷ rest)
+below-zero rest long u =
     let p = u.plain.parts in
-    let is : rest ≡ p.whole ++ fraction_text p.fraction ++ exponent_text p.exponent =
-    u.plain.spells.0 ∙ ap (λ s. sign_text s ++ p.whole ++ fraction_text p.fraction ++ exponent_text p.exponent) u.sign in
+    let is : rest ≡ p.whole ++ fraction_text p.fraction ++ exponent_text p.exponent = rw u.sign at u.plain.spells.0 in
     let form = u.plain.spells.1 in record {
       parts = record { sign = minus; whole = p.whole; fraction = p.fraction; exponent = p.exponent };
       spells = (ap (λ (x : List ℕ). 45 ∷ x) is, record { digits = form.digits; some = form.some; exponent = form.exponent });
-      sign = inr (refl, sign-needed rest p.whole p.fraction p.exponent u.plain.exponent is other);
+      sign = inr (refl, sign-needed rest p.whole p.fraction p.exponent u.plain.exponent is (λ e. omega (arith, ap length e, long)));
       whole = u.plain.whole;
       fraction = u.plain.fraction;
       exponent = u.plain.exponent;
     }
-
-pub below-zero : (rest : List ℕ) → 1 < length rest → IsUnsigned rest → IsPlain (45 ∷ rest)
-below-zero rest long u = minus-plain rest (λ e. let k : length rest ≡ 1 = ap length e in omega (arith, k, long)) u
 
 unplussed : (rest : List ℕ) (n : Number) (sign : Sign) (whole : List ℕ) (fraction : Option (List ℕ)) (exponent : Option Exponent) →
     let p : Parts = record { sign = sign; whole = whole; fraction = fraction; exponent = exponent } in
@@ -102,14 +94,13 @@ unplussed rest n plus whole fraction exponent (is, form) bounded same = (
   },
   same,
 )
-unplussed rest n minus whole fraction exponent (is, form) bounded same = let k : ◌≡◌ {A = ℕ} 43 45 = ap first_byte is in absurd (omega arith)
-unplussed rest n unsigned [] None exponent (is, form) bounded same = let h = form.some in absurd (omega (arith, h))
-unplussed rest n unsigned [] (Some ds) exponent (is, form) bounded same = let k : ◌≡◌ {A = ℕ} 43 46 = ap first_byte is in absurd (omega arith)
+unplussed rest n minus whole fraction exponent (is, form) bounded same = absurd (omega (arith, ap (λ bytes. get_or bytes 0 0) is))
+unplussed rest n unsigned [] None exponent (is, form) bounded same = absurd (omega (arith, form.some))
+unplussed rest n unsigned [] (Some ds) exponent (is, form) bounded same = absurd (omega (arith, ap (λ bytes. get_or bytes 0 0) is))
 unplussed rest n unsigned (d ∷ ds) fraction exponent (is, form) bounded same =
-    let k : 43 ≡ d = ap first_byte is in
-    let digit : IsTrue (is_digit d) = (and_parts (is_digit d) (list_all is_digit (ds ++ fraction_digits fraction)) form.digits).0 in
-    let none : IsTrue (is_digit 43) = subst (λ b. IsTrue (is_digit b)) (sym k) digit in
-    let h : ⊥ = cc in absurd h
+    let k : 43 ≡ d = cc in
+    let h : false ≡ true = rw (← k) at form.digits in
+    absurd cc
 
 pub plus-off : (rest : List ℕ) (n : Number) → Denotes (43 ∷ rest) n → Denotes rest n
 plus-off rest n (p, spells, bounded, same) = unplussed rest n p.sign p.whole p.fraction p.exponent spells bounded same
@@ -132,23 +123,14 @@ measured-less d down negative (inr (m, k, strips, low, left, right)) =
     let (i, is, value) = ten-more d m k strips.0 strips.1 in
     inr (m, i, (value, strips.1), low, omega (arith, left, is), omega (arith, right, is))
 
-abbrev of_parts : List ℕ → List ℕ → Parts
-of_parts whole fraction = record { sign = unsigned; whole = whole; fraction = Some fraction; exponent = None }
-
-spelled : (whole ds : List ℕ) → AreDigits whole → AreDigits ds → 0 < length whole → SpellsNumber (whole ++ 46 ∷ ds) (of_parts whole ds)
-spelled whole ds dw dd some = (
-  sym (append-nil (whole ++ 46 ∷ ds)),
-  record { digits = digits-append whole ds dw dd; some = omega (arith, some, length-append whole ds); exponent = tt },
-)
-
 -- one zero less
 zero-off : (whole ds : List ℕ) (n : Number) → AreDigits whole → AreDigits ds → 0 < length whole →
     Denotes (whole ++ 46 ∷ (ds ++ 48 ∷ [])) n → Denotes (whole ++ 46 ∷ ds) n
 zero-off whole ds n dw dd some (p, spells, bounded, same) =
-    let q : Parts = of_parts whole (ds ++ 48 ∷ []) in
-    let r : Parts = of_parts whole ds in
-    let is : p ≡ q = parts_one (whole ++ 46 ∷ (ds ++ 48 ∷ [])) p q spells (spelled whole (ds ++ 48 ∷ []) dw (digits-append ds (48 ∷ []) dd refl) some) in
-    let within : IsBounded q = subst IsBounded is bounded in
+    let q : Parts = of_parts whole (Some (ds ++ 48 ∷ [])) in
+    let r : Parts = of_parts whole (Some ds) in
+    let is : p ≡ q = parts_one (whole ++ 46 ∷ (ds ++ 48 ∷ [])) p q spells (spelled whole (Some (ds ++ 48 ∷ [])) dw (digits-append ds (48 ∷ []) dd refl) some) in
+    let within : IsBounded q = rw is at bounded in
     let digits = digits_value (whole ++ ds) in
     let tenfold : digits_value (whole ++ (ds ++ 48 ∷ [])) ≡ digits * 10 =
     ap digits_value (sym (append_assoc whole ds (48 ∷ []))) ∙ fold-append (λ m d. m * 10 + (d - 48)) 0 (whole ++ ds) (48 ∷ [])
@@ -161,7 +143,7 @@ zero-off whole ds n dw dd some (p, spells, bounded, same) =
     same_scaled (digits_value (whole ++ (ds ++ 48 ∷ []))) digits 1 (0 + (0 + length ds)) (0 + (0 + length (ds ++ 48 ∷ [])))
     (let t : digits * 10 ^ 1 ≡ digits * 10 = refl in tenfold ∙ sym t) (omega (arith, longer)) in (
       r,
-      spelled whole ds dw dd some,
+      spelled whole (Some ds) dw dd some,
       record {
         mantissa_digits =
             let h = within.mantissa_digits in
@@ -174,31 +156,26 @@ zero-off whole ds n dw dd some (p, spells, bounded, same) =
 
 zeros-off : (k : ℕ) (whole ds : List ℕ) (n : Number) → AreDigits whole → AreDigits ds → 0 < length whole →
     Denotes (whole ++ 46 ∷ (ds ++ replicate k 48)) n → Denotes (whole ++ 46 ∷ ds) n
-zeros-off zero whole ds n dw dd some h = subst (λ x. Denotes (whole ++ 46 ∷ x) n) (append-nil ds) h
+zeros-off zero whole ds n dw dd some h = rw (append-nil ds) at h
 zeros-off (suc k) whole ds n dw dd some h =
     zero-off whole ds n dw dd some (zeros-off k whole (ds ++ 48 ∷ []) n dw (digits-append ds (48 ∷ []) dd refl) some
-    (subst (λ x. Denotes (whole ++ 46 ∷ x) n) (sym (append_assoc ds (48 ∷ []) (replicate k 48))) h))
+    (rw (← append_assoc ds (48 ∷ []) (replicate k 48)) at h))
 
 period-off : (whole : List ℕ) (n : Number) → AreDigits whole → 0 < length whole → Denotes (whole ++ 46 ∷ []) n → Denotes whole n
 period-off whole n dw some (p, spells, bounded, same) =
-    let q : Parts = of_parts whole [] in
-    let is : p ≡ q = parts_one (whole ++ 46 ∷ []) p q spells (spelled whole [] dw refl some) in
-    let within : IsBounded q = subst IsBounded is bounded in (
-      record { sign = unsigned; whole = whole; fraction = None; exponent = None },
-      (
-        sym (append-nil whole) ∙ sym (append-nil (whole ++ [])),
-        record { digits = digits-append whole [] dw refl; some = some-long whole some; exponent = tt },
-      ),
+    let q : Parts = of_parts whole (Some []) in
+    let is : p ≡ q = parts_one (whole ++ 46 ∷ []) p q spells (spelled whole (Some []) dw refl some) in
+    let within : IsBounded q = rw is at bounded in
+    let own = spelled whole None dw refl some in (
+      of_parts whole None,
+      (sym (append-nil whole) ∙ own.0, own.1),
       record {
         mantissa_digits = within.mantissa_digits;
         exponent_digits = within.exponent_digits;
         measured = within.measured;
       },
-      subst (λ x. SameNumber (number_of x) n) is same,
+      rw is at same,
     )
-  where
-    some-long : (xs : List ℕ) → 0 < length xs → 0 < length (xs ++ [])
-    some-long xs h = omega (arith, h, length-append xs [])
 
 cut : (raw fr : List ℕ) (count kept : ℕ) → drop count raw ≡ 46 ∷ fr → take (count + (1 + kept)) raw ≡ take count raw ++ 46 ∷ take kept fr
 cut raw fr count kept e =
@@ -206,27 +183,20 @@ cut raw fr count kept e =
     take-add count (1 + kept) raw ∙ ap (λ n. take count raw ++ take n (drop count raw)) on
     ∙ ap (λ xs. take count raw ++ take (suc kept) xs) e
 
-pub trim-off : (raw fr : List ℕ) (count kept : ℕ) (n : Number) → count ≡ prefix_len is_digit raw → count ≤ length raw → 0 < count →
+pub trim-off : (raw fr : List ℕ) (count kept : ℕ) (n : Number) → count ≡ prefix_len is_digit raw → IsTrim (take count raw) →
     drop count raw ≡ 46 ∷ fr → AreDigits fr → fr ≡ take kept fr ++ replicate (length fr - kept) 48 → Denotes raw n →
     Denotes (if kept == 0 then take count raw else take (count + (1 + kept)) raw) n
-trim-off raw fr count kept n is le some behind df zeros h =
+trim-off raw fr count kept n is trim behind df zeros h =
     let whole = take count raw in
-    let dw : AreDigits whole = subst (λ k. AreDigits (take k raw)) (sym is) (front_digits raw) in
-    let long : 0 < length whole = omega (arith, some, length-take-le count raw le) in
-    let split : raw ≡ whole ++ 46 ∷ (take kept fr ++ replicate (length fr - kept) 48) =
-    sym (take-append-drop count raw) ∙ ap (λ (x : List ℕ). whole ++ x) (behind ∙ ap (λ (x : List ℕ). 46 ∷ x) zeros) in
-    let digits = (digits_parts (take kept fr) (replicate (length fr - kept) 48) (subst AreDigits zeros df)).0 in
+    let dw : AreDigits whole = rw is (front_digits raw) in
+    let long = some-whole whole trim in
+    let digits = (digits_parts (take kept fr) (replicate (length fr - kept) 48) (rw zeros at df)).0 in
     let d : Denotes (whole ++ 46 ∷ take kept fr) n =
-    zeros-off (length fr - kept) whole (take kept fr) n dw digits long (subst (λ x. Denotes x n) split h) in
+    zeros-off (length fr - kept) whole (take kept fr) n dw digits long (rw (← take-append-drop count raw, behind, zeros) at h) in
     elim (kept == 0) as (λ b. (kept == 0) ≡ b → Denotes (if b then whole else take (count + (1 + kept)) raw) n) [
-      | true ↦ λ e. period-off whole n dw long (subst (λ k. Denotes (whole ++ 46 ∷ take k fr) n) (eqb-true kept 0 e) d)
-      | false ↦ λ e. subst (λ x. Denotes x n) (sym (cut raw fr count kept behind)) d
+      | true ↦ λ e. period-off whole n dw long (rw (eqb-true kept 0 e) at d)
+      | false ↦ λ e. rw (cut raw fr count kept behind) d
     ] refl
-
--- ---- by the first byte
-
-pub behind-plus : (raw rest : List ℕ) (sign : ℕ) (n : Number) → raw ≡ sign ∷ rest → sign ≡ 43 → Denotes raw n → Denotes rest n
-behind-plus raw rest sign n e same h = plus-off rest n (subst (λ x. Denotes x n) (e ∙ ap (λ b. b ∷ rest) same) h)
 
 -- ---- what is left of a fraction
 
@@ -240,32 +210,20 @@ pub trim-plain : (raw fr : List ℕ) (count kept : ℕ) → count ≡ prefix_len
     IsUnsigned (if kept == 0 then take count raw else take (count + (1 + kept)) raw)
 trim-plain raw fr count kept is trim behind df le ends =
     let whole = take count raw in
-    let dw : AreDigits whole = subst (λ k. AreDigits (take k raw)) (sym is) (front_digits raw) in
+    let dw : AreDigits whole = rw is (front_digits raw) in
     elim (kept == 0) as (λ b. (kept == 0) ≡ b → IsUnsigned (if b then whole else take (count + (1 + kept)) raw)) [
       | true ↦ λ e. joined whole whole [] (sym (append-nil whole)) dw trim tt
       | false ↦ λ e.
-          let some : 0 < kept = some-kept kept e in
+          let some : 0 < kept = omega (arith, eqb-false kept 0 e) in
           let on : kept - 1 + 1 ≡ kept = omega (arith, some) in
           let last : take kept fr ≡ take (kept - 1) fr ++ get_or fr (kept - 1) 0 ∷ [] =
           ap (λ k. take k fr) (sym on) ∙ take_more fr (kept - 1) 0 (omega (arith, some, le)) in
-          let digits = (digits_parts (take kept fr) (drop kept fr) (subst AreDigits (sym (take-append-drop kept fr)) df)).0 in
+          let digits = (digits_parts (take kept fr) (drop kept fr) (rw take-append-drop df)).0 in
           joined (take (count + (1 + kept)) raw) whole (46 ∷ take kept fr) (cut raw fr count kept behind) dw trim
-          (refl, digits, subst EndsTrim (sym last) (ends-append (take (kept - 1) fr) (get_or fr (kept - 1) 0) (ends some)))
+          (refl, digits, rw last (ends-append (take (kept - 1) fr) (get_or fr (kept - 1) 0) (ends some)))
     ] refl
-  where
-    some-kept : (k : ℕ) → (k == 0) ≡ false → 0 < k
-    some-kept zero e = let h : ⊥ = cc in absurd h
-    some-kept (suc k) e = omega arith
 
 pub whole-plain : (raw : List ℕ) (count : ℕ) → count ≡ prefix_len is_digit raw → IsTrim (take count raw) → drop count raw ≡ [] → IsUnsigned raw
 whole-plain raw count is trim none =
     joined raw (take count raw) [] (sym (take-append-drop count raw) ∙ ap (λ (x : List ℕ). take count raw ++ x) none)
-    (subst (λ k. AreDigits (take k raw)) (sym is) (front_digits raw)) trim tt
-
-pub nothing-left : (bytes : List ℕ) → length bytes ≡ 0 → bytes ≡ []
-nothing-left [] e = refl
-nothing-left (b ∷ bytes) e = absurd (omega (arith, e))
-
-pub some-front : (raw : List ℕ) (count : ℕ) → IsTrim (take count raw) → 0 < count
-some-front raw zero trim = absurd trim
-some-front raw (suc count) trim = omega arith
+    (rw is (front_digits raw)) trim tt
