@@ -1,8 +1,8 @@
 -- Nodes of the commonest forms, where they are canonical as they stand, are what is written of all that is read from them.
-use Rattle.std.proofs.Common.{◌≡◌, ℕ, false, if◌then◌else◌, List, [], ◌∷◌, ◌++◌, Option, Some, None, codes, refl, sym, ap, subst, ◌∙◌}
+use Rattle.std.proofs.Common.{arith, ◌≡◌, ℕ, false, if◌then◌else◌, List, [], ◌∷◌, ◌++◌, Option, Some, None, codes, refl, sym, ap, subst, ◌∙◌}
 use denote.Enum.Bare.{sameb}
 use Rattle.crs_decimal.specs.Prelude.{plain, Value}
-use Rattle.crs_text.specs.Prelude.{Item, Siblings, leaf, node, End, More, arguments, kind_of_item, place_of, raw_of, Kind, number, text, word, item_text, others_text}
+use Rattle.crs_text.specs.Prelude.{Item, Siblings, leaf, End, More, arguments, kind_of_item, place_of, raw_of, Kind, number, text, item_text, others_text}
 use Rattle.crs_text.specs.declared.items.ItemKind.TheVariants as items
 use Rattle.crs_shape.specs.Prelude.{class_named, class_in, class_of_kind, kind_as, unit_word}
 use Rattle.crs_shape.specs.contracts.class.Class.{the_type}
@@ -25,17 +25,13 @@ pub number-by : (item : Item) (raw : List ℕ) → kind_of_item item ≡ items.N
 number-by item raw k e p = record { kind = k; plain = subst IsPlainly e p }
 
 pub none-ahead : (tree : Item) (at : Option ℕ) → at ≡ None → ahead tree at ≡ End
-none-ahead tree None e = refl
-none-ahead tree (Some id) e = absurd cc
+none-ahead tree at e = rw e
 
 -- ---- items that are no nodes
 
 -- such an item is the leaf of its kind
 leaf-of : (kind : Kind) (item : Item) → kind_of_item item ≡ kind_of_item (leaf kind 0 []) → item ≡ leaf kind (place_of item) (raw_of item)
-leaf-of number (leaf number place raw) k = refl
-leaf-of text (leaf text place raw) k = refl
-leaf-of word (leaf word place raw) k = refl
-leaf-of kind item k = absurd cc
+leaf-of kind item k = grind arith
 
 -- the class that it has in any parent
 pub leaf-in : (kind : Kind) (c : Class) (item : Item) → kind_of_item item ≡ kind_of_item (leaf kind 0 []) → class_in c item ≡ Some (class_of_kind kind)
@@ -52,16 +48,11 @@ number-said item value n r = leaf-text number item (plain value) n.kind (n.plain
 
 pub node-in : (c d : Class) (item first : Item) (others : Siblings) (letters : List ℕ) → arguments item ≡ More first others → raw_of item ≡ letters →
     class_named c letters ≡ Some d → class_in c item ≡ Some d
-node-in c d (leaf kind place raw) first others letters a r named = absurd cc
-node-in c d (node place keyword square head tail close) first others letters a r named = ap (class_named c) r ∙ named
+node-in c d item first others letters a r named = grind arith
 
 pub node-text : (item first : Item) (others : Siblings) (letters : List ℕ) → arguments item ≡ More first others → raw_of item ≡ letters →
     item_text item ≡ letters ++ 91 ∷ (item_text first ++ (others_text others ++ 93 ∷ []))
-node-text (leaf kind place raw) first others letters a r = absurd cc
-node-text (node place keyword square head tail close) first others letters a r =
-    let h : head ≡ first = cc in
-    let t : tail ≡ others = cc in
-    rw (r, h, t)
+node-text item first others letters a r = grind arith
 
 -- these items, each beside its class, and others behind them
 abbrev pub onto : List (Item × Class) → Siblings → Siblings
@@ -90,8 +81,7 @@ those-in c item front rest is are d = ap (those c d) is ∙ those-onto c d front
 -- ---- optional parts
 
 pub none-read : {V : Type 0} (R : Item → V → Type 0) (value : Option V) → ReadsOptional R [] value → value ≡ None
-none-read R None h = refl
-none-read R (Some value) h = absurd h
+none-read R value h = grind arith
 
 -- what is read from the first of these
 pub record IsSome {V : Type 0} (R : Item → V → Type 0) (item : Item) (value : Option V) : Type 0 where
@@ -140,8 +130,7 @@ end-none level c d (More item others) named e other = rw (ident-in c item named 
 
 one-kept : (level : Level) (i : IdentParts) → level ≡ levels.Full → set_idents level (i ∷ []) ≡ i ∷ []
 unfolding set_idents
-one-kept levels.Full i e = refl
-one-kept levels.Definition i e = absurd cc
+one-kept level i e = rw e
 
 pub none-kept : (level : Level) → set_idents level [] ≡ []
 unfolding set_idents
@@ -178,10 +167,7 @@ method-copied level item m f r =
 -- ---- units
 
 as-said : (asked kind : UnitKind) → SaysKind kind → kind_as asked kind ≡ kind
-as-said asked kinds.Length says = refl
-as-said asked kinds.Angle says = refl
-as-said asked kinds.Scale says = refl
-as-said asked kinds.Plain says = absurd says
+as-said asked kind says = grind arith
 
 pub unit-copied : (level : Level) (asked : UnitKind) (c : Class) (item : Item) (u : UnitParts) → Identifies c → IsSaidUnit level item →
     ReadsUnit c item u → item_text item ≡ item_text (item_unit (norm_unit level asked u))

@@ -1,7 +1,6 @@
 -- Bytes that are a plain spelling.
-use Rattle.std.proofs.Common.{◌≡◌, ◌≢◌, ◌⊎◌, ℕ, zero, suc, ◌*◌, ◌%◌, ◌^◌, Bool, ◌-◌, ◌<◌, List, [], ◌∷◌, ◌++◌, Option, Some, None, length, take, drop, replicate, get_or, ◌==◌, if◌then◌else◌, true, false, take-add, append_assoc, ◌+◌, ◌≤◌, inl, inr, refl, sym, ap, subst, ◌∙◌, arith}
+use Rattle.std.proofs.Common.{◌≡◌, ◌≢◌, ◌⊎◌, ℕ, zero, suc, ◌*◌, ◌%◌, ◌^◌, ◌-◌, ◌<◌, List, [], ◌∷◌, ◌++◌, Option, Some, None, length, take, drop, replicate, get_or, ◌==◌, if◌then◌else◌, true, false, take-add, append_assoc, ◌+◌, ◌≤◌, inl, inr, refl, sym, ap, subst, ◌∙◌, arith}
 use Rattle.std.specs.List.{prefix_len, slice_get}
-use Rattle.std.proofs.Math.Nat.{mul-one, mul_assoc}
 use Rattle.std.proofs.lemmas.Bool.{eqb-false, eqb-true}
 use Rattle.std.proofs.lemmas.List.{append-nil, length-append, take-append-drop, take_more}
 use Rattle.std.proofs.lemmas.List.Sums.{fold-append}
@@ -34,8 +33,7 @@ spelled whole fraction dw df some = (
 )
 
 some-whole : (whole : List ℕ) → IsTrim whole → 0 < length whole
-some-whole [] trim = absurd trim
-some-whole (d ∷ whole) trim = omega arith
+some-whole whole trim = grind arith
 
 unsigned-by : (raw whole : List ℕ) (fraction : Option (List ℕ)) → raw ≡ whole ++ fraction_text fraction → AreDigits whole → AreDigits (fraction_digits fraction) →
     IsTrim whole → IsFractionNeeded fraction → IsUnsigned raw
@@ -64,9 +62,7 @@ plain-by raw trim rest =
 
 sign-needed : (rest whole : List ℕ) (fraction : Option (List ℕ)) (exponent : Option Exponent) → exponent ≡ None →
     rest ≡ whole ++ fraction_text fraction ++ exponent_text exponent → rest ≢ 48 ∷ [] → (whole ≢ 48 ∷ []) ⊎ (fraction ≢ None)
-sign-needed rest whole None exponent none is other =
-    inl (λ e. other (is ∙ ap (λ (w : List ℕ). w ++ fraction_text None ++ exponent_text exponent) e ∙ ap (λ x. 48 ∷ exponent_text x) none))
-sign-needed rest whole (Some ds) exponent none is other = inr (λ e. let h : ⊥ = cc in h)
+sign-needed rest whole fraction exponent none is other = grind arith
 
 pub below-zero : (rest : List ℕ) → 1 < length rest → IsUnsigned rest → IsPlain (45 ∷ rest)
 below-zero rest long u =
@@ -108,18 +104,15 @@ plus-off rest n (p, spells, bounded, same) = unplussed rest n p.sign p.whole p.f
 -- ---- zeros that a fraction ends in
 
 ten-more : (d m j : ℕ) → d * 10 ≡ m * 10 ^ j → m % 10 ≢ 0 → (i : ℕ) × (j ≡ suc i) × (d ≡ m * 10 ^ i)
-ten-more d m zero e other = let f : m * 10 ^ 0 ≡ m = mul-one m in absurd (other (omega (arith, e, f)))
-ten-more d m (suc i) e other =
-    let f : m * 10 ^ suc i ≡ m * 10 ^ i * 10 = ap (λ p. m * p) (power_next i) ∙ sym (mul_assoc m (10 ^ i) 10) in
-    (i, refl, omega (arith, e, f))
+ten-more d m zero e other = absurd (other (omega (arith, e)))
+ten-more d m (suc i) e other = (i, refl, omega (arith, e, ap (λ p. m * p) (power_next i)))
 
-abbrev with_down : Bool → ℕ → ℕ → Number
-with_down negative digits down = record { negative = negative; digits = digits; up = 0; down = down }
+abbrev with_down : ℕ → ℕ → Number
+with_down digits down = record { negative = false; digits = digits; up = 0; down = down }
 
-measured-less : (d down : ℕ) (negative : Bool) → (d * 10 ≡ 0) ⊎ IsMeasured (with_down negative (d * 10) (suc down)) →
-    (d ≡ 0) ⊎ IsMeasured (with_down negative d down)
-measured-less d down negative (inl e) = inl (omega (arith, e))
-measured-less d down negative (inr (m, k, strips, low, left, right)) =
+measured-less : (d down : ℕ) → (d * 10 ≡ 0) ⊎ IsMeasured (with_down (d * 10) (suc down)) → (d ≡ 0) ⊎ IsMeasured (with_down d down)
+measured-less d down (inl e) = inl (omega (arith, e))
+measured-less d down (inr (m, k, strips, low, left, right)) =
     let (i, is, value) = ten-more d m k strips.0 strips.1 in
     inr (m, i, (value, strips.1), low, omega (arith, left, is), omega (arith, right, is))
 
@@ -133,25 +126,21 @@ zero-off whole ds n dw dd some (p, spells, bounded, same) =
     let within : IsBounded q = rw is at bounded in
     let digits = digits_value (whole ++ ds) in
     let tenfold : digits_value (whole ++ (ds ++ 48 ∷ [])) ≡ digits * 10 =
-    ap digits_value (sym (append_assoc whole ds (48 ∷ []))) ∙ fold-append (λ m d. m * 10 + (d - 48)) 0 (whole ++ ds) (48 ∷ [])
-    ∙ (let t : digits * 10 + 0 ≡ digits * 10 = omega arith in t) in
+    rw (← append_assoc whole ds (48 ∷ [])) (omega (arith, fold-append (λ m d. m * 10 + (d - 48)) 0 (whole ++ ds) (48 ∷ []))) in
     let longer : 0 + length (ds ++ 48 ∷ []) ≡ suc (length ds) = omega (arith, length-append ds (48 ∷ [])) in
     let alone : length ds ≡ 0 + length ds = omega arith in
-    let number : number_of q ≡ with_down false (digits * 10) (suc (length ds)) = λ i. with_down false (tenfold i) (longer i) in
-    let measured = measured-less digits (length ds) false (subst (λ x. (x.digits ≡ 0) ⊎ IsMeasured x) number within.measured) in
+    let measured = measured-less digits (length ds) (rw (tenfold, longer) at within.measured) in
     let size : SameSize (number_of q) (number_of r) =
-    same_scaled (digits_value (whole ++ (ds ++ 48 ∷ []))) digits 1 (0 + (0 + length ds)) (0 + (0 + length (ds ++ 48 ∷ [])))
-    (let t : digits * 10 ^ 1 ≡ digits * 10 = refl in tenfold ∙ sym t) (omega (arith, longer)) in (
+    same_scaled (digits_value (whole ++ (ds ++ 48 ∷ []))) digits 1 (0 + (0 + length ds)) (0 + (0 + length (ds ++ 48 ∷ []))) tenfold (omega (arith, longer)) in (
       r,
       spelled whole (Some ds) dw dd some,
       record {
         mantissa_digits =
-            let h = within.mantissa_digits in
-            omega (arith, h, length-append whole ds, length-append whole (ds ++ 48 ∷ []), length-append ds (48 ∷ []));
+            omega (arith, within.mantissa_digits, length-append whole ds, length-append whole (ds ++ 48 ∷ []), length-append ds (48 ∷ []));
         exponent_digits = within.exponent_digits;
-        measured = subst (λ k. (digits ≡ 0) ⊎ IsMeasured (with_down false digits k)) alone measured;
+        measured = rw alone at measured;
       },
-      transitive (number_of r) (number_of q) n (sym size, inl refl) (subst (λ x. SameNumber (number_of x) n) is same),
+      transitive (number_of r) (number_of q) n (sym size, inl refl) (rw is at same),
     )
 
 zeros-off : (k : ℕ) (whole ds : List ℕ) (n : Number) → AreDigits whole → AreDigits ds → 0 < length whole →
@@ -180,8 +169,7 @@ period-off whole n dw some (p, spells, bounded, same) =
 cut : (raw fr : List ℕ) (count kept : ℕ) → drop count raw ≡ 46 ∷ fr → take (count + (1 + kept)) raw ≡ take count raw ++ 46 ∷ take kept fr
 cut raw fr count kept e =
     let on : 1 + kept ≡ suc kept = omega arith in
-    take-add count (1 + kept) raw ∙ ap (λ n. take count raw ++ take n (drop count raw)) on
-    ∙ ap (λ xs. take count raw ++ take (suc kept) xs) e
+    rw (take-add count (1 + kept) raw, on, e)
 
 pub trim-off : (raw fr : List ℕ) (count kept : ℕ) (n : Number) → count ≡ prefix_len is_digit raw → IsTrim (take count raw) →
     drop count raw ≡ 46 ∷ fr → AreDigits fr → fr ≡ take kept fr ++ replicate (length fr - kept) 48 → Denotes raw n →
@@ -225,5 +213,5 @@ trim-plain raw fr count kept is trim behind df le ends =
 
 pub whole-plain : (raw : List ℕ) (count : ℕ) → count ≡ prefix_len is_digit raw → IsTrim (take count raw) → drop count raw ≡ [] → IsUnsigned raw
 whole-plain raw count is trim none =
-    joined raw (take count raw) [] (sym (take-append-drop count raw) ∙ ap (λ (x : List ℕ). take count raw ++ x) none)
+    joined raw (take count raw) [] (rw none at (sym (take-append-drop count raw)))
     (rw is (front_digits raw)) trim tt
