@@ -1,7 +1,7 @@
 -- Axes that are canonical as they stand are what is written of all that is read from them.
 use Rattle.std.proofs.Common.{◌≡◌, ◌≢◌, ℕ, List, [], ◌∷◌, Some, codes, refl, ap, ◌∙◌}
 use Rattle.crs_decimal.specs.Prelude.{plain}
-use Rattle.crs_text.specs.Prelude.{Item, End, More, number, text, word, raw_of, item_text}
+use Rattle.crs_text.specs.Prelude.{Item, number, text, word, raw_of, item_text}
 use Rattle.crs_shape.specs.Prelude.{class_named, asked_kind, direction_word, unit_word}
 use Rattle.crs_shape.specs.declared.class.Class.TheVariants as class
 use Rattle.crs_shape.specs.declared.unit_kind.UnitKind.TheVariants as kinds
@@ -11,7 +11,7 @@ use Rattle.crs_normal.specs.Prelude.{item_axis, norm_axis, number_node, whole_va
 use Rattle.crs_normal.proofs.read.NameLemmas.{keyword-names}
 use Rattle.crs_normal.proofs.texts.WordFormLemmas.{direction-one}
 use Rattle.crs_nodes.specs.Copied.{IsPlainAxis, IsPlainOrder, IsSaidKind}
-use Rattle.crs_nodes.proofs.CopiedLemmas.{Identifies, end-copied, end-none, leaf-in, leaf-text, node-in, node-text, none-read, some-read, those-in, unit-copied}
+use Rattle.crs_nodes.proofs.CopiedLemmas.{Identifies, end-copied, end-none, leaf-at, leaf-text, node-at, node-text, none-read, some-read, those-in, unit-copied}
 
 -- units of length and of angle are those of axes
 unit-named : (raw : List ℕ) (k : IsSaidKind raw) → raw ≢ codes "SCALEUNIT" → class_named class.Axis (unit_word k.0) ≡ Some class.AxisUnit
@@ -22,7 +22,7 @@ unit-named raw (kinds.Plain, s, e) other = absurd s
 
 order-said : (position : ℕ) (item : Item) → IsPlainOrder position item → item_text item ≡ item_text (number_node (codes "ORDER") (whole_value position))
 order-said position item f =
-    rw (node-text item f.inner End (codes "ORDER") f.are f.keyword, leaf-text number f.inner (plain (whole_value position)) f.kind f.is)
+    rw (node-text item f.are f.keyword, leaf-text number f.inner (plain (whole_value position)) f.kind f.is)
 
 pub axis-copied : (level : Level) (s : SystemParts) (position : ℕ) (item : Item) (a : AxisParts) → IsPlainAxis level position item → ReadsAxis class.Axis item a →
     item_text item ≡ item_text (item_axis (norm_axis level s position a))
@@ -33,16 +33,9 @@ axis-copied level s position item a f r =
     let o = f.is_order in
     let g = f.is_unit in
     let k = g.keyword in
-    let of = those-in c item ((f.name, class.Text) ∷ (f.direction, class.Word) ∷ (f.order, class.Order) ∷ (f.unit, class.AxisUnit) ∷ []) f.rest f.are (
-      leaf-in text c f.name f.is_name,
-      (
-        leaf-in word c f.direction f.is_word,
-        (
-          node-in c class.Order f.order o.inner End (codes "ORDER") o.are o.keyword (keyword-names c (codes "ORDER")),
-          (node-in c class.AxisUnit f.unit g.name (More g.factor g.rest) (unit_word k.0) g.are k.2 (unit-named (raw_of f.unit) k f.is_not_scale), tt),
-        ),
-      ),
-    ) in
+    let order = node-at c class.Order f.order o.are o.keyword (keyword-names c (codes "ORDER")) in
+    let unit = node-at c class.AxisUnit f.unit g.are k.2 (unit-named (raw_of f.unit) k f.is_not_scale) in
+    let of = those-in c item (leaf-at text c f.name f.is_name ∷ leaf-at word c f.direction f.is_word ∷ order ∷ unit ∷ []) f.rest f.are in
     let same = direction-one f.is_direction.0 a.direction (rw (of class.Word, f.is_direction.1) at r.direction) in
     let meridian = none-read (ReadsAxisMeridian class.AxisMeridian) a.meridian
     (rw (of class.AxisMeridian, end-none level c class.AxisMeridian f.rest idents f.is_end refl) at r.meridian) in
@@ -50,7 +43,7 @@ axis-copied level s position item a f r =
     rw (
       u.is,
       meridian,
-      node-text item f.name (More f.direction (More f.order (More f.unit f.rest))) (codes "AXIS") f.are f.keyword,
+      node-text item f.are f.keyword,
       leaf-text text f.name a.name f.is_name (rw (of class.Text) at r.name),
       leaf-text word f.direction (direction_word a.direction) f.is_word (f.is_direction.1 ∙ ap direction_word same),
       order-said position f.order o,

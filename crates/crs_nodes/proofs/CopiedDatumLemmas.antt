@@ -1,7 +1,7 @@
 -- Ellipsoids and geodetic reference frames that are canonical as they stand are what is written of all that is read from
 -- them.
 use Rattle.std.proofs.Common.{◌≡◌, List, [], ◌∷◌, codes}
-use Rattle.crs_text.specs.Prelude.{Item, End, More, number, text, item_text}
+use Rattle.crs_text.specs.Prelude.{Item, End, number, text, item_text}
 use Rattle.crs_shape.specs.declared.class.Class.TheVariants as class
 use Rattle.crs_shape.specs.declared.unit_kind.UnitKind.TheVariants as kinds
 use Rattle.crs_value.specs.Prelude.{ReadsEach, ReadsDatum, ReadsEllipsoid, ReadsIdent, ReadsNumberOf, ReadsTextOf, ReadsUnit, DatumParts, EllipsoidParts}
@@ -10,7 +10,7 @@ use Rattle.crs_value.specs.declared.values.level.Level.{Level}
 use Rattle.crs_normal.specs.Prelude.{ellipsoid_text, item_datum, norm_datum, set_idents}
 use Rattle.crs_normal.proofs.read.NameLemmas.{keyword-names}
 use Rattle.crs_nodes.specs.Copied.{IsPlainDatum, IsPlainEllipsoid}
-use Rattle.crs_nodes.proofs.CopiedLemmas.{leaf-in, leaf-text, node-in, node-text, none-kept, none-read, number-said, some-read, those-in, unit-copied}
+use Rattle.crs_nodes.proofs.CopiedLemmas.{leaf-at, leaf-text, node-at, node-text, none-kept, none-read, number-said, some-read, those-in, unit-copied}
 
 -- no identifiers are read, and none are written
 no-idents : (level : Level) (is : List IdentParts) → ReadsEach (ReadsIdent class.Identifier) [] is → set_idents level is ≡ []
@@ -22,20 +22,13 @@ pub ellipsoid-copied : (level : Level) (item : Item) (e : EllipsoidParts) → Is
 ellipsoid-copied level item e f r =
     let c = class.Ellipsoid in
     let g = f.is_unit in
-    let of = those-in c item ((f.name, class.Text) ∷ (f.axis, class.Number) ∷ (f.flattening, class.Number) ∷ (f.unit, class.LengthUnit) ∷ []) End f.are (
-      leaf-in text c f.name f.is_name,
-      (
-        leaf-in number c f.axis f.is_axis.kind,
-        (
-          leaf-in number c f.flattening f.is_flattening.kind,
-          (node-in c class.LengthUnit f.unit g.name (More g.factor g.rest) (codes "LENGTHUNIT") g.are f.is_length (keyword-names c (codes "LENGTHUNIT")), tt),
-        ),
-      ),
-    ) in
+    let unit = node-at c class.LengthUnit f.unit g.are f.is_length (keyword-names c (codes "LENGTHUNIT")) in
+    let of = those-in c item (leaf-at text c f.name f.is_name ∷ leaf-at number c f.axis f.is_axis.kind ∷ leaf-at number c f.flattening f.is_flattening.kind
+    ∷ unit ∷ []) End f.are in
     let u = some-read (ReadsUnit class.LengthUnit) f.unit [] e.unit (rw (of class.LengthUnit) at r.unit) in
     rw (
       u.is,
-      node-text item f.name (More f.axis (More f.flattening (More f.unit End))) (codes "ELLIPSOID") f.are f.keyword,
+      node-text item f.are f.keyword,
       leaf-text text f.name e.name f.is_name (rw (of class.Text) at r.name),
       number-said f.axis e.semi_major_axis f.is_axis (rw (of class.Number) at r.semi_major_axis),
       number-said f.flattening e.inverse_flattening f.is_flattening (rw (of class.Number) at r.inverse_flattening),
@@ -48,20 +41,14 @@ pub datum-copied : (level : Level) (item : Item) (d : DatumParts) → IsPlainDat
 datum-copied level item d f r =
     let c = class.GeodeticFrame in
     let g = f.is_ellipsoid in
-    let of = those-in c item ((f.name, class.Text) ∷ (f.ellipsoid, class.Ellipsoid) ∷ []) End f.are (
-      leaf-in text c f.name f.is_name,
-      (
-        node-in c class.Ellipsoid f.ellipsoid g.name (More g.axis (More g.flattening (More g.unit End))) (codes "ELLIPSOID")
-            g.are g.keyword (keyword-names c (codes "ELLIPSOID")),
-        tt,
-      ),
-    ) in
+    let ellipsoid = node-at c class.Ellipsoid f.ellipsoid g.are g.keyword (keyword-names c (codes "ELLIPSOID")) in
+    let of = those-in c item (leaf-at text c f.name f.is_name ∷ ellipsoid ∷ []) End f.are in
     let e = some-read (ReadsEllipsoid class.Ellipsoid) f.ellipsoid [] d.ellipsoid (rw (of class.Ellipsoid) at r.ellipsoid) in
     rw (
       e.is,
       none-read (ReadsTextOf class.Anchor) d.anchor (rw (of class.Anchor) at r.anchor),
       none-read (ReadsNumberOf class.AnchorEpoch) d.anchor_epoch (rw (of class.AnchorEpoch) at r.anchor_epoch),
-      node-text item f.name (More f.ellipsoid End) (codes "DATUM") f.are f.keyword,
+      node-text item f.are f.keyword,
       leaf-text text f.name d.name f.is_name (rw (of class.Text) at r.name),
       ellipsoid-copied level f.ellipsoid e.it g e.reads,
       no-idents level d.identifiers (rw (of class.Identifier) at r.identifiers),

@@ -30,12 +30,8 @@ none-ahead tree at e = rw e
 -- ---- items that are no nodes
 
 -- such an item is the leaf of its kind
-leaf-of : (kind : Kind) (item : Item) → kind_of_item item ≡ kind_of_item (leaf kind 0 []) → item ≡ leaf kind (place_of item) (raw_of item)
+pub leaf-of : (kind : Kind) (item : Item) → kind_of_item item ≡ kind_of_item (leaf kind 0 []) → item ≡ leaf kind (place_of item) (raw_of item)
 leaf-of kind item k = grind arith
-
--- the class that it has in any parent
-pub leaf-in : (kind : Kind) (c : Class) (item : Item) → kind_of_item item ≡ kind_of_item (leaf kind 0 []) → class_in c item ≡ Some (class_of_kind kind)
-leaf-in kind c item k = ap (class_in c) (leaf-of kind item k)
 
 pub leaf-text : (kind : Kind) (item : Item) (raw : List ℕ) → kind_of_item item ≡ kind_of_item (leaf kind 0 []) → raw_of item ≡ raw →
     item_text item ≡ item_text (leaf kind 0 raw)
@@ -46,37 +42,45 @@ number-said item value n r = leaf-text number item (plain value) n.kind (n.plain
 
 -- ---- the arguments of a node
 
-pub node-in : (c d : Class) (item first : Item) (others : Siblings) (letters : List ℕ) → arguments item ≡ More first others → raw_of item ≡ letters →
+pub node-in : (c d : Class) (item : Item) {first : Item} {others : Siblings} {letters : List ℕ} → arguments item ≡ More first others → raw_of item ≡ letters →
     class_named c letters ≡ Some d → class_in c item ≡ Some d
-node-in c d item first others letters a r named = grind arith
+node-in c d item a r named = grind arith
 
-pub node-text : (item first : Item) (others : Siblings) (letters : List ℕ) → arguments item ≡ More first others → raw_of item ≡ letters →
+pub node-text : (item : Item) {first : Item} {others : Siblings} {letters : List ℕ} → arguments item ≡ More first others → raw_of item ≡ letters →
     item_text item ≡ letters ++ 91 ∷ (item_text first ++ (others_text others ++ 93 ∷ []))
-node-text item first others letters a r = grind arith
+node-text item a r = grind arith
 
--- these items, each beside its class, and others behind them
-abbrev pub onto : List (Item × Class) → Siblings → Siblings
+-- an item and its class in a parent
+pub record Argument (c : Class) : Type 0 where
+  pub item : Item
+  pub of : Class
+  pub is : class_in c item ≡ Some of
+
+abbrev pub leaf-at : (kind : Kind) (c : Class) (item : Item) → kind_of_item item ≡ kind_of_item (leaf kind 0 []) → Argument c
+leaf-at kind c item k = record { item = item; of = class_of_kind kind; is = ap (class_in c) (leaf-of kind item k) }
+
+abbrev pub node-at : (c d : Class) (item : Item) {first : Item} {others : Siblings} {letters : List ℕ} → arguments item ≡ More first others → raw_of item ≡ letters →
+    class_named c letters ≡ Some d → Argument c
+node-at c d item a r named = record { item = item; of = d; is = node-in c d item a r named }
+
+-- these items, and others behind them
+abbrev pub onto : {c : Class} → List (Argument c) → Siblings → Siblings
 onto [] rest = rest
-onto (x ∷ front) rest = More x.0 (onto front rest)
-
--- each is of its class in this parent
-abbrev pub AreIn : Class → List (Item × Class) → Type 0
-AreIn c [] = Unit {0}
-AreIn c (x ∷ front) = (class_in c x.0 ≡ Some x.1) × AreIn c front
+onto (x ∷ front) rest = More x.item (onto front rest)
 
 -- those of a class in front of these
-abbrev pub picked : Class → List (Item × Class) → List Item → List Item
+abbrev pub picked : {c : Class} → Class → List (Argument c) → List Item → List Item
 picked d [] behind = behind
-picked d (x ∷ front) behind = if sameb the_type x.1 d then x.0 ∷ picked d front behind else picked d front behind
+picked d (x ∷ front) behind = if sameb the_type x.of d then x.item ∷ picked d front behind else picked d front behind
 
-those-onto : (c d : Class) (front : List (Item × Class)) (rest : Siblings) → AreIn c front →
-    those c d (onto front rest) ≡ picked d front (those c d rest)
-those-onto c d [] rest are = refl
-those-onto c d (x ∷ front) rest are = rw (are.0, those-onto c d front rest are.1)
+those-onto : (c d : Class) (front : List (Argument c)) (rest : Siblings) → those c d (onto front rest) ≡ picked d front (those c d rest)
+those-onto c d [] rest = refl
+those-onto c d (x ∷ front) rest = rw (x.is, those-onto c d front rest)
 
-pub those-in : (c : Class) (item : Item) (front : List (Item × Class)) (rest : Siblings) → arguments item ≡ onto front rest →
-    AreIn c front → (d : Class) → those c d (arguments item) ≡ picked d front (those c d rest)
-those-in c item front rest is are d = ap (those c d) is ∙ those-onto c d front rest are
+-- the arguments of a class, of which those in front are known
+pub those-in : (c : Class) (item : Item) (front : List (Argument c)) (rest : Siblings) → arguments item ≡ onto front rest → (d : Class) →
+    those c d (arguments item) ≡ picked d front (those c d rest)
+those-in c item front rest is d = ap (those c d) is ∙ those-onto c d front rest
 
 -- ---- optional parts
 
@@ -98,14 +102,13 @@ some-read R item others (Some v) h = record { it = v; is = refl; reads = h }
 
 pub ident-copied : (c : Class) (item : Item) (i : IdentParts) → IsShortIdent item → ReadsIdent c item i → item_text item ≡ item_text (item_ident i)
 ident-copied c item i f r =
-    let of = those-in c item ((f.authority, class.Text) ∷ (f.code, class.Number) ∷ []) End f.are
-    (leaf-in text c f.authority f.is_authority, (leaf-in number c f.code f.is_code, tt)) in
+    let of = those-in c item (leaf-at text c f.authority f.is_authority ∷ leaf-at number c f.code f.is_code ∷ []) End f.are in
     let code : raw_of f.code ≡ i.code = rw (f.are, leaf-of number f.code f.is_code) at r.code in
     let version = none-read ReadsText i.version (rw f.are at r.version) in
     let citation = none-read (ReadsTextOf class.Citation) i.citation (rw (of class.Citation) at r.citation) in
     let uri = none-read (ReadsTextOf class.Uri) i.uri (rw (of class.Uri) at r.uri) in
     rw (
-      node-text item f.authority (More f.code End) (codes "ID") f.are f.keyword,
+      node-text item f.are f.keyword,
       leaf-text text f.authority i.authority f.is_authority (rw (of class.Text) at r.authority),
       leaf-text number f.code i.code f.is_code code,
       version,
@@ -121,7 +124,7 @@ abbrev pub Identifies : Class → Type 0
 Identifies c = class_named c (codes "ID") ≡ Some class.Identifier
 
 ident-in : (c : Class) (item : Item) → Identifies c → IsShortIdent item → class_in c item ≡ Some class.Identifier
-ident-in c item named f = node-in c class.Identifier item f.authority (More f.code End) (codes "ID") f.are f.keyword named
+ident-in c item named f = node-in c class.Identifier item f.are f.keyword named
 
 -- no others are at the end
 pub end-none : (level : Level) (c d : Class) (rest : Siblings) → Identifies c → IsEnd level rest → sameb the_type class.Identifier d ≡ false → those c d rest ≡ []
@@ -157,9 +160,9 @@ pub method-copied : (level : Level) (item : Item) (m : MethodParts) → IsPlainM
     item_text item ≡ method_text level m
 method-copied level item m f r =
     let c = class.Method in
-    let of = those-in c item ((f.name, class.Text) ∷ []) f.rest f.are (leaf-in text c f.name f.is_name, tt) in
+    let of = those-in c item (leaf-at text c f.name f.is_name ∷ []) f.rest f.are in
     rw (
-      node-text item f.name f.rest (codes "METHOD") f.are f.keyword,
+      node-text item f.are f.keyword,
       leaf-text text f.name m.name f.is_name (rw (of class.Text) at r.name),
       end-copied level c f.rest m.identifiers (keyword-names c (codes "ID")) f.is_end (rw (of class.Identifier) at r.identifiers),
     )
@@ -172,12 +175,11 @@ as-said asked kind says = grind arith
 pub unit-copied : (level : Level) (asked : UnitKind) (c : Class) (item : Item) (u : UnitParts) → Identifies c → IsSaidUnit level item →
     ReadsUnit c item u → item_text item ≡ item_text (item_unit (norm_unit level asked u))
 unit-copied level asked c item u named f r =
-    let of = those-in c item ((f.name, class.Text) ∷ (f.factor, class.Number) ∷ []) f.rest f.are
-    (leaf-in text c f.name f.is_name, (leaf-in number c f.factor f.is_factor.kind, tt)) in
+    let of = those-in c item (leaf-at text c f.name f.is_name ∷ leaf-at number c f.factor f.is_factor.kind ∷ []) f.rest f.are in
     let k = f.keyword.0 in
     let kind : k ≡ u.kind = kind-one k u.kind (rw f.keyword.2 at r.kind) in
     rw (
-      node-text item f.name (More f.factor f.rest) (unit_word k) f.are f.keyword.2,
+      node-text item f.are f.keyword.2,
       ← kind,
       as-said asked k f.keyword.1,
       leaf-text text f.name u.name f.is_name (rw (of class.Text) at r.name),
@@ -205,24 +207,24 @@ as-unit : (d : Class) (unit : Item) (o : Option UnitParts) → ReadsAsUnit d uni
 as-unit d unit None r = absurd r
 as-unit d unit (Some u) r = record { it = u; is = refl; reads = r }
 
-unit-read : (k : UnitKind) (item name value unit : Item) (rest : Siblings) (o : Option UnitParts) →
-    ((d : Class) → those class.Parameter d (arguments item)
-    ≡ picked d ((name, class.Text) ∷ (value, class.Number) ∷ (unit, unit_class k) ∷ []) (those class.Parameter d rest)) →
+unit-read : (k : UnitKind) (item unit : Item) (rest : Siblings) (o : Option UnitParts) →
+    ((d : Class) → sameb the_type class.Text d ≡ false → sameb the_type class.Number d ≡ false → those class.Parameter d (arguments item)
+    ≡ (if sameb the_type (unit_class k) d then unit ∷ those class.Parameter d rest else those class.Parameter d rest)) →
     ((d : Class) → sameb the_type class.Identifier d ≡ false → those class.Parameter d rest ≡ []) →
     ReadsUnitOf parameter_units class.Parameter item o → ReadsAsUnit (unit_class k) unit o
-unit-read kinds.Plain item name value unit rest o of none r = rw (of class.PlainUnit) at r
-unit-read kinds.Length item name value unit rest o of none r = rw (of class.PlainUnit, none class.PlainUnit refl, of class.LengthUnit) at r
-unit-read kinds.Angle item name value unit rest o of none r =
-    rw (of class.PlainUnit, none class.PlainUnit refl, of class.LengthUnit, none class.LengthUnit refl, of class.AngleUnit) at r
-unit-read kinds.Scale item name value unit rest o of none r =
+unit-read kinds.Plain item unit rest o of none r = rw (of class.PlainUnit refl refl) at r
+unit-read kinds.Length item unit rest o of none r = rw (of class.PlainUnit refl refl, none class.PlainUnit refl, of class.LengthUnit refl refl) at r
+unit-read kinds.Angle item unit rest o of none r =
+    rw (of class.PlainUnit refl refl, none class.PlainUnit refl, of class.LengthUnit refl refl, none class.LengthUnit refl, of class.AngleUnit refl refl) at r
+unit-read kinds.Scale item unit rest o of none r =
     rw (
-      of class.PlainUnit,
+      of class.PlainUnit refl refl,
       none class.PlainUnit refl,
-      of class.LengthUnit,
+      of class.LengthUnit refl refl,
       none class.LengthUnit refl,
-      of class.AngleUnit,
+      of class.AngleUnit refl refl,
       none class.AngleUnit refl,
-      of class.ScaleUnit,
+      of class.ScaleUnit refl refl,
     ) at r
 
 pub parameter-copied : (level : Level) (item : Item) (p : ParameterParts) → IsPlainParameter level item → ReadsParameter class.Parameter item p →
@@ -233,18 +235,13 @@ parameter-copied level item p f r =
     let g = f.is_unit in
     let k = g.keyword.0 in
     let names = unit-names k in
-    let of = those-in c item ((f.name, class.Text) ∷ (f.value, class.Number) ∷ (f.unit, unit_class k) ∷ []) f.rest f.are (
-      leaf-in text c f.name f.is_name,
-      (
-        leaf-in number c f.value f.is_value.kind,
-        (node-in c (unit_class k) f.unit g.name (More g.factor g.rest) (unit_word k) g.are g.keyword.2 names.0, tt),
-      ),
-    ) in
+    let unit = node-at c (unit_class k) f.unit g.are g.keyword.2 names.0 in
+    let of = those-in c item (leaf-at text c f.name f.is_name ∷ leaf-at number c f.value f.is_value.kind ∷ unit ∷ []) f.rest f.are in
     let u = as-unit (unit_class k) f.unit p.unit
-    (unit-read k item f.name f.value f.unit f.rest p.unit of (λ d. end-none level c d f.rest idents f.is_end) r.unit) in
+    (unit-read k item f.unit f.rest p.unit (λ d t n. rw (of d, t, n)) (λ d. end-none level c d f.rest idents f.is_end) r.unit) in
     rw (
       u.is,
-      node-text item f.name (More f.value (More f.unit f.rest)) (codes "PARAMETER") f.are f.keyword,
+      node-text item f.are f.keyword,
       leaf-text text f.name p.name f.is_name (rw (of class.Text) at r.name),
       number-said f.value p.value f.is_value (rw (of class.Number) at r.value),
       unit-copied level kinds.Plain (unit_class k) f.unit u.it names.1 g u.reads,
