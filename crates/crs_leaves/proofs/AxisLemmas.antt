@@ -1,8 +1,9 @@
 -- Axes that are looked for, and counted, among items.
-use Rattle.std.proofs.Common.{◌≡◌, ℕ, ◌+◌, ◌≤◌, if◌then◌else◌, List, [], ◌∷◌, Bool, false, Option, Some, None, length, refl, sym, ap, subst, arith}
-use Rattle.crs_text.specs.Prelude.{Item, rest_of, here}
+use Rattle.std.proofs.Common.{◌≡◌, ℕ, ◌+◌, ◌≤◌, List, [], ◌∷◌, false, Option, Some, None, length, refl, ap, arith}
+use Rattle.crs_text.specs.Prelude.{Item, Siblings, count, rest_of, here}
 use Rattle.crs_shape.specs.declared.class.Class.{Class}
 use Rattle.crs_value.specs.Prelude.{from_found, item_at, those, Holds, IsFound, ReadsEach, AxisParts}
+use Rattle.crs_value.proofs.checked.SystemLemmas.{those-few}
 use Rattle.crs_value.proofs.found.ArgumentLemmas.{found-is, found-holds}
 use Rattle.crs_normal.specs.Prelude.{axis_at, is_at}
 
@@ -15,21 +16,23 @@ pub counting-first : (tree : Item) (parent c : Class) (whole : List Item) (at : 
     Counting tree parent c whole 0 at
 counting-first tree parent c whole at found = record {
   holds = found-holds tree parent c whole at found;
-  counted = let e : length (from_found tree parent c at) ≡ length whole = ap length (sym (found-is tree parent c whole at found)) in omega (arith, e);
+  counted = omega (arith, ap length (found-is tree parent c whole at found));
 }
 
 pub counting-on : (tree : Item) (parent c : Class) (whole : List Item) (index id : ℕ) (at : Option ℕ) → Counting tree parent c whole index (Some id) →
     IsFound tree parent c (those parent c (rest_of (here tree id))) at → Counting tree parent c whole (index + 1) at
-counting-on tree parent c whole index id at so found =
-    let e : length (those parent c (rest_of (here tree id))) ≡ length (from_found tree parent c at) = ap length (found-is tree parent c _ at found) in
-    record { holds = found-holds tree parent c _ at found; counted = let h = so.counted in omega (arith, e, h) }
+counting-on tree parent c whole index id at so found = record {
+  holds = found-holds tree parent c _ at found;
+  counted = omega (arith, ap length (found-is tree parent c _ at found));
+}
 
-pub counting-less : (tree : Item) (parent c : Class) (whole : List Item) (index id : ℕ) → Counting tree parent c whole index (Some id) →
-    index + 1 ≤ length whole
-counting-less tree parent c whole index id so = let h = so.counted in omega (arith, h)
+-- one more is no more than there are arguments
+pub counting-less : (tree : Item) (parent c : Class) (all : Siblings) (index id : ℕ) → Counting tree parent c (those parent c all) index (Some id) →
+    index + 1 ≤ count all
+counting-less tree parent c all index id so = omega (arith, those-few parent c all)
 
 pub counting-end : (tree : Item) (parent c : Class) (whole : List Item) (index : ℕ) → Counting tree parent c whole index None → index ≡ length whole
-counting-end tree parent c whole index so = let h = so.counted in omega (arith, h)
+counting-end tree parent c whole index so = omega arith
 
 -- ---- the axis at a position
 
@@ -44,10 +47,7 @@ pub seeking-first : (R : Class → Item → AxisParts → Type 0) (position : �
     IsFound tree parent c whole at → Seeking R position tree parent c whole 0 at
 seeking-first R position tree parent c whole at found = record {
   counting = counting-first tree parent c whole at found;
-  left = λ axes h.
-      let P : List Item → Type 0 = λ xs. ReadsEach (R c) xs axes in
-      let same : axis_at position (0 + 1) axes ≡ axis_at position 1 axes = refl in
-      (axes, subst P (found-is tree parent c whole at found) h, same);
+  left = λ axes h. (axes, rw (found-is tree parent c whole at found) at h, refl);
 }
 
 passed : (R : Class → Item → AxisParts → Type 0) (position : ℕ) (tree : Item) (parent c : Class) (place id : ℕ) (at : Option ℕ) (there : Option AxisParts) →
@@ -57,9 +57,7 @@ passed : (R : Class → Item → AxisParts → Type 0) (position : ℕ) (tree : 
     (left : List AxisParts) × ReadsEach (R c) (from_found tree parent c at) left × (axis_at position (place + 1) left ≡ there)
 passed R position tree parent c place id at there wrong found [] h e = absurd h
 passed R position tree parent c place id at there wrong found (axis ∷ axes) h e =
-    let P : List Item → Type 0 = λ xs. ReadsEach (R c) xs axes in
-    let T : Bool → Type 0 = λ b. (if b then Some axis else axis_at position (place + 1) axes) ≡ there in
-    (axes, subst P (found-is tree parent c _ at found) h.1, subst T (sym (wrong axis h.0)) e)
+    (axes, rw (found-is tree parent c (those parent c (rest_of (here tree id))) at found) at h.1, rw (← wrong axis h.0) at e)
 
 pub seeking-on : (R : Class → Item → AxisParts → Type 0) (position : ℕ) (tree : Item) (parent c : Class) (whole : List Item) (index id : ℕ) (at : Option ℕ) →
     Seeking R position tree parent c whole index (Some id) →
