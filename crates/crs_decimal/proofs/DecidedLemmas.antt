@@ -13,6 +13,15 @@ use Rattle.crs_decimal.proofs.PowerLemmas.{strip_one, scaled_more}
 abbrev pub IsDecided : Type 0 → Type 0
 IsDecided P = P ⊎ (¬ P)
 
+decides_both : {P Q : Type 0} → IsDecided P → IsDecided Q → IsDecided (P × Q)
+decides_both (inl p) (inl q) = inl (p, q)
+decides_both (inl p) (inr never) = inr (λ h. never h.1)
+decides_both (inr never) q = inr (λ h. never h.0)
+
+decides_as : {P Q : Type 0} → (P → Q) → (Q → P) → IsDecided P → IsDecided Q
+decides_as to from (inl p) = inl (to p)
+decides_as to from (inr never) = inr (λ q. never (from q))
+
 decides_less : (a b : ℕ) → IsDecided (a < b)
 decides_less a b = elim (cases_lt a b) [ inl lt ↦ inl lt | inr ge ↦ inr (λ lt. omega arith) ]
 
@@ -31,16 +40,9 @@ decides_exponent (Some e) = decides_less 0 (length e.digits)
 
 decides_whole : (bytes : List ℕ) → IsDecided (IsCutWhole bytes)
 decides_whole bytes =
-    elim (decides_none (behind_parts bytes)) [
-      | inr never ↦ inr (λ w. never w.all)
-      | inl all ↦ elim (decides_less 0 (length (mantissa (parts_of bytes)))) [
-        | inr never ↦ inr (λ w. never w.some)
-        | inl some ↦ elim (decides_exponent (exponent_of (behind_mantissa bytes))) [
-          | inr never ↦ inr (λ w. never w.exponent)
-          | inl exponent ↦ inl (record { all = all; some = some; exponent = exponent })
-        ]
-      ]
-    ]
+    decides_as (λ h. record { all = h.0; some = h.1.0; exponent = h.1.1 }) (λ w. (w.all, (w.some, w.exponent)))
+    (decides_both (decides_none (behind_parts bytes)) (decides_both (decides_less 0 (length (mantissa (parts_of bytes))))
+    (decides_exponent (exponent_of (behind_mantissa bytes)))))
 
 -- ---- the bounds
 
@@ -58,19 +60,14 @@ strips (suc fuel) n le some = elim (cases_eq (n % 10) 0) [
 -- stripped in this way, the number is measured exactly where these digits and zeros are
 decides_stripped : (n : Number) (m k : ℕ) → Strips n.digits m k → IsDecided (IsMeasured n)
 decides_stripped n m k s =
-    elim (decides_less m (10 ^ 38)) [
-      | inr never ↦ inr (λ h. never (subst (λ z. z < 10 ^ 38) (same h).0 h.3))
-      | inl short ↦ elim (decides_at_most n.down (n.up + k + 40)) [
-        | inr never ↦ inr (λ h. never (subst (λ z. n.down ≤ n.up + z + 40) (same h).1 h.4))
-        | inl low ↦ elim (decides_at_most (n.up + k) (n.down + 40)) [
-          | inr never ↦ inr (λ h. never (subst (λ z. n.up + z ≤ n.down + 40) (same h).1 h.5))
-          | inl high ↦ inl (m, k, s, short, low, high)
-        ]
-      ]
-    ]
+    decides_as (λ h. (m, k, s, h.0, h.1.0, h.1.1)) back
+    (decides_both (decides_less m (10 ^ 38)) (decides_both (decides_at_most n.down (n.up + k + 40)) (decides_at_most (n.up + k) (n.down + 40))))
   where
     same : (h : IsMeasured n) → (h.0 ≡ m) × (h.1 ≡ k)
     same h = strip_one h.0 h.1 m k (sym h.2.0 ∙ s.0) h.2.1 s.1
+
+    back : IsMeasured n → (m < 10 ^ 38) × ((n.down ≤ n.up + k + 40) × (n.up + k ≤ n.down + 40))
+    back h = rw (← (same h).0, ← (same h).1) (h.3, (h.4, h.5))
 
 decides_measured : (n : Number) → IsDecided ((n.digits ≡ 0) ⊎ IsMeasured n)
 decides_measured n = elim (cases_eq n.digits 0) [
@@ -85,16 +82,9 @@ decides_measured n = elim (cases_eq n.digits 0) [
 
 decides_bounds : (p : Parts) → IsDecided (IsBounded p)
 decides_bounds p =
-    elim (decides_at_most (length (mantissa p)) 100) [
-      | inr never ↦ inr (λ b. never b.mantissa_digits)
-      | inl digits ↦ elim (decides_at_most (length (exponent_digits p.exponent)) 3) [
-        | inr never ↦ inr (λ b. never b.exponent_digits)
-        | inl exponent ↦ elim (decides_measured (number_of p)) [
-          | inr never ↦ inr (λ b. never b.measured)
-          | inl measured ↦ inl (record { mantissa_digits = digits; exponent_digits = exponent; measured = measured })
-        ]
-      ]
-    ]
+    decides_as (λ h. record { mantissa_digits = h.0; exponent_digits = h.1.0; measured = h.1.1 }) (λ b. (b.mantissa_digits, (b.exponent_digits, b.measured)))
+    (decides_both (decides_at_most (length (mantissa p)) 100) (decides_both (decides_at_most (length (exponent_digits p.exponent)) 3)
+    (decides_measured (number_of p))))
 
 -- ---- both
 

@@ -43,6 +43,10 @@ pub start_trim : (xs : List ℕ) → StartsAbove xs → IsTrim xs
 start_trim [] h = absurd h
 start_trim (x ∷ xs) h = inl h
 
+pub above_some : (ds : List ℕ) → IsTrim ds → 0 < length ds
+above_some [] h = absurd h
+above_some (d ∷ ds) h = omega arith
+
 more_digits : (n : ℕ) (ds : List ℕ) → 10 ≤ n → AreDigitsOf (n / 10) ds → AreDigitsOf n (ds ++ (48 + n % 10) ∷ [])
 more_digits n ds l h =
     let last = (48 + n % 10) ∷ [] in
@@ -83,7 +87,7 @@ some_trim m [] h l = absurd h
 some_trim zero (d ∷ ds) h l = absurd (omega arith)
 some_trim (suc m) (d ∷ ds) h l = inl h
 
-ends-push : (xs : List ℕ) (d : ℕ) → d ≢ 48 → EndsTrim (xs ++ d ∷ [])
+pub ends-push : (xs : List ℕ) (d : ℕ) → d ≢ 48 → EndsTrim (xs ++ d ∷ [])
 ends-push [] d h = h
 ends-push (x ∷ []) d h = h
 ends-push (x ∷ y ∷ xs) d h = ends-push (y ∷ xs) d h

@@ -16,16 +16,9 @@ use Rattle.crs_decimal.proofs.PowerLemmas.{power_next, power_grows}
 abbrev pub value_after : ℕ → List ℕ → ℕ
 value_after n ds = fold (λ m d. m * 10 + (d - 48)) n ds
 
-spread : (n c scale v : ℕ) → (n * 10 + c) * scale + v ≡ n * (scale * 10) + ((0 + c) * scale + v)
-spread n c scale v = omega arith
-
 value_behind : (ds : List ℕ) (n : ℕ) → value_after n ds ≡ n * 10 ^ length ds + digits_value ds
 value_behind [] n = omega arith
-value_behind (d ∷ ds) n =
-    let c = d - 48 in
-    let inner : value_after (n * 10 + c) ds ≡ (n * 10 + c) * 10 ^ length ds + digits_value ds = value_behind ds (n * 10 + c) in
-    let alone : digits_value (d ∷ ds) ≡ (0 + c) * 10 ^ length ds + digits_value ds = value_behind ds (0 + c) in
-    inner ∙ spread n c (10 ^ length ds) (digits_value ds) ∙ ap (λ p. n * p + ((0 + c) * 10 ^ length ds + digits_value ds)) (sym (power_next (length ds))) ∙ ap (λ v. n * 10 ^ suc (length ds) + v) (sym alone)
+value_behind (d ∷ ds) n = rw power_next (omega (arith, value_behind ds (n * 10 + (d - 48)), value_behind ds (0 + (d - 48))))
 
 pub value-append : (xs ys : List ℕ) → digits_value (xs ++ ys) ≡ digits_value xs * 10 ^ length ys + digits_value ys
 value-append xs ys = fold-append (λ n d. n * 10 + (d - 48)) 0 xs ys ∙ value_behind ys (digits_value xs)

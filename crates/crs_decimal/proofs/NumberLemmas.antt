@@ -21,13 +21,8 @@ symmetric a b h = (sym h.0, turned h.1)
     turned (inl e) = inl (sym e)
     turned (inr e) = inr (e.1, e.0)
 
--- x * 10^i * 10^k with the powers put together
-joined : (x i k : ℕ) → x * 10 ^ (i + k) ≡ x * 10 ^ i * 10 ^ k
-joined x i k = ap (λ p. x * p) (pow-add 10 i k) ∙ sym (mul_assoc x (10 ^ i) (10 ^ k))
-
 raised : (x y i j k m n : ℕ) → x * 10 ^ i ≡ y * 10 ^ j → m ≡ i + k → n ≡ j + k → x * 10 ^ m ≡ y * 10 ^ n
-raised x y i j k m n h e f =
-    ap (λ p. x * 10 ^ p) e ∙ joined x i k ∙ ap (λ p. p * 10 ^ k) h ∙ sym (joined y j k) ∙ ap (λ p. y * 10 ^ p) (sym f)
+raised x y i j k m n h e f = rw (e, f, pow-add 10 i k, pow-add 10 j k) (omega (arith, ap (λ p. p * 10 ^ k) h))
 
 pub cancelled : (a b k : ℕ) → a * 10 ^ k ≡ b * 10 ^ k → a ≡ b
 cancelled a b k h =
@@ -35,7 +30,7 @@ cancelled a b k h =
 
 pub lowered : (x y i j k m n : ℕ) → x * 10 ^ m ≡ y * 10 ^ n → m ≡ i + k → n ≡ j + k → x * 10 ^ i ≡ y * 10 ^ j
 lowered x y i j k m n h e f =
-    cancelled (x * 10 ^ i) (y * 10 ^ j) k (sym (joined x i k) ∙ ap (λ p. x * 10 ^ p) (sym e) ∙ h ∙ ap (λ p. y * 10 ^ p) f ∙ joined y j k)
+    cancelled (x * 10 ^ i) (y * 10 ^ j) k (omega (arith, rw (e, f, pow-add 10 i k, pow-add 10 j k) at h))
 
 pub same_size_trans : (a b c : Number) → SameSize a b → SameSize b c → SameSize a c
 same_size_trans a b c g h =
@@ -62,10 +57,7 @@ transitive a b c g h = (same_size_trans a b c g.0 h.0, signs g.1 h.1)
 -- ---- normal forms
 
 pub same_value : (a b : Value) → a.negative ≡ b.negative → a.digits ≡ b.digits → a.power ≡ b.power → a ≡ b
-same_value a b p q r =
-    ap (λ x. let v : Value = record { negative = x; digits = a.digits; power = a.power } in v) p
-    ∙ ap (λ x. let v : Value = record { negative = b.negative; digits = x; power = a.power } in v) q
-    ∙ ap (λ x. let v : Value = record { negative = b.negative; digits = b.digits; power = x } in v) r
+same_value a b p q r = λ i. record { negative = p i; digits = q i; power = r i }
 
 zero_power : (x : ℤ) → is_zero_power x ≡ true → x ≡ pos 0
 zero_power (pos n) h = ap (λ k. pos k) (eqb-true n 0 h)

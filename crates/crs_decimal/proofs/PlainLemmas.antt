@@ -11,6 +11,7 @@ use Rattle.crs_decimal.specs.Number.{SameSize, SameNumber}
 use Rattle.crs_decimal.specs.Plain.{IsTrim, EndsTrim, IsSignNeeded, IsFractionNeeded, IsPlain}
 use Rattle.crs_decimal.specs.Spelling.{Parts, parts_text, is_digit, AreDigits, fraction_digits, mantissa}
 use Rattle.crs_decimal.specs.Value.{Value, exact}
+use Rattle.crs_decimal.proofs.DecimalLemmas.{above_some}
 use Rattle.crs_decimal.proofs.DigitLemmas.{value_after, value-append, value-cons, value-below, same_digits, digit_range}
 use Rattle.crs_decimal.proofs.MantissaLemmas.{last_digit}
 use Rattle.crs_decimal.proofs.NumberLemmas.{lowered, cancelled, symmetric, transitive}
@@ -18,10 +19,6 @@ use Rattle.crs_decimal.proofs.PowerLemmas.{power_grows, power_positive, last_zer
 use Rattle.crs_decimal.proofs.SplitLemmas.{digits_parts, parts_one}
 
 -- ---- a plain spelling is known by its number
-
-trim_some : (w : List ℕ) → IsTrim w → 0 < length w
-trim_some [] t = absurd t
-trim_some (d ∷ ds) t = omega arith
 
 trim_least : (d : ℕ) (ds : List ℕ) → d ≢ 48 → is_digit d ≡ true → 10 ^ length ds ≤ digits_value (d ∷ ds)
 trim_least d ds ne h =
@@ -41,8 +38,8 @@ trim_longer w (d ∷ ds) g h (inr none) some l e = absurd (omega (arith, ap leng
 trim_one : (w x : List ℕ) → AreDigits w → AreDigits x → IsTrim w → IsTrim x → digits_value w ≡ digits_value x → w ≡ x
 trim_one w x g h t u e = elim (cases_order (length w) (length x)) [
   | inl same ↦ same_digits w x same g h e
-  | inr (inl less) ↦ absurd (trim_longer w x g h u (trim_some w t) less e)
-  | inr (inr more) ↦ absurd (trim_longer x w h g t (trim_some x u) more (sym e))
+  | inr (inl less) ↦ absurd (trim_longer w x g h u (above_some w t) less e)
+  | inr (inr more) ↦ absurd (trim_longer x w h g t (above_some x u) more (sym e))
 ]
 
 -- digits that end in no zero make a number that doesn't either
@@ -127,11 +124,7 @@ same_size p q g h e =
     ap (λ k. digits_value (mantissa p) * 10 ^ k) (sym a) ∙ e ∙ ap (λ k. digits_value (mantissa q) * 10 ^ k) b
 
 same_parts : (p q : Parts) → p.sign ≡ q.sign → p.whole ≡ q.whole → p.fraction ≡ q.fraction → p.exponent ≡ q.exponent → p ≡ q
-same_parts p q a b c d =
-    ap (λ x. let r : Parts = record { sign = x; whole = p.whole; fraction = p.fraction; exponent = p.exponent } in r) a
-    ∙ ap (λ x. let r : Parts = record { sign = q.sign; whole = x; fraction = p.fraction; exponent = p.exponent } in r) b
-    ∙ ap (λ x. let r : Parts = record { sign = q.sign; whole = q.whole; fraction = x; exponent = p.exponent } in r) c
-    ∙ ap (λ x. let r : Parts = record { sign = q.sign; whole = q.whole; fraction = q.fraction; exponent = x } in r) d
+same_parts p q a b c d = λ i. record { sign = a i; whole = b i; fraction = c i; exponent = d i }
 
 -- two plain spellings of the same number are one
 plain_one : (b c : List ℕ) (g : IsPlain b) (h : IsPlain c) → SameNumber (number_of g.parts) (number_of h.parts) → b ≡ c

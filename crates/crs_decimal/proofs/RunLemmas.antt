@@ -26,10 +26,6 @@ sign_run unsigned = refl
 sign_run plus = refl
 sign_run minus = refl
 
-fraction_run : (f : Option (List ℕ)) → AreDigits (fraction_digits f) → list_all is_run_byte (fraction_text f) ≡ true
-fraction_run None h = refl
-fraction_run (Some ds) h = digits_pass is_run_byte digit_is_run_byte ds h
-
 letter_run : (b : ℕ) → (b == 69 || b == 101) ≡ true → is_run_byte b ≡ true
 letter_run b h = elim (or_cases (b == 69) (b == 101) h) [ inl e ↦ rw (eqb-true b 69 e) refl | inr e ↦ rw (eqb-true b 101 e) refl ]
 
@@ -38,12 +34,20 @@ exponent_run None h = refl
 exponent_run (Some e) h =
     and_from _ _ (letter_run e.letter h.0) (all_append is_run_byte (sign_text e.sign) e.digits (sign_run e.sign) (digits_pass is_run_byte digit_is_run_byte e.digits h.1))
 
-text_run : (p : Parts) → IsForm p → list_all is_run_byte (parts_text p) ≡ true
-text_run p h =
-    let d = digits_parts p.whole (fraction_digits p.fraction) h.digits in
-    let front = all_append is_run_byte (sign_text p.sign) p.whole (sign_run p.sign) (digits_pass is_run_byte digit_is_run_byte p.whole d.0) in
-    let mid = all_append is_run_byte (sign_text p.sign ++ p.whole) (fraction_text p.fraction) front (fraction_run p.fraction d.1) in
-    all_append is_run_byte (sign_text p.sign ++ p.whole ++ fraction_text p.fraction) (exponent_text p.exponent) mid (exponent_run p.exponent h.exponent)
+-- the bytes of parts pass a test that digits and a period pass, where those of the sign and the exponent do
+parts_pass : (pass : ℕ → Bool) → ((d : ℕ) → is_digit d ≡ true → pass d ≡ true) → pass 46 ≡ true → (p : Parts) → IsForm p →
+    list_all pass (sign_text p.sign) ≡ true → list_all pass (exponent_text p.exponent) ≡ true → list_all pass (parts_text p) ≡ true
+parts_pass pass digit period p h sign exponent =
+    all_append pass (sign_text p.sign ++ p.whole ++ fraction_text p.fraction) (exponent_text p.exponent)
+    (all_append pass (sign_text p.sign ++ p.whole) (fraction_text p.fraction)
+    (all_append pass (sign_text p.sign) p.whole sign (digits_pass pass digit p.whole d.0)) (fraction p.fraction d.1)) exponent
+  where
+    d : AreDigits p.whole × AreDigits (fraction_digits p.fraction)
+    d = digits_parts p.whole (fraction_digits p.fraction) h.digits
+
+    fraction : (f : Option (List ℕ)) → AreDigits (fraction_digits f) → list_all pass (fraction_text f) ≡ true
+    fraction None g = refl
+    fraction (Some ds) g = and_from _ _ period (digits_pass pass digit ds g)
 
 starts : List ℕ → Bool
 starts [] = false
@@ -65,7 +69,8 @@ run_from (b ∷ bs) g h = (g, h)
 pub form_is_run : (bs : List ℕ) → HasForm bs → IsRun bs
 form_is_run bs (p, h) =
     let d = digits_parts p.whole (fraction_digits p.fraction) h.1.digits in
-    let r = run_from (parts_text p) (text_starts p.sign p.whole p.fraction (exponent_text p.exponent) d.0 h.1.some) (text_run p h.1) in
+    let r = run_from (parts_text p) (text_starts p.sign p.whole p.fraction (exponent_text p.exponent) d.0 h.1.some)
+    (parts_pass is_run_byte digit_is_run_byte refl p h.1 (sign_run p.sign) (exponent_run p.exponent h.1.exponent)) in
     subst IsRun (sym h.0) r
 
 -- ---- plain spellings
@@ -77,16 +82,6 @@ sign_is_plain : (p : Parts) → IsSignNeeded p → list_all is_plain_byte (sign_
 sign_is_plain p (inl e) = rw e refl
 sign_is_plain p (inr e) = rw e.0 refl
 
-fraction_is_plain : (f : Option (List ℕ)) → AreDigits (fraction_digits f) → list_all is_plain_byte (fraction_text f) ≡ true
-fraction_is_plain None h = refl
-fraction_is_plain (Some ds) h = digits_pass is_plain_byte digit_is_plain_byte ds h
-
 pub plain_bytes_pass : (bs : List ℕ) → IsPlain bs → list_all is_plain_byte bs ≡ true
 plain_bytes_pass bs h =
-    let p = h.parts in
-    let d = digits_parts p.whole (fraction_digits p.fraction) h.spells.1.digits in
-    let front = all_append is_plain_byte (sign_text p.sign) p.whole (sign_is_plain p h.sign) (digits_pass is_plain_byte digit_is_plain_byte p.whole d.0) in
-    let mid = all_append is_plain_byte (sign_text p.sign ++ p.whole) (fraction_text p.fraction) front (fraction_is_plain p.fraction d.1) in
-    let none : exponent_text p.exponent ≡ [] = ap exponent_text h.exponent in
-    let last : list_all is_plain_byte (exponent_text p.exponent) ≡ true = ap (list_all is_plain_byte) none in
-    ap (list_all is_plain_byte) h.spells.0 ∙ all_append is_plain_byte (sign_text p.sign ++ p.whole ++ fraction_text p.fraction) (exponent_text p.exponent) mid last
+    rw h.spells.0 (parts_pass is_plain_byte digit_is_plain_byte refl h.parts h.spells.1 (sign_is_plain h.parts h.sign) (rw h.exponent))

@@ -100,11 +100,3 @@ module _ (p : Parts) (s : Short) (cut : IsShortCut p s) where
       let down : power_down p.exponent + length (fraction_digits p.fraction) ≡ s.fraction = omega (arith, down_none, cut.fraction) in
       let near : IsPowerBetween (power_up p.exponent + zeros) (power_down p.exponent + length (fraction_digits p.fraction)) v.power = rw (up, down) between in
       (normal, near_bounded p m v.power (n, last) limit few_digits no_exponent near, near_same p m v n same (sign ∙ cut.negative) near)
-
-pub some_short : (P Q : Short → Type 0) (r : Option Short) → ((s : Short) → P s → Q s) → IfSome r P → IfSome r Q
-some_short P Q None f h = h
-some_short P Q (Some s) f h = f s h
-
-pub none_left : (xs : List ℕ) → length xs ≡ 0 → xs ≡ []
-none_left [] e = refl
-none_left (x ∷ xs) e = absurd (omega arith)

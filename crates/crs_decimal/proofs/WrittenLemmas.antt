@@ -10,7 +10,7 @@ use Rattle.crs_decimal.specs.Plain.{IsTrim, IsSignNeeded, IsFractionNeeded, IsPl
 use Rattle.crs_decimal.specs.Spelling.{Sign, unsigned, minus, sign_text, Parts, AreDigits, mantissa, IsForm, SpellsNumber}
 use Rattle.crs_decimal.specs.Value.{Value, zero as zero_value, IsNormal, exact, is_power, up_of, down_of}
 use Rattle.crs_decimal.proofs.BoundLemmas.{same_scaled}
-use Rattle.crs_decimal.proofs.DecimalLemmas.{StartsAbove, start-append, start_trim, AreDigitsOf, decimal_digits, padded_digits, padded_value, padded_length, whole_trim, fraction_trim, fraction_length}
+use Rattle.crs_decimal.proofs.DecimalLemmas.{StartsAbove, above_some, start-append, start_trim, AreDigitsOf, decimal_digits, padded_digits, padded_value, padded_length, whole_trim, fraction_trim, fraction_length}
 use Rattle.crs_decimal.proofs.DigitLemmas.{value-append, value-zeros, zeros_are_digits}
 use Rattle.crs_decimal.proofs.MantissaLemmas.{zero_scaled}
 use Rattle.crs_decimal.proofs.NumberLemmas.{normal_parts}
@@ -58,10 +58,6 @@ written_from v bs p a b c d e f g h = record {
 
 positive : (n : ℕ) → n % 10 ≢ 0 → 0 < n
 positive n h = elim (cases_eq n 0) [ inl e ↦ absurd (h (ap (λ x. x % 10) e)) | inr e ↦ omega arith ]
-
-above_some : (ds : List ℕ) → IsTrim ds → 0 < length ds
-above_some [] h = absurd h
-above_some (d ∷ ds) h = omega arith
 
 above_not_zero : (ds : List ℕ) → StartsAbove ds → ds ≢ 48 ∷ []
 above_not_zero ds h e = subst StartsAbove e h refl

@@ -1,8 +1,9 @@
 use Rattle.std.proofs.Common.{◌≡◌, ℕ, ◌+◌, ◌-◌, ◌*◌, ◌^◌, ◌<◌, ◌≤◌, [], ◌∷◌, ◌++◌, length, drop, fold, sym, ap, subst, ◌∙◌, arith, rules}
+use Rattle.std.proofs.lemmas.List.{nil_from_length}
+use Rattle.std.proofs.lemmas.Option.{IfSome_then}
 use Rattle.crs_decimal.specs.Bounds.{digits_value}
 use Rattle.crs_decimal.specs.Split.{leading_digits, behind_digits, behind_sign}
-use Rattle.crs_decimal.specs.Short.{IsReadShort}
-use Rattle.crs_decimal.proofs.ShortLemmas.{short_fraction, value_joined, small_below, some_short, none_left}
+use Rattle.crs_decimal.proofs.ShortLemmas.{short_fraction, value_joined, small_below}
 use Rattle.crs_decimal.proofs.short.read_short.Goals as goal
 
 pub returns-else-not-is_empty : goal.returns-else-not-is_empty
@@ -15,7 +16,7 @@ returns-else-not-is_empty c =
     let rest = drop 1 left in
     let step : ℕ → ℕ → ℕ = λ n d. n * 10 + (d - 48) in
     let period : left ≡ 46 ∷ rest = search rules in
-    let empty : c.with_digits-in-46.result.1.now ≡ [] = none_left _ (search rules) in
+    let empty : c.with_digits-in-46.result.1.now ≡ [] = nil_from_length _ (search rules) in
     let room : length c.split_sign-negative.result.1.now ≤ 19 = search rules in
     let fraction = c.rest_of-fraction.ensures in
     let begins : leading_digits c.split_sign-negative.result.1.now ≡ leading_digits (behind_sign bytes) = ap leading_digits sign.rest in
@@ -26,11 +27,11 @@ returns-else-not-is_empty c =
     ∙ ap (λ z. fold step z (leading_digits rest)) (whole.value ∙ ap digits_value begins) ∙ value_joined (leading_digits (behind_sign bytes)) (leading_digits rest) in
     let few : c.with_digits-in-46.result.0.count ≤ 19 = omega (arith, all.len, whole.len, room, ap length fraction, ap length period) in
     let small : c.with_digits-in-46.result.0.value < 10 ^ 19 = small_below _ _ all.small few in
-    some_short _ (IsReadShort bytes) c.some_digits-in-46.result (λ s h.
+    IfSome_then c.some_digits-in-46.result c.some_digits-in-46.ensures (λ s h.
     short_fraction bytes s (h.2 ∙ sign.sign) (subst (λ v. v < 10 ^ 19) (sym h.0) small) rest
     (ap behind_digits (sym sign.rest) ∙ sym whole.rest ∙ period)
     (ap behind_digits (sym fraction) ∙ sym all.rest ∙ empty)
     (h.0 ∙ value)
     (omega (arith, h.3, all.count, whole.count, lengths, more))
     (omega (arith, few, all.count, whole.count, lengths, more))
-    (omega (arith, h.1, all.len, all.count, ap length empty, more, ap length fraction))) c.some_digits-in-46.ensures
+    (omega (arith, h.1, all.len, all.count, ap length empty, more, ap length fraction)))
