@@ -86,14 +86,7 @@ pub zero_bounded : (p : Parts) → digits_value (mantissa p) ≡ 0 → length (m
 zero_bounded p e a b = record { mantissa_digits = a; exponent_digits = b; measured = inl e }
 
 -- the powers and the fraction that the reader keeps are those of the parts
-pub up_cut : (p : Parts) (s : Spelled) (up : ℕ) → IsCut p s → up ≡ (if s.below then 0 else digits_value s.exponent.now) → up ≡ power_up p.exponent
-up_cut p s up cut h = h ∙ ap (λ b. if b then 0 else digits_value s.exponent.now) cut.below ∙ ap (λ ds. if is_below p.exponent then 0 else digits_value ds) cut.exponent_digits
-
-pub down_cut : (p : Parts) (s : Spelled) (down : ℕ) → IsCut p s → down ≡ (if s.below then digits_value s.exponent.now else 0) → down ≡ power_down p.exponent
-down_cut p s down cut h = h ∙ ap (λ b. if b then digits_value s.exponent.now else 0) cut.below ∙ ap (λ ds. if is_below p.exponent then digits_value ds else 0) cut.exponent_digits
-
-pub far_cut : (p : Parts) (s : Spelled) (up down : ℕ) → IsCut p s → up ≡ power_up p.exponent → down ≡ power_down p.exponent → IsFar (up + s.mantissa.zeros) (down + s.fraction) → IsFar (power_up p.exponent + s.mantissa.zeros) (power_down p.exponent + length (fraction_digits p.fraction))
-far_cut p s up down cut u d far = rw (← u, ← d, ← cut.fraction_digits) far
-
-pub near_cut : (p : Parts) (s : Spelled) (up down : ℕ) (power : ℤ) → IsCut p s → up ≡ power_up p.exponent → down ≡ power_down p.exponent → IsPowerBetween (up + s.mantissa.zeros) (down + s.fraction) power → IsPowerBetween (power_up p.exponent + s.mantissa.zeros) (power_down p.exponent + length (fraction_digits p.fraction)) power
-near_cut p s up down power cut u d near = rw (← u, ← d, ← cut.fraction_digits) near
+pub at_powers : (P : ℕ → ℕ → Type 0) (p : Parts) (s : Spelled) (up down : ℕ) → IsCut p s → up ≡ (if s.below then 0 else digits_value s.exponent.now) →
+    down ≡ (if s.below then digits_value s.exponent.now else 0) → P (up + s.mantissa.zeros) (down + s.fraction) →
+    P (power_up p.exponent + s.mantissa.zeros) (power_down p.exponent + length (fraction_digits p.fraction))
+at_powers P p s up down cut u d h = rw (u, d, cut.below, cut.exponent_digits, cut.fraction_digits) at h

@@ -1,6 +1,6 @@
 -- Bytes that are a number in bounds denote a normal value.
 use Rattle.std.proofs.Common.{◌≡◌, ◌≢◌, ℕ, ◌+◌, ◌-◌, ◌%◌, ◌^◌, ◌<◌, ◌≤◌, ◌⊎◌, inl, inr, nat_lt, nat_le, ◌==◌, ◌&&◌, ◌||◌, not, Bool, true, false, IsTrue, List, length, refl, arith, ℤ, pos, negsuc}
-use Rattle.std.proofs.lemmas.Bool.{cases_lt}
+use Rattle.std.proofs.lemmas.Bool.{cases_lt, le-leb, lt-ltb, ne_eqb}
 use Rattle.std.proofs.lemmas.Bool.Decides.{nat_tests}
 use Rattle.crs_decimal.specs.Bounds.{is_minus, IsMeasured, IsInBounds, Denotes, number_of, power_up, power_down}
 use Rattle.crs_decimal.specs.Cut.{IsPowerBetween}
@@ -10,29 +10,14 @@ use Rattle.crs_decimal.specs.Value.{Value, exact, zero, is_power, IsNormal}
 use Rattle.crs_decimal.specs.declared.mantissa.Mantissa.{Mantissa}
 use Rattle.crs_decimal.proofs.BoundLemmas.{near_same, zero_same}
 
-lt-true : (m n : ℕ) → m < n → nat_lt m n ≡ true
-lt-true m n h = grind (arith, nat_tests)
-
-le-true : (m n : ℕ) → m ≤ n → nat_le m n ≡ true
-le-true m n h = grind (arith, nat_tests)
-
-ne-false : (m n : ℕ) → m ≢ n → (m == n) ≡ false
-ne-false m n h = grind (arith, nat_tests)
-
 power-between : (up down : ℕ) → down ≤ up + 40 → up ≤ down + 40 → (power : ℤ) × IsPowerBetween up down power
 power-between up down a b = elim (cases_lt up down) [
-  | inl less ↦ (negsuc (down - up - 1), (lt-true (down - up - 1) 40 (omega arith), omega arith))
-  | inr more ↦ (pos (up - down), (le-true (up - down) 40 (omega arith), omega arith))
+  | inl less ↦ (negsuc (down - up - 1), (lt-ltb (down - up - 1) 40 (omega arith), omega arith))
+  | inr more ↦ (pos (up - down), (le-leb (up - down) 40 (omega arith), omega arith))
 ]
 
-all-true : (x y z w : Bool) → x ≡ true → y ≡ true → z ≡ false → (x && y && (not z || w)) ≡ true
-all-true true true false w e f g = refl
-all-true true true true w e f g = cc
-all-true true false z w e f g = cc
-all-true false y z w e f g = cc
-
 normal-value : (v : Value) → v.digits < 10 ^ 38 → IsTrue (is_power v.power) → v.digits % 10 ≢ 0 → IsNormal v
-normal-value v short near last = all-true _ _ _ _ (lt-true v.digits (10 ^ 38) short) near (ne-false (v.digits % 10) 0 last)
+normal-value v short near last = rw (lt-ltb v.digits (10 ^ 38) short, near, ne_eqb (v.digits % 10) 0 last)
 
 abbrev Valued : Parts → Type 0
 Valued p = (v : Value) × (IsNormal v × SameNumber (number_of p) (exact v))

@@ -1,8 +1,9 @@
 use Rattle.std.proofs.Common.{◌≡◌, ◌≤◌, length, ap, ◌∙◌, arith, rules, w32, SFits}
 use Rattle.std.proofs.lemmas.Int.{to_z-of_z}
 use Rattle.crs_decimal.specs.Bounds.{digits_value, exponent_digits}
+use Rattle.crs_decimal.specs.Cut.{IsFar, IsPowerBetween}
 use Rattle.crs_decimal.specs.Spelling.{mantissa}
-use Rattle.crs_decimal.proofs.BoundLemmas.{cut_shows, long_unbounded, short_strips, short_zero, up_cut, down_cut, far_cut, near_cut, far_unbounded, near_bounded, near_same, zero_same, zero_bounded}
+use Rattle.crs_decimal.proofs.BoundLemmas.{cut_shows, long_unbounded, short_strips, short_zero, at_powers, far_unbounded, near_bounded, near_same, zero_same, zero_bounded}
 use Rattle.crs_decimal.proofs.cutting.Spelled.decimal.Goals as goal
 use Rattle.crs_decimal.proofs.cutting.Spelled.decimal.Goals.{then-self-gt100-via-then-self-gt100, then-self-gt100-via-else-self-gt100+then-self-gt3, then-self-gt100-via-else-self-gt100+else-self-gt3+then-self}
 
@@ -34,20 +35,18 @@ returns-in-None c = λ p cut d.
     let s = c.args.self.now in
     let up = c.exponent_powers-up in
     let t = short_strips (digits_value (mantissa p)) s.mantissa (cut_shows p s cut d) c.if-self.false c.if-self-eq0.false in
-    let u = up_cut p s up.result.0 cut up.ensures.up in
-    let v = down_cut p s up.result.1 cut up.ensures.down in
-    far_unbounded p s.mantissa t.0 (far_cut p s up.result.0 up.result.1 cut u v c.in-None.ensures)
+    far_unbounded p s.mantissa t.0 (at_powers IsFar p s up.result.0 up.result.1 cut up.ensures.up up.ensures.down c.in-None.ensures)
 
 pub returns-in-Some : goal.returns-in-Some
 returns-in-Some c = λ p cut d.
     let s = c.args.self.now in
     let up = c.exponent_powers-up in
     let t = short_strips (digits_value (mantissa p)) s.mantissa (cut_shows p s cut d) c.if-self.false c.if-self-eq0.false in
-    let u = up_cut p s up.result.0 cut up.ensures.up in
-    let v = down_cut p s up.result.1 cut up.ensures.down in
-    let near = near_cut p s up.result.0 up.result.1 c.in-Some.power cut u v c.in-Some.ensures in
+    let near = at_powers (λ a b. IsPowerBetween a b c.in-Some.power) p s up.result.0 up.result.1 cut up.ensures.up up.ensures.down c.in-Some.ensures in
     let fits : SFits w32 c.in-Some.power = search rules in
     let power : c.new.result.power ≡ c.in-Some.power = c.new.ensures.power ∙ to_z-of_z w32 c.in-Some.power fits in
-    let few : length (mantissa p) ≤ 100 = omega (arith, cut.count) in
-    let short : length (exponent_digits p.exponent) ≤ 3 = omega (arith, ap length cut.exponent_digits) in
-    (c.new.ensures.normal, near_bounded p s.mantissa c.in-Some.power t.0 t.1 few short near, near_same p s.mantissa c.new.result t.0.0 c.new.ensures.digits (c.new.ensures.negative ∙ cut.negative) (rw power near))
+    (
+      c.new.ensures.normal,
+      near_bounded p s.mantissa c.in-Some.power t.0 t.1 (omega (arith, cut.count)) (omega (arith, ap length cut.exponent_digits)) near,
+      near_same p s.mantissa c.new.result t.0.0 c.new.ensures.digits (c.new.ensures.negative ∙ cut.negative) (rw power near),
+    )
