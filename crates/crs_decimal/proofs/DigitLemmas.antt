@@ -8,6 +8,7 @@ use Rattle.std.proofs.lemmas.Nat.{same_from_place}
 use Rattle.std.proofs.Math.Nat.{mul-le-mul_right}
 use Rattle.crs_decimal.specs.Spelling.{unsigned, Parts, is_digit, AreDigits}
 use Rattle.crs_decimal.specs.Bounds.{digits_value, Strips, number_of, IsMeasured, IsBounded, IsInBounds}
+use Rattle.crs_decimal.specs.Number.{Number}
 use Rattle.crs_decimal.specs.Mantissa.{no_digits, with_digits}
 use Rattle.crs_decimal.proofs.MantissaLemmas.{shown, Shows, IsStripped, long_least, zero_scaled}
 use Rattle.crs_decimal.proofs.PowerLemmas.{power_next, power_grows}
@@ -65,8 +66,12 @@ zeros_are_digits (suc n) = zeros_are_digits n
 
 -- ---- a few digits alone are in bounds
 
-abbrev IsSmall : ℕ → Type 0
+abbrev pub IsSmall : ℕ → Type 0
 IsSmall n = (n ≡ 0) ⊎ ((m k : ℕ) × Strips n m k × (m < 10 ^ 38) × (k ≤ 40))
+
+pub small_measured : (n : Number) → n.up ≡ 0 → n.down ≡ 0 → IsSmall n.digits → (n.digits ≡ 0) ⊎ IsMeasured n
+small_measured n up down (inl e) = inl e
+small_measured n up down (inr (m, k, t, u, v)) = inr (m, k, t, u, omega arith, omega arith)
 
 power_small : (d z n : ℕ) → n ≡ d * 10 ^ z → 0 < d → n < 10 ^ 18 → z ≤ 40
 power_small d z n e some small = elim (cases_lt 40 z) [
@@ -90,16 +95,16 @@ digits_in_bounds ds h some l =
     let m = with_digits no_digits ds in
     let below = value-below ds h in
     let most = power_grows (length ds) 18 l in
-    let plain = append-nil ds in
     let small = few_measured m.is_long (digits_value ds) m.digits m.zeros (shown ds h) (omega arith) in
-    (parts, (sym plain ∙ sym (append-nil (ds ++ [])), record { digits = subst AreDigits (sym plain) h; some = subst (λ (x : List ℕ). 0 < length x) (sym plain) some; exponent = tt }), bounded (subst (λ (x : List ℕ). IsSmall (digits_value x)) (sym plain) small))
+    (
+      parts,
+      (sym (append-nil ds) ∙ sym (append-nil (ds ++ [])), record { digits = rw append-nil h; some = rw append-nil some; exponent = tt }),
+      record {
+        mantissa_digits = rw append-nil (omega arith);
+        exponent_digits = omega arith;
+        measured = small_measured (number_of parts) refl refl (rw append-nil small);
+      },
+    )
   where
     parts : Parts
     parts = record { sign = unsigned; whole = ds; fraction = None; exponent = None }
-
-    bounded : IsSmall (digits_value (ds ++ [])) → IsBounded parts
-    bounded s = record { mantissa_digits = rw append-nil (omega arith); exponent_digits = omega arith; measured = measured s }
-      where
-        measured : IsSmall (digits_value (ds ++ [])) → ((number_of parts).digits ≡ 0) ⊎ IsMeasured (number_of parts)
-        measured (inl e) = inl e
-        measured (inr (m, k, t, u, v)) = inr (m, k, t, u, omega arith, omega arith)

@@ -2,6 +2,7 @@
 use Rattle.std.proofs.Common.{◌≡◌, ℕ, ◌<◌, ◌==◌, ◌||◌, nat_le, Bool, true, false, cond, List, [], ◌∷◌, ◌++◌, length, take, drop, Option, Some, None, refl, ap, sym, subst, ◌∙◌, arith, inl, inr, append_assoc}
 use Rattle.std.specs.List.{prefix_len, list_all}
 use Rattle.std.proofs.lemmas.Bool.{eqb-true, ne_eqb, leb-true, and_parts, and_from, or_cases, or_parts, or_from}
+use Rattle.std.proofs.lemmas.Bool.Decides.{nat_tests}
 use Rattle.std.proofs.lemmas.List.{take-append-drop, append-nil, take_at, drop_at}
 use Rattle.std.proofs.lemmas.List.Sums.{take_while-cons}
 use Rattle.crs_decimal.specs.Spelling.{Sign, unsigned, plus, minus, sign_text, Exponent, Parts, fraction_text, exponent_text, parts_text, is_digit, AreDigits, fraction_digits, mantissa, IsExponent, IsForm, SpellsNumber, HasForm}
@@ -9,14 +10,12 @@ use Rattle.crs_decimal.specs.Split.{leading_digits, behind_digits, sign_of, behi
 
 -- ---- bytes are the text of their parts, and what is left
 
-sign_cut : (b : ℕ) (bs : List ℕ) (x y : Bool) → (x ≡ true → b ≡ 43) → (y ≡ true → b ≡ 45) → sign_text (cond x plus (cond y minus unsigned)) ++ cond (x || y) bs (b ∷ bs) ≡ b ∷ bs
-sign_cut b bs true y p q = ap (λ c. c ∷ bs) (sym (p refl))
-sign_cut b bs false true p q = ap (λ c. c ∷ bs) (sym (q refl))
-sign_cut b bs false false p q = refl
-
 sign_joined : (bs : List ℕ) → sign_text (sign_of bs) ++ behind_sign bs ≡ bs
 sign_joined [] = refl
-sign_joined (b ∷ bs) = sign_cut b bs (b == 43) (b == 45) (eqb-true b 43) (eqb-true b 45)
+sign_joined (b ∷ bs) = cut
+  where
+    cut : sign_text (sign_of (b ∷ bs)) ++ behind_sign (b ∷ bs) ≡ b ∷ bs
+    cut = grind (arith, nat_tests)
 
 front_joined : (bs : List ℕ) → leading_digits bs ++ behind_digits bs ≡ bs
 front_joined bs = take-append-drop (prefix_len is_digit bs) bs
@@ -39,17 +38,7 @@ exponent_joined (b ∷ bs) = exponent_cut b bs (is_exponent_letter b)
 
 pub parts_joined : (bs : List ℕ) → parts_text (parts_of bs) ++ behind_parts bs ≡ bs
 parts_joined bs =
-    let s = sign_text (sign_of bs) in
-    let w = leading_digits (behind_sign bs) in
-    let f = fraction_text (fraction_of (behind_whole bs)) in
-    let e = exponent_text (exponent_of (behind_mantissa bs)) in
-    append_assoc (s ++ w ++ f) e (behind_parts bs)
-    ∙ ap (λ r. (s ++ w ++ f) ++ r) (exponent_joined (behind_mantissa bs))
-    ∙ append_assoc (s ++ w) f (behind_mantissa bs)
-    ∙ ap (λ r. (s ++ w) ++ r) (fraction_joined (behind_whole bs))
-    ∙ append_assoc s w (behind_whole bs)
-    ∙ ap (λ r. s ++ r) (front_joined (behind_sign bs))
-    ∙ sign_joined bs
+    simp append_assoc (rw (exponent_joined (behind_mantissa bs), fraction_joined (behind_whole bs), front_joined (behind_sign bs), sign_joined bs))
 
 -- ---- the digits that are cut off are digits
 

@@ -1,5 +1,5 @@
 -- What is written is the plain spelling of its value.
-use Rattle.std.proofs.Common.{◌≡◌, ◌≢◌, ℕ, suc, ◌+◌, ◌-◌, ◌*◌, ◌%◌, ◌^◌, ◌<◌, ◌≤◌, ◌⊎◌, inl, inr, Bool, true, false, if◌then◌else◌, List, [], ◌∷◌, ◌++◌, length, take, drop, replicate, decimal, Some, None, refl, sym, ap, subst, ◌∙◌, arith, ℤ, pos, negsuc, append_assoc, length-append, add-zero}
+use Rattle.std.proofs.Common.{◌≡◌, ◌≢◌, ℕ, suc, ◌+◌, ◌-◌, ◌*◌, ◌%◌, ◌^◌, ◌<◌, ◌≤◌, ◌⊎◌, inl, inr, Bool, true, false, if◌then◌else◌, List, [], ◌∷◌, ◌++◌, length, take, drop, replicate, decimal, Option, Some, None, refl, sym, ap, subst, ◌∙◌, arith, ℤ, pos, negsuc, append_assoc, length-append, add-zero}
 use Rattle.std.proofs.lemmas.Bool.{cases_eq, leb-true, ltb-true, false≢true}
 use Rattle.std.proofs.lemmas.Fmt.{length-decimal-le_wide}
 use Rattle.std.proofs.lemmas.List.{append-nil, take-append-drop, length-replicate}
@@ -7,11 +7,11 @@ use Rattle.std.proofs.Math.Nat.{mul-one}
 use Rattle.crs_decimal.specs.Bounds.{digits_value, is_minus, number_of, IsMeasured, IsBounded, Denotes}
 use Rattle.crs_decimal.specs.Number.{SameNumber}
 use Rattle.crs_decimal.specs.Plain.{IsTrim, IsSignNeeded, IsFractionNeeded, IsPlain, AppendsPlain, padded, with_period, scaled, plain}
-use Rattle.crs_decimal.specs.Spelling.{Sign, unsigned, minus, sign_text, Parts, AreDigits, mantissa, IsForm, SpellsNumber}
+use Rattle.crs_decimal.specs.Spelling.{Sign, unsigned, minus, sign_text, Parts, AreDigits, fraction_digits, fraction_text, SpellsNumber}
 use Rattle.crs_decimal.specs.Value.{Value, zero as zero_value, IsNormal, exact, is_power, up_of, down_of}
 use Rattle.crs_decimal.proofs.BoundLemmas.{same_scaled}
 use Rattle.crs_decimal.proofs.DecimalLemmas.{StartsAbove, above_some, start-append, start_trim, AreDigitsOf, decimal_digits, padded_digits, padded_value, padded_length, whole_trim, fraction_trim, fraction_length}
-use Rattle.crs_decimal.proofs.DigitLemmas.{value-append, value-zeros, zeros_are_digits}
+use Rattle.crs_decimal.proofs.DigitLemmas.{IsSmall, small_measured, value-append, value-zeros, zeros_are_digits}
 use Rattle.crs_decimal.proofs.MantissaLemmas.{zero_scaled}
 use Rattle.crs_decimal.proofs.NumberLemmas.{normal_parts}
 use Rattle.crs_decimal.proofs.SplitLemmas.{digits-append}
@@ -35,13 +35,9 @@ sign_for-length : (b : Bool) → length {A = ℕ} (if b then 45 ∷ [] else []) 
 sign_for-length true = omega arith
 sign_for-length false = omega arith
 
--- the parts of a whole number with n zeros after its digits
-abbrev whole_parts : Bool → List ℕ → ℕ → Parts
-whole_parts b ds n = record { sign = sign_for b; whole = ds ++ replicate n 48; fraction = None; exponent = None }
-
--- the parts of digits of which the last k are after a period
-abbrev period_parts : Bool → List ℕ → ℕ → Parts
-period_parts b p k = record { sign = sign_for b; whole = take (length p - k) p; fraction = Some (drop (length p - k) p); exponent = None }
+-- the parts of a spelling that has no exponent
+abbrev signed : Bool → List ℕ → Option (List ℕ) → Parts
+signed b w f = record { sign = sign_for b; whole = w; fraction = f; exponent = None }
 
 -- all that is asked of the spelling of a value
 pub record IsWritten (v : Value) (bs : List ℕ) : Type 0 where
@@ -49,12 +45,31 @@ pub record IsWritten (v : Value) (bs : List ℕ) : Type 0 where
   pub denotes : Denotes bs (exact v)
   pub short : length bs ≤ 79
 
-written_from : (v : Value) (bs : List ℕ) (p : Parts) → SpellsNumber bs p → IsSignNeeded p → IsTrim p.whole → IsFractionNeeded p.fraction → p.exponent ≡ None → IsBounded p → SameNumber (number_of p) (exact v) → length bs ≤ 79 → IsWritten v bs
-written_from v bs p a b c d e f g h = record {
-  is_plain = record { parts = p; spells = a; sign = b; whole = c; fraction = d; exponent = e };
-  denotes = (p, a, f, g);
-  short = h;
-}
+written_by : (v : Value) (w : List ℕ) (f : Option (List ℕ)) (n : ℕ) → AreDigits (w ++ fraction_digits f) → IsTrim w → IsFractionNeeded f →
+    (v.negative ≡ true → (w ≢ 48 ∷ []) ⊎ (f ≢ None)) → digits_value (w ++ fraction_digits f) ≡ v.digits * 10 ^ n →
+    up_of v.power + length (fraction_digits f) ≡ n + down_of v.power →
+    ((number_of (signed v.negative w f)).digits ≡ 0) ⊎ IsMeasured (number_of (signed v.negative w f)) → length (w ++ fraction_digits f) ≤ 100 →
+    length (w ++ fraction_text f) ≤ 78 → IsWritten v ((if v.negative then 45 ∷ [] else []) ++ (w ++ fraction_text f))
+written_by v w f n digits trim ends needed value places measured few short =
+    let p = signed v.negative w f in
+    let spells : SpellsNumber ((if v.negative then 45 ∷ [] else []) ++ (w ++ fraction_text f)) p = (
+      rw (sign_for-text v.negative) (simp (append-nil, append_assoc)),
+      record { digits = digits; some = omega (arith, length-append w (fraction_digits f), above_some w trim); exponent = tt },
+    ) in
+    let same = same_scaled (digits_value (w ++ fraction_digits f)) v.digits n (0 + down_of v.power) (up_of v.power + (0 + length (fraction_digits f))) value
+    (omega arith) in
+    record {
+      is_plain = record {
+        parts = p;
+        spells = spells;
+        sign = sign_for-needed p v.negative refl needed;
+        whole = trim;
+        fraction = ends;
+        exponent = refl;
+      };
+      denotes = (p, spells, record { mantissa_digits = few; exponent_digits = omega arith; measured = measured }, (same, inl (sign_for-minus v.negative)));
+      short = omega (arith, length-append (if v.negative then 45 ∷ [] else []) (w ++ fraction_text f), sign_for-length v.negative);
+    }
 
 positive : (n : ℕ) → n % 10 ≢ 0 → 0 < n
 positive n h = elim (cases_eq n 0) [ inl e ↦ absurd (h (ap (λ x. x % 10) e)) | inr e ↦ omega arith ]
@@ -66,25 +81,19 @@ above_not_zero ds h e = subst StartsAbove e h refl
 
 whole_value : (n d : ℕ) (ds : List ℕ) → AreDigitsOf d ds → digits_value ((ds ++ replicate n 48) ++ []) ≡ d * 10 ^ n
 whole_value n d ds h =
-    let zeros : List ℕ = replicate n 48 in
-    ap digits_value (append-nil (ds ++ zeros))
-    ∙ value-append ds zeros
-    ∙ ap (λ k. digits_value ds * 10 ^ k + digits_value zeros) (length-replicate {A = ℕ} n 48)
-    ∙ ap (λ v. v * 10 ^ n + digits_value zeros) h.value
-    ∙ ap (λ v. d * 10 ^ n + v) (value-zeros n)
-    ∙ add-zero (d * 10 ^ n)
+    rw (append-nil (ds ++ replicate n 48), value-append ds (replicate n 48), length-replicate {A = ℕ} n 48, h.value, value-zeros n, add-zero (d * 10 ^ n))
 
 whole_trimmed : (v : Value) (n : ℕ) (ds : List ℕ) → v.power ≡ pos n → AreDigitsOf v.digits ds → (v.digits % 10 ≢ 0) ⊎ (v ≡ zero_value) → IsTrim (ds ++ replicate n 48)
 whole_trimmed v n ds e h (inl last) = start_trim (ds ++ replicate n 48) (start-append ds (replicate n 48) (h.start (positive v.digits last)))
 whole_trimmed v n ds e h (inr z) =
     let none : n ≡ 0 = omega (arith, ap up_of (sym e ∙ ap (λ x. x.power) z)) in
-    subst IsTrim (sym (append-nil ds) ∙ ap (λ k. ds ++ replicate k 48) (sym none)) h.trim
+    rw (none, append-nil) h.trim
 
 whole_above : (v : Value) (n : ℕ) (ds : List ℕ) → AreDigitsOf v.digits ds → (v.digits % 10 ≢ 0) ⊎ (v ≡ zero_value) → v.negative ≡ true → ds ++ replicate n 48 ≢ 48 ∷ []
 whole_above v n ds h (inl last) e = above_not_zero (ds ++ replicate n 48) (start-append ds (replicate n 48) (h.start (positive v.digits last)))
 whole_above v n ds h (inr z) e = absurd (false≢true (sym (ap (λ x. x.negative) z) ∙ e))
 
-whole_measured : (v : Value) (n k : ℕ) → k ≡ v.digits * 10 ^ n → n ≤ 40 → v.digits < 10 ^ 38 → (v.digits % 10 ≢ 0) ⊎ (v ≡ zero_value) → (k ≡ 0) ⊎ ((m j : ℕ) × ((k ≡ m * 10 ^ j) × (m % 10 ≢ 0)) × (m < 10 ^ 38) × (j ≤ 40))
+whole_measured : (v : Value) (n k : ℕ) → k ≡ v.digits * 10 ^ n → n ≤ 40 → v.digits < 10 ^ 38 → (v.digits % 10 ≢ 0) ⊎ (v ≡ zero_value) → IsSmall k
 whole_measured v n k e l small (inl last) = inr (v.digits, n, (e, last), small, l)
 whole_measured v n k e l small (inr z) = inl (e ∙ zero_scaled v.digits n (ap (λ x. x.digits) z))
 
@@ -92,40 +101,16 @@ whole_written : (v : Value) (n : ℕ) → v.power ≡ pos n → n ≤ 40 → v.d
 whole_written v n e l small last =
     let ds = decimal v.digits in
     let w : List ℕ = ds ++ replicate n 48 in
-    let s : List ℕ = if v.negative then 45 ∷ [] else [] in
-    let p = whole_parts v.negative ds n in
     let h = decimal_digits v.digits (omega arith) in
-    let trim = whole_trimmed v n ds e h last in
-    let some = above_some w trim in
     let short = length-decimal-le_wide 38 v.digits (omega arith) small (omega arith) in
-    let size : length w ≡ length ds + n = length-append ds (replicate n 48) ∙ ap (λ k. length ds + k) (length-replicate {A = ℕ} n 48) in
+    let size : length (w ++ []) ≡ length ds + n = rw (append-nil w, length-append ds (replicate n 48), length-replicate {A = ℕ} n 48) in
     let number = whole_value n v.digits ds h in
-    let up : up_of v.power ≡ n = ap up_of e in
-    let down : down_of v.power ≡ 0 = ap down_of e in
-    let plain : w ++ [] ≡ w = append-nil w in
-    let form : IsForm p = record {
-      digits = subst AreDigits (sym plain) (digits-append ds (replicate n 48) h.digits (zeros_are_digits n));
-      some = subst (λ (x : List ℕ). 0 < length x) (sym plain) some;
-      exponent = tt;
-    } in
-    written_from v (s ++ w) p
-    (sym (append-nil (sign_text p.sign ++ w ++ []) ∙ append-nil (sign_text p.sign ++ w) ∙ ap (λ x. x ++ w) (sign_for-text v.negative)), form)
-    (sign_for-needed p v.negative refl (λ e. inl (whole_above v n ds h last e)))
-    trim
-    tt
-    refl
-    (record { mantissa_digits = omega (arith, ap length plain); exponent_digits = omega arith; measured = measured (whole_measured v n (digits_value (w ++ [])) number l small last) })
-    (same_scaled (digits_value (w ++ [])) v.digits n (0 + down_of v.power) (up_of v.power + (0 + 0)) number (omega arith), inl (sign_for-minus v.negative))
-    (omega (arith, length-append s w, sign_for-length v.negative))
-  where
-    measured : (digits_value (mantissa (whole_parts v.negative (decimal v.digits) n)) ≡ 0) ⊎ ((m j : ℕ) × ((digits_value (mantissa (whole_parts v.negative (decimal v.digits) n)) ≡ m * 10 ^ j) × (m % 10 ≢ 0)) × (m < 10 ^ 38) × (j ≤ 40)) → ((number_of (whole_parts v.negative (decimal v.digits) n)).digits ≡ 0) ⊎ IsMeasured (number_of (whole_parts v.negative (decimal v.digits) n))
-    measured (inl z) = inl z
-    measured (inr (m, j, a, b, c)) = inr (m, j, a, b, omega arith, omega arith)
+    rw append-nil at (written_by v w None n (rw append-nil (digits-append ds (replicate n 48) h.digits (zeros_are_digits n))) (whole_trimmed v n ds e h last) tt
+    (λ s. inl (whole_above v n ds h last s)) number (omega (arith, ap up_of e, ap down_of e))
+    (small_measured (number_of (signed v.negative w None)) refl refl (whole_measured v n (digits_value (w ++ [])) number l small last))
+    (omega arith) (omega arith))
 
 -- ---- fractions
-
-fraction_there : (f : List ℕ) → Some f ≢ None
-fraction_there f e = cc
 
 period_written : (v : Value) (n : ℕ) → v.power ≡ negsuc n → n < 40 → v.digits < 10 ^ 38 → v.digits % 10 ≢ 0 → IsWritten v ((if v.negative then 45 ∷ [] else []) ++ with_period (suc n) (padded (suc (suc n)) (decimal v.digits)))
 period_written v n e l small last =
@@ -134,32 +119,18 @@ period_written v n e l small last =
     let q = padded (suc k) ds in
     let w = take (length q - k) q in
     let f = drop (length q - k) q in
-    let s : List ℕ = if v.negative then 45 ∷ [] else [] in
-    let p = period_parts v.negative q k in
     let h = decimal_digits v.digits (omega arith) in
     let join : w ++ f ≡ q = take-append-drop (length q - k) q in
-    let trim = whole_trim k v.digits ds h (positive v.digits last) in
-    let places = fraction_length k ds in
     let short = length-decimal-le_wide 38 v.digits (omega arith) small (omega arith) in
     let size : length q ≤ 41 = elim (padded_length (suc k) ds) [ inl g ↦ omega (arith, g) | inr g ↦ omega (arith, ap length g.1) ] in
-    let number : digits_value (w ++ f) ≡ v.digits = ap digits_value join ∙ padded_value (suc k) v.digits ds h in
+    let number : digits_value (w ++ f) ≡ v.digits * 10 ^ 0 = ap digits_value join ∙ padded_value (suc k) v.digits ds h ∙ sym (mul-one v.digits) in
     let up : up_of v.power ≡ 0 = ap up_of e in
     let down : down_of v.power ≡ k = ap down_of e in
-    let scaled_number : digits_value (w ++ f) ≡ v.digits * 10 ^ 0 = number ∙ sym (mul-one v.digits) in
-    let form : IsForm p = record {
-      digits = subst AreDigits (sym join) (padded_digits (suc k) v.digits ds h);
-      some = omega (arith, length-append w f, above_some w trim);
-      exponent = tt;
-    } in
-    written_from v (s ++ (w ++ 46 ∷ f)) p
-    (sym (append-nil (sign_text p.sign ++ w ++ 46 ∷ f) ∙ append_assoc (sign_text p.sign) w (46 ∷ f) ∙ ap (λ x. x ++ (w ++ 46 ∷ f)) (sign_for-text v.negative)), form)
-    (sign_for-needed p v.negative refl (λ _. inr (fraction_there f)))
-    trim
-    (fraction_trim k v.digits ds h last (omega arith))
-    refl
-    (record { mantissa_digits = omega (arith, ap length join); exponent_digits = omega arith; measured = inr (v.digits, 0, (scaled_number, last), small, omega arith, omega arith) })
-    (same_scaled (digits_value (w ++ f)) v.digits 0 (0 + down_of v.power) (up_of v.power + (0 + length f)) scaled_number (omega arith), inl (sign_for-minus v.negative))
-    (omega (arith, length-append s (w ++ 46 ∷ f), length-append w (46 ∷ f), length-append w f, ap length join, sign_for-length v.negative))
+    let places = fraction_length k ds in
+    written_by v w (Some f) 0 (rw join (padded_digits (suc k) v.digits ds h)) (whole_trim k v.digits ds h (positive v.digits last))
+    (fraction_trim k v.digits ds h last (omega arith)) (λ s. inr (λ none. cc)) number (omega arith)
+    (inr (v.digits, 0, (number, last), small, omega arith, omega arith)) (omega (arith, ap length join))
+    (omega (arith, length-append w (46 ∷ f), length-append w f, ap length join))
 
 written_at : (v : Value) (x : ℤ) → v.power ≡ x → is_power x ≡ true → v.digits < 10 ^ 38 → (v.digits % 10 ≢ 0) ⊎ (v ≡ zero_value) → IsWritten v ((if v.negative then 45 ∷ [] else []) ++ scaled (decimal v.digits) x)
 written_at v (pos n) e l small last = whole_written v n e (leb-true n 40 l) small last
