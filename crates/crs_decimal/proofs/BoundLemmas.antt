@@ -3,7 +3,7 @@ use Rattle.std.proofs.Common.{◌≡◌, ◌≢◌, ℕ, ◌+◌, ◌*◌, ◌%�
 use Rattle.std.proofs.lemmas.Bool.{cases_eq, leb-true, ltb-true}
 use Rattle.std.proofs.lemmas.Nat.{pow-add}
 use Rattle.std.proofs.Math.Nat.{mul_assoc}
-use Rattle.crs_decimal.specs.Bounds.{digits_value, is_minus, Strips, IsMeasured, IsBounded, number_of, is_below, power_up, power_down, exponent_digits}
+use Rattle.crs_decimal.specs.Bounds.{digits_value, is_minus, Strips, IsMeasured, IsBounded, number_of, power_up, power_down, exponent_digits}
 use Rattle.crs_decimal.specs.Cut.{IsCut, IsFar, IsPowerBetween}
 use Rattle.crs_decimal.specs.Number.{SameNumber}
 use Rattle.crs_decimal.specs.Spelling.{Parts, AreDigits, mantissa, fraction_digits}

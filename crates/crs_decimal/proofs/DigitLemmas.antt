@@ -7,7 +7,7 @@ use Rattle.std.proofs.lemmas.List.Sums.{fold-append}
 use Rattle.std.proofs.lemmas.Nat.{same_from_place}
 use Rattle.std.proofs.Math.Nat.{mul-le-mul_right}
 use Rattle.crs_decimal.specs.Spelling.{unsigned, Parts, is_digit, AreDigits}
-use Rattle.crs_decimal.specs.Bounds.{digits_value, Strips, number_of, IsMeasured, IsBounded, IsInBounds}
+use Rattle.crs_decimal.specs.Bounds.{digits_value, Strips, number_of, IsMeasured, IsInBounds}
 use Rattle.crs_decimal.specs.Number.{Number}
 use Rattle.crs_decimal.specs.Mantissa.{no_digits, with_digits}
 use Rattle.crs_decimal.proofs.MantissaLemmas.{shown, Shows, IsStripped, long_least, zero_scaled}
@@ -95,8 +95,7 @@ digits_in_bounds ds h some l =
     let m = with_digits no_digits ds in
     let below = value-below ds h in
     let most = power_grows (length ds) 18 l in
-    let small = few_measured m.is_long (digits_value ds) m.digits m.zeros (shown ds h) (omega arith) in
-    (
+    let small = few_measured m.is_long (digits_value ds) m.digits m.zeros (shown ds h) (omega arith) in (
       parts,
       (sym (append-nil ds) ∙ sym (append-nil (ds ++ [])), record { digits = rw append-nil h; some = rw append-nil some; exponent = tt }),
       record {

@@ -1,9 +1,10 @@
 -- What the mantissa that is kept shows of the digits that were read.
-use Rattle.std.proofs.Common.{◌≡◌, ◌≢◌, ℕ, ◌+◌, ◌-◌, ◌*◌, ◌%◌, ◌^◌, ◌<◌, ◌≤◌, ◌==◌, ◌⊎◌, inl, inr, Bool, true, false, cond, List, [], ◌∷◌, fold, refl, sym, ap, subst, ◌∙◌, arith, nat_le}
+use Rattle.std.proofs.Common.{◌≡◌, ◌≢◌, ℕ, ◌+◌, ◌-◌, ◌*◌, ◌%◌, ◌^◌, ◌<◌, ◌≤◌, ◌==◌, ◌⊎◌, inl, inr, Bool, true, false, cond, List, [], ◌∷◌, fold, refl, sym, ap, subst, ◌∙◌, arith}
 use Rattle.std.specs.List.{list_all}
-use Rattle.std.proofs.lemmas.Bool.{eqb-true, eqb-false, ltb-true, ltb-false, and_parts, leb-true, cases_eq}
+use Rattle.std.proofs.lemmas.Bool.{eqb-true, eqb-false, ltb-true, ltb-false, and_parts, cases_eq}
 use Rattle.std.proofs.lemmas.Nat.{mod-mul-add}
 use Rattle.std.proofs.Math.Nat.{mul-one, zero-mul}
+use Rattle.std.proofs.lemmas.Bool.Decides.{nat_tests}
 use Rattle.crs_decimal.specs.Spelling.{is_digit, AreDigits}
 use Rattle.crs_decimal.specs.Bounds.{digits_value, Strips}
 use Rattle.crs_decimal.specs.Mantissa.{no_digits, fits, with_digit, with_digits}
@@ -76,10 +77,7 @@ shown_more n c m h s =
     s
 
 digit_below : (d : ℕ) → is_digit d ≡ true → d - 48 < 10
-digit_below d h =
-    let p = and_parts (nat_le 48 d) (nat_le d 57) h in
-    let high = leb-true d 57 p.1 in
-    omega arith
+digit_below d h = grind (arith, nat_tests)
 
 shown_behind : (ds : List ℕ) (n : ℕ) (m : Mantissa) → AreDigits ds → IsShown n m → IsShown (fold (λ k d. k * 10 + (d - 48)) n ds) (with_digits m ds)
 shown_behind [] n m h s = s

@@ -3,7 +3,7 @@ use Rattle.std.proofs.Common.{◌≡◌, ◌≢◌, ℕ, suc, ◌+◌, ◌*◌, 
 use Rattle.std.proofs.lemmas.Bool.{and_parts, or_cases, eqb-true, eqb-false, ltb-true, not-true, false≢true}
 use Rattle.std.proofs.lemmas.Int.{ints}
 use Rattle.std.proofs.lemmas.Nat.{pow-add}
-use Rattle.std.proofs.Math.Nat.{mul-one, mul_assoc, le_of_mul-le-mul_right, le_antisymm}
+use Rattle.std.proofs.Math.Nat.{mul-one, le_of_mul-le-mul_right, le_antisymm}
 use Rattle.crs_decimal.specs.Bounds.{Denotes, number_of}
 use Rattle.crs_decimal.specs.Number.{Number, SameSize, SameNumber, whole_number}
 use Rattle.crs_decimal.specs.Value.{Value, zero, is_power, is_zero_power, IsNormal, exact, up_of, down_of}

@@ -1,7 +1,7 @@
 -- A value has one plain spelling, and it is the one that is written.
 use Rattle.std.proofs.Common.{◌≡◌, ◌≢◌, ℕ, suc, ◌+◌, ◌-◌, ◌*◌, ◌%◌, ◌^◌, ◌<◌, ◌≤◌, ◌⊎◌, inl, inr, true, List, [], ◌∷◌, ◌++◌, length, Option, Some, None, refl, sym, ap, subst, ◌∙◌, arith}
 use Rattle.std.specs.List.{list_all}
-use Rattle.std.proofs.lemmas.Bool.{and_parts, cases_order, false≢true}
+use Rattle.std.proofs.lemmas.Bool.{and_parts, cases_order}
 use Rattle.std.proofs.lemmas.List.{append-nil}
 use Rattle.std.proofs.lemmas.List.Sums.{fold-append}
 use Rattle.std.proofs.lemmas.Nat.{same_from_place}
@@ -110,12 +110,7 @@ minus_needed (d ∷ ds) None dw df (inr none) n z (inl h) =
     h (ap (λ x. d ∷ x) none ∙ ap (λ c. c ∷ []) last)
 
 same_sign : (p q : Parts) → IsSignNeeded p → IsSignNeeded q → (digits_value (mantissa p) ≡ 0 → (p.whole ≢ 48 ∷ []) ⊎ (p.fraction ≢ None) → ⊥) → (digits_value (mantissa q) ≡ 0 → (q.whole ≢ 48 ∷ []) ⊎ (q.fraction ≢ None) → ⊥) → (is_minus p.sign ≡ is_minus q.sign) ⊎ ((digits_value (mantissa p) ≡ 0) × (digits_value (mantissa q) ≡ 0)) → p.sign ≡ q.sign
-same_sign p q (inl g) (inl h) m n e = g ∙ sym h
-same_sign p q (inl g) (inr h) m n (inl e) = absurd (false≢true (sym (ap is_minus g) ∙ e ∙ ap is_minus h.0))
-same_sign p q (inl g) (inr h) m n (inr e) = absurd (n e.1 h.1)
-same_sign p q (inr g) (inl h) m n (inl e) = absurd (false≢true (sym (ap is_minus h) ∙ sym e ∙ ap is_minus g.0))
-same_sign p q (inr g) (inl h) m n (inr e) = absurd (m e.0 g.1)
-same_sign p q (inr g) (inr h) m n e = g.0 ∙ sym h.0
+same_sign p q g h m n e = grind arith
 
 same_size : (p q : Parts) → p.exponent ≡ None → q.exponent ≡ None → SameSize (number_of p) (number_of q) → digits_value (mantissa p) * 10 ^ length (fraction_digits q.fraction) ≡ digits_value (mantissa q) * 10 ^ length (fraction_digits p.fraction)
 same_size p q g h e =

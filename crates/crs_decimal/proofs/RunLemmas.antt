@@ -1,5 +1,5 @@
 -- The bytes of a number are bytes of a run.
-use Rattle.std.proofs.Common.{◌≡◌, ℕ, ◌<◌, ◌==◌, ◌||◌, inl, inr, Bool, true, false, List, [], ◌∷◌, ◌++◌, length, Option, Some, None, refl, sym, ap, subst, ◌∙◌, arith}
+use Rattle.std.proofs.Common.{◌≡◌, ℕ, ◌<◌, ◌==◌, ◌||◌, inl, inr, Bool, true, false, List, [], ◌∷◌, ◌++◌, length, Option, Some, None, refl, sym, subst, ◌∙◌, arith}
 use Rattle.std.specs.List.{list_all}
 use Rattle.std.proofs.lemmas.Bool.{and_parts, and_from, or_cases, eqb-true, false≢true}
 use Rattle.std.proofs.lemmas.List.Folds.{list_all-append}
@@ -22,9 +22,7 @@ digit_is_run_start : (d : ℕ) → is_digit d ≡ true → is_run_start d ≡ tr
 digit_is_run_start d h = rw h refl
 
 sign_run : (s : Sign) → list_all is_run_byte (sign_text s) ≡ true
-sign_run unsigned = refl
-sign_run plus = refl
-sign_run minus = refl
+sign_run s = grind arith
 
 letter_run : (b : ℕ) → (b == 69 || b == 101) ≡ true → is_run_byte b ≡ true
 letter_run b h = elim (or_cases (b == 69) (b == 101) h) [ inl e ↦ rw (eqb-true b 69 e) refl | inr e ↦ rw (eqb-true b 101 e) refl ]

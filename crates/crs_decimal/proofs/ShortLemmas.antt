@@ -1,12 +1,11 @@
 -- Short numbers: their parts, and the number that they mean.
-use Rattle.std.proofs.Common.{◌≡◌, ◌≢◌, ℕ, ◌+◌, ◌-◌, ◌*◌, ◌/◌, ◌%◌, ◌^◌, ◌<◌, ◌≤◌, false, List, [], ◌∷◌, ◌++◌, length, Option, None, Some, fold, refl, sym, ap, subst, ◌∙◌, arith, inl, inr, IfSome}
+use Rattle.std.proofs.Common.{◌≡◌, ◌≢◌, ℕ, ◌+◌, ◌-◌, ◌*◌, ◌/◌, ◌%◌, ◌^◌, ◌<◌, ◌≤◌, false, List, [], ◌∷◌, ◌++◌, length, None, Some, fold, sym, ap, subst, ◌∙◌, arith, inl, inr}
 use Rattle.std.proofs.lemmas.Bool.{cases_eq, cases_lt}
 use Rattle.std.proofs.lemmas.List.{length-append}
 use Rattle.std.proofs.lemmas.List.Sums.{fold-append}
-use Rattle.std.proofs.Math.Nat.{mul_assoc, mul_comm}
 use Rattle.crs_decimal.specs.declared.short.Short.{Short}
 use Rattle.crs_decimal.specs.declared.mantissa.Mantissa.{Mantissa}
-use Rattle.crs_decimal.specs.Bounds.{digits_value, is_minus, IsBounded, number_of, power_up, power_down, exponent_digits}
+use Rattle.crs_decimal.specs.Bounds.{digits_value, is_minus, IsBounded, number_of, power_up, power_down}
 use Rattle.crs_decimal.specs.Cut.{IsPowerBetween}
 use Rattle.crs_decimal.specs.Number.{SameNumber}
 use Rattle.crs_decimal.specs.Short.{IsReadShort, IsShortCut}
@@ -14,7 +13,7 @@ use Rattle.crs_decimal.specs.Spelling.{Parts, fraction_digits, mantissa}
 use Rattle.crs_decimal.specs.Split.{leading_digits, behind_digits, sign_of, behind_sign, fraction_of, behind_fraction, exponent_of, behind_exponent, behind_whole, behind_mantissa, parts_of, HasExponentDigits}
 use Rattle.crs_decimal.specs.Value.{Value, IsNormal, exact}
 use Rattle.crs_decimal.proofs.BoundLemmas.{near_bounded, near_same}
-use Rattle.crs_decimal.proofs.PowerLemmas.{power_grows, power_more, scaled_grows, scaled_more}
+use Rattle.crs_decimal.proofs.PowerLemmas.{power_grows, power_more, scaled_grows}
 
 -- ---- parts
 
@@ -63,10 +62,8 @@ small_room value count h few = omega (arith, h, power_grows count 18 few)
 -- a closing zero
 pub zero_off : (digits zeros : ℕ) → digits % 10 ≡ 0 → digits * 10 ^ zeros ≡ digits / 10 * 10 ^ (zeros + 1)
 zero_off digits zeros e =
-    let q = digits / 10 in
-    let whole : digits ≡ q * 10 = omega arith in
-    ap (λ x. x * 10 ^ zeros) whole ∙ mul_assoc q 10 (10 ^ zeros) ∙ ap (λ x. q * x) (mul_comm 10 (10 ^ zeros)) ∙ sym (mul_assoc q (10 ^ zeros) 10)
-    ∙ scaled_more q zeros (q * 10 ^ zeros) refl
+    let whole : digits ≡ digits / 10 * 10 = omega arith in
+    rw power_more (omega (arith, ap (λ x. x * 10 ^ zeros) whole))
 
 pub zeros_few : (value digits zeros : ℕ) → value < 10 ^ 19 → value ≡ digits * 10 ^ zeros → digits % 10 ≢ 0 → zeros ≤ 19
 zeros_few value digits zeros small e last =
@@ -78,25 +75,14 @@ zeros_few value digits zeros small e last =
       ]
     ]
 
-module _ (p : Parts) (s : Short) (cut : IsShortCut p s) where
-  up_none : power_up p.exponent ≡ 0
-  up_none = ap power_up cut.plain
-
-  down_none : power_down p.exponent ≡ 0
-  down_none = ap power_down cut.plain
-
-  few_digits : length (mantissa p) ≤ 100
-  few_digits = omega (arith, cut.count)
-
-  no_exponent : length (exponent_digits p.exponent) ≤ 3
-  no_exponent = omega (arith, ap (λ e. length (exponent_digits e)) cut.plain)
-
-  pub short_number : (v : Value) (digits zeros : ℕ) → IsNormal v → s.value ≡ digits * 10 ^ zeros → digits % 10 ≢ 0 → digits < 10 ^ 38 → v.digits ≡ digits → v.negative ≡ s.negative
-      → IsPowerBetween zeros s.fraction v.power → IsNormal v × IsBounded p × SameNumber (number_of p) (exact v)
-  short_number v digits zeros normal e last limit same sign between =
-      let m : Mantissa = record { digits = digits; zeros = zeros; is_long = false } in
-      let n : digits_value (mantissa p) ≡ digits * 10 ^ zeros = sym cut.value ∙ e in
-      let up : power_up p.exponent + zeros ≡ zeros = omega (arith, up_none) in
-      let down : power_down p.exponent + length (fraction_digits p.fraction) ≡ s.fraction = omega (arith, down_none, cut.fraction) in
-      let near : IsPowerBetween (power_up p.exponent + zeros) (power_down p.exponent + length (fraction_digits p.fraction)) v.power = rw (up, down) between in
-      (normal, near_bounded p m v.power (n, last) limit few_digits no_exponent near, near_same p m v n same (sign ∙ cut.negative) near)
+pub short_number : (p : Parts) (s : Short) → IsShortCut p s → (v : Value) (digits zeros : ℕ) → IsNormal v → s.value ≡ digits * 10 ^ zeros → digits % 10 ≢ 0 →
+    digits < 10 ^ 38 → v.digits ≡ digits → v.negative ≡ s.negative → IsPowerBetween zeros s.fraction v.power →
+    IsNormal v × IsBounded p × SameNumber (number_of p) (exact v)
+short_number p s cut v digits zeros normal e last limit same sign between =
+    let m : Mantissa = record { digits = digits; zeros = zeros; is_long = false } in
+    let n : digits_value (mantissa p) ≡ digits * 10 ^ zeros = sym cut.value ∙ e in
+    let up : power_up p.exponent + zeros ≡ zeros = omega (arith, ap power_up cut.plain) in
+    let down : power_down p.exponent + length (fraction_digits p.fraction) ≡ s.fraction = omega (arith, ap power_down cut.plain, cut.fraction) in
+    let near : IsPowerBetween (power_up p.exponent + zeros) (power_down p.exponent + length (fraction_digits p.fraction)) v.power = rw (up, down) between in
+    let few : length (mantissa p) ≤ 100 = omega (arith, cut.count) in
+    (normal, near_bounded p m v.power (n, last) limit few (rw cut.plain (omega arith)) near, near_same p m v n same (sign ∙ cut.negative) near)

@@ -1,7 +1,7 @@
 -- A number's bytes are cut into its parts, and into no others.
-use Rattle.std.proofs.Common.{◌≡◌, ℕ, ◌<◌, ◌==◌, ◌||◌, nat_le, Bool, true, false, cond, List, [], ◌∷◌, ◌++◌, length, take, drop, Option, Some, None, refl, ap, sym, subst, ◌∙◌, arith, inl, inr, append_assoc}
+use Rattle.std.proofs.Common.{◌≡◌, ℕ, ◌<◌, ◌==◌, ◌||◌, Bool, true, false, cond, List, [], ◌∷◌, ◌++◌, length, take, drop, Option, Some, None, refl, ap, sym, subst, ◌∙◌, arith, inl, inr, append_assoc}
 use Rattle.std.specs.List.{prefix_len, list_all}
-use Rattle.std.proofs.lemmas.Bool.{eqb-true, ne_eqb, leb-true, and_parts, and_from, or_cases, or_parts, or_from}
+use Rattle.std.proofs.lemmas.Bool.{eqb-true, and_parts, and_from, or_cases, or_parts}
 use Rattle.std.proofs.lemmas.Bool.Decides.{nat_tests}
 use Rattle.std.proofs.lemmas.List.{take-append-drop, append-nil, take_at, drop_at}
 use Rattle.std.proofs.lemmas.List.Sums.{take_while-cons}
@@ -129,10 +129,7 @@ sign_cut_off plus r h = (refl, refl)
 sign_cut_off minus r h = (refl, refl)
 
 digit_no_sign : (b : ℕ) → is_digit b ≡ true → (b == 43 || b == 45) ≡ false
-digit_no_sign b h =
-    let p = and_parts (nat_le 48 b) (nat_le b 57) h in
-    let low = leb-true 48 b p.0 in
-    or_from _ _ (ne_eqb b 43 (λ e. omega arith)) (ne_eqb b 45 (λ e. omega arith))
+digit_no_sign b h = grind (arith, nat_tests)
 
 digits_no_sign : (ds r : List ℕ) → AreDigits ds → 0 < length ds → starts_sign (ds ++ r) ≡ false
 unfolding starts_sign

@@ -1,5 +1,5 @@
 -- The test that a number is this whole one.
-use Rattle.std.proofs.Common.{◌≡◌, ℕ, ◌*◌, ◌↔◌, true, IsTrue, nat_eq, arith, subst}
+use Rattle.std.proofs.Common.{◌≡◌, ℕ, ◌*◌, ◌↔◌, IsTrue, nat_eq, arith}
 use Rattle.crs_decimal.specs.Number.{Number, SameNumber, whole_number}
 use Rattle.crs_decimal.specs.Value.{Value, exact}
 use Rattle.std.proofs.lemmas.Bool.{eq-eqb, eqb-true}

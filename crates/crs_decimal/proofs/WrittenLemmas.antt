@@ -4,8 +4,7 @@ use Rattle.std.proofs.lemmas.Bool.{cases_eq, leb-true, ltb-true, false≢true}
 use Rattle.std.proofs.lemmas.Fmt.{length-decimal-le_wide}
 use Rattle.std.proofs.lemmas.List.{append-nil, take-append-drop, length-replicate}
 use Rattle.std.proofs.Math.Nat.{mul-one}
-use Rattle.crs_decimal.specs.Bounds.{digits_value, is_minus, number_of, IsMeasured, IsBounded, Denotes}
-use Rattle.crs_decimal.specs.Number.{SameNumber}
+use Rattle.crs_decimal.specs.Bounds.{digits_value, is_minus, number_of, IsMeasured, Denotes}
 use Rattle.crs_decimal.specs.Plain.{IsTrim, IsSignNeeded, IsFractionNeeded, IsPlain, AppendsPlain, padded, with_period, scaled, plain}
 use Rattle.crs_decimal.specs.Spelling.{Sign, unsigned, minus, sign_text, Parts, AreDigits, fraction_digits, fraction_text, SpellsNumber}
 use Rattle.crs_decimal.specs.Value.{Value, zero as zero_value, IsNormal, exact, is_power, up_of, down_of}
@@ -20,20 +19,17 @@ abbrev sign_for : Bool → Sign
 sign_for negative = if negative then minus else unsigned
 
 sign_for-text : (b : Bool) → sign_text (sign_for b) ≡ (if b then 45 ∷ [] else [])
-sign_for-text true = refl
-sign_for-text false = refl
+sign_for-text b = grind arith
 
 sign_for-minus : (b : Bool) → is_minus (sign_for b) ≡ b
-sign_for-minus true = refl
-sign_for-minus false = refl
+sign_for-minus b = grind arith
 
 sign_for-needed : (p : Parts) (b : Bool) → p.sign ≡ sign_for b → (b ≡ true → (p.whole ≢ 48 ∷ []) ⊎ (p.fraction ≢ None)) → IsSignNeeded p
 sign_for-needed p true e h = inr (e, h refl)
 sign_for-needed p false e h = inl e
 
 sign_for-length : (b : Bool) → length {A = ℕ} (if b then 45 ∷ [] else []) ≤ 1
-sign_for-length true = omega arith
-sign_for-length false = omega arith
+sign_for-length b = grind arith
 
 -- the parts of a spelling that has no exponent
 abbrev signed : Bool → List ℕ → Option (List ℕ) → Parts

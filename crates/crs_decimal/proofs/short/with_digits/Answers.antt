@@ -17,13 +17,11 @@ ended c =
 
 pub overflow_mul-value : goal.overflow_mul-value
 overflow_mul-value c =
-    let room = small_room c.loop-byte.value (c.args.before.count + c.loop-byte.byte-index) c.loop-byte.invariant.small (omega arith) in
-    omega (arith, room)
+    omega (arith, small_room c.loop-byte.value (c.args.before.count + c.loop-byte.byte-index) c.loop-byte.invariant.small (omega arith))
 
 pub overflow_add-value : goal.overflow_add-value
 overflow_add-value c =
-    let room = small_room c.loop-byte.value (c.args.before.count + c.loop-byte.byte-index) c.loop-byte.invariant.small (omega arith) in
-    omega (arith, room)
+    omega (arith, small_room c.loop-byte.value (c.args.before.count + c.loop-byte.byte-index) c.loop-byte.invariant.small (omega arith))
 
 pub loop-byte-preserved : goal.loop-byte-preserved
 loop-byte-preserved c =

@@ -1,6 +1,6 @@
-use Rattle.std.proofs.Common.{◌≡◌, ◌≤◌, length, ap, ◌∙◌, arith, rules, w32, SFits}
+use Rattle.std.proofs.Common.{◌≡◌, length, ap, ◌∙◌, arith, rules, w32, SFits}
 use Rattle.std.proofs.lemmas.Int.{to_z-of_z}
-use Rattle.crs_decimal.specs.Bounds.{digits_value, exponent_digits}
+use Rattle.crs_decimal.specs.Bounds.{digits_value}
 use Rattle.crs_decimal.specs.Cut.{IsFar, IsPowerBetween}
 use Rattle.crs_decimal.specs.Spelling.{mantissa}
 use Rattle.crs_decimal.proofs.BoundLemmas.{cut_shows, long_unbounded, short_strips, short_zero, at_powers, far_unbounded, near_bounded, near_same, zero_same, zero_bounded}
@@ -44,8 +44,7 @@ returns-in-Some c = λ p cut d.
     let t = short_strips (digits_value (mantissa p)) s.mantissa (cut_shows p s cut d) c.if-self.false c.if-self-eq0.false in
     let near = at_powers (λ a b. IsPowerBetween a b c.in-Some.power) p s up.result.0 up.result.1 cut up.ensures.up up.ensures.down c.in-Some.ensures in
     let fits : SFits w32 c.in-Some.power = search rules in
-    let power : c.new.result.power ≡ c.in-Some.power = c.new.ensures.power ∙ to_z-of_z w32 c.in-Some.power fits in
-    (
+    let power : c.new.result.power ≡ c.in-Some.power = c.new.ensures.power ∙ to_z-of_z w32 c.in-Some.power fits in (
       c.new.ensures.normal,
       near_bounded p s.mantissa c.in-Some.power t.0 t.1 (omega (arith, cut.count)) (omega (arith, ap length cut.exponent_digits)) near,
       near_same p s.mantissa c.new.result t.0.0 c.new.ensures.digits (c.new.ensures.negative ∙ cut.negative) (rw power near),
