@@ -2,13 +2,9 @@
 use Rattle.std.proofs.Common.{◌≡◌, ℕ, ◌<◌, ◌==◌, ◌||◌, inl, inr, Bool, true, false, List, [], ◌∷◌, ◌++◌, length, Option, Some, None, refl, sym, subst, ◌∙◌, arith}
 use Rattle.std.specs.List.{list_all}
 use Rattle.std.proofs.lemmas.Bool.{and_parts, and_from, or_cases, eqb-true, false≢true}
-use Rattle.std.proofs.lemmas.List.Folds.{list_all-append}
 use Rattle.crs_decimal.specs.Plain.{IsSignNeeded, IsPlain, is_plain_byte}
 use Rattle.crs_decimal.specs.Spelling.{Sign, unsigned, plus, minus, sign_text, Exponent, Parts, fraction_text, exponent_text, parts_text, is_digit, AreDigits, fraction_digits, IsExponent, IsForm, HasForm, is_run_byte, is_run_start, IsRun}
-use Rattle.crs_decimal.proofs.SplitLemmas.{digits_parts}
-
-all_append : (p : ℕ → Bool) (xs ys : List ℕ) → list_all p xs ≡ true → list_all p ys ≡ true → list_all p (xs ++ ys) ≡ true
-all_append p xs ys g h = list_all-append p xs ys ∙ and_from _ _ g h
+use Rattle.crs_decimal.proofs.SplitLemmas.{all_append, digits_parts}
 
 pub digits_pass : (p : ℕ → Bool) → ((d : ℕ) → is_digit d ≡ true → p d ≡ true) → (ds : List ℕ) → AreDigits ds → list_all p ds ≡ true
 digits_pass p q [] h = refl

@@ -4,6 +4,7 @@ use Rattle.std.specs.List.{prefix_len, list_all}
 use Rattle.std.proofs.lemmas.Bool.{eqb-true, and_parts, and_from, or_cases, or_parts}
 use Rattle.std.proofs.lemmas.Bool.Decides.{nat_tests}
 use Rattle.std.proofs.lemmas.List.{take-append-drop, append-nil, take_at, drop_at}
+use Rattle.std.proofs.lemmas.List.Folds.{list_all-append}
 use Rattle.std.proofs.lemmas.List.Sums.{take_while-cons}
 use Rattle.crs_decimal.specs.Spelling.{Sign, unsigned, plus, minus, sign_text, Exponent, Parts, fraction_text, exponent_text, parts_text, is_digit, AreDigits, fraction_digits, mantissa, IsExponent, IsForm, SpellsNumber, HasForm}
 use Rattle.crs_decimal.specs.Split.{leading_digits, behind_digits, sign_of, behind_sign, fraction_of, behind_fraction, is_exponent_letter, exponent_of, behind_exponent, behind_whole, behind_mantissa, parts_of, behind_parts, HasExponentDigits, IsCutWhole}
@@ -42,26 +43,21 @@ parts_joined bs =
 
 -- ---- the digits that are cut off are digits
 
-front-cons : (b : ℕ) (bs : List ℕ) → leading_digits (b ∷ bs) ≡ cond (is_digit b) (b ∷ leading_digits bs) []
-front-cons b bs = take_while-cons is_digit b bs
-
-front_digits_at : (b : ℕ) (bs : List ℕ) (x : Bool) → is_digit b ≡ x → AreDigits (leading_digits bs) → list_all is_digit (cond x (b ∷ leading_digits bs) []) ≡ true
-front_digits_at b bs true e h = and_from _ _ e h
-front_digits_at b bs false e h = refl
-
 pub front_digits : (bs : List ℕ) → AreDigits (leading_digits bs)
 front_digits [] = refl
-front_digits (b ∷ bs) = ap (list_all is_digit) (front-cons b bs) ∙ front_digits_at b bs (is_digit b) refl (front_digits bs)
+front_digits (b ∷ bs) = next (front_digits bs)
+  where
+    next : AreDigits (leading_digits bs) → AreDigits (leading_digits (b ∷ bs))
+    next h = grind (arith, take_while-cons is_digit b bs)
+
+pub all_append : (p : ℕ → Bool) (xs ys : List ℕ) → list_all p xs ≡ true → list_all p ys ≡ true → list_all p (xs ++ ys) ≡ true
+all_append p xs ys g h = list_all-append p xs ys ∙ and_from _ _ g h
 
 pub digits-append : (xs ys : List ℕ) → AreDigits xs → AreDigits ys → AreDigits (xs ++ ys)
-digits-append [] ys p q = q
-digits-append (x ∷ xs) ys p q = let h = and_parts (is_digit x) (list_all is_digit xs) p in and_from _ _ h.0 (digits-append xs ys h.1 q)
+digits-append = all_append is_digit
 
 pub digits_parts : (xs ys : List ℕ) → AreDigits (xs ++ ys) → AreDigits xs × AreDigits ys
-digits_parts [] ys p = (refl, p)
-digits_parts (x ∷ xs) ys p =
-    let h = and_parts (is_digit x) (list_all is_digit (xs ++ ys)) p in
-    let r = digits_parts xs ys h.1 in (and_from _ _ h.0 r.0, r.1)
+digits_parts xs ys p = and_parts (list_all is_digit xs) (list_all is_digit ys) (sym (list_all-append is_digit xs ys) ∙ p)
 
 fraction_digits_at : (bs : List ℕ) (x : Bool) → AreDigits (fraction_digits (cond x (Some (leading_digits bs)) None))
 fraction_digits_at bs true = front_digits bs
@@ -99,11 +95,6 @@ starts_digit (b ∷ bs) = is_digit b
 starts_sign : List ℕ → Bool
 starts_sign [] = false
 starts_sign (b ∷ bs) = b == 43 || b == 45
-
-front_stops : (bs : List ℕ) → starts_digit bs ≡ false → (leading_digits bs ≡ []) × (behind_digits bs ≡ bs)
-unfolding starts_digit
-front_stops [] h = (refl, refl)
-front_stops (b ∷ bs) h = rw h (refl, refl)
 
 front_all : (ds r : List ℕ) → AreDigits ds → starts_digit r ≡ false → prefix_len is_digit (ds ++ r) ≡ length ds
 unfolding starts_digit

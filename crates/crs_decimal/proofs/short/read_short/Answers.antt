@@ -14,17 +14,14 @@ returns-else-not-is_empty c =
     let all = c.with_digits-in-46.ensures in
     let left = c.with_digits.result.1.now in
     let rest = drop 1 left in
-    let step : ℕ → ℕ → ℕ = λ n d. n * 10 + (d - 48) in
     let period : left ≡ 46 ∷ rest = search rules in
     let empty : c.with_digits-in-46.result.1.now ≡ [] = nil_from_length _ (search rules) in
     let room : length c.split_sign-negative.result.1.now ≤ 19 = search rules in
     let fraction = c.rest_of-fraction.ensures in
-    let begins : leading_digits c.split_sign-negative.result.1.now ≡ leading_digits (behind_sign bytes) = ap leading_digits sign.rest in
-    let lengths : length (leading_digits c.split_sign-negative.result.1.now) ≡ length (leading_digits (behind_sign bytes)) = ap length begins in
-    let more : length (leading_digits c.rest_of-fraction.result.now) ≡ length (leading_digits rest) = ap (λ z. length (leading_digits z)) fraction in
+    let lengths : length (leading_digits c.split_sign-negative.result.1.now) ≡ length (leading_digits (behind_sign bytes)) = cc in
+    let more : length (leading_digits c.rest_of-fraction.result.now) ≡ length (leading_digits rest) = cc in
     let value : c.with_digits-in-46.result.0.value ≡ digits_value (leading_digits (behind_sign bytes) ++ leading_digits rest) =
-    all.value ∙ ap (λ z. fold step c.with_digits.result.0.value (leading_digits z)) fraction
-    ∙ ap (λ z. fold step z (leading_digits rest)) (whole.value ∙ ap digits_value begins) ∙ value_joined (leading_digits (behind_sign bytes)) (leading_digits rest) in
+    cc (value_joined (leading_digits (behind_sign bytes)) (leading_digits rest)) in
     let few : c.with_digits-in-46.result.0.count ≤ 19 = omega (arith, all.len, whole.len, room, ap length fraction, ap length period) in
     let small : c.with_digits-in-46.result.0.value < 10 ^ 19 = small_below _ _ all.small few in
     IfSome_then c.some_digits-in-46.result c.some_digits-in-46.ensures (λ s h.
