@@ -1,6 +1,7 @@
 -- Being the same number is an equivalence, and each number has one normal form.
 use Rattle.std.proofs.Common.{◌≡◌, ◌≢◌, ℕ, suc, ◌+◌, ◌*◌, ◌%◌, ◌^◌, ◌<◌, ◌==◌, ◌&&◌, ◌||◌, ◌⊎◌, ◌↔◌, inl, inr, not, nat_lt, true, false, IsTrue, List, refl, sym, ap, subst, ◌∙◌, arith, ℤ, pos, negsuc, ◌<ℤ◌}
 use Rattle.std.proofs.lemmas.Bool.{and_parts, or_cases, eqb-true, eqb-false, ltb-true, not-true, false≢true}
+use Rattle.std.proofs.lemmas.Bool.Decides.{nat_tests}
 use Rattle.std.proofs.lemmas.Int.{ints}
 use Rattle.std.proofs.lemmas.Nat.{pow-add}
 use Rattle.std.proofs.Math.Nat.{mul-one, le_of_mul-le-mul_right, le_antisymm}
@@ -15,11 +16,7 @@ pub reflexive : (a : Number) → SameNumber a a
 reflexive a = (refl, inl refl)
 
 pub symmetric : (a b : Number) → SameNumber a b → SameNumber b a
-symmetric a b h = (sym h.0, turned h.1)
-  where
-    turned : (a.negative ≡ b.negative) ⊎ ((a.digits ≡ 0) × (b.digits ≡ 0)) → (b.negative ≡ a.negative) ⊎ ((b.digits ≡ 0) × (a.digits ≡ 0))
-    turned (inl e) = inl (sym e)
-    turned (inr e) = inr (e.1, e.0)
+symmetric a b h = (sym h.0, grind arith)
 
 raised : (x y i j k m n : ℕ) → x * 10 ^ i ≡ y * 10 ^ j → m ≡ i + k → n ≡ j + k → x * 10 ^ m ≡ y * 10 ^ n
 raised x y i j k m n h e f = rw (e, f, pow-add 10 i k, pow-add 10 j k) (omega (arith, ap (λ p. p * 10 ^ k) h))
@@ -47,12 +44,7 @@ zero_spreads : (a b : Number) → SameSize a b → a.digits ≡ 0 → b.digits �
 zero_spreads a b g e = zero_factor b.digits (b.up + a.down) (sym g ∙ zero_scaled a.digits (a.up + b.down) e)
 
 pub transitive : (a b c : Number) → SameNumber a b → SameNumber b c → SameNumber a c
-transitive a b c g h = (same_size_trans a b c g.0 h.0, signs g.1 h.1)
-  where
-    signs : (a.negative ≡ b.negative) ⊎ ((a.digits ≡ 0) × (b.digits ≡ 0)) → (b.negative ≡ c.negative) ⊎ ((b.digits ≡ 0) × (c.digits ≡ 0)) → (a.negative ≡ c.negative) ⊎ ((a.digits ≡ 0) × (c.digits ≡ 0))
-    signs (inl p) (inl q) = inl (p ∙ q)
-    signs (inl p) (inr q) = inr (zero_spreads b a (sym g.0) q.0, q.1)
-    signs (inr p) q = inr (p.0, zero_spreads b c h.0 p.1)
+transitive a b c g h = (same_size_trans a b c g.0 h.0, grind (arith, zero_spreads b a (sym g.0), zero_spreads b c h.0))
 
 -- ---- normal forms
 
@@ -66,21 +58,8 @@ zero_power (negsuc n) h = absurd (false≢true h)
 -- a normal value is zero, or its last digit isn't
 pub normal_parts : (v : Value) → IsNormal v → (v.digits < 10 ^ 38) × IsTrue (is_power v.power) × ((v.digits % 10 ≢ 0) ⊎ (v ≡ zero))
 normal_parts v h =
-    let last = not (v.digits % 10 == 0) in
-    let none = (v.digits == 0 && not v.negative) && is_zero_power v.power in
-    let p = and_parts (nat_lt v.digits (10 ^ 38) && is_power v.power) (last || none) h in
-    let q = and_parts (nat_lt v.digits (10 ^ 38)) (is_power v.power) p.0 in
-    (ltb-true v.digits (10 ^ 38) q.0, q.1, either (or_cases last none p.1))
-  where
-    is_none : ((v.digits == 0 && not v.negative) && is_zero_power v.power) ≡ true → v ≡ zero
-    is_none e =
-        let r = and_parts (v.digits == 0 && not v.negative) (is_zero_power v.power) e in
-        let t = and_parts (v.digits == 0) (not v.negative) r.0 in
-        same_value v zero (not-true v.negative t.1) (eqb-true v.digits 0 t.0) (zero_power v.power r.1)
-
-    either : (not (v.digits % 10 == 0) ≡ true) ⊎ (((v.digits == 0 && not v.negative) && is_zero_power v.power) ≡ true) → (v.digits % 10 ≢ 0) ⊎ (v ≡ zero)
-    either (inl e) = inl (eqb-false (v.digits % 10) 0 (not-true (v.digits % 10 == 0) e))
-    either (inr e) = inr (is_none e)
+    let none : v.digits ≡ 0 → v.negative ≡ false → is_zero_power v.power ≡ true → v ≡ zero = λ d n p. same_value v zero n d (zero_power v.power p) in
+    (grind (arith, nat_tests), grind (arith, nat_tests), grind (arith, nat_tests, none))
 
 same_power : (x y : ℤ) → up_of x + down_of y ≡ up_of y + down_of x → x ≡ y
 same_power (pos m) (pos n) e = ap (λ k. pos k) (omega arith)
