@@ -1,6 +1,6 @@
 -- Which parts are in bounds, and which number they mean, by what the reader keeps of them.
-use Rattle.std.proofs.Common.{◌≡◌, ◌≢◌, ℕ, ◌+◌, ◌*◌, ◌%◌, ◌^◌, ◌<◌, ◌≤◌, ◌⊎◌, inl, inr, Bool, true, false, if◌then◌else◌, length, refl, sym, ap, subst, ◌∙◌, arith, ℤ, pos, negsuc}
-use Rattle.std.proofs.lemmas.Bool.{cases_eq, leb-true, ltb-true}
+use Rattle.std.proofs.Common.{◌≡◌, ◌≢◌, ℕ, ◌+◌, ◌*◌, ◌^◌, ◌<◌, ◌≤◌, ◌⊎◌, inl, inr, Bool, true, false, if◌then◌else◌, length, refl, sym, ap, subst, ◌∙◌, arith, ℤ, pos, negsuc}
+use Rattle.std.proofs.lemmas.Bool.{leb-true, ltb-true}
 use Rattle.std.proofs.lemmas.Nat.{pow-add}
 use Rattle.std.proofs.Math.Nat.{mul_assoc}
 use Rattle.crs_decimal.specs.Bounds.{digits_value, is_minus, Strips, IsMeasured, IsBounded, number_of, power_up, power_down, exponent_digits}
@@ -10,7 +10,7 @@ use Rattle.crs_decimal.specs.Spelling.{Parts, AreDigits, mantissa, fraction_digi
 use Rattle.crs_decimal.specs.Value.{Value, exact, up_of, down_of, zero}
 use Rattle.crs_decimal.specs.declared.mantissa.Mantissa.{Mantissa}
 use Rattle.crs_decimal.specs.declared.cutting.Spelled.{Spelled}
-use Rattle.crs_decimal.proofs.MantissaLemmas.{IsShown, Shows, IsStripped, IsLong, shown, long_least, zero_scaled}
+use Rattle.crs_decimal.proofs.MantissaLemmas.{IsShown, Shows, IsLong, shown, long_least, zero_scaled}
 use Rattle.crs_decimal.proofs.PowerLemmas.{strip_one, scaled_grows}
 
 -- what the reader's mantissa shows
@@ -31,32 +31,24 @@ long_unbounded p m s e h = refuse (shows_at true (digits_value (mantissa p)) m e
 -- a short mantissa that isn't zero is stripped, and at most 38 digits
 pub short_strips : (n : ℕ) (m : Mantissa) → IsShown n m → m.is_long ≡ false → m.digits ≢ 0 → Strips n m.digits m.zeros × (m.digits < 10 ^ 38)
 short_strips n m s e ne =
-    let t = shows_at false n m e s in ((t.0, last t.2), t.1)
-  where
-    last : IsStripped m.digits m.zeros → m.digits % 10 ≢ 0
-    last (inl h) = h
-    last (inr h) = absurd (ne h.0)
+    let t = shows_at false n m e s in ((t.0, grind (arith, t.2)), t.1)
 
 pub short_zero : (n : ℕ) (m : Mantissa) → IsShown n m → m.is_long ≡ false → m.digits ≡ 0 → n ≡ 0
 short_zero n m s e z = (shows_at false n m e s).0 ∙ zero_scaled m.digits m.zeros z
 
 pub strips_positive : (n m k : ℕ) → Strips n m k → 0 < n
-strips_positive n m k t = elim (cases_eq m 0) [
-  | inl e ↦ absurd (t.1 (ap (λ x. x % 10) e))
-  | inr ne ↦ let least : m * 1 ≤ m * 10 ^ k = scaled_grows m 0 k (omega arith) in omega (arith, t.0)
-]
+strips_positive n m k t = let least : m * 1 ≤ m * 10 ^ k = scaled_grows m 0 k (omega arith) in omega (arith, t.0, t.1)
 
 power_near : (a b : ℕ) (power : ℤ) → IsPowerBetween a b power → (b ≤ a + 40) × (a ≤ b + 40)
 power_near a b (pos n) h = let l = leb-true n 40 h.0 in (omega (arith, h.1), omega (arith, h.1))
 power_near a b (negsuc n) h = let l = ltb-true n 40 h.0 in (omega (arith, h.1), omega (arith, h.1))
 
 pub far_unbounded : (p : Parts) (m : Mantissa) → Strips (digits_value (mantissa p)) m.digits m.zeros → IsFar (power_up p.exponent + m.zeros) (power_down p.exponent + length (fraction_digits p.fraction)) → ¬ (IsBounded p)
-far_unbounded p m t far h = refuse far h.measured
-  where
-    refuse : IsFar (power_up p.exponent + m.zeros) (power_down p.exponent + length (fraction_digits p.fraction)) → ((number_of p).digits ≡ 0) ⊎ IsMeasured (number_of p) → ⊥
-    refuse f (inl z) = let some = strips_positive (digits_value (mantissa p)) m.digits m.zeros t in absurd (omega arith)
-    refuse (inl f) (inr (y, k, u, v, w, x)) = let same = strip_one m.digits m.zeros y k (sym t.0 ∙ u.0) t.1 u.1 in absurd (omega (arith, same.1))
-    refuse (inr f) (inr (y, k, u, v, w, x)) = let same = strip_one m.digits m.zeros y k (sym t.0 ∙ u.0) t.1 u.1 in absurd (omega (arith, same.1))
+far_unbounded p m t far h =
+    elim h.measured [
+      | inl z ↦ absurd (omega (arith, strips_positive (digits_value (mantissa p)) m.digits m.zeros t))
+      | inr (y, k, u, v, w, x) ↦ let same = strip_one m.digits m.zeros y k (sym t.0 ∙ u.0) t.1 u.1 in absurd (omega (arith, same.1, far))
+    ]
 
 pub near_bounded : (p : Parts) (m : Mantissa) (power : ℤ) → Strips (digits_value (mantissa p)) m.digits m.zeros → m.digits < 10 ^ 38 → length (mantissa p) ≤ 100 → length (exponent_digits p.exponent) ≤ 3 → IsPowerBetween (power_up p.exponent + m.zeros) (power_down p.exponent + length (fraction_digits p.fraction)) power → IsBounded p
 near_bounded p m power t l a b near =

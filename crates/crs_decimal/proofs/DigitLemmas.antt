@@ -1,7 +1,7 @@
 -- The number that digits spell.
-use Rattle.std.proofs.Common.{◌≡◌, ℕ, zero, suc, ◌+◌, ◌-◌, ◌*◌, ◌%◌, ◌^◌, ◌<◌, ◌≤◌, ◌⊎◌, inl, inr, Bool, true, false, nat_le, List, [], ◌∷◌, ◌++◌, length, replicate, fold, None, refl, sym, ap, subst, ◌∙◌, arith, zero-add}
+use Rattle.std.proofs.Common.{◌≡◌, ℕ, zero, suc, ◌+◌, ◌-◌, ◌*◌, ◌^◌, ◌<◌, ◌≤◌, ◌⊎◌, inl, inr, Bool, true, false, nat_le, List, [], ◌∷◌, ◌++◌, length, replicate, fold, None, refl, sym, ap, subst, ◌∙◌, arith, zero-add}
 use Rattle.std.specs.List.{list_all}
-use Rattle.std.proofs.lemmas.Bool.{and_parts, leb-true, cases_eq, cases_lt}
+use Rattle.std.proofs.lemmas.Bool.{and_parts, leb-true}
 use Rattle.std.proofs.lemmas.List.{append-nil}
 use Rattle.std.proofs.lemmas.List.Sums.{fold-append}
 use Rattle.std.proofs.lemmas.Nat.{same_from_place}
@@ -74,11 +74,7 @@ small_measured n up down (inl e) = inl e
 small_measured n up down (inr (m, k, t, u, v)) = inr (m, k, t, u, omega arith, omega arith)
 
 power_small : (d z n : ℕ) → n ≡ d * 10 ^ z → 0 < d → n < 10 ^ 18 → z ≤ 40
-power_small d z n e some small = elim (cases_lt 40 z) [
-  | inl l ↦ let p = power_grows 40 z (omega arith) in
-      let q : 1 * 10 ^ z ≤ d * 10 ^ z = mul-le-mul_right (10 ^ z) some in absurd (omega arith)
-  | inr l ↦ l
-]
+power_small d z n e some small = grind (arith, power_grows 40 z, mul-le-mul_right (10 ^ z) some)
 
 few_measured : (b : Bool) (n d z : ℕ) → Shows b n d z → n < 10 ^ 18 → IsSmall n
 few_measured true n d z s small = let l = long_least n s.0 in absurd (omega arith)
@@ -86,8 +82,7 @@ few_measured false n d z s small = by s.2
   where
     by : IsStripped d z → IsSmall n
     by (inl e) =
-        let some : 0 < d = elim (cases_eq d 0) [ inl f ↦ absurd (e (ap (λ x. x % 10) f)) | inr f ↦ omega arith ] in
-        inr (d, z, (s.0, e), s.1, power_small d z n s.0 some small)
+        inr (d, z, (s.0, e), s.1, power_small d z n s.0 (omega arith) small)
     by (inr e) = inl (s.0 ∙ zero_scaled d z e.0)
 
 pub digits_in_bounds : (ds : List ℕ) → AreDigits ds → 0 < length ds → length ds ≤ 18 → IsInBounds ds

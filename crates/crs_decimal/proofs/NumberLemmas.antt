@@ -1,6 +1,6 @@
 -- Being the same number is an equivalence, and each number has one normal form.
-use Rattle.std.proofs.Common.{◌≡◌, ◌≢◌, ℕ, suc, ◌+◌, ◌*◌, ◌%◌, ◌^◌, ◌<◌, ◌==◌, ◌&&◌, ◌||◌, ◌⊎◌, ◌↔◌, inl, inr, not, nat_lt, true, false, IsTrue, List, refl, sym, ap, subst, ◌∙◌, arith, ℤ, pos, negsuc, ◌<ℤ◌}
-use Rattle.std.proofs.lemmas.Bool.{and_parts, or_cases, eqb-true, eqb-false, ltb-true, not-true, false≢true}
+use Rattle.std.proofs.Common.{◌≡◌, ◌≢◌, ℕ, suc, ◌+◌, ◌*◌, ◌%◌, ◌^◌, ◌<◌, ◌⊎◌, ◌↔◌, inl, inr, true, false, IsTrue, List, refl, sym, ap, subst, ◌∙◌, arith, ℤ, pos, negsuc, ◌<ℤ◌}
+use Rattle.std.proofs.lemmas.Bool.{eqb-true, false≢true}
 use Rattle.std.proofs.lemmas.Bool.Decides.{nat_tests}
 use Rattle.std.proofs.lemmas.Int.{ints}
 use Rattle.std.proofs.lemmas.Nat.{pow-add}
@@ -68,22 +68,11 @@ same_power (negsuc m) (pos n) e = absurd (omega arith)
 same_power (negsuc m) (negsuc n) e = ap (λ k. negsuc k) (omega arith)
 
 pub normal_one : (a b : Value) → IsNormal a → IsNormal b → SameNumber (exact a) (exact b) → a ≡ b
-normal_one a b g h same = by (normal_parts a g).2 (normal_parts b h).2
-  where
-    unlike : (x y : Value) → SameNumber (exact x) (exact y) → x ≡ zero → y.digits % 10 ≢ 0 → ⊥
-    unlike x y s e f = f (ap (λ n. n % 10) (zero_spreads (exact x) (exact y) s.0 (ap (λ v. v.digits) e)))
-
-    signs : a.digits % 10 ≢ 0 → (a.negative ≡ b.negative) ⊎ ((a.digits ≡ 0) × (b.digits ≡ 0)) → a.negative ≡ b.negative
-    signs f (inl e) = e
-    signs f (inr e) = absurd (f (ap (λ n. n % 10) e.0))
-
-    by : (a.digits % 10 ≢ 0) ⊎ (a ≡ zero) → (b.digits % 10 ≢ 0) ⊎ (b ≡ zero) → a ≡ b
-    by (inl p) (inl q) =
-        let s = strip_one a.digits (up_of a.power + down_of b.power) b.digits (up_of b.power + down_of a.power) same.0 p q in
-        same_value a b (signs p same.1) s.0 (same_power a.power b.power s.1)
-    by (inl p) (inr q) = absurd (unlike b a (symmetric (exact a) (exact b) same) q p)
-    by (inr p) (inl q) = absurd (unlike a b same p q)
-    by (inr p) (inr q) = p ∙ sym q
+normal_one a b g h same =
+    let alike : a.digits % 10 ≢ 0 → b.digits % 10 ≢ 0 → a ≡ b = λ p q.
+    let s = strip_one a.digits (up_of a.power + down_of b.power) b.digits (up_of b.power + down_of a.power) same.0 p q in
+    same_value a b (grind arith) s.0 (same_power a.power b.power s.1) in
+    grind (arith, alike, zero_spreads (exact a) (exact b) same.0, zero_spreads (exact b) (exact a) (sym same.0), (normal_parts a g).2, (normal_parts b h).2)
 
 pub normal_iff : (a b : Value) → IsNormal a → IsNormal b → SameNumber (exact a) (exact b) ↔ (a ≡ b)
 normal_iff a b g h = (normal_one a b g h, λ e. subst (λ (x : Value). SameNumber (exact a) (exact x)) e (reflexive (exact a)))
@@ -96,16 +85,8 @@ denoted_one bs a b g h d e =
 
 -- ---- whole numbers
 
-zero_only : (v : Value) → v.digits % 10 ≢ 0 → v.digits ≡ 0 → ⊥
-zero_only v h e = h (ap (λ x. x % 10) e)
-
 pub negative_not_whole : (v : Value) (n : ℕ) → IsNormal v → v.negative ≡ true → SameNumber (exact v) (whole_number n) → ⊥
-negative_not_whole v n h e same = by (normal_parts v h).2 same.1
-  where
-    by : (v.digits % 10 ≢ 0) ⊎ (v ≡ zero) → (v.negative ≡ false) ⊎ ((v.digits ≡ 0) × (n ≡ 0)) → ⊥
-    by p (inl q) = false≢true (sym q ∙ e)
-    by (inl p) (inr q) = zero_only v p q.0
-    by (inr p) (inr q) = false≢true (sym (ap (λ x. x.negative) p) ∙ e)
+negative_not_whole v n h e same = grind (arith, (normal_parts v h).2)
 
 pub fraction_not_whole : (v : Value) (n k : ℕ) → IsNormal v → v.power ≡ negsuc k → SameNumber (exact v) (whole_number n) → ⊥
 fraction_not_whole v n k h e same = by (normal_parts v h).2

@@ -66,12 +66,7 @@ fraction_last w None g t l = absurd (omega arith)
 fraction_last w (Some ds) g t l = value_last w ds g t
 
 same_fraction : (f g : Option (List ℕ)) → IsFractionNeeded f → IsFractionNeeded g → fraction_digits f ≡ fraction_digits g → f ≡ g
-same_fraction None None p q e = refl
-same_fraction None (Some []) p q e = absurd q
-same_fraction None (Some (d ∷ ds)) p q e = absurd (omega (arith, ap length e))
-same_fraction (Some []) g p q e = absurd p
-same_fraction (Some (d ∷ ds)) None p q e = absurd (omega (arith, ap length e))
-same_fraction (Some (d ∷ ds)) (Some xs) p q e = ap (λ x. Some x) e
+same_fraction f g p q e = grind arith
 
 same_length : (w x : List ℕ) (f g : Option (List ℕ)) → AreDigits (fraction_digits f) → AreDigits (fraction_digits g) → IsFractionNeeded f → IsFractionNeeded g → digits_value (w ++ fraction_digits f) * 10 ^ length (fraction_digits g) ≡ digits_value (x ++ fraction_digits g) * 10 ^ length (fraction_digits f) → length (fraction_digits f) ≡ length (fraction_digits g)
 same_length w x f g df dg nf ng e =

@@ -1,6 +1,5 @@
 -- Short numbers: their parts, and the number that they mean.
-use Rattle.std.proofs.Common.{◌≡◌, ◌≢◌, ℕ, ◌+◌, ◌-◌, ◌*◌, ◌/◌, ◌%◌, ◌^◌, ◌<◌, ◌≤◌, false, List, [], ◌∷◌, ◌++◌, length, None, Some, fold, sym, ap, subst, ◌∙◌, arith, inl, inr}
-use Rattle.std.proofs.lemmas.Bool.{cases_eq, cases_lt}
+use Rattle.std.proofs.Common.{◌≡◌, ◌≢◌, ℕ, ◌+◌, ◌-◌, ◌*◌, ◌/◌, ◌%◌, ◌^◌, ◌<◌, ◌≤◌, false, List, [], ◌∷◌, ◌++◌, length, None, Some, fold, sym, ap, subst, ◌∙◌, arith}
 use Rattle.std.proofs.lemmas.List.{length-append}
 use Rattle.std.proofs.lemmas.List.Sums.{fold-append}
 use Rattle.crs_decimal.specs.declared.short.Short.{Short}
@@ -66,14 +65,7 @@ zero_off digits zeros e =
     rw power_more (omega (arith, ap (λ x. x * 10 ^ zeros) whole))
 
 pub zeros_few : (value digits zeros : ℕ) → value < 10 ^ 19 → value ≡ digits * 10 ^ zeros → digits % 10 ≢ 0 → zeros ≤ 19
-zeros_few value digits zeros small e last =
-    elim (cases_eq digits 0) [
-      | inl z ↦ absurd (last (ap (λ x. x % 10) z))
-      | inr some ↦ elim (cases_lt 19 zeros) [
-        | inl many ↦ let grows : digits * 10 ^ 19 ≤ digits * 10 ^ zeros = scaled_grows digits 19 zeros (omega arith) in absurd (omega (arith, grows, small, e))
-        | inr few ↦ few
-      ]
-    ]
+zeros_few value digits zeros small e last = grind (arith, scaled_grows digits 19 zeros)
 
 pub short_number : (p : Parts) (s : Short) → IsShortCut p s → (v : Value) (digits zeros : ℕ) → IsNormal v → s.value ≡ digits * 10 ^ zeros → digits % 10 ≢ 0 →
     digits < 10 ^ 38 → v.digits ≡ digits → v.negative ≡ s.negative → IsPowerBetween zeros s.fraction v.power →

@@ -1,7 +1,7 @@
 -- A number's bytes are cut into its parts, and into no others.
-use Rattle.std.proofs.Common.{◌≡◌, ℕ, ◌<◌, ◌==◌, ◌||◌, Bool, true, false, cond, List, [], ◌∷◌, ◌++◌, length, take, drop, Option, Some, None, refl, ap, sym, subst, ◌∙◌, arith, inl, inr, append_assoc}
+use Rattle.std.proofs.Common.{◌≡◌, ℕ, ◌<◌, ◌==◌, ◌||◌, Bool, true, false, cond, List, [], ◌∷◌, ◌++◌, length, take, drop, Option, Some, None, refl, ap, sym, subst, ◌∙◌, arith, append_assoc}
 use Rattle.std.specs.List.{prefix_len, list_all}
-use Rattle.std.proofs.lemmas.Bool.{eqb-true, and_parts, and_from, or_cases, or_parts}
+use Rattle.std.proofs.lemmas.Bool.{eqb-true, and_parts, and_from}
 use Rattle.std.proofs.lemmas.Bool.Decides.{nat_tests}
 use Rattle.std.proofs.lemmas.List.{take-append-drop, append-nil, take_at, drop_at}
 use Rattle.std.proofs.lemmas.List.Folds.{list_all-append}
@@ -12,11 +12,7 @@ use Rattle.crs_decimal.specs.Split.{leading_digits, behind_digits, sign_of, behi
 -- ---- bytes are the text of their parts, and what is left
 
 sign_joined : (bs : List ℕ) → sign_text (sign_of bs) ++ behind_sign bs ≡ bs
-sign_joined [] = refl
-sign_joined (b ∷ bs) = cut
-  where
-    cut : sign_text (sign_of (b ∷ bs)) ++ behind_sign (b ∷ bs) ≡ b ∷ bs
-    cut = grind (arith, nat_tests)
+sign_joined bs = grind (arith, nat_tests)
 
 front_joined : (bs : List ℕ) → leading_digits bs ++ behind_digits bs ≡ bs
 front_joined bs = take-append-drop (prefix_len is_digit bs) bs
@@ -59,21 +55,11 @@ digits-append = all_append is_digit
 pub digits_parts : (xs ys : List ℕ) → AreDigits (xs ++ ys) → AreDigits xs × AreDigits ys
 digits_parts xs ys p = and_parts (list_all is_digit xs) (list_all is_digit ys) (sym (list_all-append is_digit xs ys) ∙ p)
 
-fraction_digits_at : (bs : List ℕ) (x : Bool) → AreDigits (fraction_digits (cond x (Some (leading_digits bs)) None))
-fraction_digits_at bs true = front_digits bs
-fraction_digits_at bs false = refl
-
 fraction_are_digits : (bs : List ℕ) → AreDigits (fraction_digits (fraction_of bs))
-fraction_are_digits [] = refl
-fraction_are_digits (b ∷ bs) = fraction_digits_at bs (b == 46)
-
-exponent_form_at : (b : ℕ) (bs : List ℕ) (x : Bool) → is_exponent_letter b ≡ x → HasExponentDigits (cond x (Some (record { letter = b; sign = sign_of bs; digits = leading_digits (behind_sign bs) })) None) → IsExponent (cond x (Some (record { letter = b; sign = sign_of bs; digits = leading_digits (behind_sign bs) })) None)
-exponent_form_at b bs true e h = (e, front_digits (behind_sign bs), h)
-exponent_form_at b bs false e h = tt
+fraction_are_digits bs = grind (arith, front_digits)
 
 exponent_form : (bs : List ℕ) → HasExponentDigits (exponent_of bs) → IsExponent (exponent_of bs)
-exponent_form [] h = tt
-exponent_form (b ∷ bs) h = exponent_form_at b bs (is_exponent_letter b) refl h
+exponent_form bs h = grind (arith, front_digits)
 
 pub parts_form : (bs : List ℕ) → IsCutWhole bs → IsForm (parts_of bs)
 parts_form bs h = record {
@@ -111,8 +97,7 @@ front_cut ds r p q =
 
 sign_stops : (r : List ℕ) → starts_sign r ≡ false → (sign_of r ≡ unsigned) × (behind_sign r ≡ r)
 unfolding starts_sign
-sign_stops [] h = (refl, refl)
-sign_stops (b ∷ bs) h = let p = or_parts (b == 43) (b == 45) h in rw (p.0, p.1) (refl, refl)
+sign_stops r h = grind (arith, nat_tests)
 
 sign_cut_off : (s : Sign) (r : List ℕ) → starts_sign r ≡ false → (sign_of (sign_text s ++ r) ≡ s) × (behind_sign (sign_text s ++ r) ≡ r)
 sign_cut_off unsigned r h = sign_stops r h
@@ -130,11 +115,7 @@ digits_no_sign (d ∷ ds) r p h = digit_no_sign d (and_parts (is_digit d) (list_
 -- an exponent starts with no digit and no period
 exponent_start : (e : Option Exponent) → IsExponent e → (starts_digit (exponent_text e) ≡ false) × (fraction_of (exponent_text e) ≡ None) × (behind_fraction (exponent_text e) ≡ exponent_text e)
 unfolding starts_digit
-exponent_start None h = (refl, refl, refl)
-exponent_start (Some e) h = elim (or_cases (e.letter == 69) (e.letter == 101) h.0) [
-  | inl p ↦ rw (eqb-true e.letter 69 p) (refl, refl, refl)
-  | inr p ↦ rw (eqb-true e.letter 101 p) (refl, refl, refl)
-]
+exponent_start e h = grind (arith, nat_tests)
 
 exponent_cut_off : (e : Option Exponent) → IsExponent e → (exponent_of (exponent_text e) ≡ e) × (behind_exponent (exponent_text e) ≡ [])
 exponent_cut_off None h = (refl, refl)

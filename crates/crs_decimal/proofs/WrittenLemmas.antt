@@ -1,6 +1,6 @@
 -- What is written is the plain spelling of its value.
 use Rattle.std.proofs.Common.{◌≡◌, ◌≢◌, ℕ, suc, ◌+◌, ◌-◌, ◌*◌, ◌%◌, ◌^◌, ◌<◌, ◌≤◌, ◌⊎◌, inl, inr, Bool, true, false, if◌then◌else◌, List, [], ◌∷◌, ◌++◌, length, take, drop, replicate, decimal, Option, Some, None, refl, sym, ap, subst, ◌∙◌, arith, ℤ, pos, negsuc, append_assoc, length-append, add-zero}
-use Rattle.std.proofs.lemmas.Bool.{cases_eq, leb-true, ltb-true, false≢true}
+use Rattle.std.proofs.lemmas.Bool.{leb-true, ltb-true, false≢true}
 use Rattle.std.proofs.lemmas.Fmt.{length-decimal-le_wide}
 use Rattle.std.proofs.lemmas.List.{append-nil, take-append-drop, length-replicate}
 use Rattle.std.proofs.Math.Nat.{mul-one}
@@ -68,7 +68,7 @@ written_by v w f n digits trim ends needed value places measured few short =
     }
 
 positive : (n : ℕ) → n % 10 ≢ 0 → 0 < n
-positive n h = elim (cases_eq n 0) [ inl e ↦ absurd (h (ap (λ x. x % 10) e)) | inr e ↦ omega arith ]
+positive n h = omega arith
 
 above_not_zero : (ds : List ℕ) → StartsAbove ds → ds ≢ 48 ∷ []
 above_not_zero ds h e = subst StartsAbove e h refl
@@ -90,8 +90,7 @@ whole_above v n ds h (inl last) e = above_not_zero (ds ++ replicate n 48) (start
 whole_above v n ds h (inr z) e = absurd (false≢true (sym (ap (λ x. x.negative) z) ∙ e))
 
 whole_measured : (v : Value) (n k : ℕ) → k ≡ v.digits * 10 ^ n → n ≤ 40 → v.digits < 10 ^ 38 → (v.digits % 10 ≢ 0) ⊎ (v ≡ zero_value) → IsSmall k
-whole_measured v n k e l small (inl last) = inr (v.digits, n, (e, last), small, l)
-whole_measured v n k e l small (inr z) = inl (e ∙ zero_scaled v.digits n (ap (λ x. x.digits) z))
+whole_measured v n k e l small last = grind (arith, zero_scaled v.digits n)
 
 whole_written : (v : Value) (n : ℕ) → v.power ≡ pos n → n ≤ 40 → v.digits < 10 ^ 38 → (v.digits % 10 ≢ 0) ⊎ (v ≡ zero_value) → IsWritten v ((if v.negative then 45 ∷ [] else []) ++ (decimal v.digits ++ replicate n 48))
 whole_written v n e l small last =
