@@ -1,6 +1,7 @@
 -- Which parts are in bounds, and which number they mean, by what the reader keeps of them.
 use Rattle.std.proofs.Common.{◌≡◌, ◌≢◌, ℕ, ◌+◌, ◌*◌, ◌^◌, ◌<◌, ◌≤◌, ◌⊎◌, inl, inr, Bool, true, false, if◌then◌else◌, length, refl, sym, ap, subst, ◌∙◌, arith, ℤ, pos, negsuc}
 use Rattle.std.proofs.lemmas.Bool.{leb-true, ltb-true}
+use Rattle.std.proofs.lemmas.Bool.Decides.{nat_tests}
 use Rattle.std.proofs.lemmas.Nat.{pow-add}
 use Rattle.std.proofs.Math.Nat.{mul_assoc}
 use Rattle.crs_decimal.specs.Bounds.{digits_value, is_minus, Strips, IsMeasured, IsBounded, number_of, power_up, power_down, exponent_digits}
@@ -17,31 +18,27 @@ use Rattle.crs_decimal.proofs.PowerLemmas.{strip_one, scaled_grows}
 pub cut_shows : (p : Parts) (s : Spelled) → IsCut p s → AreDigits (mantissa p) → IsShown (digits_value (mantissa p)) s.mantissa
 cut_shows p s cut d = subst (IsShown (digits_value (mantissa p))) (sym cut.digits) (shown (mantissa p) d)
 
-shows_at : (b : Bool) (n : ℕ) (m : Mantissa) → m.is_long ≡ b → IsShown n m → Shows b n m.digits m.zeros
-shows_at b n m e s = subst (λ (x : Bool). Shows x n m.digits m.zeros) e s
-
 pub long_unbounded : (p : Parts) (m : Mantissa) → IsShown (digits_value (mantissa p)) m → m.is_long ≡ true → ¬ (IsBounded p)
-long_unbounded p m s e h = refuse (shows_at true (digits_value (mantissa p)) m e s).0 h.measured
-  where
-    refuse : IsLong (digits_value (mantissa p)) → ((number_of p).digits ≡ 0) ⊎ IsMeasured (number_of p) → ⊥
-    refuse l (inl z) = let least = long_least (digits_value (mantissa p)) l in absurd (omega arith)
-    refuse (x, j, t, l) (inr (y, k, u, v, w, g)) =
-        let same = strip_one x j y k (sym t.0 ∙ u.0) t.1 u.1 in absurd (omega (arith, same.0))
+long_unbounded p m s e h =
+    let l = (rw e at s).0 in
+    elim h.measured [
+      | inl z ↦ absurd (omega (arith, long_least (digits_value (mantissa p)) l))
+      | inr (y, k, u, v, w, g) ↦ absurd (omega (arith, (strip_one l.0 l.1 y k (sym l.2.0 ∙ u.0) l.2.1 u.1).0, l.3))
+    ]
 
 -- a short mantissa that isn't zero is stripped, and at most 38 digits
 pub short_strips : (n : ℕ) (m : Mantissa) → IsShown n m → m.is_long ≡ false → m.digits ≢ 0 → Strips n m.digits m.zeros × (m.digits < 10 ^ 38)
 short_strips n m s e ne =
-    let t = shows_at false n m e s in ((t.0, grind (arith, t.2)), t.1)
+    let t = rw e at s in ((t.0, grind (arith, t.2)), t.1)
 
 pub short_zero : (n : ℕ) (m : Mantissa) → IsShown n m → m.is_long ≡ false → m.digits ≡ 0 → n ≡ 0
-short_zero n m s e z = (shows_at false n m e s).0 ∙ zero_scaled m.digits m.zeros z
+short_zero n m s e z = (rw e at s).0 ∙ zero_scaled m.digits m.zeros z
 
 pub strips_positive : (n m k : ℕ) → Strips n m k → 0 < n
 strips_positive n m k t = let least : m * 1 ≤ m * 10 ^ k = scaled_grows m 0 k (omega arith) in omega (arith, t.0, t.1)
 
 power_near : (a b : ℕ) (power : ℤ) → IsPowerBetween a b power → (b ≤ a + 40) × (a ≤ b + 40)
-power_near a b (pos n) h = let l = leb-true n 40 h.0 in (omega (arith, h.1), omega (arith, h.1))
-power_near a b (negsuc n) h = let l = ltb-true n 40 h.0 in (omega (arith, h.1), omega (arith, h.1))
+power_near a b power h = grind (arith, nat_tests)
 
 pub far_unbounded : (p : Parts) (m : Mantissa) → Strips (digits_value (mantissa p)) m.digits m.zeros → IsFar (power_up p.exponent + m.zeros) (power_down p.exponent + length (fraction_digits p.fraction)) → ¬ (IsBounded p)
 far_unbounded p m t far h =

@@ -40,12 +40,10 @@ start-append [] ys h = absurd h
 start-append (x ∷ xs) ys h = h
 
 pub start_trim : (xs : List ℕ) → StartsAbove xs → IsTrim xs
-start_trim [] h = absurd h
-start_trim (x ∷ xs) h = inl h
+start_trim xs h = grind arith
 
 pub above_some : (ds : List ℕ) → IsTrim ds → 0 < length ds
-above_some [] h = absurd h
-above_some (d ∷ ds) h = omega arith
+above_some ds h = grind arith
 
 more_digits : (n : ℕ) (ds : List ℕ) → 10 ≤ n → AreDigitsOf (n / 10) ds → AreDigitsOf n (ds ++ (48 + n % 10) ∷ [])
 more_digits n ds l h =
@@ -79,8 +77,7 @@ padded_length k ds = elim (cases_lt (length ds) k) [
 ]
 
 one_trim : (ds : List ℕ) → 0 < length ds → IsTrim (take 1 ds)
-one_trim [] l = absurd (omega arith)
-one_trim (d ∷ ds) l = inr refl
+one_trim ds l = grind arith
 
 some_trim : (m : ℕ) (ds : List ℕ) → StartsAbove ds → 0 < m → IsTrim (take m ds)
 some_trim m [] h l = absurd h
@@ -113,7 +110,6 @@ fraction_trim k n ds h last some =
     subst EndsTrim (sym cut) (ends-push (drop (length p - k) front) x (λ e. last (omega (arith, e))))
 
 pub fraction_length : (k : ℕ) (ds : List ℕ) → length (drop (length (padded (suc k) ds) - k) (padded (suc k) ds)) ≡ k
-fraction_length k ds = elim (padded_length (suc k) ds) [
-  | inl e ↦ length-drop (length (padded (suc k) ds) - k) (padded (suc k) ds) ∙ omega (arith, e)
-  | inr e ↦ length-drop (length (padded (suc k) ds) - k) (padded (suc k) ds) ∙ omega (arith, ap length e.1, e.0)
-]
+fraction_length k ds =
+    let more = suc k - length ds in
+    rw length-drop (omega (arith, length-append (replicate more 48) ds, length-replicate {A = ℕ} more 48))

@@ -45,36 +45,10 @@ long_at n c h ne l = (n * 10 + c, 0, (sym (mul-one (n * 10 + c)), last_digit n c
 pub zero_scaled : (d k : ℕ) → d ≡ 0 → d * 10 ^ k ≡ 0
 zero_scaled d k e = ap (λ x. x * 10 ^ k) e ∙ zero-mul (10 ^ k)
 
-shown_by : (long x y w : Bool) (n d z c : ℕ) → c < 10 → (x ≡ true → c ≡ 0) → (x ≡ false → c ≢ 0) → (y ≡ true → d ≡ 0) → (y ≡ false → d ≢ 0) → (w ≡ true → d * 10 ^ (z + 1) < 10 ^ 38) → (w ≡ false → 10 ^ 38 ≤ d * 10 ^ (z + 1)) → Shows long n d z
-    → let m : Mantissa = record { digits = d; zeros = z; is_long = long } in IsShown (n * 10 + c) (cond x (cond y m (record m { zeros = z + 1 })) (cond w (record m { digits = d * 10 ^ (z + 1) + c; zeros = 0 }) (record m { is_long = true })))
-shown_by true true true w n d z c h p p' q q' r r' s = absurd (s.1 (q refl))
-shown_by true true false w n d z c h p p' q q' r r' s = (long_more n c h s.0, s.1)
-shown_by true false y true n d z c h p p' q q' r r' s = (long_more n c h s.0, λ e. p' refl (omega (arith, e)))
-shown_by true false y false n d z c h p p' q q' r r' s = (long_more n c h s.0, s.1)
-shown_by false true true w n d z c h p p' q q' r r' s =
-    (omega (arith, p refl, zero_scaled d z (q refl), s.0), s.1, s.2)
-shown_by false true false w n d z c h p p' q q' r r' s =
-    (omega (arith, p refl, scaled_more d z n s.0), s.1, stays s.2)
-  where
-    stays : IsStripped d z → IsStripped d (z + 1)
-    stays (inl e) = inl e
-    stays (inr e) = absurd (q' refl e.0)
-shown_by false false y true n d z c h p p' q q' r r' s =
-    let e = scaled_more d z n s.0 in
-    (omega (arith, e), omega (arith, e, r refl), inl (subst (λ (x : ℕ). (x + c) % 10 ≢ 0) e (last_digit n c h (p' refl))))
-shown_by false false y false n d z c h p p' q q' r r' s =
-    (long_at n c h (p' refl) (omega (arith, r' refl, scaled_more d z n s.0)), λ e. absurd (omega (arith, r' refl, zero_scaled d (z + 1) e)))
-
 shown_more : (n c : ℕ) (m : Mantissa) → c < 10 → IsShown n m → IsShown (n * 10 + c) (with_digit m c)
 shown_more n c m h s =
-    shown_by m.is_long (c == 0) (m.digits == 0) (fits m.digits (m.zeros + 1)) n m.digits m.zeros c h
-    (eqb-true c 0)
-    (eqb-false c 0)
-    (eqb-true m.digits 0)
-    (eqb-false m.digits 0)
-    (ltb-true (m.digits * 10 ^ (m.zeros + 1)) (10 ^ 38))
-    (ltb-false (m.digits * 10 ^ (m.zeros + 1)) (10 ^ 38))
-    s
+    grind (arith, nat_tests, long_more n c h, long_at n c h, last_digit n c h, scaled_more m.digits m.zeros n, zero_scaled m.digits m.zeros,
+    zero_scaled m.digits (m.zeros + 1))
 
 digit_below : (d : ℕ) → is_digit d ≡ true → d - 48 < 10
 digit_below d h = grind (arith, nat_tests)

@@ -4,7 +4,7 @@ use Rattle.std.proofs.lemmas.Bool.{eqb-true, false≢true}
 use Rattle.std.proofs.lemmas.Bool.Decides.{nat_tests}
 use Rattle.std.proofs.lemmas.Int.{ints}
 use Rattle.std.proofs.lemmas.Nat.{pow-add}
-use Rattle.std.proofs.Math.Nat.{mul-one, le_of_mul-le-mul_right, le_antisymm}
+use Rattle.std.proofs.Math.Nat.{mul-one, zero-add, le_of_mul-le-mul_right, le_antisymm}
 use Rattle.crs_decimal.specs.Bounds.{Denotes, number_of}
 use Rattle.crs_decimal.specs.Number.{Number, SameSize, SameNumber, whole_number}
 use Rattle.crs_decimal.specs.Value.{Value, zero, is_power, is_zero_power, IsNormal, exact, up_of, down_of}
@@ -89,15 +89,9 @@ pub negative_not_whole : (v : Value) (n : ℕ) → IsNormal v → v.negative ≡
 negative_not_whole v n h e same = grind (arith, (normal_parts v h).2)
 
 pub fraction_not_whole : (v : Value) (n k : ℕ) → IsNormal v → v.power ≡ negsuc k → SameNumber (exact v) (whole_number n) → ⊥
-fraction_not_whole v n k h e same = by (normal_parts v h).2
-  where
-    by : (v.digits % 10 ≢ 0) ⊎ (v ≡ zero) → ⊥
-    by (inl p) =
-        let up : up_of v.power + 0 ≡ 0 = omega (arith, ap up_of e) in
-        let down : 0 + down_of v.power ≡ suc k = omega (arith, ap down_of e) in
-        let size : v.digits * 10 ^ 0 ≡ n * 10 ^ suc k = ap (λ x. v.digits * 10 ^ x) (sym up) ∙ same.0 ∙ ap (λ x. n * 10 ^ x) down in
-        p (ap (λ x. x % 10) (sym (mul-one v.digits) ∙ size) ∙ last_zero n k)
-    by (inr p) = absurd (omega (arith, ap down_of (sym e ∙ ap (λ x. x.power) p)))
+fraction_not_whole v n k h e same =
+    let size : v.digits * 10 ^ 0 ≡ n * 10 ^ suc k = rw (e, zero-add) at same.0 in
+    grind (arith, (normal_parts v h).2, last_zero n k, mul-one v.digits)
 
 pub below_not_whole : (v : Value) (n : ℕ) (x : ℤ) → IsNormal v → v.power ≡ x → x <ℤ pos 0 → SameNumber (exact v) (whole_number n) → ⊥
 below_not_whole v n (pos k) h e l same = absurd (omega (arith, ints, l))

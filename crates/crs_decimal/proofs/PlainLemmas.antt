@@ -95,14 +95,11 @@ minus_needed w (Some ds) dw df t n z h = value_last w ds df n (ap (λ x. x % 10)
 minus_needed w None dw df t n z (inr h) = h refl
 minus_needed [] None dw df t n z (inl h) = absurd t
 minus_needed (d ∷ ds) None dw df (inl ne) n z (inl h) =
-    let least = trim_least d ds ne (and_parts (is_digit d) (list_all is_digit ds) dw).0 in
-    let some = power_positive (length ds) in
-    let e : digits_value (d ∷ ds) ≡ 0 = ap digits_value (sym (append-nil (d ∷ ds))) ∙ z in absurd (omega arith)
+    let least = trim_least d ds ne (and_parts (is_digit d) (list_all is_digit ds) dw).0 in absurd (omega (arith, power_positive (length ds), rw append-nil at z))
 minus_needed (d ∷ ds) None dw df (inr none) n z (inl h) =
     let r = digit_range d (and_parts (is_digit d) (list_all is_digit ds) dw).0 in
-    let e : digits_value (d ∷ []) ≡ 0 = ap (λ x. digits_value (d ∷ x)) (sym none) ∙ ap digits_value (sym (append-nil (d ∷ ds))) ∙ z in
-    let last : d ≡ 48 = omega (arith, e) in
-    h (ap (λ x. d ∷ x) none ∙ ap (λ c. c ∷ []) last)
+    let last : d ≡ 48 = omega (arith, rw (append-nil (d ∷ ds), none) at z) in
+    h (rw (none, last))
 
 same_sign : (p q : Parts) → IsSignNeeded p → IsSignNeeded q → (digits_value (mantissa p) ≡ 0 → (p.whole ≢ 48 ∷ []) ⊎ (p.fraction ≢ None) → ⊥) → (digits_value (mantissa q) ≡ 0 → (q.whole ≢ 48 ∷ []) ⊎ (q.fraction ≢ None) → ⊥) → (is_minus p.sign ≡ is_minus q.sign) ⊎ ((digits_value (mantissa p) ≡ 0) × (digits_value (mantissa q) ≡ 0)) → p.sign ≡ q.sign
 same_sign p q g h m n e = grind arith
