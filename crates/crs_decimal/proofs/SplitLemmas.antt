@@ -17,21 +17,16 @@ sign_joined bs = grind (arith, nat_tests)
 front_joined : (bs : List ℕ) → leading_digits bs ++ behind_digits bs ≡ bs
 front_joined bs = take-append-drop (prefix_len is_digit bs) bs
 
-fraction_cut : (b : ℕ) (bs : List ℕ) (x : Bool) → (x ≡ true → b ≡ 46) → fraction_text (cond x (Some (leading_digits bs)) None) ++ cond x (behind_digits bs) (b ∷ bs) ≡ b ∷ bs
-fraction_cut b bs true p = ap (λ c. c ∷ (leading_digits bs ++ behind_digits bs)) (sym (p refl)) ∙ ap (λ r. b ∷ r) (front_joined bs)
-fraction_cut b bs false p = refl
-
 fraction_joined : (bs : List ℕ) → fraction_text (fraction_of bs) ++ behind_fraction bs ≡ bs
-fraction_joined [] = refl
-fraction_joined (b ∷ bs) = fraction_cut b bs (b == 46) (eqb-true b 46)
-
-exponent_cut : (b : ℕ) (bs : List ℕ) (x : Bool) → exponent_text (cond x (Some (record { letter = b; sign = sign_of bs; digits = leading_digits (behind_sign bs) })) None) ++ cond x (behind_digits (behind_sign bs)) (b ∷ bs) ≡ b ∷ bs
-exponent_cut b bs true = ap (λ r. b ∷ r) (append_assoc (sign_text (sign_of bs)) (leading_digits (behind_sign bs)) (behind_digits (behind_sign bs)) ∙ ap (λ r. sign_text (sign_of bs) ++ r) (front_joined (behind_sign bs)) ∙ sign_joined bs)
-exponent_cut b bs false = refl
+fraction_joined bs = grind (arith, nat_tests, front_joined)
 
 exponent_joined : (bs : List ℕ) → exponent_text (exponent_of bs) ++ behind_exponent bs ≡ bs
 exponent_joined [] = refl
-exponent_joined (b ∷ bs) = exponent_cut b bs (is_exponent_letter b)
+exponent_joined (b ∷ bs) = cut (simp append_assoc (rw (front_joined (behind_sign bs), sign_joined bs)))
+  where
+    cut : (sign_text (sign_of bs) ++ leading_digits (behind_sign bs)) ++ behind_digits (behind_sign bs) ≡ bs →
+        exponent_text (exponent_of (b ∷ bs)) ++ behind_exponent (b ∷ bs) ≡ b ∷ bs
+    cut joined = grind arith
 
 pub parts_joined : (bs : List ℕ) → parts_text (parts_of bs) ++ behind_parts bs ≡ bs
 parts_joined bs =
@@ -91,9 +86,7 @@ front_all (d ∷ ds) r p q =
     rw h.0 (omega (arith, front_all ds r h.1 q))
 
 front_cut : (ds r : List ℕ) → AreDigits ds → starts_digit r ≡ false → (leading_digits (ds ++ r) ≡ ds) × (behind_digits (ds ++ r) ≡ r)
-front_cut ds r p q =
-    let n = front_all ds r p q in
-    (ap (λ k. take k (ds ++ r)) n ∙ take_at ds r (length ds) refl, ap (λ k. drop k (ds ++ r)) n ∙ drop_at ds r (length ds) refl)
+front_cut ds r p q = rw (front_all ds r p q) (take_at ds r (length ds) refl, drop_at ds r (length ds) refl)
 
 sign_stops : (r : List ℕ) → starts_sign r ≡ false → (sign_of r ≡ unsigned) × (behind_sign r ≡ r)
 unfolding starts_sign
@@ -120,11 +113,10 @@ exponent_start e h = grind (arith, nat_tests)
 exponent_cut_off : (e : Option Exponent) → IsExponent e → (exponent_of (exponent_text e) ≡ e) × (behind_exponent (exponent_text e) ≡ [])
 exponent_cut_off None h = (refl, refl)
 exponent_cut_off (Some e) h =
-    let plain = append-nil e.digits in
-    let s = sign_cut_off e.sign e.digits (subst (λ (r : List ℕ). starts_sign r ≡ false) plain (digits_no_sign e.digits [] h.1 h.2)) in
+    let s = sign_cut_off e.sign e.digits (rw append-nil at (digits_no_sign e.digits [] h.1 h.2)) in
     let f = front_cut e.digits [] h.1 (unfold starts_digit in refl) in
-    let digits : leading_digits e.digits ≡ e.digits = ap leading_digits (sym plain) ∙ f.0 in
-    let rest : behind_digits e.digits ≡ [] = ap behind_digits (sym plain) ∙ f.1 in
+    let digits : leading_digits e.digits ≡ e.digits = rw append-nil at f.0 in
+    let rest : behind_digits e.digits ≡ [] = rw append-nil at f.1 in
     rw (h.0, s.0, s.1, digits, rest) (refl, refl)
 
 -- a fraction starts with no digit, and with a sign only if what follows it does
@@ -163,15 +155,12 @@ parts_only bs p h = sym (ap parts_of h.0 ∙ (text_cut_off p h.1).0)
 spelled_whole : (p : Parts) → IsForm p → IsCutWhole (parts_text p)
 spelled_whole p h =
     let c = text_cut_off p h in
+    let exponent : (e : Option Exponent) → IsExponent e → HasExponentDigits e = λ e g. grind arith in
     record {
       all = c.1;
       some = subst (λ (q : Parts). 0 < length (mantissa q)) (sym c.0) h.some;
-      exponent = subst (λ (q : Parts). HasExponentDigits q.exponent) (sym c.0) (written p.exponent h.exponent);
+      exponent = subst (λ (q : Parts). HasExponentDigits q.exponent) (sym c.0) (exponent p.exponent h.exponent);
     }
-  where
-    written : (e : Option Exponent) → IsExponent e → HasExponentDigits e
-    written None g = tt
-    written (Some e) g = g.2
 
 pub form_whole : (bs : List ℕ) → HasForm bs → IsCutWhole bs
 form_whole bs h = subst IsCutWhole (sym h.1.0) (spelled_whole h.0 h.1.1)
