@@ -1,17 +1,16 @@
 -- Which parts are in bounds, and which number they mean, by what the reader keeps of them.
-use Rattle.std.proofs.Common.{◌≡◌, ◌≢◌, ℕ, ◌+◌, ◌*◌, ◌^◌, ◌<◌, ◌≤◌, ◌⊎◌, inl, inr, Bool, true, false, if◌then◌else◌, length, refl, sym, ap, subst, ◌∙◌, arith, ℤ, pos, negsuc}
-use Rattle.std.proofs.lemmas.Bool.{leb-true, ltb-true}
+use Rattle.std.proofs.Common.{◌≡◌, ◌≢◌, ℕ, ◌+◌, ◌*◌, ◌^◌, ◌<◌, ◌≤◌, inl, inr, true, false, if◌then◌else◌, length, refl, sym, ap, subst, ◌∙◌, arith, ℤ}
 use Rattle.std.proofs.lemmas.Bool.Decides.{nat_tests}
 use Rattle.std.proofs.lemmas.Nat.{pow-add}
 use Rattle.std.proofs.Math.Nat.{mul_assoc}
-use Rattle.crs_decimal.specs.Bounds.{digits_value, is_minus, Strips, IsMeasured, IsBounded, number_of, power_up, power_down, exponent_digits}
+use Rattle.crs_decimal.specs.Bounds.{digits_value, is_minus, Strips, IsBounded, number_of, power_up, power_down, exponent_digits}
 use Rattle.crs_decimal.specs.Cut.{IsCut, IsFar, IsPowerBetween}
 use Rattle.crs_decimal.specs.Number.{SameNumber}
 use Rattle.crs_decimal.specs.Spelling.{Parts, AreDigits, mantissa, fraction_digits}
 use Rattle.crs_decimal.specs.Value.{Value, exact, up_of, down_of, zero}
 use Rattle.crs_decimal.specs.declared.mantissa.Mantissa.{Mantissa}
 use Rattle.crs_decimal.specs.declared.cutting.Spelled.{Spelled}
-use Rattle.crs_decimal.proofs.MantissaLemmas.{IsShown, Shows, IsLong, shown, long_least, zero_scaled}
+use Rattle.crs_decimal.proofs.MantissaLemmas.{IsShown, shown, long_least, zero_scaled}
 use Rattle.crs_decimal.proofs.PowerLemmas.{strip_one, scaled_grows}
 
 -- what the reader's mantissa shows

@@ -1,13 +1,13 @@
 -- What the mantissa that is kept shows of the digits that were read.
-use Rattle.std.proofs.Common.{◌≡◌, ◌≢◌, ℕ, ◌+◌, ◌-◌, ◌*◌, ◌%◌, ◌^◌, ◌<◌, ◌≤◌, ◌==◌, ◌⊎◌, inl, inr, Bool, true, false, cond, List, [], ◌∷◌, fold, refl, sym, ap, subst, ◌∙◌, arith}
+use Rattle.std.proofs.Common.{◌≡◌, ◌≢◌, ℕ, ◌+◌, ◌-◌, ◌*◌, ◌%◌, ◌^◌, ◌<◌, ◌≤◌, ◌⊎◌, inl, inr, Bool, true, false, List, [], ◌∷◌, fold, refl, sym, ap, ◌∙◌, arith}
 use Rattle.std.specs.List.{list_all}
-use Rattle.std.proofs.lemmas.Bool.{eqb-true, eqb-false, ltb-true, ltb-false, and_parts, cases_eq}
+use Rattle.std.proofs.lemmas.Bool.{and_parts, cases_eq}
 use Rattle.std.proofs.lemmas.Nat.{mod-mul-add}
 use Rattle.std.proofs.Math.Nat.{mul-one, zero-mul}
 use Rattle.std.proofs.lemmas.Bool.Decides.{nat_tests}
 use Rattle.crs_decimal.specs.Spelling.{is_digit, AreDigits}
 use Rattle.crs_decimal.specs.Bounds.{digits_value, Strips}
-use Rattle.crs_decimal.specs.Mantissa.{no_digits, fits, with_digit, with_digits}
+use Rattle.crs_decimal.specs.Mantissa.{no_digits, with_digit, with_digits}
 use Rattle.crs_decimal.specs.declared.mantissa.Mantissa.{Mantissa}
 use Rattle.crs_decimal.proofs.PowerLemmas.{scaled_more, scaled_grows}
 
@@ -47,8 +47,16 @@ zero_scaled d k e = ap (λ x. x * 10 ^ k) e ∙ zero-mul (10 ^ k)
 
 shown_more : (n c : ℕ) (m : Mantissa) → c < 10 → IsShown n m → IsShown (n * 10 + c) (with_digit m c)
 shown_more n c m h s =
-    grind (arith, nat_tests, long_more n c h, long_at n c h, last_digit n c h, scaled_more m.digits m.zeros n, zero_scaled m.digits m.zeros,
-    zero_scaled m.digits (m.zeros + 1))
+    grind (
+      arith,
+      nat_tests,
+      long_more n c h,
+      long_at n c h,
+      last_digit n c h,
+      scaled_more m.digits m.zeros n,
+      zero_scaled m.digits m.zeros,
+      zero_scaled m.digits (m.zeros + 1),
+    )
 
 digit_below : (d : ℕ) → is_digit d ≡ true → d - 48 < 10
 digit_below d h = grind (arith, nat_tests)

@@ -1,9 +1,8 @@
-use Rattle.std.proofs.Common.{◌≡◌, ◌<◌, length, take, drop, get_or, false, arith, ap, sym, ◌∙◌}
+use Rattle.std.proofs.Common.{◌≡◌, ◌<◌, length, get_or, false, arith, sym, ◌∙◌}
 use Rattle.std.specs.List.{prefix_len}
-use Rattle.std.proofs.lemmas.List.{length-take-le}
+use Rattle.std.proofs.lemmas.List.Folds.{length-prefix_len}
 use Rattle.std.proofs.lemmas.List.Sums.{prefix_len_is}
 use Rattle.crs_decimal.specs.Spelling.{is_digit}
-use Rattle.crs_decimal.specs.Mantissa.{with_digits}
 use Rattle.crs_decimal.proofs.cutting.split_digits.Goals as goal
 use Rattle.crs_decimal.proofs.cutting.split_digits.Goals.{else-loop-byte-test, then-loop-byte-test+then-not-is_ascii_digit}
 
@@ -16,15 +15,10 @@ ended c =
     prefix_len_is is_digit bytes at 0 (omega arith) c.loop-byte.invariant.digits stops
 
 pub returns-clause-mantissa : goal.returns-clause-mantissa
-returns-clause-mantissa c =
-    c.loop-byte.invariant.taken ∙ ap (λ n. with_digits c.args.before (take n c.args.bytes.now)) (sym (ended c))
+returns-clause-mantissa c = rw (ended c) c.loop-byte.invariant.taken
 
 pub returns-clause-count : goal.returns-clause-count
-returns-clause-count c =
-    let e = ended c in
-    let l = length-take-le (prefix_len is_digit c.args.bytes.now) c.args.bytes.now (omega arith) in
-    omega arith
+returns-clause-count c = omega (arith, ended c, length-prefix_len is_digit c.args.bytes.now)
 
 pub returns-clause-rest : goal.returns-clause-rest
-returns-clause-rest c =
-    c.rest_of.ensures ∙ ap (λ n. drop n c.args.bytes.now) (c.loop-byte.invariant.counted ∙ sym (ended c))
+returns-clause-rest c = rw (ended c, ← c.loop-byte.invariant.counted) c.rest_of.ensures

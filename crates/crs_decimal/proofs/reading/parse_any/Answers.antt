@@ -1,5 +1,3 @@
-use Rattle.std.proofs.Common.{subst}
-use Rattle.crs_decimal.specs.Bounds.{IsBounded}
 use Rattle.crs_decimal.specs.Split.{parts_of}
 use Rattle.crs_decimal.proofs.SplitLemmas.{parts_form, form_whole, spells_parts, parts_only}
 use Rattle.crs_decimal.proofs.reading.parse_any.Goals as goal
@@ -17,13 +15,13 @@ pub returns-in-None-decimal : goal.returns-in-None-decimal
 returns-in-None-decimal c =
     let bytes = c.args.bytes.now in
     let w = c.in-Some.ensures.cut in
-    let parts = parts_of bytes in
-    ((parts, spells_parts bytes w.0), λ h. c.in-None-decimal.ensures parts w.1 (parts_form bytes w.0).digits (subst IsBounded (parts_only bytes h.0 h.1) h.2))
+    let s = spells_parts bytes w.0 in
+    ((parts_of bytes, s), λ h. c.in-None-decimal.ensures (parts_of bytes) w.1 s.1.digits (rw (parts_only bytes h.0 h.1) at h.2))
 
 pub returns-in-Some-decimal : goal.returns-in-Some-decimal
 returns-in-Some-decimal c =
     let bytes = c.args.bytes.now in
     let w = c.in-Some.ensures.cut in
-    let parts = parts_of bytes in
-    let h = c.in-Some-decimal.ensures parts w.1 (parts_form bytes w.0).digits in
-    (h.0, (parts, spells_parts bytes w.0, h.1, h.2))
+    let s = spells_parts bytes w.0 in
+    let h = c.in-Some-decimal.ensures (parts_of bytes) w.1 s.1.digits in
+    (h.0, (parts_of bytes, s, h.1, h.2))

@@ -1,6 +1,6 @@
-use Rattle.std.proofs.Common.{rules, fold, ◌+◌, ◌-◌, ◌*◌, ℕ, ◌≡◌, ◌<◌, length, take, drop, get_or, false, arith, ap, sym, ◌∙◌}
+use Rattle.std.proofs.Common.{rules, ◌+◌, ◌-◌, ◌*◌, ◌≡◌, ◌<◌, length, get_or, false, arith, sym, ◌∙◌}
 use Rattle.std.specs.List.{prefix_len}
-use Rattle.std.proofs.lemmas.List.{length-take-le}
+use Rattle.std.proofs.lemmas.List.Folds.{length-prefix_len}
 use Rattle.std.proofs.lemmas.List.Sums.{prefix_len_is, fold_more}
 use Rattle.crs_decimal.specs.Spelling.{is_digit}
 use Rattle.crs_decimal.proofs.ShortLemmas.{small_more, small_room}
@@ -26,27 +26,19 @@ overflow_add-value c =
 pub loop-byte-preserved : goal.loop-byte-preserved
 loop-byte-preserved c =
     let next : c.args.before.count + (c.loop-byte.byte-index + 1) ≡ c.args.before.count + c.loop-byte.byte-index + 1 = omega arith in
+    let digit : c.from.result ≡ get_or c.args.bytes.now c.loop-byte.byte-index 0 - 48 = search rules in
     record {
       counted = omega arith;
       digits = search rules;
-      taken =
-          let step : ℕ → ℕ → ℕ = λ n d. n * 10 + (d - 48) in
-          let digit : c.from.result ≡ get_or c.args.bytes.now c.loop-byte.byte-index 0 - 48 = search rules in
-          ap (λ v. v * 10 + c.from.result) c.loop-byte.invariant.taken ∙ ap (λ d. fold step c.args.before.value (take c.loop-byte.byte-index c.args.bytes.now) * 10 + d) digit
-          ∙ sym (fold_more step c.args.before.value c.args.bytes.now c.loop-byte.byte-index 0 (omega arith));
+      taken = cc (fold_more (λ n d. n * 10 + (d - 48)) c.args.before.value c.args.bytes.now c.loop-byte.byte-index 0 (omega arith));
       small = rw next (small_more c.loop-byte.value (c.args.before.count + c.loop-byte.byte-index) c.from.result c.loop-byte.invariant.small (search rules));
     }
 
 pub returns-clause-value : goal.returns-clause-value
-returns-clause-value c =
-    c.loop-byte.invariant.taken ∙ ap (λ n. fold (λ n d. n * 10 + (d - 48)) c.args.before.value (take n c.args.bytes.now)) (sym (ended c))
+returns-clause-value c = rw (ended c) c.loop-byte.invariant.taken
 
 pub returns-clause-count : goal.returns-clause-count
-returns-clause-count c =
-    let e = ended c in
-    let l = length-take-le (prefix_len is_digit c.args.bytes.now) c.args.bytes.now (omega arith) in
-    omega (arith, e, l)
+returns-clause-count c = omega (arith, ended c, length-prefix_len is_digit c.args.bytes.now)
 
 pub returns-clause-rest : goal.returns-clause-rest
-returns-clause-rest c =
-    c.rest_of.ensures ∙ ap (λ n. drop n c.args.bytes.now) (c.loop-byte.invariant.counted ∙ sym (ended c))
+returns-clause-rest c = rw (ended c, ← c.loop-byte.invariant.counted) c.rest_of.ensures
