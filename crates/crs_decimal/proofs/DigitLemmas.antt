@@ -10,7 +10,7 @@ use Rattle.crs_decimal.specs.Spelling.{unsigned, Parts, is_digit, AreDigits}
 use Rattle.crs_decimal.specs.Bounds.{digits_value, Strips, number_of, IsMeasured, IsInBounds}
 use Rattle.crs_decimal.specs.Number.{Number}
 use Rattle.crs_decimal.specs.Mantissa.{no_digits, with_digits}
-use Rattle.crs_decimal.proofs.MantissaLemmas.{shown, Shows, IsStripped, long_least, zero_scaled}
+use Rattle.crs_decimal.proofs.MantissaLemmas.{shown, Shows, long_least, zero_scaled}
 use Rattle.crs_decimal.proofs.PowerLemmas.{power_next, power_grows}
 
 -- the number of n's digits with these after them
@@ -78,12 +78,11 @@ power_small d z n e some small = grind (arith, power_grows 40 z, mul-le-mul_righ
 
 few_measured : (b : Bool) (n d z : ℕ) → Shows b n d z → n < 10 ^ 18 → IsSmall n
 few_measured true n d z s small = let l = long_least n s.0 in absurd (omega arith)
-few_measured false n d z s small = by s.2
-  where
-    by : IsStripped d z → IsSmall n
-    by (inl e) =
-        inr (d, z, (s.0, e), s.1, power_small d z n s.0 (omega arith) small)
-    by (inr e) = inl (s.0 ∙ zero_scaled d z e.0)
+few_measured false n d z s small =
+    elim s.2 [
+      | inl e ↦ inr (d, z, (s.0, e), s.1, power_small d z n s.0 (omega arith) small)
+      | inr e ↦ inl (s.0 ∙ zero_scaled d z e.0)
+    ]
 
 pub digits_in_bounds : (ds : List ℕ) → AreDigits ds → 0 < length ds → length ds ≤ 18 → IsInBounds ds
 digits_in_bounds ds h some l =

@@ -1,6 +1,5 @@
 -- Being the same number is an equivalence, and each number has one normal form.
 use Rattle.std.proofs.Common.{◌≡◌, ◌≢◌, ℕ, suc, ◌+◌, ◌*◌, ◌%◌, ◌^◌, ◌<◌, ◌⊎◌, ◌↔◌, inl, true, false, IsTrue, List, refl, sym, ap, subst, ◌∙◌, arith, ℤ, pos, negsuc, ◌<ℤ◌}
-use Rattle.std.proofs.lemmas.Bool.{eqb-true, false≢true}
 use Rattle.std.proofs.lemmas.Bool.Decides.{nat_tests}
 use Rattle.std.proofs.lemmas.Int.{ints}
 use Rattle.std.proofs.lemmas.Nat.{pow-add}
@@ -18,9 +17,6 @@ reflexive a = (refl, inl refl)
 pub symmetric : (a b : Number) → SameNumber a b → SameNumber b a
 symmetric a b h = (sym h.0, grind arith)
 
-raised : (x y i j k m n : ℕ) → x * 10 ^ i ≡ y * 10 ^ j → m ≡ i + k → n ≡ j + k → x * 10 ^ m ≡ y * 10 ^ n
-raised x y i j k m n h e f = rw (e, f, pow-add 10 i k, pow-add 10 j k) (omega (arith, ap (λ p. p * 10 ^ k) h))
-
 pub cancelled : (a b k : ℕ) → a * 10 ^ k ≡ b * 10 ^ k → a ≡ b
 cancelled a b k h =
     le_antisymm (le_of_mul-le-mul_right (omega (arith, h)) (power_positive k)) (le_of_mul-le-mul_right (omega (arith, h)) (power_positive k))
@@ -31,17 +27,14 @@ lowered x y i j k m n h e f =
 
 pub same_size_trans : (a b c : Number) → SameSize a b → SameSize b c → SameSize a c
 same_size_trans a b c g h =
-    lowered a.digits c.digits (a.up + c.down) (c.up + a.down) b.down (a.up + b.down + c.down) (c.up + b.down + a.down)
-    (raised a.digits b.digits (a.up + b.down) (b.up + a.down) c.down (a.up + b.down + c.down) (b.up + a.down + c.down) g refl refl
-    ∙ raised b.digits c.digits (b.up + c.down) (c.up + b.down) a.down (b.up + a.down + c.down) (c.up + b.down + a.down) h (omega arith) (omega arith))
-    (omega arith)
-    (omega arith)
-
-zero_factor : (x k : ℕ) → x * 10 ^ k ≡ 0 → x ≡ 0
-zero_factor x k h = cancelled x 0 k (h ∙ sym (zero_scaled 0 k refl))
+    let left = ap (λ x. x * 10 ^ c.down) (rw (pow-add 10 a.up b.down, pow-add 10 b.up a.down) at g) in
+    let right = ap (λ x. x * 10 ^ a.down) (rw (pow-add 10 b.up c.down, pow-add 10 c.up b.down) at h) in
+    cancelled (a.digits * 10 ^ (a.up + c.down)) (c.digits * 10 ^ (c.up + a.down)) b.down
+    (rw (pow-add 10 a.up c.down, pow-add 10 c.up a.down) (omega (arith, left, right)))
 
 zero_spreads : (a b : Number) → SameSize a b → a.digits ≡ 0 → b.digits ≡ 0
-zero_spreads a b g e = zero_factor b.digits (b.up + a.down) (sym g ∙ zero_scaled a.digits (a.up + b.down) e)
+zero_spreads a b g e =
+    cancelled b.digits 0 (b.up + a.down) (sym g ∙ zero_scaled a.digits (a.up + b.down) e ∙ sym (zero_scaled 0 (b.up + a.down) refl))
 
 pub transitive : (a b c : Number) → SameNumber a b → SameNumber b c → SameNumber a c
 transitive a b c g h = (same_size_trans a b c g.0 h.0, grind (arith, zero_spreads b a (sym g.0), zero_spreads b c h.0))
@@ -52,8 +45,7 @@ pub same_value : (a b : Value) → a.negative ≡ b.negative → a.digits ≡ b.
 same_value a b p q r = λ i. record { negative = p i; digits = q i; power = r i }
 
 zero_power : (x : ℤ) → is_zero_power x ≡ true → x ≡ pos 0
-zero_power (pos n) h = ap (λ k. pos k) (eqb-true n 0 h)
-zero_power (negsuc n) h = absurd (false≢true h)
+zero_power x h = grind (arith, nat_tests)
 
 -- a normal value is zero, or its last digit isn't
 pub normal_parts : (v : Value) → IsNormal v → (v.digits < 10 ^ 38) × IsTrue (is_power v.power) × ((v.digits % 10 ≢ 0) ⊎ (v ≡ zero))
@@ -62,10 +54,7 @@ normal_parts v h =
     (grind (arith, nat_tests), grind (arith, nat_tests), grind (arith, nat_tests, none))
 
 same_power : (x y : ℤ) → up_of x + down_of y ≡ up_of y + down_of x → x ≡ y
-same_power (pos m) (pos n) e = ap (λ k. pos k) (omega arith)
-same_power (pos m) (negsuc n) e = absurd (omega arith)
-same_power (negsuc m) (pos n) e = absurd (omega arith)
-same_power (negsuc m) (negsuc n) e = ap (λ k. negsuc k) (omega arith)
+same_power x y e = grind arith
 
 pub normal_one : (a b : Value) → IsNormal a → IsNormal b → SameNumber (exact a) (exact b) → a ≡ b
 normal_one a b g h same =

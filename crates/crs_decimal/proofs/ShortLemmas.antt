@@ -46,15 +46,13 @@ module _ (bytes : List ℕ) (s : Short) (negative : s.negative ≡ is_minus (sig
 pub value_joined : (xs ys : List ℕ) → fold (λ n d. n * 10 + (d - 48)) (digits_value xs) ys ≡ digits_value (xs ++ ys)
 value_joined xs ys = sym (fold-append (λ n d. n * 10 + (d - 48)) 0 xs ys)
 
-pub small_below : (value count : ℕ) → value < 10 ^ count → count ≤ 19 → value < 10 ^ 19
-small_below value count h few = omega (arith, h, power_grows count 19 few)
+-- a number of some digits is below each power of ten that is no less
+pub small_at : (value count most : ℕ) → value < 10 ^ count → count ≤ most → value < 10 ^ most
+small_at value count most h few = omega (arith, h, power_grows count most few)
 
 -- one more digit
 pub small_more : (value count d : ℕ) → value < 10 ^ count → d < 10 → value * 10 + d < 10 ^ (count + 1)
 small_more value count d small digit = omega (arith, small, power_more count)
-
-pub small_room : (value count : ℕ) → value < 10 ^ count → count ≤ 18 → value < 10 ^ 18
-small_room value count h few = omega (arith, h, power_grows count 18 few)
 
 -- ---- the number
 

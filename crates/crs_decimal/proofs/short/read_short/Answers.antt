@@ -3,7 +3,7 @@ use Rattle.std.proofs.lemmas.List.{nil_from_length}
 use Rattle.std.proofs.lemmas.Option.{IfSome_then}
 use Rattle.crs_decimal.specs.Bounds.{digits_value}
 use Rattle.crs_decimal.specs.Split.{leading_digits, behind_digits, behind_sign}
-use Rattle.crs_decimal.proofs.ShortLemmas.{short_fraction, value_joined, small_below}
+use Rattle.crs_decimal.proofs.ShortLemmas.{short_fraction, value_joined, small_at}
 use Rattle.crs_decimal.proofs.short.read_short.Goals as goal
 
 pub returns-else-not-is_empty : goal.returns-else-not-is_empty
@@ -23,7 +23,7 @@ returns-else-not-is_empty c =
     let value : c.with_digits-in-46.result.0.value ≡ digits_value (leading_digits (behind_sign bytes) ++ leading_digits rest) =
     cc (value_joined (leading_digits (behind_sign bytes)) (leading_digits rest)) in
     let few : c.with_digits-in-46.result.0.count ≤ 19 = omega (arith, all.len, whole.len, room, ap length fraction, ap length period) in
-    let small : c.with_digits-in-46.result.0.value < 10 ^ 19 = small_below _ _ all.small few in
+    let small : c.with_digits-in-46.result.0.value < 10 ^ 19 = small_at _ _ 19 all.small few in
     IfSome_then c.some_digits-in-46.result c.some_digits-in-46.ensures (λ s h.
     short_fraction bytes s (h.2 ∙ sign.sign) (subst (λ v. v < 10 ^ 19) (sym h.0) small) rest
     (ap behind_digits (sym sign.rest) ∙ sym whole.rest ∙ period)

@@ -3,7 +3,7 @@ use Rattle.std.specs.List.{prefix_len}
 use Rattle.std.proofs.lemmas.List.Folds.{length-prefix_len}
 use Rattle.std.proofs.lemmas.List.Sums.{prefix_len_is, fold_more}
 use Rattle.crs_decimal.specs.Spelling.{is_digit}
-use Rattle.crs_decimal.proofs.ShortLemmas.{small_more, small_room}
+use Rattle.crs_decimal.proofs.ShortLemmas.{small_at, small_more}
 use Rattle.crs_decimal.proofs.short.with_digits.Goals as goal
 use Rattle.crs_decimal.proofs.short.with_digits.Goals.{else-loop-byte-test, then-loop-byte-test+then-not-is_ascii_digit}
 
@@ -17,11 +17,11 @@ ended c =
 
 pub overflow_mul-value : goal.overflow_mul-value
 overflow_mul-value c =
-    omega (arith, small_room c.loop-byte.value (c.args.before.count + c.loop-byte.byte-index) c.loop-byte.invariant.small (omega arith))
+    omega (arith, small_at c.loop-byte.value (c.args.before.count + c.loop-byte.byte-index) 18 c.loop-byte.invariant.small (omega arith))
 
 pub overflow_add-value : goal.overflow_add-value
 overflow_add-value c =
-    omega (arith, small_room c.loop-byte.value (c.args.before.count + c.loop-byte.byte-index) c.loop-byte.invariant.small (omega arith))
+    omega (arith, small_at c.loop-byte.value (c.args.before.count + c.loop-byte.byte-index) 18 c.loop-byte.invariant.small (omega arith))
 
 pub loop-byte-preserved : goal.loop-byte-preserved
 loop-byte-preserved c =
