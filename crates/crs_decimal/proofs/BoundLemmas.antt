@@ -14,24 +14,25 @@ use Rattle.crs_decimal.proofs.MantissaLemmas.{IsShown, shown, long_least, zero_s
 use Rattle.crs_decimal.proofs.PowerLemmas.{strip_one, scaled_grows}
 
 -- what the reader's mantissa shows
-pub cut_shows : (p : Parts) (s : Spelled) → IsCut p s → AreDigits (mantissa p) → IsShown (digits_value (mantissa p)) s.mantissa
+cut_shows : (p : Parts) (s : Spelled) → IsCut p s → AreDigits (mantissa p) → IsShown (digits_value (mantissa p)) s.mantissa
 cut_shows p s cut d = subst (IsShown (digits_value (mantissa p))) (sym cut.digits) (shown (mantissa p) d)
 
-pub long_unbounded : (p : Parts) (m : Mantissa) → IsShown (digits_value (mantissa p)) m → m.is_long ≡ true → ¬ (IsBounded p)
-long_unbounded p m s e h =
-    let l = (rw e at s).0 in
+pub long_unbounded : (p : Parts) (s : Spelled) → IsCut p s → AreDigits (mantissa p) → s.mantissa.is_long ≡ true → ¬ (IsBounded p)
+long_unbounded p s cut d e h =
+    let l = (rw e at (cut_shows p s cut d)).0 in
     elim h.measured [
       | inl z ↦ absurd (omega (arith, long_least (digits_value (mantissa p)) l))
       | inr (y, k, u, v, w, g) ↦ absurd (omega (arith, (strip_one l.0 l.1 y k (sym l.2.0 ∙ u.0) l.2.1 u.1).0, l.3))
     ]
 
 -- a short mantissa that isn't zero is stripped, and at most 38 digits
-pub short_strips : (n : ℕ) (m : Mantissa) → IsShown n m → m.is_long ≡ false → m.digits ≢ 0 → Strips n m.digits m.zeros × (m.digits < 10 ^ 38)
-short_strips n m s e ne =
-    let t = rw e at s in ((t.0, grind (arith, t.2)), t.1)
+pub short_strips : (p : Parts) (s : Spelled) → IsCut p s → AreDigits (mantissa p) → s.mantissa.is_long ≡ false → s.mantissa.digits ≢ 0 →
+    Strips (digits_value (mantissa p)) s.mantissa.digits s.mantissa.zeros × (s.mantissa.digits < 10 ^ 38)
+short_strips p s cut d e ne = let t = rw e at (cut_shows p s cut d) in ((t.0, grind (arith, t.2)), t.1)
 
-pub short_zero : (n : ℕ) (m : Mantissa) → IsShown n m → m.is_long ≡ false → m.digits ≡ 0 → n ≡ 0
-short_zero n m s e z = (rw e at s).0 ∙ zero_scaled m.digits m.zeros z
+pub short_zero : (p : Parts) (s : Spelled) → IsCut p s → AreDigits (mantissa p) → s.mantissa.is_long ≡ false → s.mantissa.digits ≡ 0 →
+    digits_value (mantissa p) ≡ 0
+short_zero p s cut d e z = (rw e at (cut_shows p s cut d)).0 ∙ zero_scaled s.mantissa.digits s.mantissa.zeros z
 
 pub strips_positive : (n m k : ℕ) → Strips n m k → 0 < n
 strips_positive n m k t = let least : m * 1 ≤ m * 10 ^ k = scaled_grows m 0 k (omega arith) in omega (arith, t.0, t.1)

@@ -3,7 +3,7 @@ use Rattle.std.proofs.lemmas.Int.{to_z-of_z}
 use Rattle.crs_decimal.specs.Bounds.{digits_value}
 use Rattle.crs_decimal.specs.Cut.{IsFar, IsPowerBetween}
 use Rattle.crs_decimal.specs.Spelling.{mantissa}
-use Rattle.crs_decimal.proofs.BoundLemmas.{cut_shows, long_unbounded, short_strips, short_zero, at_powers, far_unbounded, near_bounded, near_same, zero_same, zero_bounded}
+use Rattle.crs_decimal.proofs.BoundLemmas.{long_unbounded, short_strips, short_zero, at_powers, far_unbounded, near_bounded, near_same, zero_same, zero_bounded}
 use Rattle.crs_decimal.proofs.cutting.Spelled.decimal.Goals as goal
 use Rattle.crs_decimal.proofs.cutting.Spelled.decimal.Goals.{then-self-gt100-via-then-self-gt100, then-self-gt100-via-else-self-gt100+then-self-gt3, then-self-gt100-via-else-self-gt100+else-self-gt3+then-self}
 
@@ -11,37 +11,34 @@ pub returns-then-self-gt100 : goal.returns-then-self-gt100
 returns-then-self-gt100 c = λ p cut d h. elim c.then-self-gt100.branch [
   | then-self-gt100-via-then-self-gt100 w ↦ absurd (omega (arith, h.mantissa_digits, cut.count))
   | then-self-gt100-via-else-self-gt100+then-self-gt3 w ↦ absurd (omega (arith, h.exponent_digits, ap length cut.exponent_digits))
-  | then-self-gt100-via-else-self-gt100+else-self-gt3+then-self w ↦ absurd (long_unbounded p c.args.self.now.mantissa (cut_shows p c.args.self.now cut d) w.if-self.true h)
+  | then-self-gt100-via-else-self-gt100+else-self-gt3+then-self w ↦ absurd (long_unbounded p c.args.self.now cut d w.if-self.true h)
 ]
 
 pub returns-then-self-eq0 : goal.returns-then-self-eq0
 returns-then-self-eq0 c = λ p cut d.
-    let m = c.args.self.now.mantissa in
-    let z = short_zero (digits_value (mantissa p)) m (cut_shows p c.args.self.now cut d) c.if-self.false c.if-self-eq0.true in
+    let z = short_zero p c.args.self.now cut d c.if-self.false c.if-self-eq0.true in
     (c.zero.ensures.normal, zero_bounded p z (omega (arith, cut.count)) (omega (arith, ap length cut.exponent_digits)), rw c.zero.ensures.value (zero_same p z))
 
 pub new-requires-clause-limit : goal.new-requires-clause-limit
 new-requires-clause-limit c =
-    let cut = c.requires.cut in
-    (short_strips (digits_value (mantissa cut.0)) c.args.self.now.mantissa (cut_shows cut.0 c.args.self.now cut.1 cut.2) c.if-self.false c.if-self-eq0.false).1
+    let cut = c.requires.cut in (short_strips cut.0 c.args.self.now cut.1 cut.2 c.if-self.false c.if-self-eq0.false).1
 
 pub new-requires-clause-last : goal.new-requires-clause-last
 new-requires-clause-last c =
-    let cut = c.requires.cut in
-    (short_strips (digits_value (mantissa cut.0)) c.args.self.now.mantissa (cut_shows cut.0 c.args.self.now cut.1 cut.2) c.if-self.false c.if-self-eq0.false).0.1
+    let cut = c.requires.cut in (short_strips cut.0 c.args.self.now cut.1 cut.2 c.if-self.false c.if-self-eq0.false).0.1
 
 pub returns-in-None : goal.returns-in-None
 returns-in-None c = λ p cut d.
     let s = c.args.self.now in
     let up = c.exponent_powers-up in
-    let t = short_strips (digits_value (mantissa p)) s.mantissa (cut_shows p s cut d) c.if-self.false c.if-self-eq0.false in
+    let t = short_strips p s cut d c.if-self.false c.if-self-eq0.false in
     far_unbounded p s.mantissa t.0 (at_powers IsFar p s up.result.0 up.result.1 cut up.ensures.up up.ensures.down c.in-None.ensures)
 
 pub returns-in-Some : goal.returns-in-Some
 returns-in-Some c = λ p cut d.
     let s = c.args.self.now in
     let up = c.exponent_powers-up in
-    let t = short_strips (digits_value (mantissa p)) s.mantissa (cut_shows p s cut d) c.if-self.false c.if-self-eq0.false in
+    let t = short_strips p s cut d c.if-self.false c.if-self-eq0.false in
     let near = at_powers (λ a b. IsPowerBetween a b c.in-Some.power) p s up.result.0 up.result.1 cut up.ensures.up up.ensures.down c.in-Some.ensures in
     let fits : SFits w32 c.in-Some.power = search rules in
     let power : c.new.result.power ≡ c.in-Some.power = c.new.ensures.power ∙ to_z-of_z w32 c.in-Some.power fits in (
