@@ -47,14 +47,12 @@ same_digits (x ∷ xs) (y ∷ ys) l g h e =
     let p = and_parts (is_digit x) (list_all is_digit xs) g in
     let q = and_parts (is_digit y) (list_all is_digit ys) h in
     let same : length xs ≡ length ys = omega arith in
-    let scale = 10 ^ length ys in
-    let first : digits_value (x ∷ xs) ≡ (x - 48) * scale + digits_value xs = value-cons x xs ∙ ap (λ k. (x - 48) * 10 ^ k + digits_value xs) same in
-    let below : digits_value xs < scale = subst (λ (k : ℕ). digits_value xs < 10 ^ k) same (value-below xs p.1) in
-    let r = same_from_place (x - 48) (digits_value xs) (y - 48) (digits_value ys) scale below (value-below ys q.1) (sym first ∙ e ∙ value-cons y ys) in
+    let r = same_from_place (x - 48) (digits_value xs) (y - 48) (digits_value ys) (10 ^ length ys) (rw same at (value-below xs p.1)) (value-below ys q.1)
+    (sym (rw same at (value-cons x xs)) ∙ e ∙ value-cons y ys) in
     let low = digit_range x p.0 in
     let high = digit_range y q.0 in
     let heads : x ≡ y = omega (arith, r.0) in
-    ap (λ d. d ∷ xs) heads ∙ ap (λ ds. y ∷ ds) (same_digits xs ys same p.1 q.1 r.1)
+    rw (heads, same_digits xs ys same p.1 q.1 r.1)
 
 pub value-zeros : (n : ℕ) → digits_value (replicate n 48) ≡ 0
 value-zeros zero = refl

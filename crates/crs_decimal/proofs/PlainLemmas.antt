@@ -83,23 +83,16 @@ same_mantissa w x f g dw dx df dg tw tx nf ng e =
     let a = fraction_digits f in
     let b = fraction_digits g in
     let l = same_length w x f g df dg nf ng e in
-    let n : digits_value (w ++ a) ≡ digits_value (x ++ b) = cancelled (digits_value (w ++ a)) (digits_value (x ++ b)) (length b) (e ∙ ap (λ k. digits_value (x ++ b) * 10 ^ k) l) in
-    let left : digits_value (w ++ a) ≡ digits_value w * 10 ^ length b + digits_value a = value-append w a ∙ ap (λ k. digits_value w * 10 ^ k + digits_value a) l in
-    let below : digits_value a < 10 ^ length b = subst (λ (k : ℕ). digits_value a < 10 ^ k) l (value-below a df) in
-    let r = same_from_place (digits_value w) (digits_value a) (digits_value x) (digits_value b) (10 ^ length b) below (value-below b dg) (sym left ∙ n ∙ value-append x b) in
+    let n = cancelled (digits_value (w ++ a)) (digits_value (x ++ b)) (length b) (rw l at e) in
+    let r = same_from_place (digits_value w) (digits_value a) (digits_value x) (digits_value b) (10 ^ length b) (rw l at (value-below a df)) (value-below b dg)
+    (sym (rw l at (value-append w a)) ∙ n ∙ value-append x b) in
     (trim_one w x dw dx tw tx r.0, same_fraction f g nf ng (same_digits a b l df dg r.1))
 
 -- no zero has a minus before it
 minus_needed : (w : List ℕ) (f : Option (List ℕ)) → AreDigits w → AreDigits (fraction_digits f) → IsTrim w → IsFractionNeeded f → digits_value (w ++ fraction_digits f) ≡ 0 → (w ≢ 48 ∷ []) ⊎ (f ≢ None) → ⊥
 minus_needed w (Some ds) dw df t n z h = value_last w ds df n (ap (λ x. x % 10) z)
 minus_needed w None dw df t n z (inr h) = h refl
-minus_needed [] None dw df t n z (inl h) = absurd t
-minus_needed (d ∷ ds) None dw df (inl ne) n z (inl h) =
-    let least = trim_least d ds ne (and_parts (is_digit d) (list_all is_digit ds) dw).0 in absurd (omega (arith, power_positive (length ds), rw append-nil at z))
-minus_needed (d ∷ ds) None dw df (inr none) n z (inl h) =
-    let r = digit_range d (and_parts (is_digit d) (list_all is_digit ds) dw).0 in
-    let last : d ≡ 48 = omega (arith, rw (append-nil (d ∷ ds), none) at z) in
-    h (rw (none, last))
+minus_needed w None dw df t n z (inl h) = h (trim_one w (48 ∷ []) dw refl t (inr refl) (rw append-nil at z))
 
 same_sign : (p q : Parts) → IsSignNeeded p → IsSignNeeded q → (digits_value (mantissa p) ≡ 0 → (p.whole ≢ 48 ∷ []) ⊎ (p.fraction ≢ None) → ⊥) → (digits_value (mantissa q) ≡ 0 → (q.whole ≢ 48 ∷ []) ⊎ (q.fraction ≢ None) → ⊥) → (is_minus p.sign ≡ is_minus q.sign) ⊎ ((digits_value (mantissa p) ≡ 0) × (digits_value (mantissa q) ≡ 0)) → p.sign ≡ q.sign
 same_sign p q g h m n e = grind arith
