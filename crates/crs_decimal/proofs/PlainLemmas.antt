@@ -15,7 +15,7 @@ use Rattle.crs_decimal.proofs.DecimalLemmas.{above_some}
 use Rattle.crs_decimal.proofs.DigitLemmas.{value_after, value-append, value-cons, value-below, same_digits, digit_range}
 use Rattle.crs_decimal.proofs.MantissaLemmas.{last_digit}
 use Rattle.crs_decimal.proofs.NumberLemmas.{lowered, cancelled, symmetric, transitive}
-use Rattle.crs_decimal.proofs.PowerLemmas.{power_grows, power_positive, last_zero}
+use Rattle.crs_decimal.proofs.PowerLemmas.{power_grows, last_zero}
 use Rattle.crs_decimal.proofs.SplitLemmas.{digits_parts, parts_one}
 
 -- ---- a plain spelling is known by its number

@@ -1,9 +1,9 @@
 -- The bytes of a number are bytes of a run.
-use Rattle.std.proofs.Common.{◌≡◌, ℕ, ◌<◌, ◌==◌, ◌||◌, inl, inr, Bool, true, false, List, [], ◌∷◌, ◌++◌, length, Option, Some, None, refl, sym, subst, arith}
+use Rattle.std.proofs.Common.{◌≡◌, ℕ, ◌<◌, ◌==◌, ◌||◌, inl, inr, Bool, true, List, [], ◌∷◌, ◌++◌, length, Option, Some, None, refl, arith}
 use Rattle.std.specs.List.{list_all}
-use Rattle.std.proofs.lemmas.Bool.{and_parts, and_from, or_cases, eqb-true, false≢true}
+use Rattle.std.proofs.lemmas.Bool.{and_parts, and_from, or_cases, eqb-true}
 use Rattle.crs_decimal.specs.Plain.{IsSignNeeded, IsPlain, is_plain_byte}
-use Rattle.crs_decimal.specs.Spelling.{Sign, unsigned, plus, minus, sign_text, Exponent, Parts, fraction_text, exponent_text, parts_text, is_digit, AreDigits, fraction_digits, IsExponent, IsForm, HasForm, is_run_byte, is_run_start, IsRun}
+use Rattle.crs_decimal.specs.Spelling.{Sign, unsigned, plus, minus, sign_text, Exponent, Parts, fraction_text, exponent_text, parts_text, is_digit, AreDigits, fraction_digits, IsExponent, IsForm, HasForm, is_run_byte, IsRun}
 use Rattle.crs_decimal.proofs.SplitLemmas.{all_append, digits_parts}
 
 pub digits_pass : (p : ℕ → Bool) → ((d : ℕ) → is_digit d ≡ true → p d ≡ true) → (ds : List ℕ) → AreDigits ds → list_all p ds ≡ true
@@ -13,9 +13,6 @@ digits_pass p q (d ∷ ds) h =
 
 digit_is_run_byte : (d : ℕ) → is_digit d ≡ true → is_run_byte d ≡ true
 digit_is_run_byte d h = rw h refl
-
-digit_is_run_start : (d : ℕ) → is_digit d ≡ true → is_run_start d ≡ true
-digit_is_run_start d h = rw h refl
 
 sign_run : (s : Sign) → list_all is_run_byte (sign_text s) ≡ true
 sign_run s = grind arith
@@ -43,29 +40,19 @@ parts_pass pass digit period p h sign exponent =
     fraction None g = refl
     fraction (Some ds) g = and_from _ _ period (digits_pass pass digit ds g)
 
-starts : List ℕ → Bool
-starts [] = false
-starts (b ∷ bs) = is_run_start b
-
-text_starts : (s : Sign) (w : List ℕ) (f : Option (List ℕ)) (e : List ℕ) → AreDigits w → 0 < length (w ++ fraction_digits f) → starts (sign_text s ++ w ++ fraction_text f ++ e) ≡ true
-unfolding starts
-text_starts plus w f e d h = refl
-text_starts minus w f e d h = refl
-text_starts unsigned [] None e d h = absurd (omega arith)
-text_starts unsigned [] (Some ds) e d h = refl
-text_starts unsigned (x ∷ xs) f e d h = digit_is_run_start x (and_parts (is_digit x) (list_all is_digit xs) d).0
-
-run_from : (bs : List ℕ) → starts bs ≡ true → list_all is_run_byte bs ≡ true → IsRun bs
-unfolding starts
-run_from [] g h = absurd (false≢true g)
-run_from (b ∷ bs) g h = (g, h)
+text_run : (s : Sign) (w : List ℕ) (f : Option (List ℕ)) (e : List ℕ) → AreDigits w → 0 < length (w ++ fraction_digits f) →
+    list_all is_run_byte (sign_text s ++ w ++ fraction_text f ++ e) ≡ true → IsRun (sign_text s ++ w ++ fraction_text f ++ e)
+text_run plus w f e d h pass = (refl, pass)
+text_run minus w f e d h pass = (refl, pass)
+text_run unsigned [] None e d h pass = absurd (omega arith)
+text_run unsigned [] (Some ds) e d h pass = (refl, pass)
+text_run unsigned (x ∷ xs) f e d h pass = (rw (and_parts (is_digit x) (list_all is_digit xs) d).0, pass)
 
 pub form_is_run : (bs : List ℕ) → HasForm bs → IsRun bs
 form_is_run bs (p, h) =
     let d = digits_parts p.whole (fraction_digits p.fraction) h.1.digits in
-    let r = run_from (parts_text p) (text_starts p.sign p.whole p.fraction (exponent_text p.exponent) d.0 h.1.some)
-    (parts_pass is_run_byte digit_is_run_byte refl p h.1 (sign_run p.sign) (exponent_run p.exponent h.1.exponent)) in
-    subst IsRun (sym h.0) r
+    rw h.0 (text_run p.sign p.whole p.fraction (exponent_text p.exponent) d.0 h.1.some
+    (parts_pass is_run_byte digit_is_run_byte refl p h.1 (sign_run p.sign) (exponent_run p.exponent h.1.exponent)))
 
 -- ---- plain spellings
 

@@ -1,6 +1,6 @@
 -- What is written is the plain spelling of its value.
-use Rattle.std.proofs.Common.{◌≡◌, ◌≢◌, ℕ, suc, ◌+◌, ◌-◌, ◌*◌, ◌%◌, ◌^◌, ◌<◌, ◌≤◌, ◌⊎◌, inl, inr, Bool, true, false, if◌then◌else◌, List, [], ◌∷◌, ◌++◌, length, take, drop, replicate, decimal, Option, Some, None, refl, sym, ap, subst, ◌∙◌, arith, ℤ, pos, negsuc, append_assoc, length-append, add-zero}
-use Rattle.std.proofs.lemmas.Bool.{leb-true, ltb-true, false≢true}
+use Rattle.std.proofs.Common.{◌≡◌, ◌≢◌, ℕ, suc, ◌+◌, ◌-◌, ◌*◌, ◌%◌, ◌^◌, ◌<◌, ◌≤◌, ◌⊎◌, inl, inr, Bool, true, false, if◌then◌else◌, List, [], ◌∷◌, ◌++◌, length, take, drop, replicate, decimal, Option, Some, None, refl, sym, ap, ◌∙◌, arith, ℤ, pos, negsuc, append_assoc, length-append, add-zero}
+use Rattle.std.proofs.lemmas.Bool.{leb-true, ltb-true}
 use Rattle.std.proofs.lemmas.Fmt.{length-decimal-le_wide}
 use Rattle.std.proofs.lemmas.List.{append-nil, take-append-drop, length-replicate}
 use Rattle.std.proofs.Math.Nat.{mul-one}
@@ -9,7 +9,7 @@ use Rattle.crs_decimal.specs.Plain.{IsTrim, IsSignNeeded, IsFractionNeeded, IsPl
 use Rattle.crs_decimal.specs.Spelling.{Sign, unsigned, minus, sign_text, Parts, AreDigits, fraction_digits, fraction_text, SpellsNumber}
 use Rattle.crs_decimal.specs.Value.{Value, zero as zero_value, IsNormal, exact, is_power, up_of, down_of}
 use Rattle.crs_decimal.proofs.BoundLemmas.{same_scaled}
-use Rattle.crs_decimal.proofs.DecimalLemmas.{StartsAbove, above_some, start-append, start_trim, AreDigitsOf, decimal_digits, padded_digits, padded_value, padded_length, whole_trim, fraction_trim, fraction_length}
+use Rattle.crs_decimal.proofs.DecimalLemmas.{above_some, start-append, start_trim, AreDigitsOf, decimal_digits, padded_digits, padded_value, padded_length, whole_trim, fraction_trim, fraction_length}
 use Rattle.crs_decimal.proofs.DigitLemmas.{IsSmall, small_measured, value-append, value-zeros, zeros_are_digits}
 use Rattle.crs_decimal.proofs.MantissaLemmas.{zero_scaled}
 use Rattle.crs_decimal.proofs.NumberLemmas.{normal_parts}
@@ -70,9 +70,6 @@ written_by v w f n digits trim ends needed value places measured few short =
 positive : (n : ℕ) → n % 10 ≢ 0 → 0 < n
 positive n h = omega arith
 
-above_not_zero : (ds : List ℕ) → StartsAbove ds → ds ≢ 48 ∷ []
-above_not_zero ds h e = subst StartsAbove e h refl
-
 -- ---- whole numbers
 
 whole_value : (n d : ℕ) (ds : List ℕ) → AreDigitsOf d ds → digits_value ((ds ++ replicate n 48) ++ []) ≡ d * 10 ^ n
@@ -86,8 +83,7 @@ whole_trimmed v n ds e h (inr z) =
     rw (none, append-nil) h.trim
 
 whole_above : (v : Value) (n : ℕ) (ds : List ℕ) → AreDigitsOf v.digits ds → (v.digits % 10 ≢ 0) ⊎ (v ≡ zero_value) → v.negative ≡ true → ds ++ replicate n 48 ≢ 48 ∷ []
-whole_above v n ds h (inl last) e = above_not_zero (ds ++ replicate n 48) (start-append ds (replicate n 48) (h.start (positive v.digits last)))
-whole_above v n ds h (inr z) e = absurd (false≢true (sym (ap (λ x. x.negative) z) ∙ e))
+whole_above v n ds h last negative e = grind (arith, start-append ds (replicate n 48), h.start)
 
 whole_measured : (v : Value) (n k : ℕ) → k ≡ v.digits * 10 ^ n → n ≤ 40 → v.digits < 10 ^ 38 → (v.digits % 10 ≢ 0) ⊎ (v ≡ zero_value) → IsSmall k
 whole_measured v n k e l small last = grind (arith, zero_scaled v.digits n)
