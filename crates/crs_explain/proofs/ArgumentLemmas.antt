@@ -46,15 +46,11 @@ pub record Counted (tree : Item) (all : Siblings) (counted : ℕ) (at : Option �
   pub few : counted + count (ahead tree at) ≤ count all
 
 pub counted_none : (tree : Item) (all : Siblings) (at : Option ℕ) → IsAt tree all at → Counted tree all 0 at
-counted_none tree all at is =
-    let e : ahead tree at ≡ all = ahead_is tree all at is in
-    let f : count (ahead tree at) ≡ count all = ap count e in
-    let g : axes_among (ahead tree at) ≡ axes_among all = ap axes_among e in
-    record {
-      has = holds tree all at is;
-      same = omega (arith, g);
-      few = omega (arith, f);
-    }
+counted_none tree all at is = record {
+  has = holds tree all at is;
+  same = omega (arith, ap axes_among (ahead_is tree all at is));
+  few = omega (arith, ap count (ahead_is tree all at is));
+}
 
 pub counted_more : (tree : Item) (all : Siblings) (counted one id : ℕ) (at : Option ℕ) →
     Counted tree all counted (Some id) →
@@ -62,15 +58,11 @@ pub counted_more : (tree : Item) (all : Siblings) (counted one id : ℕ) (at : O
     IsAt tree (rest_of (here tree id)) at → Counted tree all (counted + one) at
 counted_more tree all counted one id at so_far is small follows =
     let e : ahead tree at ≡ rest_of (here tree id) = ahead_is tree _ at follows in
-    let f : axes_among (ahead tree at) ≡ axes_among (rest_of (here tree id)) = ap axes_among e in
-    let g : count (ahead tree at) ≡ count (rest_of (here tree id)) = ap count e in
-    let h : axes_among (here tree id) ≡ one + axes_among (rest_of (here tree id)) =
-    axes_first (here tree id) so_far.has ∙ ap (λ n. n + axes_among (rest_of (here tree id))) (sym is) in
-    let i : count (here tree id) ≡ 1 + count (rest_of (here tree id)) = count_first (here tree id) so_far.has in
+    let h : axes_among (here tree id) ≡ one + axes_among (rest_of (here tree id)) = rw is (axes_first (here tree id) so_far.has) in
     record {
       has = holds tree _ at follows;
-      same = omega (arith, f, h, so_far.same);
-      few = omega (arith, g, i, small, so_far.few);
+      same = omega (arith, ap axes_among e, h, so_far.same);
+      few = omega (arith, ap count e, count_first (here tree id) so_far.has, small, so_far.few);
     }
 
 -- one more is counted within what a number holds

@@ -26,27 +26,11 @@ untrue test P e tells p = true≢false (sym (tells.1 p) ∙ e)
 -- ---- the texts of a part
 
 -- of what is no set of parameters
-of-one : (level : Level) (path : List ℕ) (first second : Content) (texts : List PartTexts) →
-    ((xs ys : List ParameterParts) → first ≡ content.Parameters xs ys → ⊥) → AreTextsOfOne level path first second texts →
-    AreTextsOf level path first second texts
-of-one level path content.Nothing second texts other is = is
-of-one level path (content.Word word) second texts other is = is
-of-one level path (content.Text text) second texts other is = is
-of-one level path (content.Number value) second texts other is = is
-of-one level path (content.Unit asked unit) second texts other is = is
-of-one level path content.Metre second texts other is = is
-of-one level path (content.Meridian meridian) second texts other is = is
-of-one level path (content.Model model) second texts other is = is
-of-one level path (content.Identifiers xs ys) second texts other is = is
-of-one level path (content.Usages xs ys) second texts other is = is
-of-one level path (content.Members xs ys) second texts other is = is
-of-one level path (content.Parameters xs ys) second texts other is = absurd (other xs ys refl)
-of-one level path (content.GeoidModels xs ys) second texts other is = is
-
 pub appends-one : (level : Level) (path : List ℕ) (first second : Content) (old new : List PartTexts) →
     ((xs ys : List ParameterParts) → first ≡ content.Parameters xs ys → ⊥) →
     AppendsTexts (AreTextsOfOne level path first second) old new → AppendsTexts (AreTextsOf level path first second) old new
-appends-one level path first second old new other (texts, is, e) = (texts, of-one level path first second texts other is, e)
+appends-one level path (content.Parameters xs ys) second old new other is = absurd (other xs ys refl)
+appends-one level path first second old new other is = is
 
 -- ---- the parts of a parameter
 
@@ -66,20 +50,6 @@ module _ (level : Level) (front : List ℕ) where
     f ∙ ap (λ z. z ++ more) e ∙ append_assoc old texts more,
   )
 
-  -- the part at the front itself, which differs
-  pub told-here : (Same : Type 0) (first second : Content) (old new : List PartTexts) → ¬ Same →
-      AppendsTexts (AreTextsOfOne level front first second) old new →
-      AppendsTexts (AreTextsOfParts level front (part [] Same first second)) old new
-  told-here Same first second old new differs (texts, (one, is, are), e) = (
-    texts,
-    (
-      record { path = []; first = first; second = second } ∷ [],
-      (differs, refl, refl),
-      (one, [], is, subst (λ p. AreTextsAt level p first second one) (sym (append-nil front)) are, refl),
-    ),
-    e,
-  )
-
   -- a part that differs
   pub told : (path : List Step) (Same : Type 0) (first second : Content) (old new : List PartTexts) (at : List ℕ) (one : PartTexts) → ¬ Same →
       at ≡ front ++ further_text path → AreTextsAt level at first second one → new ≡ old ++ one ∷ [] →
@@ -94,6 +64,13 @@ module _ (level : Level) (front : List ℕ) where
     e,
   )
 
+  -- the part at the front itself, which differs
+  pub told-here : (Same : Type 0) (first second : Content) (old new : List PartTexts) → ¬ Same →
+      AppendsTexts (AreTextsOfOne level front first second) old new →
+      AppendsTexts (AreTextsOfParts level front (part [] Same first second)) old new
+  told-here Same first second old new differs (texts, (one, is, are), e) =
+      told [] Same first second old new front one differs (sym (append-nil front)) are (e ∙ ap (λ texts. old ++ texts) is)
+
 -- ---- a set of parameters
 
 module _ (level : Level) (path : List ℕ) where
@@ -101,17 +78,14 @@ module _ (level : Level) (path : List ℕ) where
   pub paired : (name : List ℕ) (p q : Option ParameterParts) (x y : ParameterParts) (old new : List PartTexts) → p ≡ Some x → q ≡ Some y →
       AppendsTexts (AreTextsOfParts level (parameter_path path name) (parts_of_parameter level x y)) old new →
       AppendsTexts (AreTextsOfName level path name p q) old new
-  paired name p q x y old new e f it =
-      subst (λ o. AppendsTexts (AreTextsOfName level path name o q) old new) (sym e)
-      (subst (λ o. AppendsTexts (AreTextsOfName level path name (Some x) o) old new) (sym f) it)
+  paired name p q x y old new e f it = rw (e, f) it
 
   -- another name
   pub alone : (name : List ℕ) (p q : Option ParameterParts) (old : List PartTexts) → (p ≡ None) ⊎ (q ≡ None) →
       AppendsTexts (AreTextsOfName level path name p q) old old
-  alone name None q old none = ([], refl, sym (append-nil old))
-  alone name (Some x) None old none = ([], refl, sym (append-nil old))
   alone name (Some x) (Some y) old (inl none) = absurd (cc)
   alone name (Some x) (Some y) old (inr none) = absurd (cc)
+  alone name p q old none = ([], refl, sym (append-nil old))
 
   -- what is left of a set
   pub others : (xs ys : List ParameterParts) (one : PartTexts) (old new : List PartTexts) →

@@ -1,7 +1,6 @@
 -- The piece of a line at a place, put together.
-use Rattle.std.proofs.Common.{◌≡◌, ℕ, ◌+◌, ◌-◌, ◌==◌, true, cond, List, ◌++◌, codes, length, take, drop, sym, ap, ◌∙◌, append_assoc, arith}
+use Rattle.std.proofs.Common.{◌≡◌, ℕ, ◌+◌, ◌-◌, ◌==◌, true, List, ◌++◌, codes, length, take, drop, sym, ap, ◌∙◌, append_assoc, arith}
 use Rattle.std.proofs.lemmas.Bool.{eq-eqb}
-use Rattle.std.proofs.lemmas.List.Sums.{sum_by-append}
 use Rattle.std.proofs.lemmas.List.{length-append, length-take-le, take-append-drop}
 use Rattle.std.proofs.lemmas.Str.Ascii.{trim_ascii_end_is}
 use Rattle.std.specs.List.{suffix_len}
@@ -10,10 +9,8 @@ use Rattle.std.specs.Str.{IsTrimAsciiEnd}
 use Rattle.std.proofs.Math.Seq.{take-append_seam, drop-append_seam}
 use Rattle.crs_text.specs.Prelude.{feeds, IsPosition}
 use Rattle.crs_text.specs.declared.position.Position.{Position}
+use Rattle.crs_streams.proofs.FeedLemmas.{feeds-append}
 use Rattle.crs_explain.specs.Excerpt.{IsExcerpt, shown_place, printed_text, blanks_below}
-
-feeds-append : (a b : List ℕ) → feeds (a ++ b) ≡ feeds a + feeds b
-feeds-append a b = sum_by-append (λ x. cond (x == 10) 1 0) a b
 
 -- a piece behind other bytes
 pub piece : (text before middle after : List ℕ) (from to : ℕ) → text ≡ before ++ (middle ++ after) → from ≡ length before → to ≡ length before + length middle →
@@ -56,13 +53,10 @@ excerpt_of text place shown p line_left line_right front left right rest lines i
     let n : shown ≡ length (x.before ++ x.left) = x.is_place ∙ sym (length-append x.before x.left) in
     let m : p.end ≡ length (x.before ++ x.left) + length x.right = x.is_end ∙ ap (λ k. k + length x.right) n in
     let r : x.right ≡ right ++ rest = sym (piece text (x.before ++ x.left) x.right x.after shown p.end (x.parts ∙ sym (append_assoc x.before x.left (x.right ++ x.after))) n m) ∙ sym b ∙ d in
-    let feed_l : feeds (front ++ left) ≡ feeds front + feeds left = feeds-append front left in
-    let feed_r : feeds (right ++ rest) ≡ feeds right + feeds rest = feeds-append right rest in
-    let feed_x : feeds (x.left ++ x.right) ≡ feeds x.left + feeds x.right = feeds-append x.left x.right in
-    let left_x : feeds x.left ≡ feeds (front ++ left) = ap feeds l in
-    let right_x : feeds x.right ≡ feeds (right ++ rest) = ap feeds r in
-    let feed_both : feeds (left ++ right) ≡ feeds left + feeds right = feeds-append left right in
-    let none : feeds (left ++ right) ≡ 0 = omega (arith, feed_l, feed_r, feed_x, left_x, right_x, feed_both, x.one_line) in
+    let left_x : feeds x.left ≡ feeds front + feeds left = ap feeds l ∙ feeds-append front left in
+    let right_x : feeds x.right ≡ feeds right + feeds rest = ap feeds r ∙ feeds-append right rest in
+    let none : feeds (left ++ right) ≡ 0 =
+    omega (arith, left_x, right_x, feeds-append left right, feeds-append x.left x.right, x.one_line) in
     let tail : x.right ++ x.after ≡ right ++ (rest ++ x.after) = ap (λ z. z ++ x.after) r ∙ append_assoc right rest x.after in
     let middle : x.left ++ (x.right ++ x.after) ≡ front ++ (left ++ (right ++ (rest ++ x.after))) =
     ap (λ z. z ++ (x.right ++ x.after)) l ∙ append_assoc front left (x.right ++ x.after) ∙ ap (λ z. front ++ (left ++ z)) tail in

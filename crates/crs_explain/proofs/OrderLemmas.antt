@@ -1,8 +1,9 @@
 -- Parts in the order of no words.
-use Rattle.std.proofs.Common.{◌≡◌, ◌∙◌, ◌∷◌, [], List, Bool, true, ap, cond, length, refl, sym}
+use Rattle.std.proofs.Common.{◌≡◌, ◌∙◌, ◌∷◌, [], List, Bool, true, ap, cond, refl, sym}
 use Rattle.std.specs.List.{filter}
 use Rattle.std.specs.List.Sorted.{ties}
 use Rattle.std.specs.Ordering.{is_lt, nat_cmp}
+use Rattle.std.proofs.lemmas.List.{nil_from_length}
 use Rattle.std.proofs.lemmas.List.Sorted.{length_permutation}
 use Rattle.crs_explain.specs.Differing.{PartTexts}
 use Rattle.crs_explain.specs.InOrder.{AreInOrder, rank}
@@ -18,12 +19,8 @@ filter-all test every (part ∷ parts) =
 abbrev ties-none : PartTexts → PartTexts → Bool
 ties-none = ties (λ x y. is_lt (nat_cmp (rank [] x) (rank [] y)))
 
-no-length : (parts : List PartTexts) → length parts ≡ 0 → parts ≡ []
-no-length [] is = refl
-no-length (part ∷ parts) is = cc
-
 pub kept : (parts ordered : List PartTexts) → AreInOrder [] parts ordered → ordered ≡ parts
-kept [] ordered is = no-length ordered (length_permutation [] ordered is.are_all)
+kept [] ordered is = nil_from_length ordered (length_permutation [] ordered is.are_all)
 kept (part ∷ parts) ordered is =
     sym (filter-all (ties-none part) (λ other. refl) ordered)
     ∙ (is.as_before part ∙ filter-all (ties-none part) (λ other. refl) (part ∷ parts))

@@ -28,31 +28,20 @@ ends_more place (first ∷ texts) text =
     rw (append_assoc first (joined texts) text, length-append first (joined texts ++ text)) (omega arith) in
     rw (ends_more (place + length first) texts text, long) refl
 
--- bytes and ends that were cut into texts, with one text more
+-- bytes and ends that were cut into texts, with one text more; they are cut into texts again
 pub more : (bytes ends new_bytes new_ends text : List ℕ) →
     bytes ≡ joined (cut 0 bytes ends) → ends ≡ ends_from 0 (cut 0 bytes ends) →
     new_bytes ≡ bytes ++ text → new_ends ≡ ends ++ length new_bytes ∷ [] →
-    cut 0 new_bytes new_ends ≡ cut 0 bytes ends ++ text ∷ []
+    (cut 0 new_bytes new_ends ≡ cut 0 bytes ends ++ text ∷ [])
+    × (new_bytes ≡ joined (cut 0 new_bytes new_ends)) × (new_ends ≡ ends_from 0 (cut 0 new_bytes new_ends))
 more bytes ends new_bytes new_ends text laid ended e f =
     let texts = cut 0 bytes ends in
-    let whole : new_bytes ≡ joined (texts ++ text ∷ []) =
-    e ∙ ap (λ z. z ++ text) laid ∙ sym (joined_more texts text) in
+    let all = texts ++ text ∷ [] in
     let long : length new_bytes ≡ 0 + length (joined texts ++ text) = omega (arith, ap length (e ∙ ap (λ z. z ++ text) laid)) in
-    let all : new_ends ≡ ends_from 0 (texts ++ text ∷ []) =
+    let now_laid : new_bytes ≡ joined all = e ∙ ap (λ z. z ++ text) laid ∙ sym (joined_more texts text) in
+    let now_ended : new_ends ≡ ends_from 0 all =
     f ∙ ap (λ z. z ++ length new_bytes ∷ []) ended ∙ ap (λ z. ends_from 0 texts ++ z ∷ []) long
     ∙ sym (ends_more 0 texts text) in
-    ap (λ z. cut 0 z new_ends) whole ∙ ap (λ z. cut 0 (joined (texts ++ text ∷ [])) z) all ∙ cut_joined 0 (texts ++ text ∷ [])
-
--- they are cut into texts again
-pub invariant_more : (bytes ends new_bytes new_ends text : List ℕ) →
-    bytes ≡ joined (cut 0 bytes ends) → ends ≡ ends_from 0 (cut 0 bytes ends) →
-    new_bytes ≡ bytes ++ text → new_ends ≡ ends ++ length new_bytes ∷ [] →
-    (new_bytes ≡ joined (cut 0 new_bytes new_ends)) × (new_ends ≡ ends_from 0 (cut 0 new_bytes new_ends))
-invariant_more bytes ends new_bytes new_ends text laid ended e f =
-    let texts = cut 0 bytes ends in
-    let is = more bytes ends new_bytes new_ends text laid ended e f in
-    let long : length new_bytes ≡ 0 + length (joined texts ++ text) = omega (arith, ap length (e ∙ ap (λ z. z ++ text) laid)) in (
-      e ∙ ap (λ z. z ++ text) laid ∙ sym (joined_more texts text) ∙ ap joined (sym is),
-      f ∙ ap (λ z. z ++ length new_bytes ∷ []) ended ∙ ap (λ z. ends_from 0 texts ++ z ∷ []) long
-          ∙ sym (ends_more 0 texts text) ∙ ap (ends_from 0) (sym is),
-    )
+    let is : cut 0 new_bytes new_ends ≡ all =
+    ap (λ z. cut 0 z new_ends) now_laid ∙ ap (λ z. cut 0 (joined all) z) now_ended ∙ cut_joined 0 all in
+    (is, now_laid ∙ ap joined (sym is), now_ended ∙ ap (ends_from 0) (sym is))

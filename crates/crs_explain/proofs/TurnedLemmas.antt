@@ -1,75 +1,62 @@
 -- Two sets of parameters in the other order have the same texts, each with its values exchanged.
-use Rattle.std.proofs.Common.{◌≡◌, ◌∙◌, ◌&&◌, ◌↔◌, ℕ, Bool, true, false, if◌then◌else◌, Option, Some, None, List, [], ◌∷◌, map, refl, ap, subst}
+use Rattle.std.proofs.Common.{◌≡◌, ◌∙◌, ◌↔◌, ℕ, true, if◌then◌else◌, Option, Some, None, List, [], ◌∷◌, map, refl, ap, subst}
+use Rattle.std.proofs.Math.Bool.{and_comm}
 use Rattle.std.proofs.lemmas.List.{map-append}
 use Rattle.std.specs.Option.{is_some}
 use Rattle.crs_decimal.specs.Prelude.{Value}
 use Rattle.crs_shape.specs.declared.unit_kind.UnitKind.TheVariants as kinds
-use Rattle.crs_value.specs.Prelude.{ParameterParts, kept, IsIn, UnitParts}
+use Rattle.crs_value.specs.Prelude.{ParameterParts, IsIn, UnitParts}
 use Rattle.crs_value.specs.Values.{IdentParts}
 use Rattle.crs_value.specs.declared.values.level.Level.{Level}
 use Rattle.crs_matching.specs.Prelude.{SameIdents, SameUnit, SameValue, BothOrNeither}
-use Rattle.crs_same.specs.Prelude.{given, ◌⨾◌, DifferenceParts, Differences, Parts, exchanged, part, identifiers, numbers, units}
+use Rattle.crs_same.specs.Prelude.{◌⨾◌, DifferenceParts, Differences, Parts, exchanged, part}
 use Rattle.crs_same.specs.declared.content.Content.{Content}
-use Rattle.crs_same.specs.declared.content.Content.TheVariants as content
 use Rattle.crs_same.specs.declared.step.Step.{Step}
-use Rattle.crs_same.specs.declared.step.Step.TheVariants as step
 use Rattle.crs_canon.specs.Named.{ArePairedNames, named_once}
-use Rattle.crs_explain.specs.DifferingSets.{AreTextsBehind, AreTextsOfName, AreTextsOfNames, AreTextsOfOthers, AreTextsOfSet, are_empty, parameter_path, parts_of_parameter, unless_empty}
+use Rattle.crs_explain.specs.DifferingSets.{AreTextsBehind, AreTextsOfName, AreTextsOfNames, AreTextsOfOthers, AreTextsOfSet, are_empty, parameter_path, parts_of_parameter}
 use Rattle.crs_explain.specs.DifferingTexts.{PartTexts, texts_exchanged}
-use Rattle.crs_explain.proofs.ToldLemmas.{turned}
 
 abbrev Turned : List PartTexts → List PartTexts
 Turned texts = map texts_exchanged texts
 
 -- ---- parts
 
-abbrev Turns : Parts → Parts → Type 0
-Turns these those = (found : List DifferenceParts) → Differences these found → Differences those (map exchanged found)
+-- what differs among these parts does so among those, with its values exchanged
+record Turns (these those : Parts) : Type 0 where
+  turns : (found : List DifferenceParts) → Differences these found → Differences those (map exchanged found)
 
-one : (path : List Step) (Same Other : Type 0) (first second : Content) → (Same → Other) → (Other → Same) →
+one : {path : List Step} {Same Other : Type 0} {first second : Content} → (Same → Other) → (Other → Same) →
     Turns (part path Same first second) (part path Other second first)
-one path Same Other first second there back [] same = there same
-one path Same Other first second there back (d ∷ further) (differs, is, last) =
-    (λ other. differs (back other), ap exchanged is, ap (map exchanged) last)
+one {path} {Same} {Other} {first} {second} there back = record { turns = each }
+  where
+    each : (found : List DifferenceParts) → Differences (part path Same first second) found →
+        Differences (part path Other second first) (map exchanged found)
+    each [] same = there same
+    each (d ∷ further) (differs, is, last) = (λ other. differs (back other), ap exchanged is, ap (map exchanged) last)
 
-both : (these those others more : Parts) → Turns these those → Turns others more → Turns (these ⨾ others) (those ⨾ more)
-both these those others more f g found (front, back, is, here, there) =
-    (map exchanged front, map exchanged back, ap (map exchanged) is ∙ map-append exchanged front back, f front here, g back there)
+both : {these those others more : Parts} → Turns these those → Turns others more → Turns (these ⨾ others) (those ⨾ more)
+both f g = record {
+  turns = λ found (front, back, is, here, there).
+      (map exchanged front, map exchanged back, ap (map exchanged) is ∙ map-append exchanged front back, f.turns front here, g.turns back there);
+}
 
 -- ---- whether there is a value
 
-turned-empty : (first second : List ℕ) → are_empty first second ≡ are_empty second first
-turned-empty [] [] = refl
-turned-empty [] (b ∷ second) = refl
-turned-empty (a ∷ first) [] = refl
-turned-empty (a ∷ first) (b ∷ second) = refl
-
-turned-if : (b : Bool) (one : PartTexts) → Turned (if b then [] else one ∷ []) ≡ (if b then [] else texts_exchanged one ∷ [])
-turned-if true one = refl
-turned-if false one = refl
-
-turned-unless : (one : PartTexts) → Turned (unless_empty one) ≡ unless_empty (texts_exchanged one)
-turned-unless one =
-    turned-if (are_empty one.first one.second) one
-    ∙ ap (λ b. if b then [] else texts_exchanged one ∷ []) (turned-empty one.first one.second)
+turned-unless : (first second : List ℕ) (one : PartTexts) →
+    Turned (if are_empty first second then [] else one ∷ []) ≡ (if are_empty second first then [] else texts_exchanged one ∷ [])
+turned-unless [] [] one = refl
+turned-unless [] (b ∷ second) one = refl
+turned-unless (a ∷ first) [] one = refl
+turned-unless (a ∷ first) (b ∷ second) one = refl
 
 module _ (level : Level) (value : (a b : Value) → SameValue a b → SameValue b a)
     (unit : (a b : Option UnitParts) → BothOrNeither (SameUnit kinds.Plain level) a b → BothOrNeither (SameUnit kinds.Plain level) b a)
     (idents : (a b : List IdentParts) → SameIdents level a b → SameIdents level b a) where
   parameter : (x y : ParameterParts) → Turns (parts_of_parameter level x y) (parts_of_parameter level y x)
   parameter x y =
-      both (numbers [] x.value y.value) (numbers [] y.value x.value)
-      (units (step.Unit ∷ []) level kinds.Plain kinds.Plain x.unit y.unit ⨾ identifiers (step.Id ∷ []) level x.identifiers y.identifiers)
-      (units (step.Unit ∷ []) level kinds.Plain kinds.Plain y.unit x.unit ⨾ identifiers (step.Id ∷ []) level y.identifiers x.identifiers)
-      (one [] (SameValue x.value y.value) (SameValue y.value x.value) (content.Number x.value) (content.Number y.value)
-      (value x.value y.value) (value y.value x.value))
-      (both (units (step.Unit ∷ []) level kinds.Plain kinds.Plain x.unit y.unit) (units (step.Unit ∷ []) level kinds.Plain kinds.Plain y.unit x.unit)
-      (identifiers (step.Id ∷ []) level x.identifiers y.identifiers) (identifiers (step.Id ∷ []) level y.identifiers x.identifiers)
-      (one (step.Unit ∷ []) (BothOrNeither (SameUnit kinds.Plain level) x.unit y.unit) (BothOrNeither (SameUnit kinds.Plain level) y.unit x.unit)
-      (given (content.Unit kinds.Plain) x.unit) (given (content.Unit kinds.Plain) y.unit) (unit x.unit y.unit) (unit y.unit x.unit))
-      (one (step.Id ∷ []) (SameIdents level x.identifiers y.identifiers) (SameIdents level y.identifiers x.identifiers)
-      (content.Identifiers (kept level x.identifiers) (kept level y.identifiers)) (content.Identifiers (kept level y.identifiers) (kept level x.identifiers))
-      (idents x.identifiers y.identifiers) (idents y.identifiers x.identifiers)))
+      both (one (value x.value y.value) (value y.value x.value))
+      (both (one (unit x.unit y.unit) (unit y.unit x.unit))
+      (one (idents x.identifiers y.identifiers) (idents y.identifiers x.identifiers)))
 
   behind : (front : List ℕ) (found : List DifferenceParts) (texts : List PartTexts) → AreTextsBehind level front found texts →
       AreTextsBehind level front (map exchanged found) (Turned texts)
@@ -80,7 +67,7 @@ module _ (level : Level) (value : (a b : Value) → SameValue a b → SameValue 
   name-of : (path name : List ℕ) (p q : Option ParameterParts) (texts : List PartTexts) → AreTextsOfName level path name p q texts →
       AreTextsOfName level path name q p (Turned texts)
   name-of path name (Some x) (Some y) texts (found, differ, are) =
-      (map exchanged found, parameter x y found differ, behind (parameter_path path name) found texts are)
+      (map exchanged found, (parameter x y).turns found differ, behind (parameter_path path name) found texts are)
   name-of path name (Some x) None texts e = ap Turned e
   name-of path name None (Some y) texts e = ap Turned e
   name-of path name None None texts e = ap Turned e
@@ -99,13 +86,13 @@ module _ (level : Level) (value : (a b : Value) → SameValue a b → SameValue 
   others-of : (path : List ℕ) (xs ys : List ParameterParts) (texts : List PartTexts) → AreTextsOfOthers level path xs ys texts →
       AreTextsOfOthers level path ys xs (Turned texts)
   others-of path xs ys texts (one, e, (here, first, second)) =
-      (texts_exchanged one, ap Turned e ∙ turned-unless one, (here, second, first))
+      (texts_exchanged one, ap Turned e ∙ turned-unless one.first one.second one, (here, second, first))
 
   paired : (xs ys : List ParameterParts) (names : List (List ℕ)) → ArePairedNames xs ys names → ArePairedNames ys xs names
   paired xs ys names are = record {
     ascend = are.ascend;
     same = λ name.
-        subst (λ b. IsIn name names ↔ (b ≡ true)) (turned (is_some (named_once name xs)) (is_some (named_once name ys))) (are.same name);
+        subst (λ b. IsIn name names ↔ (b ≡ true)) (and_comm (is_some (named_once name xs)) (is_some (named_once name ys))) (are.same name);
   }
 
   pub set-of : (path : List ℕ) (xs ys : List ParameterParts) (texts : List PartTexts) → AreTextsOfSet level path xs ys texts →

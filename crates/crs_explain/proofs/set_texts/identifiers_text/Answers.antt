@@ -1,4 +1,4 @@
-use Rattle.std.proofs.Common.{◌≡◌, ◌∙◌, ap, rules, subst}
+use Rattle.std.proofs.Common.{◌≡◌, ◌∙◌, ap, rules}
 use Rattle.crs_value.specs.Prelude.{kept}
 use Rattle.crs_same.specs.declared.content.Content.TheVariants as content
 use Rattle.crs_canon.specs.ContentText.{IsContentText}
@@ -11,5 +11,4 @@ returns c =
     let these : c.kept-these.result.now ≡ kept level c.args.these.now = c.kept-these.ensures ∙ ap (kept level) c.as_slice.ensures in
     let others : c.kept-others.result.now ≡ kept level c.args.others.now = c.kept-others.ensures ∙ ap (kept level) c.as_slice-2.ensures in
     let is : IsContentText level (content.Identifiers c.kept-these.result.now c.kept-others.result.now) text = search rules in
-    subst (λ xs. IsContentText level (content.Identifiers xs (kept level c.args.others.now)) text) these
-    (subst (λ ys. IsContentText level (content.Identifiers c.kept-these.result.now ys) text) others is)
+    rw (these, others) at is
