@@ -15,20 +15,18 @@ use Rattle.crs_calls.specs.Turns.{IsTurn, IsWritten, refused_entry, with_bytes}
 pub answered_more : (level : Level) (texts : List ℕ) (at : ℕ) (entries answered : List Entry) (written : List ℕ) (entry one : Entry) (own : List ℕ) →
     AreAnsweredBy level texts at entries answered written → IsAnsweredBy level texts (at + length written) entry one own →
     AreAnsweredBy level texts at (entries ++ entry ∷ []) (answered ++ one ∷ []) (written ++ own)
-answered_more level texts at [] answered written entry one own are is =
-    let here : at + length written ≡ at = omega (arith, ap length are.1) in (
-      one,
-      [],
-      own,
-      [],
-      ap (λ z. z ++ one ∷ []) are.0,
-      ap (λ z. z ++ own) are.1 ∙ sym (append-nil own),
-      subst (λ place. IsAnsweredBy level texts place entry one own) here is,
-      (refl, refl),
-    )
+answered_more level texts at [] answered written entry one own are is = (
+  one,
+  [],
+  own,
+  [],
+  ap (λ z. z ++ one ∷ []) are.0,
+  ap (λ z. z ++ own) are.1 ∙ sym (append-nil own),
+  subst (λ place. IsAnsweredBy level texts place entry one own) (omega (arith, ap length are.1)) is,
+  (refl, refl),
+)
 answered_more level texts at (first ∷ entries) answered written entry one own (new, others, begun, rest, e, f, is_first, are) is =
-    let there : at + length written ≡ (at + length begun) + length rest = omega (arith, ap length f, length-append begun rest) in
-    let further = subst (λ place. IsAnsweredBy level texts place entry one own) there is in (
+    let there : at + length written ≡ (at + length begun) + length rest = omega (arith, ap length f, length-append begun rest) in (
       new,
       others ++ one ∷ [],
       begun,
@@ -36,7 +34,7 @@ answered_more level texts at (first ∷ entries) answered written entry one own 
       ap (λ z. z ++ one ∷ []) e,
       ap (λ z. z ++ own) f ∙ append_assoc begun rest own,
       is_first,
-      answered_more level texts (at + length begun) entries others rest entry one own are further,
+      answered_more level texts (at + length begun) entries others rest entry one own are (rw there at is),
     )
 
 -- what became of the first entries, and of the buffer
@@ -64,21 +62,6 @@ nothing_yet level texts old out = record {
   is_out = refl;
 }
 
--- the buffer keeps its length
-pub same_room : (level : Level) (texts : List ℕ) (old : List Entry) (out : List ℕ) (index at : ℕ) (now : List Entry) (out_now : List ℕ) →
-    SoFar level texts old out index at now out_now → length out_now ≡ length out
-same_room level texts old out index at now out_now s =
-    let long = ap length s.is_out ∙ length-append s.written (drop (length s.written) out) in
-    let left = length-drop (length s.written) out in
-    omega (arith, long, left, s.fits)
-
--- the next entry is as before
-pub next_is : (level : Level) (texts : List ℕ) (old : List Entry) (out : List ℕ) (index at : ℕ) (now : List Entry) (out_now : List ℕ) (d : Entry) →
-    index < length old → SoFar level texts old out index at now out_now → get_or now index d ≡ get_or old index d
-next_is level texts old out index at now out_now d lt s =
-    ap (λ z. get_or z index d) (s.entries ∙ ap (λ z. s.answered ++ z) (drop_more old index d lt))
-    ∙ get_or_at s.answered (get_or old index d) (drop (index + 1) old) d index s.many
-
 -- where an answered entry ends
 pub ends_there : (level : Level) (texts : List ℕ) (at : ℕ) (entry one : Entry) (own : List ℕ) →
     IsAnsweredBy level texts at entry one own → one.written_end ≡ at + length own
@@ -87,43 +70,6 @@ ends_there level texts at entry one own (inr (refusal, is, none, e)) =
     let end = ap (λ (x : Entry). x.written_end) e in
     let long = ap length none in
     omega (arith, end, long)
-
--- one entry more is answered
-pub one_more : (level : Level) (texts : List ℕ) (old : List Entry) (out : List ℕ) (index at : ℕ) (now : List Entry) (out_now : List ℕ)
-    (d one : Entry) (own new_out : List ℕ) → index < length old → SoFar level texts old out index at now out_now →
-    IsAnsweredBy level texts at (get_or now index d) one own → at + length own ≤ length out_now →
-    new_out ≡ with_bytes at own out_now →
-    SoFar level texts old out (index + 1) one.written_end (slice_set now index one) new_out
-one_more level texts old out index at now out_now d one own new_out lt s is room written =
-    let entry = get_or old index d in
-    let here = s.place in
-    let begins : at ≡ 0 + length s.written = omega (arith, here) in
-    let is_next : IsAnsweredBy level texts (0 + length s.written) entry one own =
-    subst (λ place. IsAnsweredBy level texts place entry one own) begins
-    (subst (λ e. IsAnsweredBy level texts at e one own) (next_is level texts old out index at now out_now d lt s) is) in
-    let long = same_room level texts old out index at now out_now s in
-    let front : take at out_now ≡ s.written =
-    ap (λ z. take at z) s.is_out ∙ take_at s.written (drop (length s.written) out) at (sym here) in
-    let sum : at + length own ≡ length s.written + length own = omega (arith, here) in
-    let all : length (s.written ++ own) ≡ length s.written + length own = length-append s.written own in
-    let rest : drop (at + length own) out_now ≡ drop (length (s.written ++ own)) out =
-    ap (λ n. drop n out_now) sum ∙ sym (drop-drop (length own) (length s.written) out_now)
-    ∙ ap (λ z. drop (length own) z) (ap (λ z. drop (length s.written) z) s.is_out ∙ drop_at s.written (drop (length s.written) out) (length s.written) refl)
-    ∙ drop-drop (length own) (length s.written) out ∙ ap (λ n. drop n out) (sym all) in
-    record {
-      answered = s.answered ++ one ∷ [];
-      written = s.written ++ own;
-      are = subst (λ es. AreAnsweredBy level texts 0 es (s.answered ++ one ∷ []) (s.written ++ own)) (sym (take_more old index d lt))
-          (answered_more level texts 0 (take index old) s.answered s.written entry one own s.are is_next);
-      many = omega (arith, length-append s.answered (one ∷ []), s.many);
-      entries = ap (λ z. slice_set z index one) (s.entries ∙ ap (λ z. s.answered ++ z) (drop_more old index d lt))
-          ∙ set_at s.answered entry (drop (index + 1) old) one index s.many
-          ∙ sym (append_assoc s.answered (one ∷ []) (drop (index + 1) old));
-      place = ends_there level texts at (get_or now index d) one own is ∙ sum ∙ sym all;
-      fits = omega (arith, room, sum, all, long);
-      is_out = written ∙ ap (λ z. z ++ (own ++ drop (at + length own) out_now)) front
-          ∙ ap (λ z. s.written ++ (own ++ z)) rest ∙ sym (append_assoc s.written own (drop (length (s.written ++ own)) out));
-    }
 
 -- a turn that writes a canonical text, or lacks the room
 pub turn_written : (level : Level) (texts : List ℕ) (at : ℕ) (entry : Entry) (out bytes : List ℕ) (one : Entry) (new_out : List ℕ) (code : ℕ) →
@@ -166,49 +112,80 @@ turn_ends level texts at entry out one new_out code (inl (own, is, room, written
 turn_ends level texts at entry out one new_out code (inr (inl (needs, same, five))) other = (same, inl (needs, five))
 turn_ends level texts at entry out one new_out code (inr (inr (same, three))) other = (same, inr three)
 
--- all entries before one are answered, and the call ends there
-pub ends_before : (level : Level) (texts : List ℕ) (old : List Entry) (out : List ℕ) (index at : ℕ) (now : List Entry) (out_now : List ℕ)
-    (d : Entry) (new_out : List ℕ) (code : ℕ) → index < length old → SoFar level texts old out index at now out_now → new_out ≡ out_now →
-    ((NeedsMore level texts (length out_now - at) (get_or now index d) × (code ≡ 5)) ⊎ (code ≡ 3)) →
-    IsEachAt level texts (record { entries = old; out = out; done = 0 }) (record { entries = now; out = new_out; done = index }) code
-unfolding IsEachAt
-ends_before level texts old out index at now out_now d new_out code lt s same why =
-    let here = s.place in
-    let long = same_room level texts old out index at now out_now s in
-    let room : length out_now - at ≡ length out - length s.written = omega (arith, long, here) in
-    let Why : ℕ → Entry → Type 0 = λ n e. (NeedsMore level texts n e × (code ≡ 5)) ⊎ (code ≡ 3) in
-    let there : Why (length out - length s.written) (get_or old index d) =
-    subst (λ n. Why n (get_or old index d)) room
-    (subst (λ e. Why (length out_now - at) e) (next_is level texts old out index at now out_now d lt s) why) in (
-      take index old,
-      s.answered,
-      drop index old,
-      s.written,
-      sym (take-append-drop index old),
-      s.entries,
-      s.are,
-      s.fits,
-      same ∙ s.is_out,
-      sym (length-take-le index old (omega (arith, lt))),
-      subst (λ left. EndsAt level texts (length out - length s.written) left code) (sym (drop_more old index d lt)) there,
-    )
+-- ---- what became of the first entries, and of the next
 
--- all entries are answered
-pub ends_behind : (level : Level) (texts : List ℕ) (old : List Entry) (out : List ℕ) (index at : ℕ) (now : List Entry) (out_now : List ℕ) (count : ℕ) →
-    length old ≡ index → SoFar level texts old out index at now out_now → count ≡ index →
-    IsEachAt level texts (record { entries = old; out = out; done = 0 }) (record { entries = now; out = out_now; done = count }) 0
-unfolding IsEachAt
-ends_behind level texts old out index at now out_now count end s all =
-    let none : drop index old ≡ [] = drop_all index old (omega (arith, end)) in (
-      take index old,
-      s.answered,
-      drop index old,
-      s.written,
-      sym (take-append-drop index old),
-      s.entries,
-      s.are,
-      s.fits,
-      s.is_out,
-      all ∙ sym (length-take-le index old (omega (arith, end))),
-      subst (λ left. EndsAt level texts (length out - length s.written) left 0) (sym none) refl,
-    )
+module _ {level : Level} {texts : List ℕ} {old : List Entry} {out : List ℕ} {index at : ℕ} {now : List Entry} {out_now : List ℕ}
+    (s : SoFar level texts old out index at now out_now) where
+  -- the buffer keeps its length
+  pub same_room : length out_now ≡ length out
+  same_room =
+      let long : length out_now ≡ length s.written + length (drop (length s.written) out) =
+      ap length s.is_out ∙ length-append s.written (drop (length s.written) out) in
+      omega (arith, long, length-drop (length s.written) out, s.fits)
+
+  -- the next entry is as before
+  next_is : (d : Entry) → index < length old → get_or now index d ≡ get_or old index d
+  next_is d lt =
+      ap (λ z. get_or z index d) (s.entries ∙ ap (λ z. s.answered ++ z) (drop_more old index d lt))
+      ∙ get_or_at s.answered (get_or old index d) (drop (index + 1) old) d index s.many
+
+  -- one entry more is answered
+  pub one_more : (d one : Entry) (own new_out : List ℕ) → index < length old → IsAnsweredBy level texts at (get_or now index d) one own →
+      at + length own ≤ length out_now → new_out ≡ with_bytes at own out_now →
+      SoFar level texts old out (index + 1) one.written_end (slice_set now index one) new_out
+  one_more d one own new_out lt is room written =
+      let begins : at ≡ 0 + length s.written = omega (arith, s.place) in
+      let is_next : IsAnsweredBy level texts (0 + length s.written) (get_or old index d) one own = rw (begins, next_is d lt) at is in
+      let front : take at out_now ≡ s.written =
+      ap (λ z. take at z) s.is_out ∙ take_at s.written (drop (length s.written) out) at (sym s.place) in
+      let sum : at + length own ≡ length s.written + length own = omega (arith, s.place) in
+      let all : length (s.written ++ own) ≡ length s.written + length own = length-append s.written own in
+      let rest : drop (at + length own) out_now ≡ drop (length (s.written ++ own)) out =
+      ap (λ n. drop n out_now) sum ∙ sym (drop-drop (length own) (length s.written) out_now)
+      ∙ ap (λ z. drop (length own) z) (ap (λ z. drop (length s.written) z) s.is_out ∙ drop_at s.written (drop (length s.written) out) (length s.written) refl)
+      ∙ drop-drop (length own) (length s.written) out ∙ ap (λ n. drop n out) (sym all) in
+      record {
+        answered = s.answered ++ one ∷ [];
+        written = s.written ++ own;
+        are = rw (take_more old index d lt) (answered_more level texts 0 (take index old) s.answered s.written (get_or old index d) one own s.are is_next);
+        many = omega (arith, length-append s.answered (one ∷ []), s.many);
+        entries = ap (λ z. slice_set z index one) (s.entries ∙ ap (λ z. s.answered ++ z) (drop_more old index d lt))
+            ∙ set_at s.answered (get_or old index d) (drop (index + 1) old) one index s.many
+            ∙ sym (append_assoc s.answered (one ∷ []) (drop (index + 1) old));
+        place = ends_there level texts at (get_or now index d) one own is ∙ sum ∙ sym all;
+        fits = omega (arith, room, sum, all, same_room);
+        is_out = written ∙ ap (λ z. z ++ (own ++ drop (at + length own) out_now)) front
+            ∙ ap (λ z. s.written ++ (own ++ z)) rest ∙ sym (append_assoc s.written own (drop (length (s.written ++ own)) out));
+      }
+
+  -- the call ends there
+  ends : (new_out : List ℕ) (done code : ℕ) → new_out ≡ out_now → done ≡ index → index ≤ length old →
+      EndsAt level texts (length out - length s.written) (drop index old) code →
+      IsEachAt level texts (record { entries = old; out = out; done = 0 }) (record { entries = now; out = new_out; done = done }) code
+  unfolding IsEachAt
+  ends new_out done code same all le end = (
+    take index old,
+    s.answered,
+    drop index old,
+    s.written,
+    sym (take-append-drop index old),
+    s.entries,
+    s.are,
+    s.fits,
+    same ∙ s.is_out,
+    all ∙ sym (length-take-le index old le),
+    end,
+  )
+
+  -- before the next entry
+  pub ends_before : (d : Entry) (new_out : List ℕ) (code : ℕ) → index < length old → new_out ≡ out_now →
+      ((NeedsMore level texts (length out_now - at) (get_or now index d) × (code ≡ 5)) ⊎ (code ≡ 3)) →
+      IsEachAt level texts (record { entries = old; out = out; done = 0 }) (record { entries = now; out = new_out; done = index }) code
+  ends_before d new_out code lt same why =
+      let room : length out_now - at ≡ length out - length s.written = omega (arith, same_room, s.place) in
+      ends new_out index code same refl (omega (arith, lt)) (rw (drop_more old index d lt, ← room, ← next_is d lt) why)
+
+  -- behind all entries
+  pub ends_behind : (count : ℕ) → length old ≡ index → count ≡ index →
+      IsEachAt level texts (record { entries = old; out = out; done = 0 }) (record { entries = now; out = out_now; done = count }) 0
+  ends_behind count end all = ends out_now count 0 refl all (omega (arith, end)) (rw (drop_all index old (omega (arith, end))) refl)

@@ -8,24 +8,19 @@ loop-index-init c = nothing_yet c.args.level c.args.texts.now c.args.entries.now
 pub answer-code-requires : goal.answer-code-requires
 answer-code-requires c =
     let s = c.loop-index.invariant in
-    let long = same_room c.args.level c.args.texts.now c.args.entries.now c.args.out.now c.loop-index.index c.loop-index.at c.loop-index.entries c.loop-index.out s in
-    omega (arith, s.place, s.fits, long)
+    omega (arith, s.place, s.fits, same_room s)
 
 pub returns-then-code-ne-OK : goal.returns-then-code-ne-OK
 returns-then-code-ne-OK c =
-    let s = c.loop-index.invariant in
-    let turn = c.answer-code.ensures in
-    let end = turn_ends c.args.level c.args.texts.now c.loop-index.at _ c.loop-index.out _ _ _ turn c.if-code-ne-OK.true in
-    ends_before c.args.level c.args.texts.now c.args.entries.now c.args.out.now c.loop-index.index c.loop-index.at c.loop-index.entries c.loop-index.out _ c.answer-code.new.out _ c.loop-index-test.true s end.0 end.1
+    let end = turn_ends c.args.level c.args.texts.now c.loop-index.at _ c.loop-index.out _ _ _ c.answer-code.ensures c.if-code-ne-OK.true in
+    ends_before c.loop-index.invariant _ c.answer-code.new.out _ c.loop-index-test.true end.0 end.1
 
 pub loop-index-preserved : goal.loop-index-preserved
 loop-index-preserved c =
-    let s = c.loop-index.invariant in
     let turn = turn_done c.args.level c.args.texts.now c.loop-index.at _ c.loop-index.out _ _ _ c.answer-code.ensures c.if-code-ne-OK.false in
-    one_more c.args.level c.args.texts.now c.args.entries.now c.args.out.now c.loop-index.index c.loop-index.at c.loop-index.entries c.loop-index.out _ c.answer-code.result.0 turn.0 c.answer-code.new.out c.loop-index-test.true s turn.1 turn.2 turn.3
+    one_more c.loop-index.invariant _ c.answer-code.result.0 turn.0 c.answer-code.new.out c.loop-index-test.true turn.1 turn.2 turn.3
 
 pub returns : goal.returns
 returns c =
-    let s = c.loop-index.invariant in
     let end : length c.args.entries.now ≡ c.loop-index.index = omega (arith, c.loop-index-test.false, c.loop-index.auto.index-end) in
-    ends_behind c.args.level c.args.texts.now c.args.entries.now c.args.out.now c.loop-index.index c.loop-index.at c.loop-index.entries c.loop-index.out _ end s (c.loop-index.auto.entries ∙ end)
+    ends_behind c.loop-index.invariant _ end (c.loop-index.auto.entries ∙ end)
