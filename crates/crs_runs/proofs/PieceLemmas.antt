@@ -1,29 +1,12 @@
 -- What a feeder holds of a text: from piece to piece, and what it answers at the end.
-use Rattle.std.proofs.Common.{◌≡◌, ◌++◌, ◌≤◌, ℕ, Bool, true, false, List, Some, inl, inr, subst, sym, arith, take, length, length-append, length-take, Result, Ok, Err, MatchResult}
-use Rattle.std.specs.Io.{ReadsAtMost}
-use Rattle.std.specs.Io.KnownBytes.{ReadConsumes}
-use Rattle.std.proofs.KnownBytes.{Consumes-trans}
+use Rattle.std.proofs.Common.{◌≡◌, ◌++◌, ℕ, Bool, true, false, List, Some, inl, inr, subst, sym, Result, Ok, Err, MatchResult}
 use Rattle.crs_text.specs.Prelude.{refusal_of, Item, RefusedAt, IsSettledRefusal, SpellsNode, RefusesText, IsTextFault}
 use Rattle.crs_text.specs.declared.fault.Fault.{Fault}
 use Rattle.crs_text.specs.declared.fault.Fault.TheVariants as faults
 use Rattle.crs_value.specs.declared.values.crs.Crs.{Crs}
 use Rattle.crs_value.specs.declared.values.crs.Kind.{Kind}
 use Rattle.crs_value.specs.Prelude.{kind_of, SpellsCrs, RefusesCrs, SpellsKind, Refuses}
-use Rattle.crs_streams.specs.Prelude.{HasGiven, CountsRead, SourceState}
 use Rattle.crs_runs.specs.Pieces.{IsHeld, IsWholeHeld}
-
--- what a source has given, with one more read
-pub given-read : {E : Type 0} (old now new : SourceState) (text room : List ℕ) (answer : Result ℕ E) (count : ℕ)
-    → HasGiven old now text → ReadConsumes now.remaining new.remaining answer room → CountsRead now new answer
-    → ReadsAtMost answer room → answer ≡ Ok count → HasGiven old new (text ++ take count room)
-given-read old now new text room answer count given consumed counted bound got =
-    let gone = subst (λ r. ReadConsumes now.remaining new.remaining r room) got consumed in
-    let more = (subst (CountsRead now new) got counted).bytes in
-    let fits = subst (λ r. ReadsAtMost r room) got bound in
-    let within : count ≤ length room = fits.0 in record {
-      is_counted = omega (arith, length-append text (take count room), length-take count room, given.is_counted, more.0);
-      is_first = Consumes-trans old.remaining now.remaining new.remaining text (take count room) given.is_first gone.0;
-    }
 
 -- at the end what is held is the text, or its front
 pub whole-held : (refused : Bool) (text held : List ℕ) → IsHeld refused text held → IsWholeHeld text held

@@ -1,6 +1,7 @@
-use Rattle.std.proofs.Common.{◌++◌, arith, rules, take}
+use Rattle.std.proofs.Common.{◌++◌, arith, refl, rules, take}
+use Rattle.crs_streams.proofs.GivenLemmas.{given-read}
 use Rattle.crs_runs.proofs.KnownText.{read_whole}
-use Rattle.crs_runs.proofs.PieceLemmas.{given-read, whole-held}
+use Rattle.crs_runs.proofs.PieceLemmas.{whole-held}
 use Rattle.crs_runs.proofs.pieces.feed_all.Goals as goal
 
 pub returns-then-count-eq0-clause-ok : goal.returns-then-count-eq0-clause-ok
@@ -18,9 +19,9 @@ returns-then-count-eq0-clause-ok g c =
 pub loop-turn-preserved : goal.loop-turn-preserved
 loop-turn-preserved g c =
     let held = c.loop-turn.invariant.held in
-    let given = given-read c.args.source.now c.loop-turn.source c.read_next.new.source held.0 c.read_next.new.room c.read_next.result
-    c.in_ok-count.count held.1 c.read_next.ensures.bytes c.read_next.ensures.counted c.read_next.ensures.bound
-    c.in_ok-count.was in record {
+    let given = given-read c.args.source.now c.loop-turn.source c.read_next.new.source held.0 c.read_next.new.room c.read_next.new.room
+    c.read_next.result c.in_ok-count.count held.1 c.read_next.ensures.bytes c.read_next.ensures.counted c.read_next.ensures.bound
+    c.in_ok-count.was refl in record {
       room = search rules;
       reads = search rules;
       taken = search rules;
