@@ -1,15 +1,15 @@
 -- The texts of parts that differ, one after the other.
-use Rattle.std.proofs.Common.{◌≡◌, ◌↔◌, ◌⊎◌, ◌++◌, ◌∷◌, [], ℕ, Bool, IsTrue, false, true≢false, List, Option, Some, None, inl, inr, refl, sym, subst, ap, ◌∙◌, append_assoc, append-nil}
+use Rattle.std.proofs.Common.{◌≡◌, ◌↔◌, ◌++◌, ◌∷◌, [], ℕ, Bool, IsTrue, false, true≢false, List, refl, sym, subst, ap, ◌∙◌, append_assoc, append-nil}
 use Rattle.crs_value.specs.Prelude.{ParameterParts}
 use Rattle.crs_value.specs.declared.values.level.Level.{Level}
 use Rattle.crs_same.specs.Prelude.{DifferenceParts, Parts, part, ◌⨾◌, further_text}
 use Rattle.crs_same.specs.declared.content.Content.{Content}
 use Rattle.crs_same.specs.declared.content.Content.TheVariants as content
 use Rattle.crs_same.specs.declared.step.Step.{Step}
-use Rattle.crs_canon.specs.Named.{ArePairedNames, unpaired}
+use Rattle.crs_canon.specs.Named.{ArePairedNames}
 use Rattle.crs_explain.specs.Appended.{AppendsTexts}
 use Rattle.crs_explain.specs.Differing.{AreTextsOf}
-use Rattle.crs_explain.specs.DifferingSets.{AreTextsBehind, AreTextsOfName, AreTextsOfNames, AreTextsOfOthers, AreTextsOfParts, AreTextsOfSet, parameter_path, parts_of_parameter, unless_empty}
+use Rattle.crs_explain.specs.DifferingSets.{AreTextsBehind, AreTextsOfNames, AreTextsOfOthers, AreTextsOfParts, AreTextsOfSet}
 use Rattle.crs_explain.specs.DifferingTexts.{AreTextsAt, AreTextsOfOne, PartTexts}
 
 -- some more texts in front of others
@@ -73,32 +73,11 @@ module _ (level : Level) (front : List ℕ) where
 
 -- ---- a set of parameters
 
-module _ (level : Level) (path : List ℕ) where
-  -- a name that stands once on either side
-  pub paired : (name : List ℕ) (p q : Option ParameterParts) (x y : ParameterParts) (old new : List PartTexts) → p ≡ Some x → q ≡ Some y →
-      AppendsTexts (AreTextsOfParts level (parameter_path path name) (parts_of_parameter level x y)) old new →
-      AppendsTexts (AreTextsOfName level path name p q) old new
-  paired name p q x y old new e f it = rw (e, f) it
-
-  -- another name
-  pub alone : (name : List ℕ) (p q : Option ParameterParts) (old : List PartTexts) → (p ≡ None) ⊎ (q ≡ None) →
-      AppendsTexts (AreTextsOfName level path name p q) old old
-  alone name (Some x) (Some y) old (inl none) = absurd (cc)
-  alone name (Some x) (Some y) old (inr none) = absurd (cc)
-  alone name p q old none = ([], refl, sym (append-nil old))
-
-  -- what is left of a set
-  pub others : (xs ys : List ParameterParts) (one : PartTexts) (old new : List PartTexts) →
-      AreTextsAt level path (content.Parameters (unpaired xs ys) (unpaired ys xs)) (content.Parameters (unpaired ys xs) (unpaired xs ys)) one →
-      new ≡ old ++ unless_empty one → AppendsTexts (AreTextsOfOthers level path xs ys) old new
-  others xs ys one old new is e = (unless_empty one, (one, refl, is), e)
-
-  -- a set
-  pub set : (xs ys : List ParameterParts) (names : List (List ℕ)) (old between new : List PartTexts) → ArePairedNames xs ys names →
-      AppendsTexts (AreTextsOfNames level path xs ys names) old between → AppendsTexts (AreTextsOfOthers level path xs ys) between new →
-      AppendsTexts (AreTextsOfSet level path xs ys) old new
-  set xs ys names old between new are_names (these, told, e) (rest, left, f) = (
-    these ++ rest,
-    (names, these, rest, are_names, told, left, refl),
-    f ∙ ap (λ z. z ++ rest) e ∙ append_assoc old these rest,
-  )
+pub set : (level : Level) (path : List ℕ) (xs ys : List ParameterParts) (names : List (List ℕ)) (old between new : List PartTexts) →
+    ArePairedNames xs ys names → AppendsTexts (AreTextsOfNames level path xs ys names) old between →
+    AppendsTexts (AreTextsOfOthers level path xs ys) between new → AppendsTexts (AreTextsOfSet level path xs ys) old new
+set level path xs ys names old between new are_names (these, told, e) (rest, left, f) = (
+  these ++ rest,
+  (names, these, rest, are_names, told, left, refl),
+  f ∙ ap (λ z. z ++ rest) e ∙ append_assoc old these rest,
+)
