@@ -1,6 +1,7 @@
 -- Many texts, answered one after the other.
 use Rattle.std.proofs.Common.{◌≡◌, ◌≤◌, ◌<◌, ◌+◌, ◌-◌, ◌++◌, ◌∷◌, ◌⊎◌, [], ℕ, List, length, take, drop, get_or, slice_set, refl, sym, ap, subst, ◌∙◌, inl, inr, append_assoc, append-nil, arith}
-use Rattle.std.proofs.lemmas.List.{take_at, drop_at, set_at, get_or_at, take_more, drop_more, drop-drop, length-append, length-drop, length-take-le, take-append-drop, drop_all}
+use Rattle.std.proofs.Math.Seq.{take-append_seam, drop-append-add}
+use Rattle.std.proofs.lemmas.List.{set_at, get_or_at, take_more, drop_more, drop-drop, length-append, length-drop, length-take-le, take-append-drop, drop_all}
 use Rattle.crs_text.specs.Prelude.{refusal_of}
 use Rattle.crs_text.specs.declared.fault.Fault.{Fault}
 use Rattle.crs_text.specs.declared.fault.Fault.TheVariants as faults
@@ -126,8 +127,7 @@ module _ {level : Level} {texts : List ℕ} {old : List Entry} {out : List ℕ} 
   -- the next entry is as before
   next_is : (d : Entry) → index < length old → get_or now index d ≡ get_or old index d
   next_is d lt =
-      ap (λ z. get_or z index d) (s.entries ∙ ap (λ z. s.answered ++ z) (drop_more old index d lt))
-      ∙ get_or_at s.answered (get_or old index d) (drop (index + 1) old) d index s.many
+      rw (s.entries, drop_more old index d lt) (get_or_at s.answered (get_or old index d) (drop (index + 1) old) d index s.many)
 
   -- one entry more is answered
   pub one_more : (d one : Entry) (own new_out : List ℕ) → index < length old → IsAnsweredBy level texts at (get_or now index d) one own →
@@ -136,26 +136,22 @@ module _ {level : Level} {texts : List ℕ} {old : List Entry} {out : List ℕ} 
   one_more d one own new_out lt is room written =
       let begins : at ≡ 0 + length s.written = omega (arith, s.place) in
       let is_next : IsAnsweredBy level texts (0 + length s.written) (get_or old index d) one own = rw (begins, next_is d lt) at is in
-      let front : take at out_now ≡ s.written =
-      ap (λ z. take at z) s.is_out ∙ take_at s.written (drop (length s.written) out) at (sym s.place) in
+      let front : take at out_now ≡ s.written = rw (s.is_out, s.place) (take-append_seam s.written (drop (length s.written) out)) in
       let sum : at + length own ≡ length s.written + length own = omega (arith, s.place) in
       let all : length (s.written ++ own) ≡ length s.written + length own = length-append s.written own in
       let rest : drop (at + length own) out_now ≡ drop (length (s.written ++ own)) out =
-      ap (λ n. drop n out_now) sum ∙ sym (drop-drop (length own) (length s.written) out_now)
-      ∙ ap (λ z. drop (length own) z) (ap (λ z. drop (length s.written) z) s.is_out ∙ drop_at s.written (drop (length s.written) out) (length s.written) refl)
-      ∙ drop-drop (length own) (length s.written) out ∙ ap (λ n. drop n out) (sym all) in
+      rw (s.is_out, s.place, drop-append-add s.written (drop (length s.written) out) (length own), all)
+      (drop-drop (length own) (length s.written) out) in
       record {
         answered = s.answered ++ one ∷ [];
         written = s.written ++ own;
         are = rw (take_more old index d lt) (answered_more level texts 0 (take index old) s.answered s.written (get_or old index d) one own s.are is_next);
         many = omega (arith, length-append s.answered (one ∷ []), s.many);
-        entries = ap (λ z. slice_set z index one) (s.entries ∙ ap (λ z. s.answered ++ z) (drop_more old index d lt))
-            ∙ set_at s.answered (get_or old index d) (drop (index + 1) old) one index s.many
-            ∙ sym (append_assoc s.answered (one ∷ []) (drop (index + 1) old));
+        entries = rw (s.entries, drop_more old index d lt, set_at s.answered (get_or old index d) (drop (index + 1) old) one index s.many)
+            (simp append_assoc refl);
         place = ends_there level texts at (get_or now index d) one own is ∙ sum ∙ sym all;
         fits = omega (arith, room, sum, all, same_room);
-        is_out = written ∙ ap (λ z. z ++ (own ++ drop (at + length own) out_now)) front
-            ∙ ap (λ z. s.written ++ (own ++ z)) rest ∙ sym (append_assoc s.written own (drop (length (s.written ++ own)) out));
+        is_out = rw (written, front, rest) (simp append_assoc refl);
       }
 
   -- the call ends there

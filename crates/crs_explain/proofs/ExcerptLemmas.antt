@@ -1,12 +1,11 @@
 -- The piece of a line at a place, put together.
-use Rattle.std.proofs.Common.{◌≡◌, ℕ, ◌+◌, ◌-◌, ◌==◌, true, List, ◌++◌, codes, length, take, drop, sym, ap, ◌∙◌, append_assoc, arith}
+use Rattle.std.proofs.Common.{◌≡◌, ℕ, ◌+◌, ◌-◌, ◌==◌, true, List, ◌++◌, codes, length, take, drop, refl, sym, ap, ◌∙◌, append_assoc, arith}
 use Rattle.std.proofs.lemmas.Bool.{eq-eqb}
-use Rattle.std.proofs.lemmas.List.{length-append, length-take-le, take-append-drop}
+use Rattle.std.proofs.lemmas.List.{drop_at, take_at, length-append, length-take-le, take-append-drop}
 use Rattle.std.proofs.lemmas.Str.Ascii.{trim_ascii_end_is}
 use Rattle.std.specs.List.{suffix_len}
 use Rattle.std.specs.Char.{is_ascii_whitespace}
 use Rattle.std.specs.Str.{IsTrimAsciiEnd}
-use Rattle.std.proofs.Math.Seq.{take-append_seam, drop-append_seam}
 use Rattle.crs_text.specs.Prelude.{feeds, IsPosition}
 use Rattle.crs_text.specs.declared.position.Position.{Position}
 use Rattle.crs_streams.proofs.FeedLemmas.{feeds-append}
@@ -16,21 +15,17 @@ use Rattle.crs_explain.specs.Excerpt.{IsExcerpt, shown_place, printed_text, blan
 pub piece : (text before middle after : List ℕ) (from to : ℕ) → text ≡ before ++ (middle ++ after) → from ≡ length before → to ≡ length before + length middle →
     take (to - from) (drop from text) ≡ middle
 piece text before middle after from to parts begin end =
-    let n : to - from ≡ length middle = omega (arith, begin, end) in
-    let d : drop from text ≡ middle ++ after = ap (λ k. drop k text) begin ∙ ap (drop (length before)) parts ∙ drop-append_seam before (middle ++ after) in
-    ap (λ k. take k (drop from text)) n ∙ ap (take (length middle)) d ∙ take-append_seam middle after
+    ap (λ t. take (to - from) (drop from t)) parts ∙ ap (take (to - from)) (drop_at before (middle ++ after) from (sym begin))
+    ∙ take_at middle after (to - from) (omega (arith, begin, end))
 
 -- the end of bytes, and their front
 pub end_of : (bytes end : List ℕ) (n : ℕ) → end ≡ drop n bytes → (front : List ℕ) × (bytes ≡ front ++ end)
-end_of bytes end n is = (take n bytes, sym (take-append-drop n bytes) ∙ ap (λ z. take n bytes ++ z) (sym is))
+end_of bytes end n is = (take n bytes, rw (is, take-append-drop n bytes) refl)
 
 pub front_of : (bytes middle front : List ℕ) (n m : ℕ) → middle ≡ take n bytes → front ≡ take m middle → (rest : List ℕ) × (bytes ≡ front ++ rest)
 front_of bytes middle front n m is begins = (
   drop m middle ++ drop n bytes,
-  sym (take-append-drop n bytes)
-      ∙ ap (λ z. z ++ drop n bytes) (sym is ∙ sym (take-append-drop m middle))
-      ∙ append_assoc (take m middle) (drop m middle) (drop n bytes)
-      ∙ ap (λ z. z ++ (drop m middle ++ drop n bytes)) (sym begins),
+  rw (begins, ← append_assoc (take m middle) (drop m middle) (drop n bytes), take-append-drop m middle, is, take-append-drop n bytes) refl,
 )
 
 -- the place of the last byte but white space
@@ -57,17 +52,13 @@ excerpt_of text place shown p line_left line_right front left right rest lines i
     let right_x : feeds x.right ≡ feeds right + feeds rest = ap feeds r ∙ feeds-append right rest in
     let none : feeds (left ++ right) ≡ 0 =
     omega (arith, left_x, right_x, feeds-append left right, feeds-append x.left x.right, x.one_line) in
-    let tail : x.right ++ x.after ≡ right ++ (rest ++ x.after) = ap (λ z. z ++ x.after) r ∙ append_assoc right rest x.after in
-    let middle : x.left ++ (x.right ++ x.after) ≡ front ++ (left ++ (right ++ (rest ++ x.after))) =
-    ap (λ z. z ++ (x.right ++ x.after)) l ∙ append_assoc front left (x.right ++ x.after) ∙ ap (λ z. front ++ (left ++ z)) tail in
-    let first : shown ≡ length x.before + length (front ++ left) = x.is_place ∙ ap (λ z. length x.before + length z) l in
     record {
       before = x.before ++ front;
       left = left;
       right = right;
       after = rest ++ x.after;
-      parts = x.parts ∙ ap (λ z. x.before ++ z) middle ∙ sym (append_assoc x.before front (left ++ (right ++ (rest ++ x.after))));
-      is_place = sym is ∙ first ∙ omega (arith, length-append front left, length-append x.before front);
+      parts = x.parts ∙ simp (l, r, append_assoc) refl;
+      is_place = omega (arith, is, x.is_place, ap length l, length-append front left, length-append x.before front);
       one_line = none;
       is_shown = e;
     }

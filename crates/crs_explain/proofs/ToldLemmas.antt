@@ -80,11 +80,13 @@ spells-in P x [] text i p = absurd i
 spells-in P x (y ∷ xs) text (inl e) p = inl (subst (λ z. P z text) e p)
 spells-in P x (y ∷ xs) text (inr i) p = inr (spells-in P x xs text i p)
 
--- none of which nothing is written, where each has bytes
-no-member : (members : List (List ℕ)) → ((text : List ℕ) → IsIn text members → text ≡ [] → ⊥) → [] ≡ comma_separated members →
-    (text : List ℕ) → IsIn text members → ⊥
-no-member [] some e text i = i
-no-member (m ∷ members) some e text i = some m (inl refl) (both-empty m (commas members) e).0
+-- a member of texts of which nothing is written
+member-empty : (members : List (List ℕ)) (text : List ℕ) → [] ≡ comma_separated members → IsIn text members → text ≡ []
+member-empty [] text e i = absurd i
+member-empty (m ∷ []) text e (inl same) = same ∙ (both-empty m [] e).0
+member-empty (m ∷ []) text e (inr i) = absurd i
+member-empty (m ∷ n ∷ members) text e i =
+    let none : 44 ∷ (n ++ commas members) ≡ [] = (both-empty m (commas (n ∷ members)) e).1 in absurd (cc)
 
 -- ---- parameters
 
@@ -116,12 +118,6 @@ module _ (level : Level) (form : IsCanonicalForm IsParameter (SameParameter leve
         ]
       ]
 
-  spelled-some : (N : List ℕ → Type 0) (xs : List ParameterParts) (text : List ℕ) → Each IsParameter xs →
-      SpellsOneOf (λ x t. Spells x t × N t) xs text → text ≡ [] → ⊥
-  spelled-some N [] text h p e = p
-  spelled-some N (x ∷ xs) text h (inl p) e = closed-some text (form.closed x text h.0 p.0) e
-  spelled-some N (x ∷ xs) text h (inr p) e = spelled-some N xs text h.1 p e
-
   -- the others lack none of these, where nothing is written
   none-lacking : (xs ys : List ParameterParts) (written : List ℕ) → Each IsParameter xs → Each IsParameter ys →
       IsLackingText Spells xs ys written → written ≡ [] → (x : ParameterParts) → IsIn x xs → IsAmong x ys
@@ -131,8 +127,9 @@ module _ (level : Level) (form : IsCanonicalForm IsParameter (SameParameter leve
       let Lacks : List ℕ → Type 0 = λ t. SpellsOneOf Spells ys t → ⊥ in
       elim (found-or-not x ys own.0 q own.1 h) [
         | inl found ↦ found
-        | inr n ↦ absurd (no-member text.members (λ t p e. spelled-some Lacks xs t g ((text.same t).0 p) e) (sym none ∙ text.written) own.0
-            ((text.same own.0).1 (spells-in (λ z t. Spells z t × Lacks t) x xs own.0 i (own.1, n))))
+        | inr n ↦
+            let i = (text.same own.0).1 (spells-in (λ z t. Spells z t × Lacks t) x xs own.0 i (own.1, n)) in
+            absurd (closed-some own.0 (form.closed x own.0 q own.1) (member-empty text.members own.0 (sym none ∙ text.written) i))
       ]
 
   one-name : (path : List ℕ) (xs ys : List ParameterParts) (names : List (List ℕ)) → ArePairedNames xs ys names →
