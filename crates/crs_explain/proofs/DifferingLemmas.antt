@@ -1,5 +1,5 @@
 -- The texts of parts that differ, one after the other.
-use Rattle.std.proofs.Common.{◌≡◌, ◌↔◌, ◌++◌, ◌∷◌, [], ℕ, Bool, IsTrue, false, true≢false, List, refl, sym, subst, ap, ◌∙◌, append_assoc, append-nil}
+use Rattle.std.proofs.Common.{◌≡◌, ◌++◌, ◌∷◌, [], ℕ, List, refl, sym, subst, ap, ◌∙◌, append_assoc, append-nil}
 use Rattle.crs_value.specs.Prelude.{ParameterParts}
 use Rattle.crs_value.specs.declared.values.level.Level.{Level}
 use Rattle.crs_same.specs.Prelude.{DifferenceParts, Parts, part, ◌⨾◌, further_text}
@@ -18,10 +18,6 @@ pub more : (Are : List PartTexts → Type 0) (these rest old begun new : List Pa
     (texts : List PartTexts) × Are texts × (new ++ rest ≡ old ++ texts)
 more Are these rest old begun new e (texts, are, same) =
     (texts, are, ap (λ z. z ++ rest) e ∙ append_assoc begun these rest ∙ same)
-
--- a test that says no
-pub untrue : (test : Bool) (P : Type 0) → test ≡ false → (IsTrue test ↔ P) → P → ⊥
-untrue test P e tells p = true≢false (sym (tells.1 p) ∙ e)
 
 -- ---- the texts of a part
 

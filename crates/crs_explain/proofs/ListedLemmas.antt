@@ -3,10 +3,9 @@ use Rattle.std.proofs.Common.{◌≡◌, ◌≤◌, ◌++◌, ◌∷◌, [], ℕ
 use Rattle.crs_explain.specs.Expectation.{listed}
 
 -- after other bytes, a name that has two after it is before a comma
-pub appended_more : (old first comma new : List ℕ) (names : List (List ℕ)) (d : List ℕ) →
-    3 ≤ length names → first ≡ old ++ get_or names 0 d → comma ≡ first ++ codes ", " →
-    new ≡ comma ++ listed (drop 1 names) → new ≡ old ++ listed names
-appended_more old first comma new [] d h p q e = absurd (omega arith)
-appended_more old first comma new (a ∷ []) d h p q e = absurd (omega arith)
-appended_more old first comma new (a ∷ b ∷ []) d h p q e = absurd (omega arith)
-appended_more old first comma new (a ∷ b ∷ c ∷ others) d h p q e = rw (e, q, p) (simp append_assoc refl)
+pub appended_more : (old : List ℕ) (names : List (List ℕ)) (d : List ℕ) → 3 ≤ length names →
+    ((old ++ get_or names 0 d) ++ codes ", ") ++ listed (drop 1 names) ≡ old ++ listed names
+appended_more old [] d h = absurd (omega arith)
+appended_more old (a ∷ []) d h = absurd (omega arith)
+appended_more old (a ∷ b ∷ []) d h = absurd (omega arith)
+appended_more old (a ∷ b ∷ c ∷ others) d h = simp append_assoc refl

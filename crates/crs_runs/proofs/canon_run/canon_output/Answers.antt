@@ -1,4 +1,4 @@
-use Rattle.std.proofs.Common.{◌∙◌, ◌++◌, ◌∷◌, [], ap, inl, inr, refl}
+use Rattle.std.proofs.Common.{inl, inr, refl}
 use Rattle.crs_runs.specs.Output.{IsCanonOutput}
 use Rattle.crs_runs.proofs.canon_run.canon_output.Goals as goal
 
@@ -9,7 +9,7 @@ returns-in_ok-line_of-in-Ok c =
       c.in-Ok.canon.bytes,
       c.in-Ok.ensures.answer,
       record {
-        line = c.in_ok-line_of-in-Ok.ensures ∙ ap (λ bytes. bytes ++ 10 ∷ []) c.bytes.ensures;
+        line = rw c.bytes.ensures at c.in_ok-line_of-in-Ok.ensures;
         is_status = refl;
       },
     )
