@@ -1,5 +1,5 @@
 -- What a feeder holds of a text: from piece to piece, and what it answers at the end.
-use Rattle.std.proofs.Common.{◌≡◌, ◌++◌, ℕ, Bool, true, false, List, Some, inl, inr, subst, sym, Result, Ok, Err, MatchResult}
+use Rattle.std.proofs.Common.{◌≡◌, ◌++◌, ℕ, Bool, true, false, List, Some, inl, inr, subst, Result, Ok, Err, MatchResult}
 use Rattle.crs_text.specs.Prelude.{refusal_of, Item, RefusedAt, IsSettledRefusal, SpellsNode, RefusesText, IsTextFault}
 use Rattle.crs_text.specs.declared.fault.Fault.{Fault}
 use Rattle.crs_text.specs.declared.fault.Fault.TheVariants as faults
@@ -41,9 +41,7 @@ held-refused refuses lasts once text held number place (inl whole) refused =
     subst (λ bytes. RefusesText bytes number place) whole refused
 held-refused refuses lasts once text held number place (inr front) refused =
     let same = once held front.number number front.place place (refuses held front.number front.place front.is_settled) refused in
-    let whole = subst (λ bytes. RefusesText bytes front.number front.place) (sym front.is_front)
-    (lasts held front.behind front.number front.place front.is_settled).1 in
-    subst (λ p. RefusesText text number p) same.1 (subst (λ n. RefusesText text n front.place) same.0 whole)
+    rw (← same.0, ← same.1, front.is_front) (lasts held front.behind front.number front.place front.is_settled).1
 
 -- the kind of the items that are held is that of the text
 pub found-items : SettledRefuses → NodeOrRefused → (text held : List ℕ) (item : Item) (found : Result Kind RefusedAt)
