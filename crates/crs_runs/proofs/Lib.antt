@@ -1,5 +1,4 @@
 mod CheckLemmas
 mod JudgedLemmas
 mod KnownText
-pub mod PairOutputLemmas
 mod PieceLemmas
