@@ -128,8 +128,8 @@ module _ (level : Level) (form : IsCanonicalForm IsParameter (SameParameter leve
       elim (found-or-not x ys own.0 q own.1 h) [
         | inl found ↦ found
         | inr n ↦
-            let i = (text.same own.0).1 (spells-in (λ z t. Spells z t × Lacks t) x xs own.0 i (own.1, n)) in
-            absurd (closed-some own.0 (form.closed x own.0 q own.1) (member-empty text.members own.0 (sym none ∙ text.written) i))
+            let listed = (text.same own.0).1 (spells-in (λ z t. Spells z t × Lacks t) x xs own.0 i (own.1, n)) in
+            absurd (closed-some own.0 (form.closed x own.0 q own.1) (member-empty text.members own.0 (sym none ∙ text.written) listed))
       ]
 
   one-name : (path : List ℕ) (xs ys : List ParameterParts) (names : List (List ℕ)) → ArePairedNames xs ys names →
@@ -146,11 +146,8 @@ module _ (level : Level) (form : IsCanonicalForm IsParameter (SameParameter leve
       IsLackingText Spells (unpaired xs ys) (unpaired ys xs) written → written ≡ [] → AllHaveSame (SameParameter level) xs ys
   all-have xs ys written g h named text none = all-of (SameParameter level) xs ys among
     where
-      passes : ParameterParts → Bool
-      passes w = not (is_paired xs ys w.name)
-
-      passes_back : ParameterParts → Bool
-      passes_back w = not (is_paired ys xs w.name)
+      passes : (these others : List ParameterParts) → ParameterParts → Bool
+      passes these others w = not (is_paired these others w.name)
 
       among : (z : ParameterParts) → IsIn z xs → IsAmong z ys
       among z i = elim (cases_Bool (is_paired xs ys z.name)) [
@@ -158,9 +155,9 @@ module _ (level : Level) (form : IsCanonicalForm IsParameter (SameParameter leve
             let (x, y, p, q) = both-some (named_once z.name xs) (named_once z.name ys) is in
             (y, (of-once z.name ys y q).0, subst (λ w. SameParameter level w y) (sym (is-once xs x z p i)) (named z.name x y p q))
         | inr other ↦
-            let (y, j, same) = none-lacking (unpaired xs ys) (unpaired ys xs) written (each-passed IsParameter passes xs g)
-            (each-passed IsParameter passes_back ys h) text none z (in-passed passes z xs i (not_from_false (is_paired xs ys z.name) other)) in
-            (y, (from-passed passes_back y ys j).0, same)
+            let (y, j, same) = none-lacking (unpaired xs ys) (unpaired ys xs) written (each-passed IsParameter (passes xs ys) xs g)
+            (each-passed IsParameter (passes ys xs) ys h) text none z (in-passed (passes xs ys) z xs i (not_from_false (is_paired xs ys z.name) other)) in
+            (y, (from-passed (passes ys xs) y ys j).0, same)
       ]
 
   pub told-set : (path : List ℕ) (xs ys : List ParameterParts) → Each IsParameter xs → Each IsParameter ys →

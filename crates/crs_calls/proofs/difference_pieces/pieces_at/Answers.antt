@@ -11,5 +11,4 @@ returns-in-Ok c =
 
 pub returns-in-Err : goal.returns-in-Err
 returns-in-Err c =
-    let fault = rw c.in-Err.is at c.made_of_both.ensures in
-    pair-fault _ c.args.first.now c.args.second.now _ _ _ c.in-Err.code fault
+    pair-fault _ c.args.first.now c.args.second.now _ _ _ c.in-Err.code (rw c.in-Err.is at c.made_of_both.ensures)

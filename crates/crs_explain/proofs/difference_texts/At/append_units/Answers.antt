@@ -1,6 +1,6 @@
 use Rattle.std.proofs.Common.{◌∷◌, [], refl}
-use Rattle.crs_same.specs.declared.step.Step.TheVariants as step
 use Rattle.std.proofs.lemmas.Bool.Decides.{not_from_Decides}
+use Rattle.crs_same.specs.declared.step.Step.TheVariants as step
 use Rattle.crs_explain.proofs.DifferingLemmas.{told}
 use Rattle.crs_explain.proofs.difference_texts.At.append_units.Goals as goal
 
