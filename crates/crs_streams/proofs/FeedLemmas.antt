@@ -1,6 +1,7 @@
 -- Line feeds among bytes, and lines that aren't too long.
-use Rattle.std.proofs.Common.{◌≡◌, ◌⊎◌, ◌+◌, ◌≤◌, ◌++◌, ◌∷◌, [], ℕ, List, true, false, length, inl, inr, ap, subst, sym, refl, ◌∙◌, arith, append_assoc, length-append, ◌==◌, cond}
+use Rattle.std.proofs.Common.{◌≡◌, ◌⊎◌, ◌+◌, ◌≤◌, ◌++◌, ◌∷◌, [], ℕ, List, true, false, true≢false, length, inl, inr, ap, subst, sym, refl, ◌∙◌, arith, append_assoc, length-append, ◌==◌, cond}
 use Rattle.std.proofs.lemmas.Bool.{eqb-true, false≢true}
+use Rattle.std.proofs.lemmas.List.{nil_from_length}
 use Rattle.std.proofs.lemmas.List.Sums.{sum_by-append}
 use Rattle.crs_streams.specs.EndedLines.{AreEnded}
 use Rattle.crs_streams.specs.Lines.{AreLines, HasNoFeed, IsTextOf}
@@ -48,14 +49,11 @@ ended-more bytes (first ∷ texts) line text (front, rest, e, bare, word, more) 
 
 pub ended-begins : (bytes : List ℕ) (texts : List (List ℕ)) → AreEnded bytes texts → (bytes ≡ []) ⊎ EndsInFeed bytes
 ended-begins bytes [] none = inl none
-ended-begins bytes (text ∷ texts) (line, rest, e, plain, is, more) = inr (further (ended-begins rest texts more))
-  where
-    further : ((rest ≡ []) ⊎ EndsInFeed rest) → EndsInFeed bytes
-    further (inl none) = (line, e ∙ ap (λ r. line ++ 10 ∷ r) none)
-    further (inr (front, ends)) = (
-      line ++ 10 ∷ front,
-      e ∙ (ap (λ r. line ++ 10 ∷ r) ends ∙ sym (append_assoc line (10 ∷ front) (10 ∷ []))),
-    )
+ended-begins bytes (text ∷ texts) (line, rest, e, plain, is, more) = elim (ended-begins rest texts more) [
+  | inl none ↦ inr (line, e ∙ ap (λ r. line ++ 10 ∷ r) none)
+  | inr (front, ends) ↦
+      inr (line ++ 10 ∷ front, e ∙ (ap (λ r. line ++ 10 ∷ r) ends ∙ sym (append_assoc line (10 ∷ front) (10 ∷ []))))
+]
 
 -- the lines of all bytes, where the last one has ended
 pub ended-lines : (bytes : List ℕ) (texts : List (List ℕ)) → AreEnded bytes texts → AreLines bytes texts
@@ -93,13 +91,10 @@ begins-either : (front rest a b : List ℕ) → a ++ 10 ∷ b ≡ front ++ rest
 begins-either [] rest a b e = inl (a, refl, e)
 begins-either (x ∷ xs) rest [] b e = inr (xs, tail-is 10 x b (xs ++ rest) e)
 begins-either (x ∷ xs) rest (y ∷ ys) b e =
-    further (begins-either xs rest ys b (tail-is y x (ys ++ 10 ∷ b) (xs ++ rest) e))
-  where
-    further : (((m : List ℕ) × (ys ≡ xs ++ m) × (m ++ 10 ∷ b ≡ rest)) ⊎ ((m : List ℕ) × (b ≡ m ++ rest)))
-        → ((m : List ℕ) × (y ∷ ys ≡ (x ∷ xs) ++ m) × (m ++ 10 ∷ b ≡ rest)) ⊎ ((m : List ℕ) × (b ≡ m ++ rest))
-    further (inl (m, is, more)) =
-        inl (m, head-tail y x ys (xs ++ m) (head-is y x (ys ++ 10 ∷ b) (xs ++ rest) e) is, more)
-    further (inr found) = inr found
+    elim (begins-either xs rest ys b (tail-is y x (ys ++ 10 ∷ b) (xs ++ rest) e)) [
+      | inl (m, is, more) ↦ inl (m, head-tail y x ys (xs ++ m) (head-is y x (ys ++ 10 ∷ b) (xs ++ rest) e) is, more)
+      | inr found ↦ inr found
+    ]
 
 pub short-front : (a b : List ℕ) → HasShortLines (a ++ b) → HasShortLines a
 unfolding HasShortLines
@@ -114,14 +109,12 @@ short-line line fits front stretch rest e plain =
 
 pub short-feed : (a b : List ℕ) → HasShortLines a → HasShortLines b → HasShortLines (a ++ 10 ∷ b)
 unfolding HasShortLines
-short-feed a b first second front line rest e plain = by_place (begins-either front (line ++ rest) a b e)
-  where
-    by_place : (((m : List ℕ) × (a ≡ front ++ m) × (m ++ 10 ∷ b ≡ line ++ rest)) ⊎ ((m : List ℕ) × (b ≡ m ++ (line ++ rest))))
-        → length line ≤ 1048576
-    by_place (inl (m, is, more)) =
-        let found = stretch-before line rest m b (sym more) plain in
-        first front line found.0 (is ∙ ap (λ l. front ++ l) found.1) plain
-    by_place (inr (m, is)) = second m line rest is plain
+short-feed a b first second front line rest e plain = elim (begins-either front (line ++ rest) a b e) [
+  | inl (m, is, more) ↦
+      let found = stretch-before line rest m b (sym more) plain in
+      first front line found.0 (is ∙ ap (λ l. front ++ l) found.1) plain
+  | inr (m, is) ↦ second m line rest is plain
+]
 
 pub short-more : (ended more : List ℕ) → (ended ≡ []) ⊎ EndsInFeed ended → HasShortLines ended → HasShortLines more
     → HasShortLines (ended ++ more)
@@ -139,15 +132,8 @@ short-ended ended line begins before fits =
     (short-feed line [] (short-line line fits) (short-line [] (omega arith)))
 
 -- bytes that are none, and bytes that are some, as their number is tested
-nil-of : (bytes : List ℕ) → length bytes ≡ 0 → bytes ≡ []
-nil-of [] e = refl
-nil-of (b ∷ bs) e = absurd (omega arith)
-
 pub none-kept : (bytes : List ℕ) → true ≡ (length bytes == 0) → bytes ≡ []
-none-kept bytes e = nil-of bytes (eqb-true (length bytes) 0 (sym e))
+none-kept bytes e = nil_from_length bytes (eqb-true (length bytes) 0 (sym e))
 
 pub some-kept : (bytes : List ℕ) → false ≡ (length bytes == 0) → ¬ (bytes ≡ [])
-some-kept bytes e none = true-false (ap (λ b. length b == 0) (sym none) ∙ sym e)
-  where
-    true-false : true ≡ false → ⊥
-    true-false h = cc
+some-kept bytes e none = true≢false (ap (λ b. length b == 0) (sym none) ∙ sym e)

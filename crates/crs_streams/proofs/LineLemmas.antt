@@ -1,9 +1,8 @@
 -- The lines of some bytes: there is one way to cut them, and it is that of `bstr`.
-use Rattle.std.proofs.Common.{◌≡◌, ◌⊎◌, ◌-◌, ◌≤◌, ◌++◌, ◌∷◌, [], ℕ, zero, suc, List, Bool, true, false, length, take, drop, map, inl, inr, ap, subst, sym, refl, ◌∙◌, arith, length-append, eq-eqb, ◌==◌, ◌&&◌, IsTrue, not, nat_lt, slice_index}
-use Rattle.std.specs.List.{list_all}
+use Rattle.std.proofs.Common.{◌≡◌, ◌⊎◌, ◌-◌, ◌≤◌, ◌++◌, ◌∷◌, [], ℕ, zero, suc, List, Bool, false, length, take, drop, map, inl, inr, ap, subst, sym, refl, ◌∙◌, arith, length-append, eq-eqb, ◌==◌, ◌&&◌, nat_lt, slice_index}
 use Rattle.std.proofs.Math.Seq.{get_or-append_seam}
-use Rattle.std.proofs.lemmas.Bool.{cases_Bool, cond-false, cond-true, eqb-true, lt-ltb, false≢true}
-use Rattle.std.proofs.lemmas.List.{drop_all, take_all}
+use Rattle.std.proofs.lemmas.Bool.{cases_Bool, cond-false, cond-true, eqb-true, lt-ltb, false_from_ne_true, false≢true}
+use Rattle.std.proofs.lemmas.List.{append_cancel_right, drop_all, take_all}
 use Rattle.bstr.specs.Text.{line_len, lines_of, no_cr, without_terminator}
 use Rattle.bstr.proofs.lemmas.LineLemmas.{lines-nil, lines-step}
 use Rattle.crs_streams.specs.Lines.{AreLines, HasNoFeed, IsTextOf}
@@ -23,27 +22,15 @@ head-tail a b xs ys h t = cc
 lists-is : (a b : List ℕ) (xs ys : List (List ℕ)) → a ≡ b → xs ≡ ys → a ∷ xs ≡ b ∷ ys
 lists-is a b xs ys h t = cc
 
-nil-end : (bs : List ℕ) → [] ≡ bs ++ 13 ∷ [] → ⊥
-nil-end [] e = nil-cons 13 [] e
-nil-end (b ∷ bs) e = nil-cons b (bs ++ 13 ∷ []) e
-
-nil-feed : (line rest : List ℕ) → [] ≡ line ++ 10 ∷ rest → ⊥
-nil-feed [] rest e = nil-cons 10 rest e
-nil-feed (b ∷ bs) rest e = nil-cons b (bs ++ 10 ∷ rest) e
+nil-behind : (bs : List ℕ) (b : ℕ) (rest : List ℕ) → [] ≡ bs ++ b ∷ rest → ⊥
+nil-behind [] b rest e = nil-cons b rest e
+nil-behind (x ∷ bs) b rest e = nil-cons x (bs ++ b ∷ rest) e
 
 pub feed-test : (b : ℕ) (bs : List ℕ) → HasNoFeed (b ∷ bs) → (b == 10) ≡ false
-feed-test b bs plain = by_test (b == 10) plain
-  where
-    by_test : (t : Bool) → IsTrue (not t && list_all (λ c. not (c == 10)) bs) → t ≡ false
-    by_test true h = cc
-    by_test false h = refl
+feed-test b bs plain = false_from_ne_true (b == 10) (λ is. false≢true (rw is at plain))
 
 pub feed-rest : (b : ℕ) (bs : List ℕ) → HasNoFeed (b ∷ bs) → HasNoFeed bs
-feed-rest b bs plain = by_test (b == 10) plain
-  where
-    by_test : (t : Bool) → IsTrue (not t && list_all (λ c. not (c == 10)) bs) → HasNoFeed bs
-    by_test true h = absurd (false≢true h)
-    by_test false h = h
+feed-rest b bs plain = rw (feed-test b bs plain) at plain
 
 pub feed-more : (b : ℕ) (bs : List ℕ) → (b == 10) ≡ false → HasNoFeed bs → HasNoFeed (b ∷ bs)
 feed-more b bs test plain = rw test plain
@@ -67,25 +54,17 @@ cut-one (a ∷ more) (b ∷ bs) rest left p q e =
     (tail-is a b (more ++ 10 ∷ rest) (bs ++ 10 ∷ left) e) in
     (head-tail a b more bs (head-is a b (more ++ 10 ∷ rest) (bs ++ 10 ∷ left) e) h.0, h.1)
 
-front-one : (a b : List ℕ) → a ++ 13 ∷ [] ≡ b ++ 13 ∷ [] → a ≡ b
-front-one [] [] e = refl
-front-one [] (b ∷ bs) e = absurd (nil-end bs (tail-is 13 b [] (bs ++ 13 ∷ []) e))
-front-one (a ∷ more) [] e = absurd (nil-end more (sym (tail-is a 13 (more ++ 13 ∷ []) [] e)))
-front-one (a ∷ more) (b ∷ bs) e =
-    head-tail a b more bs (head-is a b (more ++ 13 ∷ []) (bs ++ 13 ∷ []) e)
-    (front-one more bs (tail-is a b (more ++ 13 ∷ []) (bs ++ 13 ∷ []) e))
-
 text-one : (line a b : List ℕ) → IsTextOf line a → IsTextOf line b → a ≡ b
-text-one line a b (inl p) (inl q) = front-one a b (sym p ∙ q)
+text-one line a b (inl p) (inl q) = append_cancel_right a b (13 ∷ []) (sym p ∙ q)
 text-one line a b (inl p) (inr (q, none)) = absurd (none (a, p))
 text-one line a b (inr (p, none)) (inl q) = absurd (none (b, q))
 text-one line a b (inr (p, none)) (inr (q, other)) = sym p ∙ q
 
 pub lines-one : (bytes : List ℕ) (a b : List (List ℕ)) → AreLines bytes a → AreLines bytes b → a ≡ b
 lines-one bytes [] [] p q = refl
-lines-one bytes [] (u ∷ us) p (inl (line, rest, e, plain, text, more)) = absurd (nil-feed line rest (sym p ∙ e))
+lines-one bytes [] (u ∷ us) p (inl (line, rest, e, plain, text, more)) = absurd (nil-behind line 10 rest (sym p ∙ e))
 lines-one bytes [] (u ∷ us) p (inr (some, plain, is, end)) = absurd (some p)
-lines-one bytes (t ∷ ts) [] (inl (line, rest, e, plain, text, more)) q = absurd (nil-feed line rest (sym q ∙ e))
+lines-one bytes (t ∷ ts) [] (inl (line, rest, e, plain, text, more)) q = absurd (nil-behind line 10 rest (sym q ∙ e))
 lines-one bytes (t ∷ ts) [] (inr (some, plain, is, end)) q = absurd (some q)
 lines-one bytes (t ∷ ts) (u ∷ us) (inl (line, rest, e, plain, text, more))
     (inl (other, left, f, bare, word, further)) =
@@ -103,15 +82,14 @@ lines-one bytes (t ∷ ts) (u ∷ us) (inr (some, bare, is, end)) (inr (other, p
 first-feed : (bytes : List ℕ) →
     ((line : List ℕ) × (rest : List ℕ) × (bytes ≡ line ++ 10 ∷ rest) × HasNoFeed line) ⊎ HasNoFeed bytes
 first-feed [] = inr refl
-first-feed (b ∷ bs) = by_test (cases_Bool (b == 10)) (first-feed bs)
-  where
-    by_test : (((b == 10) ≡ true) ⊎ ((b == 10) ≡ false))
-        → (((line : List ℕ) × (rest : List ℕ) × (bs ≡ line ++ 10 ∷ rest) × HasNoFeed line) ⊎ HasNoFeed bs)
-        → ((line : List ℕ) × (rest : List ℕ) × (b ∷ bs ≡ line ++ 10 ∷ rest) × HasNoFeed line) ⊎ HasNoFeed (b ∷ bs)
-    by_test (inl is) found = inl ([], bs, head-tail b 10 bs bs (eqb-true b 10 is) refl, refl)
-    by_test (inr other) (inl (line, rest, e, plain)) =
+first-feed (b ∷ bs) = elim (cases_Bool (b == 10)) [
+  | inl is ↦ inl ([], bs, head-tail b 10 bs bs (eqb-true b 10 is) refl, refl)
+  | inr other ↦ elim (first-feed bs) [
+    | inl (line, rest, e, plain) ↦
         inl (b ∷ line, rest, head-tail b b bs (line ++ 10 ∷ rest) refl e, feed-more b line other plain)
-    by_test (inr other) (inr plain) = inr (feed-more b bs other plain)
+    | inr plain ↦ inr (feed-more b bs other plain)
+  ]
+]
 
 -- how `bstr` cuts the first line
 len-of-line : (line rest : List ℕ) → HasNoFeed line → line_len (line ++ 10 ∷ rest) ≡ suc (length line)
@@ -152,11 +130,7 @@ ends c bytes = nat_lt 0 (length bytes) && slice_index bytes (length bytes - 1) =
 
 ends-test : (bytes : List ℕ) (b c : ℕ) → ends c (bytes ++ b ∷ []) ≡ (b == c)
 ends-test bytes b c =
-    by_parts (nat_lt 0 (length (bytes ++ b ∷ []))) (slice_index (bytes ++ b ∷ []) (length (bytes ++ b ∷ []) - 1))
-    (lt-ltb 0 (length (bytes ++ b ∷ [])) (omega (arith, length-append bytes (b ∷ [])))) (last-byte bytes b)
-  where
-    by_parts : (some : Bool) (last : ℕ) → some ≡ true → last ≡ b → (some && last == c) ≡ (b == c)
-    by_parts some last p q = rw (p, q) refl
+    rw (lt-ltb 0 (length (bytes ++ b ∷ [])) (omega (arith, length-append bytes (b ∷ []))), last-byte bytes b) refl
 
 last-one : (a b : List ℕ) (x y : ℕ) → a ++ x ∷ [] ≡ b ++ y ∷ [] → x ≡ y
 last-one a b x y e = sym (last-byte a x) ∙ (ap (λ l. slice_index l (length l - 1)) e ∙ last-byte b y)
@@ -164,46 +138,39 @@ last-one a b x y e = sym (last-byte a x) ∙ (ap (λ l. slice_index l (length l 
 -- a list is empty, or it has a last member
 last-of : (bytes : List ℕ) → (bytes ≡ []) ⊎ ((front : List ℕ) × (b : ℕ) × (bytes ≡ front ++ b ∷ []))
 last-of [] = inl refl
-last-of (b ∷ bs) = further (last-of bs)
-  where
-    further : ((bs ≡ []) ⊎ ((front : List ℕ) × (c : ℕ) × (bs ≡ front ++ c ∷ []))) → (b ∷ bs ≡ [])
-        ⊎ ((front : List ℕ) × (c : ℕ) × (b ∷ bs ≡ front ++ c ∷ []))
-    further (inl none) = inr ([], b, head-tail b b bs [] refl none)
-    further (inr (front, c, e)) = inr (b ∷ front, c, head-tail b b bs (front ++ c ∷ []) refl e)
+last-of (b ∷ bs) = elim (last-of bs) [
+  | inl none ↦ inr ([], b, head-tail b b bs [] refl none)
+  | inr (front, c, e) ↦ inr (b ∷ front, c, head-tail b b bs (front ++ c ∷ []) refl e)
+]
 
 -- a line without a return is as `no_cr` has it
 pub text-of : (line : List ℕ) → IsTextOf line (no_cr line)
-text-of line = by_last (last-of line)
-  where
-    by_test : (front : List ℕ) (b : ℕ) → (((b == 13) ≡ true) ⊎ ((b == 13) ≡ false))
-        → IsTextOf (front ++ b ∷ []) (no_cr (front ++ b ∷ []))
-    by_test front b (inl is) =
-        let e : no_cr (front ++ b ∷ []) ≡ front = cond-true _ _ _ (ends-test front b 13 ∙ is) ∙ take-front front b in
-        inl (ap (λ c. front ++ c ∷ []) (eqb-true b 13 is) ∙ ap (λ l. l ++ 13 ∷ []) (sym e))
-    by_test front b (inr other) =
-        let e : no_cr (front ++ b ∷ []) ≡ front ++ b ∷ [] = cond-false _ _ _ (ends-test front b 13 ∙ other) in
-        inr (sym e, λ found. false≢true (sym other ∙ eq-eqb b 13 (last-one front found.0 b 13 found.1)))
-
-    by_last : ((line ≡ []) ⊎ ((front : List ℕ) × (b : ℕ) × (line ≡ front ++ b ∷ []))) → IsTextOf line (no_cr line)
-    by_last (inl none) = subst (λ l. IsTextOf l (no_cr l)) (sym none) (inr (refl, λ found. nil-end found.0 found.1))
-    by_last (inr (front, b, e)) = subst (λ l. IsTextOf l (no_cr l)) (sym e) (by_test front b (cases_Bool (b == 13)))
+text-of line = elim (last-of line) [
+  | inl none ↦ rw none (inr (refl, λ found. nil-behind found.0 13 [] found.1))
+  | inr (front, b, e) ↦ subst (λ l. IsTextOf l (no_cr l)) (sym e) (elim (cases_Bool (b == 13)) [
+    | inl is ↦
+        let cut : no_cr (front ++ b ∷ []) ≡ front = cond-true _ _ _ (ends-test front b 13 ∙ is) ∙ take-front front b in
+        inl (ap (λ c. front ++ c ∷ []) (eqb-true b 13 is) ∙ ap (λ l. l ++ 13 ∷ []) (sym cut))
+    | inr other ↦
+        let whole : no_cr (front ++ b ∷ []) ≡ front ++ b ∷ [] = cond-false _ _ _ (ends-test front b 13 ∙ other) in
+        inr (sym whole, λ found. false≢true (sym other ∙ eq-eqb b 13 (last-one front found.0 b 13 found.1)))
+  ])
+]
 
 line-text : (line : List ℕ) → without_terminator (line ++ 10 ∷ []) ≡ no_cr line
 line-text line = cond-true _ _ _ (ends-test line 10 10) ∙ ap no_cr (take-front line 10)
 
+last-plain : (front : List ℕ) (b : ℕ) → HasNoFeed (front ++ b ∷ []) → (b == 10) ≡ false
+last-plain [] b h = feed-test b [] h
+last-plain (x ∷ xs) b h = last-plain xs b (feed-rest x (xs ++ b ∷ []) h)
+
 -- what has no feed is unchanged
 last-text : (bytes : List ℕ) → HasNoFeed bytes → without_terminator bytes ≡ bytes
-last-text bytes plain = by_last (last-of bytes)
-  where
-    last-plain : (front : List ℕ) (b : ℕ) → HasNoFeed (front ++ b ∷ []) → (b == 10) ≡ false
-    last-plain [] b h = feed-test b [] h
-    last-plain (x ∷ xs) b h = last-plain xs b (feed-rest x (xs ++ b ∷ []) h)
-
-    by_last : ((bytes ≡ []) ⊎ ((front : List ℕ) × (b : ℕ) × (bytes ≡ front ++ b ∷ [])))
-        → without_terminator bytes ≡ bytes
-    by_last (inl none) = subst (λ l. without_terminator l ≡ l) (sym none) refl
-    by_last (inr (front, b, e)) = subst (λ l. without_terminator l ≡ l) (sym e)
-        (cond-false _ _ _ (ends-test front b 10 ∙ last-plain front b (subst HasNoFeed e plain)))
+last-text bytes plain = elim (last-of bytes) [
+  | inl none ↦ rw none refl
+  | inr (front, b, e) ↦ subst (λ l. without_terminator l ≡ l) (sym e)
+      (cond-false _ _ _ (ends-test front b 10 ∙ last-plain front b (subst HasNoFeed e plain)))
+]
 
 -- the lines as `bstr` has them
 abbrev pub cut_lines : List ℕ → List (List ℕ)
@@ -231,20 +198,16 @@ cut-last b bs plain =
 cut-within : (n : ℕ) (bytes : List ℕ) → length bytes ≤ n → AreLines bytes (cut_lines bytes)
 cut-within n [] fits = subst (AreLines []) (sym (ap (map without_terminator) lines-nil)) refl
 cut-within zero (b ∷ bs) fits = absurd (omega arith)
-cut-within (suc n) (b ∷ bs) fits = by_feed (first-feed (b ∷ bs)) (λ rest h. cut-within n rest h)
-  where
-    by_feed : (((line : List ℕ) × (rest : List ℕ) × (b ∷ bs ≡ line ++ 10 ∷ rest) × HasNoFeed line)
-        ⊎ HasNoFeed (b ∷ bs))
-        → ((rest : List ℕ) → length rest ≤ n → AreLines rest (cut_lines rest))
-        → AreLines (b ∷ bs) (cut_lines (b ∷ bs))
-    by_feed (inl (line, rest, e, plain)) further =
-        let short : length rest ≤ n = omega (arith, ap length e, length-append line (10 ∷ rest)) in
-        let whole : AreLines (b ∷ bs) (no_cr line ∷ cut_lines rest) = inl
-        (line, rest, e, plain, text-of line, further rest short) in
-        subst (AreLines (b ∷ bs)) (sym (ap cut_lines e ∙ cut-first line rest plain)) whole
-    by_feed (inr plain) further =
-        let whole : AreLines (b ∷ bs) ((b ∷ bs) ∷ []) = inr (λ h. nil-cons b bs (sym h), plain, refl, refl) in
-        subst (AreLines (b ∷ bs)) (sym (cut-last b bs plain)) whole
+cut-within (suc n) (b ∷ bs) fits = elim (first-feed (b ∷ bs)) [
+  | inl (line, rest, e, plain) ↦
+      let short : length rest ≤ n = omega (arith, fits, ap length e, length-append line (10 ∷ rest)) in
+      let whole : AreLines (b ∷ bs) (no_cr line ∷ cut_lines rest) =
+      inl (line, rest, e, plain, text-of line, cut-within n rest short) in
+      subst (AreLines (b ∷ bs)) (sym (ap cut_lines e ∙ cut-first line rest plain)) whole
+  | inr plain ↦
+      let whole : AreLines (b ∷ bs) ((b ∷ bs) ∷ []) = inr (λ h. nil-cons b bs (sym h), plain, refl, refl) in
+      subst (AreLines (b ∷ bs)) (sym (cut-last b bs plain)) whole
+]
 
 pub lines-cut : (bytes : List ℕ) → AreLines bytes (cut_lines bytes)
 lines-cut bytes = cut-within (length bytes) bytes (omega arith)

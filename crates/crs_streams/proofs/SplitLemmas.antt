@@ -1,24 +1,20 @@
 -- The first line feed among bytes, as it is searched for.
-use Rattle.std.proofs.Common.{◌≡◌, ◌⊎◌, ◌+◌, ◌-◌, ◌<◌, ◌++◌, ◌∷◌, [], ℕ, zero, suc, List, Some, None, true, false, length, take, drop, inl, inr, ap, subst, sym, refl, ◌∙◌, arith, length-drop, ◌==◌, slice_index}
-use Rattle.std.proofs.lemmas.Bool.{cases_Bool, eqb-true}
+use Rattle.std.proofs.Common.{◌≡◌, ◌+◌, ◌-◌, ◌<◌, ◌++◌, ◌∷◌, [], ℕ, zero, suc, List, Some, None, true, length, take, drop, ap, subst, sym, refl, ◌∙◌, arith, length-drop, ◌==◌, slice_index}
+use Rattle.std.proofs.lemmas.Bool.{eqb-true, false_from_ne_true}
 use Rattle.std.proofs.lemmas.List.{take_all}
+use Rattle.std.proofs.lemmas.List.Folds.{list_all-append}
 use Rattle.bstr.specs.Find.{IsFirstByte, is_byte}
 use Rattle.crs_streams.specs.Lines.{HasNoFeed, IsSplit}
-use Rattle.crs_streams.proofs.LineLemmas.{feed-more, feed-rest, feed-test, head-tail}
+use Rattle.crs_streams.proofs.LineLemmas.{feed-more, head-tail}
 
 pub plain-append : (a b : List ℕ) → HasNoFeed a → HasNoFeed b → HasNoFeed (a ++ b)
-plain-append [] b p q = q
-plain-append (x ∷ xs) b p q = feed-more x (xs ++ b) (feed-test x xs p) (plain-append xs b (feed-rest x xs p) q)
+plain-append a b p q = rw (list_all-append, p, q) refl
 
 -- the first feed, as it is searched for
 nowhere-plain : (bytes : List ℕ) → ((k : ℕ) → k < length bytes → ¬ ((slice_index bytes k == 10) ≡ true)) → HasNoFeed bytes
 nowhere-plain [] none = refl
 nowhere-plain (b ∷ bs) none =
-    feed-more b bs (by_test (cases_Bool (b == 10))) (nowhere-plain bs (λ k l. none (suc k) (omega arith)))
-  where
-    by_test : (((b == 10) ≡ true) ⊎ ((b == 10) ≡ false)) → (b == 10) ≡ false
-    by_test (inl is) = absurd (none 0 (omega arith) is)
-    by_test (inr other) = other
+    feed-more b bs (false_from_ne_true (b == 10) (none 0 (omega arith))) (nowhere-plain bs (λ k l. none (suc k) (omega arith)))
 
 split-at : (bytes : List ℕ) (at : ℕ) → at < length bytes → (slice_index bytes at == 10) ≡ true
     → ((k : ℕ) → k < at → ¬ ((slice_index bytes k == 10) ≡ true))
@@ -28,12 +24,8 @@ split-at (b ∷ bs) zero within is before = (head-tail b 10 bs bs (eqb-true b 10
 split-at (b ∷ bs) (suc at) within is before =
     let further = split-at bs at (omega arith) is (λ k l. before (suc k) (omega arith)) in (
       head-tail b b bs _ refl further.0,
-      feed-more b (take at bs) (by_test (cases_Bool (b == 10))) further.1,
+      feed-more b (take at bs) (false_from_ne_true (b == 10) (before 0 (omega arith))) further.1,
     )
-  where
-    by_test : (((b == 10) ≡ true) ⊎ ((b == 10) ≡ false)) → (b == 10) ≡ false
-    by_test (inl yes-feed) = absurd (before 0 (omega arith) yes-feed)
-    by_test (inr other) = other
 
 split-found : (bytes : List ℕ) (at : ℕ) → IsFirstByte (is_byte 10) bytes (Some at)
     → IsSplit bytes (take at bytes) (drop (suc at) bytes)
