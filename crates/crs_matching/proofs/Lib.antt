@@ -1,4 +1,4 @@
+mod NamedLemmas
 mod OnceLemmas
-mod SamenessOfPartsLemmas
 mod SearchLemmas
 mod SetLemmas

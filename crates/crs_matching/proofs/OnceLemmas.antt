@@ -18,38 +18,31 @@ has-wider Same x [] zs h all = absurd h
 has-wider Same x (y ∷ ys) zs (inl same) all = same-of Same x y zs same all.0
 has-wider Same x (y ∷ ys) zs (inr h) all = has-wider Same x ys zs h all.1
 
-all-wider : {V : Type 0} (Same : V → V → Type 0) (xs ys zs : List V) → AllHaveSame Same xs ys → AreIn ys zs → AllHaveSame Same xs zs
-all-wider Same [] ys zs all wider = tt
-all-wider Same (x ∷ xs) ys zs all wider = (has-wider Same x ys zs all.0 wider, all-wider Same xs ys zs all.1 wider)
-
 -- what each has, these of them have
 has-among : {V : Type 0} (Same : V → V → Type 0) (x : V) (xs ys : List V) → IsIn x xs → AllHaveSame Same xs ys → HasSame Same x ys
 has-among Same x [] ys h all = absurd h
 has-among Same x (z ∷ xs) ys (inl e) all = subst (λ it. HasSame Same it ys) (sym e) all.0
 has-among Same x (z ∷ xs) ys (inr h) all = has-among Same x xs ys h all.1
 
-all-among : {V : Type 0} (Same : V → V → Type 0) (xs ys zs : List V) → AreIn xs ys → AllHaveSame Same ys zs → AllHaveSame Same xs zs
-all-among Same [] ys zs among all = tt
-all-among Same (x ∷ xs) ys zs among all = (has-among Same x ys zs among.0 all, all-among Same xs ys zs among.1 all)
-
 -- these have same ones among those where they have among lists of the same members
 all-over : {V : Type 0} (Same : V → V → Type 0) (xs xs' ys ys' : List V) → AreIn xs xs' → AreIn ys' ys →
     AllHaveSame Same xs' ys' → AllHaveSame Same xs ys
-all-over Same xs xs' ys ys' among wider all = all-among Same xs xs' ys among (all-wider Same xs' ys' ys all wider)
+all-over Same [] xs' ys ys' among wider all = tt
+all-over Same (x ∷ xs) xs' ys ys' among wider all = (
+  has-wider Same x ys' ys (has-among Same x xs' ys' among.0 all) wider,
+  all-over Same xs xs' ys ys' among.1 wider all,
+)
 
 sets-over : {V : Type 0} (Same : V → V → Type 0) (xs xs' ys ys' : List V) → HaveSameMembers xs xs' → HaveSameMembers ys ys' →
     SameSet Same xs' ys' → SameSet Same xs ys
 sets-over Same xs xs' ys ys' these those same =
     (all-over Same xs xs' ys ys' these.0 those.1 same.0, all-over Same ys ys' xs xs' those.0 these.1 same.1)
 
-turned : {V : Type 0} (xs ys : List V) → HaveSameMembers xs ys → HaveSameMembers ys xs
-turned xs ys both = (both.1, both.0)
-
 -- identifiers are the same where lists of the same members are
 pub idents-once : (level : Level) (xs' xs ys' ys : List IdentParts) → HaveSameMembers xs' xs → HaveSameMembers ys' ys →
     (SameIdents level xs' ys' ↔ SameIdents level xs ys)
 idents-once levels.Full xs' xs ys' ys these those = (
-  sets-over SameIdent xs xs' ys ys' (turned xs' xs these) (turned ys' ys those),
+  sets-over SameIdent xs xs' ys ys' (these.1, these.0) (those.1, those.0),
   sets-over SameIdent xs' xs ys' ys these those,
 )
 idents-once levels.Definition xs' xs ys' ys these those = (λ same. same, λ same. same)

@@ -1,7 +1,7 @@
 use Rattle.crs_shape.specs.declared.unit_kind.UnitKind.TheVariants as kinds
-use Rattle.crs_matching.proofs.SamenessOfPartsLemmas.{length}
+use Rattle.crs_matching.specs.SameUnits.{or_metre}
+use Rattle.crs_matching.specs.SamenessLaws.{by}
 use Rattle.crs_matching.proofs.laws.same_length_is_equivalence.Goals as goal
 
 pub returns : goal.returns
-returns c level =
-    length level (c.same_unit_is_equivalence.ensures kinds.Length level)
+returns c level = by or_metre (c.same_unit_is_equivalence.ensures kinds.Length level)

@@ -1,5 +1,5 @@
-use Rattle.crs_matching.proofs.SamenessOfPartsLemmas.{member}
+use Rattle.crs_matching.proofs.NamedLemmas.{named}
 use Rattle.crs_matching.proofs.laws.same_member_is_equivalence.Goals as goal
 
 pub returns : goal.returns
-returns c level = member level (c.same_idents_is_equivalence.ensures level)
+returns c level = named level (c.same_idents_is_equivalence.ensures level)

@@ -1,8 +1,12 @@
 use Rattle.crs_shape.specs.declared.unit_kind.UnitKind.TheVariants as kinds
-use Rattle.crs_matching.proofs.SamenessOfPartsLemmas.{parameter}
+use Rattle.crs_matching.specs.SamenessLaws.{equal-by, by, ◌⊗◌, in-words, optional}
 use Rattle.crs_matching.proofs.laws.same_parameter_is_equivalence.Goals as goal
 
 pub returns : goal.returns
 returns c level =
-    parameter level c.same_value_is_equivalence.ensures (c.same_unit_is_equivalence.ensures kinds.Plain level)
-    (c.same_idents_is_equivalence.ensures level)
+    in-words
+    (equal-by (λ a. a.name) ⊗ by (λ a. a.value) c.same_value_is_equivalence.ensures
+    ⊗ by (λ a. a.unit) (optional (c.same_unit_is_equivalence.ensures kinds.Plain level))
+    ⊗ by (λ a. a.identifiers) (c.same_idents_is_equivalence.ensures level))
+    (λ a b s. (s.name, (s.value, (s.unit, s.identifiers))))
+    (λ a b p. record { name = p.0; value = p.1.0; unit = p.1.1.0; identifiers = p.1.1.1 })
