@@ -2,7 +2,7 @@
 use Rattle.std.proofs.Common.{◌≡◌, ◌⊎◌, ◌+◌, ◌≤◌, ◌++◌, ◌∷◌, [], ℕ, List, true, false, true≢false, length, inl, inr, ap, subst, sym, refl, ◌∙◌, arith, append_assoc, length-append, ◌==◌, cond}
 use Rattle.std.proofs.lemmas.Bool.{eqb-true, false≢true}
 use Rattle.std.proofs.lemmas.List.{nil_from_length}
-use Rattle.std.proofs.lemmas.List.Sums.{sum_by-append}
+use Rattle.std.proofs.lemmas.List.Sums.{count_by-le-length, sum_by-append}
 use Rattle.crs_streams.specs.EndedLines.{AreEnded}
 use Rattle.crs_streams.specs.Lines.{AreLines, HasNoFeed, IsTextOf}
 use Rattle.crs_streams.specs.LongLines.{EndsInFeed, HasShortLines, feeds}
@@ -14,10 +14,7 @@ feeds-append a b = sum_by-append (λ x. cond (x == 10) 1 0) a b
 
 pub feeds-none : (bytes : List ℕ) → HasNoFeed bytes → feeds bytes ≡ 0
 feeds-none [] plain = refl
-feeds-none (b ∷ bs) plain =
-    let first : feeds (b ∷ []) ≡ 0 = rw (feed-test b bs plain) refl in
-    let rest = feeds-none bs (feed-rest b bs plain) in
-    feeds-append (b ∷ []) bs ∙ omega (arith, first, rest)
+feeds-none (b ∷ bs) plain = rw (feed-test b bs plain) (omega (arith, feeds-none bs (feed-rest b bs plain)))
 
 pub ended-feeds : (bytes : List ℕ) (texts : List (List ℕ)) → AreEnded bytes texts → feeds bytes ≡ length texts
 ended-feeds bytes [] none = ap feeds none
@@ -28,10 +25,7 @@ ended-feeds bytes (text ∷ texts) (line, rest, e, plain, is, more) =
     ap feeds e ∙ (feeds-append line (10 ∷ rest) ∙ omega (arith, further, here, behind))
 
 pub ended-fits : (bytes : List ℕ) (texts : List (List ℕ)) → AreEnded bytes texts → length texts ≤ length bytes
-ended-fits bytes [] none = omega arith
-ended-fits bytes (text ∷ texts) (line, rest, e, plain, is, more) =
-    let further = ended-fits rest texts more in
-    omega (arith, further, ap length e, length-append line (10 ∷ rest))
+ended-fits bytes texts are = omega (arith, ended-feeds bytes texts are, count_by-le-length (λ b. b == 10) bytes)
 
 -- one more line that has ended
 pub ended-more : (bytes : List ℕ) (texts : List (List ℕ)) (line text : List ℕ) → AreEnded bytes texts → HasNoFeed line

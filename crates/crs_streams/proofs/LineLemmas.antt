@@ -1,8 +1,8 @@
 -- The lines of some bytes: there is one way to cut them, and it is that of `bstr`.
-use Rattle.std.proofs.Common.{◌≡◌, ◌⊎◌, ◌-◌, ◌≤◌, ◌++◌, ◌∷◌, [], ℕ, zero, suc, List, Bool, false, length, take, drop, map, inl, inr, ap, subst, sym, refl, ◌∙◌, arith, length-append, eq-eqb, ◌==◌, ◌&&◌, nat_lt, slice_index}
-use Rattle.std.proofs.Math.Seq.{get_or-append_seam}
+use Rattle.std.proofs.Common.{◌≡◌, ◌⊎◌, ◌+◌, ◌-◌, ◌≤◌, ◌++◌, ◌∷◌, [], ℕ, zero, suc, List, Bool, false, length, take, drop, map, inl, inr, ap, subst, sym, refl, ◌∙◌, arith, length-append, eq-eqb, ◌==◌, ◌&&◌, nat_lt, slice_index}
+use Rattle.std.proofs.Math.Seq.{take-append-add, drop-append-add}
 use Rattle.std.proofs.lemmas.Bool.{cases_Bool, cond-false, cond-true, eqb-true, lt-ltb, false_from_ne_true, false≢true}
-use Rattle.std.proofs.lemmas.List.{append_cancel_right, drop_all, take_all}
+use Rattle.std.proofs.lemmas.List.{append_cancel_right, drop_all, get_or_at, take_all, take_at}
 use Rattle.bstr.specs.Text.{line_len, lines_of, no_cr, without_terminator}
 use Rattle.bstr.proofs.lemmas.LineLemmas.{lines-nil, lines-step}
 use Rattle.crs_streams.specs.Lines.{AreLines, HasNoFeed, IsTextOf}
@@ -92,37 +92,22 @@ first-feed (b ∷ bs) = elim (cases_Bool (b == 10)) [
 ]
 
 -- how `bstr` cuts the first line
-len-of-line : (line rest : List ℕ) → HasNoFeed line → line_len (line ++ 10 ∷ rest) ≡ suc (length line)
+len-of-line : (line rest : List ℕ) → HasNoFeed line → line_len (line ++ 10 ∷ rest) ≡ length line + 1
 unfolding line_len
-len-of-line [] rest plain = refl
+len-of-line [] rest plain = omega arith
 len-of-line (b ∷ bs) rest plain =
-    cond-false _ _ _ (feed-test b bs plain) ∙ ap suc (len-of-line bs rest (feed-rest b bs plain))
+    cond-false _ _ _ (feed-test b bs plain) ∙ ap suc (len-of-line bs rest (feed-rest b bs plain)) ∙ omega arith
 
 len-of-last : (bytes : List ℕ) → HasNoFeed bytes → line_len bytes ≡ length bytes
 unfolding line_len
 len-of-last [] plain = refl
 len-of-last (b ∷ bs) plain = cond-false _ _ _ (feed-test b bs plain) ∙ ap suc (len-of-last bs (feed-rest b bs plain))
 
-take-line : (line rest : List ℕ) → take (suc (length line)) (line ++ 10 ∷ rest) ≡ line ++ 10 ∷ []
-take-line [] rest = refl
-take-line (b ∷ bs) rest = head-tail b b _ _ refl (take-line bs rest)
-
-drop-line : (line rest : List ℕ) → drop (suc (length line)) (line ++ 10 ∷ rest) ≡ rest
-drop-line [] rest = refl
-drop-line (b ∷ bs) rest = drop-line bs rest
-
 take-front : (bytes : List ℕ) (b : ℕ) → take (length (bytes ++ b ∷ []) - 1) (bytes ++ b ∷ []) ≡ bytes
-take-front bytes b = let n : length (bytes ++ b ∷ []) - 1 ≡ length bytes = omega
-    (arith, length-append bytes (b ∷ [])) in rw n (fronts bytes)
-  where
-    fronts : (bs : List ℕ) → take (length bs) (bs ++ b ∷ []) ≡ bs
-    fronts [] = refl
-    fronts (x ∷ xs) = head-tail x x _ _ refl (fronts xs)
+take-front bytes b = take_at bytes (b ∷ []) (length (bytes ++ b ∷ []) - 1) (omega (arith, length-append bytes (b ∷ [])))
 
 last-byte : (bytes : List ℕ) (b : ℕ) → slice_index (bytes ++ b ∷ []) (length (bytes ++ b ∷ []) - 1) ≡ b
-last-byte bytes b = let n : length (bytes ++ b ∷ []) - 1 ≡ length bytes = omega
-    (arith, length-append bytes (b ∷ [])) in
-    rw n (get_or-append_seam bytes b [] 0)
+last-byte bytes b = get_or_at bytes b [] 0 (length (bytes ++ b ∷ []) - 1) (omega (arith, length-append bytes (b ∷ [])))
 
 -- the test by which `bstr` looks at the last byte
 abbrev ends : ℕ → List ℕ → Bool
@@ -178,11 +163,11 @@ cut_lines bytes = map without_terminator (lines_of bytes)
 
 cut-first : (line rest : List ℕ) → HasNoFeed line → cut_lines (line ++ 10 ∷ rest) ≡ no_cr line ∷ cut_lines rest
 cut-first line rest plain =
-    let long : line_len (line ++ 10 ∷ rest) ≡ suc (length line) = len-of-line line rest plain in
+    let long : line_len (line ++ 10 ∷ rest) ≡ length line + 1 = len-of-line line rest plain in
     let front : take (line_len (line ++ 10 ∷ rest)) (line ++ 10 ∷ rest) ≡ line ++ 10 ∷ [] =
-    ap (λ n. take n (line ++ 10 ∷ rest)) long ∙ take-line line rest in
+    ap (λ n. take n (line ++ 10 ∷ rest)) long ∙ take-append-add line (10 ∷ rest) 1 in
     let left : drop (line_len (line ++ 10 ∷ rest)) (line ++ 10 ∷ rest) ≡ rest =
-    ap (λ n. drop n (line ++ 10 ∷ rest)) long ∙ drop-line line rest in
+    ap (λ n. drop n (line ++ 10 ∷ rest)) long ∙ drop-append-add line (10 ∷ rest) 1 in
     ap (map without_terminator) (lines-step (line ++ 10 ∷ rest) (omega (arith, length-append line (10 ∷ rest))))
     ∙ lists-is _ _ _ _ (ap without_terminator front ∙ line-text line) (ap cut_lines left)
 
