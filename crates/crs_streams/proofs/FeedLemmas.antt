@@ -93,8 +93,7 @@ begins-either (x ∷ xs) rest (y ∷ ys) b e =
 pub short-front : (a b : List ℕ) → HasShortLines (a ++ b) → HasShortLines a
 unfolding HasShortLines
 short-front a b short front line rest e plain =
-    short front line (rest ++ b)
-    (ap (λ l. l ++ b) e ∙ (append_assoc front (line ++ rest) b ∙ ap (λ l. front ++ l) (append_assoc line rest b))) plain
+    short front line (rest ++ b) (rw e (simp append_assoc refl)) plain
 
 pub short-line : (line : List ℕ) → length line ≤ 1048576 → HasShortLines line
 unfolding HasShortLines

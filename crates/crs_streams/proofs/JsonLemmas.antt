@@ -11,5 +11,4 @@ same_test false false is to from = refl
 
 pub key_appended : (new out name : List ℕ) → new ≡ ((out ++ codes ",\"") ++ name) ++ codes "\":" → new ≡ out ++ key name
 unfolding key
-key_appended new out name is =
-    is ∙ (append_assoc (out ++ codes ",\"") name (codes "\":") ∙ append_assoc out (codes ",\"") (name ++ codes "\":"))
+key_appended new out name is = is ∙ simp append_assoc refl
