@@ -1,4 +1,4 @@
-use Rattle.std.proofs.Common.{◌≡◌, ◌+◌, ◌-◌, ◌≤◌, ◌++◌, ℕ, List, ap, drop, drop_at, le_refl, length, length-take-le, rules, subst, sym, take, ◌∙◌}
+use Rattle.std.proofs.Common.{◌≡◌, ◌+◌, ◌-◌, ◌≤◌, ◌++◌, ℕ, List, drop, drop_at, le_refl, length, length-take-le, refl, rules, subst, take}
 use Rattle.std.specs.Io.KnownBytes.{Consumes}
 use Rattle.std.proofs.KnownBytes.{Consumes-trans}
 use Rattle.std.proofs.lemmas.Slice.{take-put_mid_below}
@@ -10,13 +10,10 @@ use Rattle.crs_streams.proofs.filling.FillingRead.read.Goals as goal
 filled-more : (at count room : ℕ) (old new : List ℕ) → at ≤ length old → count ≤ length new
     → take at old ++ take count new ≡ take (at + count) (put_mid at room old new)
 filled-more at count room old new within fits =
-    let front : take at (put_mid at room old new) ≡ take at old = take-put_mid_below at room old new at (le_refl at)
-    within in
-    let behind : take count (drop at (put_mid at room old new)) ≡ take count new = ap (take count)
-    (drop_at (take at old) (new ++ post_of at room old) at (length-take-le at old within))
-    ∙ take-append-le count new (post_of at room old) fits in
-    sym (take-add at count (put_mid at room old new) ∙ ap (λ l. l ++ take count (drop at (put_mid at room old new))) front
-    ∙ ap (λ l. take at old ++ l) behind)
+    let front : take at (put_mid at room old new) ≡ take at old = take-put_mid_below at room old new at (le_refl at) within in
+    let behind : drop at (put_mid at room old new) ≡ new ++ post_of at room old =
+    drop_at (take at old) (new ++ post_of at room old) at (length-take-le at old within) in
+    rw (take-add at count (put_mid at room old new), front, behind, take-append-le count new (post_of at room old) fits) refl
 
 pub loop-filled-preserved : goal.loop-filled-preserved
 loop-filled-preserved g c =

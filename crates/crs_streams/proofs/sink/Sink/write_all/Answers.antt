@@ -1,4 +1,4 @@
-use Rattle.std.proofs.Common.{◌≡◌, rules, ℕ, ◌-◌, List, ◌++◌, length, take, drop, sym, ap, ◌∙◌, append_assoc, take-append-drop}
+use Rattle.std.proofs.Common.{◌≡◌, rules, ℕ, ◌-◌, List, ◌++◌, length, take, drop, refl, append_assoc, take-append-drop}
 use Rattle.std.proofs.lemmas.List.{take_rest}
 use Rattle.std.proofs.KnownBytes.{Appends-trans}
 use Rattle.crs_streams.proofs.sink.Sink.write_all.Goals as goal
@@ -6,8 +6,7 @@ use Rattle.crs_streams.proofs.sink.Sink.write_all.Goals as goal
 moved : (all done rest : List ℕ) (count : ℕ) → all ≡ done ++ rest
     → all ≡ (done ++ take count rest) ++ take (length rest - count) (drop count rest)
 moved all done rest count is =
-    is ∙ ap (λ l. done ++ l) (sym (take-append-drop count rest)) ∙ sym (append_assoc done (take count rest) (drop count rest))
-    ∙ ap (λ l. (done ++ take count rest) ++ l) (sym (take_rest rest count))
+    rw (is, take_rest rest count, append_assoc done (take count rest) (drop count rest), take-append-drop count rest) refl
 
 pub loop-rest-preserved : goal.loop-rest-preserved
 loop-rest-preserved g c =
