@@ -19,10 +19,8 @@ feeds-none (b ∷ bs) plain = rw (feed-test b bs plain) (omega (arith, feeds-non
 pub ended-feeds : (bytes : List ℕ) (texts : List (List ℕ)) → AreEnded bytes texts → feeds bytes ≡ length texts
 ended-feeds bytes [] none = ap feeds none
 ended-feeds bytes (text ∷ texts) (line, rest, e, plain, is, more) =
-    let further = ended-feeds rest texts more in
-    let here = feeds-none line plain in
     let behind : feeds (10 ∷ rest) ≡ 1 + feeds rest = feeds-append (10 ∷ []) rest in
-    ap feeds e ∙ (feeds-append line (10 ∷ rest) ∙ omega (arith, further, here, behind))
+    ap feeds e ∙ omega (arith, feeds-append line (10 ∷ rest), behind, feeds-none line plain, ended-feeds rest texts more)
 
 pub ended-fits : (bytes : List ℕ) (texts : List (List ℕ)) → AreEnded bytes texts → length texts ≤ length bytes
 ended-fits bytes texts are = omega (arith, ended-feeds bytes texts are, count_by-le-length (λ b. b == 10) bytes)
@@ -113,9 +111,8 @@ pub short-more : (ended more : List ℕ) → (ended ≡ []) ⊎ EndsInFeed ended
     → HasShortLines (ended ++ more)
 short-more ended more (inl none) before behind = subst (λ b. HasShortLines (b ++ more)) (sym none) behind
 short-more ended more (inr (front, is)) before behind =
-    let first : HasShortLines front = short-front front (10 ∷ []) (subst HasShortLines is before) in
-    subst HasShortLines (sym (ap (λ b. b ++ more) is ∙ append_assoc front (10 ∷ []) more))
-    (short-feed front more first behind)
+    rw (is, append_assoc front (10 ∷ []) more)
+    (short-feed front more (short-front front (10 ∷ []) (rw is at before)) behind)
 
 -- after lines that have ended, one more line of this length
 pub short-ended : (ended line : List ℕ) → (ended ≡ []) ⊎ EndsInFeed ended → HasShortLines ended → length line ≤ 1048576

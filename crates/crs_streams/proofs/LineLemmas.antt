@@ -1,5 +1,5 @@
 -- The lines of some bytes: there is one way to cut them, and it is that of `bstr`.
-use Rattle.std.proofs.Common.{◌≡◌, ◌⊎◌, ◌+◌, ◌-◌, ◌≤◌, ◌++◌, ◌∷◌, [], ℕ, zero, suc, List, Bool, false, length, take, drop, map, inl, inr, ap, subst, sym, refl, ◌∙◌, arith, length-append, eq-eqb, ◌==◌, ◌&&◌, nat_lt, slice_index}
+use Rattle.std.proofs.Common.{◌≡◌, ◌⊎◌, ◌+◌, ◌-◌, ◌<◌, ◌≤◌, ◌++◌, ◌∷◌, [], ℕ, zero, suc, List, Bool, false, length, take, map, inl, inr, ap, subst, sym, refl, ◌∙◌, arith, length-append, eq-eqb, ◌==◌, ◌&&◌, nat_lt, slice_index}
 use Rattle.std.proofs.Math.Seq.{take-append-add, drop-append-add}
 use Rattle.std.proofs.lemmas.Bool.{cases_Bool, cond-false, cond-true, eqb-true, lt-ltb, false_from_ne_true, false≢true}
 use Rattle.std.proofs.lemmas.List.{append_cancel_right, drop_all, get_or_at, take_all, take_at}
@@ -163,22 +163,24 @@ cut_lines bytes = map without_terminator (lines_of bytes)
 
 cut-first : (line rest : List ℕ) → HasNoFeed line → cut_lines (line ++ 10 ∷ rest) ≡ no_cr line ∷ cut_lines rest
 cut-first line rest plain =
-    let long : line_len (line ++ 10 ∷ rest) ≡ length line + 1 = len-of-line line rest plain in
-    let front : take (line_len (line ++ 10 ∷ rest)) (line ++ 10 ∷ rest) ≡ line ++ 10 ∷ [] =
-    ap (λ n. take n (line ++ 10 ∷ rest)) long ∙ take-append-add line (10 ∷ rest) 1 in
-    let left : drop (line_len (line ++ 10 ∷ rest)) (line ++ 10 ∷ rest) ≡ rest =
-    ap (λ n. drop n (line ++ 10 ∷ rest)) long ∙ drop-append-add line (10 ∷ rest) 1 in
-    ap (map without_terminator) (lines-step (line ++ 10 ∷ rest) (omega (arith, length-append line (10 ∷ rest))))
-    ∙ lists-is _ _ _ _ (ap without_terminator front ∙ line-text line) (ap cut_lines left)
+    rw (
+      lines-step (line ++ 10 ∷ rest) (omega (arith, length-append line (10 ∷ rest))),
+      len-of-line line rest plain,
+      take-append-add line (10 ∷ rest) 1,
+      drop-append-add line (10 ∷ rest) 1,
+      line-text line,
+    ) refl
 
-cut-last : (b : ℕ) (bs : List ℕ) → HasNoFeed (b ∷ bs) → cut_lines (b ∷ bs) ≡ (b ∷ bs) ∷ []
-cut-last b bs plain =
-    let long : line_len (b ∷ bs) ≡ length (b ∷ bs) = len-of-last (b ∷ bs) plain in
-    let front : take (line_len (b ∷ bs)) (b ∷ bs) ≡ b ∷ bs = take_all (line_len (b ∷ bs)) (b ∷ bs) (omega arith) in
-    let left : drop (line_len (b ∷ bs)) (b ∷ bs) ≡ [] = drop_all (line_len (b ∷ bs)) (b ∷ bs) (omega arith) in
-    ap (map without_terminator) (lines-step (b ∷ bs) (omega arith))
-    ∙ lists-is _ _ _ _ (ap without_terminator front ∙ last-text (b ∷ bs) plain)
-    (ap cut_lines left ∙ ap (map without_terminator) lines-nil)
+cut-last : (bytes : List ℕ) → 0 < length bytes → HasNoFeed bytes → cut_lines bytes ≡ bytes ∷ []
+cut-last bytes some plain =
+    rw (
+      lines-step bytes some,
+      len-of-last bytes plain,
+      take_all (length bytes) bytes (omega arith),
+      drop_all (length bytes) bytes (omega arith),
+      last-text bytes plain,
+      lines-nil,
+    ) refl
 
 cut-within : (n : ℕ) (bytes : List ℕ) → length bytes ≤ n → AreLines bytes (cut_lines bytes)
 cut-within n [] fits = subst (AreLines []) (sym (ap (map without_terminator) lines-nil)) refl
@@ -191,7 +193,7 @@ cut-within (suc n) (b ∷ bs) fits = elim (first-feed (b ∷ bs)) [
       subst (AreLines (b ∷ bs)) (sym (ap cut_lines e ∙ cut-first line rest plain)) whole
   | inr plain ↦
       let whole : AreLines (b ∷ bs) ((b ∷ bs) ∷ []) = inr (λ h. nil-cons b bs (sym h), plain, refl, refl) in
-      subst (AreLines (b ∷ bs)) (sym (cut-last b bs plain)) whole
+      subst (AreLines (b ∷ bs)) (sym (cut-last (b ∷ bs) (omega arith) plain)) whole
 ]
 
 pub lines-cut : (bytes : List ℕ) → AreLines bytes (cut_lines bytes)

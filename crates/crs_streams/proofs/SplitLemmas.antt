@@ -1,5 +1,5 @@
 -- The first line feed among bytes, as it is searched for.
-use Rattle.std.proofs.Common.{◌≡◌, ◌+◌, ◌-◌, ◌<◌, ◌++◌, ◌∷◌, [], ℕ, zero, suc, List, Some, None, true, length, take, drop, ap, subst, sym, refl, ◌∙◌, arith, length-drop, ◌==◌, slice_index}
+use Rattle.std.proofs.Common.{◌≡◌, ◌+◌, ◌-◌, ◌<◌, ◌++◌, ◌∷◌, [], ℕ, zero, suc, List, Some, None, true, length, take, drop, refl, arith, length-drop, ◌==◌, slice_index}
 use Rattle.std.proofs.lemmas.Bool.{eqb-true, false_from_ne_true}
 use Rattle.std.proofs.lemmas.List.{take_all}
 use Rattle.std.proofs.lemmas.List.Folds.{list_all-append}
@@ -36,9 +36,8 @@ pub split-sliced : (bytes : List ℕ) (at : ℕ) → IsFirstByte (is_byte 10) by
     → IsSplit bytes (take at bytes) (take (length bytes - (at + 1)) (drop (at + 1) bytes))
 split-sliced bytes at found =
     let next : at + 1 ≡ suc at = omega arith in
-    let all : take (length bytes - (at + 1)) (drop (at + 1) bytes) ≡ drop (at + 1) bytes =
-    take_all (length bytes - (at + 1)) (drop (at + 1) bytes) (omega (arith, length-drop (at + 1) bytes)) in
-    subst (IsSplit bytes (take at bytes)) (sym (all ∙ ap (λ n. drop n bytes) next)) (split-found bytes at found)
+    rw (take_all (length bytes - (at + 1)) (drop (at + 1) bytes) (omega (arith, length-drop (at + 1) bytes)), next)
+    (split-found bytes at found)
 
 pub split-none : (bytes : List ℕ) → IsFirstByte (is_byte 10) bytes None → HasNoFeed bytes
 split-none bytes none = nowhere-plain bytes (λ k l. none k (omega arith) l)
