@@ -35,9 +35,9 @@ pub record IsStanding (c : Class) (N : Item → Type 0) (item : Item) : Type 0 w
   pub unbroken : (fault : RefusedAt) → ¬ (Breaks c item fault)
   pub normal : N item
 
-pub made-stands : (level : Level) (c : Class) (n : ℕ) (item : Item) → n ≤ 8 → IsAcceptedNormal level c n item →
+pub made-stands : {level : Level} {c : Class} {n : ℕ} {item : Item} → n ≤ 8 → IsAcceptedNormal level c n item →
     IsStanding c (IsNormalIn level c c) item
-made-stands level c n item l made =
+made-stands {c = c} {n = n} {item = item} l made =
     let w : depth item ≤ n = made.within in
     record {
       is_node = made.is_node;
@@ -48,20 +48,10 @@ made-stands level c n item l made =
       normal = made.normal c;
     }
 
-pub unbroken-form : {V : Type 0} (level : Level) (c : Class) (Reads : Class → Item → V → Type 0) (form : V → Item) →
-    IsItsForm level c Reads form → IsItsFormUnbroken level c Reads form
-unbroken-form level c Reads form own parent item value shaped normal free reads =
-    own parent item value shaped normal reads
-
 -- a normal item that is sound is what is written for the value that is read from it
 abbrev pub IsItsFormSound : {V : Type 0} → Level → Class → (Class → Item → V → Type 0) → (V → Item) → Type 0
 IsItsFormSound {V = V} level c Reads form =
     (item : Item) (value : V) → IsSound c item → IsNormalIn level c c item → Reads c item value → without_places item ≡ form value
-
-pub sound-form : {V : Type 0} (level : Level) (c : Class) (Reads : Class → Item → V → Type 0) (form : V → Item) →
-    IsItsFormUnbroken level c Reads form → IsItsFormSound level c Reads form
-sound-form level c Reads form own item value sound normal reads =
-    own c item value sound.shaped normal sound.unbroken reads
 
 -- what holds of the values of one kind
 pub record IsKnownBy {V : Type 0} (c : V → Class) (N : V → Item → Type 0) (Reads : Class → Item → V → Type 0) (Is : V → Type 0) (Same : V → V → Type 0) (form : V → V) (item : V → Item) : Type 0 where
@@ -94,7 +84,7 @@ told-by laws c N d Reads Is form item once made reads a b p q e =
     ∙ placed-twice 0 0 j in
     once (form a) (form b) (at_place 0 j) (subst (λ k. Reads d k (form a)) same (reads a p)) (reads b q)
 
-module _ {V : Type 0} (laws : TextLaws) (formed : SpelledFormed) (c : V → Class) (N : V → Item → Type 0) (Reads : Class → Item → V → Type 0) (Is : V → Type 0) (Same : V → V → Type 0) (form : V → V) (item : V → Item) (known : IsKnownBy c N Reads Is Same form item) where
+module _ {V : Type 0} (laws : TextLaws) (formed : SpelledFormed) {c : V → Class} {N : V → Item → Type 0} {Reads : Class → Item → V → Type 0} {Is : V → Type 0} {Same : V → V → Type 0} {form : V → V} (item : V → Item) (known : IsKnownBy c N Reads Is Same form item) where
   abbrev at-start : V → Item
   at-start x = at_place 0 (item (form x))
 
@@ -164,12 +154,6 @@ module _ {V : Type 0} (laws : TextLaws) (formed : SpelledFormed) (c : V → Clas
             subst IsClosed (text-at 0 (item (form x))) (node-closed (at-start x) m.formed m.is_node);
       })
 
-pub canonical-form : {V : Type 0} → TextLaws → SpelledFormed → (level : Level) (c : V → Class) (Reads : Class → Item → V → Type 0) (Is : V → Type 0) (Same : V → V → Type 0) (form : V → V) (item : V → Item) →
-    IsKnownBy c (λ x. IsNormalIn level (c x) (c x)) Reads Is Same form item →
-    IsWrittenForm Is Same (λ x. IsSpelledAs level (c x) Reads Same x) (λ x. item_text (item (form x)))
-canonical-form laws formed level c Reads Is Same form item known =
-    canonical-by laws formed c (λ x. IsNormalIn level (c x) (c x)) Reads Is Same form item known
-
 -- ---- values of which all items are of one class
 
 pub record IsKnownOf {V : Type 0} (level : Level) (c : Class) (most : ℕ) (Reads : Class → Item → V → Type 0) (Is : V → Type 0) (Same : V → V → Type 0) (form : V → V) (item : V → Item) : Type 0 where
@@ -181,19 +165,19 @@ pub record IsKnownOf {V : Type 0} (level : Level) (c : Class) (most : ℕ) (Read
   pub sound : IsReadAs Reads Is c
   pub own : IsItsFormUnbroken level c Reads (λ v. item (form v))
 
-pub canonical-of : {V : Type 0} → TextLaws → SpelledFormed → (level : Level) (c : Class) (most : ℕ) (Reads : Class → Item → V → Type 0) (Is : V → Type 0) (Same : V → V → Type 0) (form : V → V) (item : V → Item) →
+pub canonical-of : {V : Type 0} → TextLaws → SpelledFormed → {level : Level} {c : Class} {most : ℕ} {Reads : Class → Item → V → Type 0} {Is : V → Type 0} {Same : V → V → Type 0} {form : V → V} (item : V → Item) →
     IsKnownOf level c most Reads Is Same form item →
     IsWrittenForm Is Same (λ x. IsSpelledAs level c Reads Same x) (λ x. item_text (item (form x)))
-canonical-of laws formed level c most Reads Is Same form item k =
-    canonical-form laws formed level (λ x. c) Reads Is Same form item (record {
+canonical-of laws formed {level = level} {c = c} {Reads = Reads} {Is = Is} {form = form} item k =
+    let stands : (x : _) → Is x → IsStanding c (IsNormalIn level c c) (at_place 0 (item (form x))) =
+    λ x s. made-stands k.few (k.made x 0 s) in
+    canonical-by laws formed item (record {
       decides = k.decides;
-      made = λ x s. made-stands level c most (at_place 0 (item (form x))) k.few (k.made x 0 s);
+      made = stands;
       reads = λ x s. k.reads x 0 s;
-      told = told-by laws (λ x. c) (λ x. IsNormalIn level c c) c Reads Is form item (λ a b i. k.once c i a b)
-          (λ x s. made-stands level c most (at_place 0 (item (form x))) k.few (k.made x 0 s))
-          (λ x s. k.reads x 0 s);
+      told = told-by laws (λ x. c) _ c Reads Is form item (λ a b i. k.once c i a b) stands (λ x s. k.reads x 0 s);
       sound = λ x s. k.sound;
-      own = λ x s. sound-form level c Reads (λ v. item (form v)) k.own;
+      own = λ x s i v sound normal. k.own c i v sound.shaped normal sound.unbroken;
     })
 
 pub some-decides : {V : Type 0} (Is : V → Type 0) (form : V → V) (Same : V → V → Type 0) →

@@ -4,57 +4,53 @@ use Rattle.crs_value.specs.Prelude.{ReadsConversion, ReadsGeoidModel, ReadsMetho
 use Rattle.crs_same.specs.Prelude.{AreSame, parts_of_method, parts_of_conversion}
 use Rattle.crs_matching.specs.Prelude.{SameGeoidModel, SameParameter}
 use Rattle.crs_normal.specs.SpelledConversions.{item_conversion, item_geoid_model, item_method, item_parameter, norm_conversion, norm_geoid_model, norm_method, norm_parameter}
-use Rattle.crs_normal.proofs.parts.PartLemmas.{canonical-of, unbroken-form}
+use Rattle.crs_normal.proofs.parts.PartLemmas.{canonical-of}
 use Rattle.crs_normal.proofs.laws.parts.conversions_are_canonical.Goals as goal
 
 pub returns-clause-method : goal.returns-clause-method
 returns-clause-method c level =
-    canonical-of c.text_laws.ensures c.written_items.ensures.formed level class.Method 3 ReadsMethod IsMethod (AreSame parts_of_method level) (norm_method level) item_method
-    (record {
+    canonical-of c.text_laws.ensures c.written_items.ensures.formed item_method (record {
       few = omega arith;
       decides = c.same_conversions_have_one_form.ensures.method level;
       made = c.made_method_is_normal.ensures level;
       reads = c.crs_parts_are_read_back.ensures.method level;
       once = c.parts_read_once.ensures.method;
       sound = c.parts_are_sound.ensures.method class.Method;
-      own = unbroken-form level class.Method ReadsMethod (λ v. item_method (norm_method level v)) (c.normal_method_is_its_form.ensures level);
+      own = λ d i v shaped normal free. c.normal_method_is_its_form.ensures level d i v shaped normal;
     })
 
 pub returns-clause-parameter : goal.returns-clause-parameter
 returns-clause-parameter c level =
-    canonical-of c.text_laws.ensures c.written_items.ensures.formed level class.Parameter 4 ReadsParameter IsParameter (SameParameter level) (norm_parameter level) item_parameter
-    (record {
+    canonical-of c.text_laws.ensures c.written_items.ensures.formed item_parameter (record {
       few = omega arith;
       decides = c.same_conversions_have_one_form.ensures.parameter level;
       made = c.made_parameter_is_normal.ensures level;
       reads = c.members_are_read_back.ensures.parameter level;
       once = c.members_read_once.ensures.parameter;
       sound = c.parts_are_sound.ensures.parameter class.Parameter;
-      own = unbroken-form level class.Parameter ReadsParameter (λ v. item_parameter (norm_parameter level v)) (c.normal_parameter_is_its_form.ensures level);
+      own = λ d i v shaped normal free. c.normal_parameter_is_its_form.ensures level d i v shaped normal;
     })
 
 pub returns-clause-conversion : goal.returns-clause-conversion
 returns-clause-conversion c level =
-    canonical-of c.text_laws.ensures c.written_items.ensures.formed level class.Conversion 5 ReadsConversion IsConversion (AreSame parts_of_conversion level) (norm_conversion level) item_conversion
-    (record {
+    canonical-of c.text_laws.ensures c.written_items.ensures.formed item_conversion (record {
       few = omega arith;
       decides = c.same_conversions_have_one_form.ensures.conversion level;
       made = c.made_conversion_is_normal.ensures level;
       reads = c.crs_parts_are_read_back.ensures.conversion level;
       once = c.parts_read_once.ensures.conversion;
       sound = c.parts_are_sound.ensures.conversion class.Conversion;
-      own = unbroken-form level class.Conversion ReadsConversion (λ v. item_conversion (norm_conversion level v)) (c.normal_conversion_is_its_form.ensures level);
+      own = λ d i v shaped normal free. c.normal_conversion_is_its_form.ensures level d i v shaped normal;
     })
 
 pub returns-clause-geoid_model : goal.returns-clause-geoid_model
 returns-clause-geoid_model c level =
-    canonical-of c.text_laws.ensures c.written_items.ensures.formed level class.GeoidModel 3 ReadsGeoidModel IsGeoidModel (SameGeoidModel level) (norm_geoid_model level) item_geoid_model
-    (record {
+    canonical-of c.text_laws.ensures c.written_items.ensures.formed item_geoid_model (record {
       few = omega arith;
       decides = c.same_conversions_have_one_form.ensures.geoid_model level;
       made = c.made_geoid_model_is_normal.ensures level;
       reads = c.members_are_read_back.ensures.geoid_model level;
       once = c.members_read_once.ensures.geoid_model;
       sound = c.parts_are_sound.ensures.geoid_model class.GeoidModel;
-      own = unbroken-form level class.GeoidModel ReadsGeoidModel (λ v. item_geoid_model (norm_geoid_model level v)) (c.normal_geoid_model_is_its_form.ensures level);
+      own = λ d i v shaped normal free. c.normal_geoid_model_is_its_form.ensures level d i v shaped normal;
     })

@@ -3,31 +3,29 @@ use Rattle.crs_shape.specs.declared.class.Class.TheVariants as class
 use Rattle.crs_value.specs.Prelude.{ReadsBox, ReadsExtent, IsBox, IsExtent}
 use Rattle.crs_matching.specs.Prelude.{SameBox, SameExtent}
 use Rattle.crs_normal.specs.SpelledUsages.{item_box, item_extent, norm_extent}
-use Rattle.crs_normal.proofs.parts.PartLemmas.{canonical-of, unbroken-form}
+use Rattle.crs_normal.proofs.parts.PartLemmas.{canonical-of}
 use Rattle.crs_normal.proofs.laws.parts.extents_are_canonical.Goals as goal
 
 pub returns-clause-bounding_box : goal.returns-clause-bounding_box
 returns-clause-bounding_box c level =
-    canonical-of c.text_laws.ensures c.written_items.ensures.formed level class.BoundingBox 1 ReadsBox IsBox SameBox (λ v. v) item_box
-    (record {
+    canonical-of c.text_laws.ensures c.written_items.ensures.formed item_box (record {
       few = omega arith;
       decides = c.same_tails_have_one_form.ensures.bounding_box;
       made = c.made_box_is_normal.ensures level;
       reads = c.members_are_read_back.ensures.bounding_box;
       once = c.parts_read_once.ensures.bounding_box;
       sound = c.parts_are_sound.ensures.bounding_box class.BoundingBox;
-      own = unbroken-form level class.BoundingBox ReadsBox item_box (c.normal_usage_is_its_form.ensures.bbox level);
+      own = λ d i v shaped normal free. c.normal_usage_is_its_form.ensures.bbox level d i v shaped normal;
     })
 
 pub returns-clause-extent : goal.returns-clause-extent
 returns-clause-extent c level =
-    canonical-of c.text_laws.ensures c.written_items.ensures.formed level class.VerticalExtent 4 ReadsExtent IsExtent (SameExtent level) (norm_extent level) item_extent
-    (record {
+    canonical-of c.text_laws.ensures c.written_items.ensures.formed item_extent (record {
       few = omega arith;
       decides = c.same_tails_have_one_form.ensures.extent level;
       made = c.made_extent_is_normal.ensures level;
       reads = c.members_are_read_back.ensures.extent level;
       once = c.members_read_once.ensures.extent;
       sound = c.parts_are_sound.ensures.extent class.VerticalExtent;
-      own = unbroken-form level class.VerticalExtent ReadsExtent (λ v. item_extent (norm_extent level v)) (c.normal_usage_is_its_form.ensures.extent level);
+      own = λ d i v shaped normal free. c.normal_usage_is_its_form.ensures.extent level d i v shaped normal;
     })

@@ -5,52 +5,48 @@ use Rattle.crs_same.specs.Prelude.{AreSame, parts_of_ellipsoid, parts_of_given}
 use Rattle.crs_matching.specs.Prelude.{SameMember, SameAxisMeridian}
 use Rattle.crs_normal.specs.SpelledFrames.{item_ellipsoid, item_member, item_meridian, norm_ellipsoid, norm_given, norm_member}
 use Rattle.crs_normal.specs.SpelledSystems.{item_axis_meridian, norm_axis_meridian}
-use Rattle.crs_normal.proofs.parts.PartLemmas.{canonical-of, some-decides, unbroken-form}
+use Rattle.crs_normal.proofs.parts.PartLemmas.{canonical-of, some-decides}
 use Rattle.crs_normal.proofs.laws.parts.frame_parts_are_canonical.Goals as goal
 
 pub returns-clause-ellipsoid : goal.returns-clause-ellipsoid
 returns-clause-ellipsoid c level =
-    canonical-of c.text_laws.ensures c.written_items.ensures.formed level class.Ellipsoid 4 ReadsEllipsoid IsEllipsoid (AreSame parts_of_ellipsoid level) (norm_ellipsoid level) item_ellipsoid
-    (record {
+    canonical-of c.text_laws.ensures c.written_items.ensures.formed item_ellipsoid (record {
       few = omega arith;
       decides = c.same_frames_have_one_form.ensures.ellipsoid level;
       made = c.made_ellipsoid_is_normal.ensures level;
       reads = c.frame_parts_are_read_back.ensures.ellipsoid level;
       once = c.parts_read_once.ensures.ellipsoid;
       sound = c.parts_are_sound.ensures.ellipsoid;
-      own = unbroken-form level class.Ellipsoid ReadsEllipsoid (λ v. item_ellipsoid (norm_ellipsoid level v)) (c.normal_ellipsoid_is_its_form.ensures level);
+      own = λ d i v shaped normal free. c.normal_ellipsoid_is_its_form.ensures level d i v shaped normal;
     })
 
 pub returns-clause-meridian : goal.returns-clause-meridian
 returns-clause-meridian c level =
-    canonical-of c.text_laws.ensures c.written_items.ensures.formed level class.PrimeMeridian 4 ReadsMeridian IsMeridian (AreSame parts_of_given level) (norm_given level) item_meridian
-    (record {
+    canonical-of c.text_laws.ensures c.written_items.ensures.formed item_meridian (record {
       few = omega arith;
       decides = c.same_frames_have_one_form.ensures.given level;
       made = c.made_meridian_is_normal.ensures level;
       reads = c.frame_parts_are_read_back.ensures.given level;
       once = c.parts_read_once.ensures.meridian;
       sound = c.parts_are_sound.ensures.meridian class.PrimeMeridian;
-      own = unbroken-form level class.PrimeMeridian ReadsMeridian (λ v. item_meridian (norm_given level v)) (c.normal_meridian_is_its_form.ensures level);
+      own = λ d i v shaped normal free. c.normal_meridian_is_its_form.ensures level d i v shaped normal;
     })
 
 pub returns-clause-member : goal.returns-clause-member
 returns-clause-member c level =
-    canonical-of c.text_laws.ensures c.written_items.ensures.formed level class.Member 3 ReadsMember IsMember (SameMember level) (norm_member level) item_member
-    (record {
+    canonical-of c.text_laws.ensures c.written_items.ensures.formed item_member (record {
       few = omega arith;
       decides = c.same_frames_have_one_form.ensures.member level;
       made = c.made_member_is_normal.ensures level;
       reads = c.members_are_read_back.ensures.member level;
       once = c.members_read_once.ensures.member;
       sound = c.parts_are_sound.ensures.member class.Member;
-      own = unbroken-form level class.Member ReadsMember (λ v. item_member (norm_member level v)) (c.normal_member_is_its_form.ensures level);
+      own = λ d i v shaped normal free. c.normal_member_is_its_form.ensures level d i v shaped normal;
     })
 
 pub returns-clause-along : goal.returns-clause-along
 returns-clause-along c level =
-    canonical-of c.text_laws.ensures c.written_items.ensures.formed level class.AxisMeridian 4 ReadsAxisMeridian IsAxisMeridian (SameAxisMeridian level) (norm_axis_meridian level) item_axis_meridian
-    (record {
+    canonical-of c.text_laws.ensures c.written_items.ensures.formed item_axis_meridian (record {
       few = omega arith;
       decides = some-decides IsAxisMeridian (norm_axis_meridian level) (SameAxisMeridian level)
           (λ a b p q. c.same_systems_have_one_form.ensures.meridian level (Some a) (Some b) p q);
@@ -58,5 +54,5 @@ returns-clause-along c level =
       reads = c.crs_parts_are_read_back.ensures.along level;
       once = c.parts_read_once.ensures.along;
       sound = c.parts_are_sound.ensures.along class.AxisMeridian;
-      own = unbroken-form level class.AxisMeridian ReadsAxisMeridian (λ v. item_axis_meridian (norm_axis_meridian level v)) (c.normal_axis_is_its_form.ensures.meridian level);
+      own = λ d i v shaped normal free. c.normal_axis_is_its_form.ensures.meridian level d i v shaped normal;
     })

@@ -5,18 +5,17 @@ use Rattle.crs_value.specs.declared.values.level.Level.TheVariants as levels
 use Rattle.crs_matching.specs.Prelude.{SameIdent}
 use Rattle.crs_normal.specs.SpelledUnits.{item_ident}
 use Rattle.crs_normal.proofs.members.IdentLemmas.{ident-agrees}
-use Rattle.crs_normal.proofs.parts.PartLemmas.{canonical-form, made-stands, sound-form, unbroken-form}
+use Rattle.crs_normal.proofs.parts.PartLemmas.{canonical-by, made-stands}
 use Rattle.crs_normal.proofs.laws.parts.identifiers_are_canonical.Goals as goal
 
 pub returns : goal.returns
 returns c level =
-    canonical-form c.text_laws.ensures c.written_items.ensures.formed levels.Full (λ x. class.Identifier) ReadsIdent IsIdent
-    SameIdent (λ x. x) item_ident (record {
+    canonical-by c.text_laws.ensures c.written_items.ensures.formed item_ident (record {
       decides = λ a b p q. ident-agrees a b;
-      made = λ x s. made-stands levels.Full class.Identifier 2 _ (omega arith) (c.made_identifier_is_normal.ensures levels.Full x 0 s);
+      made = λ x s. made-stands (omega arith) (c.made_identifier_is_normal.ensures levels.Full x 0 s);
       reads = λ x s. c.members_are_read_back.ensures.identifier x 0 s;
       told = c.member_texts_tell_members.ensures.identifier;
       sound = λ x s. c.parts_are_sound.ensures.ident class.Identifier;
-      own = λ x s. sound-form levels.Full class.Identifier ReadsIdent item_ident
-          (unbroken-form levels.Full class.Identifier ReadsIdent item_ident (c.normal_identifier_is_its_form.ensures levels.Full));
+      own = λ x s i v sound normal.
+          c.normal_identifier_is_its_form.ensures levels.Full class.Identifier i v sound.shaped normal;
     })

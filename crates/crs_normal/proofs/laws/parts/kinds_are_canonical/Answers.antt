@@ -7,15 +7,13 @@ use Rattle.crs_same.specs.Prelude.{AreSame, parts_of_base, parts_of_geodetic, pa
 use Rattle.crs_normal.specs.CrsClass.{geodetic_class}
 use Rattle.crs_normal.specs.SpelledCrs.{item_base, item_compound, item_geodetic, item_projected, item_vertical, norm_base, norm_compound, norm_geodetic, norm_projected, norm_vertical}
 use Rattle.crs_normal.proofs.parts.PartKindLemmas.{geodetic-told, own-geodetic}
-use Rattle.crs_normal.proofs.parts.PartLemmas.{canonical-form, canonical-of, made-stands, sound-form}
+use Rattle.crs_normal.proofs.parts.PartLemmas.{canonical-by, canonical-of, made-stands}
 use Rattle.crs_normal.proofs.texts.RootLemmas.{is-geodetic}
 use Rattle.crs_normal.proofs.laws.parts.kinds_are_canonical.Goals as goal
 
 pub returns-clause-base : goal.returns-clause-base
 returns-clause-base c level =
-    canonical-of c.text_laws.ensures c.written_items.ensures.formed level class.BaseCrs 6 ReadsBase IsBase (AreSame parts_of_base level)
-    (norm_base level) item_base
-    (record {
+    canonical-of c.text_laws.ensures c.written_items.ensures.formed item_base (record {
       few = omega arith;
       decides = c.same_kinds_have_one_form.ensures.base level;
       made = c.made_base_is_normal.ensures level;
@@ -28,28 +26,21 @@ returns-clause-base c level =
 pub returns-clause-geodetic : goal.returns-clause-geodetic
 returns-clause-geodetic c level =
     let own = c.normal_crs_is_its_form.ensures in
-    canonical-form c.text_laws.ensures c.written_items.ensures.formed level (λ x. geodetic_class x.system.system_type)
-    ReadsGeodetic IsGeodetic (AreSame parts_of_geodetic level) (norm_geodetic level) item_geodetic
-    (record {
+    canonical-by c.text_laws.ensures c.written_items.ensures.formed item_geodetic (record {
       decides = c.same_kinds_have_one_form.ensures.geodetic level;
-      made = λ x s. made-stands level (geodetic_class x.system.system_type) 6
-          (at_place 0 (item_geodetic (norm_geodetic level x))) (omega arith)
-          (c.made_geodetic_is_normal.ensures level x 0 s);
+      made = λ x s. made-stands (omega arith) (c.made_geodetic_is_normal.ensures level x 0 s);
       reads = λ x s. (c.crs_is_read_back.ensures.reads level (crs.Geodetic x) 0 s).1;
       told = geodetic-told level (c.written_forms_are_equal_where_same.ensures level)
           (c.same_kinds_have_one_form.ensures.geodetic level);
       sound = λ x s. c.kinds_are_sound.ensures.geodetic (geodetic_class x.system.system_type)
           (is-geodetic x.system.system_type);
-      own = λ x s. sound-form level (geodetic_class x.system.system_type) ReadsGeodetic
-          (λ v. item_geodetic (norm_geodetic level v))
-          (own-geodetic level (own.geodetic level) (own.geographic level) x.system.system_type);
+      own = λ x s i v sound normal. own-geodetic level (own.geodetic level) (own.geographic level) x.system.system_type
+          (geodetic_class x.system.system_type) i v sound.shaped normal sound.unbroken;
     })
 
 pub returns-clause-projected : goal.returns-clause-projected
 returns-clause-projected c level =
-    canonical-of c.text_laws.ensures c.written_items.ensures.formed level class.ProjectedCrs 7 ReadsProjected IsProjected (AreSame parts_of_projected level)
-    (norm_projected level) item_projected
-    (record {
+    canonical-of c.text_laws.ensures c.written_items.ensures.formed item_projected (record {
       few = omega arith;
       decides = c.same_kinds_have_one_form.ensures.projected level;
       made = c.made_projected_is_normal.ensures level;
@@ -61,9 +52,7 @@ returns-clause-projected c level =
 
 pub returns-clause-vertical : goal.returns-clause-vertical
 returns-clause-vertical c level =
-    canonical-of c.text_laws.ensures c.written_items.ensures.formed level class.VerticalCrs 6 ReadsVertical IsVertical (AreSame parts_of_vertical level)
-    (norm_vertical level) item_vertical
-    (record {
+    canonical-of c.text_laws.ensures c.written_items.ensures.formed item_vertical (record {
       few = omega arith;
       decides = c.same_kinds_have_one_form.ensures.vertical level;
       made = c.made_vertical_is_normal.ensures level;
@@ -75,9 +64,7 @@ returns-clause-vertical c level =
 
 pub returns-clause-compound : goal.returns-clause-compound
 returns-clause-compound c level =
-    canonical-of c.text_laws.ensures c.written_items.ensures.formed level class.CompoundCrs 8 ReadsCompound IsCompound (AreSame parts_of_compound level)
-    (norm_compound level) item_compound
-    (record {
+    canonical-of c.text_laws.ensures c.written_items.ensures.formed item_compound (record {
       few = omega arith;
       decides = c.same_kinds_have_one_form.ensures.compound level;
       made = c.made_compound_is_normal.ensures level;

@@ -4,20 +4,17 @@ use Rattle.crs_value.specs.Prelude.{ReadsUsage, IsUsage}
 use Rattle.crs_value.specs.declared.values.level.Level.TheVariants as levels
 use Rattle.crs_matching.specs.Prelude.{SameUsage}
 use Rattle.crs_normal.specs.SpelledUsages.{item_usage, norm_usage}
-use Rattle.crs_normal.proofs.parts.PartLemmas.{canonical-of, unbroken-form}
+use Rattle.crs_normal.proofs.parts.PartLemmas.{canonical-of}
 use Rattle.crs_normal.proofs.laws.parts.usages_are_canonical.Goals as goal
 
 pub returns : goal.returns
 returns c level =
-    canonical-of c.text_laws.ensures c.written_items.ensures.formed levels.Full class.Usage 5 ReadsUsage IsUsage SameUsage
-    norm_usage item_usage
-    (record {
+    canonical-of c.text_laws.ensures c.written_items.ensures.formed item_usage (record {
       few = omega arith;
       decides = c.same_tails_have_one_form.ensures.usage;
       made = λ x place s. c.made_usage_is_normal.ensures x place s;
       reads = λ x place s. c.members_are_read_back.ensures.usage x place s;
       once = c.members_read_once.ensures.usage;
       sound = c.parts_are_sound.ensures.usage;
-      own = unbroken-form levels.Full class.Usage ReadsUsage (λ v. item_usage (norm_usage v))
-          (c.normal_usage_is_its_form.ensures.usage levels.Full);
+      own = λ d i v shaped normal free. c.normal_usage_is_its_form.ensures.usage levels.Full d i v shaped normal;
     })
