@@ -18,7 +18,7 @@ use Rattle.crs_normal.specs.TextLaws.{TextLaws}
 use Rattle.crs_normal.proofs.parts.PartLemmas.{IsItsFormSound}
 use Rattle.crs_normal.proofs.read.DatumLemmas.{ellipsoid-in, geodetic-back, vertical-back}
 use Rattle.crs_normal.proofs.read.FrameLemmas.{datum-read, ensemble-read, in-geodetic-datum, in-geodetic-ensemble}
-use Rattle.crs_normal.proofs.texts.WrittenFormLemmas.{IsOneText, one-text, written-form}
+use Rattle.crs_normal.proofs.texts.WrittenFormLemmas.{IsOneText, written-form}
 use Rattle.crs_normal.proofs.read.NameLemmas.{keyword-names}
 
 -- ---- with an ellipsoid or without
@@ -161,13 +161,7 @@ keywords-apart (Some z) x y e = let k : ◌≡◌ {A = ℕ} 68 69 = ap first-byt
 texts-apart : (level : Level) (d : DatumParts) (e : EnsembleParts) → datum_text level d ≡ ensemble_text level e → ⊥
 texts-apart level d e same = keywords-apart (option_map (norm_ellipsoid level) d.ellipsoid) _ _ same
 
-module _ (level : Level) (datum_texts : IsWrittenForm IsDatum (AreSame parts_of_datum level) (IsSpelledDatum level) (datum_text level)) (ensemble_texts : IsWrittenForm IsEnsemble (AreSame parts_of_ensemble level) (IsSpelledEnsemble level) (ensemble_text level)) where
-  datums : IsOneText IsDatum (AreSame parts_of_datum level) (IsSpelledDatum level) (datum_text level)
-  datums = one-text IsDatum (AreSame parts_of_datum level) (IsSpelledDatum level) (datum_text level) datum_texts
-
-  ensembles : IsOneText IsEnsemble (AreSame parts_of_ensemble level) (IsSpelledEnsemble level) (ensemble_text level)
-  ensembles = one-text IsEnsemble (AreSame parts_of_ensemble level) (IsSpelledEnsemble level) (ensemble_text level) ensemble_texts
-
+module _ (level : Level) (datums : IsOneText IsDatum (AreSame parts_of_datum level) (IsSpelledDatum level) (datum_text level)) (ensembles : IsOneText IsEnsemble (AreSame parts_of_ensemble level) (IsSpelledEnsemble level) (ensemble_text level)) where
   frames-equal : (a b : Frame) → IsFrame a → IsFrame b → (frame_text level a ≡ frame_text level b) ↔ AreSame parts_of_frame level a b
   unfolding AreSame parts_of_frame
   frames-equal (frame.Datum a) (frame.Datum b) p q = datums.equal_bytes a b p q
@@ -176,7 +170,7 @@ module _ (level : Level) (datum_texts : IsWrittenForm IsDatum (AreSame parts_of_
   frames-equal (frame.Ensemble a) (frame.Ensemble b) p q = ensembles.equal_bytes a b p q
 
   pub frames-canonical : IsWrittenForm IsFrame (AreSame parts_of_frame level) (IsSpelledFrame level) (frame_text level)
-  frames-canonical = written-form IsFrame (AreSame parts_of_frame level) (IsSpelledFrame level) (frame_text level) (record {
+  frames-canonical = written-form (record {
     spelled = elim [ frame.Datum d ↦ λ s. datums.spelled d s | frame.Ensemble e ↦ λ s. ensembles.spelled e s ];
     one = elim [ frame.Datum d ↦ λ bytes s h. datums.one d bytes s h | frame.Ensemble e ↦ λ bytes s h. ensembles.one e bytes s h ];
     equal_bytes = frames-equal;

@@ -19,7 +19,7 @@ use Rattle.crs_normal.specs.OneForm.{IsItsFormUnbroken}
 use Rattle.crs_normal.specs.PartSpellings.{IsHorizontalPart, IsSpelledGeodetic, IsSpelledHorizontal, IsSpelledProjected}
 use Rattle.crs_normal.specs.PartTexts.{geodetic_text, horizontal_text, projected_text}
 use Rattle.crs_normal.specs.SpelledCrs.{item_crs, item_geodetic, norm_crs, norm_geodetic}
-use Rattle.crs_normal.proofs.texts.WrittenFormLemmas.{IsOneText, one-text, written-form}
+use Rattle.crs_normal.proofs.texts.WrittenFormLemmas.{IsOneText, written-form}
 
 abbrev IsOwnGeodetic : Level → Class → Type 0
 IsOwnGeodetic level c = IsItsFormUnbroken level c ReadsGeodetic (λ g. item_geodetic (norm_geodetic level g))
@@ -43,13 +43,7 @@ pub geodetic-told : (level : Level) → TextsDecide level →
 unfolding AreSame SameCrs
 geodetic-told level decide forms a b p q e = (forms a b p q).1 ((decide (crs.Geodetic a) (crs.Geodetic b) p q).0 e)
 
-module _ (level : Level) (decide : TextsDecide level) (geodetic_texts : IsWrittenForm IsGeodetic (AreSame parts_of_geodetic level) (IsSpelledGeodetic level) (geodetic_text level)) (projected_texts : IsWrittenForm IsProjected (AreSame parts_of_projected level) (IsSpelledProjected level) (projected_text level)) where
-  geodetics : IsOneText IsGeodetic (AreSame parts_of_geodetic level) (IsSpelledGeodetic level) (geodetic_text level)
-  geodetics = one-text IsGeodetic (AreSame parts_of_geodetic level) (IsSpelledGeodetic level) (geodetic_text level) geodetic_texts
-
-  projecteds : IsOneText IsProjected (AreSame parts_of_projected level) (IsSpelledProjected level) (projected_text level)
-  projecteds = one-text IsProjected (AreSame parts_of_projected level) (IsSpelledProjected level) (projected_text level) projected_texts
-
+module _ (level : Level) (decide : TextsDecide level) (geodetics : IsOneText IsGeodetic (AreSame parts_of_geodetic level) (IsSpelledGeodetic level) (geodetic_text level)) (projecteds : IsOneText IsProjected (AreSame parts_of_projected level) (IsSpelledProjected level) (projected_text level)) where
   horizontals-equal : (a b : Horizontal) → IsHorizontalPart a → IsHorizontalPart b →
       (horizontal_text level a ≡ horizontal_text level b) ↔ AreSame parts_of_horizontal level a b
   unfolding AreSame SameCrs parts_of_horizontal
@@ -61,7 +55,7 @@ module _ (level : Level) (decide : TextsDecide level) (geodetic_texts : IsWritte
   horizontals-equal (horizontal.Projected a) (horizontal.Projected b) p q = projecteds.equal_bytes a b p q
 
   pub horizontals-canonical : IsWrittenForm IsHorizontalPart (AreSame parts_of_horizontal level) (IsSpelledHorizontal level) (horizontal_text level)
-  horizontals-canonical = written-form IsHorizontalPart (AreSame parts_of_horizontal level) (IsSpelledHorizontal level) (horizontal_text level) (record {
+  horizontals-canonical = written-form (record {
     spelled = elim [ horizontal.Geodetic g ↦ λ s. geodetics.spelled g s | horizontal.Projected p ↦ λ s. projecteds.spelled p s ];
     one = elim [ horizontal.Geodetic g ↦ λ bytes s h. geodetics.one g bytes s h | horizontal.Projected p ↦ λ bytes s h. projecteds.one p bytes s h ];
     equal_bytes = horizontals-equal;

@@ -142,7 +142,7 @@ module _ {V : Type 0} (laws : TextLaws) (formed : SpelledFormed) {c : V → Clas
 
   pub canonical-by : IsWrittenForm Is Same (λ x. IsSpelledBy (c x) (N x) Reads Same x) (λ x. item_text (item (form x)))
   canonical-by =
-      written-form Is Same (λ x. IsSpelledBy (c x) (N x) Reads Same x) (λ x. item_text (item (form x))) (record {
+      written-form (record {
         spelled = form-spelled;
         one = form-one;
         equal_bytes = λ a b p q. (

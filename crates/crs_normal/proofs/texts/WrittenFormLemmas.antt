@@ -12,7 +12,7 @@ pub record IsOneText {V : Type 0} (IsValue : V → Type 0) (Same : V → V → T
   pub equal_bytes : FormDecides IsValue text Same
   pub closed : (value : V) → IsValue value → IsClosed (text value)
 
-module _ {V : Type 0} (IsValue : V → Type 0) (Same : V → V → Type 0) (IsSpelling : V → List ℕ → Type 0) (text : V → List ℕ) where
+module _ {V : Type 0} {IsValue : V → Type 0} {Same : V → V → Type 0} {IsSpelling : V → List ℕ → Type 0} {text : V → List ℕ} where
   pub written-form : IsOneText IsValue Same IsSpelling text → IsWrittenForm IsValue Same IsSpelling text
   written-form known = record {
     form = record {

@@ -8,7 +8,7 @@ use Rattle.crs_normal.specs.PartSpellings.{datum_class, ensemble_class}
 use Rattle.crs_normal.specs.PartTexts.{item_own_datum}
 use Rattle.crs_normal.specs.SpelledFrames.{item_ensemble, norm_datum, norm_ensemble}
 use Rattle.crs_normal.proofs.parts.PartFrameLemmas.{datum-back, datum-in-one, datum-made, datum-own, datum-sound, ensemble-back, ensemble-in-one, ensemble-made, ensemble-own, ensemble-sound}
-use Rattle.crs_normal.proofs.parts.PartLemmas.{canonical-form, made-stands, told-by}
+use Rattle.crs_normal.proofs.parts.PartLemmas.{canonical-by, made-stands, told-by}
 use Rattle.crs_normal.proofs.laws.parts.datums_are_canonical.Goals as goal
 
 pub returns-clause-datum : goal.returns-clause-datum
@@ -16,16 +16,13 @@ returns-clause-datum c level =
     let geodetic = c.made_geodetic_frame_is_normal.ensures in
     let vertical = c.made_vertical_frame_is_normal.ensures in
     let laws = c.text_laws.ensures in
-    canonical-form laws c.written_items.ensures.formed level (λ x. datum_class x.ellipsoid) ReadsDatum IsDatum (AreSame parts_of_datum level)
-    (norm_datum level) item_own_datum (record {
+    canonical-by laws c.written_items.ensures.formed item_own_datum (record {
       decides = c.same_frames_have_one_form.ensures.datum level;
-      made = λ x s. made-stands level (datum_class x.ellipsoid) 5 (at_place 0 (item_own_datum (norm_datum level x))) (omega arith)
-          (datum-made geodetic vertical level x s 0);
+      made = λ x s. made-stands (omega arith) (datum-made geodetic vertical level x s 0);
       reads = λ x s. datum-back laws level x s 0;
-      told = told-by laws (λ x. datum_class x.ellipsoid) (λ x. IsNormalIn level (datum_class x.ellipsoid) (datum_class x.ellipsoid)) class.GeodeticFrame ReadsDatum IsDatum (norm_datum level) item_own_datum
+      told = told-by laws _ _ class.GeodeticFrame ReadsDatum _ _ item_own_datum
           (λ a b i. c.parts_read_once.ensures.datum class.GeodeticFrame i a b)
-          (λ x s. made-stands level (datum_class x.ellipsoid) 5 (at_place 0 (item_own_datum (norm_datum level x))) (omega arith)
-          (datum-made geodetic vertical level x s 0))
+          (λ x s. made-stands (omega arith) (datum-made geodetic vertical level x s 0))
           (λ x s. datum-in-one laws level x s 0);
       sound = λ x s. datum-sound c.parts_are_sound.ensures.datum c.parts_are_sound.ensures.vertical_datum x;
       own = λ x s. datum-own c.parts_are_sound.ensures.datum c.parts_are_sound.ensures.vertical_datum level
@@ -37,16 +34,13 @@ returns-clause-ensemble c level =
     let geodetic = c.made_geodetic_frame_is_normal.ensures in
     let vertical = c.made_vertical_frame_is_normal.ensures in
     let laws = c.text_laws.ensures in
-    canonical-form laws c.written_items.ensures.formed level (λ x. ensemble_class x.ellipsoid) ReadsEnsemble IsEnsemble (AreSame parts_of_ensemble level)
-    (norm_ensemble level) item_ensemble (record {
+    canonical-by laws c.written_items.ensures.formed item_ensemble (record {
       decides = c.same_frames_have_one_form.ensures.ensemble level;
-      made = λ x s. made-stands level (ensemble_class x.ellipsoid) 5 (at_place 0 (item_ensemble (norm_ensemble level x))) (omega arith)
-          (ensemble-made geodetic vertical level x s 0);
+      made = λ x s. made-stands (omega arith) (ensemble-made geodetic vertical level x s 0);
       reads = λ x s. ensemble-back laws level x s 0;
-      told = told-by laws (λ x. ensemble_class x.ellipsoid) (λ x. IsNormalIn level (ensemble_class x.ellipsoid) (ensemble_class x.ellipsoid)) class.GeodeticEnsemble ReadsEnsemble IsEnsemble (norm_ensemble level) item_ensemble
+      told = told-by laws _ _ class.GeodeticEnsemble ReadsEnsemble _ _ item_ensemble
           (λ a b i. c.parts_read_once.ensures.ensemble class.GeodeticEnsemble i a b)
-          (λ x s. made-stands level (ensemble_class x.ellipsoid) 5 (at_place 0 (item_ensemble (norm_ensemble level x))) (omega arith)
-          (ensemble-made geodetic vertical level x s 0))
+          (λ x s. made-stands (omega arith) (ensemble-made geodetic vertical level x s 0))
           (λ x s. ensemble-in-one laws level x s 0);
       sound = λ x s. ensemble-sound c.parts_are_sound.ensures.ensemble c.parts_are_sound.ensures.vertical_ensemble x;
       own = λ x s. ensemble-own level (c.normal_frame_is_its_form.ensures.ensemble level) (c.normal_frame_is_its_form.ensures.vertical_ensemble level) x;
