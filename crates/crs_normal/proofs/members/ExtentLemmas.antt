@@ -65,13 +65,12 @@ extent-read laws e s place =
     let look = seen class.VerticalExtent (a-number class.VerticalExtent e.minimum ∷
     a-number class.VerticalExtent e.maximum ∷
     if-any class.VerticalExtent class.LengthUnit item_unit e.unit
-    (some-imp IsLength (λ u. IsIn class.VerticalExtent class.LengthUnit (item_unit u)) length-in e.unit s.unit) ∷ [])
+    (some-imp _ _ length-in e.unit s.unit) ∷ [])
     (at_place place (item_extent e)) (place + 14) refl in record {
       minimum = number-read laws e.minimum s.minimum 0;
       maximum = number-read laws e.maximum s.maximum 0;
-      unit = opt-field look class.LengthUnit item_unit ReadsUnit e.unit refl
-          (some-imp IsLength (ReadsBack item_unit (ReadsUnit class.LengthUnit))
-          (λ u q. unit-read laws class.LengthUnit (keyword-names class.LengthUnit (codes "ID")) u q.0) e.unit s.unit);
+      unit = opt-field look class.LengthUnit item_unit _ _ refl
+          (some-imp _ _ (λ u q. unit-read laws class.LengthUnit (keyword-names class.LengthUnit (codes "ID")) u q.0) e.unit s.unit);
     }
   where
     length-in : (u : UnitParts) → IsLength u → IsIn class.VerticalExtent class.LengthUnit (item_unit u)

@@ -19,7 +19,7 @@ use Rattle.crs_normal.specs.SpelledItems.{code_item, is_short, node_of, opt, tex
 use Rattle.crs_normal.specs.SpelledUnits.{item_ident, set_idents}
 use Rattle.crs_normal.specs.TextLaws.{TextLaws}
 use Rattle.crs_normal.proofs.texts.ItemLemmas.{IsWritable, fit-end, fit-leaf, fit-more, fit-node, fit-opt, number-single, told}
-use Rattle.crs_normal.proofs.texts.SegmentLemmas.{IsIn, ReadsBack, Seen, Segment, a-text, either-item, items_of, may-be, opt-field, opt_items, seen, some-all}
+use Rattle.crs_normal.proofs.texts.SegmentLemmas.{IsIn, ReadsBack, Seen, Segment, a-text, either-item, items_of, may-be, opt-field, opt_items, seen, text-field, some-all}
 use Rattle.crs_normal.proofs.read.NameLemmas.{keyword-names}
 use Rattle.crs_normal.proofs.members.SetLemmas.{set-agrees}
 
@@ -118,10 +118,8 @@ module _ (x : IdentParts) (place : ℕ) where
       items_of class.Citation ss ≡ opt_items (text_node (codes "CITATION")) x.citation [] →
       items_of class.Uri ss ≡ opt_items (text_node (codes "URI")) x.uri [] → Reads item
   read-by look citation uri = (
-    opt-field look class.Citation (text_node (codes "CITATION")) ReadsTextOf x.citation citation
-        (some-all (ReadsBack (text_node (codes "CITATION")) (ReadsTextOf class.Citation)) (λ raw p. refl) x.citation),
-    opt-field look class.Uri (text_node (codes "URI")) ReadsTextOf x.uri uri
-        (some-all (ReadsBack (text_node (codes "URI")) (ReadsTextOf class.Uri)) (λ raw p. refl) x.uri),
+    text-field look class.Citation (codes "CITATION") x.citation citation,
+    text-field look class.Uri (codes "URI") x.uri uri,
   )
 
   sources-read : (v : Option (List ℕ)) → Reads (with-version v)

@@ -35,8 +35,7 @@ pub identifiers-back : {c : Class} {ss : List (Segment c)} {item : Item} → See
     items_of class.Identifier ss ≡ each_items item_ident identifiers [] → Each IsIdent identifiers →
     ReadsIds c item identifiers
 identifiers-back look identifiers same s =
-    each-field look class.Identifier item_ident ReadsIdent identifiers same
-    (each-imp IsIdent (ReadsBack item_ident (ReadsIdent class.Identifier)) ident-read identifiers s)
+    each-field look class.Identifier item_ident _ _ same (each-imp _ _ ident-read identifiers s)
 
 pub identifiers-fit : TextLaws → (n : ℕ) → 2 ≤ n → (identifiers : List IdentParts) → Each IsIdent identifiers →
     AreFit n (each item_ident identifiers End)

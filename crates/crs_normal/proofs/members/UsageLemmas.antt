@@ -15,7 +15,7 @@ use Rattle.crs_normal.specs.TextLaws.{TextLaws}
 use Rattle.crs_normal.proofs.members.ExtentLemmas.{IsWrittenExtent, box-fit, box-read, extent-fit, extent-kept, extent-read}
 use Rattle.crs_normal.proofs.members.IdentLemmas.{ReadsIdentOnce, idents-agree, source-fit, writable}
 use Rattle.crs_normal.proofs.texts.ItemLemmas.{AreFit, fit-deeper, fit-end, fit-node, fit-opt, from-arguments, told}
-use Rattle.crs_normal.proofs.texts.SegmentLemmas.{ReadsBack, Segment, may-be, opt-field, seen, some-all, some-imp}
+use Rattle.crs_normal.proofs.texts.SegmentLemmas.{ReadsBack, Segment, may-be, opt-field, seen, text-field, some-all, some-imp}
 use Rattle.crs_normal.proofs.same.UsageLemmas.{usage-agrees}
 use Rattle.crs_normal.proofs.members.SetLemmas.{set-agrees}
 use Rattle.crs_normal.proofs.read.NameLemmas.{keyword-names}
@@ -48,14 +48,10 @@ pub usage-read : TextLaws → (u : UsageParts) → IsWrittenUsage u → (place :
 usage-read laws u s place =
     let look = seen class.Usage (of-usage u) (at_place place (item_usage u)) (place + 5)
     (from-arguments (codes "USAGE") (usage_items u) place) in record {
-      scope = opt-field look class.Scope (text_node (codes "SCOPE")) ReadsTextOf u.scope refl
-          (some-all (ReadsBack (text_node (codes "SCOPE")) (ReadsTextOf class.Scope)) (λ x p. refl) u.scope);
-      area = opt-field look class.Area (text_node (codes "AREA")) ReadsTextOf u.area refl
-          (some-all (ReadsBack (text_node (codes "AREA")) (ReadsTextOf class.Area)) (λ x p. refl) u.area);
-      bbox = opt-field look class.BoundingBox item_box ReadsBox u.bbox refl
-          (some-imp IsBox (ReadsBack item_box (ReadsBox class.BoundingBox)) (box-read laws) u.bbox s.bbox);
-      extent = opt-field look class.VerticalExtent item_extent ReadsExtent u.extent refl
-          (some-imp IsWrittenExtent (ReadsBack item_extent (ReadsExtent class.VerticalExtent)) (extent-read laws)
+      scope = text-field look class.Scope (codes "SCOPE") u.scope refl;
+      area = text-field look class.Area (codes "AREA") u.area refl;
+      bbox = opt-field look class.BoundingBox item_box _ _ refl (some-imp _ _ (box-read laws) u.bbox s.bbox);
+      extent = opt-field look class.VerticalExtent item_extent _ _ refl (some-imp _ _ (extent-read laws)
           u.extent s.extent);
     }
 

@@ -116,7 +116,7 @@ module _ (laws : TextLaws) (lower : LowerLaws) (level : Level) where
         let look = seen compound of-compound (at_place place (item_compound (norm_compound level k))) (place + 11) refl in record {
           name = refl;
           horizontal = horizontal-field look k.horizontal s.horizontal refl refl refl;
-          vertical = one-field look class.VerticalCrs item_vertical ReadsVertical (norm_vertical level k.vertical) refl
+          vertical = one-field look class.VerticalCrs item_vertical _ _ refl
               (vertical-read laws lower level k.vertical s.vertical);
           tail = tail-read laws compound compound-names level k.tail s.tail look refl refl refl refl refl refl refl;
         }

@@ -74,7 +74,7 @@ module _ (laws : TextLaws) (lower : LowerLaws) (c : Class) (names : GeodeticName
         dynamic = dynamic-field laws look level g.dynamic g.frame s.dynamic refl;
         frame = frame-field c class.GeodeticFrame class.GeodeticEnsemble (codes "DATUM") names.frames.datum
             names.frames.ensemble look (norm_frame level g.frame) (geodetic-back laws level g.frame s.frame) refl refl;
-        meridian = opt-field look class.PrimeMeridian item_meridian ReadsMeridian (norm_meridian level g.meridian) refl
+        meridian = opt-field look class.PrimeMeridian item_meridian _ _ refl
             (meridian-read laws level g.meridian s.meridian);
         system = system-read laws c names.systems level g.system s.system geodetic-whole look refl refl refl;
         tail = tail-read laws c names.tails level g.tail s.tail look refl refl refl refl refl refl refl;
@@ -108,9 +108,9 @@ module _ (laws : TextLaws) (level : Level) (b : BaseParts) (s : IsBase b) where
         frame = frame-field base class.GeodeticFrame class.GeodeticEnsemble (codes "DATUM")
             (keyword-names base (codes "DATUM")) (keyword-names base (codes "ENSEMBLE")) look (norm_frame level b.frame)
             (geodetic-back laws level b.frame s.frame) refl refl;
-        meridian = opt-field look class.PrimeMeridian item_meridian ReadsMeridian (norm_meridian level b.meridian) refl
+        meridian = opt-field look class.PrimeMeridian item_meridian _ _ refl
             (meridian-read laws level b.meridian s.meridian);
-        unit = opt-field look class.AngleUnit item_unit ReadsUnit (norm_units level kinds.Angle b.unit) refl
+        unit = opt-field look class.AngleUnit item_unit _ _ refl
             (angles-back laws (norm_units level kinds.Angle b.unit) base-angle);
         identifiers = identifiers-field look level b.identifiers refl s.identifiers;
       }
@@ -140,10 +140,8 @@ module _ (laws : TextLaws) (lower : LowerLaws) (level : Level) (p : ProjectedPar
   projected-read place =
       let look = seen projected of-projected (at_place place (item_projected (norm_projected level p))) (place + 7) refl in record {
         name = refl;
-        base = one-field look class.BaseCrs item_base ReadsBase (norm_base level p.base) refl
-            (base-read laws level p.base s.base);
-        conversion = one-field look class.Conversion item_conversion ReadsConversion (norm_conversion level p.conversion)
-            refl (conversion-read laws level p.conversion s.conversion);
+        base = one-field look class.BaseCrs item_base _ _ refl (base-read laws level p.base s.base);
+        conversion = one-field look class.Conversion item_conversion _ _ refl (conversion-read laws level p.conversion s.conversion);
         system = system-read laws projected projected-names.systems level p.system s.system projected-whole look refl refl refl;
         tail = tail-read laws projected projected-names.tails level p.tail s.tail look refl refl refl refl refl refl refl;
       }
@@ -179,7 +177,6 @@ module _ (laws : TextLaws) (lower : LowerLaws) (level : Level) (v : VerticalPart
             (keyword-names vertical (codes "VDATUM")) (keyword-names vertical (codes "ENSEMBLE")) look
             (norm_frame level v.frame) (vertical-back laws level v.frame s.frame) refl refl;
         system = system-read laws vertical vertical-names.systems level v.system s.system vertical-whole look refl refl refl;
-        geoid_models = each-field look class.GeoidModel item_geoid_model ReadsGeoidModel
-            (set_geoid_models level v.geoid_models) refl (geoids-back level v.geoid_models s.geoid_models);
+        geoid_models = each-field look class.GeoidModel item_geoid_model _ _ refl (geoids-back level v.geoid_models s.geoid_models);
         tail = tail-read laws vertical vertical-names.tails level v.tail s.tail look refl refl refl refl refl refl refl;
       }

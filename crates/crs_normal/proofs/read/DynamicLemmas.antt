@@ -38,10 +38,9 @@ module _ (laws : TextLaws) (level : Level) (d : DynamicParts) (s : IsDynamic d) 
   pub dynamic-read : ReadsBack item_dynamic (ReadsDynamic class.Dynamic) (norm_dynamic level d)
   dynamic-read place =
       let look = seen class.Dynamic of-dynamic (at_place place (item_dynamic (norm_dynamic level d))) (place + 7) refl in record {
-        epoch = one-field look class.FrameEpoch (number_node (codes "FRAMEEPOCH")) ReadsNumberOf d.epoch refl
+        epoch = one-field look class.FrameEpoch (number_node (codes "FRAMEEPOCH")) _ _ refl
             (λ p. number-read laws d.epoch s.epoch 0);
-        model = opt-field look class.DeformationModel item_deformation_model ReadsDeformationModel
-            (option_map (norm_deformation_model level) d.model) refl
+        model = opt-field look class.DeformationModel item_deformation_model _ _ refl
             (some-mapped (norm_deformation_model level) IsDeformationModel
             (ReadsBack item_deformation_model (ReadsDeformationModel class.DeformationModel))
             (deformation-model-read level) d.model s.model);
@@ -58,6 +57,6 @@ pub dynamic-field : TextLaws → {c : Class} {ss : List (Segment c)} {item : Ite
     items_of class.Dynamic ss ≡ opt_items item_dynamic (option_map (norm_dynamic level) o) [] →
     ReadsIfAny ReadsDynamic class.Dynamic c item (option_map (norm_dynamic level) o)
 dynamic-field laws look level o f s same =
-    opt-field look class.Dynamic item_dynamic ReadsDynamic (option_map (norm_dynamic level) o) same
+    opt-field look class.Dynamic item_dynamic _ _ same
     (some-mapped (norm_dynamic level) IsDynamic (ReadsBack item_dynamic (ReadsDynamic class.Dynamic))
     (dynamic-read laws level) o (dynamics-sound o f s))

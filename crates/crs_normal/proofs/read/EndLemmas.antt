@@ -19,7 +19,7 @@ use Rattle.crs_normal.proofs.members.MemberLemmas.{named-kept, named-read}
 use Rattle.crs_normal.proofs.members.ParameterLemmas.{parameter-kept, parameter-read}
 use Rattle.crs_normal.proofs.read.FrameLemmas.{identifiers, identifiers-field}
 use Rattle.crs_normal.proofs.read.SystemLemmas.{AreWhole, axes-read, head-read}
-use Rattle.crs_normal.proofs.texts.SegmentLemmas.{AreIn, IsIn, ReadsBack, Seen, Segment, a-text, all-of, each-field, each-imp, each_items, for-each, items_of, lacks, may-be, one-field, one-item, opt-field, opt_items, seen, set-kept, some-all}
+use Rattle.crs_normal.proofs.texts.SegmentLemmas.{AreIn, IsIn, ReadsBack, Seen, Segment, a-text, all-of, each-field, each-imp, each_items, for-each, items_of, lacks, may-be, one-field, one-item, opt-field, opt_items, seen, text-field, set-kept, some-all}
 use Rattle.crs_normal.proofs.members.UsageLemmas.{IsWrittenUsage, usage-is-node, usage-kept, usage-read}
 use Rattle.crs_normal.proofs.read.NameLemmas.{keyword-names}
 use Rattle.crs_normal.proofs.texts.ItemLemmas.{from-named}
@@ -55,10 +55,8 @@ module _ (laws : TextLaws) (level : Level) (v : ConversionParts) (s : IsConversi
       let look = seen class.Conversion of-conversion (at_place place (item_conversion (norm_conversion level v)))
       (place + 10) refl in record {
         name = refl;
-        method = one-field look class.Method item_method ReadsMethod (norm_method level v.method) refl
-            (method-read level v.method s.method);
-        parameters = each-field look class.Parameter item_parameter ReadsParameter (set_parameters level v.parameters)
-            refl (parameters-back laws level v.parameters s.parameters);
+        method = one-field look class.Method item_method _ _ refl (method-read level v.method s.method);
+        parameters = each-field look class.Parameter item_parameter _ _ refl (parameters-back laws level v.parameters s.parameters);
         identifiers = identifiers-field look level v.identifiers refl s.identifiers;
       }
 
@@ -89,8 +87,7 @@ module _ (laws : TextLaws) (c : Class) (names : NamesTail c) (level : Level) (t 
 
   pub usages-in : AreIn c class.Usage item_usage tail-usages
   usages-in =
-      each-imp IsWrittenUsage (λ u. IsIn c class.Usage (item_usage u))
-      (λ u q. from-named c class.Usage (codes "USAGE") _ (usage-is-node u q.some) names.usage) tail-usages written
+      each-imp _ _ (λ u q. from-named c class.Usage (codes "USAGE") _ (usage-is-node u q.some) names.usage) tail-usages written
 
   abbrev pub of-tail : List (Segment c)
   of-tail =
@@ -105,8 +102,7 @@ module _ (laws : TextLaws) (c : Class) (names : NamesTail c) (level : Level) (t 
       items_of class.Remark ss ≡ opt_items (text_node (codes "REMARK")) (kept_one level t.remark) [] →
       ReadsTail c item (norm_tail level t)
   tail-read look usages scope area box extent ids remark = record {
-    usages = each-field look class.Usage item_usage ReadsUsage tail-usages usages
-        (each-imp IsWrittenUsage (ReadsBack item_usage (ReadsUsage class.Usage)) (usage-read laws) tail-usages written);
+    usages = each-field look class.Usage item_usage _ _ usages (each-imp _ _ (usage-read laws) tail-usages written);
     bare_parts = record {
       scope = lacks look class.Scope scope;
       area = lacks look class.Area area;
@@ -114,9 +110,7 @@ module _ (laws : TextLaws) (c : Class) (names : NamesTail c) (level : Level) (t 
       extent = lacks look class.VerticalExtent extent;
     };
     identifiers = identifiers-field look level t.identifiers ids s.identifiers;
-    remark = opt-field look class.Remark (text_node (codes "REMARK")) ReadsTextOf (kept_one level t.remark) remark
-        (some-all (ReadsBack (text_node (codes "REMARK")) (ReadsTextOf class.Remark)) (λ x p. refl)
-        (kept_one level t.remark));
+    remark = text-field look class.Remark (codes "REMARK") (kept_one level t.remark) remark;
   }
 
 -- ---- systems among the arguments of a CRS
@@ -133,9 +127,7 @@ module _ (laws : TextLaws) (c : Class) (names : NamesSystem c) (level : Level) (
       items_of class.Axis ss ≡ each_items item_axis (axes_from level y 1 (length y.axes)) [] →
       items_of class.AxisUnit ss ≡ [] → ReadsSystem c item (norm_system level y)
   system-read look heads axes units = record {
-    head = one-field look class.CoordinateSystem item_head (λ d. ReadsHead) (norm_system level y) heads
-        (head-read laws level y s);
-    axes = each-field look class.Axis item_axis ReadsAxis (axes_from level y 1 (length y.axes)) axes
-        (axes-read laws level y s 1 (length y.axes) whole);
-    unit = opt-field look class.AxisUnit item_unit ReadsUnit None units tt;
+    head = one-field look class.CoordinateSystem item_head _ _ heads (head-read laws level y s);
+    axes = each-field look class.Axis item_axis _ _ axes (axes-read laws level y s 1 (length y.axes) whole);
+    unit = opt-field look class.AxisUnit item_unit _ _ units tt;
   }

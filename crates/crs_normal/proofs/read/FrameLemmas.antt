@@ -19,7 +19,7 @@ use Rattle.crs_normal.specs.TextLaws.{TextLaws}
 use Rattle.crs_normal.proofs.members.ExtentLemmas.{length-kept}
 use Rattle.crs_normal.proofs.members.MemberLemmas.{named-kept, named-read}
 use Rattle.crs_normal.proofs.members.MemberUnitLemmas.{NamesId, identifiers-back, identifiers-of, number-read, unit-kept, unit-read}
-use Rattle.crs_normal.proofs.texts.SegmentLemmas.{IsIn, MayIn, ReadsBack, Seen, Segment, a-number, a-text, all-of, each-field, each_items, if-any, items_of, may-be, one-field, one-item, opt-field, seen, set-kept, some-all, some-imp, some-mapped}
+use Rattle.crs_normal.proofs.texts.SegmentLemmas.{IsIn, MayIn, ReadsBack, Seen, Segment, a-number, a-text, all-of, each-field, each_items, if-any, items_of, may-be, one-field, one-item, opt-field, seen, text-field, set-kept, some-all, some-imp, some-mapped}
 use Rattle.crs_normal.proofs.read.NameLemmas.{keyword-names}
 use Rattle.crs_normal.proofs.same.UnitLemmas.{suits-kind}
 use Rattle.crs_normal.proofs.made.IdentLemmas.{idents-sound}
@@ -70,7 +70,7 @@ module _ (laws : TextLaws) (level : Level) (e : EllipsoidParts) (s : IsEllipsoid
         name = refl;
         semi_major_axis = number-read laws e.semi_major_axis s.semi_major_axis 0;
         inverse_flattening = number-read laws e.inverse_flattening s.inverse_flattening 0;
-        unit = opt-field look class.LengthUnit item_unit ReadsUnit (Some (norm_length level e.unit)) refl
+        unit = opt-field look class.LengthUnit item_unit _ _ refl
             (unit-read laws class.LengthUnit (keyword-names class.LengthUnit (codes "ID")) (norm_length level e.unit)
             (length-kept level e.unit s.unit).0);
         identifiers = identifiers-field look level e.identifiers refl s.identifiers;
@@ -81,14 +81,12 @@ module _ (laws : TextLaws) (level : Level) (e : EllipsoidParts) (s : IsEllipsoid
 abbrev pub angles-in : (c : Class) → class_named c (codes "ANGLEUNIT") ≡ Some class.AngleUnit → (o : Option UnitParts) →
     IfSome o IsAngle → MayIn c class.AngleUnit item_unit o
 angles-in c e o s =
-    some-imp IsAngle (λ u. IsIn c class.AngleUnit (item_unit u))
-    (λ u q. unit-in c class.AngleUnit kinds.Angle e u q.1) o s
+    some-imp _ _ (λ u q. unit-in c class.AngleUnit kinds.Angle e u q.1) o s
 
 pub angles-back : TextLaws → (o : Option UnitParts) → IfSome o IsAngle →
     IfSome o (ReadsBack item_unit (ReadsUnit class.AngleUnit))
 angles-back laws o s =
-    some-imp IsAngle (ReadsBack item_unit (ReadsUnit class.AngleUnit))
-    (λ u q. unit-read laws class.AngleUnit (keyword-names class.AngleUnit (codes "ID")) u q.0) o s
+    some-imp _ _ (λ u q. unit-read laws class.AngleUnit (keyword-names class.AngleUnit (codes "ID")) u q.0) o s
 
 unless-kept : (b : Bool) (o : Option UnitParts) → IfSome o IsAngle → IfSome (if b then None else o) IsAngle
 unless-kept true o s = tt
@@ -114,8 +112,7 @@ module _ (laws : TextLaws) (level : Level) (m : MeridianParts) (s : IsMeridian m
       let look = seen class.PrimeMeridian of-meridian (at_place place (item_meridian (norm_given level m))) (place + 6) refl in record {
         name = refl;
         longitude = number-read laws m.longitude s.longitude 0;
-        unit = opt-field look class.AngleUnit item_unit ReadsUnit meridian-unit refl
-            (angles-back laws meridian-unit meridian-angle);
+        unit = opt-field look class.AngleUnit item_unit _ _ refl (angles-back laws meridian-unit meridian-angle);
         identifiers = identifiers-field look level m.identifiers refl s.identifiers;
       }
 
@@ -202,14 +199,10 @@ module _ (laws : TextLaws) (c : Class) (keyword : List ℕ) (names : DatumNames 
   datum-read place =
       let look = seen c of-datum (at_place place (item_datum keyword (norm_datum level d))) (place + length keyword) refl in record {
         name = refl;
-        ellipsoid = opt-field look class.Ellipsoid item_ellipsoid ReadsEllipsoid
-            (option_map (norm_ellipsoid level) d.ellipsoid) refl (ellipsoids-back laws level d.ellipsoid s.ellipsoid);
-        anchor = opt-field look class.Anchor (text_node (codes "ANCHOR")) ReadsTextOf d.anchor refl
-            (some-all (ReadsBack (text_node (codes "ANCHOR")) (ReadsTextOf class.Anchor)) (λ x p. refl) d.anchor);
-        anchor_epoch = opt-field look class.AnchorEpoch (number_node (codes "ANCHOREPOCH")) ReadsNumberOf
-            d.anchor_epoch refl
-            (some-imp IsNormal (ReadsBack (number_node (codes "ANCHOREPOCH")) (ReadsNumberOf class.AnchorEpoch))
-            (λ v h p. number-read laws v h 0) d.anchor_epoch s.anchor_epoch);
+        ellipsoid = opt-field look class.Ellipsoid item_ellipsoid _ _ refl (ellipsoids-back laws level d.ellipsoid s.ellipsoid);
+        anchor = text-field look class.Anchor (codes "ANCHOR") d.anchor refl;
+        anchor_epoch = opt-field look class.AnchorEpoch (number_node (codes "ANCHOREPOCH")) _ _ refl
+            (some-imp _ _ (λ v h p. number-read laws v h 0) d.anchor_epoch s.anchor_epoch);
         identifiers = identifiers-field look level d.identifiers refl s.identifiers;
       }
 
@@ -225,11 +218,8 @@ module _ (laws : TextLaws) (c : Class) (names : EnsembleNames c) (level : Level)
   ensemble-read place =
       let look = seen c of-ensemble (at_place place (item_ensemble (norm_ensemble level e))) (place + 8) refl in record {
         name = refl;
-        members = each-field look class.Member item_member ReadsMember (set_members level e.members) refl
-            (members-back level e.members s.members);
-        ellipsoid = opt-field look class.Ellipsoid item_ellipsoid ReadsEllipsoid
-            (option_map (norm_ellipsoid level) e.ellipsoid) refl (ellipsoids-back laws level e.ellipsoid s.ellipsoid);
-        accuracy = one-field look class.EnsembleAccuracy (number_node (codes "ENSEMBLEACCURACY")) ReadsNumberOf
-            e.accuracy refl (λ p. number-read laws e.accuracy s.accuracy 0);
+        members = each-field look class.Member item_member _ _ refl (members-back level e.members s.members);
+        ellipsoid = opt-field look class.Ellipsoid item_ellipsoid _ _ refl (ellipsoids-back laws level e.ellipsoid s.ellipsoid);
+        accuracy = one-field look class.EnsembleAccuracy (number_node (codes "ENSEMBLEACCURACY")) _ _ refl (λ p. number-read laws e.accuracy s.accuracy 0);
         identifiers = identifiers-field look level e.identifiers refl s.identifiers;
       }

@@ -42,7 +42,7 @@ module _ (laws : TextLaws) (level : Level) (m : AxisMeridianParts) (s : IsAxisMe
       let look = seen class.AxisMeridian of-meridian (at_place place (item_axis_meridian (norm_axis_meridian level m)))
       (place + 8) refl in record {
         longitude = number-read laws m.longitude s.longitude 0;
-        unit = one-field look class.AngleUnit item_unit ReadsUnit unit-along refl
+        unit = one-field look class.AngleUnit item_unit _ _ refl
             (unit-read laws class.AngleUnit (keyword-names class.AngleUnit (codes "ID")) unit-along
             (angle-kept level m.unit s.unit).0);
       }
@@ -102,7 +102,7 @@ module _ (laws : TextLaws) (x : AxisParts) (unit : IfSome x.unit IsAxisUnit) whe
       may-be class.Axis class.AxisMeridian item_axis_meridian x.meridian (λ m. keyword-names class.Axis (codes "MERIDIAN")) ∷
       may-be class.Axis class.Order (number_node (codes "ORDER")) x.order (λ v. keyword-names class.Axis (codes "ORDER")) ∷
       if-any class.Axis class.AxisUnit item_unit x.unit
-      (some-imp IsAxisUnit (λ u. IsIn class.Axis class.AxisUnit (item_unit u)) axis-unit-in x.unit unit) ∷
+      (some-imp _ _ axis-unit-in x.unit unit) ∷
       identifiers-of class.Axis (keyword-names class.Axis (codes "ID")) x.identifiers ∷ []
 
   form-read : IfSome x.meridian (ReadsBack item_axis_meridian (ReadsAxisMeridian class.AxisMeridian)) →
@@ -111,13 +111,11 @@ module _ (laws : TextLaws) (x : AxisParts) (unit : IfSome x.unit IsAxisUnit) whe
       let look = seen class.Axis of-axis (at_place place (item_axis x)) (place + 4) refl in record {
         name = refl;
         direction = refl;
-        meridian = opt-field look class.AxisMeridian item_axis_meridian ReadsAxisMeridian x.meridian refl meridian;
-        order = opt-field look class.Order (number_node (codes "ORDER")) ReadsNumberOf x.order refl
-            (some-imp IsNormal (ReadsBack (number_node (codes "ORDER")) (ReadsNumberOf class.Order))
-            (λ v n p. number-read laws v n 0) x.order order);
-        unit = opt-field look class.AxisUnit item_unit ReadsUnit x.unit refl
-            (some-imp IsAxisUnit (ReadsBack item_unit (ReadsUnit class.AxisUnit))
-            (λ u q. unit-read laws class.AxisUnit (keyword-names class.AxisUnit (codes "ID")) u q.0) x.unit unit);
+        meridian = opt-field look class.AxisMeridian item_axis_meridian _ _ refl meridian;
+        order = opt-field look class.Order (number_node (codes "ORDER")) _ _ refl
+            (some-imp _ _ (λ v n p. number-read laws v n 0) x.order order);
+        unit = opt-field look class.AxisUnit item_unit _ _ refl
+            (some-imp _ _ (λ u q. unit-read laws class.AxisUnit (keyword-names class.AxisUnit (codes "ID")) u q.0) x.unit unit);
         identifiers = identifiers-back look x.identifiers refl ids;
       }
 

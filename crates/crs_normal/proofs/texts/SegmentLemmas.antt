@@ -8,10 +8,10 @@ use Rattle.crs_shape.specs.contracts.class.Class.{the_type}
 use Rattle.crs_shape.specs.declared.class.Class.{Class}
 use Rattle.crs_shape.specs.declared.class.Class.TheVariants as class
 use Rattle.crs_shape.specs.Prelude.{class_in, is_class}
-use Rattle.crs_value.specs.Prelude.{those, ReadsAll, ReadsEach, ReadsFirst, ReadsIfAny, ReadsOne, ReadsOptional}
+use Rattle.crs_value.specs.Prelude.{those, ReadsEach, ReadsFirst, ReadsIfAny, ReadsOptional, ReadsTextOf}
 use Rattle.crs_value.specs.Reading.{Each}
 use Rattle.crs_normal.specs.Ordered.{in_order}
-use Rattle.crs_normal.specs.SpelledItems.{each, number_item, opt, text_item, word_item}
+use Rattle.crs_normal.specs.SpelledItems.{each, number_item, opt, text_item, text_node, word_item}
 use Rattle.crs_normal.proofs.made.PlaceLemmas.{ArePlaced, those-placed}
 use Rattle.crs_normal.proofs.members.SetLemmas.{each-in_order}
 
@@ -257,16 +257,19 @@ module _ {c : Class} {ss : List (Segment c)} {item : Item} (look : Seen c ss ite
       P (those c d (arguments item))
   placed-at P j same r = placed-first P j (those c d (arguments item)) (shown (j ∷ []) same) r
 
-  module _ {V : Type 0} (spell : V → Item) (Reads : Class → Item → V → Type 0) where
-    pub one-field : (x : V) → Shows (spell x ∷ []) → ReadsBack spell (Reads d) x → ReadsOne Reads d c item x
-    one-field x same r = placed-at (λ l. ReadsFirst (Reads d) l x) (spell x) same r
+  module _ {V : Type 0} (spell : V → Item) (Reads : Item → V → Type 0) where
+    pub one-field : (x : V) → Shows (spell x ∷ []) → ReadsBack spell Reads x → ReadsFirst Reads (those c d (arguments item)) x
+    one-field x same r = placed-at (λ l. ReadsFirst Reads l x) (spell x) same r
 
-    pub opt-field : (o : Option V) → Shows (opt_items spell o []) → IfSome o (ReadsBack spell (Reads d)) →
-        ReadsIfAny Reads d c item o
-    opt-field o same r =
-        placed-opt spell (Reads d) o (those c d (arguments item)) (shown (opt_items spell o []) same) r
+    pub opt-field : (o : Option V) → Shows (opt_items spell o []) → IfSome o (ReadsBack spell Reads) →
+        ReadsOptional Reads (those c d (arguments item)) o
+    opt-field o same r = placed-opt spell Reads o (those c d (arguments item)) (shown (opt_items spell o []) same) r
 
-    pub each-field : (xs : List V) → Shows (each_items spell xs []) → Each (ReadsBack spell (Reads d)) xs →
-        ReadsAll Reads d c item xs
-    each-field xs same r =
-        placed-each spell (Reads d) xs (those c d (arguments item)) (shown (each_items spell xs []) same) r
+    pub each-field : (xs : List V) → Shows (each_items spell xs []) → Each (ReadsBack spell Reads) xs →
+        ReadsEach Reads (those c d (arguments item)) xs
+    each-field xs same r = placed-each spell Reads xs (those c d (arguments item)) (shown (each_items spell xs []) same) r
+
+  -- a node of one text, if there is one
+  pub text-field : (keyword : List ℕ) (o : Option (List ℕ)) → Shows (opt_items (text_node keyword) o []) →
+      ReadsIfAny ReadsTextOf d c item o
+  text-field keyword o same = opt-field (text_node keyword) (ReadsTextOf d) o same (some-all _ (λ x p. refl) o)
