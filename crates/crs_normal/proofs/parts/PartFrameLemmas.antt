@@ -17,7 +17,7 @@ use Rattle.crs_normal.specs.SpelledFrames.{item_datum, item_ensemble, item_frame
 use Rattle.crs_normal.specs.TextLaws.{TextLaws}
 use Rattle.crs_normal.proofs.parts.PartLemmas.{IsItsFormSound}
 use Rattle.crs_normal.proofs.read.DatumLemmas.{ellipsoid-in, geodetic-back, vertical-back}
-use Rattle.crs_normal.proofs.read.FrameLemmas.{datum-read, ensemble-read, in-geodetic-datum, in-geodetic-ensemble}
+use Rattle.crs_normal.proofs.read.FrameLemmas.{datum-read, ensemble-read}
 use Rattle.crs_normal.proofs.texts.WrittenFormLemmas.{IsOneText, written-form}
 use Rattle.crs_normal.proofs.read.NameLemmas.{keyword-names}
 
@@ -64,7 +64,7 @@ pub datum-in-one : TextLaws → (level : Level) (d : DatumParts) → IsDatum d �
     ReadsDatum class.GeodeticFrame (at_place p (item_own_datum (norm_datum level d))) (norm_datum level d)
 datum-in-one laws level d s p =
     datum-read laws class.GeodeticFrame (datum_keyword (option_map (norm_ellipsoid level) d.ellipsoid))
-    in-geodetic-datum level d s
+    (search keyword-names) level d s
     (ellipsoid-in class.GeodeticFrame (keyword-names class.GeodeticFrame (codes "ELLIPSOID"))
     (option_map (norm_ellipsoid level) d.ellipsoid)) p
 
@@ -126,7 +126,7 @@ ensemble-back laws level e s p =
 pub ensemble-in-one : TextLaws → (level : Level) (e : EnsembleParts) → IsEnsemble e → (p : ℕ) →
     ReadsEnsemble class.GeodeticEnsemble (at_place p (item_ensemble (norm_ensemble level e))) (norm_ensemble level e)
 ensemble-in-one laws level e s p =
-    ensemble-read laws class.GeodeticEnsemble in-geodetic-ensemble level e s
+    ensemble-read laws class.GeodeticEnsemble (search keyword-names) level e s
     (ellipsoid-in class.GeodeticEnsemble (keyword-names class.GeodeticEnsemble (codes "ELLIPSOID"))
     (option_map (norm_ellipsoid level) e.ellipsoid)) p
 

@@ -24,30 +24,10 @@ use Rattle.crs_normal.proofs.read.NameLemmas.{keyword-names}
 use Rattle.crs_normal.proofs.texts.RootLemmas.{is-geodetic}
 
 geographic-names : GeodeticNames class.GeographicCrs
-geographic-names = record {
-  dynamics = keyword-names class.GeographicCrs (codes "DYNAMIC");
-  frames = record { datum = keyword-names class.GeographicCrs (codes "DATUM"); ensemble = keyword-names class.GeographicCrs (codes "ENSEMBLE") };
-  meridians = keyword-names class.GeographicCrs (codes "PRIMEM");
-  systems = record { head = keyword-names class.GeographicCrs (codes "CS"); axis = keyword-names class.GeographicCrs (codes "AXIS") };
-  tails = record {
-    usage = keyword-names class.GeographicCrs (codes "USAGE");
-    ident = keyword-names class.GeographicCrs (codes "ID");
-    remark = keyword-names class.GeographicCrs (codes "REMARK");
-  };
-}
+geographic-names = search keyword-names
 
 geodetic-names : GeodeticNames class.GeodeticCrs
-geodetic-names = record {
-  dynamics = keyword-names class.GeodeticCrs (codes "DYNAMIC");
-  frames = record { datum = keyword-names class.GeodeticCrs (codes "DATUM"); ensemble = keyword-names class.GeodeticCrs (codes "ENSEMBLE") };
-  meridians = keyword-names class.GeodeticCrs (codes "PRIMEM");
-  systems = record { head = keyword-names class.GeodeticCrs (codes "CS"); axis = keyword-names class.GeodeticCrs (codes "AXIS") };
-  tails = record {
-    usage = keyword-names class.GeodeticCrs (codes "USAGE");
-    ident = keyword-names class.GeodeticCrs (codes "ID");
-    remark = keyword-names class.GeodeticCrs (codes "REMARK");
-  };
-}
+geodetic-names = search keyword-names
 
 names-of : (t : SystemType) → GeodeticNames (geodetic_class t)
 names-of types.Ellipsoidal = geographic-names

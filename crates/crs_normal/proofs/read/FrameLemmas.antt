@@ -158,34 +158,6 @@ pub record EnsembleNames (c : Class) : Type 0 where
   pub members : class_named c (codes "MEMBER") ≡ Some class.Member
   pub accuracies : class_named c (codes "ENSEMBLEACCURACY") ≡ Some class.EnsembleAccuracy
 
-pub in-geodetic-datum : DatumNames class.GeodeticFrame
-in-geodetic-datum = record {
-  identifiers = keyword-names class.GeodeticFrame (codes "ID");
-  anchors = keyword-names class.GeodeticFrame (codes "ANCHOR");
-  epochs = keyword-names class.GeodeticFrame (codes "ANCHOREPOCH");
-}
-
-pub in-vertical-datum : DatumNames class.VerticalFrame
-in-vertical-datum = record {
-  identifiers = keyword-names class.VerticalFrame (codes "ID");
-  anchors = keyword-names class.VerticalFrame (codes "ANCHOR");
-  epochs = keyword-names class.VerticalFrame (codes "ANCHOREPOCH");
-}
-
-pub in-geodetic-ensemble : EnsembleNames class.GeodeticEnsemble
-in-geodetic-ensemble = record {
-  identifiers = keyword-names class.GeodeticEnsemble (codes "ID");
-  members = keyword-names class.GeodeticEnsemble (codes "MEMBER");
-  accuracies = keyword-names class.GeodeticEnsemble (codes "ENSEMBLEACCURACY");
-}
-
-pub in-vertical-ensemble : EnsembleNames class.VerticalEnsemble
-in-vertical-ensemble = record {
-  identifiers = keyword-names class.VerticalEnsemble (codes "ID");
-  members = keyword-names class.VerticalEnsemble (codes "MEMBER");
-  accuracies = keyword-names class.VerticalEnsemble (codes "ENSEMBLEACCURACY");
-}
-
 -- in a class of reference frames, where the ellipsoid is, if there is one
 module _ (laws : TextLaws) (c : Class) (keyword : List ℕ) (names : DatumNames c) (level : Level) (d : DatumParts) (s : IsDatum d) (on : MayIn c class.Ellipsoid item_ellipsoid (option_map (norm_ellipsoid level) d.ellipsoid)) where
   abbrev of-datum : List (Segment c)
