@@ -13,7 +13,7 @@ use Rattle.crs_normal.specs.SpelledItems.{number_item, opt}
 use Rattle.crs_normal.specs.SpelledUnits.{item_unit, norm_length}
 use Rattle.crs_normal.specs.SpelledUsages.{item_box, item_extent, norm_extent}
 use Rattle.crs_normal.specs.TextLaws.{TextLaws}
-use Rattle.crs_normal.proofs.texts.ItemLemmas.{fit-end, fit-more, fit-node, fit-opt, value-fit}
+use Rattle.crs_normal.proofs.texts.ItemLemmas.{fit-end, fit-node, fit-number, fit-opt, value-fit}
 use Rattle.crs_normal.proofs.texts.SegmentLemmas.{IsIn, ReadsBack, a-number, if-any, opt-field, seen, some-imp}
 use Rattle.crs_normal.proofs.members.MemberUnitLemmas.{number-read, unit-fit, unit-kept, unit-read}
 use Rattle.crs_normal.proofs.read.NameLemmas.{keyword-names}
@@ -43,13 +43,8 @@ box-read laws b s place = record {
 
 pub box-fit : TextLaws → (b : BoxParts) → IsBox b → IsFormedWithin 1 (item_box b)
 box-fit laws b s =
-    fit-node 0 (codes "BBOX") (number_item b.south)
-    (More (number_item b.west) (More (number_item b.north) (More (number_item b.east) End))) (refl, refl)
-    (value-fit laws 0 b.south s.south)
-    (fit-more 0 (number_item b.west) (More (number_item b.north) (More (number_item b.east) End))
-    (value-fit laws 0 b.west s.west)
-    (fit-more 0 (number_item b.north) (More (number_item b.east) End) (value-fit laws 0 b.north s.north)
-    (fit-more 0 (number_item b.east) End (value-fit laws 0 b.east s.east) (fit-end 0))))
+    fit-node (codes "BBOX") (number_item b.south) (refl, refl) (value-fit laws 0 b.south s.south)
+    (fit-number laws b.west s.west (fit-number laws b.north s.north (fit-number laws b.east s.east fit-end)))
 
 -- ---- extents
 
@@ -80,11 +75,9 @@ extent-read laws e s place =
 
 pub extent-fit : TextLaws → (e : ExtentParts) → IsWrittenExtent e → IsFormedWithin 4 (item_extent e)
 extent-fit laws e s =
-    fit-node 3 (codes "VERTICALEXTENT") (number_item e.minimum)
-    (More (number_item e.maximum) (opt item_unit e.unit End)) (refl, refl)
-    (value-fit laws 3 e.minimum s.minimum)
-    (fit-more 3 (number_item e.maximum) (opt item_unit e.unit End) (value-fit laws 3 e.maximum s.maximum)
-    (fit-opt 3 item_unit IsLength (λ u q. unit-fit laws u q.0) e.unit End s.unit (fit-end 3)))
+    fit-node (codes "VERTICALEXTENT") (number_item e.minimum) (refl, refl) (value-fit laws 3 e.minimum s.minimum)
+    (fit-number laws e.maximum s.maximum
+    (fit-opt item_unit IsLength (λ u q. unit-fit laws u q.0) e.unit s.unit fit-end))
 
 pub extent-kept : (level : Level) (e : ExtentParts) → IsExtent e → IsWrittenExtent (norm_extent level e)
 extent-kept level e s = record { minimum = s.minimum; maximum = s.maximum; unit = length-kept level e.unit s.unit }

@@ -1,6 +1,6 @@
 -- Identifiers: the item of one reads as it wherever it is, equal texts are of equal identifiers,
 -- and the sets of two lists in order are one list exactly where they are the same set.
-use Rattle.std.proofs.Common.{◌≡◌, ◌≤◌, ◌↔◌, ◌⊎◌, ℕ, suc, ◌+◌, Bool, true, false, ◌&&◌, codes, if◌then◌else◌, Option, Some, None, List, [], ◌∷◌, inl, inr, length, map, map-id, nat_le, refl, ap, subst, arith}
+use Rattle.std.proofs.Common.{◌≡◌, ◌≤◌, ◌↔◌, ◌⊎◌, ℕ, suc, ◌+◌, Bool, true, false, ◌&&◌, codes, if◌then◌else◌, IfSome, Option, Some, None, List, [], ◌∷◌, inl, inr, length, map, map-id, nat_le, refl, ap, subst, arith}
 use Rattle.std.proofs.lemmas.Bool.{and_parts, leb-true}
 use Rattle.std.specs.List.{list_all}
 use Rattle.crs_decimal.specs.Prelude.{is_digit}
@@ -18,7 +18,7 @@ use Rattle.crs_normal.specs.Ordered.{in_order}
 use Rattle.crs_normal.specs.SpelledItems.{code_item, is_short, node_of, opt, text_item, text_node}
 use Rattle.crs_normal.specs.SpelledUnits.{item_ident, set_idents}
 use Rattle.crs_normal.specs.TextLaws.{TextLaws}
-use Rattle.crs_normal.proofs.texts.ItemLemmas.{IsWritable, fit-end, fit-leaf, fit-more, fit-node, fit-opt, number-single, told}
+use Rattle.crs_normal.proofs.texts.ItemLemmas.{AreFit, IsWritable, fit-end, fit-leaf, fit-more, fit-node, fit-opt, number-single, told}
 use Rattle.crs_normal.proofs.texts.SegmentLemmas.{IsIn, ReadsBack, Seen, Segment, a-text, either-item, items_of, may-be, opt-field, opt_items, seen, text-field, some-all}
 use Rattle.crs_normal.proofs.read.NameLemmas.{keyword-names}
 use Rattle.crs_normal.proofs.members.SetLemmas.{set-agrees}
@@ -145,20 +145,20 @@ ident-read x s place =
       uri = from.1;
     }
 
-pub source-fit : (n : ℕ) (keyword raw : List ℕ) → IsWord keyword → IsText raw → IsFormedWithin (suc n) (text_node keyword raw)
-source-fit n keyword raw w t = fit-node n keyword (text_item raw) End w (text-fit n raw t) (fit-end n)
+source-fit : (n : ℕ) (keyword raw : List ℕ) → IsWord keyword → IsText raw → IsFormedWithin (suc n) (text_node keyword raw)
+source-fit n keyword raw w t = fit-node keyword (text_item raw) w (text-fit n raw t) fit-end
+
+pub fit-source : {n : ℕ} {rest : Siblings} (keyword : List ℕ) → IsWord keyword → (o : Option (List ℕ)) → IfSome o IsText →
+    AreFit (suc n) rest → AreFit (suc n) (opt (text_node keyword) o rest)
+fit-source {n = n} keyword w = fit-opt (text_node keyword) IsText (λ raw. source-fit n keyword raw w)
 
 pub ident-fit : TextLaws → (x : IdentParts) → IsIdent x → IsFormedWithin 2 (item_ident x)
 ident-fit laws x s =
-    fit-node 1 (codes "ID") (text_item x.authority) (More (code_item x.code) (behind-code x)) (refl, refl)
-    (text-fit 1 x.authority s.authority)
-    (fit-more 1 (code_item x.code) (behind-code x) (code-fit laws 1 x.code s.code)
-    (fit-opt 1 code_item IsText (code-fit laws 1) x.version (behind-version x) s.version
-    (fit-opt 1 (text_node (codes "CITATION")) IsText (λ raw t. source-fit 0 (codes "CITATION") raw (refl, refl) t)
-    x.citation
-    (opt (text_node (codes "URI")) x.uri End) s.citation
-    (fit-opt 1 (text_node (codes "URI")) IsText (λ raw t. source-fit 0 (codes "URI") raw (refl, refl) t) x.uri End
-    s.uri (fit-end 1)))))
+    fit-node (codes "ID") (text_item x.authority) (refl, refl) (text-fit 1 x.authority s.authority)
+    (fit-more (code_item x.code) (code-fit laws 1 x.code s.code)
+    (fit-opt code_item IsText (code-fit laws 1) x.version s.version
+    (fit-source (codes "CITATION") (refl, refl) x.citation s.citation
+    (fit-source (codes "URI") (refl, refl) x.uri s.uri fit-end))))
 
 pub writable : (n : ℕ) (item : Item) → n ≤ 12 → IsFormedWithin n item → IsNode item → IsWritable item
 writable n item l f is = record { formed = f.0; is_node = is; within = omega (arith, l, f.1) }

@@ -38,7 +38,7 @@ named-read c keyword names n s place =
 named-fit : TextLaws → (keyword : List ℕ) → IsWord keyword → (n : NamedParts) → IsNamed n →
     IsFormedWithin 3 (item_named keyword n)
 named-fit laws keyword w n s =
-    fit-node 2 keyword (text_item n.name) (each item_ident n.identifiers End) w (text-fit 2 n.name s.name)
+    fit-node keyword (text_item n.name) w (text-fit 2 n.name s.name)
     (identifiers-fit laws 2 (omega arith) n.identifiers s.identifiers)
 
 pub named-kept : (level : Level) (n : NamedParts) → IsNamed n → IsNamed (norm_member level n)

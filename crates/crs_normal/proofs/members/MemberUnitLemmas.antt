@@ -16,7 +16,7 @@ use Rattle.crs_normal.specs.SpelledItems.{each, number_item, text_item}
 use Rattle.crs_normal.specs.SpelledUnits.{item_ident, item_unit, norm_unit}
 use Rattle.crs_normal.specs.TextLaws.{TextLaws}
 use Rattle.crs_normal.proofs.members.IdentLemmas.{ident-fit, ident-read, text-fit, writable}
-use Rattle.crs_normal.proofs.texts.ItemLemmas.{AreFit, fit-deeper, fit-each, fit-end, fit-more, fit-node, told, value-fit}
+use Rattle.crs_normal.proofs.texts.ItemLemmas.{AreFit, fit-deeper, fit-each, fit-end, fit-node, fit-number, told}
 use Rattle.crs_normal.proofs.texts.SegmentLemmas.{ReadsBack, Seen, Segment, a-number, a-text, all-of, each-field, each-imp, each_items, items_of, seen}
 use Rattle.crs_normal.proofs.read.NameLemmas.{keyword-names}
 use Rattle.crs_normal.proofs.made.IdentLemmas.{idents-sound}
@@ -40,7 +40,7 @@ identifiers-back look identifiers same s =
 pub identifiers-fit : TextLaws → (n : ℕ) → 2 ≤ n → (identifiers : List IdentParts) → Each IsIdent identifiers →
     AreFit n (each item_ident identifiers End)
 identifiers-fit laws n l identifiers s =
-    fit-each n item_ident IsIdent (λ x q. fit-deeper 2 n (item_ident x) l (ident-fit laws x q)) identifiers End s (fit-end n)
+    fit-each item_ident IsIdent (λ x q. fit-deeper 2 n (item_ident x) l (ident-fit laws x q)) identifiers s fit-end
 
 -- ---- numbers
 
@@ -62,10 +62,8 @@ unit-read laws c e u s place =
 
 pub unit-fit : TextLaws → (u : UnitParts) → IsUnit u → IsFormedWithin 3 (item_unit u)
 unit-fit laws u s =
-    fit-node 2 (unit_word u.kind) (text_item u.name) (More (number_item u.factor) (each item_ident u.identifiers End))
-    (unit-letters u.kind) (text-fit 2 u.name s.name)
-    (fit-more 2 (number_item u.factor) (each item_ident u.identifiers End) (value-fit laws 2 u.factor s.factor)
-    (identifiers-fit laws 2 (omega arith) u.identifiers s.identifiers))
+    fit-node (unit_word u.kind) (text_item u.name) (unit-letters u.kind) (text-fit 2 u.name s.name)
+    (fit-number laws u.factor s.factor (identifiers-fit laws 2 (omega arith) u.identifiers s.identifiers))
 
 abbrev pub ReadsUnitOnce : Type 0
 ReadsUnitOnce = (c : Class) (item : Item) (a b : UnitParts) → ReadsUnit c item a → ReadsUnit c item b → a ≡ b

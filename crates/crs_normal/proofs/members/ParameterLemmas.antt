@@ -20,7 +20,7 @@ use Rattle.crs_normal.specs.SpelledItems.{each, node_of, number_item, opt, text_
 use Rattle.crs_normal.specs.SpelledUnits.{item_ident, item_unit, norm_units}
 use Rattle.crs_normal.specs.TextLaws.{TextLaws}
 use Rattle.crs_normal.proofs.members.IdentLemmas.{ReadsIdentOnce, idents-agree, text-fit, writable}
-use Rattle.crs_normal.proofs.texts.ItemLemmas.{fit-more, fit-node, fit-opt, told, value-fit}
+use Rattle.crs_normal.proofs.texts.ItemLemmas.{fit-node, fit-number, fit-opt, told}
 use Rattle.crs_normal.proofs.texts.SegmentLemmas.{IsIn, MayIn, Seen, Segment, a-number, a-text, if-any, items_of, lacks, placed-at, seen}
 use Rattle.crs_normal.proofs.members.MemberUnitLemmas.{NamesId, identifiers-back, identifiers-fit, identifiers-of, number-read, unit-fit, unit-kept, unit-read}
 use Rattle.crs_normal.proofs.same.ConversionLemmas.{parameter-agrees}
@@ -123,12 +123,8 @@ parameter-read laws p s place =
 
 pub parameter-fit : TextLaws → (p : ParameterParts) → IsParameter p → IsFormedWithin 4 (item_parameter p)
 parameter-fit laws p s =
-    fit-node 3 (codes "PARAMETER") (text_item p.name)
-    (More (number_item p.value) (opt item_unit p.unit (each item_ident p.identifiers End))) (refl, refl)
-    (text-fit 3 p.name s.name)
-    (fit-more 3 (number_item p.value) (opt item_unit p.unit (each item_ident p.identifiers End))
-    (value-fit laws 3 p.value s.value)
-    (fit-opt 3 item_unit IsUnit (unit-fit laws) p.unit (each item_ident p.identifiers End) s.unit
+    fit-node (codes "PARAMETER") (text_item p.name) (refl, refl) (text-fit 3 p.name s.name)
+    (fit-number laws p.value s.value (fit-opt item_unit IsUnit (unit-fit laws) p.unit s.unit
     (identifiers-fit laws 3 (omega arith) p.identifiers s.identifiers)))
 
 pub units-kept : (level : Level) (asked : UnitKind) (o : Option UnitParts) → IfSome o IsUnit →

@@ -13,7 +13,7 @@ use Rattle.crs_normal.specs.SpelledItems.{node_from, opt, text_node}
 use Rattle.crs_normal.specs.SpelledUsages.{item_box, item_extent, item_usage, norm_extent, norm_usage, set_usages}
 use Rattle.crs_normal.specs.TextLaws.{TextLaws}
 use Rattle.crs_normal.proofs.members.ExtentLemmas.{IsWrittenExtent, box-fit, box-read, extent-fit, extent-kept, extent-read}
-use Rattle.crs_normal.proofs.members.IdentLemmas.{ReadsIdentOnce, idents-agree, source-fit, writable}
+use Rattle.crs_normal.proofs.members.IdentLemmas.{ReadsIdentOnce, fit-source, idents-agree, writable}
 use Rattle.crs_normal.proofs.texts.ItemLemmas.{AreFit, fit-deeper, fit-end, fit-node, fit-opt, from-arguments, told}
 use Rattle.crs_normal.proofs.texts.SegmentLemmas.{ReadsBack, Segment, may-be, opt-field, seen, text-field, some-all, some-imp}
 use Rattle.crs_normal.proofs.same.UsageLemmas.{usage-agrees}
@@ -61,18 +61,15 @@ from-fit : (n : ℕ) (keyword : List ℕ) (items : Siblings) → IsWord keyword 
     IsFormedWithin (suc n) (node_from keyword items)
 from-fit n keyword End w g = (w, omega arith)
 from-fit n keyword (More first others) w g =
-    fit-node n keyword first others w (g.0.0, omega (arith, g.1)) (g.0.1, omega (arith, g.1))
+    let l = g.within in
+    fit-node keyword first w (g.formed.0, omega (arith, l)) (record { formed = g.formed.1; within = omega (arith, l) })
 
 pub usage-fit : TextLaws → (u : UsageParts) → IsWrittenUsage u → IsFormedWithin 5 (item_usage u)
 usage-fit laws u s =
     from-fit 4 (codes "USAGE") (usage_items u) (refl, refl)
-    (fit-opt 4 (text_node (codes "SCOPE")) IsText (λ raw t. source-fit 3 (codes "SCOPE") raw (refl, refl) t) u.scope
-    (opt (text_node (codes "AREA")) u.area (opt item_box u.bbox (opt item_extent u.extent End))) s.scope
-    (fit-opt 4 (text_node (codes "AREA")) IsText (λ raw t. source-fit 3 (codes "AREA") raw (refl, refl) t) u.area
-    (opt item_box u.bbox (opt item_extent u.extent End)) s.area
-    (fit-opt 4 item_box IsBox (λ b t. fit-deeper 1 4 (item_box b) (omega arith) (box-fit laws b t)) u.bbox
-    (opt item_extent u.extent End) s.bbox
-    (fit-opt 4 item_extent IsWrittenExtent (extent-fit laws) u.extent End s.extent (fit-end 4)))))
+    (fit-source (codes "SCOPE") (refl, refl) u.scope s.scope (fit-source (codes "AREA") (refl, refl) u.area s.area
+    (fit-opt item_box IsBox (λ b t. fit-deeper 1 4 (item_box b) (omega arith) (box-fit laws b t)) u.bbox s.bbox
+    (fit-opt item_extent IsWrittenExtent (extent-fit laws) u.extent s.extent fit-end))))
 
 pub usage-is-node : (u : UsageParts) → SaysSome u → IsNode (item_usage u)
 usage-is-node u = by u.scope u.area u.bbox u.extent

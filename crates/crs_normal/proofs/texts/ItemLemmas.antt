@@ -11,38 +11,35 @@ use Rattle.crs_shape.specs.declared.class.Class.{Class}
 
 -- ---- well-formed items of some depth
 
-abbrev pub AreFit : ℕ → Siblings → Type 0
-AreFit n items = AreAllFormed items × (depths items ≤ n)
+pub record AreFit (n : ℕ) (items : Siblings) : Type 0 where
+  pub formed : AreAllFormed items
+  pub within : depths items ≤ n
 
-pub fit-end : (n : ℕ) → AreFit n End
-fit-end n = (tt, omega arith)
+pub fit-end : {n : ℕ} → AreFit n End
+fit-end = record { formed = tt; within = omega arith }
 
-pub fit-more : (n : ℕ) (item : Item) (items : Siblings) → IsFormedWithin n item → AreFit n items → AreFit n (More item items)
-fit-more n item items f g = ((f.0, g.0), omega (arith, f.1, g.1))
+pub fit-more : {n : ℕ} {items : Siblings} (item : Item) → IsFormedWithin n item → AreFit n items → AreFit n (More item items)
+fit-more item f g = let l = g.within in record { formed = (f.0, g.formed); within = omega (arith, f.1, l) }
 
 pub fit-leaf : (n : ℕ) (kind : Kind) (place : ℕ) (raw : List ℕ) → IsSingle kind raw → IsFormedWithin n (leaf kind place raw)
 fit-leaf n kind place raw f = (f, omega arith)
 
-pub fit-node : (n : ℕ) (keyword : List ℕ) (first : Item) (others : Siblings) → IsWord keyword → IsFormedWithin n first →
-    AreFit n others →
-    IsFormedWithin (suc n) (node_of keyword first others)
-fit-node n keyword first others w f g = ((w, f.0, g.0), omega (arith, f.1, g.1))
+pub fit-node : {n : ℕ} {others : Siblings} (keyword : List ℕ) (first : Item) → IsWord keyword → IsFormedWithin n first →
+    AreFit n others → IsFormedWithin (suc n) (node_of keyword first others)
+fit-node keyword first w f g = let l = g.within in ((w, f.0, g.formed), omega (arith, f.1, l))
 
 pub fit-deeper : (m n : ℕ) (item : Item) → m ≤ n → IsFormedWithin m item → IsFormedWithin n item
 fit-deeper m n item l f = (f.0, omega (arith, l, f.1))
 
-pub fit-opt : {A : Type 0} (n : ℕ) (spell : A → Item) (P : A → Type 0) → ((x : A) → P x → IsFormedWithin n (spell x)) →
-    (o : Option A) (rest : Siblings) →
-    IfSome o P → AreFit n rest → AreFit n (opt spell o rest)
-fit-opt n spell P f None rest p g = g
-fit-opt n spell P f (Some x) rest p g = fit-more n (spell x) rest (f x p) g
+pub fit-opt : {A : Type 0} {n : ℕ} {rest : Siblings} (spell : A → Item) (P : A → Type 0) →
+    ((x : A) → P x → IsFormedWithin n (spell x)) → (o : Option A) → IfSome o P → AreFit n rest → AreFit n (opt spell o rest)
+fit-opt spell P f None p g = g
+fit-opt spell P f (Some x) p g = fit-more (spell x) (f x p) g
 
-pub fit-each : {A : Type 0} (n : ℕ) (spell : A → Item) (P : A → Type 0) → ((x : A) → P x → IsFormedWithin n (spell x)) →
-    (xs : List A) (rest : Siblings) →
-    Each P xs → AreFit n rest → AreFit n (each spell xs rest)
-fit-each n spell P f [] rest p g = g
-fit-each n spell P f (x ∷ xs) rest p g =
-    fit-more n (spell x) (each spell xs rest) (f x p.0) (fit-each n spell P f xs rest p.1 g)
+pub fit-each : {A : Type 0} {n : ℕ} {rest : Siblings} (spell : A → Item) (P : A → Type 0) →
+    ((x : A) → P x → IsFormedWithin n (spell x)) → (xs : List A) → Each P xs → AreFit n rest → AreFit n (each spell xs rest)
+fit-each spell P f [] p g = g
+fit-each spell P f (x ∷ xs) p g = fit-more (spell x) (f x p.0) (fit-each spell P f xs p.1 g)
 
 -- ---- numbers
 
@@ -56,6 +53,10 @@ number-single laws raw b = run-single raw (laws.run raw (b.0, b.1)) b
 pub value-fit : TextLaws → (n : ℕ) (v : Value) → IsNormal v → IsFormedWithin n (number_item v)
 value-fit laws n v h =
     let d = laws.denotes v h in fit-leaf n number 0 (plain v) (number-single laws (plain v) (d.0, d.1, d.2))
+
+pub fit-number : {n : ℕ} {items : Siblings} → TextLaws → (v : Value) → IsNormal v → AreFit n items →
+    AreFit n (More (number_item v) items)
+fit-number {n = n} laws v h g = fit-more (number_item v) (value-fit laws n v h) g
 
 -- the arguments of a node that may have none
 pub from-arguments : (keyword : List ℕ) (items : Siblings) (place : ℕ) →
