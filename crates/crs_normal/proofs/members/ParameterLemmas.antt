@@ -1,6 +1,7 @@
 -- Parameters: the item of one reads as it wherever it is, with a unit of the class that its keyword
 -- names, and as sets they have one form.
-use Rattle.std.proofs.Common.{◌≡◌, ◌↔◌, ℕ, ◌+◌, codes, IfSome, Option, Some, None, List, [], ◌∷◌, refl, sym, subst, arith}
+use Rattle.std.proofs.Common.{◌≡◌, ◌↔◌, ◌⊎◌, inl, inr, ℕ, ◌+◌, codes, IfSome, Option, Some, None, List, [], ◌∷◌, refl, sym, subst, arith}
+use Rattle.std.specs.Prelude.{⊤}
 use Rattle.crs_decimal.specs.Prelude.{Value}
 use Rattle.crs_text.specs.Prelude.{Item, End, More, at_place, item_text}
 use Rattle.crs_shape.specs.declared.class.Class.{Class}
@@ -21,7 +22,7 @@ use Rattle.crs_normal.specs.SpelledUnits.{item_ident, item_unit, norm_units}
 use Rattle.crs_normal.specs.TextLaws.{TextLaws}
 use Rattle.crs_normal.proofs.members.IdentLemmas.{ReadsIdentOnce, idents-agree, text-fit, writable}
 use Rattle.crs_normal.proofs.texts.ItemLemmas.{fit-node, fit-number, fit-opt, told}
-use Rattle.crs_normal.proofs.texts.SegmentLemmas.{IsIn, MayIn, Seen, Segment, a-number, a-text, if-any, items_of, lacks, placed-at, seen}
+use Rattle.crs_normal.proofs.texts.SegmentLemmas.{IsIn, MayIn, Seen, Segment, a-number, a-text, each_items, if-any, items_of, lacks, placed-at, seen}
 use Rattle.crs_normal.proofs.members.MemberUnitLemmas.{NamesId, identifiers-back, identifiers-fit, identifiers-of, number-read, unit-fit, unit-kept, unit-read}
 use Rattle.crs_normal.proofs.same.ConversionLemmas.{parameter-agrees}
 use Rattle.crs_normal.proofs.members.SetLemmas.{set-agrees}
@@ -34,17 +35,28 @@ unfolding class_named is_keyword
 named-as kinds.Length = refl
 named-as other = refl
 
--- the reading goes over the classes that no unit is of, up to that of the unit
-module _ {c : Class} {ss : List (Segment c)} {item : Item} (look : Seen c ss item) (d : Class) (ds : List Class) where
-  past : (o : Option UnitParts) → items_of d ss ≡ [] → ReadsUnitOf ds c item o → ReadsUnitOf (d ∷ ds) c item o
-  past o none h =
-      subst (λ l. ReadsElse (ReadsAsUnit d) l (ReadsUnitOf ds c item) o) (sym (lacks look d none)) h
+module _ {c : Class} {ss : List (Segment c)} {item : Item} (look : Seen c ss item) where
+  -- the unit, if there is one, is the first item of these classes
+  abbrev Stands : Option UnitParts → List Class → Type 0
+  Stands None [] = ⊤
+  Stands (Some u) [] = ⊥
+  Stands None (d ∷ ds) = (items_of d ss ≡ []) × Stands None ds
+  Stands (Some u) (d ∷ ds) =
+      NamesId d × (items_of d ss ≡ item_unit u ∷ []) ⊎ (items_of d ss ≡ []) × Stands (Some u) ds
 
-  found : TextLaws → NamesId d → (u : UnitParts) → IsUnit u → items_of d ss ≡ item_unit u ∷ [] →
-      ReadsUnitOf (d ∷ ds) c item (Some u)
-  found laws names u s one =
-      placed-at look d (λ l. ReadsElse (ReadsAsUnit d) l (ReadsUnitOf ds c item) (Some u)) (item_unit u) one
-      (unit-read laws d names u s)
+  past : (d : Class) (ds : List Class) (o : Option UnitParts) → items_of d ss ≡ [] → ReadsUnitOf ds c item o →
+      ReadsUnitOf (d ∷ ds) c item o
+  past d ds o none h = subst (λ l. ReadsElse (ReadsAsUnit d) l (ReadsUnitOf ds c item) o) (sym (lacks look d none)) h
+
+  unit-found : TextLaws → (o : Option UnitParts) → IfSome o IsUnit → (ds : List Class) → Stands o ds →
+      ReadsUnitOf ds c item o
+  unit-found laws None s [] h = tt
+  unit-found laws (Some u) s [] h = absurd h
+  unit-found laws None s (d ∷ ds) h = past d ds None h.0 (unit-found laws None s ds h.1)
+  unit-found laws (Some u) s (d ∷ ds) (inr h) = past d ds (Some u) h.0 (unit-found laws (Some u) s ds h.1)
+  unit-found laws (Some u) s (d ∷ ds) (inl h) =
+      placed-at look d (λ l. ReadsElse (ReadsAsUnit d) l (ReadsUnitOf ds c item) (Some u)) (item_unit u) h.1
+      (unit-read laws d h.0 u s)
 
 module _ (laws : TextLaws) (name : List ℕ) (value : Value) (identifiers : List IdentParts) (s : Each IsIdent identifiers) where
   abbrev whole : Option UnitParts → ℕ → Item
@@ -68,45 +80,24 @@ module _ (laws : TextLaws) (name : List ℕ) (value : Value) (identifiers : List
   Reads o place =
       ReadsUnitOf parameter_units class.Parameter (whole o place) o × ReadsIds class.Parameter (whole o place) identifiers
 
+  unit-as : (k : Class) (o : Option UnitParts) (e : MayIn class.Parameter k item_unit o) (place : ℕ) → IfSome o IsUnit →
+      Stands (look k o e place) o parameter_units →
+      items_of class.Identifier (of-parameter k o e) ≡ each_items item_ident identifiers [] → Reads o place
+  unit-as k o e place q h same =
+      let at = look k o e place in (unit-found at laws o q parameter_units h, identifiers-back at identifiers same s)
+
   some-read : (u : UnitParts) → IsUnit u → (place : ℕ) (k : UnitKind) →
       IsIn class.Parameter (unit_class k) (item_unit u) → Reads (Some u) place
-  some-read u q place kinds.Plain e =
-      let at = look class.PlainUnit (Some u) e place in (
-        found at class.PlainUnit (class.LengthUnit ∷ class.AngleUnit ∷ class.ScaleUnit ∷ []) laws
-            (keyword-names class.PlainUnit (codes "ID")) u q refl,
-        identifiers-back at identifiers refl s,
-      )
+  some-read u q place kinds.Plain e = unit-as class.PlainUnit (Some u) e place q (inl (keyword-names _ _, refl)) refl
   some-read u q place kinds.Length e =
-      let at = look class.LengthUnit (Some u) e place in (
-        past at class.PlainUnit (class.LengthUnit ∷ class.AngleUnit ∷ class.ScaleUnit ∷ []) (Some u) refl
-            (found at class.LengthUnit (class.AngleUnit ∷ class.ScaleUnit ∷ []) laws
-            (keyword-names class.LengthUnit (codes "ID")) u q refl),
-        identifiers-back at identifiers refl s,
-      )
+      unit-as class.LengthUnit (Some u) e place q (inr (refl, inl (keyword-names _ _, refl))) refl
   some-read u q place kinds.Angle e =
-      let at = look class.AngleUnit (Some u) e place in (
-        past at class.PlainUnit (class.LengthUnit ∷ class.AngleUnit ∷ class.ScaleUnit ∷ []) (Some u) refl
-            (past at class.LengthUnit (class.AngleUnit ∷ class.ScaleUnit ∷ []) (Some u) refl
-            (found at class.AngleUnit (class.ScaleUnit ∷ []) laws (keyword-names class.AngleUnit (codes "ID")) u q refl)),
-        identifiers-back at identifiers refl s,
-      )
+      unit-as class.AngleUnit (Some u) e place q (inr (refl, inr (refl, inl (keyword-names _ _, refl)))) refl
   some-read u q place kinds.Scale e =
-      let at = look class.ScaleUnit (Some u) e place in (
-        past at class.PlainUnit (class.LengthUnit ∷ class.AngleUnit ∷ class.ScaleUnit ∷ []) (Some u) refl
-            (past at class.LengthUnit (class.AngleUnit ∷ class.ScaleUnit ∷ []) (Some u) refl
-            (past at class.AngleUnit (class.ScaleUnit ∷ []) (Some u) refl
-            (found at class.ScaleUnit [] laws (keyword-names class.ScaleUnit (codes "ID")) u q refl))),
-        identifiers-back at identifiers refl s,
-      )
+      unit-as class.ScaleUnit (Some u) e place q (inr (refl, inr (refl, inr (refl, inl (keyword-names _ _, refl))))) refl
 
   both-read : (o : Option UnitParts) → IfSome o IsUnit → (place : ℕ) → Reads o place
-  both-read None q place =
-      let at = look class.PlainUnit None tt place in (
-        past at class.PlainUnit (class.LengthUnit ∷ class.AngleUnit ∷ class.ScaleUnit ∷ []) None refl
-            (past at class.LengthUnit (class.AngleUnit ∷ class.ScaleUnit ∷ []) None refl
-            (past at class.AngleUnit (class.ScaleUnit ∷ []) None refl (past at class.ScaleUnit [] None refl tt))),
-        identifiers-back at identifiers refl s,
-      )
+  both-read None q place = unit-as class.PlainUnit None tt place q (refl, (refl, (refl, (refl, tt)))) refl
   both-read (Some u) q place = some-read u q place u.kind (named-as u.kind)
 
 -- ---- a parameter
