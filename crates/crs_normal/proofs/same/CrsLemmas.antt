@@ -17,6 +17,7 @@ use Rattle.crs_normal.proofs.same.ConversionLemmas.{conversion-agrees}
 use Rattle.crs_normal.proofs.normal.DimensionLemmas.{small-geodetic, small-projected, small-vertical, AreSmall, few-axes}
 use Rattle.crs_normal.proofs.same.DynamicLemmas.{dynamics-agree, dynamics-sound}
 use Rattle.crs_normal.proofs.same.FrameLemmas.{geodetic-frame-agrees, meridian-agrees, vertical-frame-agrees}
+use Rattle.crs_normal.proofs.same.PartLemmas.{under}
 use Rattle.crs_normal.proofs.same.SystemLemmas.{system-agrees}
 use Rattle.crs_normal.proofs.same.TailLemmas.{tail-agrees}
 use Rattle.crs_normal.proofs.same.UnitLemmas.{units-of-agree}
@@ -157,16 +158,12 @@ module _ (laws : LowerLaws) (sets : SetsDecide) (level : Level) where
   -- ---- compound CRSs
 
   pub horizontal-agrees : FormDecides IsHorizontal (norm_horizontal level) (AgreeHorizontal level)
-  horizontal-agrees (horizontal.Geodetic a) (horizontal.Geodetic b) in-a in-b = (
-    λ e. (geodetic-agrees a b in-a.0 in-b.0).0 cc,
-    λ s. ap (λ x. horizontal.Geodetic x) ((geodetic-agrees a b in-a.0 in-b.0).1 s),
-  )
+  horizontal-agrees (horizontal.Geodetic a) (horizontal.Geodetic b) in-a in-b =
+      under (λ x. horizontal.Geodetic x) (λ e. cc) (geodetic-agrees a b in-a.0 in-b.0)
+  horizontal-agrees (horizontal.Projected a) (horizontal.Projected b) in-a in-b =
+      under (λ x. horizontal.Projected x) (λ e. cc) (projected-agrees a b in-a.0 in-b.0)
   horizontal-agrees (horizontal.Geodetic a) (horizontal.Projected b) in-a in-b = (λ e. cc, λ s. absurd s)
   horizontal-agrees (horizontal.Projected a) (horizontal.Geodetic b) in-a in-b = (λ e. cc, λ s. absurd s)
-  horizontal-agrees (horizontal.Projected a) (horizontal.Projected b) in-a in-b = (
-    λ e. (projected-agrees a b in-a.0 in-b.0).0 cc,
-    λ s. ap (λ x. horizontal.Projected x) ((projected-agrees a b in-a.0 in-b.0).1 s),
-  )
 
   pub compound-agrees : FormDecides IsCompound (norm_compound level) (AgreeCompound level)
   compound-agrees a b in-a in-b =
@@ -190,26 +187,19 @@ module _ (laws : LowerLaws) (sets : SetsDecide) (level : Level) where
   -- ---- all
 
   pub crs-agrees : FormDecides IsCrs (norm_crs level) (AgreeCrs level)
-  crs-agrees (crs.Geodetic a) (crs.Geodetic b) in-a in-b = (
-    λ e. let s : AgreeGeodetic level a b = (geodetic-agrees a b in-a in-b).0 cc in record { kind = s.kind; parts = s },
-    λ s. ap (λ x. crs.Geodetic x) ((geodetic-agrees a b in-a in-b).1 s.parts),
-  )
-  crs-agrees (crs.Projected a) (crs.Projected b) in-a in-b = (
-    λ e. record { kind = refl; parts = (projected-agrees a b in-a in-b).0 cc },
-    λ s. ap (λ x. crs.Projected x) ((projected-agrees a b in-a in-b).1 s.parts),
-  )
-  crs-agrees (crs.Vertical a) (crs.Vertical b) in-a in-b = (
-    λ e. record { kind = refl; parts = (vertical-agrees a b in-a in-b).0 cc },
-    λ s. ap (λ x. crs.Vertical x) ((vertical-agrees a b in-a in-b).1 s.parts),
-  )
-  crs-agrees (crs.Compound a) (crs.Compound b) in-a in-b = (
-    λ e. record { kind = refl; parts = (compound-agrees a b in-a in-b).0 cc },
-    λ s. ap (λ x. crs.Compound x) ((compound-agrees a b in-a in-b).1 s.parts),
-  )
-  crs-agrees (crs.Geodetic a) other in-a in-b = (λ e. cc, λ s. absurd s.parts)
-  crs-agrees (crs.Projected a) other in-a in-b = (λ e. cc, λ s. absurd s.parts)
-  crs-agrees (crs.Vertical a) other in-a in-b = (λ e. cc, λ s. absurd s.parts)
-  crs-agrees (crs.Compound a) other in-a in-b = (λ e. cc, λ s. absurd s.parts)
+  crs-agrees (crs.Geodetic a) (crs.Geodetic b) in-a in-b =
+      let it = under (λ x. crs.Geodetic x) (λ e. cc) (geodetic-agrees a b in-a in-b) in
+      (λ e. record { kind = (it.0 e).kind; parts = it.0 e }, λ s. it.1 s.parts)
+  crs-agrees (crs.Projected a) (crs.Projected b) in-a in-b =
+      let it = under (λ x. crs.Projected x) (λ e. cc) (projected-agrees a b in-a in-b) in
+      (λ e. record { kind = refl; parts = it.0 e }, λ s. it.1 s.parts)
+  crs-agrees (crs.Vertical a) (crs.Vertical b) in-a in-b =
+      let it = under (λ x. crs.Vertical x) (λ e. cc) (vertical-agrees a b in-a in-b) in
+      (λ e. record { kind = refl; parts = it.0 e }, λ s. it.1 s.parts)
+  crs-agrees (crs.Compound a) (crs.Compound b) in-a in-b =
+      let it = under (λ x. crs.Compound x) (λ e. cc) (compound-agrees a b in-a in-b) in
+      (λ e. record { kind = refl; parts = it.0 e }, λ s. it.1 s.parts)
+  crs-agrees a b in-a in-b = (λ e. cc, λ s. absurd s.parts)
 
 -- the horizontal part of a compound CRS is one by itself
 pub by-itself : (a : Horizontal) → IsHorizontal a → IsHorizontalPart a

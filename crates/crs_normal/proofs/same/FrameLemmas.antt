@@ -14,7 +14,7 @@ use Rattle.crs_normal.specs.Decides.{FormDecides, Maybe, SetsDecide}
 use Rattle.crs_normal.specs.LowerLaws.{LowerLaws}
 use Rattle.crs_normal.specs.SpelledFrames.{greenwich, is_zero, norm_datum, norm_ellipsoid, norm_ensemble, norm_frame, norm_given, norm_meridian}
 use Rattle.crs_normal.specs.SpelledUnits.{norm_length, norm_units, set_idents, whole_value}
-use Rattle.crs_normal.proofs.same.PartLemmas.{options-agree, values-agree}
+use Rattle.crs_normal.proofs.same.PartLemmas.{options-agree, under, values-agree}
 use Rattle.crs_normal.proofs.same.UnitLemmas.{length-agrees, none-formed, some-one, units-of-agree, whole-agrees}
 
 -- ---- a missing prime meridian
@@ -214,16 +214,11 @@ module _ (laws : LowerLaws) (sets : SetsDecide) (level : Level) where
   IsFrame (frame.Ensemble e) = IsEnsemble e
 
   frame-agrees : FormDecides IsFrame (norm_frame level) (AgreeFrame level)
-  frame-agrees (frame.Datum a) (frame.Datum b) in-a in-b = (
-    λ e. (datum-agrees a b in-a in-b).0 cc,
-    λ s. ap (λ d. frame.Datum d) ((datum-agrees a b in-a in-b).1 s),
-  )
+  frame-agrees (frame.Datum a) (frame.Datum b) in-a in-b = under (λ d. frame.Datum d) (λ e. cc) (datum-agrees a b in-a in-b)
+  frame-agrees (frame.Ensemble a) (frame.Ensemble b) in-a in-b =
+      under (λ d. frame.Ensemble d) (λ e. cc) (ensemble-agrees a b in-a in-b)
   frame-agrees (frame.Datum a) (frame.Ensemble b) in-a in-b = (λ e. cc, λ s. absurd s)
   frame-agrees (frame.Ensemble a) (frame.Datum b) in-a in-b = (λ e. cc, λ s. absurd s)
-  frame-agrees (frame.Ensemble a) (frame.Ensemble b) in-a in-b = (
-    λ e. (ensemble-agrees a b in-a in-b).0 cc,
-    λ s. ap (λ d. frame.Ensemble d) ((ensemble-agrees a b in-a in-b).1 s),
-  )
 
   geodetic-is : (f : Frame) → IsGeodeticFrame f → IsFrame f
   geodetic-is (frame.Datum d) sound = sound.0

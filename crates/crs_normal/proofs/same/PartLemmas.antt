@@ -26,6 +26,10 @@ options-agree Is form Same agree all none some (Some a) (Some b) in-a in-b = (
   λ s. some a ∙ ap (λ x. Some x) ((agree a b in-a in-b).1 s) ∙ sym (some b),
 )
 
+-- what is under a constructor decides
+pub under : {A B R : Type 0} {x y : A} (c : A → B) → (c x ≡ c y → x ≡ y) → (x ≡ y) ↔ R → (c x ≡ c y) ↔ R
+under c one same = (λ e. same.0 (one e), λ r. ap c (same.1 r))
+
 -- where all parts are the same exactly where the values agree: a form that decides the latter decides the former
 pub decides-parts : {A B : Type 0} {Is : A → Type 0} {form : A → B} {S R : A → A → Type 0} →
     ((a b : A) → Is a → Is b → S a b ↔ R a b) → FormDecides Is form R → FormDecides Is form S

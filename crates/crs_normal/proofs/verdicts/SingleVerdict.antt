@@ -9,8 +9,6 @@ use Rattle.crs_text.specs.Prelude.{Item, leaf, node, doubled, Kind, number, text
 use Rattle.crs_text.specs.declared.items.ItemKind.TheVariants as kinds
 use Rattle.crs_shape.specs.declared.class.Class.{Class}
 use Rattle.crs_shape.specs.declared.class.Class.TheVariants as class
-use Rattle.crs_shape.specs.declared.direction.Direction.{Direction}
-use Rattle.crs_shape.specs.declared.system_type.SystemType.{SystemType}
 use Rattle.crs_shape.specs.Prelude.{direction_word, system_word}
 use Rattle.crs_value.specs.Prelude.{IsText}
 use Rattle.crs_normal.specs.DecimalLaws.{DecimalLaws}
@@ -56,40 +54,26 @@ is_code (node place keyword square first others close) = None
 
 -- ---- words
 
-pub no-type : (raw : List ℕ) → type_of (str_to_ascii_lowercase raw) ≡ None → ¬ ((t : SystemType) × (raw ≡ system_word t))
-no-type raw e h =
-    let k : None ≡ Some h.0 = sym e ∙ ap (λ w. type_of (str_to_ascii_lowercase w)) h.1 ∙ type-known h.0 in cc
+-- one of the words of a kind, which are known by their small letters
+module _ {T : Type 0} (word : T → List ℕ) (named : List ℕ → Option T) (known : (t : T) → named (str_to_ascii_lowercase (word t)) ≡ Some t) where
+  abbrev found_of : List ℕ → Option T
+  found_of raw = named (str_to_ascii_lowercase raw)
 
-pub other-type : (raw : List ℕ) (t : SystemType) → type_of (str_to_ascii_lowercase raw) ≡ Some t →
-    (u : SystemType) × (raw ≡ system_word u) → raw ≡ system_word t
-other-type raw t e h =
-    let k : Some t ≡ Some h.0 = sym e ∙ ap (λ w. type_of (str_to_ascii_lowercase w)) h.1 ∙ type-known h.0 in
-    let l : h.0 ≡ t = cc in h.1 ∙ ap system_word l
+  pub no-word : (raw : List ℕ) → found_of raw ≡ None → ¬ ((t : T) × (raw ≡ word t))
+  no-word raw e h = let k : None ≡ Some h.0 = sym e ∙ ap found_of h.1 ∙ known h.0 in cc
 
-abbrev word_of_type : (raw : List ℕ) (found : Option SystemType) → type_of (str_to_ascii_lowercase raw) ≡ found →
-    Verdict ((t : SystemType) × (raw ≡ system_word t))
-word_of_type raw None e = Some (inr (no-type raw e))
-word_of_type raw (Some t) e = via (λ p. (t, p)) (other-type raw t e) (equal raw (system_word t))
+  pub other-word : (raw : List ℕ) (t : T) → found_of raw ≡ Some t → (u : T) × (raw ≡ word u) → raw ≡ word t
+  other-word raw t e h =
+      let k : Some t ≡ Some h.0 = sym e ∙ ap found_of h.1 ∙ known h.0 in
+      let l : h.0 ≡ t = cc in h.1 ∙ ap word l
 
-pub no-direction : (raw : List ℕ) → direction_of (str_to_ascii_lowercase raw) ≡ None →
-    ¬ ((d : Direction) × (raw ≡ direction_word d))
-no-direction raw e h =
-    let k : None ≡ Some h.0 = sym e ∙ ap (λ w. direction_of (str_to_ascii_lowercase w)) h.1 ∙ direction-known h.0 in cc
-
-pub other-direction : (raw : List ℕ) (d : Direction) → direction_of (str_to_ascii_lowercase raw) ≡ Some d →
-    (u : Direction) × (raw ≡ direction_word u) → raw ≡ direction_word d
-other-direction raw d e h =
-    let k : Some d ≡ Some h.0 = sym e ∙ ap (λ w. direction_of (str_to_ascii_lowercase w)) h.1 ∙ direction-known h.0 in
-    let l : h.0 ≡ d = cc in h.1 ∙ ap direction_word l
-
-abbrev word_of_direction : (raw : List ℕ) (found : Option Direction) →
-    direction_of (str_to_ascii_lowercase raw) ≡ found → Verdict ((d : Direction) × (raw ≡ direction_word d))
-word_of_direction raw None e = Some (inr (no-direction raw e))
-word_of_direction raw (Some d) e = via (λ p. (d, p)) (other-direction raw d e) (equal raw (direction_word d))
+  abbrev word_of : (raw : List ℕ) (found : Option T) → found_of raw ≡ found → Verdict ((t : T) × (raw ≡ word t))
+  word_of raw None e = Some (inr (no-word raw e))
+  word_of raw (Some t) e = via (λ p. (t, p)) (other-word raw t e) (equal raw (word t))
 
 abbrev word_in : (c : Class) (raw : List ℕ) → Verdict (IsWordIn c raw)
-word_in class.CoordinateSystem raw = word_of_type raw (type_of (str_to_ascii_lowercase raw)) refl
-word_in class.Axis raw = word_of_direction raw (direction_of (str_to_ascii_lowercase raw)) refl
+word_in class.CoordinateSystem raw = word_of system_word type_of type-known raw (type_of (str_to_ascii_lowercase raw)) refl
+word_in class.Axis raw = word_of direction_word direction_of direction-known raw (direction_of (str_to_ascii_lowercase raw)) refl
 word_in c raw = Some (inl tt)
 
 -- ---- numbers
