@@ -2,19 +2,19 @@
 -- agrees with sameness.
 use Rattle.std.proofs.Common.{◌≡◌, ℕ, ◌+◌, codes, IfSome, Option, Some, None, [], ◌∷◌, refl, ◌∙◌, ap}
 use Rattle.crs_decimal.specs.Prelude.{IsNormal}
-use Rattle.crs_text.specs.Prelude.{End, More, at_place}
+use Rattle.crs_text.specs.Prelude.{at_place}
 use Rattle.crs_shape.specs.declared.class.Class.TheVariants as class
 use Rattle.crs_shape.specs.declared.unit_kind.UnitKind.TheVariants as kinds
 use Rattle.crs_shape.specs.Prelude.{class_named, unit_word}
 use Rattle.crs_value.specs.declared.values.level.Level.{Level}
-use Rattle.crs_value.specs.Prelude.{ReadsBox, ReadsExtent, ReadsUnit, IsUnit, IsUnitOf, IsBox, IsExtent, BoxParts, ExtentParts, UnitParts}
+use Rattle.crs_value.specs.Prelude.{ReadsBox, ReadsExtent, IsUnit, IsUnitOf, IsBox, IsExtent, BoxParts, ExtentParts, UnitParts}
 use Rattle.crs_normal.specs.FormedWithin.{IsFormedWithin}
-use Rattle.crs_normal.specs.SpelledItems.{number_item, opt}
+use Rattle.crs_normal.specs.SpelledItems.{number_item}
 use Rattle.crs_normal.specs.SpelledUnits.{item_unit, norm_length}
 use Rattle.crs_normal.specs.SpelledUsages.{item_box, item_extent, norm_extent}
 use Rattle.crs_normal.specs.TextLaws.{TextLaws}
 use Rattle.crs_normal.proofs.texts.ItemLemmas.{fit-end, fit-node, fit-number, fit-opt, value-fit}
-use Rattle.crs_normal.proofs.texts.SegmentLemmas.{IsIn, ReadsBack, a-number, if-any, opt-field, seen, some-imp}
+use Rattle.crs_normal.proofs.texts.SegmentLemmas.{IsIn, a-number, if-any, opt-field, seen, some-imp}
 use Rattle.crs_normal.proofs.members.MemberUnitLemmas.{number-read, unit-fit, unit-kept, unit-read}
 use Rattle.crs_normal.proofs.read.NameLemmas.{keyword-names}
 use Rattle.crs_normal.proofs.same.UnitLemmas.{metre-is, suits-kind}

@@ -19,7 +19,7 @@ use Rattle.crs_normal.specs.SpelledItems.{code_item, is_short, node_of, opt, tex
 use Rattle.crs_normal.specs.SpelledUnits.{item_ident, set_idents}
 use Rattle.crs_normal.specs.TextLaws.{TextLaws}
 use Rattle.crs_normal.proofs.texts.ItemLemmas.{AreFit, IsWritable, fit-end, fit-leaf, fit-more, fit-node, fit-opt, number-single, told}
-use Rattle.crs_normal.proofs.texts.SegmentLemmas.{IsIn, ReadsBack, Seen, Segment, a-text, either-item, items_of, may-be, opt-field, opt_items, seen, text-field, some-all}
+use Rattle.crs_normal.proofs.texts.SegmentLemmas.{IsIn, Seen, Segment, a-text, either-item, items_of, may-be, opt_items, seen, text-field}
 use Rattle.crs_normal.proofs.read.NameLemmas.{keyword-names}
 use Rattle.crs_normal.proofs.members.SetLemmas.{set-agrees}
 

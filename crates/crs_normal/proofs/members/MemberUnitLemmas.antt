@@ -2,13 +2,13 @@
 -- agrees with sameness.
 use Rattle.std.proofs.Common.{◌≡◌, ◌≤◌, ℕ, ◌+◌, codes, Some, List, [], ◌∷◌, length, refl, arith}
 use Rattle.crs_decimal.specs.Prelude.{Value, IsNormal}
-use Rattle.crs_text.specs.Prelude.{Item, End, More, at_place, item_text}
+use Rattle.crs_text.specs.Prelude.{Item, End, at_place, item_text}
 use Rattle.crs_shape.specs.declared.class.Class.{Class}
 use Rattle.crs_shape.specs.declared.class.Class.TheVariants as class
 use Rattle.crs_shape.specs.declared.unit_kind.UnitKind.{UnitKind}
 use Rattle.crs_shape.specs.Prelude.{class_named, unit_word}
 use Rattle.crs_value.specs.declared.values.level.Level.{Level}
-use Rattle.crs_value.specs.Prelude.{ReadsIdent, ReadsIds, ReadsNumber, ReadsUnit, IsIdent, IsUnit, UnitParts}
+use Rattle.crs_value.specs.Prelude.{ReadsIds, ReadsNumber, ReadsUnit, IsIdent, IsUnit, UnitParts}
 use Rattle.crs_value.specs.Sound.{Each}
 use Rattle.crs_value.specs.Values.{IdentParts}
 use Rattle.crs_normal.specs.FormedWithin.{IsFormedWithin}
@@ -17,7 +17,7 @@ use Rattle.crs_normal.specs.SpelledUnits.{item_ident, item_unit, norm_unit}
 use Rattle.crs_normal.specs.TextLaws.{TextLaws}
 use Rattle.crs_normal.proofs.members.IdentLemmas.{ident-fit, ident-read, text-fit, writable}
 use Rattle.crs_normal.proofs.texts.ItemLemmas.{AreFit, fit-deeper, fit-each, fit-end, fit-node, fit-number, told}
-use Rattle.crs_normal.proofs.texts.SegmentLemmas.{ReadsBack, Seen, Segment, a-number, a-text, all-of, each-field, each-imp, each_items, items_of, seen}
+use Rattle.crs_normal.proofs.texts.SegmentLemmas.{Seen, Segment, a-number, a-text, all-of, each-field, each-imp, each_items, items_of, seen}
 use Rattle.crs_normal.proofs.read.NameLemmas.{keyword-names}
 use Rattle.crs_normal.proofs.made.IdentLemmas.{idents-sound}
 use Rattle.crs_normal.proofs.made.UnitLemmas.{unit-letters}

@@ -3,7 +3,7 @@ use Rattle.std.proofs.Common.{◌≡◌, ◌↔◌, ◌⊎◌, ℕ, suc, ◌+◌
 use Rattle.crs_text.specs.Prelude.{Item, Siblings, End, More, IsNode, IsWord, at_place, item_text}
 use Rattle.crs_shape.specs.declared.class.Class.{Class}
 use Rattle.crs_shape.specs.declared.class.Class.TheVariants as class
-use Rattle.crs_value.specs.Prelude.{kept, kept-each, ReadsBox, ReadsExtent, ReadsTextOf, ReadsUsage, IsText, IsBox, IsExtent, IsUsage, BoxParts, ExtentParts, SaysSome, UsageParts}
+use Rattle.crs_value.specs.Prelude.{kept, kept-each, ReadsUsage, IsText, IsBox, IsExtent, IsUsage, BoxParts, ExtentParts, SaysSome, UsageParts}
 use Rattle.crs_value.specs.declared.values.level.Level.{Level}
 use Rattle.crs_value.specs.declared.values.level.Level.TheVariants as levels
 use Rattle.crs_value.specs.Sound.{Each}
@@ -15,7 +15,7 @@ use Rattle.crs_normal.specs.TextLaws.{TextLaws}
 use Rattle.crs_normal.proofs.members.ExtentLemmas.{IsWrittenExtent, box-fit, box-read, extent-fit, extent-kept, extent-read}
 use Rattle.crs_normal.proofs.members.IdentLemmas.{ReadsIdentOnce, fit-source, idents-agree, writable}
 use Rattle.crs_normal.proofs.texts.ItemLemmas.{AreFit, fit-deeper, fit-end, fit-node, fit-opt, from-arguments, told}
-use Rattle.crs_normal.proofs.texts.SegmentLemmas.{ReadsBack, Segment, may-be, opt-field, seen, text-field, some-all, some-imp}
+use Rattle.crs_normal.proofs.texts.SegmentLemmas.{Segment, may-be, opt-field, seen, text-field, some-imp}
 use Rattle.crs_normal.proofs.same.UsageLemmas.{usage-agrees}
 use Rattle.crs_normal.proofs.members.SetLemmas.{set-agrees}
 use Rattle.crs_normal.proofs.read.NameLemmas.{keyword-names}

@@ -12,7 +12,7 @@ use Rattle.crs_normal.specs.Decides.{FormDecides}
 use Rattle.crs_normal.specs.WithoutPlaces.{without_places}
 use Rattle.crs_normal.specs.AcceptedNormal.{IsAcceptedNormal}
 use Rattle.crs_normal.specs.Normal.{IsNormalIn}
-use Rattle.crs_normal.specs.OneForm.{IsItsForm, IsItsFormUnbroken}
+use Rattle.crs_normal.specs.OneForm.{IsItsFormUnbroken}
 use Rattle.crs_normal.specs.SpelledAs.{IsSpelledAs, IsSpelledBy}
 use Rattle.crs_normal.specs.TextLaws.{TextLaws}
 use Rattle.crs_normal.proofs.texts.ClosedLemmas.{node-closed, same-some}

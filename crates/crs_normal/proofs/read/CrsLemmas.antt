@@ -5,7 +5,7 @@ use Rattle.crs_shape.specs.declared.class.Class.{Class}
 use Rattle.crs_shape.specs.declared.class.Class.TheVariants as class
 use Rattle.crs_shape.specs.declared.unit_kind.UnitKind.TheVariants as kinds
 use Rattle.crs_shape.specs.Prelude.{class_named, IsOneOf, dimensions_of}
-use Rattle.crs_value.specs.Prelude.{BaseParts, GeodeticParts, ProjectedParts, VerticalParts, ReadsMeridian, ReadsUnit, ReadsConversion, ReadsGeoidModel, ReadsBase, ReadsGeodetic, ReadsProjected, ReadsVertical, IsBase, IsGeodetic, IsProjected, IsVertical, IsSystem, SystemParts}
+use Rattle.crs_value.specs.Prelude.{BaseParts, GeodeticParts, ProjectedParts, VerticalParts, ReadsBase, ReadsGeodetic, ReadsProjected, ReadsVertical, IsBase, IsGeodetic, IsProjected, IsVertical, IsSystem, SystemParts}
 use Rattle.crs_value.specs.declared.values.level.Level.{Level}
 use Rattle.crs_normal.specs.LowerLaws.{LowerLaws}
 use Rattle.crs_normal.specs.SpelledConversions.{item_conversion, item_geoid_model, norm_conversion, set_geoid_models}

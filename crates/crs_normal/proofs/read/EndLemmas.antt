@@ -1,9 +1,9 @@
 -- Frames, systems and ends of CRSs are read back from the arguments of a CRS, and conversions from their items.
-use Rattle.std.proofs.Common.{◌≡◌, ◌+◌, codes, None, List, [], ◌∷◌, length, refl}
+use Rattle.std.proofs.Common.{◌≡◌, ◌+◌, codes, List, [], ◌∷◌, length, refl}
 use Rattle.crs_text.specs.Prelude.{Item, at_place, item_text}
 use Rattle.crs_shape.specs.declared.class.Class.{Class}
 use Rattle.crs_shape.specs.declared.class.Class.TheVariants as class
-use Rattle.crs_value.specs.Prelude.{ConversionParts, GeoidModelParts, MethodParts, ParameterParts, kept, kept_one, kept-each, ReadsAxis, ReadsHead, ReadsSystem, ReadsTail, ReadsTextOf, ReadsUnit, ReadsUsage, ReadsConversion, ReadsGeoidModel, ReadsMethod, ReadsParameter, IsConversion, IsGeoidModel, IsMethod, IsParameter, IsSystem, IsTail, IsUsage, SystemParts, TailParts, UsageParts}
+use Rattle.crs_value.specs.Prelude.{ConversionParts, GeoidModelParts, MethodParts, ParameterParts, kept, kept_one, kept-each, ReadsSystem, ReadsTail, ReadsConversion, ReadsGeoidModel, ReadsMethod, ReadsParameter, IsConversion, IsGeoidModel, IsMethod, IsParameter, IsSystem, IsTail, IsUsage, SystemParts, TailParts, UsageParts}
 use Rattle.crs_value.specs.declared.values.level.Level.{Level}
 use Rattle.crs_value.specs.Sound.{Each}
 use Rattle.crs_matching.specs.Prelude.{usages_of}
@@ -19,7 +19,7 @@ use Rattle.crs_normal.proofs.members.MemberLemmas.{named-kept, named-read}
 use Rattle.crs_normal.proofs.members.ParameterLemmas.{parameter-kept, parameter-read}
 use Rattle.crs_normal.proofs.read.FrameLemmas.{identifiers, identifiers-field}
 use Rattle.crs_normal.proofs.read.SystemLemmas.{AreWhole, axes-read, head-read}
-use Rattle.crs_normal.proofs.texts.SegmentLemmas.{AreIn, IsIn, ReadsBack, Seen, Segment, a-text, all-of, each-field, each-imp, each_items, for-each, items_of, lacks, may-be, one-field, one-item, opt-field, opt_items, seen, text-field, set-kept, some-all}
+use Rattle.crs_normal.proofs.texts.SegmentLemmas.{AreIn, ReadsBack, Seen, Segment, a-text, all-of, each-field, each-imp, each_items, for-each, items_of, lacks, may-be, one-field, one-item, opt-field, opt_items, seen, text-field, set-kept}
 use Rattle.crs_normal.proofs.members.UsageLemmas.{IsWrittenUsage, usage-is-node, usage-kept, usage-read}
 use Rattle.crs_normal.proofs.read.NameLemmas.{keyword-names}
 use Rattle.crs_normal.proofs.texts.ItemLemmas.{from-named}

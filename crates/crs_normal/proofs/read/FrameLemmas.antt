@@ -1,7 +1,6 @@
 -- Ellipsoids, prime meridians, reference frames and ensembles in their one form are read back from their items.
 use Rattle.std.proofs.Common.{◌≡◌, ℕ, ◌+◌, codes, IfSome, Option, Some, None, List, [], ◌∷◌, length, refl, ◌∙◌, ap, if◌then◌else◌, Bool, true, false}
 use Rattle.std.specs.Option.{option_map}
-use Rattle.crs_decimal.specs.Prelude.{IsNormal}
 use Rattle.crs_text.specs.Prelude.{Item, at_place, item_text}
 use Rattle.crs_shape.specs.declared.class.Class.{Class}
 use Rattle.crs_shape.specs.declared.class.Class.TheVariants as class
@@ -9,7 +8,7 @@ use Rattle.crs_shape.specs.declared.unit_kind.UnitKind.{UnitKind}
 use Rattle.crs_shape.specs.declared.unit_kind.UnitKind.TheVariants as kinds
 use Rattle.crs_shape.specs.Prelude.{class_named, unit_word}
 use Rattle.crs_value.specs.declared.values.level.Level.{Level}
-use Rattle.crs_value.specs.Prelude.{ReadsDatum, ReadsEllipsoid, ReadsEnsemble, ReadsIds, ReadsMember, ReadsMeridian, ReadsNumberOf, ReadsTextOf, ReadsUnit, IsIdent, IsUnit, IsUnitOf, IsDatum, IsEllipsoid, IsEnsemble, IsMember, IsMeridian, DatumParts, EllipsoidParts, EnsembleParts, MemberParts, MeridianParts, UnitParts}
+use Rattle.crs_value.specs.Prelude.{ReadsDatum, ReadsEllipsoid, ReadsEnsemble, ReadsIds, ReadsMember, ReadsMeridian, ReadsUnit, IsIdent, IsUnit, IsUnitOf, IsDatum, IsEllipsoid, IsEnsemble, IsMember, IsMeridian, DatumParts, EllipsoidParts, EnsembleParts, MemberParts, MeridianParts, UnitParts}
 use Rattle.crs_value.specs.Sound.{Each}
 use Rattle.crs_value.specs.Values.{IdentParts}
 use Rattle.crs_normal.specs.SpelledFrames.{greenwich, is_zero, item_datum, item_ellipsoid, item_ensemble, item_member, item_meridian, norm_datum, norm_ellipsoid, norm_ensemble, norm_given, norm_member, norm_meridian, set_members}
@@ -19,7 +18,7 @@ use Rattle.crs_normal.specs.TextLaws.{TextLaws}
 use Rattle.crs_normal.proofs.members.ExtentLemmas.{length-kept}
 use Rattle.crs_normal.proofs.members.MemberLemmas.{named-kept, named-read}
 use Rattle.crs_normal.proofs.members.MemberUnitLemmas.{NamesId, identifiers-back, identifiers-of, number-read, unit-kept, unit-read}
-use Rattle.crs_normal.proofs.texts.SegmentLemmas.{IsIn, MayIn, ReadsBack, Seen, Segment, a-number, a-text, all-of, each-field, each_items, if-any, items_of, may-be, one-field, one-item, opt-field, seen, text-field, set-kept, some-all, some-imp, some-mapped}
+use Rattle.crs_normal.proofs.texts.SegmentLemmas.{IsIn, MayIn, ReadsBack, Seen, Segment, a-number, a-text, all-of, each-field, each_items, if-any, items_of, may-be, one-field, one-item, opt-field, seen, text-field, set-kept, some-imp, some-mapped}
 use Rattle.crs_normal.proofs.read.NameLemmas.{keyword-names}
 use Rattle.crs_normal.proofs.same.UnitLemmas.{suits-kind}
 use Rattle.crs_normal.proofs.made.IdentLemmas.{idents-sound}

@@ -11,7 +11,7 @@ use Rattle.crs_shape.specs.declared.system_type.SystemType.TheVariants as types
 use Rattle.crs_shape.specs.declared.unit_kind.UnitKind.{UnitKind}
 use Rattle.crs_shape.specs.declared.unit_kind.UnitKind.TheVariants as kinds
 use Rattle.crs_value.specs.declared.values.level.Level.{Level}
-use Rattle.crs_value.specs.Prelude.{ReadsAxis, ReadsAxisMeridian, ReadsHead, ReadsNumberOf, ReadsUnit, IsAxis, IsAxisMeridian, IsAxisUnit, IsIdent, IsSystem, AxisMeridianParts, AxisParts, SystemParts, UnitParts}
+use Rattle.crs_value.specs.Prelude.{ReadsAxis, ReadsAxisMeridian, ReadsHead, IsAxis, IsAxisMeridian, IsAxisUnit, IsIdent, IsSystem, AxisMeridianParts, AxisParts, SystemParts, UnitParts}
 use Rattle.crs_value.specs.Sound.{Each}
 use Rattle.crs_matching.specs.Prelude.{own_or, kind_as}
 use Rattle.crs_normal.specs.PartTexts.{norm_axis_alone}

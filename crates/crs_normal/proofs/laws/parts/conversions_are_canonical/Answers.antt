@@ -1,9 +1,6 @@
 use Rattle.std.proofs.Common.{arith}
 use Rattle.crs_shape.specs.declared.class.Class.TheVariants as class
-use Rattle.crs_value.specs.Prelude.{ReadsConversion, ReadsGeoidModel, ReadsMethod, ReadsParameter, IsConversion, IsGeoidModel, IsMethod, IsParameter}
-use Rattle.crs_same.specs.Prelude.{AreSame, parts_of_method, parts_of_conversion}
-use Rattle.crs_matching.specs.Prelude.{SameGeoidModel, SameParameter}
-use Rattle.crs_normal.specs.SpelledConversions.{item_conversion, item_geoid_model, item_method, item_parameter, norm_conversion, norm_geoid_model, norm_method, norm_parameter}
+use Rattle.crs_normal.specs.SpelledConversions.{item_conversion, item_geoid_model, item_method, item_parameter}
 use Rattle.crs_normal.proofs.parts.PartLemmas.{canonical-of}
 use Rattle.crs_normal.proofs.laws.parts.conversions_are_canonical.Goals as goal
 

@@ -1,12 +1,8 @@
 use Rattle.std.proofs.Common.{arith}
-use Rattle.crs_text.specs.Prelude.{at_place}
 use Rattle.crs_shape.specs.declared.class.Class.TheVariants as class
-use Rattle.crs_value.specs.Prelude.{ReadsDatum, ReadsEnsemble, IsDatum, IsEnsemble}
-use Rattle.crs_same.specs.Prelude.{AreSame, parts_of_datum, parts_of_ensemble}
-use Rattle.crs_normal.specs.Normal.{IsNormalIn}
-use Rattle.crs_normal.specs.PartSpellings.{datum_class, ensemble_class}
+use Rattle.crs_value.specs.Prelude.{ReadsDatum, ReadsEnsemble}
 use Rattle.crs_normal.specs.PartTexts.{item_own_datum}
-use Rattle.crs_normal.specs.SpelledFrames.{item_ensemble, norm_datum, norm_ensemble}
+use Rattle.crs_normal.specs.SpelledFrames.{item_ensemble}
 use Rattle.crs_normal.proofs.parts.PartFrameLemmas.{datum-back, datum-in-one, datum-made, datum-own, datum-sound, ensemble-back, ensemble-in-one, ensemble-made, ensemble-own, ensemble-sound}
 use Rattle.crs_normal.proofs.parts.PartLemmas.{canonical-by, made-stands, told-by}
 use Rattle.crs_normal.proofs.laws.parts.datums_are_canonical.Goals as goal

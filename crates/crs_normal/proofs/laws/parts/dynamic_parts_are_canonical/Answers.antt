@@ -1,9 +1,6 @@
 use Rattle.std.proofs.Common.{arith}
 use Rattle.crs_shape.specs.declared.class.Class.TheVariants as class
-use Rattle.crs_value.specs.Prelude.{ReadsDeformationModel, ReadsDynamic, IsDeformationModel, IsDynamic}
-use Rattle.crs_same.specs.Prelude.{SameDynamic}
-use Rattle.crs_matching.specs.Prelude.{SameDeformationModel}
-use Rattle.crs_normal.specs.SpelledDynamic.{item_deformation_model, item_dynamic, norm_deformation_model, norm_dynamic}
+use Rattle.crs_normal.specs.SpelledDynamic.{item_deformation_model, item_dynamic}
 use Rattle.crs_normal.proofs.parts.PartLemmas.{canonical-of}
 use Rattle.crs_normal.proofs.laws.parts.dynamic_parts_are_canonical.Goals as goal
 

@@ -1,8 +1,6 @@
 use Rattle.std.proofs.Common.{arith}
 use Rattle.crs_shape.specs.declared.class.Class.TheVariants as class
-use Rattle.crs_value.specs.Prelude.{ReadsBox, ReadsExtent, IsBox, IsExtent}
-use Rattle.crs_matching.specs.Prelude.{SameBox, SameExtent}
-use Rattle.crs_normal.specs.SpelledUsages.{item_box, item_extent, norm_extent}
+use Rattle.crs_normal.specs.SpelledUsages.{item_box, item_extent}
 use Rattle.crs_normal.proofs.parts.PartLemmas.{canonical-of}
 use Rattle.crs_normal.proofs.laws.parts.extents_are_canonical.Goals as goal
 

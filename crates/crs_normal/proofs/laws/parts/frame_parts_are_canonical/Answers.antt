@@ -1,9 +1,8 @@
 use Rattle.std.proofs.Common.{Some, arith}
 use Rattle.crs_shape.specs.declared.class.Class.TheVariants as class
-use Rattle.crs_value.specs.Prelude.{ReadsAxisMeridian, ReadsEllipsoid, ReadsMember, ReadsMeridian, IsAxisMeridian, IsEllipsoid, IsMember, IsMeridian}
-use Rattle.crs_same.specs.Prelude.{AreSame, parts_of_ellipsoid, parts_of_given}
-use Rattle.crs_matching.specs.Prelude.{SameMember, SameAxisMeridian}
-use Rattle.crs_normal.specs.SpelledFrames.{item_ellipsoid, item_member, item_meridian, norm_ellipsoid, norm_given, norm_member}
+use Rattle.crs_value.specs.Prelude.{IsAxisMeridian}
+use Rattle.crs_matching.specs.Prelude.{SameAxisMeridian}
+use Rattle.crs_normal.specs.SpelledFrames.{item_ellipsoid, item_member, item_meridian}
 use Rattle.crs_normal.specs.SpelledSystems.{item_axis_meridian, norm_axis_meridian}
 use Rattle.crs_normal.proofs.parts.PartLemmas.{canonical-of, some-decides}
 use Rattle.crs_normal.proofs.laws.parts.frame_parts_are_canonical.Goals as goal

@@ -1,8 +1,6 @@
 use Rattle.std.proofs.Common.{arith}
 use Rattle.crs_shape.specs.declared.class.Class.TheVariants as class
-use Rattle.crs_value.specs.Prelude.{ReadsIdent, IsIdent}
 use Rattle.crs_value.specs.declared.values.level.Level.TheVariants as levels
-use Rattle.crs_matching.specs.Prelude.{SameIdent}
 use Rattle.crs_normal.specs.SpelledUnits.{item_ident}
 use Rattle.crs_normal.proofs.members.IdentLemmas.{ident-agrees}
 use Rattle.crs_normal.proofs.parts.PartLemmas.{canonical-by, made-stands}

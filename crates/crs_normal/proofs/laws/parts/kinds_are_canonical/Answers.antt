@@ -1,11 +1,7 @@
 use Rattle.std.proofs.Common.{arith}
-use Rattle.crs_text.specs.Prelude.{at_place}
-use Rattle.crs_shape.specs.declared.class.Class.TheVariants as class
-use Rattle.crs_value.specs.Prelude.{ReadsBase, ReadsCompound, ReadsGeodetic, ReadsProjected, ReadsVertical, IsCompound, IsBase, IsGeodetic, IsProjected, IsVertical}
 use Rattle.crs_value.specs.declared.values.crs.Crs.TheVariants as crs
-use Rattle.crs_same.specs.Prelude.{AreSame, parts_of_base, parts_of_geodetic, parts_of_projected, parts_of_vertical, parts_of_compound}
 use Rattle.crs_normal.specs.CrsClass.{geodetic_class}
-use Rattle.crs_normal.specs.SpelledCrs.{item_base, item_compound, item_geodetic, item_projected, item_vertical, norm_base, norm_compound, norm_geodetic, norm_projected, norm_vertical}
+use Rattle.crs_normal.specs.SpelledCrs.{item_base, item_compound, item_geodetic, item_projected, item_vertical}
 use Rattle.crs_normal.proofs.parts.PartKindLemmas.{geodetic-told, own-geodetic}
 use Rattle.crs_normal.proofs.parts.PartLemmas.{canonical-by, canonical-of, made-stands}
 use Rattle.crs_normal.proofs.texts.RootLemmas.{is-geodetic}

@@ -1,9 +1,7 @@
 use Rattle.std.proofs.Common.{arith}
 use Rattle.crs_shape.specs.declared.unit_kind.UnitKind.TheVariants as kinds
-use Rattle.crs_value.specs.Prelude.{ReadsUnit, IsUnit}
-use Rattle.crs_matching.specs.Prelude.{SameUnit}
 use Rattle.crs_normal.specs.PartSpellings.{unit_class}
-use Rattle.crs_normal.specs.SpelledUnits.{item_unit, norm_unit}
+use Rattle.crs_normal.specs.SpelledUnits.{item_unit}
 use Rattle.crs_normal.proofs.parts.PartLemmas.{canonical-by, made-stands}
 use Rattle.crs_normal.proofs.parts.PartUnitLemmas.{is-unit_class, kind-in, names-id, own-unit}
 use Rattle.crs_normal.proofs.laws.parts.units_are_canonical.Goals as goal

@@ -1,9 +1,6 @@
 use Rattle.std.proofs.Common.{arith}
-use Rattle.crs_shape.specs.declared.class.Class.TheVariants as class
-use Rattle.crs_value.specs.Prelude.{ReadsUsage, IsUsage}
 use Rattle.crs_value.specs.declared.values.level.Level.TheVariants as levels
-use Rattle.crs_matching.specs.Prelude.{SameUsage}
-use Rattle.crs_normal.specs.SpelledUsages.{item_usage, norm_usage}
+use Rattle.crs_normal.specs.SpelledUsages.{item_usage}
 use Rattle.crs_normal.proofs.parts.PartLemmas.{canonical-of}
 use Rattle.crs_normal.proofs.laws.parts.usages_are_canonical.Goals as goal
 
