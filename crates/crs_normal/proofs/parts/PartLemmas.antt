@@ -157,7 +157,6 @@ module _ {V : Type 0} (laws : TextLaws) (formed : SpelledFormed) {c : V → Clas
 -- ---- values of which all items are of one class
 
 pub record IsKnownOf {V : Type 0} (level : Level) (c : Class) (most : ℕ) (Reads : Class → Item → V → Type 0) (Is : V → Type 0) (Same : V → V → Type 0) (form : V → V) (item : V → Item) : Type 0 where
-  pub few : most ≤ 8
   pub decides : FormDecides Is form Same
   pub made : (x : V) (place : ℕ) → Is x → IsAcceptedNormal level c most (at_place place (item (form x)))
   pub reads : (x : V) (place : ℕ) → Is x → Reads c (at_place place (item (form x))) (form x)
@@ -166,11 +165,11 @@ pub record IsKnownOf {V : Type 0} (level : Level) (c : Class) (most : ℕ) (Read
   pub own : IsItsFormUnbroken level c Reads (λ v. item (form v))
 
 pub canonical-of : {V : Type 0} → TextLaws → SpelledFormed → {level : Level} {c : Class} {most : ℕ} {Reads : Class → Item → V → Type 0} {Is : V → Type 0} {Same : V → V → Type 0} {form : V → V} (item : V → Item) →
-    IsKnownOf level c most Reads Is Same form item →
+    IsKnownOf level c most Reads Is Same form item → most ≤ 8 →
     IsWrittenForm Is Same (λ x. IsSpelledAs level c Reads Same x) (λ x. item_text (item (form x)))
-canonical-of laws formed {level = level} {c = c} {Reads = Reads} {Is = Is} {form = form} item k =
+canonical-of laws formed {level = level} {c = c} {Reads = Reads} {Is = Is} {form = form} item k few =
     let stands : (x : _) → Is x → IsStanding c (IsNormalIn level c c) (at_place 0 (item (form x))) =
-    λ x s. made-stands k.few (k.made x 0 s) in
+    λ x s. made-stands few (k.made x 0 s) in
     canonical-by laws formed item (record {
       decides = k.decides;
       made = stands;

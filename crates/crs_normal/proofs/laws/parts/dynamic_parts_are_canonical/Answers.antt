@@ -7,23 +7,21 @@ use Rattle.crs_normal.proofs.laws.parts.dynamic_parts_are_canonical.Goals as goa
 pub returns-clause-deformation_model : goal.returns-clause-deformation_model
 returns-clause-deformation_model c level =
     canonical-of c.text_laws.ensures c.written_items.ensures.formed item_deformation_model (record {
-      few = omega arith;
       decides = c.same_dynamic_parts_have_one_form.ensures.deformation_model level;
       made = c.made_deformation_model_is_normal.ensures level;
       reads = c.crs_parts_are_read_back.ensures.deformation_model level;
       once = c.parts_read_once.ensures.deformation_model;
       sound = c.parts_are_sound.ensures.deformation_model class.DeformationModel;
       own = λ d i v shaped normal free. c.normal_deformation_model_is_its_form.ensures level d i v shaped normal;
-    })
+    }) (omega arith)
 
 pub returns-clause-dynamic : goal.returns-clause-dynamic
 returns-clause-dynamic c level =
     canonical-of c.text_laws.ensures c.written_items.ensures.formed item_dynamic (record {
-      few = omega arith;
       decides = c.same_dynamic_parts_have_one_form.ensures.dynamic level;
       made = c.made_dynamic_is_normal.ensures level;
       reads = c.crs_parts_are_read_back.ensures.dynamic level;
       once = c.parts_read_once.ensures.dynamic;
       sound = c.parts_are_sound.ensures.dynamic class.Dynamic;
       own = λ d i v shaped normal free. c.normal_dynamic_is_its_form.ensures level d i v shaped normal;
-    })
+    }) (omega arith)

@@ -10,14 +10,13 @@ use Rattle.crs_normal.proofs.laws.parts.kinds_are_canonical.Goals as goal
 pub returns-clause-base : goal.returns-clause-base
 returns-clause-base c level =
     canonical-of c.text_laws.ensures c.written_items.ensures.formed item_base (record {
-      few = omega arith;
       decides = c.same_kinds_have_one_form.ensures.base level;
       made = c.made_base_is_normal.ensures level;
       reads = c.crs_parts_are_read_back.ensures.base level;
       once = c.parts_read_once.ensures.base;
       sound = c.parts_are_sound.ensures.base;
       own = c.normal_base_is_its_form.ensures level;
-    })
+    }) (omega arith)
 
 pub returns-clause-geodetic : goal.returns-clause-geodetic
 returns-clause-geodetic c level =
@@ -37,35 +36,32 @@ returns-clause-geodetic c level =
 pub returns-clause-projected : goal.returns-clause-projected
 returns-clause-projected c level =
     canonical-of c.text_laws.ensures c.written_items.ensures.formed item_projected (record {
-      few = omega arith;
       decides = c.same_kinds_have_one_form.ensures.projected level;
       made = c.made_projected_is_normal.ensures level;
       reads = λ x place s. (c.crs_is_read_back.ensures.reads level (crs.Projected x) place s).1;
       once = c.parts_read_once.ensures.projected;
       sound = c.kinds_are_sound.ensures.projected;
       own = c.normal_crs_is_its_form.ensures.projected level;
-    })
+    }) (omega arith)
 
 pub returns-clause-vertical : goal.returns-clause-vertical
 returns-clause-vertical c level =
     canonical-of c.text_laws.ensures c.written_items.ensures.formed item_vertical (record {
-      few = omega arith;
       decides = c.same_kinds_have_one_form.ensures.vertical level;
       made = c.made_vertical_is_normal.ensures level;
       reads = λ x place s. (c.crs_is_read_back.ensures.reads level (crs.Vertical x) place s).1;
       once = c.parts_read_once.ensures.vertical;
       sound = c.kinds_are_sound.ensures.vertical;
       own = c.normal_crs_is_its_form.ensures.vertical level;
-    })
+    }) (omega arith)
 
 pub returns-clause-compound : goal.returns-clause-compound
 returns-clause-compound c level =
     canonical-of c.text_laws.ensures c.written_items.ensures.formed item_compound (record {
-      few = omega arith;
       decides = c.same_kinds_have_one_form.ensures.compound level;
       made = c.made_compound_is_normal.ensures level;
       reads = λ x place s. (c.crs_is_read_back.ensures.reads level (crs.Compound x) place s).1;
       once = c.parts_read_once.ensures.compound;
       sound = c.kinds_are_sound.ensures.compound;
       own = c.normal_crs_is_its_form.ensures.compound level;
-    })
+    }) (omega arith)
