@@ -57,21 +57,19 @@ pub record IsWrittenExtent (e : ExtentParts) : Type 0 where
 pub extent-read : TextLaws → (e : ExtentParts) → IsWrittenExtent e → (place : ℕ) →
     ReadsExtent class.VerticalExtent (at_place place (item_extent e)) e
 extent-read laws e s place =
-    let look = seen class.VerticalExtent (a-number class.VerticalExtent e.minimum ∷
-    a-number class.VerticalExtent e.maximum ∷
-    if-any class.VerticalExtent class.LengthUnit item_unit e.unit
-    (some-imp _ _ length-in e.unit s.unit) ∷ [])
+    let look = seen class.VerticalExtent (a-number e.minimum ∷ a-number e.maximum ∷
+    if-any class.LengthUnit item_unit e.unit (some-imp _ _ length-in e.unit s.unit) ∷ [])
     (at_place place (item_extent e)) (place + 14) refl in record {
       minimum = number-read laws e.minimum s.minimum 0;
       maximum = number-read laws e.maximum s.maximum 0;
       unit = opt-field look class.LengthUnit item_unit _ _ refl
-          (some-imp _ _ (λ u q. unit-read laws class.LengthUnit (keyword-names class.LengthUnit (codes "ID")) u q.0) e.unit s.unit);
+          (some-imp _ _ (λ u q. unit-read laws class.LengthUnit (keyword-names _ _) u q.0) e.unit s.unit);
     }
   where
     length-in : (u : UnitParts) → IsLength u → IsIn class.VerticalExtent class.LengthUnit (item_unit u)
     length-in u q =
         ap (λ k. class_named class.VerticalExtent (unit_word k)) q.1
-        ∙ keyword-names class.VerticalExtent (codes "LENGTHUNIT")
+        ∙ keyword-names _ _
 
 pub extent-fit : TextLaws → (e : ExtentParts) → IsWrittenExtent e → IsFormedWithin 4 (item_extent e)
 extent-fit laws e s =

@@ -58,7 +58,7 @@ code-side raw = by (is_short raw)
     by false = inr refl
 
 abbrev a-code : List ℕ → Segment class.Identifier
-a-code raw = either-item class.Identifier class.Number class.Text refl (code_item raw) (code-side raw)
+a-code raw = either-item class.Number class.Text refl (code_item raw) (code-side raw)
 
 -- ---- what follows the code
 
@@ -99,10 +99,8 @@ version-read x start = by x.version x.citation x.uri
 module _ (x : IdentParts) (place : ℕ) where
   abbrev sources : List (Segment class.Identifier)
   sources =
-      may-be class.Identifier class.Citation (text_node (codes "CITATION")) x.citation
-      (λ raw. keyword-names class.Identifier (codes "CITATION")) ∷
-      may-be class.Identifier class.Uri (text_node (codes "URI")) x.uri
-      (λ raw. keyword-names class.Identifier (codes "URI")) ∷ []
+      may-be class.Citation (text_node (codes "CITATION")) x.citation (λ raw. keyword-names _ _) ∷
+      may-be class.Uri (text_node (codes "URI")) x.uri (λ raw. keyword-names _ _) ∷ []
 
   abbrev with-version : Option (List ℕ) → Item
   with-version v =
@@ -124,10 +122,10 @@ module _ (x : IdentParts) (place : ℕ) where
 
   sources-read : (v : Option (List ℕ)) → Reads (with-version v)
   sources-read None =
-      read-by (seen class.Identifier (a-text class.Identifier x.authority ∷ a-code x.code ∷ sources)
+      read-by (seen class.Identifier (a-text x.authority ∷ a-code x.code ∷ sources)
       (with-version None) (place + 2) refl) refl refl
   sources-read (Some v) =
-      read-by (seen class.Identifier (a-text class.Identifier x.authority ∷ a-code x.code ∷ a-code v ∷ sources)
+      read-by (seen class.Identifier (a-text x.authority ∷ a-code x.code ∷ a-code v ∷ sources)
       (with-version (Some v)) (place + 2) refl) refl refl
 
 pub ident-read : (x : IdentParts) → IsIdent x → (place : ℕ) →

@@ -31,7 +31,7 @@ item_named keyword n = node_of keyword (text_item n.name) (each item_ident n.ide
 pub named-read : (c : Class) (keyword : List ℕ) → NamesId c → (n : NamedParts) → IsNamed n → (place : ℕ) →
     ReadsNamed c (at_place place (item_named keyword n)) n
 named-read c keyword names n s place =
-    let look = seen c (a-text c n.name ∷ identifiers-of c names n.identifiers ∷ [])
+    let look = seen c (a-text n.name ∷ identifiers-of names n.identifiers ∷ [])
     (at_place place (item_named keyword n)) (place + length keyword) refl in
     record { name = refl; identifiers = identifiers-back look n.identifiers refl s.identifiers }
 
@@ -66,8 +66,7 @@ unfolding set_members
 members-agree laws idents once level xs ys p q =
     set-agrees (norm_member level) (λ m. item_text (item_member m)) IsNamed (SameNamed level)
     (named-agrees (idents-agree laws idents) level)
-    (named-told laws once class.Member (codes "MEMBER") (keyword-names class.Member (codes "ID")) (refl, refl) level)
-    xs ys p q
+    (named-told laws once class.Member (codes "MEMBER") (keyword-names _ _) (refl, refl) level) xs ys p q
 
 pub geoids-agree : TextLaws → ReadsIdentOnce → ReadsNamedOnce → (level : Level) (xs ys : List NamedParts) →
     Each IsNamed xs → Each IsNamed ys →
@@ -76,5 +75,4 @@ unfolding set_geoid_models
 geoids-agree laws idents once level xs ys p q =
     set-agrees (norm_member level) (λ g. item_text (item_geoid_model g)) IsNamed (SameNamed level)
     (named-agrees (idents-agree laws idents) level)
-    (named-told laws once class.GeoidModel (codes "GEOIDMODEL") (keyword-names class.GeoidModel (codes "ID")) (refl, refl)
-    level) xs ys p q
+    (named-told laws once class.GeoidModel (codes "GEOIDMODEL") (keyword-names _ _) (refl, refl) level) xs ys p q

@@ -28,8 +28,8 @@ use Rattle.crs_normal.proofs.made.UnitLemmas.{unit-letters}
 abbrev pub NamesId : Class → Type 0
 NamesId c = class_named c (codes "ID") ≡ Some class.Identifier
 
-abbrev pub identifiers-of : (c : Class) → NamesId c → List IdentParts → Segment c
-identifiers-of c e identifiers = all-of c class.Identifier item_ident identifiers (λ x. e)
+abbrev pub identifiers-of : {c : Class} → NamesId c → List IdentParts → Segment c
+identifiers-of e identifiers = all-of class.Identifier item_ident identifiers (λ x. e)
 
 pub identifiers-back : {c : Class} {ss : List (Segment c)} {item : Item} → Seen c ss item → (identifiers : List IdentParts) →
     items_of class.Identifier ss ≡ each_items item_ident identifiers [] → Each IsIdent identifiers →
@@ -52,7 +52,7 @@ number-read laws v h place = (h, laws.denotes v h)
 pub unit-read : TextLaws → (c : Class) → NamesId c → (u : UnitParts) → IsUnit u → (place : ℕ) →
     ReadsUnit c (at_place place (item_unit u)) u
 unit-read laws c e u s place =
-    let look = seen c (a-text c u.name ∷ a-number c u.factor ∷ identifiers-of c e u.identifiers ∷ [])
+    let look = seen c (a-text u.name ∷ a-number u.factor ∷ identifiers-of e u.identifiers ∷ [])
     (at_place place (item_unit u)) (place + length (unit_word u.kind)) refl in record {
       kind = refl;
       name = refl;
@@ -74,7 +74,7 @@ pub unit-told : TextLaws → ReadsUnitOnce → (a b : UnitParts) → IsUnit a �
 unit-told laws once =
     told item_unit (ReadsUnit class.LengthUnit) IsUnit laws (once class.LengthUnit)
     (λ x s. writable 3 (item_unit x) (omega arith) (unit-fit laws x s) tt)
-    (unit-read laws class.LengthUnit (keyword-names class.LengthUnit (codes "ID")))
+    (unit-read laws class.LengthUnit (keyword-names _ _))
 
 pub unit-kept : (level : Level) (asked : UnitKind) (u : UnitParts) → IsUnit u → IsUnit (norm_unit level asked u)
 unit-kept level asked u s = record {

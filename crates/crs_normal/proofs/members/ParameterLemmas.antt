@@ -69,8 +69,7 @@ module _ (laws : TextLaws) (name : List ℕ) (value : Value) (identifiers : List
   abbrev of-parameter : (k : Class) (o : Option UnitParts) → MayIn class.Parameter k item_unit o →
       List (Segment class.Parameter)
   of-parameter k o e =
-      a-text class.Parameter name ∷ a-number class.Parameter value ∷ if-any class.Parameter k item_unit o e ∷
-      identifiers-of class.Parameter (keyword-names class.Parameter (codes "ID")) identifiers ∷ []
+      a-text name ∷ a-number value ∷ if-any k item_unit o e ∷ identifiers-of (keyword-names _ _) identifiers ∷ []
 
   look : (k : Class) (o : Option UnitParts) (e : MayIn class.Parameter k item_unit o) (place : ℕ) →
       Seen class.Parameter (of-parameter k o e) (whole o place)

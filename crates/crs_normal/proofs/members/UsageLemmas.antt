@@ -37,11 +37,10 @@ usage_items u =
 
 abbrev of-usage : UsageParts → List (Segment class.Usage)
 of-usage u =
-    may-be class.Usage class.Scope (text_node (codes "SCOPE")) u.scope (λ x. keyword-names class.Usage (codes "SCOPE")) ∷
-    may-be class.Usage class.Area (text_node (codes "AREA")) u.area (λ x. keyword-names class.Usage (codes "AREA")) ∷
-    may-be class.Usage class.BoundingBox item_box u.bbox (λ x. keyword-names class.Usage (codes "BBOX")) ∷
-    may-be class.Usage class.VerticalExtent item_extent u.extent
-    (λ x. keyword-names class.Usage (codes "VERTICALEXTENT")) ∷ []
+    may-be class.Scope (text_node (codes "SCOPE")) u.scope (λ x. keyword-names _ _) ∷
+    may-be class.Area (text_node (codes "AREA")) u.area (λ x. keyword-names _ _) ∷
+    may-be class.BoundingBox item_box u.bbox (λ x. keyword-names _ _) ∷
+    may-be class.VerticalExtent item_extent u.extent (λ x. keyword-names _ _) ∷ []
 
 pub usage-read : TextLaws → (u : UsageParts) → IsWrittenUsage u → (place : ℕ) →
     ReadsUsage class.Usage (at_place place (item_usage u)) u

@@ -1,5 +1,5 @@
 -- Compound CRSs, and with them all CRSs, in their one form are read back from their items.
-use Rattle.std.proofs.Common.{◌≡◌, ◌⊎◌, ℕ, ◌+◌, List, [], ◌∷◌, inl, inr, refl, sym, ◌∙◌, ap, subst, codes}
+use Rattle.std.proofs.Common.{◌≡◌, ◌⊎◌, ℕ, ◌+◌, List, [], ◌∷◌, inl, inr, refl, sym, ◌∙◌, ap, subst}
 use Rattle.crs_text.specs.Prelude.{Item, arguments, at_place}
 use Rattle.crs_shape.specs.declared.class.Class.{Class}
 use Rattle.crs_shape.specs.declared.class.Class.TheVariants as class
@@ -39,14 +39,14 @@ compound = class.CompoundCrs
 geographic-in : (level : Level) (g : GeodeticParts) → g.system.system_type ≡ types.Ellipsoidal →
     IsIn compound class.GeographicCrs (item_geodetic (norm_geodetic level g))
 geographic-in level g e =
-    ap (λ t. class_named compound (geodetic_keyword t)) e ∙ (keyword-names class.CompoundCrs (codes "GEOGCRS"))
+    ap (λ t. class_named compound (geodetic_keyword t)) e ∙ keyword-names _ _
 
 -- the horizontal part is a geographic CRS or a projected one
 abbrev side : (level : Level) (h : Horizontal) → IsHorizontal h →
     IsIn compound class.GeographicCrs (item_horizontal (norm_horizontal level h))
     ⊎ IsIn compound class.ProjectedCrs (item_horizontal (norm_horizontal level h))
 side level (horizontal.Geodetic g) s = inl (geographic-in level g s.1)
-side level (horizontal.Projected p) s = inr (keyword-names class.CompoundCrs (codes "PROJCRS"))
+side level (horizontal.Projected p) s = inr (keyword-names _ _)
 
 module _ (laws : TextLaws) (lower : LowerLaws) (level : Level) where
   -- what is read of the arguments of each class
@@ -85,11 +85,11 @@ module _ (laws : TextLaws) (lower : LowerLaws) (level : Level) where
   module _ (k : CompoundParts) (s : IsCompound k) where
     abbrev of-compound : List (Segment compound)
     of-compound =
-        a-text compound k.name ∷
-        either-item compound class.GeographicCrs class.ProjectedCrs refl
-        (item_horizontal (norm_horizontal level k.horizontal)) (side level k.horizontal s.horizontal) ∷
-        one-item compound class.VerticalCrs (item_vertical (norm_vertical level k.vertical))
-        (keyword-names class.CompoundCrs (codes "VERTCRS")) ∷ of-tail laws compound compound-names level k.tail s.tail
+        a-text k.name ∷
+        either-item class.GeographicCrs class.ProjectedCrs refl (item_horizontal (norm_horizontal level k.horizontal))
+        (side level k.horizontal s.horizontal) ∷
+        one-item class.VerticalCrs (item_vertical (norm_vertical level k.vertical)) (keyword-names _ _) ∷
+        of-tail laws compound compound-names level k.tail s.tail
 
     pub compound-read : ReadsBack item_compound (ReadsCompound class.CompoundCrs) (norm_compound level k)
     compound-read place =

@@ -58,10 +58,10 @@ module _ (laws : TextLaws) (lower : LowerLaws) (c : Class) (names : GeodeticName
 
   abbrev of-geodetic : List (Segment c)
   of-geodetic =
-      a-text c g.name ∷ dynamic-item c names.dynamics level g.dynamic ∷
+      a-text g.name ∷ dynamic-item names.dynamics level g.dynamic ∷
       frame-item c class.GeodeticFrame class.GeodeticEnsemble (codes "DATUM") names.frames.datum names.frames.ensemble refl
       (norm_frame level g.frame) ∷
-      may-be c class.PrimeMeridian item_meridian (norm_meridian level g.meridian) (λ m. names.meridians) ∷
+      may-be class.PrimeMeridian item_meridian (norm_meridian level g.meridian) (λ m. names.meridians) ∷
       head-alone laws c names.systems level g.system s.system geodetic-whole ∷
       axes-each laws c names.systems level g.system s.system geodetic-whole ∷
       of-tail laws c names.tails level g.tail s.tail
@@ -91,14 +91,13 @@ module _ (laws : TextLaws) (level : Level) (b : BaseParts) (s : IsBase b) where
 
   abbrev of-base : List (Segment base)
   of-base =
-      a-text base b.name ∷ dynamic-item base (keyword-names base (codes "DYNAMIC")) level b.dynamic ∷
-      frame-item base class.GeodeticFrame class.GeodeticEnsemble (codes "DATUM") (keyword-names base (codes "DATUM"))
-      (keyword-names base (codes "ENSEMBLE")) refl (norm_frame level b.frame) ∷
-      may-be base class.PrimeMeridian item_meridian (norm_meridian level b.meridian)
-      (λ m. keyword-names base (codes "PRIMEM")) ∷
-      if-any base class.AngleUnit item_unit (norm_units level kinds.Angle b.unit)
-      (angles-in base (keyword-names base (codes "ANGLEUNIT")) (norm_units level kinds.Angle b.unit) base-angle) ∷
-      identifiers base (keyword-names base (codes "ID")) level b.identifiers ∷ []
+      a-text b.name ∷ dynamic-item (keyword-names _ _) level b.dynamic ∷
+      frame-item base class.GeodeticFrame class.GeodeticEnsemble (codes "DATUM") (keyword-names _ _) (keyword-names _ _)
+      refl (norm_frame level b.frame) ∷
+      may-be class.PrimeMeridian item_meridian (norm_meridian level b.meridian) (λ m. keyword-names _ _) ∷
+      if-any class.AngleUnit item_unit (norm_units level kinds.Angle b.unit)
+      (angles-in base (keyword-names _ _) (norm_units level kinds.Angle b.unit) base-angle) ∷
+      identifiers (keyword-names _ _) level b.identifiers ∷ []
 
   pub base-read : ReadsBack item_base (ReadsBase class.BaseCrs) (norm_base level b)
   base-read place =
@@ -106,7 +105,7 @@ module _ (laws : TextLaws) (level : Level) (b : BaseParts) (s : IsBase b) where
         name = refl;
         dynamic = dynamic-field laws look level b.dynamic b.frame s.dynamic refl;
         frame = frame-field base class.GeodeticFrame class.GeodeticEnsemble (codes "DATUM")
-            (keyword-names base (codes "DATUM")) (keyword-names base (codes "ENSEMBLE")) look (norm_frame level b.frame)
+            (keyword-names _ _) (keyword-names _ _) look (norm_frame level b.frame)
             (geodetic-back laws level b.frame s.frame) refl refl;
         meridian = opt-field look class.PrimeMeridian item_meridian _ _ refl
             (meridian-read laws level b.meridian s.meridian);
@@ -128,10 +127,8 @@ module _ (laws : TextLaws) (lower : LowerLaws) (level : Level) (p : ProjectedPar
 
   abbrev of-projected : List (Segment projected)
   of-projected =
-      a-text projected p.name ∷
-      one-item projected class.BaseCrs (item_base (norm_base level p.base)) (keyword-names projected (codes "BASEGEOGCRS")) ∷
-      one-item projected class.Conversion (item_conversion (norm_conversion level p.conversion))
-      (keyword-names projected (codes "CONVERSION")) ∷
+      a-text p.name ∷ one-item class.BaseCrs (item_base (norm_base level p.base)) (keyword-names _ _) ∷
+      one-item class.Conversion (item_conversion (norm_conversion level p.conversion)) (keyword-names _ _) ∷
       head-alone laws projected projected-names.systems level p.system s.system projected-whole ∷
       axes-each laws projected projected-names.systems level p.system s.system projected-whole ∷
       of-tail laws projected projected-names.tails level p.tail s.tail
@@ -159,13 +156,12 @@ module _ (laws : TextLaws) (lower : LowerLaws) (level : Level) (v : VerticalPart
 
   abbrev of-vertical : List (Segment vertical)
   of-vertical =
-      a-text vertical v.name ∷ dynamic-item vertical (keyword-names vertical (codes "DYNAMIC")) level v.dynamic ∷
+      a-text v.name ∷ dynamic-item (keyword-names _ _) level v.dynamic ∷
       frame-item vertical class.VerticalFrame class.VerticalEnsemble (codes "VDATUM")
-      (keyword-names vertical (codes "VDATUM")) (keyword-names vertical (codes "ENSEMBLE")) refl (norm_frame level v.frame) ∷
+      (keyword-names _ _) (keyword-names _ _) refl (norm_frame level v.frame) ∷
       head-alone laws vertical vertical-names.systems level v.system s.system vertical-whole ∷
       axes-each laws vertical vertical-names.systems level v.system s.system vertical-whole ∷
-      all-of vertical class.GeoidModel item_geoid_model (set_geoid_models level v.geoid_models)
-      (λ x. keyword-names vertical (codes "GEOIDMODEL")) ∷
+      all-of class.GeoidModel item_geoid_model (set_geoid_models level v.geoid_models) (λ x. keyword-names _ _) ∷
       of-tail laws vertical vertical-names.tails level v.tail s.tail
 
   pub vertical-read : ReadsBack item_vertical (ReadsVertical class.VerticalCrs) (norm_vertical level v)
@@ -174,7 +170,7 @@ module _ (laws : TextLaws) (lower : LowerLaws) (level : Level) (v : VerticalPart
         name = refl;
         dynamic = dynamic-field laws look level v.dynamic v.frame s.dynamic refl;
         frame = frame-field vertical class.VerticalFrame class.VerticalEnsemble (codes "VDATUM")
-            (keyword-names vertical (codes "VDATUM")) (keyword-names vertical (codes "ENSEMBLE")) look
+            (keyword-names _ _) (keyword-names _ _) look
             (norm_frame level v.frame) (vertical-back laws level v.frame s.frame) refl refl;
         system = system-read laws vertical vertical-names.systems level v.system s.system vertical-whole look refl refl refl;
         geoid_models = each-field look class.GeoidModel item_geoid_model _ _ refl (geoids-back level v.geoid_models s.geoid_models);

@@ -33,12 +33,10 @@ pub geodetic-back : TextLaws → (level : Level) (f : Frame) → IsGeodeticFrame
     FrameBack class.GeodeticFrame class.GeodeticEnsemble (codes "DATUM") (norm_frame level f)
 geodetic-back laws level (frame.Datum d) s =
     datum-read laws class.GeodeticFrame (codes "DATUM") (search keyword-names) level d s.0
-    (ellipsoid-in class.GeodeticFrame (keyword-names class.GeodeticFrame (codes "ELLIPSOID"))
-    (option_map (norm_ellipsoid level) d.ellipsoid))
+    (ellipsoid-in class.GeodeticFrame (keyword-names _ _) (option_map (norm_ellipsoid level) d.ellipsoid))
 geodetic-back laws level (frame.Ensemble e) s =
     ensemble-read laws class.GeodeticEnsemble (search keyword-names) level e s.0
-    (ellipsoid-in class.GeodeticEnsemble (keyword-names class.GeodeticEnsemble (codes "ELLIPSOID"))
-    (option_map (norm_ellipsoid level) e.ellipsoid))
+    (ellipsoid-in class.GeodeticEnsemble (keyword-names _ _) (option_map (norm_ellipsoid level) e.ellipsoid))
 
 pub vertical-back : TextLaws → (level : Level) (f : Frame) → IsVerticalFrame f →
     FrameBack class.VerticalFrame class.VerticalEnsemble (codes "VDATUM") (norm_frame level f)
@@ -57,7 +55,7 @@ module _ (c d e : Class) (keyword : List ℕ) (datums : class_named c keyword �
   frame-side (frame.Ensemble v) = inr ensembles
 
   abbrev pub frame-item : is_class d (Some e) ≡ false → Frame → Segment c
-  frame-item apart f = either-item c d e apart (item_frame keyword f) (frame-side f)
+  frame-item apart f = either-item d e apart (item_frame keyword f) (frame-side f)
 
   pub frame-field : {ss : List (Segment c)} {item : Item} → Seen c ss item → (f : Frame) → FrameBack d e keyword f →
       items_of d ss ≡ if_left (item_frame keyword f) (frame-side f) [] →

@@ -22,7 +22,7 @@ use Rattle.crs_normal.proofs.read.NameLemmas.{keyword-names}
 pub deformation-model-read : (level : Level) (m : DeformationModelParts) → IsDeformationModel m →
     ReadsBack item_deformation_model (ReadsDeformationModel class.DeformationModel) (norm_deformation_model level m)
 deformation-model-read level m s =
-    named-read class.DeformationModel (codes "MODEL") (keyword-names class.DeformationModel (codes "ID"))
+    named-read class.DeformationModel (codes "MODEL") (keyword-names _ _)
     (norm_deformation_model level m) (named-kept level m s)
 
 -- ---- dynamic parts
@@ -30,10 +30,9 @@ deformation-model-read level m s =
 module _ (laws : TextLaws) (level : Level) (d : DynamicParts) (s : IsDynamic d) where
   abbrev of-dynamic : List (Segment class.Dynamic)
   of-dynamic =
-      one-item class.Dynamic class.FrameEpoch (number_node (codes "FRAMEEPOCH") d.epoch)
-      (keyword-names class.Dynamic (codes "FRAMEEPOCH")) ∷
-      may-be class.Dynamic class.DeformationModel item_deformation_model
-      (option_map (norm_deformation_model level) d.model) (λ m. keyword-names class.Dynamic (codes "MODEL")) ∷ []
+      one-item class.FrameEpoch (number_node (codes "FRAMEEPOCH") d.epoch) (keyword-names _ _) ∷
+      may-be class.DeformationModel item_deformation_model
+      (option_map (norm_deformation_model level) d.model) (λ m. keyword-names _ _) ∷ []
 
   pub dynamic-read : ReadsBack item_dynamic (ReadsDynamic class.Dynamic) (norm_dynamic level d)
   dynamic-read place =
@@ -48,9 +47,9 @@ module _ (laws : TextLaws) (level : Level) (d : DynamicParts) (s : IsDynamic d) 
 
 -- ---- among the arguments of a CRS, whatever the frame beside it is
 
-module _ (c : Class) (names : class_named c (codes "DYNAMIC") ≡ Some class.Dynamic) (level : Level) (o : Option DynamicParts) where
+module _ {c : Class} (names : class_named c (codes "DYNAMIC") ≡ Some class.Dynamic) (level : Level) (o : Option DynamicParts) where
   abbrev pub dynamic-item : Segment c
-  dynamic-item = may-be c class.Dynamic item_dynamic (option_map (norm_dynamic level) o) (λ d. names)
+  dynamic-item = may-be class.Dynamic item_dynamic (option_map (norm_dynamic level) o) (λ d. names)
 
 pub dynamic-field : TextLaws → {c : Class} {ss : List (Segment c)} {item : Item} → Seen c ss item → (level : Level)
     (o : Option DynamicParts) (f : Frame) → IsDynamicOf o f →

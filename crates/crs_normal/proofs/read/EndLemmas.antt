@@ -29,8 +29,7 @@ use Rattle.crs_normal.proofs.texts.ItemLemmas.{from-named}
 pub method-read : (level : Level) (m : MethodParts) → IsMethod m →
     ReadsBack item_method (ReadsMethod class.Method) (norm_method level m)
 method-read level m s =
-    named-read class.Method (codes "METHOD") (keyword-names class.Method (codes "ID")) (norm_method level m)
-    (named-kept level m s)
+    named-read class.Method (codes "METHOD") (keyword-names _ _) (norm_method level m) (named-kept level m s)
 
 parameters-back : TextLaws → (level : Level) (ps : List ParameterParts) → Each IsParameter ps →
     Each (ReadsBack item_parameter (ReadsParameter class.Parameter)) (set_parameters level ps)
@@ -43,12 +42,9 @@ parameters-back laws level ps s =
 module _ (laws : TextLaws) (level : Level) (v : ConversionParts) (s : IsConversion v) where
   abbrev of-conversion : List (Segment class.Conversion)
   of-conversion =
-      a-text class.Conversion v.name ∷
-      one-item class.Conversion class.Method (item_method (norm_method level v.method))
-      (keyword-names class.Conversion (codes "METHOD")) ∷
-      all-of class.Conversion class.Parameter item_parameter (set_parameters level v.parameters)
-      (λ x. keyword-names class.Conversion (codes "PARAMETER")) ∷
-      identifiers class.Conversion (keyword-names class.Conversion (codes "ID")) level v.identifiers ∷ []
+      a-text v.name ∷ one-item class.Method (item_method (norm_method level v.method)) (keyword-names _ _) ∷
+      all-of class.Parameter item_parameter (set_parameters level v.parameters) (λ x. keyword-names _ _) ∷
+      identifiers (keyword-names _ _) level v.identifiers ∷ []
 
   pub conversion-read : ReadsBack item_conversion (ReadsConversion class.Conversion) (norm_conversion level v)
   conversion-read place =
@@ -66,7 +62,7 @@ unfolding set_geoid_models
 geoids-back level gs s =
     set-kept (norm_geoid_model level) (λ g. item_text (item_geoid_model g)) IsGeoidModel
     (ReadsBack item_geoid_model (ReadsGeoidModel class.GeoidModel))
-    (λ g q. named-read class.GeoidModel (codes "GEOIDMODEL") (keyword-names class.GeoidModel (codes "ID"))
+    (λ g q. named-read class.GeoidModel (codes "GEOIDMODEL") (keyword-names _ _)
     (norm_geoid_model level g) (named-kept level g q)) gs s
 
 -- ---- ends of CRSs
@@ -91,8 +87,8 @@ module _ (laws : TextLaws) (c : Class) (names : NamesTail c) (level : Level) (t 
 
   abbrev pub of-tail : List (Segment c)
   of-tail =
-      for-each c class.Usage item_usage tail-usages usages-in ∷ identifiers c names.ident level t.identifiers ∷
-      may-be c class.Remark (text_node (codes "REMARK")) (kept_one level t.remark) (λ x. names.remark) ∷ []
+      for-each class.Usage item_usage tail-usages usages-in ∷ identifiers names.ident level t.identifiers ∷
+      may-be class.Remark (text_node (codes "REMARK")) (kept_one level t.remark) (λ x. names.remark) ∷ []
 
   pub tail-read : {ss : List (Segment c)} {item : Item} → Seen c ss item →
       items_of class.Usage ss ≡ each_items item_usage tail-usages [] →
@@ -117,10 +113,10 @@ module _ (laws : TextLaws) (c : Class) (names : NamesTail c) (level : Level) (t 
 
 module _ (laws : TextLaws) (c : Class) (names : NamesSystem c) (level : Level) (y : SystemParts) (s : IsSystem y) (whole : AreWhole 1 (length y.axes)) where
   abbrev pub head-alone : Segment c
-  head-alone = one-item c class.CoordinateSystem (item_head (norm_system level y)) names.head
+  head-alone = one-item class.CoordinateSystem (item_head (norm_system level y)) names.head
 
   abbrev pub axes-each : Segment c
-  axes-each = all-of c class.Axis item_axis (axes_from level y 1 (length y.axes)) (λ x. names.axis)
+  axes-each = all-of class.Axis item_axis (axes_from level y 1 (length y.axes)) (λ x. names.axis)
 
   pub system-read : {ss : List (Segment c)} {item : Item} → Seen c ss item →
       items_of class.CoordinateSystem ss ≡ item_head (norm_system level y) ∷ [] →

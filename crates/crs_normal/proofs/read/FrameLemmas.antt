@@ -25,8 +25,8 @@ use Rattle.crs_normal.proofs.made.IdentLemmas.{idents-sound}
 
 -- ---- identifiers
 
-abbrev pub identifiers : (c : Class) → NamesId c → Level → List IdentParts → Segment c
-identifiers c e level xs = identifiers-of c e (set_idents level xs)
+abbrev pub identifiers : {c : Class} → NamesId c → Level → List IdentParts → Segment c
+identifiers e level xs = identifiers-of e (set_idents level xs)
 
 pub identifiers-field : {c : Class} {ss : List (Segment c)} {item : Item} → Seen c ss item → (level : Level)
     (xs : List IdentParts) → items_of class.Identifier ss ≡ each_items item_ident (set_idents level xs) [] →
@@ -56,12 +56,11 @@ angles-kept level (Some u) s = angle-kept level u s
 module _ (laws : TextLaws) (level : Level) (e : EllipsoidParts) (s : IsEllipsoid e) where
   abbrev of-ellipsoid : List (Segment class.Ellipsoid)
   of-ellipsoid =
-      a-text class.Ellipsoid e.name ∷ a-number class.Ellipsoid e.semi_major_axis ∷
-      a-number class.Ellipsoid e.inverse_flattening ∷
-      if-any class.Ellipsoid class.LengthUnit item_unit (Some (norm_length level e.unit))
-      (unit-in class.Ellipsoid class.LengthUnit kinds.Length (keyword-names class.Ellipsoid (codes "LENGTHUNIT"))
+      a-text e.name ∷ a-number e.semi_major_axis ∷ a-number e.inverse_flattening ∷
+      if-any class.LengthUnit item_unit (Some (norm_length level e.unit))
+      (unit-in class.Ellipsoid class.LengthUnit kinds.Length (keyword-names _ _)
       (norm_length level e.unit) (length-kept level e.unit s.unit).1) ∷
-      identifiers class.Ellipsoid (keyword-names class.Ellipsoid (codes "ID")) level e.identifiers ∷ []
+      identifiers (keyword-names _ _) level e.identifiers ∷ []
 
   pub ellipsoid-read : ReadsBack item_ellipsoid (ReadsEllipsoid class.Ellipsoid) (norm_ellipsoid level e)
   ellipsoid-read place =
@@ -70,7 +69,7 @@ module _ (laws : TextLaws) (level : Level) (e : EllipsoidParts) (s : IsEllipsoid
         semi_major_axis = number-read laws e.semi_major_axis s.semi_major_axis 0;
         inverse_flattening = number-read laws e.inverse_flattening s.inverse_flattening 0;
         unit = opt-field look class.LengthUnit item_unit _ _ refl
-            (unit-read laws class.LengthUnit (keyword-names class.LengthUnit (codes "ID")) (norm_length level e.unit)
+            (unit-read laws class.LengthUnit (keyword-names _ _) (norm_length level e.unit)
             (length-kept level e.unit s.unit).0);
         identifiers = identifiers-field look level e.identifiers refl s.identifiers;
       }
@@ -85,7 +84,7 @@ angles-in c e o s =
 pub angles-back : TextLaws → (o : Option UnitParts) → IfSome o IsAngle →
     IfSome o (ReadsBack item_unit (ReadsUnit class.AngleUnit))
 angles-back laws o s =
-    some-imp _ _ (λ u q. unit-read laws class.AngleUnit (keyword-names class.AngleUnit (codes "ID")) u q.0) o s
+    some-imp _ _ (λ u q. unit-read laws class.AngleUnit (keyword-names _ _) u q.0) o s
 
 unless-kept : (b : Bool) (o : Option UnitParts) → IfSome o IsAngle → IfSome (if b then None else o) IsAngle
 unless-kept true o s = tt
@@ -101,10 +100,9 @@ module _ (laws : TextLaws) (level : Level) (m : MeridianParts) (s : IsMeridian m
 
   abbrev of-meridian : List (Segment class.PrimeMeridian)
   of-meridian =
-      a-text class.PrimeMeridian m.name ∷ a-number class.PrimeMeridian m.longitude ∷
-      if-any class.PrimeMeridian class.AngleUnit item_unit meridian-unit
-      (angles-in class.PrimeMeridian (keyword-names class.PrimeMeridian (codes "ANGLEUNIT")) meridian-unit meridian-angle) ∷
-      identifiers class.PrimeMeridian (keyword-names class.PrimeMeridian (codes "ID")) level m.identifiers ∷ []
+      a-text m.name ∷ a-number m.longitude ∷
+      if-any class.AngleUnit item_unit meridian-unit (angles-in class.PrimeMeridian (keyword-names _ _) _ meridian-angle) ∷
+      identifiers (keyword-names _ _) level m.identifiers ∷ []
 
   pub given-read : ReadsBack item_meridian (ReadsMeridian class.PrimeMeridian) (norm_given level m)
   given-read place =
@@ -143,7 +141,7 @@ unfolding set_members
 members-back level ms s =
     set-kept (norm_member level) (λ m. item_text (item_member m)) IsMember
     (ReadsBack item_member (ReadsMember class.Member))
-    (λ m q. named-read class.Member (codes "MEMBER") (keyword-names class.Member (codes "ID")) (norm_member level m)
+    (λ m q. named-read class.Member (codes "MEMBER") (keyword-names _ _) (norm_member level m)
     (named-kept level m q)) ms s
 
 -- what keywords name in a reference frame, and in an ensemble
@@ -161,10 +159,10 @@ pub record EnsembleNames (c : Class) : Type 0 where
 module _ (laws : TextLaws) (c : Class) (keyword : List ℕ) (names : DatumNames c) (level : Level) (d : DatumParts) (s : IsDatum d) (on : MayIn c class.Ellipsoid item_ellipsoid (option_map (norm_ellipsoid level) d.ellipsoid)) where
   abbrev of-datum : List (Segment c)
   of-datum =
-      a-text c d.name ∷ if-any c class.Ellipsoid item_ellipsoid (option_map (norm_ellipsoid level) d.ellipsoid) on ∷
-      may-be c class.Anchor (text_node (codes "ANCHOR")) d.anchor (λ x. names.anchors) ∷
-      may-be c class.AnchorEpoch (number_node (codes "ANCHOREPOCH")) d.anchor_epoch (λ v. names.epochs) ∷
-      identifiers c names.identifiers level d.identifiers ∷ []
+      a-text d.name ∷ if-any class.Ellipsoid item_ellipsoid (option_map (norm_ellipsoid level) d.ellipsoid) on ∷
+      may-be class.Anchor (text_node (codes "ANCHOR")) d.anchor (λ x. names.anchors) ∷
+      may-be class.AnchorEpoch (number_node (codes "ANCHOREPOCH")) d.anchor_epoch (λ v. names.epochs) ∷
+      identifiers names.identifiers level d.identifiers ∷ []
 
   pub datum-read : ReadsBack (item_datum keyword) (ReadsDatum c) (norm_datum level d)
   datum-read place =
@@ -180,10 +178,10 @@ module _ (laws : TextLaws) (c : Class) (keyword : List ℕ) (names : DatumNames 
 module _ (laws : TextLaws) (c : Class) (names : EnsembleNames c) (level : Level) (e : EnsembleParts) (s : IsEnsemble e) (on : MayIn c class.Ellipsoid item_ellipsoid (option_map (norm_ellipsoid level) e.ellipsoid)) where
   abbrev of-ensemble : List (Segment c)
   of-ensemble =
-      a-text c e.name ∷ all-of c class.Member item_member (set_members level e.members) (λ m. names.members) ∷
-      if-any c class.Ellipsoid item_ellipsoid (option_map (norm_ellipsoid level) e.ellipsoid) on ∷
-      one-item c class.EnsembleAccuracy (number_node (codes "ENSEMBLEACCURACY") e.accuracy) names.accuracies ∷
-      identifiers c names.identifiers level e.identifiers ∷ []
+      a-text e.name ∷ all-of class.Member item_member (set_members level e.members) (λ m. names.members) ∷
+      if-any class.Ellipsoid item_ellipsoid (option_map (norm_ellipsoid level) e.ellipsoid) on ∷
+      one-item class.EnsembleAccuracy (number_node (codes "ENSEMBLEACCURACY") e.accuracy) names.accuracies ∷
+      identifiers names.identifiers level e.identifiers ∷ []
 
   pub ensemble-read : ReadsBack item_ensemble (ReadsEnsemble c) (norm_ensemble level e)
   ensemble-read place =

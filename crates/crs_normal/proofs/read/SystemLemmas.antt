@@ -33,9 +33,9 @@ module _ (laws : TextLaws) (level : Level) (m : AxisMeridianParts) (s : IsAxisMe
 
   abbrev of-meridian : List (Segment class.AxisMeridian)
   of-meridian =
-      a-number class.AxisMeridian m.longitude ∷ one-item class.AxisMeridian class.AngleUnit (item_unit unit-along)
-      (unit-in class.AxisMeridian class.AngleUnit kinds.Angle (keyword-names class.AxisMeridian (codes "ANGLEUNIT"))
-      unit-along (angle-kept level m.unit s.unit).1) ∷ []
+      a-number m.longitude ∷ one-item class.AngleUnit (item_unit unit-along)
+      (unit-in class.AxisMeridian class.AngleUnit kinds.Angle (keyword-names _ _) unit-along
+      (angle-kept level m.unit s.unit).1) ∷ []
 
   pub axis-meridian-read : ReadsBack item_axis_meridian (ReadsAxisMeridian class.AxisMeridian) (norm_axis_meridian level m)
   axis-meridian-read place =
@@ -43,8 +43,7 @@ module _ (laws : TextLaws) (level : Level) (m : AxisMeridianParts) (s : IsAxisMe
       (place + 8) refl in record {
         longitude = number-read laws m.longitude s.longitude 0;
         unit = one-field look class.AngleUnit item_unit _ _ refl
-            (unit-read laws class.AngleUnit (keyword-names class.AngleUnit (codes "ID")) unit-along
-            (angle-kept level m.unit s.unit).0);
+            (unit-read laws class.AngleUnit (keyword-names _ _) unit-along (angle-kept level m.unit s.unit).0);
       }
 
 axis-meridians-read : TextLaws → (level : Level) (o : Option AxisMeridianParts) → IfSome o IsAxisMeridian →
@@ -81,9 +80,9 @@ axis-unit-in : (u : UnitParts) → IsAxisUnit u → IsIn class.Axis class.AxisUn
 axis-unit-in u s = by u.kind refl
   where
     by : (k : UnitKind) → u.kind ≡ k → IsIn class.Axis class.AxisUnit (item_unit u)
-    by kinds.Length e = unit-in class.Axis class.AxisUnit kinds.Length (keyword-names class.Axis (codes "LENGTHUNIT")) u e
-    by kinds.Angle e = unit-in class.Axis class.AxisUnit kinds.Angle (keyword-names class.Axis (codes "ANGLEUNIT")) u e
-    by kinds.Plain e = unit-in class.Axis class.AxisUnit kinds.Plain (keyword-names class.Axis (codes "UNIT")) u e
+    by kinds.Length e = unit-in class.Axis class.AxisUnit kinds.Length (keyword-names _ _) u e
+    by kinds.Angle e = unit-in class.Axis class.AxisUnit kinds.Angle (keyword-names _ _) u e
+    by kinds.Plain e = unit-in class.Axis class.AxisUnit kinds.Plain (keyword-names _ _) u e
     by kinds.Scale e = absurd (s.1 e)
 
 plain-units-kept : (level : Level) (o : Option UnitParts) → IfSome o IsAxisUnit →
@@ -98,12 +97,11 @@ plain-units-kept level (Some u) s =
 module _ (laws : TextLaws) (x : AxisParts) (unit : IfSome x.unit IsAxisUnit) where
   abbrev of-axis : List (Segment class.Axis)
   of-axis =
-      a-text class.Axis x.name ∷ a-word class.Axis (direction_word x.direction) ∷
-      may-be class.Axis class.AxisMeridian item_axis_meridian x.meridian (λ m. keyword-names class.Axis (codes "MERIDIAN")) ∷
-      may-be class.Axis class.Order (number_node (codes "ORDER")) x.order (λ v. keyword-names class.Axis (codes "ORDER")) ∷
-      if-any class.Axis class.AxisUnit item_unit x.unit
-      (some-imp _ _ axis-unit-in x.unit unit) ∷
-      identifiers-of class.Axis (keyword-names class.Axis (codes "ID")) x.identifiers ∷ []
+      a-text x.name ∷ a-word (direction_word x.direction) ∷
+      may-be class.AxisMeridian item_axis_meridian x.meridian (λ m. keyword-names _ _) ∷
+      may-be class.Order (number_node (codes "ORDER")) x.order (λ v. keyword-names _ _) ∷
+      if-any class.AxisUnit item_unit x.unit (some-imp _ _ axis-unit-in x.unit unit) ∷
+      identifiers-of (keyword-names _ _) x.identifiers ∷ []
 
   form-read : IfSome x.meridian (ReadsBack item_axis_meridian (ReadsAxisMeridian class.AxisMeridian)) →
       IfSome x.order IsNormal → Each IsIdent x.identifiers → ReadsBack item_axis (ReadsAxis class.Axis) x
@@ -115,7 +113,7 @@ module _ (laws : TextLaws) (x : AxisParts) (unit : IfSome x.unit IsAxisUnit) whe
         order = opt-field look class.Order (number_node (codes "ORDER")) _ _ refl
             (some-imp _ _ (λ v n p. number-read laws v n 0) x.order order);
         unit = opt-field look class.AxisUnit item_unit _ _ refl
-            (some-imp _ _ (λ u q. unit-read laws class.AxisUnit (keyword-names class.AxisUnit (codes "ID")) u q.0) x.unit unit);
+            (some-imp _ _ (λ u q. unit-read laws class.AxisUnit (keyword-names _ _) u q.0) x.unit unit);
         identifiers = identifiers-back look x.identifiers refl ids;
       }
 
@@ -172,9 +170,8 @@ axes-read laws level system s k (suc n) w =
 pub head-read : TextLaws → (level : Level) (system : SystemParts) → IsSystem system → (place : ℕ) →
     ReadsHead (at_place place (item_head (norm_system level system))) (norm_system level system)
 head-read laws level system s place =
-    let look = seen class.CoordinateSystem (a-word class.CoordinateSystem (system_word system.system_type) ∷
-    a-number class.CoordinateSystem system.dimension ∷
-    identifiers class.CoordinateSystem (keyword-names class.CoordinateSystem (codes "ID")) level system.identifiers ∷ [])
+    let look = seen class.CoordinateSystem (a-word (system_word system.system_type) ∷ a-number system.dimension ∷
+    identifiers (keyword-names _ _) level system.identifiers ∷ [])
     (at_place place (item_head (norm_system level system))) (place + 2) refl in record {
       system_type = refl;
       dimension = number-read laws system.dimension s.dimension 0;

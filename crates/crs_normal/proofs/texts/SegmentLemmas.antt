@@ -102,23 +102,6 @@ module _ (c : Class) where
       those c d (More item rest) ≡ (if is_class d (Some k) then item ∷ those c d rest else those c d rest)
   named d k item rest e = ap (λ o. if is_class d o then item ∷ those c d rest else those c d rest) e
 
-  -- one item
-  abbrev pub one-item : (k : Class) (item : Item) → IsIn c k item → Segment c
-  one-item k item e = record {
-    onto = More item;
-    among = λ d rest. if is_class d (Some k) then item ∷ rest else rest;
-    holds = λ d rest. named d k item rest e;
-  }
-
-  abbrev pub a-text : List ℕ → Segment c
-  a-text raw = one-item class.Text (text_item raw) refl
-
-  abbrev pub a-number : Value → Segment c
-  a-number value = one-item class.Number (number_item value) refl
-
-  abbrev pub a-word : List ℕ → Segment c
-  a-word raw = one-item class.Word (word_item raw) refl
-
   module _ {V : Type 0} (k : Class) (spell : V → Item) where
     pub opt-holds : (o : Option V) → MayIn c k spell o → (d : Class) (rest : Siblings) →
         those c d (opt spell o rest) ≡ (if is_class d (Some k) then opt_items spell o (those c d rest) else those c d rest)
@@ -133,32 +116,7 @@ module _ (c : Class) where
         ∙ next-if (is_class d (Some k)) (spell x) (each_items spell xs (those c d rest)) (those c d rest)
         (those c d (each spell xs rest)) (each-holds xs e.1 d rest)
 
-    -- an item that may be missing
-    abbrev pub if-any : (o : Option V) → MayIn c k spell o → Segment c
-    if-any o e = record {
-      onto = opt spell o;
-      among = λ d rest. if is_class d (Some k) then opt_items spell o rest else rest;
-      holds = opt-holds o e;
-    }
-
-    abbrev pub may-be : (o : Option V) → ((x : V) → IsIn c k (spell x)) → Segment c
-    may-be o e = if-any o (some-all (λ x. IsIn c k (spell x)) e o)
-
-    -- an item for each of these
-    abbrev pub for-each : (xs : List V) → AreIn c k spell xs → Segment c
-    for-each xs e = record {
-      onto = each spell xs;
-      among = λ d rest. if is_class d (Some k) then each_items spell xs rest else rest;
-      holds = each-holds xs e;
-    }
-
-    abbrev pub all-of : (xs : List V) → ((x : V) → IsIn c k (spell x)) → Segment c
-    all-of xs e = for-each xs (each-all (λ x. IsIn c k (spell x)) e xs)
-
   module _ (k l : Class) (apart : is_class k (Some l) ≡ false) (item : Item) where
-    abbrev pub Side : Type 0
-    Side = IsIn c k item ⊎ IsIn c l item
-
     not-both : (d : Class) (b : Bool) → is_class d (Some k) ≡ b → (js : List Item) →
         (if is_class d (Some l) then item ∷ js else js)
         ≡ (if b then js else (if is_class d (Some l) then item ∷ js else js))
@@ -172,7 +130,7 @@ module _ (c : Class) where
     only-left true d js = refl
     only-left false d js = same-if (is_class d (Some l)) js
 
-    pub either-holds : (side : Side) (d : Class) (rest : Siblings) →
+    pub either-holds : (side : IsIn c k item ⊎ IsIn c l item) (d : Class) (rest : Siblings) →
         those c d (More item rest)
         ≡ (if is_class d (Some k) then if_left item side (those c d rest)
         else (if is_class d (Some l) then if_right item side (those c d rest) else those c d rest))
@@ -181,14 +139,56 @@ module _ (c : Class) where
     either-holds (inr e) d rest =
         named d l item rest e ∙ not-both d (is_class d (Some k)) refl (those c d rest)
 
-    -- an item of one class or the other
-    abbrev pub either-item : Side → Segment c
-    either-item side = record {
-      onto = More item;
-      among = λ d rest. if is_class d (Some k) then if_left item side rest
-          else (if is_class d (Some l) then if_right item side rest else rest);
-      holds = either-holds side;
+module _ {c : Class} where
+  -- one item
+  abbrev pub one-item : (k : Class) (item : Item) → IsIn c k item → Segment c
+  one-item k item e = record {
+    onto = More item;
+    among = λ d rest. if is_class d (Some k) then item ∷ rest else rest;
+    holds = λ d rest. named c d k item rest e;
+  }
+
+  abbrev pub a-text : List ℕ → Segment c
+  a-text raw = one-item class.Text (text_item raw) refl
+
+  abbrev pub a-number : Value → Segment c
+  a-number value = one-item class.Number (number_item value) refl
+
+  abbrev pub a-word : List ℕ → Segment c
+  a-word raw = one-item class.Word (word_item raw) refl
+
+  module _ {V : Type 0} (k : Class) (spell : V → Item) where
+    -- an item that may be missing
+    abbrev pub if-any : (o : Option V) → MayIn c k spell o → Segment c
+    if-any o e = record {
+      onto = opt spell o;
+      among = λ d rest. if is_class d (Some k) then opt_items spell o rest else rest;
+      holds = opt-holds c k spell o e;
     }
+
+    abbrev pub may-be : (o : Option V) → ((x : V) → IsIn c k (spell x)) → Segment c
+    may-be o e = if-any o (some-all (λ x. IsIn c k (spell x)) e o)
+
+    -- an item for each of these
+    abbrev pub for-each : (xs : List V) → AreIn c k spell xs → Segment c
+    for-each xs e = record {
+      onto = each spell xs;
+      among = λ d rest. if is_class d (Some k) then each_items spell xs rest else rest;
+      holds = each-holds c k spell xs e;
+    }
+
+    abbrev pub all-of : (xs : List V) → ((x : V) → IsIn c k (spell x)) → Segment c
+    all-of xs e = for-each xs (each-all (λ x. IsIn c k (spell x)) e xs)
+
+  -- an item of one class or the other
+  abbrev pub either-item : (k l : Class) → is_class k (Some l) ≡ false → (item : Item) → IsIn c k item ⊎ IsIn c l item →
+      Segment c
+  either-item k l apart item side = record {
+    onto = More item;
+    among = λ d rest. if is_class d (Some k) then if_left item side rest
+        else (if is_class d (Some l) then if_right item side rest else rest);
+    holds = either-holds c k l apart item side;
+  }
 
 -- ---- all arguments
 
