@@ -17,7 +17,8 @@ use Rattle.crs_normal.specs.SpelledUnits.{item_ident, item_unit, norm_unit}
 use Rattle.crs_normal.specs.TextLaws.{TextLaws}
 use Rattle.crs_normal.proofs.members.IdentLemmas.{ident-fit, ident-read, text-fit, writable}
 use Rattle.crs_normal.proofs.texts.ItemLemmas.{AreFit, fit-deeper, fit-each, fit-end, fit-node, fit-number, told}
-use Rattle.crs_normal.proofs.texts.SegmentLemmas.{Seen, Segment, a-number, a-text, all-of, each-field, each-imp, each_items, items_of, seen}
+use Rattle.crs_normal.proofs.texts.SegmentLemmas.{Seen, Segment, a-number, a-text, all-of, each-field, each_items, items_of, seen}
+use Rattle.crs_normal.proofs.read.ViewLemmas.{each-so}
 use Rattle.crs_normal.proofs.read.NameLemmas.{keyword-names}
 use Rattle.crs_normal.proofs.made.IdentLemmas.{idents-sound}
 use Rattle.crs_normal.proofs.made.UnitLemmas.{unit-letters}
@@ -35,7 +36,7 @@ pub identifiers-back : {c : Class} {ss : List (Segment c)} {item : Item} → See
     items_of class.Identifier ss ≡ each_items item_ident identifiers [] → Each IsIdent identifiers →
     ReadsIds c item identifiers
 identifiers-back look identifiers same s =
-    each-field look class.Identifier item_ident _ _ same (each-imp _ _ ident-read identifiers s)
+    each-field look class.Identifier item_ident _ _ same (each-so _ _ ident-read identifiers s)
 
 pub identifiers-fit : TextLaws → (n : ℕ) → 2 ≤ n → (identifiers : List IdentParts) → Each IsIdent identifiers →
     AreFit n (each item_ident identifiers End)

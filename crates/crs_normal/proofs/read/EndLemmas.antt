@@ -19,8 +19,9 @@ use Rattle.crs_normal.proofs.members.MemberLemmas.{named-kept, named-read}
 use Rattle.crs_normal.proofs.members.ParameterLemmas.{parameter-kept, parameter-read}
 use Rattle.crs_normal.proofs.read.FrameLemmas.{identifiers, identifiers-field}
 use Rattle.crs_normal.proofs.read.SystemLemmas.{AreWhole, axes-read, head-read}
-use Rattle.crs_normal.proofs.texts.SegmentLemmas.{AreIn, ReadsBack, Seen, Segment, a-text, all-of, each-field, each-imp, each_items, for-each, items_of, lacks, may-be, one-field, one-item, opt-field, opt_items, seen, text-field, set-kept}
+use Rattle.crs_normal.proofs.texts.SegmentLemmas.{AreIn, ReadsBack, Seen, Segment, a-text, all-of, each-field, each_items, for-each, items_of, lacks, may-be, one-field, one-item, opt-field, opt_items, seen, text-field, set-kept}
 use Rattle.crs_normal.proofs.members.UsageLemmas.{IsWrittenUsage, usage-is-node, usage-kept, usage-read}
+use Rattle.crs_normal.proofs.read.ViewLemmas.{each-so}
 use Rattle.crs_normal.proofs.read.NameLemmas.{keyword-names}
 use Rattle.crs_normal.proofs.texts.ItemLemmas.{from-named}
 
@@ -83,7 +84,7 @@ module _ (laws : TextLaws) (c : Class) (names : NamesTail c) (level : Level) (t 
 
   pub usages-in : AreIn c class.Usage item_usage tail-usages
   usages-in =
-      each-imp _ _ (λ u q. from-named c class.Usage (codes "USAGE") _ (usage-is-node u q.some) names.usage) tail-usages written
+      each-so _ _ (λ u q. from-named c class.Usage (codes "USAGE") _ (usage-is-node u q.some) names.usage) tail-usages written
 
   abbrev pub of-tail : List (Segment c)
   of-tail =
@@ -98,7 +99,7 @@ module _ (laws : TextLaws) (c : Class) (names : NamesTail c) (level : Level) (t 
       items_of class.Remark ss ≡ opt_items (text_node (codes "REMARK")) (kept_one level t.remark) [] →
       ReadsTail c item (norm_tail level t)
   tail-read look usages scope area box extent ids remark = record {
-    usages = each-field look class.Usage item_usage _ _ usages (each-imp _ _ (usage-read laws) tail-usages written);
+    usages = each-field look class.Usage item_usage _ _ usages (each-so _ _ (usage-read laws) tail-usages written);
     bare_parts = record {
       scope = lacks look class.Scope scope;
       area = lacks look class.Area area;

@@ -1,6 +1,7 @@
 -- A shaped node slot by slot: the arguments in each slot, and how those of a class are found among them.
 use Rattle.std.proofs.Common.{◌≡◌, ℕ, zero, suc, ◌≤◌, ◌||◌, length, Bool, true, false, true≢false, IsTrue, IsFalse, Some, List, [], ◌∷◌, ◌++◌, if◌then◌else◌, refl, sym, ◌∙◌, ap, subst, arith, rules}
 use Rattle.std.specs.List.{list_any}
+use Rattle.std.proofs.lemmas.List.{append-nil}
 use denote.Enum.Bare.{sameb, same_true}
 use Rattle.crs_text.specs.Prelude.{Item, Siblings, End, More}
 use Rattle.crs_shape.specs.contracts.class.Class.{the_type}
@@ -152,12 +153,8 @@ abbrev pub looked : (c d : Class) (slots : List SlotParts) (items : Siblings) �
 looked c d [] items v = []
 looked c d (slot ∷ slots) items v = picked c d slot v.0 (looked c d slots v.1.0 v.1.1.1.1)
 
-pub nothing-behind : (xs : List Item) → xs ++ [] ≡ xs
-nothing-behind [] = refl
-nothing-behind (x ∷ xs) = ap (λ ys. x ∷ ys) (nothing-behind xs)
-
 and_then-is : (front rest : List Item) → front ++ rest ≡ and_then front rest
-and_then-is front [] = nothing-behind front
+and_then-is front [] = append-nil front
 and_then-is front (item ∷ items) = refl
 
 those-split : (c d : Class) (front : List Item) (rest : Siblings) →

@@ -35,10 +35,6 @@ pub each-all : {V : Type 0} (Q : V → Type 0) → ((x : V) → Q x) → (xs : L
 each-all Q f [] = tt
 each-all Q f (x ∷ xs) = (f x, each-all Q f xs)
 
-pub each-imp : {V : Type 0} (P Q : V → Type 0) → ((x : V) → P x → Q x) → (xs : List V) → Each P xs → Each Q xs
-each-imp P Q f [] p = tt
-each-imp P Q f (x ∷ xs) p = (f x p.0, each-imp P Q f xs p.1)
-
 pub some-all : {V : Type 0} (Q : V → Type 0) → ((x : V) → Q x) → (o : Option V) → IfSome o Q
 some-all Q f None = tt
 some-all Q f (Some x) = f x

@@ -1,9 +1,8 @@
 -- The test that a number is a whole one of at most 64 bits.
 use Rattle.std.proofs.Common.{◌≡◌, ◌≢◌, ◌↔◌, ◌⊎◌, ◌∙◌, ℕ, suc, zero, ◌<◌, ◌≤◌, ◌*◌, ◌^◌, ◌+◌, ◌-◌, ◌%◌, ◌++◌, ◌&&◌, ◌||◌, ◌==◌, not, Bool, true, false, nat_lt, nat_le, fold, inl, inr, List, [], ◌∷◌, None, length, decimal, get_or, refl, sym, ap, subst, arith, rules, pos, negsuc, ℤ}
-use Rattle.std.proofs.lemmas.Bool.Decides.{nat_tests}
 use Rattle.std.proofs.lemmas.Fmt.{decimal_digit, decimal_nonempty, digits_decimal, digits_value-decimal, first_decimal, length-decimal-le}
 use Rattle.std.proofs.Math.Nat.{pow-suc, mul-le-mul_left, mul_assoc, one-le-pow}
-use Rattle.std.proofs.lemmas.Bool.{cases_lt}
+use Rattle.std.proofs.lemmas.Bool.{and_parts, cases_lt, eqb-false, eqb-true, leb-true, ltb-true}
 use Rattle.std.proofs.lemmas.List.{append-nil}
 use Rattle.std.proofs.lemmas.Slice.Eq.{bytes_eq-Decides}
 use Rattle.std.proofs.lemmas.Str.Parse.{IsNumeralModel, numerals_by_fold}
@@ -70,10 +69,6 @@ number-same n l = (ap (λ d. d * 1) (value-is n l), inl refl)
 
 -- ---- a whole number that a normal value is, is within the bounds
 
-first-true : (a b c : Bool) → (a && b && c) ≡ true → a ≡ true
-first-true true b c e = refl
-first-true false b c e = absurd cc
-
 all-of : (x y z w : Bool) → (x && y && (not z || w)) ≡ true → (x ≡ true) × ((y ≡ true) × ((z ≡ false) ⊎ (w ≡ true)))
 all-of true true false w e = (refl, (refl, inl refl))
 all-of true true true true e = (refl, (refl, inr refl))
@@ -96,21 +91,9 @@ none-of zero k e = refl
 none-of (suc m) k e =
     absurd (omega (arith, e, mul-le-mul_left (suc m) (one-le-pow k 10 (omega arith))))
 
-le-of : (m n : ℕ) → nat_le m n ≡ true → m ≤ n
-le-of m n e = grind (arith, nat_tests)
-
-lt-of : (m n : ℕ) → nat_lt m n ≡ true → m < n
-lt-of m n e = grind (arith, nat_tests)
-
-eq-of : (m n : ℕ) → (m == n) ≡ true → m ≡ n
-eq-of m n e = grind (arith, nat_tests)
-
-ne-of : (m n : ℕ) → (m == n) ≡ false → m ≢ n
-ne-of m n e = grind (arith, nat_tests)
-
 sized : (d n : ℕ) (power : ℤ) → d < 10 ^ 38 → is_power power ≡ true → (d % 10 ≢ 0) ⊎ (d ≡ 0) →
     d * 10 ^ (up_of power + 0) ≡ n * 10 ^ (0 + down_of power) → (n ≡ 0) ⊎ IsMeasured (whole_number n)
-sized d n (pos k) short near (inl last) e = inr (measured-up d k n short (le-of k 40 near) last e)
+sized d n (pos k) short near (inl last) e = inr (measured-up d k n short (leb-true k 40 near) last e)
 sized d n (pos k) short near (inr none) e =
     let z : 0 * 10 ^ (k + 0) ≡ n * 1 = subst (λ x. x * 10 ^ (k + 0) ≡ n * 1) none e in inl (omega (arith, z))
 sized d n (negsuc k) short near (inl last) e =
@@ -121,13 +104,15 @@ sized d n (negsuc k) short near (inr none) e =
 
 closing : (v : Value) → ((v.digits % 10 == 0) ≡ false) ⊎ ((v.digits == 0 && not v.negative && is_zero_power v.power) ≡ true) →
     (v.digits % 10 ≢ 0) ⊎ (v.digits ≡ 0)
-closing v (inl last) = inl (ne-of (v.digits % 10) 0 last)
-closing v (inr none) = inr (eq-of v.digits 0 (first-true (v.digits == 0) (not v.negative) (is_zero_power v.power) none))
+closing v (inl last) = inl (eqb-false (v.digits % 10) 0 last)
+closing v (inr none) =
+    let zeros = and_parts (v.digits == 0 && not v.negative) (is_zero_power v.power) none in
+    inr (eqb-true v.digits 0 (and_parts (v.digits == 0) (not v.negative) zeros.0).0)
 
 whole-measured : (v : Value) (n : ℕ) → IsNormal v → SameNumber (exact v) (whole_number n) → (n ≡ 0) ⊎ IsMeasured (whole_number n)
 whole-measured v n normal same =
     let facts = all-of (nat_lt v.digits (10 ^ 38)) (is_power v.power) (v.digits % 10 == 0) (v.digits == 0 && not v.negative && is_zero_power v.power) normal in
-    sized v.digits n v.power (lt-of v.digits (10 ^ 38) facts.0) facts.1.0 (closing v facts.1.1) same.0
+    sized v.digits n v.power (ltb-true v.digits (10 ^ 38) facts.0) facts.1.0 (closing v facts.1.1) same.0
 
 -- ---- the test
 
