@@ -26,10 +26,8 @@ IsOwnGeodetic level c = IsItsFormUnbroken level c ReadsGeodetic (λ g. item_geod
 
 pub own-geodetic : (level : Level) → IsOwnGeodetic level class.GeodeticCrs → IsOwnGeodetic level class.GeographicCrs →
     (t : SystemType) → IsOwnGeodetic level (geodetic_class t)
-own-geodetic level geodetic geographic types.Cartesian = geodetic
 own-geodetic level geodetic geographic types.Ellipsoidal = geographic
-own-geodetic level geodetic geographic types.Spherical = geodetic
-own-geodetic level geodetic geographic types.Vertical = geodetic
+own-geodetic level geodetic geographic other = geodetic
 
 -- texts of CRSs are equal exactly where the CRSs are the same
 abbrev pub TextsDecide : Level → Type 0

@@ -64,10 +64,8 @@ asked-no-scale types.Ellipsoidal d e = vertical-no-scale d e
 asked-no-scale types.Spherical d e = vertical-no-scale d e
 
 as-no-scale : (asked k : UnitKind) → asked ≢ kinds.Scale → k ≢ kinds.Scale → kind_as asked k ≢ kinds.Scale
-as-no-scale asked kinds.Length a n e = n e
-as-no-scale asked kinds.Angle a n e = n e
-as-no-scale asked kinds.Scale a n e = n e
 as-no-scale asked kinds.Plain a n e = a e
+as-no-scale asked other a n e = n e
 
 axis-units-kept : (level : Level) (asked : UnitKind) → asked ≢ kinds.Scale → (own shared : Option UnitParts) →
     IfSome own IsAxisUnit → IfSome shared IsAxisUnit →

@@ -77,13 +77,7 @@ run-passes test p q r (b ∷ bytes) e depth rest =
 
 word-bytes : (raw : List ℕ) → IsWord raw → list_all is_word_byte raw ≡ true
 word-bytes [] h = absurd h
-word-bytes (b ∷ bytes) h = both (is_letter b) (is_digit b) (b == 95) (list_all is_word_byte bytes) h.0 h.1
-  where
-    both : (x y z w : Bool) → x ≡ true → w ≡ true → ((x || y || z) && w) ≡ true
-    both true true z true e f = refl
-    both true false z true e f = refl
-    both true y z false e f = absurd cc
-    both false y z w e f = absurd cc
+word-bytes (b ∷ bytes) h = rw h.0 (rw h.1 refl)
 
 word-passes : (raw : List ℕ) → IsWord raw → Passes raw
 word-passes raw h = run-passes is_word_byte refl refl refl raw (word-bytes raw h)

@@ -72,9 +72,7 @@ number-same n l = (ap (λ d. d * 1) (value-is n l), inl refl)
 all-of : (x y z w : Bool) → (x && y && (not z || w)) ≡ true → (x ≡ true) × ((y ≡ true) × ((z ≡ false) ⊎ (w ≡ true)))
 all-of true true false w e = (refl, (refl, inl refl))
 all-of true true true true e = (refl, (refl, inr refl))
-all-of true true true false e = absurd cc
-all-of true false z w e = absurd cc
-all-of false y z w e = absurd cc
+all-of x y z w e = absurd cc
 
 measured-up : (d k n : ℕ) → d < 10 ^ 38 → k ≤ 40 → d % 10 ≢ 0 → d * 10 ^ (k + 0) ≡ n * 10 ^ (0 + 0) → IsMeasured (whole_number n)
 measured-up d k n short near last e =
