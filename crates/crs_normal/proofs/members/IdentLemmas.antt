@@ -172,19 +172,16 @@ ident-told laws once =
     told item_ident (ReadsIdent class.Identifier) IsIdent laws (once class.Identifier)
     (λ x s. writable 2 (item_ident x) (omega arith) (ident-fit laws x s) tt) ident-read
 
-abbrev ident-made : List ℕ → List ℕ → Option (List ℕ) → Option (List ℕ) → Option (List ℕ) → IdentParts
-ident-made x0 x1 x2 x3 x4 = record { authority = x0; code = x1; version = x2; citation = x3; uri = x4 }
-
 pub ident-agrees : (a b : IdentParts) → (a ≡ b) ↔ SameIdent a b
 ident-agrees a b = (
   λ e. record {
-    authority = ap (λ x. x.authority) e;
-    code = ap (λ x. x.code) e;
-    version = ap (λ x. x.version) e;
-    citation = ap (λ x. x.citation) e;
-    uri = ap (λ x. x.uri) e;
+    authority = λ i. (e i).authority;
+    code = λ i. (e i).code;
+    version = λ i. (e i).version;
+    citation = λ i. (e i).citation;
+    uri = λ i. (e i).uri;
   },
-  λ s. λ i. ident-made (s.authority i) (s.code i) (s.version i) (s.citation i) (s.uri i),
+  λ s. rw (s.authority, s.code, s.version, s.citation, s.uri),
 )
 
 pub idents-agree : TextLaws → ReadsIdentOnce → (level : Level) (xs ys : List IdentParts) → Each IsIdent xs →

@@ -38,11 +38,8 @@ module _ (laws : LowerLaws) (sets : SetsDecide) (level : Level) where
   axis-meridian-agrees a b in-a in-b =
       let longitude = values-agree laws.normal_is_one a.longitude b.longitude in-a.longitude in-b.longitude in
       let unit = unit-agrees laws.normal_is_one sets.idents level kinds.Angle a.unit b.unit in-a.unit.0 in-b.unit.0 in (
-        λ e. record {
-          longitude = longitude.0 (ap (λ (x : AxisMeridianParts). x.longitude) e);
-          unit = unit.0 (ap (λ (x : AxisMeridianParts). x.unit) e);
-        },
-        λ s. λ i. record { longitude = longitude.1 s.longitude i; unit = unit.1 s.unit i },
+        λ e. record { longitude = longitude.0 (λ i. (e i).longitude); unit = unit.0 (λ i. (e i).unit) },
+        λ s. rw (longitude.1 s.longitude, unit.1 s.unit),
       )
 
   pub axis-meridians-agree : FormDecides (Maybe IsAxisMeridian) (norm_axis_meridians level)
@@ -62,21 +59,21 @@ module _ (laws : LowerLaws) (sets : SetsDecide) (level : Level) where
       (plain-unit y.unit in-y.unit) in
       let identifiers = sets.idents level x.identifiers y.identifiers in-x.identifiers in-y.identifiers in (
         λ e. record {
-          name = ap (λ (z : AxisParts). z.name) e;
-          direction = ap (λ (z : AxisParts). z.direction) e;
-          meridian = meridian.0 (ap (λ (z : AxisParts). z.meridian) e);
-          order = order.0 (ap (λ (z : AxisParts). z.order) e);
-          unit = unit.0 (ap (λ (z : AxisParts). z.unit) e);
-          identifiers = identifiers.0 (ap (λ (z : AxisParts). z.identifiers) e);
+          name = λ i. (e i).name;
+          direction = λ i. (e i).direction;
+          meridian = meridian.0 (λ i. (e i).meridian);
+          order = order.0 (λ i. (e i).order);
+          unit = unit.0 (λ i. (e i).unit);
+          identifiers = identifiers.0 (λ i. (e i).identifiers);
         },
-        λ s. λ i. record {
-          name = s.name i;
-          direction = s.direction i;
-          meridian = meridian.1 s.meridian i;
-          order = order.1 s.order i;
-          unit = unit.1 s.unit i;
-          identifiers = identifiers.1 s.identifiers i;
-        },
+        λ s. rw (
+          s.name,
+          s.direction,
+          meridian.1 s.meridian,
+          order.1 s.order,
+          unit.1 s.unit,
+          identifiers.1 s.identifiers,
+        ),
       )
 
   -- the units of two axes that ask for one kind
@@ -103,20 +100,19 @@ module _ (laws : LowerLaws) (sets : SetsDecide) (level : Level) where
       λ e. λ i. norm_units level (asked_kind (type i) (e i)) second in
       let identifiers = sets.idents level x.identifiers y.identifiers in-x.identifiers in-y.identifiers in (
         λ e. record {
-          name = ap (λ (z : AxisParts). z.name) e;
-          direction = ap (λ (z : AxisParts). z.direction) e;
-          meridian = meridian.0 (ap (λ (z : AxisParts). z.meridian) e);
-          unit = units.0 (ap (λ (z : AxisParts). z.unit) e ∙ sym (moved (ap (λ (z : AxisParts). z.direction) e)));
-          identifiers = identifiers.0 (ap (λ (z : AxisParts). z.identifiers) e);
+          name = λ i. (e i).name;
+          direction = λ i. (e i).direction;
+          meridian = meridian.0 (λ i. (e i).meridian);
+          unit = units.0 ((λ i. (e i).unit) ∙ sym (moved (λ i. (e i).direction)));
+          identifiers = identifiers.0 (λ i. (e i).identifiers);
         },
-        λ s. λ i. record {
-          name = s.name i;
-          direction = s.direction i;
-          meridian = meridian.1 s.meridian i;
-          order = Some (whole_value k);
-          unit = (units.1 s.unit ∙ moved s.direction) i;
-          identifiers = identifiers.1 s.identifiers i;
-        },
+        λ s. rw (
+          units.1 s.unit ∙ moved s.direction,
+          s.name,
+          s.direction,
+          meridian.1 s.meridian,
+          identifiers.1 s.identifiers,
+        ),
       )
 
 -- ---- the axes at a position

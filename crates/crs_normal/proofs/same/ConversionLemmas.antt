@@ -17,20 +17,20 @@ parameter-agrees numbers idents level a b in-a in-b =
     let unit = units-agree numbers idents level kinds.Plain a.unit b.unit in-a.unit in-b.unit in
     let identifiers = idents level a.identifiers b.identifiers in-a.identifiers in-b.identifiers in (
       λ e. record {
-        name = ap (λ (x : ParameterParts). x.name) e;
-        value = value.0 (ap (λ (x : ParameterParts). x.value) e);
-        unit = unit.0 (ap (λ (x : ParameterParts). x.unit) e);
-        identifiers = identifiers.0 (ap (λ (x : ParameterParts). x.identifiers) e);
+        name = λ i. (e i).name;
+        value = value.0 (λ i. (e i).value);
+        unit = unit.0 (λ i. (e i).unit);
+        identifiers = identifiers.0 (λ i. (e i).identifiers);
       },
-      λ s. λ i. record { name = s.name i; value = value.1 s.value i; unit = unit.1 s.unit i; identifiers = identifiers.1 s.identifiers i },
+      λ s. rw (s.name, value.1 s.value, unit.1 s.unit, identifiers.1 s.identifiers),
     )
 
 module _ (laws : LowerLaws) (sets : SetsDecide) (level : Level) where
   pub method-agrees : FormDecides IsMethod (norm_method level) (AgreeMethod level)
   method-agrees a b in-a in-b =
       let identifiers = sets.idents level a.identifiers b.identifiers in-a.identifiers in-b.identifiers in (
-        λ e. record { name = ap (λ (x : MethodParts). x.name) e; identifiers = identifiers.0 (ap (λ (x : MethodParts). x.identifiers) e) },
-        λ s. λ i. record { name = s.name i; identifiers = identifiers.1 s.identifiers i },
+        λ e. record { name = λ i. (e i).name; identifiers = identifiers.0 (λ i. (e i).identifiers) },
+        λ s. rw (s.name, identifiers.1 s.identifiers),
       )
 
   pub conversion-agrees : FormDecides IsConversion (norm_conversion level) (AgreeConversion level)
@@ -39,15 +39,10 @@ module _ (laws : LowerLaws) (sets : SetsDecide) (level : Level) where
       let parameters = sets.parameters level a.parameters b.parameters in-a.parameters in-b.parameters in
       let identifiers = sets.idents level a.identifiers b.identifiers in-a.identifiers in-b.identifiers in (
         λ e. record {
-          name = ap (λ (x : ConversionParts). x.name) e;
-          method = method.0 (ap (λ (x : ConversionParts). x.method) e);
-          parameters = parameters.0 (ap (λ (x : ConversionParts). x.parameters) e);
-          identifiers = identifiers.0 (ap (λ (x : ConversionParts). x.identifiers) e);
+          name = λ i. (e i).name;
+          method = method.0 (λ i. (e i).method);
+          parameters = parameters.0 (λ i. (e i).parameters);
+          identifiers = identifiers.0 (λ i. (e i).identifiers);
         },
-        λ s. λ i. record {
-          name = s.name i;
-          method = method.1 s.method i;
-          parameters = parameters.1 s.parameters i;
-          identifiers = identifiers.1 s.identifiers i;
-        },
+        λ s. rw (s.name, method.1 s.method, parameters.1 s.parameters, identifiers.1 s.identifiers),
       )

@@ -51,24 +51,17 @@ module _ (laws : LowerLaws) (sets : SetsDecide) (level : Level) where
       let system = system-agrees laws sets level a.system b.system (in-dimensions a.system in-a.system in-a.dimension)
       (in-dimensions b.system in-b.system in-b.dimension) in
       let tail = tail-agrees sets level a.tail b.tail in-a.tail in-b.tail in (
-        λ e. let alike : AgreeSystem level a.system b.system = system.0 (ap (λ (x : GeodeticParts). x.system) e) in
+        λ e. let alike : AgreeSystem level a.system b.system = system.0 (λ i. (e i).system) in
             record {
               kind = ap kind_by alike.system_type;
-              name = ap (λ (x : GeodeticParts). x.name) e;
-              dynamic = dynamic.0 (ap (λ (x : GeodeticParts). x.dynamic) e);
-              frame = frame.0 (ap (λ (x : GeodeticParts). x.frame) e);
-              meridian = meridian.0 (ap (λ (x : GeodeticParts). x.meridian) e);
+              name = λ i. (e i).name;
+              dynamic = dynamic.0 (λ i. (e i).dynamic);
+              frame = frame.0 (λ i. (e i).frame);
+              meridian = meridian.0 (λ i. (e i).meridian);
               system = alike;
-              tail = tail.0 (ap (λ (x : GeodeticParts). x.tail) e);
+              tail = tail.0 (λ i. (e i).tail);
             },
-        λ s. λ i. record {
-          name = s.name i;
-          dynamic = dynamic.1 s.dynamic i;
-          frame = frame.1 s.frame i;
-          meridian = meridian.1 s.meridian i;
-          system = system.1 s.system i;
-          tail = tail.1 s.tail i;
-        },
+        λ s. rw (s.name, dynamic.1 s.dynamic, frame.1 s.frame, meridian.1 s.meridian, system.1 s.system, tail.1 s.tail),
       )
 
   -- ---- projected CRSs
@@ -83,21 +76,21 @@ module _ (laws : LowerLaws) (sets : SetsDecide) (level : Level) where
       let unit = units-of-agree laws.normal_is_one sets.idents level kinds.Angle kinds.Angle a.unit b.unit in-a.unit in-b.unit in
       let identifiers = sets.idents level a.identifiers b.identifiers in-a.identifiers in-b.identifiers in (
         λ e. record {
-          name = ap (λ (x : BaseParts). x.name) e;
-          dynamic = dynamic.0 (ap (λ (x : BaseParts). x.dynamic) e);
-          frame = frame.0 (ap (λ (x : BaseParts). x.frame) e);
-          meridian = meridian.0 (ap (λ (x : BaseParts). x.meridian) e);
-          unit = unit.0 (ap (λ (x : BaseParts). x.unit) e);
-          identifiers = identifiers.0 (ap (λ (x : BaseParts). x.identifiers) e);
+          name = λ i. (e i).name;
+          dynamic = dynamic.0 (λ i. (e i).dynamic);
+          frame = frame.0 (λ i. (e i).frame);
+          meridian = meridian.0 (λ i. (e i).meridian);
+          unit = unit.0 (λ i. (e i).unit);
+          identifiers = identifiers.0 (λ i. (e i).identifiers);
         },
-        λ s. λ i. record {
-          name = s.name i;
-          dynamic = dynamic.1 s.dynamic i;
-          frame = frame.1 s.frame i;
-          meridian = meridian.1 s.meridian i;
-          unit = unit.1 s.unit i;
-          identifiers = identifiers.1 s.identifiers i;
-        },
+        λ s. rw (
+          s.name,
+          dynamic.1 s.dynamic,
+          frame.1 s.frame,
+          meridian.1 s.meridian,
+          unit.1 s.unit,
+          identifiers.1 s.identifiers,
+        ),
       )
 
   pub projected-agrees : FormDecides IsProjected (norm_projected level) (AgreeProjected level)
@@ -109,19 +102,13 @@ module _ (laws : LowerLaws) (sets : SetsDecide) (level : Level) where
       (in-dimensions b.system in-b.system in-b.dimension) in
       let tail = tail-agrees sets level a.tail b.tail in-a.tail in-b.tail in (
         λ e. record {
-          name = ap (λ (x : ProjectedParts). x.name) e;
-          base = base.0 (ap (λ (x : ProjectedParts). x.base) e);
-          conversion = conversion.0 (ap (λ (x : ProjectedParts). x.conversion) e);
-          system = system.0 (ap (λ (x : ProjectedParts). x.system) e);
-          tail = tail.0 (ap (λ (x : ProjectedParts). x.tail) e);
+          name = λ i. (e i).name;
+          base = base.0 (λ i. (e i).base);
+          conversion = conversion.0 (λ i. (e i).conversion);
+          system = system.0 (λ i. (e i).system);
+          tail = tail.0 (λ i. (e i).tail);
         },
-        λ s. λ i. record {
-          name = s.name i;
-          base = base.1 s.base i;
-          conversion = conversion.1 s.conversion i;
-          system = system.1 s.system i;
-          tail = tail.1 s.tail i;
-        },
+        λ s. rw (s.name, base.1 s.base, conversion.1 s.conversion, system.1 s.system, tail.1 s.tail),
       )
 
   -- ---- vertical CRSs
@@ -138,21 +125,21 @@ module _ (laws : LowerLaws) (sets : SetsDecide) (level : Level) where
       let models = sets.geoid_models level a.geoid_models b.geoid_models in-a.geoid_models in-b.geoid_models in
       let tail = tail-agrees sets level a.tail b.tail in-a.tail in-b.tail in (
         λ e. record {
-          name = ap (λ (x : VerticalParts). x.name) e;
-          dynamic = dynamic.0 (ap (λ (x : VerticalParts). x.dynamic) e);
-          frame = frame.0 (ap (λ (x : VerticalParts). x.frame) e);
-          system = system.0 (ap (λ (x : VerticalParts). x.system) e);
-          geoid_models = models.0 (ap (λ (x : VerticalParts). x.geoid_models) e);
-          tail = tail.0 (ap (λ (x : VerticalParts). x.tail) e);
+          name = λ i. (e i).name;
+          dynamic = dynamic.0 (λ i. (e i).dynamic);
+          frame = frame.0 (λ i. (e i).frame);
+          system = system.0 (λ i. (e i).system);
+          geoid_models = models.0 (λ i. (e i).geoid_models);
+          tail = tail.0 (λ i. (e i).tail);
         },
-        λ s. λ i. record {
-          name = s.name i;
-          dynamic = dynamic.1 s.dynamic i;
-          frame = frame.1 s.frame i;
-          system = system.1 s.system i;
-          geoid_models = models.1 s.geoid_models i;
-          tail = tail.1 s.tail i;
-        },
+        λ s. rw (
+          s.name,
+          dynamic.1 s.dynamic,
+          frame.1 s.frame,
+          system.1 s.system,
+          models.1 s.geoid_models,
+          tail.1 s.tail,
+        ),
       )
 
   -- ---- compound CRSs
@@ -171,17 +158,12 @@ module _ (laws : LowerLaws) (sets : SetsDecide) (level : Level) where
       let height = vertical-agrees a.vertical b.vertical in-a.vertical in-b.vertical in
       let tail = tail-agrees sets level a.tail b.tail in-a.tail in-b.tail in (
         λ e. record {
-          name = ap (λ (x : CompoundParts). x.name) e;
-          horizontal = plane.0 (ap (λ (x : CompoundParts). x.horizontal) e);
-          vertical = height.0 (ap (λ (x : CompoundParts). x.vertical) e);
-          tail = tail.0 (ap (λ (x : CompoundParts). x.tail) e);
+          name = λ i. (e i).name;
+          horizontal = plane.0 (λ i. (e i).horizontal);
+          vertical = height.0 (λ i. (e i).vertical);
+          tail = tail.0 (λ i. (e i).tail);
         },
-        λ s. λ i. record {
-          name = s.name i;
-          horizontal = plane.1 s.horizontal i;
-          vertical = height.1 s.vertical i;
-          tail = tail.1 s.tail i;
-        },
+        λ s. rw (s.name, plane.1 s.horizontal, height.1 s.vertical, tail.1 s.tail),
       )
 
   -- ---- all

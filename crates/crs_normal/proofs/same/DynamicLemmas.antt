@@ -30,11 +30,8 @@ module _ (laws : LowerLaws) (sets : SetsDecide) (level : Level) where
   dynamic-agrees a b in-a in-b =
       let epoch = values-agree laws.normal_is_one a.epoch b.epoch in-a.epoch in-b.epoch in
       let model = models-agree a.model b.model in-a.model in-b.model in (
-        λ e. record {
-          epoch = epoch.0 (ap (λ (x : DynamicParts). x.epoch) e);
-          model = model.0 (ap (λ (x : DynamicParts). x.model) e);
-        },
-        λ s. λ i. record { epoch = epoch.1 s.epoch i; model = model.1 s.model i },
+        λ e. record { epoch = epoch.0 (λ i. (e i).epoch); model = model.0 (λ i. (e i).model) },
+        λ s. rw (epoch.1 s.epoch, model.1 s.model),
       )
 
   pub dynamics-agree : FormDecides (Maybe IsDynamic) (option_map (norm_dynamic level))

@@ -66,20 +66,19 @@ module _ (laws : LowerLaws) (sets : SetsDecide) (level : Level) where
       let unit = length-agrees laws.normal_is_one sets.idents level a.unit b.unit in-a.unit in-b.unit in
       let identifiers = sets.idents level a.identifiers b.identifiers in-a.identifiers in-b.identifiers in (
         λ e. record {
-          name = ap (λ (x : EllipsoidParts). x.name) e;
-          semi_major_axis = axis.0 (ap (λ (x : EllipsoidParts). x.semi_major_axis) e);
-          inverse_flattening = flattening.0 (ap (λ (x : EllipsoidParts). x.inverse_flattening) e);
-          unit = unit.0 (some-one (norm_length level a.unit) (norm_length level b.unit)
-              (ap (λ (x : EllipsoidParts). x.unit) e));
-          identifiers = identifiers.0 (ap (λ (x : EllipsoidParts). x.identifiers) e);
+          name = λ i. (e i).name;
+          semi_major_axis = axis.0 (λ i. (e i).semi_major_axis);
+          inverse_flattening = flattening.0 (λ i. (e i).inverse_flattening);
+          unit = unit.0 (some-one (norm_length level a.unit) (norm_length level b.unit) (λ i. (e i).unit));
+          identifiers = identifiers.0 (λ i. (e i).identifiers);
         },
-        λ s. λ i. record {
-          name = s.name i;
-          semi_major_axis = axis.1 s.semi_major_axis i;
-          inverse_flattening = flattening.1 s.inverse_flattening i;
-          unit = Some (unit.1 s.unit i);
-          identifiers = identifiers.1 s.identifiers i;
-        },
+        λ s. rw (
+          s.name,
+          axis.1 s.semi_major_axis,
+          flattening.1 s.inverse_flattening,
+          unit.1 s.unit,
+          identifiers.1 s.identifiers,
+        ),
       )
 
   pub ellipsoids-agree : FormDecides (Maybe IsEllipsoid) (option_map (norm_ellipsoid level))
@@ -96,19 +95,14 @@ module _ (laws : LowerLaws) (sets : SetsDecide) (level : Level) where
 
   pub given-agrees : FormDecides IsMeridian (norm_given level) (AgreeGiven level)
   given-agrees a b in-a in-b = (
-    λ e. let at : a.longitude ≡ b.longitude = ap (λ (x : MeridianParts). x.longitude) e in
+    λ e. let at : a.longitude ≡ b.longitude = λ i. (e i).longitude in
         record {
-          name = ap (λ (x : MeridianParts). x.name) e;
+          name = λ i. (e i).name;
           longitude = longitude.0 at;
-          unit = (unit at).0 (ap (λ (x : MeridianParts). x.unit) e);
-          identifiers = identifiers.0 (ap (λ (x : MeridianParts). x.identifiers) e);
+          unit = (unit at).0 (λ i. (e i).unit);
+          identifiers = identifiers.0 (λ i. (e i).identifiers);
         },
-    λ s. λ i. record {
-      name = s.name i;
-      longitude = longitude.1 s.longitude i;
-      unit = (unit (longitude.1 s.longitude)).1 s.unit i;
-      identifiers = identifiers.1 s.identifiers i;
-    },
+    λ s. rw ((unit (longitude.1 s.longitude)).1 s.unit, s.name, longitude.1 s.longitude, identifiers.1 s.identifiers),
   )
     where
       longitude : (a.longitude ≡ b.longitude) ↔ SameValue a.longitude b.longitude
@@ -171,19 +165,13 @@ module _ (laws : LowerLaws) (sets : SetsDecide) (level : Level) where
       let epoch = epochs-agree a.anchor_epoch b.anchor_epoch in-a.anchor_epoch in-b.anchor_epoch in
       let identifiers = sets.idents level a.identifiers b.identifiers in-a.identifiers in-b.identifiers in (
         λ e. record {
-          name = ap (λ (x : DatumParts). x.name) e;
-          ellipsoid = ellipsoid.0 (ap (λ (x : DatumParts). x.ellipsoid) e);
-          anchor = ap (λ (x : DatumParts). x.anchor) e;
-          anchor_epoch = epoch.0 (ap (λ (x : DatumParts). x.anchor_epoch) e);
-          identifiers = identifiers.0 (ap (λ (x : DatumParts). x.identifiers) e);
+          name = λ i. (e i).name;
+          ellipsoid = ellipsoid.0 (λ i. (e i).ellipsoid);
+          anchor = λ i. (e i).anchor;
+          anchor_epoch = epoch.0 (λ i. (e i).anchor_epoch);
+          identifiers = identifiers.0 (λ i. (e i).identifiers);
         },
-        λ s. λ i. record {
-          name = s.name i;
-          ellipsoid = ellipsoid.1 s.ellipsoid i;
-          anchor = s.anchor i;
-          anchor_epoch = epoch.1 s.anchor_epoch i;
-          identifiers = identifiers.1 s.identifiers i;
-        },
+        λ s. rw (s.name, ellipsoid.1 s.ellipsoid, s.anchor, epoch.1 s.anchor_epoch, identifiers.1 s.identifiers),
       )
 
   pub ensemble-agrees : FormDecides IsEnsemble (norm_ensemble level) (AgreeEnsemble level)
@@ -193,19 +181,19 @@ module _ (laws : LowerLaws) (sets : SetsDecide) (level : Level) where
       let accuracy = values-agree laws.normal_is_one a.accuracy b.accuracy in-a.accuracy in-b.accuracy in
       let identifiers = sets.idents level a.identifiers b.identifiers in-a.identifiers in-b.identifiers in (
         λ e. record {
-          name = ap (λ (x : EnsembleParts). x.name) e;
-          members = members.0 (ap (λ (x : EnsembleParts). x.members) e);
-          ellipsoid = ellipsoid.0 (ap (λ (x : EnsembleParts). x.ellipsoid) e);
-          accuracy = accuracy.0 (ap (λ (x : EnsembleParts). x.accuracy) e);
-          identifiers = identifiers.0 (ap (λ (x : EnsembleParts). x.identifiers) e);
+          name = λ i. (e i).name;
+          members = members.0 (λ i. (e i).members);
+          ellipsoid = ellipsoid.0 (λ i. (e i).ellipsoid);
+          accuracy = accuracy.0 (λ i. (e i).accuracy);
+          identifiers = identifiers.0 (λ i. (e i).identifiers);
         },
-        λ s. λ i. record {
-          name = s.name i;
-          members = members.1 s.members i;
-          ellipsoid = ellipsoid.1 s.ellipsoid i;
-          accuracy = accuracy.1 s.accuracy i;
-          identifiers = identifiers.1 s.identifiers i;
-        },
+        λ s. rw (
+          s.name,
+          members.1 s.members,
+          ellipsoid.1 s.ellipsoid,
+          accuracy.1 s.accuracy,
+          identifiers.1 s.identifiers,
+        ),
       )
 
   -- either sort of frame

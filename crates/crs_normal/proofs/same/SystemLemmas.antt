@@ -87,21 +87,20 @@ module _ (laws : LowerLaws) (sets : SetsDecide) (level : Level) where
 
   pub system-agrees : FormDecides IsNumbered (norm_system level) (AgreeSystem level)
   system-agrees a b in-a in-b = (
-    λ e. let type : a.system_type ≡ b.system_type = ap (λ (x : SystemParts). x.system_type) e in
-        let size : SameValue a.dimension b.dimension = dimension.0 (ap (λ (x : SystemParts). x.dimension) e) in
+    λ e. let type : a.system_type ≡ b.system_type = λ i. (e i).system_type in
+        let size : SameValue a.dimension b.dimension = dimension.0 (λ i. (e i).dimension) in
         record {
           system_type = type;
           dimension = size;
-          identifiers = identifiers.0 (ap (λ (x : SystemParts). x.identifiers) e);
-          axes = (axes type size).0 (ap (λ (x : SystemParts). x.axes) e);
+          identifiers = identifiers.0 (λ i. (e i).identifiers);
+          axes = (axes type size).0 (λ i. (e i).axes);
         },
-    λ s. λ i. record {
-      system_type = s.system_type i;
-      dimension = dimension.1 s.dimension i;
-      identifiers = identifiers.1 s.identifiers i;
-      axes = (axes s.system_type s.dimension).1 s.axes i;
-      unit = None;
-    },
+    λ s. rw (
+      (axes s.system_type s.dimension).1 s.axes,
+      s.system_type,
+      dimension.1 s.dimension,
+      identifiers.1 s.identifiers,
+    ),
   )
     where
       dimension : (a.dimension ≡ b.dimension) ↔ SameValue a.dimension b.dimension

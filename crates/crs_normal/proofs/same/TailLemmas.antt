@@ -26,14 +26,9 @@ module _ (sets : SetsDecide) where
       let remark = remarks-agree level a b in
       let identifiers = sets.idents level a.identifiers b.identifiers in-a.identifiers in-b.identifiers in (
         λ e. record {
-          usages = usages.0 (ap (λ (x : TailParts). x.usages) e);
-          identifiers = identifiers.0 (ap (λ (x : TailParts). x.identifiers) e);
-          remark = remark.0 (ap (λ (x : TailParts). x.remark) e);
+          usages = usages.0 (λ i. (e i).usages);
+          identifiers = identifiers.0 (λ i. (e i).identifiers);
+          remark = remark.0 (λ i. (e i).remark);
         },
-        λ s. λ i. record {
-          usages = usages.1 s.usages i;
-          bare_parts = None;
-          identifiers = identifiers.1 s.identifiers i;
-          remark = remark.1 s.remark i;
-        },
+        λ s. rw (usages.1 s.usages, identifiers.1 s.identifiers, remark.1 s.remark),
       )

@@ -72,12 +72,12 @@ module _ (numbers : NumbersDecide) (idents : IdentsDecide) (level : Level) where
       let factor = values-agree numbers a.factor b.factor in-a.factor in-b.factor in
       let identifiers = idents level a.identifiers b.identifiers in-a.identifiers in-b.identifiers in (
         λ e. record {
-          kind = ap (λ (u : UnitParts). u.kind) e;
-          name = ap (λ (u : UnitParts). u.name) e;
-          factor = factor.0 (ap (λ (u : UnitParts). u.factor) e);
-          identifiers = identifiers.0 (ap (λ (u : UnitParts). u.identifiers) e);
+          kind = λ i. (e i).kind;
+          name = λ i. (e i).name;
+          factor = factor.0 (λ i. (e i).factor);
+          identifiers = identifiers.0 (λ i. (e i).identifiers);
         },
-        λ s. λ i. record { kind = s.kind i; name = s.name i; factor = factor.1 s.factor i; identifiers = identifiers.1 s.identifiers i },
+        λ s. rw (s.kind, s.name, factor.1 s.factor, identifiers.1 s.identifiers),
       )
 
   pub units-agree : (asked : UnitKind) →
@@ -103,6 +103,6 @@ module _ (numbers : NumbersDecide) (idents : IdentsDecide) (level : Level) where
 pub named-agrees : IdentsDecide → (level : Level) → FormDecides IsNamed (norm_member level) (SameNamed level)
 named-agrees idents level a b in-a in-b =
     let identifiers = idents level a.identifiers b.identifiers in-a.identifiers in-b.identifiers in (
-      λ e. record { name = ap (λ (x : NamedParts). x.name) e; identifiers = identifiers.0 (ap (λ (x : NamedParts). x.identifiers) e) },
-      λ s. λ i. record { name = s.name i; identifiers = identifiers.1 s.identifiers i },
+      λ e. record { name = λ i. (e i).name; identifiers = identifiers.0 (λ i. (e i).identifiers) },
+      λ s. rw (s.name, identifiers.1 s.identifiers),
     )

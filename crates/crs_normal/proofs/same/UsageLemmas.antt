@@ -19,17 +19,12 @@ module _ (numbers : NumbersDecide) where
       let north = values-agree numbers a.north b.north in-a.north in-b.north in
       let east = values-agree numbers a.east b.east in-a.east in-b.east in (
         λ e. record {
-          south = south.0 (ap (λ (x : BoxParts). x.south) e);
-          west = west.0 (ap (λ (x : BoxParts). x.west) e);
-          north = north.0 (ap (λ (x : BoxParts). x.north) e);
-          east = east.0 (ap (λ (x : BoxParts). x.east) e);
+          south = south.0 (λ i. (e i).south);
+          west = west.0 (λ i. (e i).west);
+          north = north.0 (λ i. (e i).north);
+          east = east.0 (λ i. (e i).east);
         },
-        λ s. λ i. record {
-          south = south.1 s.south i;
-          west = west.1 s.west i;
-          north = north.1 s.north i;
-          east = east.1 s.east i;
-        },
+        λ s. rw (south.1 s.south, west.1 s.west, north.1 s.north, east.1 s.east),
       )
 
 module _ (numbers : NumbersDecide) (idents : IdentsDecide) where
@@ -39,17 +34,11 @@ module _ (numbers : NumbersDecide) (idents : IdentsDecide) where
       let maximum = values-agree numbers a.maximum b.maximum in-a.maximum in-b.maximum in
       let unit = length-agrees numbers idents level a.unit b.unit in-a.unit in-b.unit in (
         λ e. record {
-          minimum = minimum.0 (ap (λ (x : ExtentParts). x.minimum) e);
-          maximum = maximum.0 (ap (λ (x : ExtentParts). x.maximum) e);
-          unit = unit.0 (some-one (norm_length level a.unit) (norm_length level b.unit)
-              (ap (λ (x : ExtentParts). x.unit) e));
+          minimum = minimum.0 (λ i. (e i).minimum);
+          maximum = maximum.0 (λ i. (e i).maximum);
+          unit = unit.0 (some-one (norm_length level a.unit) (norm_length level b.unit) (λ i. (e i).unit));
         },
-        λ s. λ i. record {
-          minimum = minimum.1 s.minimum i;
-          maximum = maximum.1 s.maximum i;
-          unit =
-              Some (unit.1 s.unit i);
-        },
+        λ s. rw (minimum.1 s.minimum, maximum.1 s.maximum, unit.1 s.unit),
       )
 
   pub usage-agrees : FormDecides IsUsage norm_usage SameUsage
@@ -60,10 +49,10 @@ module _ (numbers : NumbersDecide) (idents : IdentsDecide) where
       (extent-agrees levels.Full) (option_map (norm_extent levels.Full)) refl
       (λ x. refl) a.extent b.extent in-a.extent in-b.extent in (
         λ e. record {
-          scope = ap (λ (x : UsageParts). x.scope) e;
-          area = ap (λ (x : UsageParts). x.area) e;
-          bbox = bbox.0 (ap (λ (x : UsageParts). x.bbox) e);
-          extent = extent.0 (ap (λ (x : UsageParts). x.extent) e);
+          scope = λ i. (e i).scope;
+          area = λ i. (e i).area;
+          bbox = bbox.0 (λ i. (e i).bbox);
+          extent = extent.0 (λ i. (e i).extent);
         },
-        λ s. λ i. record { scope = s.scope i; area = s.area i; bbox = bbox.1 s.bbox i; extent = extent.1 s.extent i },
+        λ s. rw (s.scope, s.area, bbox.1 s.bbox, extent.1 s.extent),
       )
