@@ -6,9 +6,8 @@ use Rattle.std.proofs.lemmas.Bool.Decides.{Decides-eqb}
 use Rattle.crs_decimal.specs.Prelude.{Value, IsNormal}
 use Rattle.crs_shape.specs.declared.unit_kind.UnitKind.{UnitKind}
 use Rattle.crs_shape.specs.declared.unit_kind.UnitKind.TheVariants as kinds
-use Rattle.crs_shape.specs.declared.unit_kind.UnitKind.TheVariants as kinds
 use Rattle.crs_shape.specs.Prelude.{asked_kind}
-use Rattle.crs_value.specs.Prelude.{IsAxis, IsAxisMeridian, IsAxisUnit, IsUnit, AxisMeridianParts, AxisParts, SystemParts, UnitParts}
+use Rattle.crs_value.specs.Prelude.{IsAxis, IsAxisMeridian, IsAxisUnit, IsUnit, AxisParts, SystemParts, UnitParts}
 use Rattle.crs_value.specs.Sound.{Each}
 use Rattle.crs_value.specs.declared.values.level.Level.{Level}
 use Rattle.crs_same.specs.Prelude.{AgreeAxis}
@@ -17,7 +16,7 @@ use Rattle.crs_normal.specs.Decides.{FormDecides, Maybe, SetsDecide}
 use Rattle.crs_normal.specs.LowerLaws.{LowerLaws}
 use Rattle.crs_normal.specs.PartTexts.{norm_axis_alone}
 use Rattle.crs_normal.specs.SpelledSystems.{axis_at, is_at, norm_axis, norm_axis_meridian, norm_axis_meridians}
-use Rattle.crs_normal.specs.SpelledUnits.{norm_units, whole_value}
+use Rattle.crs_normal.specs.SpelledUnits.{norm_units}
 use Rattle.crs_normal.proofs.same.PartLemmas.{options-agree, values-agree}
 use Rattle.crs_normal.proofs.same.UnitLemmas.{unit-agrees, units-agree}
 

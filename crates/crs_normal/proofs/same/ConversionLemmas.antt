@@ -1,7 +1,6 @@
 -- Methods, parameters, conversions and geoid models have one form exactly where they are the same.
-use Rattle.std.proofs.Common.{ap}
 use Rattle.crs_shape.specs.declared.unit_kind.UnitKind.TheVariants as kinds
-use Rattle.crs_value.specs.Prelude.{ConversionParts, MethodParts, ParameterParts, IsConversion, IsMethod, IsParameter}
+use Rattle.crs_value.specs.Prelude.{IsConversion, IsMethod, IsParameter}
 use Rattle.crs_value.specs.declared.values.level.Level.{Level}
 use Rattle.crs_same.specs.Prelude.{AgreeConversion, AgreeMethod}
 use Rattle.crs_matching.specs.Prelude.{SameParameter}

@@ -4,7 +4,7 @@ use Rattle.crs_shape.specs.declared.class.Class.TheVariants as class
 use Rattle.crs_shape.specs.declared.unit_kind.UnitKind.TheVariants as kinds
 use Rattle.crs_shape.specs.declared.system_type.SystemType.{SystemType}
 use Rattle.crs_shape.specs.Prelude.{IsOneOf, dimensions_of}
-use Rattle.crs_value.specs.Prelude.{CompoundParts, BaseParts, GeodeticParts, ProjectedParts, VerticalParts, kind_by, IsCompound, IsHorizontal, IsCrs, IsBase, IsGeodetic, IsProjected, IsVertical, IsSystem, SystemParts}
+use Rattle.crs_value.specs.Prelude.{kind_by, IsCompound, IsHorizontal, IsCrs, IsBase, IsGeodetic, IsProjected, IsVertical, IsSystem, SystemParts}
 use Rattle.crs_value.specs.declared.values.compound.Horizontal.{Horizontal}
 use Rattle.crs_value.specs.declared.values.compound.Horizontal.TheVariants as horizontal
 use Rattle.crs_value.specs.declared.values.crs.Crs.TheVariants as crs

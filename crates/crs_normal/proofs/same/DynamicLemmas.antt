@@ -1,5 +1,5 @@
 -- Deformation models and dynamic parts have one form exactly where they are the same.
-use Rattle.std.proofs.Common.{IfSome, Option, Some, None, refl, ap}
+use Rattle.std.proofs.Common.{IfSome, Option, Some, None, refl}
 use Rattle.std.specs.Option.{option_map}
 use Rattle.crs_value.specs.Prelude.{DynamicParts, IsDeformationModel, IsDynamic, IsDynamicOf}
 use Rattle.crs_value.specs.declared.values.frame.Frame.{Frame}

@@ -4,7 +4,7 @@ use Rattle.std.specs.Option.{option_map}
 use Rattle.std.proofs.lemmas.Bool.{eqb-true, false≢true}
 use Rattle.crs_decimal.specs.Prelude.{Value, IsNormal}
 use Rattle.crs_shape.specs.declared.unit_kind.UnitKind.TheVariants as kinds
-use Rattle.crs_value.specs.Prelude.{IsDatum, IsEllipsoid, IsEnsemble, IsMeridian, IsGeodeticFrame, IsVerticalFrame, DatumParts, EllipsoidParts, EnsembleParts, MeridianParts, UnitParts}
+use Rattle.crs_value.specs.Prelude.{IsDatum, IsEllipsoid, IsEnsemble, IsMeridian, IsGeodeticFrame, IsVerticalFrame, MeridianParts, UnitParts}
 use Rattle.crs_value.specs.declared.values.frame.Frame.{Frame}
 use Rattle.crs_value.specs.declared.values.frame.Frame.TheVariants as frame
 use Rattle.crs_value.specs.declared.values.level.Level.{Level}
@@ -15,7 +15,8 @@ use Rattle.crs_normal.specs.LowerLaws.{LowerLaws}
 use Rattle.crs_normal.specs.SpelledFrames.{greenwich, is_zero, norm_datum, norm_ellipsoid, norm_ensemble, norm_frame, norm_given, norm_meridian}
 use Rattle.crs_normal.specs.SpelledUnits.{norm_length, norm_units, set_idents, whole_value}
 use Rattle.crs_normal.proofs.same.PartLemmas.{options-agree, under, values-agree}
-use Rattle.crs_normal.proofs.same.UnitLemmas.{length-agrees, none-formed, some-one, units-of-agree, whole-agrees}
+use Rattle.crs_normal.proofs.same.UnitLemmas.{length-agrees, none-formed, units-of-agree, whole-agrees}
+use Rattle.crs_normal.proofs.texts.ClosedLemmas.{same-some}
 
 -- ---- a missing prime meridian
 
@@ -69,7 +70,7 @@ module _ (laws : LowerLaws) (sets : SetsDecide) (level : Level) where
           name = λ i. (e i).name;
           semi_major_axis = axis.0 (λ i. (e i).semi_major_axis);
           inverse_flattening = flattening.0 (λ i. (e i).inverse_flattening);
-          unit = unit.0 (some-one (norm_length level a.unit) (norm_length level b.unit) (λ i. (e i).unit));
+          unit = unit.0 (same-some (norm_length level a.unit) (norm_length level b.unit) (λ i. (e i).unit));
           identifiers = identifiers.0 (λ i. (e i).identifiers);
         },
         λ s. rw (
@@ -149,7 +150,7 @@ module _ (laws : LowerLaws) (sets : SetsDecide) (level : Level) where
   pub meridian-agrees : FormDecides (Maybe IsMeridian) (norm_meridian level) (AgreeMeridian level)
   meridian-agrees a b in-a in-b =
       let same = given-agrees (or_greenwich a) (or_greenwich b) (given-is a in-a) (given-is b in-b) in (
-        λ e. same.0 (some-one (norm_given level (or_greenwich a)) (norm_given level (or_greenwich b)) (sym (given-formed a) ∙ e ∙ given-formed b)),
+        λ e. same.0 (same-some (norm_given level (or_greenwich a)) (norm_given level (or_greenwich b)) (sym (given-formed a) ∙ e ∙ given-formed b)),
         λ s. given-formed a ∙ ap (λ m. Some m) (same.1 s) ∙ sym (given-formed b),
       )
 

@@ -1,5 +1,5 @@
 -- The ends of CRSs have one form exactly where they are the same.
-use Rattle.std.proofs.Common.{◌≡◌, ◌↔◌, None, ap}
+use Rattle.std.proofs.Common.{◌≡◌, ◌↔◌}
 use Rattle.crs_value.specs.Prelude.{IsTail, TailParts, kept_one}
 use Rattle.crs_value.specs.declared.values.level.Level.{Level}
 use Rattle.crs_same.specs.Prelude.{AgreeTail}

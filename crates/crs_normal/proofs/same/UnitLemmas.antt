@@ -3,7 +3,7 @@ use Rattle.std.proofs.Common.{◌≡◌, ◌↔◌, ◌∙◌, ℕ, [], Option, 
 use Rattle.crs_decimal.specs.Prelude.{SameNumber, whole_number, Value, IsNormal, exact}
 use Rattle.crs_shape.specs.declared.unit_kind.UnitKind.{UnitKind}
 use Rattle.crs_shape.specs.declared.unit_kind.UnitKind.TheVariants as kinds
-use Rattle.crs_value.specs.Prelude.{IsIdent, IsNamed, IsUnit, IsUnitOf, Suits, NamedParts, UnitParts, kept-none}
+use Rattle.crs_value.specs.Prelude.{IsIdent, IsNamed, IsUnit, IsUnitOf, Suits, UnitParts, kept-none}
 use Rattle.crs_value.specs.Sound.{Each}
 use Rattle.crs_value.specs.declared.values.level.Level.{Level}
 use Rattle.crs_matching.specs.Prelude.{SameIdents, SameNamed, SameLength, SameUnit, or_metre, kind_as, BothOrNeither}
@@ -13,9 +13,6 @@ use Rattle.crs_normal.specs.SpelledFrames.{norm_member}
 use Rattle.crs_normal.specs.SpelledUnits.{metre, norm_length, norm_unit, norm_units, set_idents, whole_value}
 use Rattle.crs_normal.proofs.members.IdentLemmas.{none-form}
 use Rattle.crs_normal.proofs.same.PartLemmas.{NumbersDecide, options-agree, values-agree}
-
-pub some-one : {A : Type 0} (a b : A) → Some a ≡ Some b → a ≡ b
-some-one a b e = cc
 
 -- ---- no identifiers, and a missing unit of length
 

@@ -1,7 +1,7 @@
 -- Boxes, extents and usages have one form exactly where they are the same.
-use Rattle.std.proofs.Common.{Some, refl, ap}
+use Rattle.std.proofs.Common.{refl}
 use Rattle.std.specs.Option.{option_map}
-use Rattle.crs_value.specs.Prelude.{IsBox, IsExtent, IsUsage, BoxParts, ExtentParts, UsageParts}
+use Rattle.crs_value.specs.Prelude.{IsBox, IsExtent, IsUsage}
 use Rattle.crs_value.specs.declared.values.level.Level.{Level}
 use Rattle.crs_value.specs.declared.values.level.Level.TheVariants as levels
 use Rattle.crs_matching.specs.Prelude.{SameBox, SameExtent, SameUsage}
@@ -9,7 +9,8 @@ use Rattle.crs_normal.specs.Decides.{FormDecides}
 use Rattle.crs_normal.specs.SpelledUnits.{norm_length}
 use Rattle.crs_normal.specs.SpelledUsages.{norm_extent, norm_usage}
 use Rattle.crs_normal.proofs.same.PartLemmas.{NumbersDecide, options-agree, values-agree}
-use Rattle.crs_normal.proofs.same.UnitLemmas.{IdentsDecide, length-agrees, some-one}
+use Rattle.crs_normal.proofs.same.UnitLemmas.{IdentsDecide, length-agrees}
+use Rattle.crs_normal.proofs.texts.ClosedLemmas.{same-some}
 
 module _ (numbers : NumbersDecide) where
   pub box-agrees : FormDecides IsBox (λ box. box) SameBox
@@ -36,7 +37,7 @@ module _ (numbers : NumbersDecide) (idents : IdentsDecide) where
         λ e. record {
           minimum = minimum.0 (λ i. (e i).minimum);
           maximum = maximum.0 (λ i. (e i).maximum);
-          unit = unit.0 (some-one (norm_length level a.unit) (norm_length level b.unit) (λ i. (e i).unit));
+          unit = unit.0 (same-some (norm_length level a.unit) (norm_length level b.unit) (λ i. (e i).unit));
         },
         λ s. rw (minimum.1 s.minimum, maximum.1 s.maximum, unit.1 s.unit),
       )

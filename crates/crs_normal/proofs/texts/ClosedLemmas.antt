@@ -1,9 +1,9 @@
 -- The text of a well-formed node is closed, and no closed text is the front of another.
-use Rattle.std.proofs.Common.{◌≡◌, ◌≢◌, ◌≤◌, ◌+◌, ℕ, zero, suc, ◌==◌, ◌&&◌, ◌||◌, not, Bool, true, false, Option, Some, None, List, [], ◌∷◌, ◌++◌, if◌then◌else◌, refl, sym, ap, ◌∙◌, subst, append_assoc, arith}
+use Rattle.std.proofs.Common.{◌≡◌, ◌≢◌, ◌≤◌, ◌+◌, ℕ, zero, suc, ◌==◌, not, Bool, true, false, Option, Some, None, List, [], ◌∷◌, ◌++◌, if◌then◌else◌, refl, sym, ap, ◌∙◌, subst, append_assoc, arith}
 use Rattle.std.specs.List.{list_all}
 use Rattle.std.proofs.lemmas.Bool.{and_parts, eqb-true, true≢false}
-use Rattle.crs_decimal.specs.Prelude.{is_digit, is_run_byte}
-use Rattle.crs_text.specs.Prelude.{Item, leaf, node, Siblings, End, More, IsNode, doubled, Kind, number, text, word, IsSingle, IsWord, is_letter, is_word_byte, single_spelling, AreFormed, AreAllFormed, item_text, others_text}
+use Rattle.crs_decimal.specs.Prelude.{is_run_byte}
+use Rattle.crs_text.specs.Prelude.{Item, leaf, node, Siblings, End, More, IsNode, doubled, Kind, number, text, word, IsSingle, IsWord, is_word_byte, single_spelling, AreFormed, AreAllFormed, item_text, others_text}
 use Rattle.crs_normal.specs.Closed.{IsClosed, closing_count, opening_count, unquoted}
 
 -- ---- a scanner, which finds the `]` that closes
