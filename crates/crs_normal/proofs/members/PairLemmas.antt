@@ -28,18 +28,12 @@ pub two-in : PlainIsOne → {level : Level} {c : Class} {slots : List SlotParts}
     ReadsFirst ReadsNumber (drop 1 (those c class.Number (arguments item))) y →
     {rest after : Siblings} → rest ≡ after →
     without_places_onto f (without_places_onto g rest) ≡ More (number_item x) (More (number_item y) after)
-two-in law {level = level} {c = c} o plains f g e p q x y a b {rest = rest} same =
-    let are = found-in o class.Number (e ∙ ap (λ xs. and_then xs g) p.1 ∙ ap (and_then (p.0 ∷ [])) q.1) in
+two-in law {level = level} {c = c} o plains f g e p q x y a b same =
+    let are = found-in o class.Number (rw (p.1, q.1) at e) in
     let goods = subst (Each (IsGood level c class.Number)) are (good-in o class.Number) in
-    let first = number-form law level c plains p.0 x goods.0
-    (subst (λ (xs : List Item). ReadsFirst ReadsNumber (drop 0 xs) x) are a) in
-    let second = number-form law level c plains q.0 y goods.1.0
-    (subst (λ (xs : List Item). ReadsFirst ReadsNumber (drop 1 xs) y) are b) in
-    ap (λ xs. without_places_onto xs (without_places_onto g rest)) p.1 ∙ ap (λ xs. More (without_places p.0) (without_places_onto xs rest)) q.1
-    ∙ joined first second same
-  where
-    joined : {i j k l : Item} {m n : Siblings} → i ≡ j → k ≡ l → m ≡ n → More i (More k m) ≡ More j (More l n)
-    joined h k l = cc
+    let first = number-form law level c plains p.0 x goods.0 (rw are at a) in
+    let second = number-form law level c plains q.0 y goods.1.0 (rw are at b) in
+    rw (p.1, q.1, first, second, same)
 
 -- four numbers likewise
 pub four-in : PlainIsOne → {level : Level} {c : Class} {slots : List SlotParts} {item : Item} {keyword : List ℕ}
@@ -52,30 +46,14 @@ pub four-in : PlainIsOne → {level : Level} {c : Class} {slots : List SlotParts
     {rest after : Siblings} → rest ≡ after →
     without_places_onto f (without_places_onto g (without_places_onto h (without_places_onto k rest))) ≡ More (number_item x)
     (More (number_item y) (More (number_item z) (More (number_item w) after)))
-four-in law {level = level} {c = c} o plains f g h k e p q r s x y z w a b d t {rest = rest} same =
-    let are = found-in o class.Number
-    (e ∙ ap (λ xs. and_then xs (and_then g (and_then h k))) p.1
-    ∙ ap (λ xs. and_then (p.0 ∷ []) (and_then xs (and_then h k))) q.1
-    ∙ ap (λ xs. and_then (p.0 ∷ []) (and_then (q.0 ∷ []) (and_then xs k))) r.1
-    ∙ ap (λ xs. and_then (p.0 ∷ []) (and_then (q.0 ∷ []) (and_then (r.0 ∷ []) xs))) s.1) in
+four-in law {level = level} {c = c} o plains f g h k e p q r s x y z w a b d t same =
+    let are = found-in o class.Number (rw (p.1, q.1, r.1, s.1) at e) in
     let goods = subst (Each (IsGood level c class.Number)) are (good-in o class.Number) in
-    let first = number-form law level c plains p.0 x goods.0
-    (subst (λ (xs : List Item). ReadsFirst ReadsNumber (drop 0 xs) x) are a) in
-    let second = number-form law level c plains q.0 y goods.1.0
-    (subst (λ (xs : List Item). ReadsFirst ReadsNumber (drop 1 xs) y) are b) in
-    let third = number-form law level c plains r.0 z goods.1.1.0
-    (subst (λ (xs : List Item). ReadsFirst ReadsNumber (drop 2 xs) z) are d) in
-    let fourth = number-form law level c plains s.0 w goods.1.1.1.0
-    (subst (λ (xs : List Item). ReadsFirst ReadsNumber (drop 3 xs) w) are t) in
-    ap (λ xs. without_places_onto xs (without_places_onto g (without_places_onto h (without_places_onto k rest)))) p.1
-    ∙ ap (λ xs. More (without_places p.0) (without_places_onto xs (without_places_onto h (without_places_onto k rest)))) q.1
-    ∙ ap (λ xs. More (without_places p.0) (More (without_places q.0) (without_places_onto xs (without_places_onto k rest)))) r.1
-    ∙ ap (λ xs. More (without_places p.0) (More (without_places q.0) (More (without_places r.0) (without_places_onto xs rest)))) s.1
-    ∙ joined first second third fourth same
-  where
-    joined : {i j k l i' j' k' l' : Item} {m n : Siblings} → i ≡ i' → j ≡ j' → k ≡ k' → l ≡ l' → m ≡ n →
-        More i (More j (More k (More l m))) ≡ More i' (More j' (More k' (More l' n)))
-    joined a b c d e = cc
+    let first = number-form law level c plains p.0 x goods.0 (rw are at a) in
+    let second = number-form law level c plains q.0 y goods.1.0 (rw are at b) in
+    let third = number-form law level c plains r.0 z goods.1.1.0 (rw are at d) in
+    let fourth = number-form law level c plains s.0 w goods.1.1.1.0 (rw are at t) in
+    rw (p.1, q.1, r.1, s.1, first, second, third, fourth, same)
 
 -- ---- optional parts in their normal form
 

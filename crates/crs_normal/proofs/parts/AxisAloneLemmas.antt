@@ -30,9 +30,7 @@ named-alike (node place keyword square first others close) = refl
 
 those-alike : (e : Class) (items : Siblings) → those class.AxisUnit e items ≡ those class.PlainUnit e items
 those-alike e End = refl
-those-alike e (More i items) =
-    ap (λ o. if is_class e o then i ∷ those class.AxisUnit e items else those class.AxisUnit e items) (named-alike i)
-    ∙ ap (λ xs. if is_class e (class_in class.PlainUnit i) then i ∷ xs else xs) (those-alike e items)
+those-alike e (More i items) = rw (named-alike i, those-alike e items)
 
 shaped-alike : (ds : List Class) (items : Siblings) → AreShaped class.AxisUnit ds items → AreShaped class.PlainUnit ds items
 shaped-alike [] End h = tt

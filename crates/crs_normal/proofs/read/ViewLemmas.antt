@@ -170,15 +170,12 @@ those-split c d (item ∷ items) rest =
 pub all-those : (c d : Class) (front : List Item) → Each (λ item. is_a c d item ≡ true) front →
     those c d (onto front End) ≡ front
 all-those c d [] h = refl
-all-those c d (item ∷ items) h =
-    ap (λ b. if b then item ∷ those c d (onto items End) else those c d (onto items End)) h.0
-    ∙ ap (λ xs. item ∷ xs) (all-those c d items h.1)
+all-those c d (item ∷ items) h = rw (h.0, all-those c d items h.1)
 
 pub none-those : (c d : Class) (front : List Item) → Each (λ item. is_a c d item ≡ false) front →
     those c d (onto front End) ≡ []
 none-those c d [] h = refl
-none-those c d (item ∷ items) h =
-    ap (λ b. if b then item ∷ those c d (onto items End) else those c d (onto items End)) h.0 ∙ none-those c d items h.1
+none-those c d (item ∷ items) h = rw h.0 (none-those c d items h.1)
 
 pub each-so : {A : Type 0} (P Q : A → Type 0) → ((x : A) → P x → Q x) → (xs : List A) → Each P xs → Each Q xs
 each-so P Q f [] h = tt

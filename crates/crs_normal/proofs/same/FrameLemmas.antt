@@ -45,18 +45,13 @@ zero-agrees laws v in-v = (
 )
 
 -- parts that count where the test fails, which is the same on both sides
-counted : {A : Type 0} (p q : Bool) (x y : Option A) → p ≡ q → ((if p then None else x) ≡ (if q then None else y))
-    ↔ ((p ≡ true) ⊎ (x ≡ y))
-counted true true x y e = (λ f. inl refl, λ s. refl)
-counted true false x y e = absurd (false≢true (sym e))
-counted false true x y e = absurd (false≢true e)
-counted false false x y e = (
-  λ f. inr f,
-  λ s. elim s [
-    | inl f ↦ absurd (false≢true f)
-    | inr f ↦ f
-  ],
-)
+counted : {A Z R : Type 0} (p q : Bool) (x y : Option A) → p ≡ q → (p ≡ true) ↔ Z → (x ≡ y) ↔ R →
+    ((if p then None else x) ≡ (if q then None else y)) ↔ (Z ⊎ R)
+counted true true x y e zero same = (λ f. inl (zero.0 refl), λ s. refl)
+counted true false x y e zero same = absurd (false≢true (sym e))
+counted false true x y e zero same = absurd (false≢true e)
+counted false false x y e zero same =
+    (λ f. inr (same.0 f), λ s. elim s [ inl z ↦ absurd (false≢true (zero.1 z)) | inr r ↦ same.1 r ])
 
 module _ (laws : LowerLaws) (sets : SetsDecide) (level : Level) where
   pub ellipsoid-agrees : FormDecides IsEllipsoid (norm_ellipsoid level) (AgreeEllipsoid level)
@@ -116,23 +111,10 @@ module _ (laws : LowerLaws) (sets : SetsDecide) (level : Level) where
           ↔ BothOrNeither (SameUnit kinds.Angle level) a.unit b.unit
       angles = units-of-agree laws.normal_is_one sets.idents level kinds.Angle kinds.Angle a.unit b.unit in-a.unit in-b.unit
 
-      tested : a.longitude ≡ b.longitude → (unit_in a ≡ unit_in b)
-          ↔ ((is_zero a.longitude ≡ true) ⊎ (norm_units level kinds.Angle a.unit ≡ norm_units level kinds.Angle b.unit))
-      tested at = counted (is_zero a.longitude) (is_zero b.longitude) (norm_units level kinds.Angle a.unit)
-          (norm_units level kinds.Angle b.unit) (ap is_zero at)
-
       unit : a.longitude ≡ b.longitude → (unit_in a ≡ unit_in b)
           ↔ (IsZero a.longitude ⊎ BothOrNeither (SameUnit kinds.Angle level) a.unit b.unit)
-      unit at = (
-        λ e. elim ((tested at).0 e) [
-          | inl z ↦ inl (zero-a.0 z)
-          | inr u ↦ inr (angles.0 u)
-        ],
-        λ s. elim s [
-          | inl z ↦ (tested at).1 (inl (zero-a.1 z))
-          | inr u ↦ (tested at).1 (inr (angles.1 u))
-        ],
-      )
+      unit at = counted (is_zero a.longitude) (is_zero b.longitude) (norm_units level kinds.Angle a.unit)
+          (norm_units level kinds.Angle b.unit) (ap is_zero at) zero-a angles
 
       identifiers : (set_idents level a.identifiers ≡ set_idents level b.identifiers) ↔ SameIdents level a.identifiers b.identifiers
       identifiers = sets.idents level a.identifiers b.identifiers in-a.identifiers in-b.identifiers

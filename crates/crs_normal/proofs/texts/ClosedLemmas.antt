@@ -57,22 +57,16 @@ fails test n b none e = elim (b == n) as (λ v. (b == n) ≡ v → v ≡ false) 
   | false ↦ λ q. refl
 ] refl
 
-plain-step : (depth b : ℕ) (bytes : List ℕ) (x y z : Bool) → (b == 34) ≡ x → (b == 91) ≡ y → (b == 93) ≡ z →
-    x ≡ false → y ≡ false → z ≡ false → behind depth false (b ∷ bytes) ≡ behind depth false bytes
-plain-step depth b bytes x y z p q r e f g =
-    ap (λ v. if v then behind depth true bytes else (if b == 91 then behind (suc depth) false bytes
-    else (if b == 93 then closed_by depth bytes (λ d. behind d false bytes) else behind depth false bytes))) (p ∙ e)
-    ∙ ap (λ v. if v then behind (suc depth) false bytes
-    else (if b == 93 then closed_by depth bytes (λ d. behind d false bytes) else behind depth false bytes)) (q ∙ f)
-    ∙ ap (λ v. if v then closed_by depth bytes (λ d. behind d false bytes) else behind depth false bytes) (r ∙ g)
+plain-step : (depth b : ℕ) (bytes : List ℕ) → (b == 34) ≡ false → (b == 91) ≡ false → (b == 93) ≡ false →
+    behind depth false (b ∷ bytes) ≡ behind depth false bytes
+plain-step depth b bytes e f g = rw (e, f, g)
 
 run-passes : (test : ℕ → Bool) → test 34 ≡ false → test 91 ≡ false → test 93 ≡ false → (raw : List ℕ) →
     list_all test raw ≡ true → Passes raw
 run-passes test p q r [] e depth rest = refl
 run-passes test p q r (b ∷ bytes) e depth rest =
     let parts = and_parts (test b) (list_all test bytes) e in
-    plain-step depth b (bytes ++ rest) (b == 34) (b == 91) (b == 93) refl refl refl (fails test 34 b p parts.0)
-    (fails test 91 b q parts.0) (fails test 93 b r parts.0)
+    plain-step depth b (bytes ++ rest) (fails test 34 b p parts.0) (fails test 91 b q parts.0) (fails test 93 b r parts.0)
     ∙ run-passes test p q r bytes parts.1 depth rest
 
 word-bytes : (raw : List ℕ) → IsWord raw → list_all is_word_byte raw ≡ true
@@ -84,25 +78,15 @@ word-passes raw h = run-passes is_word_byte refl refl refl raw (word-bytes raw h
 
 -- ---- quoted texts
 
-quoted-step : (depth c : ℕ) (rest : List ℕ) (v : Bool) → (c == 34) ≡ v →
-    behind depth true ((if v then 34 ∷ 34 ∷ [] else c ∷ []) ++ rest) ≡ behind depth true rest
-quoted-step depth c rest true e = refl
-quoted-step depth c rest false e =
-    ap (λ v. if v then behind depth false rest else behind depth true rest) e
-
-doubled-parts : (c : ℕ) (cs rest : List ℕ) (v : Bool) →
-    (if v then 34 ∷ 34 ∷ doubled cs else c ∷ doubled cs) ++ rest
-    ≡ (if v then 34 ∷ 34 ∷ [] else c ∷ []) ++ (doubled cs ++ rest)
-doubled-parts c cs rest true = refl
-doubled-parts c cs rest false = refl
-
 inside-passes : (cs : List ℕ) (depth : ℕ) (rest : List ℕ) →
     behind depth true (doubled cs ++ rest) ≡ behind depth true rest
 inside-passes [] depth rest = refl
-inside-passes (c ∷ cs) depth rest =
-    ap (behind depth true) (doubled-parts c cs rest (c == 34))
-    ∙ quoted-step depth c (doubled cs ++ rest) (c == 34) refl
-    ∙ inside-passes cs depth rest
+inside-passes (c ∷ cs) depth rest = by (inside-passes cs depth rest) (c == 34) refl
+  where
+    by : behind depth true (doubled cs ++ rest) ≡ behind depth true rest → (v : Bool) → (c == 34) ≡ v →
+        behind depth true (doubled (c ∷ cs) ++ rest) ≡ behind depth true rest
+    by passes true e = rw e passes
+    by passes false e = rw (e, e) passes
 
 text-passes : (raw cs : List ℕ) → raw ≡ doubled cs → Passes (34 ∷ raw ++ 34 ∷ [])
 text-passes raw cs e depth rest =
@@ -208,8 +192,7 @@ byte-closes b bytes depth known plain e =
         | true ↦ λ closes. at 93 (eqb-true b 93 closes) (bracket-closes bytes depth known)
         | false ↦ λ no_close.
             one-more b bytes depth depth false false 0 0 (counts 91 no_open) (counts 93 no_close) refl
-            (known depth false (sym (plain-step depth b bytes (b == 34) (b == 91) (b == 93) refl refl refl plain no_open
-            no_close) ∙ e))
+            (known depth false (sym (plain-step depth b bytes plain no_open no_close) ∙ e))
       ] refl
     ] refl
   where
