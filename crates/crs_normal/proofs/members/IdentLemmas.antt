@@ -1,6 +1,6 @@
 -- Identifiers: the item of one reads as it wherever it is, equal texts are of equal identifiers,
 -- and the sets of two lists in order are one list exactly where they are the same set.
-use Rattle.std.proofs.Common.{◌≡◌, ◌≤◌, ◌↔◌, ◌⊎◌, ℕ, suc, ◌+◌, Bool, true, false, ◌&&◌, codes, if◌then◌else◌, IfSome, Option, Some, None, List, [], ◌∷◌, inl, inr, length, map, map-id, nat_le, refl, ap, subst, arith}
+use Rattle.std.proofs.Common.{◌≡◌, ◌≤◌, ◌↔◌, ◌⊎◌, ℕ, suc, ◌+◌, Bool, true, false, ◌&&◌, codes, if◌then◌else◌, IfSome, Option, Some, None, List, [], ◌∷◌, inl, inr, length, map-id, nat_le, refl, ap, arith}
 use Rattle.std.proofs.lemmas.Bool.{and_parts, leb-true}
 use Rattle.std.specs.List.{list_all}
 use Rattle.crs_decimal.specs.Prelude.{is_digit}
@@ -12,7 +12,7 @@ use Rattle.crs_value.specs.Prelude.{kept, kept-each, ReadsFirst, ReadsIfAny, Rea
 use Rattle.crs_value.specs.declared.values.level.Level.{Level}
 use Rattle.crs_value.specs.Sound.{Each}
 use Rattle.crs_value.specs.Values.{IdentParts}
-use Rattle.crs_matching.specs.Prelude.{SameIdent, SameIdents, SameSet}
+use Rattle.crs_matching.specs.Prelude.{SameIdent, SameIdents}
 use Rattle.crs_normal.specs.FormedWithin.{IsFormedWithin}
 use Rattle.crs_normal.specs.Ordered.{in_order}
 use Rattle.crs_normal.specs.SpelledItems.{code_item, is_short, node_of, opt, text_item, text_node}
@@ -189,17 +189,10 @@ pub idents-agree : TextLaws → ReadsIdentOnce → (level : Level) (xs ys : List
     (set_idents level xs ≡ set_idents level ys) ↔ SameIdents level xs ys
 unfolding set_idents
 idents-agree laws once level xs ys p q =
-    by (kept level xs) (kept level ys) (kept-each (λ l. IsIdent) level xs p) (kept-each (λ l. IsIdent) level ys q)
-  where
-    bytes : IdentParts → List ℕ
-    bytes i = item_text (item_ident i)
-
-    by : (xs ys : List IdentParts) → Each IsIdent xs → Each IsIdent ys →
-        (in_order bytes xs ≡ in_order bytes ys) ↔ SameSet SameIdent xs ys
-    by xs ys p q =
-        subst (λ vs. (in_order bytes vs ≡ in_order bytes ys) ↔ SameSet SameIdent xs ys) (map-id xs)
-        (subst (λ vs. (in_order bytes (map (λ i. i) xs) ≡ in_order bytes vs) ↔ SameSet SameIdent xs ys) (map-id ys)
-        (set-agrees (λ i. i) bytes IsIdent SameIdent (λ a b s t. ident-agrees a b) (ident-told laws once) xs ys p q))
+    rw (map-id (kept level xs), map-id (kept level ys)) at
+    (set-agrees (λ i. i) (λ i. item_text (item_ident i)) IsIdent SameIdent (λ a b s t. ident-agrees a b)
+    (ident-told laws once) (kept level xs) (kept level ys) (kept-each (λ l. IsIdent) level xs p)
+    (kept-each (λ l. IsIdent) level ys q))
 
 -- ---- no identifiers
 

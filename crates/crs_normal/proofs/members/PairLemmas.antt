@@ -1,5 +1,5 @@
 -- Several numbers in slots of their own, and optional units, as they are written.
-use Rattle.std.proofs.Common.{◌≡◌, ◌≢◌, ℕ, drop, Option, Some, None, List, [], ◌∷◌, refl, ◌∙◌, ap, subst}
+use Rattle.std.proofs.Common.{◌≡◌, ◌≢◌, ℕ, drop, Option, Some, None, List, [], ◌∷◌, refl, subst}
 use Rattle.crs_decimal.specs.Prelude.{Value}
 use Rattle.crs_text.specs.Prelude.{Item, Siblings, More, arguments}
 use Rattle.crs_shape.specs.declared.class.Class.{Class}
@@ -9,7 +9,6 @@ use Rattle.crs_shape.specs.declared.unit_kind.UnitKind.{UnitKind}
 use Rattle.crs_shape.specs.declared.unit_kind.UnitKind.TheVariants as kinds
 use Rattle.crs_value.specs.Prelude.{those, ReadsFirst, ReadsOptional, ReadsNumber, UnitParts}
 use Rattle.crs_value.specs.declared.values.level.Level.{Level}
-use Rattle.crs_normal.specs.WithoutPlaces.{without_places}
 use Rattle.crs_value.specs.Sound.{Each}
 use Rattle.crs_normal.specs.SpelledItems.{number_item, opt}
 use Rattle.crs_normal.specs.SpelledUnits.{item_unit, norm_length, norm_unit, norm_units}

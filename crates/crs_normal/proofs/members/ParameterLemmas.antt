@@ -1,6 +1,6 @@
 -- Parameters: the item of one reads as it wherever it is, with a unit of the class that its keyword
 -- names, and as sets they have one form.
-use Rattle.std.proofs.Common.{◌≡◌, ◌↔◌, ◌⊎◌, inl, inr, ℕ, ◌+◌, codes, IfSome, Option, Some, None, List, [], ◌∷◌, refl, sym, subst, arith}
+use Rattle.std.proofs.Common.{◌≡◌, ◌↔◌, ◌⊎◌, inl, inr, ℕ, ◌+◌, codes, IfSome, Option, Some, None, List, [], ◌∷◌, refl, arith}
 use Rattle.std.specs.Prelude.{⊤}
 use Rattle.crs_decimal.specs.Prelude.{Value}
 use Rattle.crs_text.specs.Prelude.{Item, End, More, at_place, item_text}
@@ -46,7 +46,7 @@ module _ {c : Class} {ss : List (Segment c)} {item : Item} (look : Seen c ss ite
 
   past : (d : Class) (ds : List Class) (o : Option UnitParts) → items_of d ss ≡ [] → ReadsUnitOf ds c item o →
       ReadsUnitOf (d ∷ ds) c item o
-  past d ds o none h = subst (λ l. ReadsElse (ReadsAsUnit d) l (ReadsUnitOf ds c item) o) (sym (lacks look d none)) h
+  past d ds o none h = rw (lacks look d none) h
 
   unit-found : TextLaws → (o : Option UnitParts) → IfSome o IsUnit → (ds : List Class) → Stands o ds →
       ReadsUnitOf ds c item o

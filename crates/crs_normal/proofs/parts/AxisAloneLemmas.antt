@@ -1,10 +1,10 @@
 -- An axis by itself, normal but for a unit that is `UNIT`, is the one form of its value.
-use Rattle.std.proofs.Common.{◌≡◌, ◌≢◌, IsTrue, Option, Some, None, List, [], ◌∷◌, codes, if◌then◌else◌, inl, inr, refl, sym, ◌∙◌, ap, subst}
+use Rattle.std.proofs.Common.{◌≡◌, ◌≢◌, IsTrue, Option, Some, None, List, [], ◌∷◌, codes, inl, inr, refl, sym, ◌∙◌, subst}
 use Rattle.crs_text.specs.Prelude.{Item, leaf, node, Siblings, End, More, arguments}
 use Rattle.crs_shape.specs.declared.class.Class.{Class}
 use Rattle.crs_shape.specs.declared.class.Class.TheVariants as class
 use Rattle.crs_shape.specs.declared.unit_kind.UnitKind.TheVariants as kinds
-use Rattle.crs_shape.specs.Prelude.{is_keyword, AreShaped, Shaped, class_in, class_named, is_class, slots_of}
+use Rattle.crs_shape.specs.Prelude.{is_keyword, AreShaped, Shaped, class_in, class_named, slots_of}
 use Rattle.crs_value.specs.Prelude.{AtClass, ReadsEach, ReadsFirst, those, ReadsAxis, ReadsIdent, ReadsNumber, ReadsText, ReadsUnit, AxisParts, UnitParts}
 use Rattle.crs_value.specs.declared.values.level.Level.{Level}
 use Rattle.crs_normal.specs.AxisAlone.{AreNormalArguments, IsNormalArgument, IsNormalAxis}

@@ -1,5 +1,5 @@
 -- Compound CRSs, and with them all CRSs, in their one form are read back from their items.
-use Rattle.std.proofs.Common.{◌≡◌, ◌⊎◌, ℕ, ◌+◌, List, [], ◌∷◌, inl, inr, refl, sym, ◌∙◌, ap, subst}
+use Rattle.std.proofs.Common.{◌≡◌, ◌⊎◌, ℕ, ◌+◌, List, [], ◌∷◌, inl, inr, refl, ◌∙◌, ap}
 use Rattle.crs_text.specs.Prelude.{Item, arguments, at_place}
 use Rattle.crs_shape.specs.declared.class.Class.{Class}
 use Rattle.crs_shape.specs.declared.class.Class.TheVariants as class
@@ -64,23 +64,16 @@ module _ (laws : TextLaws) (lower : LowerLaws) (level : Level) where
       (norm_horizontal level h)
   horizontal-field {item = item} look (horizontal.Geodetic g) s none left right =
       let value = horizontal.Geodetic (norm_geodetic level g) in
-      subst
-      (λ xs. ReadsAmong xs (those compound class.GeographicCrs (arguments item))
-      (those compound class.ProjectedCrs (arguments item)) value) (sym (lacks look class.GeodeticCrs none))
+      rw (lacks look class.GeodeticCrs none)
       (placed-at look class.GeographicCrs
       (λ ys. ReadsAmong [] ys (those compound class.ProjectedCrs (arguments item)) value)
       (item_geodetic (norm_geodetic level g)) left
       (λ p. (tt, geodetic-read laws lower class.GeographicCrs geographic-names level g s.0 p)))
   horizontal-field {item = item} look (horizontal.Projected r) s none left right =
       let value = horizontal.Projected (norm_projected level r) in
-      subst
-      (λ xs. ReadsAmong xs (those compound class.GeographicCrs (arguments item))
-      (those compound class.ProjectedCrs (arguments item)) value) (sym (lacks look class.GeodeticCrs none))
-      (subst (λ ys. ReadsAmong [] ys (those compound class.ProjectedCrs (arguments item)) value)
-      (sym (lacks look class.GeographicCrs left))
+      rw (lacks look class.GeodeticCrs none, lacks look class.GeographicCrs left)
       (placed-at look class.ProjectedCrs (λ zs. ReadsFirst (ReadsAsHorizontal class.ProjectedCrs) zs value)
-      (item_projected (norm_projected level r)) right
-      (λ p. (refl, projected-read laws lower level r s.0 p))))
+      (item_projected (norm_projected level r)) right (λ p. (refl, projected-read laws lower level r s.0 p)))
 
   module _ (k : CompoundParts) (s : IsCompound k) where
     abbrev of-compound : List (Segment compound)

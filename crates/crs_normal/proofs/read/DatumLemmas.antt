@@ -1,5 +1,5 @@
 -- Frames are read back from the arguments of a CRS: a reference frame, or where there is none an ensemble.
-use Rattle.std.proofs.Common.{◌≡◌, ◌⊎◌, ℕ, false, true≢false, codes, IsNone, Option, Some, None, List, [], inl, inr, sym, subst}
+use Rattle.std.proofs.Common.{◌≡◌, ◌⊎◌, ℕ, false, true≢false, codes, IsNone, Option, Some, None, List, [], inl, inr}
 use Rattle.std.specs.Option.{option_map}
 use Rattle.crs_text.specs.Prelude.{Item, arguments}
 use Rattle.crs_shape.specs.declared.class.Class.{Class}
@@ -65,7 +65,5 @@ module _ (c d e : Class) (keyword : List ℕ) (datums : class_named c keyword �
       (λ l. ReadsElse (ReadsAsDatum d) l (ReadsFirst (ReadsAsEnsemble e) (those c e (arguments item))) (frame.Datum v))
       (item_datum keyword v) p back
   frame-field {item = item} look (frame.Ensemble v) back p q =
-      subst
-      (λ l. ReadsElse (ReadsAsDatum d) l (ReadsFirst (ReadsAsEnsemble e) (those c e (arguments item))) (frame.Ensemble v))
-      (sym (lacks look d p))
+      rw (lacks look d p)
       (placed-at look e (λ l. ReadsFirst (ReadsAsEnsemble e) l (frame.Ensemble v)) (item_ensemble v) q back)

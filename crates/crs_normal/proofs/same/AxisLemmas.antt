@@ -4,20 +4,19 @@ use Rattle.std.proofs.Common.{◌≡◌, ◌↔◌, ◌∙◌, ℕ, ◌+◌, ◌
 use Rattle.std.proofs.lemmas.Bool.{false≢true}
 use Rattle.std.proofs.lemmas.Bool.Decides.{Decides-eqb}
 use Rattle.crs_decimal.specs.Prelude.{Value, IsNormal}
-use Rattle.crs_shape.specs.declared.unit_kind.UnitKind.{UnitKind}
 use Rattle.crs_shape.specs.declared.unit_kind.UnitKind.TheVariants as kinds
 use Rattle.crs_shape.specs.Prelude.{asked_kind}
 use Rattle.crs_value.specs.Prelude.{IsAxis, IsAxisMeridian, IsAxisUnit, IsUnit, AxisParts, SystemParts, UnitParts}
 use Rattle.crs_value.specs.Sound.{Each}
 use Rattle.crs_value.specs.declared.values.level.Level.{Level}
 use Rattle.crs_same.specs.Prelude.{AgreeAxis}
-use Rattle.crs_matching.specs.Prelude.{HasAt, IsPositionOf, SameAxisAlone, SameAxisMeridian, own_or, SameUnit, SameValue, BothOrNeither}
+use Rattle.crs_matching.specs.Prelude.{HasAt, IsPositionOf, SameAxisAlone, SameAxisMeridian, own_or, BothOrNeither}
 use Rattle.crs_normal.specs.Decides.{FormDecides, Maybe, SetsDecide}
 use Rattle.crs_normal.specs.LowerLaws.{LowerLaws}
 use Rattle.crs_normal.specs.PartTexts.{norm_axis_alone}
 use Rattle.crs_normal.specs.SpelledSystems.{axis_at, is_at, norm_axis, norm_axis_meridian, norm_axis_meridians}
 use Rattle.crs_normal.specs.SpelledUnits.{norm_units}
-use Rattle.crs_normal.proofs.same.PartLemmas.{options-agree, values-agree}
+use Rattle.crs_normal.proofs.same.PartLemmas.{numbers-agree, options-agree, values-agree}
 use Rattle.crs_normal.proofs.same.UnitLemmas.{unit-agrees, units-agree}
 
 -- ---- two axes
@@ -43,17 +42,13 @@ module _ (laws : LowerLaws) (sets : SetsDecide) (level : Level) where
 
   pub axis-meridians-agree : FormDecides (Maybe IsAxisMeridian) (norm_axis_meridians level)
       (BothOrNeither (SameAxisMeridian level))
-  axis-meridians-agree =
-      options-agree IsAxisMeridian (norm_axis_meridian level) (SameAxisMeridian level) axis-meridian-agrees
-      (norm_axis_meridians level) refl (λ m. refl)
+  axis-meridians-agree = options-agree _ _ _ axis-meridian-agrees _ refl (λ m. refl)
 
   -- two axes by themselves
   pub axis-alone-agrees : FormDecides IsAxis (norm_axis_alone level) (SameAxisAlone level)
   axis-alone-agrees x y in-x in-y =
       let meridian = axis-meridians-agree x.meridian y.meridian in-x.meridian in-y.meridian in
-      let order =
-      options-agree IsNormal (λ v. v) SameValue (values-agree laws.normal_is_one) (λ o. o) refl (λ v. refl) x.order y.order in-x.order
-      in-y.order in
+      let order = numbers-agree laws.normal_is_one x.order y.order in-x.order in-y.order in
       let unit = units-agree laws.normal_is_one sets.idents level kinds.Plain x.unit y.unit (plain-unit x.unit in-x.unit)
       (plain-unit y.unit in-y.unit) in
       let identifiers = sets.idents level x.identifiers y.identifiers in-x.identifiers in-y.identifiers in (
@@ -65,24 +60,9 @@ module _ (laws : LowerLaws) (sets : SetsDecide) (level : Level) where
           unit = unit.0 (λ i. (e i).unit);
           identifiers = identifiers.0 (λ i. (e i).identifiers);
         },
-        λ s. rw (
-          s.name,
-          s.direction,
-          meridian.1 s.meridian,
-          order.1 s.order,
-          unit.1 s.unit,
-          identifiers.1 s.identifiers,
-        ),
+        λ s. rw (s.name, s.direction, meridian.1 s.meridian)
+            (rw (order.1 s.order, unit.1 s.unit, identifiers.1 s.identifiers)),
       )
-
-  -- the units of two axes that ask for one kind
-  axis-units-agree : (a b : SystemParts) (x y : AxisParts) (asked : UnitKind) → Maybe IsAxisUnit a.unit →
-      Maybe IsAxisUnit b.unit → IsAxis x → IsAxis y →
-      (norm_units level asked (own_or x.unit a.unit) ≡ norm_units level asked (own_or y.unit b.unit))
-      ↔ BothOrNeither (SameUnit asked level) (own_or x.unit a.unit) (own_or y.unit b.unit)
-  axis-units-agree a b x y asked unit-a unit-b in-x in-y =
-      units-agree laws.normal_is_one sets.idents level asked (own_or x.unit a.unit) (own_or y.unit b.unit)
-      (own-sound x.unit a.unit in-x.unit unit-a) (own-sound y.unit b.unit in-y.unit unit-b)
 
   -- at the same position of two systems of one type
   pub axis-agrees : (a b : SystemParts) (k : ℕ) (x y : AxisParts) → a.system_type ≡ b.system_type →
@@ -93,7 +73,8 @@ module _ (laws : LowerLaws) (sets : SetsDecide) (level : Level) where
       let asked = asked_kind a.system_type x.direction in
       let second = own_or y.unit b.unit in
       let meridian = axis-meridians-agree x.meridian y.meridian in-x.meridian in-y.meridian in
-      let units = axis-units-agree a b x y asked unit-a unit-b in-x in-y in
+      let units = units-agree laws.normal_is_one sets.idents level asked (own_or x.unit a.unit) second
+      (own-sound x.unit a.unit in-x.unit unit-a) (own-sound y.unit b.unit in-y.unit unit-b) in
       let moved : x.direction ≡ y.direction →
       norm_units level asked second ≡ norm_units level (asked_kind b.system_type y.direction) second =
       λ e. λ i. norm_units level (asked_kind (type i) (e i)) second in
@@ -105,13 +86,8 @@ module _ (laws : LowerLaws) (sets : SetsDecide) (level : Level) where
           unit = units.0 ((λ i. (e i).unit) ∙ sym (moved (λ i. (e i).direction)));
           identifiers = identifiers.0 (λ i. (e i).identifiers);
         },
-        λ s. rw (
-          units.1 s.unit ∙ moved s.direction,
-          s.name,
-          s.direction,
-          meridian.1 s.meridian,
-          identifiers.1 s.identifiers,
-        ),
+        λ s. rw (units.1 s.unit ∙ moved s.direction, s.name, s.direction)
+            (rw (meridian.1 s.meridian, identifiers.1 s.identifiers)),
       )
 
 -- ---- the axes at a position

@@ -83,14 +83,8 @@ module _ (laws : LowerLaws) (sets : SetsDecide) (level : Level) where
           unit = unit.0 (λ i. (e i).unit);
           identifiers = identifiers.0 (λ i. (e i).identifiers);
         },
-        λ s. rw (
-          s.name,
-          dynamic.1 s.dynamic,
-          frame.1 s.frame,
-          meridian.1 s.meridian,
-          unit.1 s.unit,
-          identifiers.1 s.identifiers,
-        ),
+        λ s. rw (s.name, dynamic.1 s.dynamic, frame.1 s.frame)
+            (rw (meridian.1 s.meridian, unit.1 s.unit, identifiers.1 s.identifiers)),
       )
 
   pub projected-agrees : FormDecides IsProjected (norm_projected level) (AgreeProjected level)
@@ -132,14 +126,8 @@ module _ (laws : LowerLaws) (sets : SetsDecide) (level : Level) where
           geoid_models = models.0 (λ i. (e i).geoid_models);
           tail = tail.0 (λ i. (e i).tail);
         },
-        λ s. rw (
-          s.name,
-          dynamic.1 s.dynamic,
-          frame.1 s.frame,
-          system.1 s.system,
-          models.1 s.geoid_models,
-          tail.1 s.tail,
-        ),
+        λ s. rw (s.name, dynamic.1 s.dynamic, frame.1 s.frame)
+            (rw (system.1 s.system, models.1 s.geoid_models, tail.1 s.tail)),
       )
 
   -- ---- compound CRSs

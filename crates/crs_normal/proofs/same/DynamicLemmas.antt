@@ -22,9 +22,7 @@ dynamics-sound (Some d) (frame.Ensemble ensemble) s = absurd s
 module _ (laws : LowerLaws) (sets : SetsDecide) (level : Level) where
   models-agree : FormDecides (Maybe IsDeformationModel) (option_map (norm_deformation_model level))
       (BothOrNeither (SameDeformationModel level))
-  models-agree =
-      options-agree IsDeformationModel (norm_deformation_model level) (SameDeformationModel level)
-      (named-agrees sets.idents level) (option_map (norm_deformation_model level)) refl (λ x. refl)
+  models-agree = options-agree _ _ _ (named-agrees sets.idents level) _ refl (λ x. refl)
 
   pub dynamic-agrees : FormDecides IsDynamic (norm_dynamic level) (AgreeDynamic level)
   dynamic-agrees a b in-a in-b =
@@ -36,6 +34,4 @@ module _ (laws : LowerLaws) (sets : SetsDecide) (level : Level) where
 
   pub dynamics-agree : FormDecides (Maybe IsDynamic) (option_map (norm_dynamic level))
       (BothOrNeither (AgreeDynamic level))
-  dynamics-agree =
-      options-agree IsDynamic (norm_dynamic level) (AgreeDynamic level) dynamic-agrees
-      (option_map (norm_dynamic level)) refl (λ x. refl)
+  dynamics-agree = options-agree _ _ _ dynamic-agrees _ refl (λ x. refl)

@@ -14,7 +14,7 @@ use Rattle.crs_normal.specs.Decides.{FormDecides, Maybe, SetsDecide}
 use Rattle.crs_normal.specs.LowerLaws.{LowerLaws}
 use Rattle.crs_normal.specs.SpelledFrames.{greenwich, is_zero, norm_datum, norm_ellipsoid, norm_ensemble, norm_frame, norm_given, norm_meridian}
 use Rattle.crs_normal.specs.SpelledUnits.{norm_length, norm_units, set_idents, whole_value}
-use Rattle.crs_normal.proofs.same.PartLemmas.{options-agree, under, values-agree}
+use Rattle.crs_normal.proofs.same.PartLemmas.{numbers-agree, options-agree, under, values-agree}
 use Rattle.crs_normal.proofs.same.UnitLemmas.{length-agrees, none-formed, units-of-agree, whole-agrees}
 use Rattle.crs_normal.proofs.texts.ClosedLemmas.{same-some}
 
@@ -68,20 +68,13 @@ module _ (laws : LowerLaws) (sets : SetsDecide) (level : Level) where
           unit = unit.0 (same-some (norm_length level a.unit) (norm_length level b.unit) (λ i. (e i).unit));
           identifiers = identifiers.0 (λ i. (e i).identifiers);
         },
-        λ s. rw (
-          s.name,
-          axis.1 s.semi_major_axis,
-          flattening.1 s.inverse_flattening,
-          unit.1 s.unit,
-          identifiers.1 s.identifiers,
-        ),
+        λ s. rw (s.name, axis.1 s.semi_major_axis, flattening.1 s.inverse_flattening)
+            (rw (unit.1 s.unit, identifiers.1 s.identifiers)),
       )
 
   pub ellipsoids-agree : FormDecides (Maybe IsEllipsoid) (option_map (norm_ellipsoid level))
       (BothOrNeither (AgreeEllipsoid level))
-  ellipsoids-agree =
-      options-agree IsEllipsoid (norm_ellipsoid level) (AgreeEllipsoid level) ellipsoid-agrees
-      (option_map (norm_ellipsoid level)) refl (λ x. refl)
+  ellipsoids-agree = options-agree _ _ _ ellipsoid-agrees _ refl (λ x. refl)
 
   -- ---- prime meridians
 
@@ -138,14 +131,10 @@ module _ (laws : LowerLaws) (sets : SetsDecide) (level : Level) where
 
   -- ---- frames
 
-  epochs-agree : FormDecides (Maybe IsNormal) (λ epoch. epoch) (BothOrNeither SameValue)
-  epochs-agree =
-      options-agree IsNormal (λ value. value) SameValue (values-agree laws.normal_is_one) (λ epoch. epoch) refl (λ x. refl)
-
   pub datum-agrees : FormDecides IsDatum (norm_datum level) (AgreeDatum level)
   datum-agrees a b in-a in-b =
       let ellipsoid = ellipsoids-agree a.ellipsoid b.ellipsoid in-a.ellipsoid in-b.ellipsoid in
-      let epoch = epochs-agree a.anchor_epoch b.anchor_epoch in-a.anchor_epoch in-b.anchor_epoch in
+      let epoch = numbers-agree laws.normal_is_one a.anchor_epoch b.anchor_epoch in-a.anchor_epoch in-b.anchor_epoch in
       let identifiers = sets.idents level a.identifiers b.identifiers in-a.identifiers in-b.identifiers in (
         λ e. record {
           name = λ i. (e i).name;
@@ -170,13 +159,8 @@ module _ (laws : LowerLaws) (sets : SetsDecide) (level : Level) where
           accuracy = accuracy.0 (λ i. (e i).accuracy);
           identifiers = identifiers.0 (λ i. (e i).identifiers);
         },
-        λ s. rw (
-          s.name,
-          members.1 s.members,
-          ellipsoid.1 s.ellipsoid,
-          accuracy.1 s.accuracy,
-          identifiers.1 s.identifiers,
-        ),
+        λ s. rw (s.name, members.1 s.members, ellipsoid.1 s.ellipsoid)
+            (rw (accuracy.1 s.accuracy, identifiers.1 s.identifiers)),
       )
 
   -- either sort of frame

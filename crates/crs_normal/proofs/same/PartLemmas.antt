@@ -26,6 +26,10 @@ options-agree Is form Same agree all none some (Some a) (Some b) in-a in-b = (
   λ s. some a ∙ ap (λ x. Some x) ((agree a b in-a in-b).1 s) ∙ sym (some b),
 )
 
+-- a number that may be missing
+pub numbers-agree : NumbersDecide → FormDecides (Maybe IsNormal) (λ value. value) (BothOrNeither SameValue)
+numbers-agree numbers = options-agree _ _ _ (values-agree numbers) _ refl (λ x. refl)
+
 -- what is under a constructor decides
 pub under : {A B R : Type 0} {x y : A} (c : A → B) → (c x ≡ c y → x ≡ y) → (x ≡ y) ↔ R → (c x ≡ c y) ↔ R
 under c one same = (λ e. same.0 (one e), λ r. ap c (same.1 r))

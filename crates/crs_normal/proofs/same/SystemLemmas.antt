@@ -8,7 +8,7 @@ use Rattle.crs_matching.specs.Prelude.{SameIdents, SameValue}
 use Rattle.crs_same.specs.Prelude.{AgreeAt, AgreeAxes, AgreeAxis, AgreeSystem}
 use Rattle.crs_normal.specs.Decides.{FormDecides, IsNumbered, SetsDecide}
 use Rattle.crs_normal.specs.LowerLaws.{LowerLaws}
-use Rattle.crs_normal.specs.SpelledSystems.{axes_from, norm_axis, norm_system, with_axis}
+use Rattle.crs_normal.specs.SpelledSystems.{axes_from, norm_axis, norm_system}
 use Rattle.crs_normal.specs.SpelledUnits.{set_idents}
 use Rattle.crs_normal.proofs.same.AxisLemmas.{Found, axis-agrees, both-agree, found, sound-at}
 use Rattle.crs_normal.proofs.same.PartLemmas.{values-agree}
@@ -62,17 +62,11 @@ module _ (laws : LowerLaws) (sets : SetsDecide) (level : Level) where
       let x = found-at a in-a k first (omega (arith, last)) in
       let y = found-at b in-b k first (omega (arith, last, long)) in
       let rest = axes-agree a b in-a in-b type long (k + 1) n (omega arith) (omega (arith, last)) in
-      let of-a : axes_from level a k (suc n) ≡ norm_axis level a k x.axis ∷ axes_from level a (k + 1) n =
-      ap (λ f. with_axis level a k f (axes_from level a (k + 1) n)) x.is in
-      let of-b : axes_from level b k (suc n) ≡ norm_axis level b k y.axis ∷ axes_from level b (k + 1) n =
-      ap (λ f. with_axis level b k f (axes_from level b (k + 1) n)) y.is in
       let lists =
       heads-agree (norm_axis level a k x.axis) (norm_axis level b k y.axis) (axes_from level a (k + 1) n)
       (axes_from level b (k + 1) n)
-      (position-agrees a b k in-a in-b type x y) rest in (
-        λ e. (from-agrees a b k n).0 (lists.0 (sym of-a ∙ e ∙ of-b)),
-        λ s. of-a ∙ lists.1 ((from-agrees a b k n).1 s) ∙ sym of-b,
-      )
+      (position-agrees a b k in-a in-b type x y) rest in
+      rw (x.is, y.is) (λ e. (from-agrees a b k n).0 (lists.0 e), λ s. lists.1 ((from-agrees a b k n).1 s))
 
   all-agree : (a b : SystemParts) → IsNumbered a → IsNumbered b → a.system_type ≡ b.system_type →
       length a.axes ≡ length b.axes →
@@ -95,12 +89,8 @@ module _ (laws : LowerLaws) (sets : SetsDecide) (level : Level) where
           identifiers = identifiers.0 (λ i. (e i).identifiers);
           axes = (axes type size).0 (λ i. (e i).axes);
         },
-    λ s. rw (
-      (axes s.system_type s.dimension).1 s.axes,
-      s.system_type,
-      dimension.1 s.dimension,
-      identifiers.1 s.identifiers,
-    ),
+    λ s. rw ((axes s.system_type s.dimension).1 s.axes, s.system_type)
+        (rw (dimension.1 s.dimension, identifiers.1 s.identifiers)),
   )
     where
       dimension : (a.dimension ≡ b.dimension) ↔ SameValue a.dimension b.dimension

@@ -44,11 +44,9 @@ module _ (numbers : NumbersDecide) (idents : IdentsDecide) where
 
   pub usage-agrees : FormDecides IsUsage norm_usage SameUsage
   usage-agrees a b in-a in-b =
-      let bbox = options-agree IsBox (λ x. x) SameBox (box-agrees numbers) (λ x. x) refl
-      (λ x. refl) a.bbox b.bbox in-a.bbox in-b.bbox in
-      let extent = options-agree IsExtent (norm_extent levels.Full) (SameExtent levels.Full)
-      (extent-agrees levels.Full) (option_map (norm_extent levels.Full)) refl
-      (λ x. refl) a.extent b.extent in-a.extent in-b.extent in (
+      let bbox = options-agree _ _ _ (box-agrees numbers) (λ x. x) refl (λ x. refl) a.bbox b.bbox in-a.bbox in-b.bbox in
+      let extent = options-agree _ _ _ (extent-agrees levels.Full) (option_map (norm_extent levels.Full)) refl (λ x. refl)
+      a.extent b.extent in-a.extent in-b.extent in (
         λ e. record {
           scope = λ i. (e i).scope;
           area = λ i. (e i).area;
