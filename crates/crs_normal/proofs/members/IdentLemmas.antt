@@ -42,20 +42,15 @@ text-fit n raw t = fit-leaf n text 0 raw t
 
 code-read : (raw : List ℕ) (place : ℕ) (rest : Siblings) →
     ReadsFirst ReadsText (single_of (More (at_place place (code_item raw)) rest)) raw
-code-read raw place rest = by (is_short raw)
-  where
-    by : (b : Bool) → ReadsFirst ReadsText (single_of (More (leaf (if b then number else text) place raw) rest)) raw
-    by true = refl
-    by false = refl
+code-read raw place rest =
+    elim (is_short raw) as (λ b. ReadsFirst ReadsText
+    (single_of (More (leaf (if b then number else text) place raw) rest)) raw) [ true ↦ refl | false ↦ refl ]
 
 code-side : (raw : List ℕ) →
     IsIn class.Identifier class.Number (code_item raw) ⊎ IsIn class.Identifier class.Text (code_item raw)
-code-side raw = by (is_short raw)
-  where
-    by : (b : Bool) → (Some (class_of_kind (if b then number else text)) ≡ Some class.Number)
-        ⊎ (Some (class_of_kind (if b then number else text)) ≡ Some class.Text)
-    by true = inl refl
-    by false = inr refl
+code-side raw =
+    elim (is_short raw) as (λ b. (Some (class_of_kind (if b then number else text)) ≡ Some class.Number)
+    ⊎ (Some (class_of_kind (if b then number else text)) ≡ Some class.Text)) [ true ↦ inl refl | false ↦ inr refl ]
 
 abbrev a-code : List ℕ → Segment class.Identifier
 a-code raw = either-item class.Number class.Text refl (code_item raw) (code-side raw)
@@ -74,12 +69,9 @@ version-read x start = by x.version x.citation x.uri
   where
     optional : (v : List ℕ) (place : ℕ) (rest : Siblings) →
         ReadsOptional ReadsText (single_of (More (at_place place (code_item v)) rest)) (Some v)
-    optional v place rest = kinds (is_short v)
-      where
-        kinds : (b : Bool) → ReadsOptional ReadsText
-            (single_of (More (leaf (if b then number else text) place v) rest)) (Some v)
-        kinds true = refl
-        kinds false = refl
+    optional v place rest =
+        elim (is_short v) as (λ b. ReadsOptional ReadsText
+        (single_of (More (leaf (if b then number else text) place v) rest)) (Some v)) [ true ↦ refl | false ↦ refl ]
 
     by : (v c u : Option (List ℕ)) →
         ReadsOptional ReadsText

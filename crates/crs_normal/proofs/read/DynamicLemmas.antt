@@ -40,9 +40,7 @@ module _ (laws : TextLaws) (level : Level) (d : DynamicParts) (s : IsDynamic d) 
         epoch = one-field look class.FrameEpoch (number_node (codes "FRAMEEPOCH")) _ _ refl
             (λ p. number-read laws d.epoch s.epoch 0);
         model = opt-field look class.DeformationModel item_deformation_model _ _ refl
-            (some-mapped (norm_deformation_model level) IsDeformationModel
-            (ReadsBack item_deformation_model (ReadsDeformationModel class.DeformationModel))
-            (deformation-model-read level) d.model s.model);
+            (some-mapped _ _ _ (deformation-model-read level) d.model s.model);
       }
 
 -- ---- among the arguments of a CRS, whatever the frame beside it is
@@ -57,5 +55,4 @@ pub dynamic-field : TextLaws → {c : Class} {ss : List (Segment c)} {item : Ite
     ReadsIfAny ReadsDynamic class.Dynamic c item (option_map (norm_dynamic level) o)
 dynamic-field laws look level o f s same =
     opt-field look class.Dynamic item_dynamic _ _ same
-    (some-mapped (norm_dynamic level) IsDynamic (ReadsBack item_dynamic (ReadsDynamic class.Dynamic))
-    (dynamic-read laws level) o (dynamics-sound o f s))
+    (some-mapped _ _ _ (dynamic-read laws level) o (dynamics-sound o f s))

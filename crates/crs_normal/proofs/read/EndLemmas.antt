@@ -11,7 +11,7 @@ use Rattle.crs_normal.specs.SpelledConversions.{item_conversion, item_geoid_mode
 use Rattle.crs_normal.specs.SpelledItems.{text_node}
 use Rattle.crs_normal.specs.SpelledSystems.{axes_from, item_axis, item_head, norm_system}
 use Rattle.crs_normal.specs.SpelledUnits.{item_ident, item_unit, set_idents}
-use Rattle.crs_normal.specs.SpelledUsages.{item_usage, norm_tail, norm_usage, set_usages}
+use Rattle.crs_normal.specs.SpelledUsages.{item_usage, norm_tail, set_usages}
 use Rattle.crs_normal.specs.TextLaws.{TextLaws}
 use Rattle.crs_normal.proofs.made.BehindLemmas.{NamesSystem}
 use Rattle.crs_normal.proofs.made.TailLemmas.{NamesTail, usages-sound}
@@ -36,8 +36,7 @@ parameters-back : TextLaws → (level : Level) (ps : List ParameterParts) → Ea
     Each (ReadsBack item_parameter (ReadsParameter class.Parameter)) (set_parameters level ps)
 unfolding set_parameters
 parameters-back laws level ps s =
-    set-kept (norm_parameter level) (λ p. item_text (item_parameter p)) IsParameter
-    (ReadsBack item_parameter (ReadsParameter class.Parameter))
+    set-kept _ (λ p. item_text (item_parameter p)) _ (ReadsBack item_parameter (ReadsParameter class.Parameter))
     (λ p q. parameter-read laws (norm_parameter level p) (parameter-kept level p q)) ps s
 
 module _ (laws : TextLaws) (level : Level) (v : ConversionParts) (s : IsConversion v) where
@@ -61,8 +60,7 @@ pub geoids-back : (level : Level) (gs : List GeoidModelParts) → Each IsGeoidMo
     Each (ReadsBack item_geoid_model (ReadsGeoidModel class.GeoidModel)) (set_geoid_models level gs)
 unfolding set_geoid_models
 geoids-back level gs s =
-    set-kept (norm_geoid_model level) (λ g. item_text (item_geoid_model g)) IsGeoidModel
-    (ReadsBack item_geoid_model (ReadsGeoidModel class.GeoidModel))
+    set-kept _ (λ g. item_text (item_geoid_model g)) _ (ReadsBack item_geoid_model (ReadsGeoidModel class.GeoidModel))
     (λ g q. named-read class.GeoidModel (codes "GEOIDMODEL") (keyword-names _ _)
     (norm_geoid_model level g) (named-kept level g q)) gs s
 
@@ -72,7 +70,7 @@ written-usages : (level : Level) (us : List UsageParts) → Each IsUsage us →
     Each IsWrittenUsage (set_usages level us)
 unfolding set_usages
 written-usages level us s =
-    set-kept norm_usage (λ u. item_text (item_usage u)) IsUsage IsWrittenUsage usage-kept (kept level us)
+    set-kept _ (λ u. item_text (item_usage u)) _ IsWrittenUsage usage-kept (kept level us)
     (kept-each (λ l. IsUsage) level us s)
 
 module _ (laws : TextLaws) (c : Class) (names : NamesTail c) (level : Level) (t : TailParts) (s : IsTail t) where

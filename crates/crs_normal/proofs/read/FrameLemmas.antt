@@ -132,15 +132,13 @@ meridian-read laws level (Some m) s = given-read laws level m s
 pub ellipsoids-back : TextLaws → (level : Level) (o : Option EllipsoidParts) → IfSome o IsEllipsoid →
     IfSome (option_map (norm_ellipsoid level) o) (ReadsBack item_ellipsoid (ReadsEllipsoid class.Ellipsoid))
 ellipsoids-back laws level o s =
-    some-mapped (norm_ellipsoid level) IsEllipsoid (ReadsBack item_ellipsoid (ReadsEllipsoid class.Ellipsoid))
-    (ellipsoid-read laws level) o s
+    some-mapped _ _ _ (ellipsoid-read laws level) o s
 
 members-back : (level : Level) (ms : List MemberParts) → Each IsMember ms →
     Each (ReadsBack item_member (ReadsMember class.Member)) (set_members level ms)
 unfolding set_members
 members-back level ms s =
-    set-kept (norm_member level) (λ m. item_text (item_member m)) IsMember
-    (ReadsBack item_member (ReadsMember class.Member))
+    set-kept _ (λ m. item_text (item_member m)) _ (ReadsBack item_member (ReadsMember class.Member))
     (λ m q. named-read class.Member (codes "MEMBER") (keyword-names _ _) (norm_member level m)
     (named-kept level m q)) ms s
 

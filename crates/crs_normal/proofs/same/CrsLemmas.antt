@@ -42,8 +42,7 @@ module _ (laws : LowerLaws) (sets : SetsDecide) (level : Level) where
 
   pub geodetic-agrees : FormDecides IsGeodetic (norm_geodetic level) (AgreeGeodetic level)
   geodetic-agrees a b in-a in-b =
-      let dynamic =
-      dynamics-agree laws sets level a.dynamic b.dynamic (dynamics-sound a.dynamic a.frame in-a.dynamic)
+      let dynamic = dynamics-agree laws sets level a.dynamic b.dynamic (dynamics-sound a.dynamic a.frame in-a.dynamic)
       (dynamics-sound b.dynamic b.frame in-b.dynamic) in
       let frame = geodetic-frame-agrees laws sets level a.frame b.frame in-a.frame in-b.frame in
       let meridian = meridian-agrees laws sets level a.meridian b.meridian in-a.meridian in-b.meridian in
@@ -68,8 +67,7 @@ module _ (laws : LowerLaws) (sets : SetsDecide) (level : Level) where
 
   pub base-agrees : FormDecides IsBase (norm_base level) (AgreeBase level)
   base-agrees a b in-a in-b =
-      let dynamic =
-      dynamics-agree laws sets level a.dynamic b.dynamic (dynamics-sound a.dynamic a.frame in-a.dynamic)
+      let dynamic = dynamics-agree laws sets level a.dynamic b.dynamic (dynamics-sound a.dynamic a.frame in-a.dynamic)
       (dynamics-sound b.dynamic b.frame in-b.dynamic) in
       let frame = geodetic-frame-agrees laws sets level a.frame b.frame in-a.frame in-b.frame in
       let meridian = meridian-agrees laws sets level a.meridian b.meridian in-a.meridian in-b.meridian in
@@ -109,8 +107,7 @@ module _ (laws : LowerLaws) (sets : SetsDecide) (level : Level) where
 
   pub vertical-agrees : FormDecides IsVertical (norm_vertical level) (AgreeVertical level)
   vertical-agrees a b in-a in-b =
-      let dynamic =
-      dynamics-agree laws sets level a.dynamic b.dynamic (dynamics-sound a.dynamic a.frame in-a.dynamic)
+      let dynamic = dynamics-agree laws sets level a.dynamic b.dynamic (dynamics-sound a.dynamic a.frame in-a.dynamic)
       (dynamics-sound b.dynamic b.frame in-b.dynamic) in
       let frame = vertical-frame-agrees laws sets level a.frame b.frame in-a.frame in-b.frame in
       let in-dimensions = numbered laws (dimensions_of class.VerticalCrs) small-vertical in

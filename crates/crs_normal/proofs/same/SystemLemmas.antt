@@ -1,5 +1,5 @@
 -- Coordinate systems have one form exactly where they are the same.
-use Rattle.std.proofs.Common.{◌≡◌, ◌↔◌, ◌∙◌, ℕ, zero, suc, ◌+◌, ◌<◌, ◌≤◌, ◌⊎◌, inl, inr, List, ◌∷◌, length, refl, sym, ap, subst, arith}
+use Rattle.std.proofs.Common.{◌≡◌, ◌↔◌, ℕ, zero, suc, ◌+◌, ◌<◌, ◌≤◌, ◌⊎◌, inl, inr, List, ◌∷◌, length, refl, subst, arith}
 use Rattle.std.specs.Prelude.{⊤}
 use Rattle.std.proofs.lemmas.Bool.{cases_lt}
 use Rattle.crs_value.specs.Prelude.{AxisParts, SystemParts}
@@ -62,21 +62,17 @@ module _ (laws : LowerLaws) (sets : SetsDecide) (level : Level) where
       let x = found-at a in-a k first (omega (arith, last)) in
       let y = found-at b in-b k first (omega (arith, last, long)) in
       let rest = axes-agree a b in-a in-b type long (k + 1) n (omega arith) (omega (arith, last)) in
-      let lists =
-      heads-agree (norm_axis level a k x.axis) (norm_axis level b k y.axis) (axes_from level a (k + 1) n)
-      (axes_from level b (k + 1) n)
-      (position-agrees a b k in-a in-b type x y) rest in
+      let lists = heads-agree _ _ _ _ (position-agrees a b k in-a in-b type x y) rest in
       rw (x.is, y.is) (λ e. (from-agrees a b k n).0 (lists.0 e), λ s. lists.1 ((from-agrees a b k n).1 s))
 
   all-agree : (a b : SystemParts) → IsNumbered a → IsNumbered b → a.system_type ≡ b.system_type →
       length a.axes ≡ length b.axes →
       (axes_from level a 1 (length a.axes) ≡ axes_from level b 1 (length b.axes)) ↔ AgreeAxes level a b
   all-agree a b in-a in-b type long =
-      let count : axes_from level b 1 (length a.axes) ≡ axes_from level b 1 (length b.axes) =
-      ap (λ n. axes_from level b 1 n) long in
-      let each = axes-agree a b in-a in-b type long 1 (length a.axes) (omega arith) (omega arith) in (
-        λ e p least most. each.0 (e ∙ sym count) p least (omega (arith, most)),
-        λ s. each.1 (λ p least most. s p least (omega (arith, most))) ∙ count,
+      let each = axes-agree a b in-a in-b type long 1 (length a.axes) (omega arith) (omega arith) in
+      rw (← long) (
+        λ e p least most. each.0 e p least (omega (arith, most)),
+        λ s. each.1 (λ p least most. s p least (omega (arith, most))),
       )
 
   pub system-agrees : FormDecides IsNumbered (norm_system level) (AgreeSystem level)
