@@ -80,10 +80,7 @@ usage-is-node u = by u.scope u.area u.bbox u.extent
     by None (Some a) b e h = tt
     by None None (Some b) e h = tt
     by None None None (Some e) h = tt
-    by None None None None (inl h) = absurd (true≢false (sym h))
-    by None None None None (inr (inl h)) = absurd (true≢false (sym h))
-    by None None None None (inr (inr (inl h))) = absurd (true≢false (sym h))
-    by None None None None (inr (inr (inr h))) = absurd (true≢false (sym h))
+    by None None None None h = grind (arith, h)
 
 -- ---- the one form
 

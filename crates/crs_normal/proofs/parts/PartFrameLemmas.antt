@@ -65,8 +65,7 @@ pub datum-in-one : TextLaws → (level : Level) (d : DatumParts) → IsDatum d �
 datum-in-one laws level d s p =
     datum-read laws class.GeodeticFrame (datum_keyword (option_map (norm_ellipsoid level) d.ellipsoid))
     (search keyword-names) level d s
-    (ellipsoid-in class.GeodeticFrame (keyword-names class.GeodeticFrame (codes "ELLIPSOID"))
-    (option_map (norm_ellipsoid level) d.ellipsoid)) p
+    (ellipsoid-in class.GeodeticFrame (keyword-names _ _) (option_map (norm_ellipsoid level) d.ellipsoid)) p
 
 abbrev pub GeodeticDatumSound : Type 0
 GeodeticDatumSound = IsReadAs ReadsDatum (λ d. IsGeodeticFrame (frame.Datum d)) class.GeodeticFrame
@@ -127,8 +126,7 @@ pub ensemble-in-one : TextLaws → (level : Level) (e : EnsembleParts) → IsEns
     ReadsEnsemble class.GeodeticEnsemble (at_place p (item_ensemble (norm_ensemble level e))) (norm_ensemble level e)
 ensemble-in-one laws level e s p =
     ensemble-read laws class.GeodeticEnsemble (search keyword-names) level e s
-    (ellipsoid-in class.GeodeticEnsemble (keyword-names class.GeodeticEnsemble (codes "ELLIPSOID"))
-    (option_map (norm_ellipsoid level) e.ellipsoid)) p
+    (ellipsoid-in class.GeodeticEnsemble (keyword-names _ _) (option_map (norm_ellipsoid level) e.ellipsoid)) p
 
 pub ensemble-sound : IsReadAs ReadsEnsemble (λ e. IsGeodeticFrame (frame.Ensemble e)) class.GeodeticEnsemble →
     IsReadAs ReadsEnsemble (λ e. IsVerticalFrame (frame.Ensemble e)) class.VerticalEnsemble → (e : EnsembleParts) →

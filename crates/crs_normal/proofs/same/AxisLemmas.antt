@@ -152,15 +152,11 @@ found-here-or-behind : (P : AxisParts → Type 0) (position place : ℕ) (axis :
     HasAt position P place (axis ∷ axes) → Found position place (axis ∷ axes)
 found-here-or-behind P position place axis axes tested behind h = by (is_at position place axis.order) refl
   where
-    taken : (t : Bool) → is_at position place axis.order ≡ t →
-        axis_at position place (axis ∷ axes) ≡ (if t then Some axis else axis_at position (place + 1) axes)
-    taken t e = ap (λ u. if u then Some axis else axis_at position (place + 1) axes) e
-
     by : (t : Bool) → is_at position place axis.order ≡ t → Found position place (axis ∷ axes)
-    by true e = record { axis = axis; is = taken true e; at = inl (tested.0 e, refl) }
+    by true e = record { axis = axis; is = rw e; at = inl (tested.0 e, refl) }
     by false e = elim h [
       | inl g ↦ absurd (false≢true (sym e ∙ tested.1 g.0))
-      | inr g ↦ let r = behind g in record { axis = r.axis; is = taken false e ∙ r.is; at = inr r.at }
+      | inr g ↦ let r = behind g in record { axis = r.axis; is = rw e r.is; at = inr r.at }
     ]
 
 pub found : LowerLaws → (P : AxisParts → Type 0) (position place : ℕ) (axes : List AxisParts) → position < 10 ^ 18 →
