@@ -8,7 +8,7 @@ use Rattle.crs_text.specs.Prelude.{Item, leaf, Siblings, End, More, IsNode, numb
 use Rattle.crs_shape.specs.declared.class.Class.{Class}
 use Rattle.crs_shape.specs.declared.class.Class.TheVariants as class
 use Rattle.crs_shape.specs.Prelude.{class_of_kind}
-use Rattle.crs_value.specs.Prelude.{kept, kept-each, ReadsFirst, ReadsIfAny, ReadsOptional, ReadsText, ReadsTextOf, single_of, ReadsIdent, IsText, IsIdent}
+use Rattle.crs_value.specs.Prelude.{kept, kept-each, ReadsFirst, ReadsIfAny, ReadsOptional, ReadsText, ReadsTextOf, single_of, ReadsIdent, IsText, IsIdent, IsReadOnce}
 use Rattle.crs_value.specs.declared.values.level.Level.{Level}
 use Rattle.crs_value.specs.Sound.{Each}
 use Rattle.crs_value.specs.Values.{IdentParts}
@@ -155,10 +155,7 @@ writable n item l f is = record { formed = f.0; is_node = is; within = omega (ar
 
 -- ---- identifiers as a set
 
-abbrev pub ReadsIdentOnce : Type 0
-ReadsIdentOnce = (c : Class) (item : Item) (a b : IdentParts) → ReadsIdent c item a → ReadsIdent c item b → a ≡ b
-
-pub ident-told : TextLaws → ReadsIdentOnce → (a b : IdentParts) → IsIdent a → IsIdent b →
+pub ident-told : TextLaws → IsReadOnce ReadsIdent → (a b : IdentParts) → IsIdent a → IsIdent b →
     item_text (item_ident a) ≡ item_text (item_ident b) → a ≡ b
 ident-told laws once =
     told item_ident (ReadsIdent class.Identifier) IsIdent laws (once class.Identifier)
@@ -176,7 +173,7 @@ ident-agrees a b = (
   λ s. rw (s.authority, s.code, s.version, s.citation, s.uri),
 )
 
-pub idents-agree : TextLaws → ReadsIdentOnce → (level : Level) (xs ys : List IdentParts) → Each IsIdent xs →
+pub idents-agree : TextLaws → IsReadOnce ReadsIdent → (level : Level) (xs ys : List IdentParts) → Each IsIdent xs →
     Each IsIdent ys →
     (set_idents level xs ≡ set_idents level ys) ↔ SameIdents level xs ys
 unfolding set_idents

@@ -4,7 +4,7 @@ use Rattle.std.proofs.Common.{◌≡◌, ◌↔◌, ℕ, ◌+◌, codes, List, [
 use Rattle.crs_text.specs.Prelude.{Item, End, IsWord, at_place, item_text}
 use Rattle.crs_shape.specs.declared.class.Class.{Class}
 use Rattle.crs_shape.specs.declared.class.Class.TheVariants as class
-use Rattle.crs_value.specs.Prelude.{NamedParts, ReadsNamed, IsNamed}
+use Rattle.crs_value.specs.Prelude.{NamedParts, ReadsNamed, IsNamed, IsReadOnce, ReadsIdent}
 use Rattle.crs_value.specs.declared.values.level.Level.{Level}
 use Rattle.crs_value.specs.Sound.{Each}
 use Rattle.crs_matching.specs.Prelude.{SameNamed, SameSet}
@@ -14,7 +14,7 @@ use Rattle.crs_normal.specs.SpelledFrames.{item_member, norm_member, set_members
 use Rattle.crs_normal.specs.SpelledItems.{each, node_of, text_item}
 use Rattle.crs_normal.specs.SpelledUnits.{item_ident}
 use Rattle.crs_normal.specs.TextLaws.{TextLaws}
-use Rattle.crs_normal.proofs.members.IdentLemmas.{ReadsIdentOnce, idents-agree, text-fit, writable}
+use Rattle.crs_normal.proofs.members.IdentLemmas.{idents-agree, text-fit, writable}
 use Rattle.crs_normal.proofs.texts.ItemLemmas.{fit-node, told}
 use Rattle.crs_normal.proofs.texts.SegmentLemmas.{a-text, seen}
 use Rattle.crs_normal.proofs.members.MemberUnitLemmas.{NamesId, identifiers-back, identifiers-fit, identifiers-of}
@@ -44,11 +44,8 @@ named-fit laws keyword w n s =
 pub named-kept : (level : Level) (n : NamedParts) → IsNamed n → IsNamed (norm_member level n)
 named-kept level n s = record { name = s.name; identifiers = idents-sound level n.identifiers s.identifiers }
 
-abbrev pub ReadsNamedOnce : Type 0
-ReadsNamedOnce = (c : Class) (item : Item) (a b : NamedParts) → ReadsNamed c item a → ReadsNamed c item b → a ≡ b
-
 -- the texts of two such values tell them
-pub named-told : TextLaws → ReadsNamedOnce → (c : Class) (keyword : List ℕ) → NamesId c → IsWord keyword →
+pub named-told : TextLaws → IsReadOnce ReadsNamed → (c : Class) (keyword : List ℕ) → NamesId c → IsWord keyword →
     (level : Level) (a b : NamedParts) → IsNamed a → IsNamed b →
     item_text (item_named keyword (norm_member level a)) ≡ item_text (item_named keyword (norm_member level b)) →
     norm_member level a ≡ norm_member level b
@@ -59,7 +56,7 @@ named-told laws once c keyword names w level a b p q =
 
 -- ---- as sets
 
-pub members-agree : TextLaws → ReadsIdentOnce → ReadsNamedOnce → (level : Level) (xs ys : List NamedParts) →
+pub members-agree : TextLaws → IsReadOnce ReadsIdent → IsReadOnce ReadsNamed → (level : Level) (xs ys : List NamedParts) →
     Each IsNamed xs → Each IsNamed ys →
     (set_members level xs ≡ set_members level ys) ↔ SameSet (SameNamed level) xs ys
 unfolding set_members
@@ -68,7 +65,7 @@ members-agree laws idents once level xs ys p q =
     (named-agrees (idents-agree laws idents) level)
     (named-told laws once class.Member (codes "MEMBER") (keyword-names _ _) (refl, refl) level) xs ys p q
 
-pub geoids-agree : TextLaws → ReadsIdentOnce → ReadsNamedOnce → (level : Level) (xs ys : List NamedParts) →
+pub geoids-agree : TextLaws → IsReadOnce ReadsIdent → IsReadOnce ReadsNamed → (level : Level) (xs ys : List NamedParts) →
     Each IsNamed xs → Each IsNamed ys →
     (set_geoid_models level xs ≡ set_geoid_models level ys) ↔ SameSet (SameNamed level) xs ys
 unfolding set_geoid_models

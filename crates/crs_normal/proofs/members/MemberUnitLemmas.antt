@@ -8,7 +8,7 @@ use Rattle.crs_shape.specs.declared.class.Class.TheVariants as class
 use Rattle.crs_shape.specs.declared.unit_kind.UnitKind.{UnitKind}
 use Rattle.crs_shape.specs.Prelude.{class_named, unit_word}
 use Rattle.crs_value.specs.declared.values.level.Level.{Level}
-use Rattle.crs_value.specs.Prelude.{ReadsIds, ReadsNumber, ReadsUnit, IsIdent, IsUnit, UnitParts}
+use Rattle.crs_value.specs.Prelude.{ReadsIds, ReadsNumber, ReadsUnit, IsIdent, IsUnit, UnitParts, IsReadOnce}
 use Rattle.crs_value.specs.Sound.{Each}
 use Rattle.crs_value.specs.Values.{IdentParts}
 use Rattle.crs_normal.specs.FormedWithin.{IsFormedWithin}
@@ -66,11 +66,8 @@ unit-fit laws u s =
     fit-node (unit_word u.kind) (text_item u.name) (unit-letters u.kind) (text-fit 2 u.name s.name)
     (fit-number laws u.factor s.factor (identifiers-fit laws 2 (omega arith) u.identifiers s.identifiers))
 
-abbrev pub ReadsUnitOnce : Type 0
-ReadsUnitOnce = (c : Class) (item : Item) (a b : UnitParts) → ReadsUnit c item a → ReadsUnit c item b → a ≡ b
-
 -- the class is any in which `ID` is an identifier
-pub unit-told : TextLaws → ReadsUnitOnce → (a b : UnitParts) → IsUnit a → IsUnit b →
+pub unit-told : TextLaws → IsReadOnce ReadsUnit → (a b : UnitParts) → IsUnit a → IsUnit b →
     item_text (item_unit a) ≡ item_text (item_unit b) → a ≡ b
 unit-told laws once =
     told item_unit (ReadsUnit class.LengthUnit) IsUnit laws (once class.LengthUnit)

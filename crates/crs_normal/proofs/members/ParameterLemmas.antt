@@ -9,7 +9,7 @@ use Rattle.crs_shape.specs.declared.class.Class.TheVariants as class
 use Rattle.crs_shape.specs.declared.unit_kind.UnitKind.{UnitKind}
 use Rattle.crs_shape.specs.declared.unit_kind.UnitKind.TheVariants as kinds
 use Rattle.crs_shape.specs.Prelude.{is_keyword, class_named, unit_word}
-use Rattle.crs_value.specs.Prelude.{ParameterParts, ReadsElse, ReadsIds, ReadsAsUnit, ReadsParameter, ReadsUnitOf, parameter_units, IsIdent, IsUnit, IsParameter, UnitParts}
+use Rattle.crs_value.specs.Prelude.{ParameterParts, ReadsElse, ReadsIds, ReadsAsUnit, ReadsParameter, ReadsUnitOf, parameter_units, IsIdent, IsUnit, IsParameter, UnitParts, IsReadOnce, ReadsIdent}
 use Rattle.crs_value.specs.declared.values.level.Level.{Level}
 use Rattle.crs_value.specs.Sound.{Each}
 use Rattle.crs_value.specs.Values.{IdentParts}
@@ -20,7 +20,7 @@ use Rattle.crs_normal.specs.SpelledConversions.{item_parameter, norm_parameter, 
 use Rattle.crs_normal.specs.SpelledItems.{each, node_of, number_item, opt, text_item}
 use Rattle.crs_normal.specs.SpelledUnits.{item_ident, item_unit, norm_units}
 use Rattle.crs_normal.specs.TextLaws.{TextLaws}
-use Rattle.crs_normal.proofs.members.IdentLemmas.{ReadsIdentOnce, idents-agree, text-fit, writable}
+use Rattle.crs_normal.proofs.members.IdentLemmas.{idents-agree, text-fit, writable}
 use Rattle.crs_normal.proofs.texts.ItemLemmas.{fit-node, fit-number, fit-opt, told}
 use Rattle.crs_normal.proofs.texts.SegmentLemmas.{IsIn, MayIn, Seen, Segment, a-number, a-text, each_items, if-any, items_of, lacks, placed-at, seen}
 use Rattle.crs_normal.proofs.members.MemberUnitLemmas.{NamesId, identifiers-back, identifiers-fit, identifiers-of, number-read, unit-fit, unit-kept, unit-read}
@@ -130,17 +130,13 @@ parameter-kept level p s = record {
   identifiers = idents-sound level p.identifiers s.identifiers;
 }
 
-abbrev pub ReadsParameterOnce : Type 0
-ReadsParameterOnce =
-    (c : Class) (item : Item) (a b : ParameterParts) → ReadsParameter c item a → ReadsParameter c item b → a ≡ b
-
-pub parameter-told : TextLaws → ReadsParameterOnce → (a b : ParameterParts) → IsParameter a → IsParameter b →
+pub parameter-told : TextLaws → IsReadOnce ReadsParameter → (a b : ParameterParts) → IsParameter a → IsParameter b →
     item_text (item_parameter a) ≡ item_text (item_parameter b) → a ≡ b
 parameter-told laws once =
     told item_parameter (ReadsParameter class.Parameter) IsParameter laws (once class.Parameter)
     (λ x s. writable 4 (item_parameter x) (omega arith) (parameter-fit laws x s) tt) (parameter-read laws)
 
-pub parameters-agree : TextLaws → ReadsIdentOnce → ReadsParameterOnce → (level : Level) (xs ys : List ParameterParts) →
+pub parameters-agree : TextLaws → IsReadOnce ReadsIdent → IsReadOnce ReadsParameter → (level : Level) (xs ys : List ParameterParts) →
     Each IsParameter xs → Each IsParameter ys →
     (set_parameters level xs ≡ set_parameters level ys) ↔ SameSet (SameParameter level) xs ys
 unfolding set_parameters

@@ -3,7 +3,7 @@ use Rattle.std.proofs.Common.{◌≡◌, ◌↔◌, ◌⊎◌, ℕ, suc, ◌+◌
 use Rattle.crs_text.specs.Prelude.{Item, Siblings, End, More, IsNode, IsWord, at_place, item_text}
 use Rattle.crs_shape.specs.declared.class.Class.{Class}
 use Rattle.crs_shape.specs.declared.class.Class.TheVariants as class
-use Rattle.crs_value.specs.Prelude.{kept, kept-each, ReadsUsage, IsText, IsBox, IsExtent, IsUsage, BoxParts, ExtentParts, SaysSome, UsageParts}
+use Rattle.crs_value.specs.Prelude.{kept, kept-each, ReadsUsage, IsText, IsBox, IsExtent, IsUsage, BoxParts, ExtentParts, SaysSome, UsageParts, IsReadOnce, ReadsIdent}
 use Rattle.crs_value.specs.declared.values.level.Level.{Level}
 use Rattle.crs_value.specs.declared.values.level.Level.TheVariants as levels
 use Rattle.crs_value.specs.Sound.{Each}
@@ -13,7 +13,7 @@ use Rattle.crs_normal.specs.SpelledItems.{node_from, opt, text_node}
 use Rattle.crs_normal.specs.SpelledUsages.{item_box, item_extent, item_usage, norm_extent, norm_usage, set_usages}
 use Rattle.crs_normal.specs.TextLaws.{TextLaws}
 use Rattle.crs_normal.proofs.members.ExtentLemmas.{IsWrittenExtent, box-fit, box-read, extent-fit, extent-kept, extent-read}
-use Rattle.crs_normal.proofs.members.IdentLemmas.{ReadsIdentOnce, fit-source, idents-agree, writable}
+use Rattle.crs_normal.proofs.members.IdentLemmas.{fit-source, idents-agree, writable}
 use Rattle.crs_normal.proofs.texts.ItemLemmas.{AreFit, fit-deeper, fit-end, fit-node, fit-opt, from-arguments, told}
 use Rattle.crs_normal.proofs.texts.SegmentLemmas.{Segment, may-be, opt-field, seen, text-field, some-imp}
 use Rattle.crs_normal.proofs.same.UsageLemmas.{usage-agrees}
@@ -108,16 +108,13 @@ usage-kept u s = record {
   some = says-kept u s.some;
 }
 
-abbrev pub ReadsUsageOnce : Type 0
-ReadsUsageOnce = (c : Class) (item : Item) (a b : UsageParts) → ReadsUsage c item a → ReadsUsage c item b → a ≡ b
-
-pub usage-told : TextLaws → ReadsUsageOnce → (a b : UsageParts) → IsWrittenUsage a → IsWrittenUsage b →
+pub usage-told : TextLaws → IsReadOnce ReadsUsage → (a b : UsageParts) → IsWrittenUsage a → IsWrittenUsage b →
     item_text (item_usage a) ≡ item_text (item_usage b) → a ≡ b
 usage-told laws once =
     told item_usage (ReadsUsage class.Usage) IsWrittenUsage laws (once class.Usage)
     (λ x s. writable 5 (item_usage x) (omega arith) (usage-fit laws x s) (usage-is-node x s.some)) (usage-read laws)
 
-pub usages-agree : TextLaws → ReadsIdentOnce → ReadsUsageOnce → (level : Level) (xs ys : List UsageParts) →
+pub usages-agree : TextLaws → IsReadOnce ReadsIdent → IsReadOnce ReadsUsage → (level : Level) (xs ys : List UsageParts) →
     Each IsUsage xs → Each IsUsage ys →
     (set_usages level xs ≡ set_usages level ys) ↔ SameSet SameUsage (kept level xs) (kept level ys)
 unfolding set_usages
