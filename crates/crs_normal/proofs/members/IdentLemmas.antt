@@ -5,7 +5,6 @@ use Rattle.std.proofs.lemmas.Bool.{and_parts, leb-true}
 use Rattle.std.specs.List.{list_all}
 use Rattle.crs_decimal.specs.Prelude.{is_digit}
 use Rattle.crs_text.specs.Prelude.{Item, leaf, Siblings, End, More, IsNode, number, text, IsSingle, IsWord, at_place, at_places, item_text}
-use Rattle.crs_shape.specs.declared.class.Class.{Class}
 use Rattle.crs_shape.specs.declared.class.Class.TheVariants as class
 use Rattle.crs_shape.specs.Prelude.{class_of_kind}
 use Rattle.crs_value.specs.Prelude.{kept, kept-each, ReadsFirst, ReadsIfAny, ReadsOptional, ReadsText, ReadsTextOf, single_of, ReadsIdent, IsText, IsIdent, IsReadOnce}

@@ -1,7 +1,6 @@
 -- Usages: the item of one reads as it wherever it is, and as sets they have one form.
-use Rattle.std.proofs.Common.{◌≡◌, ◌↔◌, ◌⊎◌, ℕ, suc, ◌+◌, true≢false, codes, IfSome, IsSome, Option, Some, None, option_map, List, [], ◌∷◌, inl, inr, refl, sym, arith}
-use Rattle.crs_text.specs.Prelude.{Item, Siblings, End, More, IsNode, IsWord, at_place, item_text}
-use Rattle.crs_shape.specs.declared.class.Class.{Class}
+use Rattle.std.proofs.Common.{◌≡◌, ◌↔◌, ◌⊎◌, ℕ, suc, ◌+◌, codes, IfSome, IsSome, Option, Some, None, option_map, List, [], ◌∷◌, inl, inr, refl, arith}
+use Rattle.crs_text.specs.Prelude.{Siblings, End, More, IsNode, IsWord, at_place, item_text}
 use Rattle.crs_shape.specs.declared.class.Class.TheVariants as class
 use Rattle.crs_value.specs.Prelude.{kept, kept-each, ReadsUsage, IsText, IsBox, IsExtent, IsUsage, BoxParts, ExtentParts, SaysSome, UsageParts, IsReadOnce, ReadsIdent}
 use Rattle.crs_value.specs.declared.values.level.Level.{Level}

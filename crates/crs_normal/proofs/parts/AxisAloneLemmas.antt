@@ -1,5 +1,5 @@
 -- An axis by itself, normal but for a unit that is `UNIT`, is the one form of its value.
-use Rattle.std.proofs.Common.{◌≡◌, ◌≢◌, IsTrue, Option, Some, None, List, [], ◌∷◌, codes, inl, inr, refl, sym, ◌∙◌, subst}
+use Rattle.std.proofs.Common.{◌≡◌, ◌≢◌, IsTrue, Option, List, [], ◌∷◌, codes, inl, inr, refl, sym, ◌∙◌, subst}
 use Rattle.crs_text.specs.Prelude.{Item, leaf, node, Siblings, End, More, arguments}
 use Rattle.crs_shape.specs.declared.class.Class.{Class}
 use Rattle.crs_shape.specs.declared.class.Class.TheVariants as class
@@ -12,14 +12,14 @@ use Rattle.crs_normal.specs.WithoutPlaces.{without_places}
 use Rattle.crs_normal.specs.Normal.{IsNormalIn}
 use Rattle.crs_value.specs.Sound.{Each}
 use Rattle.crs_normal.specs.PartTexts.{norm_axis_alone}
-use Rattle.crs_normal.specs.SpelledItems.{opt}
 use Rattle.crs_normal.specs.SpelledSystems.{item_axis}
-use Rattle.crs_normal.specs.SpelledUnits.{item_unit, norm_unit, norm_units}
+use Rattle.crs_normal.specs.SpelledUnits.{item_unit, norm_unit}
 use Rattle.crs_normal.proofs.normal.AxisLemmas.{axis_meridian-form, direction-form, opt-meridians}
 use Rattle.crs_normal.proofs.normal.FormLemmas.{IsGood, node-spelled, one-spelled, optional-spelled, optional-by}
 use Rattle.crs_normal.proofs.normal.LeafLemmas.{PlainIsOne, number-node-form, text-form}
 use Rattle.crs_normal.proofs.normal.UnitLemmas.{idents-found-spelled, in-axis, in-plain, unit-form}
-use Rattle.crs_normal.proofs.read.ViewLemmas.{without_places-spread, those-looked, view, those-at}
+use Rattle.crs_normal.proofs.members.PairLemmas.{opt-units}
+use Rattle.crs_normal.proofs.read.ViewLemmas.{each-so, without_places-spread, those-looked, view, those-at}
 
 -- ---- a unit of an axis as a plain unit
 
@@ -81,11 +81,6 @@ good-of level d other item f = record { shaped = f.shaped; normal = by f.normal 
     by (inl h) = h
     by (inr h) = absurd (other h.0)
 
-each-good : (level : Level) (d : Class) → d ≢ class.AxisUnit → (items : List Item) → Each (IsFair level d) items →
-    Each (IsGood level class.Axis d) items
-each-good level d other [] h = tt
-each-good level d other (item ∷ items) h = (good-of level d other item h.0, each-good level d other items h.1)
-
 -- ---- its unit
 
 abbrev plain_item : Level → UnitParts → Item
@@ -102,11 +97,6 @@ unit-alone-form law level item u f reads = by f.normal
     by (inr h) =
         unit-form law level class.Axis class.PlainUnit kinds.Plain refl in-plain (λ raw p. p) item u
         (record { shaped = as-plain level item f.shaped h.1 u reads; normal = h.1 }) (plain-reads item u reads)
-
-opt-plain : (level : Level) (o : Option UnitParts) (rest : Siblings) →
-    opt (plain_item level) o rest ≡ opt item_unit (norm_units level kinds.Plain o) rest
-opt-plain level None rest = refl
-opt-plain level (Some u) rest = refl
 
 -- ---- the axis
 
@@ -128,7 +118,7 @@ axis-alone-form law level (node place keyword square first others close) x shape
     λ e. those-fair level e (s.0 ∷ s.1.0) items are normal.normal_arguments in
     let looked = λ (e : Class). those-looked d e (slots_of d) items v in
     let good : (e : Class) → e ≢ class.AxisUnit → Each (IsGood level d e) (those d e items) =
-    λ e other. each-good level e other (those d e items) (fair e) in
+    λ e other. each-so _ _ (good-of level e other) (those d e items) (fair e) in
     node-spelled place keyword _ square first others close _ normal.first_keyword
     (without_places-spread d (slots_of d) items v
     ∙ one-spelled (text-form level d) _ v.0 (good class.Text (λ e. cc)) (looked class.Text) (v.1.1.0.not_more refl) x.name
@@ -143,5 +133,5 @@ axis-alone-form law level (node place keyword square first others close) x shape
     (fair class.AxisUnit) (looked class.AxisUnit) (v4.1.1.0.not_more refl) x.unit reads.unit
     (idents-found-spelled level d items v5.0 (good class.Identifier (λ e. cc)) (looked class.Identifier)
     normal.ascending_sets.0 normal.at_level.0 x.identifiers reads.identifiers End End refl)
-    ∙ opt-plain level x.unit _))
+    ∙ opt-units level kinds.Plain x.unit _))
     ∙ opt-meridians level x.meridian _)))

@@ -156,10 +156,6 @@ module _ (b : ℕ) (bytes : List ℕ) (depth within : ℕ) (quoted after : Bool)
 none-more : (x : ℕ) → x ≡ 0 + x
 none-more x = omega arith
 
-none-else : {A : Type 0} (v : Bool) (x y : A) → v ≡ false → (if v then x else y) ≡ y
-none-else true x y e = absurd (true≢false e)
-none-else false x y e = refl
-
 -- the last bracket
 last-closes : (bytes : List ℕ) → bytes ≡ [] → Closes 0 false (93 ∷ bytes)
 last-closes [] e = record { stays_open = front-open; ends = refl }
@@ -192,7 +188,7 @@ byte-closes b bytes depth known plain e =
         | true ↦ λ closes. at 93 (eqb-true b 93 closes) (bracket-closes bytes depth known)
         | false ↦ λ no_close.
             one-more b bytes depth depth false false 0 0 (counts 91 no_open) (counts 93 no_close) refl
-            (known depth false (sym (plain-step depth b bytes plain no_open no_close) ∙ e))
+            (known depth false (rw (plain, no_open, no_close) at e))
       ] refl
     ] refl
   where
@@ -203,11 +199,7 @@ byte-closes b bytes depth known plain e =
 
     counts : (byte : ℕ) → (b == byte) ≡ false → (x : List ℕ) →
         unquoted byte false (b ∷ x) ≡ 0 + unquoted byte false x
-    counts byte other x =
-        none-else (b == 34) (unquoted byte true x)
-        (if b == byte then suc (unquoted byte false x) else unquoted byte false x) plain
-        ∙ none-else (b == byte) (suc (unquoted byte false x)) (unquoted byte false x) other
-        ∙ none-more (unquoted byte false x)
+    counts byte other x = rw (plain, other) (none-more (unquoted byte false x))
 
 -- a byte that isn't a quote
 other-closes : (b : ℕ) (bytes : List ℕ) (depth : ℕ) (quoted : Bool) → ClosesBehind bytes → (b == 34) ≡ false →
@@ -215,11 +207,10 @@ other-closes : (b : ℕ) (bytes : List ℕ) (depth : ℕ) (quoted : Bool) → Cl
 other-closes b bytes depth false known plain e = byte-closes b bytes depth known plain e
 other-closes b bytes depth true known plain e =
     one-more b bytes depth depth true true 0 0 (counts 91) (counts 93) refl
-    (known depth true (sym (none-else (b == 34) (behind depth false bytes) (behind depth true bytes) plain) ∙ e))
+    (known depth true (rw plain at e))
   where
     counts : (byte : ℕ) (x : List ℕ) → unquoted byte true (b ∷ x) ≡ 0 + unquoted byte true x
-    counts byte x =
-        none-else (b == 34) (unquoted byte false x) (unquoted byte true x) plain ∙ none-more (unquoted byte true x)
+    counts byte x = rw plain (none-more (unquoted byte true x))
 
 scanned : (bytes : List ℕ) → ClosesBehind bytes
 scanned [] depth quoted e = absurd (none-some [] e)
