@@ -9,6 +9,7 @@ use Rattle.crs_value.specs.Sound.{Each}
 use Rattle.crs_matching.specs.Prelude.{HasSame, AllHaveSame, SameSet}
 use Rattle.crs_normal.specs.Ascending.{Ascends, Below, IsIn}
 use Rattle.crs_normal.specs.Ordered.{put, put_all, in_order}
+use Rattle.crs_normal.proofs.read.ViewLemmas.{each-so}
 
 -- ---- the order of bytes
 
@@ -50,23 +51,20 @@ module _ {A : Type 0} (bytes : A → List ℕ) where
   has-old : (x z : A) (ys : List A) → IsIn z ys → IsIn z (put bytes x ys)
   has-old x z [] h = absurd h
   has-old x z (y ∷ ys) h =
-      by-order (IsIn z) (x ∷ y ∷ ys) (y ∷ ys) (y ∷ put bytes x ys) (slice_cmp nat_cmp (bytes x) (bytes y)) (λ e. inr h)
-      (λ e. h)
+      by-order (IsIn z) _ _ _ (slice_cmp nat_cmp (bytes x) (bytes y)) (λ e. inr h) (λ e. h)
       (λ e. ⊎_elim (λ q. inl q) (λ t. inr (has-old x z ys t)) h)
 
   has-back : (x z : A) (ys : List A) → IsIn z (put bytes x ys) → (z ≡ x) ⊎ IsIn z ys
   has-back x z [] h = h
   has-back x z (y ∷ ys) h =
-      by-order (λ l. IsIn z l → (z ≡ x) ⊎ IsIn z (y ∷ ys)) (x ∷ y ∷ ys) (y ∷ ys) (y ∷ put bytes x ys)
-      (slice_cmp nat_cmp (bytes x) (bytes y))
-      (λ e p. p) (λ e p. inr p)
+      by-order (λ l. IsIn z l → (z ≡ x) ⊎ IsIn z (y ∷ ys)) _ _ _ (slice_cmp nat_cmp (bytes x) (bytes y)) (λ e p. p)
+      (λ e p. inr p)
       (λ e p. ⊎_elim (λ q. inr (inl q)) (λ t. ⊎_elim (λ q. inl q) (λ u. inr (inr u)) (has-back x z ys t)) p) h
 
   has-new : (x : A) (ys : List A) → ((y : A) → IsIn y ys → bytes x ≡ bytes y → x ≡ y) → IsIn x (put bytes x ys)
   has-new x [] tells = inl refl
   has-new x (y ∷ ys) tells =
-      by-order (IsIn x) (x ∷ y ∷ ys) (y ∷ ys) (y ∷ put bytes x ys) (slice_cmp nat_cmp (bytes x) (bytes y))
-      (λ e. inl refl)
+      by-order (IsIn x) _ _ _ (slice_cmp nat_cmp (bytes x) (bytes y)) (λ e. inl refl)
       (λ e. inl (tells y (inl refl) (exact_bytes (bytes x) (bytes y) e)))
       (λ e. inr (has-new x ys (λ z h. tells z (inr h))))
 
@@ -77,16 +75,8 @@ module _ {A : Type 0} (bytes : A → List ℕ) where
   put-ascends : (x : A) (ys : List A) → Ascends bytes ys → Ascends bytes (put bytes x ys)
   put-ascends x [] h = (tt, tt)
   put-ascends x (y ∷ ys) h =
-      by-order (Ascends bytes) (x ∷ y ∷ ys) (y ∷ ys) (y ∷ put bytes x ys) (slice_cmp nat_cmp (bytes x) (bytes y))
-      (λ e. (
-        (
-          e,
-          each-of (λ z. Below (bytes x) (bytes z)) ys
-              (λ z q. nat_list_cmp_total.trans (bytes x) (bytes y) (bytes z) e
-              (each-has (λ w. Below (bytes y) (bytes w)) ys z h.0 q)),
-        ),
-        h,
-      )) (λ e. h)
+      by-order (Ascends bytes) _ _ _ (slice_cmp nat_cmp (bytes x) (bytes y))
+      (λ e. ((e, each-so _ _ (λ z. nat_list_cmp_total.trans (bytes x) (bytes y) (bytes z) e) ys h.0), h)) (λ e. h)
       (λ e. (each-put (λ z. Below (bytes y) (bytes z)) x ys (above (bytes x) (bytes y) e) h.0, put-ascends x ys h.1))
 
   all-ascend : (sorted xs : List A) → Ascends bytes sorted → Ascends bytes (put_all bytes sorted xs)
