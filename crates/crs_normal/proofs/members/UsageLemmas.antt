@@ -2,7 +2,7 @@
 use Rattle.std.proofs.Common.{◌≡◌, ◌↔◌, ◌⊎◌, ℕ, suc, ◌+◌, codes, IfSome, IsSome, Option, Some, None, option_map, List, [], ◌∷◌, inl, inr, refl, arith}
 use Rattle.crs_text.specs.Prelude.{Siblings, End, More, IsNode, IsWord, at_place, item_text}
 use Rattle.crs_shape.specs.declared.class.Class.TheVariants as class
-use Rattle.crs_value.specs.Prelude.{kept, kept-each, ReadsUsage, IsText, IsBox, IsExtent, IsUsage, BoxParts, ExtentParts, SaysSome, UsageParts, IsReadOnce, ReadsIdent}
+use Rattle.crs_value.specs.Prelude.{kept, kept-each, ReadsUsage, IsText, IsBox, IsUsage, BoxParts, ExtentParts, SaysSome, UsageParts, IsReadOnce, ReadsIdent}
 use Rattle.crs_value.specs.declared.values.level.Level.{Level}
 use Rattle.crs_value.specs.declared.values.level.Level.TheVariants as levels
 use Rattle.crs_value.specs.Sound.{Each}
@@ -14,7 +14,7 @@ use Rattle.crs_normal.specs.TextLaws.{TextLaws}
 use Rattle.crs_normal.proofs.members.ExtentLemmas.{IsWrittenExtent, box-fit, box-read, extent-fit, extent-kept, extent-read}
 use Rattle.crs_normal.proofs.members.IdentLemmas.{fit-source, idents-agree, writable}
 use Rattle.crs_normal.proofs.texts.ItemLemmas.{AreFit, fit-deeper, fit-end, fit-node, fit-opt, from-arguments, told}
-use Rattle.crs_normal.proofs.texts.SegmentLemmas.{Segment, may-be, opt-field, seen, text-field, some-imp}
+use Rattle.crs_normal.proofs.texts.SegmentLemmas.{Segment, may-be, opt-field, seen, text-field, some-imp, some-mapped}
 use Rattle.crs_normal.proofs.same.UsageLemmas.{usage-agrees}
 use Rattle.crs_normal.proofs.members.SetLemmas.{set-agrees}
 use Rattle.crs_normal.proofs.read.NameLemmas.{keyword-names}
@@ -83,11 +83,6 @@ usage-is-node u = by u.scope u.area u.bbox u.extent
 
 -- ---- the one form
 
-extents-kept : (o : Option ExtentParts) → IfSome o IsExtent →
-    IfSome (option_map (norm_extent levels.Full) o) IsWrittenExtent
-extents-kept None s = s
-extents-kept (Some e) s = extent-kept levels.Full e s
-
 still-some : (o : Option ExtentParts) → IsSome o → IsSome (option_map (norm_extent levels.Full) o)
 still-some None s = s
 still-some (Some e) s = refl
@@ -103,7 +98,7 @@ usage-kept u s = record {
   scope = s.scope;
   area = s.area;
   bbox = s.bbox;
-  extent = extents-kept u.extent s.extent;
+  extent = some-mapped _ _ _ (extent-kept levels.Full) u.extent s.extent;
   some = says-kept u s.some;
 }
 

@@ -23,15 +23,9 @@ use Rattle.crs_normal.proofs.texts.SegmentLemmas.{IsIn, ReadsBack, Seen, Segment
 use Rattle.crs_normal.proofs.read.NameLemmas.{keyword-names}
 use Rattle.crs_normal.proofs.texts.RootLemmas.{is-geodetic}
 
-geographic-names : GeodeticNames class.GeographicCrs
-geographic-names = search keyword-names
-
-geodetic-names : GeodeticNames class.GeodeticCrs
-geodetic-names = search keyword-names
-
 names-of : (t : SystemType) → GeodeticNames (geodetic_class t)
-names-of types.Ellipsoidal = geographic-names
-names-of other = geodetic-names
+names-of types.Ellipsoidal = search keyword-names
+names-of other = search keyword-names
 
 abbrev compound : Class
 compound = class.CompoundCrs
@@ -68,7 +62,7 @@ module _ (laws : TextLaws) (lower : LowerLaws) (level : Level) where
       (placed-at look class.GeographicCrs
       (λ ys. ReadsAmong [] ys (those compound class.ProjectedCrs (arguments item)) value)
       (item_geodetic (norm_geodetic level g)) left
-      (λ p. (tt, geodetic-read laws lower class.GeographicCrs geographic-names level g s.0 p)))
+      (λ p. (tt, geodetic-read laws lower class.GeographicCrs (search keyword-names) level g s.0 p)))
   horizontal-field {item = item} look (horizontal.Projected r) s none left right =
       let value = horizontal.Projected (norm_projected level r) in
       rw (lacks look class.GeodeticCrs none, lacks look class.GeographicCrs left)

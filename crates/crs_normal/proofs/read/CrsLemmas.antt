@@ -104,9 +104,8 @@ module _ (laws : TextLaws) (level : Level) (b : BaseParts) (s : IsBase b) where
       let look = seen base of-base (at_place place (item_base (norm_base level b))) (place + 11) refl in record {
         name = refl;
         dynamic = dynamic-field laws look level b.dynamic b.frame s.dynamic refl;
-        frame = frame-field base class.GeodeticFrame class.GeodeticEnsemble (codes "DATUM")
-            (keyword-names _ _) (keyword-names _ _) look (norm_frame level b.frame)
-            (geodetic-back laws level b.frame s.frame) refl refl;
+        frame = frame-field base class.GeodeticFrame class.GeodeticEnsemble (codes "DATUM") (keyword-names _ _)
+            (keyword-names _ _) look (norm_frame level b.frame) (geodetic-back laws level b.frame s.frame) refl refl;
         meridian = opt-field look class.PrimeMeridian item_meridian _ _ refl
             (meridian-read laws level b.meridian s.meridian);
         unit = opt-field look class.AngleUnit item_unit _ _ refl
@@ -169,9 +168,8 @@ module _ (laws : TextLaws) (lower : LowerLaws) (level : Level) (v : VerticalPart
       let look = seen vertical of-vertical (at_place place (item_vertical (norm_vertical level v))) (place + 7) refl in record {
         name = refl;
         dynamic = dynamic-field laws look level v.dynamic v.frame s.dynamic refl;
-        frame = frame-field vertical class.VerticalFrame class.VerticalEnsemble (codes "VDATUM")
-            (keyword-names _ _) (keyword-names _ _) look
-            (norm_frame level v.frame) (vertical-back laws level v.frame s.frame) refl refl;
+        frame = frame-field vertical class.VerticalFrame class.VerticalEnsemble (codes "VDATUM") (keyword-names _ _)
+            (keyword-names _ _) look (norm_frame level v.frame) (vertical-back laws level v.frame s.frame) refl refl;
         system = system-read laws vertical vertical-names.systems level v.system s.system vertical-whole look refl refl refl;
         geoid_models = each-field look class.GeoidModel item_geoid_model _ _ refl (geoids-back level v.geoid_models s.geoid_models);
         tail = tail-read laws vertical vertical-names.tails level v.tail s.tail look refl refl refl refl refl refl refl;
