@@ -35,6 +35,10 @@ pub record IsStanding (c : Class) (N : Item → Type 0) (item : Item) : Type 0 w
   pub unbroken : (fault : RefusedAt) → ¬ (Breaks c item fault)
   pub normal : N item
 
+-- it is sound
+sound-of : {c : Class} {N : Item → Type 0} {item : Item} → IsStanding c N item → IsSound c item
+sound-of m = record { formed = m.formed; shaped = m.shaped; unbroken = m.unbroken }
+
 pub made-stands : {level : Level} {c : Class} {n : ℕ} {item : Item} → n ≤ 8 → IsAcceptedNormal level c n item →
     IsStanding c (IsNormalIn level c c) item
 made-stands {c = c} {n = n} {item = item} l made =
@@ -89,18 +93,14 @@ module _ {V : Type 0} (laws : TextLaws) (formed : SpelledFormed) {c : V → Clas
   at-start x = at_place 0 (item (form x))
 
   form-kept : (x : V) → Is x → Is (form x)
-  form-kept x s =
-      let m = known.made x s in
-      known.sound x s (at-start x) (form x)
-      (record { formed = m.formed; shaped = m.shaped; unbroken = m.unbroken }) (known.reads x s)
+  form-kept x s = known.sound x s (at-start x) (form x) (sound-of (known.made x s)) (known.reads x s)
 
   -- the form of a value is its own
   form-twice : (x : V) → Is x → form x ≡ form (form x)
   form-twice x s =
       let m = known.made x s in
       let f : without_places (at-start x) ≡ item (form (form x)) =
-      known.own x s (at-start x) (form x)
-      (record { formed = m.formed; shaped = m.shaped; unbroken = m.unbroken }) m.normal (known.reads x s) in
+      known.own x s (at-start x) (form x) (sound-of m) m.normal (known.reads x s) in
       known.told x (form x) s (form-kept x s)
       (sym (text-at 0 (item (form x))) ∙ sym (without_places-text (at-start x)) ∙ ap item_text f)
 

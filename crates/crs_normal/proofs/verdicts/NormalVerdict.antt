@@ -40,20 +40,20 @@ found-those parent c (More item items) =
     put-if (is_a parent c item) item (found parent c items) (those parent c items) (found-those parent c items)
 
 -- a verdict on what was found is one on the arguments of the class
-abbrev over : (P : List Item → Type 0) (parent c : Class) (items : Siblings) → Verdict (P (found parent c items)) →
+abbrev over : (P : List Item → Type 0) → ((xs : List Item) → Verdict (P xs)) → (parent c : Class) (items : Siblings) →
     Verdict (P (those parent c items))
-over P parent c items v =
-    via (subst P (found-those parent c items)) (subst P (sym (found-those parent c items))) v
+over P judge parent c items =
+    via (subst P (found-those parent c items)) (subst P (sym (found-those parent c items))) (judge (found parent c items))
 
 abbrev at_class : (c : Option Class) (P : Class → Type 0) → ((d : Class) → Verdict (P d)) → Verdict (AtClass c P)
 at_class None P judge = Some (inr (λ h. h))
 at_class (Some d) P judge = judge d
 
 abbrev has : (c d : Class) (item : Item) → Verdict (Has c d item)
-has c d item = over (λ xs. xs ≢ []) c d (arguments item) (some (found c d (arguments item)))
+has c d item = over (λ xs. xs ≢ []) some c d (arguments item)
 
 abbrev lacks : (c d : Class) (item : Item) → Verdict (Lacks c d item)
-lacks c d item = over (λ xs. xs ≡ []) c d (arguments item) (none (found c d (arguments item)))
+lacks c d item = over (λ xs. xs ≡ []) none c d (arguments item)
 
 -- ---- sets
 
@@ -76,8 +76,7 @@ ascend (item ∷ items) =
 
 abbrev has_sets : (c : Class) (item : Item) → Verdict (HasSets c item)
 has_sets c item =
-    each (λ d. Ascend (those c d (arguments item)))
-    (λ d. over Ascend c d (arguments item) (ascend (found c d (arguments item)))) set_classes
+    each (λ d. Ascend (those c d (arguments item))) (λ d. over Ascend ascend c d (arguments item)) set_classes
 
 -- ---- axes
 
@@ -110,17 +109,16 @@ order_is k (x ∷ y ∷ zs) =
 abbrev ordered : (k : ℕ) (axes : List Item) → Verdict (AreOrdered k axes)
 ordered k [] = Some (inl tt)
 ordered k (axis ∷ axes) =
-    both (over (λ xs. map (numbers_in class.Order) xs ≡ (decimal k ∷ []) ∷ []) class.Axis class.Order (arguments axis)
-    (order_is k (found class.Axis class.Order (arguments axis)))) (ordered (k + 1) axes)
+    both (over (λ xs. map (numbers_in class.Order) xs ≡ (decimal k ∷ []) ∷ []) (order_is k) class.Axis class.Order
+    (arguments axis)) (ordered (k + 1) axes)
 
 abbrev has_axes : (c : Class) (item : Item) → Verdict (HasAxes c item)
 has_axes c item =
     via (λ h. record { ordered = h.0; own_units = h.1.0; none_shared = h.1.1 })
     (λ r. (r.ordered, (r.own_units, r.none_shared)))
-    (both (over (AreOrdered 1) c class.Axis (arguments item) (ordered 1 (found c class.Axis (arguments item))))
-    (both (over (Each (Has class.Axis class.AxisUnit)) c class.Axis (arguments item)
-    (each (Has class.Axis class.AxisUnit) (λ axis. has class.Axis class.AxisUnit axis)
-    (found c class.Axis (arguments item)))) (lacks c class.AxisUnit item)))
+    (both (over (AreOrdered 1) (ordered 1) c class.Axis (arguments item))
+    (both (over (Each (Has class.Axis class.AxisUnit)) (each (Has class.Axis class.AxisUnit) (has class.Axis class.AxisUnit))
+    c class.Axis (arguments item)) (lacks c class.AxisUnit item)))
 
 -- ---- the order of the end
 
@@ -151,10 +149,10 @@ is_one (x ∷ y ∷ zs) w = Some (inr (one-more x y w zs))
 
 abbrev not_ellipsoidal : (c : Class) (item : Item) → Verdict (LacksEllipsoidal c item)
 not_ellipsoidal c item =
-    over (Each (λ cs. words_in class.CoordinateSystem cs ≢ codes "ellipsoidal" ∷ [])) c class.CoordinateSystem
-    (arguments item) (each (λ cs. words_in class.CoordinateSystem cs ≢ codes "ellipsoidal" ∷ [])
-    (λ cs. negated (is_one (words_in class.CoordinateSystem cs) (codes "ellipsoidal")))
-    (found c class.CoordinateSystem (arguments item)))
+    over (Each (λ cs. words_in class.CoordinateSystem cs ≢ codes "ellipsoidal" ∷ []))
+    (each (λ cs. words_in class.CoordinateSystem cs ≢ codes "ellipsoidal" ∷ [])
+    (λ cs. negated (is_one (words_in class.CoordinateSystem cs) (codes "ellipsoidal")))) c class.CoordinateSystem
+    (arguments item)
 
 abbrev pub own : (c : Class) (item : Item) → Verdict (HasOwnForm c item)
 own class.GeodeticCrs item =
@@ -195,8 +193,7 @@ no_more (x ∷ xs) = Some (inr (empty-full x xs))
 abbrev at_level : (level : Level) (c : Class) (item : Item) → Verdict (AtLevel level c item)
 at_level levels.Full c item = Some (inl (refl, (refl, (refl, tt))))
 at_level levels.Definition c item =
-    each (λ d. [] ≡ those c d (arguments item))
-    (λ d. over (λ xs. [] ≡ xs) c d (arguments item) (no_more (found c d (arguments item)))) left_out
+    each (λ d. [] ≡ those c d (arguments item)) (λ d. over (λ xs. [] ≡ xs) no_more c d (arguments item)) left_out
 
 abbrev mutual
   pub formed : NumberLaws → (item : Item) → Verdict (AreFormed item)
