@@ -110,9 +110,8 @@ module _ {V : Type 0} (laws : TextLaws) (formed : SpelledFormed) {c : V → Clas
   stands : (x : V) → Is x → SpellsNode (item_text (item (form x))) (at-start x)
   stands x s =
       let w = writable-at (c x) (N x) (item (form x)) (known.made x s) in
-      subst (λ b. SpellsNode b (at-start x)) (text-at 0 (item (form x)))
-      (subst (SpellsNode (item_text (at-start x))) (placed-twice 0 0 (item (form x)))
-      (laws.spells (at-start x) w.formed w.is_node w.within))
+      rw (text-at 0 (item (form x)), placed-twice 0 0 (item (form x))) at
+      (laws.spells (at-start x) w.formed w.is_node w.within)
 
   form-spelled : (x : V) → Is x → IsSpelledBy (c x) (N x) Reads Same x (item_text (item (form x)))
   form-spelled x s =

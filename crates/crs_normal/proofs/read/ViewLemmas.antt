@@ -242,6 +242,12 @@ those-chosen c d slot (k ∷ []) front e h f =
     all-those c d front (each-so (InSlot c slot) (λ i. is_a c d i ≡ true) (of-one c d k slot e h) front f.inside)
 those-chosen c d slot (k ∷ l ∷ ls) front e h f = refl
 
+-- a slot that doesn't take a class has none of it
+pub slot-lacks : (c d : Class) (slot : SlotParts) (front : List Item) → takes slot d ≡ false → Front c slot front →
+    those c d (onto front End) ≡ []
+slot-lacks c d slot front none f =
+    none-those c d front (each-so (InSlot c slot) (λ i. is_a c d i ≡ false) (not-of c d slot none) front f.inside)
+
 -- what is in a slot that doesn't take the class is none of those
 those-picked : (c d : Class) (slot : SlotParts) (front : List Item) (rest : Siblings) → Front c slot front →
     those c d (onto front rest) ≡ picked c d slot front (those c d rest)
@@ -252,7 +258,7 @@ those-picked c d slot front rest f =
       | true ↦ λ e. ap (λ xs. xs ++ those c d rest) (those-chosen c d slot slot.classes front refl e f)
           ∙ and_then-is (chosen c d slot.classes front) (those c d rest)
       | false ↦ λ e. ap (λ xs. xs ++ those c d rest)
-          (none-those c d front (each-so (InSlot c slot) (λ i. is_a c d i ≡ false) (not-of c d slot e) front f.inside))
+          (slot-lacks c d slot front e f)
     ] refl)
 
 pub those-looked : (c d : Class) (slots : List SlotParts) (items : Siblings) (v : View c slots items) →
@@ -268,9 +274,3 @@ pub alone : {c : Class} {slot : SlotParts} (front : List Item) → Front c slot 
 alone [] f required single = let h = f.enough required in absurd (omega arith)
 alone (item ∷ []) f required single = (item, refl)
 alone (item ∷ other ∷ others) f required single = let h = f.not_more single in absurd (omega arith)
-
--- a slot that doesn't take a class has none of it
-pub slot-lacks : (c d : Class) (slot : SlotParts) (front : List Item) → takes slot d ≡ false → Front c slot front →
-    those c d (onto front End) ≡ []
-slot-lacks c d slot front none f =
-    none-those c d front (each-so (InSlot c slot) (λ i. is_a c d i ≡ false) (not-of c d slot none) front f.inside)

@@ -41,10 +41,7 @@ made-stands : WrittenSpells → (level : Level) (c : Class) (item : Item) → Is
 made-stands written level c item made =
     let w : depth (at_place 0 item) ≤ 8 = made.within in
     let few : depth (at_place 0 item) ≤ 12 = omega arith in
-    let spelled : SpellsNode (item_text (at_place 0 item)) (at_place 0 (at_place 0 item)) =
-    written (at_place 0 item) made.formed made.is_node few in
-    subst (λ b. SpellsNode b (at_place 0 item)) (text-at 0 item)
-    (subst (SpellsNode (item_text (at_place 0 item))) (placed-twice 0 0 item) spelled)
+    rw (text-at 0 item, placed-twice 0 0 item) at (written (at_place 0 item) made.formed made.is_node few)
 
 pub form-spells : NoFaultIsShape → WrittenSpells → (level : Level) (c : Crs) →
     IsAcceptedNormal level (crs_class c) 8 (at_place 0 (item_crs (norm_crs level c))) →

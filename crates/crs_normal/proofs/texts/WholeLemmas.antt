@@ -45,8 +45,8 @@ decimal-spells : (n : ℕ) → n < 2 ^ 64 → SpellsNumber (decimal n) (parts_of
 decimal-spells n l = (
   sym (text-is n),
   record {
-    digits = subst AreDigits (sym (append-nil (decimal n))) (digits_decimal own n l);
-    some = subst (λ (ds : List ℕ). 0 < length ds) (sym (append-nil (decimal n))) (decimal_nonempty n l);
+    digits = rw append-nil (digits_decimal own n l);
+    some = rw append-nil (decimal_nonempty n l);
     exponent = tt;
   },
 )
@@ -118,7 +118,7 @@ module _ (laws : Laws) where
   decimal-denotes : (v : Value) (n : ℕ) → IsNormal v → n < 2 ^ 64 → SameNumber (exact v) (whole_number n) → Denotes (decimal n) (exact v)
   decimal-denotes v n normal l s =
       let bounded : IsBounded (parts_of n) = record {
-        mantissa_digits = subst (λ (ds : List ℕ). length ds ≤ 100) (sym (append-nil (decimal n)))
+        mantissa_digits = rw append-nil
             (let few = length-decimal-le 20 n (omega arith) (omega arith) l in omega (arith, few));
         exponent_digits = omega arith;
         measured = subst (λ d. (d ≡ 0) ⊎ IsMeasured (whole_number d)) (sym (value-is n l)) (whole-measured v n normal s);
