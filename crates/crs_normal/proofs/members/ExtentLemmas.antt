@@ -1,11 +1,10 @@
 -- Boxes and extents of a usage: their items read as them wherever they are, and their one form
 -- agrees with sameness.
-use Rattle.std.proofs.Common.{◌≡◌, ℕ, ◌+◌, codes, IfSome, Option, Some, None, [], ◌∷◌, refl, ◌∙◌, ap}
+use Rattle.std.proofs.Common.{◌≡◌, ℕ, ◌+◌, codes, IfSome, Option, Some, None, [], ◌∷◌, refl}
 use Rattle.crs_decimal.specs.Prelude.{IsNormal}
 use Rattle.crs_text.specs.Prelude.{at_place}
 use Rattle.crs_shape.specs.declared.class.Class.TheVariants as class
 use Rattle.crs_shape.specs.declared.unit_kind.UnitKind.TheVariants as kinds
-use Rattle.crs_shape.specs.Prelude.{class_named, unit_word}
 use Rattle.crs_value.specs.declared.values.level.Level.{Level}
 use Rattle.crs_value.specs.Prelude.{ReadsBox, ReadsExtent, IsUnit, IsUnitOf, IsBox, IsExtent, BoxParts, ExtentParts, UnitParts}
 use Rattle.crs_normal.specs.FormedWithin.{IsFormedWithin}
@@ -14,8 +13,8 @@ use Rattle.crs_normal.specs.SpelledUnits.{item_unit, norm_length}
 use Rattle.crs_normal.specs.SpelledUsages.{item_box, item_extent, norm_extent}
 use Rattle.crs_normal.specs.TextLaws.{TextLaws}
 use Rattle.crs_normal.proofs.texts.ItemLemmas.{fit-end, fit-node, fit-number, fit-opt, value-fit}
-use Rattle.crs_normal.proofs.texts.SegmentLemmas.{IsIn, a-number, if-any, opt-field, seen, some-imp}
-use Rattle.crs_normal.proofs.members.MemberUnitLemmas.{number-read, unit-fit, unit-kept, unit-read}
+use Rattle.crs_normal.proofs.texts.SegmentLemmas.{a-number, if-any, opt-field, seen, some-imp}
+use Rattle.crs_normal.proofs.members.MemberUnitLemmas.{number-read, unit-fit, unit-in, unit-kept, unit-read}
 use Rattle.crs_normal.proofs.read.NameLemmas.{keyword-names}
 use Rattle.crs_normal.proofs.same.UnitLemmas.{metre-is, suits-kind}
 
@@ -58,18 +57,15 @@ pub extent-read : TextLaws → (e : ExtentParts) → IsWrittenExtent e → (plac
     ReadsExtent class.VerticalExtent (at_place place (item_extent e)) e
 extent-read laws e s place =
     let look = seen class.VerticalExtent (a-number e.minimum ∷ a-number e.maximum ∷
-    if-any class.LengthUnit item_unit e.unit (some-imp _ _ length-in e.unit s.unit) ∷ [])
+    if-any class.LengthUnit item_unit e.unit
+    (some-imp _ _ (λ u q. unit-in class.VerticalExtent class.LengthUnit kinds.Length (keyword-names _ _) u q.1) e.unit
+    s.unit) ∷ [])
     (at_place place (item_extent e)) (place + 14) refl in record {
       minimum = number-read laws e.minimum s.minimum 0;
       maximum = number-read laws e.maximum s.maximum 0;
       unit = opt-field look class.LengthUnit item_unit _ _ refl
           (some-imp _ _ (λ u q. unit-read laws class.LengthUnit (keyword-names _ _) u q.0) e.unit s.unit);
     }
-  where
-    length-in : (u : UnitParts) → IsLength u → IsIn class.VerticalExtent class.LengthUnit (item_unit u)
-    length-in u q =
-        ap (λ k. class_named class.VerticalExtent (unit_word k)) q.1
-        ∙ keyword-names _ _
 
 pub extent-fit : TextLaws → (e : ExtentParts) → IsWrittenExtent e → IsFormedWithin 4 (item_extent e)
 extent-fit laws e s =

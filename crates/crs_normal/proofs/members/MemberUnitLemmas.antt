@@ -1,6 +1,6 @@
 -- Units within the members of sets: their items read as them wherever they are, and their one form
 -- agrees with sameness.
-use Rattle.std.proofs.Common.{◌≡◌, ◌≤◌, ℕ, ◌+◌, codes, Some, List, [], ◌∷◌, length, refl, arith}
+use Rattle.std.proofs.Common.{ap, ◌∙◌, ◌≡◌, ◌≤◌, ℕ, ◌+◌, codes, Some, List, [], ◌∷◌, length, refl, arith}
 use Rattle.crs_decimal.specs.Prelude.{Value, IsNormal}
 use Rattle.crs_text.specs.Prelude.{Item, End, at_place, item_text}
 use Rattle.crs_shape.specs.declared.class.Class.{Class}
@@ -17,7 +17,7 @@ use Rattle.crs_normal.specs.SpelledUnits.{item_ident, item_unit, norm_unit}
 use Rattle.crs_normal.specs.TextLaws.{TextLaws}
 use Rattle.crs_normal.proofs.members.IdentLemmas.{ident-fit, ident-read, text-fit, writable}
 use Rattle.crs_normal.proofs.texts.ItemLemmas.{AreFit, fit-deeper, fit-each, fit-end, fit-node, fit-number, told}
-use Rattle.crs_normal.proofs.texts.SegmentLemmas.{Seen, Segment, a-number, a-text, all-of, each-field, each_items, items_of, seen}
+use Rattle.crs_normal.proofs.texts.SegmentLemmas.{IsIn, Seen, Segment, a-number, a-text, all-of, each-field, each_items, items_of, seen}
 use Rattle.crs_normal.proofs.read.ViewLemmas.{each-so}
 use Rattle.crs_normal.proofs.read.NameLemmas.{keyword-names}
 use Rattle.crs_normal.proofs.made.IdentLemmas.{idents-sound}
@@ -49,6 +49,10 @@ pub number-read : TextLaws → (v : Value) → IsNormal v → (place : ℕ) → 
 number-read laws v h place = (h, laws.denotes v h)
 
 -- ---- units
+
+pub unit-in : (c k : Class) (kind : UnitKind) → class_named c (unit_word kind) ≡ Some k → (u : UnitParts) →
+    u.kind ≡ kind → IsIn c k (item_unit u)
+unit-in c k kind e u same = ap (λ j. class_named c (unit_word j)) same ∙ e
 
 pub unit-read : TextLaws → (c : Class) → NamesId c → (u : UnitParts) → IsUnit u → (place : ℕ) →
     ReadsUnit c (at_place place (item_unit u)) u

@@ -1,12 +1,11 @@
 -- Ellipsoids, prime meridians, reference frames and ensembles in their one form are read back from their items.
-use Rattle.std.proofs.Common.{◌≡◌, ℕ, ◌+◌, codes, IfSome, Option, Some, None, List, [], ◌∷◌, length, refl, ◌∙◌, ap, if◌then◌else◌, Bool, true, false}
+use Rattle.std.proofs.Common.{◌≡◌, ℕ, ◌+◌, codes, IfSome, Option, Some, None, List, [], ◌∷◌, length, refl, if◌then◌else◌, Bool, true, false}
 use Rattle.std.specs.Option.{option_map}
 use Rattle.crs_text.specs.Prelude.{Item, at_place, item_text}
 use Rattle.crs_shape.specs.declared.class.Class.{Class}
 use Rattle.crs_shape.specs.declared.class.Class.TheVariants as class
-use Rattle.crs_shape.specs.declared.unit_kind.UnitKind.{UnitKind}
 use Rattle.crs_shape.specs.declared.unit_kind.UnitKind.TheVariants as kinds
-use Rattle.crs_shape.specs.Prelude.{class_named, unit_word}
+use Rattle.crs_shape.specs.Prelude.{class_named}
 use Rattle.crs_value.specs.declared.values.level.Level.{Level}
 use Rattle.crs_value.specs.Prelude.{ReadsDatum, ReadsEllipsoid, ReadsEnsemble, ReadsIds, ReadsMember, ReadsMeridian, ReadsUnit, IsIdent, IsUnit, IsUnitOf, IsDatum, IsEllipsoid, IsEnsemble, IsMember, IsMeridian, DatumParts, EllipsoidParts, EnsembleParts, MemberParts, MeridianParts, UnitParts}
 use Rattle.crs_value.specs.Sound.{Each}
@@ -17,8 +16,8 @@ use Rattle.crs_normal.specs.SpelledUnits.{item_ident, item_unit, norm_length, no
 use Rattle.crs_normal.specs.TextLaws.{TextLaws}
 use Rattle.crs_normal.proofs.members.ExtentLemmas.{length-kept}
 use Rattle.crs_normal.proofs.members.MemberLemmas.{named-kept, named-read}
-use Rattle.crs_normal.proofs.members.MemberUnitLemmas.{NamesId, identifiers-back, identifiers-of, number-read, unit-kept, unit-read}
-use Rattle.crs_normal.proofs.texts.SegmentLemmas.{IsIn, MayIn, ReadsBack, Seen, Segment, a-number, a-text, all-of, each-field, each_items, if-any, items_of, may-be, one-field, one-item, opt-field, seen, text-field, set-kept, some-imp, some-mapped}
+use Rattle.crs_normal.proofs.members.MemberUnitLemmas.{NamesId, identifiers-back, identifiers-of, number-read, unit-in, unit-kept, unit-read}
+use Rattle.crs_normal.proofs.texts.SegmentLemmas.{MayIn, ReadsBack, Seen, Segment, a-number, a-text, all-of, each-field, each_items, if-any, items_of, may-be, one-field, one-item, opt-field, seen, text-field, set-kept, some-imp, some-mapped}
 use Rattle.crs_normal.proofs.read.NameLemmas.{keyword-names}
 use Rattle.crs_normal.proofs.same.UnitLemmas.{suits-kind}
 use Rattle.crs_normal.proofs.made.IdentLemmas.{idents-sound}
@@ -34,10 +33,6 @@ pub identifiers-field : {c : Class} {ss : List (Segment c)} {item : Item} → Se
 identifiers-field look level xs same s = identifiers-back look (set_idents level xs) same (idents-sound level xs s)
 
 -- ---- units
-
-pub unit-in : (c k : Class) (kind : UnitKind) → class_named c (unit_word kind) ≡ Some k → (u : UnitParts) →
-    u.kind ≡ kind → IsIn c k (item_unit u)
-unit-in c k kind e u same = ap (λ j. class_named c (unit_word j)) same ∙ e
 
 pub angle-kept : (level : Level) (u : UnitParts) → IsUnitOf kinds.Angle u →
     IsUnit (norm_unit level kinds.Angle u) × ((norm_unit level kinds.Angle u).kind ≡ kinds.Angle)

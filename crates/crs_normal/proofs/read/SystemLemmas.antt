@@ -19,8 +19,8 @@ use Rattle.crs_normal.specs.SpelledItems.{number_node}
 use Rattle.crs_normal.specs.SpelledSystems.{axes_from, axis_at, is_at, item_axis, item_axis_meridian, item_head, norm_axis, norm_axis_meridian, norm_axis_meridians, norm_system, with_axis}
 use Rattle.crs_normal.specs.SpelledUnits.{item_unit, norm_unit, norm_units, whole_value}
 use Rattle.crs_normal.specs.TextLaws.{TextLaws}
-use Rattle.crs_normal.proofs.members.MemberUnitLemmas.{identifiers-back, identifiers-of, number-read, unit-kept, unit-read}
-use Rattle.crs_normal.proofs.read.FrameLemmas.{angle-kept, identifiers, identifiers-field, unit-in}
+use Rattle.crs_normal.proofs.members.MemberUnitLemmas.{identifiers-back, identifiers-of, number-read, unit-in, unit-kept, unit-read}
+use Rattle.crs_normal.proofs.read.FrameLemmas.{angle-kept, identifiers, identifiers-field}
 use Rattle.crs_normal.proofs.texts.SegmentLemmas.{IsIn, ReadsBack, Segment, a-number, a-text, a-word, if-any, may-be, one-field, one-item, opt-field, seen, some-imp}
 use Rattle.crs_normal.proofs.read.NameLemmas.{keyword-names}
 use Rattle.crs_normal.proofs.made.IdentLemmas.{idents-sound}

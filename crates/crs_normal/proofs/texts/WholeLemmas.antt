@@ -1,5 +1,5 @@
 -- The test that a number is a whole one of at most 64 bits.
-use Rattle.std.proofs.Common.{◌≡◌, ◌≢◌, ◌↔◌, ◌⊎◌, ◌∙◌, ℕ, suc, zero, ◌<◌, ◌≤◌, ◌*◌, ◌^◌, ◌+◌, ◌-◌, ◌%◌, ◌++◌, ◌&&◌, ◌||◌, ◌==◌, not, Bool, true, false, nat_lt, fold, inl, inr, List, [], ◌∷◌, None, length, decimal, get_or, refl, sym, ap, subst, arith, rules, pos, negsuc, ℤ}
+use Rattle.std.proofs.Common.{◌≡◌, ◌≢◌, ◌↔◌, ◌⊎◌, ◌∙◌, ℕ, suc, zero, ◌<◌, ◌≤◌, ◌*◌, ◌^◌, ◌+◌, ◌-◌, ◌%◌, ◌++◌, ◌&&◌, ◌||◌, ◌==◌, not, Bool, true, false, nat_lt, fold, inl, inr, List, [], ◌∷◌, None, decimal, get_or, refl, sym, ap, subst, arith, rules, pos, negsuc, ℤ}
 use Rattle.std.proofs.lemmas.Fmt.{decimal_digit, decimal_nonempty, digits_decimal, digits_value-decimal, first_decimal, length-decimal-le}
 use Rattle.std.proofs.Math.Nat.{pow-suc, mul-le-mul_left, mul_assoc, one-le-pow}
 use Rattle.std.proofs.lemmas.Bool.{and_parts, cases_lt, eqb-false, eqb-true, leb-true, ltb-true}
