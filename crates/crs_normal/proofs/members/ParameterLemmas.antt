@@ -1,7 +1,6 @@
 -- Parameters: the item of one reads as it wherever it is, with a unit of the class that its keyword
 -- names, and as sets they have one form.
 use Rattle.std.proofs.Common.{◌≡◌, ◌↔◌, ◌⊎◌, inl, inr, ℕ, ◌+◌, codes, IfSome, Option, Some, None, List, [], ◌∷◌, refl, arith}
-use Rattle.std.specs.Prelude.{⊤}
 use Rattle.crs_decimal.specs.Prelude.{Value}
 use Rattle.crs_text.specs.Prelude.{Item, End, More, at_place, item_text}
 use Rattle.crs_shape.specs.declared.class.Class.{Class}
@@ -38,7 +37,7 @@ named-as other = refl
 module _ {c : Class} {ss : List (Segment c)} {item : Item} (look : Seen c ss item) where
   -- the unit, if there is one, is the first item of these classes
   abbrev Stands : Option UnitParts → List Class → Type 0
-  Stands None [] = ⊤
+  Stands None [] = Unit {0}
   Stands (Some u) [] = ⊥
   Stands None (d ∷ ds) = (items_of d ss ≡ []) × Stands None ds
   Stands (Some u) (d ∷ ds) =
