@@ -1,5 +1,5 @@
 -- Spellings put in order, without those among others, are the text of the members whose spelling no other has.
-use Rattle.std.proofs.Common.{◌≡◌, ◌↔◌, ◌∙◌, ◌||◌, ℕ, Bool, true, false, cond, not, List, [], ◌∷◌, Vec, filter, inl, inr, ⊎_elim, refl, sym, ap₂, subst, true≢false}
+use Rattle.std.proofs.Common.{◌≡◌, ◌↔◌, ◌∙◌, ◌||◌, ◌++◌, ℕ, Bool, true, false, cond, not, Decides, List, [], ◌∷◌, Vec, filter, MatchResult, Result, inl, inr, ⊎_elim, refl, sym, ap, ap₂, subst}
 use Rattle.std.specs.BTreeSet.{contains}
 use Rattle.std.specs.List.{list_any}
 use Rattle.std.specs.Str.{bytes_eq}
@@ -7,11 +7,14 @@ use Rattle.std.specs.declared.alloc.Global.{Global}
 use Rattle.std.proofs.lemmas.Map.Text.{is_eq-slice_cmp}
 use Rattle.std.proofs.lemmas.Slice.Eq.{bytes_eq-Decides}
 use Rattle.std.proofs.lemmas.Bool.{false≢true}
-use Rattle.crs_value.specs.Sound.{Each}
-use Rattle.crs_normal.specs.Prelude.{Ascends, Below, IsIn, in_order}
+use Rattle.std.proofs.lemmas.Bool.Decides.{Decides-not, Decides-or}
+use Rattle.std.proofs.lemmas.Result.{MatchResult-weaker}
+use Rattle.crs_normal.specs.Prelude.{Ascends, Below, IsIn, in_order, put_all}
+use Rattle.crs_normal.proofs.members.SetLemmas.{each-has, each-of}
 use Rattle.crs_canon.specs.ContentText.{IsLackingText}
-use Rattle.crs_writer.specs.Prelude.{ArePut, lacking, spellings, SpellsOneOf, comma_separated}
+use Rattle.crs_writer.specs.Prelude.{AppendsSpelling, ArePut, lacking, spellings, SpellsOneOf, comma_separated}
 use Rattle.crs_writer.proofs.SetLemmas.{compared}
+use Rattle.crs_canon.proofs.NamedLemmas.{from-passed, in-passed}
 use Rattle.crs_canon.proofs.SetTextLemmas.{spellings-tell}
 
 -- ---- keys without those of another set
@@ -38,69 +41,26 @@ lacking-spelled (key ∷ these) others =
 
 -- ---- texts without others
 
--- a test tells whether a text is among others
-record Tells (test : Bool) (text : List ℕ) (others : List (List ℕ)) : Type 0 where
-  pub yes : test ≡ true → IsIn text others
-  pub no : test ≡ false → IsIn text others → ⊥
+among : (text : List ℕ) (others : List (List ℕ)) → Decides (list_any (bytes_eq text) others) (IsIn text others)
+among text [] = (λ e. false≢true e, λ none. absurd none)
+among text (other ∷ others) =
+    Decides-or (bytes_eq text other) (list_any (bytes_eq text) others) (bytes_eq-Decides text other) (among text others)
 
-either : (a b : Bool) (text other : List ℕ) (others : List (List ℕ)) → (a ≡ true → text ≡ other) → (text ≡ other → a ≡ true) →
-    Tells b text others → Tells (a || b) text (other ∷ others)
-either true b text other others to from t =
-    record { yes = λ e. inl (to refl); no = λ e. absurd (true≢false e) }
-either false b text other others to from t =
-    record { yes = λ e. inr (t.yes e); no = λ e p. ⊎_elim (λ same. false≢true (from same)) (λ there. t.no e there) p }
+pub lacking-has : (these others : List (List ℕ)) (text : List ℕ) → IsIn text (lacking these others) ↔ (IsIn text these × (¬ (IsIn text others)))
+lacking-has these others text =
+    let lacks : List ℕ → Bool = λ t. not (list_any (bytes_eq t) others) in
+    let tell = Decides-not (list_any (bytes_eq text) others) (among text others) in (
+      λ p. let (is, passes) = from-passed lacks text these p in (is, tell.0 passes),
+      λ (is, none). in-passed lacks text these is (tell.1 none),
+    )
 
-tells : (text : List ℕ) (others : List (List ℕ)) → Tells (list_any (bytes_eq text) others) text others
-tells text [] = record { yes = λ e. false≢true e; no = λ e p. p }
-tells text (other ∷ others) =
-    let d = bytes_eq-Decides text other in
-    either (bytes_eq text other) (list_any (bytes_eq text) others) text other others d.0 d.1 (tells text others)
-
--- the texts of the first that aren't among the others
-abbrev Lacks : (xs ys others : List (List ℕ)) → Type 0
-Lacks xs ys others = (text : List ℕ) → IsIn text ys ↔ (IsIn text xs × (¬ (IsIn text others)))
-
-one-more : (test : Bool) (x : List ℕ) (xs ys others : List (List ℕ)) → Tells test x others → Lacks xs ys others →
-    Lacks (x ∷ xs) (cond (not test) (x ∷ ys) ys) others
-one-more true x xs ys others t rest text = (
-  λ p. (inr ((rest text).0 p).0, ((rest text).0 p).1),
-  λ p.
-      ⊎_elim (λ same. absurd (p.1 (subst (λ y. IsIn y others) (sym same) (t.yes refl))))
-      (λ there. (rest text).1 (there, p.1)) p.0,
-)
-one-more false x xs ys others t rest text = (
-  λ p.
-      ⊎_elim (λ same. (inl same, λ q. t.no refl (subst (λ y. IsIn y others) same q)))
-      (λ there. (inr ((rest text).0 there).0, ((rest text).0 there).1)) p,
-  λ p. ⊎_elim (λ same. inl same) (λ there. inr ((rest text).1 (there, p.1))) p.0,
-)
-
-pub lacking-has : (these others : List (List ℕ)) → Lacks these (lacking these others) others
-lacking-has [] others text = (λ p. absurd p, λ p. p.0)
-lacking-has (x ∷ these) others text =
-    one-more (list_any (bytes_eq x) others) x these (lacking these others) others (tells x others)
-    (λ other. lacking-has these others other) text
-
-each-left : (P : List ℕ → Type 0) (test : Bool) (x : List ℕ) (xs : List (List ℕ)) → P x → Each P xs →
-    Each P (cond (not test) (x ∷ xs) xs)
-each-left P true x xs p ps = ps
-each-left P false x xs p ps = (p, ps)
-
-each-lacking : (P : List ℕ → Type 0) (these others : List (List ℕ)) → Each P these → Each P (lacking these others)
-each-lacking P [] others h = tt
-each-lacking P (x ∷ these) others h =
-    each-left P (list_any (bytes_eq x) others) x (lacking these others) h.0 (each-lacking P these others h.1)
-
-ascends-left : (test : Bool) (x : List ℕ) (xs : List (List ℕ)) → Each (Below x) xs → Ascends (λ text. text) xs →
-    Ascends (λ text. text) (cond (not test) (x ∷ xs) xs)
-ascends-left true x xs b h = h
-ascends-left false x xs b h = (b, h)
-
-pub lacking-ascends : (these others : List (List ℕ)) → Ascends (λ text. text) these → Ascends (λ text. text) (lacking these others)
-lacking-ascends [] others h = tt
-lacking-ascends (x ∷ these) others h =
-    ascends-left (list_any (bytes_eq x) others) x (lacking these others) (each-lacking (Below x) these others h.0)
-    (lacking-ascends these others h.1)
+pub passed-ascends : (test : List ℕ → Bool) (xs : List (List ℕ)) → Ascends (λ text. text) xs → Ascends (λ text. text) (filter test xs)
+passed-ascends test [] h = tt
+passed-ascends test (x ∷ xs) h = by (test x) (passed-ascends test xs h.1)
+  where
+    by : (b : Bool) → Ascends (λ text. text) (filter test xs) → Ascends (λ text. text) (cond b (x ∷ filter test xs) (filter test xs))
+    by true rest = (each-of (Below x) (filter test xs) (λ z p. each-has (Below x) xs z h.0 (from-passed test z xs p).0), rest)
+    by false rest = rest
 
 -- ---- members whose spelling no other has
 
@@ -114,30 +74,45 @@ module _ {V : Type 0} (IsSpelling : V → List ℕ → Type 0) where
         λ p. ⊎_elim (λ q. inl (q, p.1)) (λ q. inr (rest.1 (q, p.1))) p.0,
       )
 
-  -- what is put into empty sets is known by the spellings
+  -- what is put into an empty set is in order, and known by the spellings
+  sorted : (values : List V) (start keys : List (List ℕ)) → start ≡ [] → (p : ArePut IsSpelling values start keys) →
+      keys ≡ in_order (λ text. text) p.texts
+  sorted values start keys none p = p.all_put ∙ ap (λ s. put_all (λ text. text) s p.texts) none
+
   put-tells : ((texts : List (List ℕ)) (text : List ℕ) → IsIn text (in_order (λ text. text) texts) ↔ IsIn text texts) →
-      (values : List V) (keys : List (List ℕ)) → ArePut IsSpelling values [] keys → (text : List ℕ) →
+      (values : List V) (start keys : List (List ℕ)) → start ≡ [] → ArePut IsSpelling values start keys → (text : List ℕ) →
       IsIn text keys ↔ SpellsOneOf IsSpelling values text
-  put-tells same values keys p text =
+  put-tells same values start keys none p text =
       let tell = spellings-tell IsSpelling values p.texts p.spelled text in
-      let among : IsIn text keys ↔ IsIn text p.texts = subst (λ k. IsIn text k ↔ IsIn text p.texts) (sym p.all_put) (same p.texts text) in
+      let among : IsIn text keys ↔ IsIn text p.texts =
+      subst (λ k. IsIn text k ↔ IsIn text p.texts) (sym (sorted values start keys none p)) (same p.texts text) in
       (λ q. tell.0 (among.0 q), λ q. among.1 (tell.1 q))
 
-  pub lacking-text : ((texts : List (List ℕ)) → Ascends (λ text. text) (in_order (λ text. text) texts)) →
+  pub lacking-appended : {T E : Type 0} → ((texts : List (List ℕ)) → Ascends (λ text. text) (in_order (λ text. text) texts)) →
       ((texts : List (List ℕ)) (text : List ℕ) → IsIn text (in_order (λ text. text) texts) ↔ IsIn text texts) →
-      (these others : List V) (keys other_keys : List (List ℕ)) → ArePut IsSpelling these [] keys →
-      ArePut IsSpelling others [] other_keys →
-      IsLackingText IsSpelling these others (comma_separated (lacking keys other_keys))
-  lacking-text ascend same these others keys other_keys p q = record {
-    members = lacking keys other_keys;
-    ascend = lacking-ascends keys other_keys (subst (Ascends (λ text. text)) (sym p.all_put) (ascend p.texts));
-    same = λ text.
-        let has = lacking-has keys other_keys text in
-        let tell = put-tells same these keys p text in
-        let other = put-tells same others other_keys q text in
-        let spell = spells-lacking (λ t. ¬ (SpellsOneOf IsSpelling others t)) these text in (
-          λ h. spell.1 (tell.0 (has.0 h).0, λ s. (has.0 h).1 (other.1 s)),
-          λ s. has.1 (tell.1 (spell.0 s).0, λ h. (spell.0 s).1 (other.0 h)),
-        );
-    written = refl;
-  }
+      (these others : List V) (start keys other_start other_keys : List (Vec ℕ Global)) (before after : List ℕ) (r : Result T E) →
+      spellings start ≡ [] → spellings other_start ≡ [] → ArePut IsSpelling these (spellings start) (spellings keys) →
+      ArePut IsSpelling others (spellings other_start) (spellings other_keys) →
+      MatchResult r (λ _. after ≡ before ++ comma_separated (lacking (spellings keys) (spellings other_keys))) (λ _. after ≡ before) →
+      MatchResult r (λ _. AppendsSpelling (IsLackingText IsSpelling these others) before after) (λ _. after ≡ before)
+  lacking-appended ascend same these others start keys other_start other_keys before after r none none_other put other_put appended =
+      MatchResult-weaker r appended (λ _ e. record { spelling = comma_separated members; appended = e; is_spelling = is }) (λ _ e. e)
+    where
+      members : List (List ℕ)
+      members = lacking (spellings keys) (spellings other_keys)
+
+      is : IsLackingText IsSpelling these others (comma_separated members)
+      is = record {
+        members = members;
+        ascend = passed-ascends _ (spellings keys)
+            (subst (Ascends (λ text. text)) (sym (sorted these (spellings start) (spellings keys) none put)) (ascend put.texts));
+        same = λ text.
+            let has = lacking-has (spellings keys) (spellings other_keys) text in
+            let tell = put-tells same these (spellings start) (spellings keys) none put text in
+            let other = put-tells same others (spellings other_start) (spellings other_keys) none_other other_put text in
+            let spell = spells-lacking (λ t. ¬ (SpellsOneOf IsSpelling others t)) these text in (
+              λ h. spell.1 (tell.0 (has.0 h).0, λ s. (has.0 h).1 (other.1 s)),
+              λ s. has.1 (tell.1 (spell.0 s).0, λ h. (spell.0 s).1 (other.0 h)),
+            );
+        written = refl;
+      }

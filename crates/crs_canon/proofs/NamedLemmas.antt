@@ -1,14 +1,15 @@
 -- Parameters by their names: which stands alone, the names in order, and the spellings of some.
-use Rattle.std.proofs.Common.{◌≡◌, ◌↔◌, ◌∙◌, ◌&&◌, ℕ, Bool, true, false, cond, if◌then◌else◌, Option, Some, None, List, [], ◌∷◌, filter, map, inl, inr, refl, sym, ap, subst, nat_le, length}
+use Rattle.std.proofs.Common.{◌≡◌, ◌↔◌, ◌∙◌, ◌&&◌, ℕ, Bool, true, false, not, cond, if◌then◌else◌, Option, Some, None, List, [], ◌∷◌, filter, map, inl, inr, refl, sym, ap, subst, nat_le, length}
 use Rattle.std.specs.Option.{is_some}
 use Rattle.std.specs.Str.{bytes_eq}
 use Rattle.std.proofs.lemmas.Slice.Eq.{bytes_eq-Decides}
 use Rattle.std.proofs.lemmas.Bool.{false≢true}
 use Rattle.crs_value.specs.Prelude.{ParameterParts}
-use Rattle.crs_normal.specs.Prelude.{Ascends, IsIn, in_order, put, put_all}
-use Rattle.crs_canon.specs.Named.{ArePairedNames, is_paired, named_once, of_name, only}
+use Rattle.crs_value.specs.declared.values.level.Level.{Level}
+use Rattle.crs_normal.specs.Prelude.{Ascends, IsIn, IsSpelledParameter, in_order, parameter_text, put, put_all}
+use Rattle.crs_canon.specs.Named.{ArePairedNames, is_paired, named_once, of_name, only, unpaired}
 use Rattle.crs_canon.specs.PairedNames.{names_paired}
-use Rattle.crs_writer.specs.Prelude.{AreSpellingsOf, IsOnlySpelling}
+use Rattle.crs_writer.specs.Prelude.{AreSpellingsOf, ArePut, IsOnlySpelling}
 
 -- ---- members that pass a test
 
@@ -147,7 +148,18 @@ module _ {V : Type 0} (IsSpelling : V → List ℕ → Type 0) (text : V → Lis
   passed true x xs one all = (one, all)
   passed false x xs one all = all
 
-  pub spelled-passed : (test : V → Bool) (xs : List V) → AreSpellingsOf IsSpelling xs (map text xs) →
+  spelled-passed : (test : V → Bool) (xs : List V) → AreSpellingsOf IsSpelling xs (map text xs) →
       AreSpellingsOf IsSpelling (filter test xs) (map text (filter test xs))
   spelled-passed test [] all = tt
   spelled-passed test (x ∷ xs) all = passed (test x) x (filter test xs) all.0 (spelled-passed test xs all.1)
+
+-- parameters that aren't paired are put in
+pub put-unpaired : (level : Level) (xs ys : List ParameterParts) (before after : List (List ℕ)) →
+    AreSpellingsOf (IsSpelledParameter level) xs (map (parameter_text level) xs) →
+    after ≡ put_all (λ b. b) before (map (parameter_text level) (unpaired xs ys)) →
+    ArePut (IsSpelledParameter level) (unpaired xs ys) before after
+put-unpaired level xs ys before after spelled put = record {
+  texts = map (parameter_text level) (unpaired xs ys);
+  spelled = spelled-passed (IsSpelledParameter level) (parameter_text level) (λ x. not (is_paired xs ys x.name)) xs spelled;
+  all_put = put;
+}

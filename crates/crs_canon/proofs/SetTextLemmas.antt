@@ -1,25 +1,16 @@
 -- Spellings of values that are put in order and appended are the text of their set.
-use Rattle.std.proofs.Common.{◌≡◌, ◌↔◌, ◌∙◌, ℕ, List, [], ◌∷◌, inl, inr, map, refl, sym, ap, subst}
-use Rattle.crs_normal.specs.Prelude.{Ascends, IsIn, in_order, put_all}
-use Rattle.crs_writer.specs.Prelude.{AppendsSpelling, AppendsAll, AreSpellingsOf, ArePut, IsOnlySpelling, IsSetText, SpellsOneOf, comma_separated}
+use Rattle.std.proofs.Common.{◌↔◌, ℕ, List, [], ◌∷◌, inl, inr, refl, sym, subst}
+use Rattle.crs_normal.specs.Prelude.{Ascends, IsCanonicalForm, IsIn, in_order}
+use Rattle.crs_writer.specs.Prelude.{AppendsSpelling, AppendsAll, AreSpellingsOf, IsOnlySpelling, IsSetText, SpellsOneOf, comma_separated}
 
 module _ {V : Type 0} (IsSpelling : V → List ℕ → Type 0) where
-  -- the spelling of a value, which has one alone
-  pub only-spelling : (value : V) (text : List ℕ) →
-      ((first second : List ℕ) → IsSpelling value first → IsSpelling value second → first ≡ second) →
-      IsSpelling value text → IsOnlySpelling (IsSpelling value) text
-  only-spelling value text one is bytes =
-      (λ p. one bytes text p is, λ same. subst (IsSpelling value) (sym same) is)
-
-  -- the texts of values are put in, which are their spellings
-  pub all-put : (text : V → List ℕ) (values : List V) (start before after : List (List ℕ)) → start ≡ before →
-      AreSpellingsOf IsSpelling values (map text values) → after ≡ put_all (λ bytes. bytes) start (map text values) →
-      ArePut IsSpelling values before after
-  all-put text values start before after e spelled put = record {
-    texts = map text values;
-    spelled = spelled;
-    all_put = put ∙ ap (λ keys. put_all (λ bytes. bytes) keys (map text values)) e;
-  }
+  -- the text of a value is its one spelling
+  pub only-spelling : (Q : V → Type 0) (Same : V → V → Type 0) (text : V → List ℕ) → IsCanonicalForm Q Same IsSpelling →
+      ((value : V) → Q value → IsSpelling value (text value)) → (value : V) → Q value → IsOnlySpelling (IsSpelling value) (text value)
+  only-spelling Q Same text form written value q bytes = (
+    λ p. form.one value bytes (text value) q p (written value q),
+    λ same. subst (IsSpelling value) (sym same) (written value q),
+  )
 
   -- the spellings are those of the values
   pub spellings-tell : (values : List V) (texts : List (List ℕ)) → AreSpellingsOf IsSpelling values texts →

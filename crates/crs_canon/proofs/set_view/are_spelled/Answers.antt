@@ -11,8 +11,6 @@ loop-member-preserved g c level rest =
     let others = drop (c.loop-member.member-index + 1) c.args.members.now in
     let here : drop c.loop-member.member-index c.args.members.now ≡ c.member-item.result ∷ others = grind (arith, common_steps, c.member-item.is, c.loop-member-test.true) in
     c.loop-member.invariant level (subst (λ xs. AreSpellingsOf Spells xs (map text xs)) (sym here) (
-      only-spelling Spells c.member-item.result (text c.member-item.result)
-          (λ first second. (c.laws.ensures.form level).one c.member-item.result first second c.laws.ensures.value)
-          (c.laws.ensures.written level c.member-item.result c.laws.ensures.value),
+      only-spelling Spells _ _ text (c.laws.ensures.form level) (c.laws.ensures.written level) c.member-item.result c.laws.ensures.value,
       rest,
     ))
