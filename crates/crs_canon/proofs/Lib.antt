@@ -1,5 +1,6 @@
 pub mod ContentLemmas
 pub mod LackingLemmas
+pub mod LawLemmas
 pub mod LevelLemmas
 pub mod MainLemmas
 pub mod NamedLemmas

@@ -6,6 +6,7 @@ use Rattle.crs_value.specs.declared.values.crs.Crs.{Crs}
 use Rattle.crs_value.specs.declared.values.level.Level.{Level}
 use Rattle.crs_same.specs.Prelude.{SameCrs}
 use Rattle.crs_matching.specs.Prelude.{IsSamenessOf}
+use Rattle.crs_normal.specs.Prelude.{IsNormalText}
 use Rattle.crs_writer.specs.Prelude.{CanonicalText, IsCanonicalOf, IsCanonicalText}
 use Rattle.crs_canon.specs.MainTheorem.{IsAccepted, IsItsRefusal, MainTheorem, SpellSame}
 
@@ -16,6 +17,12 @@ EqualWhereSame level =
 
 abbrev SpellsOne : Type 0
 SpellsOne = (text : List ℕ) (a b : Crs) → Spells text a → Spells text b → a ≡ b
+
+-- a normal text is its own canonical text
+pub its-own : (level : Level) (bytes : List ℕ) (crs : Crs) → IsSamenessOf IsCrs (SameCrs level) → IsCrs crs →
+    IsNormalText level bytes → Spells bytes crs → IsCanonicalOf level bytes bytes
+its-own level bytes crs laws is normal spells =
+    (crs, spells, record { normal = normal; value = crs; spells = spells; same = laws.reflexive crs is })
 
 pub main : (level : Level) → ((crs : Crs) → IsCrs crs → (bytes : List ℕ) × IsCanonicalText level crs bytes)
     → EqualWhereSame level → IsSamenessOf IsCrs (SameCrs level)
@@ -35,16 +42,7 @@ main level there equal laws sound one refusal either = record {
   same = λ text bytes x y (crs, spells, canonical) sx sy.
       subst (λ v. SameCrs level x v) (one bytes canonical.value y canonical.spells sy)
       (subst (λ v. SameCrs level v canonical.value) (one text crs x spells sx) canonical.same);
-  own = λ text bytes (crs, spells, canonical). (
-    canonical.value,
-    canonical.spells,
-    record {
-      normal = canonical.normal;
-      value = canonical.value;
-      spells = canonical.spells;
-      same = laws.reflexive canonical.value (sound bytes canonical.value canonical.spells);
-    },
-  );
+  own = λ text bytes (crs, spells, c). its-own level bytes c.value laws (sound bytes c.value c.spells) c.normal c.spells;
   refused = λ text none. answer text none (either text);
 }
   where

@@ -1,40 +1,33 @@
 -- Parameters by their names: which stands alone, the names in order, and the spellings of some.
-use Rattle.std.proofs.Common.{◌≡◌, ◌↔◌, ◌∙◌, ◌&&◌, ℕ, Bool, true, false, not, cond, if◌then◌else◌, Option, Some, None, List, [], ◌∷◌, filter, map, inl, inr, refl, sym, ap, subst, nat_le, length}
+use Rattle.std.proofs.Common.{◌≡◌, ◌↔◌, ◌∙◌, ◌&&◌, ◌⊎◌, ⊎_elim, ℕ, Bool, true, false, not, cond, if◌then◌else◌, Option, Some, None, List, [], ◌∷◌, filter, map, inl, inr, refl, sym, ap, subst, nat_le, length}
 use Rattle.std.specs.Option.{is_some}
 use Rattle.std.specs.Str.{bytes_eq}
 use Rattle.std.proofs.lemmas.Slice.Eq.{bytes_eq-Decides}
 use Rattle.std.proofs.lemmas.Bool.{false≢true}
 use Rattle.crs_value.specs.Prelude.{ParameterParts}
 use Rattle.crs_value.specs.declared.values.level.Level.{Level}
-use Rattle.crs_normal.specs.Prelude.{Ascends, IsIn, IsSpelledParameter, in_order, parameter_text, put, put_all}
+use Rattle.crs_normal.specs.Prelude.{Ascends, IsIn, IsSpelledParameter, in_order, parameter_text, put_all}
 use Rattle.crs_canon.specs.Named.{ArePairedNames, is_paired, named_once, of_name, only, unpaired}
 use Rattle.crs_canon.specs.PairedNames.{names_paired}
 use Rattle.crs_writer.specs.Prelude.{AreSpellingsOf, ArePut, IsOnlySpelling}
 
 -- ---- members that pass a test
 
-passed-first : {V : Type 0} (b : Bool) (x y : V) (ys : List V) → x ≡ y → b ≡ true → IsIn x (cond b (y ∷ ys) ys)
-passed-first true x y ys same p = inl same
-passed-first false x y ys same p = absurd (false≢true p)
-
-passed-further : {V : Type 0} (b : Bool) (x y : V) (ys : List V) → IsIn x ys → IsIn x (cond b (y ∷ ys) ys)
-passed-further true x y ys i = inr i
-passed-further false x y ys i = i
+passed-by : {V : Type 0} (b : Bool) (x y : V) (ys : List V) → IsIn x (cond b (y ∷ ys) ys) ↔ (((x ≡ y) × (b ≡ true)) ⊎ IsIn x ys)
+passed-by true x y ys = (⊎_elim (λ same. inl (same, refl)) (λ i. inr i), ⊎_elim (λ (same, e). inl same) (λ i. inr i))
+passed-by false x y ys = (λ i. inr i, ⊎_elim (λ (same, e). absurd (false≢true e)) (λ i. i))
 
 pub in-passed : {V : Type 0} (test : V → Bool) (x : V) (xs : List V) → IsIn x xs → test x ≡ true → IsIn x (filter test xs)
 in-passed test x [] i e = absurd i
-in-passed test x (y ∷ xs) (inl same) e = passed-first (test y) x y (filter test xs) same (subst (λ z. test z ≡ true) same e)
-in-passed test x (y ∷ xs) (inr i) e = passed-further (test y) x y (filter test xs) (in-passed test x xs i e)
-
-from-one : {V : Type 0} (test : V → Bool) (b : Bool) (x y : V) (ys xs : List V) → test y ≡ b → IsIn x (cond b (y ∷ ys) ys) →
-    (IsIn x ys → IsIn x xs × (test x ≡ true)) → IsIn x (y ∷ xs) × (test x ≡ true)
-from-one test true x y ys xs e (inl same) f = (inl same, subst (λ z. test z ≡ true) (sym same) e)
-from-one test true x y ys xs e (inr i) f = (inr (f i).0, (f i).1)
-from-one test false x y ys xs e i f = (inr (f i).0, (f i).1)
+in-passed test x (y ∷ xs) (inl same) e =
+    (passed-by (test y) x y (filter test xs)).1 (inl (same, subst (λ z. test z ≡ true) same e))
+in-passed test x (y ∷ xs) (inr i) e = (passed-by (test y) x y (filter test xs)).1 (inr (in-passed test x xs i e))
 
 pub from-passed : {V : Type 0} (test : V → Bool) (x : V) (xs : List V) → IsIn x (filter test xs) → IsIn x xs × (test x ≡ true)
 from-passed test x [] i = absurd i
-from-passed test x (y ∷ xs) i = from-one test (test y) x y (filter test xs) xs refl i (from-passed test x xs)
+from-passed test x (y ∷ xs) i =
+    ⊎_elim (λ (same, e). (inl same, subst (λ z. test z ≡ true) (sym same) e))
+    (λ j. let (is, e) = from-passed test x xs j in (inr is, e)) ((passed-by (test y) x y (filter test xs)).0 i)
 
 -- ---- the member of a list that has one alone
 
@@ -43,40 +36,28 @@ abbrev pub found_before : Option ParameterParts → List ParameterParts → List
 found_before None left = left
 found_before (Some x) left = x ∷ left
 
-some-one : {V : Type 0} (x y : V) → Some y ≡ Some x → y ≡ x
-some-one x y e = cc
+only-one : {V : Type 0} (zs : List V) (x : V) → only zs ≡ Some x → zs ≡ x ∷ []
+only-one [] x e = let none : ⊥ = cc in absurd none
+only-one (y ∷ []) x e = cc
+only-one (y ∷ w ∷ zs) x e = let none : ⊥ = cc in absurd none
 
-no-one : {V : Type 0} (x : V) → None ≡ Some x → ⊥
-no-one x e = cc
-
-only-in : {V : Type 0} (zs : List V) (x z : V) → only zs ≡ Some x → IsIn z zs → z ≡ x
-only-in [] x z e i = absurd i
-only-in (y ∷ []) x z e (inl same) = same ∙ some-one x y e
-only-in (y ∷ []) x z e (inr i) = absurd i
-only-in (y ∷ w ∷ zs) x z e i = absurd (no-one x e)
-
-only-is : {V : Type 0} (zs : List V) (x : V) → only zs ≡ Some x → IsIn x zs
-only-is [] x e = absurd (no-one x e)
-only-is (y ∷ []) x e = inl (sym (some-one x y e))
-only-is (y ∷ w ∷ zs) x e = absurd (no-one x e)
-
-where-few : {V : Type 0} (b : Bool) (o : Option V) (x : V) → (if b then o else None) ≡ Some x → o ≡ Some x
-where-few true o x e = e
-where-few false o x e = absurd (no-one x e)
-
-once-only : (name : List ℕ) (xs : List ParameterParts) (x : ParameterParts) → named_once name xs ≡ Some x → only (of_name name xs) ≡ Some x
-once-only name xs x e = where-few (nat_le (length xs) 64) (only (of_name name xs)) x e
+once-only : (name : List ℕ) (xs : List ParameterParts) (x : ParameterParts) → named_once name xs ≡ Some x → of_name name xs ≡ x ∷ []
+once-only name xs x = by (nat_le (length xs) 64)
+  where
+    by : (b : Bool) → (if b then only (of_name name xs) else None) ≡ Some x → of_name name xs ≡ x ∷ []
+    by true e = only-one (of_name name xs) x e
+    by false e = let none : ⊥ = cc in absurd none
 
 -- the parameter of a name that stands once is each of this name
 pub is-once : (xs : List ParameterParts) (x z : ParameterParts) → named_once z.name xs ≡ Some x → IsIn z xs → z ≡ x
 is-once xs x z e i =
-    only-in (of_name z.name xs) x z (once-only z.name xs x e)
-    (in-passed (λ p. bytes_eq p.name z.name) z xs i ((bytes_eq-Decides z.name z.name).1 refl))
+    ⊎_elim (λ same. same) (λ none. absurd none) (subst (IsIn z) (once-only z.name xs x e)
+    (in-passed (λ p. bytes_eq p.name z.name) z xs i ((bytes_eq-Decides z.name z.name).1 refl)))
 
 -- it is one of them, and has the name
 pub of-once : (name : List ℕ) (xs : List ParameterParts) (x : ParameterParts) → named_once name xs ≡ Some x → IsIn x xs × (x.name ≡ name)
 of-once name xs x e =
-    let found = from-passed (λ p. bytes_eq p.name name) x xs (only-is (of_name name xs) x (once-only name xs x e)) in
+    let found = from-passed (λ p. bytes_eq p.name name) x xs (subst (IsIn x) (sym (once-only name xs x e)) (inl refl)) in
     (found.0, (bytes_eq-Decides x.name name).0 found.1)
 
 pub both-some : {V : Type 0} (p q : Option V) → (is_some p && is_some q) ≡ true → (x : V) × (y : V) × (p ≡ Some x) × (q ≡ Some y)
@@ -126,20 +107,6 @@ names-known xs ys before after none ascend members e =
     }
 
 -- ---- the spellings of those that pass a test
-
-module _ {V : Type 0} (text : V → List ℕ) (test : V → Bool) (x : V) (left further : List V) (before after all : List (List ℕ))
-    (here : left ≡ x ∷ further) (is : put_all (λ b. b) before (map text (filter test left)) ≡ all) where
-  told : (b : Bool) → test x ≡ b →
-      put_all (λ b. b) before (map text (filter test left)) ≡ put_all (λ b. b) before (map text (cond b (x ∷ filter test further) (filter test further)))
-  told b e =
-      ap (λ zs. put_all (λ b. b) before (map text (filter test zs))) here
-      ∙ ap (λ t. put_all (λ b. b) before (map text (cond t (x ∷ filter test further) (filter test further)))) e
-
-  pub put-in : test x ≡ true → after ≡ put (λ b. b) (text x) before → put_all (λ b. b) after (map text (filter test further)) ≡ all
-  put-in e f = ap (λ keys. put_all (λ b. b) keys (map text (filter test further))) f ∙ sym (told true e) ∙ is
-
-  pub left-out : test x ≡ false → after ≡ before → put_all (λ b. b) after (map text (filter test further)) ≡ all
-  left-out e f = ap (λ keys. put_all (λ b. b) keys (map text (filter test further))) f ∙ sym (told false e) ∙ is
 
 module _ {V : Type 0} (IsSpelling : V → List ℕ → Type 0) (text : V → List ℕ) where
   passed : (test : Bool) (x : V) (xs : List V) → IsOnlySpelling (IsSpelling x) (text x) →

@@ -1,9 +1,11 @@
 -- The text of a set shows its members, so that two sets have one text exactly where they are the
 -- same.
-use Rattle.std.proofs.Common.{◌≡◌, ◌↔◌, ◌⊎◌, ℕ, List, [], ◌∷◌, ◌++◌, inl, inr, refl, sym, ◌∙◌, ap, subst}
+use Rattle.std.proofs.Common.{◌≡◌, ◌↔◌, ◌⊎◌, ⊎_elim, ℕ, List, [], ◌∷◌, ◌++◌, inl, inr, refl, sym, ◌∙◌, ap, subst}
+use Rattle.std.proofs.lemmas.List.{append-nil}
 use Rattle.crs_value.specs.Sound.{Each}
-use Rattle.crs_matching.specs.Prelude.{AllHaveSame, HasSame, SameSet}
+use Rattle.crs_matching.specs.Prelude.{AllHaveSame, HasSame}
 use Rattle.crs_normal.specs.Prelude.{Ascends, IsIn, IsCanonicalForm, IsClosed}
+use Rattle.crs_normal.proofs.members.SetLemmas.{each-of}
 use Rattle.crs_writer.specs.Prelude.{HaveOneTextWhereSame, IsSetText, SpellsOneOf, commas, comma_separated}
 
 -- ---- closed texts after one another
@@ -11,12 +13,6 @@ use Rattle.crs_writer.specs.Prelude.{HaveOneTextWhereSame, IsSetText, SpellsOneO
 -- no closed text is the front of another
 abbrev pub NoFront : Type 0
 NoFront = (bytes more : List ℕ) → IsClosed bytes → IsClosed (bytes ++ more) → more ≡ []
-
-same-head : (x y : ℕ) (xs ys : List ℕ) → x ∷ xs ≡ y ∷ ys → x ≡ y
-same-head x y xs ys e = cc
-
-same-tail : (x y : ℕ) (xs ys : List ℕ) → x ∷ xs ≡ y ∷ ys → xs ≡ ys
-same-tail x y xs ys e = cc
 
 none-some : (x : ℕ) (xs : List ℕ) → [] ≡ x ∷ xs → ⊥
 none-some x xs e = cc
@@ -29,18 +25,11 @@ GoesOn a b r s = (more : List ℕ) × (b ≡ a ++ more) × (r ≡ more ++ s)
 fronts : (a b r s : List ℕ) → a ++ r ≡ b ++ s → GoesOn a b r s ⊎ GoesOn b a s r
 fronts [] b r s e = inl (b, refl, e)
 fronts (x ∷ a) [] r s e = inr (x ∷ a, refl, sym e)
-fronts (x ∷ a) (y ∷ b) r s e = further (fronts a b r s (same-tail x y (a ++ r) (b ++ s) e))
-  where
-    head : x ≡ y
-    head = same-head x y (a ++ r) (b ++ s) e
-
-    further : GoesOn a b r s ⊎ GoesOn b a s r → GoesOn (x ∷ a) (y ∷ b) r s ⊎ GoesOn (y ∷ b) (x ∷ a) s r
-    further (inl (more, p, q)) = inl (more, (λ i. sym head i ∷ p i), q)
-    further (inr (more, p, q)) = inr (more, (λ i. head i ∷ p i), q)
-
-append-nil : (xs : List ℕ) → xs ++ [] ≡ xs
-append-nil [] = refl
-append-nil (x ∷ xs) = ap (λ ys. x ∷ ys) (append-nil xs)
+fronts (x ∷ a) (y ∷ b) r s e =
+    let head : x ≡ y = cc in
+    let tail : a ++ r ≡ b ++ s = cc in
+    ⊎_elim (λ (more, p, q). inl (more, (λ i. sym head i ∷ p i), q)) (λ (more, p, q). inr (more, (λ i. head i ∷ p i), q))
+    (fronts a b r s tail)
 
 alone : NoFront → (a b r s : List ℕ) → IsClosed a → IsClosed b → GoesOn a b r s → (a ≡ b) × (r ≡ s)
 alone law a b r s p q (more, e, f) =
@@ -49,11 +38,8 @@ alone law a b r s p q (more, e, f) =
 
 -- two closed texts at the start of one list are equal
 pub split : NoFront → (a b r s : List ℕ) → IsClosed a → IsClosed b → a ++ r ≡ b ++ s → (a ≡ b) × (r ≡ s)
-split law a b r s p q e = by (fronts a b r s e)
-  where
-    by : GoesOn a b r s ⊎ GoesOn b a s r → (a ≡ b) × (r ≡ s)
-    by (inl h) = alone law a b r s p q h
-    by (inr h) = let t = alone law b a s r q p h in (sym t.0, sym t.1)
+split law a b r s p q e =
+    ⊎_elim (alone law a b r s p q) (λ h. let t = alone law b a s r q p h in (sym t.0, sym t.1)) (fronts a b r s e)
 
 word-not-nil : (word inside : List ℕ) → word ++ 91 ∷ inside ≡ [] → ⊥
 word-not-nil [] inside e = none-some 91 inside (sym e)
@@ -71,7 +57,8 @@ commas-tell law [] [] p q e = refl
 commas-tell law [] (y ∷ ys) p q e = absurd (none-some 44 (y ++ commas ys) e)
 commas-tell law (x ∷ xs) [] p q e = absurd (none-some 44 (x ++ commas xs) (sym e))
 commas-tell law (x ∷ xs) (y ∷ ys) p q e =
-    let both = split law x y (commas xs) (commas ys) p.0 q.0 (same-tail 44 44 (x ++ commas xs) (y ++ commas ys) e) in
+    let tail : x ++ commas xs ≡ y ++ commas ys = cc in
+    let both = split law x y (commas xs) (commas ys) p.0 q.0 tail in
     let rest = commas-tell law xs ys p.1 q.1 both.1 in
     λ i. both.0 i ∷ rest i
 
@@ -86,20 +73,25 @@ comma_separated-tell law [] [] p q e = refl
 comma_separated-tell law [] (y ∷ ys) p q e = absurd (closed-some y q.0 (front-nil y (commas ys) (sym e)))
 comma_separated-tell law (x ∷ xs) [] p q e = absurd (closed-some x p.0 (front-nil x (commas xs) e))
 comma_separated-tell law (x ∷ xs) (y ∷ ys) p q e =
-    let both = split law x y (commas xs) (commas ys) p.0 q.0 e in
-    let rest = commas-tell law xs ys p.1 q.1 both.1 in
-    λ i. both.0 i ∷ rest i
+    commas-tell law (x ∷ xs) (y ∷ ys) p q (ap (λ bytes. 44 ∷ bytes) e)
 
 -- ---- members and their spellings
-
-each-of : {A : Type 0} (P : A → Type 0) (xs : List A) → ((z : A) → IsIn z xs → P z) → Each P xs
-each-of P [] f = tt
-each-of P (x ∷ xs) f = (f x (inl refl), each-of P xs (λ z h. f z (inr h)))
 
 -- lists that ascend and have the same members are equal
 abbrev pub IsOneList : Type 0
 IsOneList = (xs ys : List (List ℕ)) → Ascends (λ text. text) xs → Ascends (λ text. text) ys →
     ((text : List ℕ) → IsIn text xs ↔ IsIn text ys) → xs ≡ ys
+
+-- sets of which each has all spellings of the other have one text
+one-text : {V : Type 0} (Spells : V → List ℕ → Type 0) (a b : List V) → IsOneList →
+    ((text : List ℕ) → SpellsOneOf Spells a text ↔ SpellsOneOf Spells b text) → (first second : List ℕ) →
+    IsSetText Spells a first → IsSetText Spells b second → first ≡ second
+one-text Spells a b one both first second s t =
+    let members : s.members ≡ t.members = one s.members t.members s.ascend t.ascend (λ text. (
+      λ p. (t.same text).1 ((both text).0 ((s.same text).0 p)),
+      λ p. (s.same text).1 ((both text).1 ((t.same text).0 p)),
+    )) in
+    s.written ∙ ap comma_separated members ∙ sym t.written
 
 module _ {V : Type 0} (Q : V → Type 0) (Spells : V → List ℕ → Type 0) (Same : V → V → Type 0) (form : IsCanonicalForm Q Same Spells) where
   -- the spelling of a value is that of one of these exactly where one of these is the same
@@ -138,30 +130,18 @@ module _ {V : Type 0} (Q : V → Type 0) (Spells : V → List ℕ → Type 0) (S
 
   -- the bytes of two sets are equal exactly where the sets are the same
   pub set-decides : NoFront → IsOneList → (a b : List V) → Each Q a → Each Q b → HaveOneTextWhereSame Same Spells a b
-  set-decides law one a b g h first second s t = (to, from)
+  set-decides law one a b g h first second s t = (
+    λ e.
+        let members : s.members ≡ t.members = comma_separated-tell law s.members t.members (closed-in a g first s) (closed-in b h second t)
+        (sym s.written ∙ e ∙ t.written) in (
+          all-to a b g h (λ text p. (t.same text).0 (subst (λ m. IsIn text m) members ((s.same text).1 p))),
+          all-to b a h g (λ text p. (s.same text).0 (subst (λ m. IsIn text m) (sym members) ((t.same text).1 p))),
+        ),
+    λ same. one-text Spells a b one (λ text. (all-from a b g h same.0 text, all-from b a h g same.1 text)) first second s t,
+  )
     where
       closed-in : (c : List V) → Each Q c → (bytes : List ℕ) → (u : IsSetText Spells c bytes) → Each IsClosed u.members
-      closed-in c k bytes u =
-          each-of IsClosed u.members (λ text p. closed-member c k text ((u.same text).0 p))
-
-      to : first ≡ second → SameSet Same a b
-      to e = (
-        all-to a b g h (λ text p. (t.same text).0 (subst (λ m. IsIn text m) members ((s.same text).1 p))),
-        all-to b a h g (λ text p. (s.same text).0 (subst (λ m. IsIn text m) (sym members) ((t.same text).1 p))),
-      )
-        where
-          members : s.members ≡ t.members
-          members = comma_separated-tell law s.members t.members (closed-in a g first s) (closed-in b h second t)
-              (sym s.written ∙ e ∙ t.written)
-
-      from : SameSet Same a b → first ≡ second
-      from same = s.written ∙ ap comma_separated members ∙ sym t.written
-        where
-          members : s.members ≡ t.members
-          members = one s.members t.members s.ascend t.ascend (λ text. (
-            λ p. (t.same text).1 (all-from a b g h same.0 text ((s.same text).0 p)),
-            λ p. (s.same text).1 (all-from b a h g same.1 text ((t.same text).0 p)),
-          ))
+      closed-in c k bytes u = each-of IsClosed u.members (λ text p. closed-member c k text ((u.same text).0 p))
 
 -- where a member of either set gives the law, they have it; two empty sets have one text
 pub by-members : {V : Type 0} (Same : V → V → Type 0) (Spells : V → List ℕ → Type 0) (a b : List V) → IsOneList →
@@ -169,11 +149,5 @@ pub by-members : {V : Type 0} (Same : V → V → Type 0) (Spells : V → List �
     ((v : V) → IsIn v b → HaveOneTextWhereSame Same Spells a b) → HaveOneTextWhereSame Same Spells a b
 by-members Same Spells (x ∷ a) b one f g = f x (inl refl)
 by-members Same Spells [] (y ∷ b) one f g = g y (inl refl)
-by-members Same Spells [] [] one f g = λ first second s t. (
-  λ e. (tt, tt),
-  λ same.
-      s.written
-      ∙ ap comma_separated (one s.members t.members s.ascend t.ascend
-      (λ text. (λ p. (t.same text).1 ((s.same text).0 p), λ p. (s.same text).1 ((t.same text).0 p))))
-      ∙ sym t.written,
-)
+by-members Same Spells [] [] one f g = λ first second s t.
+    (λ e. (tt, tt), λ same. one-text Spells [] [] one (λ text. (λ p. p, λ p. p)) first second s t)

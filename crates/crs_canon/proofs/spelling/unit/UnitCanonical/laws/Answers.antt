@@ -1,8 +1,6 @@
-use Rattle.std.proofs.Common.{refl}
+use Rattle.std.proofs.Common.{rules}
+use Rattle.crs_canon.proofs.LawLemmas.{laws}
 use Rattle.crs_canon.proofs.spelling.unit.UnitCanonical.laws.Goals as goal
 
-pub returns-clause-form : goal.returns-clause-form
-returns-clause-form c level = (c.units_are_canonical.ensures level).form
-
-pub returns-clause-written : goal.returns-clause-written
-returns-clause-written c level value is = (c.units_are_canonical.ensures level).written value _ is refl
+pub returns : goal.returns
+returns c = laws (search rules) c.units_are_canonical.ensures
