@@ -46,7 +46,7 @@ among text [] = (λ e. false≢true e, λ none. absurd none)
 among text (other ∷ others) =
     Decides-or (bytes_eq text other) (list_any (bytes_eq text) others) (bytes_eq-Decides text other) (among text others)
 
-pub lacking-has : (these others : List (List ℕ)) (text : List ℕ) → IsIn text (lacking these others) ↔ (IsIn text these × (¬ (IsIn text others)))
+lacking-has : (these others : List (List ℕ)) (text : List ℕ) → IsIn text (lacking these others) ↔ (IsIn text these × (¬ (IsIn text others)))
 lacking-has these others text =
     let lacks : List ℕ → Bool = λ t. not (list_any (bytes_eq t) others) in
     let tell = Decides-not (list_any (bytes_eq text) others) (among text others) in (
@@ -54,7 +54,7 @@ lacking-has these others text =
       λ (is, none). in-passed lacks text these is (tell.1 none),
     )
 
-pub passed-ascends : (test : List ℕ → Bool) (xs : List (List ℕ)) → Ascends (λ text. text) xs → Ascends (λ text. text) (filter test xs)
+passed-ascends : (test : List ℕ → Bool) (xs : List (List ℕ)) → Ascends (λ text. text) xs → Ascends (λ text. text) (filter test xs)
 passed-ascends test [] h = tt
 passed-ascends test (x ∷ xs) h = by (test x) (passed-ascends test xs h.1)
   where

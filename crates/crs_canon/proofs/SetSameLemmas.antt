@@ -95,32 +95,26 @@ one-text Spells a b one both first second s t =
 
 module _ {V : Type 0} (Q : V → Type 0) (Spells : V → List ℕ → Type 0) (Same : V → V → Type 0) (form : IsCanonicalForm Q Same Spells) where
   -- the spelling of a value is that of one of these exactly where one of these is the same
-  has-to : (x : V) (ys : List V) (text : List ℕ) → Q x → Spells x text → Each Q ys → SpellsOneOf Spells ys text →
-      HasSame Same x ys
-  has-to x [] text q p h none = absurd none
-  has-to x (y ∷ ys) text q p h (inl s) = inl ((form.equal x y text text q h.0 p s).0 refl)
-  has-to x (y ∷ ys) text q p h (inr s) = inr (has-to x ys text q p h.1 s)
-
-  has-from : (x : V) (ys : List V) (text : List ℕ) → Q x → Spells x text → Each Q ys → HasSame Same x ys →
-      SpellsOneOf Spells ys text
-  has-from x [] text q p h none = absurd none
-  has-from x (y ∷ ys) text q p h (inl s) =
-      let own = form.there y h.0 in
-      let same : text ≡ own.0 = (form.equal x y text own.0 q h.0 p own.1).1 s in
-      inl (subst (Spells y) (sym same) own.1)
-  has-from x (y ∷ ys) text q p h (inr s) = inr (has-from x ys text q p h.1 s)
+  has : (x : V) (ys : List V) (text : List ℕ) → Q x → Spells x text → Each Q ys → SpellsOneOf Spells ys text ↔ HasSame Same x ys
+  has x [] text q p h = (λ none. none, λ none. none)
+  has x (y ∷ ys) text q p h =
+      let (own, is) = form.there y h.0 in
+      let rest = has x ys text q p h.1 in (
+        ⊎_elim (λ s. inl ((form.equal x y text text q h.0 p s).0 refl)) (λ s. inr (rest.0 s)),
+        ⊎_elim (λ s. inl (subst (Spells y) (sym ((form.equal x y text own q h.0 p is).1 s)) is)) (λ s. inr (rest.1 s)),
+      )
 
   all-to : (xs ys : List V) → Each Q xs → Each Q ys →
       ((text : List ℕ) → SpellsOneOf Spells xs text → SpellsOneOf Spells ys text) → AllHaveSame Same xs ys
   all-to [] ys g h f = tt
   all-to (x ∷ xs) ys g h f =
       let own = form.there x g.0 in
-      (has-to x ys own.0 g.0 own.1 h (f own.0 (inl own.1)), all-to xs ys g.1 h (λ text p. f text (inr p)))
+      ((has x ys own.0 g.0 own.1 h).0 (f own.0 (inl own.1)), all-to xs ys g.1 h (λ text p. f text (inr p)))
 
   all-from : (xs ys : List V) → Each Q xs → Each Q ys → AllHaveSame Same xs ys → (text : List ℕ) →
       SpellsOneOf Spells xs text → SpellsOneOf Spells ys text
   all-from [] ys g h s text none = absurd none
-  all-from (x ∷ xs) ys g h s text (inl p) = has-from x ys text g.0 p h s.0
+  all-from (x ∷ xs) ys g h s text (inl p) = (has x ys text g.0 p h).1 s.0
   all-from (x ∷ xs) ys g h s text (inr p) = all-from xs ys g.1 h s.1 text p
 
   closed-member : (xs : List V) → Each Q xs → (text : List ℕ) → SpellsOneOf Spells xs text → IsClosed text
