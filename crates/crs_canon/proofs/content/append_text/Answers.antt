@@ -9,6 +9,5 @@ use Rattle.crs_canon.proofs.content.append_text.Goals as goal
 pub returns : goal.returns
 returns c =
     let text = opened (34 ∷ []) c.args.text.now in
-    extended (IsContentText levels.Full (content.Text c.args.text.now)) c.args.out.now.items c.extend_from_slice.new.self.items
-    c.as_slice.result.now text c.extend_from_slice.result c.extend_from_slice.ensures.items
+    extended (IsContentText levels.Full (content.Text c.args.text.now)) _ _ _ text c.extend_from_slice.result c.extend_from_slice.ensures.items
     (whole _ text _ _ c.as_slice.ensures.value c.in_ok-open_text.ensures c.new-quoted.ensures.items) refl

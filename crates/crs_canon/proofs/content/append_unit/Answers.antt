@@ -14,8 +14,7 @@ returns c =
     let alone = as_asked c.args.asked unit in
     let text = item_text (item_unit (norm_unit level c.args.asked unit)) in
     let one : text ≡ unit_text level alone = ap (λ u. item_text (item_unit u)) (sym (asked-alone level c.args.asked unit)) in
-    extended (IsContentText level (content.Unit c.args.asked unit)) c.args.out.now.items c.extend_from_slice.new.self.items
-    c.as_slice.result.now text c.extend_from_slice.result c.extend_from_slice.ensures.items
+    extended (IsContentText level (content.Unit c.args.asked unit)) _ _ _ text c.extend_from_slice.result c.extend_from_slice.ensures.items
     (whole _ text _ _ c.as_slice.ensures.value c.in_ok-write_bare_unit.ensures c.new-text.ensures.items)
     (spelled-asked level c.args.asked unit text
     ((c.units_are_canonical.ensures level).written alone text (asked-is c.args.asked unit (search rules)) one))

@@ -8,8 +8,7 @@ returns g c =
     let these = c.args.these.now in
     let others = c.args.others.now in
     lacking-appended (g.T.Canonical.IsSpelling c.args.level) c.texts_are_in_order.ensures.ascend c.texts_are_in_order.ensures.members
-    these others c.new-sorted.result.keys c.gather_all.new.sorted.keys c.new-other.result.keys c.gather_all-2.new.sorted.keys _ _
-    c.append_lacking.result (search rules) (search rules)
+    these others _ _ _ _ _ _ c.append_lacking.result (search rules) (search rules)
     (record { texts = map text these; spelled = c.are_spelled.ensures c.args.level; all_put = c.in_ok-gather_all.ensures these refl })
     (record { texts = map text others; spelled = c.are_spelled-2.ensures c.args.level; all_put = c.in_ok-gather_all-2.ensures others refl })
     c.append_lacking.ensures

@@ -11,8 +11,7 @@ returns c =
     let these = c.args.these.now in
     let others = c.args.others.now in
     lacking-appended (IsSpelledParameter level) c.texts_are_in_order.ensures.ascend c.texts_are_in_order.ensures.members
-    (unpaired these others) (unpaired others these) c.new-sorted.result.keys c.gather_unpaired.new.sorted.keys c.new-other.result.keys
-    c.gather_unpaired-2.new.sorted.keys _ _ c.append_lacking.result (search rules) (search rules)
+    (unpaired these others) (unpaired others these) _ _ _ _ _ _ c.append_lacking.result (search rules) (search rules)
     (put-unpaired level these others _ _ (c.are_spelled.ensures level) c.in_ok-gather_unpaired.ensures)
     (put-unpaired level others these _ _ (c.are_spelled-2.ensures level) c.in_ok-gather_unpaired-2.ensures)
     c.append_lacking.ensures
