@@ -1,6 +1,6 @@
-use Rattle.std.proofs.Common.{rules}
+use Rattle.std.proofs.Common.{refl, rules}
 use Rattle.crs_canon.proofs.LawLemmas.{laws}
 use Rattle.crs_canon.proofs.spelling.crs.HorizontalCanonical.laws.Goals as goal
 
 pub returns : goal.returns
-returns c = laws (search rules) c.horizontals_are_canonical.ensures
+returns c = laws refl (search rules) c.horizontals_are_canonical.ensures

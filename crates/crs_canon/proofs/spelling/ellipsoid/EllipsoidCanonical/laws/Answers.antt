@@ -1,6 +1,5 @@
-use Rattle.std.proofs.Common.{rules}
 use Rattle.crs_canon.proofs.LawLemmas.{laws}
 use Rattle.crs_canon.proofs.spelling.ellipsoid.EllipsoidCanonical.laws.Goals as goal
 
 pub returns : goal.returns
-returns c = laws (search rules) c.frame_parts_are_canonical.ensures.ellipsoid
+returns c = laws c.self.view_is c.self.invariant c.frame_parts_are_canonical.ensures.ellipsoid

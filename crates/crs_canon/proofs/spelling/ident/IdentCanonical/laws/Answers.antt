@@ -1,6 +1,5 @@
-use Rattle.std.proofs.Common.{rules}
 use Rattle.crs_canon.proofs.LawLemmas.{laws}
 use Rattle.crs_canon.proofs.spelling.ident.IdentCanonical.laws.Goals as goal
 
 pub returns : goal.returns
-returns c = laws (search rules) c.identifiers_are_canonical.ensures
+returns c = laws c.self.view_is c.self.invariant c.identifiers_are_canonical.ensures

@@ -1,6 +1,5 @@
-use Rattle.std.proofs.Common.{rules}
 use Rattle.crs_canon.proofs.LawLemmas.{laws}
 use Rattle.crs_canon.proofs.spelling.usage.UsageCanonical.laws.Goals as goal
 
 pub returns : goal.returns
-returns c = laws (search rules) c.usages_are_canonical.ensures
+returns c = laws c.self.view_is c.self.invariant c.usages_are_canonical.ensures
