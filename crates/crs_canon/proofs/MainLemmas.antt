@@ -72,14 +72,10 @@ pub canons-equal : ((level : Level) → MainTheorem level) → (first second : L
 canons-equal main first second a b ca cb = (
   λ same.
       let levels : a.level ≡ b.level = ap (λ canon. canon.level) same in
-      let of : IsCanonicalOf a.level second b.bytes = subst (λ l. IsCanonicalOf l second b.bytes) (sym levels) cb in (
-        levels,
-        (answers-equal a.level (main a.level) first second a.bytes b.bytes ca of).0
-            (ap (λ canon. canon.bytes) same),
-      ),
-  λ (levels, same).
-      let of : IsCanonicalOf a.level second b.bytes = subst (λ l. IsCanonicalOf l second b.bytes) (sym levels) cb in
-      let bytes : a.bytes ≡ b.bytes =
-      (answers-equal a.level (main a.level) first second a.bytes b.bytes ca of).1 same in
-      λ i. record { bytes = bytes i; level = levels i },
+      (levels, (equal levels).0 (ap (λ canon. canon.bytes) same)),
+  λ (levels, same). λ i. record { bytes = (equal levels).1 same i; level = levels i },
 )
+  where
+    equal : a.level ≡ b.level → (a.bytes ≡ b.bytes) ↔ SpellSame a.level first second
+    equal levels =
+        answers-equal a.level (main a.level) first second a.bytes b.bytes ca (subst (λ l. IsCanonicalOf l second b.bytes) (sym levels) cb)

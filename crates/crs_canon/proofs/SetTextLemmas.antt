@@ -1,5 +1,5 @@
 -- Spellings of values that are put in order and appended are the text of their set.
-use Rattle.std.proofs.Common.{◌↔◌, ℕ, List, [], ◌∷◌, inl, inr, refl, sym, subst}
+use Rattle.std.proofs.Common.{◌↔◌, ℕ, List, [], ◌∷◌, inl, inr, ⊎_elim, refl, sym, subst}
 use Rattle.crs_normal.specs.Prelude.{Ascends, IsCanonicalForm, IsIn, in_order}
 use Rattle.crs_writer.specs.Prelude.{AppendsSpelling, AppendsAll, AreSpellingsOf, IsOnlySpelling, IsSetText, SpellsOneOf, comma_separated}
 
@@ -20,11 +20,7 @@ module _ {V : Type 0} (IsSpelling : V → List ℕ → Type 0) where
   spellings-tell (v ∷ values) [] h text = absurd h
   spellings-tell (v ∷ values) (t ∷ texts) h text =
       let rest = spellings-tell values texts h.1 text in
-      let to : IsIn text (t ∷ texts) → SpellsOneOf IsSpelling (v ∷ values) text =
-      elim [ inl e ↦ inl ((h.0 text).1 e) | inr p ↦ inr (rest.0 p) ] in
-      let from : SpellsOneOf IsSpelling (v ∷ values) text → IsIn text (t ∷ texts) =
-      elim [ inl e ↦ inl ((h.0 text).0 e) | inr p ↦ inr (rest.1 p) ] in
-      (to, from)
+      (⊎_elim (λ e. inl ((h.0 text).1 e)) (λ p. inr (rest.0 p)), ⊎_elim (λ s. inl ((h.0 text).0 s)) (λ s. inr (rest.1 s)))
 
   -- what is appended is the text of the set
   pub set-text : ((texts : List (List ℕ)) → Ascends (λ text. text) (in_order (λ text. text) texts)) →

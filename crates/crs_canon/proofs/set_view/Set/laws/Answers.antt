@@ -7,10 +7,8 @@ pub returns-clause-equal : goal.returns-clause-equal
 returns-clause-equal g c level =
     let Same = g.T.Canonical.Same level in
     let Spells = g.T.Canonical.IsSpelling level in
-    let first = c.self.inside.members.now in
-    let second = c.other.inside.members.now in
     subst (λ a. HaveOneTextWhereSame Same Spells a c.args.other.now) c.self.view_is
-    (subst (λ b. HaveOneTextWhereSame Same Spells first b) c.other.view_is
-    (by-members Same Spells first second c.texts_are_in_order.ensures.one
-    (λ member has. c.kind_has_law.ensures member has level first second c.are_values.ensures c.are_values-2.ensures)
-    (λ member has. c.kind_has_law-2.ensures member has level first second c.are_values.ensures c.are_values-2.ensures)))
+    (subst (λ b. HaveOneTextWhereSame Same Spells c.self.inside.members.now b) c.other.view_is
+    (by-members Same Spells _ _ c.texts_are_in_order.ensures.one
+    (λ member has. c.kind_has_law.ensures member has level _ _ c.are_values.ensures c.are_values-2.ensures)
+    (λ member has. c.kind_has_law-2.ensures member has level _ _ c.are_values.ensures c.are_values-2.ensures)))
