@@ -25,17 +25,13 @@ has-spelling key [] = refl
 has-spelling key (x ∷ keys) =
     ap₂ (λ (a b : Bool). a || b) (is_eq-slice_cmp key.items x.items) (has-spelling key keys)
 
-spellings-by : (test : Bool) (key : Vec ℕ Global) (keys : List (Vec ℕ Global)) →
-    spellings (cond test (key ∷ keys) keys) ≡ cond test (key.items ∷ spellings keys) (spellings keys)
-spellings-by true key keys = refl
-spellings-by false key keys = refl
-
 pub lacking-spelled : (these others : List (Vec ℕ Global)) →
     spellings (filter (λ key. not (contains compared (record { keys = others }) key)) these) ≡ lacking (spellings these) (spellings others)
 lacking-spelled [] others = refl
 lacking-spelled (key ∷ these) others =
     let rest = filter (λ key. not (contains compared (record { keys = others }) key)) these in
-    spellings-by (not (contains compared (record { keys = others }) key)) key rest
+    elim (not (contains compared (record { keys = others }) key)) as (λ b. spellings (cond b (key ∷ rest) rest)
+    ≡ cond b (key.items ∷ spellings rest) (spellings rest)) [ true ↦ refl | false ↦ refl ]
     ∙ ap₂ (λ (test : Bool) (texts : List (List ℕ)). cond (not test) (key.items ∷ texts) texts) (has-spelling key others)
     (lacking-spelled these others)
 
@@ -56,11 +52,12 @@ lacking-has these others text =
 
 passed-ascends : (test : List ℕ → Bool) (xs : List (List ℕ)) → Ascends (λ text. text) xs → Ascends (λ text. text) (filter test xs)
 passed-ascends test [] h = tt
-passed-ascends test (x ∷ xs) h = by (test x) (passed-ascends test xs h.1)
-  where
-    by : (b : Bool) → Ascends (λ text. text) (filter test xs) → Ascends (λ text. text) (cond b (x ∷ filter test xs) (filter test xs))
-    by true rest = (each-of (Below x) (filter test xs) (λ z p. each-has (Below x) xs z h.0 (from-passed test z xs p).0), rest)
-    by false rest = rest
+passed-ascends test (x ∷ xs) h =
+    let rest = passed-ascends test xs h.1 in
+    elim (test x) as (λ b. Ascends (λ text. text) (cond b (x ∷ filter test xs) (filter test xs))) [
+      | true ↦ (each-of (Below x) (filter test xs) (λ z p. each-has (Below x) xs z h.0 (from-passed test z xs p).0), rest)
+      | false ↦ rest
+    ]
 
 -- ---- members whose spelling no other has
 
@@ -88,6 +85,7 @@ module _ {V : Type 0} (IsSpelling : V → List ℕ → Type 0) where
       subst (λ k. IsIn text k ↔ IsIn text p.texts) (sym (sorted values start keys none p)) (same p.texts text) in
       (λ q. tell.0 (among.0 q), λ q. among.1 (tell.1 q))
 
+  -- what is appended of two such sets is the text of the members that the others lack
   pub lacking-appended : {T E : Type 0} → ((texts : List (List ℕ)) → Ascends (λ text. text) (in_order (λ text. text) texts)) →
       ((texts : List (List ℕ)) (text : List ℕ) → IsIn text (in_order (λ text. text) texts) ↔ IsIn text texts) →
       (these others : List V) (start keys other_start other_keys : List (Vec ℕ Global)) (before after : List ℕ) (r : Result T E) →

@@ -9,7 +9,7 @@ use Rattle.crs_value.specs.declared.values.level.Level.{Level}
 use Rattle.crs_normal.specs.Prelude.{Ascends, IsIn, IsSpelledParameter, in_order, parameter_text, put_all}
 use Rattle.crs_canon.specs.Named.{ArePairedNames, is_paired, named_once, of_name, only, unpaired}
 use Rattle.crs_canon.specs.PairedNames.{names_paired}
-use Rattle.crs_writer.specs.Prelude.{AreSpellingsOf, ArePut, IsOnlySpelling}
+use Rattle.crs_writer.specs.Prelude.{AreSpellingsOf, ArePut}
 
 -- ---- members that pass a test
 
@@ -108,17 +108,13 @@ names-known xs ys before after none ascend members e =
 
 -- ---- the spellings of those that pass a test
 
-module _ {V : Type 0} (IsSpelling : V → List ℕ → Type 0) (text : V → List ℕ) where
-  passed : (test : Bool) (x : V) (xs : List V) → IsOnlySpelling (IsSpelling x) (text x) →
-      AreSpellingsOf IsSpelling xs (map text xs) →
-      AreSpellingsOf IsSpelling (cond test (x ∷ xs) xs) (map text (cond test (x ∷ xs) xs))
-  passed true x xs one all = (one, all)
-  passed false x xs one all = all
-
-  spelled-passed : (test : V → Bool) (xs : List V) → AreSpellingsOf IsSpelling xs (map text xs) →
-      AreSpellingsOf IsSpelling (filter test xs) (map text (filter test xs))
-  spelled-passed test [] all = tt
-  spelled-passed test (x ∷ xs) all = passed (test x) x (filter test xs) all.0 (spelled-passed test xs all.1)
+spelled-passed : {V : Type 0} (IsSpelling : V → List ℕ → Type 0) (text : V → List ℕ) (test : V → Bool) (xs : List V) →
+    AreSpellingsOf IsSpelling xs (map text xs) → AreSpellingsOf IsSpelling (filter test xs) (map text (filter test xs))
+spelled-passed IsSpelling text test [] all = tt
+spelled-passed IsSpelling text test (x ∷ xs) all =
+    let rest = spelled-passed IsSpelling text test xs all.1 in
+    elim (test x) as (λ b. AreSpellingsOf IsSpelling (cond b (x ∷ filter test xs) (filter test xs))
+    (map text (cond b (x ∷ filter test xs) (filter test xs)))) [ true ↦ (all.0, rest) | false ↦ rest ]
 
 -- parameters that aren't paired are put in
 pub put-unpaired : (level : Level) (xs ys : List ParameterParts) (before after : List (List ℕ)) →
