@@ -31,20 +31,11 @@ asked-again asked kinds.Angle = refl
 asked-again asked kinds.Scale = refl
 asked-again asked kinds.Plain = asked-itself asked
 
-with-kind : Level → UnitParts → UnitKind → UnitParts
-with-kind level unit kind =
-    record {
-      kind = kind;
-      name = unit.name;
-      factor = unit.factor;
-      identifiers = (norm_unit level kinds.Plain unit).identifiers;
-    }
-
 -- where it is asked, a unit has the form that it has by itself with the asked kind
 pub asked-alone : (level : Level) (asked : UnitKind) (unit : UnitParts) →
     norm_unit level kinds.Plain (as_asked asked unit) ≡ norm_unit level asked unit
-unfolding with-kind
-asked-alone level asked unit = ap (with-kind level unit) (alone (kind_as asked unit.kind))
+asked-alone level asked unit =
+    ap (λ (kind : UnitKind). record (norm_unit level asked unit) { kind = kind }) (alone (kind_as asked unit.kind))
 
 pub asked-is : (asked : UnitKind) (unit : UnitParts) → IsUnit unit → IsUnit (as_asked asked unit)
 asked-is asked unit is = record { name = is.name; factor = is.factor; above_zero = is.above_zero; identifiers = is.identifiers }
