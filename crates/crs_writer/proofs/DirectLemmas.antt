@@ -4,7 +4,7 @@ use Rattle.std.proofs.lemmas.List.{append-nil}
 use Rattle.crs_text.specs.Prelude.{Item, Siblings, End, More, item_text, others_text}
 use Rattle.crs_normal.specs.Prelude.{node_of, opt, text_item, text_node}
 use Rattle.crs_leaves.specs.Openings.{opened, text_behind}
-use Rattle.crs_writer.proofs.PieceLemmas.{three, then-opt, two}
+use Rattle.crs_writer.proofs.PieceLemmas.{three, then-more, then-opt, two}
 use Rattle.crs_writer.proofs.TextLemmas.{text-node}
 
 -- a node from its opening, its arguments behind the name, and its closing delimiter
@@ -34,7 +34,7 @@ then-text keyword value rest old s1 s2 e f =
 
 -- an argument alone
 pub last-more : (item : Item) (old s1 : List ℕ) → s1 ≡ old ++ 44 ∷ item_text item → s1 ≡ old ++ others_text (More item End)
-last-more item old s1 e = e ∙ ap (λ (x : List ℕ). old ++ 44 ∷ x) (sym (append-nil (item_text item)))
+last-more item old s1 e = then-more item End old s1 s1 e (sym (append-nil s1))
 
 -- an argument that was written as such, and then the rest
 pub then-one : (item : Item) (rest : Siblings) (old s1 s2 : List ℕ) →

@@ -45,13 +45,10 @@ none-written R spell items old e =
 
 -- ---- identifiers and usages that a level keeps
 
-full-idents : (level : Level) → level ≡ levels.Full → (ids : List IdentParts) → kept level ids ≡ ids
-full-idents level e ids = ap (λ l. kept l ids) e
-
 pub idents-kept : (level : Level) → level ≡ levels.Full → (ids : List IdentParts) →
     set_text (map (λ i. item_text (item_ident i)) ids) ≡ others_text (each item_ident (set_idents level ids) End)
 idents-kept level e ids =
-    ap (λ is. set_text (map (λ i. item_text (item_ident i)) is)) (sym (full-idents level e ids)) ∙ sym (idents-written level ids)
+    ap (λ l. set_text (map (λ i. item_text (item_ident i)) (kept l ids))) (sym e) ∙ sym (idents-written level ids)
 
 pub idents-dropped : (level : Level) → level ≡ levels.Definition → (ids : List IdentParts) → others_text (each item_ident (set_idents level ids) End) ≡ []
 idents-dropped level e ids =

@@ -1,21 +1,19 @@
 -- The rules by which a writer of a node's parts is proved without an answer.
-use Rattle.std.proofs.Common.{◌≡◌, ℕ, List, [], ◌∷◌, ◌++◌, Option, Some, None, map, refl, sym, ap, subst, ◌∙◌, append_assoc}
+use Rattle.std.proofs.Common.{◌≡◌, ℕ, List, [], ◌∷◌, ◌++◌, Option, Some, None, refl, sym, ap, subst, ◌∙◌, append_assoc}
 use Rattle.std.proofs.lemmas.List.{append-nil}
 use Rattle.std.specs.Option.{option_copied, option_map}
 use denote.Bor.{Bor}
 use Rattle.crs_text.specs.Prelude.{Item, Siblings, End, item_text, others_text}
 use Rattle.crs_shape.specs.declared.unit_kind.UnitKind.{UnitKind}
 use Rattle.crs_decimal.specs.Prelude.{plain, Value}
-use Rattle.crs_value.specs.Prelude.{GeoidModelParts, ParameterParts, AxisMeridianParts, MemberParts, UnitParts}
+use Rattle.crs_value.specs.Prelude.{AxisMeridianParts, UnitParts}
 use Rattle.crs_value.specs.declared.values.level.Level.{Level}
-use Rattle.crs_normal.specs.Prelude.{axis_meridian_text, geoid_model_text, member_text, parameter_text, item_geoid_model, item_parameter, set_geoid_models, set_parameters, item_member, set_members, each, number_node, opt, item_axis_meridian, norm_axis_meridians, item_unit, norm_unit, norm_units}
-use Rattle.crs_writer.specs.Members.{set_text}
+use Rattle.crs_normal.specs.Prelude.{axis_meridian_text, each, number_node, opt, item_axis_meridian, norm_axis_meridians, item_unit, norm_unit, norm_units}
 use Rattle.crs_nodes.specs.Found.{SaysIfAny}
 use Rattle.crs_writer.specs.Parts.{number_behind, opt_text}
 use Rattle.crs_writer.proofs.DirectLemmas.{closed, keyworded, last-more, then-text}
 use Rattle.crs_writer.proofs.PieceLemmas.{then-each, then-more, then-opt, three, two}
 use Rattle.crs_writer.proofs.SystemLemmas.{then-system}
-use Rattle.crs_writer.proofs.WrittenLemmas.{geoid_models-written, members-written, parameters-written}
 
 -- ---- parts that may be missing, and then the rest
 
@@ -39,8 +37,7 @@ then-unit level asked (Some v) rest old s1 s2 e f = two old (44 ∷ item_text (i
 pub last-unit : (level : Level) (asked : UnitKind) (value : Option UnitParts) (old s1 : List ℕ) →
     s1 ≡ old ++ opt_text (λ v. item_text (item_unit (norm_unit level asked v))) value →
     s1 ≡ old ++ others_text (opt item_unit (norm_units level asked value) End)
-last-unit level asked None old s1 e = e
-last-unit level asked (Some v) old s1 e = e ∙ ap (λ (x : List ℕ). old ++ 44 ∷ x) (sym (append-nil (item_text (item_unit (norm_unit level asked v)))))
+last-unit level asked value old s1 e = then-unit level asked value End old s1 s1 e (sym (append-nil s1))
 
 pub then-along : (level : Level) (value : Option AxisMeridianParts) (rest : Siblings) (old s1 s2 : List ℕ) →
     s1 ≡ old ++ opt_text (axis_meridian_text level) value → s2 ≡ s1 ++ others_text rest →
@@ -50,8 +47,7 @@ then-along level (Some v) rest old s1 s2 e f = two old (44 ∷ axis_meridian_tex
 
 pub last-part : {A B : Type 0} (spell : B → Item) (norm : A → B) (value : Option A) (old s1 : List ℕ) →
     s1 ≡ old ++ opt_text (λ v. item_text (spell (norm v))) value → s1 ≡ old ++ others_text (opt spell (option_map norm value) End)
-last-part spell norm None old s1 e = e
-last-part spell norm (Some v) old s1 e = e ∙ ap (λ (x : List ℕ). old ++ 44 ∷ x) (sym (append-nil (item_text (spell (norm v)))))
+last-part spell norm value old s1 e = then-part spell norm value End old s1 s1 e (sym (append-nil s1))
 
 number-text : (keyword : List ℕ) (value : Option Value) →
     number_behind (44 ∷ (keyword ++ 91 ∷ [])) value ≡ others_text (opt (number_node keyword) value End)
@@ -66,25 +62,10 @@ then-number keyword value rest old s1 s2 e f =
 
 -- ---- sets, and then the rest
 
-pub then-members : (level : Level) (values : List MemberParts) (rest : Siblings) (old s1 s2 : List ℕ) →
-    s1 ≡ old ++ set_text (map (member_text level) values) → s2 ≡ s1 ++ others_text rest →
-    s2 ≡ old ++ others_text (each item_member (set_members level values) rest)
-then-members level values rest old s1 s2 e f =
-    then-each item_member (set_members level values) rest old s1 s2 (e ∙ ap (λ (x : List ℕ). old ++ x) (sym (members-written level values))) f
-
-pub then-parameters : (level : Level) (values : List ParameterParts) (rest : Siblings) (old s1 s2 : List ℕ) →
-    s1 ≡ old ++ set_text (map (parameter_text level) values) → s2 ≡ s1 ++ others_text rest →
-    s2 ≡ old ++ others_text (each item_parameter (set_parameters level values) rest)
-then-parameters level values rest old s1 s2 e f =
-    then-each item_parameter (set_parameters level values) rest old s1 s2
-    (e ∙ ap (λ (x : List ℕ). old ++ x) (sym (parameters-written level values))) f
-
-pub then-models : (level : Level) (values : List GeoidModelParts) (rest : Siblings) (old s1 s2 : List ℕ) →
-    s1 ≡ old ++ set_text (map (geoid_model_text level) values) → s2 ≡ s1 ++ others_text rest →
-    s2 ≡ old ++ others_text (each item_geoid_model (set_geoid_models level values) rest)
-then-models level values rest old s1 s2 e f =
-    then-each item_geoid_model (set_geoid_models level values) rest old s1 s2
-    (e ∙ ap (λ (x : List ℕ). old ++ x) (sym (geoid_models-written level values))) f
+pub then-set : {A : Type 0} (spell : A → Item) (values : List A) (text : List ℕ) (rest : Siblings) (old s1 s2 : List ℕ) →
+    others_text (each spell values End) ≡ text → s1 ≡ old ++ text → s2 ≡ s1 ++ others_text rest →
+    s2 ≡ old ++ others_text (each spell values rest)
+then-set spell values text rest old s1 s2 is e f = then-each spell values rest old s1 s2 (e ∙ ap (λ (x : List ℕ). old ++ x) (sym is)) f
 
 -- ---- what parts say
 

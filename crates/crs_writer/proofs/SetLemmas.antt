@@ -5,23 +5,18 @@ use Rattle.std.specs.Cmp.Lexicographic.{slice_cmp}
 use Rattle.std.specs.Ordering.{nat_cmp, match_ordering}
 use Rattle.std.specs.declared.alloc.Global.{Global}
 use Rattle.std.specs.declared.cmp.Ordering.{Ordering}
-use Rattle.std.specs.declared.cmp.Ordering.TheVariants.{Less}
 use Rattle.crs_normal.specs.Prelude.{put}
 use Rattle.crs_writer.specs.Members.{spellings}
+use Rattle.crs_writer.proofs.TextLemmas.{map-match}
 
 abbrev pub compared : Vec ℕ Global → Vec ℕ Global → Ordering
 compared a b = slice_cmp nat_cmp a.items b.items
-
-spellings-match : (o : Ordering) (a b c : List (Vec ℕ Global)) →
-    spellings (match_ordering o a b c) ≡ match_ordering o (spellings a) (spellings b) (spellings c)
-spellings-match Less a b c = refl
-spellings-match other a b c = refl
 
 pub spellings-insert : (keys : List (Vec ℕ Global)) (key : Vec ℕ Global) →
     spellings (insert_key compared keys key) ≡ put (λ bytes. bytes) key.items (spellings keys)
 spellings-insert [] key = refl
 spellings-insert (x ∷ keys) key =
-    spellings-match (compared key x) (key ∷ x ∷ keys) (x ∷ keys) (x ∷ insert_key compared keys key)
+    map-match (λ v. v.items) (compared key x) (key ∷ x ∷ keys) (x ∷ keys) (x ∷ insert_key compared keys key)
     ∙ ap (λ rest. match_ordering (compared key x) (key.items ∷ x.items ∷ spellings keys) (x.items ∷ spellings keys) (x.items ∷ rest))
     (spellings-insert keys key)
 

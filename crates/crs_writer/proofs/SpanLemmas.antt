@@ -41,7 +41,7 @@ over t y z below h =
 
 -- above the last of them it belongs behind all
 put-above : (t y : List ℕ) (l : List (List ℕ)) → Ascends (λ b. b) (l ++ y ∷ []) → slice_cmp nat_cmp t y ≡ Greater →
-    puts t (l ++ y ∷ []) ≡ l ++ y ∷ t ∷ []
+    puts t (l ++ y ∷ []) ≡ (l ++ y ∷ []) ++ t ∷ []
 put-above t y [] s h = ap (λ o. match_ordering o (t ∷ y ∷ []) (y ∷ []) (y ∷ t ∷ [])) h
 put-above t y (z ∷ l) s h =
     ap (λ o. match_ordering o (t ∷ z ∷ l ++ y ∷ []) (z ∷ l ++ y ∷ []) (z ∷ puts t (l ++ y ∷ [])))
@@ -67,26 +67,51 @@ front-ascends (z ∷ l) r s = (front-has (Below z) l r s.0, front-ascends l r s.
     front-has P [] r h = tt
     front-has P (x ∷ l) r h = (h.0, front-has P l r h.1)
 
--- a list, cut at a place: what is before the place with one more, and what is after it
-module _ (t y : List ℕ) (all front back : List (List ℕ)) where
-  pub step-below : puts t all ≡ puts t (front ++ y ∷ []) ++ back → slice_cmp nat_cmp t y ≡ Less →
-      puts t all ≡ puts t front ++ y ∷ back
-  step-below e h =
-      e ∙ ap (λ l. l ++ back) (put-below t y front h) ∙ append_assoc (puts t front) (y ∷ []) back
+-- ordered texts, of which those from a place on belong behind a text, by the one before that place
+module _ (t bytes : List ℕ) (spans : List Span) (at : ℕ) (d : Span) (y : List ℕ) (is : y ≡ text_at bytes (get_or spans (at - 1) d))
+    (some : 0 < at) (le : at ≤ length spans)
+    (so : puts t (texts_at bytes spans) ≡ puts t (take at (texts_at bytes spans)) ++ drop at (texts_at bytes spans)) where
+  abbrev texts : List (List ℕ)
+  texts = texts_at bytes spans
 
-  pub step-equal : puts t all ≡ puts t (front ++ y ∷ []) ++ back → all ≡ (front ++ y ∷ []) ++ back →
-      Ascends (λ b. b) all → slice_cmp nat_cmp t y ≡ Equal → puts t all ≡ all
-  step-equal e is s h =
-      e ∙ ap (λ l. l ++ back)
-      (put-last t y front (front-ascends (front ++ y ∷ []) back (subst (Ascends (λ b. b)) is s)) h)
-      ∙ sym is
+  on : at - 1 + 1 ≡ at
+  on = omega (arith, some)
 
-  pub step-above : puts t all ≡ puts t (front ++ y ∷ []) ++ back → all ≡ (front ++ y ∷ []) ++ back →
-      Ascends (λ b. b) all → slice_cmp nat_cmp t y ≡ Greater → puts t all ≡ (front ++ y ∷ []) ++ t ∷ back
-  step-above e is s h =
-      e ∙ ap (λ l. l ++ back)
-      (put-above t y front (front-ascends (front ++ y ∷ []) back (subst (Ascends (λ b. b)) is s)) h)
-      ∙ append_assoc front (y ∷ t ∷ []) back ∙ sym (append_assoc front (y ∷ []) (t ∷ back))
+  long : at - 1 < length texts
+  long = omega (arith, some, le, length-map spans (text_at bytes))
+
+  here : get_or texts (at - 1) (text_at bytes d) ≡ y
+  here = get_or-map (text_at bytes) spans (at - 1) d (text_at bytes d) (omega (arith, some, le)) ∙ sym is
+
+  front : take at texts ≡ take (at - 1) texts ++ y ∷ []
+  front =
+      ap (λ n. take n texts) (sym on) ∙ take_more texts (at - 1) (text_at bytes d) long
+      ∙ ap (λ z. take (at - 1) texts ++ z ∷ []) here
+
+  behind : drop (at - 1) texts ≡ y ∷ drop at texts
+  behind = drop_more texts (at - 1) (text_at bytes d) long ∙ (λ i. here i ∷ drop (on i) texts)
+
+  front-ordered : Ascends (λ b. b) texts → Ascends (λ b. b) (take (at - 1) texts ++ y ∷ [])
+  front-ordered s =
+      subst (Ascends (λ b. b)) front
+      (front-ascends (take at texts) (drop at texts) (subst (Ascends (λ b. b)) (sym (take-append-drop at texts)) s))
+
+  pub step-below : slice_cmp nat_cmp t y ≡ Less → puts t texts ≡ puts t (take (at - 1) texts) ++ drop (at - 1) texts
+  step-below h =
+      so ∙ ap (λ l. l ++ drop at texts) (ap (puts t) front ∙ put-below t y (take (at - 1) texts) h)
+      ∙ append_assoc (puts t (take (at - 1) texts)) (y ∷ []) (drop at texts)
+      ∙ ap (λ l. puts t (take (at - 1) texts) ++ l) (sym behind)
+
+  pub step-equal : Ascends (λ b. b) texts → slice_cmp nat_cmp t y ≡ Equal → puts t texts ≡ texts
+  step-equal s h =
+      so ∙ ap (λ l. l ++ drop at texts) (ap (puts t) front ∙ put-last t y (take (at - 1) texts) (front-ordered s) h ∙ sym front)
+      ∙ take-append-drop at texts
+
+  pub step-above : Ascends (λ b. b) texts → slice_cmp nat_cmp t y ≡ Greater → puts t texts ≡ take at texts ++ t ∷ drop at texts
+  step-above s h =
+      so ∙ ap (λ l. l ++ drop at texts)
+      (ap (puts t) front ∙ put-above t y (take (at - 1) texts) (front-ordered s) h ∙ ap (λ l. l ++ t ∷ []) (sym front))
+      ∙ append_assoc (take at texts) (t ∷ []) (drop at texts)
 
 -- ---- one more text in order
 
@@ -134,22 +159,12 @@ front-order all start spans order =
     subst (λ bytes. AreInOrder bytes spans) (take-append-drop start all)
     (order-stays (take start all) (drop start all) spans order)
 
--- the text before a place
-pub before : (bytes : List ℕ) (spans : List Span) (at : ℕ) (d : Span) (y : List ℕ) →
-    y ≡ text_at bytes (get_or spans (at - 1) d) → 0 < at → at ≤ length spans →
-    (take at (texts_at bytes spans) ≡ take (at - 1) (texts_at bytes spans) ++ y ∷ [])
-    × (drop (at - 1) (texts_at bytes spans) ≡ y ∷ drop at (texts_at bytes spans))
-before bytes spans at d y is some le =
-    let texts = texts_at bytes spans in
-    let on : at - 1 + 1 ≡ at = omega (arith, some) in
-    let long : at - 1 < length spans = omega (arith, some, le) in
-    let long-texts : at - 1 < length texts = omega (arith, long, length-map spans (text_at bytes)) in
-    let here : get_or texts (at - 1) (text_at bytes d) ≡ y =
-    get_or-map (text_at bytes) spans (at - 1) d (text_at bytes d) long ∙ sym is in (
-      ap (λ n. take n texts) (sym on) ∙ take_more texts (at - 1) (text_at bytes d) long-texts
-          ∙ ap (λ z. take (at - 1) texts ++ z ∷ []) here,
-      drop_more texts (at - 1) (text_at bytes d) long-texts ∙ (λ i. here i ∷ drop (on i) texts),
-    )
+-- a fact of the last bytes and the texts of the spans, in words of what is seen of them
+pub of-seen : (P : List ℕ → List (List ℕ) → Type 0) (start : ℕ) (rest first all seen : List ℕ) (spans seen_spans : List Span) →
+    rest ≡ drop start first → first ≡ all → seen ≡ all → seen_spans ≡ spans → P rest (texts_at seen seen_spans) →
+    P (drop start all) (texts_at all spans)
+of-seen P start rest first all seen spans seen_spans is e f g h =
+    subst (P (drop start all)) (λ i. texts_at (f i) (g i)) (subst (λ t. P t (texts_at seen seen_spans)) (is ∙ ap (drop start) e) h)
 
 -- ---- a span more
 

@@ -41,7 +41,7 @@ each-commas spell [] = refl
 each-commas spell (value ∷ values) =
     ap (λ (x : List ℕ). 44 ∷ (item_text (spell value) ++ x)) (each-commas spell values)
 
-map-match : {A : Type 0} (f : A → List ℕ) (o : Ordering) (a b c : List A) →
+pub map-match : {A B : Type 0} (f : A → B) (o : Ordering) (a b c : List A) →
     map f (match_ordering o a b c) ≡ match_ordering o (map f a) (map f b) (map f c)
 map-match f Less a b c = refl
 map-match f other a b c = refl

@@ -1,20 +1,16 @@
-use Rattle.crs_writer.specs.Members.{spellings}
 use Rattle.crs_writer.proofs.GatherLemmas.{gathering-end, gathering-first, gathering-on}
 use Rattle.crs_writer.proofs.set.gather_all.Goals as goal
 
 pub loop-member-init : goal.loop-member-init
-loop-member-init g c =
-    (c.requires, gathering-first g.M.MembersPart.Say (g.T.Spell.spelling c.args.level) c.args.members (spellings c.args.sorted.now.keys))
+loop-member-init g c = (c.requires, gathering-first g.M.MembersPart.Say (g.T.Spell.spelling c.args.level) _ _)
 
 pub loop-member-preserved : goal.loop-member-preserved
 loop-member-preserved g c = (
   c.in-Some.ensures.0,
-  gathering-on g.M.First.MemberPart.Says g.M.MembersPart.Say (g.T.Spell.spelling c.args.level) c.args.members c.loop-member.left
-      (spellings c.args.sorted.now.keys) (spellings c.loop-member.sorted.keys) (spellings c.gather.new.sorted.keys) _ _
-      c.in-Some.ensures.2 c.in_ok-gather.ensures c.loop-member.invariant.1,
+  gathering-on g.M.First.MemberPart.Says g.M.MembersPart.Say (g.T.Spell.spelling c.args.level) _ _ _ _ _ _ _ c.in-Some.ensures.2
+      c.in_ok-gather.ensures c.loop-member.invariant.1,
 )
 
 pub returns : goal.returns
 returns g c =
-    gathering-end g.M.MembersPart.Say (g.T.Spell.spelling c.args.level) c.args.members c.loop-member.left
-    (spellings c.args.sorted.now.keys) (spellings c.loop-member.sorted.keys) c.in_default.ensures c.loop-member.invariant.1
+    gathering-end g.M.MembersPart.Say (g.T.Spell.spelling c.args.level) _ _ _ _ c.in_default.ensures c.loop-member.invariant.1

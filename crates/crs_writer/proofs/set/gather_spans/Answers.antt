@@ -1,27 +1,18 @@
-use Rattle.crs_writer.specs.Spans.{texts_at}
 use Rattle.crs_writer.proofs.GatherLemmas.{gathering-end, gathering-first, gathering-on}
 use Rattle.crs_writer.proofs.set.gather_spans.Goals as goal
 
 pub loop-member-init : goal.loop-member-init
-loop-member-init g c = (
-  c.requires.members,
-  c.requires.order,
-  gathering-first g.M.MembersPart.Say (g.T.Spell.spelling c.args.level) c.args.members
-      (texts_at c.args.bytes.now.items c.args.spans.now.items),
-)
+loop-member-init g c =
+    (c.requires.members, c.requires.order, gathering-first g.M.MembersPart.Say (g.T.Spell.spelling c.args.level) _ _)
 
 pub loop-member-preserved : goal.loop-member-preserved
 loop-member-preserved g c = (
   c.in-Some.ensures.0,
   c.in_ok-put_among.ensures.order,
-  gathering-on g.M.First.MemberPart.Says g.M.MembersPart.Say (g.T.Spell.spelling c.args.level) c.args.members c.loop-member.left
-      (texts_at c.args.bytes.now.items c.args.spans.now.items) (texts_at c.loop-member.bytes.items c.loop-member.spans.items)
-      (texts_at c.put_among.new.bytes.items c.put_among.new.spans.items) _ _
-      c.in-Some.ensures.2 c.in_ok-put_among.ensures.texts c.loop-member.invariant.2,
+  gathering-on g.M.First.MemberPart.Says g.M.MembersPart.Say (g.T.Spell.spelling c.args.level) _ _ _ _ _ _ _ c.in-Some.ensures.2
+      c.in_ok-put_among.ensures.texts c.loop-member.invariant.2,
 )
 
 pub returns-clause-texts : goal.returns-clause-texts
 returns-clause-texts g c =
-    gathering-end g.M.MembersPart.Say (g.T.Spell.spelling c.args.level) c.args.members c.loop-member.left
-    (texts_at c.args.bytes.now.items c.args.spans.now.items) (texts_at c.loop-member.bytes.items c.loop-member.spans.items)
-    c.in_default.ensures c.loop-member.invariant.2
+    gathering-end g.M.MembersPart.Say (g.T.Spell.spelling c.args.level) _ _ _ _ c.in_default.ensures c.loop-member.invariant.2

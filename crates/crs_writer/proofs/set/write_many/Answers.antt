@@ -6,7 +6,6 @@ use Rattle.crs_writer.proofs.set.write_many.Goals as goal
 
 pub returns : goal.returns
 returns g c = on_ok_weaker c.write_sorted.result (λ sorted value values r rs.
-    many-written (g.T.Spell.spelling c.args.level) value values c.args.out.now.items c.write_sorted.new.out.items
-    (spellings c.new-sorted.result.keys) (spellings c.gather.new.sorted.keys) (spellings c.gather_all.new.sorted.keys)
-    (ap spellings c.new-sorted.ensures.empty) (c.in_ok-gather.ensures value r) (c.in_ok-gather_all.ensures values rs) sorted)
+    many-written (g.T.Spell.spelling c.args.level) value values _ _ _ _ _ (ap spellings c.new-sorted.ensures.empty)
+    (c.in_ok-gather.ensures value r) (c.in_ok-gather_all.ensures values rs) sorted)
     c.write_sorted.ensures

@@ -1,6 +1,6 @@
-use Rattle.std.proofs.Common.{◌≡◌, ◌++◌, ◌∷◌, ◌∙◌, drop, length, rules, take, vec_len, ap, refl, subst, sym}
-use Rattle.crs_writer.specs.Spans.{AreInOrder, IsPutAmong, texts_at}
-use Rattle.crs_writer.proofs.SpanLemmas.{front-order, last-known, last-put, puts}
+use Rattle.std.proofs.Common.{◌≡◌, ◌++◌, ◌∷◌, ◌∙◌, drop, length, rules, take, vec_len, refl, subst, sym}
+use Rattle.crs_writer.specs.Spans.{AreInOrder, IsPutAmong}
+use Rattle.crs_writer.proofs.SpanLemmas.{front-order, last-known, last-put, of-seen, puts}
 use Rattle.crs_writer.proofs.spans.put_last.Goals as goal
 
 pub place_of-requires : goal.place_of-requires
@@ -15,15 +15,10 @@ returns-in-None c =
     let all = c.args.bytes.now.items in
     let spans = c.args.spans.now.items in
     let start = c.args.start in
-    let bytes-same = c.deref-2.ensures.value in
-    let spans-same = c.deref-3.ensures.value in
-    let texts : texts_at c.deref-2.result.now c.deref-3.result.now ≡ texts_at all spans =
-    λ i. texts_at (bytes-same i) (spans-same i) in
-    let text : c.rest_of.result.now ≡ drop start all = c.rest_of.ensures ∙ ap (λ b. drop start b) c.deref.ensures.value in
-    let put : puts (drop start all) (texts_at all spans) ≡ texts_at all spans =
-    sym (λ i. puts (text i) (texts i)) ∙ c.in-None.ensures ∙ texts in
     subst (λ b. IsPutAmong (drop start all) (take start all) spans b spans) (sym c.truncate.ensures.items)
-    (last-known all start spans c.requires.order put)
+    (last-known all start spans c.requires.order
+    (of-seen (λ t texts. puts t texts ≡ texts) start _ _ all _ spans _ c.rest_of.ensures c.deref.ensures.value c.deref-2.ensures.value
+    c.deref-3.ensures.value c.in-None.ensures))
 
 pub returns-in_ok-insert-in-Some : goal.returns-in_ok-insert-in-Some
 returns-in_ok-insert-in-Some c =
@@ -31,15 +26,8 @@ returns-in_ok-insert-in-Some c =
     let spans = c.args.spans.now.items in
     let start = c.args.start in
     let at = c.in-Some.at in
-    let bytes-same = c.deref-2.ensures.value in
-    let spans-same = c.deref-3.ensures.value in
-    let texts : texts_at c.deref-2.result.now c.deref-3.result.now ≡ texts_at all spans =
-    λ i. texts_at (bytes-same i) (spans-same i) in
-    let text : c.rest_of.result.now ≡ drop start all = c.rest_of.ensures ∙ ap (λ b. drop start b) c.deref.ensures.value in
-    let put : puts (drop start all) (texts_at all spans)
-    ≡ take at (texts_at all spans) ++ drop start all ∷ drop at (texts_at all spans) =
-    sym (λ i. puts (text i) (texts i)) ∙ c.in-Some.ensures.1
-    ∙ (λ i. take at (texts i) ++ text i ∷ drop at (texts i)) in
     let long : length all ≡ vec_len c.args.bytes.now = search rules in
     last-put all start at spans c.insert.new.self.items _ c.requires.start c.requires.order refl (c.len-end.ensures ∙ sym long)
-    c.in_ok-insert-in-Some.ensures.items put
+    c.in_ok-insert-in-Some.ensures.items
+    (of-seen (λ t texts. puts t texts ≡ take at texts ++ t ∷ drop at texts) start _ _ all _ spans _ c.rest_of.ensures c.deref.ensures.value
+    c.deref-2.ensures.value c.deref-3.ensures.value c.in-Some.ensures.1)

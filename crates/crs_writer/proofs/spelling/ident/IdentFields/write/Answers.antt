@@ -10,18 +10,13 @@ use Rattle.crs_writer.proofs.spelling.ident.IdentFields.write.Goals as goal
 
 pub returns : goal.returns
 returns c = on_ok_weaker c.append.result (λ closes authority code version citation uri a k v i u.
-    let s0 = c.open_text.new.out.items in
-    let s1 = c.write_code.new.out.items in
-    let s2 = c.write_version.new.out.items in
-    let s3 = c.write_optional_text.new.out.items in
-    let s4 = c.write_optional_text-2.new.out.items in
-    let r4 : Siblings = opt (text_node (codes "URI")) uri End in
-    let r3 : Siblings = opt (text_node (codes "CITATION")) citation r4 in
-    let r2 : Siblings = opt code_item version r3 in
-    closed c.args.opening.now authority (More (code_item code) r2) c.args.out.now.items s0 s4 c.append.new.out.items
-    (told (opened c.args.opening.now) authority _ _ s0 a c.in_ok-open_text.ensures)
-    (then-one (code_item code) r2 s0 s1 s4 (told (λ x. others_text (More (code_item x) End)) code _ s0 s1 k c.in_ok-write_code.ensures)
-    (then-opt code_item version r3 s1 s2 s4 (told (λ x. others_text (opt code_item x End)) version _ s1 s2 v c.in_ok-write_version.ensures)
-    (then-text (codes "CITATION") citation r4 s2 s3 s4 (told (text_behind (codes ",CITATION[\"")) citation _ s2 s3 i c.in_ok-write_optional_text.ensures)
-    (last-text (codes "URI") uri s3 s4 (told (text_behind (codes ",URI[\"")) uri _ s3 s4 u c.in_ok-write_optional_text-2.ensures)))))
+    let last : Siblings = opt (text_node (codes "URI")) uri End in
+    let cited : Siblings = opt (text_node (codes "CITATION")) citation last in
+    let others : Siblings = opt code_item version cited in
+    closed c.args.opening.now authority (More (code_item code) others) _ _ _ _
+    (told (opened c.args.opening.now) authority _ _ _ a c.in_ok-open_text.ensures)
+    (then-one (code_item code) others _ _ _ (told (λ x. others_text (More (code_item x) End)) code _ _ _ k c.in_ok-write_code.ensures)
+    (then-opt code_item version cited _ _ _ (told (λ x. others_text (opt code_item x End)) version _ _ _ v c.in_ok-write_version.ensures)
+    (then-text (codes "CITATION") citation last _ _ _ (told (text_behind (codes ",CITATION[\"")) citation _ _ _ i c.in_ok-write_optional_text.ensures)
+    (last-text (codes "URI") uri _ _ (told (text_behind (codes ",URI[\"")) uri _ _ _ u c.in_ok-write_optional_text-2.ensures)))))
     closes) c.append.ensures
