@@ -1,6 +1,7 @@
 -- The rules by which a writer of a node's parts is proved without an answer.
-use Rattle.std.proofs.Common.{◌≡◌, ℕ, List, [], ◌∷◌, ◌++◌, Option, Some, None, refl, sym, ap, subst, ◌∙◌, append_assoc}
+use Rattle.std.proofs.Common.{◌≡◌, ℕ, List, [], ◌∷◌, ◌++◌, OnOk, Option, Some, None, Result, refl, sym, ap, subst, ◌∙◌, append_assoc}
 use Rattle.std.proofs.lemmas.List.{append-nil}
+use Rattle.std.proofs.lemmas.Result.{on_ok_weaker}
 use Rattle.std.specs.Option.{option_copied, option_map}
 use denote.Bor.{Bor}
 use Rattle.crs_text.specs.Prelude.{Item, Siblings, End, item_text, others_text}
@@ -9,6 +10,7 @@ use Rattle.crs_decimal.specs.Prelude.{plain, Value}
 use Rattle.crs_value.specs.Prelude.{AxisMeridianParts, UnitParts}
 use Rattle.crs_value.specs.declared.values.level.Level.{Level}
 use Rattle.crs_normal.specs.Prelude.{axis_meridian_text, each, number_node, opt, item_axis_meridian, norm_axis_meridians, item_unit, norm_unit, norm_units}
+use Rattle.crs_leaves.specs.Direct.{Writes}
 use Rattle.crs_nodes.specs.Found.{SaysIfAny}
 use Rattle.crs_writer.specs.Parts.{number_behind, opt_text}
 use Rattle.crs_writer.proofs.DirectLemmas.{closed, keyworded, last-more, then-text}
@@ -73,8 +75,15 @@ then-set spell values text rest old s1 s2 is e f = then-each spell values rest o
 pub told : {A : Type 0} (text : A → List ℕ) (value seen : A) (old new : List ℕ) → value ≡ seen → new ≡ old ++ text seen → new ≡ old ++ text value
 told text value seen old new e f = f ∙ ap (λ v. old ++ text v) (sym e)
 
-pub as-said : {A : Type 0} (text : A → List ℕ) (seen value : A) (old new : List ℕ) → seen ≡ value → new ≡ old ++ text seen → new ≡ old ++ text value
-as-said text seen value old new e f = f ∙ ap (λ v. old ++ text v) e
+-- the spelling of a value, by what is written of the fields that are seen of it
+pub spelled : {T E A W : Type 0} (r : Result T E) (text : A → List ℕ) (seen value : A) (old new : List ℕ) → seen ≡ value → OnOk r W →
+    (W → new ≡ old ++ text seen) → OnOk r (new ≡ old ++ text value)
+spelled r text seen value old new e h by = on_ok_weaker r (λ w. by w ∙ ap (λ v. old ++ text v) e) h
+
+-- the text of whatever is read, by what is written of the arguments
+pub written : {T E V W : Type 0} {Reads : V → Type 0} (r : Result T E) (text : V → List ℕ) (old new : List ℕ) →
+    (W → (value : V) → Reads value → new ≡ old ++ text value) → OnOk r W → OnOk r (Writes Reads text old new)
+written r text old new by h = on_ok_weaker r (λ w. record { writes = by w }) h
 
 -- a part of a value that may be missing
 pub copied : {V : Type 0} (parts : Option (Bor V)) (value : Option V) → option_copied parts ≡ value →

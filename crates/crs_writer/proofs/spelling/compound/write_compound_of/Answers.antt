@@ -1,14 +1,12 @@
-use Rattle.std.proofs.lemmas.Result.{on_ok_weaker}
 use Rattle.crs_shape.specs.declared.class.Class.TheVariants as class
 use Rattle.crs_value.specs.Prelude.{ReadsVertical}
 use Rattle.crs_writer.proofs.CursorLemmas.{one-said, some-first}
+use Rattle.crs_writer.proofs.FlatLemmas.{written}
 use Rattle.crs_writer.proofs.spelling.compound.write_compound_of.Goals as goal
 
 pub returns : goal.returns
-returns c = on_ok_weaker c.write.result (λ w. record {
-  writes = λ p r. w p (c.text.ensures p.name r.name) r.horizontal
-      (one-said ReadsVertical c.args.node.now c.one-vertical.result class.VerticalCrs p.vertical c.one-vertical.ensures r.vertical) r.tail;
-}) c.write.ensures
+returns c = written c.write.result _ _ _ (λ w p r. w p (c.text.ensures p.name r.name) r.horizontal
+    (one-said ReadsVertical c.args.node.now c.one-vertical.result class.VerticalCrs p.vertical c.one-vertical.ensures r.vertical) r.tail) c.write.ensures
 
 pub one-vertical-requires : goal.one-vertical-requires
 one-vertical-requires c = some-first (ReadsVertical class.VerticalCrs) _ (c.requires.0.vertical, c.requires.1.vertical)

@@ -1,13 +1,11 @@
-use Rattle.std.proofs.lemmas.Result.{on_ok_weaker}
 use Rattle.crs_shape.specs.declared.class.Class.TheVariants as class
 use Rattle.crs_value.specs.Prelude.{ReadsEllipsoid, ReadsNamed}
 use Rattle.crs_writer.proofs.CursorLemmas.{all-said, first-said}
+use Rattle.crs_writer.proofs.FlatLemmas.{written}
 use Rattle.crs_writer.proofs.spelling.frame.write_ensemble_in.Goals as goal
 
 pub returns : goal.returns
-returns c = on_ok_weaker c.write.result (λ w. record {
-  writes = λ e r. w e (c.text.ensures e.name r.name)
-      (all-said ReadsNamed class.Member _ _ _ e.members c.all-members.ensures.class c.all-members.ensures.all r.members)
-      (first-said ReadsEllipsoid c.args.node.now class.Ellipsoid _ _ e.ellipsoid c.first-ellipsoid.ensures c.as_ref.ensures.value r.ellipsoid)
-      (c.one_number.ensures e.accuracy r.accuracy) r.identifiers;
-}) c.write.ensures
+returns c = written c.write.result _ _ _ (λ w e r. w e (c.text.ensures e.name r.name)
+    (all-said ReadsNamed class.Member _ _ _ e.members c.all-members.ensures.class c.all-members.ensures.all r.members)
+    (first-said ReadsEllipsoid c.args.node.now class.Ellipsoid _ _ e.ellipsoid c.first-ellipsoid.ensures c.as_ref.ensures.value r.ellipsoid)
+    (c.one_number.ensures e.accuracy r.accuracy) r.identifiers) c.write.ensures

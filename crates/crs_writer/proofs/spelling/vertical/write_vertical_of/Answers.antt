@@ -1,11 +1,9 @@
-use Rattle.std.proofs.lemmas.Result.{on_ok_weaker}
 use Rattle.crs_shape.specs.declared.class.Class.TheVariants as class
 use Rattle.crs_value.specs.Prelude.{ReadsDynamic, ReadsNamed}
 use Rattle.crs_writer.proofs.CursorLemmas.{all-said, first-said}
+use Rattle.crs_writer.proofs.FlatLemmas.{written}
 use Rattle.crs_writer.proofs.spelling.vertical.write_vertical_of.Goals as goal
 
 pub returns : goal.returns
-returns c = on_ok_weaker c.write.result (λ w. record {
-  writes = λ v r. w v (c.text.ensures v.name r.name) (first-said ReadsDynamic c.args.node.now class.Dynamic _ _ v.dynamic c.first-dynamic.ensures c.as_ref.ensures.value r.dynamic) r.frame r.system
-      (all-said ReadsNamed class.GeoidModel _ _ _ v.geoid_models c.all-models.ensures.class c.all-models.ensures.all r.geoid_models) r.tail;
-}) c.write.ensures
+returns c = written c.write.result _ _ _ (λ w v r. w v (c.text.ensures v.name r.name) (first-said ReadsDynamic c.args.node.now class.Dynamic _ _ v.dynamic c.first-dynamic.ensures c.as_ref.ensures.value r.dynamic) r.frame r.system
+    (all-said ReadsNamed class.GeoidModel _ _ _ v.geoid_models c.all-models.ensures.class c.all-models.ensures.all r.geoid_models) r.tail) c.write.ensures

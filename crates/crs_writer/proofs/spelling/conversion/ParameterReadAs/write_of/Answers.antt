@@ -3,15 +3,13 @@ use Rattle.crs_value.specs.Prelude.{ReadsUnit}
 use Rattle.crs_nodes.specs.Cursor.{item}
 use Rattle.crs_nodes.specs.declared.node.Node.{Node}
 use Rattle.crs_writer.proofs.CopyLemmas.{copy-writes}
-use Rattle.crs_writer.proofs.FlatLemmas.{through}
+use Rattle.crs_writer.proofs.FlatLemmas.{through, written}
 use Rattle.crs_writer.proofs.spelling.conversion.ParameterReadAs.write_of.Goals as goal
 
 pub returns-in-Some : goal.returns-in-Some
 returns-in-Some c = on_ok_weaker c.append.result (λ e. copy-writes _ _ _ _ _ c.in-Some.ensures e) c.append.ensures
 
 pub returns : goal.returns
-returns c = on_ok_weaker c.write.result (λ w. record {
-  writes = λ p r. w p (c.text.ensures p.name r.name) (c.number.ensures p.value r.value)
-      (through (λ (n : Node) u. ReadsUnit n.class (item n) u) _ _ _ c.as_ref.ensures.value (c.parameter_unit-unit.ensures p.unit r.unit))
-      r.identifiers;
-}) c.write.ensures
+returns c = written c.write.result _ _ _ (λ w p r. w p (c.text.ensures p.name r.name) (c.number.ensures p.value r.value)
+    (through (λ (n : Node) u. ReadsUnit n.class (item n) u) _ _ _ c.as_ref.ensures.value (c.parameter_unit-unit.ensures p.unit r.unit))
+    r.identifiers) c.write.ensures

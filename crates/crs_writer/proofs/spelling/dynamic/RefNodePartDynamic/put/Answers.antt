@@ -1,11 +1,9 @@
-use Rattle.std.proofs.lemmas.Result.{on_ok_weaker}
 use Rattle.crs_shape.specs.declared.class.Class.TheVariants as class
 use Rattle.crs_value.specs.Prelude.{ReadsNamed}
 use Rattle.crs_writer.proofs.CursorLemmas.{first-said}
+use Rattle.crs_writer.proofs.FlatLemmas.{written}
 use Rattle.crs_writer.proofs.spelling.dynamic.RefNodePartDynamic.put.Goals as goal
 
 pub returns : goal.returns
-returns c = on_ok_weaker c.write_dynamic.result (λ w. record {
-  writes = λ d r. w d.epoch d.model (c.one_number-epoch.ensures d.epoch r.epoch)
-      (first-said ReadsNamed c.args.self.now.now class.DeformationModel _ _ d.model c.first-model.ensures c.as_ref.ensures.value r.model);
-}) c.write_dynamic.ensures
+returns c = written c.write_dynamic.result _ _ _ (λ w d r. w d.epoch d.model (c.one_number-epoch.ensures d.epoch r.epoch)
+    (first-said ReadsNamed c.args.self.now.now class.DeformationModel _ _ d.model c.first-model.ensures c.as_ref.ensures.value r.model)) c.write_dynamic.ensures

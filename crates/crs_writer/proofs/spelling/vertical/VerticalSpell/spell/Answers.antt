@@ -1,10 +1,8 @@
 use Rattle.std.proofs.Common.{refl, sym}
-use Rattle.std.proofs.lemmas.Result.{on_ok_weaker}
 use Rattle.crs_normal.specs.Prelude.{vertical_text}
-use Rattle.crs_writer.proofs.FlatLemmas.{as-said, copied}
+use Rattle.crs_writer.proofs.FlatLemmas.{copied, spelled}
 use Rattle.crs_writer.proofs.spelling.vertical.VerticalSpell.spell.Goals as goal
 
 pub returns : goal.returns
-returns c = on_ok_weaker c.write.result (λ w. as-said (vertical_text c.args.level) _ _ _ _ c.self.view_is
-    (w _ refl (copied _ _ c.as_ref.ensures.value) refl refl (sym c.as_slice-models.ensures) refl))
-    c.write.ensures
+returns c =
+    spelled c.write.result (vertical_text c.args.level) _ _ _ _ c.self.view_is c.write.ensures (λ w. w _ refl (copied _ _ c.as_ref.ensures.value) refl refl (sym c.as_slice-models.ensures) refl)
