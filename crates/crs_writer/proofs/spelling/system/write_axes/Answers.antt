@@ -1,6 +1,4 @@
-use Rattle.std.proofs.Common.{◌+◌, ◌-◌, ◌++◌, length, arith}
-use Rattle.crs_text.specs.Prelude.{End, others_text}
-use Rattle.crs_normal.specs.Prelude.{each, axes_from, item_axis}
+use Rattle.std.proofs.Common.{◌+◌, ◌-◌, length, arith}
 use Rattle.crs_writer.proofs.AxisLemmas.{axes-ended}
 use Rattle.crs_writer.proofs.SystemLemmas.{next-axis}
 use Rattle.crs_writer.proofs.spelling.system.write_axes.Goals as goal
@@ -10,15 +8,12 @@ loop-index-preserved g c = λ s type said.
     let n = length s.axes in
     let k = c.loop-index.index in
     let counted = c.axis_count-count.ensures s said in
-    next-axis c.args.level s (k + 1) (n - k) (n - (k + 1)) c.loop-index.out.items c.put_axis.new.out.items
-    (c.args.out.now.items ++ others_text (each item_axis (axes_from c.args.level s 1 n) End))
-    (omega (arith, c.loop-index-test.true, counted)) (c.loop-index.invariant s type said) (c.in_ok-put_axis.ensures s type said)
+    next-axis c.args.level s (k + 1) (n - k) (n - (k + 1)) _ _ _ (omega (arith, c.loop-index-test.true, counted))
+    (c.loop-index.invariant s type said) (c.in_ok-put_axis.ensures s type said)
 
 pub returns : goal.returns
 returns g c = λ s type said.
-    let n = length s.axes in
     let k = c.loop-index.index in
     let counted = c.axis_count-count.ensures s said in
-    axes-ended c.args.level s (k + 1) (n - k) c.loop-index.out.items
-    (c.args.out.now.items ++ others_text (each item_axis (axes_from c.args.level s 1 n) End))
-    (omega (arith, c.loop-index-test.false, counted)) (c.loop-index.invariant s type said)
+    axes-ended c.args.level s (k + 1) (length s.axes - k) _ _ (omega (arith, c.loop-index-test.false, counted))
+    (c.loop-index.invariant s type said)

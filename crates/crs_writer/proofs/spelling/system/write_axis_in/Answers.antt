@@ -2,7 +2,6 @@ use Rattle.std.proofs.Common.{Some, ap, refl, sym, ◌∙◌}
 use Rattle.std.proofs.lemmas.Result.{on_ok_weaker}
 use Rattle.crs_shape.specs.Prelude.{asked_kind}
 use Rattle.crs_value.specs.Prelude.{AxisParts, SystemParts}
-use Rattle.crs_matching.specs.Prelude.{own_or}
 use Rattle.crs_normal.specs.Prelude.{whole_value}
 use Rattle.crs_writer.proofs.FlatLemmas.{copied}
 use Rattle.crs_writer.proofs.SystemLemmas.{placed}
@@ -14,9 +13,7 @@ returns c =
     let system = c.args.system.now in
     let seen = sym c.axis.view_is in
     on_ok_weaker c.write.result (λ w. placed c.args.level system c.args.position axis _ _
-    (w axis.name axis.direction axis.meridian (Some (whole_value c.args.position)) (asked_kind system.system_type axis.direction)
-    (own_or axis.unit system.unit) axis.identifiers
-    (ap (λ (a : AxisParts). a.name) seen) (ap (λ (a : AxisParts). a.direction) seen)
+    (w _ _ _ (Some (whole_value c.args.position)) _ _ _ (ap (λ (a : AxisParts). a.name) seen) (ap (λ (a : AxisParts). a.direction) seen)
     (copied _ _ (c.as_ref.ensures.value ∙ ap (λ (a : AxisParts). a.meridian) c.axis.view_is)) refl
     (ap (λ (s : SystemParts). asked_kind s.system_type axis.direction) (sym c.system.view_is)
     ∙ ap (λ (a : AxisParts). asked_kind c.system.inside.system_type a.direction) seen ∙ sym c.asked_kind.ensures) (copied _ _ c.unit_of-unit.ensures)

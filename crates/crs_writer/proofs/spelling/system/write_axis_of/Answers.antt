@@ -3,7 +3,6 @@ use Rattle.std.proofs.lemmas.Result.{on_ok_weaker}
 use Rattle.crs_shape.specs.Prelude.{asked_kind}
 use Rattle.crs_shape.specs.declared.class.Class.TheVariants as class
 use Rattle.crs_value.specs.Prelude.{ReadsAxisMeridian, ReadsUnit}
-use Rattle.crs_matching.specs.Prelude.{own_or}
 use Rattle.crs_normal.specs.Prelude.{whole_value}
 use Rattle.crs_nodes.specs.Cursor.{item}
 use Rattle.crs_nodes.specs.declared.node.Node.{Node}
@@ -20,8 +19,7 @@ pub returns : goal.returns
 returns c = on_ok_weaker c.write.result (λ w s a type shared r.
     let direction = c.direction-direction.ensures a.direction r.direction in
     placed c.args.level s c.args.seat.position a _ _
-    (w a.name a.direction a.meridian (Some (whole_value c.args.seat.position)) (asked_kind s.system_type a.direction) (own_or a.unit s.unit) a.identifiers
-    (c.text.ensures a.name r.name) direction
+    (w _ _ _ (Some (whole_value c.args.seat.position)) _ _ _ (c.text.ensures a.name r.name) direction
     (first-said ReadsAxisMeridian c.args.axis.now class.AxisMeridian _ _ a.meridian c.first-meridian.ensures c.as_ref.ensures.value r.meridian) refl
     (ap (λ t. asked_kind t a.direction) type ∙ ap (λ d. asked_kind c.args.seat.system_type d) direction ∙ sym c.asked_kind.ensures)
     (through (λ (n : Node) u. ReadsUnit n.class (item n) u) _ _ _ c.as_ref-2.ensures.value (c.unit_of-unit.ensures a.unit s.unit r.unit shared))
