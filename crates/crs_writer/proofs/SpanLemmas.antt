@@ -180,6 +180,12 @@ insert-texts bytes spans zero span = refl
 insert-texts bytes [] (suc at) span = refl
 insert-texts bytes (s ∷ spans) (suc at) span = ap (λ l. text_at bytes s ∷ l) (insert-texts bytes spans at span)
 
+-- the spans before the last bytes have the same texts without them
+same-texts : (all : List ℕ) (start : ℕ) (spans : List Span) → AreInOrder (take start all) spans →
+    texts_at all spans ≡ texts_at (take start all) spans
+same-texts all start spans order =
+    ap (λ bytes. texts_at bytes spans) (sym (take-append-drop start all)) ∙ texts-stay (take start all) (drop start all) spans order.within
+
 -- the last bytes are put among the texts of the others
 pub last-put : (all : List ℕ) (start at : ℕ) (spans others : List Span) (span : Span) →
     start ≤ length all → AreInOrder (take start all) spans →
@@ -188,11 +194,7 @@ pub last-put : (all : List ℕ) (start at : ℕ) (spans others : List Span) (spa
     ≡ take at (texts_at all spans) ++ drop start all ∷ drop at (texts_at all spans) →
     IsPutAmong (drop start all) (take start all) spans all others
 last-put all start at spans others span le order from to is put =
-    let whole : take start all ++ drop start all ≡ all = take-append-drop start all in
-    let stays : AreInOrder all spans =
-    subst (λ bytes. AreInOrder bytes spans) whole (order-stays (take start all) (drop start all) spans order) in
-    let same : texts_at all spans ≡ texts_at (take start all) spans =
-    ap (λ bytes. texts_at bytes spans) (sym whole) ∙ texts-stay (take start all) (drop start all) spans order.within in
+    let stays : AreInOrder all spans = front-order all start spans order in
     let text : text_at all span ≡ drop start all =
     ap (λ n. slice_range all n span.end) from ∙ ap (λ n. slice_range all start n) to
     ∙ take_all (length all - start) (drop start all) (omega (arith, length-drop start all)) in
@@ -207,7 +209,7 @@ last-put all start at spans others span le order from to is put =
         within = within;
         ascend = subst (Ascends (λ b. b)) (sym texts) (put-ascends (drop start all) (texts_at all spans) stays.ascend);
       };
-      texts = texts ∙ ap (puts (drop start all)) same;
+      texts = texts ∙ ap (puts (drop start all)) (same-texts all start spans order);
     }
 
 -- the last bytes are one of the texts already
@@ -216,7 +218,5 @@ pub last-known : (all : List ℕ) (start : ℕ) (spans : List Span) →
     puts (drop start all) (texts_at all spans) ≡ texts_at all spans →
     IsPutAmong (drop start all) (take start all) spans (take start all) spans
 last-known all start spans order put =
-    let whole : take start all ++ drop start all ≡ all = take-append-drop start all in
-    let same : texts_at all spans ≡ texts_at (take start all) spans =
-    ap (λ bytes. texts_at bytes spans) (sym whole) ∙ texts-stay (take start all) (drop start all) spans order.within in
+    let same = same-texts all start spans order in
     record { order = order; texts = sym same ∙ sym put ∙ ap (puts (drop start all)) same }
