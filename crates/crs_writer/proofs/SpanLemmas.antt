@@ -16,63 +16,37 @@ puts t texts = put (λ b. b) t texts
 
 -- ---- where a text belongs
 
-match-append : {X : Type 0} (o : Ordering) (a b c s : List X) →
-    match_ordering o a b c ++ s ≡ match_ordering o (a ++ s) (b ++ s) (c ++ s)
-match-append Less a b c s = refl
-match-append Equal a b c s = refl
-match-append Greater a b c s = refl
+-- above all of the first it belongs behind them
+put-behind : (t : List ℕ) (l r : List (List ℕ)) → Each (λ z. slice_cmp nat_cmp t z ≡ Greater) l → puts t (l ++ r) ≡ l ++ puts t r
+put-behind t [] r h = refl
+put-behind t (z ∷ l) r h =
+    ap (λ o. match_ordering o (t ∷ z ∷ l ++ r) (z ∷ l ++ r) (z ∷ puts t (l ++ r))) h.0 ∙ ap (λ rest. z ∷ rest) (put-behind t l r h.1)
 
--- below the last of them it belongs before that
-put-below : (t y : List ℕ) (l : List (List ℕ)) → slice_cmp nat_cmp t y ≡ Less → puts t (l ++ y ∷ []) ≡ puts t l ++ y ∷ []
-put-below t y [] h = ap (λ o. match_ordering o (t ∷ y ∷ []) (y ∷ []) (y ∷ t ∷ [])) h
-put-below t y (z ∷ l) h =
-    ap (λ rest. match_ordering (slice_cmp nat_cmp t z) (t ∷ z ∷ l ++ y ∷ []) (z ∷ l ++ y ∷ []) (z ∷ rest)) (put-below t y l h)
-    ∙ sym (match-append (slice_cmp nat_cmp t z) (t ∷ z ∷ l) (z ∷ l) (z ∷ puts t l) (y ∷ []))
+middle-has : {A : Type 0} (P : A → Type 0) (l r : List A) (y : A) → Each P (l ++ y ∷ r) → P y
+middle-has P [] r y h = h.0
+middle-has P (z ∷ l) r y h = middle-has P l r y h.1
 
-last-has : {A : Type 0} (P : A → Type 0) (l : List A) (y : A) → Each P (l ++ y ∷ []) → P y
-last-has P [] y h = h.0
-last-has P (z ∷ l) y h = last-has P l y h.1
+-- above what is below a text, it is above those before it
+above-front : (t y : List ℕ) (l r : List (List ℕ)) → ((z : List ℕ) → Below z y → slice_cmp nat_cmp t z ≡ Greater) →
+    Ascends (λ b. b) (l ++ y ∷ r) → Each (λ z. slice_cmp nat_cmp t z ≡ Greater) l
+above-front t y [] r f s = tt
+above-front t y (z ∷ l) r f s = (f z (middle-has (Below z) l r y s.0), above-front t y l r f s.1)
 
--- what is above a text is above those before it
-over : (t y z : List ℕ) → slice_cmp nat_cmp z y ≡ Less → slice_cmp nat_cmp t y ≡ Greater → slice_cmp nat_cmp t z ≡ Greater
+-- what is above a text is above those below it
+over : (t y z : List ℕ) → Below z y → slice_cmp nat_cmp t y ≡ Greater → slice_cmp nat_cmp t z ≡ Greater
 over t y z below h =
     let under : slice_cmp nat_cmp y t ≡ Less = nat_list_cmp_total.antisymm y t ∙ ap ordering_reverse h in
     nat_list_cmp_total.antisymm t z ∙ ap ordering_reverse (nat_list_cmp_total.trans z y t below under)
 
--- above the last of them it belongs behind all
-put-above : (t y : List ℕ) (l : List (List ℕ)) → Ascends (λ b. b) (l ++ y ∷ []) → slice_cmp nat_cmp t y ≡ Greater →
-    puts t (l ++ y ∷ []) ≡ (l ++ y ∷ []) ++ t ∷ []
-put-above t y [] s h = ap (λ o. match_ordering o (t ∷ y ∷ []) (y ∷ []) (y ∷ t ∷ [])) h
-put-above t y (z ∷ l) s h =
-    ap (λ o. match_ordering o (t ∷ z ∷ l ++ y ∷ []) (z ∷ l ++ y ∷ []) (z ∷ puts t (l ++ y ∷ [])))
-    (over t y z (last-has (Below z) l y s.0) h)
-    ∙ ap (λ rest. z ∷ rest) (put-above t y l s.1 h)
-
--- the last of them again changes nothing
-put-last : (t y : List ℕ) (l : List (List ℕ)) → Ascends (λ b. b) (l ++ y ∷ []) → slice_cmp nat_cmp t y ≡ Equal →
-    puts t (l ++ y ∷ []) ≡ l ++ y ∷ []
-put-last t y [] s h = ap (λ o. match_ordering o (t ∷ y ∷ []) (y ∷ []) (y ∷ t ∷ [])) h
-put-last t y (z ∷ l) s h =
-    let below : slice_cmp nat_cmp z y ≡ Less = last-has (Below z) l y s.0 in
-    let above : slice_cmp nat_cmp t z ≡ Greater =
-    nat_list_cmp_total.congr t y z h ∙ nat_list_cmp_total.antisymm y z ∙ ap ordering_reverse below in
-    ap (λ o. match_ordering o (t ∷ z ∷ l ++ y ∷ []) (z ∷ l ++ y ∷ []) (z ∷ puts t (l ++ y ∷ []))) above
-    ∙ ap (λ rest. z ∷ rest) (put-last t y l s.1 h)
-
-front-ascends : (l r : List (List ℕ)) → Ascends (λ b. b) (l ++ r) → Ascends (λ b. b) l
-front-ascends [] r s = tt
-front-ascends (z ∷ l) r s = (front-has (Below z) l r s.0, front-ascends l r s.1)
-  where
-    front-has : {A : Type 0} (P : A → Type 0) (l r : List A) → Each P (l ++ r) → Each P l
-    front-has P [] r h = tt
-    front-has P (x ∷ l) r h = (h.0, front-has P l r h.1)
-
 -- ordered texts, of which those from a place on belong behind a text, by the one before that place
 module _ (t bytes : List ℕ) (spans : List Span) (at : ℕ) (d : Span) (y : List ℕ) (is : y ≡ text_at bytes (get_or spans (at - 1) d))
     (some : 0 < at) (le : at ≤ length spans)
-    (so : puts t (texts_at bytes spans) ≡ puts t (take at (texts_at bytes spans)) ++ drop at (texts_at bytes spans)) where
+    (so : puts t (drop at (texts_at bytes spans)) ≡ t ∷ drop at (texts_at bytes spans)) where
   abbrev texts : List (List ℕ)
   texts = texts_at bytes spans
+
+  abbrev front : List (List ℕ)
+  front = take (at - 1) texts
 
   on : at - 1 + 1 ≡ at
   on = omega (arith, some)
@@ -83,35 +57,36 @@ module _ (t bytes : List ℕ) (spans : List Span) (at : ℕ) (d : Span) (y : Lis
   here : get_or texts (at - 1) (text_at bytes d) ≡ y
   here = get_or-map (text_at bytes) spans (at - 1) d (text_at bytes d) (omega (arith, some, le)) ∙ sym is
 
-  front : take at texts ≡ take (at - 1) texts ++ y ∷ []
-  front =
-      ap (λ n. take n texts) (sym on) ∙ take_more texts (at - 1) (text_at bytes d) long
-      ∙ ap (λ z. take (at - 1) texts ++ z ∷ []) here
-
   behind : drop (at - 1) texts ≡ y ∷ drop at texts
   behind = drop_more texts (at - 1) (text_at bytes d) long ∙ (λ i. here i ∷ drop (on i) texts)
 
-  front-ordered : Ascends (λ b. b) texts → Ascends (λ b. b) (take (at - 1) texts ++ y ∷ [])
-  front-ordered s =
-      subst (Ascends (λ b. b)) front
-      (front-ascends (take at texts) (drop at texts) (subst (Ascends (λ b. b)) (sym (take-append-drop at texts)) s))
+  whole : texts ≡ front ++ y ∷ drop at texts
+  whole = sym (take-append-drop (at - 1) texts) ∙ ap (λ l. front ++ l) behind
 
-  pub step-below : slice_cmp nat_cmp t y ≡ Less → puts t texts ≡ puts t (take (at - 1) texts) ++ drop (at - 1) texts
-  step-below h =
-      so ∙ ap (λ l. l ++ drop at texts) (ap (puts t) front ∙ put-below t y (take (at - 1) texts) h)
-      ∙ append_assoc (puts t (take (at - 1) texts)) (y ∷ []) (drop at texts)
-      ∙ ap (λ l. puts t (take (at - 1) texts) ++ l) (sym behind)
+  placed : (o : Ordering) → slice_cmp nat_cmp t y ≡ o →
+      puts t (y ∷ drop at texts) ≡ match_ordering o (t ∷ y ∷ drop at texts) (y ∷ drop at texts) (y ∷ puts t (drop at texts))
+  placed o h = ap (λ o. match_ordering o (t ∷ y ∷ drop at texts) (y ∷ drop at texts) (y ∷ puts t (drop at texts))) h
+
+  passed : ((z : List ℕ) → Below z y → slice_cmp nat_cmp t z ≡ Greater) → Ascends (λ b. b) texts →
+      puts t texts ≡ front ++ puts t (y ∷ drop at texts)
+  passed f s =
+      ap (puts t) whole
+      ∙ put-behind t front (y ∷ drop at texts) (above-front t y front (drop at texts) f (subst (Ascends (λ b. b)) whole s))
+
+  pub step-below : slice_cmp nat_cmp t y ≡ Less → puts t (drop (at - 1) texts) ≡ t ∷ drop (at - 1) texts
+  step-below h = ap (puts t) behind ∙ placed Less h ∙ ap (λ l. t ∷ l) (sym behind)
 
   pub step-equal : Ascends (λ b. b) texts → slice_cmp nat_cmp t y ≡ Equal → puts t texts ≡ texts
   step-equal s h =
-      so ∙ ap (λ l. l ++ drop at texts) (ap (puts t) front ∙ put-last t y (take (at - 1) texts) (front-ordered s) h ∙ sym front)
-      ∙ take-append-drop at texts
+      passed (λ z below. nat_list_cmp_total.congr t y z h ∙ nat_list_cmp_total.antisymm y z ∙ ap ordering_reverse below) s
+      ∙ ap (λ l. front ++ l) (placed Equal h) ∙ sym whole
 
   pub step-above : Ascends (λ b. b) texts → slice_cmp nat_cmp t y ≡ Greater → puts t texts ≡ take at texts ++ t ∷ drop at texts
   step-above s h =
-      so ∙ ap (λ l. l ++ drop at texts)
-      (ap (puts t) front ∙ put-above t y (take (at - 1) texts) (front-ordered s) h ∙ ap (λ l. l ++ t ∷ []) (sym front))
-      ∙ append_assoc (take at texts) (t ∷ []) (drop at texts)
+      passed (λ z below. over t y z below h) s ∙ ap (λ l. front ++ l) (placed Greater h ∙ ap (λ l. y ∷ l) so)
+      ∙ sym (append_assoc front (y ∷ []) (t ∷ drop at texts))
+      ∙ ap (λ l. l ++ t ∷ drop at texts)
+      (sym (ap (λ n. take n texts) (sym on) ∙ take_more texts (at - 1) (text_at bytes d) long ∙ ap (λ z. front ++ z ∷ []) here))
 
 -- ---- one more text in order
 

@@ -1,4 +1,4 @@
-use Rattle.std.proofs.Common.{◌≡◌, ◌≤◌, ◌++◌, length, take, drop}
+use Rattle.std.proofs.Common.{◌≡◌, ◌≤◌, ◌∷◌, length, drop}
 use Rattle.crs_normal.specs.Prelude.{put}
 use Rattle.crs_writer.specs.Spans.{texts_at}
 use Rattle.crs_writer.proofs.spans.place_of.Given as goal
@@ -6,8 +6,7 @@ use Rattle.crs_writer.proofs.spans.place_of.Given as goal
 abbrev pub invariant-loop-at : goal.invariant-loop-at
 invariant-loop-at l =
     (l.at ≤ length l.spans)
-    × (put (λ b. b) l.text (texts_at l.bytes l.spans)
-    ≡ put (λ b. b) l.text (take l.at (texts_at l.bytes l.spans)) ++ drop l.at (texts_at l.bytes l.spans))
+    × (put (λ b. b) l.text (drop l.at (texts_at l.bytes l.spans)) ≡ l.text ∷ drop l.at (texts_at l.bytes l.spans))
 
 abbrev pub decreases-loop-at : goal.decreases-loop-at
 decreases-loop-at l = l.at
