@@ -82,8 +82,8 @@ spelled r text seen value old new e h by = on_ok_weaker r (λ w. by w ∙ ap (λ
 
 -- the text of whatever is read, by what is written of the arguments
 pub written : {T E V W : Type 0} {Reads : V → Type 0} (r : Result T E) (text : V → List ℕ) (old new : List ℕ) →
-    (W → (value : V) → Reads value → new ≡ old ++ text value) → OnOk r W → OnOk r (Writes Reads text old new)
-written r text old new by h = on_ok_weaker r (λ w. record { writes = by w }) h
+    OnOk r W → (W → (value : V) → Reads value → new ≡ old ++ text value) → OnOk r (Writes Reads text old new)
+written r text old new h by = on_ok_weaker r (λ w. record { writes = by w }) h
 
 -- a part of a value that may be missing
 pub copied : {V : Type 0} (parts : Option (Bor V)) (value : Option V) → option_copied parts ≡ value →

@@ -5,7 +5,8 @@ use Rattle.crs_writer.proofs.FlatLemmas.{written}
 use Rattle.crs_writer.proofs.spelling.frame.write_ensemble_in.Goals as goal
 
 pub returns : goal.returns
-returns c = written c.write.result _ _ _ (λ w e r. w e (c.text.ensures e.name r.name)
-    (all-said ReadsNamed class.Member _ _ _ e.members c.all-members.ensures.class c.all-members.ensures.all r.members)
-    (first-said ReadsEllipsoid c.args.node.now class.Ellipsoid _ _ e.ellipsoid c.first-ellipsoid.ensures c.as_ref.ensures.value r.ellipsoid)
-    (c.one_number.ensures e.accuracy r.accuracy) r.identifiers) c.write.ensures
+returns c = written c.write.result _ _ _ c.write.ensures (λ w e r.
+    w e (c.text.ensures e.name r.name)
+    (all-said ReadsNamed class.Member _ _ _ _ c.all-members.ensures.class c.all-members.ensures.all r.members)
+    (first-said ReadsEllipsoid c.args.node.now class.Ellipsoid _ _ _ c.first-ellipsoid.ensures c.as_ref.ensures.value r.ellipsoid)
+    (c.one_number.ensures e.accuracy r.accuracy) r.identifiers)

@@ -4,4 +4,5 @@ use Rattle.crs_writer.proofs.FlatLemmas.{written}
 use Rattle.crs_writer.proofs.spelling.frame.write_ensemble_of.Goals as goal
 
 pub returns : goal.returns
-returns c = written c.write_ensemble_in.result _ _ _ (λ w e r. w.writes e (one-said ReadsEnsemble c.args.node.now c.one-found.result c.args.class e c.one-found.ensures r)) c.write_ensemble_in.ensures
+returns c = written c.write_ensemble_in.result _ _ _ c.write_ensemble_in.ensures (λ w e r.
+    w.writes e (one-said ReadsEnsemble c.args.node.now c.one-found.result c.args.class _ c.one-found.ensures r))

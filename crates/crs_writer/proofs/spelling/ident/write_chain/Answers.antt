@@ -5,4 +5,5 @@ use Rattle.crs_writer.proofs.FlatLemmas.{written}
 use Rattle.crs_writer.proofs.spelling.ident.write_chain.Goals as goal
 
 pub returns : goal.returns
-returns c = written c.write_set.result _ _ _ (λ set ids r. set.writes ids (all-said ReadsIdent class.Identifier _ _ _ ids c.all-identifiers.ensures.class c.all-identifiers.ensures.all r)) c.write_set.ensures
+returns c = written c.write_set.result _ _ _ c.write_set.ensures (λ set ids r.
+    set.writes ids (all-said ReadsIdent class.Identifier _ _ _ _ c.all-identifiers.ensures.class c.all-identifiers.ensures.all r))

@@ -5,5 +5,7 @@ use Rattle.crs_writer.proofs.FlatLemmas.{written}
 use Rattle.crs_writer.proofs.spelling.vertical.write_vertical_of.Goals as goal
 
 pub returns : goal.returns
-returns c = written c.write.result _ _ _ (λ w v r. w v (c.text.ensures v.name r.name) (first-said ReadsDynamic c.args.node.now class.Dynamic _ _ v.dynamic c.first-dynamic.ensures c.as_ref.ensures.value r.dynamic) r.frame r.system
-    (all-said ReadsNamed class.GeoidModel _ _ _ v.geoid_models c.all-models.ensures.class c.all-models.ensures.all r.geoid_models) r.tail) c.write.ensures
+returns c = written c.write.result _ _ _ c.write.ensures (λ w v r.
+    w v (c.text.ensures v.name r.name)
+    (first-said ReadsDynamic c.args.node.now class.Dynamic _ _ _ c.first-dynamic.ensures c.as_ref.ensures.value r.dynamic)
+    r.frame r.system (all-said ReadsNamed class.GeoidModel _ _ _ _ c.all-models.ensures.class c.all-models.ensures.all r.geoid_models) r.tail)

@@ -6,6 +6,7 @@ use Rattle.crs_writer.proofs.FlatLemmas.{written}
 use Rattle.crs_writer.proofs.spelling.axis.RefNodePartAxisMeridian.put.Goals as goal
 
 pub returns : goal.returns
-returns c = written c.write_axis_meridian.result _ _ _ (λ w m r. w m.longitude (Some m.unit) (c.number.ensures m.longitude r.longitude)
-    (first-said ReadsUnit c.args.self.now.now class.AngleUnit _ _ (Some m.unit) c.first-unit.ensures c.as_ref.ensures.value
-    (needed (ReadsUnit class.AngleUnit) _ m.unit r.unit))) c.write_axis_meridian.ensures
+returns c = written c.write_axis_meridian.result _ _ _ c.write_axis_meridian.ensures (λ w m r.
+    w m.longitude (Some m.unit) (c.number.ensures m.longitude r.longitude)
+    (first-said ReadsUnit c.args.self.now.now class.AngleUnit _ _ _ c.first-unit.ensures c.as_ref.ensures.value
+    (needed (ReadsUnit class.AngleUnit) _ m.unit r.unit)))

@@ -16,6 +16,7 @@ returns g c = on_ok_weaker c.append.result (λ closes x n m p i.
     closed c.args.opening.now x.name (More method parameters) _ _ _ _
     (told (opened c.args.opening.now) x.name _ _ _ n c.in_ok-open_text.ensures)
     (then-more method parameters _ _ _ (c.in_ok-put.ensures.writes x.method m)
-    (then-set item_parameter (set_parameters c.args.level x.parameters) _ ids _ _ _ (parameters-written c.args.level x.parameters) (c.in_ok-write_set.ensures.writes x.parameters p)
+    (then-set item_parameter (set_parameters c.args.level x.parameters) _ ids _ _ _ (parameters-written c.args.level x.parameters)
+    (c.in_ok-write_set.ensures.writes x.parameters p)
     (c.in_ok-put-2.ensures.writes x.identifiers i)))
     closes) c.append.ensures

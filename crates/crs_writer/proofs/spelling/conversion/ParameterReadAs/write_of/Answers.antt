@@ -10,6 +10,7 @@ pub returns-in-Some : goal.returns-in-Some
 returns-in-Some c = on_ok_weaker c.append.result (λ e. copy-writes _ _ _ _ _ c.in-Some.ensures e) c.append.ensures
 
 pub returns : goal.returns
-returns c = written c.write.result _ _ _ (λ w p r. w p (c.text.ensures p.name r.name) (c.number.ensures p.value r.value)
+returns c = written c.write.result _ _ _ c.write.ensures (λ w p r.
+    w p (c.text.ensures p.name r.name) (c.number.ensures p.value r.value)
     (through (λ (n : Node) u. ReadsUnit n.class (item n) u) _ _ _ c.as_ref.ensures.value (c.parameter_unit-unit.ensures p.unit r.unit))
-    r.identifiers) c.write.ensures
+    r.identifiers)

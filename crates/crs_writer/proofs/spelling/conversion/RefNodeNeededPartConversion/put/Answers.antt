@@ -5,8 +5,9 @@ use Rattle.crs_writer.proofs.FlatLemmas.{written}
 use Rattle.crs_writer.proofs.spelling.conversion.RefNodeNeededPartConversion.put.Goals as goal
 
 pub returns : goal.returns
-returns c = written c.write.result _ _ _ (λ w x r. w x (c.text.ensures x.name r.name) (one-said ReadsNamed c.args.self.now.now c.one-method.result class.Method x.method c.one-method.ensures r.method)
-    (all-said ReadsParameter class.Parameter _ _ _ x.parameters c.all-parameters.ensures.class c.all-parameters.ensures.all r.parameters) r.identifiers) c.write.ensures
+returns c = written c.write.result _ _ _ c.write.ensures (λ w x r.
+    w x (c.text.ensures x.name r.name) (one-said ReadsNamed c.args.self.now.now c.one-method.result class.Method _ c.one-method.ensures r.method)
+    (all-said ReadsParameter class.Parameter _ _ _ _ c.all-parameters.ensures.class c.all-parameters.ensures.all r.parameters) r.identifiers)
 
 pub one-method-requires : goal.one-method-requires
 one-method-requires c = some-first (ReadsNamed class.Method) _ (c.requires.0.method, c.requires.1.method)

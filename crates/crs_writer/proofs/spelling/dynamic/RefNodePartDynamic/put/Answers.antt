@@ -5,5 +5,6 @@ use Rattle.crs_writer.proofs.FlatLemmas.{written}
 use Rattle.crs_writer.proofs.spelling.dynamic.RefNodePartDynamic.put.Goals as goal
 
 pub returns : goal.returns
-returns c = written c.write_dynamic.result _ _ _ (λ w d r. w d.epoch d.model (c.one_number-epoch.ensures d.epoch r.epoch)
-    (first-said ReadsNamed c.args.self.now.now class.DeformationModel _ _ d.model c.first-model.ensures c.as_ref.ensures.value r.model)) c.write_dynamic.ensures
+returns c = written c.write_dynamic.result _ _ _ c.write_dynamic.ensures (λ w d r.
+    w d.epoch d.model (c.one_number-epoch.ensures d.epoch r.epoch)
+    (first-said ReadsNamed c.args.self.now.now class.DeformationModel _ _ _ c.first-model.ensures c.as_ref.ensures.value r.model))

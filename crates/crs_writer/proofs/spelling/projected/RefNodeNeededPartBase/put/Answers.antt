@@ -5,7 +5,8 @@ use Rattle.crs_writer.proofs.FlatLemmas.{written}
 use Rattle.crs_writer.proofs.spelling.projected.RefNodeNeededPartBase.put.Goals as goal
 
 pub returns : goal.returns
-returns c = written c.write.result _ _ _ (λ w b r. w b.name b.dynamic b.frame b.meridian b.unit b.identifiers (c.text.ensures b.name r.name)
-    (first-said ReadsDynamic c.args.self.now.now class.Dynamic _ _ b.dynamic c.first-dynamic.ensures c.as_ref.ensures.value r.dynamic) r.frame
-    (first-said ReadsMeridian c.args.self.now.now class.PrimeMeridian _ _ b.meridian c.first-meridian.ensures c.as_ref-2.ensures.value r.meridian)
-    (first-said ReadsUnit c.args.self.now.now class.AngleUnit _ _ b.unit c.first-unit.ensures c.as_ref-3.ensures.value r.unit) r.identifiers) c.write.ensures
+returns c = written c.write.result _ _ _ c.write.ensures (λ w b r.
+    w b.name b.dynamic b.frame b.meridian b.unit b.identifiers (c.text.ensures b.name r.name)
+    (first-said ReadsDynamic c.args.self.now.now class.Dynamic _ _ _ c.first-dynamic.ensures c.as_ref.ensures.value r.dynamic) r.frame
+    (first-said ReadsMeridian c.args.self.now.now class.PrimeMeridian _ _ _ c.first-meridian.ensures c.as_ref-2.ensures.value r.meridian)
+    (first-said ReadsUnit c.args.self.now.now class.AngleUnit _ _ _ c.first-unit.ensures c.as_ref-3.ensures.value r.unit) r.identifiers)

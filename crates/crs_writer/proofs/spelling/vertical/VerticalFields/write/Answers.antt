@@ -23,6 +23,7 @@ returns g c = on_ok_weaker c.append.result (λ closes v n d f s m t.
     (then-part item_dynamic (norm_dynamic level) v.dynamic (More frame system) _ _ _ (c.in_ok-write_optional.ensures.writes v.dynamic d)
     (then-more frame system _ _ _ (c.in_ok-put_vertical.ensures.writes v.frame f)
     (then-system level v.system models _ _ _ (c.in_ok-write_system.ensures.writes v.system s)
-    (then-set item_geoid_model (set_geoid_models level v.geoid_models) _ tail _ _ _ (geoid_models-written level v.geoid_models) (c.in_ok-write_set.ensures.writes v.geoid_models m)
+    (then-set item_geoid_model (set_geoid_models level v.geoid_models) _ tail _ _ _ (geoid_models-written level v.geoid_models)
+    (c.in_ok-write_set.ensures.writes v.geoid_models m)
     (c.in_ok-put.ensures.writes v.tail t)))))
     closes) c.append.ensures
