@@ -1,4 +1,3 @@
-use Rattle.std.proofs.lemmas.Result.{on_ok_weaker}
 use Rattle.crs_value.specs.Prelude.{ReadsUnit}
 use Rattle.crs_nodes.specs.Cursor.{item}
 use Rattle.crs_nodes.specs.declared.node.Node.{Node}
@@ -7,7 +6,7 @@ use Rattle.crs_writer.proofs.FlatLemmas.{through, written}
 use Rattle.crs_writer.proofs.spelling.conversion.ParameterReadAs.write_of.Goals as goal
 
 pub returns-in-Some : goal.returns-in-Some
-returns-in-Some c = on_ok_weaker c.append.result (λ e. copy-writes _ _ _ _ _ c.in-Some.ensures e) c.append.ensures
+returns-in-Some c = copy-writes c.append.result _ _ _ _ _ c.in-Some.ensures c.append.ensures
 
 pub returns : goal.returns
 returns c = written c.write.result _ _ _ c.write.ensures (λ w p r.

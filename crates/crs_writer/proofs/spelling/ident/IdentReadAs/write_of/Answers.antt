@@ -1,6 +1,5 @@
-use Rattle.std.proofs.lemmas.Result.{on_ok_weaker}
 use Rattle.crs_writer.proofs.CopyLemmas.{copy-writes}
 use Rattle.crs_writer.proofs.spelling.ident.IdentReadAs.write_of.Goals as goal
 
 pub returns-in-Some : goal.returns-in-Some
-returns-in-Some c = on_ok_weaker c.append.result (λ e. copy-writes _ _ _ _ _ c.in-Some.ensures e) c.append.ensures
+returns-in-Some c = copy-writes c.append.result _ _ _ _ _ c.in-Some.ensures c.append.ensures
