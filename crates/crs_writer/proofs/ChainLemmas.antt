@@ -21,16 +21,16 @@ fewer-left tree parent c at next id e found =
     let same : length rest ≡ length (from_found tree parent c next) = ap length (found-is tree parent c rest next found) in
     omega (arith, all, same)
 
-pub first-said : {V P M : Type 0} (R : Item → V → Type 0) (Says : P → V → Type 0) (Say : M → List V → Type 0)
-    (tree : Item) (parent c : Class) (at next : Option ℕ) (id : ℕ) (first : P) (others : M) → at ≡ Some id →
-    IsFound tree parent c (those parent c (rest_of (here tree id))) next → ((v : V) → R (item_at tree id) v → Says first v) →
-    ((vs : List V) → ReadsEach R (from_found tree parent c next) vs → Say others vs) →
-    (values : List V) → ReadsEach R (from_found tree parent c at) values → SaysFirst Says Say first others values
-first-said {V = V} R Says Say tree parent c at next id first others e found says say values h =
+-- the first argument says the first value, and those from the next one on say the others
+pub first-said : {V : Type 0} (R : Item → V → Type 0) (tree : Item) (parent c : Class) (at next : Option ℕ) (id : ℕ) → at ≡ Some id →
+    IsFound tree parent c (those parent c (rest_of (here tree id))) next →
+    (values : List V) → ReadsEach R (from_found tree parent c at) values →
+    SaysFirst (λ _. R (item_at tree id)) (λ _. ReadsEach R (from_found tree parent c next)) (tt {0}) (tt {0}) values
+first-said {V = V} R tree parent c at next id e found values h =
     by values (subst (λ a. ReadsEach R (from_found tree parent c a) values) e h)
   where
-    by : (values : List V) → ReadsEach R (from_found tree parent c (Some id)) values → SaysFirst Says Say first others values
+    by : (values : List V) → ReadsEach R (from_found tree parent c (Some id)) values →
+        SaysFirst (λ _. R (item_at tree id)) (λ _. ReadsEach R (from_found tree parent c next)) (tt {0}) (tt {0}) values
     by [] h = absurd h
     by (v ∷ vs) h =
-        let P : List Item → Type 0 = λ xs. ReadsEach R xs vs in
-        (says v h.0, say vs (subst P (found-is tree parent c _ next found) h.1))
+        let P : List Item → Type 0 = λ xs. ReadsEach R xs vs in (h.0, subst P (found-is tree parent c _ next found) h.1)
