@@ -17,15 +17,15 @@ use Rattle.crs_normal.specs.DecimalLaws.{DecimalLaws}
 use Rattle.crs_normal.specs.Normal.{IsNormalIn}
 use Rattle.crs_normal.specs.NormalOwn.{set_classes}
 use Rattle.crs_normal.specs.PartTexts.{norm_axis_alone}
-use Rattle.crs_normal.specs.SpelledItems.{each, number_item, number_node, opt, text_item, word_item}
+use Rattle.crs_normal.specs.SpelledItems.{each, number_node, opt, text_item, word_item}
 use Rattle.crs_normal.specs.SpelledSystems.{item_axis, item_axis_meridian, norm_axis_meridians}
 use Rattle.crs_normal.specs.SpelledUnits.{item_ident, item_unit, norm_units, set_idents}
 use Rattle.crs_normal.proofs.made.AxisLemmas.{axis-meridians-made, known-direction, order-made}
-use Rattle.crs_normal.proofs.made.IdentLemmas.{identifiers-ascend, identifiers-left, identifiers-made}
+use Rattle.crs_normal.proofs.made.IdentLemmas.{identifiers-made, ids-orderly}
 use Rattle.crs_normal.proofs.made.LeafLemmas.{text-made, word-made}
 use Rattle.crs_normal.proofs.made.NodeLemmas.{AreMade, Stands, node-stands, Made, MadeBy, Run, Sees, as-argument, at-class, at-level, classes, each-set, given, made-lines, sees-by}
 use Rattle.crs_normal.proofs.made.PlaceLemmas.{class-at}
-use Rattle.crs_normal.proofs.made.UnitLemmas.{unit-arguments, unit-kept, unit-made, unit_as}
+use Rattle.crs_normal.proofs.made.UnitLemmas.{unit-arguments, unit-made, unit-unbroken, unit_as}
 use Rattle.crs_normal.proofs.made.WordLemmas.{direction-letters}
 use Rattle.crs_normal.proofs.parts.PartLemmas.{IsStanding}
 use Rattle.crs_normal.proofs.read.NameLemmas.{keyword-names}
@@ -72,11 +72,10 @@ module _ (l : DecimalLaws) (level : Level) (u : UnitParts) (h : IsUnit u) where
   plain-stands : (p : ℕ) → Stands class.AxisUnit 3 (at_place p (item_unit (unit_as level kinds.Plain u)))
   unfolding is_keyword
   plain-stands p =
-      let k = unit-kept l level class.AxisUnit kinds.Length u (inl refl) h in
-      node-stands (IsNormalIn level) 2 class.AxisUnit (codes "UNIT") (text_item u.name)
-      (More (number_item u.factor) (each item_ident (set_idents level u.identifiers) End))
-      (as_runs (unit-arguments l level class.AxisUnit kinds.Length u (inl refl) h))
-      (laid (unit-arguments l level class.AxisUnit kinds.Length u (inl refl) h)) (refl, refl) refl k.made k.allowed k.unbroken p
+      let all = unit-arguments l level class.AxisUnit kinds.Length u (inl refl) h in
+      node-stands (IsNormalIn level) 2 class.AxisUnit (codes "UNIT") _ _ (as_runs all) (laid all) (refl, refl) refl
+      (runs-made all) (fits (slots_of class.AxisUnit) all refl)
+      (λ item fault s. unit-unbroken l class.AxisUnit kinds.Length u (inl refl) h item fault (s.view class.Number)) p
 
   plain-alone : MadeBy (AsArgument level) 4 class.Axis class.AxisUnit (item_unit (unit_as level kinds.Plain u))
   plain-alone = record {
@@ -176,10 +175,9 @@ module _ (l : DecimalLaws) (level : Level) (x : AxisParts) (h : IsAxis x) where
         unbroken = s.unbroken;
         normal = record {
           first_keyword = refl;
-          at_level = at-level level class.Axis alone_runs i look (identifiers-left level x.identifiers);
+          at_level = at-level level class.Axis alone_runs i look (ids-orderly level x.identifiers).1.0;
           own_form = tt;
-          ascending_sets = each-set class.Axis alone_runs i set_classes look
-              (identifiers-ascend level x.identifiers, (tt, (tt, (tt, (tt, tt)))));
+          ascending_sets = each-set class.Axis alone_runs i set_classes look (ids-orderly level x.identifiers).0;
           normal_arguments = all-normal-alone level 4 4 (classes alone_runs) (More (text_item x.name) alone_others)
               (subst (AreMade (AsArgument level) 4 class.Axis (classes alone_runs)) (sym (laid alone_arguments))
               (made-lines (AsArgument level) 4 class.Axis alone_runs (runs-made alone_arguments)));

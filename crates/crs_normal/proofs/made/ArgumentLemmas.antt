@@ -1,25 +1,23 @@
 -- A node is made of arguments that say how many they are: whether they fit its slots is computed.
-use Rattle.std.proofs.Common.{◌≡◌, ◌≢◌, ◌∙◌, ℕ, suc, ◌≤◌, Bool, true, false, true≢false, IsTrue, IsFalse, IfSome, Option, Some, List, [], ◌∷◌, codes, map, length, if◌then◌else◌, refl, sym, ap, subst, arith}
+use Rattle.std.proofs.Common.{◌≡◌, ◌≢◌, ◌∙◌, ℕ, ◌+◌, suc, ◌≤◌, Bool, true, false, true≢false, IsTrue, IfSome, Option, Some, None, List, [], ◌∷◌, map, length, if◌then◌else◌, refl, sym, ap, subst, arith}
 use Rattle.crs_decimal.specs.Prelude.{Value, IsNormal}
-use Rattle.crs_text.specs.Prelude.{Item, Siblings, End, More, RefusedAt, IsWord, at_place}
+use Rattle.crs_text.specs.Prelude.{Item, Siblings, End, More, arguments, RefusedAt, IsWord, at_place}
 use Rattle.crs_shape.specs.declared.class.Class.{Class}
 use Rattle.crs_shape.specs.declared.class.Class.TheVariants as class
 use Rattle.crs_shape.specs.Prelude.{is_keyword, Allowed, SlotParts, class_named, one, slots_of, takes}
 use Rattle.crs_value.specs.Checks.{Own as BreaksOwn}
 use Rattle.crs_value.specs.declared.values.level.Level.{Level}
-use Rattle.crs_value.specs.Prelude.{IsIdent, IsText}
+use Rattle.crs_value.specs.Prelude.{IsText}
 use Rattle.crs_value.specs.Sound.{Each}
-use Rattle.crs_value.specs.Values.{IdentParts}
 use Rattle.crs_normal.specs.AcceptedNormal.{IsAcceptedNormal}
 use Rattle.crs_normal.specs.DecimalLaws.{DecimalLaws}
 use Rattle.crs_normal.specs.Normal.{IsFirstKeyword, IsNormalIn}
-use Rattle.crs_normal.specs.NormalOwn.{Ascend, HasOwnForm, set_classes}
+use Rattle.crs_normal.specs.NormalOwn.{HasOwnForm, Rise, set_classes}
 use Rattle.crs_normal.specs.SpelledItems.{each, node_of, number_item, number_node, opt, text_item, text_node}
-use Rattle.crs_normal.specs.SpelledUnits.{item_ident, set_idents}
-use Rattle.crs_normal.proofs.made.FitLemmas.{FitRuns, fills-one, given-few, runs-fit}
-use Rattle.crs_normal.proofs.made.IdentLemmas.{given-made, identifiers-made, number-node-made, text-node-made}
+use Rattle.crs_normal.proofs.made.FitLemmas.{both, given-few, more-fit, no-claim, none-fit, slot-fits}
+use Rattle.crs_normal.proofs.made.RiseLemmas.{has-rise}
 use Rattle.crs_normal.proofs.made.LeafLemmas.{number-made, text-made}
-use Rattle.crs_normal.proofs.made.NodeLemmas.{KeepsRuns, Made, MadeBy, Run, RunsMadeBy, Sees, as-argument, classes, each-line, given, items_in, line, lines, node-made, opt-line, sees}
+use Rattle.crs_normal.proofs.made.NodeLemmas.{AreMade, IsOrderly, Made, MadeBy, Run, RunsMadeBy, Sees, all-normal, as-argument, at-level, classes, each-line, each-set, free-orderly, given, is_free, line, lines, made-lines, node-stands, none-orderly, opt-line, sees}
 
 -- arguments of one class, before others: whether there is one at least, and whether there is one at most
 pub record ArgumentBy (N : Class → Class → Item → Type 0) (most : ℕ) (parent : Class) : Type 0 where
@@ -44,30 +42,6 @@ just-one j h = omega arith
 
 pub few-given : {A : Type 0} (spell : A → Item) (o : Option A) → IsTrue true → length (given spell o) ≤ 1
 few-given spell o h = given-few spell o
-
-pub no-claim : {P : Type 0} → IsTrue false → P
-no-claim h = absurd (true≢false (sym h))
-
-pub one-slot : (c d : Class) → slots_of c ≡ one d ∷ [] → takes (one d) d ≡ true → Allowed (slots_of c) (d ∷ [])
-one-slot c d e t =
-    subst (λ ss. Allowed ss (d ∷ [])) (sym e)
-    (runs-fit (one d ∷ []) (record { of = d; items = text_item [] ∷ [] } ∷ []) (fills-one t, tt))
-
-abbrev pub if_asked : Bool → Bool → Bool
-if_asked true b = b
-if_asked false b = true
-
-pub both : (b c : Bool) → (if b then c else false) ≡ true → (b ≡ true) × (c ≡ true)
-both true c e = (refl, e)
-both false c e = absurd (true≢false (sym e))
-
-asked : (b c : Bool) → if_asked b c ≡ true → IsTrue b → IsTrue c
-asked true c e h = e
-asked false c e h = absurd (true≢false (sym h))
-
-unless : (b c : Bool) → (if b then true else c) ≡ true → IsFalse b → IsTrue c
-unless true c e h = absurd (true≢false h)
-unless false c e h = e
 
 module _ {N : Class → Class → Item → Type 0} {most : ℕ} {parent : Class} where
   abbrev pub one-of : (of : Class) (j : Item) → MadeBy N most parent of j → ArgumentBy N most parent
@@ -131,38 +105,6 @@ module _ {level : Level} {most : ℕ} {parent : Class} where
   abbrev pub number-of : DecimalLaws → (v : Value) → IsNormal v → Argument level most parent
   number-of l v h = one-of class.Number (number_item v) (number-made l level most parent v h)
 
-  abbrev pub ids-of : DecimalLaws → (identifiers : List IdentParts) → 2 ≤ most →
-      class_named parent (codes "ID") ≡ Some class.Identifier → Each IsIdent identifiers → Argument level most parent
-  ids-of l identifiers deep named h =
-      any-of class.Identifier item_ident (set_idents level identifiers)
-      (identifiers-made l level most parent identifiers deep named h)
-
-  -- a node of one text or number
-  module _ (of : Class) (keyword : List ℕ) (letters : IsWord keyword) (known : IsTrue (is_keyword of keyword)) (written : IsFirstKeyword of keyword) (own : (item : Item) → HasOwnForm of item) (unbroken : (item : Item) (fault : RefusedAt) → ¬ (BreaksOwn of item fault)) (named : class_named parent keyword ≡ Some of) (deep : 1 ≤ most) where
-    abbrev pub may-text : slots_of of ≡ one class.Text ∷ [] → (o : Option (List ℕ)) → IfSome o IsText →
-        Argument level most parent
-    may-text slots o h =
-        may-of of (text_node keyword) o
-        (given-made level most parent of IsText (text_node keyword) o h
-        (λ raw q. as-argument level 1 most parent of (text_node keyword raw) deep named
-        (text-node-made level of keyword raw letters known written (one-slot of class.Text slots refl) own unbroken q)))
-
-    pub a-number : DecimalLaws → slots_of of ≡ one class.Number ∷ [] → (v : Value) → IsNormal v →
-        Made level most parent of (number_node keyword v)
-    a-number l slots v h =
-        as-argument level 1 most parent of (number_node keyword v) deep named
-        (number-node-made l level of keyword v letters known written (one-slot of class.Number slots refl) own unbroken h)
-
-    abbrev pub may-number : DecimalLaws → slots_of of ≡ one class.Number ∷ [] → (o : Option Value) → IfSome o IsNormal →
-        Argument level most parent
-    may-number l slots o h =
-        may-of of (number_node keyword) o
-        (given-made level most parent of IsNormal (number_node keyword) o h (a-number l slots))
-
-    abbrev pub one-number : DecimalLaws → slots_of of ≡ one class.Number ∷ [] → (v : Value) → IsNormal v →
-        Argument level most parent
-    one-number l slots v h = one-of of (number_node keyword v) (a-number l slots v h)
-
 -- ---- all arguments
 
 module _ {N : Class → Class → Item → Type 0} {most : ℕ} {parent : Class} where
@@ -186,61 +128,129 @@ module _ {N : Class → Class → Item → Type 0} {most : ℕ} {parent : Class}
   abbrev pub fit : List SlotParts → List (ArgumentBy N most parent) → Bool
   fit [] [] = true
   fit [] (a ∷ rest) = false
-  fit (s ∷ ss) [] = false
+  fit (s ∷ ss) [] = if s.required then false else fit ss []
   fit (s ∷ ss) (a ∷ rest) =
-      if takes s a.of then
-      (if if_asked s.required a.there then (if (if s.many then true else a.single) then fit ss rest else false) else false)
-      else false
-
-  pub fit-runs : (ss : List SlotParts) (all : List (ArgumentBy N most parent)) → fit ss all ≡ true → FitRuns ss (as_runs all)
-  fit-runs [] [] e = tt
-  fit-runs [] (a ∷ rest) e = absurd (true≢false (sym e))
-  fit-runs (s ∷ ss) [] e = absurd (true≢false (sym e))
-  fit-runs (s ∷ ss) (a ∷ rest) e =
-      let p = both _ _ e in
-      let q = both _ _ p.1 in
-      let r = both _ _ q.1 in (
-        record {
-          taken = p.0;
-          enough = λ h. a.is_there (asked s.required a.there q.0 h);
-          not_more = λ h. a.is_single (unless s.many a.single r.0 h);
-        },
-        fit-runs ss rest r.1,
-      )
+      if takes s a.of
+      then (if s.required
+      then (if a.there then (if (if s.many then true else a.single) then fit ss rest else false) else false)
+      else (if s.many then fit (s ∷ ss) rest else if a.single then fit ss rest else false))
+      else (if s.required then false else fit ss (a ∷ rest))
 
   pub fits : (ss : List SlotParts) (all : List (ArgumentBy N most parent)) → fit ss all ≡ true →
       Allowed ss (classes (as_runs all))
-  fits ss all e = runs-fit ss (as_runs all) (fit-runs ss all e)
+  fits [] [] e = ([], (tt, refl))
+  fits [] (a ∷ rest) e = absurd (true≢false (sym e))
+  fits (s ∷ ss) [] e = by s.required refl e (fits ss [])
+    where
+      by : (r : Bool) → s.required ≡ r → (if r then false else fit ss []) ≡ true → (fit ss [] ≡ true → Allowed ss []) →
+          Allowed (s ∷ ss) []
+      by true q e skip = absurd (true≢false (sym e))
+      by false q e skip = none-fit s ss [] q (skip e)
+  fits (s ∷ ss) (a ∷ rest) e =
+      by (takes s a.of) s.required s.many refl refl refl e (fits ss rest) (fits (s ∷ ss) rest) (fits ss (a ∷ rest))
+    where
+      by : (t r m : Bool) → takes s a.of ≡ t → s.required ≡ r → s.many ≡ m →
+          (if t
+          then (if r
+          then (if a.there then (if (if m then true else a.single) then fit ss rest else false) else false)
+          else (if m then fit (s ∷ ss) rest else if a.single then fit ss rest else false))
+          else (if r then false else fit ss (a ∷ rest))) ≡ true →
+          (fit ss rest ≡ true → Allowed ss (classes (as_runs rest))) →
+          (fit (s ∷ ss) rest ≡ true → Allowed (s ∷ ss) (classes (as_runs rest))) →
+          (fit ss (a ∷ rest) ≡ true → Allowed ss (classes (as_runs (a ∷ rest)))) →
+          Allowed (s ∷ ss) (classes (as_runs (a ∷ rest)))
+      by true true m p q n e next again skip =
+          let x = both a.there _ e in
+          let y = both (if m then true else a.single) _ x.1 in
+          slot-fits s ss a.of a.items _ p (λ h. a.is_there x.0)
+          (λ h. a.is_single (subst (λ b. (if b then true else a.single) ≡ true) (sym n ∙ h) y.0)) (next y.1)
+      by true false true p q n e next again skip = more-fit s ss a.of a.items _ p q n (again e)
+      by true false false p q n e next again skip =
+          let x = both a.single _ e in
+          slot-fits s ss a.of a.items _ p (λ h. absurd (true≢false (sym h ∙ q))) (λ h. a.is_single x.0) (next x.1)
+      by false true m p q n e next again skip = absurd (true≢false (sym e))
+      by false false m p q n e next again skip = none-fit s ss _ q (skip e)
 
 module _ (level : Level) (most : ℕ) (c : Class) (keyword : List ℕ) (first : Item) (others : Siblings) (all : List (Argument level most c)) (same : More first others ≡ lay all) where
   -- what the item of such a node has of each class
   pub arguments-seen : (p : ℕ) → Sees c (as_runs all) (at_place p (node_of keyword first others))
   arguments-seen p = sees level most c keyword first others (as_runs all) p (same ∙ laid all) (runs-made all)
 
-  module _ (letters : IsWord keyword) (known : IsTrue (is_keyword c keyword)) (written : IsFirstKeyword c keyword) where
-    -- a node of these arguments is made, where they are allowed
-    pub made-where : Allowed (slots_of c) (classes (as_runs all)) →
-        Each (λ d. Ascend (items_in d (as_runs all))) set_classes → KeepsRuns level (as_runs all) →
-        ((item : Item) → Sees c (as_runs all) item → HasOwnForm c item) →
-        ((item : Item) (fault : RefusedAt) → Sees c (as_runs all) item → ¬ (BreaksOwn c item fault)) → (p : ℕ) →
-        IsAcceptedNormal level c (suc most) (at_place p (node_of keyword first others))
-    made-where allowed sets left own unbroken =
-        node-made level most c keyword first others (as_runs all) (same ∙ laid all) (record {
-          letters = letters;
-          known = known;
-          written = written;
-          made = runs-made all;
-          allowed = allowed;
-          sets = sets;
-          left = left;
-          own = own;
-          unbroken = unbroken;
-        })
+  -- a node of these arguments is made, where they fit its slots and are in order
+  pub made-of : IsWord keyword → IsTrue (is_keyword c keyword) → IsFirstKeyword c keyword →
+      fit (slots_of c) all ≡ true → IsOrderly level (as_runs all) →
+      ((item : Item) → Sees c (as_runs all) item → Rise c 0 (arguments item) → HasOwnForm c item) →
+      ((item : Item) (fault : RefusedAt) → Sees c (as_runs all) item → ¬ (BreaksOwn c item fault)) → (p : ℕ) →
+      IsAcceptedNormal level c (suc most) (at_place p (node_of keyword first others))
+  made-of letters known written fitting orderly own unbroken p =
+      let i : Item = at_place p (node_of keyword first others) in
+      let runs : List Run = as_runs all in
+      let look : Sees c runs i = arguments-seen p in
+      let s = node-stands (IsNormalIn level) most c keyword first others runs (same ∙ laid all) letters known
+      (runs-made all) (fits (slots_of c) all fitting) unbroken p in
+      record {
+        is_node = s.is_node;
+        formed = s.formed;
+        within = s.within;
+        shaped = s.shaped;
+        unbroken = s.unbroken;
+        normal = λ parent. record {
+          first_keyword = written;
+          at_level = at-level level c runs i look orderly.1.0;
+          own_form = own i look (has-rise level most c runs i look (runs-made all) orderly.1.1);
+          ascending_sets = each-set c runs i set_classes look orderly.0;
+          normal_arguments = all-normal level most c (p + length keyword) (classes runs) (More first others)
+              (subst (AreMade (IsNormalIn level) most c (classes runs)) (sym (same ∙ laid all))
+              (made-lines (IsNormalIn level) most c runs (runs-made all)));
+        };
+      }
 
-    -- where they fit the slots, one for each
-    pub made-of : fit (slots_of c) all ≡ true →
-        Each (λ d. Ascend (items_in d (as_runs all))) set_classes → KeepsRuns level (as_runs all) →
-        ((item : Item) → Sees c (as_runs all) item → HasOwnForm c item) →
-        ((item : Item) (fault : RefusedAt) → Sees c (as_runs all) item → ¬ (BreaksOwn c item fault)) → (p : ℕ) →
-        IsAcceptedNormal level c (suc most) (at_place p (node_of keyword first others))
-    made-of e = made-where (fits (slots_of c) all e)
+-- ---- arguments that may be missing, and nodes of one text or number
+
+-- an argument that may be missing is made where the one that is given is
+pub given-made : {A : Type 0} (level : Level) (most : ℕ) (parent c : Class) (P : A → Type 0) (spell : A →
+    Item) (x : Option A) → IfSome x P →
+    ((a : A) → P a → Made level most parent c (spell a)) → Each (Made level most parent c) (given spell x)
+given-made level most parent c P spell None h f = tt
+given-made level most parent c P spell (Some a) h f = (f a h, tt)
+
+module _ (level : Level) (of : Class) (keyword : List ℕ) (letters : IsWord keyword) (known : IsTrue (is_keyword of keyword)) (written : IsFirstKeyword of keyword) (own : (item : Item) → HasOwnForm of item) (unbroken : (item : Item) (fault : RefusedAt) → ¬ (BreaksOwn of item fault)) where
+  single-made : (d : Class) (first : Item) → Made level 0 of d first → slots_of of ≡ one d ∷ [] → takes (one d) d ≡ true →
+      is_free d ≡ true → (p : ℕ) → IsAcceptedNormal level of 1 (at_place p (node_of keyword first End))
+  single-made d first m slots t free =
+      made-of level 0 of keyword _ _ (one-of d first m ∷ []) refl letters known written
+      (rw slots (rw t refl)) (free-orderly level d (first ∷ []) [] free (none-orderly level)) (λ item s r. own item)
+      (λ item fault s. unbroken item fault)
+
+  pub text-node-made : (raw : List ℕ) → slots_of of ≡ one class.Text ∷ [] → IsText raw → (p : ℕ) →
+      IsAcceptedNormal level of 1 (at_place p (text_node keyword raw))
+  text-node-made raw slots h = single-made class.Text (text_item raw) (text-made level 0 of raw h) slots refl refl
+
+  pub number-node-made : DecimalLaws → (v : Value) → slots_of of ≡ one class.Number ∷ [] → IsNormal v → (p : ℕ) →
+      IsAcceptedNormal level of 1 (at_place p (number_node keyword v))
+  number-node-made l v slots h = single-made class.Number (number_item v) (number-made l level 0 of v h) slots refl refl
+
+module _ {level : Level} {most : ℕ} {parent : Class} (of : Class) (keyword : List ℕ) (letters : IsWord keyword) (known : IsTrue (is_keyword of keyword)) (written : IsFirstKeyword of keyword) (own : (item : Item) → HasOwnForm of item) (unbroken : (item : Item) (fault : RefusedAt) → ¬ (BreaksOwn of item fault)) (named : class_named parent keyword ≡ Some of) (deep : 1 ≤ most) where
+  abbrev pub may-text : slots_of of ≡ one class.Text ∷ [] → (o : Option (List ℕ)) → IfSome o IsText →
+      Argument level most parent
+  may-text slots o h =
+      may-of of (text_node keyword) o
+      (given-made level most parent of IsText (text_node keyword) o h
+      (λ raw q. as-argument level 1 most parent of (text_node keyword raw) deep named
+      (text-node-made level of keyword letters known written own unbroken raw slots q)))
+
+  pub a-number : DecimalLaws → slots_of of ≡ one class.Number ∷ [] → (v : Value) → IsNormal v →
+      Made level most parent of (number_node keyword v)
+  a-number l slots v h =
+      as-argument level 1 most parent of (number_node keyword v) deep named
+      (number-node-made level of keyword letters known written own unbroken l v slots h)
+
+  abbrev pub may-number : DecimalLaws → slots_of of ≡ one class.Number ∷ [] → (o : Option Value) → IfSome o IsNormal →
+      Argument level most parent
+  may-number l slots o h =
+      may-of of (number_node keyword) o
+      (given-made level most parent of IsNormal (number_node keyword) o h (a-number l slots))
+
+  abbrev pub one-number : DecimalLaws → slots_of of ≡ one class.Number ∷ [] → (v : Value) → IsNormal v →
+      Argument level most parent
+  one-number l slots v h = one-of of (number_node keyword v) (a-number l slots v h)

@@ -9,7 +9,7 @@ use Rattle.crs_shape.specs.declared.system_type.SystemType.{SystemType}
 use Rattle.crs_shape.specs.declared.system_type.SystemType.TheVariants as types
 use Rattle.crs_shape.specs.declared.unit_kind.UnitKind.{UnitKind}
 use Rattle.crs_shape.specs.declared.unit_kind.UnitKind.TheVariants as kinds
-use Rattle.crs_shape.specs.Prelude.{is_keyword, class_named, slots_of, asked_kind, kind_by_direction, direction_word, unit_word}
+use Rattle.crs_shape.specs.Prelude.{is_keyword, class_named, asked_kind, kind_by_direction, direction_word, unit_word}
 use Rattle.crs_value.specs.Prelude.{orders_in, units_in, UnknownDirection, AnyOf, those, ReadsDirection, IsAxis, IsAxisMeridian, IsUnitOf, AxisMeridianParts, AxisParts, SystemParts, UnitParts}
 use Rattle.crs_value.specs.Checks.{Own as BreaksOwn}
 use Rattle.crs_value.specs.declared.values.level.Level.{Level}
@@ -17,17 +17,16 @@ use Rattle.crs_value.specs.Sound.{Each}
 use Rattle.crs_matching.specs.Prelude.{own_or}
 use Rattle.crs_normal.specs.DecimalLaws.{DecimalLaws}
 use Rattle.crs_normal.specs.AcceptedNormal.{IsKindIn, IsAcceptedNormal}
-use Rattle.crs_normal.specs.SpelledItems.{each, number_item, number_node, opt, text_item, word_item}
+use Rattle.crs_normal.specs.SpelledItems.{each, number_node, opt, text_item, word_item}
 use Rattle.crs_normal.specs.SpelledSystems.{item_axis, item_axis_meridian, norm_axis, norm_axis_meridian, norm_axis_meridians}
 use Rattle.crs_normal.specs.SpelledUnits.{item_ident, item_unit, norm_unit, norm_units, set_idents, whole_value}
 use Rattle.crs_normal.proofs.made.EllipsoidLemmas.{unit-argument}
-use Rattle.crs_normal.proofs.made.FitLemmas.{fills-one, runs-fit}
-use Rattle.crs_normal.proofs.made.IdentLemmas.{identifiers-ascend, identifiers-left, number-node-made}
+use Rattle.crs_normal.proofs.made.IdentLemmas.{ids-of, ids-orderly}
 use Rattle.crs_normal.proofs.made.LeafLemmas.{word-made}
-use Rattle.crs_normal.proofs.made.NodeLemmas.{Made, alone, as-argument, given, keeps-none}
+use Rattle.crs_normal.proofs.made.NodeLemmas.{Made, as-argument, given, none-orderly}
 use Rattle.crs_normal.proofs.made.PlaceLemmas.{ArePlaced}
 use Rattle.crs_normal.proofs.made.WordLemmas.{direction-letters}
-use Rattle.crs_normal.proofs.made.ArgumentLemmas.{made-of, number-of, one-of, Argument, arguments-seen, ids-of, lay, may-of, text-of}
+use Rattle.crs_normal.proofs.made.ArgumentLemmas.{made-of, number-of, one-of, Argument, arguments-seen, lay, may-of, number-node-made, text-of}
 use Rattle.crs_normal.proofs.read.NameLemmas.{keyword-names}
 use Rattle.crs_normal.proofs.same.UnitLemmas.{suits-kind}
 
@@ -43,10 +42,8 @@ whole-normal (suc (suc (suc (suc k)))) h m = absurd (omega arith)
 pub order-made : DecimalLaws → (level : Level) (v : Value) → IsNormal v → (p : ℕ) →
     IsAcceptedNormal level class.Order 1 (at_place p (number_node (codes "ORDER") v))
 unfolding is_keyword BreaksOwn
-order-made l level v h =
-    number-node-made l level class.Order (codes "ORDER") v (refl, refl) refl refl
-    (runs-fit (slots_of class.Order) (alone class.Number (number_item v) ∷ []) (fills-one refl, tt)) (λ item. tt)
-    (λ item fault b. b) h
+order-made l level v =
+    number-node-made level class.Order (codes "ORDER") (refl, refl) refl refl (λ item. tt) (λ item fault b. b) l v refl
 
 -- ---- the meridian of an axis
 
@@ -57,7 +54,7 @@ axis-meridian-made l level m h =
     made-of level 3 class.AxisMeridian (codes "MERIDIAN") _ _ (number-of l m.longitude h.longitude ∷
     one-of class.AngleUnit (item_unit (norm_unit level kinds.Angle m.unit)) (unit-argument l level 3 class.AxisMeridian
     class.AngleUnit kinds.Angle m.unit (omega arith) refl refl (suits-kind kinds.Angle m.unit.kind h.unit.1) h.unit.0) ∷
-    []) refl (refl, refl) refl refl refl (tt, (tt, (tt, (tt, (tt, tt))))) (keeps-none level) (λ item s. tt)
+    []) refl (refl, refl) refl refl refl (none-orderly level) (λ item s r. tt)
     (λ item fault s b. b)
 
 pub axis-meridians-made : DecimalLaws → (level : Level) (x : Option AxisMeridianParts) → IfSome x IsAxisMeridian →
@@ -144,8 +141,8 @@ unfolding BreaksOwn is_keyword norm_axis
 axis-made l level s k x f low high =
     made-of level 4 class.Axis (codes "AXIS") _ _ (axis_arguments l level s.system_type s.unit k x f low high)
     (axis-laid l level s.system_type s.unit k x f low high) (refl, refl) refl refl refl
-    (identifiers-ascend level x.identifiers, (tt, (tt, (tt, (tt, tt))))) (identifiers-left level x.identifiers)
-    (λ item v. tt) (λ item fault v b. known-direction x.direction (those class.Axis class.Word (arguments item)) fault
+    (ids-orderly level x.identifiers)
+    (λ item v r. tt) (λ item fault v b. known-direction x.direction (those class.Axis class.Word (arguments item)) fault
     (v.view class.Word) b)
 
 -- what is in an axis at a position, as the checks of a system see it

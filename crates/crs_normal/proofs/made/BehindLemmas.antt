@@ -12,7 +12,9 @@ use Rattle.crs_value.specs.declared.values.level.Level.{Level}
 use Rattle.crs_value.specs.Sound.{Each}
 use Rattle.crs_normal.specs.DecimalLaws.{DecimalLaws}
 use Rattle.crs_normal.specs.SpelledSystems.{axes_from, item_axis, item_head, norm_system}
-use Rattle.crs_normal.proofs.made.CheckLemmas.{IsSystemSeen}
+use Rattle.crs_normal.proofs.made.CheckLemmas.{IsSystemIn, IsSystemSeen}
+use Rattle.crs_normal.proofs.made.DatumLemmas.{given-once}
+use Rattle.crs_normal.specs.SpelledItems.{text_node}
 use Rattle.crs_normal.proofs.made.NodeLemmas.{Made, Run, alone, as-argument, items_in}
 use Rattle.crs_normal.proofs.made.PlaceLemmas.{ArePlaced}
 use Rattle.crs_normal.proofs.made.SystemLemmas.{HasEach, IsHeadItem, all-axes, all-count, axes-made, axes-seen, head-made, head-seen}
@@ -144,12 +146,18 @@ Shows c item runs e = ArePlaced (those c e (arguments item)) (items_in e runs)
 pub tail-seen : (level : Level) (c : Class) (item : Item) (t : TailParts) →
     Each (Shows c item (tail_runs level t)) tail_classes → IsTailSeen c item
 tail-seen level c item t v = record {
-  scope = placed-none (those c class.Scope (arguments item)) v.0;
-  area = placed-none (those c class.Area (arguments item)) v.1.0;
-  bbox = placed-none (those c class.BoundingBox (arguments item)) v.1.1.0;
-  extent = placed-none (those c class.VerticalExtent (arguments item)) v.1.1.1.0;
-  remarks = kept_one level t.remark;
-  remark = v.1.1.1.1.0;
+  none_bare = (
+    placed-none (those c class.Scope (arguments item)) v.0,
+    (
+      placed-none (those c class.Area (arguments item)) v.1.0,
+      (
+        placed-none (those c class.BoundingBox (arguments item)) v.1.1.0,
+        (placed-none (those c class.VerticalExtent (arguments item)) v.1.1.1.0, tt),
+      ),
+    ),
+  );
+  one_remark = given-once (text_node (codes "REMARK")) (kept_one level t.remark) (those c class.Remark (arguments item))
+      v.1.1.1.1.0;
 }
 
 placed-length : (items js : List Item) → ArePlaced items js → length items ≡ length js
@@ -181,10 +189,7 @@ system-of l level s (x ∷ []) axes units h p q none =
     }
 
 pub system-seen : DecimalLaws → (level : Level) (c : Class) (item : Item) (s : SystemParts) (t : TailParts) → IsFew s →
-    Each (Shows c item (behind level s t)) crs_classes →
-    IsSystemSeen s.system_type s.dimension (those c class.CoordinateSystem (arguments item))
-    (those c class.Axis (arguments item))
-    (those c class.AxisUnit (arguments item))
+    Each (Shows c item (behind level s t)) crs_classes → IsSystemIn s c item
 system-seen l level c item s t h v =
     system-of l level s (those c class.CoordinateSystem (arguments item)) (those c class.Axis (arguments item))
     (those c class.AxisUnit (arguments item)) h v.0

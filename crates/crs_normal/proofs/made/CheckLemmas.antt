@@ -8,7 +8,7 @@ use Rattle.crs_shape.specs.declared.class.Class.TheVariants as class
 use Rattle.crs_shape.specs.declared.direction.Direction.{Direction}
 use Rattle.crs_shape.specs.declared.system_type.SystemType.{SystemType}
 use Rattle.crs_shape.specs.Prelude.{IsOneOf, asked_kind, direction_word, system_word}
-use Rattle.crs_value.specs.Prelude.{BadOrder, BadOrders, IsBadOrder, IsPosition, LacksOrder, OneHas, ReadsOrder, orders_in, BadOwnUnit, Misfits, units_in, AnyOf, BadSystems, OfHead, ReadsFirst, those, ReadsDirection, ReadsKind, ReadsNumber, ReadsType}
+use Rattle.crs_value.specs.Prelude.{BadOrder, BadOrders, IsBadOrder, IsPosition, LacksOrder, OneHas, ReadsOrder, orders_in, BadOwnUnit, Misfits, units_in, AnyOf, BadSystems, OfHead, ReadsFirst, those, SystemParts, ReadsDirection, ReadsKind, ReadsNumber, ReadsType}
 use Rattle.crs_value.specs.Sound.{Each}
 use Rattle.crs_normal.specs.DecimalLaws.{DecimalLaws}
 use Rattle.crs_normal.specs.NormalOwn.{AreOrdered, Has, HasAxes, numbers_in}
@@ -190,6 +190,12 @@ pub record IsSystemSeen (t : SystemType) (d : Value) (systems axes units : List 
   pub count : SameNumber (exact d) (whole_number (length axes))
   pub none_shared : units ≡ []
 
+-- those of a CRS of this class, whose system is this
+abbrev pub IsSystemIn : SystemParts → Class → Item → Type 0
+IsSystemIn s c item =
+    IsSystemSeen s.system_type s.dimension (those c class.CoordinateSystem (arguments item))
+    (those c class.Axis (arguments item)) (those c class.AxisUnit (arguments item))
+
 pub no-bad-systems : DecimalLaws →
     (dimensions : SystemType → List ℕ) (t : SystemType) (d : Value) (systems axes units : List Item) (fault : RefusedAt) →
     IsNormal d → IsOneOf d (dimensions t) → IsSystemSeen t d systems axes units →
@@ -228,12 +234,9 @@ own-units t k (x ∷ axes) h = (
       (k + 1) axes h.1,
 )
 
-pub has-axes : (c : Class) (item : Item) (t : SystemType) (d : Value) →
-    IsSystemSeen t d (those c class.CoordinateSystem (arguments item)) (those c class.Axis (arguments item))
-    (those c class.AxisUnit (arguments item)) →
-    HasAxes c item
-has-axes c item t d s = record {
-  ordered = ordered t 1 (those c class.Axis (arguments item)) s.axes_are;
-  own_units = own-units t 1 (those c class.Axis (arguments item)) s.axes_are;
-  none_shared = s.none_shared;
+pub has-axes : (c : Class) (item : Item) (s : SystemParts) → IsSystemIn s c item → HasAxes c item
+has-axes c item s seen = record {
+  ordered = ordered s.system_type 1 (those c class.Axis (arguments item)) seen.axes_are;
+  own_units = own-units s.system_type 1 (those c class.Axis (arguments item)) seen.axes_are;
+  none_shared = seen.none_shared;
 }

@@ -1,38 +1,34 @@
 -- Compound CRSs are made, and with them all CRSs.
-use Rattle.std.proofs.Common.{◌≡◌, ◌⊎◌, ℕ, Bool, true, false, Some, List, [], ◌∷◌, ◌++◌, ap, codes, if◌then◌else◌, inl, inr, refl, sym, subst, take, ◌∙◌, arith}
+use Rattle.std.proofs.Common.{◌≡◌, ◌⊎◌, ℕ, Bool, true, false, Some, List, [], ◌∷◌, codes, inl, inr, refl, sym, subst, ◌∙◌, arith, drop}
 use Rattle.crs_decimal.specs.Prelude.{SameNumber, whole_number, Value, IsNormal, exact}
 use Rattle.crs_text.specs.Prelude.{Item, More, arguments, RefusedAt, at_place}
 use Rattle.crs_shape.specs.declared.class.Class.{Class}
 use Rattle.crs_shape.specs.declared.class.Class.TheVariants as class
 use Rattle.crs_shape.specs.declared.system_type.SystemType.{SystemType}
 use Rattle.crs_shape.specs.declared.system_type.SystemType.TheVariants as types
-use Rattle.crs_shape.specs.Prelude.{is_keyword, class_named, one_of, slots_of, takes}
+use Rattle.crs_shape.specs.Prelude.{is_keyword, class_named, one_of, takes}
 use Rattle.crs_value.specs.Prelude.{BadComponent, IsNotEllipsoidal, IsNotHorizontal, IsNotPlane, AnyOf, FirstIs, OfCompound, horizontal_classes, CompoundParts, GeodeticParts, ProjectedParts, VerticalParts, those, IsText, IsCompound, IsHorizontal, IsPlane, IsGeodetic, IsProjected, IsVertical, IsTail, TailParts}
 use Rattle.crs_value.specs.Checks.{Own as BreaksOwn}
 use Rattle.crs_value.specs.declared.values.compound.Horizontal.{Horizontal}
 use Rattle.crs_value.specs.declared.values.compound.Horizontal.TheVariants as horizontal
 use Rattle.crs_value.specs.declared.values.level.Level.{Level}
 use Rattle.crs_value.specs.Sound.{Each}
-use Rattle.crs_matching.specs.Prelude.{usages_of}
 use Rattle.crs_normal.specs.DecimalLaws.{DecimalLaws}
 use Rattle.crs_normal.specs.CrsClass.{geodetic_class}
 use Rattle.crs_normal.specs.AcceptedNormal.{IsAcceptedNormal}
-use Rattle.crs_normal.specs.NormalOwn.{Ascend, set_classes}
 use Rattle.crs_normal.specs.SpelledCrs.{geodetic_keyword, item_compound, item_geodetic, item_projected, item_vertical, norm_compound, norm_geodetic, norm_projected, norm_vertical}
 use Rattle.crs_normal.specs.SpelledItems.{node_of, text_item}
 use Rattle.crs_normal.specs.SpelledUsages.{norm_tail, tail_items}
 use Rattle.crs_normal.proofs.made.BehindLemmas.{AxisEach, Shows, tail-seen, tail_classes}
 use Rattle.crs_normal.proofs.made.CheckLemmas.{first-number, word-type}
 use Rattle.crs_normal.proofs.made.GeodeticLemmas.{geodetic-made, geodetic-seen}
-use Rattle.crs_normal.proofs.made.IdentLemmas.{identifiers-ascend}
-use Rattle.crs_normal.proofs.made.NodeLemmas.{KeepsRuns, Made, Run, alone, as-argument, items_in, views, Sees}
+use Rattle.crs_normal.proofs.made.NodeLemmas.{Made, Run, alone, as-argument, views, Sees, free-orderly, is_free}
 use Rattle.crs_normal.proofs.made.PlaceLemmas.{ArePlaced}
 use Rattle.crs_normal.proofs.made.ProjectedLemmas.{projected-made, projected-seen}
 use Rattle.crs_normal.proofs.made.SystemLemmas.{IsHeadItem}
-use Rattle.crs_normal.proofs.made.RiseLemmas.{rises}
-use Rattle.crs_normal.proofs.made.TailLemmas.{IsTailSeen, has-tail, fits-before-tail, no-repeats, tail-left, tail_runs, usages-ascend, tail_arguments, compound-names}
+use Rattle.crs_normal.proofs.made.TailLemmas.{IsTailSeen, has-tail, no-repeats, tail_runs, tail_arguments, compound-names, tail-orderly}
 use Rattle.crs_normal.proofs.made.VerticalLemmas.{vertical-made}
-use Rattle.crs_normal.proofs.made.ArgumentLemmas.{Argument, made-where, one-of, runs-made, text-of}
+use Rattle.crs_normal.proofs.made.ArgumentLemmas.{one-of, text-of, made-of}
 
 -- ---- horizontal parts: geographic or projected
 
@@ -103,20 +99,9 @@ side-taken : (b : Bool) → takes (one_of horizontal_classes) (side_class b) ≡
 side-taken true = refl
 side-taken false = refl
 
-side-sets : (level : Level) (b : Bool) (j : Item) (name : List ℕ) (v : VerticalParts) (t : TailParts) →
-    Each (λ d. Ascend (items_in d (compound_runs level b j name v t))) set_classes
-side-sets level true j name v t = (identifiers-ascend level t.identifiers, (usages-ascend level (usages_of t), (tt, (tt, (tt, tt)))))
-side-sets level false j name v t = (identifiers-ascend level t.identifiers, (usages-ascend level (usages_of t), (tt, (tt, (tt, tt)))))
-
-side-left : (level : Level) (b : Bool) (j : Item) (name : List ℕ) (v : VerticalParts) (t : TailParts) →
-    KeepsRuns level (compound_runs level b j name v t)
-side-left level true j name v t = tail-left level t
-side-left level false j name v t = tail-left level t
-
-side-rise : (level : Level) (b : Bool) (j : Item) (name : List ℕ) (v : VerticalParts) (t : TailParts) →
-    rises 0 (compound_runs level b j name v t) ≡ true
-side-rise level true j name v t = refl
-side-rise level false j name v t = refl
+side-free : (b : Bool) → is_free (side_class b) ≡ true
+side-free true = refl
+side-free false = refl
 
 side-shows : (level : Level) (b : Bool) (j : Item) (name : List ℕ) (v : VerticalParts) (t : TailParts) (item : Item) →
     Each (Shows class.CompoundCrs item (compound_runs level b j name v t)) tail_classes →
@@ -124,18 +109,15 @@ side-shows : (level : Level) (b : Bool) (j : Item) (name : List ℕ) (v : Vertic
 side-shows level true j name v t item h = h
 side-shows level false j name v t item h = h
 
-not-bad-part : (c : Class) (j : Item) (items : List Item) (fault : RefusedAt) → ArePlaced items (j ∷ []) →
-    ((p : ℕ) → ¬ (FirstIs (IsNotHorizontal c) (those c class.CoordinateSystem (arguments (at_place p j))))) →
+good-parts : (c : Class) (items js : List Item) (fault : RefusedAt) → ArePlaced items js →
+    Each (λ j. (p : ℕ) → ¬ (FirstIs (IsNotHorizontal c) (those c class.CoordinateSystem (arguments (at_place p j))))) js →
     ¬ (AnyOf (BadComponent c) items fault)
-not-bad-part c j [] fault h f b = b
-not-bad-part c j (x ∷ y ∷ items) fault h f b = h.1
-not-bad-part c j (x ∷ []) fault h f (inl b) =
-    f h.0.0 (subst (λ i. FirstIs (IsNotHorizontal c) (those c class.CoordinateSystem (arguments i))) h.0.1 b.1)
-not-bad-part c j (x ∷ []) fault h f (inr b) = b
-
-no-part : (c : Class) (items : List Item) (fault : RefusedAt) → ArePlaced items [] → ¬ (AnyOf (BadComponent c) items fault)
-no-part c [] fault h b = b
-no-part c (x ∷ items) fault h b = h
+good-parts c [] [] fault h f b = b
+good-parts c [] (j ∷ js) fault h f b = h
+good-parts c (x ∷ items) [] fault h f b = h
+good-parts c (x ∷ items) (j ∷ js) fault h f (inl b) =
+    f.0 h.0.0 (subst (λ i. FirstIs (IsNotHorizontal c) (those c class.CoordinateSystem (arguments i))) h.0.1 b.1)
+good-parts c (x ∷ items) (j ∷ js) fault h f (inr b) = good-parts c items js fault h.1 f.1 b
 
 compound-breaks : (level : Level) (b : Bool) (j : Item) (name : List ℕ) (v : VerticalParts) (t : TailParts)
     (item : Item) (fault : RefusedAt) → IsSide level b j →
@@ -143,22 +125,17 @@ compound-breaks : (level : Level) (b : Bool) (j : Item) (name : List ℕ) (v : V
     IsTailSeen class.CompoundCrs item →
     ¬ (OfCompound (arguments item) fault)
 compound-breaks level b j name v t item fault s h q (inl k) = no-repeats class.CompoundCrs item fault q k
-compound-breaks level true j name v t item fault s h q (inr (inl k)) =
-    no-part class.GeodeticCrs (those class.CompoundCrs class.GeodeticCrs (arguments item)) fault h.0 k
+compound-breaks level true j name v t item fault s h q (inr (inl k)) = good-parts class.GeodeticCrs _ [] fault h.0 tt k
 compound-breaks level true j name v t item fault s h q (inr (inr (inl k))) =
-    not-bad-part class.GeographicCrs j (those class.CompoundCrs class.GeographicCrs (arguments item)) fault h.1.0
-    s.fine k
+    good-parts class.GeographicCrs _ (j ∷ []) fault h.1.0 (s.fine, tt) k
 compound-breaks level true j name v t item fault s h q (inr (inr (inr (inl k)))) =
-    no-part class.ProjectedCrs (those class.CompoundCrs class.ProjectedCrs (arguments item)) fault h.1.1.0 k
-compound-breaks level true j name v t item fault s h q (inr (inr (inr (inr k)))) = k
-compound-breaks level false j name v t item fault s h q (inr (inl k)) =
-    no-part class.GeodeticCrs (those class.CompoundCrs class.GeodeticCrs (arguments item)) fault h.0 k
+    good-parts class.ProjectedCrs _ [] fault h.1.1.0 tt k
+compound-breaks level false j name v t item fault s h q (inr (inl k)) = good-parts class.GeodeticCrs _ [] fault h.0 tt k
 compound-breaks level false j name v t item fault s h q (inr (inr (inl k))) =
-    no-part class.GeographicCrs (those class.CompoundCrs class.GeographicCrs (arguments item)) fault h.1.0 k
+    good-parts class.GeographicCrs _ [] fault h.1.0 tt k
 compound-breaks level false j name v t item fault s h q (inr (inr (inr (inl k)))) =
-    not-bad-part class.ProjectedCrs j (those class.CompoundCrs class.ProjectedCrs (arguments item)) fault h.1.1.0
-    s.fine k
-compound-breaks level false j name v t item fault s h q (inr (inr (inr (inr k)))) = k
+    good-parts class.ProjectedCrs _ (j ∷ []) fault h.1.1.0 (s.fine, tt) k
+compound-breaks level b j name v t item fault s h q (inr (inr (inr (inr k)))) = k
 
 vertical-part : DecimalLaws → AxisEach → (level : Level) (v : VerticalParts) → IsVertical v →
     Made level 7 class.CompoundCrs class.VerticalCrs (item_vertical (norm_vertical level v))
@@ -174,18 +151,17 @@ side-made : DecimalLaws → AxisEach →
     (More j (More (item_vertical (norm_vertical level v)) (tail_items (norm_tail level t))))))
 unfolding BreaksOwn is_keyword
 side-made l each_at level b j name v t s n h g =
-    let front : List (Argument level 7 class.CompoundCrs) = text-of name n ∷ one-of (side_class b) j s.made ∷
-    one-of class.VerticalCrs (item_vertical (norm_vertical level v)) (vertical-part l each_at level v h) ∷ [] in
-    let all = front ++ tail_arguments l level 7 class.CompoundCrs t (omega arith) compound-names g in
-    let seen = λ (item : Item) (q : Sees class.CompoundCrs (compound_runs level b j name v t) item). tail-seen level class.CompoundCrs item t (side-shows level b j name v t item
-    (views class.CompoundCrs (compound_runs level b j name v t) item tail_classes q)) in
-    made-where level 7 class.CompoundCrs (codes "COMPOUNDCRS") _ _ all refl (refl, refl) refl refl
-    (fits-before-tail (take 3 (slots_of class.CompoundCrs)) front t (ap (λ b. if b then true else false) (side-taken b)))
-    (side-sets level b j name v t) (side-left level b j name v t)
-    (λ item q. has-tail level 7 class.CompoundCrs (compound_runs level b j name v t) item q (runs-made all)
-    (side-rise level b j name v t) (seen item q))
-    (λ item fault q k. compound-breaks level b j name v t item fault s
-    (views class.CompoundCrs (compound_runs level b j name v t) item horizontal_classes q) (seen item q) k)
+    let runs : List Run = compound_runs level b j name v t in
+    let seen = λ (item : Item) (q : Sees class.CompoundCrs runs item). tail-seen level class.CompoundCrs item t
+    (side-shows level b j name v t item (views class.CompoundCrs runs item tail_classes q)) in
+    made-of level 7 class.CompoundCrs (codes "COMPOUNDCRS") _ _ (text-of name n ∷ one-of (side_class b) j s.made ∷
+    one-of class.VerticalCrs (item_vertical (norm_vertical level v)) (vertical-part l each_at level v h) ∷
+    tail_arguments l level 7 class.CompoundCrs t (omega arith) compound-names g) refl (refl, refl) refl refl
+    (rw (side-taken b) (refl {a = true}))
+    (free-orderly level (side_class b) (j ∷ []) (drop 2 runs) (side-free b) (tail-orderly level t))
+    (λ item q r. has-tail class.CompoundCrs item r (seen item q))
+    (λ item fault q. compound-breaks level b j name v t item fault s
+    (views class.CompoundCrs runs item horizontal_classes q) (seen item q))
 
 pub compound-made : DecimalLaws → AxisEach → (level : Level) (c : CompoundParts) → IsCompound c → (p : ℕ) →
     IsAcceptedNormal level class.CompoundCrs 8 (at_place p (item_compound (norm_compound level c)))

@@ -1,5 +1,5 @@
 -- Parameters and conversions are made.
-use Rattle.std.proofs.Common.{◌≡◌, ℕ, ◌++◌, true, Option, Some, None, List, [], ◌∷◌, map, ap, codes, false, if◌then◌else◌, IfSome, refl, arith}
+use Rattle.std.proofs.Common.{◌≡◌, ℕ, ◌++◌, true, Option, Some, None, List, [], ◌∷◌, map, codes, IfSome, refl, arith}
 use Rattle.crs_text.specs.Prelude.{at_place}
 use Rattle.crs_shape.specs.declared.class.Class.{Class}
 use Rattle.crs_shape.specs.declared.class.Class.TheVariants as class
@@ -14,17 +14,16 @@ use Rattle.crs_matching.specs.Prelude.{kind_as}
 use Rattle.crs_normal.specs.PartSpellings.{unit_class}
 use Rattle.crs_normal.specs.DecimalLaws.{DecimalLaws}
 use Rattle.crs_normal.specs.AcceptedNormal.{IsKindIn, IsAcceptedNormal}
-use Rattle.crs_normal.specs.NormalOwn.{Ascend, set_classes}
+use Rattle.crs_normal.specs.NormalOwn.{Ascend}
 use Rattle.crs_normal.specs.SpelledConversions.{item_conversion, item_method, item_parameter, norm_conversion, norm_method, norm_parameter, set_parameters}
-use Rattle.crs_normal.specs.SpelledItems.{number_item, text_item}
 use Rattle.crs_normal.specs.SpelledUnits.{item_unit, norm_unit, norm_units}
 use Rattle.crs_normal.proofs.made.AscendLemmas.{set-ascends, set-each}
-use Rattle.crs_normal.proofs.made.IdentLemmas.{identifiers-ascend, identifiers-left, ids_run}
-use Rattle.crs_normal.proofs.made.NodeLemmas.{KeepsRuns, Made, Run, alone, as-argument, given, items_in}
+use Rattle.crs_normal.proofs.made.IdentLemmas.{ids-of, ids-orderly, ids_run}
+use Rattle.crs_normal.proofs.made.NodeLemmas.{Made, as-argument, free-orderly, given, is_free}
 use Rattle.crs_normal.proofs.made.NamedLemmas.{method-made}
 use Rattle.crs_normal.proofs.made.UnitLemmas.{unit-made}
 use Rattle.crs_normal.proofs.members.ParameterLemmas.{named-as}
-use Rattle.crs_normal.proofs.made.ArgumentLemmas.{any-of, ids-of, made-of, one-of, text-of, may-of, number-of}
+use Rattle.crs_normal.proofs.made.ArgumentLemmas.{any-of, made-of, one-of, text-of, may-of, number-of}
 
 -- ---- parameters: the class of the unit is that of its keyword
 
@@ -47,31 +46,6 @@ parameter-unit l level (Some u) h =
       tt,
     )
 
-abbrev parameter_runs : Level → Class → ParameterParts → List Run
-parameter_runs level c p =
-    alone class.Text (text_item p.name) ∷ alone class.Number (number_item p.value) ∷
-    record { of = c; items = given item_unit (norm_units level kinds.Plain p.unit) } ∷ ids_run level p.identifiers ∷ []
-
-kind-sets : (level : Level) (k : UnitKind) (p : ParameterParts) →
-    Each (λ d. Ascend (items_in d (parameter_runs level (unit_class k) p))) set_classes
-kind-sets level kinds.Length p = (identifiers-ascend level p.identifiers, (tt, (tt, (tt, (tt, tt)))))
-kind-sets level other p = (identifiers-ascend level p.identifiers, (tt, (tt, (tt, (tt, tt)))))
-
-parameter-sets : (level : Level) (x : Option UnitParts) (p : ParameterParts) →
-    Each (λ d. Ascend (items_in d (parameter_runs level (given_class x) p))) set_classes
-parameter-sets level None p = kind-sets level kinds.Plain p
-parameter-sets level (Some u) p = kind-sets level (kind_as kinds.Plain u.kind) p
-
-kind-left : (level : Level) (k : UnitKind) (p : ParameterParts) →
-    KeepsRuns level (parameter_runs level (unit_class k) p)
-kind-left level kinds.Length p = identifiers-left level p.identifiers
-kind-left level other p = identifiers-left level p.identifiers
-
-parameter-left : (level : Level) (x : Option UnitParts) (p : ParameterParts) →
-    KeepsRuns level (parameter_runs level (given_class x) p)
-parameter-left level None p = kind-left level kinds.Plain p
-parameter-left level (Some u) p = kind-left level (kind_as kinds.Plain u.kind) p
-
 abbrev unit_classes : List Class
 unit_classes = class.PlainUnit ∷ class.LengthUnit ∷ class.AngleUnit ∷ class.ScaleUnit ∷ []
 
@@ -83,15 +57,23 @@ given-taken : (x : Option UnitParts) → takes (optional_of unit_classes) (given
 given-taken None = refl
 given-taken (Some u) = kind-taken (kind_as kinds.Plain u.kind)
 
+kind-free : (k : UnitKind) → is_free (unit_class k) ≡ true
+kind-free kinds.Length = refl
+kind-free other = refl
+
+given-free : (x : Option UnitParts) → is_free (given_class x) ≡ true
+given-free None = refl
+given-free (Some u) = kind-free (kind_as kinds.Plain u.kind)
+
 pub parameter-made : DecimalLaws → (level : Level) (m : ParameterParts) → IsParameter m → (p : ℕ) →
     IsAcceptedNormal level class.Parameter 4 (at_place p (item_parameter (norm_parameter level m)))
 unfolding BreaksOwn class_named is_keyword
 parameter-made l level m h =
     made-of level 3 class.Parameter (codes "PARAMETER") _ _ (text-of m.name h.name ∷ number-of l m.value h.value ∷
     may-of (given_class m.unit) item_unit (norm_units level kinds.Plain m.unit) (parameter-unit l level m.unit h.unit) ∷
-    ids-of l m.identifiers (omega arith) refl h.identifiers ∷ []) refl (refl, refl) refl refl
-    (ap (λ b. if b then true else false) (given-taken m.unit))
-    (parameter-sets level m.unit m) (parameter-left level m.unit m) (λ item s. tt) (λ item fault s b. b)
+    ids-of l m.identifiers (omega arith) refl h.identifiers ∷ []) refl (refl, refl) refl refl (rw (given-taken m.unit) refl)
+    (free-orderly level (given_class m.unit) (given item_unit (norm_units level kinds.Plain m.unit)) (ids_run level m.identifiers ∷ []) (given-free m.unit)
+    (ids-orderly level m.identifiers)) (λ item s r. tt) (λ item fault s b. b)
 
 -- ---- conversions
 
@@ -119,5 +101,5 @@ conversion-made l level m h =
     any-of class.Parameter item_parameter (set_parameters level m.parameters)
     (parameters-made l level m.parameters h.parameters) ∷
     ids-of l m.identifiers (omega arith) refl h.identifiers ∷ []) refl (refl, refl) refl refl refl
-    (identifiers-ascend level m.identifiers, (tt, (tt, (parameters-ascend level m.parameters, (tt, tt)))))
-    (identifiers-left level m.identifiers) (λ item s. tt) (λ item fault s b. b)
+    (let ids = ids-orderly level m.identifiers in
+    ((ids.0.0, (tt, (tt, (parameters-ascend level m.parameters, (tt, tt))))), ids.1)) (λ item s r. tt) (λ item fault s b. b)

@@ -14,7 +14,7 @@ use Rattle.crs_value.specs.Sound.{Each}
 use Rattle.crs_normal.specs.DecimalLaws.{DecimalLaws}
 use Rattle.crs_normal.specs.AcceptedNormal.{IsAcceptedNormal}
 use Rattle.crs_normal.specs.SpelledDynamic.{item_deformation_model, item_dynamic, norm_deformation_model, norm_dynamic}
-use Rattle.crs_normal.proofs.made.NodeLemmas.{Made, Run, as-argument, given, keeps-none}
+use Rattle.crs_normal.proofs.made.NodeLemmas.{Made, Run, as-argument, given, none-orderly}
 use Rattle.crs_normal.proofs.made.NamedLemmas.{deformation-model-made}
 use Rattle.crs_normal.proofs.made.PlaceLemmas.{ArePlaced}
 use Rattle.crs_normal.proofs.made.ArgumentLemmas.{made-of, may-of, one-number}
@@ -39,8 +39,7 @@ dynamic-made l level d h =
     made-of level 3 class.Dynamic (codes "DYNAMIC") _ _ (one-number class.FrameEpoch (codes "FRAMEEPOCH") (refl, refl)
     refl refl (λ item. tt) (λ item fault b. b) refl (omega arith) l refl d.epoch h.epoch ∷
     may-of class.DeformationModel item_deformation_model (option_map (norm_deformation_model level) d.model)
-    (model-argument l level d.model h.model refl) ∷ []) refl (refl, refl) refl refl refl (tt, (tt, (tt, (tt, (tt, tt)))))
-    (keeps-none level) (λ item s. tt) (λ item fault s b. b)
+    (model-argument l level d.model h.model refl) ∷ []) refl (refl, refl) refl refl refl (none-orderly level) (λ item s r. tt) (λ item fault s b. b)
 
 -- ---- dynamic parts as arguments
 

@@ -19,11 +19,11 @@ use Rattle.crs_normal.specs.SpelledFrames.{item_ellipsoid, norm_ellipsoid}
 use Rattle.crs_normal.specs.SpelledItems.{number_item}
 use Rattle.crs_normal.specs.SpelledUnits.{item_unit, metre, norm_length, norm_unit, norm_units}
 use Rattle.crs_normal.proofs.members.IdentLemmas.{none-form}
-use Rattle.crs_normal.proofs.made.IdentLemmas.{identifiers-ascend, identifiers-left}
+use Rattle.crs_normal.proofs.made.IdentLemmas.{ids-of, ids-orderly}
 use Rattle.crs_normal.proofs.made.NodeLemmas.{Made, as-argument, given}
 use Rattle.crs_normal.proofs.made.PlaceLemmas.{ArePlaced}
 use Rattle.crs_normal.proofs.made.UnitLemmas.{not-below, reads-one, unit-made, unit_as}
-use Rattle.crs_normal.proofs.made.ArgumentLemmas.{ids-of, made-of, number-of, one-of, text-of}
+use Rattle.crs_normal.proofs.made.ArgumentLemmas.{made-of, number-of, one-of, text-of}
 use Rattle.crs_normal.proofs.same.UnitLemmas.{metre-is, suits-kind}
 
 -- ---- units
@@ -87,8 +87,8 @@ ellipsoid-made l level e h =
     one-of class.LengthUnit (item_unit (norm_length level e.unit))
     (length-argument l level 3 class.Ellipsoid e.unit (omega arith) refl h.unit) ∷
     ids-of l e.identifiers (omega arith) refl h.identifiers ∷ []) refl (refl, refl) refl refl refl
-    (identifiers-ascend level e.identifiers, (tt, (tt, (tt, (tt, tt))))) (identifiers-left level e.identifiers)
-    (λ item s. placed-some (those class.Ellipsoid class.LengthUnit (arguments item)) []
+    (ids-orderly level e.identifiers)
+    (λ item s r. placed-some (those class.Ellipsoid class.LengthUnit (arguments item)) []
     (item_unit (norm_length level e.unit)) (s.view class.LengthUnit))
     (λ item fault s b. ellipsoid-numbers l e.semi_major_axis e.inverse_flattening
     (those class.Ellipsoid class.Number (arguments item)) fault (s.view class.Number) h.semi_major_axis h.above_zero

@@ -20,10 +20,10 @@ use Rattle.crs_normal.specs.SpelledUnits.{item_ident, set_idents}
 use Rattle.crs_normal.proofs.made.AscendLemmas.{set-ascends, set-each, set-some}
 use Rattle.crs_normal.proofs.made.DatumLemmas.{geodetic-datum-made, vertical-datum-made}
 use Rattle.crs_normal.proofs.made.EllipsoidLemmas.{ellipsoid-made}
-use Rattle.crs_normal.proofs.made.IdentLemmas.{identifiers-ascend, identifiers-left}
-use Rattle.crs_normal.proofs.made.NodeLemmas.{Made, as-argument}
+use Rattle.crs_normal.proofs.made.IdentLemmas.{ids-of, ids-orderly, ids_run}
+use Rattle.crs_normal.proofs.made.NodeLemmas.{IsOrderly, Made, as-argument}
 use Rattle.crs_normal.proofs.made.NamedLemmas.{member-made}
-use Rattle.crs_normal.proofs.made.ArgumentLemmas.{ids-of, made-of, one-number, one-of, some-of, text-of}
+use Rattle.crs_normal.proofs.made.ArgumentLemmas.{made-of, one-number, one-of, some-of, text-of}
 
 -- ---- ensembles
 
@@ -43,6 +43,13 @@ members-ascend level ms = set-ascends item_member (map (norm_member level) ms)
 members-some : (level : Level) (ms : List MemberParts) → ms ≢ [] → map item_member (set_members level ms) ≢ []
 unfolding set_members
 members-some level ms h = set-some (norm_member level) item_member ms h
+
+ensemble-orderly : (level : Level) (e : EnsembleParts) →
+    IsOrderly level (record { of = class.Member; items = map item_member (set_members level e.members) } ∷
+    ids_run level e.identifiers ∷ [])
+ensemble-orderly level e =
+    let ids = ids-orderly level e.identifiers in
+    ((ids.0.0, (tt, (members-ascend level e.members, (tt, (tt, tt))))), ids.1)
 
 -- the arguments after an ensemble's name
 abbrev ensemble_others : Level → Option EllipsoidParts → EnsembleParts → Siblings
@@ -65,8 +72,7 @@ geodetic-ensemble-made l level (Some x) e some f h =
     one-number class.EnsembleAccuracy (codes "ENSEMBLEACCURACY") (refl, refl) refl refl (λ item. tt)
     (λ item fault b. b) refl (omega arith) l refl e.accuracy h.accuracy ∷
     ids-of l e.identifiers (omega arith) refl h.identifiers ∷ []) refl (refl, refl) refl refl refl
-    (identifiers-ascend level e.identifiers, (tt, (members-ascend level e.members, (tt, (tt, tt)))))
-    (identifiers-left level e.identifiers) (λ item s. tt) (λ item fault s b. b)
+    (ensemble-orderly level e) (λ item s r. tt) (λ item fault s b. b)
 
 vertical-ensemble-made : DecimalLaws → (level : Level) (x : Option EllipsoidParts) (e : EnsembleParts) → IsNone x →
     IsEnsemble e →
@@ -81,8 +87,7 @@ vertical-ensemble-made l level None e none h =
     one-number class.EnsembleAccuracy (codes "ENSEMBLEACCURACY") (refl, refl) refl refl (λ item. tt)
     (λ item fault b. b) refl (omega arith) l refl e.accuracy h.accuracy ∷
     ids-of l e.identifiers (omega arith) refl h.identifiers ∷ []) refl (refl, refl) refl refl refl
-    (identifiers-ascend level e.identifiers, (tt, (members-ascend level e.members, (tt, (tt, tt)))))
-    (identifiers-left level e.identifiers) (λ item s. tt) (λ item fault s b. b)
+    (ensemble-orderly level e) (λ item s r. tt) (λ item fault s b. b)
 
 -- ---- frames
 

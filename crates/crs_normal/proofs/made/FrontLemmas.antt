@@ -1,28 +1,31 @@
 -- What geodetic CRSs and base CRSs have in front is made: the name, the dynamic part and the frame.
-use Rattle.std.proofs.Common.{◌≡◌, ◌≢◌, ℕ, ◌≤◌, ◌++◌, true, Option, Some, None, List, [], ◌∷◌, codes, inl, inr, refl, Bool, false}
-use Rattle.crs_text.specs.Prelude.{Item, arguments, RefusedAt}
+use Rattle.std.proofs.Common.{◌≡◌, ◌≢◌, ℕ, suc, IsTrue, ◌≤◌, ◌++◌, true, Option, Some, None, List, [], ◌∷◌, codes, inl, inr, refl, Bool, false}
+use Rattle.crs_text.specs.Prelude.{Item, More, Siblings, IsWord, arguments, at_place, RefusedAt}
 use Rattle.crs_shape.specs.declared.class.Class.{Class}
 use Rattle.crs_shape.specs.declared.class.Class.TheVariants as class
 use Rattle.crs_shape.specs.declared.system_type.SystemType.{SystemType}
-use Rattle.crs_shape.specs.Prelude.{class_in, class_named, one_of, takes, IsOneOf}
+use Rattle.crs_shape.specs.Prelude.{class_in, class_named, is_keyword, one_of, slots_of, takes, IsOneOf}
 use Rattle.crs_value.specs.declared.values.frame.Frame.{Frame}
 use Rattle.crs_value.specs.declared.values.frame.Frame.TheVariants as frame
 use Rattle.crs_value.specs.declared.values.level.Level.{Level}
-use Rattle.crs_value.specs.Prelude.{DynamicParts, those, IsDynamicOf, IsGeodeticFrame, MeridianParts, SystemParts, OfCrs}
+use Rattle.crs_value.specs.Prelude.{DynamicParts, those, IsDynamicOf, IsGeodeticFrame, MeridianParts, SystemParts, TailParts, OfCrs}
 use Rattle.crs_value.specs.Sound.{Each}
 use Rattle.crs_normal.specs.DecimalLaws.{DecimalLaws}
-use Rattle.crs_normal.specs.AcceptedNormal.{geodetic_frame_class, vertical_frame_class}
-use Rattle.crs_normal.specs.NormalOwn.{Ascend, set_classes}
+use Rattle.crs_normal.specs.AcceptedNormal.{IsAcceptedNormal, geodetic_frame_class, vertical_frame_class}
+use Rattle.crs_normal.specs.NormalOwn.{HasAxes, HasOwnForm, HasTail}
+use Rattle.crs_normal.specs.Normal.{IsFirstKeyword}
+use Rattle.crs_value.specs.Checks.{Own as BreaksOwn}
 use Rattle.crs_normal.specs.SpelledFrames.{item_frame, item_meridian, norm_frame, norm_meridian}
-use Rattle.crs_normal.proofs.made.BehindLemmas.{Shows, crs_classes}
+use Rattle.crs_normal.specs.SpelledItems.{node_of}
+use Rattle.crs_normal.proofs.made.BehindLemmas.{IsFew, Shows, behind, crs_classes, system-seen, tail-seen}
 use Rattle.crs_normal.proofs.made.DynamicLemmas.{IsSteady, dynamic_classes, dynamic_run, none-shown, no-bad-dynamic}
 use Rattle.crs_normal.proofs.made.FrameLemmas.{geodetic-frame-made}
-use Rattle.crs_normal.proofs.made.NodeLemmas.{KeepsRuns, Made, Run, alone, as-argument, given, items_in}
+use Rattle.crs_normal.proofs.made.NodeLemmas.{IsOrderly, Made, Run, Sees, alone, as-argument, given, is_free, items_in}
+use Rattle.crs_normal.proofs.made.ArgumentLemmas.{Argument, as_runs, fit, lay, made-of}
 use Rattle.crs_normal.proofs.made.PlaceLemmas.{ArePlaced}
-use Rattle.crs_normal.proofs.made.CheckLemmas.{IsSystemSeen, no-bad-systems}
-use Rattle.crs_normal.proofs.made.TailLemmas.{IsTailSeen, no-repeats}
+use Rattle.crs_normal.proofs.made.CheckLemmas.{IsSystemIn, has-axes, no-bad-systems}
+use Rattle.crs_normal.proofs.made.TailLemmas.{IsTailSeen, has-tail, no-repeats}
 use Rattle.crs_decimal.specs.Prelude.{IsNormal}
-use Rattle.crs_normal.proofs.made.RiseLemmas.{rises}
 
 -- ---- the frame as an argument, of one class or the other
 
@@ -57,28 +60,11 @@ frame_class false f = vertical_frame_class f
 abbrev pub framed_runs : Bool → Level → Item → Option DynamicParts → Frame → Item → List Run → List Run
 framed_runs b level n x f j rest = alone class.Text n ∷ dynamic_run level x ∷ alone (frame_class b f) j ∷ rest
 
-module _ (level : Level) (n : Item) (x : Option DynamicParts) where
-  pub frame-sets : (b : Bool) (f : Frame) (j : Item) (rest : List Run) →
-      Each (λ d. Ascend (items_in d rest)) set_classes →
-      Each (λ d. Ascend (items_in d (framed_runs b level n x f j rest))) set_classes
-  frame-sets true (frame.Datum d) j rest h = h
-  frame-sets true (frame.Ensemble e) j rest h = h
-  frame-sets false (frame.Datum d) j rest h = h
-  frame-sets false (frame.Ensemble e) j rest h = h
-
-  pub frame-left : (b : Bool) (f : Frame) (j : Item) (rest : List Run) → KeepsRuns level rest →
-      KeepsRuns level (framed_runs b level n x f j rest)
-  frame-left true (frame.Datum d) j rest h = h
-  frame-left true (frame.Ensemble e) j rest h = h
-  frame-left false (frame.Datum d) j rest h = h
-  frame-left false (frame.Ensemble e) j rest h = h
-
-  pub frame-rises : (b : Bool) (f : Frame) (j : Item) (rest : List Run) → rises 0 rest ≡ true →
-      rises 0 (framed_runs b level n x f j rest) ≡ true
-  frame-rises true (frame.Datum d) j rest h = h
-  frame-rises true (frame.Ensemble e) j rest h = h
-  frame-rises false (frame.Datum d) j rest h = h
-  frame-rises false (frame.Ensemble e) j rest h = h
+pub frame-free : (b : Bool) (f : Frame) → is_free (frame_class b f) ≡ true
+frame-free true (frame.Datum d) = refl
+frame-free true (frame.Ensemble e) = refl
+frame-free false (frame.Datum d) = refl
+frame-free false (frame.Ensemble e) = refl
 
 -- what is in a CRS or base with a prime meridian
 abbrev pub geodetic_classes : List Class
@@ -124,15 +110,35 @@ meridian-there level None (x ∷ items) h e = cc
 meridian-there level (Some m) [] h e = h
 meridian-there level (Some m) (x ∷ items) h e = cc
 
--- ---- what the checks of a CRS see
+-- ---- CRSs
 
-pub crs-breaks : DecimalLaws → (dimensions : SystemType → List ℕ) (c : Class) (s : SystemParts) (item : Item)
-    (fault : RefusedAt) → IsNormal s.dimension → IsOneOf s.dimension (dimensions s.system_type) → IsTailSeen c item →
-    IsSystemSeen s.system_type s.dimension (those c class.CoordinateSystem (arguments item))
-    (those c class.Axis (arguments item)) (those c class.AxisUnit (arguments item)) → IsSteady c item →
-    ¬ (OfCrs dimensions c item fault)
-crs-breaks l dimensions c s item fault n one t q y (inl b) = no-repeats c item fault t b
-crs-breaks l dimensions c s item fault n one t q y (inr (inl b)) =
-    no-bad-systems l dimensions s.system_type s.dimension (those c class.CoordinateSystem (arguments item))
-    (those c class.Axis (arguments item)) (those c class.AxisUnit (arguments item)) fault n one q b
-crs-breaks l dimensions c s item fault n one t q y (inr (inr b)) = no-bad-dynamic c item fault y b
+module _ (l : DecimalLaws) (dimensions : SystemType → List ℕ) (c : Class) (s : SystemParts) (item : Item) (fault : RefusedAt) where
+  crs-breaks : IsNormal s.dimension → IsOneOf s.dimension (dimensions s.system_type) → IsTailSeen c item →
+      IsSystemIn s c item → IsSteady c item → ¬ (OfCrs dimensions c item fault)
+  crs-breaks n one t q y (inl b) = no-repeats c item fault t b
+  crs-breaks n one t q y (inr (inl b)) =
+      no-bad-systems l dimensions s.system_type s.dimension (those c class.CoordinateSystem (arguments item))
+      (those c class.Axis (arguments item)) (those c class.AxisUnit (arguments item)) fault n one q b
+  crs-breaks n one t q y (inr (inr b)) = no-bad-dynamic c item fault y b
+
+-- a CRS with this system and this end is made
+pub crs-node-made : (l : DecimalLaws) (level : Level) (most : ℕ) (c : Class) (keyword : List ℕ) (first : Item)
+    (others : Siblings) (all : List (Argument level most c)) → More first others ≡ lay all → IsWord keyword →
+    IsTrue (is_keyword c keyword) → IsFirstKeyword c keyword → fit (slots_of c) all ≡ true → IsOrderly level (as_runs all) →
+    (dimensions : SystemType → List ℕ) (s : SystemParts) (t : TailParts) → IsFew s →
+    IsOneOf s.dimension (dimensions s.system_type) →
+    ((item : Item) (fault : RefusedAt) → BreaksOwn c item fault → OfCrs dimensions c item fault) →
+    ((item : Item) → Sees c (as_runs all) item → Each (Shows c item (behind level s t)) crs_classes × IsSteady c item) →
+    ((item : Item) → Sees c (as_runs all) item → IsSystemIn s c item → HasAxes c item → HasTail c item →
+    HasOwnForm c item) → (p : ℕ) → IsAcceptedNormal level c (suc most) (at_place p (node_of keyword first others))
+crs-node-made l level most c keyword first others all same letters known written fitting orderly dimensions s t few one breaks
+    shown own =
+    made-of level most c keyword first others all same letters known written fitting orderly
+    (λ item look r.
+    let v = (shown item look).0 in
+    let seen = system-seen l level c item s t few v in
+    own item look seen (has-axes c item s seen) (has-tail c item r (tail-seen level c item t v.1.1.1)))
+    (λ item fault look b.
+    let v = shown item look in
+    crs-breaks l dimensions c s item fault few.system.dimension one (tail-seen level c item t v.0.1.1.1)
+    (system-seen l level c item s t few v.0) v.1 (breaks item fault b))

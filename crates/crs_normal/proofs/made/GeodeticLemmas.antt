@@ -1,5 +1,5 @@
 -- Geodetic and geographic CRSs are made.
-use Rattle.std.proofs.Common.{◌≡◌, ◌≢◌, ℕ, IsTrue, Some, List, [], ◌∷◌, map, codes, refl, sym, ap, subst, ◌∙◌, arith, false, if◌then◌else◌, take, true}
+use Rattle.std.proofs.Common.{◌≡◌, ◌≢◌, ℕ, IsTrue, Some, List, [], ◌∷◌, map, codes, refl, sym, ap, subst, ◌∙◌, arith, true}
 use Rattle.std.specs.Option.{option_map}
 use Rattle.crs_decimal.specs.Prelude.{Value}
 use Rattle.crs_text.specs.Prelude.{Item, arguments, raw_of, RefusedAt, IsWord, at_place}
@@ -7,33 +7,30 @@ use Rattle.crs_shape.specs.declared.class.Class.{Class}
 use Rattle.crs_shape.specs.declared.class.Class.TheVariants as class
 use Rattle.crs_shape.specs.declared.system_type.SystemType.{SystemType}
 use Rattle.crs_shape.specs.declared.system_type.SystemType.TheVariants as types
-use Rattle.crs_shape.specs.Prelude.{is_keyword, Allowed, class_named, geodetic_slots, slots_of, IsOneOf, dimensions_of, system_word}
+use Rattle.crs_shape.specs.Prelude.{is_keyword, class_named, geodetic_slots, slots_of, IsOneOf, dimensions_of, system_word}
 use Rattle.crs_value.specs.Prelude.{OfCrs, GeodeticParts, those, IsGeodetic}
 use Rattle.crs_value.specs.Checks.{Own as BreaksOwn}
 use Rattle.crs_value.specs.declared.values.level.Level.{Level}
 use Rattle.crs_value.specs.Sound.{Each}
-use Rattle.crs_matching.specs.Prelude.{usages_of}
 use Rattle.crs_normal.specs.DecimalLaws.{DecimalLaws}
 use Rattle.crs_normal.specs.CrsClass.{geodetic_class}
 use Rattle.crs_normal.specs.AcceptedNormal.{IsAcceptedNormal, geodetic_frame_class}
 use Rattle.crs_normal.specs.Normal.{IsFirstKeyword}
-use Rattle.crs_normal.specs.NormalOwn.{Ascend, Has, HasAxes, HasTail, HasOwnForm, set_classes, words_in}
+use Rattle.crs_normal.specs.NormalOwn.{Has, HasAxes, HasTail, HasOwnForm, words_in}
 use Rattle.crs_normal.specs.SpelledCrs.{geodetic_keyword, item_geodetic, norm_geodetic}
 use Rattle.crs_normal.specs.SpelledDynamic.{item_dynamic, norm_dynamic}
 use Rattle.crs_normal.specs.SpelledFrames.{item_frame, item_meridian, norm_frame, norm_meridian}
 use Rattle.crs_normal.specs.SpelledItems.{text_item, word_item}
-use Rattle.crs_normal.proofs.made.BehindLemmas.{AxisEach, IsFew, NamesSystem, Shows, behind, few-system, system-seen, tail-seen, behind_arguments}
-use Rattle.crs_normal.proofs.made.CheckLemmas.{IsSystemSeen, has-axes}
-use Rattle.crs_normal.proofs.made.DynamicLemmas.{IsSteady, dynamic-argument, dynamic_classes}
-use Rattle.crs_normal.proofs.made.FrontLemmas.{NamesFrame, frame-argument, frame-left, frame-sets, frame-shows, frame-steady, frame-taken, framed_runs, geodetic_classes, meridian-there, crs-breaks, frame-rises}
-use Rattle.crs_normal.proofs.made.IdentLemmas.{identifiers-ascend}
-use Rattle.crs_normal.proofs.made.NodeLemmas.{IsKept, Run, Sees, classes, given, items_in, node-made, views}
+use Rattle.crs_normal.proofs.made.BehindLemmas.{AxisEach, IsFew, NamesSystem, Shows, behind, few-system, system-seen, behind_arguments}
+use Rattle.crs_normal.proofs.made.CheckLemmas.{IsSystemSeen, IsSystemIn}
+use Rattle.crs_normal.proofs.made.DynamicLemmas.{dynamic-argument, dynamic_classes}
+use Rattle.crs_normal.proofs.made.FrontLemmas.{NamesFrame, frame-argument, frame-shows, frame-steady, frame-taken, framed_runs, geodetic_classes, meridian-there, frame-free, crs-node-made}
+use Rattle.crs_normal.proofs.made.NodeLemmas.{Run, Sees, given, views, free-orderly}
 use Rattle.crs_normal.proofs.made.PlaceLemmas.{ArePlaced}
 use Rattle.crs_normal.proofs.made.MeridianLemmas.{meridian-argument}
-use Rattle.crs_normal.proofs.made.RiseLemmas.{rises}
-use Rattle.crs_normal.proofs.made.TailLemmas.{NamesTail, fits-before-tail, has-tail, tail-left, usages-ascend, tail_arguments}
+use Rattle.crs_normal.proofs.made.TailLemmas.{NamesTail, tail_arguments, tail-orderly}
 use Rattle.crs_normal.proofs.normal.DimensionLemmas.{small-geodetic}
-use Rattle.crs_normal.proofs.made.ArgumentLemmas.{Argument, arguments-seen, laid, may-of, one-of, runs-made, text-of}
+use Rattle.crs_normal.proofs.made.ArgumentLemmas.{Argument, arguments-seen, may-of, one-of, text-of}
 
 -- ---- the class of a CRS by the type of its system
 
@@ -128,30 +125,17 @@ abbrev geodetic_runs : Level → GeodeticParts → List Run
 geodetic_runs level g =
     framed_runs true level (text_item g.name) g.dynamic g.frame (frame_item level g) (geodetic_rest level g)
 
-pub end-sets : (level : Level) (g : GeodeticParts) →
-    Each (λ d. Ascend (items_in d (geodetic_rest level g))) set_classes
-end-sets level g = (identifiers-ascend level g.tail.identifiers, (usages-ascend level (usages_of g.tail), (tt, (tt, (tt, tt)))))
-
-abbrev geodetic_before : DecimalLaws → (level : Level) (c : Class) (keyword : List ℕ) (g : GeodeticParts) →
-    IsRootClass g.system.system_type c keyword → IsFew g.system → IsGeodetic g → List (Argument level 5 c) →
-    List (Argument level 5 c)
-geodetic_before l level c keyword g r few h rest =
+abbrev geodetic_arguments : DecimalLaws → (level : Level) (c : Class) (keyword : List ℕ) (g : GeodeticParts) →
+    IsRootClass g.system.system_type c keyword → IsFew g.system → IsGeodetic g → List (Argument level 5 c)
+geodetic_arguments l level c keyword g r few h =
     text-of g.name h.name ∷ may-of class.Dynamic item_dynamic (option_map (norm_dynamic level) g.dynamic)
     (dynamic-argument l level 5 c g.dynamic g.frame (omega arith) r.dynamic h.dynamic) ∷
     one-of (geodetic_frame_class g.frame) (frame_item level g)
     (frame-argument l level 5 c g.frame (omega arith) r.frames h.frame) ∷
     may-of class.PrimeMeridian item_meridian (norm_meridian level g.meridian)
     (meridian-argument l level 5 c g.meridian (omega arith) r.meridian h.meridian) ∷
-    behind_arguments l level 5 c g.system rest (omega arith) r.systems few
-
-abbrev geodetic_arguments : DecimalLaws → (level : Level) (c : Class) (keyword : List ℕ) (g : GeodeticParts) →
-    IsRootClass g.system.system_type c keyword → IsFew g.system → IsGeodetic g → List (Argument level 5 c)
-geodetic_arguments l level c keyword g r few h =
-    geodetic_before l level c keyword g r few h (tail_arguments l level 5 c g.tail (omega arith) r.tails h.tail)
-
-geodetic-rise : (level : Level) (g : GeodeticParts) → rises 0 (geodetic_runs level g) ≡ true
-geodetic-rise level g =
-    frame-rises level (text_item g.name) g.dynamic true g.frame (frame_item level g) (geodetic_rest level g) refl
+    behind_arguments l level 5 c g.system (tail_arguments l level 5 c g.tail (omega arith) r.tails h.tail) (omega arith)
+    r.systems few
 
 -- the word of each node `CS`
 system-words : (t : SystemType) (d : Value) (systems axes units : List Item) → IsSystemSeen t d systems axes units →
@@ -166,50 +150,11 @@ system-words t d systems axes units s =
     word (x ∷ []) p = ap (λ i. raw_of i ∷ []) p.0.1
     word (x ∷ y ∷ words) p = absurd p.1
 
-geodetic-kept : DecimalLaws → (level : Level) (c : Class) (keyword : List ℕ) (g : GeodeticParts) →
-    IsRootClass g.system.system_type c keyword →
-    IsFew g.system → IsGeodetic g → IsKept level 5 c keyword (geodetic_runs level g)
-geodetic-kept l level c keyword g r few h = record {
-  letters = r.letters;
-  known = r.known;
-  written = r.written;
-  made = runs-made (geodetic_arguments l level c keyword g r few h);
-  allowed = subst (λ slots. Allowed slots (classes (geodetic_runs level g))) (sym r.slots)
-      (fits-before-tail (take 7 geodetic_slots) (geodetic_before l level c keyword g r few h []) g.tail
-      (ap (λ b. if b then true else false) (frame-taken g.frame)));
-  sets = frame-sets level (text_item g.name) g.dynamic true g.frame (frame_item level g) (geodetic_rest level g)
-      (end-sets level g);
-  left = frame-left level (text_item g.name) g.dynamic true g.frame (frame_item level g) (geodetic_rest level g)
-      (tail-left level g.tail);
-  own = λ item s.
-      let v = shown item s in
-      let seen = system-seen l level c item g.system g.tail few v.1 in
-      r.own item
-      (system-words g.system.system_type g.system.dimension (those c class.CoordinateSystem (arguments item))
-      (those c class.Axis (arguments item))
-      (those c class.AxisUnit (arguments item)) seen)
-      (meridian-there level g.meridian (those c class.PrimeMeridian (arguments item)) v.0)
-      (has-axes c item g.system.system_type g.system.dimension seen)
-      (has-tail level 5 c (geodetic_runs level g) item s (runs-made (geodetic_arguments l level c keyword g r few h))
-      (geodetic-rise level g)
-      (tail-seen level c item g.tail v.1.1.1.1));
-  unbroken = λ item fault s b.
-      let v = shown item s in
-      crs-breaks l r.dimensions c g.system item fault h.system.dimension (r.allows g.system.dimension h.dimension)
-      (tail-seen level c item g.tail v.1.1.1.1) (system-seen l level c item g.system g.tail few v.1) (steady item s)
-      (r.breaks item fault b);
-}
-  where
-    shown : (item : Item) → Sees c (geodetic_runs level g) item →
-        Each (Shows c item (geodetic_rest level g)) geodetic_classes
-    shown item s =
-        frame-shows level c item (text_item g.name) true g.dynamic g.frame (frame_item level g) (geodetic_rest level g)
-        (views c (geodetic_runs level g) item geodetic_classes s)
-
-    steady : (item : Item) → Sees c (geodetic_runs level g) item → IsSteady c item
-    steady item s =
-        frame-steady level c item (text_item g.name) true g.dynamic g.frame (frame_item level g) (geodetic_rest level g)
-        h.dynamic (refl, (refl, (refl, tt))) (views c (geodetic_runs level g) item dynamic_classes s)
+geodetic-shown : (level : Level) (c : Class) (g : GeodeticParts) (item : Item) → Sees c (geodetic_runs level g) item →
+    Each (Shows c item (geodetic_rest level g)) geodetic_classes
+geodetic-shown level c g item s =
+    frame-shows level c item (text_item g.name) true g.dynamic g.frame (frame_item level g) (geodetic_rest level g)
+    (views c (geodetic_runs level g) item geodetic_classes s)
 
 pub geodetic-made : DecimalLaws → AxisEach → (level : Level) (g : GeodeticParts) → IsGeodetic g → (p : ℕ) →
     IsAcceptedNormal level (geodetic_class g.system.system_type) 6 (at_place p (item_geodetic (norm_geodetic level g)))
@@ -217,19 +162,25 @@ geodetic-made l each_at level g h =
     let c : Class = geodetic_class g.system.system_type in
     let keyword : List ℕ = geodetic_keyword g.system.system_type in
     let few = few-system l each_at (dimensions_of class.GeodeticCrs) small-geodetic g.system h.system h.dimension in
-    let root = is-root g.system.system_type in
-    node-made level 5 c keyword _ _ (geodetic_runs level g) (laid (geodetic_arguments l level c keyword g root few h))
-    (geodetic-kept l level c keyword g root few h)
+    let r = is-root g.system.system_type in
+    crs-node-made l level 5 c keyword _ _ (geodetic_arguments l level c keyword g r few h) refl r.letters r.known r.written
+    (rw r.slots (rw (frame-taken g.frame) (refl {a = true})))
+    (free-orderly level (geodetic_frame_class g.frame) (frame_item level g ∷ []) (geodetic_rest level g)
+    (frame-free true g.frame) (tail-orderly level g.tail)) r.dimensions g.system g.tail few
+    (r.allows g.system.dimension h.dimension) r.breaks
+    (λ item s. (
+      (geodetic-shown level c g item s).1,
+      frame-steady level c item (text_item g.name) true g.dynamic g.frame (frame_item level g) (geodetic_rest level g)
+          h.dynamic (refl, (refl, (refl, tt))) (views c (geodetic_runs level g) item dynamic_classes s),
+    ))
+    (λ item s seen. r.own item
+    (system-words g.system.system_type g.system.dimension (those c class.CoordinateSystem (arguments item))
+    (those c class.Axis (arguments item)) (those c class.AxisUnit (arguments item)) seen)
+    (meridian-there level g.meridian (those c class.PrimeMeridian (arguments item)) (geodetic-shown level c g item s).0))
 
 -- the system of a CRS, as the checks of a compound see it
 pub geodetic-seen : DecimalLaws → AxisEach → (level : Level) (g : GeodeticParts) → IsGeodetic g → (p : ℕ) →
-    IsSystemSeen g.system.system_type g.system.dimension
-    (those (geodetic_class g.system.system_type) class.CoordinateSystem
-    (arguments (at_place p (item_geodetic (norm_geodetic level g)))))
-    (those (geodetic_class g.system.system_type) class.Axis
-    (arguments (at_place p (item_geodetic (norm_geodetic level g)))))
-    (those (geodetic_class g.system.system_type) class.AxisUnit
-    (arguments (at_place p (item_geodetic (norm_geodetic level g)))))
+    IsSystemIn g.system (geodetic_class g.system.system_type) (at_place p (item_geodetic (norm_geodetic level g)))
 geodetic-seen l each_at level g h p =
     let c : Class = geodetic_class g.system.system_type in
     let item : Item = at_place p (item_geodetic (norm_geodetic level g)) in
@@ -237,6 +188,4 @@ geodetic-seen l each_at level g h p =
     let s : Sees c (geodetic_runs level g) item =
     arguments-seen level 5 c (geodetic_keyword g.system.system_type) _ _
     (geodetic_arguments l level c (geodetic_keyword g.system.system_type) g (is-root g.system.system_type) few h) refl p in
-    system-seen l level c item g.system g.tail few
-    (frame-shows level c item (text_item g.name) true g.dynamic g.frame (frame_item level g) (geodetic_rest level g)
-    (views c (geodetic_runs level g) item geodetic_classes s)).1
+    system-seen l level c item g.system g.tail few (geodetic-shown level c g item s).1

@@ -20,10 +20,10 @@ use Rattle.crs_normal.specs.SpelledItems.{each, node_of, number_item, opt, text_
 use Rattle.crs_normal.specs.SpelledUnits.{item_ident, item_unit, norm_units, set_idents, whole_value}
 use Rattle.crs_normal.proofs.made.EllipsoidLemmas.{given-unit}
 use Rattle.crs_normal.proofs.members.IdentLemmas.{none-form}
-use Rattle.crs_normal.proofs.made.IdentLemmas.{identifiers-ascend, identifiers-left, ids_run}
+use Rattle.crs_normal.proofs.made.IdentLemmas.{ids-of, ids-orderly, ids_run}
 use Rattle.crs_normal.proofs.made.NodeLemmas.{Made, Run, Sees, alone, as-argument, given}
 use Rattle.crs_normal.proofs.made.PlaceLemmas.{ArePlaced}
-use Rattle.crs_normal.proofs.made.ArgumentLemmas.{ids-of, made-of, may-of, number-of, text-of}
+use Rattle.crs_normal.proofs.made.ArgumentLemmas.{made-of, may-of, number-of, text-of}
 use Rattle.crs_normal.proofs.texts.SegmentLemmas.{placed-none}
 
 -- ---- the longitude 0
@@ -73,8 +73,8 @@ unfolding BreaksOwn class_named is_keyword
 meridian-parts-made l level name v unit identifiers t n none u h =
     made-of level 3 class.PrimeMeridian (codes "PRIMEM") _ _ (text-of name t ∷ number-of l v n ∷
     may-of class.AngleUnit item_unit unit u ∷ ids-of l identifiers (omega arith) refl h ∷ []) refl (refl, refl) refl refl
-    refl (identifiers-ascend level identifiers, (tt, (tt, (tt, (tt, tt))))) (identifiers-left level identifiers)
-    (λ item s. unit-if-any l level name v unit identifiers item n none s) (λ item fault s b. b)
+    refl (ids-orderly level identifiers)
+    (λ item s r. unit-if-any l level name v unit identifiers item n none s) (λ item fault s b. b)
 
 unit-at : (b : Bool) (x : Option UnitParts) → b ≡ true → (if b then None else x) ≡ None
 unit-at true x e = refl

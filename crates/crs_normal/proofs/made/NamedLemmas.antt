@@ -1,5 +1,5 @@
 -- Nodes of a name and identifiers are made: members, methods, geoid models and deformation models.
-use Rattle.std.proofs.Common.{◌≡◌, ℕ, IsTrue, Some, List, [], ◌∷◌, codes, refl, sym, subst, arith, true}
+use Rattle.std.proofs.Common.{◌≡◌, ℕ, IsTrue, Some, List, [], ◌∷◌, codes, refl, arith}
 use Rattle.crs_text.specs.Prelude.{Item, RefusedAt, IsWord, at_place}
 use Rattle.crs_shape.specs.declared.class.Class.{Class}
 use Rattle.crs_shape.specs.declared.class.Class.TheVariants as class
@@ -14,8 +14,8 @@ use Rattle.crs_normal.specs.NormalOwn.{HasOwnForm}
 use Rattle.crs_normal.specs.SpelledConversions.{item_geoid_model, item_method, norm_geoid_model, norm_method}
 use Rattle.crs_normal.specs.SpelledDynamic.{item_deformation_model, norm_deformation_model}
 use Rattle.crs_normal.specs.SpelledFrames.{item_member, norm_member}
-use Rattle.crs_normal.proofs.made.IdentLemmas.{identifiers-ascend, identifiers-left}
-use Rattle.crs_normal.proofs.made.ArgumentLemmas.{fit, ids-of, made-of, text-of, Argument}
+use Rattle.crs_normal.proofs.made.IdentLemmas.{ids-of, ids-orderly}
+use Rattle.crs_normal.proofs.made.ArgumentLemmas.{made-of, text-of}
 use Rattle.crs_normal.proofs.members.MemberLemmas.{item_named}
 
 named-made : DecimalLaws → (level : Level) (c : Class) (keyword : List ℕ) (m : NamedParts) → IsWord keyword →
@@ -24,11 +24,9 @@ named-made : DecimalLaws → (level : Level) (c : Class) (keyword : List ℕ) (m
     class_named c (codes "ID") ≡ Some class.Identifier → IsNamed m → (p : ℕ) →
     IsAcceptedNormal level c 3 (at_place p (item_named keyword (norm_member level m)))
 named-made l level c keyword m letters known written slots own unbroken names h =
-    let all : List (Argument level 2 c) = text-of m.name h.name ∷ ids-of l m.identifiers (omega arith) names h.identifiers ∷ [] in
-    made-of level 2 c keyword _ _ all refl letters known written
-    (subst (λ ss. fit ss all ≡ true) (sym slots) refl)
-    (identifiers-ascend level m.identifiers, (tt, (tt, (tt, (tt, tt))))) (identifiers-left level m.identifiers)
-    (λ item s. own item) (λ item fault s. unbroken item fault)
+    made-of level 2 c keyword _ _ (text-of m.name h.name ∷ ids-of l m.identifiers (omega arith) names h.identifiers ∷ [])
+    refl letters known written (rw slots refl) (ids-orderly level m.identifiers)
+    (λ item s r. own item) (λ item fault s. unbroken item fault)
 
 pub member-made : DecimalLaws → (level : Level) (m : MemberParts) → IsMember m → (p : ℕ) →
     IsAcceptedNormal level class.Member 3 (at_place p (item_member (norm_member level m)))

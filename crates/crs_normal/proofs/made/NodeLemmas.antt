@@ -1,6 +1,6 @@
 -- A node of arguments that are accepted and normal is accepted and normal itself: what it asks of
 -- its arguments is said of them as runs of one class each, with all places left out.
-use Rattle.std.proofs.Common.{◌≡◌, ℕ, suc, ◌+◌, ◌≤◌, ◌⊎◌, Bool, true, false, IsTrue, Option, Some, None, List, [], ◌∷◌, ◌++◌, map, length, if◌then◌else◌, inl, inr, refl, sym, ap, subst, ◌∙◌, arith}
+use Rattle.std.proofs.Common.{◌≡◌, ℕ, suc, ◌+◌, ◌≤◌, ◌⊎◌, Bool, true, false, true≢false, IsTrue, Option, Some, None, List, [], ◌∷◌, ◌++◌, map, length, if◌then◌else◌, inl, inr, refl, sym, ap, subst, ◌∙◌, arith, nat_le}
 use Rattle.crs_text.specs.Prelude.{Item, IsNode, Siblings, End, More, arguments, depth, depths, RefusedAt, IsWord, AreFormed, AreAllFormed, at_place, at_places, item_text}
 use Rattle.crs_shape.specs.declared.class.Class.{Class}
 use Rattle.crs_shape.specs.declared.class.Class.TheVariants as class
@@ -9,8 +9,8 @@ use Rattle.crs_value.specs.Prelude.{AtClass, Breaks, BreaksAmong, kept, kept-non
 use Rattle.crs_value.specs.Checks.{Own as BreaksOwn}
 use Rattle.crs_value.specs.declared.values.level.Level.{Level}
 use Rattle.crs_normal.specs.AcceptedNormal.{IsAcceptedNormal}
-use Rattle.crs_normal.specs.Normal.{AreNormalIn, AtLevel, IsNormalIn, IsFirstKeyword}
-use Rattle.crs_normal.specs.NormalOwn.{Ascend, HasOwnForm, set_classes}
+use Rattle.crs_normal.specs.Normal.{AreNormalIn, AtLevel, IsNormalIn, left_out}
+use Rattle.crs_normal.specs.NormalOwn.{Ascend, rank, set_classes}
 use Rattle.crs_value.specs.Sound.{Each}
 use Rattle.crs_normal.specs.SpelledItems.{each, node_of, opt}
 use Rattle.crs_normal.proofs.made.PlaceLemmas.{ArePlaced, class-at, placed-ascend, those-placed}
@@ -178,7 +178,7 @@ module _ (N : Class → Class → Item → Type 0) (most : ℕ) (c : Class) wher
   all-unbroken fault s (d ∷ ds) (More j js) h (inr b) = all-unbroken fault (s + 1 + length (item_text j)) ds js h.1 b
 
 module _ (level : Level) (most : ℕ) (c : Class) where
-  all-normal : (s : ℕ) (ds : List Class) (js : Siblings) → AreMade (IsNormalIn level) most c ds js →
+  pub all-normal : (s : ℕ) (ds : List Class) (js : Siblings) → AreMade (IsNormalIn level) most c ds js →
       AreNormalIn level c (at_places s js)
   all-normal s [] End h = tt
   all-normal s [] (More j js) h = absurd h
@@ -198,28 +198,46 @@ pub record Sees (c : Class) (runs : List Run) (item : Item) : Type 0 where
   pub are : arguments item ≡ at_places start (lines runs)
   pub view : (e : Class) → ArePlaced (those c e (arguments item)) (items_in e runs)
 
--- the level keeps all of these identifiers, usages and remarks
-abbrev pub Keeps : Level → List Item → List Item → List Item → Type 0
-Keeps level identifiers usages remarks = Each (λ js. kept level js ≡ js) (identifiers ∷ usages ∷ remarks ∷ [])
+-- whether the ranks of the runs never fall, from this one on
+abbrev pub rises : ℕ → List Run → Bool
+rises least [] = true
+rises least (run ∷ runs) = if nat_le least (rank run.of) then rises (rank run.of) runs else false
 
-pub keeps-none : (level : Level) → Keeps level [] [] []
-keeps-none level = (kept-none level, (kept-none level, (kept-none level, tt)))
-
+-- the level keeps all of these runs
 abbrev pub KeepsRuns : Level → List Run → Type 0
-KeepsRuns level runs =
-    Keeps level (items_in class.Identifier runs) (items_in class.Usage runs) (items_in class.Remark runs)
+KeepsRuns level runs = Each (λ d. kept level (items_in d runs) ≡ items_in d runs) left_out
 
--- what a node with these arguments needs
-pub record IsKept (level : Level) (most : ℕ) (c : Class) (keyword : List ℕ) (runs : List Run) : Type 0 where
-  pub letters : IsWord keyword
-  pub known : IsTrue (is_keyword c keyword)
-  pub written : IsFirstKeyword c keyword
-  pub made : RunsMade level most c runs
-  pub allowed : Allowed (slots_of c) (classes runs)
-  pub sets : Each (λ d. Ascend (items_in d runs)) set_classes
-  pub left : KeepsRuns level runs
-  pub own : (item : Item) → Sees c runs item → HasOwnForm c item
-  pub unbroken : (item : Item) (fault : RefusedAt) → Sees c runs item → ¬ (BreaksOwn c item fault)
+-- the members of each set ascend, the level keeps all of these runs, and their ranks never fall
+abbrev pub IsOrderly : Level → List Run → Type 0
+IsOrderly level runs = Each (λ d. Ascend (items_in d runs)) set_classes × (KeepsRuns level runs × (rises 0 runs ≡ true))
+
+pub none-orderly : (level : Level) → IsOrderly level []
+none-orderly level =
+    ((tt, (tt, (tt, (tt, (tt, tt))))), ((kept-none level, (kept-none level, (kept-none level, tt))), refl))
+
+-- a class of no set, that no level leaves out, and of no rank
+abbrev pub is_free : Class → Bool
+is_free class.Identifier = false
+is_free class.Usage = false
+is_free class.Remark = false
+is_free class.Member = false
+is_free class.Parameter = false
+is_free class.GeoidModel = false
+is_free class.Anchor = false
+is_free class.AnchorEpoch = false
+is_free other = true
+
+pub free-orderly : (level : Level) (c : Class) (items : List Item) (runs : List Run) → is_free c ≡ true →
+    IsOrderly level runs → IsOrderly level (record { of = c; items = items } ∷ runs)
+free-orderly level class.Identifier items runs e h = absurd (true≢false (sym e))
+free-orderly level class.Usage items runs e h = absurd (true≢false (sym e))
+free-orderly level class.Remark items runs e h = absurd (true≢false (sym e))
+free-orderly level class.Member items runs e h = absurd (true≢false (sym e))
+free-orderly level class.Parameter items runs e h = absurd (true≢false (sym e))
+free-orderly level class.GeoidModel items runs e h = absurd (true≢false (sym e))
+free-orderly level class.Anchor items runs e h = absurd (true≢false (sym e))
+free-orderly level class.AnchorEpoch items runs e h = absurd (true≢false (sym e))
+free-orderly level other items runs e h = h
 
 none-placed : (items js : List Item) → ArePlaced items js → js ≡ [] → items ≡ []
 none-placed [] js h none = refl
@@ -305,33 +323,6 @@ module _ (N : Class → Class → Item → Type 0) (most : ℕ) (c : Class) (key
   pub node-stands : (p : ℕ) → Stands c (suc most) (at_place p (node_of keyword first others))
   node-stands p =
       stands-at (classes runs) p refl (subst (AreMade N most c (classes runs)) (sym same) (made-lines N most c runs made))
-
--- a node whose arguments are these runs is made
-pub node-made : (level : Level) (most : ℕ) (c : Class) (keyword : List ℕ) (first : Item) (others : Siblings)
-    (runs : List Run) →
-    More first others ≡ lines runs → IsKept level most c keyword runs → (p : ℕ) →
-    IsAcceptedNormal level c (suc most) (at_place p (node_of keyword first others))
-node-made level most c keyword first others runs same k p =
-    let i : Item = at_place p (node_of keyword first others) in
-    let look : Sees c runs i = sees level most c keyword first others runs p same k.made in
-    let s = node-stands (IsNormalIn level) most c keyword first others runs same k.letters k.known k.made k.allowed
-    k.unbroken p in
-    record {
-      is_node = s.is_node;
-      formed = s.formed;
-      within = s.within;
-      shaped = s.shaped;
-      unbroken = s.unbroken;
-      normal = λ parent. record {
-        first_keyword = k.written;
-        at_level = at-level level c runs i look k.left;
-        own_form = k.own i look;
-        ascending_sets = each-set c runs i set_classes look k.sets;
-        normal_arguments = all-normal level most c (p + length keyword) (classes runs) (More first others)
-            (subst (AreMade (IsNormalIn level) most c (classes runs)) (sym same)
-            (made-lines (IsNormalIn level) most c runs k.made));
-      };
-    }
 
 -- a made node as an argument of another
 pub as-argument : (level : Level) (n most : ℕ) (parent c : Class) (j : Item) → n ≤ most → class_in parent j ≡ Some c →

@@ -1,14 +1,13 @@
 -- Base CRSs and projected CRSs are made.
-use Rattle.std.proofs.Common.{ℕ, List, [], ◌∷◌, ap, codes, false, if◌then◌else◌, inl, refl, arith, take, true}
+use Rattle.std.proofs.Common.{ℕ, List, [], ◌∷◌, codes, inl, refl, arith, true}
 use Rattle.std.specs.Option.{option_map}
 use Rattle.crs_text.specs.Prelude.{Item, arguments, at_place}
 use Rattle.crs_shape.specs.declared.class.Class.TheVariants as class
 use Rattle.crs_shape.specs.declared.unit_kind.UnitKind.TheVariants as kinds
-use Rattle.crs_shape.specs.Prelude.{is_keyword, class_named, slots_of, dimensions_of}
+use Rattle.crs_shape.specs.Prelude.{is_keyword, class_named, dimensions_of}
 use Rattle.crs_value.specs.Checks.{Own as BreaksOwn}
 use Rattle.crs_value.specs.Prelude.{BaseParts, ProjectedParts, those, IsBase, IsProjected}
 use Rattle.crs_value.specs.declared.values.level.Level.{Level}
-use Rattle.crs_matching.specs.Prelude.{usages_of}
 use Rattle.crs_normal.specs.DecimalLaws.{DecimalLaws}
 use Rattle.crs_normal.specs.AcceptedNormal.{IsAcceptedNormal, geodetic_frame_class}
 use Rattle.crs_normal.specs.SpelledConversions.{item_conversion, norm_conversion}
@@ -17,18 +16,18 @@ use Rattle.crs_normal.specs.SpelledDynamic.{item_dynamic, norm_dynamic}
 use Rattle.crs_normal.specs.SpelledFrames.{item_frame, item_meridian, norm_frame, norm_meridian}
 use Rattle.crs_normal.specs.SpelledItems.{text_item}
 use Rattle.crs_normal.specs.SpelledUnits.{item_unit, norm_units}
-use Rattle.crs_normal.proofs.made.BehindLemmas.{AxisEach, IsFew, behind, crs_classes, few-system, system-seen, tail-seen, behind_arguments, projected-names}
-use Rattle.crs_normal.proofs.made.CheckLemmas.{IsSystemSeen, has-axes}
+use Rattle.crs_normal.proofs.made.BehindLemmas.{AxisEach, IsFew, behind, crs_classes, system-seen, few-system, behind_arguments, projected-names}
+use Rattle.crs_normal.proofs.made.CheckLemmas.{IsSystemIn}
 use Rattle.crs_normal.proofs.made.ConversionLemmas.{conversion-made}
 use Rattle.crs_normal.proofs.made.DynamicLemmas.{IsSteady, dynamic-argument, dynamic_classes, no-bad-dynamic, none-shown}
 use Rattle.crs_normal.proofs.made.EllipsoidLemmas.{given-unit}
-use Rattle.crs_normal.proofs.made.FrontLemmas.{frame-argument, frame-left, frame-sets, frame-shows, frame-steady, frame-taken, framed_runs, geodetic_classes, meridian-there, crs-breaks}
-use Rattle.crs_normal.proofs.made.IdentLemmas.{identifiers-ascend, identifiers-left, ids_run}
-use Rattle.crs_normal.proofs.made.NodeLemmas.{IsKept, Run, Sees, alone, as-argument, given, node-made, views, Made}
+use Rattle.crs_normal.proofs.made.FrontLemmas.{frame-argument, frame-shows, frame-steady, frame-taken, framed_runs, geodetic_classes, meridian-there, frame-free, crs-node-made}
+use Rattle.crs_normal.proofs.made.IdentLemmas.{ids_run, ids-of, ids-orderly}
+use Rattle.crs_normal.proofs.made.NodeLemmas.{Run, Sees, alone, as-argument, given, views, Made, free-orderly}
 use Rattle.crs_normal.proofs.made.MeridianLemmas.{meridian-argument}
-use Rattle.crs_normal.proofs.made.TailLemmas.{fits-before-tail, has-tail, tail-left, usages-ascend, tail_arguments}
+use Rattle.crs_normal.proofs.made.TailLemmas.{tail_arguments, tail-orderly}
 use Rattle.crs_normal.proofs.normal.DimensionLemmas.{small-projected}
-use Rattle.crs_normal.proofs.made.ArgumentLemmas.{Argument, arguments-seen, ids-of, laid, made-of, may-of, one-of, runs-made, text-of}
+use Rattle.crs_normal.proofs.made.ArgumentLemmas.{Argument, arguments-seen, made-of, may-of, one-of, text-of}
 
 -- ---- base CRSs
 
@@ -65,12 +64,10 @@ base-made l level b h =
     may-of class.AngleUnit item_unit (norm_units level kinds.Angle b.unit)
     (given-unit l level 5 class.BaseCrs class.AngleUnit kinds.Angle b.unit (omega arith) refl refl h.unit) ∷
     ids-of l b.identifiers (omega arith) refl h.identifiers ∷ []) refl (refl, refl) refl refl
-    (ap (λ b. if b then true else false) (frame-taken b.frame))
-    (frame-sets level (text_item b.name) b.dynamic true b.frame (base_frame level b) (base_rest level b)
-    (identifiers-ascend level b.identifiers, (tt, (tt, (tt, (tt, tt))))))
-    (frame-left level (text_item b.name) b.dynamic true b.frame (base_frame level b) (base_rest level b)
-    (identifiers-left level b.identifiers))
-    (λ item s. meridian-there level b.meridian (those class.BaseCrs class.PrimeMeridian (arguments item))
+    (rw (frame-taken b.frame) refl)
+    (free-orderly level (geodetic_frame_class b.frame) (base_frame level b ∷ []) (base_rest level b)
+    (frame-free true b.frame) (ids-orderly level b.identifiers))
+    (λ item s r. meridian-there level b.meridian (those class.BaseCrs class.PrimeMeridian (arguments item))
     (frame-shows level class.BaseCrs item (text_item b.name) true b.dynamic b.frame (base_frame level b) (base_rest level b)
     (views class.BaseCrs (base_runs level b) item geodetic_classes s)).0)
     (λ item fault s q. no-bad-dynamic class.BaseCrs item fault (base-steady level b item h s) q)
@@ -99,59 +96,31 @@ projected-conversion l level g h =
     as-argument level 5 6 class.ProjectedCrs class.Conversion (item_conversion (norm_conversion level g.conversion))
     (omega arith) refl (conversion-made l level g.conversion h.conversion)
 
-abbrev projected_before : DecimalLaws → (level : Level) (g : ProjectedParts) → IsFew g.system → IsProjected g →
-    List (Argument level 6 class.ProjectedCrs) → List (Argument level 6 class.ProjectedCrs)
-projected_before l level g few h rest =
-    text-of g.name h.name ∷ one-of class.BaseCrs (item_base (norm_base level g.base)) (projected-base l level g h) ∷
-    one-of class.Conversion (item_conversion (norm_conversion level g.conversion)) (projected-conversion l level g h) ∷
-    behind_arguments l level 6 class.ProjectedCrs g.system rest (omega arith) projected-names.systems few
-
 abbrev projected_arguments : DecimalLaws → (level : Level) (g : ProjectedParts) → IsFew g.system → IsProjected g →
     List (Argument level 6 class.ProjectedCrs)
 projected_arguments l level g few h =
-    projected_before l level g few h
-    (tail_arguments l level 6 class.ProjectedCrs g.tail (omega arith) projected-names.tails h.tail)
-
-projected-kept : DecimalLaws → (level : Level) (g : ProjectedParts) → IsFew g.system → IsProjected g →
-    IsKept level 6 class.ProjectedCrs (codes "PROJCRS") (projected_runs level g)
-unfolding BreaksOwn is_keyword
-projected-kept l level g few h = record {
-  letters = (refl, refl);
-  known = refl;
-  written = refl;
-  made = runs-made (projected_arguments l level g few h);
-  allowed = fits-before-tail (take 6 (slots_of class.ProjectedCrs)) (projected_before l level g few h []) g.tail refl;
-  sets = (identifiers-ascend level g.tail.identifiers, (usages-ascend level (usages_of g.tail), (tt, (tt, (tt, tt)))));
-  left = tail-left level g.tail;
-  own = λ item s.
-      let v = views class.ProjectedCrs (projected_runs level g) item crs_classes s in (
-        has-axes class.ProjectedCrs item g.system.system_type g.system.dimension
-            (system-seen l level class.ProjectedCrs item g.system g.tail few v),
-        has-tail level 6 class.ProjectedCrs (projected_runs level g) item s
-            (runs-made (projected_arguments l level g few h)) refl
-            (tail-seen level class.ProjectedCrs item g.tail v.1.1.1),
-      );
-  unbroken = λ item fault s b.
-      let v = views class.ProjectedCrs (projected_runs level g) item crs_classes s in
-      crs-breaks l (dimensions_of class.ProjectedCrs) class.ProjectedCrs g.system item fault h.system.dimension h.dimension
-      (tail-seen level class.ProjectedCrs item g.tail v.1.1.1)
-      (system-seen l level class.ProjectedCrs item g.system g.tail few v)
-      (inl (none-shown (those class.ProjectedCrs class.Dynamic (arguments item)) [] refl (s.view class.Dynamic))) b;
-}
+    text-of g.name h.name ∷ one-of class.BaseCrs (item_base (norm_base level g.base)) (projected-base l level g h) ∷
+    one-of class.Conversion (item_conversion (norm_conversion level g.conversion)) (projected-conversion l level g h) ∷
+    behind_arguments l level 6 class.ProjectedCrs g.system
+    (tail_arguments l level 6 class.ProjectedCrs g.tail (omega arith) projected-names.tails h.tail) (omega arith)
+    projected-names.systems few
 
 pub projected-made : DecimalLaws → AxisEach → (level : Level) (g : ProjectedParts) → IsProjected g → (p : ℕ) →
     IsAcceptedNormal level class.ProjectedCrs 7 (at_place p (item_projected (norm_projected level g)))
+unfolding BreaksOwn is_keyword
 projected-made l each_at level g h =
     let few = projected-few l each_at g h in
-    node-made level 6 class.ProjectedCrs (codes "PROJCRS") _ _ (projected_runs level g)
-    (laid (projected_arguments l level g few h)) (projected-kept l level g few h)
+    crs-node-made l level 6 class.ProjectedCrs (codes "PROJCRS") _ _ (projected_arguments l level g few h) refl (refl, refl)
+    refl refl refl (tail-orderly level g.tail) (dimensions_of class.ProjectedCrs) g.system g.tail few h.dimension
+    (λ item fault b. b)
+    (λ item s. (
+      views class.ProjectedCrs (projected_runs level g) item crs_classes s,
+      inl (none-shown (those class.ProjectedCrs class.Dynamic (arguments item)) [] refl (s.view class.Dynamic)),
+    )) (λ item s seen axes end. (axes, end))
 
 -- the system of a CRS, as the checks of a compound see it
 pub projected-seen : DecimalLaws → AxisEach → (level : Level) (g : ProjectedParts) → IsProjected g → (p : ℕ) →
-    IsSystemSeen g.system.system_type g.system.dimension
-    (those class.ProjectedCrs class.CoordinateSystem (arguments (at_place p (item_projected (norm_projected level g)))))
-    (those class.ProjectedCrs class.Axis (arguments (at_place p (item_projected (norm_projected level g)))))
-    (those class.ProjectedCrs class.AxisUnit (arguments (at_place p (item_projected (norm_projected level g)))))
+    IsSystemIn g.system class.ProjectedCrs (at_place p (item_projected (norm_projected level g)))
 projected-seen l each_at level g h p =
     let few : IsFew g.system = projected-few l each_at g h in
     let item : Item = at_place p (item_projected (norm_projected level g)) in

@@ -1,5 +1,5 @@
 -- Made arguments of rising ranks: their ranks never fall.
-use Rattle.std.proofs.Common.{ℕ, ◌+◌, ◌≤◌, Option, Some, None, List, [], ◌∷◌, length, sym, subst, ◌∙◌, arith, ◌≡◌, Bool, true, false, if◌then◌else◌, nat_le, leb-true}
+use Rattle.std.proofs.Common.{ℕ, ◌+◌, ◌≤◌, Option, Some, None, List, [], ◌∷◌, length, sym, subst, ◌∙◌, arith, ◌≡◌, true, nat_le, leb-true}
 use Rattle.crs_text.specs.Prelude.{Item, Siblings, End, More, arguments, at_place, at_places, item_text}
 use Rattle.crs_shape.specs.declared.class.Class.{Class}
 use Rattle.crs_shape.specs.Prelude.{class_in}
@@ -7,19 +7,14 @@ use Rattle.crs_value.specs.Prelude.{AtClass}
 use Rattle.crs_value.specs.declared.values.level.Level.{Level}
 use Rattle.crs_value.specs.Sound.{Each}
 use Rattle.crs_normal.specs.NormalOwn.{Rise, rank}
-use Rattle.crs_normal.proofs.made.NodeLemmas.{Made, Run, RunsMade, Sees, at-class, line, lines}
+use Rattle.crs_normal.proofs.made.NodeLemmas.{Made, Run, RunsMade, Sees, at-class, line, lines, rises}
 use Rattle.crs_normal.proofs.made.PlaceLemmas.{class-at}
-use Rattle.crs_normal.proofs.made.ArgumentLemmas.{both}
+use Rattle.crs_normal.proofs.made.FitLemmas.{both}
 
 -- the ranks of the runs never fall, from this one on
 abbrev RunsRise : ℕ → List Run → Type 0
 RunsRise least [] = Unit {0}
 RunsRise least (run ∷ runs) = (least ≤ rank run.of) × RunsRise (rank run.of) runs
-
--- whether they never fall
-abbrev pub rises : ℕ → List Run → Bool
-rises least [] = true
-rises least (run ∷ runs) = if nat_le least (rank run.of) then rises (rank run.of) runs else false
 
 runs-rise : (least : ℕ) (runs : List Run) → rises least runs ≡ true → RunsRise least runs
 runs-rise least [] e = tt

@@ -22,8 +22,8 @@ use Rattle.crs_normal.specs.SpelledItems.{number_item, word_item}
 use Rattle.crs_normal.specs.SpelledSystems.{axes_from, axis_at, is_at, item_axis, item_head, norm_axis, norm_system, with_axis}
 use Rattle.crs_normal.specs.SpelledUnits.{whole_value}
 use Rattle.crs_normal.proofs.made.AxisLemmas.{Fits, IsAxisItem, axis-made, axis-seen, whole-normal}
-use Rattle.crs_normal.proofs.made.ArgumentLemmas.{Argument, arguments-seen, ids-of, made-of, number-of, one-of}
-use Rattle.crs_normal.proofs.made.IdentLemmas.{identifiers-ascend, identifiers-left}
+use Rattle.crs_normal.proofs.made.ArgumentLemmas.{Argument, arguments-seen, made-of, number-of, one-of}
+use Rattle.crs_normal.proofs.made.IdentLemmas.{ids-of, ids-orderly}
 use Rattle.crs_normal.proofs.made.LeafLemmas.{word-made}
 use Rattle.crs_normal.proofs.made.NodeLemmas.{Made, as-argument}
 use Rattle.crs_normal.proofs.made.PlaceLemmas.{ArePlaced}
@@ -204,8 +204,8 @@ pub head-made : DecimalLaws → (level : Level) (s : SystemParts) → IsSystem s
 unfolding BreaksOwn is_keyword
 head-made l level s h =
     made-of level 2 class.CoordinateSystem (codes "CS") _ _ (head_arguments l level s h) refl (refl, refl) refl refl refl
-    (identifiers-ascend level s.identifiers, (tt, (tt, (tt, (tt, tt))))) (identifiers-left level s.identifiers)
-    (λ item v. tt) (λ item fault v b. known-type s.system_type
+    (ids-orderly level s.identifiers)
+    (λ item v r. tt) (λ item fault v b. known-type s.system_type
     (those class.CoordinateSystem class.Word (arguments item)) fault (v.view class.Word) b)
 
 -- what is in a node `CS`, as the checks of a system see it

@@ -6,7 +6,7 @@ use Rattle.crs_shape.specs.declared.class.Class.{Class}
 use Rattle.crs_shape.specs.declared.class.Class.TheVariants as class
 use Rattle.crs_shape.specs.declared.unit_kind.UnitKind.{UnitKind}
 use Rattle.crs_shape.specs.declared.unit_kind.UnitKind.TheVariants as kinds
-use Rattle.crs_shape.specs.Prelude.{is_keyword, Allowed, class_named, slots_of, unit_slots, unit_word}
+use Rattle.crs_shape.specs.Prelude.{is_keyword, class_named, slots_of, unit_slots, unit_word}
 use Rattle.crs_value.specs.Prelude.{IsAboveZero, NotAbove, AnyOf, OfUnit, those, ReadsNumber, IsUnit, UnitParts}
 use Rattle.crs_value.specs.Checks.{Own as BreaksOwn}
 use Rattle.crs_value.specs.declared.values.level.Level.{Level}
@@ -16,10 +16,9 @@ use Rattle.crs_normal.specs.Normal.{IsFirstKeyword}
 use Rattle.crs_normal.specs.NormalOwn.{HasOwnForm}
 use Rattle.crs_normal.specs.SpelledItems.{number_item}
 use Rattle.crs_normal.specs.SpelledUnits.{item_unit, set_idents}
-use Rattle.crs_normal.proofs.made.IdentLemmas.{identifiers-ascend, identifiers-left}
-use Rattle.crs_normal.proofs.made.NodeLemmas.{IsKept, classes, node-made}
+use Rattle.crs_normal.proofs.made.IdentLemmas.{ids-of, ids-orderly}
 use Rattle.crs_normal.proofs.made.PlaceLemmas.{ArePlaced}
-use Rattle.crs_normal.proofs.made.ArgumentLemmas.{Argument, ids-of, number-of, text-of, as_runs, fits, laid, runs-made}
+use Rattle.crs_normal.proofs.made.ArgumentLemmas.{Argument, fit, made-of, number-of, text-of}
 
 -- ---- numbers
 
@@ -109,26 +108,22 @@ unit-arguments l level c kind u k h =
     text-of u.name h.name ∷ number-of l u.factor h.factor ∷
     ids-of l u.identifiers (omega arith) (unit-names-id c kind k) h.identifiers ∷ []
 
-pub unit-kept : (l : DecimalLaws) (level : Level) (c : Class) (kind : UnitKind) (u : UnitParts) (k : IsKindIn c kind)
-    (h : IsUnit u) → IsKept level 2 c (unit_word kind) (as_runs (unit-arguments l level c kind u k h))
-unit-kept l level c kind u k h = record {
-  letters = unit-letters kind;
-  known = unit-known c kind k;
-  written = unit-written c kind k;
-  made = runs-made (unit-arguments l level c kind u k h);
-  allowed = subst (λ slots. Allowed slots (classes (as_runs (unit-arguments l level c kind u k h))))
-      (sym (unit-slots c kind k)) (fits unit_slots (unit-arguments l level c kind u k h) refl);
-  sets = (identifiers-ascend level u.identifiers, (tt, (tt, (tt, (tt, tt)))));
-  left = identifiers-left level u.identifiers;
-  own = λ item s. unit-own c kind item k;
-  unbroken = λ item fault s b.
-      not-below l u.factor (those c class.Number (arguments item)) fault h.factor h.above_zero (s.view class.Number)
-      (unit-breaks c kind item fault k b);
-}
+pub unit-fits : (l : DecimalLaws) (level : Level) (c : Class) (kind : UnitKind) (u : UnitParts) (k : IsKindIn c kind)
+    (h : IsUnit u) → fit (slots_of c) (unit-arguments l level c kind u k h) ≡ true
+unit-fits l level c kind u k h = rw (unit-slots c kind k) refl
+
+pub unit-unbroken : DecimalLaws → (c : Class) (kind : UnitKind) (u : UnitParts) → IsKindIn c kind → IsUnit u →
+    (item : Item) (fault : RefusedAt) → ArePlaced (those c class.Number (arguments item)) (number_item u.factor ∷ []) →
+    ¬ (BreaksOwn c item fault)
+unit-unbroken l c kind u k h item fault numbers b =
+    not-below l u.factor (those c class.Number (arguments item)) fault h.factor h.above_zero numbers
+    (unit-breaks c kind item fault k b)
 
 pub unit-made : DecimalLaws → (level : Level) (c : Class) (kind : UnitKind) (u : UnitParts) → IsKindIn c kind →
     IsUnit u → (p : ℕ) →
     IsAcceptedNormal level c 3 (at_place p (item_unit (unit_as level kind u)))
 unit-made l level c kind u k h =
-    node-made level 2 c (unit_word kind) _ _ (as_runs (unit-arguments l level c kind u k h))
-    (laid (unit-arguments l level c kind u k h)) (unit-kept l level c kind u k h)
+    made-of level 2 c (unit_word kind) _ _ (unit-arguments l level c kind u k h) refl (unit-letters kind)
+    (unit-known c kind k) (unit-written c kind k) (unit-fits l level c kind u k h) (ids-orderly level u.identifiers)
+    (λ item s r. unit-own c kind item k)
+    (λ item fault s. unit-unbroken l c kind u k h item fault (s.view class.Number))

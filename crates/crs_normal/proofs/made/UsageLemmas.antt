@@ -16,11 +16,10 @@ use Rattle.crs_normal.specs.SpelledItems.{node_from}
 use Rattle.crs_normal.specs.SpelledUnits.{item_unit, norm_length}
 use Rattle.crs_normal.specs.SpelledUsages.{item_box, item_extent, item_usage, norm_extent, norm_usage}
 use Rattle.crs_normal.proofs.made.EllipsoidLemmas.{length-argument, placed-some}
-use Rattle.crs_normal.proofs.made.IdentLemmas.{given-made}
-use Rattle.crs_normal.proofs.made.NodeLemmas.{Made, as-argument, given, keeps-none, KeepsRuns, items_in}
-use Rattle.crs_normal.proofs.made.ArgumentLemmas.{Argument, as_runs, fit, lay, made-of, may-of, may-text, number-of, one-of}
+use Rattle.crs_normal.proofs.made.NodeLemmas.{IsOrderly, Made, as-argument, given, none-orderly}
+use Rattle.crs_normal.proofs.made.ArgumentLemmas.{Argument, as_runs, fit, given-made, lay, made-of, may-of, may-text, number-of, one-of}
 use Rattle.crs_normal.specs.Normal.{IsFirstKeyword}
-use Rattle.crs_normal.specs.NormalOwn.{Ascend, HasOwnForm, set_classes}
+use Rattle.crs_normal.specs.NormalOwn.{HasOwnForm}
 use Rattle.crs_normal.proofs.texts.ItemLemmas.{from-named, from-some}
 use Rattle.crs_normal.proofs.members.UsageLemmas.{says-kept, usage-is-node, usage_items}
 
@@ -32,7 +31,7 @@ unfolding BreaksOwn class_named is_keyword
 box-made l level b h =
     made-of level 0 class.BoundingBox (codes "BBOX") _ _ (number-of l b.south h.south ∷ number-of l b.west h.west ∷
     number-of l b.north h.north ∷ number-of l b.east h.east ∷ []) refl (refl, refl) refl refl refl
-    (tt, (tt, (tt, (tt, (tt, tt))))) (keeps-none level) (λ item s. tt) (λ item fault s k. k)
+    (none-orderly level) (λ item s r. tt) (λ item fault s k. k)
 
 -- ---- extents
 
@@ -43,8 +42,8 @@ extent-made l level e h =
     made-of level 3 class.VerticalExtent (codes "VERTICALEXTENT") _ _ (number-of l e.minimum h.minimum ∷
     number-of l e.maximum h.maximum ∷ one-of class.LengthUnit (item_unit (norm_length level e.unit))
     (length-argument l level 3 class.VerticalExtent e.unit (omega arith) refl h.unit) ∷ []) refl (refl, refl) refl refl
-    refl (tt, (tt, (tt, (tt, (tt, tt))))) (keeps-none level)
-    (λ item s. placed-some (those class.VerticalExtent class.LengthUnit (arguments item)) []
+    refl (none-orderly level)
+    (λ item s r. placed-some (those class.VerticalExtent class.LengthUnit (arguments item)) []
     (item_unit (norm_length level e.unit)) (s.view class.LengthUnit)) (λ item fault s k. k)
 
 -- ---- usages
@@ -53,12 +52,12 @@ extent-made l level e h =
 from-made : (level : Level) (most : ℕ) (c : Class) (keyword : List ℕ) (js : Siblings)
     (all : List (Argument level most c)) → js ≢ End → js ≡ lay all → IsWord keyword → IsTrue (is_keyword c keyword) →
     IsFirstKeyword c keyword → fit (slots_of c) all ≡ true →
-    Each (λ d. Ascend (items_in d (as_runs all))) set_classes → KeepsRuns level (as_runs all) →
+    IsOrderly level (as_runs all) →
     ((item : Item) → HasOwnForm c item) → ((item : Item) (fault : RefusedAt) → ¬ (BreaksOwn c item fault)) → (p : ℕ) →
     IsAcceptedNormal level c (suc most) (at_place p (node_from keyword js))
-from-made level most c keyword End all some same letters known written fits sets left own unbroken p = absurd (some refl)
-from-made level most c keyword (More first others) all some same letters known written fits sets left own unbroken p =
-    made-of level most c keyword first others all same letters known written fits sets left (λ item s. own item)
+from-made level most c keyword End all some same letters known written fits orderly own unbroken p = absurd (some refl)
+from-made level most c keyword (More first others) all some same letters known written fits orderly own unbroken p =
+    made-of level most c keyword first others all same letters known written fits orderly (λ item s r. own item)
     (λ item fault s. unbroken item fault) p
 
 usage-node : (u : UsageParts) → SaysSome u → IsNode (item_usage (norm_usage u))
@@ -86,7 +85,7 @@ usage-made l u h =
     (omega arith) refl (box-made l levels.Full b q))) ∷
     may-of class.VerticalExtent item_extent (option_map (norm_extent levels.Full) u.extent)
     (extents-made l levels.Full u.extent h.extent) ∷ []) (from-some (codes "USAGE") (usage_items (norm_usage u)) (usage-node u h.some)) refl
-    (refl, refl) refl refl refl (tt, (tt, (tt, (tt, (tt, tt))))) (keeps-none levels.Full) (λ item. tt)
+    (refl, refl) refl refl refl (none-orderly levels.Full) (λ item. tt)
     (λ item fault b. b)
 
 -- a usage that says something is named as one

@@ -1,16 +1,15 @@
 -- Vertical CRSs are made.
-use Rattle.std.proofs.Common.{◌≡◌, ℕ, ◌++◌, true, Some, List, [], ◌∷◌, map, ap, codes, refl, arith, false, if◌then◌else◌, take}
+use Rattle.std.proofs.Common.{◌≡◌, ℕ, ◌++◌, true, Some, List, [], ◌∷◌, map, codes, refl, arith, false}
 use Rattle.std.specs.Option.{option_map}
 use Rattle.crs_text.specs.Prelude.{Item, at_place}
 use Rattle.crs_shape.specs.declared.class.Class.TheVariants as class
-use Rattle.crs_shape.specs.Prelude.{is_keyword, Allowed, class_in, class_named, one_of, slots_of, takes, vertical_tail, dimensions_of}
+use Rattle.crs_shape.specs.Prelude.{is_keyword, class_in, class_named, one_of, takes, dimensions_of}
 use Rattle.crs_value.specs.Checks.{Own as BreaksOwn}
 use Rattle.crs_value.specs.Prelude.{GeoidModelParts, VerticalParts, IsGeoidModel, IsVertical}
 use Rattle.crs_value.specs.declared.values.frame.Frame.{Frame}
 use Rattle.crs_value.specs.declared.values.frame.Frame.TheVariants as frame
 use Rattle.crs_value.specs.declared.values.level.Level.{Level}
 use Rattle.crs_value.specs.Sound.{Each}
-use Rattle.crs_matching.specs.Prelude.{usages_of}
 use Rattle.crs_normal.specs.DecimalLaws.{DecimalLaws}
 use Rattle.crs_normal.specs.AcceptedNormal.{IsAcceptedNormal, vertical_frame_class}
 use Rattle.crs_normal.specs.NormalOwn.{Ascend}
@@ -21,19 +20,15 @@ use Rattle.crs_normal.specs.SpelledFrames.{item_frame, norm_frame}
 use Rattle.crs_normal.specs.SpelledItems.{text_item}
 use Rattle.crs_normal.specs.SpelledSystems.{item_head, norm_system}
 use Rattle.crs_normal.proofs.made.AscendLemmas.{set-ascends, set-each}
-use Rattle.crs_normal.proofs.made.BehindLemmas.{AxisEach, IsFew, Shows, axes_run, behind, crs_classes, few-system, no_unit_run, system-seen, tail-seen, behind_arguments, vertical-names}
-use Rattle.crs_normal.proofs.made.CheckLemmas.{has-axes}
+use Rattle.crs_normal.proofs.made.BehindLemmas.{AxisEach, IsFew, axes_run, few-system, no_unit_run, behind_arguments, vertical-names}
 use Rattle.crs_normal.proofs.made.DynamicLemmas.{dynamic-argument, dynamic_classes}
-use Rattle.crs_normal.proofs.made.FitLemmas.{fit-before, last-fits, taken-more}
 use Rattle.crs_normal.proofs.made.FrameLemmas.{vertical-frame-made}
-use Rattle.crs_normal.proofs.made.IdentLemmas.{identifiers-ascend}
-use Rattle.crs_normal.proofs.made.NodeLemmas.{IsKept, Made, Run, Sees, alone, as-argument, classes, node-made, views}
+use Rattle.crs_normal.proofs.made.NodeLemmas.{Made, Run, alone, as-argument, views, IsOrderly, free-orderly}
 use Rattle.crs_normal.proofs.made.NamedLemmas.{geoid-model-made}
-use Rattle.crs_normal.proofs.made.RiseLemmas.{rises}
-use Rattle.crs_normal.proofs.made.TailLemmas.{has-tail, tail-fits, tail-left, tail_runs, usages-ascend, tail_arguments}
+use Rattle.crs_normal.proofs.made.TailLemmas.{tail_runs, tail_arguments, tail-orderly}
 use Rattle.crs_normal.proofs.normal.DimensionLemmas.{small-vertical}
-use Rattle.crs_normal.proofs.made.ArgumentLemmas.{Argument, any-of, as_runs, fit-runs, laid, may-of, one-of, runs-made, text-of}
-use Rattle.crs_normal.proofs.made.FrontLemmas.{crs-breaks, frame-left, frame-rises, frame-sets, frame-shows, frame-steady, framed_runs, geodetic_classes}
+use Rattle.crs_normal.proofs.made.ArgumentLemmas.{Argument, any-of, may-of, one-of, text-of}
+use Rattle.crs_normal.proofs.made.FrontLemmas.{frame-shows, frame-steady, framed_runs, geodetic_classes, frame-free, crs-node-made}
 
 -- ---- the frame, of one class or the other
 
@@ -90,84 +85,39 @@ dynamic-named : class_named class.VerticalCrs (codes "DYNAMIC") ≡ Some class.D
 unfolding class_named is_keyword
 dynamic-named = refl
 
-abbrev vertical_before : DecimalLaws → (level : Level) (g : VerticalParts) → IsFew g.system → IsVertical g →
-    List (Argument level 5 class.VerticalCrs) → List (Argument level 5 class.VerticalCrs)
-vertical_before l level g few h rest =
+abbrev vertical_arguments : DecimalLaws → (level : Level) (g : VerticalParts) → IsFew g.system → IsVertical g →
+    List (Argument level 5 class.VerticalCrs)
+vertical_arguments l level g few h =
     text-of g.name h.name ∷ may-of class.Dynamic item_dynamic (option_map (norm_dynamic level) g.dynamic)
     (dynamic-argument l level 5 class.VerticalCrs g.dynamic g.frame (omega arith) dynamic-named h.dynamic) ∷
     one-of (vertical_frame_class g.frame) (frame_item level g) (as-argument level 5 5 class.VerticalCrs
     (vertical_frame_class g.frame) (frame_item level g) (omega arith) (vertical-named level g.frame)
     (vertical-frame-made l level g.frame h.frame)) ∷
-    behind_arguments l level 5 class.VerticalCrs g.system rest (omega arith) vertical-names.systems few
-
-abbrev vertical_arguments : DecimalLaws → (level : Level) (g : VerticalParts) → IsFew g.system → IsVertical g →
-    List (Argument level 5 class.VerticalCrs)
-vertical_arguments l level g few h =
-    vertical_before l level g few h (any-of class.GeoidModel item_geoid_model (set_geoid_models level g.geoid_models)
+    behind_arguments l level 5 class.VerticalCrs g.system
+    (any-of class.GeoidModel item_geoid_model (set_geoid_models level g.geoid_models)
     (models-made l level g.geoid_models h.geoid_models) ∷
-    tail_arguments l level 5 class.VerticalCrs g.tail (omega arith) vertical-names.tails h.tail)
+    tail_arguments l level 5 class.VerticalCrs g.tail (omega arith) vertical-names.tails h.tail) (omega arith)
+    vertical-names.systems few
 
-vertical-allowed : DecimalLaws → (level : Level) (g : VerticalParts) → IsFew g.system → IsVertical g →
-    Allowed (slots_of class.VerticalCrs) (classes (vertical_runs level g))
-vertical-allowed l level g few h =
-    let slots = take 6 (slots_of class.VerticalCrs) in
-    let front = vertical_before l level g few h [] in
-    fit-before slots (vertical_tail ∷ []) (as_runs front) (models_run level g ∷ tail_runs level g.tail)
-    (fit-runs slots front (ap (λ b. if b then true else false) (vertical-taken g.frame)))
-    (last-fits vertical_tail.classes (classes (models_run level g ∷ tail_runs level g.tail))
-    (taken-more vertical_tail class.GeoidModel (map item_geoid_model (set_geoid_models level g.geoid_models))
-    (classes (tail_runs level g.tail)) refl (tail-fits vertical_tail.classes level g.tail refl refl refl)))
-
-vertical-rise : (level : Level) (g : VerticalParts) → rises 0 (vertical_runs level g) ≡ true
-vertical-rise level g =
-    frame-rises level (text_item g.name) g.dynamic false g.frame (frame_item level g) (vertical_rest level g) refl
-
-vertical-shown : (level : Level) (g : VerticalParts) (item : Item) →
-    Sees class.VerticalCrs (vertical_runs level g) item →
-    Each (Shows class.VerticalCrs item (behind level g.system g.tail)) crs_classes
-vertical-shown level g item s =
-    (frame-shows level class.VerticalCrs item (text_item g.name) false g.dynamic g.frame (frame_item level g)
-    (vertical_rest level g) (views class.VerticalCrs (vertical_runs level g) item geodetic_classes s)).1
-
-vertical-kept : DecimalLaws → (level : Level) (g : VerticalParts) → IsFew g.system → IsVertical g →
-    IsKept level 5 class.VerticalCrs (codes "VERTCRS") (vertical_runs level g)
-unfolding BreaksOwn is_keyword
-vertical-kept l level g few h = record {
-  letters = (refl, refl);
-  known = refl;
-  written = refl;
-  made = runs-made (vertical_arguments l level g few h);
-  allowed = vertical-allowed l level g few h;
-  sets = frame-sets level (text_item g.name) g.dynamic false g.frame (frame_item level g) (vertical_rest level g) (
-    identifiers-ascend level g.tail.identifiers,
-    (
-      usages-ascend level (usages_of g.tail),
-      (tt, (tt, (models-ascend level g.geoid_models, tt))),
-    ),
-  );
-  left = frame-left level (text_item g.name) g.dynamic false g.frame (frame_item level g) (vertical_rest level g)
-      (tail-left level g.tail);
-  own = λ item s.
-      let v = vertical-shown level g item s in (
-        has-axes class.VerticalCrs item g.system.system_type g.system.dimension
-            (system-seen l level class.VerticalCrs item g.system g.tail few v),
-        has-tail level 5 class.VerticalCrs (vertical_runs level g) item s
-            (runs-made (vertical_arguments l level g few h))
-            (vertical-rise level g)
-            (tail-seen level class.VerticalCrs item g.tail v.1.1.1),
-      );
-  unbroken = λ item fault s b.
-      let v = vertical-shown level g item s in
-      crs-breaks l (dimensions_of class.VerticalCrs) class.VerticalCrs g.system item fault h.system.dimension h.dimension
-      (tail-seen level class.VerticalCrs item g.tail v.1.1.1)
-      (system-seen l level class.VerticalCrs item g.system g.tail few v)
-      (frame-steady level class.VerticalCrs item (text_item g.name) false g.dynamic g.frame (frame_item level g) (vertical_rest level g)
-      h.dynamic (refl, (refl, (refl, tt))) (views class.VerticalCrs (vertical_runs level g) item dynamic_classes s)) b;
-}
+vertical-orderly : (level : Level) (g : VerticalParts) → IsOrderly level (vertical_runs level g)
+vertical-orderly level g =
+    let end = tail-orderly level g.tail in
+    free-orderly level (vertical_frame_class g.frame) (frame_item level g ∷ []) (vertical_rest level g)
+    (frame-free false g.frame)
+    ((end.0.0, (end.0.1.0, (tt, (tt, (models-ascend level g.geoid_models, tt))))), end.1)
 
 pub vertical-made : DecimalLaws → AxisEach → (level : Level) (g : VerticalParts) → IsVertical g → (p : ℕ) →
     IsAcceptedNormal level class.VerticalCrs 6 (at_place p (item_vertical (norm_vertical level g)))
+unfolding BreaksOwn is_keyword
 vertical-made l each_at level g h =
     let few = few-system l each_at (dimensions_of class.VerticalCrs) small-vertical g.system h.system h.dimension in
-    node-made level 5 class.VerticalCrs (codes "VERTCRS") _ _ (vertical_runs level g)
-    (laid (vertical_arguments l level g few h)) (vertical-kept l level g few h)
+    crs-node-made l level 5 class.VerticalCrs (codes "VERTCRS") _ _ (vertical_arguments l level g few h) refl (refl, refl)
+    refl refl (rw (vertical-taken g.frame) (refl {a = true})) (vertical-orderly level g) (dimensions_of class.VerticalCrs) g.system
+    g.tail few h.dimension (λ item fault b. b)
+    (λ item s. (
+      (frame-shows level class.VerticalCrs item (text_item g.name) false g.dynamic g.frame (frame_item level g)
+          (vertical_rest level g) (views class.VerticalCrs (vertical_runs level g) item geodetic_classes s)).1,
+      frame-steady level class.VerticalCrs item (text_item g.name) false g.dynamic g.frame (frame_item level g)
+          (vertical_rest level g) h.dynamic (refl, (refl, (refl, tt)))
+          (views class.VerticalCrs (vertical_runs level g) item dynamic_classes s),
+    )) (λ item s seen axes end. (axes, end))
