@@ -1,6 +1,7 @@
 -- Identifiers and lists of them are made.
-use Rattle.std.proofs.Common.{◌≡◌, ℕ, ◌+◌, ◌≤◌, true, Option, Some, None, List, [], ◌∷◌, ◌++◌, map, drop, codes, IfSome, inl, inr, refl, sym, ap, subst, arith}
-use Rattle.crs_text.specs.Prelude.{Item, leaf, Siblings, End, More, skip, Kind, number, text, word, at_place, at_places, item_text}
+use Rattle.std.proofs.Common.{◌≡◌, ℕ, ◌+◌, ◌≤◌, true, Option, Some, None, List, [], ◌∷◌, ◌++◌, map, drop, codes, IfSome, inl, inr, refl, sym, subst, arith}
+use Rattle.std.proofs.lemmas.List.{append-nil}
+use Rattle.crs_text.specs.Prelude.{Item, leaf, End, More, skip, Kind, number, text, word, at_place, at_places, item_text}
 use Rattle.crs_shape.specs.declared.class.Class.{Class}
 use Rattle.crs_shape.specs.declared.class.Class.TheVariants as class
 use Rattle.crs_shape.specs.Prelude.{is_keyword, class_of_kind, class_named, one_of, optional_of, takes}
@@ -13,25 +14,25 @@ use Rattle.crs_normal.specs.DecimalLaws.{DecimalLaws}
 use Rattle.crs_normal.specs.AcceptedNormal.{IsAcceptedNormal}
 use Rattle.crs_normal.specs.NormalOwn.{Ascend, IsCode}
 use Rattle.crs_normal.specs.Ordered.{in_order}
-use Rattle.crs_normal.specs.SpelledItems.{code_item, node_of, opt, text_item, text_node}
+use Rattle.crs_normal.specs.SpelledItems.{code_item, text_item, text_node}
 use Rattle.crs_normal.specs.SpelledUnits.{item_ident, set_idents}
 use Rattle.crs_normal.proofs.made.AscendLemmas.{set-ascends}
 use Rattle.crs_normal.proofs.members.SetLemmas.{each-in_order}
-use Rattle.crs_normal.proofs.made.ArgumentLemmas.{Argument, any-of, given-made, made-of, may-of, may-text, one-of, text-of}
+use Rattle.crs_normal.proofs.made.ArgumentLemmas.{Argument, any-of, made-of, may-of, may-text, one-of, text-of}
 use Rattle.crs_normal.proofs.made.LeafLemmas.{IsCodeKind, code-kind, code-made, code_kind}
-use Rattle.crs_normal.proofs.made.NodeLemmas.{IsOrderly, Made, Run, alone, as-argument, free-orderly, given, is_free, line, lines, none-orderly}
+use Rattle.crs_normal.proofs.made.NodeLemmas.{IsOrderly, Made, Run, alone, as-argument, free-orderly, given, is_free, line, none-orderly}
 
 -- ---- identifiers, with the kinds of the code and the version
 
-abbrev IsVersionKind : Kind → Option (List ℕ) → Type 0
-IsVersionKind number version = IfSome version (IsCodeKind number)
-IsVersionKind text version = IfSome version (IsCodeKind text)
-IsVersionKind word version = ⊥
+-- the kind of a version, if there is one
+abbrev version_kind : Option (List ℕ) → Kind
+version_kind None = text
+version_kind (Some raw) = code_kind raw
 
-abbrev ident_runs : IdentParts → Kind → Kind → List Run
-ident_runs i k v =
-    alone class.Text (text_item i.authority) ∷ alone (class_of_kind k) (leaf k 0 i.code) ∷
-    record { of = class_of_kind v; items = given (λ raw. leaf v 0 raw) i.version } ∷
+abbrev ident_runs : IdentParts → List Run
+ident_runs i =
+    alone class.Text (text_item i.authority) ∷ alone (class_of_kind (code_kind i.code)) (code_item i.code) ∷
+    record { of = class_of_kind (version_kind i.version); items = given code_item i.version } ∷
     record { of = class.Citation; items = given (text_node (codes "CITATION")) i.citation } ∷
     record { of = class.Uri; items = given (text_node (codes "URI")) i.uri } ∷ []
 
@@ -47,92 +48,51 @@ code-taken number raw h = refl
 code-taken text raw h = refl
 code-taken word raw h = absurd h
 
-version-taken : (v : Kind) (version : Option (List ℕ)) → IsVersionKind v version →
-    takes (optional_of code_classes) (class_of_kind v) ≡ true
-version-taken number version h = refl
-version-taken text version h = refl
-version-taken word version h = absurd h
+version-taken : (version : Option (List ℕ)) → IfSome version IsText →
+    takes (optional_of code_classes) (class_of_kind (version_kind version)) ≡ true
+version-taken None h = refl
+version-taken (Some raw) h = code-taken (code_kind raw) raw (code-kind raw h)
 
-version-given : (v : Kind) (version : Option (List ℕ)) → IsVersionKind v version → IfSome version (IsCodeKind v)
-version-given number version h = h
-version-given text version h = h
-version-given word version h = absurd h
+version-made : DecimalLaws → (level : Level) (version : Option (List ℕ)) → IfSome version IsText →
+    Each (Made level 1 class.Identifier (class_of_kind (version_kind version))) (given code_item version)
+version-made l level None h = tt
+version-made l level (Some raw) h = (code-made l level 1 (code_kind raw) raw (code-kind raw h), tt)
 
-code-is : (k : Kind) (raw : List ℕ) (p : ℕ) → IsCodeKind k raw → IsCode (leaf k p raw)
-code-is number raw p h = inl (h, refl)
-code-is text raw p h = inr (h.0, refl)
-code-is word raw p h = absurd h
+code-is : (k : Kind) (raw : List ℕ) (p : ℕ) (more : List Item) → IsCodeKind k raw → Each IsCode more →
+    Each IsCode (single_of (More (leaf k p raw) End) ++ more)
+code-is number raw p more h m = (inl (h, refl), m)
+code-is text raw p more h m = (inr (h.0, refl), m)
+code-is word raw p more h m = absurd h
 
--- the version, if there is one, and the nodes after it
-abbrev behind : Kind → Option (List ℕ) → Option (List ℕ) → Option (List ℕ) → Siblings
-behind v version citation uri =
-    line (given (λ raw. leaf v 0 raw) version) (line (given (text_node (codes "CITATION")) citation)
-    (line (given (text_node (codes "URI")) uri) End))
-
-version-is : (v : Kind) (version citation uri : Option (List ℕ)) (s : ℕ) → IsVersionKind v version →
-    Each IsCode (single_of (at_places s (behind v version citation uri)))
-version-is number None None None s h = tt
-version-is number None None (Some uri) s h = tt
-version-is number None (Some citation) uri s h = tt
-version-is number (Some raw) citation uri s h = (code-is number raw (s + 1) h, tt)
-version-is text None None None s h = tt
-version-is text None None (Some uri) s h = tt
-version-is text None (Some citation) uri s h = tt
-version-is text (Some raw) citation uri s h = (code-is text raw (s + 1) h, tt)
-version-is word version citation uri s h = absurd h
-
-codes-are : (i : IdentParts) (k v : Kind) (s : ℕ) → IsCodeKind k i.code → IsVersionKind v i.version →
-    Each IsCode (single_of (skip 1 (at_places s (lines (ident_runs i k v)))) ++ single_of
-    (skip 2 (at_places s (lines (ident_runs i k v)))))
-codes-are i number v s h w = (inl (h, refl), version-is v i.version i.citation i.uri _ w)
-codes-are i text v s h w = (inr (h.0, refl), version-is v i.version i.citation i.uri _ w)
-codes-are i word v s h w = absurd h
-
-abbrev version_kind : Option (List ℕ) → Kind
-version_kind None = text
-version_kind (Some raw) = code_kind raw
-
-version-kind : (version : Option (List ℕ)) → IfSome version IsText → IsVersionKind (version_kind version) version
-version-kind None h = tt
-version-kind (Some raw) h = by (code_kind raw) (code-kind raw h)
-  where
-    by : (kind : Kind) → IsCodeKind kind raw → IsVersionKind kind (Some raw)
-    by number a = a
-    by text a = a
-    by word a = a
-
-version-line : (version : Option (List ℕ)) (rest : Siblings) →
-    opt code_item version rest ≡ opt (λ raw. leaf (version_kind version) 0 raw) version rest
-version-line None rest = refl
-version-line (Some raw) rest = refl
-
--- identifiers of a code and a version of these kinds
-kinds-made : DecimalLaws → (level : Level) (i : IdentParts) (k v : Kind) → IsIdent i → IsCodeKind k i.code →
-    IsVersionKind v i.version → (others : Siblings) →
-    others ≡ More (leaf k 0 i.code) (opt (λ raw. leaf v 0 raw) i.version
-    (opt (text_node (codes "CITATION")) i.citation (opt (text_node (codes "URI")) i.uri End))) → (p : ℕ) →
-    IsAcceptedNormal level class.Identifier 2 (at_place p (node_of (codes "ID") (text_item i.authority) others))
-unfolding is_keyword BreaksOwn class_named
-kinds-made l level i k v h a b others same =
-    made-of level 1 class.Identifier (codes "ID") _ _ (text-of i.authority h.authority ∷
-    one-of (class_of_kind k) (leaf k 0 i.code) (code-made l level 1 k i.code a) ∷
-    may-of (class_of_kind v) (λ raw. leaf v 0 raw) i.version (given-made level 1 class.Identifier (class_of_kind v)
-    (IsCodeKind v) (λ raw. leaf v 0 raw) i.version (version-given v i.version b) (λ raw q. code-made l level 1 v raw q)) ∷
-    may-text class.Citation (codes "CITATION") (refl, refl) refl refl (λ item. tt) (λ item fault b. b) refl (omega arith)
-    refl i.citation h.citation ∷ may-text class.Uri (codes "URI") (refl, refl) refl refl (λ item. tt)
-    (λ item fault b. b) refl (omega arith) refl i.uri h.uri ∷ []) (ap (More (text_item i.authority)) same) (refl, refl)
-    refl refl (rw (code-taken k i.code a) (rw (version-taken v i.version b) refl))
-    (free-orderly level (class_of_kind k) (leaf k 0 i.code ∷ []) (drop 2 (ident_runs i k v)) (kind-free k)
-    (free-orderly level (class_of_kind v) (given (λ raw. leaf v 0 raw) i.version) (drop 3 (ident_runs i k v))
-    (kind-free v) (none-orderly level)))
-    (λ item s r. subst (λ js. Each IsCode (single_of (skip 1 js) ++ single_of (skip 2 js))) (sym s.are)
-    (codes-are i k v s.start a b)) (λ item fault s b. b)
+version-is : (version citation uri : Option (List ℕ)) (s : ℕ) → IfSome version IsText →
+    Each IsCode (single_of (at_places s (line (given code_item version) (line (given (text_node (codes "CITATION")) citation)
+    (line (given (text_node (codes "URI")) uri) End)))))
+version-is None None None s h = tt
+version-is None None (Some uri) s h = tt
+version-is None (Some citation) uri s h = tt
+version-is (Some raw) citation uri s h =
+    subst (Each IsCode) (append-nil _) (code-is (code_kind raw) raw (s + 1) [] (code-kind raw h) tt)
 
 pub ident-made : DecimalLaws → (level : Level) (i : IdentParts) → IsIdent i → (p : ℕ) →
     IsAcceptedNormal level class.Identifier 2 (at_place p (item_ident i))
+unfolding is_keyword BreaksOwn class_named
 ident-made l level i h =
-    kinds-made l level i (code_kind i.code) (version_kind i.version) h (code-kind i.code h.code)
-    (version-kind i.version h.version) _ (ap (More (code_item i.code)) (version-line i.version _))
+    made-of level 1 class.Identifier (codes "ID") _ _ (text-of i.authority h.authority ∷
+    one-of (class_of_kind (code_kind i.code)) (code_item i.code)
+    (code-made l level 1 (code_kind i.code) i.code (code-kind i.code h.code)) ∷
+    may-of (class_of_kind (version_kind i.version)) code_item i.version (version-made l level i.version h.version) ∷
+    may-text class.Citation (codes "CITATION") (refl, refl) refl refl (λ item. tt) (λ item fault b. b) refl (omega arith)
+    refl i.citation h.citation ∷ may-text class.Uri (codes "URI") (refl, refl) refl refl (λ item. tt)
+    (λ item fault b. b) refl (omega arith) refl i.uri h.uri ∷ []) refl (refl, refl) refl refl
+    (rw (code-taken (code_kind i.code) i.code (code-kind i.code h.code))
+    (rw (version-taken i.version h.version) (refl {a = true})))
+    (free-orderly level (class_of_kind (code_kind i.code)) (code_item i.code ∷ []) (drop 2 (ident_runs i))
+    (kind-free (code_kind i.code))
+    (free-orderly level (class_of_kind (version_kind i.version)) (given code_item i.version) (drop 3 (ident_runs i))
+    (kind-free (version_kind i.version)) (none-orderly level)))
+    (λ item s r. subst (λ js. Each IsCode (single_of (skip 1 js) ++ single_of (skip 2 js))) (sym s.are)
+    (code-is (code_kind i.code) i.code _ _ (code-kind i.code h.code) (version-is i.version i.citation i.uri _ h.version)))
+    (λ item fault s b. b)
 
 -- ---- lists of identifiers, in order
 

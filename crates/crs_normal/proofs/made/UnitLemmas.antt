@@ -1,5 +1,5 @@
 -- Units are made.
-use Rattle.std.proofs.Common.{◌≡◌, ℕ, true, Some, List, [], ◌∷◌, codes, inl, inr, refl, sym, ap, subst, arith}
+use Rattle.std.proofs.Common.{◌≡◌, ℕ, true, Some, List, [], ◌∷◌, codes, inl, inr, refl, sym, subst, arith}
 use Rattle.crs_decimal.specs.Prelude.{plain, Value, IsNormal}
 use Rattle.crs_text.specs.Prelude.{Item, arguments, RefusedAt, IsWord, at_place}
 use Rattle.crs_shape.specs.declared.class.Class.{Class}
@@ -18,6 +18,7 @@ use Rattle.crs_normal.specs.SpelledItems.{number_item}
 use Rattle.crs_normal.specs.SpelledUnits.{item_unit, set_idents}
 use Rattle.crs_normal.proofs.made.IdentLemmas.{ids-of, ids-orderly}
 use Rattle.crs_normal.proofs.made.PlaceLemmas.{ArePlaced}
+use Rattle.crs_normal.proofs.read.NameLemmas.{keyword-names}
 use Rattle.crs_normal.proofs.made.ArgumentLemmas.{Argument, fit, made-of, number-of, text-of}
 
 -- ---- numbers
@@ -40,63 +41,29 @@ not-below l v (item ∷ other ∷ items) fault n a h (inr b) = absurd h.1
 
 -- ---- units
 
-unit-slots : (c : Class) (kind : UnitKind) → IsKindIn c kind → slots_of c ≡ unit_slots
-unit-slots class.LengthUnit kind h = refl
-unit-slots class.AngleUnit kind h = refl
-unit-slots class.ScaleUnit kind h = refl
-unit-slots class.PlainUnit kind h = refl
-unit-slots class.AxisUnit kind h = refl
-unit-slots other kind h = absurd h
+-- what a unit of this kind is, as one of its class
+abbrev IsUnitClass : Class → UnitKind → Type 0
+IsUnitClass c kind =
+    (slots_of c ≡ unit_slots) × (is_keyword c (unit_word kind) ≡ true) × IsFirstKeyword c (unit_word kind)
+    × ((item : Item) → HasOwnForm c item)
+    × ((item : Item) (fault : RefusedAt) → BreaksOwn c item fault → OfUnit c item fault)
 
-unit-known : (c : Class) (kind : UnitKind) → IsKindIn c kind → is_keyword c (unit_word kind) ≡ true
-unfolding is_keyword
-unit-known class.LengthUnit kind h = subst (λ k. is_keyword class.LengthUnit (unit_word k) ≡ true) (sym h) refl
-unit-known class.AngleUnit kind h = subst (λ k. is_keyword class.AngleUnit (unit_word k) ≡ true) (sym h) refl
-unit-known class.ScaleUnit kind h = subst (λ k. is_keyword class.ScaleUnit (unit_word k) ≡ true) (sym h) refl
-unit-known class.PlainUnit kind h = subst (λ k. is_keyword class.PlainUnit (unit_word k) ≡ true) (sym h) refl
-unit-known class.AxisUnit kind (inl h) = subst (λ k. is_keyword class.AxisUnit (unit_word k) ≡ true) (sym h) refl
-unit-known class.AxisUnit kind (inr h) = subst (λ k. is_keyword class.AxisUnit (unit_word k) ≡ true) (sym h) refl
-unit-known other kind h = absurd h
-
-unit-written : (c : Class) (kind : UnitKind) → IsKindIn c kind → IsFirstKeyword c (unit_word kind)
-unit-written class.LengthUnit kind h = ap unit_word h
-unit-written class.AngleUnit kind h = ap unit_word h
-unit-written class.ScaleUnit kind h = ap unit_word h
-unit-written class.PlainUnit kind h = ap unit_word h
-unit-written class.AxisUnit kind (inl h) = inl (ap unit_word h)
-unit-written class.AxisUnit kind (inr h) = inr (ap unit_word h)
-unit-written other kind h = absurd h
+unit-class : (c : Class) (kind : UnitKind) → IsKindIn c kind → IsUnitClass c kind
+unfolding is_keyword BreaksOwn
+unit-class class.LengthUnit kind h = rw h (refl, refl, refl, λ item. tt, λ item fault b. b)
+unit-class class.AngleUnit kind h = rw h (refl, refl, refl, λ item. tt, λ item fault b. b)
+unit-class class.ScaleUnit kind h = rw h (refl, refl, refl, λ item. tt, λ item fault b. b)
+unit-class class.PlainUnit kind h = rw h (refl, refl, refl, λ item. tt, λ item fault b. b)
+unit-class class.AxisUnit kind (inl h) = rw h (refl, refl, inl refl, λ item. tt, λ item fault b. b)
+unit-class class.AxisUnit kind (inr h) = rw h (refl, refl, inr refl, λ item. tt, λ item fault b. b)
+unit-class other kind h = absurd h
 
 pub unit-letters : (kind : UnitKind) → IsWord (unit_word kind)
 unit-letters kinds.Length = (refl, refl)
 unit-letters other = (refl, refl)
 
-unit-own : (c : Class) (kind : UnitKind) (item : Item) → IsKindIn c kind → HasOwnForm c item
-unit-own class.LengthUnit kind item h = tt
-unit-own class.AngleUnit kind item h = tt
-unit-own class.ScaleUnit kind item h = tt
-unit-own class.PlainUnit kind item h = tt
-unit-own class.AxisUnit kind item h = tt
-unit-own other kind item h = absurd h
-
-unit-breaks : (c : Class) (kind : UnitKind) (item : Item) (fault : RefusedAt) → IsKindIn c kind →
-    BreaksOwn c item fault → OfUnit c item fault
-unfolding BreaksOwn
-unit-breaks class.LengthUnit kind item fault h b = b
-unit-breaks class.AngleUnit kind item fault h b = b
-unit-breaks class.ScaleUnit kind item fault h b = b
-unit-breaks class.PlainUnit kind item fault h b = b
-unit-breaks class.AxisUnit kind item fault h b = b
-unit-breaks other kind item fault h b = absurd h
-
 pub unit-names-id : (c : Class) (kind : UnitKind) → IsKindIn c kind → class_named c (codes "ID") ≡ Some class.Identifier
-unfolding class_named is_keyword
-unit-names-id class.LengthUnit kind h = refl
-unit-names-id class.AngleUnit kind h = refl
-unit-names-id class.ScaleUnit kind h = refl
-unit-names-id class.PlainUnit kind h = refl
-unit-names-id class.AxisUnit kind h = refl
-unit-names-id other kind h = absurd h
+unit-names-id c kind k = rw (keyword-names c (codes "ID")) (rw (unit-class c kind k).0 (refl {a = Some class.Identifier}))
 
 -- a unit in its one form, of this kind
 abbrev pub unit_as : Level → UnitKind → UnitParts → UnitParts
@@ -110,20 +77,20 @@ unit-arguments l level c kind u k h =
 
 pub unit-fits : (l : DecimalLaws) (level : Level) (c : Class) (kind : UnitKind) (u : UnitParts) (k : IsKindIn c kind)
     (h : IsUnit u) → fit (slots_of c) (unit-arguments l level c kind u k h) ≡ true
-unit-fits l level c kind u k h = rw (unit-slots c kind k) refl
+unit-fits l level c kind u k h = rw (unit-class c kind k).0 refl
 
 pub unit-unbroken : DecimalLaws → (c : Class) (kind : UnitKind) (u : UnitParts) → IsKindIn c kind → IsUnit u →
     (item : Item) (fault : RefusedAt) → ArePlaced (those c class.Number (arguments item)) (number_item u.factor ∷ []) →
     ¬ (BreaksOwn c item fault)
 unit-unbroken l c kind u k h item fault numbers b =
     not-below l u.factor (those c class.Number (arguments item)) fault h.factor h.above_zero numbers
-    (unit-breaks c kind item fault k b)
+    ((unit-class c kind k).4 item fault b)
 
 pub unit-made : DecimalLaws → (level : Level) (c : Class) (kind : UnitKind) (u : UnitParts) → IsKindIn c kind →
     IsUnit u → (p : ℕ) →
     IsAcceptedNormal level c 3 (at_place p (item_unit (unit_as level kind u)))
 unit-made l level c kind u k h =
-    made-of level 2 c (unit_word kind) _ _ (unit-arguments l level c kind u k h) refl (unit-letters kind)
-    (unit-known c kind k) (unit-written c kind k) (unit-fits l level c kind u k h) (ids-orderly level u.identifiers)
-    (λ item s r. unit-own c kind item k)
+    let is_unit = unit-class c kind k in
+    made-of level 2 c (unit_word kind) _ _ (unit-arguments l level c kind u k h) refl (unit-letters kind) is_unit.1
+    is_unit.2 (unit-fits l level c kind u k h) (ids-orderly level u.identifiers) (λ item s r. is_unit.3 item)
     (λ item fault s. unit-unbroken l c kind u k h item fault (s.view class.Number))
