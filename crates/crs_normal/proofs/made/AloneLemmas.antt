@@ -1,12 +1,12 @@
 -- An axis by itself is accepted, and normal but for a unit that is `UNIT`.
-use Rattle.std.proofs.Common.{◌≢◌, ℕ, ◌+◌, ◌≤◌, Option, Some, None, List, [], ◌∷◌, codes, IfSome, length, map, inl, inr, refl, sym, subst, ◌∙◌, arith}
+use Rattle.std.proofs.Common.{◌≢◌, ℕ, ◌≤◌, Option, Some, None, List, [], ◌∷◌, codes, IfSome, map, inl, inr, refl, arith}
 use Rattle.crs_decimal.specs.Prelude.{Value, IsNormal}
-use Rattle.crs_text.specs.Prelude.{Item, Siblings, End, More, arguments, depth, RefusedAt, at_place, at_places, item_text}
+use Rattle.crs_text.specs.Prelude.{Item, Siblings, End, More, arguments, depth, at_place}
 use Rattle.crs_shape.specs.declared.class.Class.{Class}
 use Rattle.crs_shape.specs.declared.class.Class.TheVariants as class
 use Rattle.crs_shape.specs.declared.unit_kind.UnitKind.{UnitKind}
 use Rattle.crs_shape.specs.declared.unit_kind.UnitKind.TheVariants as kinds
-use Rattle.crs_shape.specs.Prelude.{is_keyword, class_in, class_named, slots_of, direction_word}
+use Rattle.crs_shape.specs.Prelude.{is_keyword, class_named, slots_of, direction_word}
 use Rattle.crs_value.specs.Prelude.{those, IsAxis, IsAxisUnit, IsUnit, AxisParts, UnitParts}
 use Rattle.crs_value.specs.Checks.{Own as BreaksOwn}
 use Rattle.crs_value.specs.declared.values.level.Level.{Level}
@@ -15,7 +15,6 @@ use Rattle.crs_matching.specs.Prelude.{kind_as}
 use Rattle.crs_normal.specs.AxisAlone.{AreNormalArguments, IsNormalArgument, IsNormalAxis}
 use Rattle.crs_normal.specs.DecimalLaws.{DecimalLaws}
 use Rattle.crs_normal.specs.Normal.{IsNormalIn}
-use Rattle.crs_normal.specs.NormalOwn.{set_classes}
 use Rattle.crs_normal.specs.PartTexts.{norm_axis_alone}
 use Rattle.crs_normal.specs.SpelledItems.{each, number_node, opt, text_item, word_item}
 use Rattle.crs_normal.specs.SpelledSystems.{item_axis, item_axis_meridian, norm_axis_meridians}
@@ -23,13 +22,12 @@ use Rattle.crs_normal.specs.SpelledUnits.{item_ident, item_unit, norm_units, set
 use Rattle.crs_normal.proofs.made.AxisLemmas.{axis-meridians-made, known-direction, order-made}
 use Rattle.crs_normal.proofs.made.IdentLemmas.{identifiers-made, ids-orderly}
 use Rattle.crs_normal.proofs.made.LeafLemmas.{text-made, word-made}
-use Rattle.crs_normal.proofs.made.NodeLemmas.{AreMade, Stands, node-stands, Made, MadeBy, Run, Sees, as-argument, at-class, at-level, classes, each-set, given, made-lines, sees-by}
-use Rattle.crs_normal.proofs.made.PlaceLemmas.{class-at}
+use Rattle.crs_normal.proofs.made.NodeLemmas.{Stands, node-stands, Made, MadeBy, as-argument, given, AreNormalBy}
 use Rattle.crs_normal.proofs.made.UnitLemmas.{unit-arguments, unit-made, unit-unbroken, unit_as}
 use Rattle.crs_normal.proofs.made.WordLemmas.{direction-letters}
 use Rattle.crs_normal.proofs.parts.PartLemmas.{IsStanding}
 use Rattle.crs_normal.proofs.read.NameLemmas.{keyword-names}
-use Rattle.crs_normal.proofs.made.ArgumentLemmas.{ArgumentBy, any-of, as_runs, fits, laid, may-of, one-of, runs-made}
+use Rattle.crs_normal.proofs.made.ArgumentLemmas.{ArgumentBy, any-of, as_runs, fits, laid, may-of, one-of, runs-made, node-made}
 
 -- ---- the arguments of an axis by itself
 
@@ -54,22 +52,16 @@ each-alone : (level : Level) (most : ℕ) (d : Class) (js : List Item) → Each 
 each-alone level most d [] m = tt
 each-alone level most d (j ∷ js) m = (made-alone level most d j m.0, each-alone level most d js m.1)
 
-all-normal-alone : (level : Level) (most s : ℕ) (ds : List Class) (js : Siblings) →
-    AreMade (AsArgument level) most class.Axis ds js → AreNormalArguments level (at_places s js)
-all-normal-alone level most s [] End h = tt
-all-normal-alone level most s [] (More j js) h = absurd h
-all-normal-alone level most s (d ∷ ds) End h = tt
-all-normal-alone level most s (d ∷ ds) (More j js) h = (
-  at-class (λ e. IsNormalArgument level e (at_place (s + 1) j)) (class_in class.Axis (at_place (s + 1) j)) d
-      (class-at class.Axis (s + 1) j ∙ h.0.named) (h.0.fine (s + 1)).normal,
-  all-normal-alone level most (s + 1 + length (item_text j)) ds js h.1,
-)
+all-normal-alone : (level : Level) (items : Siblings) → AreNormalBy (AsArgument level) class.Axis items →
+    AreNormalArguments level items
+all-normal-alone level End h = tt
+all-normal-alone level (More item items) h = (h.0, all-normal-alone level items h.1)
 
 -- ---- its unit
 
 module _ (l : DecimalLaws) (level : Level) (u : UnitParts) (h : IsUnit u) where
   -- `UNIT` is accepted as a unit of an axis
-  plain-stands : (p : ℕ) → Stands class.AxisUnit 3 (at_place p (item_unit (unit_as level kinds.Plain u)))
+  plain-stands : (p : ℕ) → Stands (IsNormalIn level) class.AxisUnit 3 (at_place p (item_unit (unit_as level kinds.Plain u)))
   unfolding is_keyword
   plain-stands p =
       let all = unit-arguments l level class.AxisUnit kinds.Length u (inl refl) h in
@@ -142,44 +134,25 @@ module _ (l : DecimalLaws) (level : Level) (x : AxisParts) (h : IsAxis x) where
       any-of class.Identifier item_ident (set_idents level x.identifiers)
       (each-alone level 4 class.Identifier _ alone-ids) ∷ []
 
-  abbrev alone_runs : List Run
-  alone_runs = as_runs alone_arguments
-
   abbrev alone_others : Siblings
   alone_others =
       More (word_item (direction_word x.direction)) (opt item_axis_meridian (norm_axis_meridians level x.meridian)
       (opt (number_node (codes "ORDER")) x.order (opt item_unit (norm_units level kinds.Plain x.unit)
       (each item_ident (set_idents level x.identifiers) End))))
 
-  alone-unbroken : (item : Item) (fault : RefusedAt) → Sees class.Axis alone_runs item → ¬ (BreaksOwn class.Axis item fault)
-  unfolding BreaksOwn
-  alone-unbroken item fault s b =
-      known-direction x.direction (those class.Axis class.Word (arguments item)) fault (s.view class.Word) b
-
   pub axis-stands : IsStanding class.Axis (IsNormalAxis level) (at_place 0 (item_axis (norm_axis_alone level x)))
-  unfolding is_keyword
+  unfolding is_keyword BreaksOwn
   axis-stands =
-      let s = node-stands (AsArgument level) 4 class.Axis (codes "AXIS") (text_item x.name) alone_others alone_runs
-      (laid alone_arguments) (refl, refl) refl (runs-made alone_arguments)
-      (fits (slots_of class.Axis) alone_arguments refl) alone-unbroken 0 in
-      let i : Item = at_place 0 (item_axis (norm_axis_alone level x)) in
-      let w : depth i ≤ 5 = s.within in
-      let look : Sees class.Axis alone_runs i =
-      sees-by (AsArgument level) 4 class.Axis (codes "AXIS") (text_item x.name) alone_others alone_runs 0
-      (laid alone_arguments) (runs-made alone_arguments) in
+      let m = node-made level 4 class.Axis (codes "AXIS") (text_item x.name) alone_others alone_arguments refl (refl, refl)
+      refl refl refl (ids-orderly level x.identifiers) (λ item s r. tt)
+      (λ item fault s. known-direction x.direction (those class.Axis class.Word (arguments item)) fault (s.view class.Word))
+      (AreNormalArguments level) (all-normal-alone level) 0 in
+      let w : depth (at_place 0 (item_axis (norm_axis_alone level x))) ≤ 5 = m.0.within in
       record {
-        is_node = s.is_node;
-        formed = s.formed;
+        is_node = m.0.is_node;
+        formed = m.0.formed;
         within = omega arith;
-        shaped = s.shaped;
-        unbroken = s.unbroken;
-        normal = record {
-          first_keyword = refl;
-          at_level = at-level level class.Axis alone_runs i look (ids-orderly level x.identifiers).1.0;
-          own_form = tt;
-          ascending_sets = each-set class.Axis alone_runs i set_classes look (ids-orderly level x.identifiers).0;
-          normal_arguments = all-normal-alone level 4 4 (classes alone_runs) (More (text_item x.name) alone_others)
-              (subst (AreMade (AsArgument level) 4 class.Axis (classes alone_runs)) (sym (laid alone_arguments))
-              (made-lines (AsArgument level) 4 class.Axis alone_runs (runs-made alone_arguments)));
-        };
+        shaped = m.0.shaped;
+        unbroken = m.0.unbroken;
+        normal = m.1;
       }

@@ -1,47 +1,43 @@
 -- A node is made of arguments that say how many they are: whether they fit its slots is computed.
-use Rattle.std.proofs.Common.{◌≡◌, ◌≢◌, ◌∙◌, ℕ, ◌+◌, suc, ◌≤◌, Bool, true, false, true≢false, IsTrue, IfSome, Option, Some, None, List, [], ◌∷◌, map, length, if◌then◌else◌, refl, sym, ap, subst, arith}
+use Rattle.std.proofs.Common.{◌≡◌, ◌≢◌, ◌∙◌, ℕ, suc, ◌≤◌, Bool, true, false, true≢false, IsTrue, IfSome, Option, Some, None, List, [], ◌∷◌, map, length, if◌then◌else◌, refl, sym, ap, subst, arith}
+use Rattle.std.specs.Option.{is_some}
 use Rattle.crs_decimal.specs.Prelude.{Value, IsNormal}
 use Rattle.crs_text.specs.Prelude.{Item, Siblings, End, More, arguments, RefusedAt, IsWord, at_place}
 use Rattle.crs_shape.specs.declared.class.Class.{Class}
 use Rattle.crs_shape.specs.declared.class.Class.TheVariants as class
-use Rattle.crs_shape.specs.Prelude.{is_keyword, Allowed, SlotParts, class_named, one, slots_of, takes}
+use Rattle.crs_shape.specs.Prelude.{is_keyword, Allowed, SlotParts, class_in, class_named, one, slots_of, takes}
 use Rattle.crs_value.specs.Checks.{Own as BreaksOwn}
 use Rattle.crs_value.specs.declared.values.level.Level.{Level}
 use Rattle.crs_value.specs.Prelude.{IsText}
 use Rattle.crs_value.specs.Sound.{Each}
 use Rattle.crs_normal.specs.AcceptedNormal.{IsAcceptedNormal}
 use Rattle.crs_normal.specs.DecimalLaws.{DecimalLaws}
-use Rattle.crs_normal.specs.Normal.{IsFirstKeyword, IsNormalIn}
+use Rattle.crs_normal.specs.Normal.{IsFirstKeyword, IsNormalIn, AreNormalIn, IsNormalNode}
 use Rattle.crs_normal.specs.NormalOwn.{HasOwnForm, Rise, set_classes}
 use Rattle.crs_normal.specs.SpelledItems.{each, node_of, number_item, number_node, opt, text_item, text_node}
-use Rattle.crs_normal.proofs.made.FitLemmas.{both, given-few, more-fit, no-claim, none-fit, slot-fits}
+use Rattle.crs_normal.proofs.made.FitLemmas.{both, given-few, held, more-fit, none-fit, slot-fits}
 use Rattle.crs_normal.proofs.made.RiseLemmas.{has-rise}
 use Rattle.crs_normal.proofs.made.LeafLemmas.{number-made, text-made}
-use Rattle.crs_normal.proofs.made.NodeLemmas.{AreMade, IsOrderly, Made, MadeBy, Run, RunsMadeBy, Sees, all-normal, as-argument, at-level, classes, each-line, each-set, free-orderly, given, is_free, line, lines, made-lines, node-stands, none-orderly, opt-line, sees}
+use Rattle.crs_normal.proofs.made.NodeLemmas.{IsOrderly, Made, MadeBy, Run, RunsMadeBy, Sees, as-argument, at-level, classes, each-line, each-set, free-orderly, given, is_free, line, lines, node-stands, none-orderly, opt-line, AreNormalBy, Stands, sees-by}
 
--- arguments of one class, before others: whether there is one at least, and whether there is one at most
+-- arguments of one class, before others: that there is one at least, and that there is one at most, where that is known
 pub record ArgumentBy (N : Class → Class → Item → Type 0) (most : ℕ) (parent : Class) : Type 0 where
   pub of : Class
   pub items : List Item
   pub onto : Siblings → Siblings
   pub lined : (rest : Siblings) → onto rest ≡ line items rest
   pub made : Each (MadeBy N most parent of) items
-  pub there : Bool
-  pub single : Bool
-  pub is_there : IsTrue there → items ≢ []
-  pub is_single : IsTrue single → length items ≤ 1
+  pub some : Option (items ≢ [])
+  pub few : Option (length items ≤ 1)
 
 abbrev pub Argument : Level → ℕ → Class → Type 0
 Argument level = ArgumentBy (IsNormalIn level)
 
-pub not-none : (j : Item) → IsTrue true → j ∷ [] ≢ []
-not-none j h e = cc
+pub not-none : (j : Item) → j ∷ [] ≢ []
+not-none j e = cc
 
-pub just-one : (j : Item) → IsTrue true → length (j ∷ []) ≤ 1
-just-one j h = omega arith
-
-pub few-given : {A : Type 0} (spell : A → Item) (o : Option A) → IsTrue true → length (given spell o) ≤ 1
-few-given spell o h = given-few spell o
+pub just-one : (j : Item) → length (j ∷ []) ≤ 1
+just-one j = omega arith
 
 module _ {N : Class → Class → Item → Type 0} {most : ℕ} {parent : Class} where
   abbrev pub one-of : (of : Class) (j : Item) → MadeBy N most parent of j → ArgumentBy N most parent
@@ -51,10 +47,8 @@ module _ {N : Class → Class → Item → Type 0} {most : ℕ} {parent : Class}
     onto = More j;
     lined = λ rest. refl;
     made = (m, tt);
-    there = true;
-    single = true;
-    is_there = not-none j;
-    is_single = just-one j;
+    some = Some (not-none j);
+    few = Some (just-one j);
   }
 
   module _ {A : Type 0} (of : Class) (spell : A → Item) where
@@ -65,40 +59,35 @@ module _ {N : Class → Class → Item → Type 0} {most : ℕ} {parent : Class}
       onto = opt spell o;
       lined = opt-line spell o;
       made = m;
-      there = false;
-      single = true;
-      is_there = no-claim;
-      is_single = few-given spell o;
+      some = None;
+      few = Some (given-few spell o);
+    }
+
+    abbrev pub each-of : (xs : List A) → Option (map spell xs ≢ []) → Each (MadeBy N most parent of) (map spell xs) →
+        ArgumentBy N most parent
+    each-of xs some m = record {
+      of = of;
+      items = map spell xs;
+      onto = each spell xs;
+      lined = each-line spell xs;
+      made = m;
+      some = some;
+      few = None;
     }
 
     abbrev pub any-of : (xs : List A) → Each (MadeBy N most parent of) (map spell xs) → ArgumentBy N most parent
-    any-of xs m = record {
-      of = of;
-      items = map spell xs;
-      onto = each spell xs;
-      lined = each-line spell xs;
-      made = m;
-      there = false;
-      single = false;
-      is_there = no-claim;
-      is_single = no-claim;
-    }
+    any-of xs = each-of xs None
 
     abbrev pub some-of : (xs : List A) → map spell xs ≢ [] → Each (MadeBy N most parent of) (map spell xs) →
         ArgumentBy N most parent
-    some-of xs some m = record {
-      of = of;
-      items = map spell xs;
-      onto = each spell xs;
-      lined = each-line spell xs;
-      made = m;
-      there = true;
-      single = false;
-      is_there = λ h. some;
-      is_single = no-claim;
-    }
+    some-of xs some = each-of xs (Some some)
 
 module _ {level : Level} {most : ℕ} {parent : Class} where
+  -- a node that is made as an argument
+  abbrev pub node-of : {n : ℕ} (of : Class) (j : Item) → n ≤ most → class_in parent j ≡ Some of →
+      ((p : ℕ) → IsAcceptedNormal level of n (at_place p j)) → Argument level most parent
+  node-of {n = n} of j deep named made = one-of of j (as-argument level n most parent of j deep named made)
+
   abbrev pub text-of : (raw : List ℕ) → IsText raw → Argument level most parent
   text-of raw h = one-of class.Text (text_item raw) (text-made level most parent raw h)
 
@@ -132,8 +121,8 @@ module _ {N : Class → Class → Item → Type 0} {most : ℕ} {parent : Class}
   fit (s ∷ ss) (a ∷ rest) =
       if takes s a.of
       then (if s.required
-      then (if a.there then (if (if s.many then true else a.single) then fit ss rest else false) else false)
-      else (if s.many then fit (s ∷ ss) rest else if a.single then fit ss rest else false))
+      then (if is_some a.some then (if (if s.many then true else is_some a.few) then fit ss rest else false) else false)
+      else (if s.many then fit (s ∷ ss) rest else if is_some a.few then fit ss rest else false))
       else (if s.required then false else fit ss (a ∷ rest))
 
   pub fits : (ss : List SlotParts) (all : List (ArgumentBy N most parent)) → fit ss all ≡ true →
@@ -152,58 +141,76 @@ module _ {N : Class → Class → Item → Type 0} {most : ℕ} {parent : Class}
       by : (t r m : Bool) → takes s a.of ≡ t → s.required ≡ r → s.many ≡ m →
           (if t
           then (if r
-          then (if a.there then (if (if m then true else a.single) then fit ss rest else false) else false)
-          else (if m then fit (s ∷ ss) rest else if a.single then fit ss rest else false))
+          then (if is_some a.some then (if (if m then true else is_some a.few) then fit ss rest else false) else false)
+          else (if m then fit (s ∷ ss) rest else if is_some a.few then fit ss rest else false))
           else (if r then false else fit ss (a ∷ rest))) ≡ true →
           (fit ss rest ≡ true → Allowed ss (classes (as_runs rest))) →
           (fit (s ∷ ss) rest ≡ true → Allowed (s ∷ ss) (classes (as_runs rest))) →
           (fit ss (a ∷ rest) ≡ true → Allowed ss (classes (as_runs (a ∷ rest)))) →
           Allowed (s ∷ ss) (classes (as_runs (a ∷ rest)))
       by true true m p q n e next again skip =
-          let x = both a.there _ e in
-          let y = both (if m then true else a.single) _ x.1 in
-          slot-fits s ss a.of a.items _ p (λ h. a.is_there x.0)
-          (λ h. a.is_single (subst (λ b. (if b then true else a.single) ≡ true) (sym n ∙ h) y.0)) (next y.1)
+          let x = both (is_some a.some) _ e in
+          let y = both (if m then true else is_some a.few) _ x.1 in
+          slot-fits s ss a.of a.items _ p (λ h. held a.some x.0)
+          (λ h. held a.few (subst (λ b. (if b then true else is_some a.few) ≡ true) (sym n ∙ h) y.0)) (next y.1)
       by true false true p q n e next again skip = more-fit s ss a.of a.items _ p q n (again e)
       by true false false p q n e next again skip =
-          let x = both a.single _ e in
-          slot-fits s ss a.of a.items _ p (λ h. absurd (true≢false (sym h ∙ q))) (λ h. a.is_single x.0) (next x.1)
+          let x = both (is_some a.few) _ e in
+          slot-fits s ss a.of a.items _ p (λ h. absurd (true≢false (sym h ∙ q))) (λ h. held a.few x.0) (next x.1)
       by false true m p q n e next again skip = absurd (true≢false (sym e))
       by false false m p q n e next again skip = none-fit s ss _ q (skip e)
 
-module _ (level : Level) (most : ℕ) (c : Class) (keyword : List ℕ) (first : Item) (others : Siblings) (all : List (Argument level most c)) (same : More first others ≡ lay all) where
+module _ {N : Class → Class → Item → Type 0} (level : Level) (most : ℕ) (c : Class) (keyword : List ℕ) (first : Item) (others : Siblings) (all : List (ArgumentBy N most c)) (same : More first others ≡ lay all) where
   -- what the item of such a node has of each class
   pub arguments-seen : (p : ℕ) → Sees c (as_runs all) (at_place p (node_of keyword first others))
-  arguments-seen p = sees level most c keyword first others (as_runs all) p (same ∙ laid all) (runs-made all)
+  arguments-seen p = sees-by N most c keyword first others (as_runs all) p (same ∙ laid all) (runs-made all)
 
-  -- a node of these arguments is made, where they fit its slots and are in order
-  pub made-of : IsWord keyword → IsTrue (is_keyword c keyword) → IsFirstKeyword c keyword →
+  -- a node of these arguments is accepted and normal, where they fit its slots and are in order
+  pub node-made : IsWord keyword → IsTrue (is_keyword c keyword) → IsFirstKeyword c keyword →
       fit (slots_of c) all ≡ true → IsOrderly level (as_runs all) →
       ((item : Item) → Sees c (as_runs all) item → Rise c 0 (arguments item) → HasOwnForm c item) →
-      ((item : Item) (fault : RefusedAt) → Sees c (as_runs all) item → ¬ (BreaksOwn c item fault)) → (p : ℕ) →
-      IsAcceptedNormal level c (suc most) (at_place p (node_of keyword first others))
-  made-of letters known written fitting orderly own unbroken p =
+      ((item : Item) (fault : RefusedAt) → Sees c (as_runs all) item → ¬ (BreaksOwn c item fault)) →
+      (AreNormal : Siblings → Type 0) → ((items : Siblings) → AreNormalBy N c items → AreNormal items) → (p : ℕ) →
+      Stands N c (suc most) (at_place p (node_of keyword first others)) × IsNormalNode level c keyword
+      (at_place p (node_of keyword first others)) (AreNormal (arguments (at_place p (node_of keyword first others))))
+  node-made letters known written fitting orderly own unbroken AreNormal normal p =
       let i : Item = at_place p (node_of keyword first others) in
       let runs : List Run = as_runs all in
       let look : Sees c runs i = arguments-seen p in
-      let s = node-stands (IsNormalIn level) most c keyword first others runs (same ∙ laid all) letters known
-      (runs-made all) (fits (slots_of c) all fitting) unbroken p in
-      record {
-        is_node = s.is_node;
-        formed = s.formed;
-        within = s.within;
-        shaped = s.shaped;
-        unbroken = s.unbroken;
-        normal = λ parent. record {
+      let s = node-stands N most c keyword first others runs (same ∙ laid all) letters known (runs-made all)
+      (fits (slots_of c) all fitting) unbroken p in (
+        s,
+        record {
           first_keyword = written;
           at_level = at-level level c runs i look orderly.1.0;
-          own_form = own i look (has-rise level most c runs i look (runs-made all) orderly.1.1);
+          own_form = own i look (has-rise N most c runs i look (runs-made all) orderly.1.1);
           ascending_sets = each-set c runs i set_classes look orderly.0;
-          normal_arguments = all-normal level most c (p + length keyword) (classes runs) (More first others)
-              (subst (AreMade (IsNormalIn level) most c (classes runs)) (sym (same ∙ laid all))
-              (made-lines (IsNormalIn level) most c runs (runs-made all)));
-        };
-      }
+          normal_arguments = normal (arguments i) s.normal;
+        },
+      )
+
+all-normal : (level : Level) (c : Class) (items : Siblings) → AreNormalBy (IsNormalIn level) c items →
+    AreNormalIn level c items
+all-normal level c End h = tt
+all-normal level c (More item items) h = (h.0, all-normal level c items h.1)
+
+pub made-of : (level : Level) (most : ℕ) (c : Class) (keyword : List ℕ) (first : Item) (others : Siblings)
+    (all : List (Argument level most c)) → More first others ≡ lay all → IsWord keyword →
+    IsTrue (is_keyword c keyword) → IsFirstKeyword c keyword → fit (slots_of c) all ≡ true → IsOrderly level (as_runs all) →
+    ((item : Item) → Sees c (as_runs all) item → Rise c 0 (arguments item) → HasOwnForm c item) →
+    ((item : Item) (fault : RefusedAt) → Sees c (as_runs all) item → ¬ (BreaksOwn c item fault)) → (p : ℕ) →
+    IsAcceptedNormal level c (suc most) (at_place p (node_of keyword first others))
+made-of level most c keyword first others all same letters known written fitting orderly own unbroken p =
+    let m = node-made level most c keyword first others all same letters known written fitting orderly own unbroken
+    (AreNormalIn level c) (all-normal level c) p in
+    record {
+      is_node = m.0.is_node;
+      formed = m.0.formed;
+      within = m.0.within;
+      shaped = m.0.shaped;
+      unbroken = m.0.unbroken;
+      normal = λ parent. m.1;
+    }
 
 -- ---- arguments that may be missing, and nodes of one text or number
 

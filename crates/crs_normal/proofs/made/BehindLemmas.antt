@@ -15,11 +15,11 @@ use Rattle.crs_normal.specs.SpelledSystems.{axes_from, item_axis, item_head, nor
 use Rattle.crs_normal.proofs.made.CheckLemmas.{IsSystemIn, IsSystemSeen}
 use Rattle.crs_normal.proofs.made.DatumLemmas.{given-once}
 use Rattle.crs_normal.specs.SpelledItems.{text_node}
-use Rattle.crs_normal.proofs.made.NodeLemmas.{Made, Run, alone, as-argument, items_in}
+use Rattle.crs_normal.proofs.made.NodeLemmas.{Made, Run, alone, items_in}
 use Rattle.crs_normal.proofs.made.PlaceLemmas.{ArePlaced}
 use Rattle.crs_normal.proofs.made.SystemLemmas.{HasEach, IsHeadItem, all-axes, all-count, axes-made, axes-seen, head-made, head-seen}
 use Rattle.crs_normal.proofs.made.TailLemmas.{NamesTail, IsTailSeen, tail_runs}
-use Rattle.crs_normal.proofs.made.ArgumentLemmas.{Argument, may-of, one-of, some-of}
+use Rattle.crs_normal.proofs.made.ArgumentLemmas.{Argument, may-of, some-of, node-of}
 use Rattle.crs_normal.specs.SpelledUnits.{item_unit}
 use Rattle.crs_normal.proofs.texts.SegmentLemmas.{placed-none}
 use Rattle.crs_normal.proofs.normal.DimensionLemmas.{few-axes}
@@ -89,13 +89,6 @@ vertical-names = record {
   };
 }
 
-pub head-argument : DecimalLaws → (level : Level) (most : ℕ) (c : Class) (s : SystemParts) → 3 ≤ most →
-    NamesSystem c → IsSystem s →
-    Made level most c class.CoordinateSystem (item_head (norm_system level s))
-head-argument l level most c s deep n h =
-    as-argument level 3 most c class.CoordinateSystem (item_head (norm_system level s)) deep n.head
-    (head-made l level s h)
-
 pub axes-argument : DecimalLaws → (level : Level) (most : ℕ) (c : Class) (s : SystemParts) → 5 ≤ most →
     NamesSystem c → IsFew s →
     Each (Made level most c class.Axis) (axis_items level s)
@@ -125,8 +118,8 @@ three-of most deep = omega arith
 abbrev pub behind_arguments : DecimalLaws → (level : Level) (most : ℕ) (c : Class) (s : SystemParts)
     (rest : List (Argument level most c)) → 5 ≤ most → NamesSystem c → IsFew s → List (Argument level most c)
 behind_arguments l level most c s rest deep n h =
-    one-of class.CoordinateSystem (item_head (norm_system level s))
-    (head-argument l level most c s (three-of most deep) n h.system) ∷
+    node-of class.CoordinateSystem (item_head (norm_system level s)) (three-of most deep) n.head
+    (head-made l level s h.system) ∷
     some-of class.Axis item_axis (axes_from level s 1 (length s.axes)) (axes-some l level s h)
     (axes-argument l level most c s deep n h) ∷ may-of class.AxisUnit item_unit None tt ∷ rest
 

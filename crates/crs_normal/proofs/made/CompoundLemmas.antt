@@ -28,7 +28,7 @@ use Rattle.crs_normal.proofs.made.ProjectedLemmas.{projected-made, projected-see
 use Rattle.crs_normal.proofs.made.SystemLemmas.{IsHeadItem}
 use Rattle.crs_normal.proofs.made.TailLemmas.{IsTailSeen, has-tail, no-repeats, tail_runs, tail_arguments, compound-names, tail-orderly}
 use Rattle.crs_normal.proofs.made.VerticalLemmas.{vertical-made}
-use Rattle.crs_normal.proofs.made.ArgumentLemmas.{one-of, text-of, made-of}
+use Rattle.crs_normal.proofs.made.ArgumentLemmas.{one-of, text-of, made-of, node-of}
 
 -- ---- horizontal parts: geographic or projected
 
@@ -137,25 +137,19 @@ compound-breaks level false j name v t item fault s h q (inr (inr (inr (inl k)))
     good-parts class.ProjectedCrs _ (j ∷ []) fault h.1.1.0 (s.fine, tt) k
 compound-breaks level b j name v t item fault s h q (inr (inr (inr (inr k)))) = k
 
-vertical-part : DecimalLaws → AxisEach → (level : Level) (v : VerticalParts) → IsVertical v →
-    Made level 7 class.CompoundCrs class.VerticalCrs (item_vertical (norm_vertical level v))
-unfolding class_named is_keyword
-vertical-part l each_at level v h =
-    as-argument level 6 7 class.CompoundCrs class.VerticalCrs (item_vertical (norm_vertical level v)) (omega arith) refl
-    (vertical-made l each_at level v h)
-
 side-made : DecimalLaws → AxisEach →
     (level : Level) (b : Bool) (j : Item) (name : List ℕ) (v : VerticalParts) (t : TailParts) → IsSide level b j →
     IsText name → IsVertical v → IsTail t → (p : ℕ) →
     IsAcceptedNormal level class.CompoundCrs 8 (at_place p (node_of (codes "COMPOUNDCRS") (text_item name)
     (More j (More (item_vertical (norm_vertical level v)) (tail_items (norm_tail level t))))))
-unfolding BreaksOwn is_keyword
+unfolding BreaksOwn class_named is_keyword
 side-made l each_at level b j name v t s n h g =
     let runs : List Run = compound_runs level b j name v t in
     let seen = λ (item : Item) (q : Sees class.CompoundCrs runs item). tail-seen level class.CompoundCrs item t
     (side-shows level b j name v t item (views class.CompoundCrs runs item tail_classes q)) in
     made-of level 7 class.CompoundCrs (codes "COMPOUNDCRS") _ _ (text-of name n ∷ one-of (side_class b) j s.made ∷
-    one-of class.VerticalCrs (item_vertical (norm_vertical level v)) (vertical-part l each_at level v h) ∷
+    node-of class.VerticalCrs (item_vertical (norm_vertical level v)) (omega arith) refl
+    (vertical-made l each_at level v h) ∷
     tail_arguments l level 7 class.CompoundCrs t (omega arith) compound-names g) refl (refl, refl) refl refl
     (rw (side-taken b) (refl {a = true}))
     (free-orderly level (side_class b) (j ∷ []) (drop 2 runs) (side-free b) (tail-orderly level t))

@@ -23,7 +23,7 @@ use Rattle.crs_normal.proofs.made.NodeLemmas.{Made, as-argument, free-orderly, g
 use Rattle.crs_normal.proofs.made.NamedLemmas.{method-made}
 use Rattle.crs_normal.proofs.made.UnitLemmas.{unit-made}
 use Rattle.crs_normal.proofs.members.ParameterLemmas.{named-as}
-use Rattle.crs_normal.proofs.made.ArgumentLemmas.{any-of, made-of, one-of, text-of, may-of, number-of}
+use Rattle.crs_normal.proofs.made.ArgumentLemmas.{any-of, made-of, text-of, may-of, number-of, node-of}
 
 -- ---- parameters: the class of the unit is that of its keyword
 
@@ -95,9 +95,8 @@ pub conversion-made : DecimalLaws → (level : Level) (m : ConversionParts) → 
 unfolding BreaksOwn class_named is_keyword
 conversion-made l level m h =
     made-of level 4 class.Conversion (codes "CONVERSION") _ _ (text-of m.name h.name ∷
-    one-of class.Method (item_method (norm_method level m.method))
-    (as-argument level 3 4 class.Conversion class.Method (item_method (norm_method level m.method)) (omega arith) refl
-    (method-made l level m.method h.method)) ∷
+    node-of class.Method (item_method (norm_method level m.method)) (omega arith) refl
+    (method-made l level m.method h.method) ∷
     any-of class.Parameter item_parameter (set_parameters level m.parameters)
     (parameters-made l level m.parameters h.parameters) ∷
     ids-of l m.identifiers (omega arith) refl h.identifiers ∷ []) refl (refl, refl) refl refl refl

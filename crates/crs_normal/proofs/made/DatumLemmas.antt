@@ -16,9 +16,9 @@ use Rattle.crs_normal.specs.SpelledItems.{each, node_of, number_node, opt, text_
 use Rattle.crs_normal.specs.SpelledUnits.{item_ident, set_idents}
 use Rattle.crs_normal.proofs.made.EllipsoidLemmas.{ellipsoid-made}
 use Rattle.crs_normal.proofs.made.IdentLemmas.{ids-of, ids-orderly}
-use Rattle.crs_normal.proofs.made.NodeLemmas.{as-argument, given}
+use Rattle.crs_normal.proofs.made.NodeLemmas.{given}
 use Rattle.crs_normal.proofs.made.PlaceLemmas.{ArePlaced}
-use Rattle.crs_normal.proofs.made.ArgumentLemmas.{Argument, made-of, may-number, may-text, one-of, text-of}
+use Rattle.crs_normal.proofs.made.ArgumentLemmas.{Argument, made-of, may-number, may-text, text-of, node-of}
 
 -- none follows a part that may be missing
 pub given-once : {A : Type 0} (spell : A → Item) (x : Option A) (items : List Item) → ArePlaced items (given spell x ++ []) →
@@ -59,8 +59,7 @@ unfolding BreaksOwn class_named is_keyword
 geodetic-datum-made l level None d some e h = absurd (cc some)
 geodetic-datum-made l level (Some x) d some e h =
     let all : List (Argument level 4 class.GeodeticFrame) = text-of d.name h.name ∷
-    one-of class.Ellipsoid (item_ellipsoid (norm_ellipsoid level x)) (as-argument level 4 4 class.GeodeticFrame
-    class.Ellipsoid (item_ellipsoid (norm_ellipsoid level x)) (omega arith) refl (ellipsoid-made l level x e)) ∷
+    node-of class.Ellipsoid (item_ellipsoid (norm_ellipsoid level x)) (omega arith) refl (ellipsoid-made l level x e) ∷
     may-text class.Anchor (codes "ANCHOR") (refl, refl) refl refl (λ item. tt) (λ item fault b. b) refl (omega arith)
     refl d.anchor h.anchor ∷ may-number class.AnchorEpoch (codes "ANCHOREPOCH") (refl, refl) refl refl (λ item. tt)
     (λ item fault b. b) refl (omega arith) l refl d.anchor_epoch h.anchor_epoch ∷

@@ -1,5 +1,5 @@
 -- Dynamic parts are made, and none is beside an ensemble.
-use Rattle.std.proofs.Common.{◌≡◌, ◌⊎◌, ℕ, ◌≤◌, Option, Some, None, List, [], ◌∷◌, codes, IfSome, inl, inr, refl, subst, arith}
+use Rattle.std.proofs.Common.{◌≡◌, ◌⊎◌, ℕ, ◌≤◌, Option, Some, None, List, [], ◌∷◌, codes, IfSome, inl, inr, refl, arith}
 use Rattle.std.specs.Option.{option_map}
 use Rattle.crs_text.specs.Prelude.{Item, arguments, RefusedAt, at_place}
 use Rattle.crs_shape.specs.declared.class.Class.{Class}
@@ -16,9 +16,7 @@ use Rattle.crs_normal.specs.AcceptedNormal.{IsAcceptedNormal}
 use Rattle.crs_normal.specs.SpelledDynamic.{item_deformation_model, item_dynamic, norm_deformation_model, norm_dynamic}
 use Rattle.crs_normal.proofs.made.NodeLemmas.{Made, Run, as-argument, given, none-orderly}
 use Rattle.crs_normal.proofs.made.NamedLemmas.{deformation-model-made}
-use Rattle.crs_normal.proofs.made.PlaceLemmas.{ArePlaced}
 use Rattle.crs_normal.proofs.made.ArgumentLemmas.{made-of, may-of, one-number}
-use Rattle.crs_normal.proofs.texts.SegmentLemmas.{placed-none}
 
 model-argument : DecimalLaws → (level : Level) (x : Option DeformationModelParts) → IfSome x IsDeformationModel →
     class_named class.Dynamic (codes "MODEL") ≡ Some class.DeformationModel →
@@ -67,10 +65,6 @@ abbrev pub IsSteady : Class → Item → Type 0
 IsSteady c item =
     (those c class.Dynamic (arguments item) ≡ []) ⊎ ((those c class.GeodeticEnsemble (arguments item) ≡ [])
     × (those c class.VerticalEnsemble (arguments item) ≡ []))
-
--- where none is written, none is found
-pub none-shown : (items js : List Item) → js ≡ [] → ArePlaced items js → items ≡ []
-none-shown items js none h = placed-none items (subst (ArePlaced items) none h)
 
 none-unsteady : (items : List Item) (fault : RefusedAt) → items ≡ [] → ¬ (AnyOf IsUnsteady items fault)
 none-unsteady [] fault none b = b

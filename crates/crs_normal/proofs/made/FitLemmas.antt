@@ -1,5 +1,6 @@
 -- Arguments of one class, before others, fill the slots of a class.
 use Rattle.std.proofs.Common.{◌≡◌, ◌≤◌, ◌≢◌, Bool, true, false, true≢false, IsTrue, IsFalse, Option, Some, None, List, [], ◌∷◌, ◌++◌, length, if◌then◌else◌, refl, sym, ap, ◌∙◌, arith}
+use Rattle.std.specs.Option.{is_some}
 use Rattle.crs_text.specs.Prelude.{Item}
 use Rattle.crs_shape.specs.declared.class.Class.{Class}
 use Rattle.crs_shape.specs.Prelude.{AllTaken, Allowed, SlotParts, takes}
@@ -9,8 +10,9 @@ pub both : (b c : Bool) → (if b then c else false) ≡ true → (b ≡ true) �
 both true c e = (refl, e)
 both false c e = absurd (true≢false (sym e))
 
-pub no-claim : {P : Type 0} → IsTrue false → P
-no-claim h = absurd (true≢false (sym h))
+pub held : {A : Type 0} (o : Option A) → is_some o ≡ true → A
+held None e = absurd (true≢false (sym e))
+held (Some a) e = a
 
 pub given-few : {A : Type 0} (spell : A → Item) (x : Option A) → length (given spell x) ≤ 1
 given-few spell None = omega arith

@@ -23,7 +23,7 @@ use Rattle.crs_normal.proofs.made.EllipsoidLemmas.{ellipsoid-made}
 use Rattle.crs_normal.proofs.made.IdentLemmas.{ids-of, ids-orderly, ids_run}
 use Rattle.crs_normal.proofs.made.NodeLemmas.{IsOrderly, Made, as-argument}
 use Rattle.crs_normal.proofs.made.NamedLemmas.{member-made}
-use Rattle.crs_normal.proofs.made.ArgumentLemmas.{made-of, one-number, one-of, some-of, text-of}
+use Rattle.crs_normal.proofs.made.ArgumentLemmas.{made-of, one-number, some-of, text-of, node-of}
 
 -- ---- ensembles
 
@@ -67,8 +67,7 @@ geodetic-ensemble-made l level (Some x) e some f h =
     made-of level 4 class.GeodeticEnsemble (codes "ENSEMBLE") _ _ (text-of e.name h.name ∷
     some-of class.Member item_member (set_members level e.members) (members-some level e.members h.some)
     (members-made l level class.GeodeticEnsemble e.members refl h.members) ∷
-    one-of class.Ellipsoid (item_ellipsoid (norm_ellipsoid level x)) (as-argument level 4 4 class.GeodeticEnsemble
-    class.Ellipsoid (item_ellipsoid (norm_ellipsoid level x)) (omega arith) refl (ellipsoid-made l level x f)) ∷
+    node-of class.Ellipsoid (item_ellipsoid (norm_ellipsoid level x)) (omega arith) refl (ellipsoid-made l level x f) ∷
     one-number class.EnsembleAccuracy (codes "ENSEMBLEACCURACY") (refl, refl) refl refl (λ item. tt)
     (λ item fault b. b) refl (omega arith) l refl e.accuracy h.accuracy ∷
     ids-of l e.identifiers (omega arith) refl h.identifiers ∷ []) refl (refl, refl) refl refl refl

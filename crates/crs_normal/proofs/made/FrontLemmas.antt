@@ -1,5 +1,5 @@
 -- What geodetic CRSs and base CRSs have in front is made: the name, the dynamic part and the frame.
-use Rattle.std.proofs.Common.{◌≡◌, ◌≢◌, ℕ, suc, IsTrue, ◌≤◌, ◌++◌, true, Option, Some, None, List, [], ◌∷◌, codes, inl, inr, refl, Bool, false}
+use Rattle.std.proofs.Common.{◌≡◌, ◌≢◌, ℕ, suc, IsTrue, ◌++◌, true, Option, Some, None, List, [], ◌∷◌, codes, inl, inr, refl, Bool, false}
 use Rattle.crs_text.specs.Prelude.{Item, More, Siblings, IsWord, arguments, at_place, RefusedAt}
 use Rattle.crs_shape.specs.declared.class.Class.{Class}
 use Rattle.crs_shape.specs.declared.class.Class.TheVariants as class
@@ -8,7 +8,7 @@ use Rattle.crs_shape.specs.Prelude.{class_in, class_named, is_keyword, one_of, s
 use Rattle.crs_value.specs.declared.values.frame.Frame.{Frame}
 use Rattle.crs_value.specs.declared.values.frame.Frame.TheVariants as frame
 use Rattle.crs_value.specs.declared.values.level.Level.{Level}
-use Rattle.crs_value.specs.Prelude.{DynamicParts, those, IsDynamicOf, IsGeodeticFrame, MeridianParts, SystemParts, TailParts, OfCrs}
+use Rattle.crs_value.specs.Prelude.{DynamicParts, those, IsDynamicOf, MeridianParts, SystemParts, TailParts, OfCrs}
 use Rattle.crs_value.specs.Sound.{Each}
 use Rattle.crs_normal.specs.DecimalLaws.{DecimalLaws}
 use Rattle.crs_normal.specs.AcceptedNormal.{IsAcceptedNormal, geodetic_frame_class, vertical_frame_class}
@@ -18,9 +18,8 @@ use Rattle.crs_value.specs.Checks.{Own as BreaksOwn}
 use Rattle.crs_normal.specs.SpelledFrames.{item_frame, item_meridian, norm_frame, norm_meridian}
 use Rattle.crs_normal.specs.SpelledItems.{node_of}
 use Rattle.crs_normal.proofs.made.BehindLemmas.{IsFew, Shows, behind, crs_classes, system-seen, tail-seen}
-use Rattle.crs_normal.proofs.made.DynamicLemmas.{IsSteady, dynamic_classes, dynamic_run, none-shown, no-bad-dynamic}
-use Rattle.crs_normal.proofs.made.FrameLemmas.{geodetic-frame-made}
-use Rattle.crs_normal.proofs.made.NodeLemmas.{IsOrderly, Made, Run, Sees, alone, as-argument, given, is_free, items_in}
+use Rattle.crs_normal.proofs.made.DynamicLemmas.{IsSteady, dynamic_classes, dynamic_run, no-bad-dynamic}
+use Rattle.crs_normal.proofs.made.NodeLemmas.{IsOrderly, Run, Sees, alone, given, is_free, items_in, none-shown}
 use Rattle.crs_normal.proofs.made.ArgumentLemmas.{Argument, as_runs, fit, lay, made-of}
 use Rattle.crs_normal.proofs.made.PlaceLemmas.{ArePlaced}
 use Rattle.crs_normal.proofs.made.CheckLemmas.{IsSystemIn, has-axes, no-bad-systems}
@@ -34,17 +33,10 @@ pub record NamesFrame (c : Class) : Type 0 where
   pub datum : class_named c (codes "DATUM") ≡ Some class.GeodeticFrame
   pub ensemble : class_named c (codes "ENSEMBLE") ≡ Some class.GeodeticEnsemble
 
-frame-named : (level : Level) (c : Class) (f : Frame) → NamesFrame c →
+pub frame-named : (level : Level) (c : Class) (f : Frame) → NamesFrame c →
     class_in c (item_frame (codes "DATUM") (norm_frame level f)) ≡ Some (geodetic_frame_class f)
 frame-named level c (frame.Datum d) n = n.datum
 frame-named level c (frame.Ensemble e) n = n.ensemble
-
-pub frame-argument : DecimalLaws → (level : Level) (most : ℕ) (c : Class) (f : Frame) → 5 ≤ most → NamesFrame c →
-    IsGeodeticFrame f →
-    Made level most c (geodetic_frame_class f) (item_frame (codes "DATUM") (norm_frame level f))
-frame-argument l level most c f deep n h =
-    as-argument level 5 most c (geodetic_frame_class f) (item_frame (codes "DATUM") (norm_frame level f)) deep
-    (frame-named level c f n) (geodetic-frame-made l level f h)
 
 pub frame-taken : (f : Frame) →
     takes (one_of (class.GeodeticFrame ∷ class.GeodeticEnsemble ∷ [])) (geodetic_frame_class f) ≡ true

@@ -24,13 +24,14 @@ use Rattle.crs_normal.specs.SpelledItems.{text_item, word_item}
 use Rattle.crs_normal.proofs.made.BehindLemmas.{AxisEach, IsFew, NamesSystem, Shows, behind, few-system, system-seen, behind_arguments}
 use Rattle.crs_normal.proofs.made.CheckLemmas.{IsSystemSeen, IsSystemIn}
 use Rattle.crs_normal.proofs.made.DynamicLemmas.{dynamic-argument, dynamic_classes}
-use Rattle.crs_normal.proofs.made.FrontLemmas.{NamesFrame, frame-argument, frame-shows, frame-steady, frame-taken, framed_runs, geodetic_classes, meridian-there, frame-free, crs-node-made}
+use Rattle.crs_normal.proofs.made.FrameLemmas.{geodetic-frame-made}
+use Rattle.crs_normal.proofs.made.FrontLemmas.{NamesFrame, frame-shows, frame-steady, frame-taken, framed_runs, geodetic_classes, meridian-there, frame-free, crs-node-made, frame-named}
 use Rattle.crs_normal.proofs.made.NodeLemmas.{Run, Sees, given, views, free-orderly}
 use Rattle.crs_normal.proofs.made.PlaceLemmas.{ArePlaced}
 use Rattle.crs_normal.proofs.made.MeridianLemmas.{meridian-argument}
 use Rattle.crs_normal.proofs.made.TailLemmas.{NamesTail, tail_arguments, tail-orderly}
 use Rattle.crs_normal.proofs.normal.DimensionLemmas.{small-geodetic}
-use Rattle.crs_normal.proofs.made.ArgumentLemmas.{Argument, arguments-seen, may-of, one-of, text-of}
+use Rattle.crs_normal.proofs.made.ArgumentLemmas.{Argument, arguments-seen, may-of, text-of, node-of}
 
 -- ---- the class of a CRS by the type of its system
 
@@ -130,8 +131,8 @@ abbrev geodetic_arguments : DecimalLaws → (level : Level) (c : Class) (keyword
 geodetic_arguments l level c keyword g r few h =
     text-of g.name h.name ∷ may-of class.Dynamic item_dynamic (option_map (norm_dynamic level) g.dynamic)
     (dynamic-argument l level 5 c g.dynamic g.frame (omega arith) r.dynamic h.dynamic) ∷
-    one-of (geodetic_frame_class g.frame) (frame_item level g)
-    (frame-argument l level 5 c g.frame (omega arith) r.frames h.frame) ∷
+    node-of (geodetic_frame_class g.frame) (frame_item level g) (omega arith) (frame-named level c g.frame r.frames)
+    (geodetic-frame-made l level g.frame h.frame) ∷
     may-of class.PrimeMeridian item_meridian (norm_meridian level g.meridian)
     (meridian-argument l level 5 c g.meridian (omega arith) r.meridian h.meridian) ∷
     behind_arguments l level 5 c g.system (tail_arguments l level 5 c g.tail (omega arith) r.tails h.tail) (omega arith)

@@ -1,6 +1,7 @@
 -- A node of arguments that are accepted and normal is accepted and normal itself: what it asks of
 -- its arguments is said of them as runs of one class each, with all places left out.
-use Rattle.std.proofs.Common.{◌≡◌, ℕ, suc, ◌+◌, ◌≤◌, ◌⊎◌, Bool, true, false, true≢false, IsTrue, Option, Some, None, List, [], ◌∷◌, ◌++◌, map, length, if◌then◌else◌, inl, inr, refl, sym, ap, subst, ◌∙◌, arith, nat_le}
+use Rattle.std.proofs.Common.{◌≡◌, ℕ, suc, ◌+◌, ◌≤◌, ◌⊎◌, Bool, true, false, true≢false, IsTrue, Option, Some, None, List, [], ◌∷◌, ◌++◌, map, length, if◌then◌else◌, refl, sym, ap, subst, ◌∙◌, arith, nat_le}
+use Rattle.std.proofs.Math.Logic.{⊎_elim}
 use Rattle.crs_text.specs.Prelude.{Item, IsNode, Siblings, End, More, arguments, depth, depths, RefusedAt, IsWord, AreFormed, AreAllFormed, at_place, at_places, item_text}
 use Rattle.crs_shape.specs.declared.class.Class.{Class}
 use Rattle.crs_shape.specs.declared.class.Class.TheVariants as class
@@ -9,10 +10,11 @@ use Rattle.crs_value.specs.Prelude.{AtClass, Breaks, BreaksAmong, kept, kept-non
 use Rattle.crs_value.specs.Checks.{Own as BreaksOwn}
 use Rattle.crs_value.specs.declared.values.level.Level.{Level}
 use Rattle.crs_normal.specs.AcceptedNormal.{IsAcceptedNormal}
-use Rattle.crs_normal.specs.Normal.{AreNormalIn, AtLevel, IsNormalIn, left_out}
+use Rattle.crs_normal.specs.Normal.{AtLevel, IsNormalIn, left_out}
 use Rattle.crs_normal.specs.NormalOwn.{Ascend, rank, set_classes}
 use Rattle.crs_value.specs.Sound.{Each}
 use Rattle.crs_normal.specs.SpelledItems.{each, node_of, opt}
+use Rattle.crs_normal.proofs.texts.SegmentLemmas.{placed-none}
 use Rattle.crs_normal.proofs.made.PlaceLemmas.{ArePlaced, class-at, placed-ascend, those-placed}
 
 -- ---- runs: arguments of one class, in order
@@ -82,10 +84,7 @@ abbrev pub RunsMadeBy : (Class → Class → Item → Type 0) → ℕ → Class 
 RunsMadeBy N most c [] = Unit {0}
 RunsMadeBy N most c (run ∷ runs) = Each (MadeBy N most c run.of) run.items × RunsMadeBy N most c runs
 
-abbrev pub RunsMade : Level → ℕ → Class → List Run → Type 0
-RunsMade level = RunsMadeBy (IsNormalIn level)
-
-abbrev pub AreMade : (Class → Class → Item → Type 0) → ℕ → Class → List Class → Siblings → Type 0
+abbrev AreMade : (Class → Class → Item → Type 0) → ℕ → Class → List Class → Siblings → Type 0
 AreMade N most c [] End = Unit {0}
 AreMade N most c [] (More j js) = ⊥
 AreMade N most c (d ∷ ds) End = ⊥
@@ -109,7 +108,7 @@ named-run N most c e d false q (j ∷ js) rest h =
     ∙ ap (λ b. if b then j ∷ those c e (line js rest) else those c e (line js rest)) q
     ∙ named-run N most c e d false q js rest h.1
 
-pub those-lines : (N : Class → Class → Item → Type 0) (most : ℕ) (c e : Class) (runs : List Run) → RunsMadeBy N most c runs →
+those-lines : (N : Class → Class → Item → Type 0) (most : ℕ) (c e : Class) (runs : List Run) → RunsMadeBy N most c runs →
     those c e (lines runs) ≡ items_in e runs
 those-lines N most c e [] h = refl
 those-lines N most c e (run ∷ runs) h =
@@ -122,7 +121,7 @@ made-line : (N : Class → Class → Item → Type 0) (most : ℕ) (c d : Class)
 made-line N most c d [] ds rest h more = more
 made-line N most c d (j ∷ js) ds rest h more = (h.0, made-line N most c d js ds rest h.1 more)
 
-pub made-lines : (N : Class → Class → Item → Type 0) (most : ℕ) (c : Class) (runs : List Run) → RunsMadeBy N most c runs →
+made-lines : (N : Class → Class → Item → Type 0) (most : ℕ) (c : Class) (runs : List Run) → RunsMadeBy N most c runs →
     AreMade N most c (classes runs) (lines runs)
 made-lines N most c [] h = tt
 made-lines N most c (run ∷ runs) h =
@@ -136,59 +135,39 @@ at-class P o d e h = subst (λ o. AtClass o P) (sym e) h
 not-at-class : (P : Class → Type 0) (o : Option Class) (d : Class) → o ≡ Some d → ¬ (P d) → ¬ (AtClass o P)
 not-at-class P o d e h a = h (subst (λ o. AtClass o P) e a)
 
-module _ (N : Class → Class → Item → Type 0) (most : ℕ) (c : Class) where
-  pub all-formed : (s : ℕ) (ds : List Class) (js : Siblings) → AreMade N most c ds js → AreAllFormed (at_places s js)
-  all-formed s [] End h = tt
-  all-formed s [] (More j js) h = absurd h
-  all-formed s (d ∷ ds) End h = tt
-  all-formed s (d ∷ ds) (More j js) h = ((h.0.fine (s + 1)).formed, all-formed (s + 1 + length (item_text j)) ds js h.1)
+-- each of these arguments of a node of class `c` is normal there, in this sense
+abbrev pub AreNormalBy : (Class → Class → Item → Type 0) → Class → Siblings → Type 0
+AreNormalBy N c End = Unit {0}
+AreNormalBy N c (More item items) = AtClass (class_in c item) (λ d. N c d item) × AreNormalBy N c items
 
-  pub all-within : (s : ℕ) (ds : List Class) (js : Siblings) → AreMade N most c ds js → depths (at_places s js) ≤ most
-  all-within s [] End h = omega arith
-  all-within s [] (More j js) h = absurd h
-  all-within s (d ∷ ds) End h = omega arith
-  all-within s (d ∷ ds) (More j js) h =
-      let a : depth (at_place (s + 1) j) ≤ most = (h.0.fine (s + 1)).within in
-      let b : depths (at_places (s + 1 + length (item_text j)) js) ≤ most = all-within (s + 1 + length (item_text j))
-      ds js h.1 in
-      omega arith
+record AreStanding (N : Class → Class → Item → Type 0) (most : ℕ) (c : Class) (ds : List Class) (items : Siblings) : Type 0 where
+  formed : AreAllFormed items
+  within : depths items ≤ most
+  shaped : AreShaped c ds items
+  unbroken : (fault : RefusedAt) → ¬ (BreaksAmong c items fault)
+  normal : AreNormalBy N c items
 
-  pub all-shaped : (s : ℕ) (ds : List Class) (js : Siblings) → AreMade N most c ds js → AreShaped c ds (at_places s js)
-  all-shaped s [] End h = tt
-  all-shaped s [] (More j js) h = h
-  all-shaped s (d ∷ ds) End h = h
-  all-shaped s (d ∷ ds) (More j js) h = (
-    class-at c (s + 1) j ∙ h.0.named,
-    (
-      (h.0.fine (s + 1)).shaped,
-      all-shaped (s + 1 + length (item_text j))
-          ds js h.1,
-    ),
-  )
-
-  pub all-unbroken : (fault : RefusedAt) (s : ℕ) (ds : List Class) (js : Siblings) → AreMade N most c ds js →
-      ¬ (BreaksAmong c (at_places s js) fault)
-  all-unbroken fault s [] End h b = b
-  all-unbroken fault s [] (More j js) h b = absurd h
-  all-unbroken fault s (d ∷ ds) End h b = b
-  all-unbroken fault s (d ∷ ds) (More j js) h (inl b) =
-      not-at-class (λ e. Breaks e (at_place (s + 1) j) fault) (class_in c (at_place (s + 1) j)) d
-      (class-at c (s + 1) j ∙ h.0.named)
-      ((h.0.fine (s + 1)).unbroken fault) b
-  all-unbroken fault s (d ∷ ds) (More j js) h (inr b) = all-unbroken fault (s + 1 + length (item_text j)) ds js h.1 b
-
-module _ (level : Level) (most : ℕ) (c : Class) where
-  pub all-normal : (s : ℕ) (ds : List Class) (js : Siblings) → AreMade (IsNormalIn level) most c ds js →
-      AreNormalIn level c (at_places s js)
-  all-normal s [] End h = tt
-  all-normal s [] (More j js) h = absurd h
-  all-normal s (d ∷ ds) End h = tt
-  all-normal s (d ∷ ds) (More j js) h = (
-    at-class (λ e. IsNormalIn level c e (at_place (s + 1) j)) (class_in c (at_place (s + 1) j)) d
-        (class-at c (s + 1) j ∙ h.0.named)
-        (h.0.fine (s + 1)).normal,
-    all-normal (s + 1 + length (item_text j)) ds js h.1,
-  )
+all-standing : (N : Class → Class → Item → Type 0) (most : ℕ) (c : Class) (s : ℕ) (ds : List Class) (js : Siblings) →
+    AreMade N most c ds js → AreStanding N most c ds (at_places s js)
+all-standing N most c s [] End h =
+    record { formed = tt; within = omega arith; shaped = tt; unbroken = λ fault b. b; normal = tt }
+all-standing N most c s [] (More j js) h = absurd h
+all-standing N most c s (d ∷ ds) End h = absurd h
+all-standing N most c s (d ∷ ds) (More j js) h =
+    let i : Item = at_place (s + 1) j in
+    let f = h.0.fine (s + 1) in
+    let n : class_in c i ≡ Some d = class-at c (s + 1) j ∙ h.0.named in
+    let rest = all-standing N most c (s + 1 + length (item_text j)) ds js h.1 in
+    let high : depth i ≤ most = f.within in
+    let deep : depths (at_places (s + 1 + length (item_text j)) js) ≤ most = rest.within in
+    record {
+      formed = (f.formed, rest.formed);
+      within = omega arith;
+      shaped = (n, (f.shaped, rest.shaped));
+      unbroken = λ fault.
+          ⊎_elim (not-at-class (λ e. Breaks e i fault) (class_in c i) d n (f.unbroken fault)) (rest.unbroken fault);
+      normal = (at-class (λ e. N c e i) (class_in c i) d n f.normal, rest.normal);
+    }
 
 -- ---- nodes
 
@@ -204,7 +183,7 @@ rises least [] = true
 rises least (run ∷ runs) = if nat_le least (rank run.of) then rises (rank run.of) runs else false
 
 -- the level keeps all of these runs
-abbrev pub KeepsRuns : Level → List Run → Type 0
+abbrev KeepsRuns : Level → List Run → Type 0
 KeepsRuns level runs = Each (λ d. kept level (items_in d runs) ≡ items_in d runs) left_out
 
 -- the members of each set ascend, the level keeps all of these runs, and their ranks never fall
@@ -239,10 +218,9 @@ free-orderly level class.Anchor items runs e h = absurd (true≢false (sym e))
 free-orderly level class.AnchorEpoch items runs e h = absurd (true≢false (sym e))
 free-orderly level other items runs e h = h
 
-none-placed : (items js : List Item) → ArePlaced items js → js ≡ [] → items ≡ []
-none-placed [] js h none = refl
-none-placed (item ∷ items) [] h none = absurd h
-none-placed (item ∷ items) (j ∷ js) h none = absurd (cc)
+-- where none is written, none is found
+pub none-shown : (items js : List Item) → js ≡ [] → ArePlaced items js → items ≡ []
+none-shown items js none h = placed-none items (subst (ArePlaced items) none h)
 
 pub at-level : (level : Level) (c : Class) (runs : List Run) (item : Item) → Sees c runs item → KeepsRuns level runs →
     AtLevel level c item
@@ -253,7 +231,7 @@ at-level level c runs item s left =
         kept level (those c d (arguments item)) ≡ those c d (arguments item)
     one d =
         kept-where_none level (items_in d runs) (those c d (arguments item))
-        (none-placed (those c d (arguments item)) (items_in d runs) (s.view d))
+        (λ none. none-shown (those c d (arguments item)) (items_in d runs) none (s.view d))
 
 pub sees-by : (N : Class → Class → Item → Type 0) (most : ℕ) (c : Class) (keyword : List ℕ) (first : Item) (others : Siblings) (runs : List Run)
     (p : ℕ) →
@@ -267,12 +245,6 @@ sees-by N most c keyword first others runs p same made = record {
       (More first others));
 }
 
-pub sees : (level : Level) (most : ℕ) (c : Class) (keyword : List ℕ) (first : Item) (others : Siblings) (runs : List Run)
-    (p : ℕ) →
-    More first others ≡ lines runs → RunsMade level most c runs →
-    Sees c runs (at_place p (node_of keyword first others))
-sees level = sees-by (IsNormalIn level)
-
 pub each-set : (c : Class) (runs : List Run) (item : Item) (es : List Class) → Sees c runs item →
     Each (λ d. Ascend (items_in d runs)) es →
     Each (λ d. Ascend (those c d (arguments item))) es
@@ -280,47 +252,36 @@ each-set c runs item [] s h = tt
 each-set c runs item (e ∷ es) s h =
     (placed-ascend (those c e (arguments item)) (items_in e runs) (s.view e) h.0, each-set c runs item es s h.1)
 
-pub unbroken-node : (c : Class) (fault : RefusedAt) (d : Class) (j : Item) {O M : Type 0} →
-    ((fault : RefusedAt) → ¬ (Breaks d j fault)) → class_in c j ≡ Some d → ¬ M → ¬ O →
-    ¬ (O ⊎ (AtClass (class_in c j) (λ e. Breaks e j fault) ⊎ M))
-unbroken-node c fault d j u n m o (inl b) = o b
-unbroken-node c fault d j u n m o (inr (inl b)) = not-at-class (λ e. Breaks e j fault) (class_in c j) d n (u fault) b
-unbroken-node c fault d j u n m o (inr (inr b)) = m b
-
--- the item is accepted as one of its class
-pub record Stands (c : Class) (most : ℕ) (item : Item) : Type 0 where
+-- the item is accepted as one of its class, and its arguments are normal in this sense
+pub record Stands (N : Class → Class → Item → Type 0) (c : Class) (most : ℕ) (item : Item) : Type 0 where
   pub is_node : IsNode item
   pub formed : AreFormed item
   pub within : depth item ≤ most
   pub shaped : Shaped c item
   pub unbroken : (fault : RefusedAt) → ¬ (Breaks c item fault)
+  pub normal : AreNormalBy N c (arguments item)
 
 module _ (N : Class → Class → Item → Type 0) (most : ℕ) (c : Class) (keyword : List ℕ) (first : Item) (others : Siblings) (runs : List Run) (same : More first others ≡ lines runs) (letters : IsWord keyword) (known : IsTrue (is_keyword c keyword)) (made : RunsMadeBy N most c runs) (allowed : Allowed (slots_of c) (classes runs)) (unbroken : (item : Item) (fault : RefusedAt) → Sees c runs item → ¬ (BreaksOwn c item fault)) where
   stands-at : (ds : List Class) (p : ℕ) → ds ≡ classes runs → AreMade N most c ds (More first others) →
-      Stands c (suc most) (at_place p (node_of keyword first others))
+      Stands N c (suc most) (at_place p (node_of keyword first others))
   stands-at [] p q h = absurd h
   stands-at (d ∷ ds) p q h =
-      let f = h.0.fine (p + length keyword + 1) in
-      let s : ℕ = p + length keyword + 1 + length (item_text first) in
-      let i : Item = at_place p (node_of keyword first others) in
-      let n : class_in c (at_place (p + length keyword + 1) first) ≡ Some d =
-      class-at c (p + length keyword + 1) first ∙ h.0.named in
-      let deep : depths (at_places s others) ≤ most = all-within N most c s ds others h.1 in
-      let high : depth (at_place (p + length keyword + 1) first) ≤ most = f.within in
+      let a = all-standing N most c (p + length keyword) (d ∷ ds) (More first others) h in
+      let deep : depths (at_places (p + length keyword) (More first others)) ≤ most = a.within in
+      let look = sees-by N most c keyword first others runs p same made in
       record {
         is_node = tt;
-        formed = (letters, f.formed, all-formed N most c s ds others h.1);
+        formed = (letters, a.formed.0, a.formed.1);
         within = omega arith;
         shaped = (
           known,
-          (d, (ds, (n, (f.shaped, (all-shaped N most c s ds others h.1, subst (Allowed (slots_of c)) (sym q) allowed))))),
+          (d, (ds, (a.shaped.0, (a.shaped.1.0, (a.shaped.1.1, subst (Allowed (slots_of c)) (sym q) allowed))))),
         );
-        unbroken = λ fault b. unbroken-node c fault d (at_place (p + length keyword + 1) first) f.unbroken n
-            (all-unbroken N most c fault s ds others h.1)
-            (unbroken i fault (sees-by N most c keyword first others runs p same made)) b;
+        unbroken = λ fault. ⊎_elim (unbroken (at_place p (node_of keyword first others)) fault look) (a.unbroken fault);
+        normal = a.normal;
       }
 
-  pub node-stands : (p : ℕ) → Stands c (suc most) (at_place p (node_of keyword first others))
+  pub node-stands : (p : ℕ) → Stands N c (suc most) (at_place p (node_of keyword first others))
   node-stands p =
       stands-at (classes runs) p refl (subst (AreMade N most c (classes runs)) (sym same) (made-lines N most c runs made))
 

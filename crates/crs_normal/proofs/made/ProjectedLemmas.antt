@@ -19,15 +19,17 @@ use Rattle.crs_normal.specs.SpelledUnits.{item_unit, norm_units}
 use Rattle.crs_normal.proofs.made.BehindLemmas.{AxisEach, IsFew, behind, crs_classes, system-seen, few-system, behind_arguments, projected-names}
 use Rattle.crs_normal.proofs.made.CheckLemmas.{IsSystemIn}
 use Rattle.crs_normal.proofs.made.ConversionLemmas.{conversion-made}
-use Rattle.crs_normal.proofs.made.DynamicLemmas.{IsSteady, dynamic-argument, dynamic_classes, no-bad-dynamic, none-shown}
+use Rattle.crs_normal.proofs.made.DynamicLemmas.{IsSteady, dynamic-argument, dynamic_classes, no-bad-dynamic}
 use Rattle.crs_normal.proofs.made.EllipsoidLemmas.{given-unit}
-use Rattle.crs_normal.proofs.made.FrontLemmas.{frame-argument, frame-shows, frame-steady, frame-taken, framed_runs, geodetic_classes, meridian-there, frame-free, crs-node-made}
+use Rattle.crs_normal.proofs.made.FrameLemmas.{geodetic-frame-made}
+use Rattle.crs_normal.proofs.made.FrontLemmas.{frame-shows, frame-steady, frame-taken, framed_runs, geodetic_classes, meridian-there, frame-free, crs-node-made, frame-named}
 use Rattle.crs_normal.proofs.made.IdentLemmas.{ids_run, ids-of, ids-orderly}
-use Rattle.crs_normal.proofs.made.NodeLemmas.{Run, Sees, alone, as-argument, given, views, Made, free-orderly}
+use Rattle.crs_normal.proofs.made.NodeLemmas.{Run, Sees, alone, given, views, free-orderly, none-shown}
 use Rattle.crs_normal.proofs.made.MeridianLemmas.{meridian-argument}
 use Rattle.crs_normal.proofs.made.TailLemmas.{tail_arguments, tail-orderly}
 use Rattle.crs_normal.proofs.normal.DimensionLemmas.{small-projected}
-use Rattle.crs_normal.proofs.made.ArgumentLemmas.{Argument, arguments-seen, made-of, may-of, one-of, text-of}
+use Rattle.crs_normal.proofs.read.NameLemmas.{keyword-names}
+use Rattle.crs_normal.proofs.made.ArgumentLemmas.{Argument, arguments-seen, made-of, may-of, text-of, node-of}
 
 -- ---- base CRSs
 
@@ -57,8 +59,9 @@ base-made l level b h =
     made-of level 5 class.BaseCrs (codes "BASEGEOGCRS") _ _ (text-of b.name h.name ∷
     may-of class.Dynamic item_dynamic (option_map (norm_dynamic level) b.dynamic)
     (dynamic-argument l level 5 class.BaseCrs b.dynamic b.frame (omega arith) refl h.dynamic) ∷
-    one-of (geodetic_frame_class b.frame) (base_frame level b) (frame-argument l level 5 class.BaseCrs b.frame
-    (omega arith) (record { datum = refl; ensemble = refl }) h.frame) ∷
+    node-of (geodetic_frame_class b.frame) (base_frame level b) (omega arith)
+    (frame-named level class.BaseCrs b.frame (record { datum = refl; ensemble = refl }))
+    (geodetic-frame-made l level b.frame h.frame) ∷
     may-of class.PrimeMeridian item_meridian (norm_meridian level b.meridian)
     (meridian-argument l level 5 class.BaseCrs b.meridian (omega arith) refl h.meridian) ∷
     may-of class.AngleUnit item_unit (norm_units level kinds.Angle b.unit)
@@ -82,25 +85,13 @@ projected_runs level g =
 projected-few : DecimalLaws → AxisEach → (g : ProjectedParts) → IsProjected g → IsFew g.system
 projected-few l each_at g h = few-system l each_at (dimensions_of class.ProjectedCrs) small-projected g.system h.system h.dimension
 
-projected-base : DecimalLaws → (level : Level) (g : ProjectedParts) → IsProjected g →
-    Made level 6 class.ProjectedCrs class.BaseCrs (item_base (norm_base level g.base))
-unfolding class_named is_keyword
-projected-base l level g h =
-    as-argument level 6 6 class.ProjectedCrs class.BaseCrs (item_base (norm_base level g.base)) (omega arith) refl
-    (base-made l level g.base h.base)
-
-projected-conversion : DecimalLaws → (level : Level) (g : ProjectedParts) → IsProjected g →
-    Made level 6 class.ProjectedCrs class.Conversion (item_conversion (norm_conversion level g.conversion))
-unfolding class_named is_keyword
-projected-conversion l level g h =
-    as-argument level 5 6 class.ProjectedCrs class.Conversion (item_conversion (norm_conversion level g.conversion))
-    (omega arith) refl (conversion-made l level g.conversion h.conversion)
-
 abbrev projected_arguments : DecimalLaws → (level : Level) (g : ProjectedParts) → IsFew g.system → IsProjected g →
     List (Argument level 6 class.ProjectedCrs)
 projected_arguments l level g few h =
-    text-of g.name h.name ∷ one-of class.BaseCrs (item_base (norm_base level g.base)) (projected-base l level g h) ∷
-    one-of class.Conversion (item_conversion (norm_conversion level g.conversion)) (projected-conversion l level g h) ∷
+    text-of g.name h.name ∷ node-of class.BaseCrs (item_base (norm_base level g.base)) (omega arith)
+    (keyword-names class.ProjectedCrs (codes "BASEGEOGCRS")) (base-made l level g.base h.base) ∷
+    node-of class.Conversion (item_conversion (norm_conversion level g.conversion)) (omega arith)
+    (keyword-names class.ProjectedCrs (codes "CONVERSION")) (conversion-made l level g.conversion h.conversion) ∷
     behind_arguments l level 6 class.ProjectedCrs g.system
     (tail_arguments l level 6 class.ProjectedCrs g.tail (omega arith) projected-names.tails h.tail) (omega arith)
     projected-names.systems few

@@ -4,10 +4,9 @@ use Rattle.crs_text.specs.Prelude.{Item, Siblings, End, More, arguments, at_plac
 use Rattle.crs_shape.specs.declared.class.Class.{Class}
 use Rattle.crs_shape.specs.Prelude.{class_in}
 use Rattle.crs_value.specs.Prelude.{AtClass}
-use Rattle.crs_value.specs.declared.values.level.Level.{Level}
 use Rattle.crs_value.specs.Sound.{Each}
 use Rattle.crs_normal.specs.NormalOwn.{Rise, rank}
-use Rattle.crs_normal.proofs.made.NodeLemmas.{Made, Run, RunsMade, Sees, at-class, line, lines, rises}
+use Rattle.crs_normal.proofs.made.NodeLemmas.{MadeBy, Run, RunsMadeBy, Sees, at-class, line, lines, rises}
 use Rattle.crs_normal.proofs.made.PlaceLemmas.{class-at}
 use Rattle.crs_normal.proofs.made.FitLemmas.{both}
 
@@ -31,28 +30,28 @@ rise-lower c m n (More item items) h r = by (class_in c item) r
     by None q = q
     by (Some d) q = let k : n ≤ rank d = q.0 in (omega arith, q.1)
 
-rise-line : (level : Level) (most : ℕ) (c d : Class) (js : List Item) (rest : Siblings) (least s : ℕ) →
-    Each (Made level most c d) js → least ≤ rank d →
+rise-line : (N : Class → Class → Item → Type 0) (most : ℕ) (c d : Class) (js : List Item) (rest : Siblings) (least s : ℕ) →
+    Each (MadeBy N most c d) js → least ≤ rank d →
     ((s : ℕ) → Rise c (rank d) (at_places s rest)) → Rise c least (at_places s (line js rest))
-rise-line level most c d [] rest least s h low more = rise-lower c least (rank d) (at_places s rest) low (more s)
-rise-line level most c d (j ∷ js) rest least s h low more =
+rise-line N most c d [] rest least s h low more = rise-lower c least (rank d) (at_places s rest) low (more s)
+rise-line N most c d (j ∷ js) rest least s h low more =
     at-class (λ e. (least ≤ rank e) × Rise c (rank e) (at_places (s + 1 + length (item_text j)) (line js rest)))
     (class_in c (at_place (s + 1) j)) d
     (class-at c (s + 1) j ∙ h.0.named) (
       low,
-      rise-line level most c d js rest (rank d) (s + 1 + length (item_text j))
+      rise-line N most c d js rest (rank d) (s + 1 + length (item_text j))
           h.1 (omega arith) more,
     )
 
-rise-lines : (level : Level) (most : ℕ) (c : Class) (runs : List Run) (least s : ℕ) → RunsMade level most c runs →
+rise-lines : (N : Class → Class → Item → Type 0) (most : ℕ) (c : Class) (runs : List Run) (least s : ℕ) → RunsMadeBy N most c runs →
     RunsRise least runs →
     Rise c least (at_places s (lines runs))
-rise-lines level most c [] least s h r = tt
-rise-lines level most c (run ∷ runs) least s h r =
-    rise-line level most c run.of run.items (lines runs) least s h.0 r.0 (λ q. rise-lines level most c runs
+rise-lines N most c [] least s h r = tt
+rise-lines N most c (run ∷ runs) least s h r =
+    rise-line N most c run.of run.items (lines runs) least s h.0 r.0 (λ q. rise-lines N most c runs
     (rank run.of) q h.1 r.1)
 
-pub has-rise : (level : Level) (most : ℕ) (c : Class) (runs : List Run) (item : Item) → Sees c runs item →
-    RunsMade level most c runs → rises 0 runs ≡ true → Rise c 0 (arguments item)
-has-rise level most c runs item s m r =
-    subst (Rise c 0) (sym s.are) (rise-lines level most c runs 0 s.start m (runs-rise 0 runs r))
+pub has-rise : (N : Class → Class → Item → Type 0) (most : ℕ) (c : Class) (runs : List Run) (item : Item) → Sees c runs item →
+    RunsMadeBy N most c runs → rises 0 runs ≡ true → Rise c 0 (arguments item)
+has-rise N most c runs item s m r =
+    subst (Rise c 0) (sym s.are) (rise-lines N most c runs 0 s.start m (runs-rise 0 runs r))

@@ -27,7 +27,7 @@ use Rattle.crs_normal.proofs.made.NodeLemmas.{Made, Run, alone, as-argument, vie
 use Rattle.crs_normal.proofs.made.NamedLemmas.{geoid-model-made}
 use Rattle.crs_normal.proofs.made.TailLemmas.{tail_runs, tail_arguments, tail-orderly}
 use Rattle.crs_normal.proofs.normal.DimensionLemmas.{small-vertical}
-use Rattle.crs_normal.proofs.made.ArgumentLemmas.{Argument, any-of, may-of, one-of, text-of}
+use Rattle.crs_normal.proofs.made.ArgumentLemmas.{Argument, any-of, may-of, text-of, node-of}
 use Rattle.crs_normal.proofs.made.FrontLemmas.{frame-shows, frame-steady, framed_runs, geodetic_classes, frame-free, crs-node-made}
 
 -- ---- the frame, of one class or the other
@@ -90,9 +90,8 @@ abbrev vertical_arguments : DecimalLaws → (level : Level) (g : VerticalParts) 
 vertical_arguments l level g few h =
     text-of g.name h.name ∷ may-of class.Dynamic item_dynamic (option_map (norm_dynamic level) g.dynamic)
     (dynamic-argument l level 5 class.VerticalCrs g.dynamic g.frame (omega arith) dynamic-named h.dynamic) ∷
-    one-of (vertical_frame_class g.frame) (frame_item level g) (as-argument level 5 5 class.VerticalCrs
-    (vertical_frame_class g.frame) (frame_item level g) (omega arith) (vertical-named level g.frame)
-    (vertical-frame-made l level g.frame h.frame)) ∷
+    node-of (vertical_frame_class g.frame) (frame_item level g) (omega arith) (vertical-named level g.frame)
+    (vertical-frame-made l level g.frame h.frame) ∷
     behind_arguments l level 5 class.VerticalCrs g.system
     (any-of class.GeoidModel item_geoid_model (set_geoid_models level g.geoid_models)
     (models-made l level g.geoid_models h.geoid_models) ∷
