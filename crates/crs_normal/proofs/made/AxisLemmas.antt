@@ -24,7 +24,7 @@ use Rattle.crs_normal.proofs.made.EllipsoidLemmas.{unit-argument}
 use Rattle.crs_normal.proofs.made.IdentLemmas.{ids-of, ids-orderly}
 use Rattle.crs_normal.proofs.made.LeafLemmas.{word-made}
 use Rattle.crs_normal.proofs.made.NodeLemmas.{Made, as-argument, given, none-orderly}
-use Rattle.crs_normal.proofs.made.PlaceLemmas.{ArePlaced}
+use Rattle.crs_normal.proofs.made.PlaceLemmas.{ArePlaced, none-of}
 use Rattle.crs_normal.proofs.made.WordLemmas.{direction-letters}
 use Rattle.crs_normal.proofs.made.ArgumentLemmas.{made-of, number-of, one-of, Argument, arguments-seen, lay, may-of, number-node-made, text-of}
 use Rattle.crs_normal.proofs.read.NameLemmas.{keyword-names}
@@ -104,10 +104,8 @@ axis_others level asked k x w =
 pub known-direction : (d : Direction) (words : List Item) (fault : RefusedAt) →
     ArePlaced words (word_item (direction_word d) ∷ []) →
     ¬ (AnyOf UnknownDirection words fault)
-known-direction d [] fault h b = h
-known-direction d (x ∷ []) fault h (inl b) = b.1 d (subst (λ i. ReadsDirection i d) (sym h.0.1) refl)
-known-direction d (x ∷ []) fault h (inr b) = b
-known-direction d (x ∷ y ∷ words) fault h b = h.1
+known-direction d words fault h =
+    none-of UnknownDirection words (word_item (direction_word d) ∷ []) fault h (λ p b. b.1 d refl, tt)
 
 order-argument : DecimalLaws → (level : Level) (k : ℕ) → 1 ≤ k → k ≤ 3 →
     Made level 4 class.Axis class.Order (number_node (codes "ORDER") (whole_value k))

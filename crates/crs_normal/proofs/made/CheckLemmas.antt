@@ -1,5 +1,6 @@
 -- A system that is made breaks no check, and its axes are normal.
 use Rattle.std.proofs.Common.{◌≡◌, ◌⊎◌, ℕ, ◌+◌, ◌<◌, ◌≤◌, ◌++◌, List, [], ◌∷◌, length, map, codes, decimal, inl, inr, refl, sym, ap, subst, ◌∙◌, arith}
+use Rattle.std.proofs.Math.Logic.{⊎_elim}
 use Rattle.std.proofs.lemmas.List.{append-nil}
 use Rattle.crs_decimal.specs.Prelude.{SameNumber, whole_number, Value, IsNormal, exact}
 use Rattle.crs_text.specs.Prelude.{Item, arguments, RefusedAt, at_place}
@@ -16,7 +17,7 @@ use Rattle.crs_normal.specs.SpelledItems.{number_item, number_node, word_item}
 use Rattle.crs_normal.specs.SpelledUnits.{item_unit, whole_value}
 use Rattle.crs_normal.proofs.made.AxisLemmas.{IsAxisItem, whole-normal}
 use Rattle.crs_normal.proofs.made.EllipsoidLemmas.{placed-some}
-use Rattle.crs_normal.proofs.made.PlaceLemmas.{ArePlaced}
+use Rattle.crs_normal.proofs.made.PlaceLemmas.{ArePlaced, none-of, same-of}
 use Rattle.crs_normal.proofs.made.SystemLemmas.{AreAxisItems, IsHeadItem}
 use Rattle.crs_normal.proofs.made.UnitLemmas.{reads-one}
 use Rattle.crs_normal.proofs.texts.WordFormLemmas.{direction-one, type-one}
@@ -111,18 +112,15 @@ none-has l k (x ∷ before) high h (inr b) = none-has l k before high h.1 b
 no-wrong-order : DecimalLaws → (n k : ℕ) (before orders : List Item) (fault : RefusedAt) → 1 ≤ k → k ≤ n → n ≤ 3 →
     Each (IsBefore k) before →
     ArePlaced orders (number_node (codes "ORDER") (whole_value k) ∷ []) → ¬ (AnyOf (IsBadOrder n before) orders fault)
-no-wrong-order l n k before [] fault low high few h p b = p
-no-wrong-order l n k before (o ∷ x ∷ orders) fault low high few h p b = p.1
-no-wrong-order l n k before (o ∷ []) fault low high few h p (inr b) = b
-no-wrong-order l n k before (o ∷ []) fault low high few h p (inl b) =
+no-wrong-order l n k before orders fault low high few h placed =
     let small : k ≤ 3 = omega arith in
-    let e : b.1.0 ≡ whole_value k = order-number l (whole_value k) b.1.0 o p.0.0 (whole-normal k low small)
-    p.0.1 b.1.1.0 in
-    by small (subst (λ v. ¬ (IsPosition n v) ⊎ OneHas v before) e b.1.1.1)
-  where
-    by : k ≤ 3 → ¬ (¬ (IsPosition n (whole_value k)) ⊎ OneHas (whole_value k) before)
-    by small (inl q) = q (k, (low, high, (refl, inl refl)))
-    by small (inr q) = none-has l k before small h q
+    none-of (IsBadOrder n before) orders (number_node (codes "ORDER") (whole_value k) ∷ []) fault placed (
+      λ p b.
+          let e : b.1.0 ≡ whole_value k = order-number l (whole_value k) b.1.0 _ p (whole-normal k low small) refl b.1.1.0 in
+          ⊎_elim (λ q. q (k, (low, high, (refl, inl refl)))) (none-has l k before small h)
+          (subst (λ v. ¬ (IsPosition n v) ⊎ OneHas v before) e b.1.1.1),
+      tt,
+    )
 
 no-bad-orders : DecimalLaws → (t : SystemType) (n k : ℕ) (before axes : List Item) (fault : RefusedAt) →
     AreAxisItems t k axes → Each (IsBefore k) before →
@@ -155,19 +153,19 @@ no-bad-order l t axes fault h few (inr b) = no-bad-orders l t (length axes) 1 []
 no-misfit : (t : SystemType) (d : Value) (k : ℕ) (cs axis : Item) (units : List Item) (fault : RefusedAt) →
     IsHeadItem t d cs → (a : IsAxisItem t k axis) →
     ArePlaced units (item_unit a.unit_in ∷ []) → ¬ (AnyOf (Misfits cs axis) units fault)
-no-misfit t d k cs axis [] fault h a p b = b
-no-misfit t d k cs axis (u ∷ v ∷ units) fault h a p b = p.1
-no-misfit t d k cs axis (u ∷ []) fault h a p (inr b) = b
-no-misfit t d k cs axis (u ∷ []) fault h a p (inl b) =
-    let asks = b.1.1.0 in
-    let e : t ≡ asks.0 = word-type t asks.0 (those class.CoordinateSystem class.Word (arguments cs))
-    h.words asks.1.1.0 in
-    let f : a.direction_in ≡ asks.1.0 = word-direction a.direction_in asks.1.0 (those class.Axis class.Word
-    (arguments axis)) a.words asks.1.1.1 in
-    let g : a.unit_in.kind ≡ b.1.0 =
-    a.kind ∙ ap (λ v. asked_kind v a.direction_in) e ∙ ap (asked_kind asks.0) f ∙ sym asks.1.1.2 in
-    b.1.1.1 (inr (subst (λ i. ReadsKind i b.1.0) (sym p.0.1) (subst (ReadsKind (at_place p.0.0 (item_unit a.unit_in)))
-    g refl)))
+no-misfit t d k cs axis units fault h a placed =
+    none-of (Misfits cs axis) units (item_unit a.unit_in ∷ []) fault placed (
+      λ p b.
+          let asks = b.1.1.0 in
+          let e : t ≡ asks.0 = word-type t asks.0 (those class.CoordinateSystem class.Word (arguments cs))
+          h.words asks.1.1.0 in
+          let f : a.direction_in ≡ asks.1.0 = word-direction a.direction_in asks.1.0 (those class.Axis class.Word
+          (arguments axis)) a.words asks.1.1.1 in
+          let g : a.unit_in.kind ≡ b.1.0 =
+          a.kind ∙ ap (λ v. asked_kind v a.direction_in) e ∙ ap (asked_kind asks.0) f ∙ sym asks.1.1.2 in
+          b.1.1.1 (inr (subst (ReadsKind (at_place p (item_unit a.unit_in))) g refl)),
+      tt,
+    )
 
 no-own-misfit : (t : SystemType) (d : Value) (k : ℕ) (cs : Item) (axes : List Item) (fault : RefusedAt) →
     IsHeadItem t d cs → AreAxisItems t k axes →
@@ -215,10 +213,8 @@ no-bad-systems l dimensions t d systems axes units fault n one s b =
 
 numbers-of : (k : ℕ) (orders : List Item) → ArePlaced orders (number_node (codes "ORDER") (whole_value k) ∷ []) →
     map (numbers_in class.Order) orders ≡ (decimal k ∷ []) ∷ []
-numbers-of k [] p = absurd p
-numbers-of k (o ∷ x ∷ orders) p = absurd p.1
-numbers-of k (o ∷ []) p =
-    ap (λ i. numbers_in class.Order i ∷ []) p.0.1
+numbers-of k orders p =
+    same-of (numbers_in class.Order) orders (number_node (codes "ORDER") (whole_value k) ∷ []) p (λ place. refl, tt)
     ∙ ap (λ raw. (raw ∷ []) ∷ []) (append-nil (decimal k))
 
 ordered : (t : SystemType) (k : ℕ) (axes : List Item) → AreAxisItems t k axes → AreOrdered k axes

@@ -23,7 +23,8 @@ use Rattle.crs_normal.proofs.made.BehindLemmas.{AxisEach, Shows, tail-seen, tail
 use Rattle.crs_normal.proofs.made.CheckLemmas.{first-number, word-type}
 use Rattle.crs_normal.proofs.made.GeodeticLemmas.{geodetic-made, geodetic-seen}
 use Rattle.crs_normal.proofs.made.NodeLemmas.{Made, Run, alone, as-argument, views, Sees, free-orderly, is_free}
-use Rattle.crs_normal.proofs.made.PlaceLemmas.{ArePlaced}
+use Rattle.crs_normal.proofs.read.ViewLemmas.{each-so}
+use Rattle.crs_normal.proofs.made.PlaceLemmas.{ArePlaced, none-of}
 use Rattle.crs_normal.proofs.made.ProjectedLemmas.{projected-made, projected-seen}
 use Rattle.crs_normal.proofs.made.SystemLemmas.{IsHeadItem}
 use Rattle.crs_normal.proofs.made.TailLemmas.{IsTailSeen, has-tail, no-repeats, tail_runs, tail_arguments, compound-names, tail-orderly}
@@ -112,12 +113,7 @@ side-shows level false j name v t item h = h
 good-parts : (c : Class) (items js : List Item) (fault : RefusedAt) → ArePlaced items js →
     Each (λ j. (p : ℕ) → ¬ (FirstIs (IsNotHorizontal c) (those c class.CoordinateSystem (arguments (at_place p j))))) js →
     ¬ (AnyOf (BadComponent c) items fault)
-good-parts c [] [] fault h f b = b
-good-parts c [] (j ∷ js) fault h f b = h
-good-parts c (x ∷ items) [] fault h f b = h
-good-parts c (x ∷ items) (j ∷ js) fault h f (inl b) =
-    f.0 h.0.0 (subst (λ i. FirstIs (IsNotHorizontal c) (those c class.CoordinateSystem (arguments i))) h.0.1 b.1)
-good-parts c (x ∷ items) (j ∷ js) fault h f (inr b) = good-parts c items js fault h.1 f.1 b
+good-parts c items js fault h f = none-of (BadComponent c) items js fault h (each-so _ _ (λ j g p b. g p b.1) js f)
 
 compound-breaks : (level : Level) (b : Bool) (j : Item) (name : List ℕ) (v : VerticalParts) (t : TailParts)
     (item : Item) (fault : RefusedAt) → IsSide level b j →

@@ -27,7 +27,7 @@ use Rattle.crs_normal.proofs.made.DynamicLemmas.{dynamic-argument, dynamic_class
 use Rattle.crs_normal.proofs.made.FrameLemmas.{geodetic-frame-made}
 use Rattle.crs_normal.proofs.made.FrontLemmas.{NamesFrame, frame-shows, frame-steady, frame-taken, framed_runs, geodetic_classes, meridian-there, frame-free, crs-node-made, frame-named}
 use Rattle.crs_normal.proofs.made.NodeLemmas.{Run, Sees, given, views, free-orderly}
-use Rattle.crs_normal.proofs.made.PlaceLemmas.{ArePlaced}
+use Rattle.crs_normal.proofs.made.PlaceLemmas.{same-of}
 use Rattle.crs_normal.proofs.made.MeridianLemmas.{meridian-argument}
 use Rattle.crs_normal.proofs.made.TailLemmas.{NamesTail, tail_arguments, tail-orderly}
 use Rattle.crs_normal.proofs.normal.DimensionLemmas.{small-geodetic}
@@ -143,13 +143,8 @@ system-words : (t : SystemType) (d : Value) (systems axes units : List Item) →
     Each (λ cs. words_in class.CoordinateSystem cs ≡ system_word t ∷ []) systems
 system-words t d systems axes units s =
     subst (λ cs. Each (λ i. words_in class.CoordinateSystem i ≡ system_word t ∷ []) cs) (sym s.systems_are)
-    (word (those class.CoordinateSystem class.Word (arguments s.head)) s.is_head.words, tt)
-  where
-    word : (words : List Item) → ArePlaced words (word_item (system_word t) ∷ []) →
-        map raw_of words ≡ system_word t ∷ []
-    word [] p = absurd p
-    word (x ∷ []) p = ap (λ i. raw_of i ∷ []) p.0.1
-    word (x ∷ y ∷ words) p = absurd p.1
+    (same-of raw_of (those class.CoordinateSystem class.Word (arguments s.head)) (word_item (system_word t) ∷ [])
+    s.is_head.words (λ p. refl, tt), tt)
 
 geodetic-shown : (level : Level) (c : Class) (g : GeodeticParts) (item : Item) → Sees c (geodetic_runs level g) item →
     Each (Shows c item (geodetic_rest level g)) geodetic_classes

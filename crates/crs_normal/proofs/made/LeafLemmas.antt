@@ -54,33 +54,18 @@ IsCodeKind number raw = IsShort raw
 IsCodeKind text raw = ¬ (IsShort raw) × IsText raw
 IsCodeKind word raw = ⊥
 
-both : (a b : Bool) → a ≡ true → b ≡ true → (a && b) ≡ true
-both true b p q = q
-both false b p q = p
-
-left : (a b : Bool) → (a && b) ≡ true → a ≡ true
-left true b h = refl
-left false b h = h
-
-right : (a b : Bool) → (a && b) ≡ true → b ≡ true
-right true b h = h
-right false b h = cc
-
 pub short-true : (raw : List ℕ) → IsShort raw → is_short raw ≡ true
-short-true raw h =
-    both (list_all is_digit raw && nat_le 1 (length raw)) (nat_le (length raw) 18)
-    (both (list_all is_digit raw) (nat_le 1 (length raw)) h.digits (le-leb 1 (length raw) h.some))
-    (le-leb (length raw) 18 h.few)
+short-true raw h = rw h.digits (rw (le-leb 1 (length raw) h.some) (rw (le-leb (length raw) 18 h.few) refl))
+
+split : (a b c : Bool) → (a && b && c) ≡ true → (a ≡ true) × ((b ≡ true) × (c ≡ true))
+split true true c h = (refl, (refl, h))
+split true false c h = cc
+split false b c h = cc
 
 pub true-short : (raw : List ℕ) → is_short raw ≡ true → IsShort raw
 true-short raw h =
-    let l = left (list_all is_digit raw && nat_le 1 (length raw)) (nat_le (length raw) 18) h in
-    record {
-      digits = left (list_all is_digit raw) (nat_le 1 (length raw)) l;
-      some = leb-true 1 (length raw) (right (list_all is_digit raw) (nat_le 1 (length raw)) l);
-      few = leb-true (length raw) 18 (right (list_all is_digit raw && nat_le 1 (length raw)) (nat_le (length raw) 18)
-          h);
-    }
+    let s = split (list_all is_digit raw) (nat_le 1 (length raw)) (nat_le (length raw) 18) h in
+    record { digits = s.0; some = leb-true 1 (length raw) s.1.0; few = leb-true (length raw) 18 s.1.1 }
 
 -- the kind that a code or version is written as
 abbrev pub code_kind : List ℕ → Kind

@@ -22,17 +22,11 @@ use Rattle.crs_normal.proofs.made.EllipsoidLemmas.{given-unit}
 use Rattle.crs_normal.proofs.members.IdentLemmas.{none-form}
 use Rattle.crs_normal.proofs.made.IdentLemmas.{ids-of, ids-orderly, ids_run}
 use Rattle.crs_normal.proofs.made.NodeLemmas.{Made, Run, Sees, alone, as-argument, given}
-use Rattle.crs_normal.proofs.made.PlaceLemmas.{ArePlaced}
+use Rattle.crs_normal.proofs.made.PlaceLemmas.{ArePlaced, same-of}
 use Rattle.crs_normal.proofs.made.ArgumentLemmas.{made-of, may-of, number-of, text-of}
 use Rattle.crs_normal.proofs.texts.SegmentLemmas.{placed-none}
 
 -- ---- the longitude 0
-
-pub placed-raw : (v : Value) (items : List Item) → ArePlaced items (number_item v ∷ []) →
-    map raw_of items ≡ plain v ∷ []
-placed-raw v [] h = absurd h
-placed-raw v (x ∷ []) h = ap (λ y. raw_of y ∷ []) h.0.1
-placed-raw v (x ∷ y ∷ items) h = absurd h.1
 
 zero-plain : plain (whole_value 0) ≡ codes "0"
 zero-plain = let d : 0 < 10 = omega arith in ap (λ ds. ds ++ []) (decimal_digit 0 d)
@@ -55,7 +49,8 @@ unit-if-any : DecimalLaws → (level : Level) (name : List ℕ) (v : Value) (uni
     HasNoUnitAtZero item
 unit-if-any l level name v unit identifiers item n none s e =
     let p : plain v ∷ [] ≡ codes "0" ∷ [] =
-    sym (placed-raw v (those class.PrimeMeridian class.Number (arguments item)) (s.view class.Number)) ∙ e in
+    sym (same-of raw_of (those class.PrimeMeridian class.Number (arguments item)) (number_item v ∷ []) (s.view class.Number)
+    (λ place. refl, tt)) ∙ e in
     let q : plain v ≡ codes "0" = cc in
     let u : unit ≡ None = none (ap is_zero (plain-zero l v n q)) in
     placed-none (those class.PrimeMeridian class.AngleUnit (arguments item))

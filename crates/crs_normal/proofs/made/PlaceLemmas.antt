@@ -1,11 +1,11 @@
 -- Items at other places: their classes, their texts and their order are the same.
-use Rattle.std.proofs.Common.{◌≡◌, ℕ, ◌+◌, Bool, true, false, List, [], ◌∷◌, ◌++◌, length, if◌then◌else◌, refl, sym, ap, ap₂, subst, ◌∙◌}
+use Rattle.std.proofs.Common.{◌≡◌, ℕ, ◌+◌, Bool, true, false, List, [], ◌∷◌, ◌++◌, length, map, if◌then◌else◌, inl, inr, refl, sym, ap, ap₂, subst, ◌∙◌}
 use Rattle.std.specs.Cmp.Lexicographic.{slice_cmp}
 use Rattle.std.specs.Ordering.{nat_cmp}
-use Rattle.crs_text.specs.Prelude.{Item, leaf, node, Siblings, End, More, at_place, at_places, item_text, others_text}
+use Rattle.crs_text.specs.Prelude.{Item, leaf, node, Siblings, End, More, at_place, at_places, item_text, others_text, RefusedAt}
 use Rattle.crs_shape.specs.declared.class.Class.{Class}
 use Rattle.crs_shape.specs.Prelude.{class_in, is_class}
-use Rattle.crs_value.specs.Prelude.{those}
+use Rattle.crs_value.specs.Prelude.{AnyOf, those}
 use Rattle.crs_normal.specs.NormalOwn.{Ascend}
 use Rattle.crs_value.specs.Sound.{Each}
 use Rattle.crs_normal.proofs.members.SetLemmas.{IsBelow}
@@ -35,6 +35,23 @@ ArePlaced [] [] = Unit {0}
 ArePlaced [] (j ∷ js) = ⊥
 ArePlaced (x ∷ xs) [] = ⊥
 ArePlaced (x ∷ xs) (j ∷ js) = ((p : ℕ) × (x ≡ at_place p j)) × ArePlaced xs js
+
+-- where none of those breaks a check, at any place, none of these does
+pub none-of : (Breaks : Item → RefusedAt → Type 0) (items js : List Item) (fault : RefusedAt) → ArePlaced items js →
+    Each (λ j. (p : ℕ) → ¬ (Breaks (at_place p j) fault)) js → ¬ (AnyOf Breaks items fault)
+none-of Breaks [] [] fault h n b = b
+none-of Breaks [] (j ∷ js) fault h n b = h
+none-of Breaks (x ∷ items) [] fault h n b = h
+none-of Breaks (x ∷ items) (j ∷ js) fault h n (inl b) = n.0 h.0.0 (subst (λ i. Breaks i fault) h.0.1 b)
+none-of Breaks (x ∷ items) (j ∷ js) fault h n (inr b) = none-of Breaks items js fault h.1 n.1 b
+
+-- what doesn't depend on places is the same of these as of those
+pub same-of : {A : Type 0} (f : Item → A) (items js : List Item) → ArePlaced items js →
+    Each (λ j. (p : ℕ) → f (at_place p j) ≡ f j) js → map f items ≡ map f js
+same-of f [] [] h s = refl
+same-of f [] (j ∷ js) h s = absurd h
+same-of f (x ∷ items) [] h s = absurd h
+same-of f (x ∷ items) (j ∷ js) h s = ap₂ (λ y ys. y ∷ ys) (ap f h.0.1 ∙ s.0 h.0.0) (same-of f items js h.1 s.1)
 
 if-placed : (b : Bool) (p : ℕ) (j : Item) (xs js : List Item) → ArePlaced xs js →
     ArePlaced (if b then at_place p j ∷ xs else xs) (if b then j ∷ js else js)

@@ -26,7 +26,7 @@ use Rattle.crs_normal.proofs.made.ArgumentLemmas.{Argument, arguments-seen, made
 use Rattle.crs_normal.proofs.made.IdentLemmas.{ids-of, ids-orderly}
 use Rattle.crs_normal.proofs.made.LeafLemmas.{word-made}
 use Rattle.crs_normal.proofs.made.NodeLemmas.{Made, as-argument}
-use Rattle.crs_normal.proofs.made.PlaceLemmas.{ArePlaced}
+use Rattle.crs_normal.proofs.made.PlaceLemmas.{ArePlaced, none-of}
 use Rattle.crs_normal.proofs.made.WordLemmas.{system-letters}
 use Rattle.crs_normal.proofs.read.NameLemmas.{keyword-names}
 
@@ -194,10 +194,8 @@ head_arguments l level s h =
 
 known-type : (t : SystemType) (words : List Item) (fault : RefusedAt) →
     ArePlaced words (word_item (system_word t) ∷ []) → ¬ (AnyOf UnknownType words fault)
-known-type t [] fault h b = h
-known-type t (x ∷ []) fault h (inl b) = b.1 t (subst (λ i. ReadsType i t) (sym h.0.1) refl)
-known-type t (x ∷ []) fault h (inr b) = b
-known-type t (x ∷ y ∷ words) fault h b = h.1
+known-type t words fault h =
+    none-of UnknownType words (word_item (system_word t) ∷ []) fault h (λ p b. b.1 t refl, tt)
 
 pub head-made : DecimalLaws → (level : Level) (s : SystemParts) → IsSystem s → (p : ℕ) →
     IsAcceptedNormal level class.CoordinateSystem 3 (at_place p (item_head (norm_system level s)))

@@ -17,7 +17,7 @@ use Rattle.crs_normal.specs.NormalOwn.{HasOwnForm}
 use Rattle.crs_normal.specs.SpelledItems.{number_item}
 use Rattle.crs_normal.specs.SpelledUnits.{item_unit, set_idents}
 use Rattle.crs_normal.proofs.made.IdentLemmas.{ids-of, ids-orderly}
-use Rattle.crs_normal.proofs.made.PlaceLemmas.{ArePlaced}
+use Rattle.crs_normal.proofs.made.PlaceLemmas.{ArePlaced, none-of}
 use Rattle.crs_normal.proofs.read.NameLemmas.{keyword-names}
 use Rattle.crs_normal.proofs.made.ArgumentLemmas.{Argument, fit, made-of, number-of, text-of}
 
@@ -33,11 +33,9 @@ reads-one l v value item p n e r =
 pub not-below : DecimalLaws → (v : Value) (items : List Item) (fault : RefusedAt) → IsNormal v → IsAboveZero v →
     ArePlaced items (number_item v ∷ []) →
     ¬ (AnyOf NotAbove items fault)
-not-below l v [] fault n a h b = b
-not-below l v (item ∷ items) fault n a h (inl b) =
-    b.1.1.1 (subst IsAboveZero (sym (reads-one l v b.1.0 item h.0.0 n h.0.1 b.1.1.0)) a)
-not-below l v (item ∷ []) fault n a h (inr b) = b
-not-below l v (item ∷ other ∷ items) fault n a h (inr b) = absurd h.1
+not-below l v items fault n a h =
+    none-of NotAbove items (number_item v ∷ []) fault h
+    (λ p b. b.1.1.1 (subst IsAboveZero (sym (reads-one l v b.1.0 _ p n refl b.1.1.0)) a), tt)
 
 -- ---- units
 
