@@ -10,7 +10,7 @@ use Rattle.crs_shape.specs.declared.system_type.SystemType.TheVariants as types
 use Rattle.crs_shape.specs.declared.unit_kind.UnitKind.{UnitKind}
 use Rattle.crs_shape.specs.declared.unit_kind.UnitKind.TheVariants as kinds
 use Rattle.crs_shape.specs.Prelude.{is_keyword, class_named, asked_kind, kind_by_direction, direction_word, unit_word}
-use Rattle.crs_value.specs.Prelude.{orders_in, units_in, UnknownDirection, AnyOf, those, ReadsDirection, IsAxis, IsAxisMeridian, IsUnitOf, AxisMeridianParts, AxisParts, SystemParts, UnitParts}
+use Rattle.crs_value.specs.Prelude.{orders_in, units_in, UnknownDirection, AnyOf, those, IsAxis, IsAxisMeridian, IsUnitOf, AxisMeridianParts, AxisParts, SystemParts, UnitParts}
 use Rattle.crs_value.specs.Checks.{Own as BreaksOwn}
 use Rattle.crs_value.specs.declared.values.level.Level.{Level}
 use Rattle.crs_value.specs.Sound.{Each}

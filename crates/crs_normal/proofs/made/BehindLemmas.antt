@@ -1,13 +1,13 @@
 -- What CRSs with a coordinate system have after their other parts is made: the system and the end.
-use Rattle.std.proofs.Common.{◌≡◌, ◌≢◌, ℕ, suc, ◌≤◌, List, [], ◌∷◌, length, map, codes, Some, refl, sym, ap, subst, ◌∙◌, arith, None}
-use Rattle.std.proofs.lemmas.List.{append-nil, length-map}
+use Rattle.std.proofs.Common.{◌≡◌, ◌≢◌, ℕ, suc, ◌≤◌, List, [], ◌∷◌, length, map, codes, Some, refl, sym, ap, subst, ◌∙◌, arith}
+use Rattle.std.proofs.lemmas.List.{append-nil, length-map, nil_from_length}
 use Rattle.crs_decimal.specs.Prelude.{SameNumber, whole_number, exact}
 use Rattle.crs_text.specs.Prelude.{Item, arguments}
 use Rattle.crs_shape.specs.declared.class.Class.{Class}
 use Rattle.crs_shape.specs.declared.class.Class.TheVariants as class
 use Rattle.crs_shape.specs.declared.system_type.SystemType.{SystemType}
 use Rattle.crs_shape.specs.Prelude.{class_named, IsOneOf}
-use Rattle.crs_value.specs.Prelude.{kept_one, those, IsSystem, AxisParts, SystemParts, TailParts}
+use Rattle.crs_value.specs.Prelude.{kept_one, those, IsSystem, SystemParts, TailParts}
 use Rattle.crs_value.specs.declared.values.level.Level.{Level}
 use Rattle.crs_value.specs.Sound.{Each}
 use Rattle.crs_normal.specs.DecimalLaws.{DecimalLaws}
@@ -17,10 +17,9 @@ use Rattle.crs_normal.proofs.made.DatumLemmas.{given-once}
 use Rattle.crs_normal.specs.SpelledItems.{text_node}
 use Rattle.crs_normal.proofs.made.NodeLemmas.{Made, Run, alone, items_in}
 use Rattle.crs_normal.proofs.made.PlaceLemmas.{ArePlaced}
-use Rattle.crs_normal.proofs.made.SystemLemmas.{HasEach, IsHeadItem, all-axes, all-count, axes-made, axes-seen, head-made, head-seen}
+use Rattle.crs_normal.proofs.made.SystemLemmas.{HasEach, IsHeadItem, all-axes, axes-made, axes-seen, head-made, head-seen, IsFew}
 use Rattle.crs_normal.proofs.made.TailLemmas.{NamesTail, IsTailSeen, tail_runs}
-use Rattle.crs_normal.proofs.made.ArgumentLemmas.{Argument, may-of, some-of, node-of}
-use Rattle.crs_normal.specs.SpelledUnits.{item_unit}
+use Rattle.crs_normal.proofs.made.ArgumentLemmas.{Argument, some-of, node-of}
 use Rattle.crs_normal.proofs.texts.SegmentLemmas.{placed-none}
 use Rattle.crs_normal.proofs.normal.DimensionLemmas.{few-axes}
 use Rattle.crs_normal.proofs.read.NameLemmas.{keyword-names}
@@ -28,12 +27,6 @@ use Rattle.crs_normal.proofs.read.NameLemmas.{keyword-names}
 -- each position of each system has an axis
 abbrev pub AxisEach : Type 0
 AxisEach = (s : SystemParts) → IsSystem s → HasEach s
-
--- a system with few axes
-pub record IsFew (s : SystemParts) : Type 0 where
-  pub system : IsSystem s
-  pub each_at : HasEach s
-  pub few : length s.axes ≤ 3
 
 pub few-system : DecimalLaws → AxisEach → (dimensions : SystemType → List ℕ) →
     ((t : SystemType) → Each (λ m. m ≤ 3) (dimensions t)) →
@@ -50,13 +43,9 @@ axis_items level s = map item_axis (axes_from level s 1 (length s.axes))
 abbrev pub axes_run : Level → SystemParts → Run
 axes_run level s = record { of = class.Axis; items = axis_items level s }
 
--- no unit is shared
-abbrev pub no_unit_run : Run
-no_unit_run = record { of = class.AxisUnit; items = [] }
-
 -- the system of a CRS and its end
 abbrev pub behind : Level → SystemParts → TailParts → List Run
-behind level s t = alone class.CoordinateSystem (item_head (norm_system level s)) ∷ axes_run level s ∷ no_unit_run ∷
+behind level s t = alone class.CoordinateSystem (item_head (norm_system level s)) ∷ axes_run level s ∷
     tail_runs level t
 
 -- a class of CRS names the nodes of its system
@@ -93,24 +82,15 @@ pub axes-argument : DecimalLaws → (level : Level) (most : ℕ) (c : Class) (s 
     NamesSystem c → IsFew s →
     Each (Made level most c class.Axis) (axis_items level s)
 axes-argument l level most c s deep n h =
-    let e : length (axes_from level s 1 (length s.axes)) ≡ length s.axes = all-count l level s h.system h.each_at
-    h.few in
+    let all = all-axes l level s h in
+    let e : length (axes_from level s 1 (length s.axes)) ≡ length s.axes = all.1 in
     let f : length s.axes ≤ 3 = h.few in
-    axes-made l level s most c 1 (axes_from level s 1 (length s.axes)) deep n.axis
-    (all-axes l level s h.system h.each_at h.few) (omega arith) (omega arith)
-
-map-some : {A B : Type 0} (f : A → B) (xs : List A) (n : ℕ) → length xs ≡ suc n → map f xs ≢ []
-map-some f [] n e q = absurd (omega arith)
-map-some f (x ∷ xs) n e q = cc
-
-some-axes : {B : Type 0} (f : AxisParts → B) (xs ys : List AxisParts) → length xs ≡ length ys → ys ≢ [] → map f xs ≢ []
-some-axes f xs [] e h = absurd (h refl)
-some-axes f xs (y ∷ ys) e h = map-some f xs (length ys) e
+    axes-made l level s most c 1 (axes_from level s 1 (length s.axes)) deep n.axis all.0 (omega arith) (omega arith)
 
 pub axes-some : DecimalLaws → (level : Level) (s : SystemParts) → IsFew s → axis_items level s ≢ []
-axes-some l level s h =
-    some-axes item_axis (axes_from level s 1 (length s.axes)) s.axes (all-count l level s h.system h.each_at h.few)
-    h.system.some
+axes-some l level s h none =
+    h.system.some (nil_from_length s.axes (sym (all-axes l level s h).1
+    ∙ sym (length-map (axes_from level s 1 (length s.axes)) item_axis) ∙ ap length none))
 
 pub three-of : (most : ℕ) → 5 ≤ most → 3 ≤ most
 three-of most deep = omega arith
@@ -121,7 +101,7 @@ behind_arguments l level most c s rest deep n h =
     node-of class.CoordinateSystem (item_head (norm_system level s)) (three-of most deep) n.head
     (head-made l level s h.system) ∷
     some-of class.Axis item_axis (axes_from level s 1 (length s.axes)) (axes-some l level s h)
-    (axes-argument l level most c s deep n h) ∷ may-of class.AxisUnit item_unit None tt ∷ rest
+    (axes-argument l level most c s deep n h) ∷ rest
 
 -- ---- what the checks see
 
@@ -165,8 +145,8 @@ system-of : DecimalLaws → (level : Level) (s : SystemParts) (systems axes unit
 system-of l level s [] axes units h p q none = absurd p
 system-of l level s (x ∷ y ∷ systems) axes units h p q none = absurd p.1
 system-of l level s (x ∷ []) axes units h p q none =
-    let e : length (axes_from level s 1 (length s.axes)) ≡ length s.axes = all-count l level s h.system h.each_at
-    h.few in
+    let all = all-axes l level s h in
+    let e : length (axes_from level s 1 (length s.axes)) ≡ length s.axes = all.1 in
     let n : length axes ≡ length s.axes =
     placed-length axes (axis_items level s) q ∙ length-map (axes_from level s 1 (length s.axes)) item_axis ∙ e in
     let f : length s.axes ≤ 3 = h.few in
@@ -174,8 +154,8 @@ system-of l level s (x ∷ []) axes units h p q none =
       head = x;
       is_head = subst (IsHeadItem s.system_type s.dimension) (sym p.0.1) (head-seen l level s h.system p.0.0);
       systems_are = refl;
-      axes_are = axes-seen l level s 1 axes (axes_from level s 1 (length s.axes)) q
-          (all-axes l level s h.system h.each_at h.few) (omega arith) (omega arith);
+      axes_are = axes-seen l level s 1 axes (axes_from level s 1 (length s.axes)) q all.0
+          (omega arith) (omega arith);
       few = omega arith;
       count = subst (λ m. SameNumber (exact s.dimension) (whole_number m)) (sym n) h.system.count;
       none_shared = none;

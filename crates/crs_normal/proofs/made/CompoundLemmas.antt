@@ -7,7 +7,7 @@ use Rattle.crs_shape.specs.declared.class.Class.TheVariants as class
 use Rattle.crs_shape.specs.declared.system_type.SystemType.{SystemType}
 use Rattle.crs_shape.specs.declared.system_type.SystemType.TheVariants as types
 use Rattle.crs_shape.specs.Prelude.{is_keyword, class_named, one_of, takes}
-use Rattle.crs_value.specs.Prelude.{BadComponent, IsNotEllipsoidal, IsNotHorizontal, IsNotPlane, AnyOf, FirstIs, OfCompound, horizontal_classes, CompoundParts, GeodeticParts, ProjectedParts, VerticalParts, those, IsText, IsCompound, IsHorizontal, IsPlane, IsGeodetic, IsProjected, IsVertical, IsTail, TailParts}
+use Rattle.crs_value.specs.Prelude.{BadComponent, IsNotEllipsoidal, IsNotHorizontal, IsNotPlane, FirstIs, OfCompound, horizontal_classes, CompoundParts, GeodeticParts, ProjectedParts, VerticalParts, those, IsText, IsCompound, IsHorizontal, IsPlane, IsGeodetic, IsProjected, IsVertical, IsTail, TailParts}
 use Rattle.crs_value.specs.Checks.{Own as BreaksOwn}
 use Rattle.crs_value.specs.declared.values.compound.Horizontal.{Horizontal}
 use Rattle.crs_value.specs.declared.values.compound.Horizontal.TheVariants as horizontal
@@ -23,8 +23,7 @@ use Rattle.crs_normal.proofs.made.BehindLemmas.{AxisEach, Shows, tail-seen, tail
 use Rattle.crs_normal.proofs.made.CheckLemmas.{first-number, word-type}
 use Rattle.crs_normal.proofs.made.GeodeticLemmas.{geodetic-made, geodetic-seen}
 use Rattle.crs_normal.proofs.made.NodeLemmas.{Made, Run, alone, as-argument, views, Sees, free-orderly, is_free}
-use Rattle.crs_normal.proofs.read.ViewLemmas.{each-so}
-use Rattle.crs_normal.proofs.made.PlaceLemmas.{ArePlaced, none-of}
+use Rattle.crs_normal.proofs.made.PlaceLemmas.{none-of}
 use Rattle.crs_normal.proofs.made.ProjectedLemmas.{projected-made, projected-seen}
 use Rattle.crs_normal.proofs.made.SystemLemmas.{IsHeadItem}
 use Rattle.crs_normal.proofs.made.TailLemmas.{IsTailSeen, has-tail, no-repeats, tail_runs, tail_arguments, compound-names, tail-orderly}
@@ -110,27 +109,22 @@ side-shows : (level : Level) (b : Bool) (j : Item) (name : List ℕ) (v : Vertic
 side-shows level true j name v t item h = h
 side-shows level false j name v t item h = h
 
-good-parts : (c : Class) (items js : List Item) (fault : RefusedAt) → ArePlaced items js →
-    Each (λ j. (p : ℕ) → ¬ (FirstIs (IsNotHorizontal c) (those c class.CoordinateSystem (arguments (at_place p j))))) js →
-    ¬ (AnyOf (BadComponent c) items fault)
-good-parts c items js fault h f = none-of (BadComponent c) items js fault h (each-so _ _ (λ j g p b. g p b.1) js f)
-
 compound-breaks : (level : Level) (b : Bool) (j : Item) (name : List ℕ) (v : VerticalParts) (t : TailParts)
     (item : Item) (fault : RefusedAt) → IsSide level b j →
     Each (Shows class.CompoundCrs item (compound_runs level b j name v t)) horizontal_classes →
     IsTailSeen class.CompoundCrs item →
     ¬ (OfCompound (arguments item) fault)
 compound-breaks level b j name v t item fault s h q (inl k) = no-repeats class.CompoundCrs item fault q k
-compound-breaks level true j name v t item fault s h q (inr (inl k)) = good-parts class.GeodeticCrs _ [] fault h.0 tt k
+compound-breaks level true j name v t item fault s h q (inr (inl k)) = none-of (BadComponent class.GeodeticCrs) _ [] fault h.0 tt k
 compound-breaks level true j name v t item fault s h q (inr (inr (inl k))) =
-    good-parts class.GeographicCrs _ (j ∷ []) fault h.1.0 (s.fine, tt) k
+    none-of (BadComponent class.GeographicCrs) _ (j ∷ []) fault h.1.0 (λ p b. s.fine p b.1, tt) k
 compound-breaks level true j name v t item fault s h q (inr (inr (inr (inl k)))) =
-    good-parts class.ProjectedCrs _ [] fault h.1.1.0 tt k
-compound-breaks level false j name v t item fault s h q (inr (inl k)) = good-parts class.GeodeticCrs _ [] fault h.0 tt k
+    none-of (BadComponent class.ProjectedCrs) _ [] fault h.1.1.0 tt k
+compound-breaks level false j name v t item fault s h q (inr (inl k)) = none-of (BadComponent class.GeodeticCrs) _ [] fault h.0 tt k
 compound-breaks level false j name v t item fault s h q (inr (inr (inl k))) =
-    good-parts class.GeographicCrs _ [] fault h.1.0 tt k
+    none-of (BadComponent class.GeographicCrs) _ [] fault h.1.0 tt k
 compound-breaks level false j name v t item fault s h q (inr (inr (inr (inl k)))) =
-    good-parts class.ProjectedCrs _ (j ∷ []) fault h.1.1.0 (s.fine, tt) k
+    none-of (BadComponent class.ProjectedCrs) _ (j ∷ []) fault h.1.1.0 (λ p b. s.fine p b.1, tt) k
 compound-breaks level b j name v t item fault s h q (inr (inr (inr (inr k)))) = k
 
 side-made : DecimalLaws → AxisEach →

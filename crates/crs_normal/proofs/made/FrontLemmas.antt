@@ -17,7 +17,8 @@ use Rattle.crs_normal.specs.Normal.{IsFirstKeyword}
 use Rattle.crs_value.specs.Checks.{Own as BreaksOwn}
 use Rattle.crs_normal.specs.SpelledFrames.{item_frame, item_meridian, norm_frame, norm_meridian}
 use Rattle.crs_normal.specs.SpelledItems.{node_of}
-use Rattle.crs_normal.proofs.made.BehindLemmas.{IsFew, Shows, behind, crs_classes, system-seen, tail-seen}
+use Rattle.crs_normal.proofs.made.SystemLemmas.{IsFew}
+use Rattle.crs_normal.proofs.made.BehindLemmas.{Shows, behind, crs_classes, system-seen, tail-seen}
 use Rattle.crs_normal.proofs.made.DynamicLemmas.{IsSteady, dynamic_classes, dynamic_run, no-bad-dynamic}
 use Rattle.crs_normal.proofs.made.NodeLemmas.{IsOrderly, Run, Sees, alone, given, is_free, items_in, none-shown}
 use Rattle.crs_normal.proofs.made.ArgumentLemmas.{Argument, as_runs, fit, lay, made-of}

@@ -1,5 +1,5 @@
 -- Geodetic and geographic CRSs are made.
-use Rattle.std.proofs.Common.{◌≡◌, ◌≢◌, ℕ, IsTrue, Some, List, [], ◌∷◌, map, codes, refl, sym, ap, subst, ◌∙◌, arith, true}
+use Rattle.std.proofs.Common.{◌≡◌, ◌≢◌, ℕ, IsTrue, Some, List, [], ◌∷◌, codes, refl, sym, subst, ◌∙◌, arith, true}
 use Rattle.std.specs.Option.{option_map}
 use Rattle.crs_decimal.specs.Prelude.{Value}
 use Rattle.crs_text.specs.Prelude.{Item, arguments, raw_of, RefusedAt, IsWord, at_place}
@@ -21,7 +21,8 @@ use Rattle.crs_normal.specs.SpelledCrs.{geodetic_keyword, item_geodetic, norm_ge
 use Rattle.crs_normal.specs.SpelledDynamic.{item_dynamic, norm_dynamic}
 use Rattle.crs_normal.specs.SpelledFrames.{item_frame, item_meridian, norm_frame, norm_meridian}
 use Rattle.crs_normal.specs.SpelledItems.{text_item, word_item}
-use Rattle.crs_normal.proofs.made.BehindLemmas.{AxisEach, IsFew, NamesSystem, Shows, behind, few-system, system-seen, behind_arguments}
+use Rattle.crs_normal.proofs.made.SystemLemmas.{IsFew}
+use Rattle.crs_normal.proofs.made.BehindLemmas.{AxisEach, NamesSystem, Shows, behind, few-system, system-seen, behind_arguments}
 use Rattle.crs_normal.proofs.made.CheckLemmas.{IsSystemSeen, IsSystemIn}
 use Rattle.crs_normal.proofs.made.DynamicLemmas.{dynamic-argument, dynamic_classes}
 use Rattle.crs_normal.proofs.made.FrameLemmas.{geodetic-frame-made}
@@ -142,9 +143,11 @@ geodetic_arguments l level c keyword g r few h =
 system-words : (t : SystemType) (d : Value) (systems axes units : List Item) → IsSystemSeen t d systems axes units →
     Each (λ cs. words_in class.CoordinateSystem cs ≡ system_word t ∷ []) systems
 system-words t d systems axes units s =
-    subst (λ cs. Each (λ i. words_in class.CoordinateSystem i ≡ system_word t ∷ []) cs) (sym s.systems_are)
-    (same-of raw_of (those class.CoordinateSystem class.Word (arguments s.head)) (word_item (system_word t) ∷ [])
-    s.is_head.words (λ p. refl, tt), tt)
+    subst (λ cs. Each (λ i. words_in class.CoordinateSystem i ≡ system_word t ∷ []) cs) (sym s.systems_are) (
+      same-of raw_of (those class.CoordinateSystem class.Word (arguments s.head)) (word_item (system_word t) ∷ [])
+          s.is_head.words (λ p. refl, tt),
+      tt,
+    )
 
 geodetic-shown : (level : Level) (c : Class) (g : GeodeticParts) (item : Item) → Sees c (geodetic_runs level g) item →
     Each (Shows c item (geodetic_rest level g)) geodetic_classes

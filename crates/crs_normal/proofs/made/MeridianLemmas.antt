@@ -1,5 +1,5 @@
 -- Prime meridians are made.
-use Rattle.std.proofs.Common.{◌≡◌, ℕ, ◌<◌, ◌≤◌, ◌++◌, Bool, true, false, Option, Some, None, List, [], ◌∷◌, map, codes, IfSome, if◌then◌else◌, refl, sym, ap, subst, ◌∙◌, arith, IsUtf8}
+use Rattle.std.proofs.Common.{◌≡◌, ℕ, ◌<◌, ◌≤◌, ◌++◌, Bool, true, false, Option, Some, None, List, [], ◌∷◌, codes, IfSome, if◌then◌else◌, refl, sym, ap, subst, ◌∙◌, arith, IsUtf8}
 use Rattle.std.proofs.lemmas.Fmt.{decimal_digit}
 use Rattle.crs_decimal.specs.Prelude.{Denotes, plain, Value, IsNormal, exact}
 use Rattle.crs_text.specs.Prelude.{Item, End, More, arguments, raw_of, at_place}

@@ -16,7 +16,8 @@ use Rattle.crs_normal.specs.SpelledDynamic.{item_dynamic, norm_dynamic}
 use Rattle.crs_normal.specs.SpelledFrames.{item_frame, item_meridian, norm_frame, norm_meridian}
 use Rattle.crs_normal.specs.SpelledItems.{text_item}
 use Rattle.crs_normal.specs.SpelledUnits.{item_unit, norm_units}
-use Rattle.crs_normal.proofs.made.BehindLemmas.{AxisEach, IsFew, behind, crs_classes, system-seen, few-system, behind_arguments, projected-names}
+use Rattle.crs_normal.proofs.made.SystemLemmas.{IsFew}
+use Rattle.crs_normal.proofs.made.BehindLemmas.{AxisEach, behind, crs_classes, system-seen, few-system, behind_arguments, projected-names}
 use Rattle.crs_normal.proofs.made.CheckLemmas.{IsSystemIn}
 use Rattle.crs_normal.proofs.made.ConversionLemmas.{conversion-made}
 use Rattle.crs_normal.proofs.made.DynamicLemmas.{IsSteady, dynamic-argument, dynamic_classes, no-bad-dynamic}

@@ -11,7 +11,7 @@ use Rattle.crs_shape.specs.declared.class.Class.TheVariants as class
 use Rattle.crs_shape.specs.declared.system_type.SystemType.{SystemType}
 use Rattle.crs_shape.specs.declared.unit_kind.UnitKind.{UnitKind}
 use Rattle.crs_shape.specs.Prelude.{is_keyword, class_named, asked_kind, system_word}
-use Rattle.crs_value.specs.Prelude.{UnknownType, AnyOf, those, ReadsType, IsAxis, IsAxisUnit, Suits, HasUnits, IsSystem, SuitsAxis, AxisParts, SystemParts, UnitParts}
+use Rattle.crs_value.specs.Prelude.{UnknownType, AnyOf, those, IsAxis, IsAxisUnit, Suits, HasUnits, IsSystem, SuitsAxis, AxisParts, SystemParts, UnitParts}
 use Rattle.crs_value.specs.Checks.{Own as BreaksOwn}
 use Rattle.crs_value.specs.declared.values.level.Level.{Level}
 use Rattle.crs_value.specs.Sound.{Each}
@@ -19,7 +19,7 @@ use Rattle.crs_matching.specs.Prelude.{HasAt, IsPositionOf, own_or}
 use Rattle.crs_normal.specs.DecimalLaws.{DecimalLaws}
 use Rattle.crs_normal.specs.AcceptedNormal.{IsAcceptedNormal}
 use Rattle.crs_normal.specs.SpelledItems.{number_item, word_item}
-use Rattle.crs_normal.specs.SpelledSystems.{axes_from, axis_at, is_at, item_axis, item_head, norm_axis, norm_system, with_axis}
+use Rattle.crs_normal.specs.SpelledSystems.{axes_from, axis_at, is_at, item_axis, item_head, norm_axis, norm_system}
 use Rattle.crs_normal.specs.SpelledUnits.{whole_value}
 use Rattle.crs_normal.proofs.made.AxisLemmas.{Fits, IsAxisItem, axis-made, axis-seen, whole-normal}
 use Rattle.crs_normal.proofs.made.ArgumentLemmas.{Argument, arguments-seen, made-of, number-of, one-of}
@@ -107,44 +107,35 @@ AreAxes level s k (a ∷ rest) = ((x : AxisParts) × (Fits s.system_type s.unit 
 abbrev pub HasEach : SystemParts → Type 0
 HasEach s = (k : ℕ) → 1 ≤ k → k ≤ length s.axes → HasAt k (λ axis. ⊤) 1 s.axes
 
-module _ (l : DecimalLaws) (level : Level) (s : SystemParts) (h : IsSystem s) (each_at : HasEach s)
-    (few : length s.axes ≤ 3) where
+-- a system with few axes
+pub record IsFew (s : SystemParts) : Type 0 where
+  pub system : IsSystem s
+  pub each_at : HasEach s
+  pub few : length s.axes ≤ 3
+
+module _ (l : DecimalLaws) (level : Level) (s : SystemParts) (h : IsFew s) where
   axis-found : (k : ℕ) → 1 ≤ k → k ≤ length s.axes →
       (x : AxisParts) × (Fits s.system_type s.unit x × (axis_at k 1 s.axes ≡ Some x))
   axis-found k low high =
-      let f = found l k 1 s.axes (whole-normal k low (omega arith)) h.axes (each_at k low high) in (
-        f.0,
-        (
-          found-of (Fits s.system_type s.unit) k 1 s.axes f.0 (fits s.system_type s.axes s.unit h.axes h.unit
-              h.units) f.1,
-          f.1,
-        ),
-      )
+      let few : length s.axes ≤ 3 = h.few in
+      let all = fits s.system_type s.axes s.unit h.system.axes h.system.unit h.system.units in
+      let f = found l k 1 s.axes (whole-normal k low (omega arith)) h.system.axes (h.each_at k low high) in
+      (f.0, (found-of (Fits s.system_type s.unit) k 1 s.axes f.0 all f.1, f.1))
 
-  axes-are : (m k : ℕ) → 1 ≤ k → k + m ≤ length s.axes + 1 → AreAxes level s k (axes_from level s k m)
-  axes-are zero k low high = tt
+  axes-are : (m k : ℕ) → 1 ≤ k → k + m ≤ length s.axes + 1 →
+      AreAxes level s k (axes_from level s k m) × (length (axes_from level s k m) ≡ m)
+  axes-are zero k low high = (tt, refl)
   axes-are (suc m) k low high =
       let f = axis-found k low (omega arith) in
       let low_next : 1 ≤ k + 1 = omega arith in
       let high_next : (k + 1) + m ≤ length s.axes + 1 = omega arith in
-      subst (λ o. AreAxes level s k (with_axis level s k o (axes_from level s (k + 1) m))) (sym f.1.1)
-      ((f.0, (f.1.0, refl)), axes-are m (k + 1) low_next high_next)
+      let rest = axes-are m (k + 1) low_next high_next in
+      rw f.1.1 (((f.0, (f.1.0, refl)), rest.0), ap suc rest.1)
 
-  axes-count : (m k : ℕ) → 1 ≤ k → k + m ≤ length s.axes + 1 → length (axes_from level s k m) ≡ m
-  axes-count zero k low high = refl
-  axes-count (suc m) k low high =
-      let f = axis-found k low (omega arith) in
-      let low_next : 1 ≤ k + 1 = omega arith in
-      let high_next : (k + 1) + m ≤ length s.axes + 1 = omega arith in
-      subst (λ o. length (with_axis level s k o (axes_from level s (k + 1) m)) ≡ suc m) (sym f.1.1)
-      (ap suc (axes-count m (k + 1) low_next high_next))
-
-  -- all of them
+  -- all of them, as many as there are positions
   pub all-axes : AreAxes level s 1 (axes_from level s 1 (length s.axes))
+      × (length (axes_from level s 1 (length s.axes)) ≡ length s.axes)
   all-axes = axes-are (length s.axes) 1 (omega arith) (omega arith)
-
-  pub all-count : length (axes_from level s 1 (length s.axes)) ≡ length s.axes
-  all-count = axes-count (length s.axes) 1 (omega arith) (omega arith)
 
 pub axes-made : DecimalLaws → (level : Level) (s : SystemParts) (most : ℕ) (parent : Class) (k : ℕ)
     (rest : List AxisParts) → 5 ≤ most →

@@ -20,7 +20,8 @@ use Rattle.crs_normal.specs.SpelledFrames.{item_frame, norm_frame}
 use Rattle.crs_normal.specs.SpelledItems.{text_item}
 use Rattle.crs_normal.specs.SpelledSystems.{item_head, norm_system}
 use Rattle.crs_normal.proofs.made.AscendLemmas.{set-ascends, set-each}
-use Rattle.crs_normal.proofs.made.BehindLemmas.{AxisEach, IsFew, axes_run, few-system, no_unit_run, behind_arguments, vertical-names}
+use Rattle.crs_normal.proofs.made.SystemLemmas.{IsFew}
+use Rattle.crs_normal.proofs.made.BehindLemmas.{AxisEach, axes_run, few-system, behind_arguments, vertical-names}
 use Rattle.crs_normal.proofs.made.DynamicLemmas.{dynamic-argument, dynamic_classes}
 use Rattle.crs_normal.proofs.made.FrameLemmas.{vertical-frame-made}
 use Rattle.crs_normal.proofs.made.NodeLemmas.{Made, Run, alone, as-argument, views, IsOrderly, free-orderly}
@@ -71,7 +72,7 @@ models_run level g = record {
 -- what a vertical CRS has after its frame
 abbrev vertical_rest : Level → VerticalParts → List Run
 vertical_rest level g =
-    alone class.CoordinateSystem (item_head (norm_system level g.system)) ∷ axes_run level g.system ∷ no_unit_run ∷
+    alone class.CoordinateSystem (item_head (norm_system level g.system)) ∷ axes_run level g.system ∷
     models_run level g ∷ tail_runs level g.tail
 
 abbrev frame_item : Level → VerticalParts → Item
