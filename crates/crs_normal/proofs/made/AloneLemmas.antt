@@ -1,12 +1,12 @@
 -- An axis by itself is accepted, and normal but for a unit that is `UNIT`.
-use Rattle.std.proofs.Common.{◌≢◌, ℕ, ◌≤◌, Option, Some, None, List, [], ◌∷◌, codes, IfSome, map, inl, inr, refl, arith}
-use Rattle.crs_decimal.specs.Prelude.{Value, IsNormal}
+use Rattle.std.proofs.Common.{◌≢◌, ℕ, ◌≤◌, Option, Some, None, List, [], ◌∷◌, codes, IfSome, inl, inr, refl, arith}
+use Rattle.crs_decimal.specs.Prelude.{IsNormal}
 use Rattle.crs_text.specs.Prelude.{Item, Siblings, End, More, arguments, depth, at_place}
 use Rattle.crs_shape.specs.declared.class.Class.{Class}
 use Rattle.crs_shape.specs.declared.class.Class.TheVariants as class
 use Rattle.crs_shape.specs.declared.unit_kind.UnitKind.{UnitKind}
 use Rattle.crs_shape.specs.declared.unit_kind.UnitKind.TheVariants as kinds
-use Rattle.crs_shape.specs.Prelude.{is_keyword, class_named, slots_of, direction_word}
+use Rattle.crs_shape.specs.Prelude.{is_keyword, slots_of, direction_word}
 use Rattle.crs_value.specs.Prelude.{those, IsAxis, IsAxisUnit, IsUnit, AxisParts, UnitParts}
 use Rattle.crs_value.specs.Checks.{Own as BreaksOwn}
 use Rattle.crs_value.specs.declared.values.level.Level.{Level}
@@ -16,18 +16,18 @@ use Rattle.crs_normal.specs.AxisAlone.{AreNormalArguments, IsNormalArgument, IsN
 use Rattle.crs_normal.specs.DecimalLaws.{DecimalLaws}
 use Rattle.crs_normal.specs.Normal.{IsNormalIn}
 use Rattle.crs_normal.specs.PartTexts.{norm_axis_alone}
-use Rattle.crs_normal.specs.SpelledItems.{each, number_node, opt, text_item, word_item}
+use Rattle.crs_normal.specs.SpelledItems.{number_node, word_item}
 use Rattle.crs_normal.specs.SpelledSystems.{item_axis, item_axis_meridian, norm_axis_meridians}
-use Rattle.crs_normal.specs.SpelledUnits.{item_ident, item_unit, norm_units, set_idents}
-use Rattle.crs_normal.proofs.made.AxisLemmas.{axis-meridians-made, known-direction, order-made}
-use Rattle.crs_normal.proofs.made.IdentLemmas.{identifiers-made, ids-orderly}
-use Rattle.crs_normal.proofs.made.LeafLemmas.{text-made, word-made}
+use Rattle.crs_normal.specs.SpelledUnits.{item_unit, norm_units}
+use Rattle.crs_normal.proofs.made.AxisLemmas.{axis-meridians-made, known-direction, order-argument}
+use Rattle.crs_normal.proofs.made.IdentLemmas.{ids-orderly, ids-of}
+use Rattle.crs_normal.proofs.made.LeafLemmas.{word-made}
 use Rattle.crs_normal.proofs.made.NodeLemmas.{Stands, node-stands, Made, MadeBy, as-argument, given, AreNormalBy}
 use Rattle.crs_normal.proofs.made.UnitLemmas.{unit-arguments, unit-made, unit-unbroken, unit_as}
 use Rattle.crs_normal.proofs.made.WordLemmas.{direction-letters}
 use Rattle.crs_normal.proofs.parts.PartLemmas.{IsStanding}
 use Rattle.crs_normal.proofs.read.NameLemmas.{keyword-names}
-use Rattle.crs_normal.proofs.made.ArgumentLemmas.{ArgumentBy, any-of, as_runs, fits, laid, may-of, one-of, runs-made, node-made}
+use Rattle.crs_normal.proofs.made.ArgumentLemmas.{ArgumentBy, as_runs, fits, laid, may-of, one-of, runs-made, node-made, Argument, given-made, text-of}
 
 -- ---- the arguments of an axis by itself
 
@@ -51,6 +51,17 @@ each-alone : (level : Level) (most : ℕ) (d : Class) (js : List Item) → Each 
     Each (MadeBy (AsArgument level) most class.Axis d) js
 each-alone level most d [] m = tt
 each-alone level most d (j ∷ js) m = (made-alone level most d j m.0, each-alone level most d js m.1)
+
+abbrev as-alone : {level : Level} {most : ℕ} → Argument level most class.Axis → ArgumentBy (AsArgument level) most class.Axis
+as-alone {level = level} {most = most} a = record {
+  of = a.of;
+  items = a.items;
+  onto = a.onto;
+  lined = a.lined;
+  made = each-alone level most a.of a.items a.made;
+  some = a.some;
+  few = a.few;
+}
 
 all-normal-alone : (level : Level) (items : Siblings) → AreNormalBy (AsArgument level) class.Axis items →
     AreNormalArguments level items
@@ -102,48 +113,24 @@ units-alone : DecimalLaws → (level : Level) (o : Option UnitParts) → IfSome 
 units-alone l level None h = tt
 units-alone l level (Some u) h = (unit-alone l level u h.0 u.kind h.1, tt)
 
-orders-alone : DecimalLaws → (level : Level) (o : Option Value) → IfSome o IsNormal →
-    Each (Made level 4 class.Axis class.Order) (given (number_node (codes "ORDER")) o)
-unfolding class_named is_keyword
-orders-alone l level None h = tt
-orders-alone l level (Some v) h = (
-  as-argument level 1 4 class.Axis class.Order (number_node (codes "ORDER") v) (omega arith) refl
-      (order-made l level v h),
-  tt,
-)
-
 -- ---- the axis
 
 module _ (l : DecimalLaws) (level : Level) (x : AxisParts) (h : IsAxis x) where
-  alone-ids : Each (Made level 4 class.Axis class.Identifier) (map item_ident (set_idents level x.identifiers))
-  alone-ids = identifiers-made l level 4 class.Axis x.identifiers (omega arith) (keyword-names class.Axis (codes "ID"))
-      h.identifiers
-
   abbrev alone_arguments : List (ArgumentBy (AsArgument level) 4 class.Axis)
   alone_arguments =
-      one-of class.Text (text_item x.name) (made-alone level 4 class.Text (text_item x.name)
-      (text-made level 4 class.Axis x.name h.name)) ∷
-      one-of class.Word (word_item (direction_word x.direction)) (made-alone level 4 class.Word
-      (word_item (direction_word x.direction)) (word-made level 4 class.Axis (direction_word x.direction)
-      (direction-letters x.direction) (x.direction, refl))) ∷
-      may-of class.AxisMeridian item_axis_meridian (norm_axis_meridians level x.meridian)
-      (each-alone level 4 class.AxisMeridian _ (axis-meridians-made l level x.meridian h.meridian)) ∷
-      may-of class.Order (number_node (codes "ORDER")) x.order
-      (each-alone level 4 class.Order _ (orders-alone l level x.order h.order)) ∷
+      as-alone (text-of x.name h.name) ∷ as-alone (one-of class.Word (word_item (direction_word x.direction)) (word-made
+      level 4 class.Axis (direction_word x.direction) (direction-letters x.direction) (x.direction, refl))) ∷
+      as-alone (may-of class.AxisMeridian item_axis_meridian (norm_axis_meridians level x.meridian)
+      (axis-meridians-made l level x.meridian h.meridian)) ∷
+      as-alone (may-of class.Order (number_node (codes "ORDER")) x.order (given-made level 4 class.Axis class.Order IsNormal
+      (number_node (codes "ORDER")) x.order h.order (order-argument l level))) ∷
       may-of class.AxisUnit item_unit (norm_units level kinds.Plain x.unit) (units-alone l level x.unit h.unit) ∷
-      any-of class.Identifier item_ident (set_idents level x.identifiers)
-      (each-alone level 4 class.Identifier _ alone-ids) ∷ []
-
-  abbrev alone_others : Siblings
-  alone_others =
-      More (word_item (direction_word x.direction)) (opt item_axis_meridian (norm_axis_meridians level x.meridian)
-      (opt (number_node (codes "ORDER")) x.order (opt item_unit (norm_units level kinds.Plain x.unit)
-      (each item_ident (set_idents level x.identifiers) End))))
+      as-alone (ids-of l x.identifiers (omega arith) (keyword-names class.Axis (codes "ID")) h.identifiers) ∷ []
 
   pub axis-stands : IsStanding class.Axis (IsNormalAxis level) (at_place 0 (item_axis (norm_axis_alone level x)))
   unfolding is_keyword BreaksOwn
   axis-stands =
-      let m = node-made level 4 class.Axis (codes "AXIS") (text_item x.name) alone_others alone_arguments refl (refl, refl)
+      let m = node-made level 4 class.Axis (codes "AXIS") _ _ alone_arguments refl (refl, refl)
       refl refl refl (ids-orderly level x.identifiers) (λ item s r. tt)
       (λ item fault s. known-direction x.direction (those class.Axis class.Word (arguments item)) fault (s.view class.Word))
       (AreNormalArguments level) (all-normal-alone level) 0 in

@@ -1,7 +1,7 @@
 -- Axes at their positions are made.
-use Rattle.std.proofs.Common.{◌≡◌, ℕ, zero, suc, ◌≤◌, Option, Some, None, List, [], ◌∷◌, codes, IfSome, inl, inr, refl, sym, ap, subst, arith}
+use Rattle.std.proofs.Common.{◌≡◌, ℕ, zero, suc, ◌≤◌, Option, Some, None, List, [], ◌∷◌, codes, IfSome, inl, inr, refl, sym, subst, arith, ap}
 use Rattle.crs_decimal.specs.Prelude.{Value, IsNormal}
-use Rattle.crs_text.specs.Prelude.{Item, Siblings, End, More, arguments, RefusedAt, at_place}
+use Rattle.crs_text.specs.Prelude.{Item, arguments, RefusedAt, at_place, Siblings, More, End}
 use Rattle.crs_shape.specs.declared.class.Class.TheVariants as class
 use Rattle.crs_shape.specs.declared.direction.Direction.{Direction}
 use Rattle.crs_shape.specs.declared.direction.Direction.TheVariants as direction
@@ -17,16 +17,16 @@ use Rattle.crs_value.specs.Sound.{Each}
 use Rattle.crs_matching.specs.Prelude.{own_or}
 use Rattle.crs_normal.specs.DecimalLaws.{DecimalLaws}
 use Rattle.crs_normal.specs.AcceptedNormal.{IsKindIn, IsAcceptedNormal}
-use Rattle.crs_normal.specs.SpelledItems.{each, number_node, opt, text_item, word_item}
+use Rattle.crs_normal.specs.SpelledItems.{number_node, word_item, each, opt, text_item}
 use Rattle.crs_normal.specs.SpelledSystems.{item_axis, item_axis_meridian, norm_axis, norm_axis_meridian, norm_axis_meridians}
-use Rattle.crs_normal.specs.SpelledUnits.{item_ident, item_unit, norm_unit, norm_units, set_idents, whole_value}
+use Rattle.crs_normal.specs.SpelledUnits.{item_unit, norm_unit, whole_value, item_ident, norm_units, set_idents}
 use Rattle.crs_normal.proofs.made.EllipsoidLemmas.{unit-argument}
 use Rattle.crs_normal.proofs.made.IdentLemmas.{ids-of, ids-orderly}
 use Rattle.crs_normal.proofs.made.LeafLemmas.{word-made}
 use Rattle.crs_normal.proofs.made.NodeLemmas.{Made, as-argument, given, none-orderly}
 use Rattle.crs_normal.proofs.made.PlaceLemmas.{ArePlaced, none-of}
 use Rattle.crs_normal.proofs.made.WordLemmas.{direction-letters}
-use Rattle.crs_normal.proofs.made.ArgumentLemmas.{made-of, number-of, one-of, Argument, arguments-seen, lay, may-of, number-node-made, text-of}
+use Rattle.crs_normal.proofs.made.ArgumentLemmas.{made-of, number-of, one-of, Argument, arguments-seen, may-of, text-of, a-number, lay}
 use Rattle.crs_normal.proofs.read.NameLemmas.{keyword-names}
 use Rattle.crs_normal.proofs.same.UnitLemmas.{suits-kind}
 
@@ -38,12 +38,6 @@ whole-normal (suc zero) h m = refl
 whole-normal (suc (suc zero)) h m = refl
 whole-normal (suc (suc (suc zero))) h m = refl
 whole-normal (suc (suc (suc (suc k)))) h m = absurd (omega arith)
-
-pub order-made : DecimalLaws → (level : Level) (v : Value) → IsNormal v → (p : ℕ) →
-    IsAcceptedNormal level class.Order 1 (at_place p (number_node (codes "ORDER") v))
-unfolding is_keyword BreaksOwn
-order-made l level v =
-    number-node-made level class.Order (codes "ORDER") (refl, refl) refl refl (λ item. tt) (λ item fault b. b) l v refl
 
 -- ---- the meridian of an axis
 
@@ -98,7 +92,7 @@ pub record Fits (system_type : SystemType) (shared : Option UnitParts) (x : Axis
 abbrev axis_others : Level → UnitKind → ℕ → AxisParts → Option UnitParts → Siblings
 axis_others level asked k x w =
     More (word_item (direction_word x.direction)) (opt item_axis_meridian (norm_axis_meridians level x.meridian)
-    (opt (number_node (codes "ORDER")) (Some (whole_value k)) (opt item_unit (norm_units level asked w)
+    (More (number_node (codes "ORDER") (whole_value k)) (opt item_unit (norm_units level asked w)
     (each item_ident (set_idents level x.identifiers) End))))
 
 pub known-direction : (d : Direction) (words : List Item) (fault : RefusedAt) →
@@ -107,11 +101,11 @@ pub known-direction : (d : Direction) (words : List Item) (fault : RefusedAt) �
 known-direction d words fault h =
     none-of UnknownDirection words (word_item (direction_word d) ∷ []) fault h (λ p b. b.1 d refl, tt)
 
-order-argument : DecimalLaws → (level : Level) (k : ℕ) → 1 ≤ k → k ≤ 3 →
-    Made level 4 class.Axis class.Order (number_node (codes "ORDER") (whole_value k))
-order-argument l level k low high =
-    as-argument level 1 4 class.Axis class.Order (number_node (codes "ORDER") (whole_value k)) (omega arith)
-    (keyword-names class.Axis (codes "ORDER")) (order-made l level (whole_value k) (whole-normal k low high))
+pub order-argument : DecimalLaws → (level : Level) (v : Value) → IsNormal v →
+    Made level 4 class.Axis class.Order (number_node (codes "ORDER") v)
+unfolding BreaksOwn class_named is_keyword
+order-argument l level v h =
+    a-number class.Order (codes "ORDER") (refl, refl) refl refl (λ item. tt) (λ item fault b. b) refl (omega arith) l refl v h
 
 module _ (l : DecimalLaws) (level : Level) (t : SystemType) (shared : Option UnitParts) (k : ℕ) (x : AxisParts) (f : Fits t shared x) (low : 1 ≤ k) (high : k ≤ 3) where
   abbrev kind-asked : UnitKind
@@ -123,7 +117,7 @@ module _ (l : DecimalLaws) (level : Level) (t : SystemType) (shared : Option Uni
       class.Axis (direction_word x.direction) (direction-letters x.direction) (x.direction, refl)) ∷
       may-of class.AxisMeridian item_axis_meridian (norm_axis_meridians level x.meridian)
       (axis-meridians-made l level x.meridian f.axis.meridian) ∷
-      one-of class.Order (number_node (codes "ORDER") (whole_value k)) (order-argument l level k low high) ∷
+      one-of class.Order (number_node (codes "ORDER") (whole_value k)) (order-argument l level (whole_value k) (whole-normal k low high)) ∷
       one-of class.AxisUnit (item_unit (norm_unit level kind-asked f.unit)) (unit-argument l level 4 class.Axis
       class.AxisUnit kind-asked f.unit (omega arith) (axis-names kind-asked (asked-in t x.direction))
       (asked-in t x.direction) (suits-kind kind-asked f.unit.kind f.suits.1) f.suits.0) ∷
@@ -138,10 +132,8 @@ pub axis-made : DecimalLaws → (level : Level) (s : SystemParts) (k : ℕ) (x :
 unfolding BreaksOwn is_keyword norm_axis
 axis-made l level s k x f low high =
     made-of level 4 class.Axis (codes "AXIS") _ _ (axis_arguments l level s.system_type s.unit k x f low high)
-    (axis-laid l level s.system_type s.unit k x f low high) (refl, refl) refl refl refl
-    (ids-orderly level x.identifiers)
-    (λ item v r. tt) (λ item fault v b. known-direction x.direction (those class.Axis class.Word (arguments item)) fault
-    (v.view class.Word) b)
+    (axis-laid l level s.system_type s.unit k x f low high) (refl, refl) refl refl refl (ids-orderly level x.identifiers) (λ item v r. tt)
+    (λ item fault v. known-direction x.direction (those class.Axis class.Word (arguments item)) fault (v.view class.Word))
 
 -- what is in an axis at a position, as the checks of a system see it
 pub record IsAxisItem (t : SystemType) (k : ℕ) (item : Item) : Type 0 where

@@ -1,5 +1,6 @@
 -- Compound CRSs are made, and with them all CRSs.
-use Rattle.std.proofs.Common.{◌≡◌, ◌⊎◌, ℕ, Bool, true, false, Some, List, [], ◌∷◌, codes, inl, inr, refl, sym, subst, ◌∙◌, arith, drop}
+use Rattle.std.proofs.Math.Logic.{⊎_elim}
+use Rattle.std.proofs.Common.{◌≡◌, ◌⊎◌, ℕ, Bool, true, false, Some, List, [], ◌∷◌, codes, refl, sym, subst, ◌∙◌, arith, drop}
 use Rattle.crs_decimal.specs.Prelude.{SameNumber, whole_number, Value, IsNormal, exact}
 use Rattle.crs_text.specs.Prelude.{Item, More, arguments, RefusedAt, at_place}
 use Rattle.crs_shape.specs.declared.class.Class.{Class}
@@ -68,12 +69,10 @@ geodetic-side l each_at level g h e plane = record {
       let s = geodetic-seen l each_at level g h p in
       let are = subst (λ t. those (geodetic_class t) class.CoordinateSystem
       (arguments (at_place p (item_geodetic (norm_geodetic level g)))) ≡ s.head ∷ []) e s.systems_are in
-      by s.head s.is_head (subst (λ cs. FirstIs (IsNotHorizontal class.GeographicCrs) cs) are b);
+      ⊎_elim (is-ellipsoidal g.system.system_type g.system.dimension s.head s.is_head e)
+      (is-plane l g.system.system_type g.system.dimension s.head s.is_head h.system.dimension plane)
+      (subst (λ cs. FirstIs (IsNotHorizontal class.GeographicCrs) cs) are b);
 }
-  where
-    by : (cs : Item) → IsHeadItem g.system.system_type g.system.dimension cs → ¬ (IsNotEllipsoidal cs ⊎ IsNotPlane cs)
-    by cs q (inl b) = is-ellipsoidal g.system.system_type g.system.dimension cs q e b
-    by cs q (inr b) = is-plane l g.system.system_type g.system.dimension cs q h.system.dimension plane b
 
 projected-side : DecimalLaws → AxisEach → (level : Level) (g : ProjectedParts) → IsProjected g → IsPlane g.system →
     IsSide level false (item_projected (norm_projected level g))
@@ -114,18 +113,14 @@ compound-breaks : (level : Level) (b : Bool) (j : Item) (name : List ℕ) (v : V
     Each (Shows class.CompoundCrs item (compound_runs level b j name v t)) horizontal_classes →
     IsTailSeen class.CompoundCrs item →
     ¬ (OfCompound (arguments item) fault)
-compound-breaks level b j name v t item fault s h q (inl k) = no-repeats class.CompoundCrs item fault q k
-compound-breaks level true j name v t item fault s h q (inr (inl k)) = none-of (BadComponent class.GeodeticCrs) _ [] fault h.0 tt k
-compound-breaks level true j name v t item fault s h q (inr (inr (inl k))) =
-    none-of (BadComponent class.GeographicCrs) _ (j ∷ []) fault h.1.0 (λ p b. s.fine p b.1, tt) k
-compound-breaks level true j name v t item fault s h q (inr (inr (inr (inl k)))) =
-    none-of (BadComponent class.ProjectedCrs) _ [] fault h.1.1.0 tt k
-compound-breaks level false j name v t item fault s h q (inr (inl k)) = none-of (BadComponent class.GeodeticCrs) _ [] fault h.0 tt k
-compound-breaks level false j name v t item fault s h q (inr (inr (inl k))) =
-    none-of (BadComponent class.GeographicCrs) _ [] fault h.1.0 tt k
-compound-breaks level false j name v t item fault s h q (inr (inr (inr (inl k)))) =
-    none-of (BadComponent class.ProjectedCrs) _ (j ∷ []) fault h.1.1.0 (λ p b. s.fine p b.1, tt) k
-compound-breaks level b j name v t item fault s h q (inr (inr (inr (inr k)))) = k
+compound-breaks level true j name v t item fault s h q =
+    ⊎_elim (no-repeats class.CompoundCrs item fault q) (⊎_elim (none-of (BadComponent class.GeodeticCrs) _ [] fault h.0 tt)
+    (⊎_elim (none-of (BadComponent class.GeographicCrs) _ (j ∷ []) fault h.1.0 (λ p b. s.fine p b.1, tt))
+    (⊎_elim (none-of (BadComponent class.ProjectedCrs) _ [] fault h.1.1.0 tt) (λ k. k))))
+compound-breaks level false j name v t item fault s h q =
+    ⊎_elim (no-repeats class.CompoundCrs item fault q) (⊎_elim (none-of (BadComponent class.GeodeticCrs) _ [] fault h.0 tt)
+    (⊎_elim (none-of (BadComponent class.GeographicCrs) _ [] fault h.1.0 tt)
+    (⊎_elim (none-of (BadComponent class.ProjectedCrs) _ (j ∷ []) fault h.1.1.0 (λ p b. s.fine p b.1, tt)) (λ k. k))))
 
 side-made : DecimalLaws → AxisEach →
     (level : Level) (b : Bool) (j : Item) (name : List ℕ) (v : VerticalParts) (t : TailParts) → IsSide level b j →

@@ -1,4 +1,5 @@
 -- What geodetic CRSs and base CRSs have in front is made: the name, the dynamic part and the frame.
+use Rattle.std.proofs.Math.Logic.{⊎_elim}
 use Rattle.std.proofs.Common.{◌≡◌, ◌≢◌, ℕ, suc, IsTrue, ◌++◌, true, Option, Some, None, List, [], ◌∷◌, codes, inl, inr, refl, Bool, false}
 use Rattle.crs_text.specs.Prelude.{Item, More, Siblings, IsWord, arguments, at_place, RefusedAt}
 use Rattle.crs_shape.specs.declared.class.Class.{Class}
@@ -24,8 +25,7 @@ use Rattle.crs_normal.proofs.made.NodeLemmas.{IsOrderly, Run, Sees, alone, given
 use Rattle.crs_normal.proofs.made.ArgumentLemmas.{Argument, as_runs, fit, lay, made-of}
 use Rattle.crs_normal.proofs.made.PlaceLemmas.{ArePlaced}
 use Rattle.crs_normal.proofs.made.CheckLemmas.{IsSystemIn, has-axes, no-bad-systems}
-use Rattle.crs_normal.proofs.made.TailLemmas.{IsTailSeen, has-tail, no-repeats}
-use Rattle.crs_decimal.specs.Prelude.{IsNormal}
+use Rattle.crs_normal.proofs.made.TailLemmas.{has-tail, no-repeats}
 
 -- ---- the frame as an argument, of one class or the other
 
@@ -105,15 +105,6 @@ meridian-there level (Some m) (x ∷ items) h e = cc
 
 -- ---- CRSs
 
-module _ (l : DecimalLaws) (dimensions : SystemType → List ℕ) (c : Class) (s : SystemParts) (item : Item) (fault : RefusedAt) where
-  crs-breaks : IsNormal s.dimension → IsOneOf s.dimension (dimensions s.system_type) → IsTailSeen c item →
-      IsSystemIn s c item → IsSteady c item → ¬ (OfCrs dimensions c item fault)
-  crs-breaks n one t q y (inl b) = no-repeats c item fault t b
-  crs-breaks n one t q y (inr (inl b)) =
-      no-bad-systems l dimensions s.system_type s.dimension (those c class.CoordinateSystem (arguments item))
-      (those c class.Axis (arguments item)) (those c class.AxisUnit (arguments item)) fault n one q b
-  crs-breaks n one t q y (inr (inr b)) = no-bad-dynamic c item fault y b
-
 -- a CRS with this system and this end is made
 pub crs-node-made : (l : DecimalLaws) (level : Level) (most : ℕ) (c : Class) (keyword : List ℕ) (first : Item)
     (others : Siblings) (all : List (Argument level most c)) → More first others ≡ lay all → IsWord keyword →
@@ -133,5 +124,6 @@ crs-node-made l level most c keyword first others all same letters known written
     own item look seen (has-axes c item s seen) (has-tail c item r (tail-seen level c item t v.1.1.1)))
     (λ item fault look b.
     let v = shown item look in
-    crs-breaks l dimensions c s item fault few.system.dimension one (tail-seen level c item t v.0.1.1.1)
-    (system-seen l level c item s t few v.0) v.1 (breaks item fault b))
+    ⊎_elim (no-repeats c item fault (tail-seen level c item t v.0.1.1.1))
+    (⊎_elim (no-bad-systems l dimensions s.system_type s.dimension _ _ _ fault few.system.dimension one
+    (system-seen l level c item s t few v.0)) (no-bad-dynamic c item fault v.1)) (breaks item fault b))

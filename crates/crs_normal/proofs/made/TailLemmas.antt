@@ -1,6 +1,6 @@
 -- The ends of CRSs are made.
 use Rattle.std.proofs.Common.{◌≡◌, ℕ, ◌≤◌, ◌++◌, Option, Some, None, List, [], ◌∷◌, map, drop, codes, IfSome, refl, arith, ap}
-use Rattle.crs_text.specs.Prelude.{Item, arguments, RefusedAt, at_place, item_text}
+use Rattle.crs_text.specs.Prelude.{Item, arguments, RefusedAt, item_text}
 use Rattle.crs_shape.specs.declared.class.Class.{Class}
 use Rattle.crs_shape.specs.declared.class.Class.TheVariants as class
 use Rattle.crs_shape.specs.Prelude.{is_keyword, class_named}
@@ -11,7 +11,6 @@ use Rattle.crs_value.specs.declared.values.level.Level.TheVariants as levels
 use Rattle.crs_value.specs.Sound.{Each}
 use Rattle.crs_matching.specs.Prelude.{usages_of, with_bare}
 use Rattle.crs_normal.specs.DecimalLaws.{DecimalLaws}
-use Rattle.crs_normal.specs.AcceptedNormal.{IsAcceptedNormal}
 use Rattle.crs_normal.specs.NormalOwn.{Ascend, HasTail, Rise, Lacks, bare_classes}
 use Rattle.crs_normal.specs.Ordered.{in_order}
 use Rattle.crs_normal.specs.SpelledItems.{text_node}
@@ -55,18 +54,6 @@ usages-ascend : (level : Level) (us : List UsageParts) → Ascend (map item_usag
 unfolding set_usages
 usages-ascend level us = set-ascends item_usage (map norm_usage (kept level us))
 
--- ---- the remark
-
-remark-made : (level : Level) (raw : List ℕ) → IsText raw → (p : ℕ) →
-    IsAcceptedNormal level class.Remark 1 (at_place p (text_node (codes "REMARK") raw))
-unfolding is_keyword BreaksOwn
-remark-made level raw =
-    text-node-made level class.Remark (codes "REMARK") (refl, refl) refl refl (λ item. tt) (λ item fault b. b) raw refl
-
-remark-text : (level : Level) (remark : Option (List ℕ)) → IfSome remark IsText →
-    IfSome (kept_one level remark) IsText
-remark-text level remark h = kept-if_some (λ l. IsText) level remark h
-
 -- ---- the end of a CRS
 
 abbrev pub remark_items : Level → TailParts → List Item
@@ -95,12 +82,13 @@ two-of most deep = omega arith
 
 pub remarks-made : (level : Level) (most : ℕ) (c : Class) (t : TailParts) → 5 ≤ most → NamesTail c → IsTail t →
     Each (Made level most c class.Remark) (remark_items level t)
+unfolding is_keyword BreaksOwn
 remarks-made level most c t deep n h =
     let one : 1 ≤ most = omega arith in
     given-made level most c class.Remark IsText (text_node (codes "REMARK")) (kept_one level t.remark)
-    (remark-text level t.remark h.remark)
+    (kept-if_some (λ l. IsText) level t.remark h.remark)
     (λ raw q. as-argument level 1 most c class.Remark (text_node (codes "REMARK") raw) one n.remark
-    (remark-made level raw q))
+    (text-node-made level class.Remark (codes "REMARK") (refl, refl) refl refl (λ item. tt) (λ item fault b. b) raw refl q))
 
 abbrev pub tail_arguments : DecimalLaws → (level : Level) (most : ℕ) (c : Class) (t : TailParts) → 5 ≤ most →
     NamesTail c → IsTail t → List (Argument level most c)
