@@ -1,8 +1,8 @@
 -- A node is made of arguments that say how many they are: whether they fit its slots is computed.
 use Rattle.std.proofs.Common.{◌≡◌, ◌≢◌, ◌∙◌, ℕ, suc, ◌≤◌, Bool, true, false, true≢false, IsTrue, IfSome, Option, Some, None, List, [], ◌∷◌, map, length, if◌then◌else◌, refl, sym, ap, subst, arith}
-use Rattle.std.specs.Option.{is_some}
+use Rattle.std.specs.Option.{is_some, option_map}
 use Rattle.crs_decimal.specs.Prelude.{Value, IsNormal}
-use Rattle.crs_text.specs.Prelude.{Item, Siblings, End, More, arguments, RefusedAt, IsWord, at_place}
+use Rattle.crs_text.specs.Prelude.{Item, Siblings, End, More, arguments, RefusedAt, IsWord, at_place, item_text}
 use Rattle.crs_shape.specs.declared.class.Class.{Class}
 use Rattle.crs_shape.specs.declared.class.Class.TheVariants as class
 use Rattle.crs_shape.specs.Prelude.{is_keyword, Allowed, SlotParts, class_in, class_named, one, slots_of, takes}
@@ -15,6 +15,8 @@ use Rattle.crs_normal.specs.DecimalLaws.{DecimalLaws}
 use Rattle.crs_normal.specs.Normal.{IsFirstKeyword, IsNormalIn, AreNormalIn, IsNormalNode}
 use Rattle.crs_normal.specs.NormalOwn.{HasOwnForm, Rise, set_classes}
 use Rattle.crs_normal.specs.SpelledItems.{each, node_of, number_item, number_node, opt, text_item, text_node}
+use Rattle.crs_normal.specs.Ordered.{in_order}
+use Rattle.crs_normal.proofs.made.AscendLemmas.{set-each, set-some}
 use Rattle.crs_normal.proofs.made.FitLemmas.{both, given-few, held, more-fit, none-fit, slot-fits}
 use Rattle.crs_normal.proofs.made.RiseLemmas.{has-rise}
 use Rattle.crs_normal.proofs.made.LeafLemmas.{number-made, text-made}
@@ -82,11 +84,42 @@ module _ {N : Class → Class → Item → Type 0} {most : ℕ} {parent : Class}
         ArgumentBy N most parent
     some-of xs some = each-of xs (Some some)
 
+-- an argument that may be missing is made where the one that is given is
+pub given-made : {A : Type 0} (level : Level) (most : ℕ) (parent c : Class) (P : A → Type 0) (spell : A →
+    Item) (x : Option A) → IfSome x P →
+    ((a : A) → P a → Made level most parent c (spell a)) → Each (Made level most parent c) (given spell x)
+given-made level most parent c P spell None h f = tt
+given-made level most parent c P spell (Some a) h f = (f a h, tt)
+
+pub given-norm : {V A : Type 0} (level : Level) (most : ℕ) (parent c : Class) (P : V → Type 0) (norm : V → A)
+    (spell : A → Item) (x : Option V) → IfSome x P → ((v : V) → P v → Made level most parent c (spell (norm v))) →
+    Each (Made level most parent c) (given spell (option_map norm x))
+given-norm level most parent c P norm spell None h f = tt
+given-norm level most parent c P norm spell (Some v) h f = (f v h, tt)
+
 module _ {level : Level} {most : ℕ} {parent : Class} where
   -- a node that is made as an argument
   abbrev pub node-of : {n : ℕ} (of : Class) (j : Item) → n ≤ most → class_in parent j ≡ Some of →
       ((p : ℕ) → IsAcceptedNormal level of n (at_place p j)) → Argument level most parent
   node-of {n = n} of j deep named made = one-of of j (as-argument level n most parent of j deep named made)
+
+  -- nodes that may be missing, and the members of a set, in normal form
+  module _ {n : ℕ} {V A : Type 0} {P : V → Type 0} (of : Class) (norm : V → A) (spell : A → Item) where
+    abbrev pub may-node : (x : Option V) → n ≤ most → ((v : V) → class_in parent (spell (norm v)) ≡ Some of) →
+        IfSome x P → ((v : V) → P v → (p : ℕ) → IsAcceptedNormal level of n (at_place p (spell (norm v)))) →
+        Argument level most parent
+    may-node x deep named h made =
+        may-of of spell (option_map norm x)
+        (given-norm level most parent of P norm spell x h
+        (λ v q. as-argument level n most parent of (spell (norm v)) deep (named v) (made v q)))
+
+    abbrev pub set-of : (xs : List V) → Option (xs ≢ []) → n ≤ most →
+        ((v : V) → class_in parent (spell (norm v)) ≡ Some of) → Each P xs →
+        ((v : V) → P v → (p : ℕ) → IsAcceptedNormal level of n (at_place p (spell (norm v)))) → Argument level most parent
+    set-of xs some deep named h made =
+        each-of of spell (in_order (λ a. item_text (spell a)) (map norm xs)) (option_map (set-some norm spell xs) some)
+        (set-each norm spell P (Made level most parent of) xs h
+        (λ v q. as-argument level n most parent of (spell (norm v)) deep (named v) (made v q)))
 
   abbrev pub text-of : (raw : List ℕ) → IsText raw → Argument level most parent
   text-of raw h = one-of class.Text (text_item raw) (text-made level most parent raw h)
@@ -212,14 +245,7 @@ made-of level most c keyword first others all same letters known written fitting
       normal = λ parent. m.1;
     }
 
--- ---- arguments that may be missing, and nodes of one text or number
-
--- an argument that may be missing is made where the one that is given is
-pub given-made : {A : Type 0} (level : Level) (most : ℕ) (parent c : Class) (P : A → Type 0) (spell : A →
-    Item) (x : Option A) → IfSome x P →
-    ((a : A) → P a → Made level most parent c (spell a)) → Each (Made level most parent c) (given spell x)
-given-made level most parent c P spell None h f = tt
-given-made level most parent c P spell (Some a) h f = (f a h, tt)
+-- ---- nodes of one text or number
 
 module _ (level : Level) (of : Class) (keyword : List ℕ) (letters : IsWord keyword) (known : IsTrue (is_keyword of keyword)) (written : IsFirstKeyword of keyword) (own : (item : Item) → HasOwnForm of item) (unbroken : (item : Item) (fault : RefusedAt) → ¬ (BreaksOwn of item fault)) where
   single-made : (d : Class) (first : Item) → Made level 0 of d first → slots_of of ≡ one d ∷ [] → takes (one d) d ≡ true →

@@ -1,5 +1,5 @@
 -- Parameters and conversions are made.
-use Rattle.std.proofs.Common.{◌≡◌, ℕ, ◌++◌, true, Option, Some, None, List, [], ◌∷◌, map, codes, IfSome, refl, arith}
+use Rattle.std.proofs.Common.{◌≡◌, ℕ, true, Option, Some, None, List, [], ◌∷◌, map, codes, IfSome, refl, arith}
 use Rattle.crs_text.specs.Prelude.{at_place}
 use Rattle.crs_shape.specs.declared.class.Class.{Class}
 use Rattle.crs_shape.specs.declared.class.Class.TheVariants as class
@@ -14,16 +14,15 @@ use Rattle.crs_matching.specs.Prelude.{kind_as}
 use Rattle.crs_normal.specs.PartSpellings.{unit_class}
 use Rattle.crs_normal.specs.DecimalLaws.{DecimalLaws}
 use Rattle.crs_normal.specs.AcceptedNormal.{IsKindIn, IsAcceptedNormal}
-use Rattle.crs_normal.specs.NormalOwn.{Ascend}
 use Rattle.crs_normal.specs.SpelledConversions.{item_conversion, item_method, item_parameter, norm_conversion, norm_method, norm_parameter, set_parameters}
 use Rattle.crs_normal.specs.SpelledUnits.{item_unit, norm_unit, norm_units}
-use Rattle.crs_normal.proofs.made.AscendLemmas.{set-ascends, set-each}
+use Rattle.crs_normal.proofs.made.AscendLemmas.{set-ascends}
 use Rattle.crs_normal.proofs.made.IdentLemmas.{ids-of, ids-orderly, ids_run}
 use Rattle.crs_normal.proofs.made.NodeLemmas.{Made, as-argument, free-orderly, given, is_free}
 use Rattle.crs_normal.proofs.made.NamedLemmas.{method-made}
 use Rattle.crs_normal.proofs.made.UnitLemmas.{unit-made}
 use Rattle.crs_normal.proofs.members.ParameterLemmas.{named-as}
-use Rattle.crs_normal.proofs.made.ArgumentLemmas.{any-of, made-of, text-of, may-of, number-of, node-of}
+use Rattle.crs_normal.proofs.made.ArgumentLemmas.{made-of, text-of, may-of, number-of, node-of, set-of}
 
 -- ---- parameters: the class of the unit is that of its keyword
 
@@ -77,28 +76,15 @@ parameter-made l level m h =
 
 -- ---- conversions
 
-parameters-made : DecimalLaws → (level : Level) (ps : List ParameterParts) → Each IsParameter ps →
-    Each (Made level 4 class.Conversion class.Parameter) (map item_parameter (set_parameters level ps))
-unfolding set_parameters class_named is_keyword
-parameters-made l level ps h =
-    set-each (norm_parameter level) item_parameter IsParameter (Made level 4 class.Conversion class.Parameter) ps h
-    (λ m q. as-argument level 4 4 class.Conversion class.Parameter (item_parameter (norm_parameter level m))
-    (omega arith) refl (parameter-made l level m q))
-
-parameters-ascend : (level : Level) (ps : List ParameterParts) →
-    Ascend (map item_parameter (set_parameters level ps) ++ [])
-unfolding set_parameters
-parameters-ascend level ps = set-ascends item_parameter (map (norm_parameter level) ps)
-
 pub conversion-made : DecimalLaws → (level : Level) (m : ConversionParts) → IsConversion m → (p : ℕ) →
     IsAcceptedNormal level class.Conversion 5 (at_place p (item_conversion (norm_conversion level m)))
-unfolding BreaksOwn class_named is_keyword
+unfolding BreaksOwn class_named is_keyword set_parameters
 conversion-made l level m h =
     made-of level 4 class.Conversion (codes "CONVERSION") _ _ (text-of m.name h.name ∷
     node-of class.Method (item_method (norm_method level m.method)) (omega arith) refl
     (method-made l level m.method h.method) ∷
-    any-of class.Parameter item_parameter (set_parameters level m.parameters)
-    (parameters-made l level m.parameters h.parameters) ∷
+    set-of class.Parameter (norm_parameter level) item_parameter m.parameters None (omega arith) (λ q. refl) h.parameters
+    (parameter-made l level) ∷
     ids-of l m.identifiers (omega arith) refl h.identifiers ∷ []) refl (refl, refl) refl refl refl
     (let ids = ids-orderly level m.identifiers in
-    ((ids.0.0, (tt, (tt, (parameters-ascend level m.parameters, (tt, tt))))), ids.1)) (λ item s r. tt) (λ item fault s b. b)
+    ((ids.0.0, (tt, (tt, (set-ascends item_parameter (map (norm_parameter level) m.parameters), (tt, tt))))), ids.1)) (λ item s r. tt) (λ item fault s b. b)

@@ -1,11 +1,11 @@
 -- Dynamic parts are made, and none is beside an ensemble.
-use Rattle.std.proofs.Common.{◌≡◌, ◌⊎◌, ℕ, ◌≤◌, Option, Some, None, List, [], ◌∷◌, codes, IfSome, inl, inr, refl, arith}
+use Rattle.std.proofs.Common.{◌≡◌, ◌⊎◌, ℕ, ◌≤◌, Option, Some, None, List, [], ◌∷◌, codes, inl, inr, refl, arith}
 use Rattle.std.specs.Option.{option_map}
 use Rattle.crs_text.specs.Prelude.{Item, arguments, RefusedAt, at_place}
 use Rattle.crs_shape.specs.declared.class.Class.{Class}
 use Rattle.crs_shape.specs.declared.class.Class.TheVariants as class
 use Rattle.crs_shape.specs.Prelude.{is_keyword, class_named}
-use Rattle.crs_value.specs.Prelude.{BadDynamic, IsUnsteady, AnyOf, DeformationModelParts, DynamicParts, those, IsDeformationModel, IsDynamic, IsDynamicOf}
+use Rattle.crs_value.specs.Prelude.{BadDynamic, IsUnsteady, AnyOf, DynamicParts, those, IsDynamic, IsDynamicOf}
 use Rattle.crs_value.specs.Checks.{Own as BreaksOwn}
 use Rattle.crs_value.specs.declared.values.frame.Frame.{Frame}
 use Rattle.crs_value.specs.declared.values.frame.Frame.TheVariants as frame
@@ -16,19 +16,7 @@ use Rattle.crs_normal.specs.AcceptedNormal.{IsAcceptedNormal}
 use Rattle.crs_normal.specs.SpelledDynamic.{item_deformation_model, item_dynamic, norm_deformation_model, norm_dynamic}
 use Rattle.crs_normal.proofs.made.NodeLemmas.{Made, Run, as-argument, given, none-orderly}
 use Rattle.crs_normal.proofs.made.NamedLemmas.{deformation-model-made}
-use Rattle.crs_normal.proofs.made.ArgumentLemmas.{made-of, may-of, one-number}
-
-model-argument : DecimalLaws → (level : Level) (x : Option DeformationModelParts) → IfSome x IsDeformationModel →
-    class_named class.Dynamic (codes "MODEL") ≡ Some class.DeformationModel →
-    Each (Made level 3 class.Dynamic class.DeformationModel)
-    (given item_deformation_model (option_map (norm_deformation_model level) x))
-model-argument l level None h named = tt
-model-argument l level (Some m) h named = (
-  as-argument level 3 3 class.Dynamic class.DeformationModel
-      (item_deformation_model (norm_deformation_model level m)) (omega arith) named
-      (deformation-model-made l level m h),
-  tt,
-)
+use Rattle.crs_normal.proofs.made.ArgumentLemmas.{made-of, one-number, may-node}
 
 pub dynamic-made : DecimalLaws → (level : Level) (d : DynamicParts) → IsDynamic d → (p : ℕ) →
     IsAcceptedNormal level class.Dynamic 4 (at_place p (item_dynamic (norm_dynamic level d)))
@@ -36,8 +24,8 @@ unfolding BreaksOwn class_named is_keyword
 dynamic-made l level d h =
     made-of level 3 class.Dynamic (codes "DYNAMIC") _ _ (one-number class.FrameEpoch (codes "FRAMEEPOCH") (refl, refl)
     refl refl (λ item. tt) (λ item fault b. b) refl (omega arith) l refl d.epoch h.epoch ∷
-    may-of class.DeformationModel item_deformation_model (option_map (norm_deformation_model level) d.model)
-    (model-argument l level d.model h.model refl) ∷ []) refl (refl, refl) refl refl refl (none-orderly level) (λ item s r. tt) (λ item fault s b. b)
+    may-node class.DeformationModel (norm_deformation_model level) item_deformation_model d.model (omega arith)
+    (λ m. refl) h.model (deformation-model-made l level) ∷ []) refl (refl, refl) refl refl refl (none-orderly level) (λ item s r. tt) (λ item fault s b. b)
 
 -- ---- dynamic parts as arguments
 

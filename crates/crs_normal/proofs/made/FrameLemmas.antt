@@ -1,55 +1,36 @@
 -- Ensembles, and frames of either sort, are made.
-use Rattle.std.proofs.Common.{◌≡◌, ◌≢◌, ℕ, ◌++◌, Option, Some, None, List, [], ◌∷◌, map, codes, IfSome, IsNone, IsSome, refl, arith}
+use Rattle.std.proofs.Common.{ℕ, Option, Some, None, [], ◌∷◌, map, codes, IfSome, IsNone, IsSome, refl, arith}
 use Rattle.std.specs.Option.{option_map}
 use Rattle.crs_text.specs.Prelude.{Siblings, End, More, at_place}
-use Rattle.crs_shape.specs.declared.class.Class.{Class}
 use Rattle.crs_shape.specs.declared.class.Class.TheVariants as class
 use Rattle.crs_shape.specs.Prelude.{is_keyword, class_named}
 use Rattle.crs_value.specs.Checks.{Own as BreaksOwn}
 use Rattle.crs_value.specs.declared.values.frame.Frame.{Frame}
 use Rattle.crs_value.specs.declared.values.frame.Frame.TheVariants as frame
 use Rattle.crs_value.specs.declared.values.level.Level.{Level}
-use Rattle.crs_value.specs.Sound.{Each}
-use Rattle.crs_value.specs.Prelude.{IsEllipsoid, IsEnsemble, IsMember, IsGeodeticFrame, IsVerticalFrame, EllipsoidParts, EnsembleParts, MemberParts}
+use Rattle.crs_value.specs.Prelude.{IsEllipsoid, IsEnsemble, IsGeodeticFrame, IsVerticalFrame, EllipsoidParts, EnsembleParts}
 use Rattle.crs_normal.specs.DecimalLaws.{DecimalLaws}
 use Rattle.crs_normal.specs.AcceptedNormal.{IsAcceptedNormal, geodetic_frame_class, vertical_frame_class}
-use Rattle.crs_normal.specs.NormalOwn.{Ascend}
 use Rattle.crs_normal.specs.SpelledFrames.{item_ellipsoid, item_frame, item_member, norm_ellipsoid, norm_frame, norm_member, set_members}
 use Rattle.crs_normal.specs.SpelledItems.{each, node_of, number_node, opt, text_item}
 use Rattle.crs_normal.specs.SpelledUnits.{item_ident, set_idents}
-use Rattle.crs_normal.proofs.made.AscendLemmas.{set-ascends, set-each, set-some}
+use Rattle.crs_normal.proofs.made.AscendLemmas.{set-ascends}
 use Rattle.crs_normal.proofs.made.DatumLemmas.{geodetic-datum-made, vertical-datum-made}
 use Rattle.crs_normal.proofs.made.EllipsoidLemmas.{ellipsoid-made}
 use Rattle.crs_normal.proofs.made.IdentLemmas.{ids-of, ids-orderly, ids_run}
-use Rattle.crs_normal.proofs.made.NodeLemmas.{IsOrderly, Made, as-argument}
+use Rattle.crs_normal.proofs.made.NodeLemmas.{IsOrderly}
 use Rattle.crs_normal.proofs.made.NamedLemmas.{member-made}
-use Rattle.crs_normal.proofs.made.ArgumentLemmas.{made-of, one-number, some-of, text-of, node-of}
+use Rattle.crs_normal.proofs.made.ArgumentLemmas.{made-of, one-number, text-of, node-of, set-of}
 
 -- ---- ensembles
-
-members-made : DecimalLaws → (level : Level) (parent : Class) (ms : List MemberParts) →
-    class_named parent (codes "MEMBER") ≡ Some class.Member →
-    Each IsMember ms → Each (Made level 4 parent class.Member) (map item_member (set_members level ms))
-unfolding set_members
-members-made l level parent ms named h =
-    set-each (norm_member level) item_member IsMember (Made level 4 parent class.Member) ms h
-    (λ m q. as-argument level 3 4 parent class.Member (item_member (norm_member level m)) (omega arith) named
-    (member-made l level m q))
-
-members-ascend : (level : Level) (ms : List MemberParts) → Ascend (map item_member (set_members level ms) ++ [])
-unfolding set_members
-members-ascend level ms = set-ascends item_member (map (norm_member level) ms)
-
-members-some : (level : Level) (ms : List MemberParts) → ms ≢ [] → map item_member (set_members level ms) ≢ []
-unfolding set_members
-members-some level ms h = set-some (norm_member level) item_member ms h
 
 ensemble-orderly : (level : Level) (e : EnsembleParts) →
     IsOrderly level (record { of = class.Member; items = map item_member (set_members level e.members) } ∷
     ids_run level e.identifiers ∷ [])
+unfolding set_members
 ensemble-orderly level e =
     let ids = ids-orderly level e.identifiers in
-    ((ids.0.0, (tt, (members-ascend level e.members, (tt, (tt, tt))))), ids.1)
+    ((ids.0.0, (tt, (set-ascends item_member (map (norm_member level) e.members), (tt, (tt, tt))))), ids.1)
 
 -- the arguments after an ensemble's name
 abbrev ensemble_others : Level → Option EllipsoidParts → EnsembleParts → Siblings
@@ -61,12 +42,12 @@ geodetic-ensemble-made : DecimalLaws → (level : Level) (x : Option EllipsoidPa
     IfSome x IsEllipsoid → IsEnsemble e →
     (p : ℕ) → IsAcceptedNormal level class.GeodeticEnsemble 5 (at_place p (node_of (codes "ENSEMBLE") (text_item e.name)
     (ensemble_others level x e)))
-unfolding BreaksOwn class_named is_keyword
+unfolding BreaksOwn class_named is_keyword set_members
 geodetic-ensemble-made l level None e some f h = absurd (cc some)
 geodetic-ensemble-made l level (Some x) e some f h =
     made-of level 4 class.GeodeticEnsemble (codes "ENSEMBLE") _ _ (text-of e.name h.name ∷
-    some-of class.Member item_member (set_members level e.members) (members-some level e.members h.some)
-    (members-made l level class.GeodeticEnsemble e.members refl h.members) ∷
+    set-of class.Member (norm_member level) item_member e.members (Some h.some) (omega arith) (λ m. refl) h.members
+    (member-made l level) ∷
     node-of class.Ellipsoid (item_ellipsoid (norm_ellipsoid level x)) (omega arith) refl (ellipsoid-made l level x f) ∷
     one-number class.EnsembleAccuracy (codes "ENSEMBLEACCURACY") (refl, refl) refl refl (λ item. tt)
     (λ item fault b. b) refl (omega arith) l refl e.accuracy h.accuracy ∷
@@ -77,12 +58,12 @@ vertical-ensemble-made : DecimalLaws → (level : Level) (x : Option EllipsoidPa
     IsEnsemble e →
     (p : ℕ) → IsAcceptedNormal level class.VerticalEnsemble 5 (at_place p (node_of (codes "ENSEMBLE") (text_item e.name)
     (ensemble_others level x e)))
-unfolding BreaksOwn class_named is_keyword
+unfolding BreaksOwn class_named is_keyword set_members
 vertical-ensemble-made l level (Some x) e none h = absurd (cc none)
 vertical-ensemble-made l level None e none h =
     made-of level 4 class.VerticalEnsemble (codes "ENSEMBLE") _ _ (text-of e.name h.name ∷
-    some-of class.Member item_member (set_members level e.members) (members-some level e.members h.some)
-    (members-made l level class.VerticalEnsemble e.members refl h.members) ∷
+    set-of class.Member (norm_member level) item_member e.members (Some h.some) (omega arith) (λ m. refl) h.members
+    (member-made l level) ∷
     one-number class.EnsembleAccuracy (codes "ENSEMBLEACCURACY") (refl, refl) refl refl (λ item. tt)
     (λ item fault b. b) refl (omega arith) l refl e.accuracy h.accuracy ∷
     ids-of l e.identifiers (omega arith) refl h.identifiers ∷ []) refl (refl, refl) refl refl refl

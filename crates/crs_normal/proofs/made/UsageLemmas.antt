@@ -1,6 +1,5 @@
 -- Boxes, extents and usages are made.
-use Rattle.std.proofs.Common.{◌≡◌, ◌≢◌, ℕ, suc, Option, Some, None, List, [], ◌∷◌, codes, IfSome, refl, arith, IsTrue, true}
-use Rattle.std.specs.Option.{option_map}
+use Rattle.std.proofs.Common.{◌≡◌, ◌≢◌, ℕ, suc, Some, List, [], ◌∷◌, codes, refl, arith, IsTrue, true}
 use Rattle.crs_text.specs.Prelude.{Item, Siblings, End, More, arguments, IsNode, at_place, RefusedAt, IsWord}
 use Rattle.crs_shape.specs.declared.class.Class.{Class}
 use Rattle.crs_shape.specs.declared.class.Class.TheVariants as class
@@ -9,15 +8,14 @@ use Rattle.crs_value.specs.Checks.{Own as BreaksOwn}
 use Rattle.crs_value.specs.declared.values.level.Level.{Level}
 use Rattle.crs_value.specs.declared.values.level.Level.TheVariants as levels
 use Rattle.crs_value.specs.Prelude.{those, IsBox, IsExtent, IsUsage, BoxParts, ExtentParts, SaysSome, UsageParts}
-use Rattle.crs_value.specs.Sound.{Each}
 use Rattle.crs_normal.specs.DecimalLaws.{DecimalLaws}
 use Rattle.crs_normal.specs.AcceptedNormal.{IsAcceptedNormal}
 use Rattle.crs_normal.specs.SpelledItems.{node_from}
 use Rattle.crs_normal.specs.SpelledUnits.{item_unit, norm_length}
 use Rattle.crs_normal.specs.SpelledUsages.{item_box, item_extent, item_usage, norm_extent, norm_usage}
 use Rattle.crs_normal.proofs.made.EllipsoidLemmas.{length-argument, placed-some}
-use Rattle.crs_normal.proofs.made.NodeLemmas.{IsOrderly, Made, as-argument, given, none-orderly}
-use Rattle.crs_normal.proofs.made.ArgumentLemmas.{Argument, as_runs, fit, given-made, lay, made-of, may-of, may-text, number-of, one-of}
+use Rattle.crs_normal.proofs.made.NodeLemmas.{IsOrderly, as-argument, none-orderly}
+use Rattle.crs_normal.proofs.made.ArgumentLemmas.{Argument, as_runs, fit, given-made, lay, made-of, may-of, may-text, number-of, one-of, may-node}
 use Rattle.crs_normal.specs.Normal.{IsFirstKeyword}
 use Rattle.crs_normal.specs.NormalOwn.{HasOwnForm}
 use Rattle.crs_normal.proofs.texts.ItemLemmas.{from-named, from-some}
@@ -63,16 +61,6 @@ from-made level most c keyword (More first others) all some same letters known w
 usage-node : (u : UsageParts) → SaysSome u → IsNode (item_usage (norm_usage u))
 usage-node u s = usage-is-node (norm_usage u) (says-kept u s)
 
-extents-made : DecimalLaws → (level : Level) (x : Option ExtentParts) → IfSome x IsExtent →
-    Each (Made level 4 class.Usage class.VerticalExtent) (given item_extent (option_map (norm_extent level) x))
-unfolding class_named is_keyword
-extents-made l level None h = tt
-extents-made l level (Some e) h = (
-  as-argument level 4 4 class.Usage class.VerticalExtent (item_extent (norm_extent level e)) (omega arith) refl
-      (extent-made l level e h),
-  tt,
-)
-
 pub usage-made : DecimalLaws → (u : UsageParts) → IsUsage u → (p : ℕ) →
     IsAcceptedNormal levels.Full class.Usage 5 (at_place p (item_usage (norm_usage u)))
 unfolding BreaksOwn class_named is_keyword
@@ -83,8 +71,8 @@ usage-made l u h =
     u.area h.area ∷ may-of class.BoundingBox item_box u.bbox (given-made levels.Full 4 class.Usage class.BoundingBox
     IsBox item_box u.bbox h.bbox (λ b q. as-argument levels.Full 1 4 class.Usage class.BoundingBox (item_box b)
     (omega arith) refl (box-made l levels.Full b q))) ∷
-    may-of class.VerticalExtent item_extent (option_map (norm_extent levels.Full) u.extent)
-    (extents-made l levels.Full u.extent h.extent) ∷ []) (from-some (codes "USAGE") (usage_items (norm_usage u)) (usage-node u h.some)) refl
+    may-node class.VerticalExtent (norm_extent levels.Full) item_extent u.extent (omega arith) (λ e. refl) h.extent
+    (extent-made l levels.Full) ∷ []) (from-some (codes "USAGE") (usage_items (norm_usage u)) (usage-node u h.some)) refl
     (refl, refl) refl refl refl (none-orderly levels.Full) (λ item. tt)
     (λ item fault b. b)
 

@@ -1,34 +1,33 @@
 -- Vertical CRSs are made.
-use Rattle.std.proofs.Common.{◌≡◌, ℕ, ◌++◌, true, Some, List, [], ◌∷◌, map, codes, refl, arith, false}
+use Rattle.std.proofs.Common.{◌≡◌, ℕ, true, Some, List, [], ◌∷◌, map, codes, refl, arith, false, None}
 use Rattle.std.specs.Option.{option_map}
 use Rattle.crs_text.specs.Prelude.{Item, at_place}
 use Rattle.crs_shape.specs.declared.class.Class.TheVariants as class
 use Rattle.crs_shape.specs.Prelude.{is_keyword, class_in, class_named, one_of, takes, dimensions_of}
 use Rattle.crs_value.specs.Checks.{Own as BreaksOwn}
-use Rattle.crs_value.specs.Prelude.{GeoidModelParts, VerticalParts, IsGeoidModel, IsVertical}
+use Rattle.crs_value.specs.Prelude.{VerticalParts, IsVertical}
 use Rattle.crs_value.specs.declared.values.frame.Frame.{Frame}
 use Rattle.crs_value.specs.declared.values.frame.Frame.TheVariants as frame
 use Rattle.crs_value.specs.declared.values.level.Level.{Level}
-use Rattle.crs_value.specs.Sound.{Each}
 use Rattle.crs_normal.specs.DecimalLaws.{DecimalLaws}
 use Rattle.crs_normal.specs.AcceptedNormal.{IsAcceptedNormal, vertical_frame_class}
-use Rattle.crs_normal.specs.NormalOwn.{Ascend}
 use Rattle.crs_normal.specs.SpelledConversions.{item_geoid_model, norm_geoid_model, set_geoid_models}
 use Rattle.crs_normal.specs.SpelledCrs.{item_vertical, norm_vertical}
 use Rattle.crs_normal.specs.SpelledDynamic.{item_dynamic, norm_dynamic}
 use Rattle.crs_normal.specs.SpelledFrames.{item_frame, norm_frame}
 use Rattle.crs_normal.specs.SpelledItems.{text_item}
 use Rattle.crs_normal.specs.SpelledSystems.{item_head, norm_system}
-use Rattle.crs_normal.proofs.made.AscendLemmas.{set-ascends, set-each}
+use Rattle.crs_normal.proofs.made.AscendLemmas.{set-ascends}
 use Rattle.crs_normal.proofs.made.SystemLemmas.{IsFew}
 use Rattle.crs_normal.proofs.made.BehindLemmas.{AxisEach, axes_run, few-system, behind_arguments, vertical-names}
 use Rattle.crs_normal.proofs.made.DynamicLemmas.{dynamic-argument, dynamic_classes}
 use Rattle.crs_normal.proofs.made.FrameLemmas.{vertical-frame-made}
-use Rattle.crs_normal.proofs.made.NodeLemmas.{Made, Run, alone, as-argument, views, IsOrderly, free-orderly}
+use Rattle.crs_normal.proofs.made.NodeLemmas.{Run, alone, views, IsOrderly, free-orderly}
 use Rattle.crs_normal.proofs.made.NamedLemmas.{geoid-model-made}
 use Rattle.crs_normal.proofs.made.TailLemmas.{tail_runs, tail_arguments, tail-orderly}
 use Rattle.crs_normal.proofs.normal.DimensionLemmas.{small-vertical}
-use Rattle.crs_normal.proofs.made.ArgumentLemmas.{Argument, any-of, may-of, text-of, node-of}
+use Rattle.crs_normal.proofs.read.NameLemmas.{keyword-names}
+use Rattle.crs_normal.proofs.made.ArgumentLemmas.{Argument, may-of, text-of, node-of, set-of}
 use Rattle.crs_normal.proofs.made.FrontLemmas.{frame-shows, frame-steady, framed_runs, geodetic_classes, frame-free, crs-node-made}
 
 -- ---- the frame, of one class or the other
@@ -43,22 +42,6 @@ vertical-taken : (f : Frame) → takes (one_of (class.VerticalFrame ∷ class.Ve
     ≡ true
 vertical-taken (frame.Datum d) = refl
 vertical-taken (frame.Ensemble e) = refl
-
--- ---- geoid models
-
-models-made : DecimalLaws → (level : Level) (gs : List GeoidModelParts) → Each IsGeoidModel gs →
-    Each (Made level 5 class.VerticalCrs class.GeoidModel) (map item_geoid_model (set_geoid_models level gs))
-unfolding set_geoid_models class_named is_keyword
-models-made l level gs h =
-    set-each (norm_geoid_model level) item_geoid_model IsGeoidModel (Made level 5 class.VerticalCrs class.GeoidModel)
-    gs h
-    (λ g q. as-argument level 3 5 class.VerticalCrs class.GeoidModel (item_geoid_model (norm_geoid_model level g))
-    (omega arith) refl (geoid-model-made l level g q))
-
-models-ascend : (level : Level) (gs : List GeoidModelParts) →
-    Ascend (map item_geoid_model (set_geoid_models level gs) ++ [])
-unfolding set_geoid_models
-models-ascend level gs = set-ascends item_geoid_model (map (norm_geoid_model level) gs)
 
 -- ---- vertical CRSs
 
@@ -94,21 +77,22 @@ vertical_arguments l level g few h =
     node-of (vertical_frame_class g.frame) (frame_item level g) (omega arith) (vertical-named level g.frame)
     (vertical-frame-made l level g.frame h.frame) ∷
     behind_arguments l level 5 class.VerticalCrs g.system
-    (any-of class.GeoidModel item_geoid_model (set_geoid_models level g.geoid_models)
-    (models-made l level g.geoid_models h.geoid_models) ∷
+    (set-of class.GeoidModel (norm_geoid_model level) item_geoid_model g.geoid_models None (omega arith)
+    (λ m. keyword-names class.VerticalCrs (codes "GEOIDMODEL")) h.geoid_models (geoid-model-made l level) ∷
     tail_arguments l level 5 class.VerticalCrs g.tail (omega arith) vertical-names.tails h.tail) (omega arith)
     vertical-names.systems few
 
 vertical-orderly : (level : Level) (g : VerticalParts) → IsOrderly level (vertical_runs level g)
+unfolding set_geoid_models
 vertical-orderly level g =
     let end = tail-orderly level g.tail in
     free-orderly level (vertical_frame_class g.frame) (frame_item level g ∷ []) (vertical_rest level g)
     (frame-free false g.frame)
-    ((end.0.0, (end.0.1.0, (tt, (tt, (models-ascend level g.geoid_models, tt))))), end.1)
+    ((end.0.0, (end.0.1.0, (tt, (tt, (set-ascends item_geoid_model (map (norm_geoid_model level) g.geoid_models), tt))))), end.1)
 
 pub vertical-made : DecimalLaws → AxisEach → (level : Level) (g : VerticalParts) → IsVertical g → (p : ℕ) →
     IsAcceptedNormal level class.VerticalCrs 6 (at_place p (item_vertical (norm_vertical level g)))
-unfolding BreaksOwn is_keyword
+unfolding BreaksOwn is_keyword set_geoid_models
 vertical-made l each_at level g h =
     let few = few-system l each_at (dimensions_of class.VerticalCrs) small-vertical g.system h.system h.dimension in
     crs-node-made l level 5 class.VerticalCrs (codes "VERTCRS") _ _ (vertical_arguments l level g few h) refl (refl, refl)
