@@ -8,35 +8,28 @@ use Rattle.crs_value.specs.Sound.{Each}
 use Rattle.crs_normal.specs.Ascending.{Ascends, Below}
 use Rattle.crs_normal.specs.NormalOwn.{Ascend}
 use Rattle.crs_normal.specs.Ordered.{put, put_all, in_order}
+use Rattle.crs_normal.proofs.read.ViewLemmas.{each-so}
 use Rattle.crs_normal.proofs.members.SetLemmas.{by-order, each-in_order, in_order-ascends}
 
 -- ---- as items
 
-module _ {A : Type 0} (spell : A → Item) where
-  each-map : (item : Item) (xs : List A) → Each (λ y. Below (item_text item) (item_text (spell y))) xs →
-      Each (λ other. Below (item_text item) (item_text other)) (map spell xs)
-  each-map item [] h = tt
-  each-map item (x ∷ xs) h = (h.0, each-map item xs h.1)
+pub each-map : {V A : Type 0} (f : V → A) (Q : A → Type 0) (xs : List V) → Each (λ x. Q (f x)) xs → Each Q (map f xs)
+each-map f Q [] h = tt
+each-map f Q (x ∷ xs) h = (h.0, each-map f Q xs h.1)
 
-  pub items-ascend : (xs : List A) → Ascends (λ x. item_text (spell x)) xs → Ascend (map spell xs)
-  items-ascend [] h = tt
-  items-ascend (x ∷ xs) h = (each-map (spell x) xs h.0, items-ascend xs h.1)
+items-ascend : {A : Type 0} (spell : A → Item) (xs : List A) → Ascends (λ x. item_text (spell x)) xs → Ascend (map spell xs)
+items-ascend spell [] h = tt
+items-ascend spell (x ∷ xs) h =
+    (each-map spell (λ other. Below (item_text (spell x)) (item_text other)) xs h.0, items-ascend spell xs h.1)
 
 -- each member of a set of normal values is normal, as an item
 pub set-each : {V A : Type 0} (norm : V → A) (spell : A → Item) (P : V → Type 0) (Q : Item → Type 0) (xs : List V) →
     Each P xs →
     ((x : V) → P x → Q (spell (norm x))) → Each Q (map spell (in_order (λ a. item_text (spell a)) (map norm xs)))
-set-each {V} {A} norm spell P Q xs h f =
-    spelled (in_order (λ a. item_text (spell a)) (map norm xs))
-    (each-in_order (λ a. item_text (spell a)) (λ a. Q (spell a)) (map norm xs) (normal xs h))
-  where
-    normal : (vs : List V) → Each P vs → Each (λ a. Q (spell a)) (map norm vs)
-    normal [] g = tt
-    normal (v ∷ vs) g = (f v g.0, normal vs g.1)
-
-    spelled : (bs : List A) → Each (λ a. Q (spell a)) bs → Each Q (map spell bs)
-    spelled [] g = tt
-    spelled (b ∷ bs) g = (g.0, spelled bs g.1)
+set-each norm spell P Q xs h f =
+    each-map spell Q (in_order (λ a. item_text (spell a)) (map norm xs))
+    (each-in_order (λ a. item_text (spell a)) (λ a. Q (spell a)) (map norm xs)
+    (each-map norm (λ a. Q (spell a)) xs (each-so P (λ x. Q (spell (norm x))) f xs h)))
 
 -- after which none of them comes
 pub set-ascends : {A : Type 0} (spell : A → Item) (xs : List A) →

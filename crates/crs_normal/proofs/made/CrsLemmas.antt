@@ -52,34 +52,15 @@ mutual
   placed-twice p q (leaf kind place raw) = refl
   placed-twice p q (node place keyword square first others close) =
       let s : ℕ = q + length keyword + 1 in
-      let t : ℕ = q + length keyword + 1 + length (item_text first) in
-      let f = placed-twice (p + length keyword + 1) s first in
-      let a = text-at s first in
-      let o = placed-all (p + length keyword + 1 + length (item_text first)) t others in
-      let b = texts-at t others in
-      ap (λ x. node p keyword true x (at_places (p + length keyword + 1 + length (item_text (at_place s first)))
-      (at_places t others))
-      (p + length keyword + 1 + length (item_text (at_place s first)) + length (others_text (at_places t others)))) f
-      ∙ ap (λ w. node p keyword true (at_place (p + length keyword + 1) first)
-      (at_places (p + length keyword + 1 + length w) (at_places t others))
-      (p + length keyword + 1 + length w + length (others_text (at_places t others)))) a
-      ∙ ap (λ x. node p keyword true (at_place (p + length keyword + 1) first) x
-      (p + length keyword + 1 + length (item_text first) + length (others_text (at_places t others)))) o
-      ∙ ap (λ w. node p keyword true (at_place (p + length keyword + 1) first)
-      (at_places (p + length keyword + 1 + length (item_text first)) others)
-      (p + length keyword + 1 + length (item_text first) + length w)) b
+      let t : ℕ = s + length (item_text first) in
+      rw (text-at s first) (rw (texts-at t others) (rw (placed-twice (p + length keyword + 1) s first)
+      (rw (placed-all (p + length keyword + 1 + length (item_text first)) t others) refl)))
 
   placed-all : (p q : ℕ) (js : Siblings) → at_places p (at_places q js) ≡ at_places p js
   placed-all p q End = refl
   placed-all p q (More j js) =
-      let f = placed-twice (p + 1) (q + 1) j in
-      let a = text-at (q + 1) j in
-      let o = placed-all (p + 1 + length (item_text j)) (q + 1 + length (item_text j)) js in
-      ap (λ x. More x (at_places (p + 1 + length (item_text (at_place (q + 1) j)))
-      (at_places (q + 1 + length (item_text j)) js))) f
-      ∙ ap (λ w. More (at_place (p + 1) j) (at_places (p + 1 + length w) (at_places (q + 1 + length (item_text j))
-      js))) a
-      ∙ ap (λ x. More (at_place (p + 1) j) x) o
+      rw (text-at (q + 1) j) (rw (placed-twice (p + 1) (q + 1) j)
+      (rw (placed-all (p + 1 + length (item_text j)) (q + 1 + length (item_text j)) js) refl))
 
 pub crs-text-normal : DecimalLaws → AxisEach → WrittenSpells → (level : Level) (c : Crs) → IsCrs c →
     IsNormalText level (item_text (item_crs (norm_crs level c)))

@@ -16,7 +16,8 @@ use Rattle.crs_normal.specs.NormalOwn.{Ascend, IsCode}
 use Rattle.crs_normal.specs.Ordered.{in_order}
 use Rattle.crs_normal.specs.SpelledItems.{code_item, text_item, text_node}
 use Rattle.crs_normal.specs.SpelledUnits.{item_ident, set_idents}
-use Rattle.crs_normal.proofs.made.AscendLemmas.{set-ascends}
+use Rattle.crs_normal.proofs.made.AscendLemmas.{each-map, set-ascends}
+use Rattle.crs_normal.proofs.read.ViewLemmas.{each-so}
 use Rattle.crs_normal.proofs.members.SetLemmas.{each-in_order}
 use Rattle.crs_normal.proofs.made.ArgumentLemmas.{Argument, any-of, made-of, may-of, may-text, one-of, text-of}
 use Rattle.crs_normal.proofs.made.LeafLemmas.{IsCodeKind, code-kind, code-made, code_kind}
@@ -96,12 +97,6 @@ ident-made l level i h =
 
 -- ---- lists of identifiers, in order
 
-each-item : {A : Type 0} (P : A → Type 0) (Q : Item → Type 0) (spell : A → Item) (xs : List A) → Each P xs →
-    ((x : A) → P x → Q (spell x)) →
-    Each Q (map spell xs)
-each-item P Q spell [] h f = tt
-each-item P Q spell (x ∷ xs) h f = (f x h.0, each-item P Q spell xs h.1 f)
-
 pub idents-sound : (level : Level) (identifiers : List IdentParts) → Each IsIdent identifiers → Each IsIdent (set_idents level identifiers)
 unfolding set_idents
 idents-sound level identifiers h =
@@ -115,9 +110,10 @@ pub identifiers-made : DecimalLaws → (level : Level) (most : ℕ) (parent : Cl
     class_named parent (codes "ID") ≡ Some class.Identifier →
     Each IsIdent identifiers → Each (Made level most parent class.Identifier) (map item_ident (set_idents level identifiers))
 identifiers-made l level most parent identifiers deep named h =
-    each-item IsIdent (Made level most parent class.Identifier) item_ident (set_idents level identifiers)
-    (idents-sound level identifiers h)
+    each-map item_ident (Made level most parent class.Identifier) (set_idents level identifiers)
+    (each-so IsIdent (λ i. Made level most parent class.Identifier (item_ident i))
     (λ i q. as-argument level 2 most parent class.Identifier (item_ident i) deep named (ident-made l level i q))
+    (set_idents level identifiers) (idents-sound level identifiers h))
 
 abbrev pub ids-of : {level : Level} {most : ℕ} {parent : Class} → DecimalLaws → (identifiers : List IdentParts) →
     2 ≤ most → class_named parent (codes "ID") ≡ Some class.Identifier → Each IsIdent identifiers →

@@ -60,15 +60,10 @@ if-placed false p j xs js h = h
 
 pub those-placed : (c e : Class) (s : ℕ) (js : Siblings) → ArePlaced (those c e (at_places s js)) (those c e js)
 those-placed c e s End = tt
-those-placed c e s (More (leaf kind place raw) js) =
-    if-placed (is_class e (class_in c (leaf kind place raw))) (s + 1) (leaf kind place raw)
-    (those c e (at_places (s + 1 + length (item_text (leaf kind place raw))) js)) (those c e js)
-    (those-placed c e (s + 1 + length (item_text (leaf kind place raw))) js)
-those-placed c e s (More (node place keyword square first others close) js) =
-    let j : Item = node place keyword square first others close in
-    if-placed (is_class e (class_in c j)) (s + 1) j
+those-placed c e s (More j js) =
+    rw (class-at c (s + 1) j) (if-placed (is_class e (class_in c j)) (s + 1) j
     (those c e (at_places (s + 1 + length (item_text j)) js)) (those c e js)
-    (those-placed c e (s + 1 + length (item_text j)) js)
+    (those-placed c e (s + 1 + length (item_text j)) js))
 
 placed-below : (p : ℕ) (j : Item) (xs js : List Item) → ArePlaced xs js → Each (IsBelow item_text j) js →
     Each (IsBelow item_text (at_place p j)) xs
