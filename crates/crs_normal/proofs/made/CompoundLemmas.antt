@@ -94,13 +94,9 @@ compound_runs level b j name v t =
     alone class.Text (text_item name) ∷ alone (side_class b) j ∷ alone class.VerticalCrs
     (item_vertical (norm_vertical level v)) ∷ tail_runs level t
 
-side-taken : (b : Bool) → takes (one_of horizontal_classes) (side_class b) ≡ true
-side-taken true = refl
-side-taken false = refl
-
-side-free : (b : Bool) → is_free (side_class b) ≡ true
-side-free true = refl
-side-free false = refl
+side-fits : (b : Bool) → (takes (one_of horizontal_classes) (side_class b) ≡ true) × (is_free (side_class b) ≡ true)
+side-fits true = (refl, refl)
+side-fits false = (refl, refl)
 
 side-shows : (level : Level) (b : Bool) (j : Item) (name : List ℕ) (v : VerticalParts) (t : TailParts) (item : Item) →
     Each (Shows class.CompoundCrs item (compound_runs level b j name v t)) tail_classes →
@@ -136,8 +132,8 @@ side-made l each_at level b j name v t s n h g =
     node-of class.VerticalCrs (item_vertical (norm_vertical level v)) (omega arith) refl
     (vertical-made l each_at level v h) ∷
     tail_arguments l level 7 class.CompoundCrs t (omega arith) compound-names g) refl (refl, refl) refl refl
-    (rw (side-taken b) (refl {a = true}))
-    (free-orderly level (side_class b) (j ∷ []) (drop 2 runs) (side-free b) (tail-orderly level t))
+    (rw (side-fits b).0 (refl {a = true}))
+    (free-orderly level (side_class b) (j ∷ []) (drop 2 runs) (side-fits b).1 (tail-orderly level t))
     (λ item q r. has-tail class.CompoundCrs item r (seen item q))
     (λ item fault q. compound-breaks level b j name v t item fault s
     (views class.CompoundCrs runs item horizontal_classes q) (seen item q))

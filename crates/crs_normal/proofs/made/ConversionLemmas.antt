@@ -26,53 +26,40 @@ use Rattle.crs_normal.proofs.made.ArgumentLemmas.{made-of, text-of, may-of, numb
 
 -- ---- parameters: the class of the unit is that of its keyword
 
-abbrev given_class : Option UnitParts → Class
-given_class None = class.PlainUnit
-given_class (Some u) = unit_class (kind_as kinds.Plain u.kind)
+abbrev given_kind : Option UnitParts → UnitKind
+given_kind None = kinds.Plain
+given_kind (Some u) = kind_as kinds.Plain u.kind
 
-kind-in : (k : UnitKind) → IsKindIn (unit_class k) k
-kind-in kinds.Length = refl
-kind-in other = refl
+abbrev unit_classes : List Class
+unit_classes = class.PlainUnit ∷ class.LengthUnit ∷ class.AngleUnit ∷ class.ScaleUnit ∷ []
+
+kind-fits : (k : UnitKind) →
+    IsKindIn (unit_class k) k × (takes (optional_of unit_classes) (unit_class k) ≡ true) × (is_free (unit_class k) ≡ true)
+kind-fits kinds.Length = (refl, refl, refl)
+kind-fits other = (refl, refl, refl)
 
 parameter-unit : DecimalLaws → (level : Level) (x : Option UnitParts) → IfSome x IsUnit →
-    Each (Made level 3 class.Parameter (given_class x)) (given item_unit (norm_units level kinds.Plain x))
+    Each (Made level 3 class.Parameter (unit_class (given_kind x))) (given item_unit (norm_units level kinds.Plain x))
 parameter-unit l level None h = tt
 parameter-unit l level (Some u) h =
     let k : UnitKind = kind_as kinds.Plain u.kind in (
       as-argument level 3 3 class.Parameter (unit_class k) (item_unit (norm_unit level kinds.Plain u)) (omega arith)
           (named-as k)
-          (unit-made l level (unit_class k) k u (kind-in k) h),
+          (unit-made l level (unit_class k) k u (kind-fits k).0 h),
       tt,
     )
-
-abbrev unit_classes : List Class
-unit_classes = class.PlainUnit ∷ class.LengthUnit ∷ class.AngleUnit ∷ class.ScaleUnit ∷ []
-
-kind-taken : (k : UnitKind) → takes (optional_of unit_classes) (unit_class k) ≡ true
-kind-taken kinds.Length = refl
-kind-taken other = refl
-
-given-taken : (x : Option UnitParts) → takes (optional_of unit_classes) (given_class x) ≡ true
-given-taken None = refl
-given-taken (Some u) = kind-taken (kind_as kinds.Plain u.kind)
-
-kind-free : (k : UnitKind) → is_free (unit_class k) ≡ true
-kind-free kinds.Length = refl
-kind-free other = refl
-
-given-free : (x : Option UnitParts) → is_free (given_class x) ≡ true
-given-free None = refl
-given-free (Some u) = kind-free (kind_as kinds.Plain u.kind)
 
 pub parameter-made : DecimalLaws → (level : Level) (m : ParameterParts) → IsParameter m → (p : ℕ) →
     IsAcceptedNormal level class.Parameter 4 (at_place p (item_parameter (norm_parameter level m)))
 unfolding BreaksOwn class_named is_keyword
 parameter-made l level m h =
     made-of level 3 class.Parameter (codes "PARAMETER") _ _ (text-of m.name h.name ∷ number-of l m.value h.value ∷
-    may-of (given_class m.unit) item_unit (norm_units level kinds.Plain m.unit) (parameter-unit l level m.unit h.unit) ∷
-    ids-of l m.identifiers (omega arith) refl h.identifiers ∷ []) refl (refl, refl) refl refl (rw (given-taken m.unit) refl)
-    (free-orderly level (given_class m.unit) (given item_unit (norm_units level kinds.Plain m.unit)) (ids_run level m.identifiers ∷ []) (given-free m.unit)
-    (ids-orderly level m.identifiers)) (λ item s r. tt) (λ item fault s b. b)
+    may-of (unit_class (given_kind m.unit)) item_unit (norm_units level kinds.Plain m.unit)
+    (parameter-unit l level m.unit h.unit) ∷ ids-of l m.identifiers (omega arith) refl h.identifiers ∷ []) refl
+    (refl, refl) refl refl (rw (kind-fits (given_kind m.unit)).1 refl)
+    (free-orderly level (unit_class (given_kind m.unit)) (given item_unit (norm_units level kinds.Plain m.unit))
+    (ids_run level m.identifiers ∷ []) (kind-fits (given_kind m.unit)).2 (ids-orderly level m.identifiers))
+    (λ item s r. tt) (λ item fault s b. b)
 
 -- ---- conversions
 

@@ -1,6 +1,6 @@
 -- All CRSs are made, and their texts are normal.
-use Rattle.std.proofs.Common.{◌≡◌, ℕ, ◌+◌, ◌≤◌, true, length, refl, sym, ap, subst, ◌∙◌, arith}
-use Rattle.crs_text.specs.Prelude.{Item, leaf, node, Siblings, End, More, depth, WrittenSpells, at_place, at_places, item_text, others_text, SpellsNode}
+use Rattle.std.proofs.Common.{◌≡◌, ℕ, ◌+◌, ◌≤◌, length, refl, sym, subst, arith}
+use Rattle.crs_text.specs.Prelude.{Item, leaf, node, Siblings, End, More, depth, WrittenSpells, at_place, at_places, item_text, SpellsNode}
 use Rattle.crs_shape.specs.declared.class.Class.{Class}
 use Rattle.crs_value.specs.declared.values.crs.Crs.{Crs}
 use Rattle.crs_value.specs.declared.values.crs.Crs.TheVariants as crs

@@ -39,25 +39,25 @@ pub frame-named : (level : Level) (c : Class) (f : Frame) → NamesFrame c →
 frame-named level c (frame.Datum d) n = n.datum
 frame-named level c (frame.Ensemble e) n = n.ensemble
 
-pub frame-taken : (f : Frame) →
-    takes (one_of (class.GeodeticFrame ∷ class.GeodeticEnsemble ∷ [])) (geodetic_frame_class f) ≡ true
-frame-taken (frame.Datum d) = refl
-frame-taken (frame.Ensemble e) = refl
-
 -- the class of a frame, where it is geodetic or else vertical
 abbrev pub frame_class : Bool → Frame → Class
 frame_class true f = geodetic_frame_class f
 frame_class false f = vertical_frame_class f
 
+abbrev pub frame_classes : Bool → List Class
+frame_classes true = class.GeodeticFrame ∷ class.GeodeticEnsemble ∷ []
+frame_classes false = class.VerticalFrame ∷ class.VerticalEnsemble ∷ []
+
 -- the name, the dynamic part and the frame of a CRS or base, and these
 abbrev pub framed_runs : Bool → Level → Item → Option DynamicParts → Frame → Item → List Run → List Run
 framed_runs b level n x f j rest = alone class.Text n ∷ dynamic_run level x ∷ alone (frame_class b f) j ∷ rest
 
-pub frame-free : (b : Bool) (f : Frame) → is_free (frame_class b f) ≡ true
-frame-free true (frame.Datum d) = refl
-frame-free true (frame.Ensemble e) = refl
-frame-free false (frame.Datum d) = refl
-frame-free false (frame.Ensemble e) = refl
+pub frame-fits : (b : Bool) (f : Frame) →
+    (takes (one_of (frame_classes b)) (frame_class b f) ≡ true) × (is_free (frame_class b f) ≡ true)
+frame-fits true (frame.Datum d) = (refl, refl)
+frame-fits true (frame.Ensemble e) = (refl, refl)
+frame-fits false (frame.Datum d) = (refl, refl)
+frame-fits false (frame.Ensemble e) = (refl, refl)
 
 -- what is in a CRS or base with a prime meridian
 abbrev pub geodetic_classes : List Class

@@ -26,7 +26,7 @@ use Rattle.crs_normal.proofs.made.BehindLemmas.{AxisEach, NamesSystem, Shows, be
 use Rattle.crs_normal.proofs.made.CheckLemmas.{IsSystemSeen, IsSystemIn}
 use Rattle.crs_normal.proofs.made.DynamicLemmas.{dynamic-argument, dynamic_classes}
 use Rattle.crs_normal.proofs.made.FrameLemmas.{geodetic-frame-made}
-use Rattle.crs_normal.proofs.made.FrontLemmas.{NamesFrame, frame-shows, frame-steady, frame-taken, framed_runs, geodetic_classes, meridian-there, frame-free, crs-node-made, frame-named}
+use Rattle.crs_normal.proofs.made.FrontLemmas.{NamesFrame, frame-shows, frame-steady, framed_runs, geodetic_classes, meridian-there, crs-node-made, frame-named, frame-fits}
 use Rattle.crs_normal.proofs.made.NodeLemmas.{Run, Sees, given, views, free-orderly}
 use Rattle.crs_normal.proofs.made.PlaceLemmas.{same-of}
 use Rattle.crs_normal.proofs.made.MeridianLemmas.{meridian-argument}
@@ -163,9 +163,9 @@ geodetic-made l each_at level g h =
     let few = few-system l each_at (dimensions_of class.GeodeticCrs) small-geodetic g.system h.system h.dimension in
     let r = is-root g.system.system_type in
     crs-node-made l level 5 c keyword _ _ (geodetic_arguments l level c keyword g r few h) refl r.letters r.known r.written
-    (rw r.slots (rw (frame-taken g.frame) (refl {a = true})))
+    (rw r.slots (rw (frame-fits true g.frame).0 (refl {a = true})))
     (free-orderly level (geodetic_frame_class g.frame) (frame_item level g ∷ []) (geodetic_rest level g)
-    (frame-free true g.frame) (tail-orderly level g.tail)) r.dimensions g.system g.tail few
+    (frame-fits true g.frame).1 (tail-orderly level g.tail)) r.dimensions g.system g.tail few
     (r.allows g.system.dimension h.dimension) r.breaks
     (λ item s. (
       (geodetic-shown level c g item s).1,

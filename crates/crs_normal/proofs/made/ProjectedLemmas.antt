@@ -23,7 +23,7 @@ use Rattle.crs_normal.proofs.made.ConversionLemmas.{conversion-made}
 use Rattle.crs_normal.proofs.made.DynamicLemmas.{IsSteady, dynamic-argument, dynamic_classes, no-bad-dynamic}
 use Rattle.crs_normal.proofs.made.EllipsoidLemmas.{given-unit}
 use Rattle.crs_normal.proofs.made.FrameLemmas.{geodetic-frame-made}
-use Rattle.crs_normal.proofs.made.FrontLemmas.{frame-shows, frame-steady, frame-taken, framed_runs, geodetic_classes, meridian-there, frame-free, crs-node-made, frame-named}
+use Rattle.crs_normal.proofs.made.FrontLemmas.{frame-shows, frame-steady, framed_runs, geodetic_classes, meridian-there, crs-node-made, frame-named, frame-fits}
 use Rattle.crs_normal.proofs.made.IdentLemmas.{ids_run, ids-of, ids-orderly}
 use Rattle.crs_normal.proofs.made.NodeLemmas.{Run, Sees, alone, given, views, free-orderly, none-shown}
 use Rattle.crs_normal.proofs.made.MeridianLemmas.{meridian-argument}
@@ -68,9 +68,9 @@ base-made l level b h =
     may-of class.AngleUnit item_unit (norm_units level kinds.Angle b.unit)
     (given-unit l level 5 class.BaseCrs class.AngleUnit kinds.Angle b.unit (omega arith) refl refl h.unit) ∷
     ids-of l b.identifiers (omega arith) refl h.identifiers ∷ []) refl (refl, refl) refl refl
-    (rw (frame-taken b.frame) refl)
+    (rw (frame-fits true b.frame).0 refl)
     (free-orderly level (geodetic_frame_class b.frame) (base_frame level b ∷ []) (base_rest level b)
-    (frame-free true b.frame) (ids-orderly level b.identifiers))
+    (frame-fits true b.frame).1 (ids-orderly level b.identifiers))
     (λ item s r. meridian-there level b.meridian (those class.BaseCrs class.PrimeMeridian (arguments item))
     (frame-shows level class.BaseCrs item (text_item b.name) true b.dynamic b.frame (base_frame level b) (base_rest level b)
     (views class.BaseCrs (base_runs level b) item geodetic_classes s)).0)

@@ -9,7 +9,6 @@ use Rattle.crs_text.specs.Prelude.{Item, arguments, RefusedAt, at_place}
 use Rattle.crs_shape.specs.declared.class.Class.{Class}
 use Rattle.crs_shape.specs.declared.class.Class.TheVariants as class
 use Rattle.crs_shape.specs.declared.system_type.SystemType.{SystemType}
-use Rattle.crs_shape.specs.declared.unit_kind.UnitKind.{UnitKind}
 use Rattle.crs_shape.specs.Prelude.{is_keyword, class_named, asked_kind, system_word}
 use Rattle.crs_value.specs.Prelude.{UnknownType, AnyOf, those, IsAxis, IsAxisUnit, Suits, HasUnits, IsSystem, SuitsAxis, AxisParts, SystemParts, UnitParts}
 use Rattle.crs_value.specs.Checks.{Own as BreaksOwn}
@@ -28,6 +27,7 @@ use Rattle.crs_normal.proofs.made.LeafLemmas.{word-made}
 use Rattle.crs_normal.proofs.made.NodeLemmas.{Made, as-argument}
 use Rattle.crs_normal.proofs.made.PlaceLemmas.{ArePlaced, none-of}
 use Rattle.crs_normal.proofs.made.WordLemmas.{system-letters}
+use Rattle.crs_normal.proofs.read.ViewLemmas.{both}
 use Rattle.crs_normal.proofs.read.NameLemmas.{keyword-names}
 
 -- ---- each axis has a unit that fits
@@ -39,30 +39,17 @@ own-fit t x a s = by x.unit refl s a.unit
     by None e s h = absurd s
     by (Some u) e s h = record { axis = a; unit = u; given_unit = ap (λ w. own_or w None) e; suits = (h.0, s) }
 
-own-fits : (t : SystemType) (xs : List AxisParts) → Each IsAxis xs → Each (λ x. IsSomeAnd x.unit (SuitsAxis t x)) xs →
-    Each (Fits t None) xs
-own-fits t [] a s = tt
-own-fits t (x ∷ xs) a s = (own-fit t x a.0 s.0, own-fits t xs a.1 s.1)
-
-shared-fits : (t : SystemType) (u : UnitParts) (kind : UnitKind) (xs : List AxisParts) → IsAxisUnit u →
-    Suits kind u.kind → Each IsAxis xs →
-    Each (λ x. x.unit ≡ None) xs → Each (λ x. asked_kind t x.direction ≡ kind) xs → Each (Fits t (Some u)) xs
-shared-fits t u kind [] h s a n k = tt
-shared-fits t u kind (x ∷ xs) h s a n k = (
-  record {
-    axis = a.0;
-    unit = u;
-    given_unit = ap (λ w. own_or w (Some u)) n.0;
-    suits = (h.0, subst (λ asked. Suits asked u.kind) (sym k.0) s);
-  },
-  shared-fits t u kind xs h s a.1 n.1 k.1,
-)
-
 fits : (t : SystemType) (xs : List AxisParts) (shared : Option UnitParts) → Each IsAxis xs →
     IfSome shared IsAxisUnit → HasUnits t xs shared →
     Each (Fits t shared) xs
-fits t xs None a h u = own-fits t xs a u
-fits t xs (Some shared) a h u = shared-fits t shared u.1.0 xs h u.1.1.1 a u.0 u.1.1.0
+fits t xs None a h u = both (own-fit t) xs a u
+fits t xs (Some shared) a h u =
+    both (λ x p q. record {
+      axis = p;
+      unit = shared;
+      given_unit = ap (λ w. own_or w (Some shared)) q.0;
+      suits = (h.0, subst (λ asked. Suits asked shared.kind) (sym q.1) u.1.1.1);
+    }) xs a (both {R = λ x. (x.unit ≡ None) × (asked_kind t x.direction ≡ u.1.0)} (λ x n k. (n, k)) xs u.0 u.1.1.0)
 
 -- ---- the axis at a position
 

@@ -22,7 +22,6 @@ use Rattle.crs_normal.proofs.made.NodeLemmas.{IsOrderly, Made, Run, as-argument,
 use Rattle.crs_normal.proofs.made.UsageLemmas.{usage-made, usage-named}
 use Rattle.crs_normal.proofs.read.ViewLemmas.{each-so}
 use Rattle.crs_normal.proofs.made.ArgumentLemmas.{Argument, any-of, given-made, may-of, text-node-made}
-use Rattle.crs_normal.proofs.read.NameLemmas.{keyword-names}
 
 -- ---- the usages, the bare parts being one more
 
@@ -71,11 +70,8 @@ pub record NamesTail (c : Class) : Type 0 where
   pub remark : class_named c (codes "REMARK") ≡ Some class.Remark
 
 pub compound-names : NamesTail class.CompoundCrs
-compound-names = record {
-  usage = keyword-names class.CompoundCrs (codes "USAGE");
-  ident = keyword-names class.CompoundCrs (codes "ID");
-  remark = keyword-names class.CompoundCrs (codes "REMARK");
-}
+unfolding class_named is_keyword
+compound-names = record { usage = refl; ident = refl; remark = refl }
 
 pub two-of : (most : ℕ) → 5 ≤ most → 2 ≤ most
 two-of most deep = omega arith

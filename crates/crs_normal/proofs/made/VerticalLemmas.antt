@@ -3,7 +3,7 @@ use Rattle.std.proofs.Common.{◌≡◌, ℕ, true, Some, List, [], ◌∷◌, m
 use Rattle.std.specs.Option.{option_map}
 use Rattle.crs_text.specs.Prelude.{Item, at_place}
 use Rattle.crs_shape.specs.declared.class.Class.TheVariants as class
-use Rattle.crs_shape.specs.Prelude.{is_keyword, class_in, class_named, one_of, takes, dimensions_of}
+use Rattle.crs_shape.specs.Prelude.{is_keyword, class_in, class_named, dimensions_of}
 use Rattle.crs_value.specs.Checks.{Own as BreaksOwn}
 use Rattle.crs_value.specs.Prelude.{VerticalParts, IsVertical}
 use Rattle.crs_value.specs.declared.values.frame.Frame.{Frame}
@@ -28,7 +28,7 @@ use Rattle.crs_normal.proofs.made.TailLemmas.{tail_runs, tail_arguments, tail-or
 use Rattle.crs_normal.proofs.normal.DimensionLemmas.{small-vertical}
 use Rattle.crs_normal.proofs.read.NameLemmas.{keyword-names}
 use Rattle.crs_normal.proofs.made.ArgumentLemmas.{Argument, may-of, text-of, node-of, set-of}
-use Rattle.crs_normal.proofs.made.FrontLemmas.{frame-shows, frame-steady, framed_runs, geodetic_classes, frame-free, crs-node-made}
+use Rattle.crs_normal.proofs.made.FrontLemmas.{frame-shows, frame-steady, framed_runs, geodetic_classes, crs-node-made, frame-fits}
 
 -- ---- the frame, of one class or the other
 
@@ -37,11 +37,6 @@ vertical-named : (level : Level) (f : Frame) →
 unfolding class_named is_keyword
 vertical-named level (frame.Datum d) = refl
 vertical-named level (frame.Ensemble e) = refl
-
-vertical-taken : (f : Frame) → takes (one_of (class.VerticalFrame ∷ class.VerticalEnsemble ∷ [])) (vertical_frame_class f)
-    ≡ true
-vertical-taken (frame.Datum d) = refl
-vertical-taken (frame.Ensemble e) = refl
 
 -- ---- vertical CRSs
 
@@ -87,7 +82,7 @@ unfolding set_geoid_models
 vertical-orderly level g =
     let end = tail-orderly level g.tail in
     free-orderly level (vertical_frame_class g.frame) (frame_item level g ∷ []) (vertical_rest level g)
-    (frame-free false g.frame)
+    (frame-fits false g.frame).1
     ((end.0.0, (end.0.1.0, (tt, (tt, (set-ascends item_geoid_model (map (norm_geoid_model level) g.geoid_models), tt))))), end.1)
 
 pub vertical-made : DecimalLaws → AxisEach → (level : Level) (g : VerticalParts) → IsVertical g → (p : ℕ) →
@@ -96,7 +91,7 @@ unfolding BreaksOwn is_keyword set_geoid_models
 vertical-made l each_at level g h =
     let few = few-system l each_at (dimensions_of class.VerticalCrs) small-vertical g.system h.system h.dimension in
     crs-node-made l level 5 class.VerticalCrs (codes "VERTCRS") _ _ (vertical_arguments l level g few h) refl (refl, refl)
-    refl refl (rw (vertical-taken g.frame) (refl {a = true})) (vertical-orderly level g) (dimensions_of class.VerticalCrs) g.system
+    refl refl (rw (frame-fits false g.frame).0 (refl {a = true})) (vertical-orderly level g) (dimensions_of class.VerticalCrs) g.system
     g.tail few h.dimension (λ item fault b. b)
     (λ item s. (
       (frame-shows level class.VerticalCrs item (text_item g.name) false g.dynamic g.frame (frame_item level g)
