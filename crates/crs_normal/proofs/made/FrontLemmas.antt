@@ -1,7 +1,7 @@
 -- What geodetic CRSs and base CRSs have in front is made: the name, the dynamic part and the frame.
-use Rattle.std.proofs.Math.Logic.{⊎_elim}
-use Rattle.std.proofs.Common.{◌≡◌, ◌≢◌, ℕ, suc, IsTrue, ◌++◌, true, Option, Some, None, List, [], ◌∷◌, codes, inl, inr, refl, Bool, false}
-use Rattle.crs_text.specs.Prelude.{Item, More, Siblings, IsWord, arguments, at_place, RefusedAt}
+use Rattle.std.proofs.Math.Logic.{⊎_elim, ⊎_map}
+use Rattle.std.proofs.Common.{◌≡◌, ◌≢◌, ℕ, suc, IsTrue, ◌++◌, true, Option, Some, None, List, [], ◌∷◌, codes, inl, inr, refl, Bool, false, ◌⊎◌}
+use Rattle.crs_text.specs.Prelude.{Item, More, Siblings, IsWord, at_place, RefusedAt}
 use Rattle.crs_shape.specs.declared.class.Class.{Class}
 use Rattle.crs_shape.specs.declared.class.Class.TheVariants as class
 use Rattle.crs_shape.specs.declared.system_type.SystemType.{SystemType}
@@ -9,19 +9,20 @@ use Rattle.crs_shape.specs.Prelude.{class_in, class_named, is_keyword, one_of, s
 use Rattle.crs_value.specs.declared.values.frame.Frame.{Frame}
 use Rattle.crs_value.specs.declared.values.frame.Frame.TheVariants as frame
 use Rattle.crs_value.specs.declared.values.level.Level.{Level}
-use Rattle.crs_value.specs.Prelude.{DynamicParts, those, IsDynamicOf, MeridianParts, SystemParts, TailParts, OfCrs}
+use Rattle.crs_value.specs.Prelude.{DynamicParts, IsDynamicOf, MeridianParts, SystemParts, TailParts, OfCrs}
 use Rattle.crs_value.specs.Sound.{Each}
 use Rattle.crs_normal.specs.DecimalLaws.{DecimalLaws}
 use Rattle.crs_normal.specs.AcceptedNormal.{IsAcceptedNormal, geodetic_frame_class, vertical_frame_class}
 use Rattle.crs_normal.specs.NormalOwn.{HasAxes, HasOwnForm, HasTail}
 use Rattle.crs_normal.specs.Normal.{IsFirstKeyword}
 use Rattle.crs_value.specs.Checks.{Own as BreaksOwn}
-use Rattle.crs_normal.specs.SpelledFrames.{item_frame, item_meridian, norm_frame, norm_meridian}
+use Rattle.crs_normal.specs.SpelledFrames.{greenwich, item_frame, item_meridian, norm_frame, norm_given, norm_meridian}
 use Rattle.crs_normal.specs.SpelledItems.{node_of}
 use Rattle.crs_normal.proofs.made.SystemLemmas.{IsFew}
 use Rattle.crs_normal.proofs.made.BehindLemmas.{Shows, behind, crs_classes, system-seen, tail-seen}
+use Rattle.crs_normal.proofs.made.EllipsoidLemmas.{placed-some}
 use Rattle.crs_normal.proofs.made.DynamicLemmas.{IsSteady, dynamic_classes, dynamic_run, no-bad-dynamic}
-use Rattle.crs_normal.proofs.made.NodeLemmas.{IsOrderly, Run, Sees, alone, given, is_free, items_in, none-shown}
+use Rattle.crs_normal.proofs.made.NodeLemmas.{IsOrderly, Run, Sees, alone, given, is_free, items_in, none-shown, views}
 use Rattle.crs_normal.proofs.made.ArgumentLemmas.{Argument, as_runs, fit, lay, made-of}
 use Rattle.crs_normal.proofs.made.PlaceLemmas.{ArePlaced}
 use Rattle.crs_normal.proofs.made.CheckLemmas.{IsSystemIn, has-axes, no-bad-systems}
@@ -64,44 +65,46 @@ abbrev pub geodetic_classes : List Class
 geodetic_classes = class.PrimeMeridian ∷ crs_classes
 
 module _ (level : Level) (c : Class) (item n : Item) where
-  pub frame-shows : (b : Bool) (x : Option DynamicParts) (f : Frame) (j : Item) (rest : List Run) →
+  frame-shows : (b : Bool) (x : Option DynamicParts) (f : Frame) (j : Item) (rest : List Run) →
       Each (Shows c item (framed_runs b level n x f j rest)) geodetic_classes → Each (Shows c item rest) geodetic_classes
   frame-shows true x (frame.Datum d) j rest h = h
   frame-shows true x (frame.Ensemble e) j rest h = h
   frame-shows false x (frame.Datum d) j rest h = h
   frame-shows false x (frame.Ensemble e) j rest h = h
 
-  none-dynamic : (rest : List Run) → Each (λ e. items_in e rest ≡ []) dynamic_classes →
-      Shows c item rest class.Dynamic → IsSteady c item
-  none-dynamic rest none v =
-      inl (none-shown (those c class.Dynamic (arguments item)) (items_in class.Dynamic rest) none.0 v)
+  steady : (rest : List Run) → Each (λ e. items_in e rest ≡ []) dynamic_classes →
+      Shows c item rest class.Dynamic ⊎ (Shows c item rest class.GeodeticEnsemble × Shows c item rest class.VerticalEnsemble) →
+      IsSteady c item
+  steady rest none =
+      ⊎_map (none-shown _ (items_in class.Dynamic rest) none.0) (λ v. (
+        none-shown _ (items_in class.GeodeticEnsemble rest) none.1.0 v.0,
+        none-shown _ (items_in class.VerticalEnsemble rest) none.1.1.0 v.1,
+      ))
 
-  no-ensemble : (rest : List Run) → Each (λ e. items_in e rest ≡ []) dynamic_classes →
-      Shows c item rest class.GeodeticEnsemble → Shows c item rest class.VerticalEnsemble → IsSteady c item
-  no-ensemble rest none v w =
-      inr (
-        none-shown (those c class.GeodeticEnsemble (arguments item)) (items_in class.GeodeticEnsemble rest) none.1.0 v,
-        none-shown (those c class.VerticalEnsemble (arguments item)) (items_in class.VerticalEnsemble rest) none.1.1.0 w,
-      )
-
-  -- no dynamic part is beside an ensemble, where none of these come after the frame
-  pub frame-steady : (b : Bool) (x : Option DynamicParts) (f : Frame) (j : Item) (rest : List Run) → IsDynamicOf x f →
+  frame-steady : (b : Bool) (x : Option DynamicParts) (f : Frame) (j : Item) (rest : List Run) → IsDynamicOf x f →
       Each (λ e. items_in e rest ≡ []) dynamic_classes →
       Each (Shows c item (framed_runs b level n x f j rest)) dynamic_classes → IsSteady c item
-  frame-steady true None (frame.Datum d) j rest h none v = none-dynamic rest none v.0
-  frame-steady true None (frame.Ensemble e) j rest h none v = none-dynamic rest none v.0
-  frame-steady true (Some x) (frame.Datum d) j rest h none v = no-ensemble rest none v.1.0 v.1.1.0
-  frame-steady false None (frame.Datum d) j rest h none v = none-dynamic rest none v.0
-  frame-steady false None (frame.Ensemble e) j rest h none v = none-dynamic rest none v.0
-  frame-steady false (Some x) (frame.Datum d) j rest h none v = no-ensemble rest none v.1.0 v.1.1.0
+  frame-steady true None (frame.Datum d) j rest h none v = steady rest none (inl v.0)
+  frame-steady true None (frame.Ensemble e) j rest h none v = steady rest none (inl v.0)
+  frame-steady true (Some x) (frame.Datum d) j rest h none v = steady rest none (inr (v.1.0, v.1.1.0))
+  frame-steady false None (frame.Datum d) j rest h none v = steady rest none (inl v.0)
+  frame-steady false None (frame.Ensemble e) j rest h none v = steady rest none (inl v.0)
+  frame-steady false (Some x) (frame.Datum d) j rest h none v = steady rest none (inr (v.1.0, v.1.1.0))
   frame-steady b (Some x) (frame.Ensemble e) j rest h none v = absurd h
+
+  -- what is in it, and that no dynamic part is beside an ensemble, where none of these come after the frame
+  pub frame-seen : (b : Bool) (x : Option DynamicParts) (f : Frame) (j : Item) (rest : List Run) → IsDynamicOf x f →
+      Each (λ e. items_in e rest ≡ []) dynamic_classes → Sees c (framed_runs b level n x f j rest) item →
+      Each (Shows c item rest) geodetic_classes × IsSteady c item
+  frame-seen b x f j rest h none s = (
+    frame-shows b x f j rest (views c (framed_runs b level n x f j rest) item geodetic_classes s),
+    frame-steady b x f j rest h none (views c (framed_runs b level n x f j rest) item dynamic_classes s),
+  )
 
 pub meridian-there : (level : Level) (m : Option MeridianParts) (items : List Item) →
     ArePlaced items (given item_meridian (norm_meridian level m) ++ []) → items ≢ []
-meridian-there level None [] h e = h
-meridian-there level None (x ∷ items) h e = cc
-meridian-there level (Some m) [] h e = h
-meridian-there level (Some m) (x ∷ items) h e = cc
+meridian-there level None items h = placed-some items [] (item_meridian greenwich) h
+meridian-there level (Some m) items h = placed-some items [] (item_meridian (norm_given level m)) h
 
 -- ---- CRSs
 

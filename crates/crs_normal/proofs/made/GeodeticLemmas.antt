@@ -24,10 +24,10 @@ use Rattle.crs_normal.specs.SpelledItems.{text_item, word_item}
 use Rattle.crs_normal.proofs.made.SystemLemmas.{IsFew}
 use Rattle.crs_normal.proofs.made.BehindLemmas.{AxisEach, NamesSystem, Shows, behind, few-system, system-seen, behind_arguments}
 use Rattle.crs_normal.proofs.made.CheckLemmas.{IsSystemSeen, IsSystemIn}
-use Rattle.crs_normal.proofs.made.DynamicLemmas.{dynamic-argument, dynamic_classes}
+use Rattle.crs_normal.proofs.made.DynamicLemmas.{dynamic-argument, IsSteady}
 use Rattle.crs_normal.proofs.made.FrameLemmas.{geodetic-frame-made}
-use Rattle.crs_normal.proofs.made.FrontLemmas.{NamesFrame, frame-shows, frame-steady, framed_runs, geodetic_classes, meridian-there, crs-node-made, frame-named, frame-fits}
-use Rattle.crs_normal.proofs.made.NodeLemmas.{Run, Sees, given, views, free-orderly}
+use Rattle.crs_normal.proofs.made.FrontLemmas.{NamesFrame, framed_runs, geodetic_classes, meridian-there, crs-node-made, frame-named, frame-fits, frame-seen}
+use Rattle.crs_normal.proofs.made.NodeLemmas.{Run, Sees, given, free-orderly}
 use Rattle.crs_normal.proofs.made.PlaceLemmas.{same-of}
 use Rattle.crs_normal.proofs.made.MeridianLemmas.{meridian-argument}
 use Rattle.crs_normal.proofs.made.TailLemmas.{NamesTail, tail_arguments, tail-orderly}
@@ -149,11 +149,11 @@ system-words t d systems axes units s =
       tt,
     )
 
-geodetic-shown : (level : Level) (c : Class) (g : GeodeticParts) (item : Item) → Sees c (geodetic_runs level g) item →
-    Each (Shows c item (geodetic_rest level g)) geodetic_classes
-geodetic-shown level c g item s =
-    frame-shows level c item (text_item g.name) true g.dynamic g.frame (frame_item level g) (geodetic_rest level g)
-    (views c (geodetic_runs level g) item geodetic_classes s)
+geodetic-shown : (level : Level) (c : Class) (g : GeodeticParts) (item : Item) → IsGeodetic g →
+    Sees c (geodetic_runs level g) item → Each (Shows c item (geodetic_rest level g)) geodetic_classes × IsSteady c item
+geodetic-shown level c g item h =
+    frame-seen level c item (text_item g.name) true g.dynamic g.frame (frame_item level g) (geodetic_rest level g) h.dynamic
+    (refl, (refl, (refl, tt)))
 
 pub geodetic-made : DecimalLaws → AxisEach → (level : Level) (g : GeodeticParts) → IsGeodetic g → (p : ℕ) →
     IsAcceptedNormal level (geodetic_class g.system.system_type) 6 (at_place p (item_geodetic (norm_geodetic level g)))
@@ -167,15 +167,11 @@ geodetic-made l each_at level g h =
     (free-orderly level (geodetic_frame_class g.frame) (frame_item level g ∷ []) (geodetic_rest level g)
     (frame-fits true g.frame).1 (tail-orderly level g.tail)) r.dimensions g.system g.tail few
     (r.allows g.system.dimension h.dimension) r.breaks
-    (λ item s. (
-      (geodetic-shown level c g item s).1,
-      frame-steady level c item (text_item g.name) true g.dynamic g.frame (frame_item level g) (geodetic_rest level g)
-          h.dynamic (refl, (refl, (refl, tt))) (views c (geodetic_runs level g) item dynamic_classes s),
-    ))
+    (λ item s. let v = geodetic-shown level c g item h s in (v.0.1, v.1))
     (λ item s seen. r.own item
     (system-words g.system.system_type g.system.dimension (those c class.CoordinateSystem (arguments item))
     (those c class.Axis (arguments item)) (those c class.AxisUnit (arguments item)) seen)
-    (meridian-there level g.meridian (those c class.PrimeMeridian (arguments item)) (geodetic-shown level c g item s).0))
+    (meridian-there level g.meridian (those c class.PrimeMeridian (arguments item)) (geodetic-shown level c g item h s).0.0))
 
 -- the system of a CRS, as the checks of a compound see it
 pub geodetic-seen : DecimalLaws → AxisEach → (level : Level) (g : GeodeticParts) → IsGeodetic g → (p : ℕ) →
@@ -187,4 +183,4 @@ geodetic-seen l each_at level g h p =
     let s : Sees c (geodetic_runs level g) item =
     arguments-seen level 5 c (geodetic_keyword g.system.system_type) _ _
     (geodetic_arguments l level c (geodetic_keyword g.system.system_type) g (is-root g.system.system_type) few h) refl p in
-    system-seen l level c item g.system g.tail few (geodetic-shown level c g item s).1
+    system-seen l level c item g.system g.tail few (geodetic-shown level c g item h s).0.1

@@ -8,6 +8,7 @@ use Rattle.crs_shape.specs.Prelude.{is_keyword, class_named, dimensions_of}
 use Rattle.crs_value.specs.Checks.{Own as BreaksOwn}
 use Rattle.crs_value.specs.Prelude.{BaseParts, ProjectedParts, those, IsBase, IsProjected}
 use Rattle.crs_value.specs.declared.values.level.Level.{Level}
+use Rattle.crs_value.specs.Sound.{Each}
 use Rattle.crs_normal.specs.DecimalLaws.{DecimalLaws}
 use Rattle.crs_normal.specs.AcceptedNormal.{IsAcceptedNormal, geodetic_frame_class}
 use Rattle.crs_normal.specs.SpelledConversions.{item_conversion, norm_conversion}
@@ -17,13 +18,13 @@ use Rattle.crs_normal.specs.SpelledFrames.{item_frame, item_meridian, norm_frame
 use Rattle.crs_normal.specs.SpelledItems.{text_item}
 use Rattle.crs_normal.specs.SpelledUnits.{item_unit, norm_units}
 use Rattle.crs_normal.proofs.made.SystemLemmas.{IsFew}
-use Rattle.crs_normal.proofs.made.BehindLemmas.{AxisEach, behind, crs_classes, system-seen, few-system, behind_arguments, projected-names}
+use Rattle.crs_normal.proofs.made.BehindLemmas.{AxisEach, behind, crs_classes, system-seen, few-system, behind_arguments, projected-names, Shows}
 use Rattle.crs_normal.proofs.made.CheckLemmas.{IsSystemIn}
 use Rattle.crs_normal.proofs.made.ConversionLemmas.{conversion-made}
-use Rattle.crs_normal.proofs.made.DynamicLemmas.{IsSteady, dynamic-argument, dynamic_classes, no-bad-dynamic}
+use Rattle.crs_normal.proofs.made.DynamicLemmas.{IsSteady, dynamic-argument, no-bad-dynamic}
 use Rattle.crs_normal.proofs.made.EllipsoidLemmas.{given-unit}
 use Rattle.crs_normal.proofs.made.FrameLemmas.{geodetic-frame-made}
-use Rattle.crs_normal.proofs.made.FrontLemmas.{frame-shows, frame-steady, framed_runs, geodetic_classes, meridian-there, crs-node-made, frame-named, frame-fits}
+use Rattle.crs_normal.proofs.made.FrontLemmas.{framed_runs, geodetic_classes, meridian-there, crs-node-made, frame-named, frame-fits, frame-seen}
 use Rattle.crs_normal.proofs.made.IdentLemmas.{ids_run, ids-of, ids-orderly}
 use Rattle.crs_normal.proofs.made.NodeLemmas.{Run, Sees, alone, given, views, free-orderly, none-shown}
 use Rattle.crs_normal.proofs.made.MeridianLemmas.{meridian-argument}
@@ -47,11 +48,11 @@ base_frame level b = item_frame (codes "DATUM") (norm_frame level b.frame)
 abbrev base_runs : Level → BaseParts → List Run
 base_runs level b = framed_runs true level (text_item b.name) b.dynamic b.frame (base_frame level b) (base_rest level b)
 
-base-steady : (level : Level) (b : BaseParts) (item : Item) → IsBase b → Sees class.BaseCrs (base_runs level b) item →
-    IsSteady class.BaseCrs item
-base-steady level b item h s =
-    frame-steady level class.BaseCrs item (text_item b.name) true b.dynamic b.frame (base_frame level b) (base_rest level b)
-    h.dynamic (refl, (refl, (refl, tt))) (views class.BaseCrs (base_runs level b) item dynamic_classes s)
+base-seen : (level : Level) (b : BaseParts) (item : Item) → IsBase b → Sees class.BaseCrs (base_runs level b) item →
+    Each (Shows class.BaseCrs item (base_rest level b)) geodetic_classes × IsSteady class.BaseCrs item
+base-seen level b item h =
+    frame-seen level class.BaseCrs item (text_item b.name) true b.dynamic b.frame (base_frame level b) (base_rest level b)
+    h.dynamic (refl, (refl, (refl, tt)))
 
 pub base-made : DecimalLaws → (level : Level) (b : BaseParts) → IsBase b → (p : ℕ) →
     IsAcceptedNormal level class.BaseCrs 6 (at_place p (item_base (norm_base level b)))
@@ -72,9 +73,8 @@ base-made l level b h =
     (free-orderly level (geodetic_frame_class b.frame) (base_frame level b ∷ []) (base_rest level b)
     (frame-fits true b.frame).1 (ids-orderly level b.identifiers))
     (λ item s r. meridian-there level b.meridian (those class.BaseCrs class.PrimeMeridian (arguments item))
-    (frame-shows level class.BaseCrs item (text_item b.name) true b.dynamic b.frame (base_frame level b) (base_rest level b)
-    (views class.BaseCrs (base_runs level b) item geodetic_classes s)).0)
-    (λ item fault s q. no-bad-dynamic class.BaseCrs item fault (base-steady level b item h s) q)
+    (base-seen level b item h s).0.0)
+    (λ item fault s q. no-bad-dynamic class.BaseCrs item fault (base-seen level b item h s).1 q)
 
 -- ---- projected CRSs
 

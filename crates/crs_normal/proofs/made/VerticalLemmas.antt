@@ -20,15 +20,15 @@ use Rattle.crs_normal.specs.SpelledSystems.{item_head, norm_system}
 use Rattle.crs_normal.proofs.made.AscendLemmas.{set-ascends}
 use Rattle.crs_normal.proofs.made.SystemLemmas.{IsFew}
 use Rattle.crs_normal.proofs.made.BehindLemmas.{AxisEach, axes_run, few-system, behind_arguments, vertical-names}
-use Rattle.crs_normal.proofs.made.DynamicLemmas.{dynamic-argument, dynamic_classes}
+use Rattle.crs_normal.proofs.made.DynamicLemmas.{dynamic-argument}
 use Rattle.crs_normal.proofs.made.FrameLemmas.{vertical-frame-made}
-use Rattle.crs_normal.proofs.made.NodeLemmas.{Run, alone, views, IsOrderly, free-orderly}
+use Rattle.crs_normal.proofs.made.NodeLemmas.{Run, alone, IsOrderly, free-orderly}
 use Rattle.crs_normal.proofs.made.NamedLemmas.{geoid-model-made}
 use Rattle.crs_normal.proofs.made.TailLemmas.{tail_runs, tail_arguments, tail-orderly}
 use Rattle.crs_normal.proofs.normal.DimensionLemmas.{small-vertical}
 use Rattle.crs_normal.proofs.read.NameLemmas.{keyword-names}
 use Rattle.crs_normal.proofs.made.ArgumentLemmas.{Argument, may-of, text-of, node-of, set-of}
-use Rattle.crs_normal.proofs.made.FrontLemmas.{frame-shows, frame-steady, framed_runs, geodetic_classes, crs-node-made, frame-fits}
+use Rattle.crs_normal.proofs.made.FrontLemmas.{framed_runs, crs-node-made, frame-fits, frame-seen}
 
 -- ---- the frame, of one class or the other
 
@@ -93,10 +93,7 @@ vertical-made l each_at level g h =
     crs-node-made l level 5 class.VerticalCrs (codes "VERTCRS") _ _ (vertical_arguments l level g few h) refl (refl, refl)
     refl refl (rw (frame-fits false g.frame).0 (refl {a = true})) (vertical-orderly level g) (dimensions_of class.VerticalCrs) g.system
     g.tail few h.dimension (λ item fault b. b)
-    (λ item s. (
-      (frame-shows level class.VerticalCrs item (text_item g.name) false g.dynamic g.frame (frame_item level g)
-          (vertical_rest level g) (views class.VerticalCrs (vertical_runs level g) item geodetic_classes s)).1,
-      frame-steady level class.VerticalCrs item (text_item g.name) false g.dynamic g.frame (frame_item level g)
-          (vertical_rest level g) h.dynamic (refl, (refl, (refl, tt)))
-          (views class.VerticalCrs (vertical_runs level g) item dynamic_classes s),
-    )) (λ item s seen axes end. (axes, end))
+    (λ item s.
+    let v = frame-seen level class.VerticalCrs item (text_item g.name) false g.dynamic g.frame (frame_item level g)
+    (vertical_rest level g) h.dynamic (refl, (refl, (refl, tt))) s in
+    (v.0.1, v.1)) (λ item s seen axes end. (axes, end))
