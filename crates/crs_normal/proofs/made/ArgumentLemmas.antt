@@ -8,19 +8,21 @@ use Rattle.crs_shape.specs.declared.class.Class.TheVariants as class
 use Rattle.crs_shape.specs.Prelude.{is_keyword, Allowed, SlotParts, class_in, class_named, one, slots_of, takes}
 use Rattle.crs_value.specs.Checks.{Own as BreaksOwn}
 use Rattle.crs_value.specs.declared.values.level.Level.{Level}
-use Rattle.crs_value.specs.Prelude.{IsText}
+use Rattle.crs_value.specs.Prelude.{IsText, those}
 use Rattle.crs_value.specs.Sound.{Each}
 use Rattle.crs_normal.specs.AcceptedNormal.{IsAcceptedNormal}
 use Rattle.crs_normal.specs.DecimalLaws.{DecimalLaws}
 use Rattle.crs_normal.specs.Normal.{IsFirstKeyword, IsNormalIn, AreNormalIn, IsNormalNode}
-use Rattle.crs_normal.specs.NormalOwn.{HasOwnForm, Rise, set_classes}
+use Rattle.crs_normal.specs.NormalOwn.{HasOwnForm, Rise, set_classes, Ascend}
 use Rattle.crs_normal.specs.SpelledItems.{each, node_of, number_item, number_node, opt, text_item, text_node}
 use Rattle.crs_normal.specs.Ordered.{in_order}
 use Rattle.crs_normal.proofs.made.AscendLemmas.{set-each, set-some}
 use Rattle.crs_normal.proofs.made.FitLemmas.{both, given-few, held, more-fit, none-fit, slot-fits}
+use Rattle.crs_normal.proofs.read.ViewLemmas.{each-so}
+use Rattle.crs_normal.proofs.made.PlaceLemmas.{placed-ascend}
 use Rattle.crs_normal.proofs.made.RiseLemmas.{has-rise}
 use Rattle.crs_normal.proofs.made.LeafLemmas.{number-made, text-made}
-use Rattle.crs_normal.proofs.made.NodeLemmas.{IsOrderly, Made, MadeBy, Run, RunsMadeBy, Sees, as-argument, at-level, classes, each-line, each-set, free-orderly, given, is_free, line, lines, node-stands, none-orderly, opt-line, AreNormalBy, Stands, sees-by}
+use Rattle.crs_normal.proofs.made.NodeLemmas.{IsOrderly, Made, MadeBy, Run, RunsMadeBy, Sees, as-argument, at-level, classes, each-line, given, line, lines, node-stands, none-orderly, opt-line, AreNormalBy, Stands, sees-by, IsFree, items_in}
 
 -- arguments of one class, before others: that there is one at least, and that there is one at most, where that is known
 pub record ArgumentBy (N : Class → Class → Item → Type 0) (most : ℕ) (parent : Class) : Type 0 where
@@ -217,7 +219,8 @@ module _ {N : Class → Class → Item → Type 0} (level : Level) (most : ℕ) 
           first_keyword = written;
           at_level = at-level level c runs i look orderly.1.0;
           own_form = own i look (has-rise N most c runs i look (runs-made all) orderly.1.1);
-          ascending_sets = each-set c runs i set_classes look orderly.0;
+          ascending_sets = each-so (λ d. Ascend (items_in d runs)) (λ d. Ascend (those c d (arguments i)))
+              (λ d. placed-ascend (those c d (arguments i)) (items_in d runs) (look.view d)) set_classes orderly.0;
           normal_arguments = normal (arguments i) s.normal;
         },
       )
@@ -249,19 +252,19 @@ made-of level most c keyword first others all same letters known written fitting
 
 module _ (level : Level) (of : Class) (keyword : List ℕ) (letters : IsWord keyword) (known : IsTrue (is_keyword of keyword)) (written : IsFirstKeyword of keyword) (own : (item : Item) → HasOwnForm of item) (unbroken : (item : Item) (fault : RefusedAt) → ¬ (BreaksOwn of item fault)) where
   single-made : (d : Class) (first : Item) → Made level 0 of d first → slots_of of ≡ one d ∷ [] → takes (one d) d ≡ true →
-      is_free d ≡ true → (p : ℕ) → IsAcceptedNormal level of 1 (at_place p (node_of keyword first End))
+      IsFree d → (p : ℕ) → IsAcceptedNormal level of 1 (at_place p (node_of keyword first End))
   single-made d first m slots t free =
       made-of level 0 of keyword _ _ (one-of d first m ∷ []) refl letters known written
-      (rw slots (rw t refl)) (free-orderly level d (first ∷ []) [] free (none-orderly level)) (λ item s r. own item)
+      (rw slots (rw t refl)) (free level (first ∷ []) [] (none-orderly level)) (λ item s r. own item)
       (λ item fault s. unbroken item fault)
 
   pub text-node-made : (raw : List ℕ) → slots_of of ≡ one class.Text ∷ [] → IsText raw → (p : ℕ) →
       IsAcceptedNormal level of 1 (at_place p (text_node keyword raw))
-  text-node-made raw slots h = single-made class.Text (text_item raw) (text-made level 0 of raw h) slots refl refl
+  text-node-made raw slots h = single-made class.Text (text_item raw) (text-made level 0 of raw h) slots refl (λ level items runs k. k)
 
   pub number-node-made : DecimalLaws → (v : Value) → slots_of of ≡ one class.Number ∷ [] → IsNormal v → (p : ℕ) →
       IsAcceptedNormal level of 1 (at_place p (number_node keyword v))
-  number-node-made l v slots h = single-made class.Number (number_item v) (number-made l level 0 of v h) slots refl refl
+  number-node-made l v slots h = single-made class.Number (number_item v) (number-made l level 0 of v h) slots refl (λ level items runs k. k)
 
 module _ {level : Level} {most : ℕ} {parent : Class} (of : Class) (keyword : List ℕ) (letters : IsWord keyword) (known : IsTrue (is_keyword of keyword)) (written : IsFirstKeyword of keyword) (own : (item : Item) → HasOwnForm of item) (unbroken : (item : Item) (fault : RefusedAt) → ¬ (BreaksOwn of item fault)) (named : class_named parent keyword ≡ Some of) (deep : 1 ≤ most) where
   abbrev pub may-text : slots_of of ≡ one class.Text ∷ [] → (o : Option (List ℕ)) → IfSome o IsText →

@@ -23,7 +23,7 @@ use Rattle.crs_normal.specs.SpelledUsages.{norm_tail, tail_items}
 use Rattle.crs_normal.proofs.made.BehindLemmas.{AxisEach, Shows, tail-seen, tail_classes}
 use Rattle.crs_normal.proofs.made.CheckLemmas.{first-number, word-type}
 use Rattle.crs_normal.proofs.made.GeodeticLemmas.{geodetic-made, geodetic-seen}
-use Rattle.crs_normal.proofs.made.NodeLemmas.{Made, Run, alone, as-argument, views, Sees, free-orderly, is_free}
+use Rattle.crs_normal.proofs.made.NodeLemmas.{Made, Run, alone, as-argument, views, Sees, IsFree}
 use Rattle.crs_normal.proofs.made.PlaceLemmas.{none-of}
 use Rattle.crs_normal.proofs.made.ProjectedLemmas.{projected-made, projected-seen}
 use Rattle.crs_normal.proofs.made.SystemLemmas.{IsHeadItem}
@@ -94,9 +94,9 @@ compound_runs level b j name v t =
     alone class.Text (text_item name) ∷ alone (side_class b) j ∷ alone class.VerticalCrs
     (item_vertical (norm_vertical level v)) ∷ tail_runs level t
 
-side-fits : (b : Bool) → (takes (one_of horizontal_classes) (side_class b) ≡ true) × (is_free (side_class b) ≡ true)
-side-fits true = (refl, refl)
-side-fits false = (refl, refl)
+side-fits : (b : Bool) → (takes (one_of horizontal_classes) (side_class b) ≡ true) × IsFree (side_class b)
+side-fits true = (refl, λ level items runs h. h)
+side-fits false = (refl, λ level items runs h. h)
 
 side-shows : (level : Level) (b : Bool) (j : Item) (name : List ℕ) (v : VerticalParts) (t : TailParts) (item : Item) →
     Each (Shows class.CompoundCrs item (compound_runs level b j name v t)) tail_classes →
@@ -133,7 +133,7 @@ side-made l each_at level b j name v t s n h g =
     (vertical-made l each_at level v h) ∷
     tail_arguments l level 7 class.CompoundCrs t (omega arith) compound-names g) refl (refl, refl) refl refl
     (rw (side-fits b).0 (refl {a = true}))
-    (free-orderly level (side_class b) (j ∷ []) (drop 2 runs) (side-fits b).1 (tail-orderly level t))
+    ((side-fits b).1 level (j ∷ []) (drop 2 runs) (tail-orderly level t))
     (λ item q r. has-tail class.CompoundCrs item r (seen item q))
     (λ item fault q. compound-breaks level b j name v t item fault s
     (views class.CompoundCrs runs item horizontal_classes q) (seen item q))

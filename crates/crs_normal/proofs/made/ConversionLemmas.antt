@@ -18,7 +18,7 @@ use Rattle.crs_normal.specs.SpelledConversions.{item_conversion, item_method, it
 use Rattle.crs_normal.specs.SpelledUnits.{item_unit, norm_unit, norm_units}
 use Rattle.crs_normal.proofs.made.AscendLemmas.{set-ascends}
 use Rattle.crs_normal.proofs.made.IdentLemmas.{ids-of, ids-orderly, ids_run}
-use Rattle.crs_normal.proofs.made.NodeLemmas.{Made, as-argument, free-orderly, given, is_free}
+use Rattle.crs_normal.proofs.made.NodeLemmas.{Made, as-argument, given, IsFree}
 use Rattle.crs_normal.proofs.made.NamedLemmas.{method-made}
 use Rattle.crs_normal.proofs.made.UnitLemmas.{unit-made}
 use Rattle.crs_normal.proofs.members.ParameterLemmas.{named-as}
@@ -34,9 +34,9 @@ abbrev unit_classes : List Class
 unit_classes = class.PlainUnit ∷ class.LengthUnit ∷ class.AngleUnit ∷ class.ScaleUnit ∷ []
 
 kind-fits : (k : UnitKind) →
-    IsKindIn (unit_class k) k × (takes (optional_of unit_classes) (unit_class k) ≡ true) × (is_free (unit_class k) ≡ true)
-kind-fits kinds.Length = (refl, refl, refl)
-kind-fits other = (refl, refl, refl)
+    IsKindIn (unit_class k) k × (takes (optional_of unit_classes) (unit_class k) ≡ true) × IsFree (unit_class k)
+kind-fits kinds.Length = (refl, refl, λ level items runs h. h)
+kind-fits other = (refl, refl, λ level items runs h. h)
 
 parameter-unit : DecimalLaws → (level : Level) (x : Option UnitParts) → IfSome x IsUnit →
     Each (Made level 3 class.Parameter (unit_class (given_kind x))) (given item_unit (norm_units level kinds.Plain x))
@@ -57,8 +57,8 @@ parameter-made l level m h =
     may-of (unit_class (given_kind m.unit)) item_unit (norm_units level kinds.Plain m.unit)
     (parameter-unit l level m.unit h.unit) ∷ ids-of l m.identifiers (omega arith) refl h.identifiers ∷ []) refl
     (refl, refl) refl refl (rw (kind-fits (given_kind m.unit)).1 refl)
-    (free-orderly level (unit_class (given_kind m.unit)) (given item_unit (norm_units level kinds.Plain m.unit))
-    (ids_run level m.identifiers ∷ []) (kind-fits (given_kind m.unit)).2 (ids-orderly level m.identifiers))
+    ((kind-fits (given_kind m.unit)).2 level (given item_unit (norm_units level kinds.Plain m.unit))
+    (ids_run level m.identifiers ∷ []) (ids-orderly level m.identifiers))
     (λ item s r. tt) (λ item fault s b. b)
 
 -- ---- conversions

@@ -22,7 +22,7 @@ use Rattle.crs_normal.proofs.made.SystemLemmas.{IsFew}
 use Rattle.crs_normal.proofs.made.BehindLemmas.{Shows, behind, crs_classes, system-seen, tail-seen}
 use Rattle.crs_normal.proofs.made.EllipsoidLemmas.{placed-some}
 use Rattle.crs_normal.proofs.made.DynamicLemmas.{IsSteady, dynamic_classes, dynamic_run, no-bad-dynamic}
-use Rattle.crs_normal.proofs.made.NodeLemmas.{IsOrderly, Run, Sees, alone, given, is_free, items_in, none-shown, views}
+use Rattle.crs_normal.proofs.made.NodeLemmas.{IsOrderly, Run, Sees, alone, given, items_in, none-shown, views, IsFree}
 use Rattle.crs_normal.proofs.made.ArgumentLemmas.{Argument, as_runs, fit, lay, made-of}
 use Rattle.crs_normal.proofs.made.PlaceLemmas.{ArePlaced}
 use Rattle.crs_normal.proofs.made.CheckLemmas.{IsSystemIn, has-axes, no-bad-systems}
@@ -54,11 +54,11 @@ abbrev pub framed_runs : Bool → Level → Item → Option DynamicParts → Fra
 framed_runs b level n x f j rest = alone class.Text n ∷ dynamic_run level x ∷ alone (frame_class b f) j ∷ rest
 
 pub frame-fits : (b : Bool) (f : Frame) →
-    (takes (one_of (frame_classes b)) (frame_class b f) ≡ true) × (is_free (frame_class b f) ≡ true)
-frame-fits true (frame.Datum d) = (refl, refl)
-frame-fits true (frame.Ensemble e) = (refl, refl)
-frame-fits false (frame.Datum d) = (refl, refl)
-frame-fits false (frame.Ensemble e) = (refl, refl)
+    (takes (one_of (frame_classes b)) (frame_class b f) ≡ true) × IsFree (frame_class b f)
+frame-fits true (frame.Datum d) = (refl, λ level items runs h. h)
+frame-fits true (frame.Ensemble e) = (refl, λ level items runs h. h)
+frame-fits false (frame.Datum d) = (refl, λ level items runs h. h)
+frame-fits false (frame.Ensemble e) = (refl, λ level items runs h. h)
 
 -- what is in a CRS or base with a prime meridian
 abbrev pub geodetic_classes : List Class

@@ -27,7 +27,7 @@ use Rattle.crs_normal.proofs.made.CheckLemmas.{IsSystemSeen, IsSystemIn}
 use Rattle.crs_normal.proofs.made.DynamicLemmas.{dynamic-argument, IsSteady}
 use Rattle.crs_normal.proofs.made.FrameLemmas.{geodetic-frame-made}
 use Rattle.crs_normal.proofs.made.FrontLemmas.{NamesFrame, framed_runs, geodetic_classes, meridian-there, crs-node-made, frame-named, frame-fits, frame-seen}
-use Rattle.crs_normal.proofs.made.NodeLemmas.{Run, Sees, given, free-orderly}
+use Rattle.crs_normal.proofs.made.NodeLemmas.{Run, Sees, given}
 use Rattle.crs_normal.proofs.made.PlaceLemmas.{same-of}
 use Rattle.crs_normal.proofs.made.MeridianLemmas.{meridian-argument}
 use Rattle.crs_normal.proofs.made.TailLemmas.{NamesTail, tail_arguments, tail-orderly}
@@ -164,8 +164,7 @@ geodetic-made l each_at level g h =
     let r = is-root g.system.system_type in
     crs-node-made l level 5 c keyword _ _ (geodetic_arguments l level c keyword g r few h) refl r.letters r.known r.written
     (rw r.slots (rw (frame-fits true g.frame).0 (refl {a = true})))
-    (free-orderly level (geodetic_frame_class g.frame) (frame_item level g ∷ []) (geodetic_rest level g)
-    (frame-fits true g.frame).1 (tail-orderly level g.tail)) r.dimensions g.system g.tail few
+    ((frame-fits true g.frame).1 level (frame_item level g ∷ []) (geodetic_rest level g) (tail-orderly level g.tail)) r.dimensions g.system g.tail few
     (r.allows g.system.dimension h.dimension) r.breaks
     (λ item s. let v = geodetic-shown level c g item h s in (v.0.1, v.1))
     (λ item s seen. r.own item

@@ -21,7 +21,7 @@ use Rattle.crs_normal.proofs.read.ViewLemmas.{each-so}
 use Rattle.crs_normal.proofs.members.SetLemmas.{each-in_order}
 use Rattle.crs_normal.proofs.made.ArgumentLemmas.{Argument, any-of, made-of, may-of, may-text, one-of, text-of}
 use Rattle.crs_normal.proofs.made.LeafLemmas.{IsCodeKind, code-kind, code-made, code_kind}
-use Rattle.crs_normal.proofs.made.NodeLemmas.{IsOrderly, Made, Run, alone, as-argument, free-orderly, given, is_free, line, none-orderly}
+use Rattle.crs_normal.proofs.made.NodeLemmas.{IsOrderly, Made, Run, alone, as-argument, given, line, none-orderly, IsFree}
 
 -- ---- identifiers, with the kinds of the code and the version
 
@@ -37,9 +37,9 @@ ident_runs i =
     record { of = class.Citation; items = given (text_node (codes "CITATION")) i.citation } ∷
     record { of = class.Uri; items = given (text_node (codes "URI")) i.uri } ∷ []
 
-kind-free : (k : Kind) → is_free (class_of_kind k) ≡ true
-kind-free number = refl
-kind-free other = refl
+kind-free : (k : Kind) → IsFree (class_of_kind k)
+kind-free number level items runs h = h
+kind-free other level items runs h = h
 
 abbrev code_classes : List Class
 code_classes = class.Number ∷ class.Text ∷ []
@@ -87,10 +87,8 @@ ident-made l level i h =
     (λ item fault b. b) refl (omega arith) refl i.uri h.uri ∷ []) refl (refl, refl) refl refl
     (rw (code-taken (code_kind i.code) i.code (code-kind i.code h.code))
     (rw (version-taken i.version h.version) (refl {a = true})))
-    (free-orderly level (class_of_kind (code_kind i.code)) (code_item i.code ∷ []) (drop 2 (ident_runs i))
-    (kind-free (code_kind i.code))
-    (free-orderly level (class_of_kind (version_kind i.version)) (given code_item i.version) (drop 3 (ident_runs i))
-    (kind-free (version_kind i.version)) (none-orderly level)))
+    (kind-free (code_kind i.code) level (code_item i.code ∷ []) (drop 2 (ident_runs i))
+    (kind-free (version_kind i.version) level (given code_item i.version) (drop 3 (ident_runs i)) (none-orderly level)))
     (λ item s r. subst (λ js. Each IsCode (single_of (skip 1 js) ++ single_of (skip 2 js))) (sym s.are)
     (code-is (code_kind i.code) i.code _ _ (code-kind i.code h.code) (version-is i.version i.citation i.uri _ h.version)))
     (λ item fault s b. b)

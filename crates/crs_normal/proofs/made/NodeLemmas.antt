@@ -1,6 +1,6 @@
 -- A node of arguments that are accepted and normal is accepted and normal itself: what it asks of
 -- its arguments is said of them as runs of one class each, with all places left out.
-use Rattle.std.proofs.Common.{◌≡◌, ℕ, suc, ◌+◌, ◌≤◌, ◌⊎◌, Bool, true, false, true≢false, IsTrue, Option, Some, None, List, [], ◌∷◌, ◌++◌, map, length, if◌then◌else◌, refl, sym, ap, subst, ◌∙◌, arith, nat_le}
+use Rattle.std.proofs.Common.{◌≡◌, ℕ, suc, ◌+◌, ◌≤◌, ◌⊎◌, Bool, true, false, IsTrue, Option, Some, None, List, [], ◌∷◌, ◌++◌, map, length, if◌then◌else◌, refl, sym, ap, subst, ◌∙◌, arith, nat_le}
 use Rattle.std.proofs.Math.Logic.{⊎_elim}
 use Rattle.crs_text.specs.Prelude.{Item, IsNode, Siblings, End, More, arguments, depth, depths, RefusedAt, IsWord, AreFormed, AreAllFormed, at_place, at_places, item_text}
 use Rattle.crs_shape.specs.declared.class.Class.{Class}
@@ -15,7 +15,8 @@ use Rattle.crs_normal.specs.NormalOwn.{Ascend, rank, set_classes}
 use Rattle.crs_value.specs.Sound.{Each}
 use Rattle.crs_normal.specs.SpelledItems.{each, node_of, opt}
 use Rattle.crs_normal.proofs.texts.SegmentLemmas.{placed-none}
-use Rattle.crs_normal.proofs.made.PlaceLemmas.{ArePlaced, class-at, placed-ascend, those-placed}
+use Rattle.crs_normal.proofs.read.ViewLemmas.{each-so}
+use Rattle.crs_normal.proofs.made.PlaceLemmas.{ArePlaced, class-at, those-placed}
 
 -- ---- runs: arguments of one class, in order
 
@@ -194,29 +195,10 @@ pub none-orderly : (level : Level) → IsOrderly level []
 none-orderly level =
     ((tt, (tt, (tt, (tt, (tt, tt))))), ((kept-none level, (kept-none level, (kept-none level, tt))), refl))
 
--- a class of no set, that no level leaves out, and of no rank
-abbrev pub is_free : Class → Bool
-is_free class.Identifier = false
-is_free class.Usage = false
-is_free class.Remark = false
-is_free class.Member = false
-is_free class.Parameter = false
-is_free class.GeoidModel = false
-is_free class.Anchor = false
-is_free class.AnchorEpoch = false
-is_free other = true
-
-pub free-orderly : (level : Level) (c : Class) (items : List Item) (runs : List Run) → is_free c ≡ true →
-    IsOrderly level runs → IsOrderly level (record { of = c; items = items } ∷ runs)
-free-orderly level class.Identifier items runs e h = absurd (true≢false (sym e))
-free-orderly level class.Usage items runs e h = absurd (true≢false (sym e))
-free-orderly level class.Remark items runs e h = absurd (true≢false (sym e))
-free-orderly level class.Member items runs e h = absurd (true≢false (sym e))
-free-orderly level class.Parameter items runs e h = absurd (true≢false (sym e))
-free-orderly level class.GeoidModel items runs e h = absurd (true≢false (sym e))
-free-orderly level class.Anchor items runs e h = absurd (true≢false (sym e))
-free-orderly level class.AnchorEpoch items runs e h = absurd (true≢false (sym e))
-free-orderly level other items runs e h = h
+-- arguments of this class leave those behind them in order: it is of no set, and ranks below all
+abbrev pub IsFree : Class → Type 0
+IsFree c = (level : Level) (items : List Item) (runs : List Run) → IsOrderly level runs →
+    IsOrderly level (record { of = c; items = items } ∷ runs)
 
 -- where none is written, none is found
 pub none-shown : (items js : List Item) → js ≡ [] → ArePlaced items js → items ≡ []
@@ -224,14 +206,11 @@ none-shown items js none h = placed-none items (subst (ArePlaced items) none h)
 
 pub at-level : (level : Level) (c : Class) (runs : List Run) (item : Item) → Sees c runs item → KeepsRuns level runs →
     AtLevel level c item
-at-level level c runs item s left =
-    (one class.Identifier left.0, (one class.Usage left.1.0, (one class.Remark left.1.1.0, tt)))
-  where
-    one : (d : Class) → kept level (items_in d runs) ≡ items_in d runs →
-        kept level (those c d (arguments item)) ≡ those c d (arguments item)
-    one d =
-        kept-where_none level (items_in d runs) (those c d (arguments item))
-        (λ none. none-shown (those c d (arguments item)) (items_in d runs) none (s.view d))
+at-level level c runs item s =
+    each-so (λ d. kept level (items_in d runs) ≡ items_in d runs)
+    (λ d. kept level (those c d (arguments item)) ≡ those c d (arguments item))
+    (λ d. kept-where_none level (items_in d runs) (those c d (arguments item))
+    (λ none. none-shown (those c d (arguments item)) (items_in d runs) none (s.view d))) left_out
 
 pub sees-by : (N : Class → Class → Item → Type 0) (most : ℕ) (c : Class) (keyword : List ℕ) (first : Item) (others : Siblings) (runs : List Run)
     (p : ℕ) →
@@ -244,13 +223,6 @@ sees-by N most c keyword first others runs p same made = record {
       (ap (those c e) same ∙ those-lines N most c e runs made) (those-placed c e (p + length keyword)
       (More first others));
 }
-
-pub each-set : (c : Class) (runs : List Run) (item : Item) (es : List Class) → Sees c runs item →
-    Each (λ d. Ascend (items_in d runs)) es →
-    Each (λ d. Ascend (those c d (arguments item))) es
-each-set c runs item [] s h = tt
-each-set c runs item (e ∷ es) s h =
-    (placed-ascend (those c e (arguments item)) (items_in e runs) (s.view e) h.0, each-set c runs item es s h.1)
 
 -- the item is accepted as one of its class, and its arguments are normal in this sense
 pub record Stands (N : Class → Class → Item → Type 0) (c : Class) (most : ℕ) (item : Item) : Type 0 where

@@ -26,7 +26,7 @@ use Rattle.crs_normal.proofs.made.EllipsoidLemmas.{given-unit}
 use Rattle.crs_normal.proofs.made.FrameLemmas.{geodetic-frame-made}
 use Rattle.crs_normal.proofs.made.FrontLemmas.{framed_runs, geodetic_classes, meridian-there, crs-node-made, frame-named, frame-fits, frame-seen}
 use Rattle.crs_normal.proofs.made.IdentLemmas.{ids_run, ids-of, ids-orderly}
-use Rattle.crs_normal.proofs.made.NodeLemmas.{Run, Sees, alone, given, views, free-orderly, none-shown}
+use Rattle.crs_normal.proofs.made.NodeLemmas.{Run, Sees, alone, given, views, none-shown}
 use Rattle.crs_normal.proofs.made.MeridianLemmas.{meridian-argument}
 use Rattle.crs_normal.proofs.made.TailLemmas.{tail_arguments, tail-orderly}
 use Rattle.crs_normal.proofs.normal.DimensionLemmas.{small-projected}
@@ -70,8 +70,7 @@ base-made l level b h =
     (given-unit l level 5 class.BaseCrs class.AngleUnit kinds.Angle b.unit (omega arith) refl refl h.unit) ∷
     ids-of l b.identifiers (omega arith) refl h.identifiers ∷ []) refl (refl, refl) refl refl
     (rw (frame-fits true b.frame).0 refl)
-    (free-orderly level (geodetic_frame_class b.frame) (base_frame level b ∷ []) (base_rest level b)
-    (frame-fits true b.frame).1 (ids-orderly level b.identifiers))
+    ((frame-fits true b.frame).1 level (base_frame level b ∷ []) (base_rest level b) (ids-orderly level b.identifiers))
     (λ item s r. meridian-there level b.meridian (those class.BaseCrs class.PrimeMeridian (arguments item))
     (base-seen level b item h s).0.0)
     (λ item fault s q. no-bad-dynamic class.BaseCrs item fault (base-seen level b item h s).1 q)

@@ -22,7 +22,7 @@ use Rattle.crs_normal.proofs.made.SystemLemmas.{IsFew}
 use Rattle.crs_normal.proofs.made.BehindLemmas.{AxisEach, axes_run, few-system, behind_arguments, vertical-names}
 use Rattle.crs_normal.proofs.made.DynamicLemmas.{dynamic-argument}
 use Rattle.crs_normal.proofs.made.FrameLemmas.{vertical-frame-made}
-use Rattle.crs_normal.proofs.made.NodeLemmas.{Run, alone, IsOrderly, free-orderly}
+use Rattle.crs_normal.proofs.made.NodeLemmas.{Run, alone, IsOrderly}
 use Rattle.crs_normal.proofs.made.NamedLemmas.{geoid-model-made}
 use Rattle.crs_normal.proofs.made.TailLemmas.{tail_runs, tail_arguments, tail-orderly}
 use Rattle.crs_normal.proofs.normal.DimensionLemmas.{small-vertical}
@@ -81,8 +81,7 @@ vertical-orderly : (level : Level) (g : VerticalParts) → IsOrderly level (vert
 unfolding set_geoid_models
 vertical-orderly level g =
     let end = tail-orderly level g.tail in
-    free-orderly level (vertical_frame_class g.frame) (frame_item level g ∷ []) (vertical_rest level g)
-    (frame-fits false g.frame).1
+    (frame-fits false g.frame).1 level (frame_item level g ∷ []) (vertical_rest level g)
     ((end.0.0, (end.0.1.0, (tt, (tt, (set-ascends item_geoid_model (map (norm_geoid_model level) g.geoid_models), tt))))), end.1)
 
 pub vertical-made : DecimalLaws → AxisEach → (level : Level) (g : VerticalParts) → IsVertical g → (p : ℕ) →
