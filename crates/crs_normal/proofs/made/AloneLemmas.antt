@@ -13,13 +13,14 @@ use Rattle.crs_value.specs.declared.values.level.Level.{Level}
 use Rattle.crs_value.specs.Sound.{Each}
 use Rattle.crs_matching.specs.Prelude.{kind_as}
 use Rattle.crs_normal.specs.AxisAlone.{AreNormalArguments, IsNormalArgument, IsNormalAxis}
+use Rattle.crs_normal.specs.AcceptedNormal.{IsKindIn}
 use Rattle.crs_normal.specs.DecimalLaws.{DecimalLaws}
 use Rattle.crs_normal.specs.Normal.{IsNormalIn}
 use Rattle.crs_normal.specs.PartTexts.{norm_axis_alone}
 use Rattle.crs_normal.specs.SpelledItems.{number_node, word_item}
 use Rattle.crs_normal.specs.SpelledSystems.{item_axis, item_axis_meridian, norm_axis_meridians}
 use Rattle.crs_normal.specs.SpelledUnits.{item_unit, norm_units}
-use Rattle.crs_normal.proofs.made.AxisLemmas.{axis-meridians-made, known-direction, order-argument}
+use Rattle.crs_normal.proofs.made.AxisLemmas.{axis-meridians-made, known-direction, order-argument, axis-names}
 use Rattle.crs_normal.proofs.made.IdentLemmas.{ids-orderly, ids-of}
 use Rattle.crs_normal.proofs.made.LeafLemmas.{word-made}
 use Rattle.crs_normal.proofs.made.NodeLemmas.{Stands, node-stands, Made, MadeBy, as-argument, given, AreNormalBy}
@@ -95,16 +96,17 @@ module _ (l : DecimalLaws) (level : Level) (u : UnitParts) (h : IsUnit u) where
         };
   }
 
+  suited : (kind : UnitKind) → IsKindIn class.AxisUnit kind →
+      MadeBy (AsArgument level) 4 class.Axis class.AxisUnit (item_unit (unit_as level kind u))
+  suited kind k =
+      made-alone level 4 class.AxisUnit (item_unit (unit_as level kind u))
+      (as-argument level 3 4 class.Axis class.AxisUnit (item_unit (unit_as level kind u)) (omega arith)
+      (axis-names kind k) (unit-made l level class.AxisUnit kind u k h))
+
   unit-alone : (kind : UnitKind) → kind ≢ kinds.Scale →
       MadeBy (AsArgument level) 4 class.Axis class.AxisUnit (item_unit (unit_as level (kind_as kinds.Plain kind) u))
-  unit-alone kinds.Length n =
-      made-alone level 4 class.AxisUnit (item_unit (unit_as level kinds.Length u))
-      (as-argument level 3 4 class.Axis class.AxisUnit (item_unit (unit_as level kinds.Length u)) (omega arith)
-      (keyword-names class.Axis (codes "LENGTHUNIT")) (unit-made l level class.AxisUnit kinds.Length u (inl refl) h))
-  unit-alone kinds.Angle n =
-      made-alone level 4 class.AxisUnit (item_unit (unit_as level kinds.Angle u))
-      (as-argument level 3 4 class.Axis class.AxisUnit (item_unit (unit_as level kinds.Angle u)) (omega arith)
-      (keyword-names class.Axis (codes "ANGLEUNIT")) (unit-made l level class.AxisUnit kinds.Angle u (inr refl) h))
+  unit-alone kinds.Length n = suited kinds.Length (inl refl)
+  unit-alone kinds.Angle n = suited kinds.Angle (inr refl)
   unit-alone kinds.Scale n = absurd (n refl)
   unit-alone kinds.Plain n = plain-alone
 

@@ -74,7 +74,7 @@ asked-in types.Ellipsoidal d = vertical-in d
 asked-in types.Spherical d = vertical-in d
 asked-in types.Vertical d = inl refl
 
-axis-names : (kind : UnitKind) → IsKindIn class.AxisUnit kind →
+pub axis-names : (kind : UnitKind) → IsKindIn class.AxisUnit kind →
     class_named class.Axis (unit_word kind) ≡ Some class.AxisUnit
 unfolding class_named is_keyword
 axis-names kind (inl e) = subst (λ k. class_named class.Axis (unit_word k) ≡ Some class.AxisUnit) (sym e) refl

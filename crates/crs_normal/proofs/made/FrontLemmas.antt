@@ -4,8 +4,7 @@ use Rattle.std.proofs.Common.{◌≡◌, ◌≢◌, ℕ, suc, IsTrue, ◌++◌, 
 use Rattle.crs_text.specs.Prelude.{Item, More, Siblings, IsWord, at_place, RefusedAt}
 use Rattle.crs_shape.specs.declared.class.Class.{Class}
 use Rattle.crs_shape.specs.declared.class.Class.TheVariants as class
-use Rattle.crs_shape.specs.declared.system_type.SystemType.{SystemType}
-use Rattle.crs_shape.specs.Prelude.{class_in, class_named, is_keyword, one_of, slots_of, takes, IsOneOf}
+use Rattle.crs_shape.specs.Prelude.{class_in, class_named, dimensions_of, is_keyword, one_of, slots_of, takes, IsOneOf}
 use Rattle.crs_value.specs.declared.values.frame.Frame.{Frame}
 use Rattle.crs_value.specs.declared.values.frame.Frame.TheVariants as frame
 use Rattle.crs_value.specs.declared.values.level.Level.{Level}
@@ -112,14 +111,12 @@ meridian-there level (Some m) items h = placed-some items [] (item_meridian (nor
 pub crs-node-made : (l : DecimalLaws) (level : Level) (most : ℕ) (c : Class) (keyword : List ℕ) (first : Item)
     (others : Siblings) (all : List (Argument level most c)) → More first others ≡ lay all → IsWord keyword →
     IsTrue (is_keyword c keyword) → IsFirstKeyword c keyword → fit (slots_of c) all ≡ true → IsOrderly level (as_runs all) →
-    (dimensions : SystemType → List ℕ) (s : SystemParts) (t : TailParts) → IsFew s →
-    IsOneOf s.dimension (dimensions s.system_type) →
-    ((item : Item) (fault : RefusedAt) → BreaksOwn c item fault → OfCrs dimensions c item fault) →
+    (s : SystemParts) (t : TailParts) → IsFew s → IsOneOf s.dimension (dimensions_of c s.system_type) →
+    ((item : Item) (fault : RefusedAt) → BreaksOwn c item fault → OfCrs (dimensions_of c) c item fault) →
     ((item : Item) → Sees c (as_runs all) item → Each (Shows c item (behind level s t)) crs_classes × IsSteady c item) →
     ((item : Item) → Sees c (as_runs all) item → IsSystemIn s c item → HasAxes c item → HasTail c item →
     HasOwnForm c item) → (p : ℕ) → IsAcceptedNormal level c (suc most) (at_place p (node_of keyword first others))
-crs-node-made l level most c keyword first others all same letters known written fitting orderly dimensions s t few one breaks
-    shown own =
+crs-node-made l level most c keyword first others all same letters known written fitting orderly s t few one breaks shown own =
     made-of level most c keyword first others all same letters known written fitting orderly
     (λ item look r.
     let v = (shown item look).0 in
@@ -128,5 +125,5 @@ crs-node-made l level most c keyword first others all same letters known written
     (λ item fault look b.
     let v = shown item look in
     ⊎_elim (no-repeats c item fault (tail-seen level c item t v.0.1.1.1))
-    (⊎_elim (no-bad-systems l dimensions s.system_type s.dimension _ _ _ fault few.system.dimension one
+    (⊎_elim (no-bad-systems l (dimensions_of c) s.system_type s.dimension _ _ _ fault few.system.dimension one
     (system-seen l level c item s t few v.0)) (no-bad-dynamic c item fault v.1)) (breaks item fault b))

@@ -47,9 +47,8 @@ record IsRootClass (t : SystemType) (c : Class) (keyword : List ℕ) : Type 0 wh
   tails : NamesTail c
   dynamic : class_named c (codes "DYNAMIC") ≡ Some class.Dynamic
   meridian : class_named c (codes "PRIMEM") ≡ Some class.PrimeMeridian
-  dimensions : SystemType → List ℕ
-  allows : (d : Value) → IsOneOf d (dimensions_of class.GeodeticCrs t) → IsOneOf d (dimensions t)
-  breaks : (item : Item) (fault : RefusedAt) → BreaksOwn c item fault → OfCrs dimensions c item fault
+  allows : (d : Value) → IsOneOf d (dimensions_of class.GeodeticCrs t) → IsOneOf d (dimensions_of c t)
+  breaks : (item : Item) (fault : RefusedAt) → BreaksOwn c item fault → OfCrs (dimensions_of c) c item fault
   own : (item : Item) → Each (λ cs. words_in class.CoordinateSystem cs ≡ system_word t ∷ [])
       (those c class.CoordinateSystem (arguments item)) →
       Has c class.PrimeMeridian item → HasAxes c item → HasTail c item → HasOwnForm c item
@@ -76,7 +75,6 @@ geodetic-root t n = record {
   tails = record { usage = refl; ident = refl; remark = refl };
   dynamic = refl;
   meridian = refl;
-  dimensions = dimensions_of class.GeodeticCrs;
   allows = λ d h. h;
   breaks = λ item fault b. b;
   own = λ item words meridian axes end. (
@@ -99,7 +97,6 @@ geographic-root = record {
   tails = record { usage = refl; ident = refl; remark = refl };
   dynamic = refl;
   meridian = refl;
-  dimensions = dimensions_of class.GeographicCrs;
   allows = λ d h. h;
   breaks = λ item fault b. b;
   own = λ item words meridian axes end. (meridian, axes, end);
@@ -164,7 +161,7 @@ geodetic-made l each_at level g h =
     let r = is-root g.system.system_type in
     crs-node-made l level 5 c keyword _ _ (geodetic_arguments l level c keyword g r few h) refl r.letters r.known r.written
     (rw r.slots (rw (frame-fits true g.frame).0 (refl {a = true})))
-    ((frame-fits true g.frame).1 level (frame_item level g ∷ []) (geodetic_rest level g) (tail-orderly level g.tail)) r.dimensions g.system g.tail few
+    ((frame-fits true g.frame).1 level (frame_item level g ∷ []) (geodetic_rest level g) (tail-orderly level g.tail)) g.system g.tail few
     (r.allows g.system.dimension h.dimension) r.breaks
     (λ item s. let v = geodetic-shown level c g item h s in (v.0.1, v.1))
     (λ item s seen. r.own item

@@ -84,12 +84,6 @@ abbrev pub RunsMadeBy : (Class → Class → Item → Type 0) → ℕ → Class 
 RunsMadeBy N most c [] = Unit {0}
 RunsMadeBy N most c (run ∷ runs) = Each (MadeBy N most c run.of) run.items × RunsMadeBy N most c runs
 
-abbrev AreMade : (Class → Class → Item → Type 0) → ℕ → Class → List Class → Siblings → Type 0
-AreMade N most c [] End = Unit {0}
-AreMade N most c [] (More j js) = ⊥
-AreMade N most c (d ∷ ds) End = ⊥
-AreMade N most c (d ∷ ds) (More j js) = MadeBy N most c d j × AreMade N most c ds js
-
 named-if : (c d e : Class) (j : Item) (js : Siblings) → class_in c j ≡ Some d →
     those c e (More j js) ≡ (if is_same e d then j ∷ those c e js else those c e js)
 named-if c d e j js h = ap (λ o. if is_class e o then j ∷ those c e js else those c e js) h
@@ -115,18 +109,6 @@ those-lines N most c e (run ∷ runs) h =
     named-run N most c e run.of (is_same e run.of) refl run.items (lines runs) h.0
     ∙ ap (λ t. if is_same e run.of then run.items ++ t else t) (those-lines N most c e runs h.1)
 
-made-line : (N : Class → Class → Item → Type 0) (most : ℕ) (c d : Class) (js : List Item) (ds : List Class) (rest : Siblings) →
-    Each (MadeBy N most c d) js →
-    AreMade N most c ds rest → AreMade N most c (repeated d js ds) (line js rest)
-made-line N most c d [] ds rest h more = more
-made-line N most c d (j ∷ js) ds rest h more = (h.0, made-line N most c d js ds rest h.1 more)
-
-made-lines : (N : Class → Class → Item → Type 0) (most : ℕ) (c : Class) (runs : List Run) → RunsMadeBy N most c runs →
-    AreMade N most c (classes runs) (lines runs)
-made-lines N most c [] h = tt
-made-lines N most c (run ∷ runs) h =
-    made-line N most c run.of run.items (classes runs) (lines runs) h.0 (made-lines N most c runs h.1)
-
 -- ---- what holds of the arguments of a node
 
 pub at-class : (P : Class → Type 0) (o : Option Class) (d : Class) → o ≡ Some d → P d → AtClass o P
@@ -147,27 +129,32 @@ record AreStanding (N : Class → Class → Item → Type 0) (most : ℕ) (c : C
   unbroken : (fault : RefusedAt) → ¬ (BreaksAmong c items fault)
   normal : AreNormalBy N c items
 
-all-standing : (N : Class → Class → Item → Type 0) (most : ℕ) (c : Class) (s : ℕ) (ds : List Class) (js : Siblings) →
-    AreMade N most c ds js → AreStanding N most c ds (at_places s js)
-all-standing N most c s [] End h =
-    record { formed = tt; within = omega arith; shaped = tt; unbroken = λ fault b. b; normal = tt }
-all-standing N most c s [] (More j js) h = absurd h
-all-standing N most c s (d ∷ ds) End h = absurd h
-all-standing N most c s (d ∷ ds) (More j js) h =
+standing-line : (N : Class → Class → Item → Type 0) (most : ℕ) (c d : Class) (js : List Item) (ds : List Class)
+    (rest : Siblings) (s : ℕ) → Each (MadeBy N most c d) js → ((s : ℕ) → AreStanding N most c ds (at_places s rest)) →
+    AreStanding N most c (repeated d js ds) (at_places s (line js rest))
+standing-line N most c d [] ds rest s h more = more s
+standing-line N most c d (j ∷ js) ds rest s h more =
     let i : Item = at_place (s + 1) j in
     let f = h.0.fine (s + 1) in
     let n : class_in c i ≡ Some d = class-at c (s + 1) j ∙ h.0.named in
-    let rest = all-standing N most c (s + 1 + length (item_text j)) ds js h.1 in
+    let others = standing-line N most c d js ds rest (s + 1 + length (item_text j)) h.1 more in
     let high : depth i ≤ most = f.within in
-    let deep : depths (at_places (s + 1 + length (item_text j)) js) ≤ most = rest.within in
+    let deep : depths (at_places (s + 1 + length (item_text j)) (line js rest)) ≤ most = others.within in
     record {
-      formed = (f.formed, rest.formed);
+      formed = (f.formed, others.formed);
       within = omega arith;
-      shaped = (n, (f.shaped, rest.shaped));
+      shaped = (n, (f.shaped, others.shaped));
       unbroken = λ fault.
-          ⊎_elim (not-at-class (λ e. Breaks e i fault) (class_in c i) d n (f.unbroken fault)) (rest.unbroken fault);
-      normal = (at-class (λ e. N c e i) (class_in c i) d n f.normal, rest.normal);
+          ⊎_elim (not-at-class (λ e. Breaks e i fault) (class_in c i) d n (f.unbroken fault)) (others.unbroken fault);
+      normal = (at-class (λ e. N c e i) (class_in c i) d n f.normal, others.normal);
     }
+
+standing-lines : (N : Class → Class → Item → Type 0) (most : ℕ) (c : Class) (runs : List Run) (s : ℕ) →
+    RunsMadeBy N most c runs → AreStanding N most c (classes runs) (at_places s (lines runs))
+standing-lines N most c [] s h =
+    record { formed = tt; within = omega arith; shaped = tt; unbroken = λ fault b. b; normal = tt }
+standing-lines N most c (run ∷ runs) s h =
+    standing-line N most c run.of run.items (classes runs) (lines runs) s h.0 (λ q. standing-lines N most c runs q h.1)
 
 -- ---- nodes
 
@@ -233,11 +220,11 @@ pub record Stands (N : Class → Class → Item → Type 0) (c : Class) (most : 
   pub normal : AreNormalBy N c (arguments item)
 
 module _ (N : Class → Class → Item → Type 0) (most : ℕ) (c : Class) (keyword : List ℕ) (first : Item) (others : Siblings) (runs : List Run) (same : More first others ≡ lines runs) (letters : IsWord keyword) (known : IsTrue (is_keyword c keyword)) (made : RunsMadeBy N most c runs) (allowed : Allowed (slots_of c) (classes runs)) (unbroken : (item : Item) (fault : RefusedAt) → Sees c runs item → ¬ (BreaksOwn c item fault)) where
-  stands-at : (ds : List Class) (p : ℕ) → ds ≡ classes runs → AreMade N most c ds (More first others) →
+  stands-at : (ds : List Class) (p : ℕ) → ds ≡ classes runs →
+      AreStanding N most c ds (at_places (p + length keyword) (More first others)) →
       Stands N c (suc most) (at_place p (node_of keyword first others))
-  stands-at [] p q h = absurd h
-  stands-at (d ∷ ds) p q h =
-      let a = all-standing N most c (p + length keyword) (d ∷ ds) (More first others) h in
+  stands-at [] p q a = absurd a.shaped
+  stands-at (d ∷ ds) p q a =
       let deep : depths (at_places (p + length keyword) (More first others)) ≤ most = a.within in
       let look = sees-by N most c keyword first others runs p same made in
       record {
@@ -254,7 +241,9 @@ module _ (N : Class → Class → Item → Type 0) (most : ℕ) (c : Class) (key
 
   pub node-stands : (p : ℕ) → Stands N c (suc most) (at_place p (node_of keyword first others))
   node-stands p =
-      stands-at (classes runs) p refl (subst (AreMade N most c (classes runs)) (sym same) (made-lines N most c runs made))
+      stands-at (classes runs) p refl
+      (subst (λ js. AreStanding N most c (classes runs) (at_places (p + length keyword) js)) (sym same)
+      (standing-lines N most c runs (p + length keyword) made))
 
 -- a made node as an argument of another
 pub as-argument : (level : Level) (n most : ℕ) (parent c : Class) (j : Item) → n ≤ most → class_in parent j ≡ Some c →

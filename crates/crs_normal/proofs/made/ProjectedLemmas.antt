@@ -102,7 +102,7 @@ unfolding BreaksOwn is_keyword
 projected-made l each_at level g h =
     let few = projected-few l each_at g h in
     crs-node-made l level 6 class.ProjectedCrs (codes "PROJCRS") _ _ (projected_arguments l level g few h) refl (refl, refl)
-    refl refl refl (tail-orderly level g.tail) (dimensions_of class.ProjectedCrs) g.system g.tail few h.dimension
+    refl refl refl (tail-orderly level g.tail) g.system g.tail few h.dimension
     (λ item fault b. b)
     (λ item s. (
       views class.ProjectedCrs (projected_runs level g) item crs_classes s,

@@ -90,8 +90,7 @@ unfolding BreaksOwn is_keyword set_geoid_models
 vertical-made l each_at level g h =
     let few = few-system l each_at (dimensions_of class.VerticalCrs) small-vertical g.system h.system h.dimension in
     crs-node-made l level 5 class.VerticalCrs (codes "VERTCRS") _ _ (vertical_arguments l level g few h) refl (refl, refl)
-    refl refl (rw (frame-fits false g.frame).0 (refl {a = true})) (vertical-orderly level g) (dimensions_of class.VerticalCrs) g.system
-    g.tail few h.dimension (λ item fault b. b)
+    refl refl (rw (frame-fits false g.frame).0 (refl {a = true})) (vertical-orderly level g) g.system g.tail few h.dimension (λ item fault b. b)
     (λ item s.
     let v = frame-seen level class.VerticalCrs item (text_item g.name) false g.dynamic g.frame (frame_item level g)
     (vertical_rest level g) h.dynamic (refl, (refl, (refl, tt))) s in
