@@ -1,7 +1,6 @@
 -- Datums are made.
 use Rattle.std.proofs.Common.{ℕ, ◌++◌, Option, Some, None, List, [], ◌∷◌, drop, codes, IfSome, IsNone, IsSome, inl, inr, refl, arith, ◌≡◌, subst}
-use Rattle.std.specs.Option.{option_map}
-use Rattle.crs_text.specs.Prelude.{Item, Siblings, End, arguments, RefusedAt, at_place}
+use Rattle.crs_text.specs.Prelude.{Item, Siblings, arguments, RefusedAt, at_place}
 use Rattle.crs_shape.specs.declared.class.Class.{Class}
 use Rattle.crs_shape.specs.declared.class.Class.TheVariants as class
 use Rattle.crs_shape.specs.Prelude.{is_keyword, class_named}
@@ -11,14 +10,13 @@ use Rattle.crs_value.specs.Checks.{Own as BreaksOwn}
 use Rattle.crs_value.specs.declared.values.level.Level.{Level}
 use Rattle.crs_normal.specs.DecimalLaws.{DecimalLaws}
 use Rattle.crs_normal.specs.AcceptedNormal.{IsAcceptedNormal}
-use Rattle.crs_normal.specs.SpelledFrames.{item_ellipsoid, norm_ellipsoid}
-use Rattle.crs_normal.specs.SpelledItems.{each, node_of, number_node, opt, text_item, text_node}
-use Rattle.crs_normal.specs.SpelledUnits.{item_ident, set_idents}
+use Rattle.crs_normal.specs.SpelledFrames.{item_datum, item_ellipsoid, norm_datum, norm_ellipsoid}
+use Rattle.crs_normal.specs.SpelledItems.{number_node, text_node}
 use Rattle.crs_normal.proofs.made.EllipsoidLemmas.{ellipsoid-made}
 use Rattle.crs_normal.proofs.made.IdentLemmas.{ids-of, ids-orderly}
 use Rattle.crs_normal.proofs.made.NodeLemmas.{given}
 use Rattle.crs_normal.proofs.made.PlaceLemmas.{ArePlaced}
-use Rattle.crs_normal.proofs.made.ArgumentLemmas.{Argument, made-of, may-number, may-text, text-of, node-of}
+use Rattle.crs_normal.proofs.made.ArgumentLemmas.{made-of, may-number, may-text, text-of, node-of}
 
 -- none follows a part that may be missing
 pub given-once : {A : Type 0} (spell : A → Item) (x : Option A) (items : List Item) → ArePlaced items (given spell x ++ []) →
@@ -35,11 +33,6 @@ none-repeats c items fault [] h b = b
 none-repeats c items fault (e ∷ cs) h (inl b) = subst (λ js. AnyOf IsRepeated js fault) h.0 b
 none-repeats c items fault (e ∷ cs) h (inr b) = none-repeats c items fault cs h.1 b
 
-abbrev datum_others : Level → DatumParts → Siblings
-datum_others level d =
-    opt (text_node (codes "ANCHOR")) d.anchor (opt (number_node (codes "ANCHOREPOCH")) d.anchor_epoch
-    (each item_ident (set_idents level d.identifiers) End))
-
 datum-repeats : (c : Class) (d : DatumParts) (item : Item) (fault : RefusedAt) →
     ArePlaced (those c class.Anchor (arguments item)) (given (text_node (codes "ANCHOR")) d.anchor ++ []) →
     ArePlaced (those c class.AnchorEpoch (arguments item))
@@ -53,33 +46,29 @@ datum-repeats c d item fault a e =
 
 pub geodetic-datum-made : DecimalLaws → (level : Level) (x : Option EllipsoidParts) (d : DatumParts) → IsSome x →
     IfSome x IsEllipsoid → IsDatum d → (p : ℕ) →
-    IsAcceptedNormal level class.GeodeticFrame 5 (at_place p (node_of (codes "DATUM") (text_item d.name)
-    (opt item_ellipsoid (option_map (norm_ellipsoid level) x) (datum_others level d))))
+    IsAcceptedNormal level class.GeodeticFrame 5 (at_place p (item_datum (codes "DATUM") (norm_datum level (record d { ellipsoid = x }))))
 unfolding BreaksOwn class_named is_keyword
 geodetic-datum-made l level None d some e h = absurd (cc some)
 geodetic-datum-made l level (Some x) d some e h =
-    let all : List (Argument level 4 class.GeodeticFrame) = text-of d.name h.name ∷
+    made-of level 4 class.GeodeticFrame (codes "DATUM") _ _ (text-of d.name h.name ∷
     node-of class.Ellipsoid (item_ellipsoid (norm_ellipsoid level x)) (omega arith) refl (ellipsoid-made l level x e) ∷
     may-text class.Anchor (codes "ANCHOR") (refl, refl) refl refl (λ item. tt) (λ item fault b. b) refl (omega arith)
     refl d.anchor h.anchor ∷ may-number class.AnchorEpoch (codes "ANCHOREPOCH") (refl, refl) refl refl (λ item. tt)
     (λ item fault b. b) refl (omega arith) l refl d.anchor_epoch h.anchor_epoch ∷
-    ids-of l d.identifiers (omega arith) refl h.identifiers ∷ [] in
-    made-of level 4 class.GeodeticFrame (codes "DATUM") _ _ all refl (refl, refl) refl refl refl
+    ids-of l d.identifiers (omega arith) refl h.identifiers ∷ []) refl (refl, refl) refl refl refl
     (ids-orderly level d.identifiers) (λ item s r. r)
     (λ item fault s. datum-repeats class.GeodeticFrame d item fault (s.view class.Anchor) (s.view class.AnchorEpoch))
 
 pub vertical-datum-made : DecimalLaws → (level : Level) (x : Option EllipsoidParts) (d : DatumParts) → IsNone x →
     IsDatum d → (p : ℕ) →
-    IsAcceptedNormal level class.VerticalFrame 5 (at_place p (node_of (codes "VDATUM") (text_item d.name)
-    (opt item_ellipsoid (option_map (norm_ellipsoid level) x) (datum_others level d))))
+    IsAcceptedNormal level class.VerticalFrame 5 (at_place p (item_datum (codes "VDATUM") (norm_datum level (record d { ellipsoid = x }))))
 unfolding BreaksOwn class_named is_keyword
 vertical-datum-made l level (Some x) d none h = absurd (cc none)
 vertical-datum-made l level None d none h =
-    let all : List (Argument level 4 class.VerticalFrame) = text-of d.name h.name ∷
+    made-of level 4 class.VerticalFrame (codes "VDATUM") _ _ (text-of d.name h.name ∷
     may-text class.Anchor (codes "ANCHOR") (refl, refl) refl refl (λ item. tt) (λ item fault b. b) refl (omega arith)
     refl d.anchor h.anchor ∷ may-number class.AnchorEpoch (codes "ANCHOREPOCH") (refl, refl) refl refl (λ item. tt)
     (λ item fault b. b) refl (omega arith) l refl d.anchor_epoch h.anchor_epoch ∷
-    ids-of l d.identifiers (omega arith) refl h.identifiers ∷ [] in
-    made-of level 4 class.VerticalFrame (codes "VDATUM") _ _ all refl (refl, refl) refl refl refl
+    ids-of l d.identifiers (omega arith) refl h.identifiers ∷ []) refl (refl, refl) refl refl refl
     (ids-orderly level d.identifiers) (λ item s r. r)
     (λ item fault s. datum-repeats class.VerticalFrame d item fault (s.view class.Anchor) (s.view class.AnchorEpoch))

@@ -1,7 +1,6 @@
 -- Ensembles, and frames of either sort, are made.
 use Rattle.std.proofs.Common.{ℕ, Option, Some, None, [], ◌∷◌, map, codes, IfSome, IsNone, IsSome, refl, arith}
-use Rattle.std.specs.Option.{option_map}
-use Rattle.crs_text.specs.Prelude.{Siblings, End, More, at_place}
+use Rattle.crs_text.specs.Prelude.{at_place}
 use Rattle.crs_shape.specs.declared.class.Class.TheVariants as class
 use Rattle.crs_shape.specs.Prelude.{is_keyword, class_named}
 use Rattle.crs_value.specs.Checks.{Own as BreaksOwn}
@@ -11,9 +10,7 @@ use Rattle.crs_value.specs.declared.values.level.Level.{Level}
 use Rattle.crs_value.specs.Prelude.{IsEllipsoid, IsEnsemble, IsGeodeticFrame, IsVerticalFrame, EllipsoidParts, EnsembleParts}
 use Rattle.crs_normal.specs.DecimalLaws.{DecimalLaws}
 use Rattle.crs_normal.specs.AcceptedNormal.{IsAcceptedNormal, geodetic_frame_class, vertical_frame_class}
-use Rattle.crs_normal.specs.SpelledFrames.{item_ellipsoid, item_frame, item_member, norm_ellipsoid, norm_frame, norm_member, set_members}
-use Rattle.crs_normal.specs.SpelledItems.{each, node_of, number_node, opt, text_item}
-use Rattle.crs_normal.specs.SpelledUnits.{item_ident, set_idents}
+use Rattle.crs_normal.specs.SpelledFrames.{item_ellipsoid, item_ensemble, item_frame, item_member, norm_ellipsoid, norm_ensemble, norm_frame, norm_member, set_members}
 use Rattle.crs_normal.proofs.made.AscendLemmas.{set-ascends}
 use Rattle.crs_normal.proofs.made.DatumLemmas.{geodetic-datum-made, vertical-datum-made}
 use Rattle.crs_normal.proofs.made.EllipsoidLemmas.{ellipsoid-made}
@@ -32,16 +29,9 @@ ensemble-orderly level e =
     let ids = ids-orderly level e.identifiers in
     ((ids.0.0, (tt, (set-ascends item_member (map (norm_member level) e.members), (tt, (tt, tt))))), ids.1)
 
--- the arguments after an ensemble's name
-abbrev ensemble_others : Level → Option EllipsoidParts → EnsembleParts → Siblings
-ensemble_others level x e =
-    each item_member (set_members level e.members) (opt item_ellipsoid (option_map (norm_ellipsoid level) x)
-    (More (number_node (codes "ENSEMBLEACCURACY") e.accuracy) (each item_ident (set_idents level e.identifiers) End)))
-
 geodetic-ensemble-made : DecimalLaws → (level : Level) (x : Option EllipsoidParts) (e : EnsembleParts) → IsSome x →
     IfSome x IsEllipsoid → IsEnsemble e →
-    (p : ℕ) → IsAcceptedNormal level class.GeodeticEnsemble 5 (at_place p (node_of (codes "ENSEMBLE") (text_item e.name)
-    (ensemble_others level x e)))
+    (p : ℕ) → IsAcceptedNormal level class.GeodeticEnsemble 5 (at_place p (item_ensemble (norm_ensemble level (record e { ellipsoid = x }))))
 unfolding BreaksOwn class_named is_keyword set_members
 geodetic-ensemble-made l level None e some f h = absurd (cc some)
 geodetic-ensemble-made l level (Some x) e some f h =
@@ -56,8 +46,7 @@ geodetic-ensemble-made l level (Some x) e some f h =
 
 vertical-ensemble-made : DecimalLaws → (level : Level) (x : Option EllipsoidParts) (e : EnsembleParts) → IsNone x →
     IsEnsemble e →
-    (p : ℕ) → IsAcceptedNormal level class.VerticalEnsemble 5 (at_place p (node_of (codes "ENSEMBLE") (text_item e.name)
-    (ensemble_others level x e)))
+    (p : ℕ) → IsAcceptedNormal level class.VerticalEnsemble 5 (at_place p (item_ensemble (norm_ensemble level (record e { ellipsoid = x }))))
 unfolding BreaksOwn class_named is_keyword set_members
 vertical-ensemble-made l level (Some x) e none h = absurd (cc none)
 vertical-ensemble-made l level None e none h =
