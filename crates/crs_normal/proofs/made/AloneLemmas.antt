@@ -53,7 +53,8 @@ each-alone : (level : Level) (most : ℕ) (d : Class) (js : List Item) → Each 
 each-alone level most d [] m = tt
 each-alone level most d (j ∷ js) m = (made-alone level most d j m.0, each-alone level most d js m.1)
 
-abbrev as-alone : {level : Level} {most : ℕ} → Argument level most class.Axis → ArgumentBy (AsArgument level) most class.Axis
+abbrev as-alone : {level : Level} {most : ℕ} → Argument level most class.Axis → ArgumentBy (AsArgument level) most
+    class.Axis
 as-alone {level = level} {most = most} a = record {
   of = a.of;
   items = a.items;
@@ -73,7 +74,8 @@ all-normal-alone level (More item items) h = (h.0, all-normal-alone level items 
 
 module _ (l : DecimalLaws) (level : Level) (u : UnitParts) (h : IsUnit u) where
   -- `UNIT` is accepted as a unit of an axis
-  plain-stands : (p : ℕ) → Stands (IsNormalIn level) class.AxisUnit 3 (at_place p (item_unit (unit_as level kinds.Plain u)))
+  plain-stands : (p : ℕ) → Stands (IsNormalIn level) class.AxisUnit 3
+      (at_place p (item_unit (unit_as level kinds.Plain u)))
   unfolding is_keyword
   plain-stands p =
       let all = unit-arguments l level class.AxisUnit kinds.Length u (inl refl) h in
@@ -124,7 +126,8 @@ module _ (l : DecimalLaws) (level : Level) (x : AxisParts) (h : IsAxis x) where
       level 4 class.Axis (direction_word x.direction) (direction-letters x.direction) (x.direction, refl))) ∷
       as-alone (may-of class.AxisMeridian item_axis_meridian (norm_axis_meridians level x.meridian)
       (axis-meridians-made l level x.meridian h.meridian)) ∷
-      as-alone (may-of class.Order (number_node (codes "ORDER")) x.order (given-made level 4 class.Axis class.Order IsNormal
+      as-alone (may-of class.Order (number_node (codes "ORDER")) x.order
+      (given-made level 4 class.Axis class.Order IsNormal
       (number_node (codes "ORDER")) x.order h.order (order-argument l level))) ∷
       may-of class.AxisUnit item_unit (norm_units level kinds.Plain x.unit) (units-alone l level x.unit h.unit) ∷
       as-alone (ids-of l x.identifiers (omega arith) (keyword-names class.Axis (codes "ID")) h.identifiers) ∷ []
@@ -134,7 +137,8 @@ module _ (l : DecimalLaws) (level : Level) (x : AxisParts) (h : IsAxis x) where
   axis-stands =
       let m = node-made level 4 class.Axis (codes "AXIS") _ _ alone_arguments refl (refl, refl)
       refl refl refl (ids-orderly level x.identifiers) (λ item s r. tt)
-      (λ item fault s. known-direction x.direction (those class.Axis class.Word (arguments item)) fault (s.view class.Word))
+      (λ item fault s. known-direction x.direction (those class.Axis class.Word (arguments item)) fault
+      (s.view class.Word))
       (AreNormalArguments level) (all-normal-alone level) 0 in
       let w : depth (at_place 0 (item_axis (norm_axis_alone level x))) ≤ 5 = m.0.within in
       record {

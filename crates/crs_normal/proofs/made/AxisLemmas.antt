@@ -105,7 +105,8 @@ pub order-argument : DecimalLaws → (level : Level) (v : Value) → IsNormal v 
     Made level 4 class.Axis class.Order (number_node (codes "ORDER") v)
 unfolding BreaksOwn class_named is_keyword
 order-argument l level v h =
-    a-number class.Order (codes "ORDER") (refl, refl) refl refl (λ item. tt) (λ item fault b. b) refl (omega arith) l refl v h
+    a-number class.Order (codes "ORDER") (refl, refl) refl refl (λ item. tt) (λ item fault b. b) refl (omega arith) l
+    refl v h
 
 module _ (l : DecimalLaws) (level : Level) (t : SystemType) (shared : Option UnitParts) (k : ℕ) (x : AxisParts) (f : Fits t shared x) (low : 1 ≤ k) (high : k ≤ 3) where
   abbrev kind-asked : UnitKind
@@ -117,7 +118,8 @@ module _ (l : DecimalLaws) (level : Level) (t : SystemType) (shared : Option Uni
       class.Axis (direction_word x.direction) (direction-letters x.direction) (x.direction, refl)) ∷
       may-of class.AxisMeridian item_axis_meridian (norm_axis_meridians level x.meridian)
       (axis-meridians-made l level x.meridian f.axis.meridian) ∷
-      one-of class.Order (number_node (codes "ORDER") (whole_value k)) (order-argument l level (whole_value k) (whole-normal k low high)) ∷
+      one-of class.Order (number_node (codes "ORDER") (whole_value k))
+      (order-argument l level (whole_value k) (whole-normal k low high)) ∷
       one-of class.AxisUnit (item_unit (norm_unit level kind-asked f.unit)) (unit-argument l level 4 class.Axis
       class.AxisUnit kind-asked f.unit (omega arith) (axis-names kind-asked (asked-in t x.direction))
       (asked-in t x.direction) (suits-kind kind-asked f.unit.kind f.suits.1) f.suits.0) ∷
@@ -132,8 +134,10 @@ pub axis-made : DecimalLaws → (level : Level) (s : SystemParts) (k : ℕ) (x :
 unfolding BreaksOwn is_keyword norm_axis
 axis-made l level s k x f low high =
     made-of level 4 class.Axis (codes "AXIS") _ _ (axis_arguments l level s.system_type s.unit k x f low high)
-    (axis-laid l level s.system_type s.unit k x f low high) (refl, refl) refl refl refl (ids-orderly level x.identifiers) (λ item v r. tt)
-    (λ item fault v. known-direction x.direction (those class.Axis class.Word (arguments item)) fault (v.view class.Word))
+    (axis-laid l level s.system_type s.unit k x f low high) (refl, refl) refl refl refl
+    (ids-orderly level x.identifiers) (λ item v r. tt)
+    (λ item fault v. known-direction x.direction (those class.Axis class.Word (arguments item)) fault
+    (v.view class.Word))
 
 -- what is in an axis at a position, as the checks of a system see it
 pub record IsAxisItem (t : SystemType) (k : ℕ) (item : Item) : Type 0 where

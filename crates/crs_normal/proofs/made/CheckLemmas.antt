@@ -116,7 +116,8 @@ no-wrong-order l n k before orders fault low high few h placed =
     let small : k ≤ 3 = omega arith in
     none-of (IsBadOrder n before) orders (number_node (codes "ORDER") (whole_value k) ∷ []) fault placed (
       λ p b.
-          let e : b.1.0 ≡ whole_value k = order-number l (whole_value k) b.1.0 _ p (whole-normal k low small) refl b.1.1.0 in
+          let e : b.1.0 ≡ whole_value k = order-number l (whole_value k) b.1.0 _ p (whole-normal k low small) refl
+          b.1.1.0 in
           ⊎_elim (λ q. q (k, (low, high, (refl, inl refl)))) (none-has l k before small h)
           (subst (λ v. ¬ (IsPosition n v) ⊎ OneHas v before) e b.1.1.1),
       tt,

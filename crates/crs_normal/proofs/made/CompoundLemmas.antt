@@ -110,11 +110,13 @@ compound-breaks : (level : Level) (b : Bool) (j : Item) (name : List ℕ) (v : V
     IsTailSeen class.CompoundCrs item →
     ¬ (OfCompound (arguments item) fault)
 compound-breaks level true j name v t item fault s h q =
-    ⊎_elim (no-repeats class.CompoundCrs item fault q) (⊎_elim (none-of (BadComponent class.GeodeticCrs) _ [] fault h.0 tt)
+    ⊎_elim (no-repeats class.CompoundCrs item fault q) (⊎_elim
+    (none-of (BadComponent class.GeodeticCrs) _ [] fault h.0 tt)
     (⊎_elim (none-of (BadComponent class.GeographicCrs) _ (j ∷ []) fault h.1.0 (λ p b. s.fine p b.1, tt))
     (⊎_elim (none-of (BadComponent class.ProjectedCrs) _ [] fault h.1.1.0 tt) (λ k. k))))
 compound-breaks level false j name v t item fault s h q =
-    ⊎_elim (no-repeats class.CompoundCrs item fault q) (⊎_elim (none-of (BadComponent class.GeodeticCrs) _ [] fault h.0 tt)
+    ⊎_elim (no-repeats class.CompoundCrs item fault q) (⊎_elim
+    (none-of (BadComponent class.GeodeticCrs) _ [] fault h.0 tt)
     (⊎_elim (none-of (BadComponent class.GeographicCrs) _ [] fault h.1.0 tt)
     (⊎_elim (none-of (BadComponent class.ProjectedCrs) _ (j ∷ []) fault h.1.1.0 (λ p b. s.fine p b.1, tt)) (λ k. k))))
 

@@ -74,4 +74,5 @@ conversion-made l level m h =
     (parameter-made l level) ∷
     ids-of l m.identifiers (omega arith) refl h.identifiers ∷ []) refl (refl, refl) refl refl refl
     (let ids = ids-orderly level m.identifiers in
-    ((ids.0.0, (tt, (tt, (set-ascends item_parameter (map (norm_parameter level) m.parameters), (tt, tt))))), ids.1)) (λ item s r. tt) (λ item fault s b. b)
+    ((ids.0.0, (tt, (tt, (set-ascends item_parameter (map (norm_parameter level) m.parameters), (tt, tt))))), ids.1))
+    (λ item s r. tt) (λ item fault s b. b)

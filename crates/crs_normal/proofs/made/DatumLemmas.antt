@@ -19,7 +19,8 @@ use Rattle.crs_normal.proofs.made.PlaceLemmas.{ArePlaced}
 use Rattle.crs_normal.proofs.made.ArgumentLemmas.{made-of, may-number, may-text, text-of, node-of}
 
 -- none follows a part that may be missing
-pub given-once : {A : Type 0} (spell : A → Item) (x : Option A) (items : List Item) → ArePlaced items (given spell x ++ []) →
+pub given-once : {A : Type 0} (spell : A → Item) (x : Option A) (items : List Item) → ArePlaced items
+    (given spell x ++ []) →
     drop 1 items ≡ []
 given-once spell None [] h = refl
 given-once spell None (item ∷ items) h = absurd h
@@ -46,7 +47,8 @@ datum-repeats c d item fault a e =
 
 pub geodetic-datum-made : DecimalLaws → (level : Level) (x : Option EllipsoidParts) (d : DatumParts) → IsSome x →
     IfSome x IsEllipsoid → IsDatum d → (p : ℕ) →
-    IsAcceptedNormal level class.GeodeticFrame 5 (at_place p (item_datum (codes "DATUM") (norm_datum level (record d { ellipsoid = x }))))
+    IsAcceptedNormal level class.GeodeticFrame 5 (at_place p (item_datum (codes "DATUM")
+    (norm_datum level (record d { ellipsoid = x }))))
 unfolding BreaksOwn class_named is_keyword
 geodetic-datum-made l level None d some e h = absurd (cc some)
 geodetic-datum-made l level (Some x) d some e h =
@@ -61,7 +63,8 @@ geodetic-datum-made l level (Some x) d some e h =
 
 pub vertical-datum-made : DecimalLaws → (level : Level) (x : Option EllipsoidParts) (d : DatumParts) → IsNone x →
     IsDatum d → (p : ℕ) →
-    IsAcceptedNormal level class.VerticalFrame 5 (at_place p (item_datum (codes "VDATUM") (norm_datum level (record d { ellipsoid = x }))))
+    IsAcceptedNormal level class.VerticalFrame 5 (at_place p (item_datum (codes "VDATUM")
+    (norm_datum level (record d { ellipsoid = x }))))
 unfolding BreaksOwn class_named is_keyword
 vertical-datum-made l level (Some x) d none h = absurd (cc none)
 vertical-datum-made l level None d none h =

@@ -25,7 +25,8 @@ dynamic-made l level d h =
     made-of level 3 class.Dynamic (codes "DYNAMIC") _ _ (one-number class.FrameEpoch (codes "FRAMEEPOCH") (refl, refl)
     refl refl (λ item. tt) (λ item fault b. b) refl (omega arith) l refl d.epoch h.epoch ∷
     may-node class.DeformationModel (norm_deformation_model level) item_deformation_model d.model (omega arith)
-    (λ m. refl) h.model (deformation-model-made l level) ∷ []) refl (refl, refl) refl refl refl (none-orderly level) (λ item s r. tt) (λ item fault s b. b)
+    (λ m. refl) h.model (deformation-model-made l level) ∷ []) refl (refl, refl) refl refl refl (none-orderly level)
+    (λ item s r. tt) (λ item fault s b. b)
 
 -- ---- dynamic parts as arguments
 

@@ -80,5 +80,8 @@ module _ (slot : SlotParts) (slots : List SlotParts) where
   pub none-fit : (rest : List Class) → slot.required ≡ false → Allowed slots rest → Allowed (slot ∷ slots) rest
   none-fit rest none a = (
     [] ∷ a.0,
-    ((record { taken = tt; enough = λ h. absurd (true≢false (sym h ∙ none)); not_more = λ h. omega arith }, a.1.0), a.1.1),
+    (
+      (record { taken = tt; enough = λ h. absurd (true≢false (sym h ∙ none)); not_more = λ h. omega arith }, a.1.0),
+      a.1.1,
+    ),
   )

@@ -31,7 +31,8 @@ ensemble-orderly level e =
 
 geodetic-ensemble-made : DecimalLaws → (level : Level) (x : Option EllipsoidParts) (e : EnsembleParts) → IsSome x →
     IfSome x IsEllipsoid → IsEnsemble e →
-    (p : ℕ) → IsAcceptedNormal level class.GeodeticEnsemble 5 (at_place p (item_ensemble (norm_ensemble level (record e { ellipsoid = x }))))
+    (p : ℕ) → IsAcceptedNormal level class.GeodeticEnsemble 5
+    (at_place p (item_ensemble (norm_ensemble level (record e { ellipsoid = x }))))
 unfolding BreaksOwn class_named is_keyword set_members
 geodetic-ensemble-made l level None e some f h = absurd (cc some)
 geodetic-ensemble-made l level (Some x) e some f h =
@@ -46,7 +47,8 @@ geodetic-ensemble-made l level (Some x) e some f h =
 
 vertical-ensemble-made : DecimalLaws → (level : Level) (x : Option EllipsoidParts) (e : EnsembleParts) → IsNone x →
     IsEnsemble e →
-    (p : ℕ) → IsAcceptedNormal level class.VerticalEnsemble 5 (at_place p (item_ensemble (norm_ensemble level (record e { ellipsoid = x }))))
+    (p : ℕ) → IsAcceptedNormal level class.VerticalEnsemble 5
+    (at_place p (item_ensemble (norm_ensemble level (record e { ellipsoid = x }))))
 unfolding BreaksOwn class_named is_keyword set_members
 vertical-ensemble-made l level (Some x) e none h = absurd (cc none)
 vertical-ensemble-made l level None e none h =

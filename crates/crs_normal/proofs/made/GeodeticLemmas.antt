@@ -149,7 +149,8 @@ system-words t d systems axes units s =
 geodetic-shown : (level : Level) (c : Class) (g : GeodeticParts) (item : Item) → IsGeodetic g →
     Sees c (geodetic_runs level g) item → Each (Shows c item (geodetic_rest level g)) geodetic_classes × IsSteady c item
 geodetic-shown level c g item h =
-    frame-seen level c item (text_item g.name) true g.dynamic g.frame (frame_item level g) (geodetic_rest level g) h.dynamic
+    frame-seen level c item (text_item g.name) true g.dynamic g.frame (frame_item level g) (geodetic_rest level g)
+    h.dynamic
     (refl, (refl, (refl, tt)))
 
 pub geodetic-made : DecimalLaws → AxisEach → (level : Level) (g : GeodeticParts) → IsGeodetic g → (p : ℕ) →
@@ -159,15 +160,18 @@ geodetic-made l each_at level g h =
     let keyword : List ℕ = geodetic_keyword g.system.system_type in
     let few = few-system l each_at (dimensions_of class.GeodeticCrs) small-geodetic g.system h.system h.dimension in
     let r = is-root g.system.system_type in
-    crs-node-made l level 5 c keyword _ _ (geodetic_arguments l level c keyword g r few h) refl r.letters r.known r.written
+    crs-node-made l level 5 c keyword _ _ (geodetic_arguments l level c keyword g r few h) refl r.letters r.known
+    r.written
     (rw r.slots (rw (frame-fits true g.frame).0 (refl {a = true})))
-    ((frame-fits true g.frame).1 level (frame_item level g ∷ []) (geodetic_rest level g) (tail-orderly level g.tail)) g.system g.tail few
+    ((frame-fits true g.frame).1 level (frame_item level g ∷ []) (geodetic_rest level g) (tail-orderly level g.tail))
+    g.system g.tail few
     (r.allows g.system.dimension h.dimension) r.breaks
     (λ item s. let v = geodetic-shown level c g item h s in (v.0.1, v.1))
     (λ item s seen. r.own item
     (system-words g.system.system_type g.system.dimension (those c class.CoordinateSystem (arguments item))
     (those c class.Axis (arguments item)) (those c class.AxisUnit (arguments item)) seen)
-    (meridian-there level g.meridian (those c class.PrimeMeridian (arguments item)) (geodetic-shown level c g item h s).0.0))
+    (meridian-there level g.meridian (those c class.PrimeMeridian (arguments item))
+    (geodetic-shown level c g item h s).0.0))
 
 -- the system of a CRS, as the checks of a compound see it
 pub geodetic-seen : DecimalLaws → AxisEach → (level : Level) (g : GeodeticParts) → IsGeodetic g → (p : ℕ) →

@@ -66,7 +66,8 @@ code-is text raw p more h m = (inr (h.0, refl), m)
 code-is word raw p more h m = absurd h
 
 version-is : (version citation uri : Option (List ℕ)) (s : ℕ) → IfSome version IsText →
-    Each IsCode (single_of (at_places s (line (given code_item version) (line (given (text_node (codes "CITATION")) citation)
+    Each IsCode (single_of (at_places s (line (given code_item version)
+    (line (given (text_node (codes "CITATION")) citation)
     (line (given (text_node (codes "URI")) uri) End)))))
 version-is None None None s h = tt
 version-is None None (Some uri) s h = tt
@@ -90,7 +91,8 @@ ident-made l level i h =
     (kind-free (code_kind i.code) level (code_item i.code ∷ []) (drop 2 (ident_runs i))
     (kind-free (version_kind i.version) level (given code_item i.version) (drop 3 (ident_runs i)) (none-orderly level)))
     (λ item s r. subst (λ js. Each IsCode (single_of (skip 1 js) ++ single_of (skip 2 js))) (sym s.are)
-    (code-is (code_kind i.code) i.code _ _ (code-kind i.code h.code) (version-is i.version i.citation i.uri _ h.version)))
+    (code-is (code_kind i.code) i.code _ _ (code-kind i.code h.code)
+    (version-is i.version i.citation i.uri _ h.version)))
     (λ item fault s b. b)
 
 -- ---- lists of identifiers, in order
@@ -127,7 +129,8 @@ identifiers-ascend level identifiers = set-ascends item_ident (kept level identi
 
 -- and the level keeps them all
 pub identifiers-left : (level : Level) (identifiers : List IdentParts) →
-    kept level (map item_ident (set_idents level identifiers) ++ []) ≡ map item_ident (set_idents level identifiers) ++ []
+    kept level (map item_ident (set_idents level identifiers) ++ []) ≡ map item_ident (set_idents level identifiers)
+    ++ []
 unfolding set_idents
 identifiers-left level identifiers =
     kept-made (λ is. map item_ident (in_order (λ i. item_text (item_ident i)) is) ++ []) refl level identifiers

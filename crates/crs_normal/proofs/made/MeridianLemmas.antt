@@ -63,13 +63,15 @@ none-at-zero l level v x item n numbers units e =
     let q : plain v ≡ codes "0" = cc in
     placed-none (those class.PrimeMeridian class.AngleUnit (arguments item))
     (subst (λ b. ArePlaced (those class.PrimeMeridian class.AngleUnit (arguments item))
-    (given item_unit (if b then None else norm_units level kinds.Angle x) ++ [])) (ap is_zero (plain-zero l v n q)) units)
+    (given item_unit (if b then None else norm_units level kinds.Angle x) ++ [])) (ap is_zero (plain-zero l v n q))
+    units)
 
 pub meridian-made : DecimalLaws → (level : Level) (m : MeridianParts) → IsMeridian m → (p : ℕ) →
     IsAcceptedNormal level class.PrimeMeridian 4 (at_place p (item_meridian (norm_given level m)))
 unfolding BreaksOwn class_named is_keyword
 meridian-made l level m h =
-    made-of level 3 class.PrimeMeridian (codes "PRIMEM") _ _ (text-of m.name h.name ∷ number-of l m.longitude h.longitude ∷
+    made-of level 3 class.PrimeMeridian (codes "PRIMEM") _ _ (text-of m.name h.name ∷ number-of l m.longitude
+    h.longitude ∷
     may-of class.AngleUnit item_unit (unit_at level m.longitude m.unit) (angle-made l level m.longitude m.unit h.unit) ∷
     ids-of l m.identifiers (omega arith) refl h.identifiers ∷ []) refl (refl, refl) refl refl refl
     (ids-orderly level m.identifiers)

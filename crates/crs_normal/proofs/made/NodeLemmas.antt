@@ -122,7 +122,8 @@ abbrev pub AreNormalBy : (Class → Class → Item → Type 0) → Class → Sib
 AreNormalBy N c End = Unit {0}
 AreNormalBy N c (More item items) = AtClass (class_in c item) (λ d. N c d item) × AreNormalBy N c items
 
-record AreStanding (N : Class → Class → Item → Type 0) (most : ℕ) (c : Class) (ds : List Class) (items : Siblings) : Type 0 where
+record AreStanding (N : Class → Class → Item → Type 0) (most : ℕ) (c : Class) (ds : List Class) (items : Siblings) :
+    Type 0 where
   formed : AreAllFormed items
   within : depths items ≤ most
   shaped : AreShaped c ds items

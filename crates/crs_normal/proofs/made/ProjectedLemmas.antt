@@ -51,7 +51,8 @@ base_runs level b = framed_runs true level (text_item b.name) b.dynamic b.frame 
 base-seen : (level : Level) (b : BaseParts) (item : Item) → IsBase b → Sees class.BaseCrs (base_runs level b) item →
     Each (Shows class.BaseCrs item (base_rest level b)) geodetic_classes × IsSteady class.BaseCrs item
 base-seen level b item h =
-    frame-seen level class.BaseCrs item (text_item b.name) true b.dynamic b.frame (base_frame level b) (base_rest level b)
+    frame-seen level class.BaseCrs item (text_item b.name) true b.dynamic b.frame (base_frame level b)
+    (base_rest level b)
     h.dynamic (refl, (refl, (refl, tt)))
 
 pub base-made : DecimalLaws → (level : Level) (b : BaseParts) → IsBase b → (p : ℕ) →
@@ -101,7 +102,8 @@ pub projected-made : DecimalLaws → AxisEach → (level : Level) (g : Projected
 unfolding BreaksOwn is_keyword
 projected-made l each_at level g h =
     let few = projected-few l each_at g h in
-    crs-node-made l level 6 class.ProjectedCrs (codes "PROJCRS") _ _ (projected_arguments l level g few h) refl (refl, refl)
+    crs-node-made l level 6 class.ProjectedCrs (codes "PROJCRS") _ _ (projected_arguments l level g few h) refl
+    (refl, refl)
     refl refl refl (tail-orderly level g.tail) g.system g.tail few h.dimension
     (λ item fault b. b)
     (λ item s. (

@@ -30,7 +30,8 @@ rise-lower c m n (More item items) h r = by (class_in c item) r
     by None q = q
     by (Some d) q = let k : n ≤ rank d = q.0 in (omega arith, q.1)
 
-rise-line : (N : Class → Class → Item → Type 0) (most : ℕ) (c d : Class) (js : List Item) (rest : Siblings) (least s : ℕ) →
+rise-line : (N : Class → Class → Item → Type 0) (most : ℕ) (c d : Class) (js : List Item) (rest : Siblings)
+    (least s : ℕ) →
     Each (MadeBy N most c d) js → least ≤ rank d →
     ((s : ℕ) → Rise c (rank d) (at_places s rest)) → Rise c least (at_places s (line js rest))
 rise-line N most c d [] rest least s h low more = rise-lower c least (rank d) (at_places s rest) low (more s)
@@ -43,7 +44,8 @@ rise-line N most c d (j ∷ js) rest least s h low more =
           h.1 (omega arith) more,
     )
 
-rise-lines : (N : Class → Class → Item → Type 0) (most : ℕ) (c : Class) (runs : List Run) (least s : ℕ) → RunsMadeBy N most c runs →
+rise-lines : (N : Class → Class → Item → Type 0) (most : ℕ) (c : Class) (runs : List Run) (least s : ℕ) → RunsMadeBy N
+    most c runs →
     RunsRise least runs →
     Rise c least (at_places s (lines runs))
 rise-lines N most c [] least s h r = tt
@@ -51,7 +53,8 @@ rise-lines N most c (run ∷ runs) least s h r =
     rise-line N most c run.of run.items (lines runs) least s h.0 r.0 (λ q. rise-lines N most c runs
     (rank run.of) q h.1 r.1)
 
-pub has-rise : (N : Class → Class → Item → Type 0) (most : ℕ) (c : Class) (runs : List Run) (item : Item) → Sees c runs item →
+pub has-rise : (N : Class → Class → Item → Type 0) (most : ℕ) (c : Class) (runs : List Run) (item : Item) → Sees c
+    runs item →
     RunsMadeBy N most c runs → rises 0 runs ≡ true → Rise c 0 (arguments item)
 has-rise N most c runs item s m r =
     subst (Rise c 0) (sym s.are) (rise-lines N most c runs 0 s.start m (runs-rise 0 runs r))

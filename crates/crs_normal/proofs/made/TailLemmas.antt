@@ -84,7 +84,8 @@ remarks-made level most c t deep n h =
     given-made level most c class.Remark IsText (text_node (codes "REMARK")) (kept_one level t.remark)
     (kept-if_some (λ l. IsText) level t.remark h.remark)
     (λ raw q. as-argument level 1 most c class.Remark (text_node (codes "REMARK") raw) one n.remark
-    (text-node-made level class.Remark (codes "REMARK") (refl, refl) refl refl (λ item. tt) (λ item fault b. b) raw refl q))
+    (text-node-made level class.Remark (codes "REMARK") (refl, refl) refl refl (λ item. tt) (λ item fault b. b) raw
+    refl q))
 
 abbrev pub tail_arguments : DecimalLaws → (level : Level) (most : ℕ) (c : Class) (t : TailParts) → 5 ≤ most →
     NamesTail c → IsTail t → List (Argument level most c)

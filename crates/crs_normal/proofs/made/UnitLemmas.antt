@@ -61,7 +61,8 @@ unit-letters kinds.Length = (refl, refl)
 unit-letters other = (refl, refl)
 
 pub unit-names-id : (c : Class) (kind : UnitKind) → IsKindIn c kind → class_named c (codes "ID") ≡ Some class.Identifier
-unit-names-id c kind k = rw (keyword-names c (codes "ID")) (rw (unit-class c kind k).0 (refl {a = Some class.Identifier}))
+unit-names-id c kind k = rw (keyword-names c (codes "ID")) (rw (unit-class c kind k).0
+    (refl {a = Some class.Identifier}))
 
 -- a unit in its one form, of this kind
 abbrev pub unit_as : Level → UnitKind → UnitParts → UnitParts

@@ -81,16 +81,35 @@ vertical-orderly : (level : Level) (g : VerticalParts) → IsOrderly level (vert
 unfolding set_geoid_models
 vertical-orderly level g =
     let end = tail-orderly level g.tail in
-    (frame-fits false g.frame).1 level (frame_item level g ∷ []) (vertical_rest level g)
-    ((end.0.0, (end.0.1.0, (tt, (tt, (set-ascends item_geoid_model (map (norm_geoid_model level) g.geoid_models), tt))))), end.1)
+    (frame-fits false g.frame).1 level (frame_item level g ∷ []) (vertical_rest level g) (
+      (
+        end.0.0,
+        (
+          end.0.1.0,
+          (
+            tt,
+            (
+              tt,
+              (
+                set-ascends item_geoid_model (map (norm_geoid_model level) g.geoid_models),
+                tt,
+              ),
+            ),
+          ),
+        ),
+      ),
+      end.1,
+    )
 
 pub vertical-made : DecimalLaws → AxisEach → (level : Level) (g : VerticalParts) → IsVertical g → (p : ℕ) →
     IsAcceptedNormal level class.VerticalCrs 6 (at_place p (item_vertical (norm_vertical level g)))
 unfolding BreaksOwn is_keyword set_geoid_models
 vertical-made l each_at level g h =
     let few = few-system l each_at (dimensions_of class.VerticalCrs) small-vertical g.system h.system h.dimension in
-    crs-node-made l level 5 class.VerticalCrs (codes "VERTCRS") _ _ (vertical_arguments l level g few h) refl (refl, refl)
-    refl refl (rw (frame-fits false g.frame).0 (refl {a = true})) (vertical-orderly level g) g.system g.tail few h.dimension (λ item fault b. b)
+    crs-node-made l level 5 class.VerticalCrs (codes "VERTCRS") _ _ (vertical_arguments l level g few h) refl
+    (refl, refl)
+    refl refl (rw (frame-fits false g.frame).0 (refl {a = true})) (vertical-orderly level g) g.system g.tail few
+    h.dimension (λ item fault b. b)
     (λ item s.
     let v = frame-seen level class.VerticalCrs item (text_item g.name) false g.dynamic g.frame (frame_item level g)
     (vertical_rest level g) h.dynamic (refl, (refl, (refl, tt))) s in
