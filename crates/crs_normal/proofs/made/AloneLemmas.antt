@@ -53,8 +53,8 @@ each-alone : (level : Level) (most : ℕ) (d : Class) (js : List Item) → Each 
 each-alone level most d [] m = tt
 each-alone level most d (j ∷ js) m = (made-alone level most d j m.0, each-alone level most d js m.1)
 
-abbrev as-alone : {level : Level} {most : ℕ} → Argument level most class.Axis → ArgumentBy (AsArgument level) most
-    class.Axis
+abbrev as-alone : {level : Level} {most : ℕ} → Argument level most class.Axis →
+    ArgumentBy (AsArgument level) most class.Axis
 as-alone {level = level} {most = most} a = record {
   of = a.of;
   items = a.items;

@@ -117,8 +117,8 @@ module _ {level : Level} {most : ℕ} {parent : Class} where
 
     abbrev pub set-of : (xs : List V) → Option (xs ≢ []) → n ≤ most →
         ((v : V) → class_in parent (spell (norm v)) ≡ Some of) → Each P xs →
-        ((v : V) → P v → (p : ℕ) → IsAcceptedNormal level of n (at_place p (spell (norm v)))) → Argument level most
-        parent
+        ((v : V) → P v → (p : ℕ) → IsAcceptedNormal level of n (at_place p (spell (norm v)))) →
+        Argument level most parent
     set-of xs some deep named h made =
         each-of of spell (in_order (λ a. item_text (spell a)) (map norm xs)) (option_map (set-some norm spell xs) some)
         (set-each norm spell P (Made level most parent of) xs h
@@ -233,8 +233,8 @@ all-normal level c (More item items) h = (h.0, all-normal level c items h.1)
 
 pub made-of : (level : Level) (most : ℕ) (c : Class) (keyword : List ℕ) (first : Item) (others : Siblings)
     (all : List (Argument level most c)) → More first others ≡ lay all → IsWord keyword →
-    IsTrue (is_keyword c keyword) → IsFirstKeyword c keyword → fit (slots_of c) all ≡ true → IsOrderly level
-    (as_runs all) →
+    IsTrue (is_keyword c keyword) → IsFirstKeyword c keyword → fit (slots_of c) all ≡ true →
+    IsOrderly level (as_runs all) →
     ((item : Item) → Sees c (as_runs all) item → Rise c 0 (arguments item) → HasOwnForm c item) →
     ((item : Item) (fault : RefusedAt) → Sees c (as_runs all) item → ¬ (BreaksOwn c item fault)) → (p : ℕ) →
     IsAcceptedNormal level c (suc most) (at_place p (node_of keyword first others))
@@ -252,46 +252,45 @@ made-of level most c keyword first others all same letters known written fitting
 
 -- ---- nodes of one text or number
 
-module _ (level : Level) (of : Class) (keyword : List ℕ) (letters : IsWord keyword) (known : IsTrue (is_keyword of keyword)) (written : IsFirstKeyword of keyword) (own : (item : Item) → HasOwnForm of item) (unbroken : (item : Item) (fault : RefusedAt) → ¬ (BreaksOwn of item fault)) where
-  single-made : (d : Class) (first : Item) → Made level 0 of d first → slots_of of ≡ one d ∷ [] → takes (one d) d ≡
-      true →
-      IsFree d → (p : ℕ) → IsAcceptedNormal level of 1 (at_place p (node_of keyword first End))
+module _ {level : Level} (of : Class) (keyword : List ℕ) (letters : IsWord keyword) (known : IsTrue (is_keyword of keyword)) (written : IsFirstKeyword of keyword) (own : (item : Item) → HasOwnForm of item) (unbroken : (item : Item) (fault : RefusedAt) → ¬ (BreaksOwn of item fault)) where
+  single-made : (d : Class) (first : Item) → Made level 0 of d first → slots_of of ≡ one d ∷ [] →
+      takes (one d) d ≡ true → IsFree d → (p : ℕ) → IsAcceptedNormal level of 1 (at_place p (node_of keyword first End))
   single-made d first m slots t free =
       made-of level 0 of keyword _ _ (one-of d first m ∷ []) refl letters known written
       (rw slots (rw t refl)) (free level (first ∷ []) [] (none-orderly level)) (λ item s r. own item)
       (λ item fault s. unbroken item fault)
 
-  pub text-node-made : (raw : List ℕ) → slots_of of ≡ one class.Text ∷ [] → IsText raw → (p : ℕ) →
+  text-node-made : slots_of of ≡ one class.Text ∷ [] → (raw : List ℕ) → IsText raw → (p : ℕ) →
       IsAcceptedNormal level of 1 (at_place p (text_node keyword raw))
-  text-node-made raw slots h = single-made class.Text (text_item raw) (text-made level 0 of raw h) slots refl
-      (λ level items runs k. k)
+  text-node-made slots raw h =
+      single-made class.Text (text_item raw) (text-made level 0 of raw h) slots refl (λ level items runs k. k)
 
-  pub number-node-made : DecimalLaws → (v : Value) → slots_of of ≡ one class.Number ∷ [] → IsNormal v → (p : ℕ) →
+  number-node-made : DecimalLaws → slots_of of ≡ one class.Number ∷ [] → (v : Value) → IsNormal v → (p : ℕ) →
       IsAcceptedNormal level of 1 (at_place p (number_node keyword v))
-  number-node-made l v slots h = single-made class.Number (number_item v) (number-made l level 0 of v h) slots refl
-      (λ level items runs k. k)
+  number-node-made l slots v h =
+      single-made class.Number (number_item v) (number-made l level 0 of v h) slots refl (λ level items runs k. k)
 
-module _ {level : Level} {most : ℕ} {parent : Class} (of : Class) (keyword : List ℕ) (letters : IsWord keyword) (known : IsTrue (is_keyword of keyword)) (written : IsFirstKeyword of keyword) (own : (item : Item) → HasOwnForm of item) (unbroken : (item : Item) (fault : RefusedAt) → ¬ (BreaksOwn of item fault)) (named : class_named parent keyword ≡ Some of) (deep : 1 ≤ most) where
-  abbrev pub may-text : slots_of of ≡ one class.Text ∷ [] → (o : Option (List ℕ)) → IfSome o IsText →
-      Argument level most parent
-  may-text slots o h =
-      may-of of (text_node keyword) o
-      (given-made level most parent of IsText (text_node keyword) o h
-      (λ raw q. as-argument level 1 most parent of (text_node keyword raw) deep named
-      (text-node-made level of keyword letters known written own unbroken raw slots q)))
+  module _ {most : ℕ} {parent : Class} (named : class_named parent keyword ≡ Some of) (deep : 1 ≤ most) where
+    pub a-text : slots_of of ≡ one class.Text ∷ [] → (raw : List ℕ) → IsText raw →
+        Made level most parent of (text_node keyword raw)
+    a-text slots raw h = as-argument level 1 most parent of (text_node keyword raw) deep named (text-node-made slots raw h)
 
-  pub a-number : DecimalLaws → slots_of of ≡ one class.Number ∷ [] → (v : Value) → IsNormal v →
-      Made level most parent of (number_node keyword v)
-  a-number l slots v h =
-      as-argument level 1 most parent of (number_node keyword v) deep named
-      (number-node-made level of keyword letters known written own unbroken l v slots h)
+    abbrev pub may-text : slots_of of ≡ one class.Text ∷ [] → (o : Option (List ℕ)) → IfSome o IsText →
+        Argument level most parent
+    may-text slots o h =
+        may-of of (text_node keyword) o (given-made level most parent of IsText (text_node keyword) o h (a-text slots))
 
-  abbrev pub may-number : DecimalLaws → slots_of of ≡ one class.Number ∷ [] → (o : Option Value) → IfSome o IsNormal →
-      Argument level most parent
-  may-number l slots o h =
-      may-of of (number_node keyword) o
-      (given-made level most parent of IsNormal (number_node keyword) o h (a-number l slots))
+    pub a-number : DecimalLaws → slots_of of ≡ one class.Number ∷ [] → (v : Value) → IsNormal v →
+        Made level most parent of (number_node keyword v)
+    a-number l slots v h =
+        as-argument level 1 most parent of (number_node keyword v) deep named (number-node-made l slots v h)
 
-  abbrev pub one-number : DecimalLaws → slots_of of ≡ one class.Number ∷ [] → (v : Value) → IsNormal v →
-      Argument level most parent
-  one-number l slots v h = one-of of (number_node keyword v) (a-number l slots v h)
+    abbrev pub may-number : DecimalLaws → slots_of of ≡ one class.Number ∷ [] → (o : Option Value) → IfSome o IsNormal →
+        Argument level most parent
+    may-number l slots o h =
+        may-of of (number_node keyword) o
+        (given-made level most parent of IsNormal (number_node keyword) o h (a-number l slots))
+
+    abbrev pub one-number : DecimalLaws → slots_of of ≡ one class.Number ∷ [] → (v : Value) → IsNormal v →
+        Argument level most parent
+    one-number l slots v h = one-of of (number_node keyword v) (a-number l slots v h)

@@ -17,8 +17,8 @@ pub each-map : {V A : Type 0} (f : V → A) (Q : A → Type 0) (xs : List V) →
 each-map f Q [] h = tt
 each-map f Q (x ∷ xs) h = (h.0, each-map f Q xs h.1)
 
-items-ascend : {A : Type 0} (spell : A → Item) (xs : List A) → Ascends (λ x. item_text (spell x)) xs → Ascend
-    (map spell xs)
+items-ascend : {A : Type 0} (spell : A → Item) (xs : List A) → Ascends (λ x. item_text (spell x)) xs →
+    Ascend (map spell xs)
 items-ascend spell [] h = tt
 items-ascend spell (x ∷ xs) h =
     (each-map spell (λ other. Below (item_text (spell x)) (item_text other)) xs h.0, items-ascend spell xs h.1)

@@ -19,8 +19,8 @@ use Rattle.crs_normal.proofs.made.PlaceLemmas.{ArePlaced}
 use Rattle.crs_normal.proofs.made.ArgumentLemmas.{made-of, may-number, may-text, text-of, node-of}
 
 -- none follows a part that may be missing
-pub given-once : {A : Type 0} (spell : A → Item) (x : Option A) (items : List Item) → ArePlaced items
-    (given spell x ++ []) →
+pub given-once : {A : Type 0} (spell : A → Item) (x : Option A) (items : List Item) →
+    ArePlaced items (given spell x ++ []) →
     drop 1 items ≡ []
 given-once spell None [] h = refl
 given-once spell None (item ∷ items) h = absurd h

@@ -72,8 +72,8 @@ module _ (level : Level) (c : Class) (item n : Item) where
   frame-shows false x (frame.Ensemble e) j rest h = h
 
   steady : (rest : List Run) → Each (λ e. items_in e rest ≡ []) dynamic_classes →
-      Shows c item rest class.Dynamic ⊎ (Shows c item rest class.GeodeticEnsemble × Shows c item rest
-      class.VerticalEnsemble) →
+      Shows c item rest class.Dynamic ⊎ (Shows c item rest class.GeodeticEnsemble
+      × Shows c item rest class.VerticalEnsemble) →
       IsSteady c item
   steady rest none =
       ⊎_map (none-shown _ (items_in class.Dynamic rest) none.0) (λ v. (
@@ -111,8 +111,8 @@ meridian-there level (Some m) items h = placed-some items [] (item_meridian (nor
 -- a CRS with this system and this end is made
 pub crs-node-made : (l : DecimalLaws) (level : Level) (most : ℕ) (c : Class) (keyword : List ℕ) (first : Item)
     (others : Siblings) (all : List (Argument level most c)) → More first others ≡ lay all → IsWord keyword →
-    IsTrue (is_keyword c keyword) → IsFirstKeyword c keyword → fit (slots_of c) all ≡ true → IsOrderly level
-    (as_runs all) →
+    IsTrue (is_keyword c keyword) → IsFirstKeyword c keyword → fit (slots_of c) all ≡ true →
+    IsOrderly level (as_runs all) →
     (s : SystemParts) (t : TailParts) → IsFew s → IsOneOf s.dimension (dimensions_of c s.system_type) →
     ((item : Item) (fault : RefusedAt) → BreaksOwn c item fault → OfCrs (dimensions_of c) c item fault) →
     ((item : Item) → Sees c (as_runs all) item → Each (Shows c item (behind level s t)) crs_classes × IsSteady c item) →

@@ -21,7 +21,7 @@ use Rattle.crs_normal.proofs.made.IdentLemmas.{identifiers-ascend, identifiers-l
 use Rattle.crs_normal.proofs.made.NodeLemmas.{IsOrderly, Made, Run, as-argument, given}
 use Rattle.crs_normal.proofs.made.UsageLemmas.{usage-made, usage-named}
 use Rattle.crs_normal.proofs.read.ViewLemmas.{each-so}
-use Rattle.crs_normal.proofs.made.ArgumentLemmas.{Argument, any-of, given-made, may-of, text-node-made}
+use Rattle.crs_normal.proofs.made.ArgumentLemmas.{Argument, any-of, given-made, may-of, a-text}
 
 -- ---- the usages, the bare parts being one more
 
@@ -83,9 +83,7 @@ remarks-made level most c t deep n h =
     let one : 1 ≤ most = omega arith in
     given-made level most c class.Remark IsText (text_node (codes "REMARK")) (kept_one level t.remark)
     (kept-if_some (λ l. IsText) level t.remark h.remark)
-    (λ raw q. as-argument level 1 most c class.Remark (text_node (codes "REMARK") raw) one n.remark
-    (text-node-made level class.Remark (codes "REMARK") (refl, refl) refl refl (λ item. tt) (λ item fault b. b) raw
-    refl q))
+    (a-text class.Remark (codes "REMARK") (refl, refl) refl refl (λ item. tt) (λ item fault b. b) n.remark one refl)
 
 abbrev pub tail_arguments : DecimalLaws → (level : Level) (most : ℕ) (c : Class) (t : TailParts) → 5 ≤ most →
     NamesTail c → IsTail t → List (Argument level most c)
