@@ -12,6 +12,8 @@ use Rattle.crs_value.specs.declared.values.level.Level.{Level}
 use Rattle.crs_value.specs.Sound.{Each}
 use Rattle.crs_normal.specs.DecimalLaws.{DecimalLaws}
 use Rattle.crs_normal.specs.SpelledSystems.{axes_from, item_axis, item_head, norm_system}
+use Rattle.crs_normal.specs.NormalOwn.{Lacks, bare_classes}
+use Rattle.crs_normal.proofs.read.ViewLemmas.{each-so}
 use Rattle.crs_normal.proofs.made.CheckLemmas.{IsSystemIn, IsSystemSeen}
 use Rattle.crs_normal.proofs.made.DatumLemmas.{given-once}
 use Rattle.crs_normal.specs.SpelledItems.{text_node}
@@ -112,16 +114,8 @@ Shows c item runs e = ArePlaced (those c e (arguments item)) (items_in e runs)
 pub tail-seen : (level : Level) (c : Class) (item : Item) (t : TailParts) →
     Each (Shows c item (tail_runs level t)) tail_classes → IsTailSeen c item
 tail-seen level c item t v = record {
-  none_bare = (
-    placed-none (those c class.Scope (arguments item)) v.0,
-    (
-      placed-none (those c class.Area (arguments item)) v.1.0,
-      (
-        placed-none (those c class.BoundingBox (arguments item)) v.1.1.0,
-        (placed-none (those c class.VerticalExtent (arguments item)) v.1.1.1.0, tt),
-      ),
-    ),
-  );
+  none_bare = each-so (Shows c item []) (λ e. Lacks c e item) (λ e. placed-none (those c e (arguments item))) bare_classes
+      (v.0, (v.1.0, (v.1.1.0, (v.1.1.1.0, tt))));
   one_remark = given-once (text_node (codes "REMARK")) (kept_one level t.remark) (those c class.Remark (arguments item))
       v.1.1.1.1.0;
 }

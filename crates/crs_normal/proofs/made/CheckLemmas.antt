@@ -15,6 +15,7 @@ use Rattle.crs_normal.specs.DecimalLaws.{DecimalLaws}
 use Rattle.crs_normal.specs.NormalOwn.{AreOrdered, Has, HasAxes, numbers_in}
 use Rattle.crs_normal.specs.SpelledItems.{number_item, number_node, word_item}
 use Rattle.crs_normal.specs.SpelledUnits.{item_unit, whole_value}
+use Rattle.crs_normal.proofs.read.ViewLemmas.{each-so}
 use Rattle.crs_normal.proofs.made.AxisLemmas.{IsAxisItem, whole-normal}
 use Rattle.crs_normal.proofs.made.EllipsoidLemmas.{placed-some}
 use Rattle.crs_normal.proofs.made.PlaceLemmas.{ArePlaced, none-of, same-of}
@@ -86,10 +87,10 @@ record IsBefore (k : ℕ) (item : Item) : Type 0 where
   orders : ArePlaced (orders_in item) (number_node (codes "ORDER") (whole_value order) ∷ [])
 
 all-before : (k : ℕ) (items : List Item) → Each (IsBefore k) items → Each (IsBefore (k + 1)) items
-all-before k [] h = tt
-all-before k (x ∷ items) h =
-    let b : h.0.order < k = h.0.below in
-    (record { order = h.0.order; low = h.0.low; below = omega arith; orders = h.0.orders }, all-before k items h.1)
+all-before k =
+    each-so (IsBefore k) (IsBefore (k + 1)) (λ x b.
+    let below : b.order < k = b.below in
+    record { order = b.order; low = b.low; below = omega arith; orders = b.orders })
 
 and-this : (P : Item → Type 0) (items : List Item) (x : Item) → Each P items → P x → Each P (items ++ x ∷ [])
 and-this P [] x h p = (p, tt)

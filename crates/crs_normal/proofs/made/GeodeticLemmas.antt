@@ -23,6 +23,7 @@ use Rattle.crs_normal.specs.SpelledFrames.{item_frame, item_meridian, norm_frame
 use Rattle.crs_normal.specs.SpelledItems.{text_item, word_item}
 use Rattle.crs_normal.proofs.made.SystemLemmas.{IsFew}
 use Rattle.crs_normal.proofs.made.BehindLemmas.{AxisEach, NamesSystem, Shows, behind, few-system, system-seen, behind_arguments}
+use Rattle.crs_normal.proofs.read.ViewLemmas.{each-so}
 use Rattle.crs_normal.proofs.made.CheckLemmas.{IsSystemSeen, IsSystemIn}
 use Rattle.crs_normal.proofs.made.DynamicLemmas.{dynamic-argument, IsSteady}
 use Rattle.crs_normal.proofs.made.FrameLemmas.{geodetic-frame-made}
@@ -56,11 +57,10 @@ record IsRootClass (t : SystemType) (c : Class) (keyword : List ℕ) : Type 0 wh
 other-words : (w : List ℕ) (items : List Item) → w ≢ codes "ellipsoidal" →
     Each (λ cs. words_in class.CoordinateSystem cs ≡ w ∷ []) items →
     Each (λ cs. words_in class.CoordinateSystem cs ≢ codes "ellipsoidal" ∷ []) items
-other-words w [] n h = tt
-other-words w (x ∷ items) n h = (
-  λ e. let k : w ∷ [] ≡ codes "ellipsoidal" ∷ [] = sym h.0 ∙ e in let q : w ≡ codes "ellipsoidal" = cc in n q,
-  other-words w items n h.1,
-)
+other-words w items n =
+    each-so (λ cs. words_in class.CoordinateSystem cs ≡ w ∷ [])
+    (λ cs. words_in class.CoordinateSystem cs ≢ codes "ellipsoidal" ∷ [])
+    (λ cs h e. let k : w ∷ [] ≡ codes "ellipsoidal" ∷ [] = sym h ∙ e in let q : w ≡ codes "ellipsoidal" = cc in n q) items
 
 geodetic-root : (t : SystemType) → system_word t ≢ codes "ellipsoidal" →
     IsRootClass t class.GeodeticCrs (codes "GEODCRS")
