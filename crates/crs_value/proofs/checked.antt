@@ -3,7 +3,6 @@ pub mod ComponentLemmas
 pub mod CrsLemmas
 pub mod DynamicLemmas
 pub mod LeastLemmas
-pub mod NumberLemmas
 pub mod OrderLemmas
 pub mod OwnLemmas
 pub mod PlaceLemmas

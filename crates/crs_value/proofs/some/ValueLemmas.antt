@@ -86,7 +86,7 @@ module _ (numbers : Numbers) (slots : SlotsCount) where
   text-some c item g some = first-some ReadsText c class.Text item g some (λ i h. (raw_of i, refl))
 
   value-some : (item : Item) → IsSound class.Number item → Exists (ReadsNumber item)
-  value-some item g = number-some numbers item (g.shaped, g.formed)
+  value-some item g = number-some numbers item g.shaped g.formed
 
   pub number-of-some : (c : Class) (item : Item) → IsSound c item → Requires c class.Number 0 → Exists (ReadsNumberOf c item)
   number-of-some c item g some = first-some ReadsNumber c class.Number item g some value-some

@@ -1,5 +1,4 @@
-use Rattle.crs_value.proofs.some.AnswerLemmas.{text-answer}
-use Rattle.crs_value.proofs.checked.NumberLemmas.{refused-within}
+use Rattle.crs_value.proofs.some.AnswerLemmas.{refused-within, text-answer}
 use Rattle.crs_value.proofs.one.TextLemmas.{text-one, text-refused-one, text-apart}
 use Rattle.crs_value.proofs.laws.one_answer.Goals as goal
 
@@ -8,7 +7,8 @@ returns c = record {
   value = text-one c.denotes_one.ensures c.one_answer.ensures.node;
   refusal = text-refused-one c.fault_at_root_is_one.ensures.one c.one_answer.ensures.node c.one_answer.ensures.refusal c.one_answer.ensures.apart;
   apart = text-apart c.one_answer.ensures.node c.one_answer.ensures.apart;
-  within = refused-within c.one_answer.ensures.within c.fault_is_within.ensures.root c.fault_is_within.ensures.text;
-  either = text-answer c.denotes_some.ensures c.denotes_one.ensures c.slots_count.ensures.least c.no_fault_is_shape.ensures c.one_answer.ensures.either
-      c.fault_at_root_is_one.ensures.either c.written_items.ensures.formed;
+  within = refused-within c.denotes_some.ensures c.denotes_one.ensures c.slots_count.ensures.least c.no_fault_is_shape.ensures c.written_items.ensures.formed
+      c.one_answer.ensures.within c.fault_is_within.ensures.root c.fault_is_within.ensures.text;
+  either = text-answer c.denotes_some.ensures c.denotes_one.ensures c.slots_count.ensures.least c.no_fault_is_shape.ensures c.written_items.ensures.formed
+      c.one_answer.ensures.either c.fault_at_root_is_one.ensures.either;
 }
