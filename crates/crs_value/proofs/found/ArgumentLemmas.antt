@@ -35,6 +35,10 @@ those-later parent c (More item items) some e = ap (λ b. if b then item ∷ tho
 
 -- ---- a property of each of some items
 
+pub each-as : {V : Type 0} {P Q : V → Type 0} → ((v : V) → P v → Q v) → (vs : List V) → Each P vs → Each Q vs
+each-as to [] h = tt
+each-as to (v ∷ vs) h = (to v h.0, each-as to vs h.1)
+
 pub each-drop : (P : Item → Type 0) (n : ℕ) (items : List Item) → Each P items → Each P (drop n items)
 each-drop P zero [] h = tt
 each-drop P (suc n) [] h = tt
