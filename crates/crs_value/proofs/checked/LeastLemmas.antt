@@ -1,5 +1,5 @@
 -- The first fault of several sets of faults.
-use Rattle.std.proofs.Common.{◌≡◌, ℕ, ◌<◌, ◌≤◌, true, false, inl, inr, ◌⊎◌, Option, Some, None, List, [], ◌∷◌, ◌++◌, if◌then◌else◌, refl, sym, subst, arith, IsFalse}
+use Rattle.std.proofs.Common.{◌≡◌, ℕ, ◌<◌, ◌≤◌, true, false, inl, inr, ◌⊎◌, ⊎_elim, ◌↔◌, Option, Some, None, List, [], ◌∷◌, ◌++◌, if◌then◌else◌, refl, sym, subst, arith, IsFalse}
 use Rattle.std.proofs.lemmas.Bool.Decides.{nat_tests}
 use Rattle.crs_text.specs.Prelude.{Item, RefusedAt, is_before}
 use Rattle.crs_value.specs.Break.{AnyOf, IsLeast}
@@ -35,34 +35,14 @@ lesser-none (Some f) = refl
 
 -- the first of either set is the lesser of their first ones
 pub least-either : (P Q : RefusedAt → Type 0) (a b : Option RefusedAt) → IsLeast P a → IsLeast Q b → IsLeast (λ f. P f ⊎ Q f) (lesser a b)
-least-either P Q None None p q = λ f h. none f h
-  where
-    none : (f : RefusedAt) → P f ⊎ Q f → ⊥
-    none f (inl h) = p f h
-    none f (inr h) = q f h
-least-either P Q None (Some b) p q = (inr q.0, λ f h. next f h)
-  where
-    next : (f : RefusedAt) → P f ⊎ Q f → IsFirst b f
-    next f (inl h) = absurd (p f h)
-    next f (inr h) = q.1 f h
-least-either P Q (Some a) None p q = (inl p.0, λ f h. next f h)
-  where
-    next : (f : RefusedAt) → P f ⊎ Q f → IsFirst a f
-    next f (inl h) = p.1 f h
-    next f (inr h) = absurd (q f h)
+least-either P Q None None p q = λ f. ⊎_elim (p f) (q f)
+least-either P Q None (Some b) p q = (inr q.0, λ f. ⊎_elim (λ h. absurd (p f h)) (q.1 f))
+least-either P Q (Some a) None p q = (inl p.0, λ f. ⊎_elim (p.1 f) (λ h. absurd (q f h)))
 least-either P Q (Some a) (Some b) p q =
     elim (is_before b a) as (λ t. is_before b a ≡ t → IsLeast (λ f. P f ⊎ Q f) (if t then Some b else Some a)) [
-      | true ↦ λ e. (inr q.0, λ f h. second (before-first a b e) f h)
-      | false ↦ λ e. (inl p.0, λ f h. first (e) f h)
+      | true ↦ λ e. (inr q.0, λ f. ⊎_elim (λ h. first-trans b a f (before-first a b e) (p.1 f h)) (q.1 f))
+      | false ↦ λ e. (inl p.0, λ f. ⊎_elim (p.1 f) (λ h. first-trans a b f e (q.1 f h)))
     ] refl
-  where
-    second : IsFirst b a → (f : RefusedAt) → P f ⊎ Q f → IsFirst b f
-    second e f (inl h) = first-trans b a f e (p.1 f h)
-    second e f (inr h) = q.1 f h
-
-    first : IsFirst a b → (f : RefusedAt) → P f ⊎ Q f → IsFirst a f
-    first e f (inl h) = p.1 f h
-    first e f (inr h) = first-trans a b f e (q.1 f h)
 
 -- sets with the same faults have the same first one
 pub least-same : (P Q : RefusedAt → Type 0) (o : Option RefusedAt) → ((f : RefusedAt) → P f → Q f) → ((f : RefusedAt) → Q f → P f) → IsLeast P o → IsLeast Q o
@@ -72,61 +52,31 @@ least-same P Q (Some a) to back h = (to a h.0, λ f q. h.1 f (back f q))
 -- the same beside others
 pub least-beside : (A P Q : RefusedAt → Type 0) (o : Option RefusedAt) → ((f : RefusedAt) → P f → Q f) → ((f : RefusedAt) → Q f → P f) → IsLeast (λ f. A f ⊎ P f) o →
     IsLeast (λ f. A f ⊎ Q f) o
-least-beside A P Q o to back h = least-same (λ f. A f ⊎ P f) (λ f. A f ⊎ Q f) o (on P Q to) (on Q P back) h
-  where
-    on : (X Y : RefusedAt → Type 0) → ((f : RefusedAt) → X f → Y f) → (f : RefusedAt) → A f ⊎ X f → A f ⊎ Y f
-    on X Y each f (inl a) = inl a
-    on X Y each f (inr x) = inr (each f x)
+least-beside A P Q o to back h =
+    least-same (λ f. A f ⊎ P f) (λ f. A f ⊎ Q f) o (λ f. ⊎_elim (λ a. inl a) (λ x. inr (to f x))) (λ f. ⊎_elim (λ a. inl a) (λ x. inr (back f x))) h
 
 -- one fault under a condition
 pub least-one : (g : RefusedAt) (C : Type 0) → C → IsLeast (λ f. (f ≡ g) × C) (Some g)
 least-one g C holds = ((refl, holds), λ f h. let P : RefusedAt → Type 0 = λ x. IsFirst g x in subst P (sym h.0) (first-self g))
 
-pub least-not : (g : RefusedAt) (C : Type 0) → ¬ C → IsLeast (λ f. (f ≡ g) × C) None
-least-not g C fails = λ f h. fails h.1
-
-pub any-left : (B : Item → RefusedAt → Type 0) (xs ys : List Item) (f : RefusedAt) → AnyOf B xs f → AnyOf B (xs ++ ys) f
-any-left B [] ys f h = absurd h
-any-left B (x ∷ xs) ys f (inl h) = inl h
-any-left B (x ∷ xs) ys f (inr h) = inr (any-left B xs ys f h)
-
-pub any-right : (B : Item → RefusedAt → Type 0) (xs ys : List Item) (f : RefusedAt) → AnyOf B ys f → AnyOf B (xs ++ ys) f
-any-right B [] ys f h = h
-any-right B (x ∷ xs) ys f h = inr (any-right B xs ys f h)
-
-pub any-split : (B : Item → RefusedAt → Type 0) (xs ys : List Item) (f : RefusedAt) → AnyOf B (xs ++ ys) f → AnyOf B xs f ⊎ AnyOf B ys f
-any-split B [] ys f h = inr h
-any-split B (x ∷ xs) ys f (inl h) = inl (inl h)
-any-split B (x ∷ xs) ys f (inr h) = more (any-split B xs ys f h)
-  where
-    more : AnyOf B xs f ⊎ AnyOf B ys f → AnyOf B (x ∷ xs) f ⊎ AnyOf B ys f
-    more (inl k) = inl (inr k)
-    more (inr k) = inr k
-
--- one item alone
-any-single : (B : Item → RefusedAt → Type 0) (item : Item) (f : RefusedAt) → AnyOf B (item ∷ []) f → B item f
-any-single B item f (inl h) = h
-any-single B item f (inr h) = absurd h
+-- one item more is the same as the others or this one
+any-more : (B : Item → RefusedAt → Type 0) (xs : List Item) (x : Item) (f : RefusedAt) → AnyOf B (xs ++ x ∷ []) f ↔ (AnyOf B xs f ⊎ B x f)
+any-more B [] x f = (⊎_elim (λ h. inr h) (λ h. absurd h), ⊎_elim (λ h. absurd h) (λ h. inl h))
+any-more B (y ∷ ys) x f =
+    let rest = any-more B ys x f in (
+      ⊎_elim (λ h. inl (inl h)) (λ h. ⊎_elim (λ k. inl (inr k)) (λ k. inr k) (rest.0 h)),
+      ⊎_elim (⊎_elim (λ h. inl h) (λ h. inr (rest.1 (inl h)))) (λ h. inr (rest.1 (inr h))),
+    )
 
 pub least-single : (B : Item → RefusedAt → Type 0) (item : Item) (o : Option RefusedAt) → IsLeast (B item) o → IsLeast (AnyOf B (item ∷ [])) o
-least-single B item o h = least-same (B item) (AnyOf B (item ∷ [])) o (λ f k. inl k) (any-single B item) h
+least-single B item o h = least-same (B item) (AnyOf B (item ∷ [])) o (λ f k. inl k) (λ f. ⊎_elim (λ k. k) (λ k. absurd k)) h
 
 -- one more item
 pub least-more : (B : Item → RefusedAt → Type 0) (done : List Item) (item : Item) (a b : Option RefusedAt) → IsLeast (AnyOf B done) a → IsLeast (B item) b →
     IsLeast (AnyOf B (done ++ item ∷ [])) (lesser a b)
 least-more B done item a b p q =
-    least-same (λ f. AnyOf B done f ⊎ B item f) (AnyOf B (done ++ item ∷ [])) (lesser a b) to back (least-either (AnyOf B done) (B item) a b p q)
-  where
-    to : (f : RefusedAt) → AnyOf B done f ⊎ B item f → AnyOf B (done ++ item ∷ []) f
-    to f (inl h) = any-left B done (item ∷ []) f h
-    to f (inr h) = any-right B done (item ∷ []) f (inl h)
-
-    back : (f : RefusedAt) → AnyOf B (done ++ item ∷ []) f → AnyOf B done f ⊎ B item f
-    back f h = one (any-split B done (item ∷ []) f h)
-      where
-        one : AnyOf B done f ⊎ AnyOf B (item ∷ []) f → AnyOf B done f ⊎ B item f
-        one (inl k) = inl k
-        one (inr k) = inr (any-single B item f k)
+    least-same (λ f. AnyOf B done f ⊎ B item f) (AnyOf B (done ++ item ∷ [])) (lesser a b) (λ f. (any-more B done item f).1) (λ f. (any-more B done item f).0)
+    (least-either (AnyOf B done) (B item) a b p q)
 
 -- the refusal at one item, under a condition or none
 pub least-at : (g r : RefusedAt) (C : Type 0) → r ≡ g → C → IsLeast (λ f. (f ≡ g) × C) (Some r)
@@ -140,8 +90,4 @@ either-is P Q a b r e p q = let R : Option RefusedAt → Type 0 = λ o. IsLeast 
 
 -- a first fault with a number below all of another set
 pub least-below : (P Q : RefusedAt → Type 0) (n : ℕ) (r : RefusedAt) → r.number < n → ((f : RefusedAt) → Q f → n ≤ f.number) → IsLeast P (Some r) → IsLeast (λ f. P f ⊎ Q f) (Some r)
-least-below P Q n r below high h = (inl h.0, λ f x. next f x)
-  where
-    next : (f : RefusedAt) → P f ⊎ Q f → IsFirst r f
-    next f (inl x) = h.1 f x
-    next f (inr x) = first-lower r f (omega (arith, below, high f x))
+least-below P Q n r below high h = (inl h.0, λ f. ⊎_elim (h.1 f) (λ x. first-lower r f (omega (arith, below, high f x))))

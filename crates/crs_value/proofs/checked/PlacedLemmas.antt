@@ -1,5 +1,5 @@
 -- Axes whose orders are the numbers from 1 on, one after another.
-use Rattle.std.proofs.Common.{◌≡◌, ℕ, ◌+◌, ◌<◌, ◌≤◌, length, inl, inr, Option, Some, None, List, [], ◌∷◌, ◌++◌, refl, sym, ◌∙◌, ap, subst, arith}
+use Rattle.std.proofs.Common.{◌≡◌, ℕ, ◌+◌, ◌<◌, ◌≤◌, length, inl, inr, ⊎_elim, Option, Some, None, List, [], ◌∷◌, ◌++◌, refl, sym, ◌∙◌, ap, subst, arith}
 use Rattle.crs_decimal.specs.Prelude.{Number, SameNumber, whole_number, Value, exact}
 use Rattle.crs_text.specs.Prelude.{Item, rest_of, here, RefusedAt}
 use Rattle.crs_shape.specs.declared.class.Class.{Class}
@@ -59,13 +59,10 @@ bad-none law symmetric transitive count n before [] one within below placed f h 
 bad-none law symmetric transitive count n before (axis ∷ axes) one within below placed f (inl h) =
     let p = placed.0 in
     let P : List Item → Type 0 = λ xs. AnyOf (IsBadOrder count before) xs f in
-    last (subst P p.only h)
-  where
-    last : AnyOf (IsBadOrder count before) (placed.0.order ∷ []) f → ⊥
-    last (inl k) =
-        wrong-none law count before placed.0.order placed.0.value placed.0.reads (n, (one, omega (arith, within), placed.0.same))
-        (λ has. none-before law symmetric transitive n placed.0.value before below placed.0.same has) f k
-    last (inr k) = k
+    ⊎_elim
+    (wrong-none law count before p.order p.value p.reads (n, (one, omega (arith, within), p.same))
+    (λ has. none-before law symmetric transitive n p.value before below p.same has) f)
+    (λ k. k) (subst P p.only h)
 bad-none law symmetric transitive count n before (axis ∷ axes) one within below placed f (inr h) =
     bad-none law symmetric transitive count (n + 1) (before ++ axis ∷ []) axes (omega (arith, one)) (omega (arith, within)) (below-on n before axis below placed.0) placed.1 f h
 

@@ -39,6 +39,10 @@ pub each-as : {V : Type 0} {P Q : V → Type 0} → ((v : V) → P v → Q v) �
 each-as to [] h = tt
 each-as to (v ∷ vs) h = (to v h.0, each-as to vs h.1)
 
+pub each-both : {V : Type 0} {P Q R : V → Type 0} → ((v : V) → P v → Q v → R v) → (vs : List V) → Each P vs → Each Q vs → Each R vs
+each-both to [] h k = tt
+each-both to (v ∷ vs) h k = (to v h.0 k.0, each-both to vs h.1 k.1)
+
 pub each-drop : (P : Item → Type 0) (n : ℕ) (items : List Item) → Each P items → Each P (drop n items)
 each-drop P zero [] h = tt
 each-drop P (suc n) [] h = tt

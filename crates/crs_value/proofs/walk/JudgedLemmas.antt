@@ -1,9 +1,9 @@
 -- A walk over items: what is passed over joins what is found behind it.
-use Rattle.std.proofs.Common.{◌≡◌, ◌≢◌, ℕ, ◌||◌, Bool, true, false, IsTrue, inl, inr, ◌⊎◌, Option, Some, None, List, [], ◌∷◌, if◌then◌else◌, refl, sym, ◌∙◌, ap, subst, ◌++◌, rules}
-use Rattle.std.specs.List.{list_any}
+use Rattle.std.proofs.Common.{◌≡◌, ◌≢◌, ◌↔◌, ℕ, ◌||◌, Bool, true, false, IsTrue, inl, inr, ◌⊎◌, ⊎_elim, Option, Some, None, List, [], ◌∷◌, if◌then◌else◌, refl, sym, ◌∙◌, ap, subst, ◌++◌, rules}
 use Rattle.std.proofs.Math.Bool.{or-true}
+use Rattle.std.proofs.lemmas.List.Folds.{list_any-append}
 use Rattle.std.proofs.lemmas.Option.{same_Some}
-use denote.Enum.Bare.{sameb, same_true, true_same}
+use denote.Enum.Bare.{sameb, true_same, same_false, false_same}
 use Rattle.crs_text.specs.Prelude.{Item, leaf, node, Siblings, End, More, arguments, first_of, rest_of, close_of, here, HasId, IsAt, RefusedAt}
 use Rattle.crs_shape.specs.contracts.class.Class.{the_type}
 use Rattle.crs_shape.specs.declared.class.Class.{Class}
@@ -21,52 +21,26 @@ use Rattle.crs_value.proofs.checked.LeastLemmas.{IsFirst, first-self, first-tran
 -- the least of what was found, joined by more
 least-on : (P Q : RefusedAt → Type 0) (a b c : Option RefusedAt) → IsLeast (λ f. (a ≡ Some f) ⊎ P f) b → IsLeast (λ f. (b ≡ Some f) ⊎ Q f) c →
     IsLeast (λ f. (a ≡ Some f) ⊎ (P f ⊎ Q f)) c
-least-on P Q a None None p q = λ f h. none f h
-  where
-    none : (f : RefusedAt) → (a ≡ Some f) ⊎ (P f ⊎ Q f) → ⊥
-    none f (inl e) = p f (inl e)
-    none f (inr (inl h)) = p f (inr h)
-    none f (inr (inr h)) = q f (inr h)
+least-on P Q a None None p q = λ f. ⊎_elim (λ e. p f (inl e)) (⊎_elim (λ h. p f (inr h)) (λ h. q f (inr h)))
 least-on P Q a (Some g) None p q = absurd (q g (inl refl))
-least-on P Q a None (Some l) p q = (inr (inr (in-more q.0)), λ f h. before f h)
-  where
-    in-more : (None ≡ Some l) ⊎ Q l → Q l
-    in-more (inl e) = cc
-    in-more (inr h) = h
-
-    before : (f : RefusedAt) → (a ≡ Some f) ⊎ (P f ⊎ Q f) → IsFirst l f
-    before f (inl e) = absurd (p f (inl e))
-    before f (inr (inl h)) = absurd (p f (inr h))
-    before f (inr (inr h)) = q.1 f (inr h)
-least-on P Q a (Some g) (Some l) p q = (member q.0, λ f h. before f h)
-  where
-    of-old : (a ≡ Some g) ⊎ P g → (a ≡ Some g) ⊎ (P g ⊎ Q g)
-    of-old (inl e) = inl e
-    of-old (inr h) = inr (inl h)
-
-    member : (Some g ≡ Some l) ⊎ Q l → (a ≡ Some l) ⊎ (P l ⊎ Q l)
-    member (inl e) = let R : RefusedAt → Type 0 = λ x. (a ≡ Some x) ⊎ (P x ⊎ Q x) in subst R (same_Some g l e) (of-old p.0)
-    member (inr h) = inr (inr h)
-
-    before : (f : RefusedAt) → (a ≡ Some f) ⊎ (P f ⊎ Q f) → IsFirst l f
-    before f (inl e) = first-trans l g f (q.1 g (inl refl)) (p.1 f (inl e))
-    before f (inr (inl h)) = first-trans l g f (q.1 g (inl refl)) (p.1 f (inr h))
-    before f (inr (inr h)) = q.1 f (inr h)
+least-on P Q a None (Some l) p q = (
+  inr (inr (⊎_elim (λ e. cc) (λ h. h) q.0)),
+  λ f. ⊎_elim (λ e. absurd (p f (inl e))) (⊎_elim (λ h. absurd (p f (inr h))) (λ h. q.1 f (inr h))),
+)
+least-on P Q a (Some g) (Some l) p q =
+    let R : RefusedAt → Type 0 = λ x. (a ≡ Some x) ⊎ (P x ⊎ Q x) in
+    let old : (f : RefusedAt) → (a ≡ Some f) ⊎ P f → IsFirst l f = λ f h. first-trans l g f (q.1 g (inl refl)) (p.1 f h) in (
+      ⊎_elim (λ e. subst R (same_Some g l e) (⊎_elim (λ k. inl k) (λ h. inr (inl h)) p.0)) (λ h. inr (inr h)) q.0,
+      λ f. ⊎_elim (λ e. old f (inl e)) (⊎_elim (λ h. old f (inr h)) (λ h. q.1 f (inr h))),
+    )
 
 old-least : (mid : Option RefusedAt) → IsLeast (λ f. mid ≡ Some f) mid
-old-least None = λ f e. absurd (nope f e)
-  where
-    nope : (f : RefusedAt) → None ≡ Some f → ⊥
-    nope f e = cc
+old-least None = λ f e. cc
 old-least (Some g) = (refl, λ f e. subst (IsFirst g) (same_Some g f e) (first-self g))
 
 -- nothing joins what was found
 least-alone : (a : Option RefusedAt) → IsLeast (λ f. (a ≡ Some f) ⊎ ⊥) a
-least-alone a = least-same (λ f. a ≡ Some f) (λ f. (a ≡ Some f) ⊎ ⊥) a (λ f e. inl e) back (old-least a)
-  where
-    back : (f : RefusedAt) → (a ≡ Some f) ⊎ ⊥ → a ≡ Some f
-    back f (inl e) = e
-    back f (inr h) = absurd h
+least-alone a = least-same (λ f. a ≡ Some f) (λ f. (a ≡ Some f) ⊎ ⊥) a (λ f e. inl e) (λ f. ⊎_elim (λ e. e) (λ h. absurd h)) (old-least a)
 
 -- ---- what is given
 
@@ -84,6 +58,11 @@ gives-on None None old mid last P Q true h k = least-on P Q old mid last h k
 gives-on None None old mid last P Q false h k = absurd k
 gives-on None (Some fault) old mid last P Q true h k = absurd k
 gives-on None (Some fault) old mid last P Q false h k = k
+
+-- where no fault of shape is the answer there is none
+pub gives-true : (w old new : Option RefusedAt) (B : RefusedAt → Type 0) → Gives w old B true new → (w ≡ None) × IsLeast (λ f. (old ≡ Some f) ⊎ B f) new
+gives-true None old new B h = (refl, h)
+gives-true (Some fault) old new B h = absurd h
 
 stops-with : (w old new : Option RefusedAt) (B : RefusedAt → Type 0) (fault : RefusedAt) → w ≡ Some fault → new ≡ Some fault → Gives w old B false new
 stops-with w old new B fault e is = let P : Option RefusedAt → Type 0 = λ x. Gives x old B false new in subst P (sym e) is
@@ -290,14 +269,7 @@ end-some tree c close at id old new ok e has denied fault =
 
 is_in-append : (fs bs : List Class) (o : Option Class) → is_in (fs ++ bs) o ≡ (is_in fs o || is_in bs o)
 is_in-append fs bs None = refl
-is_in-append fs bs (Some d) = along fs
-  where
-    along : (cs : List Class) → list_any (λ e. sameb the_type e d) (cs ++ bs) ≡ (list_any (λ e. sameb the_type e d) cs || list_any (λ e. sameb the_type e d) bs)
-    along [] = refl
-    along (c ∷ cs) = elim (sameb the_type c d) as (λ b. (b || list_any (λ e. sameb the_type e d) (cs ++ bs)) ≡ ((b || list_any (λ e. sameb the_type e d) cs) || list_any (λ e. sameb the_type e d) bs)) [
-      | true ↦ refl
-      | false ↦ along cs
-    ]
+is_in-append fs bs (Some d) = list_any-append (λ e. sameb the_type e d) fs bs
 
 neither : (p : Class) (fs bs : List Class) (item : Item) (old mid new : Option RefusedAt) → Answers p fs item old None mid → Answers p bs item mid None new → Answers p (fs ++ bs) item old None new
 neither p fs bs item old mid new h k =
@@ -322,16 +294,9 @@ the-other p fs bs item old mid new (Some ok) h k = the-second p fs bs item old m
 pub single-not : (p c : Class) (item : Item) (old : Option RefusedAt) → is_class c (class_in p item) ≡ false → Answers p (c ∷ []) item old None old
 single-not p c item old e = (by (class_in p item) e, refl)
   where
-    other : (d : Class) (b : Bool) → sameb the_type c d ≡ b → sameb the_type d c ≡ false → (b || false) ≡ false
-    other d true same nope =
-        let e : c ≡ d = same_true the_type (search rules) c d same in
-        let y : sameb the_type d c ≡ true = true_same the_type d c (sym e) in
-        let k : true ≡ false = sym y ∙ nope in cc
-    other d false same nope = refl
-
     by : (o : Option Class) → is_class c o ≡ false → is_in (c ∷ []) o ≡ false
     by None nope = refl
-    by (Some d) nope = other d (sameb the_type c d) refl nope
+    by (Some d) nope = ap (λ b. b || false) (false_same the_type (search rules) c d (λ e. same_false the_type d c nope (sym e)))
 
 pub single-is : (p c : Class) (item : Item) (old new : Option RefusedAt) (ok : Bool) → is_class c (class_in p item) ≡ true → Judged c item old ok new → Answers p (c ∷ []) item old (Some ok) new
 single-is p c item old new ok e judged = (c, (class-is c (class_in p item) e, (ap (λ b. b || false) (true_same the_type c c refl), judged)))
@@ -372,35 +337,23 @@ walked-all tree c close slots item start old new r ok e f at same is h =
     let R : Option RefusedAt → Type 0 = λ w. Gives w old (BreaksAmong c (arguments item)) ok new in
     subst R (arguments-fault c item close e f) (subst Q (sym same) (ahead-gives tree c close slots (arguments item) start old ok new at (subst P is h)))
 
-node-breaks : (c : Class) (item : Item) (close : ℕ) → close_of item ≡ Some close → (f : RefusedAt) → (BreaksAmong c (arguments item) f ⊎ Own c item f → Breaks c item f)
-node-breaks c (leaf kind place raw) close e f h = cc
-node-breaks c (node place keyword square first others end) close e f (inl h) = inr h
-node-breaks c (node place keyword square first others end) close e f (inr h) = inl h
-
-breaks-node : (c : Class) (item : Item) (close : ℕ) → close_of item ≡ Some close → (f : RefusedAt) → (Breaks c item f → BreaksAmong c (arguments item) f ⊎ Own c item f)
-breaks-node c (leaf kind place raw) close e f h = absurd h
-breaks-node c (node place keyword square first others end) close e f (inl h) = inr h
-breaks-node c (node place keyword square first others end) close e f (inr h) = inl h
+node-breaks : (c : Class) (item : Item) (close : ℕ) → close_of item ≡ Some close → (f : RefusedAt) → Breaks c item f ↔ (BreaksAmong c (arguments item) f ⊎ Own c item f)
+node-breaks c (leaf kind place raw) close e f = cc
+node-breaks c (node place keyword square first others end) close e f = (⊎_elim (λ h. inr h) (λ h. inl h), ⊎_elim (λ h. inr h) (λ h. inl h))
 
 -- what a node breaks, with what was found before
 joined-least : (c : Class) (item : Item) (close : ℕ) (old new : Option RefusedAt) → close_of item ≡ Some close →
     IsLeast (λ g. (old ≡ Some g) ⊎ (BreaksAmong c (arguments item) g ⊎ Own c item g)) new → IsLeast (λ g. (old ≡ Some g) ⊎ Breaks c item g) new
 joined-least c item close old new f h =
-    least-beside (λ g. old ≡ Some g) (λ g. BreaksAmong c (arguments item) g ⊎ Own c item g) (Breaks c item) new (node-breaks c item close f) (breaks-node c item close f) h
+    least-beside (λ g. old ≡ Some g) (λ g. BreaksAmong c (arguments item) g ⊎ Own c item g) (Breaks c item) new (λ g. (node-breaks c item close f g).1) (λ g. (node-breaks c item close f g).0) h
 
 -- no fault of shape: what the node breaks by itself joins what its arguments break
 pub with-own : (c : Class) (item : Item) (close : ℕ) (old mid own new : Option RefusedAt) → close_of item ≡ Some close → WalkedAll c item old true mid → IsLeast (Own c item) own →
     new ≡ lesser mid own → Judged c item old true new
-with-own c item close old mid own new f walked least is = by (first_inside c item) walked
-  where
-    all : IsLeast (λ f. (mid ≡ Some f) ⊎ Own c item f) (lesser mid own)
-    all = least-either (λ f. mid ≡ Some f) (Own c item) mid own (old-least mid) least
-
-    by : (w : Option RefusedAt) → Gives w old (BreaksAmong c (arguments item)) true mid → Gives w old (Breaks c item) true new
-    by (Some fault) h = absurd h
-    by None h =
-        let P : Option RefusedAt → Type 0 = λ o. IsLeast (λ g. (old ≡ Some g) ⊎ Breaks c item g) o in
-        subst P (sym is) (joined-least c item close old (lesser mid own) f (least-on (BreaksAmong c (arguments item)) (Own c item) old mid (lesser mid own) h all))
+with-own c item close old mid own new f walked least is =
+    let t = gives-true (first_inside c item) old mid (BreaksAmong c (arguments item)) walked in
+    let all = least-either (λ g. mid ≡ Some g) (Own c item) mid own (old-least mid) least in
+    rw (t.0, is) (joined-least c item close old (lesser mid own) f (least-on (BreaksAmong c (arguments item)) (Own c item) old mid (lesser mid own) t.1 all))
 
 -- a fault of shape in an argument is the node's
 pub with-fault : (c : Class) (item : Item) (old before mid : Option RefusedAt) → WalkedAll c item before false mid → Judged c item old false mid
@@ -412,37 +365,21 @@ with-fault c item old before mid walked = by (first_inside c item) walked
 
 -- without a fault of shape the node is shaped
 pub shaped-by : ((c : Class) (item : Item) → first_inside c item ≡ None → Shaped c item) → (c : Class) (item : Item) (old mid : Option RefusedAt) → WalkedAll c item old true mid → Shaped c item
-shaped-by law c item old mid walked = law c item (none (first_inside c item) walked)
-  where
-    none : (w : Option RefusedAt) → Gives w old (BreaksAmong c (arguments item)) true mid → w ≡ None
-    none None h = refl
-    none (Some fault) h = absurd h
+shaped-by law c item old mid walked = law c item (gives-true (first_inside c item) old mid (BreaksAmong c (arguments item)) walked).0
 
 -- ---- a CRS, whose checks are made with what is broken within it
 
 -- the least of what is broken where nothing was found before
 pub fresh-least : (B : RefusedAt → Type 0) (o : Option RefusedAt) → IsLeast (λ f. (None ≡ Some f) ⊎ B f) o → IsLeast B o
-fresh-least B o h = least-same (λ f. (None ≡ Some f) ⊎ B f) B o fresh (λ f k. inr k) h
-  where
-    fresh : (f : RefusedAt) → (None ≡ Some f) ⊎ B f → B f
-    fresh f (inl e) = cc
-    fresh f (inr k) = k
+fresh-least B o h = least-same (λ f. (None ≡ Some f) ⊎ B f) B o (λ f. ⊎_elim (λ e. cc) (λ k. k)) (λ f k. inr k) h
 
 pub inside-least : (c : Class) (item : Item) (inside : Option RefusedAt) → WalkedAll c item None true inside → IsLeast (BreaksAmong c (arguments item)) inside
-inside-least c item inside walked = by (first_inside c item) walked
-  where
-    by : (w : Option RefusedAt) → Gives w None (BreaksAmong c (arguments item)) true inside → IsLeast (BreaksAmong c (arguments item)) inside
-    by None h = fresh-least (BreaksAmong c (arguments item)) inside h
-    by (Some fault) h = absurd h
+inside-least c item inside walked =
+    fresh-least (BreaksAmong c (arguments item)) inside (gives-true (first_inside c item) None inside (BreaksAmong c (arguments item)) walked).1
 
 pub with-whole : (c : Class) (item : Item) (close : ℕ) (old inside whole new : Option RefusedAt) → close_of item ≡ Some close → WalkedAll c item None true inside →
     IsLeast (λ f. BreaksAmong c (arguments item) f ⊎ Own c item f) whole → new ≡ lesser old whole → Judged c item old true new
-with-whole c item close old inside whole new f walked least is = by (first_inside c item) walked
-  where
-    by : (w : Option RefusedAt) → Gives w None (BreaksAmong c (arguments item)) true inside → Gives w old (Breaks c item) true new
-    by (Some fault) h = absurd h
-    by None h =
-        let P : Option RefusedAt → Type 0 = λ o. IsLeast (λ g. (old ≡ Some g) ⊎ Breaks c item g) o in
-        subst P (sym is)
-        (joined-least c item close old (lesser old whole) f
-        (least-either (λ g. old ≡ Some g) (λ g. BreaksAmong c (arguments item) g ⊎ Own c item g) old whole (old-least old) least))
+with-whole c item close old inside whole new f walked least is =
+    rw ((gives-true (first_inside c item) None inside (BreaksAmong c (arguments item)) walked).0, is)
+    (joined-least c item close old (lesser old whole) f
+    (least-either (λ g. old ≡ Some g) (λ g. BreaksAmong c (arguments item) g ⊎ Own c item g) old whole (old-least old) least))

@@ -1,7 +1,7 @@
 -- A CRS whose parts were found by the walk for its shape: what is seen of its coordinate system.
-use Rattle.std.proofs.Common.{◌≡◌, ◌≢◌, ℕ, Bool, true, false, not, length, Option, Some, None, List, [], ◌∷◌, ◌++◌, refl, sym, ◌∙◌, ap, subst, append_assoc}
+use Rattle.std.proofs.Common.{◌≡◌, ℕ, Bool, true, false, not, length, Option, Some, None, List, [], ◌∷◌, ◌++◌, refl, sym, ◌∙◌, ap, subst, append_assoc}
 use Rattle.std.specs.List.{list_any}
-use Rattle.std.proofs.lemmas.Bool.{and_parts, not-true}
+use Rattle.std.proofs.lemmas.Bool.{and_parts, not-true, or_parts}
 use Rattle.std.proofs.lemmas.List.{append-nil}
 use Rattle.std.proofs.Math.Bool.{or-false}
 use Rattle.crs_text.specs.Prelude.{Item, Siblings, End, More, arguments, rest_of, here, HasId, IsAt, RefusedAt}
@@ -20,11 +20,11 @@ use Rattle.crs_value.specs.Reading.{Each, item_at, is_a, ahead, those, Holds}
 use Rattle.crs_value.specs.Reads.{HasType}
 use Rattle.crs_value.specs.RepeatedPart.{RepeatsAny}
 use Rattle.crs_value.specs.Seen.{are_free, is_head, is_tail, the_one, AreOrdered, Has, IsLaid, IsNoted, IsQuiet, IsSeen, UnitsFit}
-use Rattle.crs_value.proofs.found.ArgumentLemmas.{ahead_at, all-shaped, arguments-shaped, holds_at, those-first}
+use Rattle.crs_value.proofs.found.ArgumentLemmas.{ahead_at, all-shaped, arguments-shaped, each-both, holds_at, those-first}
 use Rattle.crs_value.proofs.checked.CheckLemmas.{DenotesOne}
-use Rattle.crs_value.proofs.walk.JudgedLemmas.{end-first}
+use Rattle.crs_value.proofs.walk.JudgedLemmas.{end-first, gives-true}
 use Rattle.crs_value.proofs.checked.PlacedLemmas.{Symmetric, Transitive}
-use Rattle.crs_value.proofs.walk.RestLemmas.{once-back, ordered-none, systems-none, units-none}
+use Rattle.crs_value.proofs.walk.RestLemmas.{ordered-none, repeats-back, systems-none, units-none}
 use Rattle.crs_value.proofs.walk.RunLemmas.{seen-on}
 
 -- ---- where the parts of a CRS begin
@@ -43,16 +43,12 @@ walked-as tree c close slots at old new ok is e walked = let P : Bool → Type 0
 pub walked-end : (tree : Item) (c : Class) (close : ℕ) (at : Option ℕ) (old new : Option RefusedAt) (ok : Bool) → ok ≡ true → Walked tree c close [] at old ok new → ahead tree at ≡ End
 walked-end tree c close at old new ok e walked = by (ahead tree at) (walked-as tree c close [] at old new ok true e walked)
   where
-    stopped : (w : Option RefusedAt) (fault : RefusedAt) (B : RefusedAt → Type 0) → w ≡ Some fault → Gives w old B true new → ⊥
-    stopped w fault B e h = let Q : Option RefusedAt → Type 0 = λ o. Gives o old B true new in subst Q e h
-
-    more-some : (item : Item) (items : Siblings) → More item items ≢ End
-    more-some item items e = cc
-
     by : (items : Siblings) → Gives (first_in_arguments c close [] items) old (BreaksAmong c items) true new → items ≡ End
     by End h = refl
     by (More item items) h =
-        absurd (stopped (first_in_arguments c close [] (More item items)) _ (BreaksAmong c (More item items)) (end-first c close (More item items) (more-some item items)) h)
+        let none = (gives-true (first_in_arguments c close [] (More item items)) old new (BreaksAmong c (More item items)) h).0 in
+        let some = end-first c close (More item items) (λ k. cc) in
+        cc
 
 pub laid-parts : (tree : Item) (c : Class) (front : List SlotParts) (tail : SlotParts) (at end : Option ℕ) (layout : Layout) → is_head front ≡ true → is_tail tail ≡ true →
     AllLeave tree c front at layout.system → Leaves tree c (one class.CoordinateSystem) layout.system layout.axes → Leaves tree c (some class.Axis) layout.axes layout.unit →
@@ -65,23 +61,11 @@ laid-parts tree c front tail at end layout head ends first past-system past-axes
   unit = first class.AxisUnit heads.1.1.0 ∙ past-system class.AxisUnit refl ∙ past-axes class.AxisUnit refl;
   no_unit = behind class.AxisUnit tails.1.1.0;
   no_dynamic = past-system class.Dynamic refl ∙ past-axes class.Dynamic refl ∙ past-unit class.Dynamic refl ∙ behind class.Dynamic tails.1.1.1.0;
-  single = (
-    past class.Scope singles.0 refl refl refl,
-    (
-      past class.Area singles.1.0 refl refl refl,
-      (
-        past class.BoundingBox singles.1.1.0 refl refl refl,
-        (past class.VerticalExtent singles.1.1.1.0 refl refl refl, (past class.Remark singles.1.1.1.1.0 refl refl refl, tt)),
-      ),
-    ),
-  );
+  single = each-both past once heads.1.1.1 (free-of (one class.CoordinateSystem ∷ some class.Axis ∷ optional class.AxisUnit ∷ []) once refl);
 }
   where
     heads : Each (λ d. list_any (λ s. takes s d) front ≡ false) (class.CoordinateSystem ∷ class.Axis ∷ class.AxisUnit ∷ once)
     heads = free-of front (class.CoordinateSystem ∷ class.Axis ∷ class.AxisUnit ∷ once) head
-
-    singles : Each (λ d. list_any (λ s. takes s d) front ≡ false) once
-    singles = heads.1.1.1
 
     tails : Each (λ d. list_any (λ s. takes s d) (tail ∷ []) ≡ false) (class.CoordinateSystem ∷ class.Axis ∷ class.AxisUnit ∷ class.Dynamic ∷ [])
     tails = free-of (tail ∷ []) (class.CoordinateSystem ∷ class.Axis ∷ class.AxisUnit ∷ class.Dynamic ∷ []) ends
@@ -89,9 +73,12 @@ laid-parts tree c front tail at end layout head ends first past-system past-axes
     behind : (d : Class) → list_any (λ s. takes s d) (tail ∷ []) ≡ false → those c d (ahead tree layout.tail) ≡ []
     behind d free = last d (sym (or-false (takes tail d)) ∙ free) ∙ ap (those c d) none
 
-    past : (d : Class) → list_any (λ s. takes s d) front ≡ false → takes (one class.CoordinateSystem) d ≡ false → takes (some class.Axis) d ≡ false →
-        takes (optional class.AxisUnit) d ≡ false → those c d (ahead tree at) ≡ those c d (ahead tree layout.tail)
-    past d free a b u = first d free ∙ past-system d a ∙ past-axes d b ∙ past-unit d u
+    past : (d : Class) → list_any (λ s. takes s d) front ≡ false → list_any (λ s. takes s d) (one class.CoordinateSystem ∷ some class.Axis ∷ optional class.AxisUnit ∷ []) ≡ false →
+        those c d (ahead tree at) ≡ those c d (ahead tree layout.tail)
+    past d free apart =
+        let a = or_parts (takes (one class.CoordinateSystem) d) _ apart in
+        let b = or_parts (takes (some class.Axis) d) _ a.1 in
+        first d free ∙ past-system d a.0 ∙ past-axes d b.0 ∙ past-unit d (or_parts (takes (optional class.AxisUnit) d) _ b.1).0
 
 -- from the first argument on
 pub laid-arguments : (tree : Item) (c : Class) (item : Item) (start : Option ℕ) (layout : Layout) → IsAt tree (arguments item) start → IsLaid tree c (ahead tree start) layout →
@@ -170,14 +157,7 @@ pub laid-quiet : DenotesOne → Symmetric → Transitive → (tree : Item) (c : 
     ((list : List Item) → length list ≡ axes.count → IsLeast (OfHead (dimensions_of c) list (item_at tree cs)) None) → AreOrdered axes → UnitsFit tree axes shared →
     IsLeast (RepeatsAny c (ahead tree layout.tail) once) None → IsQuiet c items
 laid-quiet law symmetric transitive tree c items layout cs of axes shared laid at only typed noted unit head ordered fit repeats = record {
-  repeats = once-back c items (ahead tree layout.tail)
-      (record {
-        scope = laid.single.0;
-        area = laid.single.1.0;
-        bbox = laid.single.1.1.0;
-        extent = laid.single.1.1.1.0;
-        remark = laid.single.1.1.1.1.0;
-      }) repeats;
+  repeats = λ f h. repeats f (repeats-back c once items (ahead tree layout.tail) laid.single f h);
   systems = subst OfUnits (sym units) none;
 }
   where

@@ -1,15 +1,15 @@
 -- Arguments that are judged in a slot, or in some slots: which of a class are from there on.
-use Rattle.std.proofs.Common.{◌≡◌, ℕ, Bool, true, false, Option, Some, None, List, ◌∷◌, ◌++◌, refl, sym, ◌∙◌, ap, subst, IfSome}
+use Rattle.std.proofs.Common.{◌≡◌, ℕ, Bool, true, false, Option, Some, None, List, ◌∷◌, ◌++◌, refl, sym, ◌∙◌, ap, subst, IfSome, rules}
 use Rattle.std.specs.List.{list_any}
 use Rattle.std.proofs.lemmas.Bool.{or_parts}
-use denote.Enum.Bare.{sameb}
+use denote.Enum.Bare.{sameb, false_same}
 use Rattle.crs_text.specs.Prelude.{Item, rest_of, here, HasId, IsAt, RefusedAt}
 use Rattle.crs_shape.specs.contracts.class.Class.{the_type}
 use Rattle.crs_shape.specs.declared.class.Class.{Class}
 use Rattle.crs_shape.specs.Prelude.{SlotParts, is_class, takes, again}
 use Rattle.crs_value.specs.Judged.{AllLeave, AllPassed, Answers, Leaves, Passed}
 use Rattle.crs_value.specs.Reading.{item_at, is_a, those}
-use Rattle.crs_value.proofs.found.ArgumentLemmas.{ahead_at, same_class, those-later}
+use Rattle.crs_value.proofs.found.ArgumentLemmas.{ahead_at, those-later}
 use Rattle.crs_value.proofs.walk.JudgedLemmas.{answer-is}
 
 pub leaves-none : (tree : Item) (c : Class) (slot : SlotParts) (at : Option ℕ) → Leaves tree c slot at at
@@ -23,14 +23,8 @@ leaves-to tree c slot at next other e h = let P : Option ℕ → Type 0 = λ o. 
 
 -- a class that a slot takes isn't one that it doesn't take
 other-class : (d e : Class) (slot : SlotParts) → takes slot e ≡ true → takes slot d ≡ false → sameb the_type e d ≡ false
-other-class d e slot it none = by (sameb the_type e d) refl
-  where
-    by : (b : Bool) → sameb the_type e d ≡ b → b ≡ false
-    by false f = refl
-    by true f =
-        let P : Class → Type 0 = λ x. takes slot x ≡ true in
-        let k : true ≡ false = sym (subst P (same_class e d f) it) ∙ none in
-        cc
+other-class d e slot it none =
+    false_same the_type (search rules) e d (λ same. let k : takes slot d ≡ true = subst (λ x. takes slot x ≡ true) same it in cc)
 
 judged-other : (p d : Class) (slot : SlotParts) (item : Item) (old mid : Option RefusedAt) → Answers p slot.classes item old (Some true) mid → takes slot d ≡ false → is_a p d item ≡ false
 judged-other p d slot item old mid (e, (is, (takes_it, judged))) none = ap (is_class d) is ∙ other-class d e slot takes_it none

@@ -1,5 +1,5 @@
 -- What is checked of a CRS as a whole: orders, units, dimensions and repeated parts.
-use Rattle.std.proofs.Common.{◌≡◌, ℕ, ◌+◌, ◌<◌, ◌≤◌, length, drop, Bool, true, false, inl, inr, ◌⊎◌, Option, Some, None, List, [], ◌∷◌, ◌++◌, refl, sym, ◌∙◌, ap, subst, arith}
+use Rattle.std.proofs.Common.{◌≡◌, ℕ, ◌+◌, ◌<◌, ◌≤◌, length, drop, Bool, true, false, inl, inr, ◌⊎◌, ⊎_elim, Option, Some, None, List, [], ◌∷◌, ◌++◌, refl, sym, ◌∙◌, ap, subst, arith}
 use denote.Enum.Bare.{true_same}
 use Rattle.crs_decimal.specs.Prelude.{SameNumber, whole_number, exact}
 use Rattle.crs_text.specs.Prelude.{Item, Siblings, arguments, rest_of, here, HasId, IsAt, RefusedAt}
@@ -9,14 +9,14 @@ use Rattle.crs_shape.specs.declared.class.Class.TheVariants as class
 use Rattle.crs_shape.specs.declared.system_type.SystemType.{SystemType}
 use Rattle.crs_shape.specs.declared.unit_kind.UnitKind.{UnitKind}
 use Rattle.crs_shape.specs.declared.unit_kind.UnitKind.TheVariants as kinds
-use Rattle.crs_shape.specs.Prelude.{class_in, is_class, dimensions_of}
+use Rattle.crs_shape.specs.Prelude.{class_in, is_class}
 use Rattle.crs_value.specs.declared.judging.axes.Axes.{Axes}
 use Rattle.crs_value.specs.declared.judging.axes.Places.{Places}
 use Rattle.crs_value.specs.BadDynamic.{BadDynamic}
 use Rattle.crs_value.specs.BadOrder.{orders_in, ReadsOrder, OneHas, LacksOrder, SomeHasOrder, IsBadOrder, BadOrders, BadOrder}
-use Rattle.crs_value.specs.BadUnit.{units_in, Asks, Fits, AllAsk, IsSuperfluous, HasOwnUnit, BadOwnUnit, BadUnit}
+use Rattle.crs_value.specs.BadUnit.{Asks, AllAsk, IsSuperfluous, HasOwnUnit, BadOwnUnit, BadUnit}
 use Rattle.crs_value.specs.Break.{AnyOf, IsLeast}
-use Rattle.crs_value.specs.Checks.{once, BreaksAmong, HasSystem, OfHead, BadSystems, OfCrs, Own}
+use Rattle.crs_value.specs.Checks.{BreaksAmong, HasSystem, OfHead, BadSystems, Own}
 use Rattle.crs_value.specs.FoundArguments.{HasPlace}
 use Rattle.crs_value.specs.Least.{lesser}
 use Rattle.crs_value.specs.Reading.{Each, OneIs, item_at, is_a, ahead, those, ReadsFirst}
@@ -26,7 +26,7 @@ use Rattle.crs_value.specs.Seen.{the_one, Marks, IsAmong, Differ, AllDiffer, Are
 use Rattle.crs_value.specs.WholeNumbers.{IsWholeOf}
 use Rattle.crs_shape.proofs.DimensionLemmas.{as-whole}
 use Rattle.crs_value.proofs.checked.OwnLemmas.{crs-of-own, own-of-crs}
-use Rattle.crs_value.proofs.found.ArgumentLemmas.{ahead_at, class-is, those-first, those-later}
+use Rattle.crs_value.proofs.found.ArgumentLemmas.{ahead_at, class-is, each-as, each-on, those-first, those-later}
 use Rattle.crs_value.proofs.checked.CheckLemmas.{DenotesOne}
 use Rattle.crs_value.proofs.checked.LeastLemmas.{either-is, least-beside}
 use Rattle.crs_value.proofs.checked.OrderLemmas.{wrong-none}
@@ -66,41 +66,31 @@ none-same law symmetric transitive k axis p (b ∷ before) h (inl has) =
     d.1.1.1.1 (same ∙ sym other)
 none-same law symmetric transitive k axis p (b ∷ before) h (inr has) = none-same law symmetric transitive k axis p before h.1 has
 
-both-on : (axis : Item) (axes before : List Item) → Each (λ b. Each (Differ b) (axis ∷ axes)) before → Each (Differ axis) axes →
-    Each (λ b. Each (Differ b) axes) (before ++ axis ∷ [])
-both-on axis axes [] h d = (d, tt)
-both-on axis axes (b ∷ before) h d = (h.0.1, both-on axis axes before h.1 d)
-
-firsts : (axis : Item) (axes before : List Item) → Each (λ b. Each (Differ b) (axis ∷ axes)) before → Each (λ b. Differ b axis) before
-firsts axis axes [] h = tt
-firsts axis axes (b ∷ before) h = (h.0.0, firsts axis axes before h.1)
-
 among-none : DenotesOne → Symmetric → Transitive → (n : ℕ) (places : Places) → ((k : ℕ) → Marks places k → (1 ≤ k) × (k ≤ n)) → (axes before : List Item) →
     Each (IsAmong places) axes → AllDiffer axes → Each (λ b. Each (Differ b) axes) before → (f : RefusedAt) → BadOrders n before axes f → ⊥
 among-none law symmetric transitive n places within [] before among differ others f h = h
 among-none law symmetric transitive n places within (axis ∷ axes) before among differ others f (inl h) =
     let P : List Item → Type 0 = λ xs. AnyOf (IsBadOrder n before) xs f in
-    last (subst P among.0.1.0.only h)
-  where
-    last : AnyOf (IsBadOrder n before) (among.0.1.0.order ∷ []) f → ⊥
-    last (inl k) =
-        let p = among.0.1.0 in
-        let w = within among.0.0 among.0.1.1 in
-        wrong-none law n before p.order p.value p.reads (among.0.0, (w.0, w.1, p.same))
-        (none-same law symmetric transitive among.0.0 axis p before (firsts axis axes before others)) f k
-    last (inr k) = k
+    let p = among.0.1.0 in
+    let w = within among.0.0 among.0.1.1 in
+    ⊎_elim
+    (wrong-none law n before p.order p.value p.reads (among.0.0, (w.0, w.1, p.same))
+    (none-same law symmetric transitive among.0.0 axis p before (each-as (λ b h. h.0) before others)) f)
+    (λ k. k) (subst P p.only h)
 among-none law symmetric transitive n places within (axis ∷ axes) before among differ others f (inr h) =
-    among-none law symmetric transitive n places within axes (before ++ axis ∷ []) among.1 differ.1 (both-on axis axes before others differ.0) f h
-
-some-lacks : (places : Places) (axes : List Item) → Each (IsAmong places) axes → (f : RefusedAt) → AnyOf LacksOrder axes f → ⊥
-some-lacks places [] h f k = k
-some-lacks places (axis ∷ axes) h f (inl k) = let e : [] ≡ h.0.1.0.order ∷ [] = sym k.1 ∙ h.0.1.0.only in cc
-some-lacks places (axis ∷ axes) h f (inr k) = some-lacks places axes h.1 f k
+    among-none law symmetric transitive n places within axes (before ++ axis ∷ []) among.1 differ.1
+    (each-on (λ b. Each (Differ b) axes) before axis (each-as (λ b h. h.1) before others) differ.0) f h
 
 some-has : (axes : List Item) → Each (λ a. orders_in a ≡ []) axes → SomeHasOrder axes → ⊥
 some-has [] h k = k
 some-has (axis ∷ axes) h (inl k) = k h.0
 some-has (axis ∷ axes) h (inr k) = some-has axes h.1 k
+
+-- where none of some items breaks a check, none is broken
+any-none : (B : Item → RefusedAt → Type 0) (items : List Item) → Each (λ i. IsLeast (B i) None) items → IsLeast (AnyOf B items) None
+any-none B [] h f k = k
+any-none B (item ∷ items) h f (inl k) = h.0 f k
+any-none B (item ∷ items) h f (inr k) = any-none B items h.1 f k
 
 pub ordered-none : DenotesOne → Symmetric → Transitive → (of : SystemType) (seen : Axes) (axes : List Item) → IsSeen of seen axes → AreOrdered seen → IsLeast (BadOrder axes) None
 ordered-none law symmetric transitive of seen axes s (inl e) f (inl h) = some-has axes (s.none e) h.0
@@ -109,22 +99,12 @@ ordered-none law symmetric transitive of seen axes s (inr w) f h = by seen.place
   where
     by : (o : Option Places) → AreWithin seen.count o → AreAmong o axes → BadOrder axes f → ⊥
     by None w among h = w
-    by (Some places) w among (inl h) = some-lacks places axes among.0 f h.1
+    by (Some places) w among (inl h) = any-none LacksOrder axes (each-as (λ a m g k. let e : [] ≡ m.1.0.order ∷ [] = sym k.1 ∙ m.1.0.only in cc) axes among.0) f h.1
     by (Some places) w among (inr h) =
         among-none law symmetric transitive (length axes) places
         (λ k m. let b = w k m in (b.0, let e = s.count in let q = b.1 in omega (arith, e, q))) axes [] among.0 among.1 tt f h.1
 
 -- ---- units
-
-own-none : (cs : Item) (axes : List Item) → Each (λ a. IsLeast (BadOwnUnit cs a) None) axes → (f : RefusedAt) → AnyOf (BadOwnUnit cs) axes f → ⊥
-own-none cs [] h f k = k
-own-none cs (axis ∷ axes) h f (inl k) = h.0 f k
-own-none cs (axis ∷ axes) h f (inr k) = own-none cs axes h.1 f k
-
-alone-none : (axes : List Item) → Each (λ a. units_in a ≡ []) axes → (f : RefusedAt) → AnyOf HasOwnUnit axes f → ⊥
-alone-none [] h f k = k
-alone-none (axis ∷ axes) h f (inl k) = let P : List Item → Type 0 = λ xs. AnyOf IsSuperfluous xs f in subst P h.0 k
-alone-none (axis ∷ axes) h f (inr k) = alone-none axes h.1 f k
 
 all-ask : (cs : Item) (kind : UnitKind) (axes : List Item) → Each (λ a. Asks cs a kind) axes → AllAsk cs axes kind
 all-ask cs kind [] h = tt
@@ -132,49 +112,26 @@ all-ask cs kind (axis ∷ axes) h = (h.0, all-ask cs kind axes h.1)
 
 pub units-none : (tree cs : Item) (of : SystemType) (seen : Axes) (axes : List Item) (shared : Option ℕ) → HasType cs of → IsSeen of seen axes → UnitsFit tree seen shared →
     IsLeast (BadUnit axes (the_one tree shared) cs) None
-units-none tree cs of seen axes None t s fit f h = own-none cs axes (s.fit fit cs t) f h
-units-none tree cs of seen axes (Some unit) t s fit f (inl h) = alone-none axes (s.free fit.0) f h
-units-none tree cs of seen axes (Some unit) t s fit f (inr h) = h.1 (by fit.1)
-  where
-    by : ((seen.lengths ≡ true) × Fits (item_at tree unit) kinds.Length) ⊎ ((seen.angles ≡ true) × Fits (item_at tree unit) kinds.Angle) →
-        (kind : UnitKind) × (AllAsk cs axes kind × Fits (item_at tree unit) kind)
-    by (inl k) = (kinds.Length, (all-ask cs kinds.Length axes (s.long k.0 cs t), k.1))
-    by (inr k) = (kinds.Angle, (all-ask cs kinds.Angle axes (s.turned k.0 cs t), k.1))
+units-none tree cs of seen axes None t s fit f h = any-none (BadOwnUnit cs) axes (s.fit fit cs t) f h
+units-none tree cs of seen axes (Some unit) t s fit f (inl h) =
+    any-none HasOwnUnit axes (each-as (λ a e g k. let P : List Item → Type 0 = λ xs. AnyOf IsSuperfluous xs g in subst P e k) axes (s.free fit.0)) f h
+units-none tree cs of seen axes (Some unit) t s fit f (inr h) =
+    h.1
+    (⊎_elim (λ k. (kinds.Length, (all-ask cs kinds.Length axes (s.long k.0 cs t), k.1)))
+    (λ k. (kinds.Angle, (all-ask cs kinds.Angle axes (s.turned k.0 cs t), k.1))) fit.1)
 
 pub systems-none : (dims : SystemType → List ℕ) (systems axes units : List Item) (cs : Item) → systems ≡ cs ∷ [] → IsLeast (OfHead dims axes cs) None → IsLeast (BadOrder axes) None →
     IsLeast (BadUnit axes units cs) None → IsLeast (BadSystems dims systems axes units) None
-systems-none dims systems axes units cs e head orders fit = subst (λ xs. IsLeast (BadSystems dims xs axes units) None) (sym e) by
-  where
-    by : (f : RefusedAt) → BadSystems dims (cs ∷ []) axes units f → ⊥
-    by f (inl (inl h)) = head f h
-    by f (inl (inr h)) = h
-    by f (inr (inl h)) = orders f h
-    by f (inr (inr (inl h))) = fit f h
-    by f (inr (inr (inr h))) = h
+systems-none dims systems axes units cs e head orders fit =
+    rw e (λ f. ⊎_elim (⊎_elim (head f) (λ h. h)) (⊎_elim (orders f) (⊎_elim (fit f) (λ h. h))))
 
 -- ---- what is repeated
 
--- the same ones of the classes that may stand but once
-pub record SameOnce (c : Class) (xs ys : Siblings) : Type 0 where
-  pub scope : those c class.Scope xs ≡ those c class.Scope ys
-  pub area : those c class.Area xs ≡ those c class.Area ys
-  pub bbox : those c class.BoundingBox xs ≡ those c class.BoundingBox ys
-  pub extent : those c class.VerticalExtent xs ≡ those c class.VerticalExtent ys
-  pub remark : those c class.Remark xs ≡ those c class.Remark ys
-
-pub once-back : (c : Class) (xs ys : Siblings) → SameOnce c xs ys → IsLeast (RepeatsAny c ys once) None → IsLeast (RepeatsAny c xs once) None
-once-back c xs ys same none f h = none f (by h)
-  where
-    again : RefusedAt → List Item → Type 0
-    again g zs = AnyOf IsRepeated (drop 1 zs) g
-
-    by : RepeatsAny c xs once f → RepeatsAny c ys once f
-    by (inl k) = inl (subst (again f) same.scope k)
-    by (inr (inl k)) = inr (inl (subst (again f) same.area k))
-    by (inr (inr (inl k))) = inr (inr (inl (subst (again f) same.bbox k)))
-    by (inr (inr (inr (inl k)))) = inr (inr (inr (inl (subst (again f) same.extent k))))
-    by (inr (inr (inr (inr (inl k))))) = inr (inr (inr (inr (inl (subst (again f) same.remark k)))))
-    by (inr (inr (inr (inr (inr k))))) = absurd k
+-- where the same ones are of some classes the same is repeated
+pub repeats-back : (c : Class) (cs : List Class) (xs ys : Siblings) → Each (λ d. those c d xs ≡ those c d ys) cs → (f : RefusedAt) → RepeatsAny c xs cs f → RepeatsAny c ys cs f
+repeats-back c [] xs ys same f h = h
+repeats-back c (d ∷ cs) xs ys same f (inl k) = inl (subst (λ zs. AnyOf IsRepeated (drop 1 zs) f) same.0 k)
+repeats-back c (d ∷ cs) xs ys same f (inr k) = inr (repeats-back c cs xs ys same.1 f k)
 
 -- ---- ranks
 
@@ -192,11 +149,11 @@ once-some p item c is d high also = sym (class-is c (class_in p item) is) ∙ cl
 -- one of none of the classes that may stand but once
 pub once-none : (p : Class) (item : Item) → is_a p class.Scope item ≡ false → is_a p class.Area item ≡ false → is_a p class.BoundingBox item ≡ false →
     is_a p class.VerticalExtent item ≡ false → is_a p class.Remark item ≡ false → (d : Class) → 1 ≤ rank d → is_a p d item ≡ true → ⊥
-once-none p item a b e f g class.Scope high is = let k : true ≡ false = sym is ∙ a in cc
-once-none p item a b e f g class.Area high is = let k : true ≡ false = sym is ∙ b in cc
-once-none p item a b e f g class.BoundingBox high is = let k : true ≡ false = sym is ∙ e in cc
-once-none p item a b e f g class.VerticalExtent high is = let k : true ≡ false = sym is ∙ f in cc
-once-none p item a b e f g class.Remark high is = let k : true ≡ false = sym is ∙ g in cc
+once-none p item a b e f g class.Scope high is = cc
+once-none p item a b e f g class.Area high is = cc
+once-none p item a b e f g class.BoundingBox high is = cc
+once-none p item a b e f g class.VerticalExtent high is = cc
+once-none p item a b e f g class.Remark high is = cc
 once-none p item a b e f g other high is = absurd (omega (arith, high))
 
 -- one argument more
@@ -230,15 +187,8 @@ climbing-on tree c from at id next last now found same has is named climbs h = r
 
 -- ---- a whole CRS
 
-crs-dynamic : (dims : SystemType → List ℕ) (c : Class) (item : Item) → IsLeast (RepeatsAny c (arguments item) once) None →
-    IsLeast (BadSystems dims (those c class.CoordinateSystem (arguments item)) (those c class.Axis (arguments item)) (those c class.AxisUnit (arguments item))) None →
-    (f : RefusedAt) → OfCrs dims c item f → BadDynamic c item f
-crs-dynamic dims c item repeats systems f (inl h) = absurd (repeats f h)
-crs-dynamic dims c item repeats systems f (inr (inl h)) = absurd (systems f h)
-crs-dynamic dims c item repeats systems f (inr (inr h)) = h
-
 own-dynamic : (c : Class) (item : Item) → HasSystem c → IsQuiet c (arguments item) → (f : RefusedAt) → Own c item f → BadDynamic c item f
-own-dynamic c item s q f h = crs-dynamic (dimensions_of c) c item q.repeats q.systems f (crs-of-own c item f s h)
+own-dynamic c item s q f h = ⊎_elim (λ k. absurd (q.repeats f k)) (⊎_elim (λ k. absurd (q.systems f k)) (λ k. k)) (crs-of-own c item f s h)
 
 -- what such a CRS breaks, within it and by itself
 pub quiet-whole : (c : Class) (item : Item) (inside dynamic whole : Option RefusedAt) → HasSystem c → IsQuiet c (arguments item) → IsLeast (BreaksAmong c (arguments item)) inside →

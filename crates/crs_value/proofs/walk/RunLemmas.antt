@@ -9,26 +9,15 @@ use Rattle.crs_value.specs.declared.judging.axes.Seen.{Seen}
 use Rattle.crs_value.specs.BadOrder.{orders_in}
 use Rattle.crs_value.specs.BadUnit.{units_in, Asks, BadOwnUnit}
 use Rattle.crs_value.specs.Break.{IsLeast}
-use Rattle.crs_value.specs.FoundArguments.{HasPlace}
 use Rattle.crs_value.specs.Reading.{Each}
-use Rattle.crs_value.specs.Seen.{the_one, Has, Marks, IsMarked, ArePlaced, IsNoted, IsAmong, Differ, AllDiffer, AreAmong, IsSeen}
-use Rattle.crs_value.proofs.found.ArgumentLemmas.{each-on}
+use Rattle.crs_value.specs.Seen.{the_one, Has, Marks, ArePlaced, IsNoted, IsAmong, Differ, AllDiffer, AreAmong, IsSeen}
+use Rattle.crs_value.proofs.found.ArgumentLemmas.{each-as, each-on}
 
 -- ---- orders
 
 differ-on : (xs : List Item) (x : Item) → AllDiffer xs → Each (λ a. Differ a x) xs → AllDiffer (xs ++ x ∷ [])
 differ-on [] x h d = (tt, tt)
 differ-on (y ∷ ys) x h d = (each-on (Differ y) ys x h.0 d.0, differ-on ys x h.1 d.1)
-
-among-more : (k : ℕ) (old new : Places) (xs : List Item) → IsMarked k old new → Each (IsAmong old) xs → Each (IsAmong new) xs
-among-more k old new [] is h = tt
-among-more k old new (x ∷ xs) is h = ((h.0.0, (h.0.1.0, is.keeps h.0.0 h.0.1.1)), among-more k old new xs is h.1)
-
-differ-from : (k : ℕ) (old : Places) (xs : List Item) (x : Item) → Each (IsAmong old) xs → HasPlace k x → (Marks old k → ⊥) → Each (λ a. Differ a x) xs
-differ-from k old [] x h p fresh = tt
-differ-from k old (y ∷ ys) x h p fresh =
-    let P : ℕ → Type 0 = λ j. Marks old j in
-    ((h.0.0, (k, (h.0.1.0, (p, λ e. fresh (subst P e h.0.1.1))))), differ-from k old ys x h.1 p fresh)
 
 places-on : (tree : Item) (order : Option ℕ) (old new : Option Places) (xs : List Item) (x : Item) → ArePlaced tree order old new → orders_in x ≡ the_one tree order →
     AreAmong old xs → AreAmong new (xs ++ x ∷ [])
@@ -37,8 +26,8 @@ places-on tree order (Some old) None xs x h e a = tt
 places-on tree order None (Some new) xs x h e a = absurd h
 places-on tree order (Some old) (Some new) xs x h e a =
     let p = h.1.0 x e in (
-      each-on (IsAmong new) xs x (among-more h.0 old new xs h.1.1 a.0) (h.0, (p, h.1.1.there)),
-      differ-on xs x a.1 (differ-from h.0 old xs x a.0 p h.1.1.fresh),
+      each-on (IsAmong new) xs x (each-as (λ y k. (k.0, (k.1.0, h.1.1.keeps k.0 k.1.1))) xs a.0) (h.0, (p, h.1.1.there)),
+      differ-on xs x a.1 (each-as (λ y k. (k.0, (h.0, (k.1.0, (p, λ e. h.1.1.fresh (subst (Marks old) e k.1.1)))))) xs a.0),
     )
 
 -- ---- what is seen
