@@ -1,5 +1,5 @@
 -- The checks of a CRS that has a coordinate system: those of its axes have the highest numbers.
-use Rattle.std.proofs.Common.{◌≡◌, ℕ, ◌<◌, ◌≤◌, ◌++◌, inl, inr, ◌⊎◌, Option, Some, List, [], ◌∷◌, subst, ap, arith}
+use Rattle.std.proofs.Common.{◌≡◌, ℕ, ◌<◌, ◌≤◌, ◌++◌, inl, inr, ◌⊎◌, ⊎_elim, Option, Some, List, [], ◌∷◌, subst, ap, arith}
 use Rattle.crs_text.specs.Prelude.{Item, arguments, RefusedAt}
 use Rattle.crs_shape.specs.declared.class.Class.{Class}
 use Rattle.crs_shape.specs.declared.class.Class.TheVariants as class
@@ -29,15 +29,10 @@ orders-high n before (axis ∷ axes) f (inl h) = any-high (IsBadOrder n before) 
 orders-high n before (axis ∷ axes) f (inr h) = orders-high n (before ++ axis ∷ []) axes f h
 
 order-high : (axes : List Item) (f : RefusedAt) → BadOrder axes f → 26 ≤ f.number
-order-high axes f (inl h) = any-high LacksOrder 26 (λ i g x. at-high 26 i g x.0) axes f h.1
-order-high axes f (inr h) = orders-high _ [] axes f h.1
-
-high : (n : ℕ) → 27 ≤ n → 26 ≤ n
-high n h = omega arith
+order-high axes f = ⊎_elim (λ h. any-high LacksOrder 26 (λ i g x. at-high 26 i g x.0) axes f h.1) (λ h. orders-high _ [] axes f h.1)
 
 own-high : (cs axis : Item) (f : RefusedAt) → BadOwnUnit cs axis f → 27 ≤ f.number
-own-high cs axis f (inl h) = at-high 27 axis f h.0
-own-high cs axis f (inr h) = any-high (Misfits cs axis) 27 (λ i g x. at-high 27 i g x.0) (units_in axis) f h
+own-high cs axis f = ⊎_elim (λ h. at-high 27 axis f h.0) (any-high (Misfits cs axis) 27 (λ i g x. at-high 27 i g x.0) (units_in axis) f)
 
 unit-high : (axes units : List Item) (cs : Item) (f : RefusedAt) → BadUnit axes units cs f → 27 ≤ f.number
 unit-high axes [] cs f h = any-high (BadOwnUnit cs) 27 (λ i g x. own-high cs i g x) axes f h
@@ -46,8 +41,9 @@ unit-high axes (unit ∷ units) cs f (inl h) =
 unit-high axes (unit ∷ units) cs f (inr h) = at-high 27 unit f h.0
 
 axes-high : (systems axes units : List Item) (f : RefusedAt) → OfAxes systems axes units f → 26 ≤ f.number
-axes-high systems axes units f (inl h) = order-high axes f h
-axes-high systems axes units f (inr h) = high f.number (any-high (BadUnit axes units) 27 (λ i g x. unit-high axes units i g x) systems f h)
+axes-high systems axes units f =
+    ⊎_elim (order-high axes f)
+    (λ h. let high : 27 ≤ f.number = any-high (BadUnit axes units) 27 (λ i g x. unit-high axes units i g x) systems f h in omega (arith, high))
 
 dynamic-high : (c : Class) (item : Item) (f : RefusedAt) → BadDynamic c item f → 26 ≤ f.number
 dynamic-high c item f h =
@@ -81,28 +77,18 @@ module _ (c : Class) (item : Item) where
   Whole f = Inside f ⊎ OfCrs (dimensions_of c) c item f
 
   to : (f : RefusedAt) → Found f ⊎ Axes f → Whole f
-  to f (inl (inl h)) = inl h
-  to f (inl (inr (inl h))) = inr (inl h)
-  to f (inl (inr (inr h))) = inr (inr (inl (inl h)))
-  to f (inr (inl h)) = inr (inr (inl (inr h)))
-  to f (inr (inr h)) = inr (inr (inr h))
+  to f = ⊎_elim (⊎_elim (λ h. inl h) (⊎_elim (λ h. inr (inl h)) (λ h. inr (inr (inl (inl h)))))) (⊎_elim (λ h. inr (inr (inl (inr h)))) (λ h. inr (inr (inr h))))
 
   back : (f : RefusedAt) → Whole f → Found f ⊎ Axes f
-  back f (inl h) = inl (inl h)
-  back f (inr (inl h)) = inl (inr (inl h))
-  back f (inr (inr (inl (inl h)))) = inl (inr (inr h))
-  back f (inr (inr (inl (inr h)))) = inr (inl h)
-  back f (inr (inr (inr h))) = inr (inr h)
-
-  high-axes : (f : RefusedAt) → Axes f → 26 ≤ f.number
-  high-axes f (inl h) = axes-high systems axes units f h
-  high-axes f (inr h) = dynamic-high c item f h
+  back f =
+      ⊎_elim (λ h. inl (inl h))
+      (⊎_elim (λ h. inl (inr (inl h))) (⊎_elim (⊎_elim (λ h. inl (inr (inr h))) (λ h. inr (inl h))) (λ h. inr (inr h))))
 
   pub crs-early : (a b r : Option RefusedAt) (first : RefusedAt) → r ≡ lesser a b → IsLeast Inside a → IsLeast Head b → r ≡ Some first → first.number < 26 → IsLeast Whole (Some first)
   crs-early a b r first e inside head is below =
       let P : Option RefusedAt → Type 0 = λ o. IsLeast Found o in
       least-same (λ f. Found f ⊎ Axes f) Whole (Some first) to back
-      (least-below Found Axes 26 first below high-axes (subst P is (either-is Inside Head a b r e inside head)))
+      (least-below Found Axes 26 first below (λ f. ⊎_elim (axes-high systems axes units f) (dynamic-high c item f)) (subst P is (either-is Inside Head a b r e inside head)))
 
   pub crs-whole : (a b r d s : Option RefusedAt) → r ≡ lesser a b → s ≡ lesser r d → IsLeast Inside a → IsLeast Head b → IsLeast Axes d → IsLeast Whole s
   crs-whole a b r d s e g inside head of_axes =

@@ -59,19 +59,24 @@ least-beside A P Q o to back h =
 pub least-one : (g : RefusedAt) (C : Type 0) → C → IsLeast (λ f. (f ≡ g) × C) (Some g)
 least-one g C holds = ((refl, holds), λ f h. let P : RefusedAt → Type 0 = λ x. IsFirst g x in subst P (sym h.0) (first-self g))
 
--- one item more is the same as the others or this one
+-- either of three, in another order
+pub or-more : {A B C D : Type 0} → (B ↔ (C ⊎ D)) → (A ⊎ B) ↔ ((A ⊎ C) ⊎ D)
+or-more rest = (
+  ⊎_elim (λ h. inl (inl h)) (λ h. ⊎_elim (λ k. inl (inr k)) (λ k. inr k) (rest.0 h)),
+  ⊎_elim (⊎_elim (λ h. inl h) (λ h. inr (rest.1 (inl h)))) (λ h. inr (rest.1 (inr h))),
+)
+
+pub or-alone : {A : Type 0} → (A ⊎ ⊥) ↔ (⊥ ⊎ A)
+or-alone = (⊎_elim (λ h. inr h) (λ h. absurd h), ⊎_elim (λ h. absurd h) (λ h. inl h))
+
+-- one item more
 any-more : (B : Item → RefusedAt → Type 0) (xs : List Item) (x : Item) (f : RefusedAt) → AnyOf B (xs ++ x ∷ []) f ↔ (AnyOf B xs f ⊎ B x f)
-any-more B [] x f = (⊎_elim (λ h. inr h) (λ h. absurd h), ⊎_elim (λ h. absurd h) (λ h. inl h))
-any-more B (y ∷ ys) x f =
-    let rest = any-more B ys x f in (
-      ⊎_elim (λ h. inl (inl h)) (λ h. ⊎_elim (λ k. inl (inr k)) (λ k. inr k) (rest.0 h)),
-      ⊎_elim (⊎_elim (λ h. inl h) (λ h. inr (rest.1 (inl h)))) (λ h. inr (rest.1 (inr h))),
-    )
+any-more B [] x f = or-alone
+any-more B (y ∷ ys) x f = or-more (any-more B ys x f)
 
 pub least-single : (B : Item → RefusedAt → Type 0) (item : Item) (o : Option RefusedAt) → IsLeast (B item) o → IsLeast (AnyOf B (item ∷ [])) o
 least-single B item o h = least-same (B item) (AnyOf B (item ∷ [])) o (λ f k. inl k) (λ f. ⊎_elim (λ k. k) (λ k. absurd k)) h
 
--- one more item
 pub least-more : (B : Item → RefusedAt → Type 0) (done : List Item) (item : Item) (a b : Option RefusedAt) → IsLeast (AnyOf B done) a → IsLeast (B item) b →
     IsLeast (AnyOf B (done ++ item ∷ [])) (lesser a b)
 least-more B done item a b p q =

@@ -1,5 +1,5 @@
 -- The checks of the orders of axes.
-use Rattle.std.proofs.Common.{◌≡◌, ◌≢◌, ℕ, zero, suc, ◌+◌, ◌<◌, ◌≤◌, length, take, drop, Bool, IsTrue, ◌↔◌, inl, inr, ◌⊎◌, Option, Some, None, List, [], ◌∷◌, ◌++◌, refl, sym, ◌∙◌, ap, subst, append_assoc, length-append, arith}
+use Rattle.std.proofs.Common.{◌≡◌, ◌≢◌, ℕ, zero, suc, ◌+◌, ◌<◌, ◌≤◌, length, take, drop, Bool, IsTrue, ◌↔◌, inl, inr, ◌⊎◌, ⊎_elim, Option, Some, None, List, [], ◌∷◌, ◌++◌, refl, sym, ◌∙◌, ap, subst, append_assoc, length-append, arith}
 use Rattle.std.proofs.lemmas.List.{append-nil}
 use Rattle.std.proofs.Math.Seq.{take-append_seam}
 use Rattle.crs_decimal.specs.Prelude.{Number, SameNumber, whole_number, Value, exact}
@@ -11,43 +11,33 @@ use Rattle.crs_value.specs.BadOrder.{orders_in, SomeHasOrder, AllHaveOrder, Lack
 use Rattle.crs_value.specs.Break.{at, AnyOf, IsLeast}
 use Rattle.crs_value.specs.FoundArguments.{from_found, AllShaped}
 use Rattle.crs_value.specs.Least.{lesser}
-use Rattle.crs_value.specs.Reading.{item_at, those, Holds, IsFound, ReadsFirst}
+use Rattle.crs_value.specs.Reading.{OneIs, item_at, those, Holds, IsFound, ReadsFirst}
 use Rattle.crs_value.specs.Reads.{ReadsNumber}
 use Rattle.crs_value.proofs.found.ArgumentLemmas.{found-is, found-holds, found-shaped, all-shaped}
 use Rattle.crs_value.proofs.found.NodeLemmas.{drop-more, drop-short}
 use Rattle.crs_value.proofs.checked.CheckLemmas.{DenotesOne, number-one}
-use Rattle.crs_value.proofs.checked.LeastLemmas.{least-same, least-at, least-either}
+use Rattle.crs_value.proofs.checked.LeastLemmas.{least-same, least-at, either-is, or-alone, or-more}
 use Rattle.crs_value.proofs.checked.SystemLemmas.{first-one, wholes-same}
 
 pub position-test : ((a b : Number) → SameNumber a b → SameNumber b a) → ((a b c : Number) → SameNumber a b → SameNumber b c → SameNumber a c) →
     (v : Value) (m n : ℕ) (b : Bool) → SameNumber (exact v) (whole_number m) → (IsTrue b ↔ ((1 ≤ m) × (m ≤ n))) → IsTrue b ↔ IsPosition n v
-position-test symmetric transitive v m n b same test = (forth, back)
-  where
-    forth : IsTrue b → IsPosition n v
-    forth e = let h = test.0 e in (m, (h.0, h.1, same))
-
-    back : IsPosition n v → IsTrue b
-    back (k, h) =
-        let e : m ≡ k = wholes-same m k (transitive (whole_number m) (exact v) (whole_number k) (symmetric (exact v) (whole_number m) same) h.2) in
-        test.1 (omega (arith, h.0), omega (arith, h.1))
+position-test symmetric transitive v m n b same test = (
+  λ e. let h = test.0 e in (m, (h.0, h.1, same)),
+  λ h. let e : m ≡ h.0 = wholes-same m h.0 (transitive (whole_number m) (exact v) (whole_number h.0) (symmetric (exact v) (whole_number m) same) h.1.2) in
+      test.1 (omega (arith, h.1.0), omega (arith, h.1.1)),
+)
 
 pub order-one : DenotesOne → (order : Item) (a b : Value) → ReadsOrder order a → ReadsOrder order b → a ≡ b
-order-one law order a b p q = first-one ReadsNumber (λ i x y. number-one law i x y) (those class.Order class.Number (arguments order)) a b p q
+order-one law order a b p q = first-one ReadsNumber (number-one law) (those class.Order class.Number (arguments order)) a b p q
 
 pub this-test : DenotesOne → (tree axis : Item) (order : ℕ) (number value : Value) (b : Bool) → IsFound tree class.Axis class.Order (orders_in axis) (Some order) →
     ReadsOrder (item_at tree order) number → (IsTrue b ↔ (number ≡ value)) → IsTrue b ↔ HasThis value axis
-this-test law tree axis order number value b found reads test = (forth, back)
-  where
-    forth : IsTrue b → HasThis value axis
-    forth e =
-        let P : List Item → Type 0 = λ xs. ReadsFirst ReadsOrder xs value in
-        let Q : Value → Type 0 = λ v. ReadsOrder (item_at tree order) v in
-        subst P (sym found.0) (subst Q (test.0 e) reads)
-
-    back : HasThis value axis → IsTrue b
-    back h =
-        let P : List Item → Type 0 = λ xs. ReadsFirst ReadsOrder xs value in
-        test.1 (order-one law (item_at tree order) number value reads (subst P found.0 h))
+this-test law tree axis order number value b found reads test =
+    let P : List Item → Type 0 = λ xs. ReadsFirst ReadsOrder xs value in
+    let Q : Value → Type 0 = λ v. ReadsOrder (item_at tree order) v in (
+      λ e. subst P (sym found.0) (subst Q (test.0 e) reads),
+      λ h. test.1 (order-one law (item_at tree order) number value reads (subst P found.0 h)),
+    )
 
 -- ---- one of the first axes has an order
 
@@ -61,21 +51,15 @@ has-at v (z ∷ xs) zero (suc k) x ys e lt h =
 has-at v (z ∷ xs) (suc i) zero x ys e lt h = absurd (omega arith)
 has-at v (z ∷ xs) (suc i) (suc k) x ys e lt h = inr (has-at v xs i k x ys e (omega arith) h)
 
-has-split : (v : Value) (xs : List Item) (i : ℕ) (x : Item) (ys : List Item) → drop i xs ≡ x ∷ ys → OneHas v (take (suc i) xs) → OneHas v (take i xs) ⊎ HasThis v x
-has-split v [] zero x ys e h = cc
-has-split v [] (suc i) x ys e h = cc
-has-split v (z ∷ xs) zero x ys e (inl h) = let same : z ≡ x = cc in let P : Item → Type 0 = λ i. HasThis v i in inr (subst P same h)
-has-split v (z ∷ xs) zero x ys e (inr h) = absurd (none-has v xs h)
-  where
-    none-has : (v : Value) (xs : List Item) → OneHas v (take 0 xs) → ⊥
-    none-has v [] h = h
-    none-has v (x ∷ xs) h = h
-has-split v (z ∷ xs) (suc i) x ys e (inl h) = inl (inl h)
-has-split v (z ∷ xs) (suc i) x ys e (inr h) = more (has-split v xs i x ys e h)
-  where
-    more : OneHas v (take i xs) ⊎ HasThis v x → OneHas v (take (suc i) (z ∷ xs)) ⊎ HasThis v x
-    more (inl k) = inl (inr k)
-    more (inr k) = inr k
+one-more : {V : Type 0} (P : V → Type 0) (xs : List V) (x : V) → OneIs P (xs ++ x ∷ []) ↔ (OneIs P xs ⊎ P x)
+one-more P [] x = or-alone
+one-more P (y ∷ ys) x = or-more (one-more P ys x)
+
+take-more : (xs : List Item) (i : ℕ) (x : Item) (ys : List Item) → drop i xs ≡ x ∷ ys → take (suc i) xs ≡ take i xs ++ x ∷ []
+take-more [] zero x ys e = cc
+take-more [] (suc i) x ys e = cc
+take-more (z ∷ xs) zero x ys e = let same : z ≡ x = cc in ap (λ y. y ∷ []) same
+take-more (z ∷ xs) (suc i) x ys e = ap (λ t. z ∷ t) (take-more xs i x ys e)
 
 pub record Seeking (tree : Item) (parent : Class) (whole : List Item) (v : Value) (i : ℕ) (at : Option ℕ) : Type 0 where
   pub rest : drop i whole ≡ from_found tree parent class.Axis at
@@ -97,13 +81,9 @@ seek-on tree parent whole v i id at so other found =
       rest = drop-more whole i (item_at tree id) (those parent class.Axis (rest_of (here tree id))) so.rest ∙ e;
       holds = found-holds tree parent class.Axis _ at found;
       shaped = all-shaped class.Axis _ _ e so.shaped.1;
-      none = λ h. none (has-split v whole i (item_at tree id) (those parent class.Axis (rest_of (here tree id))) so.rest h);
+      none = λ h. ⊎_elim so.none other ((one-more (HasThis v) (take i whole) (item_at tree id)).0 (subst (OneHas v) (take-more whole i (item_at tree id) _ so.rest) h));
     } in
     subst P more next
-  where
-    none : OneHas v (take i whole) ⊎ HasThis v (item_at tree id) → ⊥
-    none (inl h) = so.none h
-    none (inr h) = other h
 
 pub seek-here : (tree : Item) (parent : Class) (whole : List Item) (v : Value) (i k id : ℕ) → Seeking tree parent whole v i (Some id) → i < k → HasThis v (item_at tree id) → OneHas v (take k whole)
 seek-here tree parent whole v i k id so lt h = has-at v whole i k (item_at tree id) (those parent class.Axis (rest_of (here tree id))) so.rest lt h
@@ -126,25 +106,17 @@ some-on tree parent whole id at so other found =
     let e = found-is tree parent class.Axis (those parent class.Axis (rest_of (here tree id))) at found in
     record {
       forth = λ h. so.forth (inr (subst SomeHasOrder (sym e) h));
-      back = λ h. subst SomeHasOrder e (later (so.back h));
+      back = λ h. subst SomeHasOrder e (⊎_elim (λ k. absurd (other k)) (λ k. k) (so.back h));
       holds = found-holds tree parent class.Axis _ at found;
     }
-  where
-    later : SomeHasOrder (from_found tree parent class.Axis (Some id)) → SomeHasOrder (those parent class.Axis (rest_of (here tree id)))
-    later (inl h) = absurd (other h)
-    later (inr h) = h
 
 -- ---- an order by itself
-
-not-wrong : (n : ℕ) (before : List Item) (value other : Value) → value ≡ other → IsPosition n value → (OneHas value before → ⊥) →
-    (¬ (IsPosition n other)) ⊎ OneHas other before → ⊥
-not-wrong n before value other e position one (inl h) = let P : Value → Type 0 = λ v. IsPosition n v in h (subst P e position)
-not-wrong n before value other e position one (inr h) = let P : Value → Type 0 = λ v. OneHas v before in one (subst P (sym e) h)
 
 pub wrong-none : DenotesOne → (n : ℕ) (before : List Item) (order : Item) (value : Value) → ReadsOrder order value → IsPosition n value → (OneHas value before → ⊥) →
     IsLeast (IsBadOrder n before order) None
 wrong-none law n before order value reads position one = λ f h.
-    not-wrong n before value h.1.0 (order-one law order value h.1.0 reads h.1.1.0) position one h.1.1.1
+    let e = order-one law order value h.1.0 reads h.1.1.0 in
+    ⊎_elim (λ wrong. wrong (subst (IsPosition n) e position)) (λ has. let P : Value → Type 0 = λ v. OneHas v before in one (subst P (sym e) has)) h.1.1.1
 
 pub wrong-again : (n : ℕ) (before : List Item) (order : Item) (value : Value) (r : RefusedAt) → r ≡ at 26 order → ReadsOrder order value → OneHas value before →
     IsLeast (IsBadOrder n before order) (Some r)
@@ -152,44 +124,17 @@ wrong-again n before order value r e reads one = least-at (at 26 order) r (IsWro
 
 -- ---- the orders of all axes
 
-bad-left : (n : ℕ) (b xs ys : List Item) (f : RefusedAt) → BadOrders n b xs f → BadOrders n b (xs ++ ys) f
-bad-left n b [] ys f h = absurd h
-bad-left n b (x ∷ xs) ys f (inl h) = inl h
-bad-left n b (x ∷ xs) ys f (inr h) = inr (bad-left n (b ++ x ∷ []) xs ys f h)
-
-bad-right : (n : ℕ) (b xs ys : List Item) (f : RefusedAt) → BadOrders n (b ++ xs) ys f → BadOrders n b (xs ++ ys) f
-bad-right n b [] ys f h = let P : List Item → Type 0 = λ c. BadOrders n c ys f in subst P (append-nil b) h
-bad-right n b (x ∷ xs) ys f h =
-    let P : List Item → Type 0 = λ c. BadOrders n c ys f in
-    inr (bad-right n (b ++ x ∷ []) xs ys f (subst P (sym (append_assoc b (x ∷ []) xs)) h))
-
-bad-split : (n : ℕ) (b xs ys : List Item) (f : RefusedAt) → BadOrders n b (xs ++ ys) f → BadOrders n b xs f ⊎ BadOrders n (b ++ xs) ys f
-bad-split n b [] ys f h = let P : List Item → Type 0 = λ c. BadOrders n c ys f in inr (subst P (sym (append-nil b)) h)
-bad-split n b (x ∷ xs) ys f (inl h) = inl (inl h)
-bad-split n b (x ∷ xs) ys f (inr h) = more (bad-split n (b ++ x ∷ []) xs ys f h)
-  where
-    more : BadOrders n (b ++ x ∷ []) xs f ⊎ BadOrders n ((b ++ x ∷ []) ++ xs) ys f → BadOrders n b (x ∷ xs) f ⊎ BadOrders n (b ++ (x ∷ xs)) ys f
-    more (inl k) = inl (inr k)
-    more (inr k) = let P : List Item → Type 0 = λ c. BadOrders n c ys f in inr (subst P (append_assoc b (x ∷ []) xs) k)
+-- the bad orders with one axis more
+bad-last : (n : ℕ) (b xs : List Item) (x : Item) (f : RefusedAt) → BadOrders n b (xs ++ x ∷ []) f ↔ (BadOrders n b xs f ⊎ AnyOf (IsBadOrder n (b ++ xs)) (orders_in x) f)
+bad-last n b [] x f = rw (append-nil b) or-alone
+bad-last n b (y ∷ ys) x f = or-more (rw append_assoc at (bad-last n (b ++ y ∷ []) ys x f))
 
 bad-more : (n : ℕ) (done : List Item) (axis : Item) (a b r : Option RefusedAt) → r ≡ lesser a b → IsLeast (BadOrders n [] done) a → IsLeast (AnyOf (IsBadOrder n done) (orders_in axis)) b →
     IsLeast (BadOrders n [] (done ++ axis ∷ [])) r
 bad-more n done axis a b r e p q =
-    let P : Option RefusedAt → Type 0 = λ o. IsLeast (BadOrders n [] (done ++ axis ∷ [])) o in
-    subst P (sym e) (least-same (λ f. BadOrders n [] done f ⊎ AnyOf (IsBadOrder n done) (orders_in axis) f) (BadOrders n [] (done ++ axis ∷ [])) (lesser a b) to back
-    (least-either (BadOrders n [] done) (AnyOf (IsBadOrder n done) (orders_in axis)) a b p q))
-  where
-    to : (f : RefusedAt) → BadOrders n [] done f ⊎ AnyOf (IsBadOrder n done) (orders_in axis) f → BadOrders n [] (done ++ axis ∷ []) f
-    to f (inl h) = bad-left n [] done (axis ∷ []) f h
-    to f (inr h) = bad-right n [] done (axis ∷ []) f (inl h)
-
-    one : (f : RefusedAt) → BadOrders n [] done f ⊎ BadOrders n ([] ++ done) (axis ∷ []) f → BadOrders n [] done f ⊎ AnyOf (IsBadOrder n done) (orders_in axis) f
-    one f (inl h) = inl h
-    one f (inr (inl h)) = inr h
-    one f (inr (inr h)) = absurd h
-
-    back : (f : RefusedAt) → BadOrders n [] (done ++ axis ∷ []) f → BadOrders n [] done f ⊎ AnyOf (IsBadOrder n done) (orders_in axis) f
-    back f h = one f (bad-split n [] done (axis ∷ []) f h)
+    least-same (λ f. BadOrders n [] done f ⊎ AnyOf (IsBadOrder n done) (orders_in axis) f) (BadOrders n [] (done ++ axis ∷ [])) r
+    (λ f. (bad-last n [] done axis f).1) (λ f. (bad-last n [] done axis f).0)
+    (either-is (BadOrders n [] done) (AnyOf (IsBadOrder n done) (orders_in axis)) a b r e p q)
 
 pub record Ordering (tree : Item) (parent : Class) (whole : List Item) (count before : ℕ) (least : Option RefusedAt) (at : Option ℕ) : Type 0 where
   pub done : List Item
@@ -248,22 +193,12 @@ not-all (axis ∷ axes) f (inl h) all = all.0 h.1
 not-all (axis ∷ axes) f (inr h) all = not-all axes f h all.1
 
 pub order-all : (axes : List Item) (o : Option RefusedAt) → IsLeast (AnyOf LacksOrder axes) None → IsLeast (BadOrders (length axes) [] axes) o → IsLeast (BadOrder axes) o
-order-all axes o none h = least-same (BadOrders (length axes) [] axes) (BadOrder axes) o (λ f k. inr (all-have axes none, k)) back h
-  where
-    back : (f : RefusedAt) → BadOrder axes f → BadOrders (length axes) [] axes f
-    back f (inl k) = absurd (none f k.1)
-    back f (inr k) = k.1
+order-all axes o none h =
+    least-same (BadOrders (length axes) [] axes) (BadOrder axes) o (λ f k. inr (all-have axes none, k)) (λ f. ⊎_elim (λ k. absurd (none f k.1)) (λ k. k.1)) h
 
 pub order-some : (axes : List Item) (g : RefusedAt) → IsLeast (AnyOf LacksOrder axes) (Some g) → SomeHasOrder axes → IsLeast (BadOrder axes) (Some g)
-order-some axes g h some = least-same (AnyOf LacksOrder axes) (BadOrder axes) (Some g) (λ f k. inl (some, k)) back h
-  where
-    back : (f : RefusedAt) → BadOrder axes f → AnyOf LacksOrder axes f
-    back f (inl k) = k.1
-    back f (inr k) = absurd (not-all axes g h.0 k.0)
+order-some axes g h some =
+    least-same (AnyOf LacksOrder axes) (BadOrder axes) (Some g) (λ f k. inl (some, k)) (λ f. ⊎_elim (λ k. k.1) (λ k. absurd (not-all axes g h.0 k.0))) h
 
 pub order-none : (axes : List Item) (g : RefusedAt) → IsLeast (AnyOf LacksOrder axes) (Some g) → (SomeHasOrder axes → ⊥) → IsLeast (BadOrder axes) None
-order-none axes g h other = back
-  where
-    back : (f : RefusedAt) → BadOrder axes f → ⊥
-    back f (inl k) = other k.0
-    back f (inr k) = not-all axes g h.0 k.0
+order-none axes g h other = λ f. ⊎_elim (λ k. other k.0) (λ k. not-all axes g h.0 k.0)

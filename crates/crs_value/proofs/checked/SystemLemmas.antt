@@ -22,7 +22,7 @@ pub type-is-one : (cs : Item) (a b : SystemType) → HasType cs a → HasType cs
 type-is-one cs a b p q = first-one ReadsType (λ i x y. type_one (raw_of i) x y) (those class.CoordinateSystem class.Word (arguments cs)) a b p q
 
 pub dimension-is-one : DenotesOne → (cs : Item) (a b : Value) → HasDimension cs a → HasDimension cs b → a ≡ b
-dimension-is-one law cs a b p q = first-one ReadsNumber (λ i x y. number-one law i x y) (those class.CoordinateSystem class.Number (arguments cs)) a b p q
+dimension-is-one law cs a b p q = first-one ReadsNumber (number-one law) (those class.CoordinateSystem class.Number (arguments cs)) a b p q
 
 pub system-none : DenotesOne → (dims : SystemType → List ℕ) (cs : Item) (t : SystemType) (v : Value) → HasType cs t → HasDimension cs v → IsOneOf v (dims t) → IsLeast (BadSystem dims cs) None
 system-none law dims cs t v ht hv is = λ f h.

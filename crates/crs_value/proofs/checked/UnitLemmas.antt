@@ -1,5 +1,5 @@
 -- The checks of the units of a coordinate system.
-use Rattle.std.proofs.Common.{◌≡◌, ℕ, inl, inr, Option, Some, None, List, [], ◌∷◌, sym, ◌∙◌, ap, subst}
+use Rattle.std.proofs.Common.{◌≡◌, ℕ, inl, inr, ⊎_elim, Option, Some, None, List, [], ◌∷◌, sym, ◌∙◌, ap, subst}
 use Rattle.crs_text.specs.Prelude.{Item, leaf, node, arguments, keyword_in, raw_of, rest_of, here, number, text, word, keyword_of, RefusedAt}
 use Rattle.crs_text.specs.declared.keyword.Keyword.{Keyword}
 use Rattle.crs_shape.specs.declared.class.Class.{Class}
@@ -68,11 +68,9 @@ asking-first tree parent cs item kind at shaped found =
 
 pub own-some : (tree cs axis : Item) (id : ℕ) (o : Option RefusedAt) → IsFound tree class.Axis class.AxisUnit (units_in axis) (Some id) →
     IsLeast (AnyOf (Misfits cs axis) (units_in axis)) o → IsLeast (BadOwnUnit cs axis) o
-own-some tree cs axis id o found h = least-same (AnyOf (Misfits cs axis) (units_in axis)) (BadOwnUnit cs axis) o (λ f k. inr k) back h
-  where
-    back : (f : RefusedAt) → BadOwnUnit cs axis f → AnyOf (Misfits cs axis) (units_in axis) f
-    back f (inl k) = let e : [] ≡ item_at tree id ∷ those class.Axis class.AxisUnit (rest_of (here tree id)) = sym k.1 ∙ found.0 in absurd cc
-    back f (inr k) = k
+own-some tree cs axis id o found h =
+    least-same (AnyOf (Misfits cs axis) (units_in axis)) (BadOwnUnit cs axis) o (λ f k. inr k)
+    (λ f. ⊎_elim (λ k. let e : [] ≡ item_at tree id ∷ those class.Axis class.AxisUnit (rest_of (here tree id)) = sym k.1 ∙ found.0 in absurd cc) (λ k. k)) h
 
 pub unit-none : (axes units : List Item) (cs : Item) (o : Option RefusedAt) → units ≡ [] → IsLeast (AnyOf (BadOwnUnit cs) axes) o → IsLeast (BadUnit axes units cs) o
 unit-none axes units cs o e h = let P : List Item → Type 0 = λ us. IsLeast (BadUnit axes us cs) o in subst P (sym e) h

@@ -1,5 +1,5 @@
 -- Uniqueness of coordinate reference systems: an item reads as at most one.
-use Rattle.std.proofs.Common.{◌≡◌, Some, None, List, [], ◌∷◌, refl, sym, ◌∙◌, ap, subst}
+use Rattle.std.proofs.Common.{◌≡◌, Some, None, List, [], ◌∷◌, refl, ap, subst}
 use Rattle.crs_text.specs.Prelude.{Item, arguments}
 use Rattle.crs_shape.specs.declared.class.Class.{Class}
 use Rattle.crs_shape.specs.declared.class.Class.TheVariants as class
@@ -110,14 +110,10 @@ vertical-one law c item a b p q = λ i. record {
   tail = tail-one law c item a.tail b.tail p.tail q.tail i;
 }
 
--- a geodetic class is no other
-geodetic-no : (c d : Class) → IsGeodeticClass c → (IsGeodeticClass d → ⊥) → c ≡ d → ⊥
-geodetic-no c d is other e = let P : Class → Type 0 = IsGeodeticClass in other (subst P e is)
-
 as_horizontal-one : DenotesOne → (c : Class) → IsOne (ReadsAsHorizontal c)
 as_horizontal-one law c item (horizontals.Geodetic a) (horizontals.Geodetic b) p q = ap (λ x. horizontals.Geodetic x) (geodetic-one law c item a b p.1 q.1)
-as_horizontal-one law c item (horizontals.Geodetic a) (horizontals.Projected b) p q = absurd (geodetic-no c class.ProjectedCrs p.0 (λ h. h) q.0)
-as_horizontal-one law c item (horizontals.Projected a) (horizontals.Geodetic b) p q = absurd (geodetic-no c class.ProjectedCrs q.0 (λ h. h) p.0)
+as_horizontal-one law c item (horizontals.Geodetic a) (horizontals.Projected b) p q = absurd (subst IsGeodeticClass q.0 p.0)
+as_horizontal-one law c item (horizontals.Projected a) (horizontals.Geodetic b) p q = absurd (subst IsGeodeticClass p.0 q.0)
 as_horizontal-one law c item (horizontals.Projected a) (horizontals.Projected b) p q = ap (λ x. horizontals.Projected x) (projected-one law c item a b p.1 q.1)
 
 horizontal-one : DenotesOne → (c : Class) → IsOne (ReadsHorizontal c)
@@ -146,18 +142,9 @@ compound-one law c item a b p q = λ i. record {
 
 pub crs-one : DenotesOne → (c : Class) → IsOne (ReadsCrs c)
 crs-one law c item (crs.Geodetic a) (crs.Geodetic b) p q = ap (λ x. crs.Geodetic x) (geodetic-one law c item a b p.1 q.1)
-crs-one law c item (crs.Geodetic a) (crs.Projected b) p q = absurd (geodetic-no c class.ProjectedCrs p.0 (λ h. h) q.0)
-crs-one law c item (crs.Geodetic a) (crs.Vertical b) p q = absurd (geodetic-no c class.VerticalCrs p.0 (λ h. h) q.0)
-crs-one law c item (crs.Geodetic a) (crs.Compound b) p q = absurd (geodetic-no c class.CompoundCrs p.0 (λ h. h) q.0)
-crs-one law c item (crs.Projected a) (crs.Geodetic b) p q = absurd (geodetic-no c class.ProjectedCrs q.0 (λ h. h) p.0)
 crs-one law c item (crs.Projected a) (crs.Projected b) p q = ap (λ x. crs.Projected x) (projected-one law c item a b p.1 q.1)
-crs-one law c item (crs.Projected a) (crs.Vertical b) p q = let e : class.ProjectedCrs ≡ class.VerticalCrs = sym p.0 ∙ q.0 in cc
-crs-one law c item (crs.Projected a) (crs.Compound b) p q = let e : class.ProjectedCrs ≡ class.CompoundCrs = sym p.0 ∙ q.0 in cc
-crs-one law c item (crs.Vertical a) (crs.Geodetic b) p q = absurd (geodetic-no c class.VerticalCrs q.0 (λ h. h) p.0)
-crs-one law c item (crs.Vertical a) (crs.Projected b) p q = let e : class.ProjectedCrs ≡ class.VerticalCrs = sym q.0 ∙ p.0 in cc
 crs-one law c item (crs.Vertical a) (crs.Vertical b) p q = ap (λ x. crs.Vertical x) (vertical-one law c item a b p.1 q.1)
-crs-one law c item (crs.Vertical a) (crs.Compound b) p q = let e : class.VerticalCrs ≡ class.CompoundCrs = sym p.0 ∙ q.0 in cc
-crs-one law c item (crs.Compound a) (crs.Geodetic b) p q = absurd (geodetic-no c class.CompoundCrs q.0 (λ h. h) p.0)
-crs-one law c item (crs.Compound a) (crs.Projected b) p q = let e : class.ProjectedCrs ≡ class.CompoundCrs = sym q.0 ∙ p.0 in cc
-crs-one law c item (crs.Compound a) (crs.Vertical b) p q = let e : class.VerticalCrs ≡ class.CompoundCrs = sym q.0 ∙ p.0 in cc
 crs-one law c item (crs.Compound a) (crs.Compound b) p q = ap (λ x. crs.Compound x) (compound-one law c item a b p.1 q.1)
+crs-one law c item (crs.Geodetic a) b p q = absurd (subst IsGeodeticClass q.0 p.0)
+crs-one law c item a (crs.Geodetic b) p q = absurd (subst IsGeodeticClass p.0 q.0)
+crs-one law c item a b p q = cc

@@ -5,7 +5,7 @@ use Rattle.crs_shape.specs.declared.class.Class.{Class}
 use Rattle.crs_shape.specs.declared.class.Class.TheVariants as class
 use Rattle.crs_value.specs.Break.{IsLeast}
 use Rattle.crs_value.specs.Reading.{those, ReadsFirst, ReadsOptional, ReadsEach}
-use Rattle.crs_value.specs.Reads.{ReadsNumber, ReadsType, ReadsDirection, ReadsKind, ReadsNumberOf, ReadsNumberAt, ReadsUnit, ReadsAxisMeridian, ReadsAxis, ReadsHead, ReadsSystem, ReadsEllipsoid, ReadsMeridian, ReadsDatum, ReadsEnsemble, ReadsBox, ReadsExtent, ReadsUsage, LacksUsage, ReadsBare, ReadsTail}
+use Rattle.crs_value.specs.Reads.{ReadsNumber, ReadsType, ReadsDirection, ReadsNumberOf, ReadsNumberAt, ReadsUnit, ReadsAxisMeridian, ReadsAxis, ReadsHead, ReadsSystem, ReadsEllipsoid, ReadsMeridian, ReadsDatum, ReadsEnsemble, ReadsBox, ReadsExtent, ReadsUsage, LacksUsage, ReadsBare, ReadsTail}
 use Rattle.crs_value.specs.ReadsNamed.{ReadsText, ReadsTextOf, single_of, ReadsIdent, ReadsIds, ReadsNamed}
 use Rattle.crs_value.specs.Values.{SystemParts, UsageParts, SaysSome}
 use Rattle.crs_value.proofs.checked.SystemLemmas.{first-one}
@@ -42,23 +42,11 @@ text-one item a b p q = sym p ∙ q
 pub text-of-one : (c : Class) → IsOne (ReadsTextOf c)
 text-of-one c item a b p q = first-one ReadsText text-one (those c class.Text (arguments item)) a b p q
 
-type-one : IsOne ReadsType
-type-one item a b p q = type_one (raw_of item) a b p q
-
-direction-one : IsOne ReadsDirection
-direction-one item a b p q = direction_one (raw_of item) a b p q
-
-kind-one : IsOne ReadsKind
-kind-one item a b p q = kind_one (raw_of item) a b p q
-
-number-one-law : DenotesOne → IsOne ReadsNumber
-number-one-law law item a b p q = number-one law item a b p q
-
 pub number-of-one : DenotesOne → (c : Class) → IsOne (ReadsNumberOf c)
-number-of-one law c item a b p q = first-one ReadsNumber (number-one-law law) (those c class.Number (arguments item)) a b p q
+number-of-one law c item a b p q = first-one ReadsNumber (number-one law) (those c class.Number (arguments item)) a b p q
 
 number-at-one : DenotesOne → (k : ℕ) (c : Class) → IsOne (ReadsNumberAt k c)
-number-at-one law k c item a b p q = first-one ReadsNumber (number-one-law law) (drop k (those c class.Number (arguments item))) a b p q
+number-at-one law k c item a b p q = first-one ReadsNumber (number-one law) (drop k (those c class.Number (arguments item))) a b p q
 
 pub ident-one : (c : Class) → IsOne (ReadsIdent c)
 ident-one c item a b p q = λ i. record {
@@ -74,7 +62,7 @@ identifiers-one c item a b p q = one-each (ReadsIdent class.Identifier) (ident-o
 
 pub unit-one : DenotesOne → (c : Class) → IsOne (ReadsUnit c)
 unit-one law c item a b p q = λ i. record {
-  kind = kind-one item a.kind b.kind p.kind q.kind i;
+  kind = kind_one (raw_of item) a.kind b.kind p.kind q.kind i;
   name = text-of-one c item a.name b.name p.name q.name i;
   factor = number-of-one law c item a.factor b.factor p.factor q.factor i;
   identifiers = identifiers-one c item a.identifiers b.identifiers p.identifiers q.identifiers i;
@@ -89,7 +77,7 @@ axis_meridian-one law c item a b p q = λ i. record {
 pub axis-one : DenotesOne → (c : Class) → IsOne (ReadsAxis c)
 axis-one law c item a b p q = λ i. record {
   name = text-of-one c item a.name b.name p.name q.name i;
-  direction = first-one ReadsDirection direction-one (those c class.Word (arguments item)) a.direction b.direction p.direction q.direction i;
+  direction = first-one ReadsDirection (λ i. direction_one (raw_of i)) (those c class.Word (arguments item)) a.direction b.direction p.direction q.direction i;
   meridian = one-optional (ReadsAxisMeridian class.AxisMeridian) (axis_meridian-one law class.AxisMeridian) (those c class.AxisMeridian (arguments item)) a.meridian b.meridian p.meridian q.meridian i;
   order = one-optional (ReadsNumberOf class.Order) (number-of-one law class.Order) (those c class.Order (arguments item)) a.order b.order p.order q.order i;
   unit = one-optional (ReadsUnit class.AxisUnit) (unit-one law class.AxisUnit) (those c class.AxisUnit (arguments item)) a.unit b.unit p.unit q.unit i;
@@ -197,7 +185,7 @@ head-one : DenotesOne → (items : List Item) (a b : SystemParts) → ReadsFirst
     (a.system_type ≡ b.system_type) × ((a.dimension ≡ b.dimension) × (a.identifiers ≡ b.identifiers))
 head-one law [] a b p q = absurd p
 head-one law (i ∷ items) a b p q = (
-  first-one ReadsType type-one (those class.CoordinateSystem class.Word (arguments i)) a.system_type b.system_type p.system_type q.system_type,
+  first-one ReadsType (λ i. type_one (raw_of i)) (those class.CoordinateSystem class.Word (arguments i)) a.system_type b.system_type p.system_type q.system_type,
   (
     number-of-one law class.CoordinateSystem i a.dimension b.dimension p.dimension q.dimension,
     identifiers-one class.CoordinateSystem i a.identifiers b.identifiers p.identifiers q.identifiers,
