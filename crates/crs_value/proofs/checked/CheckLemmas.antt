@@ -26,15 +26,12 @@ pub checked-on : (B : Item → RefusedAt → Type 0) (tree : Item) (parent c : C
     IsFound tree parent c (those parent c (rest_of (here tree id))) at → Checked B tree parent c whole next at
 checked-on B tree parent c whole least next one id at so here-least is found =
     let e = found-is tree parent c (those parent c (rest_of (here tree id))) at found in
-    let more : List Item = item_at tree id ∷ [] in
     record {
       done = so.done ++ item_at tree id ∷ [];
       parts = so.parts ∙ ap (λ xs. so.done ++ item_at tree id ∷ xs) e ∙ sym (append_assoc so.done (item_at tree id ∷ []) (from_found tree parent c at));
       holds = found-holds tree parent c (those parent c (rest_of (here tree id))) at found;
       shaped = all-shaped c _ _ e so.shaped.1;
-      is_least =
-          let P : Option RefusedAt → Type 0 = λ o. IsLeast (AnyOf B (so.done ++ item_at tree id ∷ [])) o in
-          subst P (sym is) (least-more B so.done (item_at tree id) least one so.is_least here-least);
+      is_least = rw is (least-more B so.done (item_at tree id) least one so.is_least here-least);
     }
 
 -- ---- numbers
@@ -46,16 +43,12 @@ pub number-one : DenotesOne → (item : Item) (a b : Value) → ReadsNumber item
 number-one law item a b p q = law (raw_of item) a b p.0 q.0 p.1 q.1
 
 pub above-none : DenotesOne → (item : Item) (value : Value) → ReadsNumber item value → IsAboveZero value → IsLeast (NotAbove item) None
-above-none law item value reads above = λ f h.
-    let e = number-one law item value h.1.0 reads h.1.1.0 in
-    let P : Value → Type 0 = IsAboveZero in
-    h.1.1.1 (subst P e above)
+above-none law item value reads above = λ f h. h.1.1.1 (subst IsAboveZero (number-one law item value h.1.0 reads h.1.1.0) above)
 
 pub negative-none : DenotesOne → (item : Item) (value : Value) → ReadsNumber item value → value.negative ≡ false → IsLeast (IsNegative item) None
 negative-none law item value reads not_below = λ f h.
     let e = number-one law item value h.1.0 reads h.1.1.0 in
-    let n : value.negative ≡ true = ap (λ (v : Value). v.negative) e ∙ h.1.1.1 in
-    let k : true ≡ false = sym n ∙ not_below in
+    let k : true ≡ false = sym h.1.1.1 ∙ sym (ap (λ (v : Value). v.negative) e) ∙ not_below in
     cc
 
 -- ---- the first one and those after it
@@ -68,16 +61,11 @@ later-shaped tree parent c item id at shaped found next =
 pub any-later : (B : Item → RefusedAt → Type 0) (tree : Item) (parent c : Class) (items : List Item) (id : ℕ) (at : Option ℕ) (o : Option RefusedAt) →
     IsFound tree parent c items (Some id) → IsFound tree parent c (those parent c (rest_of (here tree id))) at → IsLeast (AnyOf B (from_found tree parent c at)) o →
     IsLeast (λ f. AnyOf B (drop 1 items) f) o
-any-later B tree parent c items id at o found next h =
-    let P : List Item → Type 0 = λ xs. IsLeast (AnyOf B xs) o in
-    let Q : List Item → Type 0 = λ xs. IsLeast (AnyOf B (drop 1 xs)) o in
-    subst Q (sym found.0) (subst P (sym (found-is tree parent c _ at next)) h)
+any-later B tree parent c items id at o found next h = rw (found.0, found-is tree parent c _ at next) h
 
 pub any-first : (B : Item → RefusedAt → Type 0) (tree : Item) (parent c : Class) (items : List Item) (id : ℕ) (o : Option RefusedAt) →
     IsFound tree parent c items (Some id) → IsLeast (B (item_at tree id)) o → IsLeast (λ f. AnyOf B (take 1 items) f) o
-any-first B tree parent c items id o found h =
-    let Q : List Item → Type 0 = λ xs. IsLeast (AnyOf B (take 1 xs)) o in
-    subst Q (sym found.0) (least-single B (item_at tree id) o h)
+any-first B tree parent c items id o found h = rw found.0 (least-single B (item_at tree id) o h)
 
 -- where there is no more than the one
 pub only-one : (B : Item → RefusedAt → Type 0) (tree : Item) (parent c : Class) (items : List Item) (id : ℕ) (o : Option RefusedAt) → length items ≤ 1 →
@@ -85,12 +73,9 @@ pub only-one : (B : Item → RefusedAt → Type 0) (tree : Item) (parent c : Cla
 only-one B tree parent c items id o few found h =
     let rest = those parent c (rest_of (here tree id)) in
     let none : rest ≡ [] = nothing rest (omega (arith, few, ap length found.0)) in
-    let P : List Item → Type 0 = λ xs. IsLeast (AnyOf B xs) o in
-    subst P (sym (found.0 ∙ ap (λ xs. item_at tree id ∷ xs) none)) (least-single B (item_at tree id) o h)
+    rw (found.0, none) (least-single B (item_at tree id) o h)
 
 -- those from the first found one on are all of the class
 pub found-any : (B : Item → RefusedAt → Type 0) (tree : Item) (parent c : Class) (items : List Item) (at : Option ℕ) (o : Option RefusedAt) →
     IsFound tree parent c items at → IsLeast (AnyOf B (from_found tree parent c at)) o → IsLeast (AnyOf B items) o
-found-any B tree parent c items at o found h =
-    let P : List Item → Type 0 = λ xs. IsLeast (AnyOf B xs) o in
-    subst P (sym (found-is tree parent c items at found)) h
+found-any B tree parent c items at o found h = rw (found-is tree parent c items at found) h

@@ -1,7 +1,8 @@
 -- What the first bytes of a number's spelling show of its sign.
-use Rattle.std.proofs.Common.{◌≡◌, ◌≢◌, ℕ, zero, suc, ◌+◌, ◌-◌, ◌*◌, ◌^◌, ◌<◌, ◌≤◌, ◌&&◌, cond, Bool, true, false, inl, inr, ◌⊎◌, Option, Some, None, List, [], ◌∷◌, ◌++◌, fold, refl, sym, ◌∙◌, ap, subst, append_assoc, arith, ◌||◌, ◌==◌}
+use Rattle.std.proofs.Common.{◌≡◌, ◌≢◌, ℕ, zero, suc, ◌+◌, ◌-◌, ◌*◌, ◌^◌, ◌<◌, ◌≤◌, cond, Bool, true, false, inl, inr, ◌⊎◌, ⊎_elim, Option, Some, None, List, [], ◌∷◌, ◌++◌, fold, refl, sym, ◌∙◌, ap, subst, append_assoc, arith, ◌||◌, ◌==◌}
 use Rattle.std.specs.List.{find}
 use Rattle.std.proofs.Math.Nat.{mul_assoc, pow-suc}
+use Rattle.std.proofs.lemmas.Bool.{and_parts}
 use Rattle.std.proofs.lemmas.Bool.Decides.{nat_tests}
 use Rattle.std.proofs.lemmas.List.Sums.{fold-append}
 use Rattle.std.proofs.lemmas.Option.{same_Some}
@@ -17,28 +18,21 @@ sign-by unsigned whole fraction exponent b e other = refl
 sign-by plus whole fraction exponent b e other = refl
 sign-by minus whole fraction exponent b e other = absurd (other e)
 
-and-false : (a : Bool) → (a && false) ≡ true → ⊥
-and-false true e = cc
-and-false false e = cc
-
 normal-zero : (v : Value) → IsNormal v → v.digits ≡ 0 → v.negative ≡ true → ⊥
 normal-zero v normal none below =
     let P : ℕ → Type 0 = λ d. is_normal (record { negative = v.negative; digits = d; power = v.power }) ≡ true in
     let Q : Bool → Type 0 = λ n. is_normal (record { negative = n; digits = 0; power = v.power }) ≡ true in
-    and-false (is_power v.power) (subst Q below (subst P none normal))
+    (let e = (and_parts (is_power v.power) false (subst Q below (subst P none normal))).1 in cc)
 
 pub below-sure : (item : Item) (b : ℕ) → b ≡ first_byte (raw_of item) → (b ≡ 45 → ⊥) → IsLeast (IsNegative item) None
 below-sure item b e other = λ f h. wrong h.1.0 h.1.1.0 h.1.1.1
   where
     wrong : (v : Value) → ReadsNumber item v → v.negative ≡ true → ⊥
-    wrong v (normal, (p, spells, bounded, same)) below = by same.1
+    wrong v (normal, (p, spells, bounded, same)) below =
+        ⊎_elim (λ h. let k : false ≡ true = sym unsigned-is ∙ h ∙ below in cc) (λ h. normal-zero v normal h.1 below) same.1
       where
         unsigned-is : is_minus p.sign ≡ false
         unsigned-is = sign-by p.sign p.whole (fraction_text p.fraction) (exponent_text p.exponent) b (e ∙ ap first_byte spells.0) other
-
-        by : (is_minus p.sign ≡ v.negative) ⊎ ((digits_value (mantissa p) ≡ 0) × (v.digits ≡ 0)) → ⊥
-        by (inl h) = let k : false ≡ true = sym unsigned-is ∙ h ∙ below in cc
-        by (inr h) = normal-zero v normal h.1 below
 
 -- ---- a first digit that isn't 0
 
@@ -54,13 +48,8 @@ telling-in (d ∷ ds) rest b e low =
     elim (is_telling d) as (λ t. cond t (Some d) (find is_telling (ds ++ rest)) ≡ Some b →
     ((n : ℕ) → 0 < fold (λ m x. m * 10 + (x - 48)) n (d ∷ ds)) ⊎ (find is_telling rest ≡ Some b)) [
       | true ↦ λ same. inl (λ n. fold-some ds (n * 10 + (d - 48)) (let k : d ≡ b = same_Some d b same in omega (arith, low, k)))
-      | false ↦ λ later. more (telling-in ds rest b later low)
+      | false ↦ λ later. ⊎_elim (λ h. inl (λ n. h (n * 10 + (d - 48)))) (λ k. inr k) (telling-in ds rest b later low)
     ] e
-  where
-    more : ((n : ℕ) → 0 < fold (λ m x. m * 10 + (x - 48)) n ds) ⊎ (find is_telling rest ≡ Some b) →
-        ((n : ℕ) → 0 < fold (λ m x. m * 10 + (x - 48)) n (d ∷ ds)) ⊎ (find is_telling rest ≡ Some b)
-    more (inl h) = inl (λ n. h (n * 10 + (d - 48)))
-    more (inr k) = inr k
 
 letter-high : (l : ℕ) → (l == 69 || l == 101) ≡ true → 58 ≤ l
 letter-high l e = grind (arith, nat_tests)
@@ -78,22 +67,14 @@ telling-letter (Some x) b is e high =
 telling-fraction : (fraction : Option (List ℕ)) (x : Option Exponent) (n b : ℕ) → IsExponent x → find is_telling (fraction_text fraction ++ exponent_text x) ≡ Some b → 49 ≤ b →
     b ≤ 57 → 0 < fold (λ m d. m * 10 + (d - 48)) n (fraction_digits fraction)
 telling-fraction None x n b is e low high = absurd (telling-letter x b is e high)
-telling-fraction (Some ds) x n b is e low high = by (telling-in ds (exponent_text x) b e low)
-  where
-    by : ((k : ℕ) → 0 < fold (λ m d. m * 10 + (d - 48)) k ds) ⊎ (find is_telling (exponent_text x) ≡ Some b) → 0 < fold (λ m d. m * 10 + (d - 48)) n ds
-    by (inl h) = h n
-    by (inr k) = absurd (telling-letter x b is k high)
+telling-fraction (Some ds) x n b is e low high = ⊎_elim (λ h. h n) (λ k. absurd (telling-letter x b is k high)) (telling-in ds (exponent_text x) b e low)
 
 telling-mantissa : (whole : List ℕ) (fraction : Option (List ℕ)) (x : Option Exponent) (b : ℕ) → IsExponent x →
     find is_telling (whole ++ (fraction_text fraction ++ exponent_text x)) ≡ Some b → 49 ≤ b → b ≤ 57 → 0 < digits_value (whole ++ fraction_digits fraction)
 telling-mantissa whole fraction x b is e low high =
     subst (λ v. 0 < v) (sym (fold-append (λ m d. m * 10 + (d - 48)) 0 whole (fraction_digits fraction)))
-    (by (telling-in whole (fraction_text fraction ++ exponent_text x) b e low))
-  where
-    by : ((k : ℕ) → 0 < fold (λ m d. m * 10 + (d - 48)) k whole) ⊎ (find is_telling (fraction_text fraction ++ exponent_text x) ≡ Some b) →
-        0 < fold (λ m d. m * 10 + (d - 48)) (digits_value whole) (fraction_digits fraction)
-    by (inl h) = fold-some (fraction_digits fraction) (digits_value whole) (h 0)
-    by (inr k) = telling-fraction fraction x (digits_value whole) b is k low high
+    (⊎_elim (λ h. fold-some (fraction_digits fraction) (digits_value whole) (h 0)) (λ k. telling-fraction fraction x (digits_value whole) b is k low high)
+    (telling-in whole (fraction_text fraction ++ exponent_text x) b e low))
 
 telling-sign : (s : Sign) (rest : List ℕ) (b : ℕ) → find is_telling (sign_text s ++ rest) ≡ Some b → 49 ≤ b → (is_minus s ≡ false) × (find is_telling rest ≡ Some b)
 telling-sign unsigned rest b e low = (refl, e)
@@ -111,7 +92,7 @@ pub above-sure : (item : Item) (b : ℕ) → find is_telling (raw_of item) ≡ S
 above-sure item b e within = λ f h. h.1.1.1 (above h.1.0 h.1.1.0)
   where
     above : (v : Value) → ReadsNumber item v → IsAboveZero v
-    above v (normal, (p, spells, bounded, same)) = (sign same.1, size)
+    above v (normal, (p, spells, bounded, same)) = (⊎_elim (λ h. sym h ∙ behind.0) (λ h. absurd (omega (arith, h.0, some))) same.1, size)
       where
         in_turn : parts_text p ≡ sign_text p.sign ++ (p.whole ++ (fraction_text p.fraction ++ exponent_text p.exponent))
         in_turn =
@@ -133,7 +114,3 @@ above-sure item b e within = λ f h. h.1.1.1 (above h.1.0 h.1.1.0)
             let P : ℕ → Type 0 = λ d. digits_value (mantissa p) * 10 ^ ((number_of p).up + (exact v).down) ≡ d * 10 ^ ((exact v).up + (number_of p).down) in
             let z = subst P none s in
             omega (arith, l, z)
-
-        sign : (is_minus p.sign ≡ v.negative) ⊎ ((digits_value (mantissa p) ≡ 0) × (v.digits ≡ 0)) → v.negative ≡ false
-        sign (inl h) = sym h ∙ behind.0
-        sign (inr h) = absurd (omega (arith, h.0, some))

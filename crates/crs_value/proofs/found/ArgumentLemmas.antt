@@ -1,7 +1,7 @@
 -- Arguments: those of a class, one after another, are sound where their node is, and as many as its slots require.
 use Rattle.std.proofs.Common.{◌≡◌, ◌≢◌, ℕ, zero, suc, ◌+◌, ◌<◌, ◌≤◌, length, drop, take, Bool, true, false, IsTrue, inl, inr, Option, Some, None, List, [], ◌∷◌, ◌++◌, if◌then◌else◌, refl, sym, ◌∙◌, ap, subst, arith, rules}
 use denote.Enum.Bare.{sameb, same_true}
-use Rattle.crs_text.specs.Prelude.{Item, leaf, node, Siblings, End, More, arguments, first_of, rest_of, kind_of_item, HasId, IsAt, RefusedAt, Kind, number, text, word, AreFormed, AreAllFormed}
+use Rattle.crs_text.specs.Prelude.{Item, leaf, node, Siblings, End, More, arguments, first_of, rest_of, kind_of_item, HasId, IsAt, RefusedAt, Kind, number, AreFormed, AreAllFormed}
 use Rattle.crs_shape.specs.contracts.class.Class.{the_type}
 use Rattle.crs_text.specs.declared.items.ItemKind.TheVariants as kinds
 use Rattle.crs_shape.specs.declared.class.Class.{Class}
@@ -117,20 +117,18 @@ those-many parent c (d ∷ ds) End shaped = absurd shaped
 those-many parent c (d ∷ ds) (More item items) shaped =
     let rest = those-many parent c ds items shaped.1.1 in
     let named : is_a parent c item ≡ sameb the_type d c = class_by c (class_in parent item) d shaped.0 in
-    ap (λ b. length (if b then item ∷ those parent c items else those parent c items)) named ∙ both (sameb the_type d c) rest
-  where
-    both : (b : Bool) → length (those parent c items) ≡ how_many (is_same c) ds →
-        length (if b then item ∷ those parent c items else those parent c items) ≡ one_if b + how_many (is_same c) ds
-    both true e = omega (arith, e)
-    both false e = omega (arith, e)
+    rw named
+    (elim (sameb the_type d c) as (λ b. length (if b then item ∷ those parent c items else those parent c items) ≡ one_if b + how_many (is_same c) ds) [
+      | true ↦ omega (arith, rest)
+      | false ↦ omega (arith, rest)
+    ])
 
 abbrev pub SlotsCount : Type 0
 SlotsCount = (test : Class → Bool) (slots : List SlotParts) (classes : List Class) → Allowed slots classes → least test slots ≤ how_many test classes
 
 no-slots : (kind : Kind) (c : Class) → 0 < least (is_same c) (slots_of (class_of_kind kind)) → ⊥
 no-slots number c some = omega arith
-no-slots text c some = omega arith
-no-slots word c some = omega arith
+no-slots other c some = omega arith
 
 leaf-least : (kind : Kind) (parent c : Class) → class_of_kind kind ≡ parent → 0 < least (is_same c) (slots_of parent) → ⊥
 leaf-least kind parent c same some =
@@ -172,13 +170,10 @@ pub found-holds : (tree : Item) (parent c : Class) (items : List Item) (at : Opt
 found-holds tree parent c items None h = tt
 found-holds tree parent c items (Some id) h = h.1
 
-pub all-sound : (c : Class) (items others : List Item) → items ≡ others → AllSound c items → AllSound c others
-all-sound c items others e h = subst (AllSound c) e h
-
 -- the first found argument of a sound node is sound
 pub first-sound : (tree : Item) (parent c : Class) (item : Item) (id : ℕ) → IsSound parent item → IsFound tree parent c (those parent c (arguments item)) (Some id) →
     IsSound c (item_at tree id)
-first-sound tree parent c item id sound found = (all-sound c _ _ found.0 (arguments-sound parent c item sound)).0
+first-sound tree parent c item id sound found = (subst (AllSound c) found.0 (arguments-sound parent c item sound)).0
 
 pub not-none : SlotsCount → (parent c : Class) (item : Item) → Shaped parent item → 0 < least (is_same c) (slots_of parent) → those parent c (arguments item) ≡ [] → ⊥
 not-none law parent c item shaped some none =
@@ -192,8 +187,7 @@ no-keyword keyword = refl
 
 pub shaped-number : (item : Item) → Shaped class.Number item → kind_of_item item ≡ kinds.Number
 shaped-number (leaf number place raw) shaped = refl
-shaped-number (leaf text place raw) shaped = cc
-shaped-number (leaf word place raw) shaped = cc
+shaped-number (leaf other place raw) shaped = cc
 shaped-number (node place keyword square first others close) shaped =
     let h : false ≡ true = sym (no-keyword keyword) ∙ shaped.0 in cc
 

@@ -1,7 +1,7 @@
 -- A node whose slots require an argument of one of some classes has one.
 use Rattle.std.proofs.Common.{◌≡◌, ◌+◌, ◌≤◌, length, Bool, true, false, ◌||◌, List, [], ◌∷◌, refl, sym, subst, ap, arith}
 use Rattle.std.specs.List.{list_any}
-use Rattle.crs_text.specs.Prelude.{Item, leaf, node, More, arguments, Kind, number, text, word}
+use Rattle.crs_text.specs.Prelude.{Item, leaf, node, More, arguments, Kind, number}
 use Rattle.crs_shape.specs.declared.class.Class.{Class}
 use Rattle.crs_shape.specs.Prelude.{one_if, how_many, Shaped, class_of_kind, slots_of}
 use Rattle.crs_value.specs.Reading.{is_same, those, RequiresOneOf}
@@ -16,10 +16,8 @@ abbrev is_one_of : List Class → Class → Bool
 is_one_of ds d = list_any (λ e. is_same e d) ds
 
 either : (a b : Bool) → one_if (a || b) ≤ one_if a + one_if b
-either true true = omega arith
-either true false = omega arith
-either false true = omega arith
-either false false = omega arith
+either true b = omega arith
+either false b = omega arith
 
 no-classes : (xs : List Class) → how_many (is_one_of []) xs ≡ 0
 no-classes [] = refl
@@ -31,8 +29,7 @@ one-more d ds (x ∷ xs) = omega (arith, one-more d ds xs, either (is_same d x) 
 
 kind-none : (kind : Kind) (ds : List Class) → RequiresOneOf (class_of_kind kind) ds → ⊥
 kind-none number ds some = omega arith
-kind-none text ds some = omega arith
-kind-none word ds some = omega arith
+kind-none other ds some = omega arith
 
 none-many : (c : Class) (xs : List Class) (item : Item) → ((d : Class) → length (those c d (arguments item)) ≡ how_many (is_same d) xs) → (ds : List Class) → HasNone c ds item →
     how_many (is_one_of ds) xs ≡ 0

@@ -1,6 +1,6 @@
 -- The second argument of an identifier is no node.
 use Rattle.std.proofs.Common.{◌≡◌, ◌≢◌, ℕ, true, false, List, [], ◌∷◌, ◌++◌, refl, ◌∙◌, ap, subst, arith, IsTrue}
-use Rattle.crs_text.specs.Prelude.{Item, leaf, node, Siblings, End, More, arguments, skip, Kind, number, text, word}
+use Rattle.crs_text.specs.Prelude.{Item, leaf, node, Siblings, End, More, arguments, skip, Kind, number}
 use Rattle.crs_shape.specs.declared.class.Class.{Class}
 use Rattle.crs_shape.specs.declared.class.Class.TheVariants as class
 use Rattle.crs_shape.specs.Prelude.{is_keyword, Fills, Allowed, joined, Shaped, AreShaped, SlotParts, slots_of, takes, one, one_of}
@@ -27,13 +27,11 @@ two-runs ds (first ∷ second ∷ runs, h) =
 single-node : (keyword : List ℕ) (d : Class) → IsTrue (takes code_slot d) → is_keyword d keyword ≡ true → ⊥
 unfolding is_keyword
 single-node keyword class.Number is e = cc
-single-node keyword class.Text is e = cc
 single-node keyword other is e = cc
 
 single-shaped : (d : Class) (item : Item) (items : Siblings) → IsTrue (takes code_slot d) → Shaped d item → single_of (More item items) ≢ []
 single-shaped d (leaf number place raw) items is shaped = λ e. cc
-single-shaped d (leaf text place raw) items is shaped = λ e. cc
-single-shaped d (leaf word place raw) items is shaped = λ e. cc
+single-shaped d (leaf other place raw) items is shaped = λ e. cc
 single-shaped d (node place keyword square first others close) items is shaped = absurd (single-node keyword d is shaped.0)
 
 abbrev tail_of : List Class → List Class
@@ -42,8 +40,7 @@ tail_of (c ∷ cs) = cs
 
 leaf-no : (kind : Kind) → Shaped class.Identifier (leaf kind 0 []) → ⊥
 leaf-no number shaped = cc
-leaf-no text shaped = cc
-leaf-no word shaped = cc
+leaf-no other shaped = cc
 
 second-there : (d : Class) (ds : List Class) (items : Siblings) → IsTrue (takes code_slot d) → AreShaped class.Identifier (d ∷ ds) items → single_of items ≢ []
 second-there d ds End is shaped = absurd shaped

@@ -21,6 +21,4 @@ pub geodetic-kind : (c : Class) (item : Item) (found : SystemType) → IsGeodeti
     (value : Crs) → ReadsCrs c item value → kind_by found ≡ kind_of value
 geodetic-kind c item found is has (crs.Geodetic geodetic) reads =
     ap kind_by (type-of-system (those c class.CoordinateSystem (arguments item)) found geodetic.system has reads.1.system.head)
-geodetic-kind c item found is has (crs.Projected projected) reads = absurd (subst IsGeodeticClass reads.0 is)
-geodetic-kind c item found is has (crs.Vertical vertical) reads = absurd (subst IsGeodeticClass reads.0 is)
-geodetic-kind c item found is has (crs.Compound compound) reads = absurd (subst IsGeodeticClass reads.0 is)
+geodetic-kind c item found is has other reads = absurd (subst IsGeodeticClass reads.0 is)

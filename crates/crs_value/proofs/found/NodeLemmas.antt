@@ -7,7 +7,7 @@ use Rattle.crs_shape.specs.Prelude.{least, slots_of, Shaped}
 use Rattle.crs_value.specs.FoundArguments.{from_found}
 use Rattle.crs_value.specs.Checks.{IsSound}
 use Rattle.crs_value.specs.Reading.{item_at, is_same, those, Holds, IsFound, ReadsFirst, ReadsOptional, ReadsEach}
-use Rattle.crs_value.proofs.found.ArgumentLemmas.{AllSound, SlotsCount, arguments-many, found-is, found-holds, all-sound, arguments-sound, each-drop, all-shaped, arguments-shaped}
+use Rattle.crs_value.proofs.found.ArgumentLemmas.{AllSound, SlotsCount, arguments-many, found-is, found-holds, arguments-sound, each-drop, all-shaped, arguments-shaped}
 
 -- the list holds the values of those before; with the values of the rest it is that of all
 pub record Going {V : Type 0} (R : Item → V → Type 0) (tree : Item) (parent c : Class) (whole : List Item) (list : List V) (at : Option ℕ) : Type 0 where
@@ -21,7 +21,7 @@ going-first {V = V} R tree parent c item list at sound empty found =
     let e = found-is tree parent c (those parent c (arguments item)) at found in
     record {
       holds = found-holds tree parent c (those parent c (arguments item)) at found;
-      sound = all-sound c _ _ e (arguments-sound parent c item sound);
+      sound = subst (AllSound c) e (arguments-sound parent c item sound);
       reads = λ values h.
           let P : List Item → Type 0 = λ xs. ReadsEach R xs values in
           let Q : List V → Type 0 = λ vs. ReadsEach R (those parent c (arguments item)) (vs ++ values) in

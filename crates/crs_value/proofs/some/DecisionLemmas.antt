@@ -1,11 +1,16 @@
 -- Decisions: a fact or its refutation; a value that is read, or none.
-use Rattle.std.proofs.Common.{◌≡◌, ◌↔◌, ℕ, zero, suc, ◌+◌, ◌*◌, ◌^◌, ◌<◌, ◌≤◌, ◌⊎◌, inl, inr, Bool, true, false, List, [], ◌∷◌, length, get_or, refl, sym, ◌∙◌, ap, subst, arith, ℤ, pos, negsuc}
-use Rattle.std.specs.Str.{bytes_eq, str_to_ascii_lowercase}
+use Rattle.std.proofs.Common.{◌≡◌, ℕ, zero, suc, ◌+◌, ◌*◌, ◌^◌, ◌<◌, ◌⊎◌, inl, inr, Bool, true, false, List, [], ◌∷◌, length, get_or, refl, sym, ap, subst, arith, rules, Decides, ⊎_elim}
+use Rattle.std.specs.Str.{str_to_ascii_lowercase}
 use Rattle.std.proofs.lemmas.Bool.{cases_eq}
 use Rattle.std.proofs.lemmas.Slice.Eq.{bytes_eq-Decides}
+use Rattle.std.proofs.lemmas.Bool.Decides.{Decides-int_eq}
+use Rattle.std.specs.Bool.{beq}
+use Rattle.std.specs.Cmp.{booleans_Decides}
+use denote.Enum.Bare.{sameb, same_true, true_same}
 use Rattle.crs_decimal.specs.Prelude.{Number, SameNumber, whole_number, Value, exact}
 use Rattle.crs_shape.specs.declared.system_type.SystemType.{SystemType}
 use Rattle.crs_shape.specs.declared.system_type.SystemType.TheVariants as types
+use Rattle.crs_shape.specs.contracts.unit_kind.UnitKind.{the_type}
 use Rattle.crs_shape.specs.declared.unit_kind.UnitKind.{UnitKind}
 use Rattle.crs_shape.specs.declared.unit_kind.UnitKind.TheVariants as kinds
 use Rattle.crs_shape.specs.Prelude.{IsOneOf, SpellsWord, direction_word, every_direction, every_type, system_word}
@@ -32,11 +37,7 @@ decided-both (inr fails) b = inr (λ h. fails h.0)
 pub decided-either : {A B : Type 0} → Decided A → Decided B → Decided (A ⊎ B)
 decided-either (inl a) b = inl (inl a)
 decided-either (inr fails) (inl b) = inl (inr b)
-decided-either {A = A} {B = B} (inr fails) (inr lacks) = inr neither
-  where
-    neither : A ⊎ B → ⊥
-    neither (inl a) = fails a
-    neither (inr b) = lacks b
+decided-either (inr fails) (inr lacks) = inr (⊎_elim fails lacks)
 
 pub decided-not : {A : Type 0} → Decided A → Decided (¬ A)
 decided-not (inl a) = inr (λ f. f a)
@@ -47,35 +48,26 @@ pub stable : {A : Type 0} → Decided A → ¬ (¬ A) → A
 stable (inl a) twice = a
 stable (inr fails) twice = absurd (twice fails)
 
+-- what a test decides
+pub decided-by : {A : Type 0} (b : Bool) → Decides b A → Decided A
+decided-by true test = inl (test.0 refl)
+decided-by false test = inr (λ a. let e = test.1 a in cc)
+
 -- a condition on the one value that is read
 pub decided-some : {V : Type 0} (R C : V → Type 0) → ((a b : V) → R a → R b → a ≡ b) → Known R → ((v : V) → R v → Decided (C v)) → Decided ((v : V) × (R v × C v))
 decided-some R C one (inr none) dec = inr (λ h. none h.0 h.1.0)
-decided-some {V = V} R C one (inl found) dec = by (dec found.0 found.1)
-  where
-    by : Decided (C found.0) → Decided ((v : V) × (R v × C v))
-    by (inl c) = inl (found.0, (found.1, c))
-    by (inr fails) = inr (λ h. fails (subst C (one h.0 found.0 h.1.0 found.1) h.1.1))
+decided-some R C one (inl found) dec =
+    decided-as (λ c. (found.0, (found.1, c))) (λ h. subst C (one h.0 found.0 h.1.0 found.1) h.1.1) (dec found.0 found.1)
 
 -- whether this is the one value that is read
 pub decided-this : {V : Type 0} (R : V → Type 0) (value : V) → ((a b : V) → R a → R b → a ≡ b) → Known R → ((v : V) → Decided (v ≡ value)) → Decided (R value)
 decided-this R value one (inr none) dec = inr (λ h. none value h)
-decided-this {V = V} R value one (inl found) dec = by (dec found.0)
-  where
-    by : Decided (found.0 ≡ value) → Decided (R value)
-    by (inl e) = inl (subst R e found.1)
-    by (inr fails) = inr (λ h. fails (one found.0 value found.1 h))
+decided-this R value one (inl found) dec = decided-as (λ e. subst R e found.1) (λ h. one found.0 value found.1 h) (dec found.0)
 
 -- ---- words
 
 pub decided-word : (raw name : List ℕ) → Decided (SpellsWord raw name)
-decided-word raw name =
-    elim (bytes_eq (str_to_ascii_lowercase raw) (str_to_ascii_lowercase name)) as (λ b. bytes_eq (str_to_ascii_lowercase raw) (str_to_ascii_lowercase name) ≡ b → Decided (SpellsWord raw name)) [
-      | true ↦ λ e. inl (test.0 e)
-      | false ↦ λ e. inr (λ h. let k : true ≡ false = sym (test.1 h) ∙ e in cc)
-    ] refl
-  where
-    test : (bytes_eq (str_to_ascii_lowercase raw) (str_to_ascii_lowercase name) ≡ true) ↔ SpellsWord raw name
-    test = bytes_eq-Decides (str_to_ascii_lowercase raw) (str_to_ascii_lowercase name)
+decided-word raw name = decided-by _ (bytes_eq-Decides (str_to_ascii_lowercase raw) (str_to_ascii_lowercase name))
 
 -- a property of some of these, or of none of them
 abbrev Among : {V : Type 0} → (V → Type 0) → List V → Type 0
@@ -97,11 +89,8 @@ among P dec (v ∷ vs) = more-among P v vs (dec v) (among P dec vs)
 -- a property of some value or of none, where each value has its place in a list
 known-in : {V : Type 0} (P : V → Type 0) → ((v : V) → Decided (P v)) → (vs : List V) (place : V → ℕ) →
     ((v : V) → place v < length vs) → ((v : V) → get_or vs (place v) v ≡ v) → Known P
-known-in P dec vs place within placed = by (among P dec vs)
-  where
-    by : Among P vs → Known P
-    by (inl found) = inl found
-    by (inr none) = inr (λ v h. none (place v) v (within v) (subst P (sym (placed v)) h))
+known-in P dec vs place within placed =
+    ⊎_elim (λ found. inl found) (λ none. inr (λ v h. none (place v) v (within v) (subst P (sym (placed v)) h))) (among P dec vs)
 
 pub type-known : (raw : List ℕ) → Known (λ t. SpellsWord raw (system_word t))
 unfolding every_type
@@ -114,31 +103,17 @@ direction-known raw =
     known-in (λ d. SpellsWord raw (direction_word d)) (λ d. decided-word raw (direction_word d)) every_direction direction_place direction_within direction_placed
 
 pub decided-kinds : (P : UnitKind → Type 0) → ((k : UnitKind) → Decided (P k)) → Decided ((k : UnitKind) × P k)
-decided-kinds P dec = by (known-in P dec kinds_list kind_place kind_within kind_placed)
-  where
-    by : Known P → Decided ((k : UnitKind) × P k)
-    by (inl found) = inl found
-    by (inr none) = inr (λ h. none h.0 h.1)
-
-abbrev kind_at : ℕ → UnitKind
-kind_at n = get_or kinds_list n kinds.Plain
-
-kind-back : (k : UnitKind) → kind_at (kind_place k) ≡ k
-kind-back kinds.Length = refl
-kind-back other = refl
+decided-kinds P dec = ⊎_elim (λ found. inl found) (λ none. inr (λ h. none h.0 h.1)) (known-in P dec kinds_list kind_place kind_within kind_placed)
 
 pub decided-kind : (a b : UnitKind) → Decided (a ≡ b)
-decided-kind a b =
-    decided-as (λ e. sym (kind-back a) ∙ ap kind_at e ∙ kind-back b) (λ e. ap kind_place e) (cases_eq (kind_place a) (kind_place b))
+decided-kind a b = decided-by (sameb the_type a b) (same_true the_type (search rules) a b, true_same the_type a b)
 
 pub decided-suits : (asked kind : UnitKind) → Decided (Suits asked kind)
 decided-suits asked kind = decided-either (decided-kind kind asked) (decided-kind kind kinds.Plain)
 
 pub whether-ellipsoidal : (t : SystemType) → Decided (t ≡ types.Ellipsoidal)
 whether-ellipsoidal types.Ellipsoidal = inl refl
-whether-ellipsoidal types.Cartesian = inr (λ e. cc)
-whether-ellipsoidal types.Spherical = inr (λ e. cc)
-whether-ellipsoidal types.Vertical = inr (λ e. cc)
+whether-ellipsoidal other = inr (λ e. cc)
 
 -- ---- lists
 
@@ -152,31 +127,19 @@ decided-each P dec (v ∷ vs) = decided-both (dec v) (decided-each P dec vs)
 
 -- ---- numbers
 
-pub decided-nat : (m n : ℕ) → Decided (m ≡ n)
-decided-nat m n = cases_eq m n
-
 pub decided-bool : (a b : Bool) → Decided (a ≡ b)
-decided-bool true true = inl refl
-decided-bool true false = inr (λ e. cc)
-decided-bool false true = inr (λ e. cc)
-decided-bool false false = inl refl
+decided-bool a b = decided-by (beq a b) (booleans_Decides a b)
 
 pub decided-same : (a b : Number) → Decided (SameNumber a b)
 decided-same a b =
-    decided-both (decided-nat (a.digits * 10 ^ (a.up + b.down)) (b.digits * 10 ^ (b.up + a.down)))
-    (decided-either (decided-bool a.negative b.negative) (decided-both (decided-nat a.digits 0) (decided-nat b.digits 0)))
-
-decided-int : (a b : ℤ) → Decided (a ≡ b)
-decided-int (pos m) (pos n) = decided-as (λ e. ap pos e) (λ e. cc) (decided-nat m n)
-decided-int (pos m) (negsuc n) = inr (λ e. cc)
-decided-int (negsuc m) (pos n) = inr (λ e. cc)
-decided-int (negsuc m) (negsuc n) = decided-as (λ e. ap negsuc e) (λ e. cc) (decided-nat m n)
+    decided-both (cases_eq (a.digits * 10 ^ (a.up + b.down)) (b.digits * 10 ^ (b.up + a.down)))
+    (decided-either (decided-bool a.negative b.negative) (decided-both (cases_eq a.digits 0) (cases_eq b.digits 0)))
 
 pub decided-value : (a b : Value) → Decided (a ≡ b)
 decided-value a b =
     decided-as (λ h. λ i. record { negative = h.0 i; digits = h.1.0 i; power = h.1.1 i })
     (λ e. (ap (λ v. v.negative) e, (ap (λ v. v.digits) e, ap (λ v. v.power) e)))
-    (decided-both (decided-bool a.negative b.negative) (decided-both (decided-nat a.digits b.digits) (decided-int a.power b.power)))
+    (decided-both (decided-bool a.negative b.negative) (decided-both (cases_eq a.digits b.digits) (decided-by _ (Decides-int_eq a.power b.power))))
 
 pub decided-one-of : (value : Value) (ns : List ℕ) → Decided (IsOneOf value ns)
 decided-one-of value [] = inr (λ h. h)
@@ -187,14 +150,9 @@ position-more n value (inl h) = (h.0, (h.1.0, omega (arith, h.1.1), h.1.2))
 position-more n value (inr h) = (suc n, (omega arith, omega arith, h))
 
 position-less : (n : ℕ) (value : Value) → IsPosition (suc n) value → IsPosition n value ⊎ SameNumber (exact value) (whole_number (suc n))
-position-less n value h = by (cases_eq h.0 (suc n))
-  where
-    by : (h.0 ≡ suc n) ⊎ (¬ (h.0 ≡ suc n)) → IsPosition n value ⊎ SameNumber (exact value) (whole_number (suc n))
-    by (inl e) = let P : ℕ → Type 0 = λ k. SameNumber (exact value) (whole_number k) in inr (subst P e h.1.2)
-    by (inr fails) = inl (h.0, (h.1.0, less h.0 n fails h.1.1, h.1.2))
-      where
-        less : (k m : ℕ) → ¬ (k ≡ suc m) → k ≤ suc m → k ≤ m
-        less k m ne le = omega arith
+position-less n value h =
+    ⊎_elim (λ e. let P : ℕ → Type 0 = λ k. SameNumber (exact value) (whole_number k) in inr (subst P e h.1.2))
+    (λ fails. inl (h.0, (h.1.0, omega (arith, fails, h.1.1), h.1.2))) (cases_eq h.0 (suc n))
 
 pub decided-position : (n : ℕ) (value : Value) → Decided (IsPosition n value)
 decided-position zero value = inr (λ h. absurd (omega (arith, h.1.0, h.1.1)))
@@ -202,4 +160,4 @@ decided-position (suc n) value =
     decided-as (position-more n value) (position-less n value) (decided-either (decided-position n value) (decided-same (exact value) (whole_number (suc n))))
 
 pub decided-above : (value : Value) → Decided (IsAboveZero value)
-decided-above value = decided-both (decided-bool value.negative false) (decided-not (decided-nat value.digits 0))
+decided-above value = decided-both (decided-bool value.negative false) (decided-not (cases_eq value.digits 0))

@@ -1,9 +1,8 @@
 -- Items of their shape within a text, whose tokens are well formed: the same holds for their arguments, and
 -- their numbers have values.
-use Rattle.std.proofs.Common.{◌≡◌, ℕ, inr, List, [], ◌∷◌}
+use Rattle.std.proofs.Common.{ℕ, inr, List, [], ◌∷◌}
 use Rattle.crs_decimal.specs.Prelude.{IsInBounds, Denotes, Value, IsNormal, exact}
-use Rattle.crs_text.specs.Prelude.{number, text, word, Item, leaf, node, Siblings, End, More, arguments, AreFormed, AreAllFormed}
-use Rattle.crs_text.specs.declared.items.ItemKind.TheVariants as item_kinds
+use Rattle.crs_text.specs.Prelude.{number, Item, leaf, node, Siblings, End, More, arguments, AreFormed, AreAllFormed}
 use Rattle.crs_shape.specs.declared.class.Class.{Class}
 use Rattle.crs_shape.specs.declared.class.Class.TheVariants as class
 use Rattle.crs_shape.specs.Prelude.{Shaped}
@@ -54,10 +53,9 @@ those-ready total parent c item h =
 
 pub number-some : Numbers → (item : Item) → Shaped class.Number item → AreFormed item → (v : Value) × ReadsNumber item v
 number-some law (leaf number place raw) shaped formed = let v = law raw formed.2 in (v.0, v.1)
-number-some law (leaf text place raw) shaped formed = let e : item_kinds.Text ≡ item_kinds.Number = shaped-number (leaf text place raw) shaped in absurd cc
-number-some law (leaf word place raw) shaped formed = let e : item_kinds.Word ≡ item_kinds.Number = shaped-number (leaf word place raw) shaped in absurd cc
+number-some law (leaf other place raw) shaped formed = let e = shaped-number (leaf other place raw) shaped in absurd cc
 number-some law (node place keyword square first others close) shaped formed =
-    let e : item_kinds.Node ≡ item_kinds.Number = shaped-number (node place keyword square first others close) shaped in absurd cc
+    let e = shaped-number (node place keyword square first others close) shaped in absurd cc
 
 -- what is read from the first of some items, if it is known of each
 pub first-known : {V : Type 0} (R : Item → V → Type 0) (Is : Item → Type 0) → ((item : Item) → Is item → Known (R item)) → (items : List Item) → Each Is items → Known (ReadsFirst R items)

@@ -1,6 +1,6 @@
 -- Whole numbers that are read: of one digit at sight, and others as decimals.
 use Rattle.std.proofs.lemmas.Bool.Decides.{nat_tests}
-use Rattle.std.proofs.Common.{◌≡◌, ◌⊎◌, inl, inr, ap, ℕ, ◌+◌, ◌-◌, ◌*◌, ◌<◌, ◌≤◌, Option, Some, None, List, [], ◌∷◌, length, refl, sym, subst, arith, IfSome, MatchOption}
+use Rattle.std.proofs.Common.{◌≡◌, ◌⊎◌, ⊎_elim, ap, ℕ, ◌+◌, ◌-◌, ◌*◌, ◌<◌, ◌≤◌, Option, Some, None, List, [], ◌∷◌, length, refl, sym, subst, arith, IfSome, MatchOption}
 use Rattle.crs_decimal.specs.Prelude.{IsBounded, IsInBounds, Denotes, number_of, Number, SameNumber, whole_number, Sign, unsigned, plus, Parts, IsForm, SpellsNumber, AreDigits, Value, IsNormal, exact}
 use Rattle.crs_text.specs.Prelude.{Item, arguments, raw_of}
 use Rattle.crs_shape.specs.declared.class.Class.{Class}
@@ -30,24 +30,20 @@ digit-form : (s : Sign) (b : ℕ) → AreDigits (b ∷ []) → IsForm (digit_par
 digit-form s b digits = record { digits = digits; some = omega arith; exponent = tt }
 
 digit-bounded : DigitsAlone → OneForm → (b : ℕ) → AreDigits (b ∷ []) → IsBounded (digit_parts unsigned b)
-digit-bounded alone one b digits = by (alone (b ∷ []) digits (omega arith) (omega arith))
-  where
-    by : IsInBounds (b ∷ []) → IsBounded (digit_parts unsigned b)
-    by h = subst IsBounded (one (b ∷ []) h.0 (digit_parts unsigned b) h.1 (refl, digit-form unsigned b digits)) h.2
+digit-bounded alone one b digits =
+    let h = alone (b ∷ []) digits (omega arith) (omega arith) in subst IsBounded (one (b ∷ []) h.0 (digit_parts unsigned b) h.1 (refl, digit-form unsigned b digits)) h.2
 
 plus-bounded : (b : ℕ) → IsBounded (digit_parts unsigned b) → IsBounded (digit_parts plus b)
 plus-bounded b h = record { mantissa_digits = h.mantissa_digits; exponent_digits = h.exponent_digits; measured = h.measured }
 
 -- the value of a digit in bounds that has no minus
 value-of : OneForm → DenotesSome → Symmetric → (bytes : List ℕ) (p : Parts) (n : ℕ) → SpellsNumber bytes p → IsBounded p → number_of p ≡ whole_number n → IsWhole bytes n
-value-of one some symmetric bytes p n spells bounded is = by (some bytes (p, spells, bounded))
-  where
-    by : (v : Value) × (IsNormal v × Denotes bytes (exact v)) → IsWhole bytes n
-    by (v, (normal, denotes)) =
-        let P : Parts → Type 0 = λ q. SameNumber (number_of q) (exact v) in
-        let Q : Number → Type 0 = λ m. SameNumber m (exact v) in
-        let mine : SameNumber (number_of p) (exact v) = subst P (one bytes denotes.0 p denotes.1 spells) denotes.3 in
-        (v, ((normal, denotes), symmetric (whole_number n) (exact v) (subst Q is mine)))
+value-of one some symmetric bytes p n spells bounded is =
+    let (v, (normal, denotes)) = some bytes (p, spells, bounded) in
+    let P : Parts → Type 0 = λ q. SameNumber (number_of q) (exact v) in
+    let Q : Number → Type 0 = λ m. SameNumber m (exact v) in
+    let mine = subst P (one bytes denotes.0 p denotes.1 spells) denotes.3 in
+    (v, ((normal, denotes), symmetric (whole_number n) (exact v) (subst Q is mine)))
 
 digit-number : (b : ℕ) → number_of (digit_parts unsigned b) ≡ whole_number (b - 48)
 digit-number b =
@@ -67,15 +63,10 @@ pub digit-read : DigitsAlone → OneForm → DenotesSome → Symmetric → (raw 
 digit-read alone one some symmetric raw b None same h = h
 digit-read alone one some symmetric raw b (Some n) same (low, (high, is)) =
     let digits = digit-alone b low high in
+    let P : List ℕ → Type 0 = λ bytes. IsWhole bytes (b - 48) in
     let Q : ℕ → Type 0 = λ k. IsWhole raw k in
-    subst Q (sym is) (by same digits)
-  where
-    P : List ℕ → Type 0
-    P bytes = IsWhole bytes (b - 48)
-
-    by : (raw ≡ b ∷ []) ⊎ (raw ≡ 43 ∷ b ∷ []) → AreDigits (b ∷ []) → IsWhole raw (b - 48)
-    by (inl e) digits = subst P (sym e) (digit-whole alone one some symmetric b digits)
-    by (inr e) digits = subst P (sym e) (plus-whole alone one some symmetric b digits)
+    subst Q (sym is)
+    (⊎_elim (λ e. subst P (sym e) (digit-whole alone one some symmetric b digits)) (λ e. subst P (sym e) (plus-whole alone one some symmetric b digits)) same)
 
 pub decimal-read : (raw : List ℕ) (v : Value) (Not : Type 0) (found : Option ℕ) → IsNormal v × Denotes raw (exact v) →
     MatchOption found Not (λ n. SameNumber (exact v) (whole_number n)) → IfSome found (IsWhole raw)
