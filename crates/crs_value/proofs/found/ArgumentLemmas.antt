@@ -53,8 +53,8 @@ pub each-first : (P : Item → Type 0) (items : List Item) → Each P items → 
 each-first P [] h = tt
 each-first P (item ∷ items) h = (h.0, tt)
 
-pub each-if : (P : Item → Type 0) (b : Bool) (item : Item) (items : List Item) → P item → Each P items → Each P (if b then item ∷ items else items)
-each-if P true item items h rest = (h, rest)
+pub each-if : (P : Item → Type 0) (b : Bool) (item : Item) (items : List Item) → (b ≡ true → P item) → Each P items → Each P (if b then item ∷ items else items)
+each-if P true item items h rest = (h refl, rest)
 each-if P false item items h rest = rest
 
 pub each-on : {V : Type 0} (P : V → Type 0) (xs : List V) (x : V) → Each P xs → P x → Each P (xs ++ x ∷ [])
@@ -73,33 +73,19 @@ pub class-is : (c : Class) (o : Option Class) → is_class c o ≡ true → o �
 class-is c None e = cc
 class-is c (Some d) e = ap Some (same_class d c e)
 
-class_by : (c : Class) (o : Option Class) (d : Class) → o ≡ Some d → is_class c o ≡ sameb the_type d c
-class_by c o d e = ap (is_class c) e
-
 sound_as : (parent c : Class) (item : Item) (d : Class) → AreFormed item → class_in parent item ≡ Some d → Shaped d item →
     ((fault : RefusedAt) → ¬ (AtClass (class_in parent item) (λ x. Breaks x item fault))) → is_a parent c item ≡ true → IsSound c item
 sound_as parent c item d formed named shaped free e =
-    let same : d ≡ c = same_class d c (sym (class_by c (class_in parent item) d named) ∙ e) in
-    let P : Class → Type 0 = λ x. Shaped x item in
-    record {
-      formed = formed;
-      shaped = subst P same shaped;
-      unbroken = λ fault broken.
-          let Q : Option Class → Type 0 = λ o. AtClass o (λ x. Breaks x item fault) in
-          let R : Class → Type 0 = λ x. Breaks x item fault in
-          free fault (subst Q (sym named) (subst R (sym same) broken));
-    }
+    let same : d ≡ c = same_class d c (rw named at e) in
+    rw (← same) (record { formed = formed; shaped = shaped; unbroken = rw named at free })
 
 those-sound : (parent c : Class) (ds : List Class) (items : Siblings) → AreAllFormed items → AreShaped parent ds items → ((fault : RefusedAt) → ¬ (BreaksAmong parent items fault)) →
     AllSound c (those parent c items)
 those-sound parent c ds End formed shaped free = tt
 those-sound parent c [] (More item items) formed shaped free = absurd shaped
 those-sound parent c (d ∷ ds) (More item items) formed shaped free =
-    let rest = those-sound parent c ds items formed.1 shaped.1.1 (λ fault b. free fault (inr b)) in
-    elim (is_a parent c item) as (λ b. is_a parent c item ≡ b → AllSound c (if b then item ∷ those parent c items else those parent c items)) [
-      | true ↦ λ e. (sound_as parent c item d formed.0 shaped.0 shaped.1.0 (λ fault b. free fault (inl b)) e, rest)
-      | false ↦ λ e. rest
-    ] refl
+    each-if (IsSound c) (is_a parent c item) item (those parent c items) (sound_as parent c item d formed.0 shaped.0 shaped.1.0 (λ fault b. free fault (inl b)))
+    (those-sound parent c ds items formed.1 shaped.1.1 (λ fault b. free fault (inr b)))
 
 pub arguments-sound : (parent c : Class) (item : Item) → IsSound parent item → AllSound c (those parent c (arguments item))
 arguments-sound parent c (leaf kind place raw) sound = tt
@@ -116,7 +102,7 @@ those-many parent c [] (More item items) shaped = absurd shaped
 those-many parent c (d ∷ ds) End shaped = absurd shaped
 those-many parent c (d ∷ ds) (More item items) shaped =
     let rest = those-many parent c ds items shaped.1.1 in
-    let named : is_a parent c item ≡ sameb the_type d c = class_by c (class_in parent item) d shaped.0 in
+    let named : is_a parent c item ≡ sameb the_type d c = ap (is_class c) shaped.0 in
     rw named
     (elim (sameb the_type d c) as (λ b. length (if b then item ∷ those parent c items else those parent c items) ≡ one_if b + how_many (is_same c) ds) [
       | true ↦ omega (arith, rest)
@@ -193,21 +179,12 @@ shaped-number (node place keyword square first others close) shaped =
 
 -- ---- the shape goes down
 
-shape_as : (parent c : Class) (item : Item) (d : Class) → class_in parent item ≡ Some d → Shaped d item → is_a parent c item ≡ true → Shaped c item
-shape_as parent c item d named shaped e =
-    let same : d ≡ c = same_class d c (sym (class_by c (class_in parent item) d named) ∙ e) in
-    let P : Class → Type 0 = λ x. Shaped x item in
-    subst P same shaped
-
 those-shaped : (parent c : Class) (ds : List Class) (items : Siblings) → AreShaped parent ds items → AllShaped c (those parent c items)
 those-shaped parent c ds End shaped = tt
 those-shaped parent c [] (More item items) shaped = absurd shaped
 those-shaped parent c (d ∷ ds) (More item items) shaped =
-    let rest = those-shaped parent c ds items shaped.1.1 in
-    elim (is_a parent c item) as (λ b. is_a parent c item ≡ b → AllShaped c (if b then item ∷ those parent c items else those parent c items)) [
-      | true ↦ λ e. (shape_as parent c item d shaped.0 shaped.1.0 e, rest)
-      | false ↦ λ e. rest
-    ] refl
+    each-if (Shaped c) (is_a parent c item) item (those parent c items)
+    (λ e. let same : d ≡ c = same_class d c (rw shaped.0 at e) in subst (λ x. Shaped x item) same shaped.1.0) (those-shaped parent c ds items shaped.1.1)
 
 pub arguments-shaped : (parent c : Class) (item : Item) → Shaped parent item → AllShaped c (those parent c (arguments item))
 arguments-shaped parent c (leaf kind place raw) shaped = tt

@@ -31,7 +31,7 @@ one-by true tree parent c all old id at has e so next = one-is tree parent c all
 one-by false tree parent c all old id at has e so next = one-past tree parent c all old id at has e so next
 
 -- how many of a class are left, after one that is of the class or not
-one-more : (b : Bool) (tree : Item) (parent c : Class) (id : ℕ) (at : Option ℕ) → HasId tree id → is_a parent c (item_at tree id) ≡ b → IsAt tree (rest_of (here tree id)) at →
+pub one-more : (b : Bool) (tree : Item) (parent c : Class) (id : ℕ) (at : Option ℕ) → HasId tree id → is_a parent c (item_at tree id) ≡ b → IsAt tree (rest_of (here tree id)) at →
     length (those parent c (here tree id)) ≡ one_if b + length (those parent c (ahead tree at))
 one-more true tree parent c id at has e next =
     let behind = ap (λ xs. length (those parent c xs)) (ahead_at tree (rest_of (here tree id)) at next) in

@@ -31,7 +31,7 @@ AllFormed items = Each AreFormed items
 
 those-formed : (parent c : Class) (items : Siblings) → AreAllFormed items → AllFormed (those parent c items)
 those-formed parent c End h = tt
-those-formed parent c (More item items) h = each-if AreFormed (is_a parent c item) item (those parent c items) h.0 (those-formed parent c items h.1)
+those-formed parent c (More item items) h = each-if AreFormed (is_a parent c item) item (those parent c items) (λ e. h.0) (those-formed parent c items h.1)
 
 pub inner-formed : (parent c : Class) (item : Item) → AreFormed item → AllFormed (those parent c (arguments item))
 inner-formed parent c item h = those-formed parent c (arguments item) (arguments-formed item h)
@@ -39,7 +39,7 @@ inner-formed parent c item h = those-formed parent c (arguments item) (arguments
 pub those-within : (total : ℕ) (parent c : Class) (items : Siblings) → AreWithin total items → Each (Within total) (those parent c items)
 those-within total parent c End h = tt
 those-within total parent c (More item items) h =
-    each-if (Within total) (is_a parent c item) item (those parent c items) h.0 (those-within total parent c items h.1)
+    each-if (Within total) (is_a parent c item) item (those parent c items) (λ e. h.0) (those-within total parent c items h.1)
 
 all-ready : (total : ℕ) (c : Class) (items : List Item) → AllShaped c items → AllFormed items → Each (Within total) items → AllReady total c items
 all-ready total c [] shaped formed within = tt

@@ -28,28 +28,16 @@ is-shaped tree parent c item (Some id) shaped found = (found.1, first-shaped tre
 pub axis-has : SlotsBound → (tree axis : Item) (word : ℕ) (seen : Seen) → Shaped class.Axis axis → IsBehindName tree axis word →
     ReadsDirection (item_at tree word) seen.direction → IsFound tree class.Axis class.Order (those class.Axis class.Order (rest_of (here tree word))) seen.order →
     IsFound tree class.Axis class.AxisUnit (those class.Axis class.AxisUnit (rest_of (here tree word))) seen.unit → Has tree axis seen
-axis-has law tree axis word seen shaped behind reads order unit = record {
-  direction = subst Directs (sym behind.words) reads;
-  orders = only-found law tree class.Axis class.Order axis seen.order refl (omega arith) shaped order-is;
-  order = is-shaped tree class.Axis class.Order axis seen.order shaped order-is;
-  units = only-found law tree class.Axis class.AxisUnit axis seen.unit refl (omega arith) shaped unit-is;
-  unit = is-shaped tree class.Axis class.AxisUnit axis seen.unit shaped unit-is;
-}
-  where
-    Directs : List Item → Type 0
-    Directs words = ReadsFirst ReadsDirection words seen.direction
-
-    Orders : List Item → Type 0
-    Orders orders = IsFound tree class.Axis class.Order orders seen.order
-
-    Units : List Item → Type 0
-    Units units = IsFound tree class.Axis class.AxisUnit units seen.unit
-
-    order-is : Orders (orders_in axis)
-    order-is = subst Orders (sym behind.orders) order
-
-    unit-is : Units (units_in axis)
-    unit-is = subst Units (sym behind.units) unit
+axis-has law tree axis word seen shaped behind reads order unit =
+    let order-is : IsFound tree class.Axis class.Order (orders_in axis) seen.order = rw behind.orders order in
+    let unit-is : IsFound tree class.Axis class.AxisUnit (units_in axis) seen.unit = rw behind.units unit in
+    record {
+      direction = rw behind.words reads;
+      orders = only-found law tree class.Axis class.Order axis seen.order refl (omega arith) shaped order-is;
+      order = is-shaped tree class.Axis class.Order axis seen.order shaped order-is;
+      units = only-found law tree class.Axis class.AxisUnit axis seen.unit refl (omega arith) shaped unit-is;
+      unit = is-shaped tree class.Axis class.AxisUnit axis seen.unit shaped unit-is;
+    }
 
 -- ---- the word behind the name
 

@@ -64,9 +64,6 @@ pub gives-true : (w old new : Option RefusedAt) (B : RefusedAt → Type 0) → G
 gives-true None old new B h = (refl, h)
 gives-true (Some fault) old new B h = absurd h
 
-stops-with : (w old new : Option RefusedAt) (B : RefusedAt → Type 0) (fault : RefusedAt) → w ≡ Some fault → new ≡ Some fault → Gives w old B false new
-stops-with w old new B fault e is = let P : Option RefusedAt → Type 0 = λ x. Gives x old B false new in subst P (sym e) is
-
 -- ---- the fault of shape behind one argument
 
 -- the slots that are left behind an argument in the first
@@ -122,39 +119,24 @@ gives-broken c (More item items) d shape old ok last some e h =
     let P : Option Class → Type 0 = λ o. Gives shape old (λ f. AtClass o (λ d. Breaks d item f) ⊎ BreaksAmong c items f) ok last in
     subst P (sym e) h
 
-ahead-gives : (tree : Item) (c : Class) (close : ℕ) (slots : List SlotParts) (items : Siblings) (next : Option ℕ) (old : Option RefusedAt) (ok : Bool) (last : Option RefusedAt) → IsAt tree items next →
-    Walked tree c close slots next old ok last → Gives (first_in_arguments c close slots items) old (BreaksAmong c items) ok last
-ahead-gives tree c close slots items next old ok last at h =
-    let P : Siblings → Type 0 = λ its. Gives (first_in_arguments c close slots its) old (BreaksAmong c its) ok last in
-    subst P (ahead_at tree items next at) h
-
-walked-at : (tree : Item) (c : Class) (close : ℕ) (slots : List SlotParts) (at from : Option ℕ) (old last : Option RefusedAt) (ok : Bool) → at ≡ from →
-    Walked tree c close slots from old ok last → Walked tree c close slots at old ok last
-walked-at tree c close slots at from old last ok e h = let P : Option ℕ → Type 0 = λ o. Walked tree c close slots o old ok last in subst P (sym e) h
-
 -- an argument is judged, and the walk goes on behind it
 goes-on : (tree : Item) (c : Class) (close : ℕ) (slot : SlotParts) (slots : List SlotParts) (at : Option ℕ) (id : ℕ) (next : Option ℕ) (old mid last : Option RefusedAt) (ok : Bool) → at ≡ Some id →
     HasId tree id → IsAt tree (rest_of (here tree id)) next → Answers c slot.classes (item_at tree id) old (Some true) mid → Walked tree c close (behind slot slots) next mid ok last →
     Walked tree c close (slot ∷ slots) at old ok last
 goes-on tree c close slot slots at id next old mid last ok same has is-at (d, (is, (takes_it, judged))) rest =
     let items = here tree id in
-    let P : Option RefusedAt → Type 0 = λ w. Gives w old (λ f. Breaks d (first_of items) f ⊎ BreaksAmong c (rest_of items) f) ok last in
-    walked-at tree c close (slot ∷ slots) at (Some id) old last ok same
+    rw same
     (gives-broken c items d (first_in_arguments c close (slot ∷ slots) items) old ok last has is
-    (subst P (sym (fault-taken c close slot slots items d has is takes_it))
+    (rw (fault-taken c close slot slots items d has is takes_it)
     (gives-on (first_inside d (first_of items)) (first_in_arguments c close (behind slot slots) (rest_of items)) old mid last (Breaks d (first_of items)) (BreaksAmong c (rest_of items)) ok judged
-    (ahead-gives tree c close (behind slot slots) (rest_of items) next mid ok last is-at rest))))
-
-pub answer-is : (p : Class) (cs : List Class) (item : Item) (old new : Option RefusedAt) (r s : Option Bool) → r ≡ s → Answers p cs item old r new → Answers p cs item old s new
-answer-is p cs item old new r s e h = let P : Option Bool → Type 0 = λ x. Answers p cs item old x new in subst P e h
+    (rw (ahead_at tree (rest_of items) next is-at) at rest))))
 
 pub passed-one : (tree : Item) (c : Class) (close : ℕ) (slot : SlotParts) (at : Option ℕ) (id : ℕ) (next : Option ℕ) (old mid : Option RefusedAt) (answer : Option Bool) → slot.many ≡ false →
     at ≡ Some id → HasId tree id → IsAt tree (rest_of (here tree id)) next → answer ≡ Some true → Answers c slot.classes (item_at tree id) old answer mid →
     Passed tree c close slot at old (Some next) mid
 passed-one tree c close slot at id next old mid answer few same has is-at said answers = λ slots ok last rest.
-    let P : List SlotParts → Type 0 = λ ss. Walked tree c close ss next mid ok last in
     let e : behind slot slots ≡ slots = ap (λ b. if b then again slot ∷ slots else slots) few in
-    goes-on tree c close slot slots at id next old mid last ok same has is-at (answer-is c slot.classes (item_at tree id) old mid answer (Some true) said answers) (subst P (sym e) rest)
+    goes-on tree c close slot slots at id next old mid last ok same has is-at (rw said at answers) (rw e rest)
 
 -- the same where more may follow, which are passed over then
 pub passed-more : (tree : Item) (c : Class) (close : ℕ) (slot : SlotParts) (at : Option ℕ) (id : ℕ) (next : Option ℕ) (old mid : Option RefusedAt) (answer : Option Bool)
@@ -164,9 +146,8 @@ passed-more tree c close slot at id next old mid answer found new many same has 
   where
     on : (slots : List SlotParts) (ok : Bool) (last : Option RefusedAt) → Walked tree c close (again slot ∷ slots) next mid ok last → Walked tree c close (slot ∷ slots) at old ok last
     on slots ok last rest =
-        let P : List SlotParts → Type 0 = λ ss. Walked tree c close ss next mid ok last in
         let e : behind slot slots ≡ again slot ∷ slots = ap (λ b. if b then again slot ∷ slots else slots) many in
-        goes-on tree c close slot slots at id next old mid last ok same has is-at (answer-is c slot.classes (item_at tree id) old mid answer (Some true) said answers) (subst P (sym e) rest)
+        goes-on tree c close slot slots at id next old mid last ok same has is-at (rw said at answers) (rw e rest)
 
     by : (o : Option (Option ℕ)) → Passed tree c close (again slot) next mid o new → Passed tree c close slot at old o new
     by None h = λ slots. on slots false new (h slots)
@@ -175,49 +156,37 @@ passed-more tree c close slot at id next old mid answer found new many same has 
 -- a fault of shape in it stops the walk
 pub passed-stop : (tree : Item) (c : Class) (close : ℕ) (slot : SlotParts) (at : Option ℕ) (id : ℕ) (old mid : Option RefusedAt) (answer : Option Bool) → at ≡ Some id → HasId tree id →
     answer ≡ Some false → Answers c slot.classes (item_at tree id) old answer mid → Passed tree c close slot at old None mid
-passed-stop tree c close slot at id old mid answer same has denied answers = by (answer-is c slot.classes (item_at tree id) old mid answer (Some false) denied answers)
+passed-stop tree c close slot at id old mid answer same has denied answers = by (rw denied at answers)
   where
     by : Answers c slot.classes (item_at tree id) old (Some false) mid → Passed tree c close slot at old None mid
     by (d, (is, (takes_it, judged))) = λ slots.
         let items = here tree id in
-        let P : Option RefusedAt → Type 0 = λ w. Gives w old (BreaksAmong c items) false mid in
-        walked-at tree c close (slot ∷ slots) at (Some id) old mid false same
-        (subst P (sym (fault-taken c close slot slots items d has is takes_it))
-        (gives-stop (first_inside d (first_of items)) (first_in_arguments c close (behind slot slots) (rest_of items)) old (Breaks d (first_of items)) (BreaksAmong c items) mid judged))
+        rw (same, fault-taken c close slot slots items d has is takes_it)
+        (gives-stop (first_inside d (first_of items)) (first_in_arguments c close (behind slot slots) (rest_of items)) old (Breaks d (first_of items)) (BreaksAmong c items) mid judged)
 
 -- an argument that the slot doesn't take, and which must be there
 pub passed-wrong : (tree : Item) (c : Class) (close : ℕ) (slot : SlotParts) (at : Option ℕ) (id : ℕ) (old mid : Option RefusedAt) (answer : Option Bool) (new : Option RefusedAt) →
     slot.required ≡ true → at ≡ Some id → HasId tree id → answer ≡ None → Answers c slot.classes (item_at tree id) old answer mid → new ≡ Some (misplaced (item_at tree id)) →
     Passed tree c close slot at old None new
 passed-wrong tree c close slot at id old mid answer new must same has denied answers fault = λ slots.
-    let not-there = answer-is c slot.classes (item_at tree id) old mid answer None denied answers in
-    walked-at tree c close (slot ∷ slots) at (Some id) old new false same
-    (stops-with (first_in_arguments c close (slot ∷ slots) (here tree id)) old new (BreaksAmong c (here tree id)) (misplaced (item_at tree id))
-    (fault-wrong c close slot slots (here tree id) has not-there.0 must) fault)
+    rw (same, fault-wrong c close slot slots (here tree id) has (rw denied at answers).0 must) fault
 
 -- no argument is left, and one must be there
 pub passed-short : (tree : Item) (c : Class) (close : ℕ) (slot : SlotParts) (at : Option ℕ) (old new : Option RefusedAt) → slot.required ≡ true → at ≡ None → new ≡ Some (missing close) →
     Passed tree c close slot at old None new
-passed-short tree c close slot at old new must same fault = λ slots.
-    walked-at tree c close (slot ∷ slots) at None old new false same
-    (stops-with (first_in_arguments c close (slot ∷ slots) End) old new (BreaksAmong c End) (missing close) (fault-short c close slot slots must) fault)
+passed-short tree c close slot at old new must same fault = λ slots. rw (same, fault-short c close slot slots must) fault
 
 -- an argument that the slot doesn't take, and which needn't be there
 pub passed-skip : (tree : Item) (c : Class) (close : ℕ) (slot : SlotParts) (at : Option ℕ) (id : ℕ) (old mid : Option RefusedAt) (answer : Option Bool) → slot.required ≡ false → at ≡ Some id →
     HasId tree id → answer ≡ None → Answers c slot.classes (item_at tree id) old answer mid → Passed tree c close slot at old (Some (Some id)) mid
 passed-skip tree c close slot at id old mid answer free same has denied answers = λ slots ok last rest.
-    let not-there = answer-is c slot.classes (item_at tree id) old mid answer None denied answers in
-    let P : Option RefusedAt → Type 0 = λ w. Gives w old (BreaksAmong c (here tree id)) ok last in
-    let Q : Option RefusedAt → Type 0 = λ o. Walked tree c close slots (Some id) o ok last in
-    walked-at tree c close (slot ∷ slots) at (Some id) old last ok same
-    (subst P (sym (fault-skip c close slot slots (here tree id) has not-there.0 free)) (subst Q not-there.1 rest))
+    let not-there = rw denied at answers in
+    rw (same, fault-skip c close slot slots (here tree id) has not-there.0 free) (rw not-there.1 at rest)
 
 -- none is left, and none need be there
 pub passed-free : (tree : Item) (c : Class) (close : ℕ) (slot : SlotParts) (at : Option ℕ) (old : Option RefusedAt) → slot.required ≡ false → at ≡ None →
     Passed tree c close slot at old (Some None) old
-passed-free tree c close slot at old free same = λ slots ok last rest.
-    let P : Option RefusedAt → Type 0 = λ w. Gives w old (BreaksAmong c End) ok last in
-    walked-at tree c close (slot ∷ slots) at None old last ok same (subst P (sym (fault-free c close slot slots free)) rest)
+passed-free tree c close slot at old free same = λ slots ok last rest. rw (same, fault-free c close slot slots free) rest
 
 -- ---- a slot for any number
 
@@ -235,18 +204,14 @@ pub reaches-on : (tree : Item) (c : Class) (close : ℕ) (slot : SlotParts) (at 
     (answer : Option Bool) → slot.many ≡ true → again slot ≡ slot → from ≡ Some id → HasId tree id → IsAt tree (rest_of (here tree id)) next → answer ≡ Some true →
     Answers c slot.classes (item_at tree id) mid answer new → Reaches tree c close slot at old from mid → Reaches tree c close slot at old next new
 reaches-on tree c close slot at old from id next mid new answer many more same has is-at said answers so = λ slots ok last rest.
-    let P : List SlotParts → Type 0 = λ ss. Walked tree c close ss next new ok last in
-    let Q : SlotParts → Type 0 = λ s. Walked tree c close (s ∷ slots) next new ok last in
-    let e : behind slot slots ≡ again slot ∷ slots = ap (λ b. if b then again slot ∷ slots else slots) many in
-    so slots ok last
-    (goes-on tree c close slot slots from id next mid new last ok same has is-at (answer-is c slot.classes (item_at tree id) mid new answer (Some true) said answers)
-    (subst P (sym e) (subst Q (sym more) rest)))
+    let e : behind slot slots ≡ slot ∷ slots = ap (λ b. if b then again slot ∷ slots else slots) many ∙ ap (λ s. s ∷ slots) more in
+    so slots ok last (goes-on tree c close slot slots from id next mid new last ok same has is-at (rw said at answers) (rw e rest))
 
 -- ---- the end
 
 pub end-none : (tree : Item) (c : Class) (close : ℕ) (at : Option ℕ) (old : Option RefusedAt) → at ≡ None → Walked tree c close [] at old true old
 unfolding first_in_arguments
-end-none tree c close at old e = walked-at tree c close [] at None old old true e (least-alone old)
+end-none tree c close at old e = rw e (least-alone old)
 
 pub end-first : (c : Class) (close : ℕ) (items : Siblings) → items ≢ End → first_in_arguments c close [] items ≡ Some (misplaced (first_of items))
 unfolding first_inside first_in_arguments
@@ -259,11 +224,7 @@ end-first c close (More item items) some =
 
 pub end-some : (tree : Item) (c : Class) (close : ℕ) (at : Option ℕ) (id : ℕ) (old new : Option RefusedAt) (ok : Bool) → at ≡ Some id → HasId tree id → ok ≡ false →
     new ≡ Some (misplaced (item_at tree id)) → Walked tree c close [] at old ok new
-end-some tree c close at id old new ok e has denied fault =
-    let P : Bool → Type 0 = λ b. Walked tree c close [] at old b new in
-    subst P (sym denied)
-    (walked-at tree c close [] at (Some id) old new false e
-    (stops-with (first_in_arguments c close [] (here tree id)) old new (BreaksAmong c (here tree id)) (misplaced (item_at tree id)) (end-first c close (here tree id) has) fault))
+end-some tree c close at id old new ok e has denied fault = rw (denied, e, end-first c close (here tree id) has) fault
 
 -- ---- two sets of classes
 
@@ -332,10 +293,7 @@ WalkedAll c item old ok new = Gives (first_inside c item) old (BreaksAmong c (ar
 pub walked-all : (tree : Item) (c : Class) (close : ℕ) (slots : List SlotParts) (item : Item) (start : Option ℕ) (old new : Option RefusedAt) (r ok : Bool) → is_of c item ≡ true →
     close_of item ≡ Some close → IsAt tree (arguments item) start → slots_of c ≡ slots → r ≡ ok → Walked tree c close slots start old r new → WalkedAll c item old ok new
 walked-all tree c close slots item start old new r ok e f at same is h =
-    let P : Bool → Type 0 = λ b. Walked tree c close slots start old b new in
-    let Q : List SlotParts → Type 0 = λ ss. Gives (first_in_arguments c close ss (arguments item)) old (BreaksAmong c (arguments item)) ok new in
-    let R : Option RefusedAt → Type 0 = λ w. Gives w old (BreaksAmong c (arguments item)) ok new in
-    subst R (arguments-fault c item close e f) (subst Q (sym same) (ahead-gives tree c close slots (arguments item) start old ok new at (subst P is h)))
+    rw (← arguments-fault c item close e f, same, ← is, ← ahead_at tree (arguments item) start at) h
 
 node-breaks : (c : Class) (item : Item) (close : ℕ) → close_of item ≡ Some close → (f : RefusedAt) → Breaks c item f ↔ (BreaksAmong c (arguments item) f ⊎ Own c item f)
 node-breaks c (leaf kind place raw) close e f = cc

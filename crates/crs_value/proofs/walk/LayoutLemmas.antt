@@ -158,23 +158,11 @@ pub laid-quiet : DenotesOne → Symmetric → Transitive → (tree : Item) (c : 
     IsLeast (RepeatsAny c (ahead tree layout.tail) once) None → IsQuiet c items
 laid-quiet law symmetric transitive tree c items layout cs of axes shared laid at only typed noted unit head ordered fit repeats = record {
   repeats = λ f h. repeats f (repeats-back c once items (ahead tree layout.tail) laid.single f h);
-  systems = subst OfUnits (sym units) none;
+  systems = rw (laid.unit ∙ unit)
+      (systems-none (dimensions_of c) (those c class.CoordinateSystem items) (those c class.Axis items) (the_one tree shared) (item_at tree cs)
+      (laid.system ∙ ap (λ o. those c class.CoordinateSystem (ahead tree o)) at ∙ only) (head (those c class.Axis items) (sym seen.count))
+      (ordered-none law symmetric transitive of axes (those c class.Axis items) seen ordered) (units-none tree (item_at tree cs) of axes (those c class.Axis items) shared typed seen fit));
 }
   where
-    system : those c class.CoordinateSystem items ≡ item_at tree cs ∷ []
-    system = laid.system ∙ ap (λ o. those c class.CoordinateSystem (ahead tree o)) at ∙ only
-
-    units : those c class.AxisUnit items ≡ the_one tree shared
-    units = laid.unit ∙ unit
-
     seen : IsSeen of axes (those c class.Axis items)
     seen = subst (IsSeen of axes) (sym laid.axes) noted
-
-    OfUnits : List Item → Type 0
-    OfUnits us = IsLeast (BadSystems (dimensions_of c) (those c class.CoordinateSystem items) (those c class.Axis items) us) None
-
-    none : OfUnits (the_one tree shared)
-    none =
-        systems-none (dimensions_of c) (those c class.CoordinateSystem items) (those c class.Axis items) (the_one tree shared) (item_at tree cs) system
-        (head (those c class.Axis items) (sym seen.count)) (ordered-none law symmetric transitive of axes (those c class.Axis items) seen ordered)
-        (units-none tree (item_at tree cs) of axes (those c class.Axis items) shared typed seen fit)

@@ -10,16 +10,15 @@ use Rattle.crs_shape.specs.Prelude.{SlotParts, is_class, takes, again}
 use Rattle.crs_value.specs.Judged.{AllLeave, AllPassed, Answers, Leaves, Passed}
 use Rattle.crs_value.specs.Reading.{item_at, is_a, those}
 use Rattle.crs_value.proofs.found.ArgumentLemmas.{ahead_at, those-later}
-use Rattle.crs_value.proofs.walk.JudgedLemmas.{answer-is}
 
 pub leaves-none : (tree : Item) (c : Class) (slot : SlotParts) (at : Option ℕ) → Leaves tree c slot at at
 leaves-none tree c slot at d none = refl
 
 pub leaves-at : (tree : Item) (c : Class) (slot : SlotParts) (at other next : Option ℕ) → at ≡ other → Leaves tree c slot other next → Leaves tree c slot at next
-leaves-at tree c slot at other next e h = let P : Option ℕ → Type 0 = λ o. Leaves tree c slot o next in subst P (sym e) h
+leaves-at tree c slot at other next e h = rw e h
 
 pub leaves-to : (tree : Item) (c : Class) (slot : SlotParts) (at next other : Option ℕ) → next ≡ other → Leaves tree c slot at next → Leaves tree c slot at other
-leaves-to tree c slot at next other e h = let P : Option ℕ → Type 0 = λ o. Leaves tree c slot at o in subst P e h
+leaves-to tree c slot at next other e h = rw e at h
 
 -- a class that a slot takes isn't one that it doesn't take
 other-class : (d e : Class) (slot : SlotParts) → takes slot e ≡ true → takes slot d ≡ false → sameb the_type e d ≡ false
@@ -35,7 +34,7 @@ pub leaves-judged : (tree : Item) (p : Class) (slot : SlotParts) (at : Option �
 leaves-judged tree p slot at id next old mid answer same has is-at said answers =
     leaves-at tree p slot at (Some id) next same
     (λ d none. those-later p d (here tree id) has
-    (judged-other p d slot (item_at tree id) old mid (answer-is p slot.classes (item_at tree id) old mid answer (Some true) said answers) none)
+    (judged-other p d slot (item_at tree id) old mid (rw said at answers) none)
     ∙ ap (those p d) (sym (ahead_at tree (rest_of (here tree id)) next is-at)))
 
 -- one more of them
