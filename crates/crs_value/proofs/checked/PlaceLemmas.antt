@@ -1,5 +1,5 @@
 -- Places: what a text's items hold lies within the text.
-use Rattle.std.proofs.Common.{◌≡◌, ℕ, ◌+◌, ◌≤◌, length, List, [], ◌∷◌, ◌++◌, sym, subst, arith}
+use Rattle.std.proofs.Common.{◌≡◌, ℕ, ◌≤◌, length, List, [], ◌∷◌, ◌++◌, sym, subst, arith}
 use Rattle.crs_text.specs.Prelude.{Token, single, comma, opening, closing, Forms, Fronts, Item, leaf, node, Siblings, End, More, arguments, place_of, tokens, others_tokens, RefusedAt, SpellsNode}
 use Rattle.crs_value.specs.SpellsText.{IsFrom}
 
@@ -13,14 +13,10 @@ abbrev TokensWithin : ℕ → List Token → Type 0
 TokensWithin total [] = Unit {0}
 TokensWithin total (t ∷ ts) = TokenWithin total t × TokensWithin total ts
 
-sum-within : (place more total : ℕ) → place + more ≡ total → place ≤ total
-sum-within place more total e = omega (arith, e)
-
 token-within : (total : ℕ) (t : Token) (left rest : List ℕ) → Forms total t left rest → TokenWithin total t
-token-within total (single kind place raw) left rest forms = sum-within place (length left) total forms.placed
-token-within total comma left rest forms = tt
-token-within total (opening square) left rest forms = tt
-token-within total (closing place square) left rest forms = sum-within place (length left) total forms.placed
+token-within total (single kind place raw) left rest forms = omega (arith, forms.placed)
+token-within total (closing place square) left rest forms = omega (arith, forms.placed)
+token-within total other left rest forms = tt
 
 fronts-within : (total : ℕ) (ts : List Token) (bytes left : List ℕ) → Fronts total bytes ts left → TokensWithin total ts
 fronts-within total [] bytes left h = tt

@@ -1,5 +1,5 @@
 -- Uniqueness: an item reads as at most one value, and of faults one is the first.
-use Rattle.std.proofs.Common.{◌≡◌, ℕ, drop, inl, inr, Option, Some, None, List, [], ◌∷◌, refl, sym, ◌∙◌, ap, IsSome}
+use Rattle.std.proofs.Common.{◌≡◌, ℕ, drop, ⊎_elim, Option, Some, None, List, [], ◌∷◌, refl, sym, ◌∙◌, ap, IsSome}
 use Rattle.crs_text.specs.Prelude.{Item, arguments, raw_of, skip, RefusedAt}
 use Rattle.crs_shape.specs.declared.class.Class.{Class}
 use Rattle.crs_shape.specs.declared.class.Class.TheVariants as class
@@ -156,15 +156,10 @@ usage-one law c item a b p q = λ i. record {
 
 -- a usage says nothing where none of its parts is there
 lacks-says : (c : Class) (item : Item) (u : UsageParts) → LacksUsage c item → ReadsUsage c item u → ¬ (SaysSome u)
-lacks-says c item u lacks reads (inl h) =
-    none-some (ReadsTextOf class.Scope) (those c class.Scope (arguments item)) u.scope lacks.scope reads.scope h
-lacks-says c item u lacks reads (inr (inl h)) =
-    none-some (ReadsTextOf class.Area) (those c class.Area (arguments item)) u.area lacks.area reads.area h
-lacks-says c item u lacks reads (inr (inr (inl h))) =
-    none-some (ReadsBox class.BoundingBox) (those c class.BoundingBox (arguments item)) u.bbox lacks.bbox reads.bbox h
-lacks-says c item u lacks reads (inr (inr (inr h))) =
-    none-some (ReadsExtent class.VerticalExtent) (those c class.VerticalExtent (arguments item)) u.extent lacks.extent
-    reads.extent h
+lacks-says c item u lacks reads =
+    ⊎_elim (none-some (ReadsTextOf class.Scope) _ u.scope lacks.scope reads.scope)
+    (⊎_elim (none-some (ReadsTextOf class.Area) _ u.area lacks.area reads.area)
+    (⊎_elim (none-some (ReadsBox class.BoundingBox) _ u.bbox lacks.bbox reads.bbox) (none-some (ReadsExtent class.VerticalExtent) _ u.extent lacks.extent reads.extent)))
 
 bare-one : DenotesOne → (c : Class) → IsOne (ReadsBare c)
 bare-one law c item None None p q = refl

@@ -8,7 +8,7 @@ use Rattle.crs_value.specs.Break.{IsLeast}
 use Rattle.crs_value.specs.Checks.{Breaks}
 use Rattle.crs_value.specs.ReadsCrs.{ReadsCrs}
 use Rattle.crs_value.specs.Spells.{SpellsCrs}
-use Rattle.crs_value.specs.SpellsText.{Spells, IsFrom, IsRefusalNumber, Refuses}
+use Rattle.crs_value.specs.SpellsText.{Spells, IsRefusalNumber, Refuses}
 use Rattle.crs_value.proofs.found.ArgumentLemmas.{SlotsCount}
 use Rattle.crs_value.proofs.checked.CheckLemmas.{DenotesOne}
 use Rattle.crs_value.proofs.checked.PlaceLemmas.{node-within}
@@ -49,11 +49,6 @@ abbrev pub PlacesBelow : Type 0
 PlacesBelow = (bytes : List ℕ) (item : Item) (place : ℕ) → SpellsNode bytes item → IsPlaceIn item place →
     place < length bytes
 
-shape-number : (n : ℕ) → IsShapeNumber n → IsFrom 11 13 n
-shape-number n (inl e) = (omega (arith, e), omega (arith, e))
-shape-number n (inr (inl e)) = (omega (arith, e), omega (arith, e))
-shape-number n (inr (inr e)) = (omega (arith, e), omega (arith, e))
-
 module _ (numbers : Numbers) (one : DenotesOne) (slots : SlotsCount) (shape : NoFaultIsShape) (formed : NodeIsFormed) where
   broken : (text : List ℕ) (item : Item) (c : Class) → SpellsNode text item → class_of_root item ≡ Some c → IsFree (AtRoot item) → HasLeast (length text) (Breaks c item)
   broken text item c spells e free =
@@ -65,7 +60,7 @@ module _ (numbers : Numbers) (one : DenotesOne) (slots : SlotsCount) (shape : No
   refused-within law within below text fault (inr (item, (spells, inl x))) =
       let h = within item fault x in
       let under = below text item fault.place spells h.1 in
-      (inr (inl (shape-number fault.number h.0)), omega (arith, under))
+      (inr (inl (omega (arith, h.0))), omega (arith, under))
   refused-within law within below text fault (inr (item, (spells, inr x))) =
       let h = (broken text item x.class_read spells x.root x.shaped).0 fault x.first.0 in (inr (inr h.0), h.1)
 

@@ -1,11 +1,10 @@
 -- What an item says, where it is sound and its tokens are well formed: there is a value.
-use Rattle.std.proofs.Common.{◌≡◌, ℕ, inl, inr, drop, Option, Some, None, List, [], ◌∷◌, refl, arith}
+use Rattle.std.proofs.Common.{◌≡◌, ℕ, inl, inr, ⊎_elim, drop, Option, Some, None, List, [], ◌∷◌, refl, arith}
 use Rattle.crs_decimal.specs.Prelude.{Value}
 use Rattle.crs_text.specs.Prelude.{Item, arguments, raw_of, skip}
 use Rattle.crs_shape.specs.declared.class.Class.{Class}
 use Rattle.crs_shape.specs.declared.class.Class.TheVariants as class
 use Rattle.crs_shape.specs.declared.system_type.SystemType.{SystemType}
-use Rattle.crs_shape.specs.declared.unit_kind.UnitKind.{UnitKind}
 use Rattle.crs_shape.specs.Prelude.{SpellsWord, unit_word}
 use Rattle.crs_value.specs.Checks.{IsSound}
 use Rattle.crs_value.specs.Reading.{those, Requires, ReadsFirst, ReadsOptional, ReadsEach, ReadsElse}
@@ -14,7 +13,7 @@ use Rattle.crs_value.specs.ReadsNamed.{ReadsText, ReadsTextOf, single_of, ReadsI
 use Rattle.crs_value.specs.NamedValues.{IdentParts}
 use Rattle.crs_value.specs.Values.{AxisParts, UnitParts, SystemParts, BoxParts, ExtentParts}
 use Rattle.crs_value.proofs.found.ArgumentLemmas.{AllSound, SlotsCount, arguments-sound, each-drop, not-none}
-use Rattle.crs_value.proofs.some.DecisionLemmas.{Decided, Known, decided-word, decided-kinds, type-known, direction-known}
+use Rattle.crs_value.proofs.some.DecisionLemmas.{Known, decided-word, decided-kinds, type-known, direction-known}
 use Rattle.crs_value.proofs.found.IdentLemmas.{code-there}
 use Rattle.crs_value.proofs.sound.KnownWordLemmas.{known-direction, known-type, known-kind}
 use Rattle.crs_value.proofs.found.NodeLemmas.{number-there}
@@ -117,11 +116,9 @@ module _ (numbers : Numbers) (slots : SlotsCount) where
   -- ---- units and systems
 
   kind-some : (c : Class) → IsUnitClass c → (item : Item) → IsSound c item → Exists (ReadsKind item)
-  kind-some c is item g = by (decided-kinds (λ k. SpellsWord (raw_of item) (unit_word k)) (λ k. decided-word (raw_of item) (unit_word k)))
-    where
-      by : Decided ((k : UnitKind) × SpellsWord (raw_of item) (unit_word k)) → Exists (ReadsKind item)
-      by (inl found) = found
-      by (inr fails) = absurd (known-kind c item is g.shaped (λ k h. fails (k, h)))
+  kind-some c is item g =
+      ⊎_elim (λ found. found) (λ fails. absurd (known-kind c item is g.shaped (λ k h. fails (k, h))))
+      (decided-kinds (λ k. SpellsWord (raw_of item) (unit_word k)) (λ k. decided-word (raw_of item) (unit_word k)))
 
   unit-needs : (c : Class) → IsUnitClass c → Requires c class.Text 0 × Requires c class.Number 0
   unit-needs class.LengthUnit is = (omega arith, omega arith)
@@ -150,13 +147,9 @@ module _ (numbers : Numbers) (slots : SlotsCount) where
       ((word : Item) (more : List Item) → those c class.Word (arguments item) ≡ word ∷ more → ¬ ((value : V) → ¬ (R word value))) → Exists (ReadsFirst R (those c class.Word (arguments item)))
   word-some {V = V} R c item g some known sure = by (those c class.Word (arguments item)) refl
     where
-      found : (w : Item) (more : List Item) → those c class.Word (arguments item) ≡ w ∷ more → Known (R w) → Exists (R w)
-      found w more e (inl known) = known
-      found w more e (inr none) = absurd (sure w more e none)
-
       by : (items : List Item) → those c class.Word (arguments item) ≡ items → Exists (ReadsFirst R items)
       by [] e = absurd (not-none slots c class.Word item g.shaped some e)
-      by (w ∷ more) e = found w more e (known w)
+      by (w ∷ more) e = ⊎_elim (λ found. found) (λ none. absurd (sure w more e none)) (known w)
 
   axis-some : (item : Item) → IsSound class.Axis item → Exists (ReadsAxis class.Axis item)
   axis-some item g =

@@ -26,7 +26,8 @@ use Rattle.crs_value.specs.Seen.{the_one, Marks, IsAmong, Differ, AllDiffer, Are
 use Rattle.crs_value.specs.WholeNumbers.{IsWholeOf}
 use Rattle.crs_shape.proofs.DimensionLemmas.{as-whole}
 use Rattle.crs_value.proofs.checked.OwnLemmas.{crs-of-own, own-of-crs}
-use Rattle.crs_value.proofs.found.ArgumentLemmas.{ahead_at, class-is, each-as, each-on, those-first, those-later}
+use Rattle.crs_value.proofs.found.FirstArgumentsLemmas.{one-more}
+use Rattle.crs_value.proofs.found.ArgumentLemmas.{class-is, each-as, each-on}
 use Rattle.crs_value.proofs.checked.CheckLemmas.{DenotesOne}
 use Rattle.crs_value.proofs.checked.LeastLemmas.{either-is, least-beside}
 use Rattle.crs_value.proofs.checked.OrderLemmas.{wrong-none}
@@ -161,29 +162,18 @@ pub climbing-on : (tree : Item) (c : Class) (from : Siblings) (at : Option ℕ) 
     IsAt tree (rest_of (here tree id)) next → ((d : Class) → 1 ≤ rank d → is_a c d (item_at tree id) ≡ true → found ≡ Some d) → Climbs last found now → Climbing c from (ahead tree at) last →
     Climbing c from (ahead tree next) now
 climbing-on tree c from at id next last now found same has is named climbs h = record {
-  unseen = λ d high below. by d high (is_a c d (item_at tree id)) refl (λ is-so. let k = (climbs.1 d high (is_as d high is-so)).1 in absurd (omega (arith, k, below)))
-      (λ e. let u = h.unseen d high (below-last d below) in let q = here-is d in omega (arith, u, q, e));
-  few = λ d high. by d high (is_a c d (item_at tree id)) refl
-      (λ is-so. let k = (climbs.1 d high (is_as d high is-so)).0 in let u = h.unseen d high k in let q = here-is d in let e = ap length (those-first c d (here tree id) has is-so ∙ past d) in omega (arith, u, q, e))
-      (λ e. let u = h.few d high in let q = here-is d in omega (arith, u, q, e));
+  unseen = λ d high below. omega (arith, h.unseen d high, step d high, climbs.0);
+  few = λ d high. ⊎_elim (λ e. omega (arith, h.few d high, e)) (λ k. omega (arith, h.unseen d high k.1.0, k.0)) (step d high);
 }
   where
-    here-is : (d : Class) → length (those c d (ahead tree at)) ≡ length (those c d (here tree id))
-    here-is d = ap (λ o. length (those c d (ahead tree o))) same
-
-    past : (d : Class) → item_at tree id ∷ those c d (rest_of (here tree id)) ≡ item_at tree id ∷ those c d (ahead tree next)
-    past d = ap (λ xs. item_at tree id ∷ those c d xs) (sym (ahead_at tree (rest_of (here tree id)) next is))
-
-    is_as : (d : Class) → 1 ≤ rank d → is_a c d (item_at tree id) ≡ true → is_class d found ≡ true
-    is_as d high is-so = ap (is_class d) (named d high is-so) ∙ true_same the_type d d refl
-
-    below-last : (d : Class) → now < rank d → last < rank d
-    below-last d below = let k = climbs.0 in omega (arith, k, below)
-
-    by : {P : Type 0} → (d : Class) → 1 ≤ rank d → (b : Bool) → is_a c d (item_at tree id) ≡ b → (is_a c d (item_at tree id) ≡ true → P) →
-        (length (those c d (here tree id)) ≡ length (those c d (ahead tree next)) → P) → P
-    by d high true e then-so then-not = then-so e
-    by d high false e then-so then-not = then-not (ap length (those-later c d (here tree id) has e) ∙ ap (λ xs. length (those c d xs)) (sym (ahead_at tree (rest_of (here tree id)) next is)))
+    step : (d : Class) → 1 ≤ rank d → (length (those c d (ahead tree at)) ≡ length (those c d (ahead tree next)))
+        ⊎ ((length (those c d (ahead tree at)) ≡ 1 + length (those c d (ahead tree next))) × ((last < rank d) × (rank d ≤ now)))
+    step d high = by (is_a c d (item_at tree id)) refl
+      where
+        by : (b : Bool) → is_a c d (item_at tree id) ≡ b → (length (those c d (ahead tree at)) ≡ length (those c d (ahead tree next)))
+            ⊎ ((length (those c d (ahead tree at)) ≡ 1 + length (those c d (ahead tree next))) × ((last < rank d) × (rank d ≤ now)))
+        by false e = inl (rw same (omega (arith, one-more false tree c d id next has e is)))
+        by true e = inr (rw same (one-more true tree c d id next has e is), climbs.1 d high (ap (is_class d) (named d high e) ∙ true_same the_type d d refl))
 
 -- ---- a whole CRS
 
