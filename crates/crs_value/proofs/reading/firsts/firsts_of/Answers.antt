@@ -24,8 +24,12 @@ loop-next-preserved c =
     let so = subst P c.in-Some.is c.loop-next.invariant in
     elim c.match-class_in.branch [
       | in-Some-class_in w ↦ rw w.firsts-is
-          (seen-on tree c.args.parent w.in-Some-class_in.class all c.loop-next.firsts w.note.new.self c.in-Some.argument c.next-next.result so (sym w.in-Some-class_in.ensures)
-          (λ i. (class.CoordinateSystem, w.note.ensures.system i) ∷ (class.Axis, w.note.ensures.axis i) ∷ (class.AxisUnit, w.note.ensures.unit i) ∷ (class.Scope, w.note.ensures.scope i) ∷ (class.Area, w.note.ensures.area i) ∷ (class.BoundingBox, w.note.ensures.bbox i) ∷ (class.VerticalExtent, w.note.ensures.extent i) ∷ (class.Remark, w.note.ensures.remark i) ∷ (class.Usage, w.note.ensures.usage i) ∷ (class.Identifier, w.note.ensures.identifier i) ∷ (class.Dynamic, w.note.ensures.dynamic i) ∷ [], w.note.ensures.axes) c.next-next.ensures)
+          (seen-on tree c.args.parent w.in-Some-class_in.class all c.loop-next.firsts w.note.new.self c.in-Some.argument c.next-next.result so (sym w.in-Some-class_in.ensures) (
+            λ i. (class.CoordinateSystem, w.note.ensures.system i) ∷ (class.Axis, w.note.ensures.axis i) ∷ (class.AxisUnit, w.note.ensures.unit i) ∷ (class.Scope, w.note.ensures.scope i)
+                ∷ (class.Area, w.note.ensures.area i) ∷ (class.BoundingBox, w.note.ensures.bbox i) ∷ (class.VerticalExtent, w.note.ensures.extent i) ∷ (class.Remark, w.note.ensures.remark i)
+                ∷ (class.Usage, w.note.ensures.usage i) ∷ (class.Identifier, w.note.ensures.identifier i) ∷ (class.Dynamic, w.note.ensures.dynamic i) ∷ [],
+            w.note.ensures.axes,
+          ) c.next-next.ensures)
       | in_default-class_in w ↦ rw w.firsts-is
           (seen-past tree c.args.parent all c.loop-next.firsts c.in-Some.argument c.next-next.result so (sym c.class_in.ensures ∙ w.in_default-class_in.is) c.next-next.ensures)
     ]
