@@ -1,5 +1,5 @@
 -- What is seen of an axis: its direction, its order and its unit.
-use Rattle.std.proofs.Common.{◌≡◌, ℕ, ◌≤◌, length, true, false, Option, Some, None, List, ◌∷◌, IsTrue, refl, sym, ◌∙◌, ap, subst, arith}
+use Rattle.std.proofs.Common.{◌≡◌, ℕ, ◌≤◌, length, true, false, Option, Some, None, ◌∷◌, IsTrue, refl, sym, ◌∙◌, ap, arith}
 use Rattle.crs_text.specs.Prelude.{Item, arguments, rest_of, here, IsAt}
 use Rattle.crs_shape.specs.declared.class.Class.{Class}
 use Rattle.crs_shape.specs.declared.class.Class.TheVariants as class
@@ -7,7 +7,7 @@ use Rattle.crs_shape.specs.Prelude.{is_bounded, most, Shaped, class_in, slots_of
 use Rattle.crs_value.specs.declared.judging.axes.Seen.{Seen}
 use Rattle.crs_value.specs.BadOrder.{orders_in}
 use Rattle.crs_value.specs.BadUnit.{units_in}
-use Rattle.crs_value.specs.Reading.{item_at, is_a, is_same, those, IsFound, ReadsFirst}
+use Rattle.crs_value.specs.Reading.{item_at, is_a, is_same, those, IsFound}
 use Rattle.crs_value.specs.Reads.{ReadsDirection}
 use Rattle.crs_value.specs.Seen.{the_one, Has, IsBehindName, IsShaped}
 use Rattle.crs_value.proofs.found.ArgumentLemmas.{SlotsBound, arguments-few, nothing, first-shaped, class-is, those-first, those-later}

@@ -13,7 +13,7 @@ use Rattle.crs_value.specs.declared.judging.quiet.Layout.{Layout}
 use Rattle.crs_value.specs.declared.judging.axes.Axes.{Axes}
 use Rattle.crs_value.specs.declared.judging.axes.Seen.{Seen}
 use Rattle.crs_value.specs.Break.{IsLeast}
-use Rattle.crs_value.specs.Checks.{once, BadSystems, BreaksAmong, OfHead}
+use Rattle.crs_value.specs.Checks.{once, BreaksAmong, OfHead}
 use Rattle.crs_value.specs.FoundArguments.{AllShaped}
 use Rattle.crs_value.specs.Judged.{AllLeave, Gives, Leaves, Walked}
 use Rattle.crs_value.specs.Reading.{Each, item_at, is_a, ahead, those, Holds}
