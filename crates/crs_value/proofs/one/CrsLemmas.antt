@@ -3,11 +3,10 @@ use Rattle.std.proofs.Common.{◌≡◌, Some, None, List, [], ◌∷◌, refl, 
 use Rattle.crs_text.specs.Prelude.{Item, arguments}
 use Rattle.crs_shape.specs.declared.class.Class.{Class}
 use Rattle.crs_shape.specs.declared.class.Class.TheVariants as class
-use Rattle.crs_value.specs.declared.values.compound.Horizontal.{Horizontal}
 use Rattle.crs_value.specs.declared.values.compound.Horizontal.TheVariants as horizontals
 use Rattle.crs_value.specs.declared.values.crs.Crs.TheVariants as crs
 use Rattle.crs_value.specs.declared.values.frame.Frame.TheVariants as frames
-use Rattle.crs_value.specs.Reading.{those, ReadsFirst, ReadsElse}
+use Rattle.crs_value.specs.Reading.{those, ReadsElse, ReadsOne, ReadsOneElse}
 use Rattle.crs_value.specs.Reads.{ReadsNumberOf, ReadsUnit, ReadsMeridian}
 use Rattle.crs_value.specs.ReadsNamed.{ReadsNamed}
 use Rattle.crs_value.specs.ReadsConversion.{ReadsAsUnit, ReadsUnitOf, parameter_units, ReadsParameter, ReadsConversion}
@@ -22,6 +21,14 @@ one-else : {V : Type 0} (R : Item → V → Type 0) (Other : V → Type 0) → I
 one-else R Other one other [] a b p q = other a b p q
 one-else R Other one other (i ∷ items) a b p q = one i a b p q
 
+-- an argument of this class, and where there is none what the rest says
+one-or : {V : Type 0} (R : Class → Item → V → Type 0) (d : Class) (Other : Class → Item → V → Type 0) → IsOne (R d) → ((c : Class) → IsOne (Other c)) → (c : Class) →
+    IsOne (ReadsOneElse R d Other c)
+one-or R d Other one other c item a b p q = one-else (R d) (Other c item) one (other c item) (those c d (arguments item)) a b p q
+
+one-of : {V : Type 0} (R : Class → Item → V → Type 0) (d : Class) → IsOne (R d) → (c : Class) → IsOne (ReadsOne R d c)
+one-of R d one c item a b p q = first-one (R d) one (those c d (arguments item)) a b p q
+
 as_unit-one : DenotesOne → (d : Class) → IsOne (ReadsAsUnit d)
 as_unit-one law d item None b p q = absurd p
 as_unit-one law d item (Some a) None p q = absurd q
@@ -31,8 +38,7 @@ unit_of-one : DenotesOne → (ds : List Class) (c : Class) → IsOne (ReadsUnitO
 unit_of-one law [] c item None None p q = refl
 unit_of-one law [] c item None (Some b) p q = absurd q
 unit_of-one law [] c item (Some a) b p q = absurd p
-unit_of-one law (d ∷ ds) c item a b p q =
-    one-else (ReadsAsUnit d) (ReadsUnitOf ds c item) (as_unit-one law d) (unit_of-one law ds c item) (those c d (arguments item)) a b p q
+unit_of-one law (d ∷ ds) c item a b p q = one-or ReadsAsUnit d (ReadsUnitOf ds) (as_unit-one law d) (unit_of-one law ds) c item a b p q
 
 pub parameter-one : DenotesOne → (c : Class) → IsOne (ReadsParameter c)
 parameter-one law c item a b p q = λ i. record {
@@ -45,7 +51,7 @@ parameter-one law c item a b p q = λ i. record {
 pub conversion-one : DenotesOne → (c : Class) → IsOne (ReadsConversion c)
 conversion-one law c item a b p q = λ i. record {
   name = text-of-one c item a.name b.name p.name q.name i;
-  method = first-one (ReadsNamed class.Method) (named-one class.Method) (those c class.Method (arguments item)) a.method b.method p.method q.method i;
+  method = one-of ReadsNamed class.Method (named-one class.Method) c item a.method b.method p.method q.method i;
   parameters = one-each (ReadsParameter class.Parameter) (parameter-one law class.Parameter) (those c class.Parameter (arguments item)) a.parameters b.parameters p.parameters q.parameters i;
   identifiers = identifiers-one c item a.identifiers b.identifiers p.identifiers q.identifiers i;
 }
@@ -61,13 +67,11 @@ as_ensemble-one law d item (frames.Ensemble a) (frames.Datum b) p q = absurd q
 as_ensemble-one law d item (frames.Datum a) b p q = absurd p
 
 frame-one : DenotesOne → (d e c : Class) → IsOne (ReadsFrame d e c)
-frame-one law d e c item a b p q =
-    one-else (ReadsAsDatum d) (ReadsFirst (ReadsAsEnsemble e) (those c e (arguments item))) (as_datum-one law d)
-    (first-one (ReadsAsEnsemble e) (as_ensemble-one law e) (those c e (arguments item))) (those c d (arguments item)) a b p q
+frame-one law d e = one-or ReadsAsDatum d (ReadsOne ReadsAsEnsemble e) (as_datum-one law d) (one-of ReadsAsEnsemble e (as_ensemble-one law e))
 
 pub dynamic-one : DenotesOne → (c : Class) → IsOne (ReadsDynamic c)
 dynamic-one law c item a b p q = λ i. record {
-  epoch = first-one (ReadsNumberOf class.FrameEpoch) (number-of-one law class.FrameEpoch) (those c class.FrameEpoch (arguments item)) a.epoch b.epoch p.epoch q.epoch i;
+  epoch = one-of ReadsNumberOf class.FrameEpoch (number-of-one law class.FrameEpoch) c item a.epoch b.epoch p.epoch q.epoch i;
   model = one-optional (ReadsNamed class.DeformationModel) (named-one class.DeformationModel) (those c class.DeformationModel (arguments item)) a.model b.model p.model q.model i;
 }
 
@@ -94,8 +98,8 @@ base-one law c item a b p q = λ i. record {
 pub projected-one : DenotesOne → (c : Class) → IsOne (ReadsProjected c)
 projected-one law c item a b p q = λ i. record {
   name = text-of-one c item a.name b.name p.name q.name i;
-  base = first-one (ReadsBase class.BaseCrs) (base-one law class.BaseCrs) (those c class.BaseCrs (arguments item)) a.base b.base p.base q.base i;
-  conversion = first-one (ReadsConversion class.Conversion) (conversion-one law class.Conversion) (those c class.Conversion (arguments item)) a.conversion b.conversion p.conversion q.conversion i;
+  base = one-of ReadsBase class.BaseCrs (base-one law class.BaseCrs) c item a.base b.base p.base q.base i;
+  conversion = one-of ReadsConversion class.Conversion (conversion-one law class.Conversion) c item a.conversion b.conversion p.conversion q.conversion i;
   system = system-one law c item a.system b.system p.system q.system i;
   tail = tail-one law c item a.tail b.tail p.tail q.tail i;
 }
@@ -117,26 +121,16 @@ as_horizontal-one law c item (horizontals.Projected a) (horizontals.Geodetic b) 
 as_horizontal-one law c item (horizontals.Projected a) (horizontals.Projected b) p q = ap (λ x. horizontals.Projected x) (projected-one law c item a b p.1 q.1)
 
 horizontal-one : DenotesOne → (c : Class) → IsOne (ReadsHorizontal c)
-horizontal-one law c item a b p q =
-    one-else (ReadsAsHorizontal class.GeodeticCrs) Geographic (as_horizontal-one law class.GeodeticCrs) geographic (those c class.GeodeticCrs (arguments item)) a b p q
-  where
-    Projected : Horizontal → Type 0
-    Projected value = ReadsFirst (ReadsAsHorizontal class.ProjectedCrs) (those c class.ProjectedCrs (arguments item)) value
-
-    Geographic : Horizontal → Type 0
-    Geographic value = ReadsElse (ReadsAsHorizontal class.GeographicCrs) (those c class.GeographicCrs (arguments item)) Projected value
-
-    geographic : (x y : Horizontal) → Geographic x → Geographic y → x ≡ y
-    geographic x y r t =
-        one-else (ReadsAsHorizontal class.GeographicCrs) Projected (as_horizontal-one law class.GeographicCrs)
-        (first-one (ReadsAsHorizontal class.ProjectedCrs) (as_horizontal-one law class.ProjectedCrs) (those c class.ProjectedCrs (arguments item)))
-        (those c class.GeographicCrs (arguments item)) x y r t
+horizontal-one law =
+    one-or ReadsAsHorizontal class.GeodeticCrs (ReadsOneElse ReadsAsHorizontal class.GeographicCrs (ReadsOne ReadsAsHorizontal class.ProjectedCrs)) (as_horizontal-one law class.GeodeticCrs)
+    (one-or ReadsAsHorizontal class.GeographicCrs (ReadsOne ReadsAsHorizontal class.ProjectedCrs) (as_horizontal-one law class.GeographicCrs)
+    (one-of ReadsAsHorizontal class.ProjectedCrs (as_horizontal-one law class.ProjectedCrs)))
 
 pub compound-one : DenotesOne → (c : Class) → IsOne (ReadsCompound c)
 compound-one law c item a b p q = λ i. record {
   name = text-of-one c item a.name b.name p.name q.name i;
   horizontal = horizontal-one law c item a.horizontal b.horizontal p.horizontal q.horizontal i;
-  vertical = first-one (ReadsVertical class.VerticalCrs) (vertical-one law class.VerticalCrs) (those c class.VerticalCrs (arguments item)) a.vertical b.vertical p.vertical q.vertical i;
+  vertical = one-of ReadsVertical class.VerticalCrs (vertical-one law class.VerticalCrs) c item a.vertical b.vertical p.vertical q.vertical i;
   tail = tail-one law c item a.tail b.tail p.tail q.tail i;
 }
 
