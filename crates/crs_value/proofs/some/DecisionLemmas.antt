@@ -16,6 +16,7 @@ use Rattle.crs_shape.specs.declared.unit_kind.UnitKind.TheVariants as kinds
 use Rattle.crs_shape.specs.Prelude.{IsOneOf, SpellsWord, direction_word, every_direction, every_type, system_word}
 use Rattle.crs_value.specs.BadValue.{IsAboveZero}
 use Rattle.crs_value.specs.BadOrder.{IsPosition}
+use Rattle.crs_value.specs.Reading.{OneIs}
 use Rattle.crs_value.specs.Sound.{Each, Suits}
 use Rattle.crs_shape.proofs.WordLemmas.{direction_place, direction_placed, direction_within, kind_place, kind_placed, kind_within, kinds_list, type_place, type_placed, type_within}
 
@@ -141,9 +142,12 @@ decided-value a b =
     (λ e. (ap (λ v. v.negative) e, (ap (λ v. v.digits) e, ap (λ v. v.power) e)))
     (decided-both (decided-bool a.negative b.negative) (decided-both (cases_eq a.digits b.digits) (decided-by _ (Decides-int_eq a.power b.power))))
 
+pub decided-one : {V : Type 0} (P : V → Type 0) → ((v : V) → Decided (P v)) → (vs : List V) → Decided (OneIs P vs)
+decided-one P dec [] = inr (λ h. h)
+decided-one P dec (v ∷ vs) = decided-either (dec v) (decided-one P dec vs)
+
 pub decided-one-of : (value : Value) (ns : List ℕ) → Decided (IsOneOf value ns)
-decided-one-of value [] = inr (λ h. h)
-decided-one-of value (n ∷ ns) = decided-either (decided-same (exact value) (whole_number n)) (decided-one-of value ns)
+decided-one-of value ns = decided-one (λ n. SameNumber (exact value) (whole_number n)) (λ n. decided-same (exact value) (whole_number n)) ns
 
 position-more : (n : ℕ) (value : Value) → IsPosition n value ⊎ SameNumber (exact value) (whole_number (suc n)) → IsPosition (suc n) value
 position-more n value (inl h) = (h.0, (h.1.0, omega (arith, h.1.1), h.1.2))

@@ -11,7 +11,7 @@ use Rattle.crs_shape.specs.declared.unit_kind.UnitKind.{UnitKind}
 use Rattle.crs_shape.specs.declared.unit_kind.UnitKind.TheVariants as kinds
 use Rattle.crs_value.specs.BadValue.{IsAboveZero, NotAbove, IsNegative}
 use Rattle.crs_value.specs.AxisCount.{AxisCount}
-use Rattle.crs_value.specs.BadOrder.{orders_in, SomeHasOrder, AllHaveOrder, ReadsOrder, IsPosition, HasThis, OneHas, IsBadOrder, BadOrders, BadOrder}
+use Rattle.crs_value.specs.BadOrder.{orders_in, ReadsOrder, IsPosition, HasThis, OneHas, IsBadOrder, BadOrders, BadOrder}
 use Rattle.crs_value.specs.BadComponent.{IsNotEllipsoidal, IsNotPlane, IsNotHorizontal, BadComponent, BadComponents}
 use Rattle.crs_value.specs.BadSystem.{BadSystem}
 use Rattle.crs_value.specs.BadUnit.{Asks, Fits, units_in, Misfits, BadOwnUnit, HasOwnUnit, AllAsk, BadUnit}
@@ -23,7 +23,7 @@ use Rattle.crs_value.specs.Least.{lesser}
 use Rattle.crs_value.specs.Reading.{Each, those, ReadsFirst}
 use Rattle.crs_value.specs.Reads.{HasType, HasDimension, ReadsNumber, ReadsType, ReadsDirection}
 use Rattle.crs_value.proofs.checked.CheckLemmas.{DenotesOne, number-one}
-use Rattle.crs_value.proofs.some.DecisionLemmas.{Decided, Known, decided-as, decided-both, decided-either, decided-not, decided-some, decided-this, decided-word, type-known, direction-known, decided-kind, decided-kinds, decided-none, whether-ellipsoidal, decided-bool, decided-same, decided-value, decided-one-of, decided-position, decided-above}
+use Rattle.crs_value.proofs.some.DecisionLemmas.{Decided, Known, decided-as, decided-both, decided-either, decided-not, decided-some, decided-this, decided-word, type-known, direction-known, decided-kind, decided-kinds, decided-none, whether-ellipsoidal, decided-bool, decided-same, decided-value, decided-one, decided-one-of, decided-each, decided-position, decided-above}
 use Rattle.crs_value.specs.SpellsText.{IsFrom}
 use Rattle.crs_value.proofs.checked.LeastLemmas.{least-same, least-either, least-one, least-is}
 use Rattle.crs_value.proofs.checked.PlaceLemmas.{Within, AreWithin, Fine, fine-as, place-within, arguments-within}
@@ -141,15 +141,15 @@ module _ (total : ℕ) (numbers : Numbers) (one : DenotesOne) where
       decided-this (λ v. ReadsFirst ReadsOrder (orders_in axis) v) value (λ a b p q. first-one ReadsOrder (order-one one) (orders_in axis) a b p q)
       (first-known ReadsOrder (Ready total class.Order) order-number (orders_in axis) (those-ready total class.Axis class.Order axis h)) (λ v. decided-value v value)
 
-  decided-one : (value : Value) (axes : List Item) → AllReady total class.Axis axes → Decided (OneHas value axes)
-  decided-one value [] h = inr (λ x. x)
-  decided-one value (axis ∷ axes) h = decided-either (decided-has value axis h.0) (decided-one value axes h.1)
+  decided-before : (value : Value) (axes : List Item) → AllReady total class.Axis axes → Decided (OneHas value axes)
+  decided-before value [] h = inr (λ x. x)
+  decided-before value (axis ∷ axes) h = decided-either (decided-has value axis h.0) (decided-before value axes h.1)
 
   order-least : (n : ℕ) (before : List Item) → AllReady total class.Axis before → (order : Item) → Ready total class.Order order → HasLeast total (IsBadOrder n before order)
   order-least n before h order r =
       at-least 26 order (omega arith) r.within
       (decided-some (ReadsOrder order) (λ v. ¬ (IsPosition n v) ⊎ OneHas v before) (order-one one order) (order-number order r)
-      (λ v x. decided-either (decided-not (decided-position n v)) (decided-one v before h)))
+      (λ v x. decided-either (decided-not (decided-position n v)) (decided-before v before h)))
 
   orders-least : (n : ℕ) (before axes : List Item) → AllReady total class.Axis before → AllReady total class.Axis axes → HasLeast total (BadOrders n before axes)
   orders-least n before [] h g = nothing (λ f x. x)
@@ -157,18 +157,10 @@ module _ (total : ℕ) (numbers : Numbers) (one : DenotesOne) where
       either-least (any-least (order-least n before h) (orders_in axis) (those-ready total class.Axis class.Order axis g.0))
       (orders-least n (before ++ axis ∷ []) axes (each-on (Ready total class.Axis) before axis h g.0) g.1)
 
-  decided-some-order : (axes : List Item) → Decided (SomeHasOrder axes)
-  decided-some-order [] = inr (λ x. x)
-  decided-some-order (axis ∷ axes) = decided-either (decided-not (decided-none (orders_in axis))) (decided-some-order axes)
-
-  decided-all-order : (axes : List Item) → Decided (AllHaveOrder axes)
-  decided-all-order [] = inl tt
-  decided-all-order (axis ∷ axes) = decided-both (decided-not (decided-none (orders_in axis))) (decided-all-order axes)
-
   bad-order-least : (axes : List Item) → AllReady total class.Axis axes → HasLeast total (BadOrder axes)
   bad-order-least axes h =
-      either-least (under-least (decided-some-order axes) (any-least (λ i r. at-least 26 i (omega arith) r.within (decided-none (orders_in i))) axes h))
-      (under-least (decided-all-order axes) (orders-least (length axes) [] axes tt h))
+      either-least (under-least (decided-one (λ a. orders_in a ≢ []) (λ a. decided-not (decided-none (orders_in a))) axes) (any-least (λ i r. at-least 26 i (omega arith) r.within (decided-none (orders_in i))) axes h))
+      (under-least (decided-each (λ a. orders_in a ≢ []) (λ a. decided-not (decided-none (orders_in a))) axes) (orders-least (length axes) [] axes tt h))
 
   -- ---- units
 
