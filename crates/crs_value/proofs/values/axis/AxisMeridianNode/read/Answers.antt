@@ -1,11 +1,6 @@
-use Rattle.crs_value.specs.Cursor.{item}
+use Rattle.std.proofs.Common.{rules}
 use Rattle.crs_value.proofs.sound.AxisLemmas.{axis-meridian-tells}
 use Rattle.crs_value.proofs.values.axis.AxisMeridianNode.read.Goals as goal
 
 pub invariant_of-result : goal.invariant_of-result
-invariant_of-result c =
-    axis-meridian-tells c.args.node.now.class (item c.args.node.now) _ c.requires.sound
-    (record {
-      longitude = c.number.ensures;
-      unit = c.in_ok-one.ensures;
-    })
+invariant_of-result c = axis-meridian-tells _ _ _ c.requires.sound (search rules)

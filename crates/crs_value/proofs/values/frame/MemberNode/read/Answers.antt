@@ -1,11 +1,6 @@
-use Rattle.crs_value.specs.Cursor.{item}
+use Rattle.std.proofs.Common.{rules}
 use Rattle.crs_value.proofs.sound.PartLemmas.{named-tells}
 use Rattle.crs_value.proofs.values.frame.MemberNode.read.Goals as goal
 
 pub invariant_of-result : goal.invariant_of-result
-invariant_of-result c =
-    named-tells c.args.node.now.class (item c.args.node.now) _ c.requires.sound
-    (record {
-      name = c.text.ensures;
-      identifiers = c.in_ok-many.ensures;
-    })
+invariant_of-result c = named-tells _ _ _ c.requires.sound (search rules)

@@ -1,5 +1,5 @@
+use Rattle.std.proofs.Common.{rules}
 use Rattle.crs_shape.specs.declared.class.Class.TheVariants as class
-use Rattle.crs_value.specs.Cursor.{item}
 use Rattle.crs_value.specs.ReadsCrs.{ReadsProjected}
 use Rattle.crs_value.specs.SoundSingle.{IsProjected}
 use Rattle.crs_value.proofs.sound.PartLemmas.{tells-as}
@@ -7,12 +7,4 @@ use Rattle.crs_value.proofs.sound.CrsLemmas.{projected-tells}
 use Rattle.crs_value.proofs.values.projected.ProjectedNode.read.Goals as goal
 
 pub invariant_of-result : goal.invariant_of-result
-invariant_of-result c =
-    tells-as ReadsProjected IsProjected c.args.node.now.class class.ProjectedCrs c.requires.suits (projected-tells c.slots_count.ensures.least c.slots_count.ensures.most) (item c.args.node.now) _ c.requires.sound
-    (record {
-      name = c.text.ensures;
-      base = c.in_ok-one.ensures;
-      conversion = c.in_ok-one-2.ensures;
-      system = c.in_ok-read_system.ensures;
-      tail = c.in_ok-read_tail.ensures;
-    })
+invariant_of-result c = tells-as ReadsProjected IsProjected _ class.ProjectedCrs c.requires.suits (projected-tells c.slots_count.ensures.least c.slots_count.ensures.most) _ _ c.requires.sound (search rules)
