@@ -10,7 +10,7 @@ use Rattle.crs_value.specs.declared.values.crs.Crs.TheVariants as crs
 use Rattle.crs_value.specs.declared.values.frame.Frame.TheVariants as frames
 use Rattle.crs_value.specs.Checks.{IsSound}
 use Rattle.crs_value.specs.FoundArguments.{IsAmong}
-use Rattle.crs_value.specs.Reading.{those, Requires, RequiresOneOf, ReadsFirst, ReadsElse}
+use Rattle.crs_value.specs.Reading.{Each, those, Requires, RequiresOneOf, ReadsFirst, ReadsElse}
 use Rattle.crs_value.specs.Reads.{IsUnitClass, ReadsNumberOf, ReadsUnit, ReadsMeridian}
 use Rattle.crs_value.specs.ReadsConversion.{ReadsAsUnit, ReadsUnitOf, parameter_units, ReadsParameter, ReadsConversion}
 use Rattle.crs_value.specs.ReadsDynamic.{ReadsDynamic}
@@ -20,7 +20,6 @@ use Rattle.crs_value.proofs.found.ArgumentLemmas.{SlotsCount, arguments-sound}
 use Rattle.crs_value.proofs.found.FrameLemmas.{one-there}
 use Rattle.crs_value.proofs.some.FormedLemmas.{Numbers}
 use Rattle.crs_value.proofs.some.ValueLemmas.{Exists, first-of, else-of, text-some, number-of-some, identifiers-some, named-some, unit-some, first-some, optional-some, each-some, system-some, meridian-some, datum-some, ensemble-some, tail-some}
-use Rattle.crs_value.proofs.sound.ConversionLemmas.{AreUnitClasses}
 
 module _ (numbers : Numbers) (slots : SlotsCount) where
   -- ---- conversions
@@ -28,7 +27,7 @@ module _ (numbers : Numbers) (slots : SlotsCount) where
   as_unit-some : (d : Class) → IsUnitClass d → (item : Item) → IsSound d item → Exists (ReadsAsUnit d item)
   as_unit-some d is item g = let unit = unit-some numbers slots d is item g in (Some unit.0, unit.1)
 
-  unit_of-some : (ds : List Class) → AreUnitClasses ds → (c : Class) (item : Item) → IsSound c item → Exists (ReadsUnitOf ds c item)
+  unit_of-some : (ds : List Class) → Each IsUnitClass ds → (c : Class) (item : Item) → IsSound c item → Exists (ReadsUnitOf ds c item)
   unit_of-some [] are c item g = (None, tt)
   unit_of-some (d ∷ ds) are c item g =
       else-of (ReadsAsUnit d) (ReadsUnitOf ds c item) d (as_unit-some d are.0) (those c d (arguments item)) (arguments-sound c d item g) (λ e. unit_of-some ds are.1 c item g)

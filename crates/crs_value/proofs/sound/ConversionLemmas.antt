@@ -1,36 +1,26 @@
 -- What sound conversions say is sound.
-use Rattle.std.proofs.Common.{Option, Some, None, List, [], ◌∷◌, IfSome}
-use Rattle.crs_text.specs.Prelude.{Item, arguments}
+use Rattle.std.proofs.Common.{Some, None, List, [], ◌∷◌, IfSome}
 use Rattle.crs_shape.specs.declared.class.Class.{Class}
 use Rattle.crs_shape.specs.declared.class.Class.TheVariants as class
-use Rattle.crs_value.specs.Checks.{IsSound}
-use Rattle.crs_value.specs.Reading.{those, ReadsElse}
+use Rattle.crs_value.specs.Reading.{Each}
 use Rattle.crs_value.specs.Reads.{IsUnitClass}
 use Rattle.crs_value.specs.ReadsConversion.{ReadsAsUnit, ReadsUnitOf, ReadsParameter, ReadsConversion}
 use Rattle.crs_value.specs.ReadsNamed.{ReadsNamed}
 use Rattle.crs_value.specs.Sound.{IsNamed, IsUnit}
 use Rattle.crs_value.specs.SoundConversion.{IsParameter, IsConversion}
-use Rattle.crs_value.specs.Values.{UnitParts}
-use Rattle.crs_value.proofs.found.ArgumentLemmas.{AllSound, arguments-sound}
-use Rattle.crs_value.proofs.sound.PartLemmas.{Tells, first-tells, each-tells, text-of-tells, number-of-tells, identifiers-tell, named-tells, unit-tells}
+use Rattle.crs_value.proofs.sound.PartLemmas.{Tells, first-tells, each-tells, else-tells, text-of-tells, number-of-tells, identifiers-tell, named-tells, unit-tells}
 
 -- ---- the unit of a parameter
 
-abbrev pub AreUnitClasses : List Class → Type 0
-AreUnitClasses [] = Unit {0}
-AreUnitClasses (d ∷ ds) = IsUnitClass d × AreUnitClasses ds
+as-unit-tells : (d : Class) → IsUnitClass d → Tells d (ReadsAsUnit d) (λ value. IfSome value IsUnit)
+as-unit-tells d is item None sound reads = tt
+as-unit-tells d is item (Some unit) sound reads = unit-tells d is item unit sound reads
 
-else-unit : (d : Class) → IsUnitClass d → (items : List Item) (Otherwise : Option UnitParts → Type 0) (value : Option UnitParts) → AllSound d items →
-    (Otherwise value → IfSome value IsUnit) → ReadsElse (ReadsAsUnit d) items Otherwise value → IfSome value IsUnit
-else-unit d is [] Otherwise value sound other reads = other reads
-else-unit d is (item ∷ items) Otherwise None sound other reads = absurd reads
-else-unit d is (item ∷ items) Otherwise (Some unit) sound other reads = unit-tells d is item unit sound.0 reads
-
-unit-of-tells : (ds : List Class) → AreUnitClasses ds → (c : Class) (item : Item) (value : Option UnitParts) → IsSound c item → ReadsUnitOf ds c item value → IfSome value IsUnit
-unit-of-tells [] are c item None sound reads = tt
+unit-of-tells : (ds : List Class) → Each IsUnitClass ds → (c : Class) → Tells c (ReadsUnitOf ds c) (λ value. IfSome value IsUnit)
+unit-of-tells ds are c item None sound reads = tt
 unit-of-tells [] are c item (Some unit) sound reads = absurd reads
-unit-of-tells (d ∷ ds) are c item value sound reads =
-    else-unit d are.0 (those c d (arguments item)) (ReadsUnitOf ds c item) value (arguments-sound c d item sound) (unit-of-tells ds are.1 c item value sound) reads
+unit-of-tells (d ∷ ds) are c item (Some unit) sound reads =
+    else-tells (ReadsAsUnit d) (ReadsUnitOf ds c item) (λ value. IfSome value IsUnit) c d (as-unit-tells d are.0) item (Some unit) (unit-of-tells ds are.1 c item (Some unit) sound) sound reads
 
 pub parameter-tells : (c : Class) → Tells c (ReadsParameter c) IsParameter
 parameter-tells c item value sound reads = record {

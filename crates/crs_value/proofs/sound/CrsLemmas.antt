@@ -1,7 +1,7 @@
 -- What sound geodetic, projected and vertical CRSs say is sound.
-use Rattle.std.proofs.Common.{◌≡◌, IsTrue, inl, inr, Option, Some, List, [], ◌∷◌, refl, sym, subst, arith, IsSome, IsNone}
+use Rattle.std.proofs.Common.{◌≡◌, IsTrue, inl, inr, Option, refl, arith, IsSome, IsNone}
 use Rattle.crs_decimal.specs.Prelude.{Value}
-use Rattle.crs_text.specs.Prelude.{Item, arguments, RefusedAt}
+use Rattle.crs_text.specs.Prelude.{Item, arguments}
 use Rattle.crs_shape.specs.declared.class.Class.{Class}
 use Rattle.crs_shape.specs.declared.class.Class.TheVariants as class
 use Rattle.crs_shape.specs.declared.system_type.SystemType.{SystemType}
@@ -10,43 +10,38 @@ use Rattle.crs_shape.specs.declared.unit_kind.UnitKind.TheVariants as kinds
 use Rattle.crs_shape.specs.Prelude.{most, is_bounded, slots_of, IsOneOf, dimensions_of}
 use Rattle.crs_value.specs.declared.values.frame.Frame.{Frame}
 use Rattle.crs_value.specs.declared.values.frame.Frame.TheVariants as frames
-use Rattle.crs_value.specs.BadDynamic.{BadDynamic}
 use Rattle.crs_value.specs.Checks.{HasSystem, IsSound, Own}
-use Rattle.crs_value.specs.Reading.{is_same, those, Requires, ReadsFirst, ReadsOptional, ReadsElse}
+use Rattle.crs_value.specs.Reading.{is_same, those, Requires, ReadsOptional, ReadsOne}
 use Rattle.crs_value.specs.Reads.{ReadsUnit, ReadsEllipsoid, ReadsMeridian, ReadsDatum, ReadsEnsemble, ReadsSystem}
 use Rattle.crs_value.specs.ReadsConversion.{ReadsConversion}
 use Rattle.crs_value.specs.ReadsNamed.{ReadsNamed}
-use Rattle.crs_value.specs.ReadsCrs.{ReadsAsDatum, ReadsAsEnsemble, ReadsGeodeticFrame, ReadsVerticalFrame, IsGeodeticClass, ReadsGeodetic, ReadsBase, ReadsProjected, ReadsVertical}
+use Rattle.crs_value.specs.ReadsCrs.{ReadsAsDatum, ReadsAsEnsemble, ReadsFrame, ReadsGeodeticFrame, IsGeodeticClass, ReadsGeodetic, ReadsBase, ReadsProjected, ReadsVertical}
 use Rattle.crs_value.specs.Sound.{IsUnitOf, IsNamed}
 use Rattle.crs_value.specs.SoundConversion.{IsConversion}
 use Rattle.crs_value.specs.SoundFrames.{IsDatum, IsEnsemble, IsMeridian}
 use Rattle.crs_value.specs.SoundSingle.{IsGeodeticFrame, IsVerticalFrame, IsGeodetic, IsBase, IsProjected, IsVertical}
-use Rattle.crs_value.specs.Values.{SystemParts, EllipsoidParts, DatumParts, EnsembleParts}
+use Rattle.crs_value.specs.Values.{SystemParts, EllipsoidParts}
 use Rattle.crs_value.proofs.checked.OwnLemmas.{own-of-crs}
-use Rattle.crs_value.proofs.found.ArgumentLemmas.{SlotsBound, AllSound, SlotsCount, arguments-sound, not-none}
+use Rattle.crs_value.proofs.found.ArgumentLemmas.{SlotsBound, SlotsCount, not-none}
 use Rattle.crs_value.proofs.sound.ConversionLemmas.{conversion-tells}
 use Rattle.crs_value.proofs.sound.DynamicLemmas.{dynamic-of-tells}
 use Rattle.crs_value.proofs.sound.FrameLemmas.{datum-tells, ensemble-tells, meridian-tells}
-use Rattle.crs_value.proofs.sound.PartLemmas.{Tells, first-tells, optional-tells, each-tells, text-of-tells, identifiers-tell, angle-tells, named-tells}
-use Rattle.crs_value.proofs.sound.SystemLemmas.{read-none, read-there, system-allowed, system-free, system-tells}
+use Rattle.crs_value.proofs.sound.KnownWordLemmas.{own-free}
+use Rattle.crs_value.proofs.sound.PartLemmas.{Tells, read-none, some-read, first-tells, optional-tells, each-tells, else-tells, text-of-tells, identifiers-tell, angle-tells, named-tells}
+use Rattle.crs_value.proofs.sound.SystemLemmas.{head-fits, system-free, system-tells}
 use Rattle.crs_value.proofs.sound.UsageLemmas.{arguments-none, tail-tells}
 
 -- ---- frames
 
-some-there : {V : Type 0} (o : Option V) → ((value : V) × (o ≡ Some value)) → IsSome o
-some-there {V = V} o h = let P : Option V → Type 0 = λ x. IsSome x in subst P (sym h.1) refl
-
 has-ellipsoid : SlotsCount → (c : Class) (item : Item) (value : Option EllipsoidParts) → Requires c class.Ellipsoid 0 → IsSound c item →
     ReadsOptional (ReadsEllipsoid class.Ellipsoid) (those c class.Ellipsoid (arguments item)) value → IsSome value
 has-ellipsoid law c item value enough sound reads =
-    some-there value (read-there (ReadsEllipsoid class.Ellipsoid) (those c class.Ellipsoid (arguments item)) value reads
-    (λ none. not-none law c class.Ellipsoid item sound.shaped enough none))
+    some-read (ReadsEllipsoid class.Ellipsoid) (those c class.Ellipsoid (arguments item)) value reads (λ none. not-none law c class.Ellipsoid item sound.shaped enough none)
 
 no-ellipsoid : SlotsBound → (c : Class) (item : Item) (value : Option EllipsoidParts) → IsTrue (is_bounded (is_same class.Ellipsoid) (slots_of c)) →
     most (is_same class.Ellipsoid) (slots_of c) ≡ 0 → IsSound c item → ReadsOptional (ReadsEllipsoid class.Ellipsoid) (those c class.Ellipsoid (arguments item)) value → IsNone value
 no-ellipsoid bound c item value bounded none sound reads =
-    let P : Option EllipsoidParts → Type 0 = λ x. IsNone x in
-    subst P (sym (read-none (ReadsEllipsoid class.Ellipsoid) (those c class.Ellipsoid (arguments item)) value reads (arguments-none bound c class.Ellipsoid item bounded none sound.shaped))) refl
+    rw (read-none (ReadsEllipsoid class.Ellipsoid) (those c class.Ellipsoid (arguments item)) value reads (arguments-none bound c class.Ellipsoid item bounded none sound.shaped)) refl
 
 pub geodetic-datum-tells : SlotsCount → Tells class.GeodeticFrame (ReadsDatum class.GeodeticFrame) (λ datum. IsDatum datum × IsSome datum.ellipsoid)
 geodetic-datum-tells law item datum s r = (datum-tells class.GeodeticFrame item datum s r, has-ellipsoid law class.GeodeticFrame item datum.ellipsoid (omega arith) s r.ellipsoid)
@@ -63,29 +58,21 @@ vertical-ensemble-tells law bound item ensemble s r =
     (ensemble-tells law class.VerticalEnsemble (omega arith) item ensemble s r, no-ellipsoid bound class.VerticalEnsemble item ensemble.ellipsoid refl refl s r.ellipsoid)
 
 -- a frame is a reference frame of the one class, or an ensemble of the other
-frame-tells : (d e : Class) (P : Frame → Type 0) → ((item : Item) (datum : DatumParts) → IsSound d item → ReadsDatum d item datum → P (frames.Datum datum)) →
-    ((item : Item) (ensemble : EnsembleParts) → IsSound e item → ReadsEnsemble e item ensemble → P (frames.Ensemble ensemble)) →
-    (data_ ensembles : List Item) (value : Frame) → AllSound d data_ → AllSound e ensembles →
-    ReadsElse (ReadsAsDatum d) data_ (ReadsFirst (ReadsAsEnsemble e) ensembles) value → P value
-frame-tells d e P first second [] [] value sound others reads = absurd reads
-frame-tells d e P first second [] (item ∷ items) (frames.Datum datum) sound others reads = absurd reads
-frame-tells d e P first second [] (item ∷ items) (frames.Ensemble ensemble) sound others reads = second item ensemble others.0 reads
-frame-tells d e P first second (item ∷ items) ensembles (frames.Datum datum) sound others reads = first item datum sound.0 reads
-frame-tells d e P first second (item ∷ items) ensembles (frames.Ensemble ensemble) sound others reads = absurd reads
+frame-tells : (d e : Class) (P : Frame → Type 0) → Tells d (ReadsDatum d) (λ datum. P (frames.Datum datum)) → Tells e (ReadsEnsemble e) (λ ensemble. P (frames.Ensemble ensemble)) → (c : Class) →
+    Tells c (ReadsFrame d e c) P
+frame-tells d e P first second c item value sound reads =
+    else-tells (ReadsAsDatum d) (ReadsOne ReadsAsEnsemble e c item) P c d datum item value (λ other. first-tells (ReadsAsEnsemble e) P c e ensemble item value sound other) sound reads
+  where
+    datum : Tells d (ReadsAsDatum d) P
+    datum item (frames.Datum value) sound reads = first item value sound reads
+    datum item (frames.Ensemble value) sound reads = absurd reads
+
+    ensemble : Tells e (ReadsAsEnsemble e) P
+    ensemble item (frames.Datum value) sound reads = absurd reads
+    ensemble item (frames.Ensemble value) sound reads = second item value sound reads
 
 geodetic-frame-tells : SlotsCount → (c : Class) → Tells c (ReadsGeodeticFrame c) IsGeodeticFrame
-geodetic-frame-tells law c item value sound reads =
-    frame-tells class.GeodeticFrame class.GeodeticEnsemble IsGeodeticFrame
-    (geodetic-datum-tells law) (geodetic-ensemble-tells law)
-    (those c class.GeodeticFrame (arguments item)) (those c class.GeodeticEnsemble (arguments item)) value
-    (arguments-sound c class.GeodeticFrame item sound) (arguments-sound c class.GeodeticEnsemble item sound) reads
-
-vertical-frame-tells : SlotsCount → SlotsBound → (c : Class) → Tells c (ReadsVerticalFrame c) IsVerticalFrame
-vertical-frame-tells law bound c item value sound reads =
-    frame-tells class.VerticalFrame class.VerticalEnsemble IsVerticalFrame
-    (vertical-datum-tells bound) (vertical-ensemble-tells law bound)
-    (those c class.VerticalFrame (arguments item)) (those c class.VerticalEnsemble (arguments item)) value
-    (arguments-sound c class.VerticalFrame item sound) (arguments-sound c class.VerticalEnsemble item sound) reads
+geodetic-frame-tells law = frame-tells class.GeodeticFrame class.GeodeticEnsemble IsGeodeticFrame (geodetic-datum-tells law) (geodetic-ensemble-tells law)
 
 -- ---- geodetic and geographic CRSs
 
@@ -113,7 +100,7 @@ allowed-geodetic other system_type value is h = absurd is
 allowed-by : (c : Class) (item : Item) (system : SystemParts) → HasSystem c → IsSound c item → ReadsSystem c item system → IsOneOf system.dimension (dimensions_of c system.system_type)
 allowed-by c item system has sound reads =
     let free = system-free c item system has sound reads in
-    system-allowed (dimensions_of c) (those c class.Axis (arguments item)) system (those c class.CoordinateSystem (arguments item)) (λ fault h. free fault (inl h)) reads.head
+    (head-fits (dimensions_of c) (those c class.Axis (arguments item)) system (those c class.CoordinateSystem (arguments item)) (λ fault h. free fault (inl h)) reads.head).0
 
 pub geodetic-tells : SlotsCount → SlotsBound → (c : Class) → IsGeodeticClass c → Tells c (ReadsGeodetic c) IsGeodetic
 geodetic-tells law bound c is item value sound reads =
@@ -121,8 +108,8 @@ geodetic-tells law bound c is item value sound reads =
     record {
       name = text-of-tells c item value.name sound reads.name;
       dynamic =
-          dynamic-of-tells class.GeodeticFrame class.GeodeticEnsemble c item value.frame value.dynamic sound (λ fault bad. own-of-crs c item fault has (inr (inr bad))) (λ some. inl some)
-          reads.frame reads.dynamic;
+          dynamic-of-tells class.GeodeticFrame class.GeodeticEnsemble c item value.frame value.dynamic sound
+          (λ fault bad. own-free c item fault sound (own-of-crs c item fault has (inr (inr bad)))) (λ some. inl some) reads.frame reads.dynamic;
       frame = geodetic-frame-tells law c item value.frame sound reads.frame;
       meridian = optional-tells (ReadsMeridian class.PrimeMeridian) IsMeridian c class.PrimeMeridian (meridian-tells class.PrimeMeridian) item value.meridian sound reads.meridian;
       system = system-tells law c has (geodetic-axis c is) item value.system sound reads.system;
@@ -132,15 +119,12 @@ geodetic-tells law bound c is item value sound reads =
 
 -- ---- base and projected CRSs
 
-own-of-base : (item : Item) (fault : RefusedAt) → BadDynamic class.BaseCrs item fault → Own class.BaseCrs item fault
-unfolding Own
-own-of-base item fault bad = bad
-
 pub base-tells : SlotsCount → Tells class.BaseCrs (ReadsBase class.BaseCrs) IsBase
+unfolding Own
 base-tells law item value sound reads = let c = class.BaseCrs in record {
   name = text-of-tells c item value.name sound reads.name;
   dynamic =
-      dynamic-of-tells class.GeodeticFrame class.GeodeticEnsemble c item value.frame value.dynamic sound (own-of-base item) (λ some. inl some)
+      dynamic-of-tells class.GeodeticFrame class.GeodeticEnsemble c item value.frame value.dynamic sound (λ fault bad. own-free c item fault sound bad) (λ some. inl some)
       reads.frame reads.dynamic;
   frame = geodetic-frame-tells law c item value.frame sound reads.frame;
   meridian = optional-tells (ReadsMeridian class.PrimeMeridian) IsMeridian c class.PrimeMeridian (meridian-tells class.PrimeMeridian) item value.meridian sound reads.meridian;
@@ -165,8 +149,10 @@ vertical-tells law bound item value sound reads = record {
   name = text-of-tells class.VerticalCrs item value.name sound reads.name;
   dynamic =
       dynamic-of-tells class.VerticalFrame class.VerticalEnsemble class.VerticalCrs item value.frame value.dynamic sound
-      (λ fault bad. own-of-crs class.VerticalCrs item fault tt (inr (inr bad))) (λ some. inr some) reads.frame reads.dynamic;
-  frame = vertical-frame-tells law bound class.VerticalCrs item value.frame sound reads.frame;
+      (λ fault bad. own-free class.VerticalCrs item fault sound (own-of-crs class.VerticalCrs item fault tt (inr (inr bad)))) (λ some. inr some) reads.frame reads.dynamic;
+  frame =
+      frame-tells class.VerticalFrame class.VerticalEnsemble IsVerticalFrame (vertical-datum-tells bound) (vertical-ensemble-tells law bound) class.VerticalCrs item value.frame sound
+      reads.frame;
   system = system-tells law class.VerticalCrs tt (omega arith) item value.system sound reads.system;
   dimension = allowed-by class.VerticalCrs item value.system tt sound reads.system;
   geoid_models = each-tells (ReadsNamed class.GeoidModel) IsNamed class.VerticalCrs class.GeoidModel (named-tells class.GeoidModel) item value.geoid_models sound reads.geoid_models;

@@ -1,14 +1,14 @@
 -- What sound dynamic parts say is sound, and none is beside an ensemble.
 use Rattle.std.proofs.Common.{◌≢◌, inl, Option, Some, None, List, [], ◌∷◌, refl, IfSome}
 use Rattle.crs_decimal.specs.Prelude.{IsNormal}
-use Rattle.crs_text.specs.Prelude.{Item, leaf, node, arguments, RefusedAt}
+use Rattle.crs_text.specs.Prelude.{Item, arguments, RefusedAt}
 use Rattle.crs_shape.specs.declared.class.Class.{Class}
 use Rattle.crs_shape.specs.declared.class.Class.TheVariants as class
 use Rattle.crs_value.specs.declared.values.frame.Frame.{Frame}
 use Rattle.crs_value.specs.declared.values.frame.Frame.TheVariants as frames
 use Rattle.crs_value.specs.BadDynamic.{BadDynamic, HasEnsemble, IsUnsteady}
 use Rattle.crs_value.specs.Break.{at, AnyOf}
-use Rattle.crs_value.specs.Checks.{IsSound, Own}
+use Rattle.crs_value.specs.Checks.{IsSound}
 use Rattle.crs_value.specs.DynamicValues.{DynamicParts}
 use Rattle.crs_value.specs.Reading.{those, ReadsElse, ReadsFirst, ReadsOptional}
 use Rattle.crs_value.specs.Reads.{ReadsNumberOf}
@@ -31,20 +31,15 @@ beside : (d e : Class) (datums ensembles parts : List Item) (held : Frame) (dyna
     ReadsOptional (ReadsDynamic class.Dynamic) parts dynamic → IfSome dynamic IsDynamic → IsDynamicOf dynamic held
 beside d e datums ensembles parts held None free frame reads is = tt
 beside d e datums ensembles parts (frames.Datum datum) (Some dynamic) free frame reads is = is
+beside d e (i ∷ items) ensembles parts (frames.Ensemble x) (Some dynamic) free frame reads is = absurd frame
 beside d e [] [] parts (frames.Ensemble x) (Some dynamic) free frame reads is = absurd frame
 beside d e [] (i ∷ items) [] (frames.Ensemble x) (Some dynamic) free frame reads is = absurd reads
 beside d e [] (i ∷ items) (part ∷ parts) (frames.Ensemble x) (Some dynamic) free frame reads is = absurd (free (λ none. cc) (at 29 part) (inl refl))
-beside d e (i ∷ items) ensembles parts (frames.Ensemble x) (Some dynamic) free frame reads is = absurd frame
-
-dynamic-free : (c : Class) (item : Item) → IsSound c item → ((fault : RefusedAt) → BadDynamic c item fault → Own c item fault) → (fault : RefusedAt) → BadDynamic c item fault → ⊥
-dynamic-free c (leaf kind place raw) sound own fault bad = absurd bad.1
-dynamic-free c (node place keyword square first others close) sound own fault bad = sound.unbroken fault (inl (own fault bad))
 
 -- the dynamic part of a CRS whose frame is of these classes
-pub dynamic-of-tells : (d e c : Class) (item : Item) (held : Frame) (dynamic : Option DynamicParts) → IsSound c item →
-    ((fault : RefusedAt) → BadDynamic c item fault → Own c item fault) → (those c e (arguments item) ≢ [] → HasEnsemble c item) → ReadsFrame d e c item held →
+pub dynamic-of-tells : (d e c : Class) (item : Item) (held : Frame) (dynamic : Option DynamicParts) → IsSound c item → ((fault : RefusedAt) → BadDynamic c item fault → ⊥) →
+    (those c e (arguments item) ≢ [] → HasEnsemble c item) → ReadsFrame d e c item held →
     ReadsOptional (ReadsDynamic class.Dynamic) (those c class.Dynamic (arguments item)) dynamic → IsDynamicOf dynamic held
-dynamic-of-tells d e c item held dynamic sound own some frame reads =
-    beside d e (those c d (arguments item)) (those c e (arguments item)) (those c class.Dynamic (arguments item)) held dynamic
-    (λ there fault bad. dynamic-free c item sound own fault (some there, bad)) frame reads
+dynamic-of-tells d e c item held dynamic sound free some frame reads =
+    beside d e (those c d (arguments item)) (those c e (arguments item)) (those c class.Dynamic (arguments item)) held dynamic (λ there fault bad. free fault (some there, bad)) frame reads
     (optional-tells (ReadsDynamic class.Dynamic) IsDynamic c class.Dynamic (dynamic-tells class.Dynamic) item dynamic sound reads)

@@ -1,28 +1,25 @@
 -- What sound ellipsoids, prime meridians, reference frames and ensembles say is sound.
-use Rattle.std.proofs.Common.{◌≡◌, false, inl, inr, take, drop, List, [], ◌∷◌, refl, subst}
+use Rattle.std.proofs.Common.{◌≡◌, false, inl, inr, take, drop, List, [], ◌∷◌, refl}
 use Rattle.std.proofs.lemmas.Bool.{false_from_ne_true}
 use Rattle.crs_decimal.specs.Prelude.{Value, IsNormal}
-use Rattle.crs_text.specs.Prelude.{Item, leaf, node, More, arguments, RefusedAt}
+use Rattle.crs_text.specs.Prelude.{Item, arguments, RefusedAt}
 use Rattle.crs_shape.specs.declared.class.Class.{Class}
 use Rattle.crs_shape.specs.declared.class.Class.TheVariants as class
 use Rattle.crs_shape.specs.declared.unit_kind.UnitKind.TheVariants as kinds
 use Rattle.crs_value.specs.BadValue.{IsAboveZero, NotAbove, IsNegative}
 use Rattle.crs_value.specs.Break.{at, AnyOf}
-use Rattle.crs_value.specs.Checks.{OfEllipsoid, Own, IsSound}
+use Rattle.crs_value.specs.Checks.{Own}
 use Rattle.crs_value.specs.Reading.{those, Requires, ReadsFirst, ReadsEach}
-use Rattle.crs_value.specs.Reads.{ReadsNumber, ReadsNumberAt, ReadsNumberOf, ReadsUnit, ReadsEllipsoid, ReadsMeridian, ReadsDatum, ReadsEnsemble}
+use Rattle.crs_value.specs.Reads.{ReadsNumber, ReadsNumberOf, ReadsUnit, ReadsEllipsoid, ReadsMeridian, ReadsDatum, ReadsEnsemble}
 use Rattle.crs_value.specs.ReadsNamed.{ReadsNamed}
 use Rattle.crs_value.specs.Sound.{IsNamed, IsUnitOf}
 use Rattle.crs_value.specs.SoundFrames.{IsEllipsoid, IsMeridian, IsDatum, IsEnsemble}
 use Rattle.crs_value.proofs.found.ArgumentLemmas.{SlotsCount, not-none}
 use Rattle.crs_value.proofs.some.DecisionLemmas.{decided-above, stable}
-use Rattle.crs_value.proofs.sound.PartLemmas.{Tells, first-tells, optional-tells, each-tells, text-of-tells, optional-text-tells, number-first, number-of-tells, identifiers-tell, named-tells, length-tells, angle-tells}
+use Rattle.crs_value.proofs.sound.KnownWordLemmas.{own-free}
+use Rattle.crs_value.proofs.sound.PartLemmas.{Tells, tells-as, first-tells, optional-tells, each-tells, text-of-tells, optional-text-tells, number-first, number-of-tells, identifiers-tell, named-tells, length-tells, angle-tells}
 
 -- ---- ellipsoids
-
-own-ellipsoid : (item : Item) (fault : RefusedAt) → OfEllipsoid (those class.Ellipsoid class.Number (arguments item)) fault → Own class.Ellipsoid item fault
-unfolding Own
-own-ellipsoid item fault h = h
 
 above-take : (items : List Item) (value : Value) → ((fault : RefusedAt) → AnyOf NotAbove (take 1 items) fault → ⊥) → ReadsFirst ReadsNumber (drop 0 items) value → IsAboveZero value
 above-take [] value free reads = absurd reads
@@ -32,32 +29,22 @@ below-first : (items : List Item) (value : Value) → ((fault : RefusedAt) → A
 below-first [] value free reads = absurd reads
 below-first (item ∷ items) value free reads = false_from_ne_true value.negative (λ e. free (at 28 item) (inl (refl, (value, (reads, e)))))
 
-axis-above : (item : Item) (value : Value) → IsSound class.Ellipsoid item → ReadsNumberAt 0 class.Ellipsoid item value → IsAboveZero value
-axis-above (leaf kind place raw) value sound reads = absurd reads
-axis-above (node place keyword square first others close) value sound reads =
-    above-take (those class.Ellipsoid class.Number (More first others)) value
-    (λ fault broken. sound.unbroken fault (inl (own-ellipsoid (node place keyword square first others close) fault (inl broken)))) reads
-
-flattening-not-negative : (item : Item) (value : Value) → IsSound class.Ellipsoid item → ReadsNumberAt 1 class.Ellipsoid item value → value.negative ≡ false
-flattening-not-negative (leaf kind place raw) value sound reads = absurd reads
-flattening-not-negative (node place keyword square first others close) value sound reads =
-    below-first (drop 1 (those class.Ellipsoid class.Number (More first others))) value
-    (λ fault broken. sound.unbroken fault (inl (own-ellipsoid (node place keyword square first others close) fault (inr broken)))) reads
-
 pub ellipsoid-tells : (c : Class) → c ≡ class.Ellipsoid → Tells c (ReadsEllipsoid c) IsEllipsoid
-ellipsoid-tells c same item value sound reads =
-    let S : Class → Type 0 = λ d. IsSound d item in
-    let A : Class → Type 0 = λ d. ReadsNumberAt 0 d item value.semi_major_axis in
-    let F : Class → Type 0 = λ d. ReadsNumberAt 1 d item value.inverse_flattening in
-    record {
-      name = text-of-tells c item value.name sound reads.name;
-      semi_major_axis = number-first (drop 0 (those c class.Number (arguments item))) value.semi_major_axis reads.semi_major_axis;
-      above_zero = axis-above item value.semi_major_axis (subst S same sound) (subst A same reads.semi_major_axis);
-      inverse_flattening = number-first (drop 1 (those c class.Number (arguments item))) value.inverse_flattening reads.inverse_flattening;
-      not_negative = flattening-not-negative item value.inverse_flattening (subst S same sound) (subst F same reads.inverse_flattening);
-      unit = optional-tells (ReadsUnit class.LengthUnit) (IsUnitOf kinds.Length) c class.LengthUnit length-tells item value.unit sound reads.unit;
-      identifiers = identifiers-tell c item value.identifiers sound reads.identifiers;
-    }
+unfolding Own
+ellipsoid-tells c same = tells-as ReadsEllipsoid IsEllipsoid c class.Ellipsoid same named
+  where
+    named : Tells class.Ellipsoid (ReadsEllipsoid class.Ellipsoid) IsEllipsoid
+    named item value sound reads =
+        let numbers = those class.Ellipsoid class.Number (arguments item) in
+        record {
+          name = text-of-tells class.Ellipsoid item value.name sound reads.name;
+          semi_major_axis = number-first (drop 0 numbers) value.semi_major_axis reads.semi_major_axis;
+          above_zero = above-take numbers value.semi_major_axis (λ fault bad. own-free class.Ellipsoid item fault sound (inl bad)) reads.semi_major_axis;
+          inverse_flattening = number-first (drop 1 numbers) value.inverse_flattening reads.inverse_flattening;
+          not_negative = below-first (drop 1 numbers) value.inverse_flattening (λ fault bad. own-free class.Ellipsoid item fault sound (inr bad)) reads.inverse_flattening;
+          unit = optional-tells (ReadsUnit class.LengthUnit) (IsUnitOf kinds.Length) class.Ellipsoid class.LengthUnit length-tells item value.unit sound reads.unit;
+          identifiers = identifiers-tell class.Ellipsoid item value.identifiers sound reads.identifiers;
+        }
 
 -- ---- prime meridians and members
 

@@ -1,7 +1,7 @@
 -- What the nodes of a sound coordinate system say is sound: its count, its orders and its units.
-use Rattle.std.proofs.Common.{◌≡◌, ◌≢◌, ℕ, suc, length, inl, inr, ◌⊎◌, Option, Some, None, List, [], ◌∷◌, ◌++◌, refl, sym, ap, subst, IsSomeAnd}
+use Rattle.std.proofs.Common.{◌≡◌, ◌≢◌, ℕ, suc, length, inl, inr, ◌⊎◌, Option, Some, None, List, [], ◌∷◌, ◌++◌, refl, ap, subst, IsSomeAnd}
 use Rattle.crs_decimal.specs.Prelude.{SameNumber, whole_number, Value, IsNormal, exact}
-use Rattle.crs_text.specs.Prelude.{Item, leaf, node, arguments, raw_of, RefusedAt}
+use Rattle.crs_text.specs.Prelude.{Item, arguments, raw_of, RefusedAt}
 use Rattle.crs_shape.specs.declared.class.Class.{Class}
 use Rattle.crs_shape.specs.declared.class.Class.TheVariants as class
 use Rattle.crs_shape.specs.declared.system_type.SystemType.{SystemType}
@@ -12,7 +12,7 @@ use Rattle.crs_value.specs.BadOrder.{IsPosition, orders_in, SomeHasOrder, AllHav
 use Rattle.crs_value.specs.BadUnit.{Asks, Fits, units_in, Misfits, BadOwnUnit, IsSuperfluous, HasOwnUnit, AllAsk, SharedFits, BadUnit}
 use Rattle.crs_value.specs.Break.{at, AnyOf}
 use Rattle.crs_value.specs.Checks.{OfHead, BadSystems, HasSystem, IsSound}
-use Rattle.crs_value.specs.Reading.{those, Requires, ReadsFirst, ReadsOptional, ReadsEach}
+use Rattle.crs_value.specs.Reading.{OneIs, those, Requires, ReadsFirst, ReadsOptional, ReadsEach}
 use Rattle.crs_value.specs.Reads.{HasType, ReadsKind, ReadsNumberOf, ReadsUnit, ReadsAxis, ReadsHead, ReadsSystem}
 use Rattle.crs_value.specs.Sound.{Each, IsIdent, Suits, IsAxisUnit, IsAxis}
 use Rattle.crs_value.specs.SoundSystem.{AreOrders, AreDistinct, HasOrders, SuitsAxis, SuitsAll, HasUnits, IsSystem}
@@ -20,24 +20,15 @@ use Rattle.crs_value.specs.Values.{UnitParts, AxisParts, SystemParts}
 use Rattle.crs_value.proofs.checked.OwnLemmas.{own-of-crs}
 use Rattle.crs_value.proofs.found.NodeLemmas.{read-some}
 use Rattle.crs_value.proofs.sound.FrameLemmas.{none-read}
-use Rattle.crs_value.proofs.found.ArgumentLemmas.{AllSound, SlotsCount, arguments-sound, not-none}
-use Rattle.crs_value.proofs.some.DecisionLemmas.{Decided, stable, decided-both, decided-each, decided-kind, decided-kinds, decided-none, decided-one-of, decided-position, decided-same, decided-suits}
+use Rattle.crs_value.proofs.found.ArgumentLemmas.{SlotsCount, not-none}
+use Rattle.crs_value.proofs.some.DecisionLemmas.{stable, decided-both, decided-each, decided-kind, decided-kinds, decided-none, decided-one-of, decided-position, decided-same, decided-suits}
 use Rattle.crs_value.proofs.sound.AxisLemmas.{axis-tells}
-use Rattle.crs_value.proofs.sound.PartLemmas.{Tells, optional-tells, each-tells, number-of-tells, identifiers-tell, axis-unit-tells}
+use Rattle.crs_value.proofs.sound.KnownWordLemmas.{own-free}
+use Rattle.crs_value.proofs.sound.PartLemmas.{Tells, read-none, read-there, each-free, each-as, each-of, first-tells, optional-tells, each-tells, number-of-tells, identifiers-tell, axis-unit-tells}
 use Rattle.crs_value.proofs.checked.UnitLemmas.{asks-one}
 use Rattle.crs_shape.proofs.WordLemmas.{kind_one}
 
--- ---- optional arguments
-
-pub read-none : {V : Type 0} (R : Item → V → Type 0) (items : List Item) (o : Option V) → ReadsOptional R items o → items ≡ [] → o ≡ None
-read-none R items None reads e = refl
-read-none R [] (Some value) reads e = absurd reads
-read-none R (item ∷ items) (Some value) reads e = cc
-
-pub read-there : {V : Type 0} (R : Item → V → Type 0) (items : List Item) (o : Option V) → ReadsOptional R items o → items ≢ [] → (value : V) × (o ≡ Some value)
-read-there R items (Some value) reads some = (value, refl)
-read-there R [] None reads some = absurd (some refl)
-read-there R (item ∷ items) None reads some = absurd reads
+-- ---- axes
 
 each-length : {V : Type 0} (R : Item → V → Type 0) (items : List Item) (values : List V) → ReadsEach R items values → length items ≡ length values
 each-length R [] [] reads = refl
@@ -51,29 +42,26 @@ ReadAxes axes values = ReadsEach (ReadsAxis class.Axis) axes values
 -- ---- the node `CS`
 
 module _ (dimensions : SystemType → List ℕ) (axes : List Item) (parts : SystemParts) where
-  pub system-count : (systems : List Item) → ((fault : RefusedAt) → AnyOf (OfHead dimensions axes) systems fault → ⊥) → ReadsFirst ReadsHead systems parts →
-      SameNumber (exact parts.dimension) (whole_number (length axes))
-  system-count [] free reads = absurd reads
-  system-count (cs ∷ more) free reads =
-      stable (decided-same _ _) (λ never. free (at 25 cs) (inl (inr (refl, (parts.dimension, (reads.dimension, never))))))
-
-  pub system-allowed : (systems : List Item) → ((fault : RefusedAt) → AnyOf (OfHead dimensions axes) systems fault → ⊥) → ReadsFirst ReadsHead systems parts →
-      IsOneOf parts.dimension (dimensions parts.system_type)
-  system-allowed [] free reads = absurd reads
-  system-allowed (cs ∷ more) free reads =
-      stable (decided-one-of parts.dimension (dimensions parts.system_type))
-      (λ never. free (at 23 cs) (inl (inl (refl, (parts.system_type, (parts.dimension, (reads.system_type, reads.dimension, never)))))))
+  pub head-fits : (systems : List Item) → ((fault : RefusedAt) → AnyOf (OfHead dimensions axes) systems fault → ⊥) → ReadsFirst ReadsHead systems parts →
+      IsOneOf parts.dimension (dimensions parts.system_type) × SameNumber (exact parts.dimension) (whole_number (length axes))
+  head-fits [] free reads = absurd reads
+  head-fits (cs ∷ more) free reads = (
+    stable (decided-one-of parts.dimension (dimensions parts.system_type))
+        (λ never. free (at 23 cs) (inl (inl (refl, (parts.system_type, (parts.dimension, (reads.system_type, reads.dimension, never))))))),
+    stable (decided-same _ _) (λ never. free (at 25 cs) (inl (inr (refl, (parts.dimension, (reads.dimension, never)))))),
+  )
 
 -- ---- orders
 
+each-not : (P : Item → Type 0) (items : List Item) → ¬ (OneIs P items) → Each (λ item. ¬ (P item)) items
+each-not P [] none = tt
+each-not P (item ∷ items) none = (λ h. none (inl h), each-not P items (λ h. none (inr h)))
+
 none-ordered : (axes : List Item) (values : List AxisParts) → ReadAxes axes values → (SomeHasOrder axes → ⊥) → Each (λ axis. axis.order ≡ None) values
-none-ordered [] [] reads none = tt
-none-ordered [] (value ∷ values) reads none = absurd reads
-none-ordered (axis ∷ axes) [] reads none = absurd reads
-none-ordered (axis ∷ axes) (value ∷ values) reads none = (
-  read-none (ReadsNumberOf class.Order) (orders_in axis) value.order reads.0.order (stable (decided-none (orders_in axis)) (λ some. none (inl some))),
-  none-ordered axes values reads.1 (λ some. none (inr some)),
-)
+none-ordered axes values reads none =
+    each-of (ReadsAxis class.Axis) (λ axis. ¬ (orders_in axis ≢ [])) (λ value. value.order ≡ None)
+    (λ axis value here read. read-none (ReadsNumberOf class.Order) (orders_in axis) value.order read.order (stable (decided-none (orders_in axis)) here)) axes values
+    (each-not (λ axis. orders_in axis ≢ []) axes none) reads
 
 all-or-lacking : (axes : List Item) → AllHaveOrder axes ⊎ ((fault : RefusedAt) × AnyOf LacksOrder axes fault)
 all-or-lacking [] = inl tt
@@ -82,21 +70,18 @@ all-or-lacking (axis ∷ axes) = elim (decided-none (orders_in axis)) [
   | inr some ↦ elim (all-or-lacking axes) [ inl all ↦ inl (some, all) | inr h ↦ inr (h.0, inr h.1) ]
 ]
 
--- the first order and the others
-first-of-orders : (axis : AxisParts) (axes : List AxisParts) (order : Value) (orders : List Value) → AreOrders (axis ∷ axes) (order ∷ orders) → axis.order ≡ Some order
-first-of-orders axis axes order orders e = cc
+-- each axis has its order
+abbrev ReadOrders : List Item → List Value → Type 0
+ReadOrders axes orders = ReadsEach (λ axis order. ReadsFirst ReadsOrder (orders_in axis) order) axes orders
 
-later-orders : (axis : AxisParts) (axes : List AxisParts) (order : Value) (orders : List Value) → AreOrders (axis ∷ axes) (order ∷ orders) → AreOrders axes orders
-later-orders axis axes order orders e = cc
-
-orders-read : (axes : List Item) (values : List AxisParts) → AllHaveOrder axes → ReadAxes axes values → (orders : List Value) × AreOrders values orders
-orders-read [] [] all reads = ([], refl)
+orders-read : (axes : List Item) (values : List AxisParts) → AllHaveOrder axes → ReadAxes axes values → (orders : List Value) × (AreOrders values orders × ReadOrders axes orders)
+orders-read [] [] all reads = ([], (refl, tt))
 orders-read [] (value ∷ values) all reads = absurd reads
 orders-read (axis ∷ axes) [] all reads = absurd reads
 orders-read (axis ∷ axes) (value ∷ values) all reads =
     let here = read-there (ReadsNumberOf class.Order) (orders_in axis) value.order reads.0.order all.0 in
     let rest = orders-read axes values all.1 reads.1 in
-    (here.0 ∷ rest.0, let e = here.1 in let f = rest.1 in cc)
+    (here.0 ∷ rest.0, (let e = here.1 in let f = rest.1.0 in cc, (read-some (ReadsNumberOf class.Order) (orders_in axis) value.order here.0 reads.0.order here.1, rest.1.1)))
 
 bad-order : (n : ℕ) (before items : List Item) (order : Value) → ReadsFirst ReadsOrder items order → ¬ (IsPosition n order) ⊎ OneHas order before →
     (fault : RefusedAt) × AnyOf (IsBadOrder n before) items fault
@@ -116,43 +101,26 @@ module _ (n : ℕ) where
   abbrev Free : List Item → List Item → Type 0
   Free before axes = (fault : RefusedAt) → BadOrders n before axes fault → ⊥
 
-  order-here : (axis : Item) (value : AxisParts) (values : List AxisParts) (order : Value) (orders : List Value) → ReadsAxis class.Axis axis value →
-      AreOrders (value ∷ values) (order ∷ orders) → ReadsFirst ReadsOrder (orders_in axis) order
-  order-here axis value values order orders reads are =
-      read-some (ReadsNumberOf class.Order) (orders_in axis) value.order order reads.order (first-of-orders value values order orders are)
-
-  positions : (before axes : List Item) (values : List AxisParts) (orders : List Value) → Free before axes → ReadAxes axes values → AreOrders values orders → Each (IsPosition n) orders
-  positions before axes values [] free reads are = tt
-  positions before axes [] (order ∷ orders) free reads are = cc
-  positions before [] (value ∷ values) (order ∷ orders) free reads are = absurd reads
-  positions before (axis ∷ axes) (value ∷ values) (order ∷ orders) free reads are =
-      let here = order-here axis value values order orders reads.0 are in (
-        stable (decided-position n order) (λ never. let bad = bad-order n before (orders_in axis) order here (inl never) in free bad.0 (inl bad.1)),
-        positions (before ++ axis ∷ []) axes values orders (λ fault h. free fault (inr h)) reads.1 (later-orders value values order orders are),
+  -- each order is a position, and none of those before has it
+  positions : (before axes : List Item) (orders : List Value) → Free before axes → ReadOrders axes orders → Each (λ order. IsPosition n order × ¬ (OneHas order before)) orders
+  positions before axes [] free reads = tt
+  positions before [] (order ∷ orders) free reads = absurd reads
+  positions before (axis ∷ axes) (order ∷ orders) free reads =
+      let right : ¬ (¬ (IsPosition n order) ⊎ OneHas order before)
+      = λ wrong. let bad = bad-order n before (orders_in axis) order reads.0 wrong in free bad.0 (inl bad.1) in (
+        (stable (decided-position n order) (λ never. right (inl never)), λ has. right (inr has)),
+        each-as (λ other. IsPosition n other × ¬ (OneHas other (before ++ axis ∷ []))) (λ other. IsPosition n other × ¬ (OneHas other before))
+            (λ other h. (h.0, λ has. h.1 (one-has-left other before (axis ∷ []) has))) orders (positions (before ++ axis ∷ []) axes orders (λ fault h. free fault (inr h)) reads.1),
       )
 
-  distinct-from : (before axes : List Item) (values : List AxisParts) (orders : List Value) (order : Value) → OneHas order before → Free before axes → ReadAxes axes values →
-      AreOrders values orders → Each (λ other. order ≢ other) orders
-  distinct-from before axes values [] order has free reads are = tt
-  distinct-from before axes [] (other ∷ others) order has free reads are = cc
-  distinct-from before [] (value ∷ values) (other ∷ others) order has free reads are = absurd reads
-  distinct-from before (axis ∷ axes) (value ∷ values) (other ∷ others) order has free reads are =
-      let here = order-here axis value values other others reads.0 are in
-      let P : Value → Type 0 = λ v. OneHas v before in (
-        λ e. let bad = bad-order n before (orders_in axis) other here (inr (subst P e has)) in free bad.0 (inl bad.1),
-        distinct-from (before ++ axis ∷ []) axes values others order (one-has-left order before (axis ∷ []) has) (λ fault h. free fault (inr h)) reads.1
-            (later-orders value values other others are),
-      )
-
-  distinct : (before axes : List Item) (values : List AxisParts) (orders : List Value) → Free before axes → ReadAxes axes values → AreOrders values orders → AreDistinct orders
-  distinct before axes values [] free reads are = tt
-  distinct before axes [] (order ∷ orders) free reads are = cc
-  distinct before [] (value ∷ values) (order ∷ orders) free reads are = absurd reads
-  distinct before (axis ∷ axes) (value ∷ values) (order ∷ orders) free reads are =
-      let here = order-here axis value values order orders reads.0 are in
-      let rest = later-orders value values order orders are in (
-        distinct-from (before ++ axis ∷ []) axes values orders order (one-has-last order before axis here) (λ fault h. free fault (inr h)) reads.1 rest,
-        distinct (before ++ axis ∷ []) axes values orders (λ fault h. free fault (inr h)) reads.1 rest,
+  distinct : (before axes : List Item) (orders : List Value) → Free before axes → ReadOrders axes orders → AreDistinct orders
+  distinct before axes [] free reads = tt
+  distinct before [] (order ∷ orders) free reads = absurd reads
+  distinct before (axis ∷ axes) (order ∷ orders) free reads =
+      let later : Free (before ++ axis ∷ []) axes = λ fault h. free fault (inr h) in (
+        each-as (λ other. IsPosition n other × ¬ (OneHas other (before ++ axis ∷ []))) (λ other. order ≢ other)
+            (λ other h e. h.1 (one-has-last other before axis (subst (ReadsFirst ReadsOrder (orders_in axis)) e reads.0))) orders (positions (before ++ axis ∷ []) axes orders later reads.1),
+        distinct (before ++ axis ∷ []) axes orders later reads.1,
       )
 
 pub orders-tell : (axes : List Item) (values : List AxisParts) → ((fault : RefusedAt) → BadOrder axes fault → ⊥) → ReadAxes axes values → HasOrders values
@@ -161,67 +129,50 @@ orders-tell axes values free reads = elim (all-or-lacking axes) [
   | inl all ↦ inr (numbered all (orders-read axes values all reads))
 ]
   where
-    numbered : AllHaveOrder axes → ((orders : List Value) × AreOrders values orders) →
+    numbered : AllHaveOrder axes → ((orders : List Value) × (AreOrders values orders × ReadOrders axes orders)) →
         (orders : List Value) × (AreOrders values orders × (Each (IsPosition (length values)) orders × AreDistinct orders))
     numbered all h =
-        let sound : (fault : RefusedAt) → BadOrders (length axes) [] axes fault → ⊥ = λ fault bad. free fault (inr (all, bad)) in
-        let P : ℕ → Type 0 = λ n. Each (IsPosition n) h.0 in
-        (h.0, (h.1, (subst P (each-length (ReadsAxis class.Axis) axes values reads) (positions (length axes) [] axes values h.0 sound reads h.1), distinct (length axes) [] axes values h.0 sound reads h.1)))
+        let sound : Free (length axes) [] axes = λ fault bad. free fault (inr (all, bad)) in
+        let right = each-as (λ order. IsPosition (length axes) order × ¬ (OneHas order [])) (IsPosition (length axes)) (λ order k. k.0) h.0 (positions (length axes) [] axes h.0 sound h.1.1) in
+        (h.0, (h.1.0, (rw (← each-length (ReadsAxis class.Axis) axes values reads) right, distinct (length axes) [] axes h.0 sound h.1.1)))
 
 -- ---- units
 
-some-superfluous : (items : List Item) → items ≢ [] → (fault : RefusedAt) × AnyOf IsSuperfluous items fault
-some-superfluous [] some = absurd (some refl)
-some-superfluous (item ∷ items) some = (at 27 item, inl refl)
+none-superfluous : (items : List Item) → ((fault : RefusedAt) → ¬ (AnyOf IsSuperfluous items fault)) → items ≡ []
+none-superfluous [] free = refl
+none-superfluous (item ∷ items) free = absurd (free (at 27 item) (inl refl))
 
 no-own-units : (axes : List Item) (values : List AxisParts) → ((fault : RefusedAt) → AnyOf HasOwnUnit axes fault → ⊥) → ReadAxes axes values → Each (λ axis. axis.unit ≡ None) values
-no-own-units [] [] free reads = tt
-no-own-units [] (value ∷ values) free reads = absurd reads
-no-own-units (axis ∷ axes) [] free reads = absurd reads
-no-own-units (axis ∷ axes) (value ∷ values) free reads = (
-  read-none (ReadsUnit class.AxisUnit) (units_in axis) value.unit reads.0.unit
-      (stable (decided-none (units_in axis)) (λ some. let bad = some-superfluous (units_in axis) some in free bad.0 (inl bad.1))),
-  no-own-units axes values (λ fault h. free fault (inr h)) reads.1,
-)
+no-own-units axes values free reads =
+    each-of (ReadsAxis class.Axis) (λ axis. (fault : RefusedAt) → ¬ (HasOwnUnit axis fault)) (λ value. value.unit ≡ None)
+    (λ axis value here read. read-none (ReadsUnit class.AxisUnit) (units_in axis) value.unit read.unit (none-superfluous (units_in axis) here)) axes values
+    (each-free HasOwnUnit axes free) reads
 
 -- a unit whose kind doesn't suit doesn't fit
 suits-fits : (unit : Item) (asked kind : UnitKind) → ReadsKind unit kind → Fits unit asked → Suits asked kind
 suits-fits unit asked kind reads (inl plain) = inr (kind_one (raw_of unit) kind kinds.Plain reads plain)
 suits-fits unit asked kind reads (inr same) = inl (kind_one (raw_of unit) kind asked reads same)
 
-misfit : (cs axis : Item) (items : List Item) (asked : UnitKind) (unit : UnitParts) → Asks cs axis asked → ReadsFirst (ReadsUnit class.AxisUnit) items unit →
-    ¬ (Suits asked unit.kind) → (fault : RefusedAt) × AnyOf (Misfits cs axis) items fault
-misfit cs axis [] asked unit asks reads never = absurd reads
-misfit cs axis (item ∷ items) asked unit asks reads never =
-    (at 27 item, inl (refl, (asked, (asks, λ fits. never (suits-fits item asked unit.kind reads.kind fits)))))
-
 module _ (cs : Item) (system_type : SystemType) (has : HasType cs system_type) where
   axis-asks : (axis : Item) (value : AxisParts) → ReadsAxis class.Axis axis value → Asks cs axis (asked_kind system_type value.direction)
   axis-asks axis value reads = (system_type, (value.direction, (has, reads.direction, refl)))
 
-  own-unit-suits : (axis : Item) (value : AxisParts) → ((fault : RefusedAt) → BadOwnUnit cs axis fault → ⊥) → ReadsAxis class.Axis axis value →
-      IsSomeAnd value.unit (SuitsAxis system_type value)
-  own-unit-suits axis value free reads = suited (decided-none (units_in axis))
-    where
-      suited : Decided (units_in axis ≡ []) → IsSomeAnd value.unit (SuitsAxis system_type value)
-      suited (inl none) = absurd (free (at 27 axis) (inl (refl, none)))
-      suited (inr some) =
-          let there = read-there (ReadsUnit class.AxisUnit) (units_in axis) value.unit reads.unit some in
-          let first = read-some (ReadsUnit class.AxisUnit) (units_in axis) value.unit there.0 reads.unit there.1 in
-          let P : Option UnitParts → Type 0 = λ o. IsSomeAnd o (SuitsAxis system_type value) in
-          subst P (sym there.1)
-          (stable (decided-suits (asked_kind system_type value.direction) there.0.kind)
-          (λ never.
-          let bad = misfit cs axis (units_in axis) (asked_kind system_type value.direction) there.0 (axis-asks axis value reads) first never in
-          free bad.0 (inr bad.1)))
+  -- the unit that is read from the units on an axis
+  own-unit-suits : (axis : Item) (value : AxisParts) (units : List Item) (unit : Option UnitParts) → units ≢ [] → ((fault : RefusedAt) → ¬ (AnyOf (Misfits cs axis) units fault)) →
+      ReadsAxis class.Axis axis value → ReadsOptional (ReadsUnit class.AxisUnit) units unit → IsSomeAnd unit (SuitsAxis system_type value)
+  own-unit-suits axis value [] unit some free reads read = absurd (some refl)
+  own-unit-suits axis value (item ∷ units) None some free reads read = absurd read
+  own-unit-suits axis value (item ∷ units) (Some unit) some free reads read =
+      let asked = asked_kind system_type value.direction in
+      stable (decided-suits asked unit.kind)
+      (λ never. free (at 27 item) (inl (refl, (asked, (axis-asks axis value reads, λ fits. never (suits-fits item asked unit.kind read.kind fits))))))
 
   own-units : (axes : List Item) (values : List AxisParts) → ((fault : RefusedAt) → AnyOf (BadOwnUnit cs) axes fault → ⊥) → ReadAxes axes values →
       Each (λ axis. IsSomeAnd axis.unit (SuitsAxis system_type axis)) values
-  own-units [] [] free reads = tt
-  own-units [] (value ∷ values) free reads = absurd reads
-  own-units (axis ∷ axes) [] free reads = absurd reads
-  own-units (axis ∷ axes) (value ∷ values) free reads =
-      (own-unit-suits axis value (λ fault h. free fault (inl h)) reads.0, own-units axes values (λ fault h. free fault (inr h)) reads.1)
+  own-units axes values free reads =
+      each-of (ReadsAxis class.Axis) (λ axis. (fault : RefusedAt) → ¬ (BadOwnUnit cs axis fault)) (λ value. IsSomeAnd value.unit (SuitsAxis system_type value))
+      (λ axis value here read. own-unit-suits axis value (units_in axis) value.unit (λ none. here (at 27 axis) (inl (refl, none))) (λ fault bad. here fault (inr bad)) read read.unit)
+      axes values (each-free (BadOwnUnit cs) axes free) reads
 
   all-asked : (axes : List Item) (values : List AxisParts) (kind : UnitKind) → AllAsk cs axes kind → ReadAxes axes values →
       Each (λ axis. asked_kind system_type axis.direction ≡ kind) values
@@ -261,17 +212,7 @@ units-tell (cs ∷ more) axes units parts free head reads unit =
 -- the nodes `CS`, the axes and the shared units of a sound CRS break no check
 pub system-free : (c : Class) (item : Item) (parts : SystemParts) → HasSystem c → IsSound c item → ReadsSystem c item parts → (fault : RefusedAt) →
     BadSystems (dimensions_of c) (those c class.CoordinateSystem (arguments item)) (those c class.Axis (arguments item)) (those c class.AxisUnit (arguments item)) fault → ⊥
-system-free c (leaf kind place raw) parts is sound reads fault bad = absurd reads.head
-system-free c (node place keyword square first others close) parts is sound reads fault bad =
-    sound.unbroken fault (inl (own-of-crs c (node place keyword square first others close) fault is (inr (inl bad))))
-
-head-number : (systems : List Item) (parts : SystemParts) → AllSound class.CoordinateSystem systems → ReadsFirst ReadsHead systems parts → IsNormal parts.dimension
-head-number [] parts sound reads = absurd reads
-head-number (cs ∷ more) parts sound reads = number-of-tells class.CoordinateSystem cs parts.dimension sound.0 reads.dimension
-
-head-identifiers : (systems : List Item) (parts : SystemParts) → AllSound class.CoordinateSystem systems → ReadsFirst ReadsHead systems parts → Each IsIdent parts.identifiers
-head-identifiers [] parts sound reads = absurd reads
-head-identifiers (cs ∷ more) parts sound reads = identifiers-tell class.CoordinateSystem cs parts.identifiers sound.0 reads.identifiers
+system-free c item parts is sound reads fault bad = own-free c item fault sound (own-of-crs c item fault is (inr (inl bad)))
 
 pub system-tells : SlotsCount → (c : Class) → HasSystem c → Requires c class.Axis 0 → Tells c (ReadsSystem c) IsSystem
 system-tells law c is enough item parts sound reads =
@@ -279,16 +220,18 @@ system-tells law c is enough item parts sound reads =
     let axes = those c class.Axis (arguments item) in
     let units = those c class.AxisUnit (arguments item) in
     let free = system-free c item parts is sound reads in
-    let heads = arguments-sound c class.CoordinateSystem item sound in
-    let P : ℕ → Type 0 = λ n. SameNumber (exact parts.dimension) (whole_number n) in
+    let head =
+    first-tells ReadsHead (λ parts. IsNormal parts.dimension × Each IsIdent parts.identifiers) c class.CoordinateSystem
+    (λ cs parts sound reads. (number-of-tells class.CoordinateSystem cs parts.dimension sound reads.dimension, identifiers-tell class.CoordinateSystem cs parts.identifiers sound reads.identifiers))
+    item parts sound reads.head in
     record {
-      dimension = head-number systems parts heads reads.head;
-      identifiers = head-identifiers systems parts heads reads.head;
+      dimension = head.0;
+      identifiers = head.1;
       some = λ none. not-none law c class.Axis item sound.shaped enough (none-read (ReadsAxis class.Axis) axes parts.axes reads.axes none);
       axes = each-tells (ReadsAxis class.Axis) IsAxis c class.Axis (axis-tells class.Axis) item parts.axes sound reads.axes;
       count =
-          subst P (each-length (ReadsAxis class.Axis) axes parts.axes reads.axes)
-          (system-count (dimensions_of c) axes parts systems (λ fault h. free fault (inl h)) reads.head);
+          rw (← each-length (ReadsAxis class.Axis) axes parts.axes reads.axes)
+          (head-fits (dimensions_of c) axes parts systems (λ fault h. free fault (inl h)) reads.head).1;
       orders = orders-tell axes parts.axes (λ fault h. free fault (inr (inl h))) reads.axes;
       unit = optional-tells (ReadsUnit class.AxisUnit) IsAxisUnit c class.AxisUnit axis-unit-tells item parts.unit sound reads.unit;
       units = units-tell systems axes units parts (λ fault h. free fault (inr (inr h))) reads.head reads.axes reads.unit;

@@ -1,19 +1,19 @@
 -- What sound usages and ends of CRSs say is sound.
-use Rattle.std.proofs.Common.{◌≡◌, ℕ, ◌+◌, ◌≤◌, Bool, true, false, ◌||◌, not, IsTrue, inl, inr, drop, Option, Some, None, List, [], ◌∷◌, refl, ◌∙◌, ap, arith, IfSome, IsSome}
-use Rattle.std.proofs.lemmas.Bool.{or_cases}
-use Rattle.crs_text.specs.Prelude.{Item, leaf, node, More, arguments, number, text, word}
+use Rattle.std.proofs.Common.{◌≡◌, ◌≢◌, ℕ, ◌+◌, ◌≤◌, Bool, true, false, ◌||◌, not, IsTrue, drop, Option, Some, None, List, [], ◌∷◌, refl, ◌∙◌, ap, arith, IfSome, IsSome}
+use Rattle.crs_text.specs.Prelude.{Item, leaf, node, More, arguments}
 use Rattle.crs_shape.specs.declared.class.Class.{Class}
 use Rattle.crs_shape.specs.declared.class.Class.TheVariants as class
 use Rattle.crs_shape.specs.Prelude.{one_if, how_many, most, is_bounded, Allowed, Shaped, slots_of, is_class}
 use Rattle.crs_shape.specs.declared.unit_kind.UnitKind.TheVariants as kinds
-use Rattle.crs_value.specs.Reading.{is_same, those, ReadsOptional}
+use Rattle.crs_value.specs.Reading.{is_same, those}
 use Rattle.crs_value.specs.Reads.{ReadsTextOf, ReadsUnit, LacksUsage, ReadsBare, ReadsBox, ReadsExtent, ReadsUsage, ReadsTail}
 use Rattle.crs_value.specs.Sound.{IsUnitOf}
 use Rattle.crs_value.specs.Checks.{IsSound}
 use Rattle.crs_value.specs.SoundUsages.{IsBox, IsExtent, IsUsage, IsTail}
 use Rattle.crs_value.specs.Values.{UsageParts, SaysSome}
 use Rattle.crs_value.proofs.found.ArgumentLemmas.{SlotsBound, arguments-few, nothing, those-first}
-use Rattle.crs_value.proofs.sound.PartLemmas.{Tells, tells-as, optional-tells, each-tells, optional-text-tells, number-first, identifiers-tell, length-tells}
+use Rattle.crs_value.proofs.sound.KnownWordLemmas.{not-leaf}
+use Rattle.crs_value.proofs.sound.PartLemmas.{Tells, tells-as, some-read, optional-tells, each-tells, optional-text-tells, number-first, identifiers-tell, length-tells}
 use Rattle.crs_value.proofs.found.NodeLemmas.{none-empty}
 
 pub box-tells : (c : Class) → Tells c (ReadsBox c) IsBox
@@ -64,35 +64,20 @@ no-other false n h = absurd (omega (arith, h))
 first-part : SlotsBound → (d : Class) (ds : List Class) → Allowed (slots_of class.Usage) (d ∷ ds) → is_part d ≡ true
 first-part law d ds allowed = no-other (is_part d) (how_many is_other ds) (law is_other (slots_of class.Usage) (d ∷ ds) refl allowed)
 
-some-read : {V : Type 0} (R : Item → V → Type 0) (item : Item) (items more : List Item) (value : Option V) → items ≡ item ∷ more → ReadsOptional R items value → IsSome value
-some-read R item items more (Some value) e reads = refl
-some-read R item [] more None e reads = cc
-some-read R item (other ∷ items) more None e reads = absurd reads
-
 pub says-some : SlotsBound → Tells class.Usage (ReadsUsage class.Usage) SaysSome
-says-some law (leaf number place raw) value sound reads = let h = sound.shaped in cc
-says-some law (leaf text place raw) value sound reads = let h = sound.shaped in cc
-says-some law (leaf word place raw) value sound reads = let h = sound.shaped in cc
+says-some law (leaf kind place raw) value sound reads = absurd (not-leaf (λ d. d ≡ class.Usage) (λ e. cc) (λ e. cc) (λ e. cc) class.Usage kind place raw sound.shaped refl)
 says-some law (node place keyword square first others close) value sound reads =
     let shape = sound.shaped.1 in
-    let d = shape.0 in
-    let scope = is_same class.Scope d in
-    let area = is_same class.Area d in
-    let box = is_same class.BoundingBox d in
-    let extent = is_same class.VerticalExtent d in
-    elim (or_cases (scope || area || box) extent (first-part law d shape.1.0 shape.1.1.1.1.1)) [
-      | inl h ↦ elim (or_cases (scope || area) box h) [
-        | inl i ↦ elim (or_cases scope area i) [
-          | inl e ↦ inl (some-read (ReadsTextOf class.Scope) first _ _ value.scope (stands class.Scope e) reads.scope)
-          | inr e ↦ inr (inl (some-read (ReadsTextOf class.Area) first _ _ value.area (stands class.Area e) reads.area))
-        ]
-        | inr e ↦ inr (inr (inl (some-read (ReadsBox class.BoundingBox) first _ _ value.bbox (stands class.BoundingBox e) reads.bbox)))
-      ]
-      | inr e ↦ inr (inr (inr (some-read (ReadsExtent class.VerticalExtent) first _ _ value.extent (stands class.VerticalExtent e) reads.extent)))
-    ]
+    let part = first-part law shape.0 shape.1.0 shape.1.1.1.1.1 in
+    let scope : is_same class.Scope shape.0 ≡ true → IsSome value.scope = λ e. some-read (ReadsTextOf class.Scope) _ value.scope reads.scope (stands class.Scope e) in
+    let area : is_same class.Area shape.0 ≡ true → IsSome value.area = λ e. some-read (ReadsTextOf class.Area) _ value.area reads.area (stands class.Area e) in
+    let box : is_same class.BoundingBox shape.0 ≡ true → IsSome value.bbox = λ e. some-read (ReadsBox class.BoundingBox) _ value.bbox reads.bbox (stands class.BoundingBox e) in
+    let extent : is_same class.VerticalExtent shape.0 ≡ true → IsSome value.extent
+    = λ e. some-read (ReadsExtent class.VerticalExtent) _ value.extent reads.extent (stands class.VerticalExtent e) in
+    grind (arith, part, scope, area, box, extent)
   where
-    stands : (c : Class) → is_same c sound.shaped.1.0 ≡ true → those class.Usage c (More first others) ≡ first ∷ those class.Usage c others
-    stands c e = those-first class.Usage c (More first others) (λ n. cc) (ap (is_class c) sound.shaped.1.1.1.0 ∙ e)
+    stands : (c : Class) → is_same c sound.shaped.1.0 ≡ true → those class.Usage c (More first others) ≢ []
+    stands c e = λ none. let here = those-first class.Usage c (More first others) (λ n. cc) (ap (is_class c) sound.shaped.1.1.1.0 ∙ e) in cc
 
 pub node-tells : SlotsBound → (c : Class) → c ≡ class.Usage → Tells c (ReadsUsage c) IsUsage
 node-tells law c same =
