@@ -1,5 +1,5 @@
 use Rattle.std.proofs.Common.{ℕ, ◌⊎◌, subst}
-use Rattle.crs_text.specs.Prelude.{arguments, RefusedAt}
+use Rattle.crs_text.specs.Prelude.{arguments}
 use Rattle.crs_shape.specs.declared.class.Class.TheVariants as class
 use Rattle.crs_shape.specs.Prelude.{dimensions_of}
 use Rattle.crs_value.specs.Cursor.{item}
@@ -18,7 +18,5 @@ returns c =
     let systems = those c.args.node.now.class class.CoordinateSystem items in
     let axes = those c.args.node.now.class class.Axis items in
     let Head : ℕ → Type 0 = λ n. IsLeast (AnyOf (λ cs f. BadSystem (dimensions_of c.args.node.now.class) cs f ⊎ AxisCount n cs f) systems) c.only_from.result in
-    let Repeated : RefusedAt → Type 0 = λ f. RepeatsAny c.args.node.now.class items once f in
-    either-is Repeated (AnyOf (OfHead (dimensions_of c.args.node.now.class) axes) systems) c.repeats_once.result c.only_from.result c.lesser.result c.lesser.ensures
-    c.repeats_once.ensures
+    either-is (RepeatsAny c.args.node.now.class items once) (AnyOf (OfHead (dimensions_of c.args.node.now.class) axes) systems) _ _ _ c.lesser.ensures c.repeats_once.ensures
     (subst Head c.requires.firsts.axes c.only_from.ensures)

@@ -1,10 +1,6 @@
-use Rattle.std.proofs.Common.{None, List, subst, sym}
-use Rattle.crs_text.specs.Prelude.{Item, arguments}
+use Rattle.std.proofs.Common.{None}
 use Rattle.crs_shape.specs.declared.class.Class.TheVariants as class
-use Rattle.crs_value.specs.Cursor.{item}
-use Rattle.crs_value.specs.BadOrder.{LacksOrder, BadOrder}
-use Rattle.crs_value.specs.Break.{IsLeast}
-use Rattle.crs_value.specs.Reading.{those}
+use Rattle.crs_value.specs.BadOrder.{LacksOrder}
 use Rattle.crs_value.proofs.found.ArgumentLemmas.{found-is, found-holds, found-shaped}
 use Rattle.crs_value.proofs.checked.CheckLemmas.{found-any}
 use Rattle.crs_value.proofs.checked.OrderLemmas.{order-all}
@@ -12,33 +8,23 @@ use Rattle.crs_value.proofs.checked.PlacedLemmas.{placed-none}
 use Rattle.crs_value.proofs.checks.order.bad_order.Goals as goal
 
 pub any_from-requires-clause-shaped : goal.any_from-requires-clause-shaped
-any_from-requires-clause-shaped c =
-    found-shaped c.args.crs.now.items.now c.args.crs.now.class class.Axis (item c.args.crs.now) c.args.firsts.now.axis c.requires.shaped c.requires.firsts.axis
+any_from-requires-clause-shaped c = found-shaped _ _ class.Axis _ _ c.requires.shaped c.requires.firsts.axis
 
 pub returns-in-Some : goal.returns-in-Some
-returns-in-Some c =
-    let tree = c.args.crs.now.items.now in
-    let axes = those c.args.crs.now.class class.Axis (arguments (item c.args.crs.now)) in
-    let P : List Item → Type 0 = λ xs. IsLeast (BadOrder xs) c.beside.result in
-    subst P (sym (found-is tree c.args.crs.now.class class.Axis axes c.args.firsts.now.axis c.requires.firsts.axis)) c.beside.ensures
+returns-in-Some c = rw (found-is c.args.crs.now.items.now c.args.crs.now.class class.Axis _ c.args.firsts.now.axis c.requires.firsts.axis) c.beside.ensures
 
 pub returns-in-None : goal.returns-in-None
 returns-in-None c =
-    let tree = c.args.crs.now.items.now in
-    let axes = those c.args.crs.now.class class.Axis (arguments (item c.args.crs.now)) in
-    order-all axes c.bad_orders.result (found-any LacksOrder tree c.args.crs.now.class class.Axis axes c.args.firsts.now.axis None c.requires.firsts.axis c.in-None.ensures) c.bad_orders.ensures
+    order-all _ c.bad_orders.result (found-any LacksOrder c.args.crs.now.items.now c.args.crs.now.class class.Axis _ c.args.firsts.now.axis None c.requires.firsts.axis c.in-None.ensures)
+    c.bad_orders.ensures
 
 pub in_order-requires-clause-holds : goal.in_order-requires-clause-holds
 in_order-requires-clause-holds c = found-holds c.args.crs.now.items.now c.args.crs.now.class class.Axis _ c.args.firsts.now.axis c.requires.firsts.axis
 
 pub in_order-requires-clause-shaped : goal.in_order-requires-clause-shaped
-in_order-requires-clause-shaped c =
-    found-shaped c.args.crs.now.items.now c.args.crs.now.class class.Axis (item c.args.crs.now) c.args.firsts.now.axis c.requires.shaped c.requires.firsts.axis
+in_order-requires-clause-shaped c = found-shaped _ _ class.Axis _ _ c.requires.shaped c.requires.firsts.axis
 
 pub returns-then-in_order : goal.returns-then-in_order
 returns-then-in_order c =
-    let tree = c.args.crs.now.items.now in
-    let axes = those c.args.crs.now.class class.Axis (arguments (item c.args.crs.now)) in
-    let P : List Item → Type 0 = λ xs. IsLeast (BadOrder xs) None in
-    subst P (sym (found-is tree c.args.crs.now.class class.Axis axes c.args.firsts.now.axis c.requires.firsts.axis))
+    rw (found-is c.args.crs.now.items.now c.args.crs.now.class class.Axis _ c.args.firsts.now.axis c.requires.firsts.axis)
     (placed-none c.denotes_one.ensures c.same_number_is_equivalence.ensures.symmetric c.same_number_is_equivalence.ensures.transitive _ (c.in_order.ensures c.if-in_order.true))

@@ -1,33 +1,20 @@
-use Rattle.std.proofs.Common.{ℕ, Option, subst, arith}
+use Rattle.std.proofs.Common.{arith}
 use Rattle.crs_text.specs.Prelude.{arguments}
 use Rattle.crs_shape.specs.declared.class.Class.TheVariants as class
 use Rattle.crs_value.specs.Cursor.{item}
-use Rattle.crs_value.specs.Reading.{those}
-use Rattle.crs_value.proofs.checked.OrderLemmas.{Ordering, more-are-left, ordering-first, ordering-on}
+use Rattle.crs_value.proofs.checked.OrderLemmas.{more-are-left, ordering-first, ordering-on}
 use Rattle.crs_value.proofs.checked.SystemLemmas.{those-few}
 use Rattle.crs_value.proofs.checks.order.bad_orders.Goals as goal
 
 pub loop-at-init : goal.loop-at-init
-loop-at-init c =
-    ordering-first c.args.crs.now.items.now c.args.crs.now.class (item c.args.crs.now) c.args.firsts.now.axes c.args.firsts.now.axis c.requires.shaped c.requires.firsts.axes c.requires.firsts.axis
+loop-at-init c = ordering-first _ _ (item c.args.crs.now) c.args.firsts.now.axes c.args.firsts.now.axis c.requires.shaped c.requires.firsts.axes c.requires.firsts.axis
 
 pub loop-at-preserved : goal.loop-at-preserved
 loop-at-preserved c =
-    let tree = c.args.crs.now.items.now in
-    let whole = those c.args.crs.now.class class.Axis (arguments (item c.args.crs.now)) in
-    let P : Option ℕ → Type 0 = λ at. Ordering tree c.args.crs.now.class whole c.args.firsts.now.axes c.loop-at.before c.loop-at.least at in
-    ordering-on tree c.args.crs.now.class whole c.args.firsts.now.axes c.loop-at.before c.loop-at.least c.only_of.result c.lesser-least.result c.in-Some.axis c.later-at.result
-    (subst P c.in-Some.is c.loop-at.invariant) c.only_of.ensures c.lesser-least.ensures c.later-at.ensures
+    ordering-on _ _ _ c.args.firsts.now.axes c.loop-at.before c.loop-at.least c.only_of.result c.lesser-least.result c.in-Some.axis c.later-at.result
+    (rw c.in-Some.is at c.loop-at.invariant) c.only_of.ensures c.lesser-least.ensures c.later-at.ensures
 
 pub overflow_add-before : goal.overflow_add-before
 overflow_add-before c =
-    let tree = c.args.crs.now.items.now in
-    let whole = those c.args.crs.now.class class.Axis (arguments (item c.args.crs.now)) in
-    let P : Option ℕ → Type 0 = λ at. Ordering tree c.args.crs.now.class whole c.args.firsts.now.axes c.loop-at.before c.loop-at.least at in
-    omega (
-      arith,
-      more-are-left tree c.args.crs.now.class whole c.args.firsts.now.axes c.loop-at.before c.loop-at.least c.in-Some.axis (subst P c.in-Some.is c.loop-at.invariant),
-      those-few c.args.crs.now.class class.Axis (arguments (item c.args.crs.now)),
-      c.arg_count-bound.ensures,
-      c.arg_count-bound.type_inv,
-    )
+    let left = more-are-left _ _ _ _ _ _ c.in-Some.axis (rw c.in-Some.is at c.loop-at.invariant) in
+    omega (arith, left, those-few c.args.crs.now.class class.Axis (arguments (item c.args.crs.now)), c.arg_count-bound.ensures, c.arg_count-bound.type_inv)

@@ -1,6 +1,3 @@
-use Rattle.std.proofs.Common.{subst}
-use Rattle.crs_shape.specs.declared.unit_kind.UnitKind.{UnitKind}
-use Rattle.crs_value.specs.BadUnit.{Asks}
 use Rattle.crs_value.specs.Reading.{item_at}
 use Rattle.crs_value.proofs.checked.UnitLemmas.{asks-one}
 use Rattle.crs_value.proofs.checks.unit.asks.Goals as goal
@@ -9,8 +6,7 @@ pub returns-in-None : goal.returns-in-None
 returns-in-None c = (λ e. absurd cc, λ h. absurd (c.in-None.ensures c.args.kind h))
 
 pub returns-in-Some : goal.returns-in-Some
-returns-in-Some c =
-    let cs = item_at c.args.items.now c.args.cs in
-    let axis = item_at c.args.items.now c.args.axis in
-    let P : UnitKind → Type 0 = λ k. Asks cs axis k in
-    (λ e. subst P (c.same_kind.ensures.0 e) c.in-Some.ensures, λ h. c.same_kind.ensures.1 (asks-one cs axis c.in-Some.asked c.args.kind c.in-Some.ensures h))
+returns-in-Some c = (
+  λ e. rw (← c.same_kind.ensures.0 e) c.in-Some.ensures,
+  λ h. c.same_kind.ensures.1 (asks-one (item_at c.args.items.now c.args.cs) (item_at c.args.items.now c.args.axis) c.in-Some.asked c.args.kind c.in-Some.ensures h),
+)

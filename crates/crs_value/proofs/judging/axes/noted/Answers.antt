@@ -1,6 +1,4 @@
-use Rattle.std.proofs.Common.{refl, sym, ◌∙◌, subst}
-use Rattle.crs_shape.specs.declared.unit_kind.UnitKind.{UnitKind}
-use Rattle.crs_value.specs.BadUnit.{Asks}
+use Rattle.std.proofs.Common.{refl, sym, ◌∙◌}
 use Rattle.crs_value.proofs.judging.axes.noted.Goals as goal
 
 pub returns : goal.returns
@@ -8,12 +6,7 @@ returns c = record {
   counted = refl;
   placed = c.placed-places.ensures;
   none = λ e. ((c.still-orderless.ensures e).0, c.is_none-no_order.ensures (c.still-orderless.ensures e).1);
-  fit = λ e. (
-    (c.still-own.ensures e).0,
-    λ cs axis asks units.
-        let P : UnitKind → Type 0 = λ k. Asks cs axis k in
-        c.fits_own-fit.ensures (c.still-own.ensures e).1 cs axis (subst P (sym c.asked_kind-kind.ensures) asks) units,
-  );
+  fit = λ e. ((c.still-own.ensures e).0, λ cs axis asks units. c.fits_own-fit.ensures (c.still-own.ensures e).1 cs axis (rw c.asked_kind-kind.ensures asks) units);
   free = λ e. ((c.still-alone.ensures e).0, c.is_none-no_unit.ensures (c.still-alone.ensures e).1);
   long = λ e. ((c.still-lengths.ensures e).0, sym c.asked_kind-kind.ensures ∙ c.same_kind-long.ensures (c.still-lengths.ensures e).1);
   turned = λ e. ((c.still-angles.ensures e).0, sym c.asked_kind-kind.ensures ∙ c.same_kind-turned.ensures (c.still-angles.ensures e).1);

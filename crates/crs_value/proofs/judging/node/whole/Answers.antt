@@ -1,12 +1,10 @@
-use Rattle.crs_value.specs.Reading.{item_at}
 use Rattle.crs_value.proofs.checked.OwnLemmas.{own-crs}
 use Rattle.crs_value.proofs.walk.RestLemmas.{quiet-whole}
 use Rattle.crs_value.proofs.judging.node.whole.Goals as goal
 
 pub returns-then-is_quiet : goal.returns-then-is_quiet
 returns-then-is_quiet c =
-    quiet-whole c.args.class (item_at c.args.items.now c.args.id) c.args.inside c.bad_dynamic.result c.lesser.result c.requires.system (c.is_quiet.ensures c.if-is_quiet.true)
-    c.requires.inside c.bad_dynamic.ensures c.lesser.ensures
+    quiet-whole _ _ _ _ _ c.requires.system (c.is_quiet.ensures c.if-is_quiet.true) c.requires.inside c.bad_dynamic.ensures c.lesser.ensures
 
 pub returns : goal.returns
-returns c = own-crs c.args.class (item_at c.args.items.now c.args.id) c.whole_crs.result c.requires.system c.whole_crs.ensures
+returns c = own-crs _ _ _ c.requires.system c.whole_crs.ensures

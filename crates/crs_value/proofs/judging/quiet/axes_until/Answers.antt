@@ -7,30 +7,22 @@ use Rattle.crs_value.proofs.walk.RunLemmas.{nothing-seen}
 use Rattle.crs_value.proofs.judging.quiet.axes_until.Goals as goal
 
 pub loop-at-init : goal.loop-at-init
-loop-at-init c = noted-first c.args.items.now c.args.class c.args.system_type _ c.args.from (nothing-seen c.args.system_type) c.requires.holds
+loop-at-init c = noted-first _ _ _ _ _ (nothing-seen c.args.system_type) c.requires.holds
 
 pub returns-then-same_place : goal.returns-then-same_place
 returns-then-same_place c =
-    let tree = c.args.items.now in
-    noted-end tree c.args.class c.args.system_type c.args.from c.loop-at.axes c.loop-at.at c.loop-at.invariant
-    (ap (λ o. those c.args.class class.Axis (ahead tree o)) (c.in-Some.is ∙ c.same_place.ensures c.if-same_place.true) ∙ c.requires.none)
+    noted-end _ _ _ _ _ _ c.loop-at.invariant
+    (ap (λ o. those c.args.class class.Axis (ahead c.args.items.now o)) (c.in-Some.is ∙ c.same_place.ensures c.if-same_place.true) ∙ c.requires.none)
 
 pub seen_of-requires-clause-shaped : goal.seen_of-requires-clause-shaped
 seen_of-requires-clause-shaped c =
-    let tree = c.args.items.now in
-    let id = c.in-Some.axis in
-    noted-shaped tree c.args.class c.args.system_type c.args.from c.loop-at.axes c.loop-at.at id c.in-Some.is (has-some tree c.loop-at.at id c.in-Some.is c.loop-at.invariant.holds)
-    (sym c.stands_as.ensures ∙ c.if-not-stands_as.false) c.requires.shaped c.loop-at.invariant
+    noted-shaped _ _ _ _ _ _ c.in-Some.axis c.in-Some.is (has-some c.args.items.now _ _ c.in-Some.is c.loop-at.invariant.holds) (sym c.stands_as.ensures ∙ c.if-not-stands_as.false)
+    c.requires.shaped c.loop-at.invariant
 
 pub loop-at-preserved : goal.loop-at-preserved
 loop-at-preserved c =
-    let tree = c.args.items.now in
-    let id = c.in-Some.axis in
-    noted-on tree c.args.class c.args.system_type c.args.from c.in-Some-seen_of.seen c.loop-at.axes c.noted-axes.result c.loop-at.at id c.next-at.result c.in-Some.is
-    (has-some tree c.loop-at.at id c.in-Some.is c.loop-at.invariant.holds) c.next-at.ensures (sym c.stands_as.ensures ∙ c.if-not-stands_as.false) c.in-Some-seen_of.ensures
-    c.noted-axes.ensures c.loop-at.invariant
+    noted-on _ _ _ _ c.in-Some-seen_of.seen _ _ _ c.in-Some.axis _ c.in-Some.is (has-some c.args.items.now _ _ c.in-Some.is c.loop-at.invariant.holds) c.next-at.ensures
+    (sym c.stands_as.ensures ∙ c.if-not-stands_as.false) c.in-Some-seen_of.ensures c.noted-axes.ensures c.loop-at.invariant
 
 pub returns : goal.returns
-returns c =
-    noted-end c.args.items.now c.args.class c.args.system_type c.args.from c.loop-at.axes c.loop-at.at c.loop-at.invariant
-    (ap (λ o. those c.args.class class.Axis (ahead c.args.items.now o)) c.in_default.is)
+returns c = noted-end _ _ _ _ _ _ c.loop-at.invariant (ap (λ o. those c.args.class class.Axis (ahead c.args.items.now o)) c.in_default.is)

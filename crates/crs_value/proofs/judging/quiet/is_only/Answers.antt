@@ -4,5 +4,4 @@ use Rattle.crs_value.proofs.judging.quiet.is_only.Goals as goal
 
 pub returns : goal.returns
 returns c = λ yes.
-    only-here c.args.items.now c.args.parent c.args.class c.args.id c.next-behind.result c.args.next c.requires.has c.next-behind.ensures (sym c.stands_as.ensures ∙ c.if-not-stands_as.false)
-    (c.same_place.ensures yes) c.requires.none
+    only-here _ c.args.parent _ _ _ _ c.requires.has c.next-behind.ensures (sym c.stands_as.ensures ∙ c.if-not-stands_as.false) (c.same_place.ensures yes) c.requires.none

@@ -1,25 +1,21 @@
-use Rattle.crs_text.specs.Prelude.{arguments}
 use Rattle.crs_value.specs.Reading.{item_at}
 use Rattle.crs_value.proofs.walk.LayoutLemmas.{axes-shaped, laid-quiet, system-shaped}
 use Rattle.crs_value.proofs.judging.quiet.is_quiet.Goals as goal
 
 pub type_of-requires-clause-shaped : goal.type_of-requires-clause-shaped
 type_of-requires-clause-shaped c =
-    system-shaped c.args.items.now c.args.class (item_at c.args.items.now c.args.id) c.args.layout c.in-Some.cs c.requires.shaped c.requires.laid c.in-Some.is
-    (c.is_only.ensures c.if-not-is_only.false)
+    system-shaped _ _ (item_at c.args.items.now c.args.id) _ c.in-Some.cs c.requires.shaped c.requires.laid c.in-Some.is (c.is_only.ensures c.if-not-is_only.false)
 
 pub axes_until-requires-clause-shaped : goal.axes_until-requires-clause-shaped
-axes_until-requires-clause-shaped c = axes-shaped c.args.items.now c.args.class (item_at c.args.items.now c.args.id) c.args.layout c.requires.shaped c.requires.laid
+axes_until-requires-clause-shaped c = axes-shaped _ _ (item_at c.args.items.now c.args.id) _ c.requires.shaped c.requires.laid
 
 pub head_fits-requires-clause-shaped : goal.head_fits-requires-clause-shaped
 head_fits-requires-clause-shaped c =
-    system-shaped c.args.items.now c.args.class (item_at c.args.items.now c.args.id) c.args.layout c.in-Some.cs c.requires.shaped c.requires.laid c.in-Some.is
-    (c.is_only.ensures c.if-not-is_only.false)
+    system-shaped _ _ (item_at c.args.items.now c.args.id) _ c.in-Some.cs c.requires.shaped c.requires.laid c.in-Some.is (c.is_only.ensures c.if-not-is_only.false)
 
 pub returns : goal.returns
 returns c = λ yes.
-    let tree = c.args.items.now in
-    laid-quiet c.denotes_one.ensures c.same_number_is_equivalence.ensures.symmetric c.same_number_is_equivalence.ensures.transitive tree c.args.class (arguments (item_at tree c.args.id))
+    laid-quiet c.denotes_one.ensures c.same_number_is_equivalence.ensures.symmetric c.same_number_is_equivalence.ensures.transitive _ _ _
     c.args.layout c.in-Some.cs c.in-Some-type_of.system_type c.in-Some-axes_until.axes c.in-Some-shared_unit.shared c.requires.laid c.in-Some.is (c.is_only.ensures c.if-not-is_only.false)
     c.in-Some-type_of.ensures c.in-Some-axes_until.ensures c.in-Some-shared_unit.ensures.unit (c.head_fits.ensures c.if-not-head_fits.false) (c.is_ordered.ensures c.if-not-is_ordered.false)
     (c.units_fit.ensures c.if-not-units_fit.false) (c.is_ascending.ensures yes)

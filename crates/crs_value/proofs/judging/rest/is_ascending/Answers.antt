@@ -1,4 +1,3 @@
-use Rattle.crs_text.specs.Prelude.{rest_of, here}
 use Rattle.crs_value.specs.Reading.{ahead}
 use Rattle.crs_value.proofs.found.ArgumentLemmas.{has-some, holds_at}
 use Rattle.crs_value.proofs.walk.RestLemmas.{climbing-first, climbing-on}
@@ -8,11 +7,8 @@ pub loop-at-init : goal.loop-at-init
 loop-at-init c = record { holds = c.requires; climbing = climbing-first c.args.parent (ahead c.args.items.now c.args.from) }
 
 pub loop-at-preserved : goal.loop-at-preserved
-loop-at-preserved c =
-    let tree = c.args.items.now in
-    let id = c.in-Some.id in
-    record {
-      holds = holds_at tree (rest_of (here tree id)) c.next-at.result c.next-at.ensures;
-      climbing = climbing-on tree c.args.parent (ahead tree c.args.from) c.loop-at.at id c.next-at.result c.loop-at.last c.in-Some-climbed.next c.once_in.result c.in-Some.is
-          (has-some tree c.loop-at.at id c.in-Some.is c.loop-at.invariant.holds) c.next-at.ensures c.once_in.ensures c.in-Some-climbed.ensures c.loop-at.invariant.climbing;
-    }
+loop-at-preserved c = record {
+  holds = holds_at _ _ _ c.next-at.ensures;
+  climbing = climbing-on c.args.items.now _ _ _ c.in-Some.id c.next-at.result _ c.in-Some-climbed.next c.once_in.result c.in-Some.is
+      (has-some c.args.items.now _ _ c.in-Some.is c.loop-at.invariant.holds) c.next-at.ensures c.once_in.ensures c.in-Some-climbed.ensures c.loop-at.invariant.climbing;
+}

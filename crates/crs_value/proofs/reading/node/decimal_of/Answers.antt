@@ -1,6 +1,5 @@
-use Rattle.crs_value.specs.Reading.{item_at}
 use Rattle.crs_value.proofs.found.ArgumentLemmas.{shaped-number}
 use Rattle.crs_value.proofs.reading.node.decimal_of.Goals as goal
 
 pub unreachable-requires : goal.unreachable-requires
-unreachable-requires c = c.in-None.ensures (shaped-number (item_at c.args.items.now c.args.id) c.requires.shaped)
+unreachable-requires c = c.in-None.ensures (shaped-number _ c.requires.shaped)

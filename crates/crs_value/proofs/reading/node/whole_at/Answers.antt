@@ -1,7 +1,5 @@
-use Rattle.crs_text.specs.Prelude.{raw_of}
-use Rattle.crs_value.specs.Reading.{item_at}
 use Rattle.crs_value.proofs.walk.WholeNumberLemmas.{decimal-read}
 use Rattle.crs_value.proofs.reading.node.whole_at.Goals as goal
 
 pub returns-in-None : goal.returns-in-None
-returns-in-None c = decimal-read (raw_of (item_at c.args.items.now c.args.id)) c.decimal_of.result _ c.whole.result c.decimal_of.ensures c.whole.ensures
+returns-in-None c = decimal-read _ c.decimal_of.result _ c.whole.result c.decimal_of.ensures c.whole.ensures

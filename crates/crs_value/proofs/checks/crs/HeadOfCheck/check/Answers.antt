@@ -8,6 +8,4 @@ use Rattle.crs_value.proofs.checks.crs.HeadOfCheck.check.Goals as goal
 pub returns : goal.returns
 returns c =
     let cs = item_at c.args.items.now c.args.id in
-    let head = c.args.self.now in
-    either-is (BadSystem (dimensions_of head.class) cs) (AxisCount head.axes cs) c.bad_system.result c.bad_count.result c.lesser.result c.lesser.ensures
-    c.bad_system.ensures c.bad_count.ensures
+    either-is (BadSystem (dimensions_of c.args.self.now.class) cs) (AxisCount c.args.self.now.axes cs) _ _ _ c.lesser.ensures c.bad_system.ensures c.bad_count.ensures

@@ -1,39 +1,30 @@
-use Rattle.std.proofs.Common.{◌≤◌, length, take, List, refl, sym, subst}
-use Rattle.crs_text.specs.Prelude.{Item, arguments}
+use Rattle.std.proofs.Common.{take, refl}
+use Rattle.crs_text.specs.Prelude.{arguments}
 use Rattle.crs_shape.specs.declared.class.Class.TheVariants as class
-use Rattle.crs_value.specs.BadOrder.{OneHas}
 use Rattle.crs_value.specs.Reading.{item_at, those}
 use Rattle.crs_value.proofs.found.ArgumentLemmas.{found-is, found-shaped}
 use Rattle.crs_value.proofs.checked.OrderLemmas.{wrong-again, wrong-none}
 use Rattle.crs_value.proofs.checks.order.PositionCheck.check.Goals as goal
 
 pub one_has-requires-clause-shaped : goal.one_has-requires-clause-shaped
-one_has-requires-clause-shaped c =
-    let s = c.args.self.now in
-    found-shaped c.args.items.now s.class class.Axis (item_at c.args.items.now s.crs) s.axis c.requires.fits.1 c.requires.fits.3
+one_has-requires-clause-shaped c = found-shaped _ _ class.Axis _ _ c.requires.fits.1 c.requires.fits.3
 
 pub one_has-requires-clause-within : goal.one_has-requires-clause-within
 one_has-requires-clause-within c =
-    let s = c.args.self.now in
-    let axes = those s.class class.Axis (arguments (item_at c.args.items.now s.crs)) in
-    let P : List Item → Type 0 = λ xs. s.before ≤ length xs in
-    subst P (found-is c.args.items.now s.class class.Axis axes s.axis c.requires.fits.3) c.requires.fits.4
+    let s = c.args.self.now in rw (found-is c.args.items.now s.class class.Axis _ s.axis c.requires.fits.3) at c.requires.fits.4
 
 pub returns-then-one_has : goal.returns-then-one_has
 returns-then-one_has c =
     let tree = c.args.items.now in
     let s = c.args.self.now in
     let axes = those s.class class.Axis (arguments (item_at tree s.crs)) in
-    let P : List Item → Type 0 = λ xs. OneHas c.number-value.result (take s.before xs) in
     wrong-again s.count (take s.before axes) (item_at tree c.args.id) c.number-value.result _ c.refusal_at-then-one_has.ensures c.number-value.ensures
-    (subst P (sym (found-is tree s.class class.Axis axes s.axis c.requires.fits.3)) (c.if-one_has.ensures.0 refl))
+    (rw (found-is tree s.class class.Axis axes s.axis c.requires.fits.3) (c.if-one_has.ensures.0 refl))
 
 pub returns : goal.returns
 returns c =
     let tree = c.args.items.now in
     let s = c.args.self.now in
     let axes = those s.class class.Axis (arguments (item_at tree s.crs)) in
-    let P : List Item → Type 0 = λ xs. OneHas c.number-value.result (take s.before xs) in
-    wrong-none c.denotes_one.ensures s.count (take s.before axes) (item_at tree c.args.id) c.number-value.result c.number-value.ensures
-    (c.is_position.ensures.0 c.if-not-is_position.false)
-    (λ h. let e = c.one_has.ensures.1 (subst P (found-is tree s.class class.Axis axes s.axis c.requires.fits.3) h) in let f = c.if-one_has.false in cc)
+    wrong-none c.denotes_one.ensures s.count (take s.before axes) (item_at tree c.args.id) c.number-value.result c.number-value.ensures (c.is_position.ensures.0 c.if-not-is_position.false)
+    (λ h. let e = c.one_has.ensures.1 (rw (found-is tree s.class class.Axis axes s.axis c.requires.fits.3) at h) in let f = c.if-one_has.false in cc)

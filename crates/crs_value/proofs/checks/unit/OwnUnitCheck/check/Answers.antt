@@ -1,14 +1,9 @@
-use Rattle.std.proofs.Common.{subst}
-use Rattle.crs_shape.specs.declared.class.Class.{Class}
-use Rattle.crs_shape.specs.Prelude.{Shaped}
 use Rattle.crs_value.specs.Reading.{item_at}
 use Rattle.crs_value.proofs.checked.UnitLemmas.{own-some}
 use Rattle.crs_value.proofs.checks.unit.OwnUnitCheck.check.Goals as goal
 
 pub only_from-requires-clause-shaped : goal.only_from-requires-clause-shaped
-only_from-requires-clause-shaped c =
-    let P : Class → Type 0 = λ x. Shaped x (item_at c.args.items.now c.args.id) in
-    subst P c.requires.fits.1 c.requires.shaped
+only_from-requires-clause-shaped c = rw (← c.requires.fits.1) c.requires.shaped
 
 pub returns : goal.returns
 returns c =

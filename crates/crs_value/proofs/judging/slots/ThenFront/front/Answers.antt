@@ -11,5 +11,4 @@ returns-in-Some-clause-leaves g c =
 
 pub returns-in-Some-clause-passed : goal.returns-in-Some-clause-passed
 returns-in-Some-clause-passed g c =
-    all-passed-on c.args.items.now c.args.parent c.args.close g.A.Slot.slot g.S.Front.front c.args.at c.in-Some.next c.front.result c.args.found.now c.pass.new.found c.front.new.found
-    c.in-Some.ensures.passed c.front.ensures.passed
+    all-passed-on c.args.items.now c.args.parent c.args.close g.A.Slot.slot g.S.Front.front c.args.at c.in-Some.next c.front.result _ _ _ c.in-Some.ensures.passed c.front.ensures.passed

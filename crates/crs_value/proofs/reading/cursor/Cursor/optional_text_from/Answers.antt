@@ -1,13 +1,5 @@
-use Rattle.std.proofs.Common.{ℕ, Option, subst}
-use Rattle.crs_text.specs.Prelude.{arguments}
-use Rattle.crs_value.specs.Cursor.{item}
-use Rattle.crs_value.specs.Reading.{those, IsFound}
 use Rattle.crs_value.proofs.found.ArgumentLemmas.{first-sound}
 use Rattle.crs_value.proofs.reading.cursor.Cursor.optional_text_from.Goals as goal
 
 pub text-requires-clause-sound : goal.text-requires-clause-sound
-text-requires-clause-sound c =
-    let tree = c.args.self.now.items.now in
-    let item = item c.args.self.now in
-    let P : Option ℕ → Type 0 = λ o. IsFound tree c.args.self.now.class c.args.class (those c.args.self.now.class c.args.class (arguments item)) o in
-    first-sound tree c.args.self.now.class c.args.class item c.in-Some.id c.requires.sound (subst P c.in-Some.is c.requires.found)
+text-requires-clause-sound c = first-sound _ _ _ _ c.in-Some.id c.requires.sound (rw c.in-Some.is at c.requires.found)
