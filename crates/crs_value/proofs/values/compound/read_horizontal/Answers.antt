@@ -6,13 +6,10 @@ use Rattle.crs_value.proofs.found.FrameLemmas.{one-there}
 use Rattle.crs_value.proofs.values.compound.read_horizontal.Goals as goal
 
 pub read_geodetic-requires-clause-sound : goal.read_geodetic-requires-clause-sound
-read_geodetic-requires-clause-sound c =
-    first-sound c.args.node.now.items.now class.CompoundCrs class.GeodeticCrs (item c.args.node.now) c.in-Some.id c.requires.sound c.in-Some.ensures
+read_geodetic-requires-clause-sound c = first-sound _ class.CompoundCrs class.GeodeticCrs _ c.in-Some.id c.requires.sound c.in-Some.ensures
 
-pub read_geodetic-requires-in-Some-first-clause-sound :
-    goal.read_geodetic-requires-in-Some-first-clause-sound
-read_geodetic-requires-in-Some-first-clause-sound c =
-    first-sound c.args.node.now.items.now class.CompoundCrs class.GeographicCrs (item c.args.node.now) c.in-Some-first.id c.requires.sound c.in-Some-first.ensures
+pub read_geodetic-requires-in-Some-first-clause-sound : goal.read_geodetic-requires-in-Some-first-clause-sound
+read_geodetic-requires-in-Some-first-clause-sound c = first-sound _ class.CompoundCrs class.GeographicCrs _ c.in-Some-first.id c.requires.sound c.in-Some-first.ensures
 
 pub unreachable-requires : goal.unreachable-requires
 unreachable-requires c =
@@ -20,5 +17,4 @@ unreachable-requires c =
     (omega arith) (c.in_default.ensures, (c.in_default-first.ensures, (c.in_default-first-2.ensures, tt)))
 
 pub read-requires-clause-sound : goal.read-requires-clause-sound
-read-requires-clause-sound c =
-    first-sound c.args.node.now.items.now class.CompoundCrs class.ProjectedCrs (item c.args.node.now) c.in-Some-first-2.id c.requires.sound c.in-Some-first-2.ensures
+read-requires-clause-sound c = first-sound _ class.CompoundCrs class.ProjectedCrs _ c.in-Some-first-2.id c.requires.sound c.in-Some-first-2.ensures

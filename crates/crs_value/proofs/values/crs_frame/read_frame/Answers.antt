@@ -5,8 +5,7 @@ use Rattle.crs_value.proofs.found.FrameLemmas.{one-there}
 use Rattle.crs_value.proofs.values.crs_frame.read_frame.Goals as goal
 
 pub read-requires-clause-sound : goal.read-requires-clause-sound
-read-requires-clause-sound c =
-    first-sound c.args.node.now.items.now c.args.node.now.class c.args.frame (item c.args.node.now) c.in-Some.id c.requires.sound c.in-Some.ensures
+read-requires-clause-sound c = first-sound _ c.args.node.now.class c.args.frame _ c.in-Some.id c.requires.sound c.in-Some.ensures
 
 pub unreachable-requires : goal.unreachable-requires
 unreachable-requires c =
@@ -14,5 +13,4 @@ unreachable-requires c =
     (c.in_default.ensures, (c.in_default-first.ensures, tt))
 
 pub read-requires-2-clause-sound : goal.read-requires-2-clause-sound
-read-requires-2-clause-sound c =
-    first-sound c.args.node.now.items.now c.args.node.now.class c.args.ensemble (item c.args.node.now) c.in-Some-first.id c.requires.sound c.in-Some-first.ensures
+read-requires-2-clause-sound c = first-sound _ c.args.node.now.class c.args.ensemble _ c.in-Some-first.id c.requires.sound c.in-Some-first.ensures

@@ -1,5 +1,5 @@
-use Rattle.std.proofs.Common.{◌≡◌, ◌+◌, ◌++◌, ◌∷◌, [], rules, subst, sym, take}
-use Rattle.crs_value.specs.Members.{AreIn, IsIn}
+use Rattle.std.proofs.Common.{◌≡◌, ◌++◌, ◌∷◌, [], rules, take}
+use Rattle.crs_value.specs.Members.{IsIn}
 use Rattle.crs_value.proofs.found.MemberLemmas.{are-front, are-one-more, in-end, in-index, in-over, taken-more}
 use Rattle.crs_value.proofs.values.ident.each_once.Goals as goal
 use Rattle.crs_value.proofs.values.ident.each_once.Goals.{then-not-is_equal_at+in_ok-push, else-not-is_equal_at}
@@ -17,20 +17,15 @@ loop-ident-preserved c =
           let more : next ≡ once ++ ident ∷ [] = search rules in
           record {
             at = search rules;
-            of = subst (λ it. AreIn it idents) (sym more)
-                (are-one-more once idents ident c.loop-ident.invariant.of (in-index idents index ident c.ident-item.is c.loop-ident-test.true));
-            all = subst (λ it. AreIn (take (index + 1) idents) it) (sym more)
-                (taken-more idents (once ++ ident ∷ []) index ident c.ident-item.is c.loop-ident-test.true
-                (are-front (take index idents) once (ident ∷ []) before) (in-end ident once));
+            of = rw more (are-one-more once idents ident c.loop-ident.invariant.of (in-index idents index ident c.ident-item.is c.loop-ident-test.true));
+            all = rw more (taken-more idents _ index ident c.ident-item.is c.loop-ident-test.true (are-front (take index idents) once (ident ∷ []) before) (in-end ident once));
           }
       | else-not-is_equal_at w ↦
           let same : next ≡ once = search rules in
           let found : IsIn ident (take index idents) = search rules in
           record {
             at = search rules;
-            of = subst (λ it. AreIn it idents) (sym same) c.loop-ident.invariant.of;
-            all = subst (λ it. AreIn (take (index + 1) idents) it) (sym same)
-                (taken-more idents once index ident c.ident-item.is c.loop-ident-test.true before
-                (in-over ident (take index idents) once found before));
+            of = rw same c.loop-ident.invariant.of;
+            all = rw same (taken-more idents once index ident c.ident-item.is c.loop-ident-test.true before (in-over ident (take index idents) once found before));
           }
     ]

@@ -1,14 +1,11 @@
-use Rattle.std.proofs.Common.{◌≡◌, ◌<◌, Some, length, refl, sym, slice_get}
+use Rattle.std.proofs.Common.{length, refl, sym}
 use Rattle.std.proofs.lemmas.Bool.{ltb-true}
 use Rattle.std.proofs.lemmas.Option.{slice_get_read}
 use Rattle.crs_value.proofs.found.MemberLemmas.{in-at}
 use Rattle.crs_value.proofs.values.ident.is_equal_at.Goals as goal
 
 pub returns-in-Some : goal.returns-in-Some
-returns-in-Some c =
+returns-in-Some c = λ equal.
     let looked = c.in-Some.ensures.lookup in
-    let others = c.args.idents.now in
-    let within : c.args.place < length others = ltb-true c.args.place (length others) (sym looked.0) in
-    let there : slice_get others c.args.place ≡ Some c.in-Some.other.now
-    = slice_get_read others (length others) c.args.place c.in-Some.other.now refl within looked.1 in
-    λ equal. in-at c.args.ident.now others c.args.place c.in-Some.other.now there (c.is_equal.ensures equal)
+    let many = length c.args.idents.now in
+    in-at _ _ c.args.place _ (slice_get_read c.args.idents.now many c.args.place _ refl (ltb-true c.args.place many (sym looked.0)) looked.1) (c.is_equal.ensures equal)
