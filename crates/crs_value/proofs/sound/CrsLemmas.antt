@@ -58,8 +58,8 @@ vertical-ensemble-tells law bound item ensemble s r =
     (ensemble-tells law class.VerticalEnsemble (omega arith) item ensemble s r, no-ellipsoid bound class.VerticalEnsemble item ensemble.ellipsoid refl refl s r.ellipsoid)
 
 -- a frame is a reference frame of the one class, or an ensemble of the other
-frame-tells : (d e : Class) (P : Frame → Type 0) → Tells d (ReadsDatum d) (λ datum. P (frames.Datum datum)) → Tells e (ReadsEnsemble e) (λ ensemble. P (frames.Ensemble ensemble)) → (c : Class) →
-    Tells c (ReadsFrame d e c) P
+frame-tells : (d e : Class) (P : Frame → Type 0) → Tells d (ReadsDatum d) (λ datum. P (frames.Datum datum)) → Tells e (ReadsEnsemble e) (λ ensemble. P (frames.Ensemble ensemble)) →
+    (c : Class) → Tells c (ReadsFrame d e c) P
 frame-tells d e P first second c item value sound reads =
     else-tells (ReadsAsDatum d) (ReadsOne ReadsAsEnsemble e c item) P c d datum item value (λ other. first-tells (ReadsAsEnsemble e) P c e ensemble item value sound other) sound reads
   where
@@ -76,24 +76,17 @@ geodetic-frame-tells law = frame-tells class.GeodeticFrame class.GeodeticEnsembl
 
 -- ---- geodetic and geographic CRSs
 
-geodetic-system : (c : Class) → IsGeodeticClass c → HasSystem c
-geodetic-system class.GeodeticCrs is = tt
-geodetic-system class.GeographicCrs is = tt
+geodetic-system : (c : Class) → IsGeodeticClass c → HasSystem c × Requires c class.Axis 0
+geodetic-system class.GeodeticCrs is = (tt, omega arith)
+geodetic-system class.GeographicCrs is = (tt, omega arith)
 geodetic-system other is = absurd is
-
-geodetic-axis : (c : Class) → IsGeodeticClass c → Requires c class.Axis 0
-geodetic-axis class.GeodeticCrs is = omega arith
-geodetic-axis class.GeographicCrs is = omega arith
-geodetic-axis other is = absurd is
 
 -- what a CRS that is called geographic allows, each geodetic one allows
 allowed-geodetic : (c : Class) (system_type : SystemType) (value : Value) → IsGeodeticClass c → IsOneOf value (dimensions_of c system_type) →
     IsOneOf value (dimensions_of class.GeodeticCrs system_type)
 allowed-geodetic class.GeodeticCrs system_type value is h = h
-allowed-geodetic class.GeographicCrs types.Cartesian value is h = absurd h
 allowed-geodetic class.GeographicCrs types.Ellipsoidal value is h = h
-allowed-geodetic class.GeographicCrs types.Spherical value is h = absurd h
-allowed-geodetic class.GeographicCrs types.Vertical value is h = absurd h
+allowed-geodetic class.GeographicCrs other value is h = absurd h
 allowed-geodetic other system_type value is h = absurd is
 
 -- the type and dimension of a sound CRS's system are allowed
@@ -104,7 +97,7 @@ allowed-by c item system has sound reads =
 
 pub geodetic-tells : SlotsCount → SlotsBound → (c : Class) → IsGeodeticClass c → Tells c (ReadsGeodetic c) IsGeodetic
 geodetic-tells law bound c is item value sound reads =
-    let has = geodetic-system c is in
+    let has : HasSystem c = (geodetic-system c is).0 in
     record {
       name = text-of-tells c item value.name sound reads.name;
       dynamic =
@@ -112,7 +105,7 @@ geodetic-tells law bound c is item value sound reads =
           (λ fault bad. own-free c item fault sound (own-of-crs c item fault has (inr (inr bad)))) (λ some. inl some) reads.frame reads.dynamic;
       frame = geodetic-frame-tells law c item value.frame sound reads.frame;
       meridian = optional-tells (ReadsMeridian class.PrimeMeridian) IsMeridian c class.PrimeMeridian (meridian-tells class.PrimeMeridian) item value.meridian sound reads.meridian;
-      system = system-tells law c has (geodetic-axis c is) item value.system sound reads.system;
+      system = system-tells law c has (geodetic-system c is).1 item value.system sound reads.system;
       dimension = allowed-geodetic c value.system.system_type value.system.dimension is (allowed-by c item value.system has sound reads.system);
       tail = tail-tells bound c item value.tail sound reads.tail;
     }

@@ -19,7 +19,8 @@ use Rattle.crs_value.specs.Reads.{ReadsType, ReadsDirection, ReadsKind, IsUnitCl
 use Rattle.crs_value.proofs.found.ArgumentLemmas.{same_class}
 
 -- a number, a text or a word has no class of which this holds
-pub not-leaf : (P : Class → Type 0) → ¬ (P class.Number) → ¬ (P class.Text) → ¬ (P class.Word) → (c : Class) (kind : Kind) (place : ℕ) (raw : List ℕ) → Shaped c (leaf kind place raw) → P c → ⊥
+pub not-leaf : (P : Class → Type 0) → ¬ (P class.Number) → ¬ (P class.Text) → ¬ (P class.Word) → (c : Class) (kind : Kind) (place : ℕ) (raw : List ℕ) →
+    Shaped c (leaf kind place raw) → P c → ⊥
 not-leaf P a b d c number place raw shaped h = a (rw (same_class class.Number c shaped) h)
 not-leaf P a b d c text place raw shaped h = b (rw (same_class class.Text c shaped) h)
 not-leaf P a b d c word place raw shaped h = d (rw (same_class class.Word c shaped) h)

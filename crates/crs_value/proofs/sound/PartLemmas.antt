@@ -100,7 +100,8 @@ pub each-as : {V : Type 0} (P Q : V → Type 0) → ((value : V) → P value →
 each-as P Q step [] all = tt
 each-as P Q step (value ∷ values) all = (step value all.0, each-as P Q step values all.1)
 
-pub each-free : (Broken : Item → RefusedAt → Type 0) (items : List Item) → ((fault : RefusedAt) → ¬ (AnyOf Broken items fault)) → Each (λ item. (fault : RefusedAt) → ¬ (Broken item fault)) items
+pub each-free : (Broken : Item → RefusedAt → Type 0) (items : List Item) → ((fault : RefusedAt) → ¬ (AnyOf Broken items fault)) →
+    Each (λ item. (fault : RefusedAt) → ¬ (Broken item fault)) items
 each-free Broken [] free = tt
 each-free Broken (item ∷ items) free = (λ fault h. free fault (inl h), each-free Broken items (λ fault h. free fault (inr h)))
 

@@ -83,10 +83,10 @@ orders-read (axis ∷ axes) (value ∷ values) all reads =
     let rest = orders-read axes values all.1 reads.1 in
     (here.0 ∷ rest.0, (let e = here.1 in let f = rest.1.0 in cc, (read-some (ReadsNumberOf class.Order) (orders_in axis) value.order here.0 reads.0.order here.1, rest.1.1)))
 
-bad-order : (n : ℕ) (before items : List Item) (order : Value) → ReadsFirst ReadsOrder items order → ¬ (IsPosition n order) ⊎ OneHas order before →
-    (fault : RefusedAt) × AnyOf (IsBadOrder n before) items fault
-bad-order n before [] order reads wrong = absurd reads
-bad-order n before (item ∷ items) order reads wrong = (at 26 item, inl (refl, (order, (reads, wrong))))
+not-wrong : (n : ℕ) (before items : List Item) (order : Value) → ((fault : RefusedAt) → ¬ (AnyOf (IsBadOrder n before) items fault)) → ReadsFirst ReadsOrder items order →
+    ¬ (¬ (IsPosition n order) ⊎ OneHas order before)
+not-wrong n before [] order free reads wrong = absurd reads
+not-wrong n before (item ∷ items) order free reads wrong = free (at 26 item) (inl (refl, (order, (reads, wrong))))
 
 one-has-left : (order : Value) (xs ys : List Item) → OneHas order xs → OneHas order (xs ++ ys)
 one-has-left order [] ys h = absurd h
@@ -101,40 +101,32 @@ module _ (n : ℕ) where
   abbrev Free : List Item → List Item → Type 0
   Free before axes = (fault : RefusedAt) → BadOrders n before axes fault → ⊥
 
-  -- each order is a position, and none of those before has it
-  positions : (before axes : List Item) (orders : List Value) → Free before axes → ReadOrders axes orders → Each (λ order. IsPosition n order × ¬ (OneHas order before)) orders
-  positions before axes [] free reads = tt
-  positions before [] (order ∷ orders) free reads = absurd reads
-  positions before (axis ∷ axes) (order ∷ orders) free reads =
-      let right : ¬ (¬ (IsPosition n order) ⊎ OneHas order before)
-      = λ wrong. let bad = bad-order n before (orders_in axis) order reads.0 wrong in free bad.0 (inl bad.1) in (
-        (stable (decided-position n order) (λ never. right (inl never)), λ has. right (inr has)),
-        each-as (λ other. IsPosition n other × ¬ (OneHas other (before ++ axis ∷ []))) (λ other. IsPosition n other × ¬ (OneHas other before))
-            (λ other h. (h.0, λ has. h.1 (one-has-left other before (axis ∷ []) has))) orders (positions (before ++ axis ∷ []) axes orders (λ fault h. free fault (inr h)) reads.1),
-      )
-
-  distinct : (before axes : List Item) (orders : List Value) → Free before axes → ReadOrders axes orders → AreDistinct orders
-  distinct before axes [] free reads = tt
-  distinct before [] (order ∷ orders) free reads = absurd reads
-  distinct before (axis ∷ axes) (order ∷ orders) free reads =
-      let later : Free (before ++ axis ∷ []) axes = λ fault h. free fault (inr h) in (
-        each-as (λ other. IsPosition n other × ¬ (OneHas other (before ++ axis ∷ []))) (λ other. order ≢ other)
-            (λ other h e. h.1 (one-has-last other before axis (subst (ReadsFirst ReadsOrder (orders_in axis)) e reads.0))) orders (positions (before ++ axis ∷ []) axes orders later reads.1),
-        distinct (before ++ axis ∷ []) axes orders later reads.1,
+  -- each order is a position, none of those before has it, and no two are equal
+  numbered : (before axes : List Item) (orders : List Value) → Free before axes → ReadOrders axes orders →
+      Each (λ order. IsPosition n order × ¬ (OneHas order before)) orders × AreDistinct orders
+  numbered before axes [] free reads = (tt, tt)
+  numbered before [] (order ∷ orders) free reads = absurd reads
+  numbered before (axis ∷ axes) (order ∷ orders) free reads =
+      let right = not-wrong n before (orders_in axis) order (λ fault bad. free fault (inl bad)) reads.0 in
+      let later = numbered (before ++ axis ∷ []) axes orders (λ fault h. free fault (inr h)) reads.1 in
+      let from : (Q : Value → Type 0) → ((other : Value) → IsPosition n other × ¬ (OneHas other (before ++ axis ∷ [])) → Q other) → Each Q orders
+      = λ Q step. each-as (λ other. IsPosition n other × ¬ (OneHas other (before ++ axis ∷ []))) Q step orders later.0 in (
+        (
+          (stable (decided-position n order) (λ never. right (inl never)), λ has. right (inr has)),
+          from (λ other. IsPosition n other × ¬ (OneHas other before)) (λ other h. (h.0, λ has. h.1 (one-has-left other before (axis ∷ []) has))),
+        ),
+        (from (λ other. order ≢ other) (λ other h e. h.1 (one-has-last other before axis (subst (ReadsFirst ReadsOrder (orders_in axis)) e reads.0))), later.1),
       )
 
 pub orders-tell : (axes : List Item) (values : List AxisParts) → ((fault : RefusedAt) → BadOrder axes fault → ⊥) → ReadAxes axes values → HasOrders values
 orders-tell axes values free reads = elim (all-or-lacking axes) [
   | inr lacks ↦ inl (none-ordered axes values reads (λ some. free lacks.0 (inl (some, lacks.1))))
-  | inl all ↦ inr (numbered all (orders-read axes values all reads))
+  | inl all ↦
+      let read = orders-read axes values all reads in
+      let right = numbered (length axes) [] axes read.0 (λ fault bad. free fault (inr (all, bad))) read.1.1 in
+      let positions = each-as (λ order. IsPosition (length axes) order × ¬ (OneHas order [])) (IsPosition (length axes)) (λ order h. h.0) read.0 right.0 in
+      inr (read.0, (read.1.0, (rw (← each-length (ReadsAxis class.Axis) axes values reads) positions, right.1)))
 ]
-  where
-    numbered : AllHaveOrder axes → ((orders : List Value) × (AreOrders values orders × ReadOrders axes orders)) →
-        (orders : List Value) × (AreOrders values orders × (Each (IsPosition (length values)) orders × AreDistinct orders))
-    numbered all h =
-        let sound : Free (length axes) [] axes = λ fault bad. free fault (inr (all, bad)) in
-        let right = each-as (λ order. IsPosition (length axes) order × ¬ (OneHas order [])) (IsPosition (length axes)) (λ order k. k.0) h.0 (positions (length axes) [] axes h.0 sound h.1.1) in
-        (h.0, (h.1.0, (rw (← each-length (ReadsAxis class.Axis) axes values reads) right, distinct (length axes) [] axes h.0 sound h.1.1)))
 
 -- ---- units
 

@@ -29,7 +29,7 @@ returns-then-not-walk g c =
     (c.in-Some-pass-2.ensures.passed _ false _
     (c.in-Some-pass-3.ensures.passed _ false _
     (c.in-Some-pass-4.ensures.passed [] false _
-    (walked-as c.args.items.now c.args.class c.args.close [] c.in-Some-pass-4.end _ _ c.walk.result false c.if-not-walk.true c.walk.ensures)))))
+    (walked-as _ _ _ [] _ _ _ _ false c.if-not-walk.true c.walk.ensures)))))
 
 pub returns : goal.returns
 returns g c =
@@ -37,8 +37,7 @@ returns g c =
       c.in-Some.ensures.passed _ true _
           (c.in-Some-pass.ensures.passed _ true _
           (c.in-Some-pass-2.ensures.passed _ true _
-          (c.in-Some-pass-3.ensures.passed _ true _
-          (c.in-Some-pass-4.ensures.passed [] true _ (walked-as tree c.args.class c.args.close [] c.in-Some-pass-4.end _ _ c.walk.result true c.if-not-walk.false c.walk.ensures))))),
+          (c.in-Some-pass-3.ensures.passed _ true _ (c.in-Some-pass-4.ensures.passed [] true _ (walked-as _ _ _ [] _ _ _ _ true c.if-not-walk.false c.walk.ensures))))),
       (
         laid-parts tree c.args.class g.H.Front.front (any_of g.T.Part.classes) c.args.at c.in-Some-pass-4.end _ c.requires.head c.requires.tail c.in-Some.ensures.leaves
             c.in-Some-pass.ensures.leaves c.in-Some-pass-2.ensures.leaves c.in-Some-pass-3.ensures.leaves c.in-Some-pass-4.ensures.leaves

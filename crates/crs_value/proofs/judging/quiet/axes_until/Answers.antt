@@ -16,12 +16,12 @@ returns-then-same_place c =
 
 pub seen_of-requires-clause-shaped : goal.seen_of-requires-clause-shaped
 seen_of-requires-clause-shaped c =
-    noted-shaped _ _ _ _ _ _ c.in-Some.axis c.in-Some.is (has-some c.args.items.now _ _ c.in-Some.is c.loop-at.invariant.holds) (sym c.stands_as.ensures ∙ c.if-not-stands_as.false)
+    noted-shaped _ _ _ _ _ _ c.in-Some.axis c.in-Some.is (has-some _ _ _ c.in-Some.is c.loop-at.invariant.holds) (sym c.stands_as.ensures ∙ c.if-not-stands_as.false)
     c.requires.shaped c.loop-at.invariant
 
 pub loop-at-preserved : goal.loop-at-preserved
 loop-at-preserved c =
-    noted-on _ _ _ _ c.in-Some-seen_of.seen _ _ _ c.in-Some.axis _ c.in-Some.is (has-some c.args.items.now _ _ c.in-Some.is c.loop-at.invariant.holds) c.next-at.ensures
+    noted-on _ _ _ _ c.in-Some-seen_of.seen _ _ _ c.in-Some.axis _ c.in-Some.is (has-some _ _ _ c.in-Some.is c.loop-at.invariant.holds) c.next-at.ensures
     (sym c.stands_as.ensures ∙ c.if-not-stands_as.false) c.in-Some-seen_of.ensures c.noted-axes.ensures c.loop-at.invariant
 
 pub returns : goal.returns

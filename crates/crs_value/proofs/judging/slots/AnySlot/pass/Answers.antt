@@ -12,16 +12,16 @@ returns-in-None-clause-leaves g c =
 pub returns-in-None-clause-passed : goal.returns-in-None-clause-passed
 returns-in-None-clause-passed g c =
     reaches-end _ _ _ (any_of g.P.Part.classes) _ c.loop-next.next _ c.loop-next.found (Some (Some c.in-Some.id)) _ c.loop-next.invariant.reaches
-    (passed-skip _ _ _ (any_of g.P.Part.classes) _ _ _ _ _ refl c.in-Some.is (has-some c.args.items.now _ _ c.in-Some.is c.loop-next.invariant.holds) refl c.in-None.ensures)
+    (passed-skip _ _ _ (any_of g.P.Part.classes) _ _ _ _ _ refl c.in-Some.is (has-some _ _ _ c.in-Some.is c.loop-next.invariant.holds) refl c.in-None.ensures)
 
 pub returns-in-Some-false-clause-passed : goal.returns-in-Some-false-clause-passed
 returns-in-Some-false-clause-passed g c =
     reaches-end _ _ _ (any_of g.P.Part.classes) _ c.loop-next.next _ c.loop-next.found None _ c.loop-next.invariant.reaches
-    (passed-stop _ _ _ (any_of g.P.Part.classes) _ _ _ _ _ c.in-Some.is (has-some c.args.items.now _ _ c.in-Some.is c.loop-next.invariant.holds) (ap Some c.in-Some-false.field-0-test) c.in-Some-false.ensures)
+    (passed-stop _ _ _ (any_of g.P.Part.classes) _ _ _ _ _ c.in-Some.is (has-some _ _ _ c.in-Some.is c.loop-next.invariant.holds) (ap Some c.in-Some-false.field-0-test) c.in-Some-false.ensures)
 
 pub loop-next-preserved : goal.loop-next-preserved
 loop-next-preserved g c =
-    let has = has-some c.args.items.now _ _ c.in-Some.is c.loop-next.invariant.holds in
+    let has = has-some _ _ _ c.in-Some.is c.loop-next.invariant.holds in
     record {
       holds = holds_at _ _ _ c.next-next.ensures;
       leaves = leaves-past c.args.items.now c.args.parent (any_of g.P.Part.classes) c.args.at _ _ _ _ _ _ c.in-Some.is has c.next-next.ensures (ap Some c.in-Some-true.field-0-test)

@@ -7,4 +7,4 @@ pub returns-in_default : goal.returns-in_default
 returns-in_default c = end-none _ _ _ _ _ c.in_default.is
 
 pub returns : goal.returns
-returns c = end-some _ _ _ _ _ _ _ _ c.in-Some.is (has-some c.args.items.now _ _ c.in-Some.is c.requires) refl c.stop_at.ensures
+returns c = end-some _ _ _ _ _ _ _ _ c.in-Some.is (has-some _ _ _ c.in-Some.is c.requires) refl c.stop_at.ensures

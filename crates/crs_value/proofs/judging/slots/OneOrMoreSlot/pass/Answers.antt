@@ -10,18 +10,19 @@ returns-in_default-clause-passed g c = passed-short _ _ _ (some_of g.P.Part.clas
 
 pub returns-in-None-clause-passed : goal.returns-in-None-clause-passed
 returns-in-None-clause-passed g c =
-    passed-wrong _ _ _ (some_of g.P.Part.classes) _ _ _ _ _ _ refl c.in-Some.is (has-some c.args.items.now _ _ c.in-Some.is c.requires) refl c.in-None.ensures c.stop_at.ensures
+    passed-wrong _ _ _ (some_of g.P.Part.classes) _ _ _ _ _ _ refl c.in-Some.is (has-some _ _ _ c.in-Some.is c.requires) refl c.in-None.ensures c.stop_at.ensures
 
 pub returns-in-Some-true-clause-leaves : goal.returns-in-Some-true-clause-leaves
 returns-in-Some-true-clause-leaves g c =
     leaves-again c.args.items.now c.args.parent (some_of g.P.Part.classes) c.args.at c.next.result c.pass.result
-    (leaves-judged _ _ (some_of g.P.Part.classes) _ _ _ _ _ _ c.in-Some.is (has-some c.args.items.now _ _ c.in-Some.is c.requires) c.next.ensures (ap Some c.in-Some-true.field-0-test) c.in-Some-true.ensures) c.pass.ensures.leaves
+    (leaves-judged _ _ (some_of g.P.Part.classes) _ _ _ _ _ _ c.in-Some.is (has-some _ _ _ c.in-Some.is c.requires) c.next.ensures (ap Some c.in-Some-true.field-0-test) c.in-Some-true.ensures)
+    c.pass.ensures.leaves
 
 pub returns-in-Some-true-clause-passed : goal.returns-in-Some-true-clause-passed
 returns-in-Some-true-clause-passed g c =
-    passed-more _ _ _ (some_of g.P.Part.classes) _ _ _ _ _ _ _ _ refl c.in-Some.is (has-some c.args.items.now _ _ c.in-Some.is c.requires) c.next.ensures (ap Some c.in-Some-true.field-0-test) c.in-Some-true.ensures
+    passed-more _ _ _ (some_of g.P.Part.classes) _ _ _ _ _ _ _ _ refl c.in-Some.is (has-some _ _ _ c.in-Some.is c.requires) c.next.ensures (ap Some c.in-Some-true.field-0-test) c.in-Some-true.ensures
     c.pass.ensures.passed
 
 pub returns-in-Some-false-clause-passed : goal.returns-in-Some-false-clause-passed
 returns-in-Some-false-clause-passed g c =
-    passed-stop _ _ _ (some_of g.P.Part.classes) _ _ _ _ _ c.in-Some.is (has-some c.args.items.now _ _ c.in-Some.is c.requires) (ap Some c.in-Some-false.field-0-test) c.in-Some-false.ensures
+    passed-stop _ _ _ (some_of g.P.Part.classes) _ _ _ _ _ c.in-Some.is (has-some _ _ _ c.in-Some.is c.requires) (ap Some c.in-Some-false.field-0-test) c.in-Some-false.ensures

@@ -5,14 +5,16 @@ use Rattle.crs_value.proofs.reading.cursor.Cursor.number_at.Goals as goal
 
 pub unreachable-requires : goal.unreachable-requires
 unreachable-requires c =
-    number-there c.slots_count.ensures.least c.args.self.now.items.now _ class.Number _ c.loop-step._step c.args.k c.requires.shaped c.requires.enough (omega arith) (rw c.in_default.is at c.loop-step.invariant)
+    number-there c.slots_count.ensures.least c.args.self.now.items.now _ class.Number _ c.loop-step._step c.args.k c.requires.shaped c.requires.enough (omega arith)
+    (rw c.in_default.is at c.loop-step.invariant)
 
 pub loop-step-preserved : goal.loop-step-preserved
 loop-step-preserved c = number-next _ _ class.Number _ c.loop-step._step c.in-Some.found c.later-at.result (rw c.in-Some.is at c.loop-step.invariant) c.later-at.ensures
 
 pub unreachable-requires-in_default-at : goal.unreachable-requires-in_default-at
 unreachable-requires-in_default-at c =
-    number-there c.slots_count.ensures.least c.args.self.now.items.now _ class.Number _ c.loop-step._step c.args.k c.requires.shaped c.requires.enough (omega arith) (rw c.in_default-at.is at c.loop-step.invariant)
+    number-there c.slots_count.ensures.least c.args.self.now.items.now _ class.Number _ c.loop-step._step c.args.k c.requires.shaped c.requires.enough (omega arith)
+    (rw c.in_default-at.is at c.loop-step.invariant)
 
 pub decimal_of-requires-clause-shaped : goal.decimal_of-requires-clause-shaped
 decimal_of-requires-clause-shaped c = number-shaped _ _ class.Number _ c.loop-step._step c.in-Some-at.found c.requires.shaped (rw c.in-Some-at.is at c.loop-step.invariant)
