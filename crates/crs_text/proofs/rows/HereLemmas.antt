@@ -38,52 +38,36 @@ mutual
   items-heres_in : (item : Item) (depth : ℕ) → map items_at (heres_in depth item) ≡ inside item
   items-heres_in (leaf kind place raw) depth = refl
   items-heres_in (node place keyword square first others close) depth =
-      let a = map-append items_at (heres_in (suc depth) first) (heres_of (suc depth) others) in
-      let b = items-heres_in first (suc depth) in
-      let c = items-heres_of others (suc depth) in
-      cc
+      simp (map-append, items-heres_in first (suc depth), items-heres_of others (suc depth))
 
   items-heres_of : (items : Siblings) (depth : ℕ) → map items_at (heres_of depth items) ≡ inside_items items
   items-heres_of End depth = refl
   items-heres_of (More item items) depth =
-      let a = map-append items_at (heres_in depth item) (heres_of depth items) in
-      let b = items-heres_in item depth in
-      let c = items-heres_of items depth in
-      cc
+      simp (map-append, items-heres_in item depth, items-heres_of items depth)
 
 mutual
   pub length-rows : (item : Item) (depth : ℕ) → length (rows depth item) ≡ size_of item
   length-rows (leaf kind place raw) depth = refl
   length-rows (node place keyword square first others close) depth =
-      ap (λ n. suc n) (length-append (rows (suc depth) first) (rows_of_items (suc depth) others) ∙ (let a = length-rows first (suc depth) in let b = length-rows_of_items others (suc depth) in omega (arith, a, b)))
+      simp (length-append, length-rows first (suc depth), length-rows_of_items others (suc depth))
 
   length-rows_of_items : (items : Siblings) (depth : ℕ) → length (rows_of_items depth items) ≡ sizes items
   length-rows_of_items End depth = refl
   length-rows_of_items (More item items) depth =
-      length-append (rows depth item) (rows_of_items depth items) ∙ (let a = length-rows item depth in let b = length-rows_of_items items depth in omega (arith, a, b))
-
-leaf-row_of : (kind : Kind) (place : ℕ) (raw : List ℕ) (depth : ℕ) → leaf_row (item_kind kind) place raw depth ≡ row_of depth (leaf kind place raw)
-leaf-row_of number place raw depth = refl
-leaf-row_of text place raw depth = refl
-leaf-row_of word place raw depth = refl
+      simp (length-append, length-rows item depth, length-rows_of_items items depth)
 
 mutual
   pub rows-heres_in : (item : Item) (depth : ℕ) → rows depth item ≡ row_of depth item ∷ map row_at (heres_in depth item)
-  rows-heres_in (leaf kind place raw) depth = ap (λ r. r ∷ []) (leaf-row_of kind place raw depth)
+  rows-heres_in (leaf number place raw) depth = refl
+  rows-heres_in (leaf text place raw) depth = refl
+  rows-heres_in (leaf word place raw) depth = refl
   rows-heres_in (node place keyword square first others close) depth =
-      let a = map-append row_at (heres_in (suc depth) first) (heres_of (suc depth) others) in
-      let b = rows-heres_in first (suc depth) in
-      let c = rows-heres_of others (suc depth) in
-      let size : suc (length (rows (suc depth) first ++ rows_of_items (suc depth) others)) ≡ suc (size_of first + sizes others) = length-rows (node place keyword square first others close) depth in
-      rw size (let body : rows (suc depth) first ++ rows_of_items (suc depth) others ≡ row_of (suc depth) first ∷ map row_at (heres_in (suc depth) first ++ heres_of (suc depth) others) = cc in ap (λ rs. row_of depth (node place keyword square first others close) ∷ rs) body)
+      rw (length-rows (node place keyword square first others close) depth) (simp (map-append, rows-heres_in first (suc depth), rows-heres_of others (suc depth)))
 
   rows-heres_of : (items : Siblings) (depth : ℕ) → rows_of_items depth items ≡ map row_at (heres_of depth items)
   rows-heres_of End depth = refl
   rows-heres_of (More item items) depth =
-      let a = map-append row_at (heres_in depth item) (heres_of depth items) in
-      let b = rows-heres_in item depth in
-      let c = rows-heres_of items depth in
-      cc
+      simp (map-append, rows-heres_in item depth, rows-heres_of items depth)
 
 pub rows-heres : (tree : Item) → rows 0 tree ≡ map row_at (heres tree)
 rows-heres tree = rows-heres_in tree 0
@@ -127,30 +111,21 @@ mutual
   pub length-heres_in : (item : Item) (depth : ℕ) → suc (length (heres_in depth item)) ≡ size_of item
   length-heres_in (leaf kind place raw) depth = refl
   length-heres_in (node place keyword square first others close) depth =
-      let a = length-append (heres_in (suc depth) first) (heres_of (suc depth) others) in
-      let b = length-heres_in first (suc depth) in
-      let c = length-heres_of others (suc depth) in
-      omega (arith, a, b, c)
+      simp length-append (omega (arith, length-heres_in first (suc depth), length-heres_of others (suc depth)))
 
   pub length-heres_of : (items : Siblings) (depth : ℕ) → length (heres_of depth items) ≡ sizes items
   length-heres_of End depth = refl
   length-heres_of (More item items) depth =
-      let a = length-append (heres_in depth item) (heres_of depth items) in
-      let b = length-heres_in item depth in
-      let c = length-heres_of items depth in
-      omega (arith, a, b, c)
+      simp length-append (omega (arith, length-heres_in item depth, length-heres_of items depth))
 
 continues-heres_of : (items : Siblings) (depth : ℕ) (hs : List Here) → IsLessDeep depth hs → Continues depth items (heres_of depth items ++ hs)
 continues-heres_of End depth [] h = tt
 continues-heres_of End depth (x ∷ hs) h = h
 continues-heres_of (More item items) depth hs h = (refl, refl)
 
-less_deep-suc : (depth : ℕ) (hs : List Here) → IsLessDeep depth hs → IsLessDeep (suc depth) hs
-less_deep-suc depth [] h = tt
-less_deep-suc depth (x ∷ hs) h = omega arith
-
 less_deep-heres_of : (items : Siblings) (depth : ℕ) (hs : List Here) → IsLessDeep depth hs → IsLessDeep (suc depth) (heres_of depth items ++ hs)
-less_deep-heres_of End depth hs h = less_deep-suc depth hs h
+less_deep-heres_of End depth [] h = tt
+less_deep-heres_of End depth (x ∷ hs) h = omega arith
 less_deep-heres_of (More item items) depth hs h = omega arith
 
 begins-heres_in : (item : Item) (depth : ℕ) (hs : List Here) → Begins (arguments item) (heres_in depth item ++ hs)
@@ -163,17 +138,15 @@ linked-item : (item : Item) (later : Siblings) (depth : ℕ) (hs : List Here) �
     AreLinked (record { depth = depth; item = item; later = later } ∷ ((heres_in depth item ++ heres_of depth later) ++ hs))
 linked-item item later depth hs less linked =
     let size = length-heres_in item depth in
-    let len = length-append (heres_in depth item) (heres_of depth later ++ hs) in
-    let h : Here = record { depth = depth; item = item; later = later } in
-    let e : drop (size_of item) (h ∷ (heres_in depth item ++ (heres_of depth later ++ hs))) ≡ heres_of depth later ++ hs =
-    rw (← size) (drop-append_seam (heres_in depth item) (heres_of depth later ++ hs)) in
-    let one : IsLinked h (heres_in depth item ++ (heres_of depth later ++ hs)) = record {
-      inside = record { behind = heres_of depth later ++ hs; is = refl };
-      within = omega (arith, size, len);
-      first = begins-heres_in item depth (heres_of depth later ++ hs);
-      next = subst (Continues depth later) (sym e) (continues-heres_of later depth hs less);
-    } in
-    subst (λ l. AreLinked (h ∷ l)) (sym (append_assoc (heres_in depth item) (heres_of depth later) hs)) (one, linked)
+    rw append_assoc (
+      record {
+        inside = record { behind = heres_of depth later ++ hs; is = refl };
+        within = simp length-append (omega (arith, size));
+        first = begins-heres_in item depth (heres_of depth later ++ hs);
+        next = rw (← size, drop-append_seam (heres_in depth item) (heres_of depth later ++ hs)) (continues-heres_of later depth hs less);
+      },
+      linked,
+    )
 
 mutual
   linked-heres_in : (item : Item) (depth : ℕ) (hs : List Here) → IsLessDeep (suc depth) hs → AreLinked hs → AreLinked (heres_in depth item ++ hs)
@@ -189,9 +162,7 @@ mutual
       (linked-heres_in item depth (heres_of depth items ++ hs) (less_deep-heres_of items depth hs less) (linked-heres_of items depth hs less linked))
 
 pub linked-heres : (tree : Item) → AreLinked (heres tree)
-linked-heres tree =
-    let all = linked-heres_of (More tree End) 0 [] tt tt in
-    subst AreLinked (append-nil (record { depth = 0; item = tree; later = End } ∷ (heres_in 0 tree ++ [])) ∙ ap (λ l. record { depth = 0; item = tree; later = End } ∷ l) (append-nil (heres_in 0 tree))) all
+linked-heres tree = simp append-nil at (linked-item tree End 0 [] tt (linked-heres_in tree 0 [] tt tt))
 
 pub linked-drop : (n : ℕ) (hs : List Here) → AreLinked hs → AreLinked (drop n hs)
 linked-drop zero hs h = h

@@ -1,8 +1,8 @@
 -- What the row at an item's number says of the tree.
-use Rattle.std.proofs.Common.{◌≡◌, ◌≢◌, ℕ, zero, suc, ◌+◌, ◌≤◌, ◌<◌, Bool, true, false, Option, Some, List, [], ◌∷◌, ◌++◌, length, get_or, take, drop, map, refl, sym, ◌∙◌, ap, subst, arith, nat_lt, length-drop}
+use Rattle.std.proofs.Common.{◌≡◌, ◌≢◌, ℕ, zero, suc, ◌+◌, ◌≤◌, ◌<◌, Bool, true, false, Option, Some, List, [], ◌∷◌, ◌++◌, length, get_or, take, drop, map, refl, sym, ◌∙◌, ap, subst, arith, length-drop, inl, inr}
 use Rattle.std.proofs.Math.ListN.{drop_of_length-le}
 use Rattle.std.proofs.Math.Seq.{drop-cons, take-append_seam}
-use Rattle.std.proofs.lemmas.Bool.{ltb-true, ltb-false}
+use Rattle.std.proofs.lemmas.Bool.{cases_lt}
 use Rattle.std.proofs.lemmas.List.{length-map, map-append, get_or-map, get_or_past, drop-drop, drop-map}
 use Rattle.crs_text.specs.Items.{Item, Siblings, End, More, arguments, count, first_of, rest_of, skip, size_of, here, HasId, IsAt}
 use Rattle.crs_text.specs.Rows.{rows, row_of}
@@ -48,56 +48,34 @@ rows_here tree id lt =
     let inside = (linked tree id s).inside in
     let own = rows s.it.depth s.it.item in
     let later = map row_at inside.behind in
-    let item : s.it.item ≡ first_of (here tree id) = sym (ap first_of s.items) in
     let from : drop id (rows 0 tree) ≡ own ++ later =
-    ap (drop id) (rows-heres tree) ∙ drop-map row_at id (heres tree) ∙ ap (map row_at) s.is ∙ ap (λ hs. row_at s.it ∷ map row_at hs) inside.is
-    ∙ ap (λ rs. row_at s.it ∷ rs) (map-append row_at (heres_in s.it.depth s.it.item) inside.behind)
-    ∙ ap (λ rs. rs ++ later) (sym (rows-heres_in s.it.item s.it.depth)) in
-    let front : take (size_of s.it.item) (drop id (rows 0 tree)) ≡ own =
-    ap (take (size_of s.it.item)) from ∙ ap (λ n. take n (own ++ later)) (sym (length-rows s.it.item s.it.depth)) ∙ take-append_seam own later in
-    (s.it.depth, subst (λ i. take (size_of i) (drop id (rows 0 tree)) ≡ rows s.it.depth i) item front)
+    rw (rows-heres tree, drop-map, s.is) (ap (λ hs. row_at s.it ∷ map row_at hs) inside.is ∙ rw (map-append, rows-heres_in s.it.item s.it.depth)) in
+    (s.it.depth, rw (s.items, from, ← length-rows s.it.item s.it.depth) (take-append_seam own later))
 
 pub has_from_lt : (tree : Item) (id : ℕ) → id < length (rows 0 tree) → HasId tree id
 has_from_lt tree id lt = let s = spot tree id lt in λ e. let k : items_at s.it ≡ End = sym s.items ∙ e in cc
 
 pub lt_from_has : (tree : Item) (id : ℕ) → HasId tree id → id < length (rows 0 tree)
-lt_from_has tree id h = go (nat_lt id (length (rows 0 tree))) refl
-  where
-    go : (b : Bool) → nat_lt id (length (rows 0 tree)) ≡ b → id < length (rows 0 tree)
-    go true e = ltb-true _ _ e
-    go false e =
-        let le = ltb-false _ _ e in
-        let len = length-heres tree in
-        let len2 = length-map (heres tree) items_at in
-        absurd (h (items-at tree id ∙ get_or_past (map items_at (heres tree)) id End (omega arith)))
+lt_from_has tree id h = elim (cases_lt id (length (rows 0 tree))) [
+  | inl lt ↦ lt
+  | inr le ↦ absurd (h (items-at tree id ∙ get_or_past (map items_at (heres tree)) id End (omega (arith, length-heres tree, length-map (heres tree) items_at))))
+]
 
 -- the row says what the item is
 pub row_is : (tree : Item) (id : ℕ) (d : Row) → id < length (rows 0 tree) →
     get_or (rows 0 tree) id d ≡ row_of (get_or (rows 0 tree) id d).depth (first_of (here tree id))
-row_is tree id d lt =
-    let s = spot tree id lt in
-    let r = s.row d in
-    let item : s.it.item ≡ first_of (here tree id) = sym (ap first_of s.items) in
-    r ∙ ap (λ i. row_of s.it.depth i) item ∙ ap (λ row. row_of row.depth (first_of (here tree id))) (sym r)
+row_is tree id d lt = let s = spot tree id lt in rw (s.row d, s.items)
 
 -- an item and all in it end within the rows
 pub size_within : (tree : Item) (id : ℕ) → id < length (rows 0 tree) → id + size_of (first_of (here tree id)) ≤ length (rows 0 tree)
 size_within tree id lt =
     let s = spot tree id lt in
-    let l = linked tree id s in
-    let item : size_of (first_of (here tree id)) ≡ size_of s.it.item = ap (λ is. size_of (first_of is)) s.items in
-    let len = length-heres tree in
-    let cut : length (drop id (heres tree)) ≡ suc (length s.behind) = ap (λ l. length l) s.is in
-    let d = length-drop id (heres tree) in
-    omega (arith, l.within)
+    rw s.items (omega (arith, (linked tree id s).within, length-heres tree, ap length s.is, length-drop id (heres tree)))
 
 -- what follows a number is a spot of its own
 spot_behind : (tree : Item) (at : ℕ) (h : Here) (hs : List Here) → drop at (heres tree) ≡ h ∷ hs → (here tree at ≡ items_at h) × ((d : Row) → get_or (rows 0 tree) at d ≡ row_at h)
 spot_behind tree at h hs e =
-    let len = length-heres tree in
-    let cut : length (drop at (heres tree)) ≡ suc (length hs) = ap (λ l. length l) e in
-    let d = length-drop at (heres tree) in
-    let s = spot tree at (omega arith) in
+    let s = spot tree at (omega (arith, length-heres tree, ap length e, length-drop at (heres tree))) in
     let same : s.it ∷ s.behind ≡ h ∷ hs = sym s.is ∙ e in
     let it : s.it ≡ h = cc in
     (s.items ∙ ap items_at it, λ d. s.row d ∙ ap row_at it)
@@ -114,10 +92,7 @@ pub first_at : (tree : Item) (id : ℕ) → id < length (rows 0 tree) → argume
     IsAt tree (arguments (first_of (here tree id))) (Some (id + 1))
 first_at tree id lt some =
     let s = spot tree id lt in
-    let l = linked tree id s in
-    let item : arguments (first_of (here tree id)) ≡ arguments s.it.item = ap (λ is. arguments (first_of is)) s.items in
-    let behind : drop (id + 1) (heres tree) ≡ s.behind = sym (drop-drop 1 id (heres tree)) ∙ ap (λ l. drop 1 l) s.is in
-    at_from_begins tree (id + 1) (arguments (first_of (here tree id))) s.behind behind some (subst (λ is. Begins is s.behind) (sym item) l.first)
+    at_from_begins tree (id + 1) _ s.behind (sym (drop-drop 1 id (heres tree)) ∙ ap (drop 1) s.is) some (rw s.items (linked tree id s).first)
 
 none_from_continues : (depth : ℕ) (items : Siblings) → Continues depth items [] → items ≡ End
 none_from_continues depth End h = refl
@@ -127,38 +102,24 @@ continues_at : (tree : Item) (id : ℕ) → id < length (rows 0 tree) → (d : R
     Continues (get_or (rows 0 tree) id d).depth (rest_of (here tree id)) (drop (id + size_of (first_of (here tree id))) (heres tree))
 continues_at tree id lt d =
     let s = spot tree id lt in
-    let l = linked tree id s in
-    let size : size_of (first_of (here tree id)) ≡ size_of s.it.item = ap (λ is. size_of (first_of is)) s.items in
-    let rest : rest_of (here tree id) ≡ s.it.later = ap rest_of s.items in
-    let depth : (get_or (rows 0 tree) id d).depth ≡ s.it.depth = ap (λ r. r.depth) (s.row d) in
-    let behind : drop (id + size_of s.it.item) (heres tree) ≡ drop (size_of s.it.item) (s.it ∷ s.behind) =
-    sym (drop-drop (size_of s.it.item) id (heres tree)) ∙ ap (λ l. drop (size_of s.it.item) l) s.is in
-    rw (size, rest, depth, behind) l.next
+    rw (s.items, s.row d, ← drop-drop (size_of s.it.item) id (heres tree), s.is) (linked tree id s).next
 
 -- no item follows
 pub next_none : (tree : Item) (id : ℕ) → id < length (rows 0 tree) → length (rows 0 tree) ≤ id + size_of (first_of (here tree id)) → rest_of (here tree id) ≡ End
 next_none tree id lt end =
-    let none : Row = row_of 0 tree in
-    let at : ℕ = id + size_of (first_of (here tree id)) in
-    let len = length-heres tree in
-    let nil : drop at (heres tree) ≡ [] = drop_of_length-le (heres tree) (omega arith) in
-    none_from_continues (get_or (rows 0 tree) id none).depth (rest_of (here tree id)) (subst (λ l. Continues (get_or (rows 0 tree) id none).depth (rest_of (here tree id)) l) nil (continues_at tree id lt none))
+    let nil : drop (id + size_of (first_of (here tree id))) (heres tree) ≡ [] = drop_of_length-le (heres tree) (omega (arith, length-heres tree)) in
+    none_from_continues _ _ (rw nil at (continues_at tree id lt (row_of 0 tree)))
 
 -- an item follows: as deep it is the next argument, else there is none
 next_by_depth : (tree : Item) (at depth : ℕ) (items : Siblings) (hs : List Here) (d : Row) → drop at (heres tree) ≡ hs → at < length (rows 0 tree) → Continues depth items hs →
     ((get_or (rows 0 tree) at d).depth ≡ depth → IsAt tree items (Some at)) × ((get_or (rows 0 tree) at d).depth ≢ depth → items ≡ End)
-next_by_depth tree at depth items [] d e lt h =
-    let len = length-heres tree in
-    let cut : length (drop at (heres tree)) ≡ 0 = ap (λ l. length l) e in
-    let c = length-drop at (heres tree) in
-    absurd (omega arith)
+next_by_depth tree at depth items [] d e lt h = absurd (omega (arith, length-heres tree, ap length e, length-drop at (heres tree)))
 next_by_depth tree at depth End (x ∷ hs) d e lt h =
     let r : (get_or (rows 0 tree) at d).depth ≡ x.depth = ap (λ r. r.depth) ((spot_behind tree at x hs e).1 d) in
     (λ same. absurd (omega arith), λ other. refl)
 next_by_depth tree at depth (More item items) (x ∷ hs) d e lt h =
     let r : (get_or (rows 0 tree) at d).depth ≡ x.depth = ap (λ r. r.depth) ((spot_behind tree at x hs e).1 d) in
-    let is = (spot_behind tree at x hs e).0 ∙ h.1 in
-    (λ same. (is, λ no. let k : More item items ≡ End = sym is ∙ no in cc), λ other. absurd (other (r ∙ h.0)))
+    (λ same. at_from_begins tree at (More item items) (x ∷ hs) e (λ no. cc) h.1, λ other. absurd (other (r ∙ h.0)))
 
 pub here_root : (tree : Item) → here tree 0 ≡ More tree End
 unfolding here
@@ -199,10 +160,7 @@ pub within_table : (tree : Item) (id : ℕ) (table : List Row) (row : Row) → t
 within_table tree id table row t has e =
     let lt = lt_from_has tree id has in
     let at : row ≡ get_or (rows 0 tree) id row = e ∙ ap (λ rs. get_or rs id row) t in
-    let is : row ≡ row_of row.depth (first_of (here tree id)) = at ∙ row_is tree id row lt ∙ ap (λ r. row_of r.depth (first_of (here tree id))) (sym at) in
-    let len : length table ≡ length (rows 0 tree) = ap (λ rs. length rs) t in
-    let w = row-within tree id row has is in
-    omega arith
+    rw t (row-within tree id row has (subst (λ r. r ≡ row_of r.depth (first_of (here tree id))) (sym at) (row_is tree id row lt)))
 
 pub skip-more : (n : ℕ) (items : Siblings) → skip (n + 1) items ≡ rest_of (skip n items)
 skip-more zero items = refl

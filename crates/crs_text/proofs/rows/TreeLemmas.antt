@@ -28,8 +28,7 @@ each_right P (t ∷ a) b h = each_right P a b h.1
 part-leaf : (source : List ℕ) (kind : Kind) (place : ℕ) (raw : List ℕ) (depth : ℕ) → TokenStands source (single kind place raw) →
     part source (leaf_row (item_kind kind) place raw depth) ≡ part_of (leaf kind place raw)
 part-leaf source number place raw depth h = rw (← h.bytes) refl
-part-leaf source text place raw depth h = rw (← h.bytes) refl
-part-leaf source word place raw depth h = rw (← h.bytes) refl
+part-leaf source kind place raw depth h = rw (← h.bytes) refl
 
 mutual
   parts-rows : (item : Item) (source : List ℕ) (depth : ℕ) → AllStand source (tokens item) → map (part source) (rows depth item) ≡ parts item
@@ -38,18 +37,14 @@ mutual
       let left = each_left (TokenStands source) (tokens first ++ others_tokens others) (closing close square ∷ []) h.1.1 in
       let a = parts-rows first source (suc depth) (each_left (TokenStands source) (tokens first) (others_tokens others) left) in
       let b = parts-rows_of_items others source (suc depth) (each_right (TokenStands source) (tokens first) (others_tokens others) left) in
-      let c = map-append (part source) (rows (suc depth) first) (rows_of_items (suc depth) others) in
-      let raw = h.0.bytes in
-      rw (← raw) (let body : map (part source) (rows (suc depth) first ++ rows_of_items (suc depth) others) ≡ parts first ++ parts_of_items others = cc in
-      ap (λ ps. part_of (node place keyword square first others close) ∷ ps) body)
+      rw (← h.0.bytes) (simp (map-append, a, b))
 
   parts-rows_of_items : (items : Siblings) (source : List ℕ) (depth : ℕ) → AllStand source (others_tokens items) → map (part source) (rows_of_items depth items) ≡ parts_of_items items
   parts-rows_of_items End source depth h = refl
   parts-rows_of_items (More item items) source depth h =
       let a = parts-rows item source depth (each_left (TokenStands source) (tokens item) (others_tokens items) h.1) in
       let b = parts-rows_of_items items source depth (each_right (TokenStands source) (tokens item) (others_tokens items) h.1) in
-      let c = map-append (part source) (rows depth item) (rows_of_items depth items) in
-      cc
+      simp (map-append, a, b)
 
 -- a table's tree is the item that it has the rows of
 pub tree_of-rows : (source : List ℕ) (table : List Row) (item : Item) → IsTable source table item → tree_of source table ≡ item

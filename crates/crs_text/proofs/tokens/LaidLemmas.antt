@@ -52,17 +52,10 @@ span_more : (total close : ℕ) (t : Token) (ts : List Token) (bytes at rest : L
 span_more total close t ts bytes at rest w f s = record {
   front = w.white ++ (spelling t ++ s.front);
   rest = s.rest;
-  parts = w.parts ∙ ap (λ z. w.white ++ z) (f.spelled ∙ ap (λ z. spelling t ++ z) s.parts ∙ sym (append_assoc (spelling t) s.front s.rest))
-      ∙ sym (append_assoc w.white (spelling t ++ s.front) s.rest);
+  parts = w.parts ∙ simp (f.spelled, s.parts, append_assoc);
   end = s.end;
-  least = omega (arith, s.least, length-append w.white (spelling t ++ s.front), length-append (spelling t) s.front, length-append (spelling t) (bytes_of ts));
-  whole = λ e.
-      let a = length-append w.white (spelling t ++ s.front) in
-      let b = length-append (spelling t) s.front in
-      let c = length-append (spelling t) (bytes_of ts) in
-      let none : length w.white ≡ 0 = omega (arith, e, a, b, c, s.least) in
-      let same : length s.front ≡ length (bytes_of ts) = omega (arith, e, a, b, c, s.least) in
-      ap (λ z. z ++ (spelling t ++ s.front)) (nil_from_length w.white none) ∙ ap (λ z. spelling t ++ z) (s.whole same);
+  least = simp length-append (omega (arith, s.least));
+  whole = λ e. let long = simp length-append at e in rw (nil_from_length w.white (omega (arith, s.least)), s.whole (omega (arith, s.least)));
 }
 
 span_end : (total close : ℕ) (square : Bool) (at rest : List ℕ) → Forms total (closing close square) at rest → IsSpan total rest [] close
@@ -70,7 +63,7 @@ span_end total close square at rest f = record {
   front = [];
   rest = rest;
   parts = refl;
-  end = omega (arith, f.placed, ap length f.spelled, length-append (closing_byte square ∷ []) rest);
+  end = omega (arith, f.placed, ap length f.spelled);
   least = omega arith;
   whole = λ e. refl;
 }
@@ -100,16 +93,14 @@ here_laid source (node place keyword square first others close) h =
     let ts = single word place keyword ∷ opening square ∷ (tokens first ++ others_tokens others) in
     let ends = cut_front source h.bytes p.2.white p.0 h.ends p.2.parts in
     let s = span (length source) close square ts p.0 h.left (p.0, p.1, at_once p.0 p.2.ends, p.3, p.4) in
-    let whole : length source ≡ length ends.0 + length p.0 = ap length ends.1 ∙ length-append ends.0 p.0 in
-    let inner : length p.0 ≡ length s.front + length s.rest = ap length s.parts ∙ length-append s.front s.rest in
+    let whole = simp length-append at (ap length ends.1) in
+    let inner = simp length-append at (ap length s.parts) in
     let placed : place + length p.0 ≡ length source = p.3.placed in
     record {
-      within = omega (arith, placed, inner, s.least);
+      within = omega (arith, s.least);
       closed = omega (arith, s.end);
-      stands = λ e.
-          let same : length s.front ≡ length (bytes_of (ts ++ closing close square ∷ [])) = omega (arith, e, placed, inner, s.end) in
-          subst (StandsAt source place) (s.whole same)
-          (stands_at source ends.0 s.front s.rest place (ends.1 ∙ ap (λ z. ends.0 ++ z) s.parts) (omega (arith, whole, placed)));
+      stands = λ e. subst (StandsAt source place) (s.whole (omega (arith, s.end)))
+          (stands_at source ends.0 s.front s.rest place (ends.1 ∙ ap (λ z. ends.0 ++ z) s.parts) (omega arith));
     }
 
 spanned : (source : List ℕ) (tree : Item) (id : ℕ) → AreLaid source (tokens tree) → HasId tree id → IsHere source (first_of (here tree id))
@@ -126,31 +117,18 @@ bytes-append : (a b : List Token) → bytes_of (a ++ b) ≡ bytes_of a ++ bytes_
 bytes-append [] b = refl
 bytes-append (t ∷ a) b = ap (λ z. spelling t ++ z) (bytes-append a b) ∙ sym (append_assoc (spelling t) (bytes_of a) (bytes_of b))
 
-length-both : (a b : List Token) → length (bytes_of (a ++ b)) ≡ length (bytes_of a) + length (bytes_of b)
-length-both a b = ap length (bytes-append a b) ∙ length-append (bytes_of a) (bytes_of b)
-
 mutual
   rows-length : (item : Item) (depth : ℕ) → bytes_of_rows (rows depth item) ≡ length (bytes_of (tokens item))
   rows-length (leaf number place raw) depth = omega (arith, length-append raw [])
   rows-length (leaf text place raw) depth = omega (arith, length-append (34 ∷ raw ++ 34 ∷ []) [], length-append (34 ∷ raw) (34 ∷ []))
   rows-length (leaf word place raw) depth = omega (arith, length-append raw [])
   rows-length (node place keyword square first others close) depth =
-      let a = rows-length first (suc depth) in
-      let b = rows-length_of others (suc depth) in
-      let r = rows-append (rows (suc depth) first) (rows_of_items (suc depth) others) in
-      let k = length-append keyword (bytes_of (opening square ∷ (tokens first ++ others_tokens others ++ closing close square ∷ []))) in
-      let t = length-both (tokens first ++ others_tokens others) (closing close square ∷ []) in
-      let u = length-both (tokens first) (others_tokens others) in
-      omega (arith, a, b, r, k, t, u)
+      simp (rows-append, bytes-append, length-append) (omega (arith, rows-length first (suc depth), rows-length_of others (suc depth)))
 
   rows-length_of : (items : Siblings) (depth : ℕ) → bytes_of_rows (rows_of_items depth items) + count items ≡ length (bytes_of (others_tokens items))
   rows-length_of End depth = refl
   rows-length_of (More item items) depth =
-      let a = rows-length item depth in
-      let b = rows-length_of items depth in
-      let r = rows-append (rows depth item) (rows_of_items depth items) in
-      let u = length-both (tokens item) (others_tokens items) in
-      omega (arith, a, b, r, u)
+      simp (rows-append, bytes-append, length-append) (omega (arith, rows-length item depth, rows-length_of items depth))
 
 -- what is counted of one of the rows fits where all does
 pub beside-fits : (table : List Row) (i n m : ℕ) (d : Row) → i < length table → n + bytes_of_rows (drop i table) ≡ bytes_of_rows table →
@@ -165,9 +143,6 @@ square_right : (a b : List Row) → AreSquare (a ++ b) → AreSquare b
 square_right [] b h = h
 square_right (r ∷ a) b h = square_right a b h.1
 
-node_bytes : (first others : List ℕ) → (first ++ others) ++ ((93 ∷ []) ++ []) ≡ first ++ (others ++ 93 ∷ [])
-node_bytes first others = simp (append_assoc, append-nil)
-
 mutual
   square_text : (item : Item) (depth : ℕ) → AreSquare (rows depth item) → bytes_of (tokens item) ≡ item_text item
   square_text (leaf number place raw) depth h = append-nil raw
@@ -175,35 +150,22 @@ mutual
   square_text (leaf word place raw) depth h = append-nil raw
   square_text (node place keyword false first others close) depth h = absurd cc
   square_text (node place keyword true first others close) depth h =
-      let a : bytes_of (tokens first) ≡ item_text first =
-      square_text first (suc depth) (square_left (rows (suc depth) first) (rows_of_items (suc depth) others) h.1) in
-      let b : bytes_of (others_tokens others) ≡ others_text others =
-      square_texts others (suc depth) (square_right (rows (suc depth) first) (rows_of_items (suc depth) others) h.1) in
-      let t = bytes-append (tokens first ++ others_tokens others) (closing close true ∷ []) in
-      let u = bytes-append (tokens first) (others_tokens others) in
-      ap (λ (z : List ℕ). keyword ++ 91 ∷ z)
-      (t ∙ ap (λ z. z ++ ((93 ∷ []) ++ [])) u ∙ ap (λ z. (z ++ bytes_of (others_tokens others)) ++ ((93 ∷ []) ++ [])) a
-      ∙ ap (λ z. (item_text first ++ z) ++ ((93 ∷ []) ++ [])) b ∙ node_bytes (item_text first) (others_text others))
+      let a = square_text first (suc depth) (square_left _ (rows_of_items (suc depth) others) h.1) in
+      let b = square_texts others (suc depth) (square_right (rows (suc depth) first) _ h.1) in
+      simp (bytes-append, a, b, append_assoc, append-nil)
 
   square_texts : (items : Siblings) (depth : ℕ) → AreSquare (rows_of_items depth items) → bytes_of (others_tokens items) ≡ others_text items
   square_texts End depth h = refl
   square_texts (More item items) depth h =
-      let a : bytes_of (tokens item) ≡ item_text item = square_text item depth (square_left (rows depth item) (rows_of_items depth items) h) in
-      let b : bytes_of (others_tokens items) ≡ others_text items = square_texts items depth (square_right (rows depth item) (rows_of_items depth items) h) in
-      let t = bytes-append (tokens item) (others_tokens items) in
-      ap (λ (z : List ℕ). 44 ∷ z) (t ∙ ap (λ z. z ++ bytes_of (others_tokens items)) a ∙ ap (λ z. item_text item ++ z) b)
+      simp (bytes-append, square_text item depth (square_left _ (rows_of_items depth items) h), square_texts items depth (square_right (rows depth item) _ h))
 
 -- ---- a row of a node, and the rows of what is in it
 
 span_of : (source : List ℕ) (item : Item) (row : Row) → IsHere source item → row ≡ row_of row.depth item → row.kind ≡ Node →
     IsSpanned source row.place row.close (tokens item)
-span_of source (leaf number place raw) row h is k = let e : Number ≡ Node = sym (ap (λ r. r.kind) is) ∙ k in absurd cc
-span_of source (leaf text place raw) row h is k = let e : Text ≡ Node = sym (ap (λ r. r.kind) is) ∙ k in absurd cc
-span_of source (leaf word place raw) row h is k = let e : Word ≡ Node = sym (ap (λ r. r.kind) is) ∙ k in absurd cc
-span_of source (node place keyword square first others close) row h is k =
-    let ts = tokens (node place keyword square first others close) in
-    subst (λ p. IsSpanned source p row.close ts) (sym (ap (λ r. r.place) is))
-    (subst (λ c. IsSpanned source place c ts) (sym (ap (λ r. r.close) is)) h)
+span_of source (node place keyword square first others close) row h is k = rw (ap (λ r. r.place) is, ap (λ r. r.close) is) h
+span_of source (leaf number place raw) row h is k = let e = sym (ap (λ r. r.kind) is) ∙ k in absurd cc
+span_of source item row h is k = let e = sym (ap (λ r. r.kind) is) ∙ k in absurd cc
 
 -- the rows of a node, and its bytes
 pub record IsOwn (source : List ℕ) (item : Item) (row : Row) (part : List Row) : Type 0 where
@@ -216,9 +178,7 @@ pub own : (source : List ℕ) (laid tree : Item) (id at : ℕ) (row : Row) (part
 own source laid tree id at row part table h same has is k t a p =
     let item = first_of (here tree id) in
     let r = rows_here tree id (lt_from_has tree id has) in
-    let e : part ≡ rows r.0 item =
-    p ∙ ap (λ n. take row.size (drop n table)) a ∙ ap (λ rs. take row.size (drop id rs)) (t ∙ ap (λ z. rows 0 z) same)
-    ∙ ap (λ n. take n (drop id (rows 0 tree))) (ap (λ r. r.size) is) ∙ r.1 in
+    let e : part ≡ rows r.0 item = rw (p, a, t, same, ap (λ r. r.size) is) r.1 in
     record {
       long = ap bytes_of_rows e ∙ rows-length item r.0;
       text = λ square. square_text item r.0 (subst AreSquare e square);
