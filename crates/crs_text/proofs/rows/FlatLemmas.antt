@@ -1,5 +1,5 @@
 -- The table of the state after a token is the table with that token.
-use Rattle.std.proofs.Common.{◌≡◌, ℕ, suc, ◌+◌, ◌-◌, nat_lt, Bool, true, false, Some, None, if◌then◌else◌, List, [], ◌∷◌, ◌++◌, length, get_or, ◌≢◌, refl, sym, ◌∙◌, ap, append_assoc, length-append, arith}
+use Rattle.std.proofs.Common.{◌≡◌, ℕ, suc, ◌+◌, ◌-◌, nat_lt, Bool, true, false, Some, None, if◌then◌else◌, List, [], ◌∷◌, ◌++◌, length, get_or, ◌≢◌, refl, sym, ◌∙◌, ap, append_assoc, length-append, add-one, arith}
 use Rattle.std.specs.Option.{option_map}
 use Rattle.std.proofs.Math.ListN.{set}
 use Rattle.std.proofs.Math.Seq.{get_or-append_seam, set-append_seam}
@@ -28,10 +28,7 @@ rows-gather place keyword square [] item later close depth =
     let e : 0 + suc (count later) ≡ suc (count later) = omega arith in rw e refl
 rows-gather place keyword square (b ∷ before) item later close depth =
     let e : suc (length before) + suc (count later) ≡ length before + suc (suc (count later)) = omega arith in
-    let body : rows_before (suc depth) before ++ (rows (suc depth) b ++ (rows (suc depth) item ++ rows_of_items (suc depth) later)) ≡
-    (rows_before (suc depth) before ++ rows (suc depth) b) ++ (rows (suc depth) item ++ rows_of_items (suc depth) later) = simp append_assoc in
-    rows-gather place keyword square before b (More item later) close depth ∙ ap (λ rs. node_rows place keyword square close (length before + suc (suc (count later))) depth rs) body
-    ∙ ap (λ n. node_rows place keyword square close n depth ((rows_before (suc depth) before ++ rows (suc depth) b) ++ (rows (suc depth) item ++ rows_of_items (suc depth) later))) (sym e)
+    rw (e, rows-gather place keyword square before b (More item later) close depth) (simp append_assoc)
 
 length-seam : (xs : List Row) (y : Row) (ys : List Row) → length (xs ++ y ∷ ys) - length xs ≡ suc (length ys)
 length-seam xs y ys = omega (arith, length-append xs (y ∷ ys))
@@ -47,13 +44,8 @@ close-rows f fs item place =
     let r = open_row f (length fs) in
     let B = rows_before (suc (length fs)) f.before in
     let C = rows (suc (length fs)) item in
-    let whole : (A ++ (r ∷ B)) ++ C ≡ A ++ (r ∷ (B ++ C)) = append_assoc A (r ∷ B) C in
-    let one : length f.before + 1 ≡ suc (length f.before) = omega arith in
-    let nil : B ++ (C ++ []) ≡ B ++ C = ap (λ cs. B ++ cs) (append-nil C) in
-    let g = rows-gather f.place f.keyword f.square f.before item End place (length fs) in
-    let get = get_or-append_seam A r (B ++ C) no_row in
-    let len = length-seam A r (B ++ C) in
-    rw (whole, get, len, g, nil, one) (set-append_seam A r (B ++ C) _)
+    rw (append_assoc A (r ∷ B) C, get_or-append_seam A r (B ++ C) no_row, length-seam A r (B ++ C), rows-gather f.place f.keyword f.square f.before item End place (length fs), append-nil C, add-one)
+    (set-append_seam A r (B ++ C) _)
 
 comma-rows : (f : Frame) (fs : List Frame) (item : Item) →
     rows_of_frames (f ∷ fs) ++ rows (suc (length fs)) item ≡ rows_of_frames (record f { before = item ∷ f.before } ∷ fs)
@@ -61,18 +53,8 @@ comma-rows f fs item = append_assoc (rows_of_frames fs) (open_row f (length fs) 
 
 leaf-rows : (kind : Kind) (place : ℕ) (raw : List ℕ) (f : Frame) (fs : List Frame) →
     with_leaf (flat (wants (f ∷ fs))) (item_kind kind) place raw ≡ flat (behind_leaf kind place raw (f ∷ fs))
-leaf-rows kind place raw f fs = go kind
-  where
-    one : length f.before + 1 ≡ suc (length f.before)
-    one = omega arith
-
-    deep : length (opens_of fs) ≡ length fs
-    deep = length-opens_of fs
-
-    go : (kind : Kind) → with_leaf (flat (wants (f ∷ fs))) (item_kind kind) place raw ≡ flat (behind_leaf kind place raw (f ∷ fs))
-    go number = rw (one, deep) refl
-    go text = rw (one, deep) refl
-    go word = rw (one, deep) refl
+leaf-rows number place raw f fs = rw (add-one, length-opens_of)
+leaf-rows kind place raw f fs = rw (add-one, length-opens_of)
 
 -- the table of a state after a complete item, which may be a word alone
 abbrev flat_behind : Item → List Frame → Position → Flat
@@ -80,10 +62,9 @@ flat_behind item fs position = record { rows = rows_of_frames fs ++ rows (length
 
 flat-comma : (item : Item) (fs : List Frame) (position : Position) → position ≢ BeforeItem → flat_comma (flat_behind item fs position) ≡ option_map flat (behind_item item fs comma)
 flat-comma item fs BeforeItem h = absurd (h refl)
-flat-comma item [] AfterWord h = refl
-flat-comma item [] AfterItem h = refl
 flat-comma item (f ∷ fs) AfterWord h = rw (comma-rows f fs item) refl
 flat-comma item (f ∷ fs) AfterItem h = rw (comma-rows f fs item) refl
+flat-comma item [] position h = refl
 
 close-flat : (f : Frame) (fs : List Frame) (item : Item) (place : ℕ) (square : Bool) (position : Position) →
     (b : Bool) → same_square square f.square ≡ b →
@@ -95,20 +76,21 @@ close-flat f fs item place square position true e = ap (λ rs. Some (record { ro
 flat-close : (item : Item) (fs : List Frame) (position : Position) (place : ℕ) (square : Bool) → position ≢ BeforeItem →
     flat_close (flat_behind item fs position) place square ≡ option_map flat (behind_item item fs (closing place square))
 flat-close item fs BeforeItem place square h = absurd (h refl)
-flat-close item [] AfterWord place square h = refl
-flat-close item [] AfterItem place square h = refl
 flat-close item (f ∷ fs) AfterWord place square h = close-flat f fs item place square AfterWord (same_square square f.square) refl
 flat-close item (f ∷ fs) AfterItem place square h = close-flat f fs item place square AfterItem (same_square square f.square) refl
+flat-close item [] position place square h = refl
+
+-- the last row, of a word, becomes that of a node
+last_opened : (A : List Row) (r : Row) (os : List Open) (position : Position) (square : Bool) →
+    with_open (record { rows = A ++ r ∷ []; opens = os; position = position }) square ≡
+    record { rows = A ++ record r { kind = Node; square = square } ∷ []; opens = record { row = length A; square = square; count = 0 } ∷ os; position = BeforeItem }
+last_opened A r os position square =
+    let len : length (A ++ r ∷ []) - 1 ≡ length A = omega (arith, length-append A (r ∷ [])) in
+    rw (len, get_or-append_seam A r [] no_row, set-append_seam A r [])
 
 open-rows : (place : ℕ) (raw : List ℕ) (fs : List Frame) (square : Bool) →
     with_open (flat (worded place raw fs)) square ≡ flat (wants (record { place = place; keyword = raw; square = square; before = [] } ∷ fs))
-open-rows place raw fs square =
-    let A = rows_of_frames fs in
-    let r = leaf_row Word place raw (length fs) in
-    let len : length (A ++ r ∷ []) - 1 ≡ length A = omega (arith, length-append A (r ∷ [])) in
-    let get = get_or-append_seam A r [] no_row in
-    let put = set-append_seam A r [] (record r { kind = Node; square = square }) in
-    rw (len, get, put) refl
+open-rows place raw fs square = last_opened (rows_of_frames fs) (leaf_row Word place raw (length fs)) (opens_of fs) AfterWord square
 
 open-flat : (place : ℕ) (raw : List ℕ) (fs : List Frame) (square : Bool) →
     flat_open (flat (worded place raw fs)) square ≡ option_map flat (step 12 (worded place raw fs) (opening square))
@@ -121,38 +103,21 @@ open-flat place raw fs square =
     go false = refl
 
 pub flat-step : (s : State) (t : Token) → flat_step (flat s) t ≡ option_map flat (step 12 s t)
-flat-step (wants []) (single number place raw) = refl
-flat-step (wants []) (single text place raw) = refl
-flat-step (wants []) (single word place raw) = refl
-flat-step (wants []) comma = refl
-flat-step (wants []) (opening square) = refl
-flat-step (wants []) (closing place square) = refl
-flat-step (wants (f ∷ fs)) (single kind place raw) = ap (λ f. Some f) (leaf-rows kind place raw f fs)
-flat-step (wants (f ∷ fs)) t = refl
-flat-step (worded place raw []) (single k p r) = refl
-flat-step (worded place raw (f ∷ fs)) (single k p r) = refl
+flat-step (wants (f ∷ fs)) (single kind place raw) = ap Some (leaf-rows kind place raw f fs)
 flat-step (worded place raw fs) comma = flat-comma (leaf word place raw) fs AfterWord (λ e. cc)
 flat-step (worded place raw fs) (opening square) = open-flat place raw fs square
 flat-step (worded place raw fs) (closing p square) = flat-close (leaf word place raw) fs AfterWord p square (λ e. cc)
-flat-step (after item []) (single k p r) = refl
-flat-step (after item (f ∷ fs)) (single k p r) = refl
 flat-step (after item fs) comma = flat-comma item fs AfterItem (λ e. cc)
-flat-step (after item []) (opening square) = refl
-flat-step (after item (f ∷ fs)) (opening square) = refl
 flat-step (after item fs) (closing p square) = flat-close item fs AfterItem p square (λ e. cc)
+flat-step (wants []) (single number place raw) = refl
+flat-step (worded place raw []) (single k p r) = refl
+flat-step (after item []) t = refl
+flat-step s t = refl
 
 -- a table that takes a word and then a square delimiter
 may_begin-word : (os : List Open) → may_begin BeforeItem os Word ≡ true
 may_begin-word [] = refl
 may_begin-word (o ∷ os) = refl
-
-begun_is : (f : Flat) (place : ℕ) (raw : List ℕ) → with_open (with_leaf f Word place raw) true ≡ with_opened (with_first f Node true place raw) (length f.rows)
-begun_is f place raw =
-    let r = leaf_row Word place raw (length f.opens) in
-    let len : length (f.rows ++ r ∷ []) - 1 ≡ length f.rows = omega (arith, length-append f.rows (r ∷ [])) in
-    let get = get_or-append_seam f.rows r [] no_row in
-    let put = set-append_seam f.rows r [] (record r { kind = Node; square = true }) in
-    rw (len, get, put) refl
 
 pub word_begun : (f g : Flat) (place : ℕ) (raw : List ℕ) → IsNodeBegun f place raw g → flat_single f Word place raw ≡ Some (with_leaf f Word place raw)
 word_begun f g place raw begun =
@@ -161,4 +126,5 @@ word_begun f g place raw begun =
 pub delimiter_begun : (f g : Flat) (place : ℕ) (raw : List ℕ) → IsNodeBegun f place raw g → flat_open (with_leaf f Word place raw) true ≡ Some g
 delimiter_begun f g place raw begun =
     let few : nat_lt (length (counted f.opens)) 12 ≡ true = lt-ltb _ _ (omega (arith, length-counted f.opens, begun.1)) in
-    ap (λ b. if b then Some (with_open (with_leaf f Word place raw) true) else None) few ∙ ap Some (begun_is f place raw ∙ sym begun.2)
+    let is = last_opened f.rows (leaf_row Word place raw (length f.opens)) (counted f.opens) AfterWord true in
+    ap (λ b. if b then Some (with_open (with_leaf f Word place raw) true) else None) few ∙ ap Some (is ∙ sym begun.2)

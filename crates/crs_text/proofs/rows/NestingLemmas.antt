@@ -1,5 +1,5 @@
 -- The places of the delimiters that are open, token by token.
-use Rattle.std.proofs.Common.{◌≡◌, ℕ, zero, suc, ◌+◌, ◌-◌, ◌≤◌, ◌<◌, ◌≢◌, ◌⊎◌, inl, inr, min, Bool, Option, Some, None, List, [], ◌∷◌, ◌++◌, length, get_or, drop, refl, sym, ap, subst, ◌∙◌, append_assoc, arith, get_or-set_same, get_or-set_other, MatchOption}
+use Rattle.std.proofs.Common.{add-one, ◌≡◌, ℕ, zero, suc, ◌+◌, ◌-◌, ◌≤◌, ◌<◌, ◌≢◌, ◌⊎◌, inl, inr, min, Bool, Option, Some, None, List, [], ◌∷◌, ◌++◌, length, get_or, drop, refl, sym, ap, subst, ◌∙◌, append_assoc, arith, get_or-set_same, get_or-set_other, MatchOption}
 use Rattle.std.proofs.Math.ListN.{set}
 use Rattle.std.specs.List.{fold, prefix_len}
 use Rattle.std.proofs.lemmas.List.{append-nil, length-drop, drop-drop}
@@ -40,20 +40,12 @@ length-places_held (suc depth) ps = ap (λ n. suc n) (length-places_held depth p
 places_held-set : (depth : ℕ) (ps : List ℕ) (i p : ℕ) → depth ≤ i → places_held depth (set ps i p) ≡ places_held depth ps
 places_held-set zero ps i p h = refl
 places_held-set (suc depth) ps i p h =
-    let below : depth ≢ i = omega arith in
-    let here : get_or (set ps i p) depth 0 ≡ get_or ps depth 0 = rw get_or-set_other refl in
-    let rest = places_held-set depth ps i p (omega arith) in
-    cc
+    let below : depth ≢ i = omega arith in rw (get_or-set_other, places_held-set depth ps i p (omega arith))
 
 -- one more
 pub places_held-push : (depth : ℕ) (ps : List ℕ) (p : ℕ) → depth < length ps → places_held (depth + 1) (set ps depth p) ≡ p ∷ places_held depth ps
 places_held-push depth ps p d =
-    let e : depth + 1 - 1 ≡ depth = omega arith in
-    let top = places_held-top (depth + 1) (set ps depth p) (omega arith) in
-    let here : get_or (set ps depth p) depth 0 ≡ p = rw get_or-set_same refl in
-    let rest = places_held-set depth ps depth p (omega arith) in
-    let t : places_held (depth + 1) (set ps depth p) ≡ get_or (set ps depth p) depth 0 ∷ places_held depth (set ps depth p) = rw e at top in
-    cc
+    rw (add-one, get_or-set_same, places_held-set depth ps depth p (omega arith))
 
 pub ruleset places_rules = (places_held-top, places_held-none, length-places_held, places_held-push)
 

@@ -22,19 +22,13 @@ length-held (suc depth) os = ap (λ n. suc n) (length-held depth os)
 pub held-set : (depth : ℕ) (os : List Open) (i : ℕ) (o : Open) → depth ≤ i → held depth (set os i o) ≡ held depth os
 held-set zero os i o h = refl
 held-set (suc depth) os i o h =
-    let below : depth ≢ i = omega arith in
-    let here : get_or (set os i o) depth no_open ≡ get_or os depth no_open = rw get_or-set_other refl in
-    let rest = held-set depth os i o (omega arith) in
-    cc
+    let below : depth ≢ i = omega arith in rw (get_or-set_other, held-set depth os i o (omega arith))
 
 -- a write at the top
 pub held-set_top : (depth : ℕ) (os : List Open) (o : Open) → 0 < depth → depth ≤ length os → held depth (set os (depth - 1) o) ≡ o ∷ held (depth - 1) os
 held-set_top depth os o h d =
     let lt : depth - 1 < length os = omega arith in
-    let here : get_or (set os (depth - 1) o) (depth - 1) no_open ≡ o = rw get_or-set_same refl in
-    let rest = held-set (depth - 1) os (depth - 1) o (omega arith) in
-    let top = held-top depth (set os (depth - 1) o) h in
-    cc
+    rw (held-top depth (set os (depth - 1) o) h, get_or-set_same, held-set (depth - 1) os (depth - 1) o (omega arith))
 
 -- one more
 pub held-push : (depth : ℕ) (os : List Open) (o : Open) → depth < length os → held (depth + 1) (set os depth o) ≡ o ∷ held depth os

@@ -2,6 +2,8 @@
 -- bytes.
 use Rattle.std.proofs.Common.{◌≡◌, ℕ, zero, suc, ◌+◌, ◌≤◌, ◌<◌, List, [], ◌∷◌, ◌++◌, length, get_or, take, drop, map, refl, sym, ◌∙◌, ap, subst, arith}
 use Rattle.std.proofs.lemmas.List.{map-append, get_or-map}
+use Rattle.std.proofs.lemmas.List.Elements.{All-nil, All-cons, All-append, All-get_or}
+use Rattle.std.specs.List.{All}
 use Rattle.crs_decimal.specs.Prelude.{IsInBounds, IsFault}
 use Rattle.crs_decimal.specs.declared.fault.NumberFault.{NumberFault}
 use Rattle.crs_decimal.specs.declared.fault.NumberFault.TheVariants.{Malformed, Range}
@@ -55,85 +57,56 @@ tree_of-rows source table item h =
 pub table_of_tree : (source : List ℕ) (table : List Row) (item : Item) → IsTable source table item → IsTable source table (tree_of source table)
 table_of_tree source table item h = subst (IsTable source table) (sym (tree_of-rows source table item h)) h
 
-abbrev pub AllHere : (Item → Type 0) → List Here → Type 0
-AllHere Q [] = Unit {0}
-AllHere Q (h ∷ hs) = Q h.item × AllHere Q hs
-
-all-append : (Q : Item → Type 0) (a b : List Here) → AllHere Q a → AllHere Q b → AllHere Q (a ++ b)
-all-append Q [] b h k = k
-all-append Q (x ∷ a) b h k = (h.0, all-append Q a b h.1 k)
-
 -- what holds of the tokens of a tree, and so of some of them that come one after another, and so of each item whose tokens
 -- it holds of, holds of each item in the tree
 module _ (Holds : List Token → Type 0) (cut_left : (a b : List Token) → Holds (a ++ b) → Holds a) (cut_right : (a b : List Token) → Holds (a ++ b) → Holds b)
     (Q : Item → Type 0) (own : (item : Item) → Holds (tokens item) → Q item) where
+  abbrev Own : Here → Type 0
+  Own h = Q h.item
+
+  all-more : (item : Item) (items : Siblings) (depth : ℕ) → Holds (tokens item ++ others_tokens items) → (Holds (tokens item) → All Own (heres_in depth item)) →
+      (Holds (others_tokens items) → All Own (heres_of depth items)) → All Own (heres_of depth (More item items))
+  all-more item items depth h inside later =
+      let one = cut_left (tokens item) _ h in
+      All-cons Own (record { depth = depth; item = item; later = items }) (heres_in depth item ++ heres_of depth items) (own item one)
+      (All-append Own (heres_in depth item) (heres_of depth items) (inside one) (later (cut_right (tokens item) _ h)))
+
   mutual
-    all-heres_in : (item : Item) (depth : ℕ) → Holds (tokens item) → AllHere Q (heres_in depth item)
-    all-heres_in (leaf kind place raw) depth h = tt
+    all-heres_in : (item : Item) (depth : ℕ) → Holds (tokens item) → All Own (heres_in depth item)
+    all-heres_in (leaf kind place raw) depth h = All-nil Own
     all-heres_in (node place keyword square first others close) depth h =
         let inner = cut_right (single word place keyword ∷ opening square ∷ []) (tokens first ++ others_tokens others ++ closing close square ∷ []) h in
-        let left = cut_left (tokens first ++ others_tokens others) (closing close square ∷ []) inner in
-        let one = cut_left (tokens first) (others_tokens others) left in
-        let a = all-heres_in first (suc depth) one in
-        let b = all-heres_of others (suc depth) (cut_right (tokens first) (others_tokens others) left) in
-        (own first one, all-append Q (heres_in (suc depth) first) (heres_of (suc depth) others) a b)
+        all-more first others (suc depth) (cut_left _ (closing close square ∷ []) inner) (all-heres_in first (suc depth)) (all-heres_of others (suc depth))
 
-    all-heres_of : (items : Siblings) (depth : ℕ) → Holds (others_tokens items) → AllHere Q (heres_of depth items)
-    all-heres_of End depth h = tt
-    all-heres_of (More item items) depth h =
-        let left = cut_right (comma ∷ []) (tokens item ++ others_tokens items) h in
-        let one = cut_left (tokens item) (others_tokens items) left in
-        let a = all-heres_in item depth one in
-        let b = all-heres_of items depth (cut_right (tokens item) (others_tokens items) left) in
-        (own item one, all-append Q (heres_in depth item) (heres_of depth items) a b)
+    all-heres_of : (items : Siblings) (depth : ℕ) → Holds (others_tokens items) → All Own (heres_of depth items)
+    all-heres_of End depth h = All-nil Own
+    all-heres_of (More item items) depth h = all-more item items depth (cut_right (comma ∷ []) _ h) (all-heres_in item depth) (all-heres_of items depth)
 
-  all-heres : (tree : Item) → Holds (tokens tree) → AllHere Q (heres tree)
-  all-heres tree h = (own tree h, all-heres_in tree 0 h)
-
-all-get : (Q : Item → Type 0) (hs : List Here) (i : ℕ) (d : Here) → AllHere Q hs → i < length hs → Q (get_or hs i d).item
-all-get Q [] i d h lt = absurd (omega arith)
-all-get Q (x ∷ hs) zero d h lt = h.0
-all-get Q (x ∷ hs) (suc i) d h lt = all-get Q hs i d h.1 (omega arith)
-
-pub item_of : (Holds : List Token → Type 0) → ((a b : List Token) → Holds (a ++ b) → Holds a) → ((a b : List Token) → Holds (a ++ b) → Holds b) →
-    (Q : Item → Type 0) → ((item : Item) → Holds (tokens item) → Q item) → (tree : Item) (id : ℕ) → Holds (tokens tree) →
-    id < length (rows 0 tree) → Q (first_of (here tree id))
-item_of Holds cut_left cut_right Q own tree id h lt =
-    let none : Here = record { depth = 0; item = tree; later = End } in
-    let len = length-heres tree in
-    let inner : id < length (heres tree) = omega arith in
-    let items : here tree id ≡ items_at (get_or (heres tree) id none) = items-at tree id ∙ get_or-map items_at (heres tree) id none End inner in
-    subst Q (sym (ap first_of items)) (all-get Q (heres tree) id none (all-heres Holds cut_left cut_right Q own tree h) inner)
+  pub item_of : (tree : Item) (id : ℕ) → Holds (tokens tree) → id < length (rows 0 tree) → Q (first_of (here tree id))
+  item_of tree id h lt =
+      let none : Here = record { depth = 0; item = tree; later = End } in
+      let inner : id < length (heres tree) = omega (arith, length-heres tree) in
+      rw (items-at tree id, get_or-map items_at (heres tree) id none End inner) (All-get_or Own (heres tree) id none inner (All-cons Own none (heres_in 0 tree) (own tree h) (all-heres_in tree 0 h)))
 
 pub each_item : (P : Token → Type 0) (Q : Item → Type 0) → ((item : Item) → EachToken P (tokens item) → Q item) → (tree : Item) (id : ℕ) → EachToken P (tokens tree) →
     id < length (rows 0 tree) → Q (first_of (here tree id))
-each_item P Q own tree id h lt = item_of (EachToken P) (each_left P) (each_right P) Q own tree id h lt
+each_item P = item_of (EachToken P) (each_left P) (each_right P)
 
 abbrev pub StandsHere : List ℕ → Item → Type 0
 StandsHere source item = StandsAt source (raw_place (kind_of_item item) (place_of item)) (raw_of item)
 
 pub stands_here : (source : List ℕ) (item : Item) → AllStand source (tokens item) → StandsHere source item
 stands_here source (leaf number place raw) h = h.0
-stands_here source (leaf text place raw) h = h.0
-stands_here source (leaf word place raw) h = h.0
-stands_here source (node place keyword square first others close) h = h.0
-
--- the source has the raw bytes of each item
-pub stands : (source : List ℕ) (tree : Item) (id : ℕ) → AllStand source (tokens tree) → id < length (rows 0 tree) → StandsHere source (first_of (here tree id))
-stands source tree id = each_item (TokenStands source) (StandsHere source) (stands_here source) tree id
+stands_here source item h = h.0
 
 -- the raw bytes of the item whose row this is
-module _ (source : List ℕ) (tree : Item) (id : ℕ) (row : Row) (stand : AllStand source (tokens tree)) (has : HasId tree id)
+module _ (source : List ℕ) (laid tree : Item) (id : ℕ) (row : Row) (stand : AllStand source (tokens laid)) (same : laid ≡ tree) (has : HasId tree id)
     (is : row ≡ row_of row.depth (first_of (here tree id))) where
   item-stands : StandsHere source (first_of (here tree id))
-  item-stands = stands source tree id stand (lt_from_has tree id has)
+  item-stands = each_item (TokenStands source) (StandsHere source) (stands_here source) tree id (rw (← same) stand) (lt_from_has tree id has)
 
   pub raw-within : raw_place row.kind row.place + row.length ≤ length source
-  raw-within =
-      let h = item-stands in
-      let e : raw_place row.kind row.place + row.length ≡ raw_place (kind_of_item (first_of (here tree id))) (place_of (first_of (here tree id))) + length (raw_of (first_of (here tree id))) =
-      ap (λ r. raw_place r.kind r.place + r.length) is in
-      omega (arith, e, h.within)
+  raw-within = subst (λ r. raw_place r.kind r.place + r.length ≤ length source) (sym is) item-stands.within
 
   pub raw-is : take row.length (drop (raw_place row.kind row.place) source) ≡ raw_of (first_of (here tree id))
   raw-is = ap (λ r. take r.length (drop (raw_place r.kind r.place) source)) is ∙ sym item-stands.bytes
@@ -146,12 +119,12 @@ bounded_here (leaf number place raw) h = λ e. h.0.2
 bounded_here item h = λ e. cc
 
 -- each number of a tree is within the bounds
-pub bounded : (tree : Item) (id : ℕ) → EachToken IsFormed (tokens tree) → HasId tree id → IsBoundedHere (first_of (here tree id))
-bounded tree id h has = each_item IsFormed IsBoundedHere bounded_here tree id h (lt_from_has tree id has)
+pub bounded : (laid tree : Item) (id : ℕ) → EachToken IsFormed (tokens laid) → laid ≡ tree → HasId tree id → IsBoundedHere (first_of (here tree id))
+bounded laid tree id h same has = each_item IsFormed IsBoundedHere bounded_here tree id (rw (← same) h) (lt_from_has tree id has)
 
 -- each item of a tree is well formed
-pub formed : (tree : Item) (id : ℕ) → EachToken IsFormed (tokens tree) → HasId tree id → AreFormed (first_of (here tree id))
-formed tree id h has = each_item IsFormed AreFormed formed_of tree id h (lt_from_has tree id has)
+pub formed : (laid tree : Item) (id : ℕ) → EachToken IsFormed (tokens laid) → laid ≡ tree → HasId tree id → AreFormed (first_of (here tree id))
+formed laid tree id h same has = each_item IsFormed AreFormed formed_of tree id (rw (← same) h) (lt_from_has tree id has)
 
 -- what is within the bounds has no fault
 pub no_fault : (bytes : List ℕ) (fault : NumberFault) → IsInBounds bytes → IsFault bytes fault → ⊥
