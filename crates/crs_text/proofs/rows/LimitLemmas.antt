@@ -58,9 +58,8 @@ sound-behind limit item (f ∷ fs) (closing place square) n s d e =
 sound-behind limit item fs t n s d e = cc
 
 sound-leaf : (limit : ℕ) (kind : Kind) (place : ℕ) (raw : List ℕ) (f : Frame) (fs : List Frame) → AreSound limit (f ∷ fs) → IsSound limit (behind_leaf kind place raw (f ∷ fs))
-sound-leaf limit number place raw f fs s = (s, tt, omega arith)
-sound-leaf limit text place raw f fs s = (s, tt, omega arith)
 sound-leaf limit word place raw f fs s = s
+sound-leaf limit kind place raw f fs s = (s, tt, omega arith)
 
 pub sound-step : (limit : ℕ) (s : State) (t : Token) (n : State) → IsSound limit s → step limit s t ≡ Some n → IsSound limit n
 sound-step limit (wants []) (single word place raw) n s e = let h : worded place raw [] ≡ n = cc in subst (IsSound limit) h tt

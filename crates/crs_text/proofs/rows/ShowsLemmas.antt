@@ -13,7 +13,7 @@ use Rattle.crs_text.specs.declared.table.Position.TheVariants.{BeforeItem, After
 use Rattle.crs_text.proofs.tokens.ViableLemmas.{viable_from_run, whole_from_run, run_from_whole}
 use Rattle.crs_text.proofs.tokens.AllowedLemmas.{deep_from_word, worded_from_deep, not_viable_from_none}
 use Rattle.crs_text.proofs.rows.FlatLemmas.{flat-step}
-use Rattle.crs_text.proofs.rows.StateLemmas.{run-cons, run-append}
+use Rattle.crs_text.proofs.rows.StateLemmas.{run-more}
 
 pub shows_start : Shows [] (flat start)
 shows_start = (start, refl, refl)
@@ -24,38 +24,33 @@ viable_from_shows ts f h = viable_from_run ts h.0 h.1
 step-flat : (ts : List Token) (f : Flat) (t : Token) (h : Shows ts f) → flat_step f t ≡ option_map flat (step 12 h.0 t)
 step-flat ts f t h = ap (λ g. flat_step g t) h.2 ∙ flat-step h.0 t
 
+-- a table is that of a state, and none that of none
+mapped-some : (o : Option State) (f : Flat) → option_map flat o ≡ Some f → (s : State) × (o ≡ Some s) × (f ≡ flat s)
+mapped-some None f e = cc
+mapped-some (Some s) f e = (s, refl, cc)
+
+mapped-none : (o : Option State) → option_map flat o ≡ None → o ≡ None
+mapped-none None e = refl
+mapped-none (Some s) e = cc
+
 -- one token more
 pub shows_more : (ts : List Token) (f g : Flat) (t : Token) → Shows ts f → flat_step f t ≡ Some g → Shows (ts ++ t ∷ []) g
-shows_more ts f g t h e = go (step 12 h.0 t) refl
-  where
-    go : (o : Option State) → step 12 h.0 t ≡ o → Shows (ts ++ t ∷ []) g
-    go None k =
-        let m : option_map flat (step 12 h.0 t) ≡ None = ap (option_map flat) k in
-        absurd (let n : None ≡ Some g = sym m ∙ sym (step-flat ts f t h) ∙ e in cc)
-    go (Some n) k =
-        let m : option_map flat (step 12 h.0 t) ≡ Some (flat n) = ap (option_map flat) k in
-        let same : Some g ≡ Some (flat n) = sym e ∙ step-flat ts f t h ∙ m in
-        (n, run-append 12 start h.0 ts (t ∷ []) h.1 ∙ run-cons 12 h.0 t n [] k, cc)
+shows_more ts f g t h e =
+    let m = mapped-some (step 12 h.0 t) g (sym (step-flat ts f t h) ∙ e) in
+    (m.0, run-more 12 ts h.0 t m.0 h.1 m.1, m.2)
 
 -- a token that isn't taken
 pub not_viable_from_shows : (ts : List Token) (f : Flat) (t : Token) → Shows ts f → flat_step f t ≡ None → ¬ (IsViable (ts ++ t ∷ []))
-not_viable_from_shows ts f t h e = go (step 12 h.0 t) refl
-  where
-    go : (o : Option State) → step 12 h.0 t ≡ o → ¬ (IsViable (ts ++ t ∷ []))
-    go None k = not_viable_from_none ts h.0 t h.1 k
-    go (Some n) k =
-        let m : option_map flat (step 12 h.0 t) ≡ Some (flat n) = ap (option_map flat) k in
-        absurd (let n : None ≡ Some (flat n) = sym e ∙ step-flat ts f t h ∙ m in cc)
+not_viable_from_shows ts f t h e = not_viable_from_none ts h.0 t h.1 (mapped-none (step 12 h.0 t) (sym (step-flat ts f t h) ∙ e))
 
 -- an opening delimiter after a word is allowed, but for the depth
 pub deep_from_shows : (ts : List Token) (f : Flat) (square : Bool) → Shows ts f → f.position ≡ AfterWord → IsViableAtAnyDepth (ts ++ opening square ∷ [])
 deep_from_shows ts f square h is_word = go h.0 h.1 (sym (ap (λ f. f.position) h.2) ∙ is_word)
   where
     go : (s : State) → run 12 start ts ≡ Some s → (flat s).position ≡ AfterWord → IsViableAtAnyDepth (ts ++ opening square ∷ [])
-    go (wants []) r e = cc
-    go (wants (x ∷ fs)) r e = cc
     go (worded place raw fs) r e = deep_from_word ts place raw fs square r
-    go (after item fs) r e = cc
+    go (wants []) r e = cc
+    go s r e = cc
 
 pub none_from_deep : (f g : Flat) (square : Bool) → IsOpened f square TooDeep g → flat_step f (opening square) ≡ None
 none_from_deep f g square o = rw (o.0, o.1) refl
@@ -79,16 +74,12 @@ pub whole_from_shows : (ts : List Token) (f : Flat) → Shows ts f → is_whole 
 whole_from_shows ts f h e = go h.0 h.1 h.2 (sym (ap is_whole h.2) ∙ e)
   where
     go : (s : State) → run 12 start ts ≡ Some s → f ≡ flat s → is_whole (flat s) ≡ true → (item : Item) × AreNode item ts × (f ≡ flat (after item []))
-    go (wants []) r k w = cc
-    go (wants (x ∷ fs)) r k w = cc
-    go (worded place raw fs) r k w = cc
     go (after item []) r k w = (item, whole_from_run ts item r, k)
-    go (after item (x ∷ fs)) r k w = cc
+    go (wants []) r k w = cc
+    go s r k w = cc
 
 pub not_whole_from_shows : (ts : List Token) (f : Flat) → Shows ts f → is_whole f ≡ false → (item : Item) → ¬ (AreNode item ts)
 not_whole_from_shows ts f h e item a =
-    let r = run_from_whole ts item a in
-    let same : Some h.0 ≡ Some (after item []) = sym h.1 ∙ r in
-    let s : h.0 ≡ after item [] = cc in
+    let s : h.0 ≡ after item [] = cc (run_from_whole ts item a) in
     let k : is_whole f ≡ true = ap is_whole (h.2 ∙ ap flat s) in
     cc

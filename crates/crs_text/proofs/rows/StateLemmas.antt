@@ -5,7 +5,7 @@ use Rattle.std.proofs.lemmas.List.{append-nil}
 use Rattle.std.proofs.lemmas.List.Sums.{fold-append}
 use Rattle.crs_text.specs.Tokens.{Kind, number, text, word, Token, single, comma, opening, closing}
 use Rattle.crs_text.specs.Items.{Item, leaf, Siblings, More, tokens, others_tokens}
-use Rattle.crs_text.specs.State.{Frame, State, wants, worded, after, gather, only_if, same_square, behind_leaf, behind_item, step, move, run, before_tokens, frames_tokens, unread}
+use Rattle.crs_text.specs.State.{Frame, State, wants, worded, after, start, gather, only_if, same_square, behind_leaf, behind_item, step, move, run, before_tokens, frames_tokens, unread}
 
 pub only_if-some : (b : Bool) (s n : State) → only_if b s ≡ Some n → (b ≡ true) × (s ≡ n)
 only_if-some true s n e = (refl, cc)
@@ -39,9 +39,8 @@ unread-behind item (f ∷ fs) (closing place square) n e =
 unread-behind item fs t n e = cc
 
 unread-leaf : (kind : Kind) (place : ℕ) (raw : List ℕ) (fs : List Frame) → unread (behind_leaf kind place raw fs) ≡ frames_tokens fs ++ single kind place raw ∷ []
-unread-leaf number place raw fs = refl
-unread-leaf text place raw fs = refl
 unread-leaf word place raw fs = refl
+unread-leaf kind place raw fs = refl
 
 pub unread-step : (limit : ℕ) (s : State) (t : Token) (n : State) → step limit s t ≡ Some n → unread n ≡ unread s ++ t ∷ []
 unread-step limit (wants []) (single word place raw) n e = let h : worded place raw [] ≡ n = cc in rw (← h) refl
@@ -64,19 +63,24 @@ run-cons limit s t n ts e = ap (λ o. fold (move limit) o ts) e
 pub run-append : (limit : ℕ) (s n : State) (ts us : List Token) → run limit s ts ≡ Some n → run limit s (ts ++ us) ≡ run limit n us
 run-append limit s n ts us e = fold-append (move limit) (Some s) ts us ∙ ap (λ o. fold (move limit) o us) e
 
+-- one token more
+pub run-more : (limit : ℕ) (ts : List Token) (s : State) (t : Token) (n : State) → run limit start ts ≡ Some s → step limit s t ≡ Some n → run limit start (ts ++ t ∷ []) ≡ Some n
+run-more limit ts s t n e k = run-append limit start s ts (t ∷ []) e ∙ k
+
 -- what begins a list that is taken is taken
 pub run-front : (limit : ℕ) (s n : State) (ts us : List Token) → run limit s (ts ++ us) ≡ Some n → (m : State) × (run limit s ts ≡ Some m) × (run limit m us ≡ Some n)
-run-front limit s n ts us e = go (run limit s ts) refl
+run-front limit s n ts us e = go (run limit s ts) (sym (fold-append (move limit) (Some s) ts us) ∙ e)
   where
-    go : (o : Option State) → run limit s ts ≡ o → (m : State) × (run limit s ts ≡ Some m) × (run limit m us ≡ Some n)
-    go None g =
-        let h : fold (move limit) (Some s) (ts ++ us) ≡ fold (move limit) None us = fold-append (move limit) (Some s) ts us ∙ ap (λ o. fold (move limit) o us) g in
-        let none = fold-none limit us in
-        absurd (let k : None ≡ Some n = cc in cc)
-    go (Some m) g = (m, g, sym (run-append limit s m ts us g) ∙ e)
+    go : (o : Option State) → fold (move limit) o us ≡ Some n → (m : State) × (o ≡ Some m) × (run limit m us ≡ Some n)
+    go None k = absurd (let none : None ≡ Some n = sym (fold-none limit us) ∙ k in cc)
+    go (Some m) k = (m, refl, k)
 
 pub run-some : (limit : ℕ) (s : State) (t : Token) (ts : List Token) (n : State) → run limit s (t ∷ ts) ≡ Some n → (m : State) × (step limit s t ≡ Some m) × (run limit m ts ≡ Some n)
 run-some limit s t ts n e = run-front limit s n (t ∷ []) ts e
+
+-- the last token is taken by the state before it
+pub run-last : (limit : ℕ) (ts : List Token) (s : State) (t : Token) (n : State) → run limit start ts ≡ Some s → run limit start (ts ++ t ∷ []) ≡ Some n → step limit s t ≡ Some n
+run-last limit ts s t n e k = sym (run-append limit start s ts (t ∷ []) e) ∙ k
 
 pub unread-run : (limit : ℕ) (ts : List Token) (s n : State) → run limit s ts ≡ Some n → unread n ≡ unread s ++ ts
 unread-run limit [] s n e = let h : s ≡ n = cc in rw (← h) (sym (append-nil _))

@@ -1,14 +1,14 @@
 -- Which token may follow, read off the tokens themselves, is which token a state takes.
-use Rattle.std.proofs.Common.{◌≡◌, ℕ, suc, ◌+◌, ◌≤◌, ◌<◌, ◌⊎◌, inl, inr, nat_lt, Bool, true, false, Option, Some, None, List, [], ◌∷◌, ◌++◌, length, refl, sym, ◌∙◌, ap, subst, append_assoc, arith}
+use Rattle.std.proofs.Common.{le-ltb, ◌≡◌, ℕ, suc, ◌+◌, ◌≤◌, ◌<◌, ◌⊎◌, inl, inr, nat_lt, Bool, true, false, Option, Some, None, List, [], ◌∷◌, ◌++◌, length, refl, sym, ◌∙◌, ap, subst, append_assoc, arith}
 use Rattle.std.specs.List.{fold, last_or}
-use Rattle.std.proofs.lemmas.Bool.{ltb-true, ltb-false}
+use Rattle.std.proofs.lemmas.Bool.{cases_lt, ltb-true}
 use Rattle.std.proofs.lemmas.List.{append-nil}
 use Rattle.std.proofs.lemmas.List.Sums.{fold-append}
 use Rattle.crs_text.specs.Tokens.{word, Token, single, comma, opening, closing}
 use Rattle.crs_text.specs.Items.{Item, leaf, node, Siblings, End, More, tokens, others_tokens, depth}
-use Rattle.crs_text.specs.Viable.{IsViable, IsViableAtAnyDepth, open_after, opens, last_of, GoesOn, IsOpening, MayFollow, Allows, IsFull}
+use Rattle.crs_text.specs.Viable.{IsViable, IsViableAtAnyDepth, open_after, opens, last_of, GoesOn, IsSingleToken, MayFollow, Allows, IsFull}
 use Rattle.crs_text.specs.State.{Frame, State, wants, worded, after, start, gather, only_if, behind_leaf, behind_item, step, run, before_tokens, frames_tokens, unread}
-use Rattle.crs_text.proofs.rows.StateLemmas.{only_if-some, same_square-true, same_square-refl, unread-run, run-cons, run-some, run-append}
+use Rattle.crs_text.proofs.rows.StateLemmas.{only_if-some, same_square-true, same_square-refl, unread-run, run-cons, run-some, run-append, run-more, run-last}
 use Rattle.crs_text.proofs.rows.LimitLemmas.{AreSound, IsSound, sound-run}
 use Rattle.crs_text.proofs.tokens.ViableLemmas.{node_tokens, step-opening, taken, completed, viable_from_run, run_from_viable}
 
@@ -17,23 +17,16 @@ mutual
   pub opens-item : (item : Item) (held : List Bool) (more : List Token) → fold open_after held (tokens item ++ more) ≡ fold open_after held more
   opens-item (leaf kind place raw) held more = refl
   opens-item (node place keyword square first others close) held more =
-      ap (λ ts. fold open_after (square ∷ held) ts) (node_tokens (tokens first) (others_tokens others) (closing close square) more)
-      ∙ opens-item first (square ∷ held) (others_tokens others ++ closing close square ∷ more)
-      ∙ opens-others others (square ∷ held) (closing close square ∷ more)
+      rw (node_tokens, opens-item first, opens-others others)
 
   opens-others : (items : Siblings) (held : List Bool) (more : List Token) → fold open_after held (others_tokens items ++ more) ≡ fold open_after held more
   opens-others End held more = refl
   opens-others (More item items) held more =
-      ap (λ ts. fold open_after held ts) (append_assoc (tokens item) (others_tokens items) more)
-      ∙ opens-item item held (others_tokens items ++ more)
-      ∙ opens-others items held more
+      rw (append_assoc, opens-item item, opens-others items)
 
 opens-before : (before : List Item) (held : List Bool) → fold open_after held (before_tokens before) ≡ held
 opens-before [] held = refl
-opens-before (item ∷ before) held =
-    fold-append open_after held (before_tokens before) (tokens item ++ comma ∷ [])
-    ∙ ap (λ h. fold open_after h (tokens item ++ comma ∷ [])) (opens-before before held)
-    ∙ opens-item item held (comma ∷ [])
+opens-before (item ∷ before) held = rw (fold-append, opens-before before, opens-item item)
 
 abbrev pub squares : List Frame → List Bool
 squares [] = []
@@ -45,10 +38,7 @@ length-squares (f ∷ fs) = ap (λ n. suc n) (length-squares fs)
 
 opens-frames : (fs : List Frame) → fold open_after [] (frames_tokens fs) ≡ squares fs
 opens-frames [] = refl
-opens-frames (f ∷ fs) =
-    fold-append open_after [] (frames_tokens fs) (single word f.place f.keyword ∷ opening f.square ∷ before_tokens f.before)
-    ∙ ap (λ h. fold open_after (f.square ∷ h) (before_tokens f.before)) (opens-frames fs)
-    ∙ opens-before f.before (f.square ∷ squares fs)
+opens-frames (f ∷ fs) = rw (fold-append, opens-frames fs, opens-before)
 
 abbrev pub frames_of : State → List Frame
 frames_of (wants fs) = fs
@@ -57,12 +47,8 @@ frames_of (after item fs) = fs
 
 pub opens-unread : (s : State) → opens (unread s) ≡ squares (frames_of s)
 opens-unread (wants fs) = opens-frames fs
-opens-unread (worded place raw fs) = fold-append open_after [] (frames_tokens fs) (single word place raw ∷ []) ∙ opens-frames fs
-opens-unread (after item fs) =
-    fold-append open_after [] (frames_tokens fs) (tokens item)
-    ∙ ap (λ h. fold open_after h (tokens item)) (opens-frames fs)
-    ∙ ap (λ ts. fold open_after (squares fs) ts) (sym (append-nil (tokens item)))
-    ∙ opens-item item (squares fs) []
+opens-unread (worded place raw fs) = rw (fold-append, opens-frames)
+opens-unread (after item fs) = rw (fold-append, opens-frames, ← append-nil (tokens item), opens-item)
 
 last-append : (o : Option Token) (xs ys : List Token) → last_or o (xs ++ ys) ≡ last_or (last_or o xs) ys
 last-append o [] ys = refl
@@ -85,9 +71,7 @@ last-open o f = go f.before
   where
     go : (before : List Item) → last_or (Some (opening f.square)) (before_tokens before) ≡ Some (last_of_open (record f { before = before }))
     go [] = refl
-    go (item ∷ before) =
-        last-append (Some (opening f.square)) (before_tokens before) (tokens item ++ comma ∷ [])
-        ∙ last-append (last_or (Some (opening f.square)) (before_tokens before)) (tokens item) (comma ∷ [])
+    go (item ∷ before) = simp last-append
 
 abbrev pub last_token : State → Option Token
 last_token (wants []) = None
@@ -115,38 +99,19 @@ behind_from_goes_on item f fs (closing place square) h =
     (after (gather f.place f.keyword f.square f.before item End place) fs, rw (h, same_square-refl f.square) refl)
 behind_from_goes_on item f fs t h = absurd h
 
-from_wants : (f : Frame) (fs : List Frame) (t : Token) → Takes 12 (wants (f ∷ fs)) t → MayFollow (Some (last_of_open f)) (f.square ∷ squares fs) t
-from_wants f fs t e = go f.before t e.0 e.1
+-- after an opening delimiter or a comma an item must come
+wants_single : (f : Frame) (held : List Bool) (t : Token) → MayFollow (Some (last_of_open f)) held t ≡ IsSingleToken t
+wants_single f held t = go f.before
   where
-    go : (before : List Item) (t : Token) (n : State) → step 12 (wants (f ∷ fs)) t ≡ Some n → MayFollow (Some (last_of_open (record f { before = before }))) (f.square ∷ squares fs) t
-    go [] (single kind place raw) n e = tt
-    go (item ∷ before) (single kind place raw) n e = tt
-    go before t n e = cc
-
-into_wants : (f : Frame) (fs : List Frame) (t : Token) → MayFollow (Some (last_of_open f)) (f.square ∷ squares fs) t → Takes 12 (wants (f ∷ fs)) t
-into_wants f fs t h = go f.before t h
-  where
-    go : (before : List Item) (t : Token) → MayFollow (Some (last_of_open (record f { before = before }))) (f.square ∷ squares fs) t → Takes 12 (wants (f ∷ fs)) t
-    go before (single kind place raw) h = (behind_leaf kind place raw (f ∷ fs), refl)
-    go [] comma h = absurd h
-    go [] (opening square) h = absurd h
-    go [] (closing place square) h = absurd h
-    go (item ∷ before) comma h = absurd h
-    go (item ∷ before) (opening square) h = absurd h
-    go (item ∷ before) (closing place square) h = absurd h
-
-into_word : (place : ℕ) (raw : List ℕ) (f : Frame) (fs : List Frame) (t : Token) → GoesOn f.square t ⊎ (IsOpening t × (length (f.square ∷ squares fs) < 12)) →
-    Takes 12 (worded place raw (f ∷ fs)) t
-into_word place raw f fs (opening square) (inl h) = absurd h
-into_word place raw f fs (opening square) (inr h) =
-    (wants (record { place = place; keyword = raw; square = square; before = [] } ∷ f ∷ fs), step-opening 12 place raw (f ∷ fs) square (omega (arith, length-squares fs)))
-into_word place raw f fs t (inl h) = behind_from_goes_on (leaf word place raw) f fs t h
-into_word place raw f fs t (inr h) = absurd h.0
+    go : (before : List Item) → MayFollow (Some (last_of_open (record f { before = before }))) held t ≡ IsSingleToken t
+    go [] = refl
+    go (item ∷ before) = refl
 
 follows_from_takes : (s : State) (t : Token) → IsSound 12 s → Takes 12 s t → MayFollow (last_token s) (squares (frames_of s)) t
 follows_from_takes (wants []) (single word place raw) s e = tt
 follows_from_takes (wants []) t s e = cc
-follows_from_takes (wants (f ∷ fs)) t s e = from_wants f fs t e
+follows_from_takes (wants (f ∷ fs)) (single kind place raw) s e = rw wants_single tt
+follows_from_takes (wants (f ∷ fs)) t s e = cc
 follows_from_takes (worded place raw []) (opening square) s e = tt
 follows_from_takes (worded place raw []) t s e = cc
 follows_from_takes (worded place raw (f ∷ fs)) (single k p r) s e = cc
@@ -162,10 +127,15 @@ follows_from_takes (after item (f ∷ fs)) t s e = goes_on_from_behind item f fs
 takes_from_follows : (s : State) (t : Token) → IsSound 12 s → MayFollow (last_token s) (squares (frames_of s)) t → Takes 12 s t
 takes_from_follows (wants []) (single word place raw) s h = (worded place raw [], refl)
 takes_from_follows (wants []) t s h = absurd h
-takes_from_follows (wants (f ∷ fs)) t s h = into_wants f fs t h
+takes_from_follows (wants (f ∷ fs)) (single kind place raw) s h = (behind_leaf kind place raw (f ∷ fs), refl)
+takes_from_follows (wants (f ∷ fs)) t s h = absurd (rw wants_single at h)
 takes_from_follows (worded place raw []) (opening square) s h = (wants (record { place = place; keyword = raw; square = square; before = [] } ∷ []), step-opening 12 place raw [] square (omega arith))
 takes_from_follows (worded place raw []) t s h = absurd h
-takes_from_follows (worded place raw (f ∷ fs)) t s h = into_word place raw f fs t h
+takes_from_follows (worded place raw (f ∷ fs)) (opening square) s (inl h) = absurd h
+takes_from_follows (worded place raw (f ∷ fs)) (opening square) s (inr h) =
+    (wants (record { place = place; keyword = raw; square = square; before = [] } ∷ f ∷ fs), step-opening 12 place raw (f ∷ fs) square (omega (arith, length-squares fs)))
+takes_from_follows (worded place raw (f ∷ fs)) t s (inl h) = behind_from_goes_on (leaf word place raw) f fs t h
+takes_from_follows (worded place raw (f ∷ fs)) t s (inr h) = absurd h.0
 takes_from_follows (after (leaf word place raw) []) t s h = absurd s.1
 takes_from_follows (after (leaf word place raw) (f ∷ fs)) t s h = absurd s.1
 takes_from_follows (after item []) t s h = absurd h
@@ -181,14 +151,13 @@ pub allows_from_viable : (ts : List Token) (t : Token) → IsViable ts → IsVia
 allows_from_viable ts t v w =
     let a = run_from_viable ts v in
     let b = run_from_viable (ts ++ t ∷ []) w in
-    let c = run-some 12 a.0 t [] b.0 (sym (run-append 12 start a.0 ts (t ∷ []) a.1) ∙ b.1) in
-    subst (λ A. A) (sym (allows-unread ts a.0 t a.1)) (follows_from_takes a.0 t (sound-run 12 ts start a.0 tt a.1) (c.0, c.1))
+    subst (λ A. A) (sym (allows-unread ts a.0 t a.1)) (follows_from_takes a.0 t (sound-run 12 ts start a.0 tt a.1) (b.0, run-last 12 ts a.0 t b.0 a.1 b.1))
 
 pub viable_from_allows : (ts : List Token) (t : Token) → IsViable ts → Allows ts t → IsViable (ts ++ t ∷ [])
 viable_from_allows ts t v h =
     let a = run_from_viable ts v in
     let c = takes_from_follows a.0 t (sound-run 12 ts start a.0 tt a.1) (subst (λ A. A) (allows-unread ts a.0 t a.1) h) in
-    viable_from_run (ts ++ t ∷ []) c.0 (run-append 12 start a.0 ts (t ∷ []) a.1 ∙ run-cons 12 a.0 t c.0 [] c.1)
+    viable_from_run (ts ++ t ∷ []) c.0 (run-more 12 ts a.0 t c.0 a.1 c.1)
 
 -- a higher limit takes what a lower one does
 weaker-step : (limit : ℕ) (s : State) (t : Token) (n : State) → 12 ≤ limit → step 12 s t ≡ Some n → step limit s t ≡ Some n
@@ -212,31 +181,25 @@ pub deep_from_word : (ts : List Token) (place : ℕ) (raw : List ℕ) (fs : List
     IsViableAtAnyDepth (ts ++ opening square ∷ [])
 deep_from_word ts place raw fs square e =
     let limit : ℕ = length fs + 13 in
-    let f : Frame = record { place = place; keyword = raw; square = square; before = [] } in
     let long : run limit start ts ≡ Some (worded place raw fs) = weaker-run limit ts start (worded place raw fs) (omega arith) e in
-    let next : run limit start (ts ++ opening square ∷ []) ≡ Some (wants (f ∷ fs)) =
-    run-append limit start (worded place raw fs) ts (opening square ∷ []) long
-    ∙ run-cons limit (worded place raw fs) (opening square) (wants (f ∷ fs)) [] (step-opening limit place raw fs square (omega arith)) in
-    let r = completed limit (ts ++ opening square ∷ []) (wants (f ∷ fs)) (omega arith) next in
+    let r = completed limit (ts ++ opening square ∷ []) _ (omega arith) (run-more limit ts _ (opening square) _ long (step-opening limit place raw fs square (omega arith))) in
     (r.0, r.1, r.2, r.4)
 
 -- what a state doesn't take makes no viable list
 pub not_viable_from_none : (ts : List Token) (s : State) (t : Token) → run 12 start ts ≡ Some s → step 12 s t ≡ None → ¬ (IsViable (ts ++ t ∷ []))
 not_viable_from_none ts s t e none v =
     let b = run_from_viable (ts ++ t ∷ []) v in
-    let c = run-some 12 s t [] b.0 (sym (run-append 12 start s ts (t ∷ []) e) ∙ b.1) in
-    let k = c.1 in
+    let k = run-last 12 ts s t b.0 e b.1 in
     cc
 
 abbrev IsWorded : State → Type 0
 IsWorded s = (place : ℕ) × (raw : List ℕ) × (fs : List Frame) × (s ≡ worded place raw fs)
 
 worded_from_opening : (limit : ℕ) (s : State) (square : Bool) (m : State) → step limit s (opening square) ≡ Some m → IsWorded s
-worded_from_opening limit (wants []) square m e = cc
-worded_from_opening limit (wants (f ∷ fs)) square m e = cc
 worded_from_opening limit (worded place raw fs) square m e = (place, raw, fs, refl)
+worded_from_opening limit (wants []) square m e = cc
 worded_from_opening limit (after item []) square m e = cc
-worded_from_opening limit (after item (f ∷ fs)) square m e = cc
+worded_from_opening limit s square m e = cc
 
 -- an opening delimiter is viable but for the limit directly after a word alone
 pub worded_from_deep : (ts : List Token) (s : State) (square : Bool) → run 12 start ts ≡ Some s → IsViableAtAnyDepth (ts ++ opening square ∷ []) → IsWorded s
@@ -244,19 +207,14 @@ worded_from_deep ts s square e v =
     let limit : ℕ = depth v.1 + 12 in
     let b = taken limit (ts ++ opening square ∷ []) v.0 v.1 v.2 (omega arith) v.3 in
     let long : run limit start ts ≡ Some s = weaker-run limit ts start s (omega arith) e in
-    let c = run-some limit s (opening square) [] b.0 (sym (run-append limit start s ts (opening square ∷ []) long) ∙ b.1) in
-    worded_from_opening limit s square c.0 c.1
+    worded_from_opening limit s square b.0 (run-last limit ts s (opening square) b.0 long b.1)
 
 within_from_sound : (fs : List Frame) → AreSound 12 fs → length fs ≤ 12
 within_from_sound [] h = omega arith
 within_from_sound (f ∷ fs) h = h.1
 
 none_from_full : (place : ℕ) (raw : List ℕ) (fs : List Frame) (square : Bool) → 12 ≤ length fs → step 12 (worded place raw fs) (opening square) ≡ None
-none_from_full place raw fs square h = go (nat_lt (length fs) 12) refl
-  where
-    go : (b : Bool) → nat_lt (length fs) 12 ≡ b → only_if (nat_lt (length fs) 12) (wants (record { place = place; keyword = raw; square = square; before = [] } ∷ fs)) ≡ None
-    go true e = absurd (let k = ltb-true _ _ e in omega arith)
-    go false e = rw e refl
+none_from_full place raw fs square h = rw le-ltb
 
 pub full_from_deep : (ts : List Token) (square : Bool) → IsViable ts → IsViableAtAnyDepth (ts ++ opening square ∷ []) → ¬ (IsViable (ts ++ opening square ∷ [])) → IsFull ts
 full_from_deep ts square v deep refused =
@@ -276,14 +234,10 @@ full_from_deep ts square v deep refused =
   where
     full : (ts : List Token) (place : ℕ) (raw : List ℕ) (fs : List Frame) (square : Bool) → run 12 start ts ≡ Some (worded place raw fs) →
         ¬ (IsViable (ts ++ opening square ∷ [])) → length fs ≤ 12 → length fs ≡ 12
-    full ts place raw fs square e refused within = go (nat_lt (length fs) 12) refl
-      where
-        go : (b : Bool) → nat_lt (length fs) 12 ≡ b → length fs ≡ 12
-        go true h =
-            let n = wants (record { place = place; keyword = raw; square = square; before = [] } ∷ fs) in
-            let lt = ltb-true _ _ h in
-            absurd (refused (viable_from_run (ts ++ opening square ∷ []) n (run-append 12 start (worded place raw fs) ts (opening square ∷ []) e ∙ run-cons 12 (worded place raw fs) (opening square) n [] (step-opening 12 place raw fs square lt))))
-        go false h = let k = ltb-false _ _ h in omega arith
+    full ts place raw fs square e refused within = elim (cases_lt (length fs) 12) [
+      | inl lt ↦ absurd (refused (viable_from_run (ts ++ opening square ∷ []) _ (run-more 12 ts _ (opening square) _ e (step-opening 12 place raw fs square lt))))
+      | inr le ↦ omega arith
+    ]
 
 word_from_last : (s : State) (place : ℕ) (raw : List ℕ) → IsSound 12 s → last_token s ≡ Some (single word place raw) → IsWorded s
 word_from_last (wants []) place raw s e = cc

@@ -27,17 +27,13 @@ pub step-opening : (limit place : ℕ) (raw : List ℕ) (fs : List Frame) (squar
 step-opening limit place raw fs square h = rw (lt-ltb (length fs) limit h) refl
 
 step-comma : (limit : ℕ) (item : Item) (f : Frame) (fs : List Frame) → step limit (ended item (f ∷ fs)) comma ≡ Some (wants (record f { before = item ∷ f.before } ∷ fs))
-step-comma limit (leaf number place raw) f fs = refl
-step-comma limit (leaf text place raw) f fs = refl
 step-comma limit (leaf word place raw) f fs = refl
-step-comma limit (node place keyword square first others close) f fs = refl
+step-comma limit item f fs = refl
 
 pub step-closing : (limit : ℕ) (item : Item) (f : Frame) (fs : List Frame) (close : ℕ) →
     step limit (ended item (f ∷ fs)) (closing close f.square) ≡ Some (after (gather f.place f.keyword f.square f.before item End close) fs)
-step-closing limit (leaf number place raw) f fs close = rw (same_square-refl f.square) refl
-step-closing limit (leaf text place raw) f fs close = rw (same_square-refl f.square) refl
 step-closing limit (leaf word place raw) f fs close = rw (same_square-refl f.square) refl
-step-closing limit (node place keyword square first others c) f fs close = rw (same_square-refl f.square) refl
+step-closing limit item f fs close = rw (same_square-refl f.square) refl
 
 pub node_tokens : (a b : List Token) (t : Token) (more : List Token) → (a ++ b ++ t ∷ []) ++ more ≡ a ++ (b ++ t ∷ more)
 node_tokens a b t more = simp append_assoc
@@ -49,13 +45,10 @@ mutual
   run-item (leaf kind place raw) limit (f ∷ fs) more h d = refl
   run-item (node place keyword square first others close) limit fs more h d =
       let f : Frame = record { place = place; keyword = keyword; square = square; before = [] } in
-      let lt : length fs < limit = omega arith in
       let inner : List Token = (tokens first ++ others_tokens others ++ closing close square ∷ []) ++ more in
       run-cons limit (wants fs) (single word place keyword) (worded place keyword fs) (opening square ∷ inner) (step-word limit place keyword fs)
-      ∙ run-cons limit (worded place keyword fs) (opening square) (wants (f ∷ fs)) inner (step-opening limit place keyword fs square lt)
-      ∙ ap (λ ts. run limit (wants (f ∷ fs)) ts) (node_tokens (tokens first) (others_tokens others) (closing close square) more)
-      ∙ run-item first limit (f ∷ fs) (others_tokens others ++ closing close square ∷ more) tt (omega arith)
-      ∙ run-others others limit first f fs more close (omega arith)
+      ∙ run-cons limit (worded place keyword fs) (opening square) (wants (f ∷ fs)) inner (step-opening limit place keyword fs square (omega arith))
+      ∙ rw node_tokens (run-item first limit (f ∷ fs) (others_tokens others ++ closing close square ∷ more) tt (omega arith) ∙ run-others others limit first f fs more close (omega arith))
 
   run-others : (items : Siblings) (limit : ℕ) (item : Item) (f : Frame) (fs : List Frame) (more : List Token) (close : ℕ) → depths items + suc (length fs) ≤ limit →
       run limit (ended item (f ∷ fs)) (others_tokens items ++ closing close f.square ∷ more) ≡
@@ -64,9 +57,7 @@ mutual
   run-others (More j items) limit item f fs more close d =
       let g : Frame = record f { before = item ∷ f.before } in
       run-cons limit (ended item (f ∷ fs)) comma (wants (g ∷ fs)) ((tokens j ++ others_tokens items) ++ closing close f.square ∷ more) (step-comma limit item f fs)
-      ∙ ap (λ ts. run limit (wants (g ∷ fs)) ts) (append_assoc (tokens j) (others_tokens items) (closing close f.square ∷ more))
-      ∙ run-item j limit (g ∷ fs) (others_tokens items ++ closing close f.square ∷ more) tt (omega arith)
-      ∙ run-others items limit j g fs more close (omega arith)
+      ∙ rw append_assoc (run-item j limit (g ∷ fs) (others_tokens items ++ closing close f.square ∷ more) tt (omega arith) ∙ run-others items limit j g fs more close (omega arith))
 
 ended-node : (item : Item) (fs : List Frame) → IsNode item → ended item fs ≡ after item fs
 ended-node (leaf kind place raw) fs h = absurd h
