@@ -141,11 +141,12 @@ takes_from_follows (after (leaf word place raw) (f ∷ fs)) t s h = absurd s.1
 takes_from_follows (after item []) t s h = absurd h
 takes_from_follows (after item (f ∷ fs)) t s h = behind_from_goes_on item f fs t h
 
--- a list and the state that it leads to agree on which token may follow
+-- a list and the state that it leads to agree on the last token and on what is open, and so on which token may follow
+unread_is : (ts : List Token) (s : State) → run 12 start ts ≡ Some s → (last_of ts ≡ last_token s) × (opens ts ≡ squares (frames_of s))
+unread_is ts s e = subst (λ l. (last_of l ≡ last_token s) × (opens l ≡ squares (frames_of s))) (unread-run 12 ts start s e) (last-unread s, opens-unread s)
+
 allows-unread : (ts : List Token) (s : State) (t : Token) → run 12 start ts ≡ Some s → Allows ts t ≡ MayFollow (last_token s) (squares (frames_of s)) t
-allows-unread ts s t e =
-    let u : unread s ≡ ts = unread-run 12 ts start s e in
-    ap (λ l. Allows l t) (sym u) ∙ ap (λ o. MayFollow o (opens (unread s)) t) (last-unread s) ∙ ap (λ h. MayFollow (last_token s) h t) (opens-unread s)
+allows-unread ts s t e = let shown = unread_is ts s e in rw (shown.0, shown.1)
 
 pub allows_from_viable : (ts : List Token) (t : Token) → IsViable ts → IsViable (ts ++ t ∷ []) → Allows ts t
 allows_from_viable ts t v w =
@@ -220,32 +221,18 @@ pub full_from_deep : (ts : List Token) (square : Bool) → IsViable ts → IsVia
 full_from_deep ts square v deep refused =
     let a = run_from_viable ts v in
     let w = worded_from_deep ts a.0 square a.1 deep in
-    let place = w.0 in
-    let raw = w.1 in
-    let fs = w.2 in
-    let e : run 12 start ts ≡ Some (worded place raw fs) = a.1 ∙ ap (λ s. Some s) w.3 in
-    let u : unread (worded place raw fs) ≡ ts = unread-run 12 ts start (worded place raw fs) e in
-    let within = within_from_sound fs (sound-run 12 ts start (worded place raw fs) tt e) in (
-      place,
-      raw,
-      ap last_of (sym u) ∙ last-unread (worded place raw fs),
-      ap (λ l. length (opens l)) (sym u) ∙ ap (λ h. length h) (opens-unread (worded place raw fs)) ∙ length-squares fs ∙ full ts place raw fs square e refused within,
-    )
-  where
-    full : (ts : List Token) (place : ℕ) (raw : List ℕ) (fs : List Frame) (square : Bool) → run 12 start ts ≡ Some (worded place raw fs) →
-        ¬ (IsViable (ts ++ opening square ∷ [])) → length fs ≤ 12 → length fs ≡ 12
-    full ts place raw fs square e refused within = elim (cases_lt (length fs) 12) [
+    let (place, raw, fs, is) = w in
+    let e : run 12 start ts ≡ Some (worded place raw fs) = a.1 ∙ ap Some is in
+    let shown = unread_is ts (worded place raw fs) e in
+    let full : length fs ≡ 12 = elim (cases_lt (length fs) 12) [
       | inl lt ↦ absurd (refused (viable_from_run (ts ++ opening square ∷ []) _ (run-more 12 ts _ (opening square) _ e (step-opening 12 place raw fs square lt))))
-      | inr le ↦ omega arith
-    ]
+      | inr le ↦ omega (arith, within_from_sound fs (sound-run 12 ts start (worded place raw fs) tt e))
+    ] in
+    (place, raw, shown.0, ap length shown.1 ∙ length-squares fs ∙ full)
 
 word_from_last : (s : State) (place : ℕ) (raw : List ℕ) → IsSound 12 s → last_token s ≡ Some (single word place raw) → IsWorded s
 word_from_last (wants []) place raw s e = cc
-word_from_last (wants (f ∷ fs)) place raw s e = go f.before e
-  where
-    go : (before : List Item) → Some (last_of_open (record f { before = before })) ≡ Some (single word place raw) → IsWorded (wants (f ∷ fs))
-    go [] e = cc
-    go (item ∷ before) e = cc
+word_from_last (wants (f ∷ fs)) place raw s e = absurd (subst (λ A. A) (ap (λ o. MayFollow o [] (opening true)) (sym e) ∙ wants_single f [] (opening true)) tt)
 word_from_last (worded p r fs) place raw s e = (p, r, fs, refl)
 word_from_last (after (leaf kind p r) []) place raw s e = absurd s.1
 word_from_last (after (leaf word p r) (f ∷ fs)) place raw s e = absurd s.1
@@ -254,13 +241,10 @@ word_from_last (after item fs) place raw s e = cc
 pub deep_from_full : (ts : List Token) (square : Bool) → IsViable ts → IsFull ts → IsViableAtAnyDepth (ts ++ opening square ∷ []) × ¬ (IsViable (ts ++ opening square ∷ []))
 deep_from_full ts square v h =
     let a = run_from_viable ts v in
-    let u : unread a.0 ≡ ts = unread-run 12 ts start a.0 a.1 in
-    let last : last_token a.0 ≡ Some (single word h.0 h.1) = sym (last-unread a.0) ∙ ap last_of u ∙ h.2 in
-    let w = word_from_last a.0 h.0 h.1 (sound-run 12 ts start a.0 tt a.1) last in
-    let fs = w.2 in
-    let e : run 12 start ts ≡ Some (worded w.0 w.1 fs) = a.1 ∙ ap (λ s. Some s) w.3 in
-    let u2 : unread (worded w.0 w.1 fs) ≡ ts = unread-run 12 ts start (worded w.0 w.1 fs) e in
-    let count : length fs ≡ 12 = sym (length-squares fs) ∙ sym (ap (λ b. length b) (opens-unread (worded w.0 w.1 fs))) ∙ ap (λ l. length (opens l)) u2 ∙ h.3 in (
-      deep_from_word ts w.0 w.1 fs square e,
-      not_viable_from_none ts (worded w.0 w.1 fs) (opening square) e (none_from_full w.0 w.1 fs square (omega arith)),
+    let w = word_from_last a.0 h.0 h.1 (sound-run 12 ts start a.0 tt a.1) (sym (unread_is ts a.0 a.1).0 ∙ h.2) in
+    let (place, raw, fs, is) = w in
+    let e : run 12 start ts ≡ Some (worded place raw fs) = a.1 ∙ ap Some is in
+    let count : length fs ≡ 12 = sym (ap length (unread_is ts (worded place raw fs) e).1 ∙ length-squares fs) ∙ h.3 in (
+      deep_from_word ts place raw fs square e,
+      not_viable_from_none ts (worded place raw fs) (opening square) e (none_from_full place raw fs square (omega arith)),
     )
