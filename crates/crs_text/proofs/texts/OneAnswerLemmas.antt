@@ -8,7 +8,8 @@ use Rattle.crs_text.specs.declared.refusal.Reason.{Reason}
 use Rattle.crs_text.specs.declared.refusal.Reason.TheVariants.{Unexpected, UnexpectedEnd, TooDeep}
 use Rattle.crs_text.specs.TextFault.{SpellsNode, reason_number, IsTooDeep, IsStop, RefusesText}
 use Rattle.crs_text.proofs.tokens.TokenLemmas.{Forms-one}
-use Rattle.crs_text.proofs.tokens.FlawLemmas.{flaw_no_token, flaw_one, flaw_some, same_zero}
+use Rattle.crs_text.proofs.tokens.FlawLemmas.{flaw_no_token, flaw_one, flaw_some}
+use Rattle.crs_text.proofs.tokens.ViableLemmas.{viable_front}
 use Rattle.crs_text.proofs.tokens.FrontsLemmas.{fronts_dark, GoesOn, fronts_compare, front_token, front_none, forms_some}
 
 pub tokens_one : (bytes : List ℕ) (ts us : List Token) → AreTokens bytes ts → AreTokens bytes us → ts ≡ us
@@ -39,11 +40,11 @@ stop_no_node UnexpectedEnd total ts left k item s e n = s.1 item n
 stop_no_node r total ts left k item s e n = flaw_some r left k s e
 
 stop_one : (r s : Reason) (total : ℕ) (ts : List Token) (left : List ℕ) (k m : ℕ) → IsStop r total ts left k → IsStop s total ts left m → (r ≡ s) × (k ≡ m)
-stop_one Unexpected Unexpected total ts left k m p q = (refl, same_zero k m p.5 q.5)
+stop_one Unexpected Unexpected total ts left k m p q = (refl, p.5 ∙ sym q.5)
 stop_one Unexpected TooDeep total ts left k m p q = absurd (p.4 (subst (IsTooDeep ts) (Forms-one total q.0 p.0 left q.1 p.1 q.2 p.2).0 q.3))
 stop_one TooDeep Unexpected total ts left k m p q = absurd (q.4 (subst (IsTooDeep ts) (Forms-one total p.0 q.0 left p.1 q.1 p.2 q.2).0 p.3))
-stop_one TooDeep TooDeep total ts left k m p q = (refl, same_zero k m p.4 q.4)
-stop_one UnexpectedEnd UnexpectedEnd total ts left k m p q = (refl, same_zero k m p.2 q.2)
+stop_one TooDeep TooDeep total ts left k m p q = (refl, p.4 ∙ sym q.4)
+stop_one UnexpectedEnd UnexpectedEnd total ts left k m p q = (refl, p.2 ∙ sym q.2)
 stop_one Unexpected UnexpectedEnd total ts left k m p q = absurd (forms_some total p.0 left p.1 p.2 q.0)
 stop_one TooDeep UnexpectedEnd total ts left k m p q = absurd (forms_some total p.0 left p.1 p.2 q.0)
 stop_one UnexpectedEnd Unexpected total ts left k m p q = absurd (forms_some total q.0 left q.1 q.2 p.0)
@@ -56,11 +57,6 @@ stop_one r TooDeep total ts left k m p q = absurd (flaw_no_token r total q.0 lef
 stop_one r UnexpectedEnd total ts left k m p q = absurd (flaw_some r left k p q.0)
 stop_one r s total ts left k m p q = flaw_one r s left k m p q
 
--- a front of viable tokens is viable
-viable_front : (ts more : List Token) (t : Token) → IsViable (ts ++ t ∷ more) → IsViable (ts ++ t ∷ [])
-viable_front ts more t v =
-    (more ++ v.0, v.1, subst (AreNode v.1) (append_assoc ts (t ∷ more) v.0 ∙ sym (append_assoc ts (t ∷ []) (more ++ v.0))) v.2)
-
 node_viable : (item : Item) (ts : List Token) → AreNode item ts → IsViable ts
 node_viable item ts n = ([], item, subst (AreNode item) (sym (append-nil ts)) n)
 
@@ -68,7 +64,7 @@ node_viable item ts n = ([], item, subst (AreNode item) (sym (append-nil ts)) n)
 pub no_further : (r : Reason) (total : ℕ) (ts us : List Token) (bytes left b : List ℕ) (k : ℕ) (t : Token) (more : List Token) → Fronts total bytes ts left → IsStop r total ts left k → us ≡ ts ++ t ∷ more → Fronts total left (t ∷ more) b → IsViable us → ⊥
 no_further r total ts us bytes left b k t more p s e f v =
     let g = front_token total t more left b (fronts_dark total ts bytes left p) f in
-    stop_no_token r total ts left k t g.0 s g.1 (viable_front ts more t (subst IsViable e v))
+    stop_no_token r total ts left k t g.0 s g.1 (viable_front (ts ++ t ∷ []) more (subst IsViable (e ∙ sym (append_assoc ts (t ∷ []) more)) v))
 
 pub spelled_not_refused : (bytes : List ℕ) (item : Item) (n place : ℕ) → SpellsNode bytes item → RefusesText bytes n place → ⊥
 spelled_not_refused bytes item n place p r =

@@ -220,8 +220,7 @@ none_from_full place raw fs square h = rw le-ltb
 pub full_from_deep : (ts : List Token) (square : Bool) → IsViable ts → IsViableAtAnyDepth (ts ++ opening square ∷ []) → ¬ (IsViable (ts ++ opening square ∷ [])) → IsFull ts
 full_from_deep ts square v deep refused =
     let a = run_from_viable ts v in
-    let w = worded_from_deep ts a.0 square a.1 deep in
-    let (place, raw, fs, is) = w in
+    let (place, raw, fs, is) = worded_from_deep ts a.0 square a.1 deep in
     let e : run 12 start ts ≡ Some (worded place raw fs) = a.1 ∙ ap Some is in
     let shown = unread_is ts (worded place raw fs) e in
     let full : length fs ≡ 12 = elim (cases_lt (length fs) 12) [
@@ -241,8 +240,7 @@ word_from_last (after item fs) place raw s e = cc
 pub deep_from_full : (ts : List Token) (square : Bool) → IsViable ts → IsFull ts → IsViableAtAnyDepth (ts ++ opening square ∷ []) × ¬ (IsViable (ts ++ opening square ∷ []))
 deep_from_full ts square v h =
     let a = run_from_viable ts v in
-    let w = word_from_last a.0 h.0 h.1 (sound-run 12 ts start a.0 tt a.1) (sym (unread_is ts a.0 a.1).0 ∙ h.2) in
-    let (place, raw, fs, is) = w in
+    let (place, raw, fs, is) = word_from_last a.0 h.0 h.1 (sound-run 12 ts start a.0 tt a.1) (sym (unread_is ts a.0 a.1).0 ∙ h.2) in
     let e : run 12 start ts ≡ Some (worded place raw fs) = a.1 ∙ ap Some is in
     let count : length fs ≡ 12 = sym (ap length (unread_is ts (worded place raw fs) e).1 ∙ length-squares fs) ∙ h.3 in (
       deep_from_word ts place raw fs square e,

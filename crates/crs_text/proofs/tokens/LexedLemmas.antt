@@ -18,28 +18,24 @@ use Rattle.crs_text.specs.declared.refusal.Reason.TheVariants.{BadNumber, Number
 use Rattle.crs_text.specs.declared.lexing.Lexed.TheVariants.{Number, Text, Word}
 use Rattle.crs_text.proofs.tokens.Utf8Lemmas.{IsUtf8-before_quote, IsUtf8-from_front_at_quote, IsLongestUtf8-longer}
 
+pub quote_behind : (after : List ℕ) (n : ℕ) → IsShutAt after n → drop n after ≡ 34 ∷ drop (n + 1) after
+quote_behind after n s = ap (drop n) s.0.parts ∙ drop_at (take n after) (34 ∷ drop (n + 1) after) n (omega (arith, length-take n after, s.1))
+
 pub with_quote : (after : List ℕ) (n : ℕ) → IsShutAt after n → take (n + 1) after ≡ take n after ++ 34 ∷ []
-with_quote after n s =
-    let e : drop n after ≡ 34 ∷ drop (n + 1) after =
-    ap (drop n) s.0.parts ∙ drop_at (take n after) (34 ∷ drop (n + 1) after) n (omega (arith, length-take n after, s.1)) in
-    take-add n 1 after ∙ ap (λ z. take n after ++ take 1 z) e
+with_quote after n s = take-add n 1 after ∙ ap (λ z. take n after ++ take 1 z) (quote_behind after n s)
 
 module _ (left : List ℕ) (quote : left ≡ 34 ∷ drop 1 left) where
   rest_is : (n : ℕ) → drop (n + 1) (drop 1 left) ≡ drop (n + 2) left
-  rest_is n = drop-drop (n + 1) 1 left ∙ ap (λ z. drop z left) k
-    where
-      k : 1 + (n + 1) ≡ n + 2
-      k = omega arith
+  rest_is n = let k : 1 + (n + 1) ≡ n + 2 = omega arith in rw (drop-drop (n + 1) 1 left, k)
 
   pub lexed_text : (n : ℕ) → IsShutAt (drop 1 left) n → IsUtf8 (take (n + 1) (drop 1 left)) → IsLexed left (Text n)
   lexed_text n s u =
       let after = drop 1 left in
       let raw = take n after in
-      let u2 : IsUtf8 (raw ++ 34 ∷ []) = subst IsUtf8 (with_quote after n s) u in
       let l : length left ≡ suc (length after) = ap length quote in (
         record {
           spelled = quote ∙ ap (λ (z : List ℕ). 34 ∷ z) (s.0.parts ∙ ap (λ z. raw ++ 34 ∷ z) (rest_is n) ∙ sym (append_assoc raw (34 ∷ []) (drop (n + 2) left)));
-          formed = (s.0.inside, IsUtf8-before_quote raw [] u2);
+          formed = (s.0.inside, IsUtf8-before_quote raw [] (rw (with_quote after n s) at u));
           ends = subst (StopsAt is_quote) (rest_is n) s.0.ends;
         },
         omega (arith, l, s.1),
@@ -91,17 +87,14 @@ run_begins start test (x ∷ xs) h b = rw (h x b, one-add) b
 start_in_run : (b : ℕ) → is_run_start b ≡ true → is_run_byte b ≡ true
 start_in_run b e = grind (arith, nat_tests)
 
-pub is_run : (left : List ℕ) → BeginsWith is_run_start left → IsFirstRun left (take (prefix_len is_run_byte left) left) (drop (prefix_len is_run_byte left) left)
-is_run left b = record {
-  parts = sym (take-append-drop (prefix_len is_run_byte left) left);
-  starts = run_begins is_run_start is_run_byte left start_in_run b;
-  taken = prefix_taken is_run_byte left;
-  ends = prefix_ends is_run_byte left;
-}
-
 module _ (left : List ℕ) (n : ℕ) (is_length : n ≡ prefix_len is_run_byte left) (begins : BeginsWith is_run_start left) where
   this_run : IsFirstRun left (take n left) (drop n left)
-  this_run = subst (λ z. IsFirstRun left (take z left) (drop z left)) (sym is_length) (is_run left begins)
+  this_run = rw is_length (record {
+    parts = sym (take-append-drop (prefix_len is_run_byte left) left);
+    starts = run_begins is_run_start is_run_byte left start_in_run begins;
+    taken = prefix_taken is_run_byte left;
+    ends = prefix_ends is_run_byte left;
+  })
 
   pub lexed_number : IsInBounds (take n left) → IsLexed left (Number n)
   lexed_number bounds =

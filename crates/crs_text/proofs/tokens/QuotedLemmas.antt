@@ -133,9 +133,8 @@ inside_to after at le inside =
 pub quote_at : (after : List ℕ) (at quote : ℕ) → quote ≡ at + prefix_len is_plain (drop at after) → quote < length after → drop quote after ≡ 34 ∷ drop (quote + 1) after
 quote_at after at quote e lt =
     let k = prefix_len is_plain (drop at after) in
-    let le : k < length (drop at after) = omega (arith, length-drop at after, e, lt) in
-    let n : at + (k + 1) ≡ quote + 1 = omega (arith, e) in
-    ap (λ z. drop z after) e ∙ sym (drop-drop k at after) ∙ first_quote (drop at after) le ∙ ap (λ (z : List ℕ). 34 ∷ z) (drop-drop (k + 1) at after ∙ ap (λ z. drop z after) n)
+    let n : at + k + 1 ≡ at + (k + 1) = omega arith in
+    rw (e, n, ← drop-drop k at after, ← drop-drop (k + 1) at after) (first_quote (drop at after) (omega (arith, length-drop at after, e, lt)))
 
 pub same_split : (xs : List ℕ) (n : ℕ) (ys : List ℕ) → drop n xs ≡ ys → xs ≡ take n xs ++ ys
 same_split xs n ys e = sym (take-append-drop n xs) ∙ ap (λ z. take n xs ++ z) e

@@ -36,14 +36,8 @@ abbrev pub shape_at : List ℕ → Option Shape
 shape_at [] = None
 shape_at (b ∷ bs) = shape_by b
 
-run_start_no_letter : (b : ℕ) → is_run_start b ≡ true → is_letter b ≡ false
-run_start_no_letter b e = grind (arith, nat_tests)
-
 shape_by_start : (b : ℕ) → is_run_start b ≡ true → shape_by b ≡ Some (a_single number)
-shape_by_start b e = rw (run_start_no_letter b e, e) refl
-
-shape_by_letter : (b : ℕ) → is_letter b ≡ true → shape_by b ≡ Some (a_single word)
-shape_by_letter b e = rw e refl
+shape_by_start b e = grind (arith, nat_tests)
 
 pub shape_at_start : (raw rest left : List ℕ) → BeginsWith is_run_start raw → left ≡ raw ++ rest → shape_at left ≡ Some (a_single number)
 shape_at_start [] rest left h e = absurd h
@@ -51,17 +45,14 @@ shape_at_start (b ∷ bs) rest left h e = ap shape_at e ∙ shape_by_start b h
 
 shape_at_word : (raw rest left : List ℕ) → IsWord raw → left ≡ raw ++ rest → shape_at left ≡ Some (a_single word)
 shape_at_word [] rest left h e = absurd h
-shape_at_word (b ∷ bs) rest left h e = ap shape_at e ∙ shape_by_letter b h.0
+shape_at_word (b ∷ bs) rest left h e = ap shape_at e ∙ rw h.0
 
 pub Forms-shape : (total : ℕ) (t : Token) (left rest : List ℕ) → Forms total t left rest → shape_at left ≡ Some (shape_of t)
 Forms-shape total (single number place raw) left rest f = shape_at_start raw rest left f.formed.0 f.spelled
-Forms-shape total (single text place raw) left rest f = ap shape_at f.spelled
 Forms-shape total (single word place raw) left rest f = shape_at_word raw rest left f.formed f.spelled
-Forms-shape total comma left rest f = ap shape_at f.spelled
 Forms-shape total (opening true) left rest f = ap shape_at f.spelled
-Forms-shape total (opening false) left rest f = ap shape_at f.spelled
 Forms-shape total (closing place true) left rest f = ap shape_at f.spelled
-Forms-shape total (closing place false) left rest f = ap shape_at f.spelled
+Forms-shape total t left rest f = ap shape_at f.spelled
 
 pub letter_in_word : (b : ℕ) → is_letter b ≡ true → is_word_byte b ≡ true
 letter_in_word b e = grind (arith, nat_tests)
