@@ -235,14 +235,8 @@ leads_from_refusal text n place r =
     record { fronts = r.fronts; viable = r.viable; skip = r.skip; is_place = r.is_place; flaw = go r.reason r.stop }
   where
     go : (reason : Reason) → IsStop reason (length text) r.before r.left r.skip → (r.skip ≡ 0) ⊎ IsFlaw NotUtf8 r.left r.skip
-    go BadCharacter s = inl s.1
-    go BadNumber s = inl s.4
-    go NumberRange s = inl s.5
     go NotUtf8 s = inr s
-    go OpenText s = inl s.4
-    go Unexpected s = inl s.5
-    go UnexpectedEnd s = inl s.2
-    go TooDeep s = inl s.4
+    go reason s = inl (omega arith)
 
 pub leads_from_node : (text : List ℕ) (item : Item) (place : ℕ) (s : SpellsNode text item) → place ≡ length text → LeadsTo text place s.0 []
 leads_from_node text item place s e = record {

@@ -104,15 +104,7 @@ alike r s left k m p q e = absurd (grind arith)
 pub flaw_one : (r s : Reason) (left : List ℕ) (k m : ℕ) → IsFlaw r left k → IsFlaw s left m → (r ≡ s) × (k ≡ m)
 flaw_one r s left k m p q = alike r s left k m p q (sym (flaw_shape r left k p) ∙ flaw_shape s left m q)
 
-run_some : (run rest : List ℕ) → BeginsWith is_run_start run → [] ≡ run ++ rest → ⊥
-run_some [] rest h e = h
-run_some (b ∷ bs) rest h e = absurd cc
-
 -- a flaw lies in front of something
 pub flaw_some : (r : Reason) (left : List ℕ) (k : ℕ) → IsFlaw r left k → left ≡ [] → ⊥
 flaw_some BadCharacter left k f e = subst BeginsNoToken e f.0
-flaw_some BadNumber left k f e = run_some f.0 f.1 f.2.starts (sym e ∙ f.2.parts)
-flaw_some NumberRange left k f e = run_some f.0 f.1 f.2.starts (sym e ∙ f.2.parts)
-flaw_some NotUtf8 left k f e = let h : [] ≡ 34 ∷ f.0 = sym e ∙ f.2 in absurd cc
-flaw_some OpenText left k f e = let h : [] ≡ 34 ∷ f.0 = sym e ∙ f.1 in absurd cc
-flaw_some r left k f e = f
+flaw_some r left k f e = let shape = ap shape_at (sym e) ∙ flaw_shape r left k f in grind arith

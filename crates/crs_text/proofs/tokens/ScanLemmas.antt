@@ -166,12 +166,8 @@ not_taken (Some next) taken before behind s e = let h : true ≡ false = sym s.0
 
 -- a flaw lies within what is left
 pub flaw_within : (r : Reason) (left : List ℕ) (skip : ℕ) → IsFlaw r left skip → skip ≤ length left
-flaw_within BadCharacter left skip f = omega (arith, f.1)
-flaw_within BadNumber left skip f = omega (arith, f.4)
-flaw_within NumberRange left skip f = omega (arith, f.5)
 flaw_within NotUtf8 left skip f = let l : length left ≡ suc (length f.0) = ap length f.2 in let w : f.5 ≤ length f.0 = f.6.within in omega (arith, f.7)
-flaw_within OpenText left skip f = omega (arith, f.4)
-flaw_within r left skip f = absurd f
+flaw_within r left skip f = grind arith
 
 pub place_within : (text : List ℕ) (at : ℕ) (r : Reason) (skip : ℕ) → at ≤ length text → IsFlaw r (drop at text) skip → at + skip ≤ length text
 place_within text at r skip le f = omega (arith, flaw_within r (drop at text) skip f, length-drop at text)
@@ -192,25 +188,14 @@ fronts_short total (t ∷ ts) bytes left p =
 
 -- where it stops lies within what is left
 stop_within : (r : Reason) (total : ℕ) (ts : List Token) (left : List ℕ) (skip : ℕ) → IsStop r total ts left skip → skip ≤ length left
-stop_within Unexpected total ts left skip s = omega (arith, s.5)
-stop_within UnexpectedEnd total ts left skip s = omega (arith, s.2)
-stop_within TooDeep total ts left skip s = omega (arith, s.4)
-stop_within r total ts left skip s = flaw_within r left skip s
+stop_within NotUtf8 total ts left skip s = flaw_within NotUtf8 left skip s
+stop_within r total ts left skip s = omega arith
 
 number_range : (r : Reason) → (1 ≤ reason_number r) × (reason_number r ≤ 8)
 number_range BadCharacter = (omega arith, omega arith)
-number_range BadNumber = (omega arith, omega arith)
-number_range NumberRange = (omega arith, omega arith)
-number_range NotUtf8 = (omega arith, omega arith)
-number_range OpenText = (omega arith, omega arith)
-number_range Unexpected = (omega arith, omega arith)
-number_range UnexpectedEnd = (omega arith, omega arith)
-number_range TooDeep = (omega arith, omega arith)
+number_range r = (omega arith, omega arith)
 
 pub refusal_within : (bytes : List ℕ) (n place : ℕ) → RefusesText bytes n place → (1 ≤ n) × (n ≤ 8) × (place ≤ length bytes)
 refusal_within bytes n place r =
-    let k = number_range r.reason in (
-      omega (arith, k.0, r.is_number),
-      omega (arith, k.1, r.is_number),
-      omega (arith, r.is_place, stop_within r.reason (length bytes) r.before r.left r.skip r.stop, fronts_short (length bytes) r.before bytes r.left r.fronts),
-    )
+    let number = number_range r.reason in
+    (omega arith, omega arith, omega (arith, stop_within r.reason (length bytes) r.before r.left r.skip r.stop, fronts_short (length bytes) r.before bytes r.left r.fronts))
