@@ -23,11 +23,12 @@ use Rattle.crs_text.specs.State.{start}
 use Rattle.crs_text.specs.Table.{Flat}
 use Rattle.crs_text.specs.Refusal.{RefusedAt}
 use Rattle.crs_text.specs.Lexing.{IsLexed}
-use Rattle.crs_text.specs.Scan.{IsReached, IsTaken, IsStopped, IsStoppedBy}
+use Rattle.crs_text.specs.Scan.{IsReached, IsSingleAt, IsTaken, IsStopped, IsStoppedBy}
 use Rattle.crs_text.specs.declared.fault.Fault.{Fault}
 use Rattle.crs_text.specs.declared.fault.Fault.TheVariants as faults
 use Rattle.crs_text.specs.declared.refusal.Reason.{Reason}
 use Rattle.crs_text.specs.declared.refusal.Reason.TheVariants.{BadCharacter, BadNumber, NumberRange, NotUtf8, OpenText, Unexpected, UnexpectedEnd, TooDeep}
+use Rattle.crs_text.specs.declared.items.ItemKind.{ItemKind}
 use Rattle.crs_text.specs.declared.lexing.Lexed.{Lexed}
 use Rattle.crs_text.specs.declared.lexing.Lexed.TheVariants as lexed
 use Rattle.crs_text.proofs.tokens.TokenLemmas.{a_single, shape_of, shape_at, shape_at_start, Forms-shape, Forms-shut, Forms-one, some_shape}
@@ -38,7 +39,7 @@ use Rattle.crs_text.proofs.tokens.FrontsLemmas.{forms_some, at_once, dark_start,
 use Rattle.crs_text.proofs.rows.ShowsLemmas.{shows_start, viable_from_shows, shows_more}
 use Rattle.crs_text.proofs.tokens.ScanLemmas.{reached_first, number_at, word_at, text_at, comma_at, opening_at, closing_at, after_white}
 use Rattle.crs_text.proofs.settled.StayLemmas.{refuses_from_settled, fronts_from_settled, stop_some, through_front, all_append, fronts_longer, taken_so_far}
-use Rattle.crs_text.proofs.tokens.LexedLemmas.{prefix_taken}
+use Rattle.crs_text.proofs.tokens.LexedLemmas.{prefix_taken, quote_behind}
 
 -- ---- runs
 
@@ -125,38 +126,29 @@ module _ (text : List ℕ) (at : ℕ) (lt : at < length text) where
   rest_some n less e = let l : length (drop (at + n) text) ≡ 0 = ap length e in absurd (omega (arith, length-drop (at + n) text, length-drop at text))
 
   rest_none : (n : ℕ) → ¬ (n < length (drop at text)) → drop (at + n) text ≡ []
-  rest_none n not = drop_all (at + n) text (over n not)
-    where
-      over : (n : ℕ) → ¬ (n < length (drop at text)) → length text ≤ at + n
-      over n not = omega (arith, length-drop at text)
+  rest_none n not = drop_all (at + n) text (omega (arith, length-drop at text))
 
-  all_from_lexed : (l : Lexed) → IsLexed (drop at text) l → IsLexedSettled (drop at text) l → AllSettled (length text) (drop at text)
-  all_from_lexed (lexed.Number n) l s =
-      let a = number_at text at lt n l in token_all (length text) (drop at text) (single a.of_kind at (take n (drop at text))) (drop (at + n) text) a.forms (rest_some n s)
-  all_from_lexed (lexed.Text n) l s =
-      let a = text_at text at lt n l in token_all (length text) (drop at text) (single a.of_kind at (take n (drop 1 (drop at text)))) (drop (at + (n + 2)) text) a.forms (rest_some (n + 2) s)
-  all_from_lexed (lexed.Word n) l s =
-      let a = word_at text at lt n l in token_all (length text) (drop at text) (single a.of_kind at (take n (drop at text))) (drop (at + n) text) a.forms (rest_some n s)
-  all_from_lexed lexed.Comma l s = token_all (length text) (drop at text) comma (drop (at + 1) text) (comma_at text at lt l) tt
-  all_from_lexed (lexed.Opening square) l s = token_all (length text) (drop at text) (opening square) (drop (at + 1) text) (opening_at text at lt square l) tt
-  all_from_lexed (lexed.Closing square) l s = token_all (length text) (drop at text) (closing at square) (drop (at + 1) text) (closing_at text at lt square l) tt
-  all_from_lexed (lexed.Flaw r k) l s = flaw_all (length text) (drop at text) r k l s
+  judged_single : (kind : ItemKind) (raw : List ℕ) (n : ℕ) (settled : Bool) → IsSingleAt text at kind raw n → MatchBool settled (n < length (drop at text)) (¬ (n < length (drop at text)))
+      → MatchBool settled (AllSettled (length text) (drop at text)) (IsUnsettledAt text at)
+  judged_single kind raw n true a s = token_all (length text) (drop at text) (single a.of_kind at raw) (drop (at + n) text) a.forms (rest_some n s)
+  judged_single kind raw n false a s = λ ts. token_held (length text) (drop at text) ts (single a.of_kind at raw) (drop (at + n) text) a.forms (λ some. some (rest_none n s))
 
-  held_from_lexed : (l : Lexed) → IsLexed (drop at text) l → ¬ (IsLexedSettled (drop at text) l) → IsUnsettledAt text at
-  held_from_lexed (lexed.Number n) l s ts =
-      let a = number_at text at lt n l in token_held (length text) (drop at text) ts (single a.of_kind at (take n (drop at text))) (drop (at + n) text) a.forms (λ some. some (rest_none n s))
-  held_from_lexed (lexed.Text n) l s ts =
-      let a = text_at text at lt n l in token_held (length text) (drop at text) ts (single a.of_kind at (take n (drop 1 (drop at text)))) (drop (at + (n + 2)) text) a.forms (λ some. some (rest_none (n + 2) s))
-  held_from_lexed (lexed.Word n) l s ts =
-      let a = word_at text at lt n l in token_held (length text) (drop at text) ts (single a.of_kind at (take n (drop at text))) (drop (at + n) text) a.forms (λ some. some (rest_none n s))
-  held_from_lexed (lexed.Flaw r k) l s ts = flaw_held (length text) (drop at text) ts r k l s
-  held_from_lexed k l s ts = absurd (s tt)
+  judged_here : (l : Lexed) (settled : Bool) → IsLexed (drop at text) l → MatchBool settled (IsLexedSettled (drop at text) l) (¬ (IsLexedSettled (drop at text) l))
+      → MatchBool settled (AllSettled (length text) (drop at text)) (IsUnsettledAt text at)
+  judged_here (lexed.Number n) settled l s = judged_single _ _ n settled (number_at text at lt n l) s
+  judged_here (lexed.Text n) settled l s = judged_single _ _ (n + 2) settled (text_at text at lt n l) s
+  judged_here (lexed.Word n) settled l s = judged_single _ _ n settled (word_at text at lt n l) s
+  judged_here lexed.Comma true l s = token_all (length text) (drop at text) comma (drop (at + 1) text) (comma_at text at lt l) tt
+  judged_here (lexed.Opening square) true l s = token_all (length text) (drop at text) (opening square) (drop (at + 1) text) (opening_at text at lt square l) tt
+  judged_here (lexed.Closing square) true l s = token_all (length text) (drop at text) (closing at square) (drop (at + 1) text) (closing_at text at lt square l) tt
+  judged_here (lexed.Flaw r k) true l s = flaw_all (length text) (drop at text) r k l s
+  judged_here (lexed.Flaw r k) false l s = λ ts. flaw_held (length text) (drop at text) ts r k l s
+  judged_here k false l s = absurd (s tt)
 
   -- the judgement on a token holds of what is left
   pub judged : (left : List ℕ) (l : Lexed) (settled : Bool) → left ≡ drop at text → IsLexed left l → MatchBool settled (IsLexedSettled left l) (¬ (IsLexedSettled left l))
       → MatchBool settled (AllSettled (length text) (drop at text)) (IsUnsettledAt text at)
-  judged left l true e is s = all_from_lexed l (subst (λ z. IsLexed z l) e is) (subst (λ z. IsLexedSettled z l) e s)
-  judged left l false e is s = held_from_lexed l (subst (λ z. IsLexed z l) e is) (subst (λ z. ¬ (IsLexedSettled z l)) e s)
+  judged left l settled e is s = judged_here l settled (rw e at is) (rw e at s)
 
   settled_refused : (table : Flat) (r : RefusedAt) → AllSettled (length text) (drop at text) → IsSettledTo text table at → IsStopped text at table r → IsSettledRefusal text r.number r.place
   settled_refused table r all reached s = record {
@@ -338,7 +330,7 @@ module _ (after : List ℕ) (known : ℕ) where
   pub shut_from : (more : ℕ) → IsInsideTo after known → IsShutAt (drop known after) more → IsShutAt after (known + more)
   shut_from more i s =
       let rest = drop known after in
-      let q : drop more rest ≡ 34 ∷ drop (more + 1) rest = ap (drop more) s.0.parts ∙ drop_at (take more rest) (34 ∷ drop (more + 1) rest) more (omega (arith, length-take more rest, s.1)) in
+      let q = quote_behind rest more s in
       let n : known + (more + 1) ≡ known + more + 1 = omega arith in
       let behind : drop (more + 1) rest ≡ drop (known + more + 1) after = drop-drop (more + 1) known after ∙ ap (λ z. drop z after) n in
       let e : drop (known + more) after ≡ 34 ∷ drop (known + more + 1) after = sym (drop-drop more known after) ∙ q ∙ ap (λ (z : List ℕ). 34 ∷ z) behind in (
@@ -351,9 +343,7 @@ module _ (after : List ℕ) (known : ℕ) where
       )
 
   pub lone : IsShutAt after known → known + 1 ≡ length after → IsOpenTo after known
-  lone s e =
-      let q : drop known after ≡ 34 ∷ drop (known + 1) after = ap (drop known) s.0.parts ∙ drop_at (take known after) (34 ∷ drop (known + 1) after) known (omega (arith, length-take known after, s.1)) in
-      ((omega arith, s.0.inside), inr (q ∙ ap (λ (z : List ℕ). 34 ∷ z) (drop_all (known + 1) after (omega arith))))
+  lone s e = ((omega arith, s.0.inside), inr (quote_behind after known s ∙ ap (λ (z : List ℕ). 34 ∷ z) (drop_all (known + 1) after (omega arith))))
 
   pub valid_from : (more : ℕ) → IsValidTo after known → IsValidTo (drop known after) more × IsUtf8Front (drop known after) → IsValidTo after (known + more) × IsUtf8Front after
   valid_from more v ((le, u), (tail, w)) =

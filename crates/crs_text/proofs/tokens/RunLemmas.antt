@@ -2,11 +2,13 @@
 use Rattle.std.proofs.Common.{◌≡◌, ℕ, ◌+◌, ◌%◌, ◌^◌, ◌<◌, ◌≤◌, Bool, true, false, not, cond, eqb, List, [], ◌∷◌, ◌++◌, map, length, take, drop, Fits, w8, refl, sym, ap, ap₂, subst, ◌∙◌, arith, IsUtf8, get_or}
 use Rattle.std.proofs.lemmas.Bool.{agree_below, agree_below_at, eq-eqb, ne_eqb, and_parts, ltb-true}
 use Rattle.std.proofs.lemmas.Simd.{map-map, mask_l-mod, length-chunk, chunk-drop, first_set_mask_l}
-use Rattle.std.proofs.lemmas.List.{length-map, length-drop, drop-drop}
+use Rattle.std.proofs.lemmas.List.{length-map, length-drop, length-take, get_or-take, drop-drop}
 use Rattle.std.proofs.lemmas.List.Folds.{prefix_len-append}
 use Rattle.std.proofs.lemmas.List.Sums.{prefix_len-le-length, prefix_len_is, prefix_len_passes}
 use Rattle.std.proofs.lemmas.Str.{IsUtf8-from_ascii}
-use Rattle.std.proofs.lemmas.Str.Ascii.{IsAscii-nil, IsAscii-cons}
+use Rattle.std.proofs.lemmas.Str.Ascii.{IsAscii-from_all}
+use Rattle.std.proofs.lemmas.Bool.Decides.{nat_tests}
+use Rattle.std.proofs.lemmas.List.Elements.{All-from_get_or}
 use Rattle.std.proofs.Math.Numerals.{one-add}
 use Rattle.std.proofs.Math.Seq.{drop-cons}
 use Rattle.std.specs.Str.{IsAscii}
@@ -46,17 +48,10 @@ split : (q : ℕ → Bool) (d : List ℕ) (at n : ℕ)
 split q d at n = ap (prefix_len q) (chunk-drop at n d) ∙ prefix_len-append q (chunk at n d) (drop (at + n) d)
 
 run_through : (q : ℕ → Bool) (d : List ℕ) (at n : ℕ) → at + n ≤ length d → n ≤ prefix_len q (chunk at n d) → prefix_len q (drop at d) ≡ n + prefix_len q (drop (at + n) d)
-run_through q d at n room whole =
-    let c = chunk at n d in
-    let long = length-chunk at n d room in
-    let all : prefix_len q c ≡ length c = omega (arith, prefix_len-le-length q c, long) in
-    split q d at n ∙ ap (λ b. cond b (length c + prefix_len q (drop (at + n) d)) (prefix_len q c)) (eq-eqb _ _ all) ∙ ap (λ k. k + prefix_len q (drop (at + n) d)) long
+run_through q d at n room whole = grind (arith, nat_tests, split q d at n, length-chunk at n d room, prefix_len-le-length q (chunk at n d))
 
 pub run_stops : (q : ℕ → Bool) (d : List ℕ) (at n : ℕ) → at + n ≤ length d → prefix_len q (chunk at n d) < n → prefix_len q (drop at d) ≡ prefix_len q (chunk at n d)
-run_stops q d at n room short =
-    let c = chunk at n d in
-    let some : prefix_len q c ≡ length c → ⊥ = λ e. omega (arith, e, length-chunk at n d room) in
-    split q d at n ∙ ap (λ b. cond b (length c + prefix_len q (drop (at + n) d)) (prefix_len q c)) (ne_eqb _ _ some)
+run_stops q d at n room short = grind (arith, nat_tests, split q d at n, length-chunk at n d room)
 
 -- a block in which the run ends, one that it passes, and what is left behind the last
 module _ (q : ℕ → Bool) (d : List ℕ) (at count : ℕ) (before : IsRunTo q d at) where
@@ -69,38 +64,29 @@ module _ (q : ℕ → Bool) (d : List ℕ) (at count : ℕ) (before : IsRunTo q 
   pub run_bound : (rest : List ℕ) → count ≡ prefix_len q rest → rest ≡ drop at d → at + count ≤ length d
   run_bound rest found e = omega (arith, found ∙ ap (prefix_len q) e, prefix_len-le-length q (drop at d), length-drop at d, before.1)
 
--- ---- words
+-- ---- what a narrower run ends
 
--- letters up to a byte that is in no word are the word
-pub letters_are_word : (xs : List ℕ) → StopsAt is_word_byte (drop (prefix_len is_letter xs) xs) → prefix_len is_letter xs ≡ prefix_len is_word_byte xs
-letters_are_word xs e =
-    let n = prefix_len is_letter xs in
-    sym (prefix_len_is is_word_byte xs n 0 (prefix_len-le-length is_letter xs) (λ k lt. letter_in_word (get_or xs k 0) (prefix_len_passes is_letter xs k 0 lt))
-    (λ lt. subst (StopsAt is_word_byte) (drop-cons xs n 0 lt) e))
+-- a run that ends where a wider one must is that one too
+pub wider : (p q : ℕ → Bool) → ((b : ℕ) → p b ≡ true → q b ≡ true) → (xs : List ℕ) → StopsAt q (drop (prefix_len p xs) xs) → prefix_len p xs ≡ prefix_len q xs
+wider p q is xs e =
+    let n = prefix_len p xs in
+    sym (prefix_len_is q xs n 0 (prefix_len-le-length p xs) (λ k lt. is (get_or xs k 0) (prefix_len_passes p xs k 0 lt)) (λ lt. subst (StopsAt q) (drop-cons xs n 0 lt) e))
 
 -- ---- quoted ASCII
 
--- where a quote ends the plain ASCII, it ends all that is plain
-plain_to_quote : (xs tail : List ℕ) → drop (prefix_len is_plain_ascii xs) xs ≡ 34 ∷ tail → prefix_len is_plain_ascii xs ≡ prefix_len is_plain xs
-plain_to_quote xs tail e =
-    let n = prefix_len is_plain_ascii xs in
-    sym (prefix_len_is is_plain xs n 0 (prefix_len-le-length is_plain_ascii xs) (λ k lt. (and_parts _ _ (prefix_len_passes is_plain_ascii xs k 0 lt)).0)
-    (λ lt. let q : get_or xs n 0 ≡ 34 = same_head _ _ _ _ (sym (drop-cons xs n 0 lt) ∙ e) in ap is_plain q))
-
 plain_is_ascii : (xs : List ℕ) → IsAscii (take (prefix_len is_plain_ascii xs) xs)
-plain_is_ascii [] = IsAscii-nil
-plain_is_ascii (x ∷ xs) =
-    elim (is_plain_ascii x) as (λ v. is_plain_ascii x ≡ v → IsAscii (take (cond v (1 + prefix_len is_plain_ascii xs) 0) (x ∷ xs))) [
-      | true ↦ λ t. rw one-add (IsAscii-cons x _ (ltb-true x 128 (and_parts (is_plain x) (is_ascii x) t).1) (plain_is_ascii xs))
-      | false ↦ λ t. IsAscii-nil
-    ] refl
+plain_is_ascii xs =
+    let n = prefix_len is_plain_ascii xs in
+    IsAscii-from_all (take n xs) (All-from_get_or (λ b. b < 128) (take n xs) 0 (λ k lt.
+    let short : k < n = omega (arith, length-take n xs) in
+    rw (get_or-take n xs k 0 short) (ltb-true _ 128 (and_parts _ _ (prefix_len_passes is_plain_ascii xs k 0 short)).1)))
 
 -- the plain ASCII up to a closing quote is the inside of a quoted text
 module _ (after : List ℕ) (n : ℕ) (is_length : n ≡ prefix_len is_plain_ascii after) (closing : IsClosing (drop n after)) where
   pub ascii_shut : IsShutAt after n
   ascii_shut =
       let lt : n < length after = within_at after _ 34 n closing.0 in
-      let plain : n ≡ prefix_len is_plain after = is_length ∙ plain_to_quote after (drop 1 (drop n after)) (subst (λ k. drop k after ≡ 34 ∷ drop 1 (drop n after)) is_length closing.0) in
+      let plain : n ≡ prefix_len is_plain after = is_length ∙ wider is_plain_ascii is_plain (λ b t. (and_parts _ _ t).0) after (rw (← is_length, closing.0) refl) in
       (shut_at after 0 n (omega arith) ([], refl) (omega (arith, plain)) lt (subst (StopsAt is_quote) (drop-drop 1 n after) closing.1), lt)
 
   pub ascii_utf8 : IsUtf8 (take n after ++ 34 ∷ [])

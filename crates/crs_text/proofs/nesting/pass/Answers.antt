@@ -8,21 +8,15 @@ use Rattle.crs_text.proofs.nesting.pass.Goals as goal
 
 pub returns-in-Number : goal.returns-in-Number
 returns-in-Number c =
-    let text = c.args.text.now in
-    let l = subst (IsLexed (drop c.args.at text)) c.in-Number.is c.requires.lexed in
-    passed_single text c.args.at c.args.nest.now (take c.in-Number.length (drop c.args.at text)) kinds.Number c.in-Number.length (number_at text c.args.at c.requires.within c.in-Number.length l)
+    passed_single _ _ c.args.nest.now _ _ _ (number_at c.args.text.now c.args.at c.requires.within _ (subst (IsLexed _) c.in-Number.is c.requires.lexed))
 
 pub returns-in-Text : goal.returns-in-Text
 returns-in-Text c =
-    let text = c.args.text.now in
-    let l = subst (IsLexed (drop c.args.at text)) c.in-Text.is c.requires.lexed in
-    passed_single text c.args.at c.args.nest.now (take c.in-Text.length (drop 1 (drop c.args.at text))) kinds.Text (c.in-Text.length + 2) (text_at text c.args.at c.requires.within c.in-Text.length l)
+    passed_single _ _ c.args.nest.now _ _ _ (text_at c.args.text.now c.args.at c.requires.within _ (subst (IsLexed _) c.in-Text.is c.requires.lexed))
 
 pub returns-in-Word : goal.returns-in-Word
 returns-in-Word c =
-    let text = c.args.text.now in
-    let l = subst (IsLexed (drop c.args.at text)) c.in-Word.is c.requires.lexed in
-    passed_single text c.args.at c.args.nest.now (take c.in-Word.length (drop c.args.at text)) kinds.Word c.in-Word.length (word_at text c.args.at c.requires.within c.in-Word.length l)
+    passed_single _ _ c.args.nest.now _ _ _ (word_at c.args.text.now c.args.at c.requires.within _ (subst (IsLexed _) c.in-Word.is c.requires.lexed))
 
 pub returns-in-Comma : goal.returns-in-Comma
 returns-in-Comma c =

@@ -2,7 +2,8 @@ use Rattle.std.proofs.Common.{drop, sym, subst, ◌∙◌, arith}
 use Rattle.std.proofs.Math.Seq.{drop-cons}
 use Rattle.crs_text.specs.Quoted.{StopsAt}
 use Rattle.crs_text.specs.Tokens.{is_letter, is_word_byte}
-use Rattle.crs_text.proofs.tokens.RunLemmas.{run_stops, letters_are_word}
+use Rattle.crs_text.proofs.tokens.RunLemmas.{run_stops, wider}
+use Rattle.crs_text.proofs.tokens.TokenLemmas.{letter_in_word}
 use Rattle.crs_text.proofs.runs.letters_length.Goals as goal
 
 pub returns-then-ends_word : goal.returns-then-ends_word
@@ -12,4 +13,4 @@ returns-then-ends_word c =
     let found = c.letter_lanes-count.ensures in
     let letters = found ∙ sym (run_stops is_letter left 0 16 (omega arith) (omega (arith, found))) in
     let ends = subst (StopsAt is_word_byte) (sym (drop-cons left n 0 (omega arith))) (c.ends_word.ensures c.if-ends_word.true) in
-    letters ∙ letters_are_word left (subst (λ k. StopsAt is_word_byte (drop k left)) letters ends)
+    letters ∙ wider is_letter is_word_byte letter_in_word left (subst (λ k. StopsAt is_word_byte (drop k left)) letters ends)
