@@ -4,6 +4,7 @@ use Rattle.std.proofs.Math.ListN.{set}
 use Rattle.std.specs.List.{fold, prefix_len}
 use Rattle.std.proofs.lemmas.List.{append-nil, length-drop, drop-drop}
 use Rattle.std.proofs.lemmas.List.Sums.{fold-append, prefix_len-le-length}
+use Rattle.crs_text.specs.Quoted.{StopsAt}
 use Rattle.crs_text.specs.Tokens as tokens
 use Rattle.crs_text.specs.Tokens.{Token, single, comma, opening, closing, opening_byte, is_white, Forms, Fronts, IsAfterWhite}
 use Rattle.crs_text.specs.Items.{Item, AreNode}
@@ -64,13 +65,9 @@ length-opens text [] ts a = ap length a
 length-opens text (p ∷ ps) ts a =
     ap length (opens-innermost text ts p a.0) ∙ ap (λ n. suc n) (length-opens text ps a.0.outer a.1)
 
--- tokens that are closed, one after another
-closed_append : (ts us : List Token) → IsClosed ts → IsClosed us → IsClosed (ts ++ us)
-closed_append ts us a b = λ held. fold-append open_after held ts us ∙ ap (λ h. fold open_after h us) (a held) ∙ b held
-
 -- closed tokens that follow leave open what is
 open_extend : (text places : List ℕ) (ts us : List Token) → AreOpen text places ts → IsClosed us → AreOpen text places (ts ++ us)
-open_extend text [] ts us a c = opens-append ts us ∙ ap (λ h. fold open_after h us) a ∙ c []
+open_extend text [] ts us a c = rw (fold-append, a, c)
 open_extend text (p ∷ ps) ts us a c = (
   record {
     outer = a.0.outer;
@@ -79,16 +76,10 @@ open_extend text (p ∷ ps) ts us a c = (
     parts = ap (λ z. z ++ us) a.0.parts ∙ append_assoc a.0.outer (opening a.0.square ∷ a.0.inner) us;
     fronts = a.0.fronts;
     stands = a.0.stands;
-    closed = closed_append a.0.inner us a.0.closed c;
+    closed = λ held. rw (fold-append, a.0.closed, c);
   },
   a.1,
 )
-
--- a delimiter and its closing one, with closed tokens between
-closed_pair : (square other : Bool) (place : ℕ) (inner : List Token) → IsClosed inner → IsClosed (opening square ∷ (inner ++ closing place other ∷ []))
-closed_pair square other place inner c = λ held.
-    fold-append open_after (square ∷ held) inner (closing place other ∷ [])
-    ∙ ap (λ h. fold open_after h (closing place other ∷ [])) (c (square ∷ held))
 
 -- one token more
 open_next : (text places : List ℕ) (ts : List Token) (t : Token) (at : ℕ) (rest : List ℕ) → AreOpen text places ts → Fronts (length text) text ts (drop at text)
@@ -107,12 +98,10 @@ open_next text places ts (opening square) at rest a f g = (
   },
   a,
 )
-open_next text [] ts (closing place square) at rest a f g = opens-append ts (closing place square ∷ []) ∙ ap (λ h. open_after h (closing place square)) a
+open_next text [] ts (closing place square) at rest a f g = rw (fold-append, a)
 open_next text (p ∷ ps) ts (closing place square) at rest a f g =
-    let pair = closed_pair a.0.square square place a.0.inner a.0.closed in
-    let parts : ts ++ closing place square ∷ [] ≡ a.0.outer ++ (opening a.0.square ∷ (a.0.inner ++ closing place square ∷ [])) =
-    ap (λ z. z ++ closing place square ∷ []) a.0.parts ∙ append_assoc a.0.outer (opening a.0.square ∷ a.0.inner) (closing place square ∷ []) in
-    subst (AreOpen text ps) (sym parts) (open_extend text ps a.0.outer _ a.1 pair)
+    let parts = ap (λ z. z ++ closing place square ∷ []) a.0.parts ∙ append_assoc a.0.outer (opening a.0.square ∷ a.0.inner) (closing place square ∷ []) in
+    rw parts (open_extend text ps a.0.outer (opening a.0.square ∷ (a.0.inner ++ closing place square ∷ [])) a.1 (λ held. rw (fold-append open_after, a.0.closed)))
 
 -- ---- one token
 
@@ -143,44 +132,37 @@ nested_start text place at e =
     }
 
 module _ (text : List ℕ) (place at : ℕ) (places : List ℕ) (nested : IsNested text place at places) where
-  -- what the tokens that lead to the place go on with, if they do
-  next_token : (before : List Token) (left : List ℕ) (l : LeadsTo text place before left) (u : Token) (us : List Token)
-      → (nested.ahead before left l).more ≡ u ∷ us → (rest : List ℕ) × Forms (length text) u (drop at text) rest × Fronts (length text) rest us left
-  next_token before left l u us e =
-      let g = nested.ahead before left l in
-      front_token (length text) u us (drop at text) left (fronts_dark (length text) nested.tokens text (drop at text) nested.fronts)
-      (subst (λ z. Fronts (length text) (drop at text) z left) e g.fronts)
+  -- the tokens that lead to the place end here, or one more of them comes
+  next_token : (before : List Token) (left : List ℕ) → LeadsTo text place before left → ((before ≡ nested.tokens) × (drop at text ≡ left))
+      ⊎ ((u : Token) × (us : List Token) × (rest : List ℕ) × (before ≡ nested.tokens ++ u ∷ us) × Forms (length text) u (drop at text) rest × Fronts (length text) rest us left)
+  next_token before left l = let g = nested.ahead before left l in go g.more g.parts g.fronts
+    where
+      dark : StopsAt is_white (drop at text)
+      dark = fronts_dark (length text) nested.tokens text (drop at text) nested.fronts
 
-  -- they don't end where a token begins before the place
-  no_end : (before : List Token) (left rest : List ℕ) (t : Token) (l : LeadsTo text place before left) → at < place → Forms (length text) t (drop at text) rest
-      → (nested.ahead before left l).more ≡ [] → ⊥
-  no_end before left rest t l lt f e =
-      let g = nested.ahead before left l in
-      let same : drop at text ≡ left =
-      front_none (length text) (drop at text) left (fronts_dark (length text) nested.tokens text (drop at text) nested.fronts)
-      (subst (λ z. Fronts (length text) (drop at text) z left) e g.fronts) in
-      elim l.flaw [
-        | inl none ↦ let n = ap length same in absurd (omega (arith, n, none, l.is_place, length-drop at text, nested.within))
-        | inr flaw ↦ flaw_no_token NotUtf8 (length text) t (drop at text) rest l.skip (subst (λ z. IsFlaw NotUtf8 z l.skip) (sym same) flaw) f
-      ]
+      go : (more : List Token) → before ≡ nested.tokens ++ more → Fronts (length text) (drop at text) more left → ((before ≡ nested.tokens) × (drop at text ≡ left))
+          ⊎ ((u : Token) × (us : List Token) × (rest : List ℕ) × (before ≡ nested.tokens ++ u ∷ us) × Forms (length text) u (drop at text) rest × Fronts (length text) rest us left)
+      go [] e f = inl (e ∙ append-nil nested.tokens, front_none (length text) (drop at text) left dark f)
+      go (u ∷ us) e f = let n = front_token (length text) u us (drop at text) left dark f in inr (u, us, n.0, e, n.1, n.2)
 
   module _ (lt : at < place) (behind : List ℕ) (n w : ℕ) (p : IsPassed text at places behind n) (e : w ≡ prefix_len is_white (drop (at + n) text)) where
     white : IsAfterWhite (drop (at + n) text) (drop (at + n + w) text)
     white = subst (λ z. IsAfterWhite (drop (at + n) text) z) (drop-drop w (at + n) text) (after_white (drop (at + n) text) w e)
 
     ahead_next : (before : List Token) (left : List ℕ) → LeadsTo text place before left → IsAhead text (at + n + w) (nested.tokens ++ p.token ∷ []) before left
-    ahead_next before left l = go (nested.ahead before left l).more refl
-      where
-        go : (more : List Token) → (nested.ahead before left l).more ≡ more → IsAhead text (at + n + w) (nested.tokens ++ p.token ∷ []) before left
-        go [] k = absurd (no_end before left (drop (at + n) text) p.token l lt p.forms k)
-        go (u ∷ us) k =
-            let f = next_token before left l u us k in
-            let one = Forms-one (length text) u p.token (drop at text) f.0 (drop (at + n) text) f.1 p.forms in
-            record {
-              more = us;
-              parts = (nested.ahead before left l).parts ∙ ap (λ z. nested.tokens ++ z) k ∙ ap (λ z. nested.tokens ++ z ∷ us) one.0 ∙ sym (append_assoc nested.tokens (p.token ∷ []) us);
-              fronts = skip_white (length text) us (drop (at + n) text) (drop (at + n + w) text) left white (subst (λ z. Fronts (length text) z us left) one.1 f.2);
-            }
+    ahead_next before left l = elim (next_token before left l) [
+      | inl (e, same) ↦ absurd (elim l.flaw [
+        | inl none ↦ omega (arith, ap length same, none, l.is_place, length-drop at text, nested.within)
+        | inr flaw ↦ flaw_no_token NotUtf8 (length text) p.token (drop at text) (drop (at + n) text) l.skip (rw (← same) at flaw) p.forms
+      ])
+      | inr (u, us, rest, e, f, g) ↦
+          let one = Forms-one (length text) u p.token (drop at text) rest (drop (at + n) text) f p.forms in
+          record {
+            more = us;
+            parts = e ∙ ap (λ z. nested.tokens ++ z ∷ us) one.0 ∙ sym (append_assoc nested.tokens (p.token ∷ []) us);
+            fronts = skip_white (length text) us (drop (at + n) text) (drop (at + n + w) text) left white (rw one.1 at g);
+          }
+    ]
 
     pub nested_next : IsNested text place (at + n + w) behind
     nested_next = record {
@@ -192,7 +174,7 @@ module _ (text : List ℕ) (place at : ℕ) (places : List ℕ) (nested : IsNest
     }
 
   answered_at : (before : List Token) → before ≡ nested.tokens → MatchOption (innermost_of places) (opens before ≡ []) (IsInnermost text before)
-  answered_at before e = subst (λ z. MatchOption (innermost_of places) (opens z ≡ []) (IsInnermost text z)) (sym e) (go places nested.open_places)
+  answered_at before e = rw e (go places nested.open_places)
     where
       go : (ps : List ℕ) → AreOpen text ps nested.tokens → MatchOption (innermost_of ps) (opens nested.tokens ≡ []) (IsInnermost text nested.tokens)
       go [] a = a
@@ -201,20 +183,17 @@ module _ (text : List ℕ) (place at : ℕ) (places : List ℕ) (nested : IsNest
   -- nothing goes on here with the tokens that lead to the place
   answered_here : ((before : List Token) (left rest : List ℕ) (u : Token) (us : List Token) → LeadsTo text place before left → before ≡ nested.tokens ++ u ∷ us
       → Forms (length text) u (drop at text) rest → Fronts (length text) rest us left → ⊥) → IsAnswered text place (innermost_of places)
-  answered_here none before left l = go (nested.ahead before left l).more refl
-    where
-      go : (more : List Token) → (nested.ahead before left l).more ≡ more → MatchOption (innermost_of places) (opens before ≡ []) (IsInnermost text before)
-      go [] k = answered_at before ((nested.ahead before left l).parts ∙ ap (λ z. nested.tokens ++ z) k ∙ append-nil nested.tokens)
-      go (u ∷ us) k =
-          let f = next_token before left l u us k in
-          absurd (none before left f.0 u us l ((nested.ahead before left l).parts ∙ ap (λ z. nested.tokens ++ z) k) f.1 f.2)
+  answered_here none before left l = elim (next_token before left l) [
+    | inl (e, same) ↦ answered_at before e
+    | inr (u, us, rest, e, f, g) ↦ absurd (none before left rest u us l e f g)
+  ]
 
   pub answered_end : min place (length text) ≤ at → IsAnswered text place (innermost_of places)
   answered_end le = answered_here (λ before left rest u us l e f g.
       omega (arith, forms_shorter (length text) u (drop at text) rest f, fronts_short (length text) us rest left g, length-drop at text, l.is_place, nested.within, le))
 
   pub answered_halt : (behind : List ℕ) → IsHalted text at places behind → IsAnswered text place (innermost_of behind)
-  answered_halt behind h = subst (λ z. IsAnswered text place (innermost_of z)) (sym h.0) (answered_here none)
+  answered_halt behind h = rw h.0 (answered_here none)
     where
       none : (before : List Token) (left rest : List ℕ) (u : Token) (us : List Token) → LeadsTo text place before left → before ≡ nested.tokens ++ u ∷ us
           → Forms (length text) u (drop at text) rest → Fronts (length text) rest us left → ⊥

@@ -1,5 +1,5 @@
 -- What is settled stays settled under any bytes to come, and is one thing.
-use Rattle.std.proofs.Common.{◌≡◌, ℕ, ◌+◌, ◌≤◌, Bool, true, List, [], ◌∷◌, ◌++◌, length, refl, sym, ap, subst, ◌∙◌, append_assoc, arith, inl, inr, IsTrue, ◌≢◌}
+use Rattle.std.proofs.Common.{ap₂, ◌≡◌, ℕ, ◌+◌, ◌≤◌, Bool, true, List, [], ◌∷◌, ◌++◌, length, refl, sym, ap, subst, ◌∙◌, append_assoc, arith, inl, inr, IsTrue, ◌≢◌}
 use Rattle.std.specs.List.{list_all}
 use Rattle.std.proofs.lemmas.List.{append-nil, length-append}
 use Rattle.std.proofs.lemmas.List.Folds.{list_all-append}
@@ -65,20 +65,14 @@ ends_more : (t : Token) (rest more : List ℕ) → IsSettled t rest → Ends t r
 ends_more (single kind place raw) rest more some e = stops_more (takes_byte kind) rest more some e
 ends_more t rest more some e = tt
 
-longer_place : (place total : ℕ) (left more : List ℕ) → place + length left ≡ total → place + length (left ++ more) ≡ total + length more
-longer_place place total left more e = omega (arith, e, length-append left more)
-
 placed_more : (total : ℕ) (t : Token) (left more : List ℕ) → IsPlaced total t left → IsPlaced (total + length more) t (left ++ more)
-placed_more total (single kind place raw) left more p = longer_place place total left more p
-placed_more total (closing place square) left more p = longer_place place total left more p
+placed_more total (single kind place raw) left more p = omega (arith, length-append left more)
+placed_more total (closing place square) left more p = omega (arith, length-append left more)
 placed_more total t left more p = tt
 
-some_more : (left more : List ℕ) → left ≢ [] → left ++ more ≢ []
-some_more [] more some e = some refl
-some_more (b ∷ bs) more some e = absurd cc
-
 settled_more : (t : Token) (rest more : List ℕ) → IsSettled t rest → IsSettled t (rest ++ more)
-settled_more (single kind place raw) rest more s = some_more rest more s
+settled_more (single kind place raw) [] more some = λ e. some refl
+settled_more (single kind place raw) (b ∷ bs) more some = λ e. absurd cc
 settled_more t rest more s = tt
 
 pub forms_more : (total : ℕ) (t : Token) (left rest more : List ℕ) → FormsSettled total t left rest → FormsSettled (total + length more) t (left ++ more) (rest ++ more)
@@ -128,15 +122,11 @@ prefix_split : (a b x y : List ℕ) → a ++ x ≡ b ++ y → length a ≤ lengt
 prefix_split [] b x y e le = (b, refl, e)
 prefix_split (u ∷ a) [] x y e le = absurd (omega arith)
 prefix_split (u ∷ a) (v ∷ b) x y e le =
-    let h : u ≡ v = same_head u v (a ++ x) (b ++ y) e in
     let r = prefix_split a b x y (same_tail u v (a ++ x) (b ++ y) e) (omega arith) in
-    (r.0, (ap (λ z. z ∷ b) (sym h) ∙ ap (λ z. u ∷ z) r.1), r.2)
+    (r.0, ap₂ (λ z (zs : List ℕ). z ∷ zs) (sym (same_head u v (a ++ x) (b ++ y) e)) r.1, r.2)
 
 run_rest : (left run rest : List ℕ) → IsFirstRun left run rest → IsRunSettled left → rest ≢ []
-run_rest left run rest r s e =
-    let k : left ≡ run = r.parts ∙ ap (λ z. run ++ z) e ∙ append-nil run in
-    let t : list_all is_run_byte left ≡ true = ap (list_all is_run_byte) k ∙ r.taken in
-    absurd cc
+run_rest left run rest r s e = let t = ap (list_all is_run_byte) (r.parts ∙ ap (λ z. run ++ z) e ∙ append-nil run) ∙ r.taken in absurd cc
 
 run_longer : (left run rest more : List ℕ) → IsRunSettled left → IsFirstRun left run rest → IsFirstRun (left ++ more) run (rest ++ more)
 run_longer left run rest more s r = record {
@@ -163,15 +153,12 @@ shut_not_front : (after more inside raw rest : List ℕ) → Through after insid
 shut_not_front after more inside raw rest through ill s front =
     elim (cases_lt (length raw) (length after)) [
       | inl lt ↦
-          let e : (raw ++ 34 ∷ []) ++ rest ≡ after ++ more = append_assoc raw (34 ∷ []) rest ∙ sym s.parts in
-          let p = prefix_split (raw ++ 34 ∷ []) after rest more e (omega (arith, length-append raw (34 ∷ []))) in
-          earlier p.0 p.1 p.2
+          let (c, e, f) = prefix_split (raw ++ 34 ∷ []) after rest more (append_assoc raw (34 ∷ []) rest ∙ sym s.parts) (omega (arith, length-append raw (34 ∷ []))) in
+          ill (rw (same_inside c e f) front)
       | inr le ↦
-          let e : after ++ more ≡ (raw ++ 34 ∷ []) ++ rest = s.parts ∙ sym (append_assoc raw (34 ∷ []) rest) in
-          let p = prefix_split after (raw ++ 34 ∷ []) more rest e (omega (arith, length-append raw (34 ∷ []))) in
-          let t = through_front after inside through in
-          let f : raw ++ 34 ∷ [] ≡ inside ++ (t.0 ++ p.0) = p.1 ∙ ap (λ z. z ++ p.0) t.1 ∙ append_assoc inside t.0 p.0 in
-          ill (IsUtf8Front-shorter inside (t.0 ++ p.0) (subst IsUtf8Front f front))
+          let (c, e, f) = prefix_split after (raw ++ 34 ∷ []) more rest (s.parts ∙ sym (append_assoc raw (34 ∷ []) rest)) (omega (arith, length-append raw (34 ∷ []))) in
+          let (tail, t) = through_front after inside through in
+          ill (IsUtf8Front-shorter inside (tail ++ c) (subst IsUtf8Front (e ∙ ap (λ z. z ++ c) t ∙ append_assoc inside tail c) front))
     ]
   where
     stops_front : (test : ℕ → Bool) (a b : List ℕ) → StopsAt test (a ++ b) → StopsAt test a
@@ -180,18 +167,11 @@ shut_not_front after more inside raw rest through ill s front =
 
     same_inside : (c : List ℕ) → after ≡ (raw ++ 34 ∷ []) ++ c → rest ≡ c ++ more → inside ≡ raw ++ 34 ∷ []
     same_inside c e f =
-        let shut : IsShut after raw c = record {
-          parts = e ∙ append_assoc raw (34 ∷ []) c;
-          inside = s.inside;
-          ends = stops_front is_quote c more (subst (StopsAt is_quote) f s.ends);
-        } in
+        let shut : IsShut after raw c = record { parts = e ∙ append_assoc raw (34 ∷ []) c; inside = s.inside; ends = stops_front is_quote c more (rw f at s.ends) } in
         elim through [
           | inl o ↦ o.3 ∙ ap (λ z. z ++ 34 ∷ []) (shut_one after o.0 o.1 raw c o.2 shut).0
           | inr o ↦ absurd (shut_not_open after raw c shut o.0)
         ]
-
-    earlier : (c : List ℕ) → after ≡ (raw ++ 34 ∷ []) ++ c → rest ≡ c ++ more → ⊥
-    earlier c e f = ill (subst IsUtf8Front (sym (same_inside c e f)) front)
 
 -- ill-formed UTF-8 stays so
 not_utf8_longer : (left more : List ℕ) (k : ℕ) → IsFlaw NotUtf8 left k → IsFlaw NotUtf8 (left ++ more) k
@@ -222,11 +202,8 @@ stop_longer TooDeep total ts left more k s = (s.0, s.1 ++ more, forms_more total
 pub stop_some : (r : Reason) (total : ℕ) (ts : List Token) (left : List ℕ) (k : ℕ) → IsSettledStop r total ts left k → left ≢ []
 stop_some Unexpected total ts left k s e = forms_some total s.0 left s.1 s.2.forms e
 stop_some TooDeep total ts left k s e = forms_some total s.0 left s.1 s.2.forms e
-stop_some BadCharacter total ts left k s e = flaw_some BadCharacter left k s e
-stop_some BadNumber total ts left k s e = flaw_some BadNumber left k s.0 e
-stop_some NumberRange total ts left k s e = flaw_some NumberRange left k s.0 e
-stop_some NotUtf8 total ts left k s e = flaw_some NotUtf8 left k s e
-stop_some r total ts left k s e = s
+stop_some UnexpectedEnd total ts left k s e = s
+stop_some r total ts left k s e = flaw_some r left k (stop_from_settled r total ts left k s) e
 
 -- a settled refusal is that of every continuation
 pub settled_longer : (bytes more : List ℕ) (n place : ℕ) → IsSettledRefusal bytes n place → IsSettledRefusal (bytes ++ more) n place

@@ -19,13 +19,11 @@ apart_none kind = tt
 
 apart_comma : (rest : List ℕ) → IsApart (44 ∷ rest)
 apart_comma rest number = refl
-apart_comma rest text = refl
-apart_comma rest word = refl
+apart_comma rest kind = refl
 
 apart_close : (rest : List ℕ) → IsApart (93 ∷ rest)
 apart_close rest number = refl
-apart_close rest text = refl
-apart_close rest word = refl
+apart_close rest kind = refl
 
 apart_others : (others : Siblings) (rest : List ℕ) → IsApart rest → IsApart (others_text others ++ rest)
 apart_others End rest apart = apart
@@ -40,11 +38,6 @@ dark_single word raw rest h = dark_word raw rest h
 front : (total : ℕ) (t : Token) (ts : List Token) (left rest end : List ℕ) → StopsAt is_white left → Forms total t left rest → Fronts total rest ts end → Fronts total left (t ∷ ts) end
 front total t ts left rest end dark forms more = (left, rest, at_once left dark, forms, more)
 
-front_single : (total place : ℕ) (kind : Kind) (raw rest end : List ℕ) (ts : List Token) → IsSingle kind raw → IsApart rest → place + length (single_spelling kind raw ++ rest) ≡ total
-    → Fronts total rest ts end → Fronts total (single_spelling kind raw ++ rest) (single kind place raw ∷ ts) end
-front_single total place kind raw rest end ts formed apart placed more =
-    front total (single kind place raw) ts (single_spelling kind raw ++ rest) rest end (dark_single kind raw rest formed) (record { spelled = refl; formed = formed; ends = apart kind; placed = placed }) more
-
 front_keyword : (total place : ℕ) (keyword rest end : List ℕ) (ts : List Token) → IsWord keyword → place + length (keyword ++ 91 ∷ rest) ≡ total
     → Fronts total rest ts end → Fronts total (keyword ++ 91 ∷ rest) (single word place keyword ∷ opening true ∷ ts) end
 front_keyword total place keyword rest end ts formed placed more =
@@ -52,58 +45,37 @@ front_keyword total place keyword rest end ts formed placed more =
     (record { spelled = refl; formed = formed; ends = refl; placed = placed })
     (front total (opening true) ts (91 ∷ rest) rest end refl (record { spelled = refl; formed = tt; ends = tt; placed = tt }) more)
 
-front_close : (total place : ℕ) (rest end : List ℕ) (ts : List Token) → place + length (93 ∷ rest) ≡ total → Fronts total rest ts end → Fronts total (93 ∷ rest) (closing place true ∷ ts) end
-front_close total place rest end ts placed more =
-    front total (closing place true) ts (93 ∷ rest) rest end refl (record { spelled = refl; formed = tt; ends = tt; placed = placed }) more
-
-front_comma : (total : ℕ) (rest end : List ℕ) (ts : List Token) → Fronts total rest ts end → Fronts total (44 ∷ rest) (comma ∷ ts) end
-front_comma total rest end ts more = front total comma ts (44 ∷ rest) rest end refl (record { spelled = refl; formed = tt; ends = tt; placed = tt }) more
-
 -- the bytes and tokens of a node, grouped to the right
 node_bytes : (keyword first others rest : List ℕ) → (keyword ++ 91 ∷ (first ++ (others ++ 93 ∷ []))) ++ rest ≡ keyword ++ 91 ∷ (first ++ (others ++ 93 ∷ rest))
 node_bytes keyword first others rest = simp append_assoc
 
--- where the parts of a node begin
-place_first : (place total : ℕ) (keyword rest : List ℕ) → place + length (keyword ++ 91 ∷ rest) ≡ total → place + length keyword + 1 + length rest ≡ total
-place_first place total keyword rest e = omega (arith, length-append keyword (91 ∷ rest))
-
-place_next : (place total : ℕ) (first rest : List ℕ) → place + length (first ++ rest) ≡ total → place + length first + length rest ≡ total
-place_next place total first rest e = omega (arith, length-append first rest)
-
 mutual
   front_item : (total place : ℕ) (item : Item) (rest end : List ℕ) (ts : List Token) → AreFormed item → IsApart rest → place + length (item_text item ++ rest) ≡ total
       → Fronts total rest ts end → Fronts total (item_text item ++ rest) (tokens (at_place place item) ++ ts) end
-  front_item total place (leaf kind here raw) rest end ts formed apart placed more = front_single total place kind raw rest end ts formed apart placed more
+  front_item total place (leaf kind here raw) rest end ts formed apart placed more =
+      front total (single kind place raw) ts _ rest end (dark_single kind raw rest formed) (record { spelled = refl; formed = formed; ends = apart kind; placed = placed }) more
   front_item total place (node here keyword square first others close) rest end ts formed apart placed more =
-      let bytes = node_bytes keyword (item_text first) (others_text others) rest in
       let start = place + length keyword + 1 in
-      let e0 : place + length (keyword ++ 91 ∷ (item_text first ++ (others_text others ++ 93 ∷ rest))) ≡ total = subst (λ (b : List ℕ). place + length b ≡ total) bytes placed in
-      let e1 = place_first place total keyword (item_text first ++ (others_text others ++ 93 ∷ rest)) e0 in
-      let e2 = place_next start total (item_text first) (others_text others ++ 93 ∷ rest) e1 in
-      let e3 = place_next (start + length (item_text first)) total (others_text others) (93 ∷ rest) e2 in
       let at = start + length (item_text first) + length (others_text others) in
-      let closed = front_close total at rest end ts e3 more in
-      let later = front_items total (start + length (item_text first)) others (93 ∷ rest) end (closing at true ∷ ts) formed.2 (apart_close rest) e2 closed in
-      let all = front_item total start first (others_text others ++ 93 ∷ rest) end (others_tokens (at_places (start + length (item_text first)) others) ++ closing at true ∷ ts) formed.1 (apart_others others (93 ∷ rest) (apart_close rest)) e1 later in
-      let whole = front_keyword total place keyword (item_text first ++ (others_text others ++ 93 ∷ rest)) end (tokens (at_place start first) ++ (others_tokens (at_places (start + length (item_text first)) others) ++ closing at true ∷ ts)) formed.0 e0 all in
-      subst (λ (b : List ℕ). Fronts total b (tokens (at_place place (node here keyword square first others close)) ++ ts) end) (sym bytes)
-      (subst (λ (us : List Token). Fronts total (keyword ++ 91 ∷ (item_text first ++ (others_text others ++ 93 ∷ rest))) (single word place keyword ∷ opening true ∷ us) end)
-      (sym (node_tokens (tokens (at_place start first)) (others_tokens (at_places (start + length (item_text first)) others)) (closing at true) ts)) whole)
+      let long = simp (append_assoc, length-append) at placed in
+      let closed = front total (closing at true) ts (93 ∷ rest) rest end refl (record { spelled = refl; formed = tt; ends = tt; placed = omega arith }) more in
+      let later = front_items total (start + length (item_text first)) others (93 ∷ rest) end (closing at true ∷ ts) formed.2 (apart_close rest) (simp length-append (omega arith)) closed in
+      let all = front_item total start first (others_text others ++ 93 ∷ rest) end (others_tokens (at_places (start + length (item_text first)) others) ++ closing at true ∷ ts) formed.1
+      (apart_others others (93 ∷ rest) (apart_close rest)) (simp length-append (omega arith)) later in
+      rw (node_bytes, node_tokens (tokens (at_place start first)) (others_tokens (at_places (start + length (item_text first)) others)) (closing at true) ts)
+      (front_keyword total place keyword (item_text first ++ (others_text others ++ 93 ∷ rest)) end _ formed.0 (simp length-append (omega arith)) all)
 
   front_items : (total place : ℕ) (items : Siblings) (rest end : List ℕ) (ts : List Token) → AreAllFormed items → IsApart rest → place + length (others_text items ++ rest) ≡ total
       → Fronts total rest ts end → Fronts total (others_text items ++ rest) (others_tokens (at_places place items) ++ ts) end
   front_items total place End rest end ts formed apart placed more = more
   front_items total place (More item items) rest end ts formed apart placed more =
       let start = place + 1 in
-      let bytes = append_assoc (item_text item) (others_text items) rest in
-      let e0 : start + length (item_text item ++ (others_text items ++ rest)) ≡ total = omega (arith, ap length bytes) in
-      let e1 = place_next start total (item_text item) (others_text items ++ rest) e0 in
-      let later = front_items total (start + length (item_text item)) items rest end ts formed.1 apart e1 more in
-      let all = front_item total start item (others_text items ++ rest) end (others_tokens (at_places (start + length (item_text item)) items) ++ ts) formed.0 (apart_others items rest apart) e0 later in
-      let whole = front_comma total (item_text item ++ (others_text items ++ rest)) end (tokens (at_place start item) ++ (others_tokens (at_places (start + length (item_text item)) items) ++ ts)) all in
-      subst (λ (b : List ℕ). Fronts total (44 ∷ b) (comma ∷ ((tokens (at_place start item) ++ others_tokens (at_places (start + length (item_text item)) items)) ++ ts)) end) (sym bytes)
-      (subst (λ (us : List Token). Fronts total (44 ∷ (item_text item ++ (others_text items ++ rest))) (comma ∷ us) end)
-      (sym (append_assoc (tokens (at_place start item)) (others_tokens (at_places (start + length (item_text item)) items)) ts)) whole)
+      let long = simp length-append at placed in
+      let later = front_items total (start + length (item_text item)) items rest end ts formed.1 apart (simp length-append (omega arith)) more in
+      let all = front_item total start item (others_text items ++ rest) end (others_tokens (at_places (start + length (item_text item)) items) ++ ts) formed.0 (apart_others items rest apart)
+      (simp length-append (omega arith)) later in
+      rw (append_assoc, append_assoc (tokens (at_place start item)) (others_tokens (at_places (start + length (item_text item)) items)) ts)
+      (front total comma _ (44 ∷ (item_text item ++ (others_text items ++ rest))) _ end refl (record { spelled = refl; formed = tt; ends = tt; placed = tt }) all)
 
 -- ---- what a text spells is formed
 
@@ -118,17 +90,14 @@ mutual
   formed_item : (item : Item) (rest : List Token) → AllFormed (tokens item ++ rest) → AreFormed item × AllFormed rest
   formed_item (leaf kind place raw) rest all = all
   formed_item (node place keyword square first others close) rest all =
-      let e = node_tokens (tokens first) (others_tokens others) (closing close square) rest in
-      let inside : AllFormed (tokens first ++ (others_tokens others ++ closing close square ∷ rest)) = subst AllFormed e all.1.1 in
-      let f = formed_item first (others_tokens others ++ closing close square ∷ rest) inside in
+      let f = formed_item first (others_tokens others ++ closing close square ∷ rest) (rw (node_tokens (tokens first) (others_tokens others) (closing close square) rest) at all.1.1) in
       let g = formed_items others (closing close square ∷ rest) f.1 in
       ((all.0, f.0, g.0), g.1.1)
 
   formed_items : (items : Siblings) (rest : List Token) → AllFormed (others_tokens items ++ rest) → AreAllFormed items × AllFormed rest
   formed_items End rest all = (tt, all)
   formed_items (More item items) rest all =
-      let inside : AllFormed (tokens item ++ (others_tokens items ++ rest)) = subst AllFormed (append_assoc (tokens item) (others_tokens items) rest) all.1 in
-      let f = formed_item item (others_tokens items ++ rest) inside in
+      let f = formed_item item (others_tokens items ++ rest) (rw (append_assoc (tokens item) (others_tokens items) rest) at all.1) in
       let g = formed_items items rest f.1 in
       ((f.0, g.0), g.1)
 
@@ -144,15 +113,11 @@ spelled_formed bytes item (ts, are, of_node) = formed_of item (subst AllFormed o
 mutual
   pub depth-at_place : (place : ℕ) (item : Item) → depth (at_place place item) ≡ depth item
   depth-at_place place (leaf kind here raw) = refl
-  depth-at_place place (node here keyword square first others close) =
-      ap (λ (n : ℕ). suc (max n (depths (at_places (place + length keyword + 1 + length (item_text first)) others)))) (depth-at_place (place + length keyword + 1) first)
-      ∙ ap (λ (n : ℕ). suc (max (depth first) n)) (depths-at_places (place + length keyword + 1 + length (item_text first)) others)
+  depth-at_place place (node here keyword square first others close) = rw (depth-at_place (place + length keyword + 1) first, depths-at_places _ others)
 
   depths-at_places : (place : ℕ) (items : Siblings) → depths (at_places place items) ≡ depths items
   depths-at_places place End = refl
-  depths-at_places place (More item items) =
-      ap (λ (n : ℕ). max n (depths (at_places (place + 1 + length (item_text item)) items))) (depth-at_place (place + 1) item)
-      ∙ ap (λ (n : ℕ). max (depth item) n) (depths-at_places (place + 1 + length (item_text item)) items)
+  depths-at_places place (More item items) = rw (depth-at_place (place + 1) item, depths-at_places _ items)
 
 mutual
   pub at_place-same : (place : ℕ) (item : Item) → SameItem item (at_place place item)
@@ -166,23 +131,14 @@ mutual
 
 mutual
   pub same_text : (a b : Item) → SameItem a b → item_text a ≡ item_text b
-  same_text (leaf kind place raw) (leaf kind2 place2 raw2) same =
-      let k : kind ≡ kind2 = same.0 in
-      let r : raw ≡ raw2 = same.1 in
-      cc
+  same_text (leaf kind place raw) (leaf kind2 place2 raw2) same = rw (same.0, same.1)
   same_text (node place keyword square first others close) (node place2 keyword2 square2 first2 others2 close2) same =
-      let k : keyword ≡ keyword2 = same.0 in
-      let f : item_text first ≡ item_text first2 = same_text first first2 same.1 in
-      let o : others_text others ≡ others_text others2 = same_texts others others2 same.2 in
-      cc
+      rw (same.0, same_text first first2 same.1, same_texts others others2 same.2)
   same_text a b same = absurd same
 
   same_texts : (a b : Siblings) → SameItems a b → others_text a ≡ others_text b
   same_texts End End same = refl
-  same_texts (More item items) (More item2 items2) same =
-      let f : item_text item ≡ item_text item2 = same_text item item2 same.0 in
-      let o : others_text items ≡ others_text items2 = same_texts items items2 same.1 in
-      cc
+  same_texts (More item items) (More item2 items2) same = rw (same_text item item2 same.0, same_texts items items2 same.1)
   same_texts a b same = absurd same
 
 pub item_text-at_place : (place : ℕ) (item : Item) → item_text (at_place place item) ≡ item_text item
@@ -197,9 +153,5 @@ at_place-node place (node here keyword square first others close) h = tt
 pub written_spells : WrittenSpells
 written_spells item formed is_node within =
     let whole = item_text item in
-    let e : whole ++ [] ≡ whole = append-nil whole in
-    let placed : 0 + length (whole ++ []) ≡ length whole = omega (arith, ap length e) in
-    let fronts = front_item (length whole) 0 item [] [] [] formed apart_none placed (at_once [] tt) in
-    let ts = tokens (at_place 0 item) in
-    let fronts2 : Fronts (length whole) whole ts [] = subst (λ (us : List Token). Fronts (length whole) whole us []) (append-nil ts) (subst (λ (b : List ℕ). Fronts (length whole) b (ts ++ []) []) e fronts) in
-    (ts, fronts2, record { is_node = at_place-node 0 item is_node; within = omega (arith, depth-at_place 0 item, within); are = refl })
+    let fronts = front_item (length whole) 0 item [] [] [] formed apart_none (simp append-nil (omega arith)) (at_once [] tt) in
+    (tokens (at_place 0 item), rw (append-nil, append-nil) at fronts, record { is_node = at_place-node 0 item is_node; within = omega (arith, depth-at_place 0 item, within); are = refl })
