@@ -34,7 +34,7 @@ use Rattle.crs_text.specs.declared.lexing.Lexed.TheVariants as lexed
 use Rattle.crs_text.proofs.tokens.TokenLemmas.{a_single, shape_of, shape_at, shape_at_start, Forms-shape, Forms-shut, Forms-one, some_shape}
 use Rattle.crs_text.proofs.tokens.QuotedLemmas.{doubled-append, true_not_false, same_tail, same_split, shut_one, shut_not_open}
 use Rattle.crs_text.proofs.tokens.Utf8Lemmas.{IsUtf8Front-shorter}
-use Rattle.crs_text.proofs.tokens.FlawLemmas.{no_shape_at, flaw_no_token, flaw_one}
+use Rattle.crs_text.proofs.tokens.FlawLemmas.{flaw_shape, flaw_no_token, flaw_one}
 use Rattle.crs_text.proofs.tokens.FrontsLemmas.{forms_some, at_once, dark_start, dark_word}
 use Rattle.crs_text.proofs.rows.ShowsLemmas.{shows_start, viable_from_shows, shows_more}
 use Rattle.crs_text.proofs.tokens.ScanLemmas.{reached_first, number_at, word_at, text_at, comma_at, opening_at, closing_at, after_white}
@@ -229,11 +229,8 @@ module _ (left : List ℕ) (begins : BeginsWith is_run_start left) (taken : list
   run_no_token total t rest f e = absurd cc
 
   run_no_flaw : (r : Reason) (k : ℕ) → IsFlaw r left k → ¬ (IsFlawSettled r left)
-  run_no_flaw BadNumber k f s = true_not_false (list_all is_run_byte left) taken s
-  run_no_flaw NumberRange k f s = true_not_false (list_all is_run_byte left) taken s
-  run_no_flaw BadCharacter k f s = let e : None ≡ Some (a_single number) = sym (no_shape_at left f.0) ∙ run_shape in absurd cc
-  run_no_flaw NotUtf8 k f s = let e : Some (a_single number) ≡ Some (a_single tokens.text) = sym run_shape ∙ ap shape_at f.2 in absurd cc
-  run_no_flaw r k f s = s
+  run_no_flaw NotUtf8 k f s = let e = sym run_shape ∙ ap shape_at f.2 in absurd cc
+  run_no_flaw r k f s = let e = sym run_shape ∙ flaw_shape r left k f in grind arith
 
   run_held_in : IsUnsettledIn left
   run_held_in total within ts =
@@ -264,14 +261,11 @@ module _ (left : List ℕ) (quote : left ≡ 34 ∷ drop 1 left) (n : ℕ) (o : 
   text_no_token total t rest f e = absurd cc
 
   text_no_flaw : (r : Reason) (k : ℕ) → IsFlaw r left k → ¬ (IsFlawSettled r left)
-  text_no_flaw BadNumber k f s = let e : Some (a_single number) ≡ Some (a_single tokens.text) = sym (shape_at_start f.0 f.1 left f.2.starts f.2.parts) ∙ text_shape in absurd cc
-  text_no_flaw NumberRange k f s = let e : Some (a_single number) ≡ Some (a_single tokens.text) = sym (shape_at_start f.0 f.1 left f.2.starts f.2.parts) ∙ text_shape in absurd cc
-  text_no_flaw BadCharacter k f s = let e : true ≡ false = subst BeginsNoToken quote f.0 in absurd cc
   text_no_flaw NotUtf8 k f s =
       let e : f.0 ≡ drop 1 left = same_tail 34 34 f.0 (drop 1 left) (sym f.2 ∙ quote) in
       let t = through_front f.0 f.1 f.3 in
       f.4 (IsUtf8Front-shorter f.1 t.0 (subst IsUtf8Front (sym e ∙ t.1) front))
-  text_no_flaw r k f s = s
+  text_no_flaw r k f s = let e = sym text_shape ∙ flaw_shape r left k f in grind arith
 
   pub text_held : IsUnsettledIn left
   text_held total within ts =
@@ -289,14 +283,12 @@ longer_run first test (b ∷ bs) piece p le = (p.0, all_append test (b ∷ bs) p
 pub word_stays : (left before piece : List ℕ) → left ≡ before ++ piece → IsPendingIn before pending.Word → length piece ≤ prefix_len is_word_byte piece → StaysPending left pending.Word
 word_stays left before piece e p le =
     let longer = longer_run is_letter is_word_byte before piece p le in
-    let dark = dark_word (before ++ piece) [] (word_from_all (before ++ piece) longer.0 longer.1) in
-    subst (λ z. StaysPending z pending.Word) (sym e) (longer, word_held (before ++ piece) longer, subst (StopsAt is_white) (append-nil (before ++ piece)) dark)
+    rw e (longer, word_held (before ++ piece) longer, rw append-nil at (dark_word (before ++ piece) [] (word_from_all (before ++ piece) longer.0 longer.1)))
 
 pub run_stays : (left before piece : List ℕ) → left ≡ before ++ piece → IsPendingIn before pending.Run → length piece ≤ prefix_len is_run_byte piece → StaysPending left pending.Run
 run_stays left before piece e p le =
     let longer = longer_run is_run_start is_run_byte before piece p le in
-    let dark = dark_start (before ++ piece) [] longer.0 in
-    subst (λ z. StaysPending z pending.Run) (sym e) (longer, run_held (before ++ piece) longer, subst (StopsAt is_white) (append-nil (before ++ piece)) dark)
+    rw e (longer, run_held (before ++ piece) longer, rw append-nil at (dark_start (before ++ piece) [] longer.0))
 
 quote_dark : (left : List ℕ) → left ≡ 34 ∷ drop 1 left → StopsAt is_white left
 quote_dark left e = subst (StopsAt is_white) (sym e) refl
@@ -354,32 +346,27 @@ module _ (after : List ℕ) (known : ℕ) where
 
 -- ---- after the piece
 
-longer_to : (before piece : List ℕ) (table : Flat) (at from : ℕ) → IsSettledTo before table at → IsAfterWhite (drop at (before ++ piece)) (drop from (before ++ piece)) → from ≤ length (before ++ piece)
-    → IsSettledTo (before ++ piece) table from
-longer_to before piece table at from s w le =
+longer_to : (text before piece : List ℕ) (table : Flat) (at from : ℕ) → text ≡ before ++ piece → IsSettledTo before table at → IsAfterWhite (drop at text) (drop from text) → from ≤ length text
+    → IsSettledTo text table from
+longer_to text before piece table at from e s w le =
     let total : length before + length piece ≡ length (before ++ piece) = omega (arith, length-append before piece) in
-    let further = drop from (before ++ piece) in
-    let white = subst (λ z. IsAfterWhite z further) (drop-append-le at before piece s.within) w in
-    record {
+    let white = rw (e, drop-append-le at before piece s.within) at w in
+    rw e (record {
       tokens = s.tokens;
       shows = s.shows;
-      fronts = subst (λ z. SettledFronts z (before ++ piece) s.tokens further) total (fronts_longer (length before) s.tokens before (drop at before) piece further s.fronts white);
-      within = le;
-    }
+      fronts = rw (← total) (fronts_longer (length before) s.tokens before (drop at before) piece (drop from (before ++ piece)) s.fronts white);
+      within = rw e at le;
+    })
 
 pub settled_behind : (text before piece : List ℕ) (table : Flat) (at from : ℕ) → text ≡ before ++ piece → IsSettledTo before table at → from ≡ at + prefix_len is_white (drop at text) → IsSettledTo text table from
 settled_behind text before piece table at from e s f =
+    let w = prefix_len is_white (drop at text) in
     let le : at ≤ length text = omega (arith, s.within, ap length e, length-append before piece) in
-    let w : IsAfterWhite (drop at text) (drop from text) = subst (λ z. IsAfterWhite (drop at text) z) (drop-drop (prefix_len is_white (drop at text)) at text ∙ ap (λ z. drop z text) (sym f)) (after_white (drop at text) (prefix_len is_white (drop at text)) refl) in
-    let within : from ≤ length text = omega (arith, prefix_len-le-length is_white (drop at text), length-drop at text) in
-    subst (λ z. IsSettledTo z table from) (sym e)
-    (longer_to before piece table at from s (subst (λ z. IsAfterWhite (drop at z) (drop from z)) e w) (subst (λ z. from ≤ length z) e within))
+    longer_to text before piece table at from e s (rw (f, ← drop-drop w at text) (after_white (drop at text) w refl)) (omega (arith, prefix_len-le-length is_white (drop at text), length-drop at text))
 
 pub settled_still : (text before piece : List ℕ) (table : Flat) (at : ℕ) → text ≡ before ++ piece → IsSettledTo before table at → StopsAt is_white (drop at text) → IsSettledTo text table at
 settled_still text before piece table at e s dark =
-    let within : at ≤ length text = omega (arith, s.within, ap length e, length-append before piece) in
-    subst (λ z. IsSettledTo z table at) (sym e)
-    (longer_to before piece table at at s (subst (λ z. IsAfterWhite (drop at z) (drop at z)) e (at_once (drop at text) dark)) (subst (λ z. at ≤ length z) e within))
+    longer_to text before piece table at at e s (at_once (drop at text) dark) (omega (arith, s.within, ap length e, length-append before piece))
 
 pub pending_before : (text before piece left : List ℕ) (at : ℕ) (p : Pending) → text ≡ before ++ piece → left ≡ drop at text → at ≤ length before → IsPendingIn (drop at before) p → IsPendingBefore left piece p
 pending_before text before piece left at p e f le is = (drop at before, f ∙ ap (drop at) e ∙ drop-append-le at before piece le, is)

@@ -21,9 +21,7 @@ begun_feed : (b : ℕ) (before rest : List ℕ) → BeginsLine (b ∷ before) �
 begun_feed b before rest (inl e) none = cc
 begun_feed b before rest (inr (lines, e)) none =
     let all : feeds ((lines ++ 10 ∷ []) ++ rest) ≡ 0 = ap (λ z. feeds (z ++ rest)) (sym e) ∙ none in
-    let two : feeds ((lines ++ 10 ∷ []) ++ rest) ≡ feeds (lines ++ 10 ∷ []) + feeds rest = feeds-append (lines ++ 10 ∷ []) rest in
-    let one : feeds (lines ++ 10 ∷ []) ≡ feeds lines + 1 = feeds-append lines (10 ∷ []) in
-    absurd (omega (arith, all, two, one))
+    absurd (omega (arith, feeds-append (lines ++ 10 ∷ []) rest, feeds-append lines (10 ∷ [])))
 
 -- the line of a place begins at one place
 one_begin : (a left b other : List ℕ) → a ++ left ≡ b ++ other → BeginsLine a → BeginsLine b → feeds left ≡ 0 → feeds other ≡ 0 → a ≡ b
@@ -39,10 +37,8 @@ one_begin (x ∷ a) left (y ∷ b) other e begins there none neither =
 ended_feed : (y : ℕ) (right after : List ℕ) → EndsLine (y ∷ right ++ after) → feeds (y ∷ right) ≡ 0 → ⊥
 ended_feed y right after (inl e) none = cc
 ended_feed y right after (inr (lines, e)) none =
-    let first : y ≡ 10 = same_head y 10 (right ++ after) lines e in
-    let all : feeds (10 ∷ right) ≡ 0 = ap (λ z. feeds (z ∷ right)) (sym first) ∙ none in
-    let two : feeds (10 ∷ right) ≡ 1 + feeds right = feeds-append (10 ∷ []) right in
-    absurd (omega (arith, all, two))
+    let all : feeds (10 ∷ right) ≡ 0 = rw (same_head y 10 (right ++ after) lines e) at none in
+    absurd (omega (arith, feeds-append (10 ∷ []) right))
 
 one_end : (right a other b : List ℕ) → right ++ a ≡ other ++ b → EndsLine a → EndsLine b → feeds right ≡ 0 → feeds other ≡ 0 → right ≡ other
 one_end [] a [] b e ends there none neither = refl
@@ -50,29 +46,22 @@ one_end [] a (y ∷ other) b e ends there none neither = absurd (ended_feed y ot
 one_end (x ∷ right) a [] b e ends there none neither = absurd (ended_feed x right a (subst EndsLine (sym e) there) none)
 one_end (x ∷ right) a (y ∷ other) b e ends there none neither =
     let first : x ≡ y = same_head x y (right ++ a) (other ++ b) e in
-    let some : feeds (x ∷ right) ≡ feeds (x ∷ []) + feeds right = feeds-append (x ∷ []) right in
-    let more : feeds (y ∷ other) ≡ feeds (y ∷ []) + feeds other = feeds-append (y ∷ []) other in
-    let later : right ≡ other = one_end right a other b (same_tail x y (right ++ a) (other ++ b) e) ends there (omega (arith, some, none)) (omega (arith, more, neither)) in
+    let later : right ≡ other = one_end right a other b (same_tail x y (right ++ a) (other ++ b) e) ends there (omega (arith, feeds-append (x ∷ []) right)) (omega (arith, feeds-append (y ∷ []) other)) in
     cc
 
 -- the bytes before a place, and those from it on
 split : (text before left right after : List ℕ) (place : ℕ) → text ≡ before ++ (left ++ (right ++ after)) → place ≡ length before + length left →
     (take place text ≡ before ++ left) × (drop place text ≡ right ++ after)
 split text before left right after place parts is =
-    let n : place ≡ length (before ++ left) = is ∙ sym (length-append before left) in
-    let t : text ≡ (before ++ left) ++ (right ++ after) = parts ∙ sym (append_assoc before left (right ++ after)) in (
-      ap (λ k. take k text) n ∙ ap (take (length (before ++ left))) t ∙ take-append_seam (before ++ left) (right ++ after),
-      ap (λ k. drop k text) n ∙ ap (drop (length (before ++ left))) t ∙ drop-append_seam (before ++ left) (right ++ after),
-    )
+    rw (parts, is, ← append_assoc before left (right ++ after), ← length-append before left)
+    (take-append_seam (before ++ left) (right ++ after), drop-append_seam (before ++ left) (right ++ after))
 
 same_fields : (l c b e m d f g : ℕ) → l ≡ m → c ≡ d → b ≡ f → e ≡ g →
     ◌≡◌ {A = Position} (record { line = l; column = c; begin = b; end = e }) (record { line = m; column = d; begin = f; end = g })
 same_fields l c b e m d f g p q r s = cc
 
 no_left : (left right : List ℕ) → feeds (left ++ right) ≡ 0 → (feeds left ≡ 0) × (feeds right ≡ 0)
-no_left left right none =
-    let both : feeds (left ++ right) ≡ feeds left + feeds right = feeds-append left right in
-    (omega (arith, both, none), omega (arith, both, none))
+no_left left right none = (omega (arith, feeds-append left right), omega (arith, feeds-append left right))
 
 pub one_position : (text : List ℕ) (place : ℕ) (a b : Position) → IsPosition text place a → IsPosition text place b → a ≡ b
 one_position text place a b x y =

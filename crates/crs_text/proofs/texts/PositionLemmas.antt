@@ -39,12 +39,7 @@ position text place begin n p le within begins left short right ends line column
       left = drop begin front;
       right = take n behind;
       after = drop n behind;
-      parts = sym (
-          sym (append_assoc (take begin front) (drop begin front) (take n behind ++ drop n behind))
-          ∙ ap (λ z. z ++ (take n behind ++ drop n behind)) (take-append-drop begin front)
-          ∙ ap (λ z. front ++ z) (take-append-drop n behind)
-          ∙ take-append-drop place text
-          );
+      parts = rw (take-append-drop n behind, ← append_assoc (take begin front) (drop begin front) behind, take-append-drop begin front, take-append-drop place text);
       is_place = omega (arith, length-take begin front, length-drop begin front, length-take place text);
       begins = begins;
       one_line = sum_by-append (λ b. cond (b == 10) 1 0) (drop begin front) (take n behind) ∙ omega (arith, left, right);

@@ -16,7 +16,7 @@ use Rattle.crs_text.proofs.tokens.TokenLemmas.{Shape, a_single, shape_of, shape_
 no_shape : (b : ℕ) → begins_token b ≡ false → shape_by b ≡ None
 no_shape b e = grind (arith, nat_tests)
 
-pub no_shape_at : (left : List ℕ) → BeginsNoToken left → shape_at left ≡ None
+no_shape_at : (left : List ℕ) → BeginsNoToken left → shape_at left ≡ None
 no_shape_at [] h = absurd h
 no_shape_at (b ∷ bs) h = no_shape b h
 
@@ -24,14 +24,14 @@ run_shape : (left run rest : List ℕ) → IsFirstRun left run rest → shape_at
 run_shape left run rest r = shape_at_start run rest left r.starts r.parts
 
 -- what a flaw begins with
-abbrev shape_for : Reason → Option Shape
+abbrev pub shape_for : Reason → Option Shape
 shape_for BadNumber = Some (a_single number)
 shape_for NumberRange = Some (a_single number)
 shape_for NotUtf8 = Some (a_single text)
 shape_for OpenText = Some (a_single text)
 shape_for r = None
 
-flaw_shape : (r : Reason) (left : List ℕ) (skip : ℕ) → IsFlaw r left skip → shape_at left ≡ shape_for r
+pub flaw_shape : (r : Reason) (left : List ℕ) (skip : ℕ) → IsFlaw r left skip → shape_at left ≡ shape_for r
 flaw_shape BadCharacter left skip f = no_shape_at left f.0
 flaw_shape BadNumber left skip f = run_shape left f.0 f.1 f.2
 flaw_shape NumberRange left skip f = run_shape left f.0 f.1 f.2

@@ -81,21 +81,18 @@ spelled-of (j ∷ ks) word k e =
       | false ↦ λ t f. spelled-of ks word k f
     ] refl e
 
--- whether two answers are the same
-abbrev same_keyword : Option Keyword → Option Keyword → Bool
-same_keyword None None = true
-same_keyword None (Some b) = false
-same_keyword (Some a) None = false
-same_keyword (Some a) (Some b) = sameb the_type a b
+-- whether the answer is this keyword
+abbrev answers : Option Keyword → Keyword → Bool
+answers None k = false
+answers (Some j) k = sameb the_type j k
 
-same_keyword-true : (a b : Option Keyword) → same_keyword a b ≡ true → a ≡ b
-same_keyword-true None None e = refl
-same_keyword-true (Some a) (Some b) e = ap Some (same_true the_type tt a b e)
-same_keyword-true a b e = cc
+answers-true : (o : Option Keyword) (k : Keyword) → answers o k ≡ true → o ≡ Some k
+answers-true None k e = cc
+answers-true (Some j) k e = ap Some (same_true the_type tt j k e)
 
 -- a keyword is the one of its spelling
 abbrev own : Keyword → Bool
-own k = same_keyword (keyword_of (spelling_of k)) (Some k)
+own k = answers (keyword_of (spelling_of k)) k
 
 owned : list_all own every_keyword ≡ true
 unfolding keyword_of
@@ -127,6 +124,6 @@ pub keyword-spelled : (k : Keyword) (word : List ℕ) →
     IsTrue (str_eq_ignore_ascii_case (spelling_of k) word) ↔ (keyword_of word ≡ Some k)
 keyword-spelled k word = (
   λ e. sym (same-keyword_of (spelling_of k) word (same-of (spelling_of k) word e))
-      ∙ same_keyword-true (keyword_of (spelling_of k)) (Some k) (passes own every_keyword k owned (listed k)),
+      ∙ answers-true (keyword_of (spelling_of k)) k (passes own every_keyword k owned (listed k)),
   spelled-by k word,
 )
