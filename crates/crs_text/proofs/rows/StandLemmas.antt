@@ -8,7 +8,8 @@ use Rattle.crs_text.specs.Items.{Item}
 use Rattle.crs_text.specs.Laid.{AreLaid, EndsIn}
 use Rattle.crs_text.specs.Rows.{rows}
 use Rattle.crs_text.specs.Tree.{StandsAt, TokenStands, AllStand, EachToken, IsTable}
-use Rattle.crs_text.specs.TextFault.{SpellsNode}
+use Rattle.crs_text.specs.Table.{Flat}
+use Rattle.crs_text.specs.Scan.{IsScanned}
 use Rattle.crs_text.specs.declared.table.Row.{Row}
 use Rattle.crs_text.proofs.texts.WrittenLemmas.{fronts_formed}
 
@@ -38,9 +39,9 @@ all_stand source (t ∷ ts) bytes left ends p =
     let at = cut_front source bytes p.2.white p.0 ends p.2.parts in
     (stands source t p.0 p.1 at p.3, all_stand source ts p.1 left (cut_front source p.0 (spelling t) p.1 at p.3.spelled) p.4)
 
-pub table_of_spelled : (source : List ℕ) (table : List Row) (item : Item) → SpellsNode source item → table ≡ rows 0 item → IsTable source table item
-table_of_spelled source table item s e = record {
-  rows = e;
+pub table_of_scanned : (source : List ℕ) (table : Flat) (s : IsScanned source table) → IsTable source table.rows s.0
+table_of_scanned source table (item, s, e) = record {
+  rows = ap (λ (f : Flat). f.rows) e;
   stand = subst (AllStand source) s.2.are (all_stand source s.0 source [] ([], refl) s.1);
   formed = subst (EachToken IsFormed) s.2.are (fronts_formed (length source) source [] s.0 s.1);
   laid = subst (AreLaid source) s.2.are (record { bytes = source; left = []; ends = ([], refl); fronts = s.1 });

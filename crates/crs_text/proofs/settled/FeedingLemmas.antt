@@ -4,8 +4,8 @@ use Rattle.std.proofs.lemmas.List.{append-nil, length-append, length-drop, lengt
 use Rattle.std.proofs.Math.Seq.{take-add}
 use Rattle.std.proofs.lemmas.Str.{IsUtf8-append}
 use Rattle.std.specs.List.{list_all, prefix_len}
-use Rattle.std.proofs.lemmas.List.Folds.{list_all-append}
-use Rattle.std.proofs.lemmas.List.Sums.{prefix_len-le-length}
+use Rattle.std.proofs.lemmas.List.Folds.{list_all-append, list_all_at}
+use Rattle.std.proofs.lemmas.List.Sums.{prefix_len-le-length, prefix_len_stops}
 use Rattle.std.proofs.lemmas.Bool.{and_parts}
 use Rattle.crs_decimal.specs.Prelude.{is_run_byte, is_run_start}
 use Rattle.crs_text.specs.Tokens as tokens
@@ -44,10 +44,7 @@ use Rattle.crs_text.proofs.tokens.LexedLemmas.{prefix_taken, quote_behind}
 -- ---- runs
 
 all_short : (test : ℕ → Bool) (xs : List ℕ) → prefix_len test xs < length xs → list_all test xs ≡ false
-all_short test [] lt = absurd (omega arith)
-all_short test (x ∷ xs) lt =
-    elim (test x) as (λ v. cond v (1 + prefix_len test xs) 0 < suc (length xs) → (v && list_all test xs) ≡ false)
-    [ true ↦ λ k. all_short test xs (omega arith) | false ↦ λ k. refl ] lt
+all_short test xs lt = list_all_at test xs (prefix_len test xs) 0 lt (prefix_len_stops test xs 0 lt)
 
 pub all_full : (test : ℕ → Bool) (xs : List ℕ) → length xs ≤ prefix_len test xs → list_all test xs ≡ true
 all_full test xs le = ap (list_all test) (sym (take_all (prefix_len test xs) xs le)) ∙ prefix_taken test xs
@@ -202,13 +199,9 @@ held_at_end text at le ts = nothing_held (length text) ts (drop at text) (drop_a
 
 -- ---- what stays pending
 
-stops_all : (test : ℕ → Bool) (rest : List ℕ) → rest ≢ [] → StopsAt test rest → list_all test rest ≡ false
-stops_all test [] some s = absurd (some refl)
-stops_all test (b ∷ bs) some s = rw s refl
-
 all_behind : (test : ℕ → Bool) (raw rest : List ℕ) → rest ≢ [] → StopsAt test rest → list_all test (raw ++ rest) ≡ true → ⊥
-all_behind test raw rest some s e =
-    true_not_false (list_all test rest) (and_parts (list_all test raw) (list_all test rest) (sym (list_all-append test raw rest) ∙ e)).1 (stops_all test rest some s)
+all_behind test raw [] some s e = absurd (some refl)
+all_behind test raw (b ∷ bs) some s e = true_not_false (test b) (and_parts _ (list_all test bs) (and_parts (list_all test raw) _ (sym (list_all-append test raw (b ∷ bs)) ∙ e)).1).0 s
 
 word_from_all : (left : List ℕ) → BeginsWith is_letter left → list_all is_word_byte left ≡ true → IsWord left
 word_from_all [] b e = absurd b
@@ -220,25 +213,22 @@ word_held left p total within ts =
     (record { spelled = sym (append-nil left); formed = word_from_all left p.0 p.1; ends = tt; placed = omega arith })
     (λ some. some refl)
 
-module _ (left : List ℕ) (begins : BeginsWith is_run_start left) (taken : list_all is_run_byte left ≡ true) where
+module _ (left : List ℕ) (run : IsPendingIn left pending.Run) where
   run_shape : shape_at left ≡ Some (a_single number)
-  run_shape = shape_at_start left [] left begins (sym (append-nil left))
+  run_shape = shape_at_start left [] left run.0 (sym (append-nil left))
 
   run_no_token : (total : ℕ) (t : Token) (rest : List ℕ) → FormsSettled total t left rest → shape_of t ≡ a_single number → ⊥
-  run_no_token total (single number place raw) rest f e = all_behind is_run_byte raw rest f.settled f.forms.ends (ap (list_all is_run_byte) (sym f.forms.spelled) ∙ taken)
+  run_no_token total (single number place raw) rest f e = all_behind is_run_byte raw rest f.settled f.forms.ends (ap (list_all is_run_byte) (sym f.forms.spelled) ∙ run.1)
   run_no_token total t rest f e = absurd cc
 
   run_no_flaw : (r : Reason) (k : ℕ) → IsFlaw r left k → ¬ (IsFlawSettled r left)
   run_no_flaw NotUtf8 k f s = let e = sym run_shape ∙ ap shape_at f.2 in absurd cc
   run_no_flaw r k f s = let e = sym run_shape ∙ flaw_shape r left k f in grind arith
 
-  run_held_in : IsUnsettledIn left
-  run_held_in total within ts =
+  pub run_held : IsUnsettledIn left
+  run_held total within ts =
       held_without total left ts
       (λ t rest f. run_no_token total t rest f (some_shape (shape_of t) (a_single number) (sym (Forms-shape total t left rest f.forms) ∙ run_shape))) run_no_flaw
-
-pub run_held : (left : List ℕ) → IsPendingIn left pending.Run → IsUnsettledIn left
-run_held left p = run_held_in left p.0 p.1
 
 module _ (left : List ℕ) (quote : left ≡ 34 ∷ drop 1 left) (n : ℕ) (o : IsOpenTo (drop 1 left) n) (front : IsUtf8Front (drop 1 left)) where
   text_shape : shape_at left ≡ Some (a_single tokens.text)
@@ -290,12 +280,9 @@ run_stays left before piece e p le =
     let longer = longer_run is_run_start is_run_byte before piece p le in
     rw e (longer, run_held (before ++ piece) longer, rw append-nil at (dark_start (before ++ piece) [] longer.0))
 
-quote_dark : (left : List ℕ) → left ≡ 34 ∷ drop 1 left → StopsAt is_white left
-quote_dark left e = subst (StopsAt is_white) (sym e) refl
-
 pub text_stays : (left : List ℕ) (inside valid : ℕ) → left ≡ 34 ∷ drop 1 left → IsOpenTo (drop 1 left) inside → IsValidTo (drop 1 left) valid × IsUtf8Front (drop 1 left)
     → StaysPending left (pending.Text inside valid)
-text_stays left inside valid e o v = ((e, o.0, v.0), text_held left e inside o v.1, quote_dark left e)
+text_stays left inside valid e o v = ((e, o.0, v.0), text_held left e inside o v.1, subst (StopsAt is_white) (sym e) refl)
 
 longer_pending : (before piece : List ℕ) (inside valid : ℕ) → IsPendingIn before (pending.Text inside valid) → IsPendingIn (before ++ piece) (pending.Text inside valid)
 longer_pending [] piece inside valid p = absurd (let e : [] ≡ 34 ∷ [] = p.0 in cc)

@@ -1,13 +1,14 @@
 -- Where a run of bytes and where a quoted text ends.
-use Rattle.std.proofs.Common.{◌≡◌, ℕ, suc, Option, Some, None, ◌+◌, ◌<◌, ◌≤◌, not, length, take, drop, add-one, Bool, true, false, cond, eqb, List, [], ◌∷◌, ◌++◌, refl, sym, ap, subst, ◌∙◌, arith}
+use Rattle.std.proofs.Common.{get_or, ◌≡◌, ℕ, suc, Option, Some, None, ◌+◌, ◌<◌, ◌≤◌, not, length, take, drop, add-one, Bool, true, false, cond, eqb, List, [], ◌∷◌, ◌++◌, refl, sym, ap, subst, ◌∙◌, arith}
 use Rattle.std.specs.Prelude.{IsTrue, unwrap_or}
 use Rattle.bstr.specs.Find.{IsFirstByte, is_byte}
 use Rattle.std.proofs.lemmas.Bool.{eqb-true, and_parts, false_from_ne_true}
 use Rattle.std.proofs.lemmas.List.{append-nil, length-drop, drop-drop, take-append-drop, take_all}
-use Rattle.std.proofs.Math.Seq.{take-add}
+use Rattle.std.proofs.Math.Seq.{drop-cons, take-add}
 use Rattle.std.specs.List.{list_all, prefix_len}
 use Rattle.std.proofs.Math.Numerals.{one-add}
-use Rattle.std.proofs.lemmas.List.Sums.{prefix_len_is}
+use Rattle.std.proofs.lemmas.List.Sums.{prefix_len_is, prefix_len_stops}
+use Rattle.std.proofs.lemmas.Bool.Decides.{nat_tests}
 use Rattle.crs_text.specs.Quoted.{doubled, IsInside, StopsAt, is_quote, is_plain, IsShut}
 
 -- what two lists begin with, and what they go on with
@@ -105,12 +106,10 @@ plain_doubled (x ∷ xs) =
     ] refl
 
 first_quote : (xs : List ℕ) → prefix_len is_plain xs < length xs → drop (prefix_len is_plain xs) xs ≡ 34 ∷ drop (prefix_len is_plain xs + 1) xs
-first_quote [] h = absurd (omega arith)
-first_quote (x ∷ xs) h =
-    elim (eqb x 34) as (λ v. eqb x 34 ≡ v → cond (not v) (1 + prefix_len is_plain xs) 0 < suc (length xs) → drop (cond (not v) (1 + prefix_len is_plain xs) 0) (x ∷ xs) ≡ 34 ∷ drop (cond (not v) (1 + prefix_len is_plain xs) 0 + 1) (x ∷ xs)) [
-      | true ↦ λ e k. ap (λ z. z ∷ xs) (eqb-true x 34 e)
-      | false ↦ λ e k. let m : prefix_len is_plain xs < length xs = omega arith in rw (one-add, add-one) (rw add-one at (first_quote xs m))
-    ] refl h
+first_quote xs h =
+    let n = prefix_len is_plain xs in
+    let quote : get_or xs n 0 ≡ 34 = grind (arith, nat_tests, prefix_len_stops is_plain xs 0 h) in
+    rw (drop-cons xs n 0 h, quote, add-one)
 
 pub plain_first : (xs : List ℕ) (r : Option ℕ) → IsFirstByte (is_byte 34) xs r → unwrap_or r (length xs) ≡ prefix_len is_plain xs
 plain_first xs None none =

@@ -1,11 +1,11 @@
 -- The keywords of a word's length have the keyword that it is, if it is one; letter case doesn't count in it, and a word
 -- is a keyword exactly where it is its spelling, letter case aside.
-use Rattle.std.proofs.Common.{◌≡◌, ◌↔◌, ℕ, Bool, true, false, ◌||◌, ◌==◌, IsTrue, List, [], ◌∷◌, Option, Some, None, filter, length, map, if◌then◌else◌, refl, sym, ap, ◌∙◌}
+use Rattle.std.proofs.Common.{inl, inr, ◌≡◌, ◌↔◌, ℕ, Bool, true, false, ◌||◌, ◌==◌, IsTrue, List, [], ◌∷◌, Option, Some, None, filter, length, map, if◌then◌else◌, refl, sym, ap, ◌∙◌}
 use Rattle.std.specs.List.{list_all, list_any}
 use Rattle.std.specs.Str.{bytes_eq, str_eq_ignore_ascii_case, str_to_ascii_lowercase}
 use Rattle.std.specs.Char.{to_ascii_lowercase}
 use Rattle.std.proofs.lemmas.List.{length-map}
-use Rattle.std.proofs.lemmas.Bool.{agree_below_at, eqb-false, and_parts}
+use Rattle.std.proofs.lemmas.Bool.{agree_below_at, cases_Bool, eqb-false, and_parts, false_from_ne_true}
 use Rattle.std.proofs.lemmas.Slice.Eq.{bytes_eq-Decides}
 use denote.Enum.Bare.{sameb, same_true}
 use denote.Enum.Declared.{rowss, tag_of}
@@ -41,28 +41,16 @@ same-keyword_of a b e = same-spelled every_keyword a b e
 
 -- The look-up
 
+other-length : (k : Keyword) (word : List ℕ) → (length (spelling_of k) == length word) ≡ false → str_eq_ignore_ascii_case (spelling_of k) word ≡ false
+other-length k word e = false_from_ne_true _ (λ f. eqb-false _ _ e (same-length (spelling_of k) word (same-of (spelling_of k) word f)))
+
 by-length : (ks : List Keyword) (word : List ℕ) →
     first_among (map spelled (filter (λ k. length (spelling_of k) == length word) ks)) word ≡ first_spelled ks word
 by-length [] word = refl
-by-length (k ∷ ks) word =
-    elim (length (spelling_of k) == length word)
-    as (λ b. (length (spelling_of k) == length word) ≡ b →
-    first_among (map spelled (if b then k ∷ among else among)) word ≡ first_spelled (k ∷ ks) word) [
-      | true ↦ λ e. ap (λ o. if str_eq_ignore_ascii_case (spelling_of k) word then Some k else o) (by-length ks word)
-      | false ↦ λ e. by-length ks word ∙ sym (ap (λ b. if b then Some k else first_spelled ks word) (other e))
-    ] refl
-  where
-    among : List Keyword
-    among = filter (λ j. length (spelling_of j) == length word) ks
-
-    other : (length (spelling_of k) == length word) ≡ false → str_eq_ignore_ascii_case (spelling_of k) word ≡ false
-    other e =
-        elim (str_eq_ignore_ascii_case (spelling_of k) word)
-        as (λ b. str_eq_ignore_ascii_case (spelling_of k) word ≡ b → b ≡ false) [
-          | true ↦ λ f. absurd (eqb-false (length (spelling_of k)) (length word) e
-              (same-length (spelling_of k) word (same-of (spelling_of k) word f)))
-          | false ↦ λ f. refl
-        ] refl
+by-length (k ∷ ks) word = elim (cases_Bool (length (spelling_of k) == length word)) [
+  | inl e ↦ rw (e, by-length ks word)
+  | inr e ↦ rw (e, by-length ks word, other-length k word e)
+]
 
 pub keyword_of-table : (word : List ℕ) → first_among (map spelled (of_length (length word))) word ≡ keyword_of word
 unfolding keyword_of
@@ -74,12 +62,10 @@ spelled-of : (ks : List Keyword) (word : List ℕ) (k : Keyword) → first_spell
     str_eq_ignore_ascii_case (spelling_of k) word ≡ true
 spelled-of [] word k e = cc
 spelled-of (j ∷ ks) word k e =
-    elim (str_eq_ignore_ascii_case (spelling_of j) word)
-    as (λ b. str_eq_ignore_ascii_case (spelling_of j) word ≡ b → (if b then Some j else first_spelled ks word) ≡ Some k →
-    str_eq_ignore_ascii_case (spelling_of k) word ≡ true) [
-      | true ↦ λ t f. let same : j ≡ k = cc in ap (λ i. str_eq_ignore_ascii_case (spelling_of i) word) (sym same) ∙ t
-      | false ↦ λ t f. spelled-of ks word k f
-    ] refl e
+    elim (cases_Bool (str_eq_ignore_ascii_case (spelling_of j) word)) [
+      | inl t ↦ let same : j ≡ k = cc (rw t at e) in rw (← same) t
+      | inr f ↦ spelled-of ks word k (rw f at e)
+    ]
 
 -- whether the answer is this keyword
 abbrev answers : Option Keyword → Keyword → Bool
@@ -109,11 +95,10 @@ passes : (test : Keyword → Bool) (ks : List Keyword) (k : Keyword) → list_al
     list_any (λ j. sameb the_type j k) ks ≡ true → test k ≡ true
 passes test [] k all e = cc
 passes test (j ∷ js) k all e =
-    elim (sameb the_type j k) as (λ b. sameb the_type j k ≡ b → (b || list_any (λ i. sameb the_type i k) js) ≡ true →
-    test k ≡ true) [
-      | true ↦ λ same f. ap test (sym (same_true the_type tt j k same)) ∙ (and_parts (test j) (list_all test js) all).0
-      | false ↦ λ other f. passes test js k (and_parts (test j) (list_all test js) all).1 f
-    ] refl e
+    elim (cases_Bool (sameb the_type j k)) [
+      | inl same ↦ rw (← same_true the_type tt j k same) (and_parts (test j) (list_all test js) all).0
+      | inr other ↦ passes test js k (and_parts (test j) (list_all test js) all).1 (rw other at e)
+    ]
 
 spelled-by : (k : Keyword) (word : List ℕ) → keyword_of word ≡ Some k →
     IsTrue (str_eq_ignore_ascii_case (spelling_of k) word)

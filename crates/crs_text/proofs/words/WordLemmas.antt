@@ -11,6 +11,8 @@ use Rattle.crs_text.specs.declared.keyword.Suspect.{Suspect}
 use Rattle.std.specs.Char.{to_ascii_lowercase}
 use Rattle.std.proofs.lemmas.Bool.{agree_below, agree_below_at, leb-true, and_parts}
 use Rattle.std.proofs.lemmas.Grind.{same_number_lists}
+use Rattle.std.proofs.lemmas.List.Sums.{AllPass-from_list_all}
+use Rattle.std.proofs.Math.Numerals.{one-add}
 use Rattle.std.specs.List.{list_all, prefix_len}
 use Rattle.crs_text.specs.declared.keyword.Keyword.{Keyword}
 use Rattle.crs_text.specs.Keywords.{spelling_of, every_keyword, keyword_of}
@@ -55,17 +57,8 @@ tested a b = (λ e. search rules, λ e. search rules)
 
 -- Spellings in capitals
 
-abbrev all_capitals : List ℕ → Bool
-all_capitals [] = true
-all_capitals (x ∷ xs) = is_capital x && all_capitals xs
-
-are_capitals : (word : List ℕ) → all_capitals word ≡ true → AreCapitals word
-are_capitals [] e k less = absurd (omega arith)
-are_capitals (x ∷ xs) e zero less = (and_parts (is_capital x) (all_capitals xs) e).0
-are_capitals (x ∷ xs) e (suc k) less = are_capitals xs (and_parts (is_capital x) (all_capitals xs) e).1 k (omega arith)
-
 abbrev in_capitals : Keyword → Bool
-in_capitals k = all_capitals (spelling_of k)
+in_capitals k = list_all is_capital (spelling_of k)
 
 all_in_capitals : list_all in_capitals every_keyword ≡ true
 all_in_capitals = refl
@@ -76,7 +69,7 @@ are_spellings test [] e = tt
 are_spellings test (k ∷ ks) e =
     let later = are_spellings test ks (and_parts (in_capitals k) (list_all in_capitals ks) e).1 in
     elim (test k) as (λ b. AreSpellings (map spelled (if b then k ∷ filter test ks else filter test ks))) [
-      | true ↦ (are_capitals (spelling_of k) (and_parts (in_capitals k) (list_all in_capitals ks) e).0, later)
+      | true ↦ (λ i less. AllPass-from_list_all is_capital (spelling_of k) (and_parts (in_capitals k) (list_all in_capitals ks) e).0 i 0 less, later)
       | false ↦ later
     ]
 
@@ -121,11 +114,7 @@ pairs : (h : ℕ → ℕ → ℕ) → ((a b : ℕ) → not (top 7 (h a b)) ≡ (
     prefix_len (λ x. not (top 7 x)) (zip2 h (map (λ b. bit_and b 223) bs) cs) ≡ same_front bs cs
 pairs h is [] cs = refl
 pairs h is (b ∷ bs) [] = refl
-pairs h is (b ∷ bs) (c ∷ cs) = ap₂ (λ t n. cond t (1 + n) 0) (is (bit_and b 223) c) (pairs h is bs cs) ∙ counted_on (bit_and b 223 == c)
-  where
-    counted_on : (t : Bool) → cond t (1 + same_front bs cs) 0 ≡ cond t (suc (same_front bs cs)) 0
-    counted_on true = omega arith
-    counted_on false = refl
+pairs h is (b ∷ bs) (c ∷ cs) = ap₂ (λ t n. cond t (1 + n) 0) (is (bit_and b 223) c) (pairs h is bs cs) ∙ rw one-add
 
 pub paired : (h : ℕ → ℕ → ℕ) → ((a b : ℕ) → not (top 7 (h a b)) ≡ (a == b)) → (bs cs : List ℕ) (r : ℕ) → length bs ≡ 16 → length cs ≡ 16 →
     r ≡ first_set (mask_l (map (top 7) (zip2 h (zip2 bit_and bs (replicate 16 223)) cs)) % 2 ^ 64) → r ≡ same_front bs cs
