@@ -55,16 +55,13 @@ placed : (text : List ℕ) (at : ℕ) → at ≤ length text → at + length (dr
 placed text at le = omega (arith, length-drop at text)
 
 module _ (text : List ℕ) (at : ℕ) (lt : at < length text) where
-  private_le : at ≤ length text
-  private_le = omega arith
-
   further : (n : ℕ) → drop n (drop at text) ≡ drop (at + n) text
   further n = drop-drop n at text
 
   single_at : (kind : Kind) (raw : List ℕ) (n : ℕ) → StandsBefore kind raw (drop at text) (drop n (drop at text)) → Forms (length text) (single kind at raw) (drop at text) (drop (at + n) text)
   single_at kind raw n s =
       subst (λ z. Forms (length text) (single kind at raw) (drop at text) z) (further n)
-      (record { spelled = s.spelled; formed = s.formed; ends = s.ends; placed = placed text at private_le })
+      (record { spelled = s.spelled; formed = s.formed; ends = s.ends; placed = placed text at (omega arith) })
 
   single_found : (kind : Kind) (raw : List ℕ) (n : ℕ) → StandsBefore kind raw (drop at text) (drop n (drop at text)) → n ≤ length (drop at text) → IsSingleAt text at (item_kind kind) raw n
   single_found kind raw n s le = record { of_kind = kind; is_kind = refl; forms = single_at kind raw n s; within = omega (arith, le, length-drop at text) }
@@ -85,7 +82,7 @@ module _ (text : List ℕ) (at : ℕ) (lt : at < length text) where
   opening_at square l = record { spelled = l ∙ ap (λ (z : List ℕ). opening_byte square ∷ z) (further 1); formed = tt; ends = tt; placed = tt }
 
   pub closing_at : (square : Bool) → IsLexed (drop at text) (lexed.Closing square) → Forms (length text) (closing at square) (drop at text) (drop (at + 1) text)
-  closing_at square l = record { spelled = l ∙ ap (λ (z : List ℕ). closing_byte square ∷ z) (further 1); formed = tt; ends = tt; placed = placed text at private_le }
+  closing_at square l = record { spelled = l ∙ ap (λ (z : List ℕ). closing_byte square ∷ z) (further 1); formed = tt; ends = tt; placed = placed text at (omega arith) }
 
 -- ---- from place to place
 

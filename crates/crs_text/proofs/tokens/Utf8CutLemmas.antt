@@ -33,15 +33,9 @@ IsCut bytes = ⊥
 abbrev pub HasNoFront : List ℕ → Type 0
 HasNoFront bytes = (w : ℕ) → 0 < w → ¬ (IsUtf8 (take w bytes))
 
--- the tests of `utf8_error_len`
-abbrev lead_test : ℕ → Bool
-lead_test x = is_in_range 194 244 x
-
+-- the test of `utf8_error_len` on a second byte
 abbrev second_test : ℕ → ℕ → Bool
 second_test x y = is_in_range (second_byte_min x) (second_byte_max x) y
-
-abbrev next_test : ℕ → Bool
-next_test z = is_in_range 128 191 z
 
 second_said : (x y : ℕ) → second_test x y ≡ true → IsSecond x y
 second_said x y e = record {
@@ -55,18 +49,18 @@ second_said x y e = record {
 second_tests : (x y : ℕ) → IsSecond x y → second_test x y ≡ true
 second_tests x y s = let a = s.follows in let b = s.long_three in let c = s.no_surrogate in let d = s.long_four in let e = s.in_range in grind (arith, nat_tests)
 
-lead_tests : (x : ℕ) → IsLead x → lead_test x ≡ true
-lead_tests x h = grind (arith, nat_tests)
+in_range : (low high x : ℕ) → (low ≤ x) × (x ≤ high) → is_in_range low high x ≡ true
+in_range low high x h = grind (arith, nat_tests)
 
-next_tests : (z : ℕ) → Follows z → next_test z ≡ true
-next_tests z h = grind (arith, nat_tests)
+in_range_said : (low high x : ℕ) → is_in_range low high x ≡ true → (low ≤ x) × (x ≤ high)
+in_range_said low high x e = (grind (arith, nat_tests), grind (arith, nat_tests))
 
 pub error_len_from_IsCut : (bytes : List ℕ) → IsCut bytes → utf8_error_len bytes ≡ None
 unfolding utf8_error_len
 error_len_from_IsCut [] h = refl
-error_len_from_IsCut (x ∷ []) h = rw (lead_tests x h) refl
-error_len_from_IsCut (x ∷ y ∷ []) h = rw (lead_tests x h.0, second_tests x y h.1) refl
-error_len_from_IsCut (x ∷ y ∷ z ∷ []) h = rw (lead_tests x h.0, second_tests x y h.1, next_tests z h.2) refl
+error_len_from_IsCut (x ∷ []) h = rw (in_range 194 244 x h) refl
+error_len_from_IsCut (x ∷ y ∷ []) h = rw (in_range 194 244 x h.0, second_tests x y h.1) refl
+error_len_from_IsCut (x ∷ y ∷ z ∷ []) h = rw (in_range 194 244 x h.0, second_tests x y h.1, in_range 128 191 z (omega arith, omega arith)) refl
 error_len_from_IsCut (x ∷ y ∷ z ∷ w ∷ more) h = absurd h
 
 -- None comes only of a test that passed
@@ -74,36 +68,28 @@ when_none : {A : Type 0} (b : Bool) (y : A) (o : Option A) → cond b o (Some y)
 when_none true y o e = (refl, e)
 when_none false y o e = cc
 
-lead_said : (x : ℕ) → lead_test x ≡ true → IsLead x
-lead_said x e = (grind (arith, nat_tests), grind (arith, nat_tests))
-
-next_said : (z : ℕ) → next_test z ≡ true → Follows z
-next_said z e = (grind (arith, nat_tests), grind (arith, nat_tests))
-
 never_none : (a b c : Bool) → cond {A = Option ℕ} a (cond b (cond c (Some 3) (Some 2)) (Some 1)) (Some 1) ≢ None
-never_none false b c e = cc
-never_none true false c e = cc
-never_none true true false e = cc
-never_none true true true e = cc
+never_none a b c = grind arith
 
 four_no_cut : (bytes : List ℕ) → 4 ≤ length bytes → utf8_error_len bytes ≢ None
 unfolding utf8_error_len
 four_no_cut bytes long e =
     let n = length bytes in
-    never_none (lead_test (get_or bytes 0 0)) (second_test (get_or bytes 0 0) (get_or bytes 1 0)) (next_test (get_or bytes 2 0))
+    never_none (is_in_range 194 244 (get_or bytes 0 0)) (second_test (get_or bytes 0 0) (get_or bytes 1 0)) (is_in_range 128 191 (get_or bytes 2 0))
     (rw (ne_eqb n 0 (omega arith), le-ltb n 2 (omega arith), le-ltb n 3 (omega arith), le-ltb n 4 (omega arith)) at e)
 
 pub IsCut-from_error_len : (bytes : List ℕ) → 0 < length bytes → utf8_error_len bytes ≡ None → IsCut bytes
 unfolding utf8_error_len
 IsCut-from_error_len [] some e = absurd (omega arith)
-IsCut-from_error_len (x ∷ []) some e = lead_said x (when_none _ _ _ e).0
+IsCut-from_error_len (x ∷ []) some e = in_range_said 194 244 x (when_none _ _ _ e).0
 IsCut-from_error_len (x ∷ y ∷ []) some e =
     let one = when_none _ _ _ e in
-    (lead_said x one.0, second_said x y (when_none _ _ _ one.1).0)
+    (in_range_said 194 244 x one.0, second_said x y (when_none _ _ _ one.1).0)
 IsCut-from_error_len (x ∷ y ∷ z ∷ []) some e =
-    let one = when_none (lead_test x) 1 _ e in
+    let one = when_none (is_in_range 194 244 x) 1 _ e in
     let two = when_none _ _ _ one.1 in
-    (lead_said x one.0, second_said x y two.0, next_said z (when_none _ _ _ two.1).0)
+    let last = in_range_said 128 191 z (when_none _ _ _ two.1).0 in
+    (in_range_said 194 244 x one.0, second_said x y two.0, (omega arith, omega arith))
 IsCut-from_error_len (x ∷ y ∷ z ∷ w ∷ more) some e = absurd (four_no_cut (x ∷ y ∷ z ∷ w ∷ more) (omega arith) e)
 
 -- ---- from ranges to UTF-8 and back
