@@ -1,11 +1,10 @@
 -- The rows of a tree, one by one: what an item's row says, and where its arguments and the argument
 -- after it are.
-use Rattle.std.proofs.Common.{◌≡◌, ℕ, zero, suc, ◌+◌, ◌≤◌, ◌<◌, List, [], ◌∷◌, ◌++◌, length, drop, map, refl, sym, ◌∙◌, ap, subst, append_assoc, length-append, arith}
+use Rattle.std.proofs.Common.{◌≡◌, ℕ, zero, suc, ◌≤◌, ◌<◌, List, [], ◌∷◌, ◌++◌, length, drop, map, refl, ap, append_assoc, length-append, arith}
 use Rattle.std.proofs.Math.Seq.{drop-append_seam}
 use Rattle.std.proofs.lemmas.List.{append-nil, map-append}
-use Rattle.crs_text.specs.Tokens.{Kind, number, text, word}
+use Rattle.crs_text.specs.Tokens.{number, text, word}
 use Rattle.crs_text.specs.Items.{Item, leaf, node, Siblings, End, More, arguments, size_of, sizes, inside, inside_items}
-use Rattle.crs_text.specs.Table.{item_kind, leaf_row}
 use Rattle.crs_text.specs.Rows.{rows, rows_of_items, row_of}
 use Rattle.crs_text.specs.declared.table.Row.{Row}
 

@@ -1,5 +1,5 @@
 -- What the row at an item's number says of the tree.
-use Rattle.std.proofs.Common.{◌≡◌, ◌≢◌, ℕ, zero, suc, ◌+◌, ◌≤◌, ◌<◌, Bool, true, false, Option, Some, List, [], ◌∷◌, ◌++◌, length, get_or, take, drop, map, refl, sym, ◌∙◌, ap, subst, arith, length-drop, inl, inr}
+use Rattle.std.proofs.Common.{◌≡◌, ◌≢◌, ℕ, zero, suc, ◌+◌, ◌≤◌, ◌<◌, Option, Some, List, [], ◌∷◌, ◌++◌, length, get_or, take, drop, map, refl, sym, ◌∙◌, ap, subst, arith, length-drop, inl, inr}
 use Rattle.std.proofs.Math.ListN.{drop_of_length-le}
 use Rattle.std.proofs.Math.Seq.{drop-cons, take-append_seam}
 use Rattle.std.proofs.lemmas.Bool.{cases_lt}
@@ -7,7 +7,7 @@ use Rattle.std.proofs.lemmas.List.{length-map, map-append, get_or-map, get_or_pa
 use Rattle.crs_text.specs.Items.{Item, Siblings, End, More, arguments, count, first_of, rest_of, skip, size_of, here, HasId, IsAt}
 use Rattle.crs_text.specs.Rows.{rows, row_of}
 use Rattle.crs_text.specs.declared.table.Row.{Row}
-use Rattle.crs_text.proofs.rows.HereLemmas.{Here, items_at, row_at, heres, heres_in, Begins, Continues, IsLinked, AreLinked, length-rows, linked-heres, linked-drop, rows-heres, rows-heres_in, items-heres}
+use Rattle.crs_text.proofs.rows.HereLemmas.{Here, items_at, row_at, heres, Begins, Continues, IsLinked, AreLinked, length-rows, linked-heres, linked-drop, rows-heres, rows-heres_in, items-heres}
 
 -- the item of a number, and what follows it in the order in which the items begin
 record Spot (tree : Item) (id : ℕ) : Type 0 where

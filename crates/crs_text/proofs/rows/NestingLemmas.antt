@@ -12,7 +12,7 @@ use Rattle.crs_text.specs.Items as items
 use Rattle.crs_text.specs.Viable.{IsViable, open_after, opens, last_of, MayFollow}
 use Rattle.crs_text.specs.TextFault.{IsFlaw, IsStop, RefusesText, SpellsNode}
 use Rattle.crs_text.specs.declared.refusal.Reason.{Reason}
-use Rattle.crs_text.specs.declared.refusal.Reason.TheVariants.{BadCharacter, BadNumber, NumberRange, NotUtf8, OpenText, Unexpected, UnexpectedEnd, TooDeep}
+use Rattle.crs_text.specs.declared.refusal.Reason.TheVariants.{NotUtf8}
 use Rattle.crs_text.specs.declared.items.ItemKind.{ItemKind}
 use Rattle.crs_text.specs.Scan.{IsSingleAt}
 use Rattle.crs_text.specs.Innermost.{IsClosed, IsInnermost}

@@ -22,10 +22,7 @@ mutual
       sym (node_tokens (tokens first) (others_tokens others) (closing c s) a) ∙ (cc) ∙ node_tokens (tokens first') (others_tokens others') (closing c' s') b in
       let one = item-cancel first first' _ _ (behind-others others c s a) (behind-others others' c' s' b) inner in
       let rest = others-cancel others others' c c' s s' a b one.1 in
-      let one_first = one.0 in
-      let is = rest.0 in
-      let cs = rest.1 in
-      (cc, rest.2)
+      (cc (one.0, rest.0, rest.1), rest.2)
 
   others-cancel : (is js : Siblings) (c c' : ℕ) (s s' : Bool) (a b : List Token) →
       others_tokens is ++ closing c s ∷ a ≡ others_tokens js ++ closing c' s' ∷ b → (is ≡ js) × (c ≡ c') × (a ≡ b)
@@ -35,9 +32,7 @@ mutual
       sym (append_assoc (tokens i) (others_tokens is) (closing c s ∷ a)) ∙ (cc) ∙ append_assoc (tokens j) (others_tokens js) (closing c' s' ∷ b) in
       let one = item-cancel i j _ _ (behind-others is c s a) (behind-others js c' s' b) inner in
       let rest = others-cancel is js c c' s s' a b one.1 in
-      let one_first = one.0 in
-      let iss = rest.0 in
-      (cc, rest.1, rest.2)
+      (cc (one.0, rest.0), rest.1, rest.2)
   others-cancel is js c c' s s' a b e = cc
 
 pub one_node : (i j : Item) (ts : List Token) → AreNode i ts → AreNode j ts → i ≡ j

@@ -3,7 +3,7 @@ use Rattle.std.proofs.Common.{◌≡◌, ℕ, Bool, true, false, Option, Some, N
 use Rattle.std.specs.List.{fold}
 use Rattle.std.proofs.lemmas.List.{append-nil}
 use Rattle.std.proofs.lemmas.List.Sums.{fold-append}
-use Rattle.crs_text.specs.Tokens.{Kind, number, text, word, Token, single, comma, opening, closing}
+use Rattle.crs_text.specs.Tokens.{Kind, word, Token, single, comma, opening, closing}
 use Rattle.crs_text.specs.Items.{Item, leaf, Siblings, More, tokens, others_tokens}
 use Rattle.crs_text.specs.State.{Frame, State, wants, worded, after, start, gather, only_if, same_square, behind_leaf, behind_item, step, move, run, before_tokens, frames_tokens, unread}
 

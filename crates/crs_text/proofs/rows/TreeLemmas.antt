@@ -1,13 +1,13 @@
 -- A table over its source gives back the item whose rows it has, and the source has each row's raw
 -- bytes.
-use Rattle.std.proofs.Common.{◌≡◌, ℕ, zero, suc, ◌+◌, ◌≤◌, ◌<◌, List, [], ◌∷◌, ◌++◌, length, get_or, take, drop, map, refl, sym, ◌∙◌, ap, subst, arith}
+use Rattle.std.proofs.Common.{◌≡◌, ℕ, suc, ◌+◌, ◌≤◌, ◌<◌, List, [], ◌∷◌, ◌++◌, length, take, drop, map, refl, sym, ◌∙◌, ap, subst, arith}
 use Rattle.std.proofs.lemmas.List.{map-append, get_or-map}
 use Rattle.std.proofs.lemmas.List.Elements.{All-nil, All-cons, All-append, All-get_or}
 use Rattle.std.specs.List.{All}
 use Rattle.crs_decimal.specs.Prelude.{IsInBounds, IsFault}
 use Rattle.crs_decimal.specs.declared.fault.NumberFault.{NumberFault}
 use Rattle.crs_decimal.specs.declared.fault.NumberFault.TheVariants.{Malformed, Range}
-use Rattle.crs_text.specs.Tokens.{Kind, number, text, word, Token, single, comma, opening, closing, IsFormed}
+use Rattle.crs_text.specs.Tokens.{Kind, number, word, Token, single, comma, opening, closing, IsFormed}
 use Rattle.crs_text.specs.Items.{Item, leaf, node, Siblings, End, More, tokens, others_tokens, first_of, kind_of_item, raw_of, place_of, here, HasId}
 use Rattle.crs_text.specs.Table.{item_kind, leaf_row}
 use Rattle.crs_text.specs.Rows.{rows, rows_of_items, row_of}

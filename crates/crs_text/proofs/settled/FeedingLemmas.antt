@@ -1,6 +1,6 @@
 -- One settled token more, or the settled reason why nothing goes on, or nothing settled; and what stays pending.
-use Rattle.std.proofs.Common.{◌≡◌, ℕ, suc, ◌+◌, ◌-◌, ◌≤◌, ◌<◌, ◌&&◌, Bool, true, false, cond, List, [], ◌∷◌, ◌++◌, length, take, drop, Option, Some, None, refl, sym, ap, subst, ◌∙◌, append_assoc, arith, inl, inr, ◌≢◌, IsUtf8, MatchBool}
-use Rattle.std.proofs.lemmas.List.{append-nil, length-append, length-drop, length-take, drop_all, drop-drop, drop_at, take_all, take-append-drop, take-append-le, drop-append-le}
+use Rattle.std.proofs.Common.{◌≡◌, ℕ, ◌+◌, ◌-◌, ◌≤◌, ◌<◌, Bool, true, false, List, [], ◌∷◌, ◌++◌, length, take, drop, Option, Some, None, refl, sym, ap, subst, ◌∙◌, append_assoc, arith, inl, inr, ◌≢◌, IsUtf8, MatchBool}
+use Rattle.std.proofs.lemmas.List.{append-nil, length-append, length-drop, drop_all, drop-drop, take_all, take-append-drop, take-append-le, drop-append-le}
 use Rattle.std.proofs.Math.Seq.{take-add}
 use Rattle.std.proofs.lemmas.Str.{IsUtf8-append}
 use Rattle.std.specs.List.{list_all, prefix_len}
@@ -12,7 +12,7 @@ use Rattle.crs_text.specs.Tokens as tokens
 use Rattle.crs_text.specs.Tokens.{number, word, Token, single, comma, opening, closing, is_white, is_letter, is_word_byte, IsWord, Forms, IsAfterWhite}
 use Rattle.crs_text.specs.Quoted.{StopsAt, BeginsWith, doubled, is_quote, IsInside, IsShut, IsShutAt}
 use Rattle.crs_text.specs.Utf8.{IsUtf8Front}
-use Rattle.crs_text.specs.TextFault.{BeginsNoToken, IsFlaw, IsStop, IsTextFault}
+use Rattle.crs_text.specs.TextFault.{IsFlaw, IsStop, IsTextFault}
 use Rattle.crs_text.specs.Settled.{IsSettled, FormsSettled, SettledFronts, IsRunSettled, IsSettledStop, IsSettledRefusal, IsTakenSoFar}
 use Rattle.crs_text.specs.Feeding.{IsFlawSettled, IsLexedSettled, IsUnsettled, IsSettledTo, IsUnsettledAt, IsSettledFault, IsPendingIn, IsPendingBefore, StaysPending, IsUnsettledIn, IsInsideTo, IsOpenTo, IsValidTo, IsFedTo, IsFed, IsRefusalOf}
 use Rattle.crs_text.specs.declared.feeding.Held.{Held}

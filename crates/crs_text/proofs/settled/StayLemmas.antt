@@ -1,5 +1,5 @@
 -- What is settled stays settled under any bytes to come, and is one thing.
-use Rattle.std.proofs.Common.{ap₂, ◌≡◌, ℕ, ◌+◌, ◌≤◌, Bool, true, List, [], ◌∷◌, ◌++◌, length, refl, sym, ap, subst, ◌∙◌, append_assoc, arith, inl, inr, IsTrue, ◌≢◌}
+use Rattle.std.proofs.Common.{ap₂, ◌≡◌, ℕ, ◌+◌, ◌≤◌, Bool, List, [], ◌∷◌, ◌++◌, length, refl, sym, ap, subst, ◌∙◌, append_assoc, arith, inl, inr, IsTrue, ◌≢◌}
 use Rattle.std.specs.List.{list_all}
 use Rattle.std.proofs.lemmas.List.{append-nil, length-append}
 use Rattle.std.proofs.lemmas.List.Folds.{list_all-append}
@@ -89,14 +89,6 @@ forms_more total t left rest more f = record {
 pub all_append : (test : ℕ → Bool) (a b : List ℕ) → IsTrue (list_all test a) → IsTrue (list_all test b) → IsTrue (list_all test (a ++ b))
 all_append test a b p q = rw (list_all-append test a b, p, q) refl
 
-white_more : (bytes left more : List ℕ) → left ≢ [] → IsAfterWhite bytes left → IsAfterWhite (bytes ++ more) (left ++ more)
-white_more bytes left more some w = record {
-  white = w.white;
-  parts = ap (λ z. z ++ more) w.parts ∙ append_assoc w.white left more;
-  blank = w.blank;
-  ends = stops_more is_white left more some w.ends;
-}
-
 white_twice : (bytes left more further : List ℕ) → IsAfterWhite bytes left → IsAfterWhite (left ++ more) further → IsAfterWhite (bytes ++ more) further
 white_twice bytes left more further p q = record {
   white = p.white ++ q.white;
@@ -104,6 +96,9 @@ white_twice bytes left more further p q = record {
   blank = all_append is_white p.white q.white p.blank q.blank;
   ends = q.ends;
 }
+
+white_more : (bytes left more : List ℕ) → left ≢ [] → IsAfterWhite bytes left → IsAfterWhite (bytes ++ more) (left ++ more)
+white_more bytes left more some w = white_twice bytes left more (left ++ more) w (at_once (left ++ more) (stops_more is_white left more some w.ends))
 
 -- more bytes come after settled tokens
 pub fronts_longer : (total : ℕ) (ts : List Token) (bytes left more further : List ℕ) → SettledFronts total bytes ts left → IsAfterWhite (left ++ more) further

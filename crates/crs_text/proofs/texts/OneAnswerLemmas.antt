@@ -1,5 +1,5 @@
 -- A text is one node at most, or is refused with one number and place at most, and never both.
-use Rattle.std.proofs.Common.{◌≡◌, ℕ, ◌+◌, List, [], ◌∷◌, ◌++◌, length, refl, sym, ap, subst, ◌∙◌, append_assoc, arith, inl, inr}
+use Rattle.std.proofs.Common.{◌≡◌, ℕ, List, [], ◌∷◌, ◌++◌, length, refl, sym, ap, subst, ◌∙◌, append_assoc, arith, inl, inr}
 use Rattle.std.proofs.lemmas.List.{append-nil}
 use Rattle.crs_text.specs.Tokens.{Token, opening, Forms, Fronts, AreTokens}
 use Rattle.crs_text.specs.Items.{Item, AreNode}
@@ -80,29 +80,16 @@ spelled_not_refused bytes item n place p r =
         stop_no_node r.reason (length bytes) r.before r.left r.skip item r.stop (sym (front_none (length bytes) [] r.left tt f)) (subst (AreNode item) (sym (append-nil p.0) ∙ sym e) p.2)
     behind (t ∷ more, e, f) = let g = front_token (length bytes) t more [] r.left tt f in forms_some (length bytes) t [] g.0 g.1 refl
 
--- two fronts of viable tokens that stop: neither goes past the other
-module _ (bytes : List ℕ) where
-  same_stop : (r s : Reason) (ts us : List Token) (a b : List ℕ) (k m p q : ℕ) → ts ≡ us → a ≡ b → IsStop r (length bytes) ts a k → IsStop s (length bytes) us b m
-      → p + length a ≡ length bytes + k → q + length b ≡ length bytes + m → (reason_number r ≡ reason_number s) × (p ≡ q)
-  same_stop r s ts us a b k m p q e f x y u v =
-      let y2 : IsStop s (length bytes) ts a m = subst (λ z. IsStop s (length bytes) z a m) (sym e) (subst (λ z. IsStop s (length bytes) us z m) (sym f) y) in
-      let o = stop_one r s (length bytes) ts a k m x y2 in
-      let l : length a ≡ length b = ap length f in
-      let w : k ≡ m = o.1 in
-      (ap reason_number o.0, omega arith)
-
-  stops_alike : (r s : Reason) (ts us : List Token) (a b : List ℕ) (k m p q : ℕ) → Fronts (length bytes) bytes ts a → Fronts (length bytes) bytes us b → IsViable us
-      → IsStop r (length bytes) ts a k → IsStop s (length bytes) us b m → p + length a ≡ length bytes + k → q + length b ≡ length bytes + m
-      → GoesOn (length bytes) ts a us b → (reason_number r ≡ reason_number s) × (p ≡ q)
-  stops_alike r s ts us a b k m p q fa fb viable x y u v ([], e, f) =
-      same_stop r s ts us a b k m p q (sym (append-nil ts) ∙ sym e) (front_none (length bytes) a b (fronts_dark (length bytes) ts bytes a fa) f) x y u v
-  stops_alike r s ts us a b k m p q fa fb viable x y u v (t ∷ more, e, f) = absurd (no_further r (length bytes) ts us bytes a b k t more fa x e f viable)
+-- neither of two refusals goes past the other
+stops_alike : (bytes : List ℕ) (n m p q : ℕ) (x : RefusesText bytes n p) (y : RefusesText bytes m q) → GoesOn (length bytes) x.before x.left y.before y.left → (n ≡ m) × (p ≡ q)
+stops_alike bytes n m p q x y ([], e, f) =
+    let left : x.left ≡ y.left = front_none (length bytes) x.left y.left (fronts_dark (length bytes) x.before bytes x.left x.fronts) f in
+    let one = stop_one x.reason y.reason (length bytes) x.before x.left x.skip y.skip x.stop (rw (left, ← append-nil x.before, ← e) y.stop) in
+    (x.is_number ∙ ap reason_number one.0 ∙ sym y.is_number, omega (arith, x.is_place, y.is_place, one.1, ap length left))
+stops_alike bytes n m p q x y (t ∷ more, e, f) = absurd (no_further x.reason (length bytes) x.before y.before bytes x.left y.left x.skip t more x.fronts x.stop e f y.viable)
 
 pub refusal_one : (bytes : List ℕ) (n m p q : ℕ) → RefusesText bytes n p → RefusesText bytes m q → (n ≡ m) × (p ≡ q)
-refusal_one bytes n m p q x y =
-    elim (fronts_compare (length bytes) x.before y.before bytes x.left y.left x.fronts y.fronts) [
-      | inl g ↦ let o = stops_alike bytes x.reason y.reason x.before y.before x.left y.left x.skip y.skip p q x.fronts y.fronts y.viable x.stop y.stop x.is_place y.is_place g in
-          (x.is_number ∙ o.0 ∙ sym y.is_number, o.1)
-      | inr g ↦ let o = stops_alike bytes y.reason x.reason y.before x.before y.left x.left y.skip x.skip q p y.fronts x.fronts x.viable y.stop x.stop y.is_place x.is_place g in
-          (x.is_number ∙ sym o.0 ∙ sym y.is_number, sym o.1)
-    ]
+refusal_one bytes n m p q x y = elim (fronts_compare (length bytes) x.before y.before bytes x.left y.left x.fronts y.fronts) [
+  | inl g ↦ stops_alike bytes n m p q x y g
+  | inr g ↦ let one = stops_alike bytes m n q p y x g in (sym one.0, sym one.1)
+]

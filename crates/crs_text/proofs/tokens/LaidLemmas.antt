@@ -3,13 +3,13 @@
 use Rattle.std.proofs.Common.{◌≡◌, ℕ, suc, ◌+◌, ◌≤◌, ◌<◌, Bool, true, false, List, [], ◌∷◌, ◌++◌, length, get_or, take, drop, refl, sym, ap, subst, ◌∙◌, append_assoc, arith}
 use Rattle.std.proofs.lemmas.List.{append-nil, length-append, nil_from_length}
 use Rattle.std.proofs.Math.Seq.{drop-cons}
-use Rattle.crs_text.specs.Tokens.{number, text, word, Token, single, opening, closing, spelling, closing_byte, IsAfterWhite, Forms, Fronts}
+use Rattle.crs_text.specs.Tokens.{number, text, word, Token, single, opening, closing, spelling, IsAfterWhite, Forms, Fronts}
 use Rattle.crs_text.specs.Items.{Item, leaf, node, Siblings, End, More, tokens, others_tokens, count, first_of, here, HasId}
 use Rattle.crs_text.specs.Laid.{AreLaid, AreSquare, EndsIn, bytes_beside, bytes_of, bytes_of_rows}
 use Rattle.crs_text.specs.Rows.{rows, rows_of_items, row_of}
 use Rattle.crs_text.specs.Tree.{StandsAt}
 use Rattle.crs_text.specs.Written.{item_text, others_text}
-use Rattle.crs_text.specs.declared.items.ItemKind.TheVariants.{Number, Text, Word, Node}
+use Rattle.crs_text.specs.declared.items.ItemKind.TheVariants.{Node}
 use Rattle.crs_text.specs.declared.table.Row.{Row}
 use Rattle.crs_text.proofs.tokens.FrontsLemmas.{at_once}
 use Rattle.crs_text.proofs.rows.IdLemmas.{lt_from_has, rows_here}

@@ -1,5 +1,5 @@
 -- Where a run of bytes and where a quoted text ends.
-use Rattle.std.proofs.Common.{get_or, ◌≡◌, ℕ, suc, Option, Some, None, ◌+◌, ◌<◌, ◌≤◌, not, length, take, drop, add-one, Bool, true, false, cond, eqb, List, [], ◌∷◌, ◌++◌, refl, sym, ap, subst, ◌∙◌, arith}
+use Rattle.std.proofs.Common.{get_or, ◌≡◌, ℕ, Option, Some, None, ◌+◌, ◌<◌, ◌≤◌, not, length, take, drop, add-one, Bool, true, false, cond, eqb, List, [], ◌∷◌, ◌++◌, refl, sym, ap, subst, ◌∙◌, arith}
 use Rattle.std.specs.Prelude.{IsTrue, unwrap_or}
 use Rattle.bstr.specs.Find.{IsFirstByte, is_byte}
 use Rattle.std.proofs.lemmas.Bool.{eqb-true, and_parts, false_from_ne_true}

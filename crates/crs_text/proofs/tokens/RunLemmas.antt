@@ -1,6 +1,6 @@
 -- From sixteen lanes to the length of a run, and what quoted ASCII is.
-use Rattle.std.proofs.Common.{◌≡◌, ℕ, ◌+◌, ◌%◌, ◌^◌, ◌<◌, ◌≤◌, Bool, true, false, not, cond, eqb, List, [], ◌∷◌, ◌++◌, map, length, take, drop, Fits, w8, refl, sym, ap, ap₂, subst, ◌∙◌, arith, IsUtf8, get_or}
-use Rattle.std.proofs.lemmas.Bool.{agree_below, agree_below_at, eq-eqb, ne_eqb, and_parts, ltb-true}
+use Rattle.std.proofs.Common.{◌≡◌, ℕ, ◌+◌, ◌%◌, ◌^◌, ◌<◌, ◌≤◌, Bool, true, not, cond, eqb, List, [], ◌∷◌, ◌++◌, map, length, take, drop, Fits, w8, refl, sym, ap, ap₂, subst, ◌∙◌, arith, IsUtf8, get_or}
+use Rattle.std.proofs.lemmas.Bool.{agree_below, agree_below_at, and_parts, ltb-true}
 use Rattle.std.proofs.lemmas.Simd.{map-map, mask_l-mod, length-chunk, chunk-drop, first_set_mask_l}
 use Rattle.std.proofs.lemmas.List.{length-map, length-drop, length-take, get_or-take, drop-drop}
 use Rattle.std.proofs.lemmas.List.Folds.{prefix_len-append}
@@ -9,17 +9,13 @@ use Rattle.std.proofs.lemmas.Str.{IsUtf8-from_ascii}
 use Rattle.std.proofs.lemmas.Str.Ascii.{IsAscii-from_all}
 use Rattle.std.proofs.lemmas.Bool.Decides.{nat_tests}
 use Rattle.std.proofs.lemmas.List.Elements.{All-from_get_or}
-use Rattle.std.proofs.Math.Numerals.{one-add}
 use Rattle.std.proofs.Math.Seq.{drop-cons}
 use Rattle.std.specs.Str.{IsAscii}
-use Rattle.std.specs.Char.{is_ascii}
 use Rattle.std.specs.List.{prefix_len}
 use lib.Lanes.{chunk, mask_l, top, Each1}
-use Rattle.crs_text.specs.Tokens.{is_letter, is_word_byte}
 use Rattle.crs_text.specs.Quoted.{IsShutAt, StopsAt, is_plain, is_quote}
 use Rattle.crs_text.specs.Runs.{first_set, is_plain_ascii, IsClosing}
-use Rattle.crs_text.proofs.tokens.QuotedLemmas.{shut_at, within_at, same_head}
-use Rattle.crs_text.proofs.tokens.TokenLemmas.{letter_in_word}
+use Rattle.crs_text.proofs.tokens.QuotedLemmas.{shut_at, within_at}
 use Rattle.crs_text.proofs.tokens.Utf8Lemmas.{IsUtf8-at_quote}
 
 -- ---- lanes

@@ -16,7 +16,7 @@ use Rattle.crs_text.specs.Scan.{IsReached, IsPassed, IsTaken, IsStopped, IsStopp
 use Rattle.crs_text.specs.declared.fault.Fault.{Fault}
 use Rattle.crs_text.specs.declared.fault.Fault.TheVariants as faults
 use Rattle.crs_text.specs.declared.refusal.Reason.{Reason}
-use Rattle.crs_text.specs.declared.refusal.Reason.TheVariants.{BadCharacter, BadNumber, NumberRange, NotUtf8, OpenText, Unexpected, UnexpectedEnd, TooDeep}
+use Rattle.crs_text.specs.declared.refusal.Reason.TheVariants.{BadCharacter, NotUtf8, Unexpected, UnexpectedEnd, TooDeep}
 use Rattle.crs_text.specs.declared.items.ItemKind.TheVariants as kinds
 use Rattle.crs_text.specs.declared.lexing.Lexed.TheVariants as lexed
 use Rattle.crs_text.specs.declared.table.Opened.TheVariants as opened

@@ -2,7 +2,7 @@
 use Rattle.std.proofs.Common.{◌≡◌, ℕ, suc, ◌+◌, ◌≤◌, ◌<◌, Bool, true, Some, List, [], ◌∷◌, ◌++◌, length, refl, sym, ◌∙◌, ap, append_assoc, arith}
 use Rattle.std.proofs.lemmas.Bool.{lt-ltb}
 use Rattle.std.proofs.lemmas.List.{append-nil}
-use Rattle.crs_text.specs.Tokens.{number, text, word, Token, single, comma, opening, closing}
+use Rattle.crs_text.specs.Tokens.{number, word, Token, single, comma, opening, closing}
 use Rattle.crs_text.specs.Items.{Item, leaf, node, Siblings, End, More, tokens, others_tokens, depth, depths, IsNode, AreNode}
 use Rattle.crs_text.specs.Viable.{IsViable}
 use Rattle.crs_text.specs.State.{Frame, State, wants, worded, after, start, gather, behind_leaf, step, run}

@@ -1,5 +1,5 @@
 -- A word is one of capitals, letter case aside, where it is byte by byte; and the spellings are of capitals.
-use Rattle.std.proofs.Common.{◌≡◌, ℕ, zero, suc, ◌+◌, ◌≤◌, ◌%◌, ◌^◌, cond, nat_le, take, replicate, Fits, w8, ap₂, subst, Option, None, Some, ◌<◌, ◌↔◌, ◌==◌, ◌&&◌, ◌||◌, nat_eq, bit_and, IsTrue, filter, rules, not, Bool, true, false, if◌then◌else◌, List, [], ◌∷◌, length, map, get_or, refl, sym, ◌∙◌, ap, arith}
+use Rattle.std.proofs.Common.{◌≡◌, ℕ, zero, suc, ◌+◌, ◌≤◌, ◌%◌, ◌^◌, cond, nat_le, take, replicate, Fits, w8, ap₂, subst, Option, None, Some, ◌<◌, ◌↔◌, ◌==◌, ◌||◌, nat_eq, bit_and, IsTrue, filter, rules, not, Bool, true, false, if◌then◌else◌, List, [], ◌∷◌, length, map, get_or, refl, sym, ◌∙◌, ap, arith}
 use Rattle.std.proofs.Math.ListN.{get_or-map}
 use Rattle.std.proofs.lemmas.List.{length-map, take_all, take-take}
 use Rattle.std.proofs.lemmas.Simd.{zip2_splat, length-zip2, mask_l-mod, first_set_mask_l}
@@ -16,7 +16,7 @@ use Rattle.std.proofs.Math.Numerals.{one-add}
 use Rattle.std.specs.List.{list_all, prefix_len}
 use Rattle.crs_text.specs.declared.keyword.Keyword.{Keyword}
 use Rattle.crs_text.specs.Keywords.{spelling_of, every_keyword, keyword_of}
-use Rattle.crs_text.specs.KeywordTable.{spelled, of_length, first_among, is_capital, AreCapitals, AreSpellings, AreSameWithin, IsNamed, IsSuspect, AreSuspects}
+use Rattle.crs_text.specs.KeywordTable.{spelled, of_length, first_among, is_capital, AreSpellings, AreSameWithin, IsNamed, IsSuspect, AreSuspects}
 use Rattle.crs_text.proofs.words.KeywordLemmas.{keyword-spelled, keyword_of-table, same-keyword_of}
 
 pub same-bytes : (letters word : List ℕ) → length letters ≡ length word →

@@ -1,7 +1,3 @@
-use Rattle.std.proofs.Common.{subst}
-use Rattle.crs_text.specs.Quoted.{StopsAt}
-use Rattle.crs_text.specs.Tokens.{is_white}
-use Rattle.crs_text.specs.Feeding.{IsPendingIn}
 use Rattle.crs_text.proofs.settled.FeedingLemmas.{pending_before, settled_still, settled_behind, so_far_from, held_at_place}
 use Rattle.crs_text.proofs.feeding.read_on.Goals as goal
 
@@ -16,10 +12,10 @@ returns-in-Some c =
     let text = c.args.text.now in
     let at = c.args.held.at in
     let s = c.in-Some.ensures in
-    let settled = settled_still text r.0 c.args.piece.now c.args.table.now at r.1 r.2.settled (subst (StopsAt is_white) c.rest_of.ensures s.2) in
+    let settled = settled_still text r.0 c.args.piece.now c.args.table.now at r.1 r.2.settled (rw c.rest_of.ensures at s.2) in
     record {
       settled = settled;
-      pending = subst (λ z. IsPendingIn z c.in-Some.pending) c.rest_of.ensures s.0;
+      pending = rw c.rest_of.ensures at s.0;
       so_far = so_far_from text c.args.table.now at settled (held_at_place text c.rest_of.result.now at c.rest_of.ensures s.1);
     }
 

@@ -1,5 +1,3 @@
-use Rattle.std.proofs.Common.{subst}
-use Rattle.crs_text.specs.Feeding.{IsPendingIn}
 use Rattle.crs_text.proofs.settled.FeedingLemmas.{so_far_from}
 use Rattle.crs_text.proofs.feeding.read_tokens.Goals as goal
 
@@ -9,6 +7,6 @@ returns-in-Ok c =
     let at = c.in-Ok.at in
     record {
       settled = c.in-Ok.ensures.0;
-      pending = subst (λ z. IsPendingIn z c.pending_of.result) c.rest_of.ensures c.pending_of.ensures;
+      pending = rw c.rest_of.ensures at c.pending_of.ensures;
       so_far = so_far_from text c.settle_all.new.table at c.in-Ok.ensures.0 c.in-Ok.ensures.1;
     }

@@ -1,8 +1,7 @@
-use Rattle.std.proofs.Common.{◌+◌, refl, sym, subst, arith, drop}
+use Rattle.std.proofs.Common.{◌+◌, refl, arith, drop}
 use Rattle.std.proofs.lemmas.Bool.{MatchBool-at_true, MatchBool-at_false}
 use Rattle.std.specs.List.{prefix_len}
 use Rattle.crs_text.specs.Tokens.{is_white}
-use Rattle.crs_text.specs.Feeding.{IsSettledTo}
 use Rattle.crs_text.proofs.settled.FeedingLemmas.{judged, settled_next, settled_fault}
 use Rattle.crs_text.proofs.tokens.ScanLemmas.{taken_some}
 use Rattle.crs_text.proofs.feeding.settle.Goals as goal
@@ -19,7 +18,7 @@ returns-in-Ok c =
     let j = judged text at c.requires.more _ _ _ c.rest_of-left.ensures c.token_at-lexed.ensures c.is_settled.ensures in
     let n = c.take_lexed.new.taken in
     let r = settled_next text at n (prefix_len is_white (drop (at + n) text)) c.args.table.now c.take_lexed.new.table (MatchBool-at_true _ _ c.if-not-is_settled.false j) c.requires.reached c.in-Ok.ensures refl in (
-      subst (IsSettledTo text c.take_lexed.new.table) (sym c.after_white.ensures) r,
+      rw c.after_white.ensures r,
       omega (arith, taken_some text at n c.args.table.now c.take_lexed.new.table c.in-Ok.ensures, c.after_white.ensures),
     )
 

@@ -1,7 +1,7 @@
-use Rattle.std.proofs.Common.{◌≡◌, ◌+◌, ◌<◌, length, drop, arith, ap, sym, ◌∙◌, subst}
+use Rattle.std.proofs.Common.{◌≡◌, ◌+◌, ◌<◌, length, drop, arith, ap, sym, ◌∙◌}
 use Rattle.std.specs.List.{prefix_len}
 use Rattle.std.proofs.lemmas.List.{length-drop}
-use Rattle.crs_text.specs.Quoted.{StopsAt, is_plain, is_quote}
+use Rattle.crs_text.specs.Quoted.{is_plain}
 use Rattle.crs_text.proofs.tokens.QuotedLemmas.{open_at, shut_at, past_doubled, within_at}
 use Rattle.crs_text.proofs.lexing.closing_quote.Goals as goal
 
@@ -15,7 +15,7 @@ returns-then-not-begins_with_quote c =
     let e : c.plain_length.result ≡ prefix_len is_plain (drop c.loop-at.at c.args.after.now) = c.plain_length.ensures.value ∙ ap (prefix_len is_plain) c.rest_of.ensures in
     let lt : c.loop-at.at + c.plain_length.result < length c.args.after.now = omega (arith, length-drop c.loop-at.at c.args.after.now, c.plain_length.ensures.within, ap length c.rest_of.ensures, c.if-quote-after.false) in (
       shut_at c.args.after.now c.loop-at.at (c.loop-at.at + c.plain_length.result) c.loop-at.invariant.0 c.loop-at.invariant.1 (ap (λ z. c.loop-at.at + z) e) lt
-          (subst (StopsAt is_quote) c.rest_of-in-loop-at.ensures (c.if-not-begins_with_quote.ensures)),
+          (rw c.rest_of-in-loop-at.ensures at (c.if-not-begins_with_quote.ensures)),
       lt,
     )
 

@@ -1,8 +1,6 @@
-use Rattle.std.proofs.Common.{ap, ◌∙◌, drop, subst, arith}
+use Rattle.std.proofs.Common.{ap, ◌∙◌, drop, arith}
 use Rattle.std.specs.List.{prefix_len}
-use Rattle.crs_decimal.specs.Prelude.{is_digit, is_run_byte}
-use Rattle.crs_text.specs.Quoted.{StopsAt}
-use Rattle.crs_text.specs.Runs.{IsFractional}
+use Rattle.crs_decimal.specs.Prelude.{is_digit}
 use Rattle.crs_text.proofs.tokens.PlainNumberLemmas.{plain_lexed, one_digit_lexed}
 use Rattle.crs_text.proofs.lexing.plain_number_length.Goals as goal
 
@@ -13,8 +11,8 @@ returns-then-ends_run c =
     let f = c.fraction_length-fraction.result in
     let behind = c.rest_of-behind.ensures ∙ ap (drop w) c.rest_of-unsigned.ensures in
     plain_lexed c.args.left.now s w f c.sign_length-start.ensures.signed (c.digit_length-whole.ensures.value ∙ ap (prefix_len is_digit) c.rest_of-unsigned.ensures) (omega (arith, c.if-whole-eq0.false))
-    (subst (λ z. IsFractional z f) behind c.fraction_length-fraction.ensures.fraction) (omega (arith, c.if-whole-fraction-gt-PLAIN_LIMIT.false))
-    (subst (StopsAt is_run_byte) (c.rest_of.ensures ∙ ap (drop f) behind) (c.ends_run.ensures c.if-ends_run.true))
+    (rw behind at c.fraction_length-fraction.ensures.fraction) (omega (arith, c.if-whole-fraction-gt-PLAIN_LIMIT.false))
+    (rw (c.rest_of.ensures ∙ ap (drop f) behind) at (c.ends_run.ensures c.if-ends_run.true))
 
 pub returns-then-is_one_digit : goal.returns-then-is_one_digit
 returns-then-is_one_digit c = one_digit_lexed c.args.left.now (c.is_one_digit.ensures c.if-is_one_digit.true)

@@ -1,7 +1,4 @@
-use Rattle.std.proofs.Common.{◌+◌, ◌<◌, ◌≤◌, min, length, drop, sym, subst, arith, refl}
-use Rattle.std.specs.List.{prefix_len}
-use Rattle.crs_text.specs.Tokens.{is_white}
-use Rattle.crs_text.specs.Nesting.{IsNested, IsAnswered}
+use Rattle.std.proofs.Common.{arith, refl}
 use Rattle.crs_text.proofs.rows.NestingLemmas.{nested_start, nested_next, answered_end, answered_halt}
 use Rattle.crs_text.proofs.nesting.innermost.Goals as goal
 

@@ -1,4 +1,4 @@
-use Rattle.std.proofs.Common.{drop, sym, subst, ◌∙◌, arith}
+use Rattle.std.proofs.Common.{drop, sym, ◌∙◌, arith}
 use Rattle.std.proofs.Math.Seq.{drop-cons}
 use Rattle.crs_text.specs.Quoted.{StopsAt}
 use Rattle.crs_text.specs.Tokens.{is_letter, is_word_byte}
@@ -12,5 +12,5 @@ returns-then-ends_word c =
     let n = c.letter_lanes-count.result in
     let found = c.letter_lanes-count.ensures in
     let letters = found ∙ sym (run_stops is_letter left 0 16 (omega arith) (omega (arith, found))) in
-    let ends = subst (StopsAt is_word_byte) (sym (drop-cons left n 0 (omega arith))) (c.ends_word.ensures c.if-ends_word.true) in
-    letters ∙ wider is_letter is_word_byte letter_in_word left (subst (λ k. StopsAt is_word_byte (drop k left)) letters ends)
+    let ends : StopsAt is_word_byte (drop n left) = rw (drop-cons left n 0 (omega arith)) (c.ends_word.ensures c.if-ends_word.true) in
+    letters ∙ wider is_letter is_word_byte letter_in_word left (rw letters at ends)

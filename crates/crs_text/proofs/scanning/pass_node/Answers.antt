@@ -1,14 +1,12 @@
-use Rattle.std.proofs.Common.{sym, ap, subst, ◌∙◌, take, arith}
-use Rattle.crs_text.specs.Scan.{IsReached}
-use Rattle.crs_text.specs.Table.{IsNodeBegun}
+use Rattle.std.proofs.Common.{ap, ◌∙◌, take, arith}
 use Rattle.crs_text.proofs.tokens.ScanLemmas.{passed_node}
 use Rattle.crs_text.proofs.scanning.pass_node.Goals as goal
 
 pub returns-in-Ok-true : goal.returns-in-Ok-true
 returns-in-Ok-true c =
     let raw = c.front_of.ensures ∙ ap (take c.args.count) c.rest_of-left.ensures in
-    let begun = subst (λ z. IsNodeBegun c.args.table.now c.args.at.now z c.node.new.self) raw (rw c.in-Ok-true.field-0-test at c.in-Ok-true.ensures) in
+    let begun = rw raw at (rw c.in-Ok-true.field-0-test at c.in-Ok-true.ensures) in
     let passed = passed_node c.args.text.now c.args.at.now c.args.count c.args.table.now c.node.new.self c.requires.within c.requires.reached c.requires.lexed c.requires.opening begun in (
-      subst (IsReached c.args.text.now c.node.new.self) (sym c.after_white.ensures) passed.0,
+      rw c.after_white.ensures passed.0,
       omega (arith, c.after_white.ensures),
     )

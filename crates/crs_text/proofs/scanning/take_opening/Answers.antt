@@ -1,6 +1,5 @@
-use Rattle.std.proofs.Common.{sym, subst, refl, drop, ◌+◌}
+use Rattle.std.proofs.Common.{refl, drop, ◌+◌}
 use Rattle.crs_text.specs.Tokens.{opening}
-use Rattle.crs_text.specs.Scan.{IsStoppedBy}
 use Rattle.crs_text.proofs.tokens.ScanLemmas.{stopped_token, stopped_too_deep}
 use Rattle.crs_text.proofs.rows.ShowsLemmas.{refused_from_shows, none_from_refused}
 use Rattle.crs_text.proofs.scanning.take_opening.Goals as goal
@@ -11,6 +10,5 @@ returns-in-TooDeep c =
 
 pub returns-in-Refused : goal.returns-in-Refused
 returns-in-Refused c =
-    subst (IsStoppedBy c.args.text.now c.args.at c.args.table.now) (sym c.unexpected.ensures)
-    (stopped_token c.args.text.now c.args.at c.args.table.now _ refl (opening c.args.square) (drop (c.args.at + 1) c.args.text.now) refl c.requires.forms
+    rw c.unexpected.ensures (stopped_token c.args.text.now c.args.at c.args.table.now _ refl (opening c.args.square) (drop (c.args.at + 1) c.args.text.now) refl c.requires.forms
     (none_from_refused c.args.table.now _ c.args.square c.in-Refused.ensures) (λ ts shows deep. refused_from_shows ts c.args.table.now c.args.square shows c.in-Refused.ensures.0 deep.0))

@@ -1,17 +1,12 @@
-use Rattle.std.proofs.Common.{subst, sym}
-use Rattle.crs_text.specs.TextFault.{IsTextFault}
-use Rattle.crs_text.specs.Scan.{IsReached}
 use Rattle.crs_text.proofs.settled.FeedingLemmas.{known_fault, fed_none, reached_from_settled}
 use Rattle.crs_text.proofs.feeder.Feeder.finish.Goals as goal
 
 pub finished-requires : goal.finished-requires
 finished-requires c =
     let f = c.self.inside in
-    subst (λ z. IsReached z f.table f.held.at) (sym c.deref.ensures.value)
-    (reached_from_settled f.bytes.items f.table f.held.at (fed_none f.bytes.items f.table f.held f.refusal c.self.invariant c.in-Ok.ensures).settled)
+    rw c.deref.ensures.value (reached_from_settled f.bytes.items f.table f.held.at (fed_none f.bytes.items f.table f.held f.refusal c.self.invariant c.in-Ok.ensures).settled)
 
 pub returns-in-Err-clause-answer : goal.returns-in-Err-clause-answer
 returns-in-Err-clause-answer c =
     let f = c.self.inside in
-    subst (λ z. IsTextFault z c.in-Err.fault) c.self.view_is
-    (known_fault f.bytes.items f.table f.held f.refusal c.in-Err.fault c.self.invariant c.in-Err.ensures)
+    rw c.self.view_is at (known_fault f.bytes.items f.table f.held f.refusal c.in-Err.fault c.self.invariant c.in-Err.ensures)
