@@ -27,8 +27,7 @@ items-at tree id = ap (λ l. get_or l id End) (sym (items-heres tree))
 spot : (tree : Item) (id : ℕ) → id < length (rows 0 tree) → Spot tree id
 spot tree id lt =
     let none : Here = record { depth = 0; item = tree; later = End } in
-    let len = length-heres tree in
-    let inner : id < length (heres tree) = omega arith in
+    let inner : id < length (heres tree) = omega (arith, length-heres tree) in
     record {
       it = get_or (heres tree) id none;
       behind = drop (suc id) (heres tree);

@@ -193,19 +193,15 @@ module _ (text : List ℕ) (place at : ℕ) (places : List ℕ) (nested : IsNest
       omega (arith, forms_shorter (length text) u (drop at text) rest f, fronts_short (length text) us rest left g, length-drop at text, l.is_place, nested.within, le))
 
   pub answered_halt : (behind : List ℕ) → IsHalted text at places behind → IsAnswered text place (innermost_of behind)
-  answered_halt behind h = rw h.0 (answered_here none)
-    where
-      none : (before : List Token) (left rest : List ℕ) (u : Token) (us : List Token) → LeadsTo text place before left → before ≡ nested.tokens ++ u ∷ us
-          → Forms (length text) u (drop at text) rest → Fronts (length text) rest us left → ⊥
-      none before left rest u us l e f g = elim h.1 [
-        | inl flaw ↦ flaw_no_token flaw.0 (length text) u (drop at text) rest flaw.1 flaw.2 f
-        | inr full ↦
-            let same = (Forms-one (length text) u (opening full.0) (drop at text) rest full.1 f full.2).0 in
-            let parts : before ≡ (nested.tokens ++ opening full.0 ∷ []) ++ us = e ∙ ap (λ z. nested.tokens ++ z ∷ us) same ∙ sym (append_assoc nested.tokens (opening full.0 ∷ []) us) in
-            let v : IsViable (nested.tokens ++ opening full.0 ∷ []) = viable_front (nested.tokens ++ opening full.0 ∷ []) us (subst IsViable parts l.viable) in
-            no_thirteenth (last_of nested.tokens) (opens nested.tokens) full.0 (length-opens text places nested.tokens nested.open_places ∙ full.3)
-            (allows_from_viable nested.tokens (opening full.0) (viable_front nested.tokens (opening full.0 ∷ []) v) v)
-      ]
+  answered_halt behind h = rw h.0 (answered_here (λ before left rest u us l e f g. elim h.1 [
+    | inl (reason, skip, flaw) ↦ flaw_no_token reason (length text) u (drop at text) rest skip flaw f
+    | inr (square, other, forms, full) ↦
+        let same = (Forms-one (length text) u (opening square) (drop at text) rest other f forms).0 in
+        let parts : before ≡ (nested.tokens ++ opening square ∷ []) ++ us = e ∙ ap (λ z. nested.tokens ++ z ∷ us) same ∙ sym (append_assoc nested.tokens (opening square ∷ []) us) in
+        let v : IsViable (nested.tokens ++ opening square ∷ []) = viable_front (nested.tokens ++ opening square ∷ []) us (subst IsViable parts l.viable) in
+        no_thirteenth (last_of nested.tokens) (opens nested.tokens) square (length-opens text places nested.tokens nested.open_places ∙ full)
+        (allows_from_viable nested.tokens (opening square) (viable_front nested.tokens (opening square ∷ []) v) v)
+  ]))
 
 -- ---- what leads to the place
 

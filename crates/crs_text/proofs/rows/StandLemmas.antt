@@ -20,13 +20,11 @@ stands_at source front raw rest place e p = record {
 }
 
 stands : (source : List ℕ) (t : Token) (left rest : List ℕ) → EndsIn source left → Forms (length source) t left rest → TokenStands source t
-stands source (single tokens.number place raw) left rest (front, e) f =
-    stands_at source front raw rest place (e ∙ ap (λ z. front ++ z) f.spelled) (omega (arith, ap length e, length-append front left, f.placed))
 stands source (single tokens.text place raw) left rest (front, e) f =
     let spelled : left ≡ 34 ∷ (raw ++ 34 ∷ rest) = f.spelled ∙ ap (λ (z : List ℕ). 34 ∷ z) (append_assoc raw (34 ∷ []) rest) in
     stands_at source (front ++ 34 ∷ []) raw (34 ∷ rest) (suc place) (e ∙ ap (λ z. front ++ z) spelled ∙ sym (append_assoc front (34 ∷ []) (raw ++ 34 ∷ rest)))
     (omega (arith, ap length e, length-append front left, f.placed, length-append front (34 ∷ [])))
-stands source (single tokens.word place raw) left rest (front, e) f =
+stands source (single kind place raw) left rest (front, e) f =
     stands_at source front raw rest place (e ∙ ap (λ z. front ++ z) f.spelled) (omega (arith, ap length e, length-append front left, f.placed))
 stands source t left rest ends f = tt
 

@@ -9,7 +9,7 @@ use Rattle.std.proofs.lemmas.List.Sums.{prefix_len-le-length, prefix_len_stops}
 use Rattle.std.proofs.lemmas.Bool.{and_parts}
 use Rattle.crs_decimal.specs.Prelude.{is_run_byte, is_run_start}
 use Rattle.crs_text.specs.Tokens as tokens
-use Rattle.crs_text.specs.Tokens.{number, word, Token, single, comma, opening, closing, is_white, is_letter, is_word_byte, IsWord, Forms, IsAfterWhite}
+use Rattle.crs_text.specs.Tokens.{Kind, number, word, Token, single, comma, opening, closing, is_white, is_letter, is_word_byte, IsWord, Forms, IsAfterWhite}
 use Rattle.crs_text.specs.Quoted.{StopsAt, BeginsWith, doubled, is_quote, IsInside, IsShut, IsShutAt}
 use Rattle.crs_text.specs.Utf8.{IsUtf8Front}
 use Rattle.crs_text.specs.TextFault.{IsFlaw, IsStop, IsTextFault}
@@ -34,7 +34,7 @@ use Rattle.crs_text.specs.declared.lexing.Lexed.TheVariants as lexed
 use Rattle.crs_text.proofs.tokens.TokenLemmas.{a_single, shape_of, shape_at, shape_at_start, Forms-shape, Forms-shut, Forms-one, some_shape}
 use Rattle.crs_text.proofs.tokens.QuotedLemmas.{doubled-append, true_not_false, same_tail, same_split, shut_one, shut_not_open}
 use Rattle.crs_text.proofs.tokens.Utf8Lemmas.{IsUtf8Front-shorter}
-use Rattle.crs_text.proofs.tokens.FlawLemmas.{flaw_shape, flaw_no_token, flaw_one}
+use Rattle.crs_text.proofs.tokens.FlawLemmas.{shape_for, flaw_shape, flaw_no_token, flaw_one}
 use Rattle.crs_text.proofs.tokens.FrontsLemmas.{forms_some, at_once, dark_start, dark_word}
 use Rattle.crs_text.proofs.rows.ShowsLemmas.{shows_start, viable_from_shows, shows_more}
 use Rattle.crs_text.proofs.tokens.ScanLemmas.{reached_first, number_at, word_at, text_at, comma_at, opening_at, closing_at, after_white}
@@ -147,8 +147,8 @@ module _ (text : List ℕ) (at : ℕ) (lt : at < length text) where
       → MatchBool settled (AllSettled (length text) (drop at text)) (IsUnsettledAt text at)
   judged left l settled e is s = judged_here l settled (rw e at is) (rw e at s)
 
-  settled_refused : (table : Flat) (r : RefusedAt) → AllSettled (length text) (drop at text) → IsSettledTo text table at → IsStopped text at table r → IsSettledRefusal text r.number r.place
-  settled_refused table r all reached s = record {
+  pub settled_fault : (table : Flat) (fault : Fault) → AllSettled (length text) (drop at text) → IsSettledTo text table at → IsStoppedBy text at table fault → IsSettledFault text fault
+  settled_fault table (faults.Refused r) all reached s = record {
     reason = s.reason;
     before = reached.tokens;
     left = drop at text;
@@ -159,9 +159,6 @@ module _ (text : List ℕ) (at : ℕ) (lt : at < length text) where
     is_number = s.is_number;
     is_place = omega (arith, length-drop at text, reached.within, s.is_place);
   }
-
-  pub settled_fault : (table : Flat) (fault : Fault) → AllSettled (length text) (drop at text) → IsSettledTo text table at → IsStoppedBy text at table fault → IsSettledFault text fault
-  settled_fault table (faults.Refused r) all reached s = settled_refused table r all reached s
   settled_fault table (faults.Memory e) all reached s = tt
 
 pub fronts_more : (total : ℕ) (ts : List Token) (bytes at rest left : List ℕ) (t : Token) → SettledFronts total bytes ts at → FormsSettled total t at rest → IsAfterWhite rest left → SettledFronts total bytes (ts ++ t ∷ []) left
@@ -213,27 +210,26 @@ word_held left p total within ts =
     (record { spelled = sym (append-nil left); formed = word_from_all left p.0 p.1; ends = tt; placed = omega arith })
     (λ some. some refl)
 
-module _ (left : List ℕ) (run : IsPendingIn left pending.Run) where
-  run_shape : shape_at left ≡ Some (a_single number)
-  run_shape = shape_at_start left [] left run.0 (sym (append-nil left))
+-- where a single token of one kind must begin, and none is settled, nor any flaw that begins so
+single_held : (left : List ℕ) (kind : Kind) → shape_at left ≡ Some (a_single kind) → ((total place : ℕ) (raw rest : List ℕ) → ¬ (FormsSettled total (single kind place raw) left rest))
+    → ((r : Reason) (k : ℕ) → shape_for r ≡ Some (a_single kind) → IsFlaw r left k → ¬ (IsFlawSettled r left)) → IsUnsettledIn left
+single_held left kind shape no_token no_flaw total within ts =
+    held_without total left ts (λ t rest f. go t rest f (some_shape _ _ (sym (Forms-shape total t left rest f.forms) ∙ shape))) (λ r k f. no_flaw r k (sym (flaw_shape r left k f) ∙ shape) f)
+  where
+    go : (t : Token) (rest : List ℕ) → FormsSettled total t left rest → shape_of t ≡ a_single kind → ⊥
+    go (single k place raw) rest f e = let same : k ≡ kind = cc in no_token total place raw rest (subst (λ z. FormsSettled total (single z place raw) left rest) same f)
+    go t rest f e = absurd cc
 
-  run_no_token : (total : ℕ) (t : Token) (rest : List ℕ) → FormsSettled total t left rest → shape_of t ≡ a_single number → ⊥
-  run_no_token total (single number place raw) rest f e = all_behind is_run_byte raw rest f.settled f.forms.ends (ap (list_all is_run_byte) (sym f.forms.spelled) ∙ run.1)
-  run_no_token total t rest f e = absurd cc
-
-  run_no_flaw : (r : Reason) (k : ℕ) → IsFlaw r left k → ¬ (IsFlawSettled r left)
-  run_no_flaw NotUtf8 k f s = let e = sym run_shape ∙ ap shape_at f.2 in absurd cc
-  run_no_flaw r k f s = let e = sym run_shape ∙ flaw_shape r left k f in grind arith
-
-  pub run_held : IsUnsettledIn left
-  run_held total within ts =
-      held_without total left ts
-      (λ t rest f. run_no_token total t rest f (some_shape (shape_of t) (a_single number) (sym (Forms-shape total t left rest f.forms) ∙ run_shape))) run_no_flaw
+pub run_held : (left : List ℕ) → IsPendingIn left pending.Run → IsUnsettledIn left
+run_held left run =
+    single_held left number (shape_at_start left [] left run.0 (sym (append-nil left)))
+    (λ total place raw rest f. all_behind is_run_byte raw rest f.settled f.forms.ends (ap (list_all is_run_byte) (sym f.forms.spelled) ∙ run.1)) flaw
+  where
+    flaw : (r : Reason) (k : ℕ) → shape_for r ≡ Some (a_single number) → IsFlaw r left k → ¬ (IsFlawSettled r left)
+    flaw NotUtf8 k e f s = absurd cc
+    flaw r k e f s = grind arith
 
 module _ (left : List ℕ) (quote : left ≡ 34 ∷ drop 1 left) (n : ℕ) (o : IsOpenTo (drop 1 left) n) (front : IsUtf8Front (drop 1 left)) where
-  text_shape : shape_at left ≡ Some (a_single tokens.text)
-  text_shape = ap shape_at quote
-
   -- at the last byte a quote that closes the text, if no other comes
   shut_at_end : drop n (drop 1 left) ≡ 34 ∷ [] → IsShut (drop 1 left) (take n (drop 1 left)) []
   shut_at_end e = record { parts = same_split (drop 1 left) n (34 ∷ []) e; inside = o.0.1; ends = tt }
@@ -241,26 +237,23 @@ module _ (left : List ℕ) (quote : left ≡ 34 ∷ drop 1 left) (n : ℕ) (o : 
   all_inside : drop n (drop 1 left) ≡ [] → IsInside (drop 1 left)
   all_inside e = subst IsInside (sym (same_split (drop 1 left) n [] e ∙ append-nil (take n (drop 1 left)))) o.0.1
 
-  text_no_token : (total : ℕ) (t : Token) (rest : List ℕ) → FormsSettled total t left rest → shape_of t ≡ a_single tokens.text → ⊥
-  text_no_token total (single tokens.text place raw) rest f e =
+  text_no_token : (total place : ℕ) (raw rest : List ℕ) → ¬ (FormsSettled total (single tokens.text place raw) left rest)
+  text_no_token total place raw rest f =
       let shut = Forms-shut total place raw left rest f.forms (drop 1 left) quote in
       elim o.1 [
         | inl none ↦ shut_not_open (drop 1 left) raw rest shut (all_inside none)
         | inr last ↦ f.settled (shut_one (drop 1 left) raw rest (take n (drop 1 left)) [] shut (shut_at_end last)).1
       ]
-  text_no_token total t rest f e = absurd cc
 
-  text_no_flaw : (r : Reason) (k : ℕ) → IsFlaw r left k → ¬ (IsFlawSettled r left)
-  text_no_flaw NotUtf8 k f s =
-      let e : f.0 ≡ drop 1 left = same_tail 34 34 f.0 (drop 1 left) (sym f.2 ∙ quote) in
+  text_no_flaw : (r : Reason) (k : ℕ) → shape_for r ≡ Some (a_single tokens.text) → IsFlaw r left k → ¬ (IsFlawSettled r left)
+  text_no_flaw NotUtf8 k e f s =
+      let same : f.0 ≡ drop 1 left = same_tail 34 34 f.0 (drop 1 left) (sym f.2 ∙ quote) in
       let t = through_front f.0 f.1 f.3 in
-      f.4 (IsUtf8Front-shorter f.1 t.0 (subst IsUtf8Front (sym e ∙ t.1) front))
-  text_no_flaw r k f s = let e = sym text_shape ∙ flaw_shape r left k f in grind arith
+      f.4 (IsUtf8Front-shorter f.1 t.0 (subst IsUtf8Front (sym same ∙ t.1) front))
+  text_no_flaw r k e f s = grind arith
 
   pub text_held : IsUnsettledIn left
-  text_held total within ts =
-      held_without total left ts
-      (λ t rest f. text_no_token total t rest f (some_shape (shape_of t) (a_single tokens.text) (sym (Forms-shape total t left rest f.forms) ∙ text_shape))) text_no_flaw
+  text_held = single_held left tokens.text (ap shape_at quote) text_no_token text_no_flaw
 
 -- ---- one piece more
 

@@ -16,16 +16,13 @@ use Rattle.crs_text.specs.declared.table.Position.TheVariants.{AfterWord}
 use Rattle.crs_text.specs.TextFault.{SpellsNode, reason_number, IsFlaw, IsStop, RefusesText}
 use Rattle.crs_text.proofs.tokens.FrontsLemmas.{fronts_more, forms_shorter}
 use Rattle.crs_text.proofs.rows.ShowsLemmas.{shows_start, viable_from_shows, shows_more, not_viable_from_shows, refused_from_shows, deep_from_shows, whole_from_shows, not_whole_from_shows}
-use Rattle.crs_text.proofs.tokens.ScanLemmas.{stop_flaw, after_white}
+use Rattle.crs_text.proofs.tokens.ScanLemmas.{stop_flaw, after_white, fronts_short}
 use Rattle.crs_text.proofs.tokens.LeftLemmas.{DecidesNumbers, token_or_flaw}
 
 abbrev pub IsEither : List ℕ → Type 0
 IsEither bytes = ((item : Item) × SpellsNode bytes item) ⊎ ((n place : ℕ) × RefusesText bytes n place)
 
 -- ---- where it stops
-
-after_white_shorter : (bytes left : List ℕ) → IsAfterWhite bytes left → length left ≤ length bytes
-after_white_shorter bytes left w = omega (arith, ap length w.parts, length-append w.white left)
 
 -- a token that the table doesn't take is one too many, or unexpected
 abbrev pub IsMisplaced : ℕ → List Token → List ℕ → Type 0
@@ -62,7 +59,7 @@ module _ (bytes : List ℕ) (Result : Type 0) (AreFronts : List Token → List �
       let w = after_white rest (prefix_len is_white rest) refl in
       let far = drop (prefix_len is_white rest) rest in
       let lt = forms_shorter (length bytes) t left rest f in
-      let le : length far ≤ length rest = after_white_shorter rest far w in
+      let le : length far ≤ length rest = fronts_short (length bytes) [] rest far w in
       next (ts ++ t ∷ []) far g (omega arith) (omega arith) (more far w) (shows_more ts table g t shows e)
 
   decided_from : DecidesNumbers → (fuel : ℕ) → IsDecided fuel
@@ -82,7 +79,7 @@ module _ (bytes : List ℕ) (Result : Type 0) (AreFronts : List Token → List �
   decided decides =
       let w = after_white bytes (prefix_len is_white bytes) refl in
       let left = drop (prefix_len is_white bytes) bytes in
-      let le : length left ≤ length bytes = after_white_shorter bytes left w in
+      let le : length left ≤ length bytes = fronts_short (length bytes) [] bytes left w in
       decided_from decides (length bytes) [] left (flat start) le le (first left w) shows_start
 
 -- ---- a node, or refused

@@ -56,10 +56,6 @@ split text before left right after place parts is =
     rw (parts, is, ← append_assoc before left (right ++ after), ← length-append before left)
     (take-append_seam (before ++ left) (right ++ after), drop-append_seam (before ++ left) (right ++ after))
 
-same_fields : (l c b e m d f g : ℕ) → l ≡ m → c ≡ d → b ≡ f → e ≡ g →
-    ◌≡◌ {A = Position} (record { line = l; column = c; begin = b; end = e }) (record { line = m; column = d; begin = f; end = g })
-same_fields l c b e m d f g p q r s = cc
-
 no_left : (left right : List ℕ) → feeds (left ++ right) ≡ 0 → (feeds left ≡ 0) × (feeds right ≡ 0)
 no_left left right none = (omega (arith, feeds-append left right), omega (arith, feeds-append left right))
 
@@ -74,8 +70,9 @@ one_position text place a b x y =
     let before : x.before ≡ y.before = one_begin x.before x.left y.before y.left front x.begins y.begins m.0 n.0 in
     let left : x.left ≡ y.left = append_cancel_left x.before x.left y.left (front ∙ ap (λ z. z ++ y.left) (sym before)) in
     let right : x.right ≡ y.right = one_end x.right x.after y.right y.after back x.ends y.ends m.1 n.1 in
-    same_fields a.line a.column a.begin a.end b.line b.column b.begin b.end
-    (x.is_line ∙ ap (λ z. 1 + feeds z) before ∙ sym y.is_line)
-    (x.is_column ∙ ap (λ z. 1 + characters z) left ∙ sym y.is_column)
-    (x.is_begin ∙ ap length before ∙ sym y.is_begin)
-    (x.is_end ∙ ap (λ z. place + length z) right ∙ sym y.is_end)
+    λ i. record {
+      line = (x.is_line ∙ ap (λ z. 1 + feeds z) before ∙ sym y.is_line) i;
+      column = (x.is_column ∙ ap (λ z. 1 + characters z) left ∙ sym y.is_column) i;
+      begin = (x.is_begin ∙ ap length before ∙ sym y.is_begin) i;
+      end = (x.is_end ∙ ap (λ z. place + length z) right ∙ sym y.is_end) i;
+    }

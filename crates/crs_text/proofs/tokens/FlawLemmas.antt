@@ -66,9 +66,7 @@ flaw_no_token r total t left rest skip f g = beside r total t left rest skip f g
 
 IsLongestUtf8-one : (bytes : List ℕ) (m n : ℕ) → IsLongestUtf8 bytes m → IsLongestUtf8 bytes n → m ≡ n
 IsLongestUtf8-one bytes m n p q =
-    let a : n ≤ m = p.longest n q.within q.well_formed in
-    let b : m ≤ n = q.longest m p.within p.well_formed in
-    omega arith
+    omega (arith, p.longest n q.within q.well_formed, q.longest m p.within p.well_formed)
 
 same_after : (a b left : List ℕ) → left ≡ 34 ∷ a → left ≡ 34 ∷ b → a ≡ b
 same_after a b left p q = same_tail 34 34 a b (sym p ∙ q)

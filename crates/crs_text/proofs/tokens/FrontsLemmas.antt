@@ -74,17 +74,9 @@ pub fronts_more : (total : ℕ) (ts : List Token) (bytes at rest left : List ℕ
 fronts_more total [] bytes at rest left t p f w = (at, rest, p, f, w)
 fronts_more total (u ∷ us) bytes at rest left t p f w = (p.0, p.1, p.2, p.3, fronts_more total us p.1 at rest left t p.4 f w)
 
-begins_long : (test : ℕ → Bool) (raw : List ℕ) → BeginsWith test raw → 0 < length raw
-begins_long test [] h = absurd h
-begins_long test (b ∷ bs) h = omega arith
-
-word_long : (raw : List ℕ) → IsWord raw → 0 < length raw
-word_long [] h = absurd h
-word_long (b ∷ bs) h = omega arith
-
 spelling_long : (t : Token) → IsFormed t → 0 < length (spelling t)
-spelling_long (single number place raw) f = begins_long is_run_start raw f.0
-spelling_long (single word place raw) f = word_long raw f
+spelling_long (single number place []) f = absurd f.0
+spelling_long (single word place []) f = absurd f
 spelling_long t f = omega arith
 
 -- a token takes bytes away

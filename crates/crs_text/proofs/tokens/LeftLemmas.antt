@@ -67,12 +67,9 @@ abbrev pub DecidesNumbers : Type 0
 DecidesNumbers = (run : List ℕ) → (IsInBounds run ⊎ (HasForm run × ¬ (IsInBounds run))) ⊎ (¬ (HasForm run))
 
 module _ (total : ℕ) where
-  placed : (left : List ℕ) → length left ≤ total → total - length left + length left ≡ total
-  placed left le = omega arith
-
   a_single : (kind : Kind) (raw left rest : List ℕ) → length left ≤ total → StandsBefore kind raw left rest → IsTokenOrFlaw total left
   a_single kind raw left rest le s =
-      inl (single kind (total - length left) raw, rest, record { spelled = s.spelled; formed = s.formed; ends = s.ends; placed = placed left le })
+      inl (single kind (total - length left) raw, rest, record { spelled = s.spelled; formed = s.formed; ends = s.ends; placed = omega arith })
 
   -- a text in UTF-8, or not
   shut_text : (raw rest : List ℕ) (after : List ℕ) → length (34 ∷ after) ≤ total → IsShut after raw rest → IsTokenOrFlaw total (34 ∷ after)
@@ -131,25 +128,19 @@ module _ (total : ℕ) where
   single_word left le begins =
       let n = prefix_len is_word_byte left in a_single word (take n left) left (drop n left) le (lexed_word left n refl begins).0
 
+  -- this byte first, or any other
+  at_byte : (b x : ℕ) (bs : List ℕ) → IsTokenOrFlaw total (x ∷ bs) → ((b == x) ≡ false → IsTokenOrFlaw total (b ∷ bs)) → IsTokenOrFlaw total (b ∷ bs)
+  at_byte b x bs is other = elim (cases_Bool (b == x)) [ inl e ↦ rw (eqb-true b x e) is | inr e ↦ other e ]
+
   -- a comma, a delimiter, or a byte that begins no token
   delimiter : (b : ℕ) (bs : List ℕ) → length (b ∷ bs) ≤ total → (is_letter b || is_run_start b || is_quote b) ≡ false → IsTokenOrFlaw total (b ∷ bs)
   delimiter b bs le dark =
-      elim (cases_Bool (b == 44)) [
-        | inl e ↦ inl (comma, bs, record { spelled = ap (λ z. z ∷ bs) (eqb-true b 44 e); formed = tt; ends = tt; placed = tt })
-        | inr n44 ↦ elim (cases_Bool (b == 91)) [
-          | inl e ↦ inl (opening true, bs, record { spelled = ap (λ z. z ∷ bs) (eqb-true b 91 e); formed = tt; ends = tt; placed = tt })
-          | inr n91 ↦ elim (cases_Bool (b == 40)) [
-            | inl e ↦ inl (opening false, bs, record { spelled = ap (λ z. z ∷ bs) (eqb-true b 40 e); formed = tt; ends = tt; placed = tt })
-            | inr n40 ↦ elim (cases_Bool (b == 93)) [
-              | inl e ↦ inl (closing (total - length (b ∷ bs)) true, bs, record { spelled = ap (λ z. z ∷ bs) (eqb-true b 93 e); formed = tt; ends = tt; placed = placed (b ∷ bs) le })
-              | inr n93 ↦ elim (cases_Bool (b == 41)) [
-                | inl e ↦ inl (closing (total - length (b ∷ bs)) false, bs, record { spelled = ap (λ z. z ∷ bs) (eqb-true b 41 e); formed = tt; ends = tt; placed = placed (b ∷ bs) le })
-                | inr n41 ↦ inr (BadCharacter, 0, (or_from _ _ dark (or_from _ _ (or_from _ _ (or_from _ _ (or_from _ _ n44 n91) n40) n93) n41), refl))
-              ]
-            ]
-          ]
-        ]
-      ]
+      at_byte b 44 bs (inl (comma, bs, record { spelled = refl; formed = tt; ends = tt; placed = tt })) (λ n44.
+      at_byte b 91 bs (inl (opening true, bs, record { spelled = refl; formed = tt; ends = tt; placed = tt })) (λ n91.
+      at_byte b 40 bs (inl (opening false, bs, record { spelled = refl; formed = tt; ends = tt; placed = tt })) (λ n40.
+      at_byte b 93 bs (inl (closing (total - length (b ∷ bs)) true, bs, record { spelled = refl; formed = tt; ends = tt; placed = omega arith })) (λ n93.
+      at_byte b 41 bs (inl (closing (total - length (b ∷ bs)) false, bs, record { spelled = refl; formed = tt; ends = tt; placed = omega arith })) (λ n41.
+      inr (BadCharacter, 0, (or_from _ _ dark (or_from _ _ (or_from _ _ (or_from _ _ (or_from _ _ n44 n91) n40) n93) n41), refl)))))))
 
 -- what is left, if anything is, begins with a token or a flaw
 pub token_or_flaw : DecidesNumbers → (total b : ℕ) (bs : List ℕ) → length (b ∷ bs) ≤ total → IsTokenOrFlaw total (b ∷ bs)
@@ -158,9 +149,6 @@ token_or_flaw decides total b bs le =
       | inl e ↦ single_word total (b ∷ bs) le e
       | inr no_letter ↦ elim (cases_Bool (is_run_start b)) [
         | inl e ↦ run total decides (b ∷ bs) le e
-        | inr no_start ↦ elim (cases_Bool (b == 34)) [
-          | inl e ↦ subst (λ z. length (z ∷ bs) ≤ total → IsTokenOrFlaw total (z ∷ bs)) (sym (eqb-true b 34 e)) (quoted total bs) le
-          | inr no_quote ↦ delimiter total b bs le (or_from _ _ (or_from _ _ no_letter no_start) no_quote)
-        ]
+        | inr no_start ↦ at_byte total b 34 bs (quoted total bs le) (λ no_quote. delimiter total b bs le (or_from _ _ (or_from _ _ no_letter no_start) no_quote))
       ]
     ]

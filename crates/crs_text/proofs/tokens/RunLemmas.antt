@@ -43,9 +43,6 @@ split : (q : ℕ → Bool) (d : List ℕ) (at n : ℕ)
     → prefix_len q (drop at d) ≡ cond (eqb (prefix_len q (chunk at n d)) (length (chunk at n d))) (length (chunk at n d) + prefix_len q (drop (at + n) d)) (prefix_len q (chunk at n d))
 split q d at n = ap (prefix_len q) (chunk-drop at n d) ∙ prefix_len-append q (chunk at n d) (drop (at + n) d)
 
-run_through : (q : ℕ → Bool) (d : List ℕ) (at n : ℕ) → at + n ≤ length d → n ≤ prefix_len q (chunk at n d) → prefix_len q (drop at d) ≡ n + prefix_len q (drop (at + n) d)
-run_through q d at n room whole = grind (arith, nat_tests, split q d at n, length-chunk at n d room, prefix_len-le-length q (chunk at n d))
-
 pub run_stops : (q : ℕ → Bool) (d : List ℕ) (at n : ℕ) → at + n ≤ length d → prefix_len q (chunk at n d) < n → prefix_len q (drop at d) ≡ prefix_len q (chunk at n d)
 run_stops q d at n room short = grind (arith, nat_tests, split q d at n, length-chunk at n d room)
 
@@ -55,7 +52,7 @@ module _ (q : ℕ → Bool) (d : List ℕ) (at count : ℕ) (before : IsRunTo q 
   run_ends room found short = omega (arith, run_stops q d at 16 room (omega (arith, found)), found, before.0)
 
   pub run_passes : at + 16 ≤ length d → count ≡ prefix_len q (chunk at 16 d) → 16 ≤ count → IsRunTo q d (at + 16)
-  run_passes room found whole = (omega (arith, run_through q d at 16 room (omega (arith, found)), before.0), omega arith)
+  run_passes room found whole = (grind (arith, nat_tests, split q d at 16, length-chunk at 16 d room, prefix_len-le-length q (chunk at 16 d), before.0), omega arith)
 
   pub run_bound : (rest : List ℕ) → count ≡ prefix_len q rest → rest ≡ drop at d → at + count ≤ length d
   run_bound rest found e = omega (arith, found ∙ ap (prefix_len q) e, prefix_len-le-length q (drop at d), length-drop at d, before.1)

@@ -43,13 +43,10 @@ pub shape_at_start : (raw rest left : List ℕ) → BeginsWith is_run_start raw 
 shape_at_start [] rest left h e = absurd h
 shape_at_start (b ∷ bs) rest left h e = ap shape_at e ∙ shape_by_start b h
 
-shape_at_word : (raw rest left : List ℕ) → IsWord raw → left ≡ raw ++ rest → shape_at left ≡ Some (a_single word)
-shape_at_word [] rest left h e = absurd h
-shape_at_word (b ∷ bs) rest left h e = ap shape_at e ∙ rw h.0
-
 pub Forms-shape : (total : ℕ) (t : Token) (left rest : List ℕ) → Forms total t left rest → shape_at left ≡ Some (shape_of t)
 Forms-shape total (single number place raw) left rest f = shape_at_start raw rest left f.formed.0 f.spelled
-Forms-shape total (single word place raw) left rest f = shape_at_word raw rest left f.formed f.spelled
+Forms-shape total (single word place []) left rest f = absurd f.formed
+Forms-shape total (single word place (b ∷ bs)) left rest f = ap shape_at f.spelled ∙ rw f.formed.0
 Forms-shape total (opening true) left rest f = ap shape_at f.spelled
 Forms-shape total (closing place true) left rest f = ap shape_at f.spelled
 Forms-shape total t left rest f = ap shape_at f.spelled

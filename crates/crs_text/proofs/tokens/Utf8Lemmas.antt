@@ -93,16 +93,13 @@ longest_stays bytes more n ill p = record {
 pub IsLongestUtf8-longer : (bytes more : List ℕ) (n : ℕ) → ¬ (IsUtf8Front bytes) → IsLongestUtf8 bytes n → IsLongestUtf8 (bytes ++ more) n
 IsLongestUtf8-longer bytes more n ill = longest_stays bytes more n (λ m u. ill (take m more, u))
 
--- the same under a closing quote
-pub IsLongestUtf8-under_quote : (raw rest : List ℕ) (n : ℕ) → ¬ (IsUtf8 raw) → IsLongestUtf8 raw n → IsLongestUtf8 (raw ++ 34 ∷ rest) n
-IsLongestUtf8-under_quote raw rest n ill = longest_stays raw (34 ∷ rest) n over
-  where
-    over : (m : ℕ) → ¬ (IsUtf8 (raw ++ take m (34 ∷ rest)))
-    over zero u = ill (rw append-nil at u)
-    over (suc m) u = ill (IsUtf8-before_quote raw (take m rest) u)
-
 pub not-IsUtf8 : (bytes : List ℕ) (n : ℕ) → IsValidUpTo bytes n → ¬ (IsUtf8 bytes)
 not-IsUtf8 bytes n v u = v.longest (length bytes) v.short (rw (take_all (length bytes) bytes (omega arith)) u)
 
+-- the same under a closing quote
 pub IsLongestUtf8-before_quote : (raw rest : List ℕ) (n : ℕ) → IsValidUpTo raw n → IsLongestUtf8 (raw ++ 34 ∷ rest) n
-IsLongestUtf8-before_quote raw rest n v = IsLongestUtf8-under_quote raw rest n (not-IsUtf8 raw n v) (IsLongestUtf8-from raw n v)
+IsLongestUtf8-before_quote raw rest n v = longest_stays raw (34 ∷ rest) n over (IsLongestUtf8-from raw n v)
+  where
+    over : (m : ℕ) → ¬ (IsUtf8 (raw ++ take m (34 ∷ rest)))
+    over zero u = not-IsUtf8 raw n v (rw append-nil at u)
+    over (suc m) u = not-IsUtf8 raw n v (IsUtf8-before_quote raw (take m rest) u)
