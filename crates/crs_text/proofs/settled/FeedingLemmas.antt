@@ -302,14 +302,12 @@ module _ (after : List ℕ) (known : ℕ) where
   pub shut_from : (more : ℕ) → IsInsideTo after known → IsShutAt (drop known after) more → IsShutAt after (known + more)
   shut_from more i s =
       let rest = drop known after in
-      let q = quote_behind rest more s in
-      let n : known + (more + 1) ≡ known + more + 1 = omega arith in
-      let behind : drop (more + 1) rest ≡ drop (known + more + 1) after = drop-drop (more + 1) known after ∙ ap (λ z. drop z after) n in
-      let e : drop (known + more) after ≡ 34 ∷ drop (known + more + 1) after = sym (drop-drop more known after) ∙ q ∙ ap (λ (z : List ℕ). 34 ∷ z) behind in (
+      let n : known + more + 1 ≡ known + (more + 1) = omega arith in
+      rw (n, ← drop-drop (more + 1) known after) (
         record {
-          parts = same_split after (known + more) (34 ∷ drop (known + more + 1) after) e;
+          parts = same_split after (known + more) (34 ∷ drop (more + 1) rest) (sym (drop-drop more known after) ∙ quote_behind rest more s);
           inside = subst IsInside (sym (take-add known more after)) (inside_append (take known after) (take more rest) i.1 s.0.inside);
-          ends = subst (StopsAt is_quote) behind s.0.ends;
+          ends = s.0.ends;
         },
         omega (arith, s.1, length-drop known after),
       )

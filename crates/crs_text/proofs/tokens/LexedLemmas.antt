@@ -5,7 +5,7 @@ use Rattle.std.proofs.Math.Seq.{take-add}
 use Rattle.std.proofs.Math.Numerals.{one-add}
 use Rattle.std.proofs.lemmas.Bool.Decides.{nat_tests}
 use Rattle.std.proofs.lemmas.List.Sums.{prefix_len-le-length}
-use Rattle.std.proofs.lemmas.Bool.{and_from}
+use Rattle.std.proofs.lemmas.Bool.{and_from, cases_Bool}
 use Rattle.std.specs.List.{list_all, prefix_len}
 use Rattle.crs_text.specs.Quoted.{IsInside, IsShutAt, StopsAt, BeginsWith, is_quote}
 use Rattle.crs_text.specs.Utf8.{IsUtf8Front, IsLongestUtf8}
@@ -70,14 +70,12 @@ module _ (left : List ℕ) (quote : left ≡ 34 ∷ drop 1 left) where
 pub prefix_taken : (test : ℕ → Bool) (xs : List ℕ) → list_all test (take (prefix_len test xs) xs) ≡ true
 prefix_taken test [] = refl
 prefix_taken test (x ∷ xs) =
-    elim (test x) as (λ v. test x ≡ v → list_all test (take (cond v (1 + prefix_len test xs) 0) (x ∷ xs)) ≡ true)
-    [ true ↦ λ e. rw one-add (and_from (test x) (list_all test (take (prefix_len test xs) xs)) e (prefix_taken test xs)) | false ↦ λ e. refl ] refl
+    elim (cases_Bool (test x)) [ inl e ↦ rw (e, one-add) (and_from (test x) (list_all test (take (prefix_len test xs) xs)) e (prefix_taken test xs)) | inr e ↦ rw e ]
 
 pub prefix_ends : (test : ℕ → Bool) (xs : List ℕ) → StopsAt test (drop (prefix_len test xs) xs)
 prefix_ends test [] = tt
 prefix_ends test (x ∷ xs) =
-    elim (test x) as (λ v. test x ≡ v → StopsAt test (drop (cond v (1 + prefix_len test xs) 0) (x ∷ xs)))
-    [ true ↦ λ e. rw one-add (prefix_ends test xs) | false ↦ λ e. e ] refl
+    elim (cases_Bool (test x)) [ inl e ↦ rw (e, one-add) (prefix_ends test xs) | inr e ↦ rw e e ]
 
 -- what begins with a byte that the test takes begins with it in the run too
 run_begins : (start test : ℕ → Bool) (xs : List ℕ) → ((b : ℕ) → start b ≡ true → test b ≡ true) → BeginsWith start xs → BeginsWith start (take (prefix_len test xs) xs)

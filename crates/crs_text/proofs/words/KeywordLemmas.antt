@@ -27,13 +27,9 @@ same-length a b e = sym (length-map a to_ascii_lowercase) ∙ ap length e ∙ le
 
 -- Letter case
 
-same-one : (k : Keyword) (a b : List ℕ) → Same a b →
-    str_eq_ignore_ascii_case (spelling_of k) a ≡ str_eq_ignore_ascii_case (spelling_of k) b
-same-one k a b e = ap (λ l. bytes_eq (str_to_ascii_lowercase (spelling_of k)) l) e
-
 same-spelled : (ks : List Keyword) (a b : List ℕ) → Same a b → first_spelled ks a ≡ first_spelled ks b
 same-spelled [] a b e = refl
-same-spelled (k ∷ ks) a b e = rw (same-one k a b e, same-spelled ks a b e) refl
+same-spelled (k ∷ ks) a b e = rw (e, same-spelled ks a b e) refl
 
 pub same-keyword_of : (a b : List ℕ) → Same a b → keyword_of a ≡ keyword_of b
 unfolding keyword_of

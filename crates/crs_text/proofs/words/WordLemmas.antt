@@ -1,5 +1,5 @@
 -- A word is one of capitals, letter case aside, where it is byte by byte; and the spellings are of capitals.
-use Rattle.std.proofs.Common.{◌≡◌, ℕ, zero, suc, ◌+◌, ◌≤◌, ◌%◌, ◌^◌, cond, nat_le, take, replicate, Fits, w8, ap₂, subst, Option, None, Some, ◌<◌, ◌↔◌, ◌==◌, ◌||◌, nat_eq, bit_and, IsTrue, filter, rules, not, Bool, true, false, if◌then◌else◌, List, [], ◌∷◌, length, map, get_or, refl, sym, ◌∙◌, ap, arith}
+use Rattle.std.proofs.Common.{inl, inr, ◌≡◌, ℕ, zero, suc, ◌+◌, ◌≤◌, ◌%◌, ◌^◌, cond, nat_le, take, replicate, Fits, w8, ap₂, subst, Option, None, Some, ◌<◌, ◌↔◌, ◌==◌, ◌||◌, nat_eq, bit_and, IsTrue, filter, rules, not, Bool, true, false, if◌then◌else◌, List, [], ◌∷◌, length, map, get_or, refl, sym, ◌∙◌, ap, arith}
 use Rattle.std.proofs.Math.ListN.{get_or-map}
 use Rattle.std.proofs.lemmas.List.{length-map, take_all, take-take}
 use Rattle.std.proofs.lemmas.Simd.{zip2_splat, length-zip2, mask_l-mod, first_set_mask_l}
@@ -9,7 +9,7 @@ use lib.Lanes.{zip2, mask_l, top, Each1}
 use Rattle.crs_text.specs.Runs.{first_set}
 use Rattle.crs_text.specs.declared.keyword.Suspect.{Suspect}
 use Rattle.std.specs.Char.{to_ascii_lowercase}
-use Rattle.std.proofs.lemmas.Bool.{agree_below, agree_below_at, leb-true, and_parts}
+use Rattle.std.proofs.lemmas.Bool.{cases_Bool, agree_below, agree_below_at, leb-true, and_parts}
 use Rattle.std.proofs.lemmas.Grind.{same_number_lists}
 use Rattle.std.proofs.lemmas.List.Sums.{AllPass-from_list_all}
 use Rattle.std.proofs.Math.Numerals.{one-add}
@@ -97,17 +97,16 @@ same_taken zero bs cs fits less caps = refl
 same_taken (suc n) [] cs fits less caps = absurd (omega arith)
 same_taken (suc n) (b ∷ bs) [] fits less caps = absurd (omega arith)
 same_taken (suc n) (b ∷ bs) (c ∷ cs) fits less caps =
-    elim (bit_and b 223 == c)
-    as (λ t. (bit_and b 223 == c) ≡ t → suc n ≤ (if t then suc (same_front bs cs) else 0) →
-    map to_ascii_lowercase (take (suc n) (c ∷ cs)) ≡ map to_ascii_lowercase (take (suc n) (b ∷ bs))) [
-      | true ↦ λ e l.
+    elim (cases_Bool (bit_and b 223 == c)) [
+      | inl e ↦
+          let more = rw e at less in
           let capital : is_capital c ≡ true = (and_parts (is_capital c) (list_all is_capital (take n cs)) caps).0 in
           let others = (and_parts (is_capital c) (list_all is_capital (take n cs)) caps).1 in
           let head : to_ascii_lowercase c ≡ to_ascii_lowercase b =
           (tested (to_ascii_lowercase c) (to_ascii_lowercase b)).0 (sym (same_letter-byte c b (capital_small c capital) fits.0.fits capital) ∙ e) in
           ap₂ (λ x (l : List ℕ). x ∷ l) head (same_taken n bs cs fits.1 (omega arith) others)
-      | false ↦ λ e l. absurd (omega arith)
-    ] refl less
+      | inr e ↦ absurd (omega (arith, rw e at less))
+    ]
 
 -- lanes that are set where the bytes differ
 pairs : (h : ℕ → ℕ → ℕ) → ((a b : ℕ) → not (top 7 (h a b)) ≡ (a == b)) → (bs cs : List ℕ) →
