@@ -1,8 +1,9 @@
 -- Lists in ascending order of their bytes: their members; they are one list where their members are
 -- the same.
-use Rattle.std.proofs.Common.{◌≡◌, ◌↔◌, ◌⊎◌, ℕ, List, [], ◌∷◌, map, inl, inr, ⊎_elim, Ordering, Less, Equal, Greater, refl, sym, ◌∙◌, ap, subst, arith}
+use Rattle.std.proofs.Common.{◌≡◌, ◌↔◌, ◌⊎◌, ℕ, List, [], ◌∷◌, map, inl, inr, Ordering, Less, Equal, Greater, refl, sym, ◌∙◌, ap, subst}
+use Rattle.std.proofs.Math.Logic.{⊎_elim, ⊎_map}
 use Rattle.std.specs.Cmp.Lexicographic.{slice_cmp}
-use Rattle.std.specs.Ordering.{nat_cmp, match_ordering, ordering_reverse, ordering_index}
+use Rattle.std.specs.Ordering.{nat_cmp, match_ordering, ordering_reverse}
 use Rattle.std.proofs.lemmas.Cmp.{nat_list_cmp_total}
 use Rattle.std.proofs.lemmas.Map.Lookups.{exact_bytes}
 use Rattle.crs_value.specs.Sound.{Each}
@@ -13,11 +14,9 @@ use Rattle.crs_normal.proofs.read.ViewLemmas.{each-so}
 
 -- ---- the order of bytes
 
-not-less : Less ≡ Greater → ⊥
-not-less e = let k : ◌≡◌ {A = ℕ} 0 2 = ap ordering_index e in absurd (omega arith)
-
 below-self : (a : List ℕ) → Below a a → ⊥
-below-self a e = not-less (sym e ∙ nat_list_cmp_total.antisymm a a ∙ ap ordering_reverse e)
+below-self a e =
+    let k : Less ≡ Greater = sym e ∙ nat_list_cmp_total.antisymm a a ∙ ap ordering_reverse e in cc
 
 below-both : (a b : List ℕ) → Below a b → Below b a → ⊥
 below-both a b p q = below-self a (nat_list_cmp_total.trans a b a p q)
@@ -122,6 +121,12 @@ module _ {A : Type 0} (bytes : A → List ℕ) where
   pub each-in_order : (P : A → Type 0) (xs : List A) → Each P xs → Each P (in_order bytes xs)
   each-in_order P xs h = each-of P (in_order bytes xs) (λ z q. each-has P xs z h (in_order-back z xs q))
 
+  -- bytes that are below others are none of them
+  above-apart : (x : A) (xs : List A) (z : A) → Each (λ u. Below (bytes x) (bytes u)) xs → IsIn z xs →
+      bytes x ≡ bytes z → ⊥
+  above-apart x xs z s q e =
+      below-self (bytes x) (subst (Below (bytes x)) (sym e) (each-has (λ u. Below (bytes x) (bytes u)) xs z s q))
+
   -- lists that ascend and have the same members are equal
   pub ascending-one : (xs ys : List A) → Ascends bytes xs → Ascends bytes ys → ((z : A) → IsIn z xs → IsIn z ys) →
       ((z : A) → IsIn z ys → IsIn z xs) →
@@ -145,23 +150,14 @@ module _ {A : Type 0} (bytes : A → List ℕ) where
 
       later : (v w : A) (vs ws : List A) (z : A) → Each (λ u. Below (bytes v) (bytes u)) vs → v ≡ w → IsIn z vs →
           IsIn z (w ∷ ws) → IsIn z ws
-      later v w vs ws z s e q (inl p) =
-          absurd
-          (below-self (bytes v)
-          (subst (λ u. Below (bytes v) (bytes u)) (p ∙ sym e) (each-has (λ u. Below (bytes v) (bytes u)) vs z s q)))
+      later v w vs ws z s e q (inl p) = absurd (above-apart v vs z s q (ap bytes (e ∙ sym p)))
       later v w vs ws z s e q (inr p) = p
 
   ascending-tells : (xs : List A) → Ascends bytes xs → Tells (λ z. IsIn z xs)
   ascending-tells [] s a b p q e = absurd p
   ascending-tells (x ∷ xs) s a b (inl p) (inl q) e = p ∙ sym q
-  ascending-tells (x ∷ xs) s a b (inl p) (inr q) e =
-      absurd
-      (below-self (bytes x)
-      (subst (Below (bytes x)) (sym e ∙ ap bytes p) (each-has (λ u. Below (bytes x) (bytes u)) xs b s.0 q)))
-  ascending-tells (x ∷ xs) s a b (inr p) (inl q) e =
-      absurd
-      (below-self (bytes x)
-      (subst (Below (bytes x)) (e ∙ ap bytes q) (each-has (λ u. Below (bytes x) (bytes u)) xs a s.0 p)))
+  ascending-tells (x ∷ xs) s a b (inl p) (inr q) e = absurd (above-apart x xs b s.0 q (ap bytes (sym p) ∙ e))
+  ascending-tells (x ∷ xs) s a b (inr p) (inl q) e = absurd (above-apart x xs a s.0 p (ap bytes (sym q) ∙ sym e))
   ascending-tells (x ∷ xs) s a b (inr p) (inr q) e = ascending-tells xs s.1 a b p q e
 
   -- what ascends is in order
@@ -181,27 +177,21 @@ module _ {V A : Type 0} (norm : V → A) (bytes : A → List ℕ) (Q : V → Typ
   abbrev pub NormTells : Type 0
   NormTells = (a b : V) → Q a → Q b → bytes (norm a) ≡ bytes (norm b) → norm a ≡ norm b
 
-  has-to : Agrees → (x : V) (ys : List V) → Q x → Each Q ys → IsIn (norm x) (map norm ys) → HasSame Same x ys
-  has-to agree x [] q h p = absurd p
-  has-to agree x (y ∷ ys) q h (inl e) = inl ((agree x y q h.0).0 e)
-  has-to agree x (y ∷ ys) q h (inr p) = inr (has-to agree x ys q h.1 p)
+  has-one : Agrees → (x : V) (ys : List V) → Q x → Each Q ys → IsIn (norm x) (map norm ys) ↔ HasSame Same x ys
+  has-one agree x [] q h = (λ p. p, λ p. p)
+  has-one agree x (y ∷ ys) q h =
+      let here = agree x y q h.0 in
+      let later = has-one agree x ys q h.1 in (⊎_map here.0 later.0, ⊎_map here.1 later.1)
 
-  has-from : Agrees → (x : V) (ys : List V) → Q x → Each Q ys → HasSame Same x ys → IsIn (norm x) (map norm ys)
-  has-from agree x [] q h p = absurd p
-  has-from agree x (y ∷ ys) q h (inl s) = inl ((agree x y q h.0).1 s)
-  has-from agree x (y ∷ ys) q h (inr p) = inr (has-from agree x ys q h.1 p)
-
-  all-to : Agrees → (xs ys : List V) → Each Q xs → Each Q ys → ((z : A) → IsIn z (map norm xs) → IsIn z (map norm ys)) →
-      AllHaveSame Same xs ys
-  all-to agree [] ys g h f = tt
-  all-to agree (x ∷ xs) ys g h f =
-      (has-to agree x ys g.0 h (f (norm x) (inl refl)), all-to agree xs ys g.1 h (λ z p. f z (inr p)))
-
-  all-from : Agrees → (xs ys : List V) → Each Q xs → Each Q ys → AllHaveSame Same xs ys → (z : A) →
-      IsIn z (map norm xs) → IsIn z (map norm ys)
-  all-from agree [] ys g h s z p = absurd p
-  all-from agree (x ∷ xs) ys g h s z (inl e) = subst (λ w. IsIn w (map norm ys)) (sym e) (has-from agree x ys g.0 h s.0)
-  all-from agree (x ∷ xs) ys g h s z (inr p) = all-from agree xs ys g.1 h s.1 z p
+  all-have : Agrees → (xs ys : List V) → Each Q xs → Each Q ys →
+      ((z : A) → IsIn z (map norm xs) → IsIn z (map norm ys)) ↔ AllHaveSame Same xs ys
+  all-have agree [] ys g h = (λ f. tt, λ s z p. absurd p)
+  all-have agree (x ∷ xs) ys g h =
+      let here = has-one agree x ys g.0 h in
+      let later = all-have agree xs ys g.1 h in (
+        λ f. (here.0 (f (norm x) (inl refl)), later.0 (λ z p. f z (inr p))),
+        λ s z. ⊎_elim (λ e. subst (λ w. IsIn w (map norm ys)) (sym e) (here.1 s.0)) (later.1 s.1 z),
+      )
 
   -- the normal value of one of this kind
   abbrev IsNormOf : A → Type 0
@@ -224,12 +214,12 @@ module _ {V A : Type 0} (norm : V → A) (bytes : A → List ℕ) (Q : V → Typ
       (z : A) → IsIn z (in_order bytes (map norm xs)) → IsIn z (in_order bytes (map norm ys))
   kept agree tells xs ys g h s z p =
       in_order-has bytes IsNormOf (norm-tells tells) z (map norm ys) (norms ys h)
-      (all-from agree xs ys g h s z (in_order-back bytes z (map norm xs) p))
+      ((all-have agree xs ys g h).1 s z (in_order-back bytes z (map norm xs) p))
 
   pub set-agrees : Agrees → NormTells → (xs ys : List V) → Each Q xs → Each Q ys →
       (in_order bytes (map norm xs) ≡ in_order bytes (map norm ys)) ↔ SameSet Same xs ys
   set-agrees agree tells xs ys g h = (
-    λ e. (all-to agree xs ys g h (moved tells xs ys g e), all-to agree ys xs h g (moved tells ys xs h (sym e))),
+    λ e. ((all-have agree xs ys g h).0 (moved tells xs ys g e), (all-have agree ys xs h g).0 (moved tells ys xs h (sym e))),
     λ s. ascending-one bytes (in_order bytes (map norm xs)) (in_order bytes (map norm ys))
         (in_order-ascends bytes (map norm xs))
         (in_order-ascends bytes (map norm ys)) (kept agree tells xs ys g h s.0) (kept agree tells ys xs h g s.1),
