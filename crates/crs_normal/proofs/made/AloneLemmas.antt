@@ -10,25 +10,26 @@ use Rattle.crs_shape.specs.Prelude.{is_keyword, slots_of, direction_word}
 use Rattle.crs_value.specs.Prelude.{those, IsAxis, IsAxisUnit, IsUnit, AxisParts, UnitParts}
 use Rattle.crs_value.specs.Checks.{Own as BreaksOwn}
 use Rattle.crs_value.specs.declared.values.level.Level.{Level}
-use Rattle.crs_value.specs.Sound.{Each}
 use Rattle.crs_matching.specs.Prelude.{kind_as}
 use Rattle.crs_normal.specs.AxisAlone.{AreNormalArguments, IsNormalArgument, IsNormalAxis}
 use Rattle.crs_normal.specs.AcceptedNormal.{IsKindIn}
 use Rattle.crs_normal.specs.DecimalLaws.{DecimalLaws}
 use Rattle.crs_normal.specs.Normal.{IsNormalIn}
 use Rattle.crs_normal.specs.PartTexts.{norm_axis_alone}
-use Rattle.crs_normal.specs.SpelledItems.{number_node, word_item}
+use Rattle.crs_normal.specs.SpelledItems.{number_node}
 use Rattle.crs_normal.specs.SpelledSystems.{item_axis, item_axis_meridian, norm_axis_meridians}
 use Rattle.crs_normal.specs.SpelledUnits.{item_unit, norm_units}
 use Rattle.crs_normal.proofs.made.AxisLemmas.{axis-meridians-made, known-direction, order-argument, axis-names}
 use Rattle.crs_normal.proofs.made.IdentLemmas.{ids-orderly, ids-of}
 use Rattle.crs_normal.proofs.made.LeafLemmas.{word-made}
-use Rattle.crs_normal.proofs.made.NodeLemmas.{Stands, node-stands, Made, MadeBy, as-argument, given, AreNormalBy}
+use Rattle.crs_normal.proofs.made.NodeLemmas.{Stands, node-stands, Made, MadeBy, as-argument, AreNormalBy}
 use Rattle.crs_normal.proofs.made.UnitLemmas.{unit-arguments, unit-made, unit-unbroken, unit_as}
 use Rattle.crs_normal.proofs.made.WordLemmas.{direction-letters}
 use Rattle.crs_normal.proofs.parts.PartLemmas.{IsStanding}
 use Rattle.crs_normal.proofs.read.NameLemmas.{keyword-names}
-use Rattle.crs_normal.proofs.made.ArgumentLemmas.{ArgumentBy, as_runs, fits, laid, may-of, one-of, runs-made, node-made, Argument, given-made, text-of}
+use Rattle.crs_normal.proofs.made.ArgumentLemmas.{ArgumentBy, as_runs, fits, laid, may-of, one-of, runs-made, node-made, Argument, text-of}
+use Rattle.crs_normal.proofs.texts.SegmentLemmas.{some-imp}
+use Rattle.crs_normal.proofs.read.ViewLemmas.{each-so}
 
 -- ---- the arguments of an axis by itself
 
@@ -48,11 +49,6 @@ made-alone level most d j m = record {
   };
 }
 
-each-alone : (level : Level) (most : ℕ) (d : Class) (js : List Item) → Each (Made level most class.Axis d) js →
-    Each (MadeBy (AsArgument level) most class.Axis d) js
-each-alone level most d [] m = tt
-each-alone level most d (j ∷ js) m = (made-alone level most d j m.0, each-alone level most d js m.1)
-
 abbrev as-alone : {level : Level} {most : ℕ} → Argument level most class.Axis →
     ArgumentBy (AsArgument level) most class.Axis
 as-alone {level = level} {most = most} a = record {
@@ -60,7 +56,7 @@ as-alone {level = level} {most = most} a = record {
   items = a.items;
   onto = a.onto;
   lined = a.lined;
-  made = each-alone level most a.of a.items a.made;
+  made = each-so _ _ (made-alone level most a.of) a.items a.made;
   some = a.some;
   few = a.few;
 }
@@ -102,8 +98,7 @@ module _ (l : DecimalLaws) (level : Level) (u : UnitParts) (h : IsUnit u) where
       MadeBy (AsArgument level) 4 class.Axis class.AxisUnit (item_unit (unit_as level kind u))
   suited kind k =
       made-alone level 4 class.AxisUnit (item_unit (unit_as level kind u))
-      (as-argument level 3 4 class.Axis class.AxisUnit (item_unit (unit_as level kind u)) (omega arith)
-      (axis-names kind k) (unit-made l level class.AxisUnit kind u k h))
+      (as-argument (omega arith) (axis-names kind k) (unit-made l level class.AxisUnit kind u k h))
 
   unit-alone : (kind : UnitKind) → kind ≢ kinds.Scale →
       MadeBy (AsArgument level) 4 class.Axis class.AxisUnit (item_unit (unit_as level (kind_as kinds.Plain kind) u))
@@ -113,22 +108,21 @@ module _ (l : DecimalLaws) (level : Level) (u : UnitParts) (h : IsUnit u) where
   unit-alone kinds.Plain n = plain-alone
 
 units-alone : DecimalLaws → (level : Level) (o : Option UnitParts) → IfSome o IsAxisUnit →
-    Each (MadeBy (AsArgument level) 4 class.Axis class.AxisUnit) (given item_unit (norm_units level kinds.Plain o))
+    IfSome (norm_units level kinds.Plain o) (λ u. MadeBy (AsArgument level) 4 class.Axis class.AxisUnit (item_unit u))
 units-alone l level None h = tt
-units-alone l level (Some u) h = (unit-alone l level u h.0 u.kind h.1, tt)
+units-alone l level (Some u) h = unit-alone l level u h.0 u.kind h.1
 
 -- ---- the axis
 
 module _ (l : DecimalLaws) (level : Level) (x : AxisParts) (h : IsAxis x) where
   abbrev alone_arguments : List (ArgumentBy (AsArgument level) 4 class.Axis)
   alone_arguments =
-      as-alone (text-of x.name h.name) ∷ as-alone (one-of class.Word (word_item (direction_word x.direction)) (word-made
+      as-alone (text-of x.name h.name) ∷ as-alone (one-of (word-made
       level 4 class.Axis (direction_word x.direction) (direction-letters x.direction) (x.direction, refl))) ∷
       as-alone (may-of class.AxisMeridian item_axis_meridian (norm_axis_meridians level x.meridian)
       (axis-meridians-made l level x.meridian h.meridian)) ∷
       as-alone (may-of class.Order (number_node (codes "ORDER")) x.order
-      (given-made level 4 class.Axis class.Order IsNormal
-      (number_node (codes "ORDER")) x.order h.order (order-argument l level))) ∷
+      (some-imp IsNormal _ (order-argument l level) x.order h.order)) ∷
       may-of class.AxisUnit item_unit (norm_units level kinds.Plain x.unit) (units-alone l level x.unit h.unit) ∷
       as-alone (ids-of l x.identifiers (omega arith) (keyword-names class.Axis (codes "ID")) h.identifiers) ∷ []
 

@@ -23,6 +23,7 @@ use Rattle.crs_normal.proofs.made.PlaceLemmas.{placed-ascend}
 use Rattle.crs_normal.proofs.made.RiseLemmas.{has-rise}
 use Rattle.crs_normal.proofs.made.LeafLemmas.{number-made, text-made}
 use Rattle.crs_normal.proofs.made.NodeLemmas.{IsOrderly, Made, MadeBy, Run, RunsMadeBy, Sees, as-argument, at-level, classes, each-line, given, line, lines, node-stands, none-orderly, opt-line, AreNormalBy, Stands, sees-by, IsFree, items_in}
+use Rattle.crs_normal.proofs.texts.SegmentLemmas.{given-each, some-imp, some-mapped}
 
 -- arguments of one class, before others: that there is one at least, and that there is one at most, where that is known
 pub record ArgumentBy (N : Class → Class → Item → Type 0) (most : ℕ) (parent : Class) : Type 0 where
@@ -44,8 +45,8 @@ pub just-one : (j : Item) → length (j ∷ []) ≤ 1
 just-one j = omega arith
 
 module _ {N : Class → Class → Item → Type 0} {most : ℕ} {parent : Class} where
-  abbrev pub one-of : (of : Class) (j : Item) → MadeBy N most parent of j → ArgumentBy N most parent
-  one-of of j m = record {
+  abbrev pub one-of : {of : Class} {j : Item} → MadeBy N most parent of j → ArgumentBy N most parent
+  one-of {of = of} {j = j} m = record {
     of = of;
     items = j ∷ [];
     onto = More j;
@@ -56,13 +57,13 @@ module _ {N : Class → Class → Item → Type 0} {most : ℕ} {parent : Class}
   }
 
   module _ {A : Type 0} (of : Class) (spell : A → Item) where
-    abbrev pub may-of : (o : Option A) → Each (MadeBy N most parent of) (given spell o) → ArgumentBy N most parent
+    abbrev pub may-of : (o : Option A) → IfSome o (λ a. MadeBy N most parent of (spell a)) → ArgumentBy N most parent
     may-of o m = record {
       of = of;
       items = given spell o;
       onto = opt spell o;
       lined = opt-line spell o;
-      made = m;
+      made = given-each (MadeBy N most parent of) spell o m;
       some = None;
       few = Some (given-few spell o);
     }
@@ -86,24 +87,11 @@ module _ {N : Class → Class → Item → Type 0} {most : ℕ} {parent : Class}
         ArgumentBy N most parent
     some-of xs some = each-of xs (Some some)
 
--- an argument that may be missing is made where the one that is given is
-pub given-made : {A : Type 0} (level : Level) (most : ℕ) (parent c : Class) (P : A → Type 0) (spell : A →
-    Item) (x : Option A) → IfSome x P →
-    ((a : A) → P a → Made level most parent c (spell a)) → Each (Made level most parent c) (given spell x)
-given-made level most parent c P spell None h f = tt
-given-made level most parent c P spell (Some a) h f = (f a h, tt)
-
-pub given-norm : {V A : Type 0} (level : Level) (most : ℕ) (parent c : Class) (P : V → Type 0) (norm : V → A)
-    (spell : A → Item) (x : Option V) → IfSome x P → ((v : V) → P v → Made level most parent c (spell (norm v))) →
-    Each (Made level most parent c) (given spell (option_map norm x))
-given-norm level most parent c P norm spell None h f = tt
-given-norm level most parent c P norm spell (Some v) h f = (f v h, tt)
-
 module _ {level : Level} {most : ℕ} {parent : Class} where
   -- a node that is made as an argument
   abbrev pub node-of : {n : ℕ} (of : Class) (j : Item) → n ≤ most → class_in parent j ≡ Some of →
       ((p : ℕ) → IsAcceptedNormal level of n (at_place p j)) → Argument level most parent
-  node-of {n = n} of j deep named made = one-of of j (as-argument level n most parent of j deep named made)
+  node-of of j deep named made = one-of {j = j} (as-argument deep named made)
 
   -- nodes that may be missing, and the members of a set, in normal form
   module _ {n : ℕ} {V A : Type 0} {P : V → Type 0} (of : Class) (norm : V → A) (spell : A → Item) where
@@ -112,8 +100,7 @@ module _ {level : Level} {most : ℕ} {parent : Class} where
         Argument level most parent
     may-node x deep named h made =
         may-of of spell (option_map norm x)
-        (given-norm level most parent of P norm spell x h
-        (λ v q. as-argument level n most parent of (spell (norm v)) deep (named v) (made v q)))
+        (some-mapped norm P (λ a. Made level most parent of (spell a)) (λ v q. as-argument deep (named v) (made v q)) x h)
 
     abbrev pub set-of : (xs : List V) → Option (xs ≢ []) → n ≤ most →
         ((v : V) → class_in parent (spell (norm v)) ≡ Some of) → Each P xs →
@@ -122,13 +109,13 @@ module _ {level : Level} {most : ℕ} {parent : Class} where
     set-of xs some deep named h made =
         each-of of spell (in_order (λ a. item_text (spell a)) (map norm xs)) (option_map (set-some norm spell xs) some)
         (set-each norm spell P (Made level most parent of) xs h
-        (λ v q. as-argument level n most parent of (spell (norm v)) deep (named v) (made v q)))
+        (λ v q. as-argument deep (named v) (made v q)))
 
   abbrev pub text-of : (raw : List ℕ) → IsText raw → Argument level most parent
-  text-of raw h = one-of class.Text (text_item raw) (text-made level most parent raw h)
+  text-of raw h = one-of (text-made level most parent raw h)
 
   abbrev pub number-of : DecimalLaws → (v : Value) → IsNormal v → Argument level most parent
-  number-of l v h = one-of class.Number (number_item v) (number-made l level most parent v h)
+  number-of l v h = one-of (number-made l level most parent v h)
 
 -- ---- all arguments
 
@@ -256,7 +243,7 @@ module _ {level : Level} (of : Class) (keyword : List ℕ) (letters : IsWord key
   single-made : (d : Class) (first : Item) → Made level 0 of d first → slots_of of ≡ one d ∷ [] →
       takes (one d) d ≡ true → IsFree d → (p : ℕ) → IsAcceptedNormal level of 1 (at_place p (node_of keyword first End))
   single-made d first m slots t free =
-      made-of level 0 of keyword _ _ (one-of d first m ∷ []) refl letters known written
+      made-of level 0 of keyword _ _ (one-of m ∷ []) refl letters known written
       (rw slots (rw t refl)) (free level (first ∷ []) [] (none-orderly level)) (λ item s r. own item)
       (λ item fault s. unbroken item fault)
 
@@ -273,24 +260,20 @@ module _ {level : Level} (of : Class) (keyword : List ℕ) (letters : IsWord key
   module _ {most : ℕ} {parent : Class} (named : class_named parent keyword ≡ Some of) (deep : 1 ≤ most) where
     pub a-text : slots_of of ≡ one class.Text ∷ [] → (raw : List ℕ) → IsText raw →
         Made level most parent of (text_node keyword raw)
-    a-text slots raw h = as-argument level 1 most parent of (text_node keyword raw) deep named (text-node-made slots raw h)
+    a-text slots raw h = as-argument deep named (text-node-made slots raw h)
 
     abbrev pub may-text : slots_of of ≡ one class.Text ∷ [] → (o : Option (List ℕ)) → IfSome o IsText →
         Argument level most parent
-    may-text slots o h =
-        may-of of (text_node keyword) o (given-made level most parent of IsText (text_node keyword) o h (a-text slots))
+    may-text slots o h = may-of of (text_node keyword) o (some-imp IsText _ (a-text slots) o h)
 
     pub a-number : DecimalLaws → slots_of of ≡ one class.Number ∷ [] → (v : Value) → IsNormal v →
         Made level most parent of (number_node keyword v)
-    a-number l slots v h =
-        as-argument level 1 most parent of (number_node keyword v) deep named (number-node-made l slots v h)
+    a-number l slots v h = as-argument deep named (number-node-made l slots v h)
 
     abbrev pub may-number : DecimalLaws → slots_of of ≡ one class.Number ∷ [] → (o : Option Value) → IfSome o IsNormal →
         Argument level most parent
-    may-number l slots o h =
-        may-of of (number_node keyword) o
-        (given-made level most parent of IsNormal (number_node keyword) o h (a-number l slots))
+    may-number l slots o h = may-of of (number_node keyword) o (some-imp IsNormal _ (a-number l slots) o h)
 
     abbrev pub one-number : DecimalLaws → slots_of of ≡ one class.Number ∷ [] → (v : Value) → IsNormal v →
         Argument level most parent
-    one-number l slots v h = one-of of (number_node keyword v) (a-number l slots v h)
+    one-number l slots v h = one-of (a-number l slots v h)

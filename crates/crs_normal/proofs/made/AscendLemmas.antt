@@ -8,14 +8,10 @@ use Rattle.crs_value.specs.Sound.{Each}
 use Rattle.crs_normal.specs.Ascending.{Ascends, Below}
 use Rattle.crs_normal.specs.NormalOwn.{Ascend}
 use Rattle.crs_normal.specs.Ordered.{put, put_all, in_order}
-use Rattle.crs_normal.proofs.read.ViewLemmas.{each-so}
-use Rattle.crs_normal.proofs.members.SetLemmas.{by-order, each-in_order, in_order-ascends}
+use Rattle.crs_normal.proofs.members.SetLemmas.{by-order, in_order-ascends}
+use Rattle.crs_normal.proofs.texts.SegmentLemmas.{each-map, set-kept}
 
 -- ---- as items
-
-pub each-map : {V A : Type 0} (f : V → A) (Q : A → Type 0) (xs : List V) → Each (λ x. Q (f x)) xs → Each Q (map f xs)
-each-map f Q [] h = tt
-each-map f Q (x ∷ xs) h = (h.0, each-map f Q xs h.1)
 
 items-ascend : {A : Type 0} (spell : A → Item) (xs : List A) → Ascends (λ x. item_text (spell x)) xs →
     Ascend (map spell xs)
@@ -29,8 +25,7 @@ pub set-each : {V A : Type 0} (norm : V → A) (spell : A → Item) (P : V → T
     ((x : V) → P x → Q (spell (norm x))) → Each Q (map spell (in_order (λ a. item_text (spell a)) (map norm xs)))
 set-each norm spell P Q xs h f =
     each-map spell Q (in_order (λ a. item_text (spell a)) (map norm xs))
-    (each-in_order (λ a. item_text (spell a)) (λ a. Q (spell a)) (map norm xs)
-    (each-map norm (λ a. Q (spell a)) xs (each-so P (λ x. Q (spell (norm x))) f xs h)))
+    (set-kept norm (λ a. item_text (spell a)) P (λ a. Q (spell a)) f xs h)
 
 -- after which none of them comes
 pub set-ascends : {A : Type 0} (spell : A → Item) (xs : List A) →

@@ -13,7 +13,6 @@ use Rattle.crs_shape.specs.Prelude.{is_keyword, class_named, asked_kind, kind_by
 use Rattle.crs_value.specs.Prelude.{orders_in, units_in, UnknownDirection, AnyOf, those, IsAxis, IsAxisMeridian, IsUnitOf, AxisMeridianParts, AxisParts, SystemParts, UnitParts}
 use Rattle.crs_value.specs.Checks.{Own as BreaksOwn}
 use Rattle.crs_value.specs.declared.values.level.Level.{Level}
-use Rattle.crs_value.specs.Sound.{Each}
 use Rattle.crs_matching.specs.Prelude.{own_or}
 use Rattle.crs_normal.specs.DecimalLaws.{DecimalLaws}
 use Rattle.crs_normal.specs.AcceptedNormal.{IsKindIn, IsAcceptedNormal}
@@ -23,7 +22,7 @@ use Rattle.crs_normal.specs.SpelledUnits.{item_unit, norm_unit, whole_value, ite
 use Rattle.crs_normal.proofs.made.EllipsoidLemmas.{unit-argument}
 use Rattle.crs_normal.proofs.made.IdentLemmas.{ids-of, ids-orderly}
 use Rattle.crs_normal.proofs.made.LeafLemmas.{word-made}
-use Rattle.crs_normal.proofs.made.NodeLemmas.{Made, as-argument, given, none-orderly}
+use Rattle.crs_normal.proofs.made.NodeLemmas.{Made, as-argument, none-orderly}
 use Rattle.crs_normal.proofs.made.PlaceLemmas.{ArePlaced, none-of}
 use Rattle.crs_normal.proofs.made.WordLemmas.{direction-letters}
 use Rattle.crs_normal.proofs.made.ArgumentLemmas.{made-of, number-of, one-of, Argument, arguments-seen, may-of, text-of, a-number, lay}
@@ -46,20 +45,14 @@ pub axis-meridian-made : DecimalLaws → (level : Level) (m : AxisMeridianParts)
 unfolding BreaksOwn class_named is_keyword
 axis-meridian-made l level m h =
     made-of level 3 class.AxisMeridian (codes "MERIDIAN") _ _ (number-of l m.longitude h.longitude ∷
-    one-of class.AngleUnit (item_unit (norm_unit level kinds.Angle m.unit)) (unit-argument l level 3 class.AxisMeridian
-    class.AngleUnit kinds.Angle m.unit (omega arith) refl refl (suits-kind kinds.Angle m.unit.kind h.unit.1) h.unit.0) ∷
-    []) refl (refl, refl) refl refl refl (none-orderly level) (λ item s r. tt)
+    one-of (unit-argument l kinds.Angle m.unit (omega arith) refl refl h.unit) ∷ []) refl (refl, refl) refl refl refl (none-orderly level) (λ item s r. tt)
     (λ item fault s b. b)
 
 pub axis-meridians-made : DecimalLaws → (level : Level) (x : Option AxisMeridianParts) → IfSome x IsAxisMeridian →
-    Each (Made level 4 class.Axis class.AxisMeridian) (given item_axis_meridian (norm_axis_meridians level x))
+    IfSome (norm_axis_meridians level x) (λ m. Made level 4 class.Axis class.AxisMeridian (item_axis_meridian m))
 unfolding class_named is_keyword
 axis-meridians-made l level None h = tt
-axis-meridians-made l level (Some m) h = (
-  as-argument level 4 4 class.Axis class.AxisMeridian (item_axis_meridian (norm_axis_meridian level m)) (omega arith)
-      refl (axis-meridian-made l level m h),
-  tt,
-)
+axis-meridians-made l level (Some m) h = as-argument (omega arith) refl (axis-meridian-made l level m h)
 
 -- ---- the unit of an axis
 
@@ -114,15 +107,13 @@ module _ (l : DecimalLaws) (level : Level) (t : SystemType) (shared : Option Uni
 
   abbrev axis_arguments : List (Argument level 4 class.Axis)
   axis_arguments =
-      text-of x.name f.axis.name ∷ one-of class.Word (word_item (direction_word x.direction)) (word-made level 4
+      text-of x.name f.axis.name ∷ one-of (word-made level 4
       class.Axis (direction_word x.direction) (direction-letters x.direction) (x.direction, refl)) ∷
       may-of class.AxisMeridian item_axis_meridian (norm_axis_meridians level x.meridian)
       (axis-meridians-made l level x.meridian f.axis.meridian) ∷
-      one-of class.Order (number_node (codes "ORDER") (whole_value k))
-      (order-argument l level (whole_value k) (whole-normal k low high)) ∷
-      one-of class.AxisUnit (item_unit (norm_unit level kind-asked f.unit)) (unit-argument l level 4 class.Axis
-      class.AxisUnit kind-asked f.unit (omega arith) (axis-names kind-asked (asked-in t x.direction))
-      (asked-in t x.direction) (suits-kind kind-asked f.unit.kind f.suits.1) f.suits.0) ∷
+      one-of (order-argument l level (whole_value k) (whole-normal k low high)) ∷
+      one-of (unit-argument l kind-asked f.unit (omega arith) (axis-names kind-asked (asked-in t x.direction))
+      (asked-in t x.direction) f.suits) ∷
       ids-of l x.identifiers (omega arith) (keyword-names class.Axis (codes "ID")) f.axis.identifiers ∷ []
 
   axis-laid : More (text_item x.name) (axis_others level kind-asked k x (own_or x.unit shared)) ≡ lay axis_arguments

@@ -6,7 +6,7 @@ use Rattle.crs_text.specs.Prelude.{Item, arguments}
 use Rattle.crs_shape.specs.declared.class.Class.{Class}
 use Rattle.crs_shape.specs.declared.class.Class.TheVariants as class
 use Rattle.crs_shape.specs.declared.system_type.SystemType.{SystemType}
-use Rattle.crs_shape.specs.Prelude.{class_named, is_keyword, IsOneOf}
+use Rattle.crs_shape.specs.Prelude.{class_named, IsOneOf}
 use Rattle.crs_value.specs.Prelude.{kept_one, those, IsSystem, SystemParts, TailParts}
 use Rattle.crs_value.specs.declared.values.level.Level.{Level}
 use Rattle.crs_value.specs.Sound.{Each}
@@ -24,6 +24,7 @@ use Rattle.crs_normal.proofs.made.TailLemmas.{NamesTail, IsTailSeen, tail_runs}
 use Rattle.crs_normal.proofs.made.ArgumentLemmas.{Argument, some-of, node-of}
 use Rattle.crs_normal.proofs.texts.SegmentLemmas.{placed-none}
 use Rattle.crs_normal.proofs.normal.DimensionLemmas.{few-axes}
+use Rattle.crs_normal.proofs.read.NameLemmas.{keyword-names}
 
 -- each position of each system has an axis
 abbrev pub AxisEach : Type 0
@@ -60,18 +61,10 @@ pub record EndNames (c : Class) : Type 0 where
   pub tails : NamesTail c
 
 pub projected-names : EndNames class.ProjectedCrs
-unfolding class_named is_keyword
-projected-names = record {
-  systems = record { head = refl; axis = refl };
-  tails = record { usage = refl; ident = refl; remark = refl };
-}
+projected-names = search keyword-names
 
 pub vertical-names : EndNames class.VerticalCrs
-unfolding class_named is_keyword
-vertical-names = record {
-  systems = record { head = refl; axis = refl };
-  tails = record { usage = refl; ident = refl; remark = refl };
-}
+vertical-names = search keyword-names
 
 pub axes-argument : DecimalLaws → (level : Level) (most : ℕ) (c : Class) (s : SystemParts) → 5 ≤ most →
     NamesSystem c → IsFew s →

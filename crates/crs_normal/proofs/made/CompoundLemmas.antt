@@ -60,8 +60,7 @@ geodetic-side : DecimalLaws → AxisEach → (level : Level) (g : GeodeticParts)
     IsSide level true (item_geodetic (norm_geodetic level g))
 unfolding class_named is_keyword
 geodetic-side l each_at level g h e plane = record {
-  made = as-argument level 6 7 class.CompoundCrs class.GeographicCrs (item_geodetic (norm_geodetic level g))
-      (omega arith)
+  made = as-argument (omega arith)
       (subst (λ t. class_named class.CompoundCrs (geodetic_keyword t) ≡ Some class.GeographicCrs) (sym e) refl)
       (λ p. subst (λ t. IsAcceptedNormal level (geodetic_class t) 6 (at_place p (item_geodetic (norm_geodetic level g)))) e
       (geodetic-made l each_at level g h p));
@@ -78,9 +77,7 @@ projected-side : DecimalLaws → AxisEach → (level : Level) (g : ProjectedPart
     IsSide level false (item_projected (norm_projected level g))
 unfolding class_named is_keyword
 projected-side l each_at level g h plane = record {
-  made = as-argument level 7 7 class.CompoundCrs class.ProjectedCrs (item_projected (norm_projected level g))
-      (omega arith) refl
-      (projected-made l each_at level g h);
+  made = as-argument (omega arith) refl (projected-made l each_at level g h);
   fine = λ p b.
       let s = projected-seen l each_at level g h p in
       is-plane l g.system.system_type g.system.dimension s.head s.is_head h.system.dimension plane
@@ -130,7 +127,7 @@ side-made l each_at level b j name v t s n h g =
     let runs : List Run = compound_runs level b j name v t in
     let seen = λ (item : Item) (q : Sees class.CompoundCrs runs item). tail-seen level class.CompoundCrs item t
     (side-shows level b j name v t item (views class.CompoundCrs runs item tail_classes q)) in
-    made-of level 7 class.CompoundCrs (codes "COMPOUNDCRS") _ _ (text-of name n ∷ one-of (side_class b) j s.made ∷
+    made-of level 7 class.CompoundCrs (codes "COMPOUNDCRS") _ _ (text-of name n ∷ one-of s.made ∷
     node-of class.VerticalCrs (item_vertical (norm_vertical level v)) (omega arith) refl
     (vertical-made l each_at level v h) ∷
     tail_arguments l level 7 class.CompoundCrs t (omega arith) compound-names g) refl (refl, refl) refl refl

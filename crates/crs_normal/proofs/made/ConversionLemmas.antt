@@ -9,13 +9,12 @@ use Rattle.crs_shape.specs.Prelude.{is_keyword, class_named, optional_of, takes}
 use Rattle.crs_value.specs.Checks.{Own as BreaksOwn}
 use Rattle.crs_value.specs.Prelude.{ConversionParts, ParameterParts, IsUnit, IsConversion, IsParameter, UnitParts}
 use Rattle.crs_value.specs.declared.values.level.Level.{Level}
-use Rattle.crs_value.specs.Sound.{Each}
 use Rattle.crs_matching.specs.Prelude.{kind_as}
 use Rattle.crs_normal.specs.PartSpellings.{unit_class}
 use Rattle.crs_normal.specs.DecimalLaws.{DecimalLaws}
 use Rattle.crs_normal.specs.AcceptedNormal.{IsKindIn, IsAcceptedNormal}
 use Rattle.crs_normal.specs.SpelledConversions.{item_conversion, item_method, item_parameter, norm_conversion, norm_method, norm_parameter, set_parameters}
-use Rattle.crs_normal.specs.SpelledUnits.{item_unit, norm_unit, norm_units}
+use Rattle.crs_normal.specs.SpelledUnits.{item_unit, norm_units}
 use Rattle.crs_normal.proofs.made.AscendLemmas.{set-ascends}
 use Rattle.crs_normal.proofs.made.IdentLemmas.{ids-of, ids-orderly, ids_run}
 use Rattle.crs_normal.proofs.made.NodeLemmas.{Made, as-argument, given, IsFree}
@@ -39,15 +38,11 @@ kind-fits kinds.Length = (refl, refl, λ level items runs h. h)
 kind-fits other = (refl, refl, λ level items runs h. h)
 
 parameter-unit : DecimalLaws → (level : Level) (x : Option UnitParts) → IfSome x IsUnit →
-    Each (Made level 3 class.Parameter (unit_class (given_kind x))) (given item_unit (norm_units level kinds.Plain x))
+    IfSome (norm_units level kinds.Plain x) (λ u. Made level 3 class.Parameter (unit_class (given_kind x)) (item_unit u))
 parameter-unit l level None h = tt
 parameter-unit l level (Some u) h =
-    let k : UnitKind = kind_as kinds.Plain u.kind in (
-      as-argument level 3 3 class.Parameter (unit_class k) (item_unit (norm_unit level kinds.Plain u)) (omega arith)
-          (named-as k)
-          (unit-made l level (unit_class k) k u (kind-fits k).0 h),
-      tt,
-    )
+    let k : UnitKind = kind_as kinds.Plain u.kind in
+    as-argument (omega arith) (named-as k) (unit-made l level (unit_class k) k u (kind-fits k).0 h)
 
 pub parameter-made : DecimalLaws → (level : Level) (m : ParameterParts) → IsParameter m → (p : ℕ) →
     IsAcceptedNormal level class.Parameter 4 (at_place p (item_parameter (norm_parameter level m)))

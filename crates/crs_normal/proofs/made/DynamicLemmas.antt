@@ -1,5 +1,5 @@
 -- Dynamic parts are made, and none is beside an ensemble.
-use Rattle.std.proofs.Common.{◌≡◌, ◌⊎◌, ℕ, ◌≤◌, Option, Some, None, List, [], ◌∷◌, codes, inl, inr, refl, arith}
+use Rattle.std.proofs.Common.{◌≡◌, ◌⊎◌, ℕ, ◌≤◌, Option, Some, List, [], ◌∷◌, codes, inl, inr, refl, arith}
 use Rattle.std.specs.Option.{option_map}
 use Rattle.crs_text.specs.Prelude.{Item, arguments, RefusedAt, at_place}
 use Rattle.crs_shape.specs.declared.class.Class.{Class}
@@ -8,15 +8,14 @@ use Rattle.crs_shape.specs.Prelude.{is_keyword, class_named}
 use Rattle.crs_value.specs.Prelude.{BadDynamic, IsUnsteady, AnyOf, DynamicParts, those, IsDynamic, IsDynamicOf}
 use Rattle.crs_value.specs.Checks.{Own as BreaksOwn}
 use Rattle.crs_value.specs.declared.values.frame.Frame.{Frame}
-use Rattle.crs_value.specs.declared.values.frame.Frame.TheVariants as frame
 use Rattle.crs_value.specs.declared.values.level.Level.{Level}
-use Rattle.crs_value.specs.Sound.{Each}
 use Rattle.crs_normal.specs.DecimalLaws.{DecimalLaws}
 use Rattle.crs_normal.specs.AcceptedNormal.{IsAcceptedNormal}
 use Rattle.crs_normal.specs.SpelledDynamic.{item_deformation_model, item_dynamic, norm_deformation_model, norm_dynamic}
-use Rattle.crs_normal.proofs.made.NodeLemmas.{Made, Run, as-argument, given, none-orderly}
+use Rattle.crs_normal.proofs.made.NodeLemmas.{Run, given, none-orderly}
 use Rattle.crs_normal.proofs.made.NamedLemmas.{deformation-model-made}
-use Rattle.crs_normal.proofs.made.ArgumentLemmas.{made-of, one-number, may-node}
+use Rattle.crs_normal.proofs.made.ArgumentLemmas.{made-of, one-number, may-node, Argument}
+use Rattle.crs_normal.proofs.same.DynamicLemmas.{dynamics-sound}
 
 pub dynamic-made : DecimalLaws → (level : Level) (d : DynamicParts) → IsDynamic d → (p : ℕ) →
     IsAcceptedNormal level class.Dynamic 4 (at_place p (item_dynamic (norm_dynamic level d)))
@@ -34,16 +33,11 @@ dynamic-made l level d h =
 abbrev pub dynamic_run : Level → Option DynamicParts → Run
 dynamic_run level x = record { of = class.Dynamic; items = given item_dynamic (option_map (norm_dynamic level) x) }
 
-pub dynamic-argument : DecimalLaws → (level : Level) (most : ℕ) (parent : Class) (x : Option DynamicParts) (f : Frame) →
-    4 ≤ most → class_named parent (codes "DYNAMIC") ≡ Some class.Dynamic → IsDynamicOf x f →
-    Each (Made level most parent class.Dynamic) (given item_dynamic (option_map (norm_dynamic level) x))
-dynamic-argument l level most parent None f deep named h = tt
-dynamic-argument l level most parent (Some d) (frame.Datum held) deep named h = (
-  as-argument level 4 most parent class.Dynamic (item_dynamic (norm_dynamic level d)) deep named
-      (dynamic-made l level d h),
-  tt,
-)
-dynamic-argument l level most parent (Some d) (frame.Ensemble held) deep named h = absurd h
+abbrev pub dynamic-of : {level : Level} {most : ℕ} {parent : Class} → DecimalLaws → (x : Option DynamicParts) (f : Frame) →
+    4 ≤ most → class_named parent (codes "DYNAMIC") ≡ Some class.Dynamic → IsDynamicOf x f → Argument level most parent
+dynamic-of {level = level} l x f deep named h =
+    may-node class.Dynamic (norm_dynamic level) item_dynamic x deep (λ d. named) (dynamics-sound x f h)
+    (dynamic-made l level)
 
 -- the classes that the check of dynamic parts looks for
 abbrev pub dynamic_classes : List Class

@@ -7,12 +7,10 @@ use Rattle.crs_shape.specs.declared.class.Class.TheVariants as class
 use Rattle.crs_shape.specs.declared.unit_kind.UnitKind.{UnitKind}
 use Rattle.crs_shape.specs.declared.unit_kind.UnitKind.TheVariants as kinds
 use Rattle.crs_shape.specs.Prelude.{is_keyword, class_named, unit_word}
-use Rattle.crs_value.specs.Prelude.{IsAboveZero, OfEllipsoid, kept-none, those, IsUnit, IsUnitOf, IsEllipsoid, EllipsoidParts, UnitParts}
+use Rattle.crs_value.specs.Prelude.{IsAboveZero, OfEllipsoid, kept-none, those, IsUnitOf, IsEllipsoid, EllipsoidParts, UnitParts}
 use Rattle.crs_value.specs.Checks.{Own as BreaksOwn}
 use Rattle.crs_value.specs.declared.values.level.Level.{Level}
-use Rattle.crs_value.specs.Sound.{Each}
 use Rattle.crs_value.specs.Values.{IdentParts}
-use Rattle.crs_matching.specs.Prelude.{kind_as}
 use Rattle.crs_normal.specs.DecimalLaws.{DecimalLaws}
 use Rattle.crs_normal.specs.AcceptedNormal.{IsKindIn, IsAcceptedNormal}
 use Rattle.crs_normal.specs.SpelledFrames.{item_ellipsoid, norm_ellipsoid}
@@ -20,7 +18,7 @@ use Rattle.crs_normal.specs.SpelledItems.{number_item}
 use Rattle.crs_normal.specs.SpelledUnits.{item_unit, metre, norm_length, norm_unit, norm_units}
 use Rattle.crs_normal.proofs.members.IdentLemmas.{none-form}
 use Rattle.crs_normal.proofs.made.IdentLemmas.{ids-of, ids-orderly}
-use Rattle.crs_normal.proofs.made.NodeLemmas.{Made, as-argument, given}
+use Rattle.crs_normal.proofs.made.NodeLemmas.{Made, as-argument}
 use Rattle.crs_normal.proofs.made.PlaceLemmas.{ArePlaced}
 use Rattle.crs_normal.proofs.made.UnitLemmas.{not-below, reads-one, unit-made, unit_as}
 use Rattle.crs_normal.proofs.made.ArgumentLemmas.{made-of, number-of, one-of, text-of}
@@ -29,36 +27,30 @@ use Rattle.crs_normal.proofs.same.UnitLemmas.{metre-is, suits-kind}
 -- ---- units
 
 -- a unit of the asked kind as an argument
-pub unit-argument : DecimalLaws → (level : Level) (most : ℕ) (parent c : Class) (asked : UnitKind) (u : UnitParts) →
-    3 ≤ most →
-    class_named parent (unit_word asked) ≡ Some c → IsKindIn c asked → kind_as asked u.kind ≡ asked → IsUnit u →
+pub unit-argument : DecimalLaws → {level : Level} {most : ℕ} {parent c : Class} (asked : UnitKind) (u : UnitParts) →
+    3 ≤ most → class_named parent (unit_word asked) ≡ Some c → IsKindIn c asked → IsUnitOf asked u →
     Made level most parent c (item_unit (norm_unit level asked u))
-unit-argument l level most parent c asked u deep named k same h =
-    subst (λ kind. Made level most parent c (item_unit (unit_as level kind u))) (sym same)
-    (as-argument level 3 most parent c (item_unit (unit_as level asked u)) deep named (unit-made l level c asked u k h))
+unit-argument l {level = level} {most = most} {parent = parent} {c = c} asked u deep named k h =
+    subst (λ kind. Made level most parent c (item_unit (unit_as level kind u))) (sym (suits-kind asked u.kind h.1))
+    (as-argument deep named (unit-made l level c asked u k h.0))
 
-pub given-unit : DecimalLaws → (level : Level) (most : ℕ) (parent c : Class) (asked : UnitKind) (x : Option UnitParts)
-    → 3 ≤ most →
-    class_named parent (unit_word asked) ≡ Some c → IsKindIn c asked → IfSome x (IsUnitOf asked) →
-    Each (Made level most parent c) (given item_unit (norm_units level asked x))
-given-unit l level most parent c asked None deep named k h = tt
-given-unit l level most parent c asked (Some u) deep named k h =
-    (unit-argument l level most parent c asked u deep named k (suits-kind asked u.kind h.1) h.0, tt)
+pub given-unit : DecimalLaws → (level : Level) {most : ℕ} (parent : Class) {c : Class} (asked : UnitKind) (x : Option UnitParts) →
+    3 ≤ most → class_named parent (unit_word asked) ≡ Some c → IsKindIn c asked → IfSome x (IsUnitOf asked) →
+    IfSome (norm_units level asked x) (λ u. Made level most parent c (item_unit u))
+given-unit l level parent asked None deep named k h = tt
+given-unit l level parent asked (Some u) deep named k h = unit-argument l asked u deep named k h
 
 abbrev metre-with : List IdentParts → UnitParts
 metre-with identifiers = record { kind = metre.kind; name = metre.name; factor = metre.factor; identifiers = identifiers }
 
 -- a unit of length, which is the metre where none is written
-pub length-argument : DecimalLaws → (level : Level) (most : ℕ) (parent : Class) (x : Option UnitParts) → 3 ≤ most →
+pub length-argument : DecimalLaws → {level : Level} {most : ℕ} {parent : Class} (x : Option UnitParts) → 3 ≤ most →
     class_named parent (codes "LENGTHUNIT") ≡ Some class.LengthUnit → IfSome x (IsUnitOf kinds.Length) →
     Made level most parent class.LengthUnit (item_unit (norm_length level x))
-length-argument l level most parent None deep named h =
+length-argument l {level = level} {most = most} {parent = parent} None deep named h =
     subst (λ identifiers. Made level most parent class.LengthUnit (item_unit (metre-with identifiers)))
-    (none-form level [] (kept-none level))
-    (unit-argument l level most parent class.LengthUnit kinds.Length metre deep named refl refl metre-is)
-length-argument l level most parent (Some u) deep named h =
-    unit-argument l level most parent class.LengthUnit kinds.Length u deep named refl
-    (suits-kind kinds.Length u.kind h.1) h.0
+    (none-form level [] (kept-none level)) (unit-argument l kinds.Length metre deep named refl (metre-is, inl refl))
+length-argument l (Some u) deep named h = unit-argument l kinds.Length u deep named refl h
 
 pub placed-some : (items js : List Item) (j : Item) → ArePlaced items (j ∷ js) → items ≢ []
 placed-some [] js j h e = h
@@ -84,8 +76,7 @@ unfolding BreaksOwn class_named is_keyword
 ellipsoid-made l level e h =
     made-of level 3 class.Ellipsoid (codes "ELLIPSOID") _ _ (text-of e.name h.name ∷
     number-of l e.semi_major_axis h.semi_major_axis ∷ number-of l e.inverse_flattening h.inverse_flattening ∷
-    one-of class.LengthUnit (item_unit (norm_length level e.unit))
-    (length-argument l level 3 class.Ellipsoid e.unit (omega arith) refl h.unit) ∷
+    one-of (length-argument l e.unit (omega arith) refl h.unit) ∷
     ids-of l e.identifiers (omega arith) refl h.identifiers ∷ []) refl (refl, refl) refl refl refl
     (ids-orderly level e.identifiers)
     (λ item s r. placed-some (those class.Ellipsoid class.LengthUnit (arguments item)) []

@@ -3,7 +3,7 @@ use Rattle.std.proofs.Common.{◌≡◌, ◌≤◌, ◌≢◌, Bool, true, false
 use Rattle.std.specs.Option.{is_some}
 use Rattle.crs_text.specs.Prelude.{Item}
 use Rattle.crs_shape.specs.declared.class.Class.{Class}
-use Rattle.crs_shape.specs.Prelude.{AllTaken, Allowed, SlotParts, takes}
+use Rattle.crs_shape.specs.Prelude.{Fills, AllTaken, Allowed, SlotParts, takes}
 use Rattle.crs_normal.proofs.made.NodeLemmas.{given, repeated}
 
 pub both : (b c : Bool) → (if b then c else false) ≡ true → (b ≡ true) × (c ≡ true)
@@ -42,46 +42,28 @@ module _ (slot : SlotParts) (slots : List SlotParts) where
   pub slot-fits : (d : Class) (js : List Item) (rest : List Class) → takes slot d ≡ true →
       (IsTrue slot.required → js ≢ []) → (IsFalse slot.many → length js ≤ 1) → Allowed slots rest →
       Allowed (slot ∷ slots) (repeated d js rest)
-  slot-fits d js rest t some few a = (
-    repeated d js [] ∷ a.0,
-    (
-      (
-        record {
-          taken = taken-more slot d js [] t tt;
-          enough = λ h. repeated-some d js (some h);
-          not_more = λ h. repeated-few d js (few h);
-        },
-        a.1.0,
-      ),
-      ap (repeated d js) a.1.1 ∙ repeated-onto d js [] _,
-    ),
-  )
+  slot-fits d js rest t some few a =
+      let fills : Fills slot (repeated d js []) = record {
+        taken = taken-more slot d js [] t tt;
+        enough = λ h. repeated-some d js (some h);
+        not_more = λ h. repeated-few d js (few h);
+      } in
+      (repeated d js [] ∷ a.0, ((fills, a.1.0), ap (repeated d js) a.1.1 ∙ repeated-onto d js [] _))
 
   -- before others in a slot that takes any number
   pub more-fit : (d : Class) (js : List Item) (rest : List Class) → takes slot d ≡ true → slot.required ≡ false →
       slot.many ≡ true → Allowed (slot ∷ slots) rest → Allowed (slot ∷ slots) (repeated d js rest)
   more-fit d js rest t none many ([], a) = absurd a.0
-  more-fit d js rest t none many (run ∷ runs, a) = (
-    repeated d js run ∷ runs,
-    (
-      (
-        record {
-          taken = taken-more slot d js run t a.0.0.taken;
-          enough = λ h. absurd (true≢false (sym h ∙ none));
-          not_more = λ h. absurd (true≢false (sym many ∙ h));
-        },
-        a.0.1,
-      ),
-      ap (repeated d js) a.1 ∙ repeated-onto d js run _,
-    ),
-  )
+  more-fit d js rest t none many (run ∷ runs, a) =
+      let fills : Fills slot (repeated d js run) = record {
+        taken = taken-more slot d js run t a.0.0.taken;
+        enough = λ h. absurd (true≢false (sym h ∙ none));
+        not_more = λ h. absurd (true≢false (sym many ∙ h));
+      } in
+      (repeated d js run ∷ runs, ((fills, a.0.1), ap (repeated d js) a.1 ∙ repeated-onto d js run _))
 
   -- a slot that nothing fills
   pub none-fit : (rest : List Class) → slot.required ≡ false → Allowed slots rest → Allowed (slot ∷ slots) rest
-  none-fit rest none a = (
-    [] ∷ a.0,
-    (
-      (record { taken = tt; enough = λ h. absurd (true≢false (sym h ∙ none)); not_more = λ h. omega arith }, a.1.0),
-      a.1.1,
-    ),
-  )
+  none-fit rest none a =
+      let fills : Fills slot [] = record { taken = tt; enough = λ h. absurd (true≢false (sym h ∙ none)); not_more = λ h. omega arith } in
+      ([] ∷ a.0, ((fills, a.1.0), a.1.1))

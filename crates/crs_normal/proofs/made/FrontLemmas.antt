@@ -55,9 +55,8 @@ framed_runs b level n x f j rest = alone class.Text n ∷ dynamic_run level x �
 pub frame-fits : (b : Bool) (f : Frame) →
     (takes (one_of (frame_classes b)) (frame_class b f) ≡ true) × IsFree (frame_class b f)
 frame-fits true (frame.Datum d) = (refl, λ level items runs h. h)
-frame-fits true (frame.Ensemble e) = (refl, λ level items runs h. h)
 frame-fits false (frame.Datum d) = (refl, λ level items runs h. h)
-frame-fits false (frame.Ensemble e) = (refl, λ level items runs h. h)
+frame-fits b f = (refl, λ level items runs h. h)
 
 -- what is in a CRS or base with a prime meridian
 abbrev pub geodetic_classes : List Class
@@ -67,9 +66,8 @@ module _ (level : Level) (c : Class) (item n : Item) where
   frame-shows : (b : Bool) (x : Option DynamicParts) (f : Frame) (j : Item) (rest : List Run) →
       Each (Shows c item (framed_runs b level n x f j rest)) geodetic_classes → Each (Shows c item rest) geodetic_classes
   frame-shows true x (frame.Datum d) j rest h = h
-  frame-shows true x (frame.Ensemble e) j rest h = h
   frame-shows false x (frame.Datum d) j rest h = h
-  frame-shows false x (frame.Ensemble e) j rest h = h
+  frame-shows b x f j rest h = h
 
   steady : (rest : List Run) → Each (λ e. items_in e rest ≡ []) dynamic_classes →
       Shows c item rest class.Dynamic ⊎ (Shows c item rest class.GeodeticEnsemble
@@ -84,13 +82,12 @@ module _ (level : Level) (c : Class) (item n : Item) where
   frame-steady : (b : Bool) (x : Option DynamicParts) (f : Frame) (j : Item) (rest : List Run) → IsDynamicOf x f →
       Each (λ e. items_in e rest ≡ []) dynamic_classes →
       Each (Shows c item (framed_runs b level n x f j rest)) dynamic_classes → IsSteady c item
-  frame-steady true None (frame.Datum d) j rest h none v = steady rest none (inl v.0)
-  frame-steady true None (frame.Ensemble e) j rest h none v = steady rest none (inl v.0)
-  frame-steady true (Some x) (frame.Datum d) j rest h none v = steady rest none (inr (v.1.0, v.1.1.0))
-  frame-steady false None (frame.Datum d) j rest h none v = steady rest none (inl v.0)
-  frame-steady false None (frame.Ensemble e) j rest h none v = steady rest none (inl v.0)
-  frame-steady false (Some x) (frame.Datum d) j rest h none v = steady rest none (inr (v.1.0, v.1.1.0))
   frame-steady b (Some x) (frame.Ensemble e) j rest h none v = absurd h
+  frame-steady true (Some x) (frame.Datum d) j rest h none v = steady rest none (inr (v.1.0, v.1.1.0))
+  frame-steady false (Some x) (frame.Datum d) j rest h none v = steady rest none (inr (v.1.0, v.1.1.0))
+  frame-steady true None (frame.Datum d) j rest h none v = steady rest none (inl v.0)
+  frame-steady false None (frame.Datum d) j rest h none v = steady rest none (inl v.0)
+  frame-steady b None f j rest h none v = steady rest none (inl v.0)
 
   -- what is in it, and that no dynamic part is beside an ensemble, where none of these come after the frame
   pub frame-seen : (b : Bool) (x : Option DynamicParts) (f : Frame) (j : Item) (rest : List Run) → IsDynamicOf x f →

@@ -1,6 +1,5 @@
 -- Geodetic and geographic CRSs are made.
 use Rattle.std.proofs.Common.{◌≡◌, ◌≢◌, ℕ, IsTrue, Some, List, [], ◌∷◌, codes, refl, sym, subst, ◌∙◌, arith, true}
-use Rattle.std.specs.Option.{option_map}
 use Rattle.crs_decimal.specs.Prelude.{Value}
 use Rattle.crs_text.specs.Prelude.{Item, arguments, raw_of, RefusedAt, IsWord, at_place}
 use Rattle.crs_shape.specs.declared.class.Class.{Class}
@@ -18,24 +17,36 @@ use Rattle.crs_normal.specs.AcceptedNormal.{IsAcceptedNormal, geodetic_frame_cla
 use Rattle.crs_normal.specs.Normal.{IsFirstKeyword}
 use Rattle.crs_normal.specs.NormalOwn.{Has, HasAxes, HasTail, HasOwnForm, words_in}
 use Rattle.crs_normal.specs.SpelledCrs.{geodetic_keyword, item_geodetic, norm_geodetic}
-use Rattle.crs_normal.specs.SpelledDynamic.{item_dynamic, norm_dynamic}
 use Rattle.crs_normal.specs.SpelledFrames.{item_frame, item_meridian, norm_frame, norm_meridian}
 use Rattle.crs_normal.specs.SpelledItems.{text_item, word_item}
 use Rattle.crs_normal.proofs.made.SystemLemmas.{IsFew}
 use Rattle.crs_normal.proofs.made.BehindLemmas.{AxisEach, NamesSystem, Shows, behind, few-system, system-seen, behind_arguments}
 use Rattle.crs_normal.proofs.read.ViewLemmas.{each-so}
 use Rattle.crs_normal.proofs.made.CheckLemmas.{IsSystemSeen, IsSystemIn}
-use Rattle.crs_normal.proofs.made.DynamicLemmas.{dynamic-argument, IsSteady}
+use Rattle.crs_normal.proofs.made.DynamicLemmas.{IsSteady, dynamic-of}
 use Rattle.crs_normal.proofs.made.FrameLemmas.{geodetic-frame-made}
 use Rattle.crs_normal.proofs.made.FrontLemmas.{NamesFrame, framed_runs, geodetic_classes, meridian-there, crs-node-made, frame-named, frame-fits, frame-seen}
 use Rattle.crs_normal.proofs.made.NodeLemmas.{Run, Sees, given}
 use Rattle.crs_normal.proofs.made.PlaceLemmas.{same-of}
-use Rattle.crs_normal.proofs.made.MeridianLemmas.{meridian-argument}
+use Rattle.crs_normal.proofs.made.MeridianLemmas.{meridian-of}
 use Rattle.crs_normal.proofs.made.TailLemmas.{NamesTail, tail_arguments, tail-orderly}
 use Rattle.crs_normal.proofs.normal.DimensionLemmas.{small-geodetic}
-use Rattle.crs_normal.proofs.made.ArgumentLemmas.{Argument, arguments-seen, may-of, text-of, node-of}
+use Rattle.crs_normal.proofs.made.ArgumentLemmas.{Argument, arguments-seen, text-of, node-of}
+use Rattle.crs_normal.proofs.read.NameLemmas.{keyword-names}
 
 -- ---- the class of a CRS by the type of its system
+
+-- what keywords name in a geodetic or geographic CRS
+pub record GeodeticNames (c : Class) : Type 0 where
+  pub dynamics : class_named c (codes "DYNAMIC") ≡ Some class.Dynamic
+  pub frames : NamesFrame c
+  pub meridians : class_named c (codes "PRIMEM") ≡ Some class.PrimeMeridian
+  pub systems : NamesSystem c
+  pub tails : NamesTail c
+
+pub names-of : (t : SystemType) → GeodeticNames (geodetic_class t)
+names-of types.Ellipsoidal = search keyword-names
+names-of other = search keyword-names
 
 -- a class and keyword for CRSs with a system of this type
 record IsRootClass (t : SystemType) (c : Class) (keyword : List ℕ) : Type 0 where
@@ -43,11 +54,6 @@ record IsRootClass (t : SystemType) (c : Class) (keyword : List ℕ) : Type 0 wh
   known : IsTrue (is_keyword c keyword)
   written : IsFirstKeyword c keyword
   slots : slots_of c ≡ geodetic_slots
-  frames : NamesFrame c
-  systems : NamesSystem c
-  tails : NamesTail c
-  dynamic : class_named c (codes "DYNAMIC") ≡ Some class.Dynamic
-  meridian : class_named c (codes "PRIMEM") ≡ Some class.PrimeMeridian
   allows : (d : Value) → IsOneOf d (dimensions_of class.GeodeticCrs t) → IsOneOf d (dimensions_of c t)
   breaks : (item : Item) (fault : RefusedAt) → BreaksOwn c item fault → OfCrs (dimensions_of c) c item fault
   own : (item : Item) → Each (λ cs. words_in class.CoordinateSystem cs ≡ system_word t ∷ [])
@@ -64,17 +70,12 @@ other-words w items n =
 
 geodetic-root : (t : SystemType) → system_word t ≢ codes "ellipsoidal" →
     IsRootClass t class.GeodeticCrs (codes "GEODCRS")
-unfolding BreaksOwn class_named is_keyword
+unfolding BreaksOwn is_keyword
 geodetic-root t n = record {
   letters = (refl, refl);
   known = refl;
   written = refl;
   slots = refl;
-  frames = record { datum = refl; ensemble = refl };
-  systems = record { head = refl; axis = refl };
-  tails = record { usage = refl; ident = refl; remark = refl };
-  dynamic = refl;
-  meridian = refl;
   allows = λ d h. h;
   breaks = λ item fault b. b;
   own = λ item words meridian axes end. (
@@ -86,17 +87,12 @@ geodetic-root t n = record {
 }
 
 geographic-root : IsRootClass types.Ellipsoidal class.GeographicCrs (codes "GEOGCRS")
-unfolding BreaksOwn class_named is_keyword
+unfolding BreaksOwn is_keyword
 geographic-root = record {
   letters = (refl, refl);
   known = refl;
   written = refl;
   slots = refl;
-  frames = record { datum = refl; ensemble = refl };
-  systems = record { head = refl; axis = refl };
-  tails = record { usage = refl; ident = refl; remark = refl };
-  dynamic = refl;
-  meridian = refl;
   allows = λ d h. h;
   breaks = λ item fault b. b;
   own = λ item words meridian axes end. (meridian, axes, end);
@@ -124,17 +120,14 @@ abbrev geodetic_runs : Level → GeodeticParts → List Run
 geodetic_runs level g =
     framed_runs true level (text_item g.name) g.dynamic g.frame (frame_item level g) (geodetic_rest level g)
 
-abbrev geodetic_arguments : DecimalLaws → (level : Level) (c : Class) (keyword : List ℕ) (g : GeodeticParts) →
-    IsRootClass g.system.system_type c keyword → IsFew g.system → IsGeodetic g → List (Argument level 5 c)
-geodetic_arguments l level c keyword g r few h =
-    text-of g.name h.name ∷ may-of class.Dynamic item_dynamic (option_map (norm_dynamic level) g.dynamic)
-    (dynamic-argument l level 5 c g.dynamic g.frame (omega arith) r.dynamic h.dynamic) ∷
-    node-of (geodetic_frame_class g.frame) (frame_item level g) (omega arith) (frame-named level c g.frame r.frames)
+abbrev geodetic_arguments : DecimalLaws → (level : Level) (c : Class) (g : GeodeticParts) → GeodeticNames c → IsFew g.system → IsGeodetic g → List (Argument level 5 c)
+geodetic_arguments l level c g n few h =
+    text-of g.name h.name ∷ dynamic-of l g.dynamic g.frame (omega arith) n.dynamics h.dynamic ∷
+    node-of (geodetic_frame_class g.frame) (frame_item level g) (omega arith) (frame-named level c g.frame n.frames)
     (geodetic-frame-made l level g.frame h.frame) ∷
-    may-of class.PrimeMeridian item_meridian (norm_meridian level g.meridian)
-    (meridian-argument l level 5 c g.meridian (omega arith) r.meridian h.meridian) ∷
-    behind_arguments l level 5 c g.system (tail_arguments l level 5 c g.tail (omega arith) r.tails h.tail) (omega arith)
-    r.systems few
+    meridian-of l g.meridian (omega arith) n.meridians h.meridian ∷
+    behind_arguments l level 5 c g.system (tail_arguments l level 5 c g.tail (omega arith) n.tails h.tail) (omega arith)
+    n.systems few
 
 -- the word of each node `CS`
 system-words : (t : SystemType) (d : Value) (systems axes units : List Item) → IsSystemSeen t d systems axes units →
@@ -160,7 +153,7 @@ geodetic-made l each_at level g h =
     let keyword : List ℕ = geodetic_keyword g.system.system_type in
     let few = few-system l each_at (dimensions_of class.GeodeticCrs) small-geodetic g.system h.system h.dimension in
     let r = is-root g.system.system_type in
-    crs-node-made l level 5 c keyword _ _ (geodetic_arguments l level c keyword g r few h) refl r.letters r.known
+    crs-node-made l level 5 c keyword _ _ (geodetic_arguments l level c g (names-of g.system.system_type) few h) refl r.letters r.known
     r.written
     (rw r.slots (rw (frame-fits true g.frame).0 (refl {a = true})))
     ((frame-fits true g.frame).1 level (frame_item level g ∷ []) (geodetic_rest level g) (tail-orderly level g.tail))
@@ -182,5 +175,5 @@ geodetic-seen l each_at level g h p =
     let few : IsFew g.system = few-system l each_at (dimensions_of class.GeodeticCrs) small-geodetic g.system h.system h.dimension in
     let s : Sees c (geodetic_runs level g) item =
     arguments-seen level 5 c (geodetic_keyword g.system.system_type) _ _
-    (geodetic_arguments l level c (geodetic_keyword g.system.system_type) g (is-root g.system.system_type) few h) refl p in
+    (geodetic_arguments l level c g (names-of g.system.system_type) few h) refl p in
     system-seen l level c item g.system g.tail few (geodetic-shown level c g item h s).0.1

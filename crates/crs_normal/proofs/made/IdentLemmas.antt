@@ -16,12 +16,13 @@ use Rattle.crs_normal.specs.NormalOwn.{Ascend, IsCode}
 use Rattle.crs_normal.specs.Ordered.{in_order}
 use Rattle.crs_normal.specs.SpelledItems.{code_item, text_item, text_node}
 use Rattle.crs_normal.specs.SpelledUnits.{item_ident, set_idents}
-use Rattle.crs_normal.proofs.made.AscendLemmas.{each-map, set-ascends}
+use Rattle.crs_normal.proofs.made.AscendLemmas.{set-ascends}
 use Rattle.crs_normal.proofs.read.ViewLemmas.{each-so}
 use Rattle.crs_normal.proofs.members.SetLemmas.{each-in_order}
 use Rattle.crs_normal.proofs.made.ArgumentLemmas.{Argument, any-of, made-of, may-of, may-text, one-of, text-of}
 use Rattle.crs_normal.proofs.made.LeafLemmas.{IsCodeKind, code-kind, code-made, code_kind}
 use Rattle.crs_normal.proofs.made.NodeLemmas.{IsOrderly, Made, Run, alone, as-argument, given, line, none-orderly, IsFree}
+use Rattle.crs_normal.proofs.texts.SegmentLemmas.{each-map}
 
 -- ---- identifiers, with the kinds of the code and the version
 
@@ -55,9 +56,9 @@ version-taken None h = refl
 version-taken (Some raw) h = code-taken (code_kind raw) raw (code-kind raw h)
 
 version-made : DecimalLaws → (level : Level) (version : Option (List ℕ)) → IfSome version IsText →
-    Each (Made level 1 class.Identifier (class_of_kind (version_kind version))) (given code_item version)
+    IfSome version (λ raw. Made level 1 class.Identifier (class_of_kind (version_kind version)) (code_item raw))
 version-made l level None h = tt
-version-made l level (Some raw) h = (code-made l level 1 (code_kind raw) raw (code-kind raw h), tt)
+version-made l level (Some raw) h = code-made l level 1 (code_kind raw) raw (code-kind raw h)
 
 code-is : (k : Kind) (raw : List ℕ) (p : ℕ) (more : List Item) → IsCodeKind k raw → Each IsCode more →
     Each IsCode (single_of (More (leaf k p raw) End) ++ more)
@@ -80,8 +81,7 @@ pub ident-made : DecimalLaws → (level : Level) (i : IdentParts) → IsIdent i 
 unfolding is_keyword BreaksOwn class_named
 ident-made l level i h =
     made-of level 1 class.Identifier (codes "ID") _ _ (text-of i.authority h.authority ∷
-    one-of (class_of_kind (code_kind i.code)) (code_item i.code)
-    (code-made l level 1 (code_kind i.code) i.code (code-kind i.code h.code)) ∷
+    one-of (code-made l level 1 (code_kind i.code) i.code (code-kind i.code h.code)) ∷
     may-of (class_of_kind (version_kind i.version)) code_item i.version (version-made l level i.version h.version) ∷
     may-text class.Citation (codes "CITATION") (refl, refl) refl refl (λ item. tt) (λ item fault b. b) refl (omega arith)
     refl i.citation h.citation ∷ may-text class.Uri (codes "URI") (refl, refl) refl refl (λ item. tt)
@@ -112,7 +112,7 @@ pub identifiers-made : DecimalLaws → (level : Level) (most : ℕ) (parent : Cl
 identifiers-made l level most parent identifiers deep named h =
     each-map item_ident (Made level most parent class.Identifier) (set_idents level identifiers)
     (each-so IsIdent (λ i. Made level most parent class.Identifier (item_ident i))
-    (λ i q. as-argument level 2 most parent class.Identifier (item_ident i) deep named (ident-made l level i q))
+    (λ i q. as-argument deep named (ident-made l level i q))
     (set_idents level identifiers) (idents-sound level identifiers h))
 
 abbrev pub ids-of : {level : Level} {most : ℕ} {parent : Class} → DecimalLaws → (identifiers : List IdentParts) →

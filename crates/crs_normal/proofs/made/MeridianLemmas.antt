@@ -10,7 +10,6 @@ use Rattle.crs_shape.specs.Prelude.{is_keyword, class_named}
 use Rattle.crs_value.specs.Checks.{Own as BreaksOwn}
 use Rattle.crs_value.specs.Prelude.{kept-none, those, IsMeridian, IsUnitOf, MeridianParts, UnitParts}
 use Rattle.crs_value.specs.declared.values.level.Level.{Level}
-use Rattle.crs_value.specs.Sound.{Each}
 use Rattle.crs_value.specs.Values.{IdentParts}
 use Rattle.crs_normal.specs.DecimalLaws.{DecimalLaws}
 use Rattle.crs_normal.specs.AcceptedNormal.{IsAcceptedNormal}
@@ -23,7 +22,7 @@ use Rattle.crs_normal.proofs.members.IdentLemmas.{none-form}
 use Rattle.crs_normal.proofs.made.IdentLemmas.{ids-of, ids-orderly}
 use Rattle.crs_normal.proofs.made.NodeLemmas.{Made, as-argument, given}
 use Rattle.crs_normal.proofs.made.PlaceLemmas.{ArePlaced, same-of}
-use Rattle.crs_normal.proofs.made.ArgumentLemmas.{made-of, may-of, number-of, text-of}
+use Rattle.crs_normal.proofs.made.ArgumentLemmas.{made-of, may-of, number-of, text-of, Argument}
 use Rattle.crs_normal.proofs.texts.SegmentLemmas.{placed-none}
 
 -- ---- the longitude 0
@@ -43,14 +42,14 @@ abbrev unit_at : Level → Value → Option UnitParts → Option UnitParts
 unit_at level v x = if is_zero v then None else norm_units level kinds.Angle x
 
 angle-made : DecimalLaws → (level : Level) (v : Value) (x : Option UnitParts) → IfSome x (IsUnitOf kinds.Angle) →
-    Each (Made level 3 class.PrimeMeridian class.AngleUnit) (given item_unit (unit_at level v x))
+    IfSome (unit_at level v x) (λ u. Made level 3 class.PrimeMeridian class.AngleUnit (item_unit u))
 unfolding class_named is_keyword
 angle-made l level v x h = by (is_zero v)
   where
-    by : (b : Bool) → Each (Made level 3 class.PrimeMeridian class.AngleUnit)
-        (given item_unit (if b then None else norm_units level kinds.Angle x))
+    by : (b : Bool) → IfSome (if b then None else norm_units level kinds.Angle x)
+        (λ u. Made level 3 class.PrimeMeridian class.AngleUnit (item_unit u))
     by true = tt
-    by false = given-unit l level 3 class.PrimeMeridian class.AngleUnit kinds.Angle x (omega arith) refl refl h
+    by false = given-unit l level class.PrimeMeridian kinds.Angle x (omega arith) refl refl h
 
 none-at-zero : DecimalLaws → (level : Level) (v : Value) (x : Option UnitParts) (item : Item) → IsNormal v →
     ArePlaced (those class.PrimeMeridian class.Number (arguments item)) (number_item v ∷ []) →
@@ -98,17 +97,14 @@ greenwich-made l level p =
     }) p)
 
 -- a prime meridian as an argument, which is Greenwich where none is written
-pub meridian-argument : DecimalLaws → (level : Level) (most : ℕ) (parent : Class) (m : Option MeridianParts) →
-    4 ≤ most →
+pub given-meridian : DecimalLaws → (level : Level) {most : ℕ} (parent : Class) (m : Option MeridianParts) → 4 ≤ most →
     class_named parent (codes "PRIMEM") ≡ Some class.PrimeMeridian → IfSome m IsMeridian →
-    Each (Made level most parent class.PrimeMeridian) (given item_meridian (norm_meridian level m))
-meridian-argument l level most parent None deep named h = (
-  as-argument level 4 most parent class.PrimeMeridian (item_meridian greenwich) deep named
-      (greenwich-made l level),
-  tt,
-)
-meridian-argument l level most parent (Some m) deep named h = (
-  as-argument level 4 most parent class.PrimeMeridian (item_meridian (norm_given level m)) deep named
-      (meridian-made l level m h),
-  tt,
-)
+    IfSome (norm_meridian level m) (λ g. Made level most parent class.PrimeMeridian (item_meridian g))
+given-meridian l level parent None deep named h = as-argument deep named (greenwich-made l level)
+given-meridian l level parent (Some m) deep named h = as-argument deep named (meridian-made l level m h)
+
+abbrev pub meridian-of : {level : Level} {most : ℕ} {parent : Class} → DecimalLaws → (m : Option MeridianParts) →
+    4 ≤ most → class_named parent (codes "PRIMEM") ≡ Some class.PrimeMeridian → IfSome m IsMeridian →
+    Argument level most parent
+meridian-of {level = level} {parent = parent} l m deep named h =
+    may-of class.PrimeMeridian item_meridian (norm_meridian level m) (given-meridian l level parent m deep named h)

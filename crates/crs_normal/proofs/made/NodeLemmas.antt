@@ -1,10 +1,10 @@
 -- A node of arguments that are accepted and normal is accepted and normal itself: what it asks of
 -- its arguments is said of them as runs of one class each, with all places left out.
-use Rattle.std.proofs.Common.{◌≡◌, ℕ, suc, ◌+◌, ◌≤◌, Bool, true, false, IsTrue, Option, Some, None, List, [], ◌∷◌, ◌++◌, map, length, if◌then◌else◌, refl, sym, ap, subst, ◌∙◌, arith, nat_le}
+use Rattle.std.proofs.Common.{◌≡◌, ℕ, suc, ◌+◌, ◌≤◌, Bool, true, false, IsTrue, Option, Some, List, [], ◌∷◌, ◌++◌, length, if◌then◌else◌, refl, sym, ap, subst, ◌∙◌, arith, nat_le}
 use Rattle.std.proofs.Math.Logic.{⊎_elim}
 use Rattle.crs_text.specs.Prelude.{Item, IsNode, Siblings, End, More, arguments, depth, depths, RefusedAt, IsWord, AreFormed, AreAllFormed, at_place, at_places, item_text}
 use Rattle.crs_shape.specs.declared.class.Class.{Class}
-use Rattle.crs_shape.specs.Prelude.{is_keyword, Allowed, class_in, Shaped, AreShaped, is_class, slots_of}
+use Rattle.crs_shape.specs.Prelude.{is_keyword, Allowed, class_in, Shaped, AreShaped, slots_of}
 use Rattle.crs_value.specs.Prelude.{AtClass, Breaks, BreaksAmong, kept, kept-none, kept-where_none, is_same, those}
 use Rattle.crs_value.specs.Checks.{Own as BreaksOwn}
 use Rattle.crs_value.specs.declared.values.level.Level.{Level}
@@ -12,9 +12,11 @@ use Rattle.crs_normal.specs.AcceptedNormal.{IsAcceptedNormal}
 use Rattle.crs_normal.specs.Normal.{AtLevel, IsNormalIn, left_out}
 use Rattle.crs_normal.specs.NormalOwn.{Ascend, rank, set_classes}
 use Rattle.crs_value.specs.Sound.{Each}
-use Rattle.crs_normal.specs.SpelledItems.{each, node_of, opt}
-use Rattle.crs_normal.proofs.texts.SegmentLemmas.{placed-none}
+use Rattle.crs_normal.specs.SpelledItems.{node_of}
+use Rattle.crs_normal.proofs.texts.SegmentLemmas.{placed-none, those-line}
 use Rattle.crs_normal.proofs.read.ViewLemmas.{each-so}
+pub use Rattle.crs_normal.proofs.read.ViewLemmas.{onto as line}
+pub use Rattle.crs_normal.proofs.texts.SegmentLemmas.{each-line, given, opt-line}
 use Rattle.crs_normal.proofs.made.PlaceLemmas.{ArePlaced, class-at, those-placed}
 
 -- ---- runs: arguments of one class, in order
@@ -25,15 +27,6 @@ pub record Run : Type 0 where
 
 abbrev pub alone : Class → Item → Run
 alone c j = record { of = c; items = j ∷ [] }
-
--- the item of a part that may be missing
-abbrev pub given : {A : Type 0} → (A → Item) → Option A → List Item
-given spell None = []
-given spell (Some x) = spell x ∷ []
-
-abbrev pub line : List Item → Siblings → Siblings
-line [] rest = rest
-line (j ∷ js) rest = More j (line js rest)
 
 abbrev pub lines : List Run → Siblings
 lines [] = End
@@ -51,16 +44,6 @@ classes (run ∷ runs) = repeated run.of run.items (classes runs)
 abbrev pub items_in : Class → List Run → List Item
 items_in e [] = []
 items_in e (run ∷ runs) = if is_same e run.of then run.items ++ items_in e runs else items_in e runs
-
-pub each-line : {A : Type 0} (spell : A → Item) (xs : List A) (rest : Siblings) →
-    each spell xs rest ≡ line (map spell xs) rest
-each-line spell [] rest = refl
-each-line spell (x ∷ xs) rest = ap (λ r. More (spell x) r) (each-line spell xs rest)
-
-pub opt-line : {A : Type 0} (spell : A → Item) (x : Option A) (rest : Siblings) →
-    opt spell x rest ≡ line (given spell x) rest
-opt-line spell None rest = refl
-opt-line spell (Some x) rest = refl
 
 -- ---- arguments
 
@@ -84,29 +67,11 @@ abbrev pub RunsMadeBy : (Class → Class → Item → Type 0) → ℕ → Class 
 RunsMadeBy N most c [] = Unit {0}
 RunsMadeBy N most c (run ∷ runs) = Each (MadeBy N most c run.of) run.items × RunsMadeBy N most c runs
 
-named-if : (c d e : Class) (j : Item) (js : Siblings) → class_in c j ≡ Some d →
-    those c e (More j js) ≡ (if is_same e d then j ∷ those c e js else those c e js)
-named-if c d e j js h = ap (λ o. if is_class e o then j ∷ those c e js else those c e js) h
-
-named-run : (N : Class → Class → Item → Type 0) (most : ℕ) (c e d : Class) (b : Bool) → is_same e d ≡ b →
-    (js : List Item) (rest : Siblings) → Each (MadeBy N most c d) js →
-    those c e (line js rest) ≡ (if b then js ++ those c e rest else those c e rest)
-named-run N most c e d true q [] rest h = refl
-named-run N most c e d true q (j ∷ js) rest h =
-    named-if c d e j (line js rest) h.0.named
-    ∙ ap (λ b. if b then j ∷ those c e (line js rest) else those c e (line js rest)) q
-    ∙ ap (λ t. j ∷ t) (named-run N most c e d true q js rest h.1)
-named-run N most c e d false q [] rest h = refl
-named-run N most c e d false q (j ∷ js) rest h =
-    named-if c d e j (line js rest) h.0.named
-    ∙ ap (λ b. if b then j ∷ those c e (line js rest) else those c e (line js rest)) q
-    ∙ named-run N most c e d false q js rest h.1
-
 those-lines : (N : Class → Class → Item → Type 0) (most : ℕ) (c e : Class) (runs : List Run) → RunsMadeBy N most c runs →
     those c e (lines runs) ≡ items_in e runs
 those-lines N most c e [] h = refl
 those-lines N most c e (run ∷ runs) h =
-    named-run N most c e run.of (is_same e run.of) refl run.items (lines runs) h.0
+    those-line c e run.of (is_same e run.of) refl run.items (lines runs) (each-so _ _ (λ j m. m.named) run.items h.0)
     ∙ ap (λ t. if is_same e run.of then run.items ++ t else t) (those-lines N most c e runs h.1)
 
 -- ---- what holds of the arguments of a node
@@ -247,9 +212,9 @@ module _ (N : Class → Class → Item → Type 0) (most : ℕ) (c : Class) (key
       (standing-lines N most c runs (p + length keyword) made))
 
 -- a made node as an argument of another
-pub as-argument : (level : Level) (n most : ℕ) (parent c : Class) (j : Item) → n ≤ most → class_in parent j ≡ Some c →
+pub as-argument : {level : Level} {n most : ℕ} {parent c : Class} {j : Item} → n ≤ most → class_in parent j ≡ Some c →
     ((p : ℕ) → IsAcceptedNormal level c n (at_place p j)) → Made level most parent c j
-as-argument level n most parent c j h named made = record {
+as-argument {n = n} {parent = parent} {j = j} h named made = record {
   named = named;
   fine = λ p. let m = made p in
       let w : depth (at_place p j) ≤ n = m.within in

@@ -1,6 +1,5 @@
 -- Base CRSs and projected CRSs are made.
 use Rattle.std.proofs.Common.{ℕ, List, [], ◌∷◌, codes, inl, refl, arith, true}
-use Rattle.std.specs.Option.{option_map}
 use Rattle.crs_text.specs.Prelude.{Item, arguments, at_place}
 use Rattle.crs_shape.specs.declared.class.Class.TheVariants as class
 use Rattle.crs_shape.specs.declared.unit_kind.UnitKind.TheVariants as kinds
@@ -13,7 +12,6 @@ use Rattle.crs_normal.specs.DecimalLaws.{DecimalLaws}
 use Rattle.crs_normal.specs.AcceptedNormal.{IsAcceptedNormal, geodetic_frame_class}
 use Rattle.crs_normal.specs.SpelledConversions.{item_conversion, norm_conversion}
 use Rattle.crs_normal.specs.SpelledCrs.{item_base, item_projected, norm_base, norm_projected}
-use Rattle.crs_normal.specs.SpelledDynamic.{item_dynamic, norm_dynamic}
 use Rattle.crs_normal.specs.SpelledFrames.{item_frame, item_meridian, norm_frame, norm_meridian}
 use Rattle.crs_normal.specs.SpelledItems.{text_item}
 use Rattle.crs_normal.specs.SpelledUnits.{item_unit, norm_units}
@@ -21,13 +19,13 @@ use Rattle.crs_normal.proofs.made.SystemLemmas.{IsFew}
 use Rattle.crs_normal.proofs.made.BehindLemmas.{AxisEach, behind, crs_classes, system-seen, few-system, behind_arguments, projected-names, Shows}
 use Rattle.crs_normal.proofs.made.CheckLemmas.{IsSystemIn}
 use Rattle.crs_normal.proofs.made.ConversionLemmas.{conversion-made}
-use Rattle.crs_normal.proofs.made.DynamicLemmas.{IsSteady, dynamic-argument, no-bad-dynamic}
+use Rattle.crs_normal.proofs.made.DynamicLemmas.{IsSteady, no-bad-dynamic, dynamic-of}
 use Rattle.crs_normal.proofs.made.EllipsoidLemmas.{given-unit}
 use Rattle.crs_normal.proofs.made.FrameLemmas.{geodetic-frame-made}
 use Rattle.crs_normal.proofs.made.FrontLemmas.{framed_runs, geodetic_classes, meridian-there, crs-node-made, frame-named, frame-fits, frame-seen}
 use Rattle.crs_normal.proofs.made.IdentLemmas.{ids_run, ids-of, ids-orderly}
 use Rattle.crs_normal.proofs.made.NodeLemmas.{Run, Sees, alone, given, views, none-shown}
-use Rattle.crs_normal.proofs.made.MeridianLemmas.{meridian-argument}
+use Rattle.crs_normal.proofs.made.MeridianLemmas.{meridian-of}
 use Rattle.crs_normal.proofs.made.TailLemmas.{tail_arguments, tail-orderly}
 use Rattle.crs_normal.proofs.normal.DimensionLemmas.{small-projected}
 use Rattle.crs_normal.proofs.read.NameLemmas.{keyword-names}
@@ -60,15 +58,13 @@ pub base-made : DecimalLaws → (level : Level) (b : BaseParts) → IsBase b →
 unfolding BreaksOwn class_named is_keyword
 base-made l level b h =
     made-of level 5 class.BaseCrs (codes "BASEGEOGCRS") _ _ (text-of b.name h.name ∷
-    may-of class.Dynamic item_dynamic (option_map (norm_dynamic level) b.dynamic)
-    (dynamic-argument l level 5 class.BaseCrs b.dynamic b.frame (omega arith) refl h.dynamic) ∷
+    dynamic-of l b.dynamic b.frame (omega arith) refl h.dynamic ∷
     node-of (geodetic_frame_class b.frame) (base_frame level b) (omega arith)
     (frame-named level class.BaseCrs b.frame (record { datum = refl; ensemble = refl }))
     (geodetic-frame-made l level b.frame h.frame) ∷
-    may-of class.PrimeMeridian item_meridian (norm_meridian level b.meridian)
-    (meridian-argument l level 5 class.BaseCrs b.meridian (omega arith) refl h.meridian) ∷
+    meridian-of l b.meridian (omega arith) refl h.meridian ∷
     may-of class.AngleUnit item_unit (norm_units level kinds.Angle b.unit)
-    (given-unit l level 5 class.BaseCrs class.AngleUnit kinds.Angle b.unit (omega arith) refl refl h.unit) ∷
+    (given-unit l level class.BaseCrs kinds.Angle b.unit (omega arith) refl refl h.unit) ∷
     ids-of l b.identifiers (omega arith) refl h.identifiers ∷ []) refl (refl, refl) refl refl
     (rw (frame-fits true b.frame).0 refl)
     ((frame-fits true b.frame).1 level (base_frame level b ∷ []) (base_rest level b) (ids-orderly level b.identifiers))

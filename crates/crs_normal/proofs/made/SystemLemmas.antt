@@ -74,15 +74,14 @@ found l k place (x ∷ xs) n a (inr h) = by (is_at k place x.order) (found l k (
     by true later = (x, refl)
     by false later = later
 
-found-of : (P : AxisParts → Type 0) (k place : ℕ) (xs : List AxisParts) (x : AxisParts) → Each P xs →
-    axis_at k place xs ≡ Some x → P x
-found-of P k place [] x h e = cc
-found-of P k place (y ∷ ys) x h e = by (is_at k place y.order) e (λ q. found-of P k (place + 1) ys x h.1 q)
+-- what holds of all axes holds of the one at a position
+pub at-all : (P : AxisParts → Type 0) (k place : ℕ) (xs : List AxisParts) → Each P xs → IfSome (axis_at k place xs) P
+at-all P k place [] h = tt
+at-all P k place (x ∷ xs) h = by (is_at k place x.order) (at-all P k (place + 1) xs h.1)
   where
-    by : (b : Bool) → (if b then Some y else axis_at k (place + 1) ys) ≡ Some x →
-        (axis_at k (place + 1) ys ≡ Some x → P x) → P x
-    by true q later = let same : y ≡ x = cc in subst P same h.0
-    by false q later = later q
+    by : (b : Bool) → IfSome (axis_at k (place + 1) xs) P → IfSome (if b then Some x else axis_at k (place + 1) xs) P
+    by true later = h.0
+    by false later = later
 
 -- these are axes of the system at the positions from k on
 abbrev pub AreAxes : Level → SystemParts → ℕ → List AxisParts → Type 0
@@ -107,7 +106,8 @@ module _ (l : DecimalLaws) (level : Level) (s : SystemParts) (h : IsFew s) where
       let few : length s.axes ≤ 3 = h.few in
       let all = fits s.system_type s.axes s.unit h.system.axes h.system.unit h.system.units in
       let f = found l k 1 s.axes (whole-normal k low (omega arith)) h.system.axes (h.each_at k low high) in
-      (f.0, (found-of (Fits s.system_type s.unit) k 1 s.axes f.0 all f.1, f.1))
+      let fit = subst (λ o. IfSome o (Fits s.system_type s.unit)) f.1 (at-all (Fits s.system_type s.unit) k 1 s.axes all) in
+      (f.0, (fit, f.1))
 
   axes-are : (m k : ℕ) → 1 ≤ k → k + m ≤ length s.axes + 1 →
       AreAxes level s k (axes_from level s k m) × (length (axes_from level s k m) ≡ m)
@@ -135,8 +135,7 @@ axes-made l level s most parent k (a ∷ rest) deep named h low high =
     let high_next : (k + 1) + length rest ≤ 4 = omega arith in
     let small : k ≤ 3 = omega arith in (
       subst (λ b. Made level most parent class.Axis (item_axis b)) (sym h.0.1.1)
-          (as-argument level 5 most parent class.Axis (item_axis (norm_axis level s k h.0.0)) deep named
-          (axis-made l level s k h.0.0 h.0.1.0 low small)),
+          (as-argument deep named (axis-made l level s k h.0.0 h.0.1.0 low small)),
       axes-made l level s most parent (k + 1) rest deep named h.1 low_next high_next,
     )
 
@@ -165,8 +164,8 @@ axes-seen l level s k (item ∷ items) (a ∷ rest) p h low high =
 abbrev head_arguments : DecimalLaws → (level : Level) (s : SystemParts) → IsSystem s →
     List (Argument level 2 class.CoordinateSystem)
 head_arguments l level s h =
-    one-of class.Word (word_item (system_word s.system_type)) (word-made level 2 class.CoordinateSystem
-    (system_word s.system_type) (system-letters s.system_type) (s.system_type, refl)) ∷
+    one-of (word-made level 2 class.CoordinateSystem (system_word s.system_type) (system-letters s.system_type)
+    (s.system_type, refl)) ∷
     number-of l s.dimension h.dimension ∷
     ids-of l s.identifiers (omega arith) (keyword-names class.CoordinateSystem (codes "ID")) h.identifiers ∷ []
 

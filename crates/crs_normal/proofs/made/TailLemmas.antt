@@ -21,7 +21,9 @@ use Rattle.crs_normal.proofs.made.IdentLemmas.{identifiers-ascend, identifiers-l
 use Rattle.crs_normal.proofs.made.NodeLemmas.{IsOrderly, Made, Run, as-argument, given}
 use Rattle.crs_normal.proofs.made.UsageLemmas.{usage-made, usage-named}
 use Rattle.crs_normal.proofs.read.ViewLemmas.{each-so}
-use Rattle.crs_normal.proofs.made.ArgumentLemmas.{Argument, any-of, given-made, may-of, a-text}
+use Rattle.crs_normal.proofs.made.ArgumentLemmas.{Argument, any-of, may-of, a-text}
+use Rattle.crs_normal.proofs.texts.SegmentLemmas.{some-imp}
+use Rattle.crs_normal.proofs.read.NameLemmas.{keyword-names}
 
 -- ---- the usages, the bare parts being one more
 
@@ -46,8 +48,7 @@ usages-made l level most parent us deep named h =
 
     argument : (u : UsageParts) → IsUsage u → IsArgument levels.Full u
     argument u q =
-        as-argument levels.Full 5 most parent class.Usage (item_usage (norm_usage u)) deep
-        (usage-named parent u q.some named) (usage-made l u q)
+        as-argument deep (usage-named parent u q.some named) (usage-made l u q)
 
 usages-ascend : (level : Level) (us : List UsageParts) → Ascend (map item_usage (set_usages level us) ++ [])
 unfolding set_usages
@@ -70,20 +71,19 @@ pub record NamesTail (c : Class) : Type 0 where
   pub remark : class_named c (codes "REMARK") ≡ Some class.Remark
 
 pub compound-names : NamesTail class.CompoundCrs
-unfolding class_named is_keyword
-compound-names = record { usage = refl; ident = refl; remark = refl }
+compound-names = search keyword-names
 
 pub two-of : (most : ℕ) → 5 ≤ most → 2 ≤ most
 two-of most deep = omega arith
 
 pub remarks-made : (level : Level) (most : ℕ) (c : Class) (t : TailParts) → 5 ≤ most → NamesTail c → IsTail t →
-    Each (Made level most c class.Remark) (remark_items level t)
+    IfSome (kept_one level t.remark) (λ raw. Made level most c class.Remark (text_node (codes "REMARK") raw))
 unfolding is_keyword BreaksOwn
 remarks-made level most c t deep n h =
     let one : 1 ≤ most = omega arith in
-    given-made level most c class.Remark IsText (text_node (codes "REMARK")) (kept_one level t.remark)
-    (kept-if_some (λ l. IsText) level t.remark h.remark)
+    some-imp IsText _
     (a-text class.Remark (codes "REMARK") (refl, refl) refl refl (λ item. tt) (λ item fault b. b) n.remark one refl)
+    (kept_one level t.remark) (kept-if_some (λ l. IsText) level t.remark h.remark)
 
 abbrev pub tail_arguments : DecimalLaws → (level : Level) (most : ℕ) (c : Class) (t : TailParts) → 5 ≤ most →
     NamesTail c → IsTail t → List (Argument level most c)
@@ -96,20 +96,13 @@ tail_arguments l level most c t deep n h =
 -- the end is in order, and the level keeps all of it
 pub tail-orderly : (level : Level) (t : TailParts) → IsOrderly level (tail_runs level t)
 unfolding set_usages
-tail-orderly level t = (
-  (identifiers-ascend level t.identifiers, (usages-ascend level (usages_of t), (tt, (tt, (tt, tt))))),
-  (
-    (
-      identifiers-left level t.identifiers,
-      (
-        kept-made (λ us. map item_usage (in_order (λ u. item_text (item_usage u)) (map norm_usage us)) ++ []) refl level
-            (usages_of t),
-        (kept-made_one (λ remark. given (text_node (codes "REMARK")) remark ++ []) refl level t.remark, tt),
-      ),
-    ),
-    refl,
-  ),
-)
+tail-orderly level t =
+    let usages = kept-made (λ us. map item_usage (in_order (λ u. item_text (item_usage u)) (map norm_usage us)) ++ []) refl
+    level (usages_of t) in
+    let remarks = kept-made_one (λ remark. given (text_node (codes "REMARK")) remark ++ []) refl level t.remark in (
+      (identifiers-ascend level t.identifiers, (usages-ascend level (usages_of t), (tt, (tt, (tt, tt))))),
+      ((identifiers-left level t.identifiers, (usages, (remarks, tt))), refl),
+    )
 
 -- ---- what the checks see of the end
 

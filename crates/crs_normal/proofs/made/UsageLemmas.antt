@@ -15,11 +15,12 @@ use Rattle.crs_normal.specs.SpelledUnits.{item_unit, norm_length}
 use Rattle.crs_normal.specs.SpelledUsages.{item_box, item_extent, item_usage, norm_extent, norm_usage}
 use Rattle.crs_normal.proofs.made.EllipsoidLemmas.{length-argument, placed-some}
 use Rattle.crs_normal.proofs.made.NodeLemmas.{IsOrderly, as-argument, none-orderly}
-use Rattle.crs_normal.proofs.made.ArgumentLemmas.{Argument, as_runs, fit, given-made, lay, made-of, may-of, may-text, number-of, one-of, may-node}
+use Rattle.crs_normal.proofs.made.ArgumentLemmas.{Argument, as_runs, fit, lay, made-of, may-of, may-text, number-of, one-of, may-node}
 use Rattle.crs_normal.specs.Normal.{IsFirstKeyword}
 use Rattle.crs_normal.specs.NormalOwn.{HasOwnForm}
 use Rattle.crs_normal.proofs.texts.ItemLemmas.{from-named, from-some}
 use Rattle.crs_normal.proofs.members.UsageLemmas.{says-kept, usage-is-node, usage_items}
+use Rattle.crs_normal.proofs.texts.SegmentLemmas.{some-imp}
 
 -- ---- boxes
 
@@ -38,8 +39,7 @@ pub extent-made : DecimalLaws → (level : Level) (e : ExtentParts) → IsExtent
 unfolding BreaksOwn class_named is_keyword
 extent-made l level e h =
     made-of level 3 class.VerticalExtent (codes "VERTICALEXTENT") _ _ (number-of l e.minimum h.minimum ∷
-    number-of l e.maximum h.maximum ∷ one-of class.LengthUnit (item_unit (norm_length level e.unit))
-    (length-argument l level 3 class.VerticalExtent e.unit (omega arith) refl h.unit) ∷ []) refl (refl, refl) refl refl
+    number-of l e.maximum h.maximum ∷ one-of (length-argument l e.unit (omega arith) refl h.unit) ∷ []) refl (refl, refl) refl refl
     refl (none-orderly level)
     (λ item s r. placed-some (those class.VerticalExtent class.LengthUnit (arguments item)) []
     (item_unit (norm_length level e.unit)) (s.view class.LengthUnit)) (λ item fault s k. k)
@@ -68,9 +68,8 @@ usage-made l u h =
     from-made levels.Full 4 class.Usage (codes "USAGE") (usage_items (norm_usage u)) (may-text class.Scope (codes "SCOPE")
     (refl, refl) refl refl (λ item. tt) (λ item fault b. b) refl (omega arith) refl u.scope h.scope ∷
     may-text class.Area (codes "AREA") (refl, refl) refl refl (λ item. tt) (λ item fault b. b) refl (omega arith) refl
-    u.area h.area ∷ may-of class.BoundingBox item_box u.bbox (given-made levels.Full 4 class.Usage class.BoundingBox
-    IsBox item_box u.bbox h.bbox (λ b q. as-argument levels.Full 1 4 class.Usage class.BoundingBox (item_box b)
-    (omega arith) refl (box-made l levels.Full b q))) ∷
+    u.area h.area ∷ may-of class.BoundingBox item_box u.bbox (some-imp IsBox _ (λ b q. as-argument (omega arith) refl
+    (box-made l levels.Full b q)) u.bbox h.bbox) ∷
     may-node class.VerticalExtent (norm_extent levels.Full) item_extent u.extent (omega arith) (λ e. refl) h.extent
     (extent-made l levels.Full) ∷ []) (from-some (codes "USAGE") (usage_items (norm_usage u)) (usage-node u h.some)) refl
     (refl, refl) refl refl refl (none-orderly levels.Full) (λ item. tt)

@@ -1,6 +1,5 @@
 -- Vertical CRSs are made.
 use Rattle.std.proofs.Common.{◌≡◌, ℕ, true, Some, List, [], ◌∷◌, map, codes, refl, arith, false, None}
-use Rattle.std.specs.Option.{option_map}
 use Rattle.crs_text.specs.Prelude.{Item, at_place}
 use Rattle.crs_shape.specs.declared.class.Class.TheVariants as class
 use Rattle.crs_shape.specs.Prelude.{is_keyword, class_in, class_named, dimensions_of}
@@ -13,21 +12,20 @@ use Rattle.crs_normal.specs.DecimalLaws.{DecimalLaws}
 use Rattle.crs_normal.specs.AcceptedNormal.{IsAcceptedNormal, vertical_frame_class}
 use Rattle.crs_normal.specs.SpelledConversions.{item_geoid_model, norm_geoid_model, set_geoid_models}
 use Rattle.crs_normal.specs.SpelledCrs.{item_vertical, norm_vertical}
-use Rattle.crs_normal.specs.SpelledDynamic.{item_dynamic, norm_dynamic}
 use Rattle.crs_normal.specs.SpelledFrames.{item_frame, norm_frame}
 use Rattle.crs_normal.specs.SpelledItems.{text_item}
 use Rattle.crs_normal.specs.SpelledSystems.{item_head, norm_system}
 use Rattle.crs_normal.proofs.made.AscendLemmas.{set-ascends}
 use Rattle.crs_normal.proofs.made.SystemLemmas.{IsFew}
 use Rattle.crs_normal.proofs.made.BehindLemmas.{AxisEach, axes_run, few-system, behind_arguments, vertical-names}
-use Rattle.crs_normal.proofs.made.DynamicLemmas.{dynamic-argument}
+use Rattle.crs_normal.proofs.made.DynamicLemmas.{dynamic-of}
 use Rattle.crs_normal.proofs.made.FrameLemmas.{vertical-frame-made}
 use Rattle.crs_normal.proofs.made.NodeLemmas.{Run, alone, IsOrderly}
 use Rattle.crs_normal.proofs.made.NamedLemmas.{geoid-model-made}
 use Rattle.crs_normal.proofs.made.TailLemmas.{tail_runs, tail_arguments, tail-orderly}
 use Rattle.crs_normal.proofs.normal.DimensionLemmas.{small-vertical}
 use Rattle.crs_normal.proofs.read.NameLemmas.{keyword-names}
-use Rattle.crs_normal.proofs.made.ArgumentLemmas.{Argument, may-of, text-of, node-of, set-of}
+use Rattle.crs_normal.proofs.made.ArgumentLemmas.{Argument, text-of, node-of, set-of}
 use Rattle.crs_normal.proofs.made.FrontLemmas.{framed_runs, crs-node-made, frame-fits, frame-seen}
 
 -- ---- the frame, of one class or the other
@@ -60,15 +58,10 @@ abbrev vertical_runs : Level → VerticalParts → List Run
 vertical_runs level g =
     framed_runs false level (text_item g.name) g.dynamic g.frame (frame_item level g) (vertical_rest level g)
 
-dynamic-named : class_named class.VerticalCrs (codes "DYNAMIC") ≡ Some class.Dynamic
-unfolding class_named is_keyword
-dynamic-named = refl
-
 abbrev vertical_arguments : DecimalLaws → (level : Level) (g : VerticalParts) → IsFew g.system → IsVertical g →
     List (Argument level 5 class.VerticalCrs)
 vertical_arguments l level g few h =
-    text-of g.name h.name ∷ may-of class.Dynamic item_dynamic (option_map (norm_dynamic level) g.dynamic)
-    (dynamic-argument l level 5 class.VerticalCrs g.dynamic g.frame (omega arith) dynamic-named h.dynamic) ∷
+    text-of g.name h.name ∷ dynamic-of l g.dynamic g.frame (omega arith) (keyword-names class.VerticalCrs (codes "DYNAMIC")) h.dynamic ∷
     node-of (vertical_frame_class g.frame) (frame_item level g) (omega arith) (vertical-named level g.frame)
     (vertical-frame-made l level g.frame h.frame) ∷
     behind_arguments l level 5 class.VerticalCrs g.system
@@ -81,25 +74,9 @@ vertical-orderly : (level : Level) (g : VerticalParts) → IsOrderly level (vert
 unfolding set_geoid_models
 vertical-orderly level g =
     let end = tail-orderly level g.tail in
-    (frame-fits false g.frame).1 level (frame_item level g ∷ []) (vertical_rest level g) (
-      (
-        end.0.0,
-        (
-          end.0.1.0,
-          (
-            tt,
-            (
-              tt,
-              (
-                set-ascends item_geoid_model (map (norm_geoid_model level) g.geoid_models),
-                tt,
-              ),
-            ),
-          ),
-        ),
-      ),
-      end.1,
-    )
+    let models = set-ascends item_geoid_model (map (norm_geoid_model level) g.geoid_models) in
+    (frame-fits false g.frame).1 level (frame_item level g ∷ []) (vertical_rest level g)
+    ((end.0.0, (end.0.1.0, (tt, (tt, (models, tt))))), end.1)
 
 pub vertical-made : DecimalLaws → AxisEach → (level : Level) (g : VerticalParts) → IsVertical g → (p : ℕ) →
     IsAcceptedNormal level class.VerticalCrs 6 (at_place p (item_vertical (norm_vertical level g)))

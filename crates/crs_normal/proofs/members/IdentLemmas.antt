@@ -1,13 +1,10 @@
 -- Identifiers: the item of one reads as it wherever it is, equal texts are of equal identifiers,
 -- and the sets of two lists in order are one list exactly where they are the same set.
-use Rattle.std.proofs.Common.{◌≡◌, ◌≤◌, ◌↔◌, ◌⊎◌, ℕ, suc, ◌+◌, Bool, true, false, ◌&&◌, codes, if◌then◌else◌, IfSome, Option, Some, None, List, [], ◌∷◌, inl, inr, length, map-id, nat_le, refl, ap, arith}
-use Rattle.std.proofs.lemmas.Bool.{and_parts, leb-true}
-use Rattle.std.specs.List.{list_all}
-use Rattle.crs_decimal.specs.Prelude.{is_digit}
+use Rattle.std.proofs.Common.{◌≡◌, ◌≤◌, ◌↔◌, ◌⊎◌, ℕ, suc, ◌+◌, Bool, true, false, codes, if◌then◌else◌, IfSome, Option, Some, None, List, [], ◌∷◌, inl, inr, map-id, refl, ap, arith}
 use Rattle.crs_text.specs.Prelude.{Item, leaf, Siblings, End, More, IsNode, number, text, IsSingle, IsWord, at_place, at_places, item_text}
 use Rattle.crs_shape.specs.declared.class.Class.TheVariants as class
 use Rattle.crs_shape.specs.Prelude.{class_of_kind}
-use Rattle.crs_value.specs.Prelude.{kept, kept-each, ReadsFirst, ReadsIfAny, ReadsOptional, ReadsText, ReadsTextOf, single_of, ReadsIdent, IsText, IsIdent, IsReadOnce}
+use Rattle.crs_value.specs.Prelude.{kept, kept-each, ReadsIfAny, ReadsOptional, ReadsText, ReadsTextOf, single_of, ReadsIdent, IsText, IsIdent, IsReadOnce}
 use Rattle.crs_value.specs.declared.values.level.Level.{Level}
 use Rattle.crs_value.specs.Sound.{Each}
 use Rattle.crs_value.specs.Values.{IdentParts}
@@ -18,9 +15,10 @@ use Rattle.crs_normal.specs.SpelledItems.{code_item, is_short, node_of, opt, tex
 use Rattle.crs_normal.specs.SpelledUnits.{item_ident, set_idents}
 use Rattle.crs_normal.specs.TextLaws.{TextLaws}
 use Rattle.crs_normal.proofs.texts.ItemLemmas.{AreFit, IsWritable, fit-end, fit-leaf, fit-more, fit-node, fit-opt, number-single, told}
-use Rattle.crs_normal.proofs.texts.SegmentLemmas.{IsIn, Seen, Segment, a-text, either-item, items_of, may-be, opt_items, seen, text-field}
+use Rattle.crs_normal.proofs.texts.SegmentLemmas.{IsIn, Segment, a-text, either-item, may-be, seen, text-field}
 use Rattle.crs_normal.proofs.read.NameLemmas.{keyword-names}
 use Rattle.crs_normal.proofs.members.SetLemmas.{set-agrees}
+use Rattle.crs_normal.proofs.made.LeafLemmas.{true-short}
 
 -- ---- a code: a number or a text
 
@@ -28,9 +26,7 @@ short-single : TextLaws → (raw : List ℕ) → IsText raw → (b : Bool) → i
     IsSingle (if b then number else text) raw
 short-single laws raw t false e = t
 short-single laws raw t true e =
-    let p = and_parts (list_all is_digit raw && nat_le 1 (length raw)) (nat_le (length raw) 18) e in
-    let q = and_parts (list_all is_digit raw) (nat_le 1 (length raw)) p.0 in
-    number-single laws raw (laws.digits raw q.0 (leb-true 1 (length raw) q.1) (leb-true (length raw) 18 p.1))
+    let s = true-short raw e in number-single laws raw (laws.digits raw s.digits s.some s.few)
 
 pub code-fit : TextLaws → (n : ℕ) (raw : List ℕ) → IsText raw → IsFormedWithin n (code_item raw)
 code-fit laws n raw t =
@@ -39,11 +35,11 @@ code-fit laws n raw t =
 pub text-fit : (n : ℕ) (raw : List ℕ) → IsText raw → IsFormedWithin n (text_item raw)
 text-fit n raw t = fit-leaf n text 0 raw t
 
-code-read : (raw : List ℕ) (place : ℕ) (rest : Siblings) →
-    ReadsFirst ReadsText (single_of (More (at_place place (code_item raw)) rest)) raw
-code-read raw place rest =
-    elim (is_short raw) as (λ b. ReadsFirst ReadsText
-    (single_of (More (leaf (if b then number else text) place raw) rest)) raw) [ true ↦ refl | false ↦ refl ]
+single-code : (raw : List ℕ) (place : ℕ) (rest : Siblings) →
+    single_of (More (at_place place (code_item raw)) rest) ≡ at_place place (code_item raw) ∷ []
+single-code raw place rest =
+    elim (is_short raw) as (λ b. single_of (More (leaf (if b then number else text) place raw) rest)
+    ≡ leaf (if b then number else text) place raw ∷ []) [ true ↦ refl | false ↦ refl ]
 
 code-side : (raw : List ℕ) →
     IsIn class.Identifier class.Number (code_item raw) ⊎ IsIn class.Identifier class.Text (code_item raw)
@@ -59,31 +55,13 @@ a-code raw = either-item class.Number class.Text refl (code_item raw) (code-side
 abbrev behind-version : IdentParts → Siblings
 behind-version x = opt (text_node (codes "CITATION")) x.citation (opt (text_node (codes "URI")) x.uri End)
 
-abbrev behind-code : IdentParts → Siblings
-behind-code x = opt code_item x.version (behind-version x)
-
-version-read : (x : IdentParts) (start : ℕ) →
-    ReadsOptional ReadsText (single_of (at_places start (behind-code x))) x.version
-version-read x start = by x.version x.citation x.uri
-  where
-    optional : (v : List ℕ) (place : ℕ) (rest : Siblings) →
-        ReadsOptional ReadsText (single_of (More (at_place place (code_item v)) rest)) (Some v)
-    optional v place rest =
-        elim (is_short v) as (λ b. ReadsOptional ReadsText
-        (single_of (More (leaf (if b then number else text) place v) rest)) (Some v)) [ true ↦ refl | false ↦ refl ]
-
-    by : (v c u : Option (List ℕ)) →
-        ReadsOptional ReadsText
-        (single_of
-        (at_places start
-        (opt code_item v (opt (text_node (codes "CITATION")) c (opt (text_node (codes "URI")) u End))))) v
-    by (Some v) c u =
-        optional v (start + 1)
-        (at_places (start + 1 + length (item_text (code_item v)))
-        (opt (text_node (codes "CITATION")) c (opt (text_node (codes "URI")) u End)))
-    by None (Some c) u = tt
-    by None None (Some u) = tt
-    by None None None = tt
+version-read : (v c u : Option (List ℕ)) (start : ℕ) →
+    ReadsOptional ReadsText (single_of (at_places start
+    (opt code_item v (opt (text_node (codes "CITATION")) c (opt (text_node (codes "URI")) u End))))) v
+version-read (Some v) c u start = rw single-code refl
+version-read None (Some c) u start = tt
+version-read None None (Some u) start = tt
+version-read None None None start = tt
 
 -- ---- an identifier
 
@@ -98,38 +76,24 @@ module _ (x : IdentParts) (place : ℕ) where
       at_place place
       (node_of (codes "ID") (text_item x.authority) (More (code_item x.code) (opt code_item v (behind-version x))))
 
-  abbrev Reads : Item → Type 0
-  Reads item =
-      ReadsIfAny ReadsTextOf class.Citation class.Identifier item x.citation
-      × ReadsIfAny ReadsTextOf class.Uri class.Identifier item x.uri
-
-  read-by : {ss : List (Segment class.Identifier)} {item : Item} → Seen class.Identifier ss item →
-      items_of class.Citation ss ≡ opt_items (text_node (codes "CITATION")) x.citation [] →
-      items_of class.Uri ss ≡ opt_items (text_node (codes "URI")) x.uri [] → Reads item
-  read-by look citation uri = (
-    text-field look class.Citation (codes "CITATION") x.citation citation,
-    text-field look class.Uri (codes "URI") x.uri uri,
-  )
-
-  sources-read : (v : Option (List ℕ)) → Reads (with-version v)
+  sources-read : (v : Option (List ℕ)) →
+      ReadsIfAny ReadsTextOf class.Citation class.Identifier (with-version v) x.citation
+      × ReadsIfAny ReadsTextOf class.Uri class.Identifier (with-version v) x.uri
   sources-read None =
-      read-by (seen class.Identifier (a-text x.authority ∷ a-code x.code ∷ sources)
-      (with-version None) (place + 2) refl) refl refl
+      let look = seen class.Identifier (a-text x.authority ∷ a-code x.code ∷ sources) (with-version None) (place + 2) refl in
+      (text-field look class.Citation (codes "CITATION") x.citation refl, text-field look class.Uri (codes "URI") x.uri refl)
   sources-read (Some v) =
-      read-by (seen class.Identifier (a-text x.authority ∷ a-code x.code ∷ a-code v ∷ sources)
-      (with-version (Some v)) (place + 2) refl) refl refl
+      let look = seen class.Identifier (a-text x.authority ∷ a-code x.code ∷ a-code v ∷ sources)
+      (with-version (Some v)) (place + 2) refl in
+      (text-field look class.Citation (codes "CITATION") x.citation refl, text-field look class.Uri (codes "URI") x.uri refl)
 
 pub ident-read : (x : IdentParts) → IsIdent x → (place : ℕ) →
     ReadsIdent class.Identifier (at_place place (item_ident x)) x
 ident-read x s place =
     let from = sources-read x place x.version in record {
       authority = refl;
-      code =
-          code-read x.code _
-          (at_places
-          (place + 2 + 1 + length (item_text (text_item x.authority)) + 1 + length (item_text (code_item x.code)))
-          (behind-code x));
-      version = version-read x _;
+      code = rw single-code refl;
+      version = version-read x.version x.citation x.uri _;
       citation = from.0;
       uri = from.1;
     }

@@ -1,6 +1,6 @@
 -- Units within the members of sets: their items read as them wherever they are, and their one form
 -- agrees with sameness.
-use Rattle.std.proofs.Common.{ap, ◌∙◌, ◌≡◌, ◌≤◌, ℕ, ◌+◌, codes, Some, List, [], ◌∷◌, length, refl, arith}
+use Rattle.std.proofs.Common.{ap, ◌∙◌, ◌≡◌, ◌≤◌, ℕ, ◌+◌, codes, Some, List, [], ◌∷◌, length, refl, arith, map, ◌++◌}
 use Rattle.crs_decimal.specs.Prelude.{Value, IsNormal}
 use Rattle.crs_text.specs.Prelude.{Item, End, at_place, item_text}
 use Rattle.crs_shape.specs.declared.class.Class.{Class}
@@ -17,7 +17,7 @@ use Rattle.crs_normal.specs.SpelledUnits.{item_ident, item_unit, norm_unit}
 use Rattle.crs_normal.specs.TextLaws.{TextLaws}
 use Rattle.crs_normal.proofs.members.IdentLemmas.{ident-fit, ident-read, text-fit, writable}
 use Rattle.crs_normal.proofs.texts.ItemLemmas.{AreFit, fit-deeper, fit-each, fit-end, fit-node, fit-number, told}
-use Rattle.crs_normal.proofs.texts.SegmentLemmas.{IsIn, Seen, Segment, a-number, a-text, all-of, each-field, each_items, items_of, seen}
+use Rattle.crs_normal.proofs.texts.SegmentLemmas.{IsIn, Seen, Segment, a-number, a-text, all-of, each-field, items_of, seen}
 use Rattle.crs_normal.proofs.read.ViewLemmas.{each-so}
 use Rattle.crs_normal.proofs.read.NameLemmas.{keyword-names}
 use Rattle.crs_normal.proofs.made.IdentLemmas.{idents-sound}
@@ -33,7 +33,7 @@ abbrev pub identifiers-of : {c : Class} → NamesId c → List IdentParts → Se
 identifiers-of e identifiers = all-of class.Identifier item_ident identifiers (λ x. e)
 
 pub identifiers-back : {c : Class} {ss : List (Segment c)} {item : Item} → Seen c ss item → (identifiers : List IdentParts) →
-    items_of class.Identifier ss ≡ each_items item_ident identifiers [] → Each IsIdent identifiers →
+    items_of class.Identifier ss ≡ map item_ident identifiers ++ [] → Each IsIdent identifiers →
     ReadsIds c item identifiers
 identifiers-back look identifiers same s =
     each-field look class.Identifier item_ident _ _ same (each-so _ _ ident-read identifiers s)

@@ -1,6 +1,6 @@
 -- Parameters: the item of one reads as it wherever it is, with a unit of the class that its keyword
 -- names, and as sets they have one form.
-use Rattle.std.proofs.Common.{◌≡◌, ◌↔◌, ◌⊎◌, inl, inr, ℕ, ◌+◌, codes, IfSome, Option, Some, None, List, [], ◌∷◌, refl, arith}
+use Rattle.std.proofs.Common.{◌≡◌, ◌↔◌, ◌⊎◌, inl, inr, ℕ, ◌+◌, codes, IfSome, Option, Some, None, List, [], ◌∷◌, refl, arith, map, ◌++◌}
 use Rattle.crs_decimal.specs.Prelude.{Value}
 use Rattle.crs_text.specs.Prelude.{Item, End, More, at_place, item_text}
 use Rattle.crs_shape.specs.declared.class.Class.{Class}
@@ -21,7 +21,7 @@ use Rattle.crs_normal.specs.SpelledUnits.{item_ident, item_unit, norm_units}
 use Rattle.crs_normal.specs.TextLaws.{TextLaws}
 use Rattle.crs_normal.proofs.members.IdentLemmas.{idents-agree, text-fit, writable}
 use Rattle.crs_normal.proofs.texts.ItemLemmas.{fit-node, fit-number, fit-opt, told}
-use Rattle.crs_normal.proofs.texts.SegmentLemmas.{IsIn, MayIn, Seen, Segment, a-number, a-text, each_items, if-any, items_of, lacks, placed-at, seen}
+use Rattle.crs_normal.proofs.texts.SegmentLemmas.{IsIn, MayIn, Seen, Segment, a-number, a-text, if-any, items_of, lacks, placed-at, seen}
 use Rattle.crs_normal.proofs.members.MemberUnitLemmas.{NamesId, identifiers-back, identifiers-fit, identifiers-of, number-read, unit-fit, unit-kept, unit-read}
 use Rattle.crs_normal.proofs.same.ConversionLemmas.{parameter-agrees}
 use Rattle.crs_normal.proofs.members.SetLemmas.{set-agrees}
@@ -80,7 +80,7 @@ module _ (laws : TextLaws) (name : List ℕ) (value : Value) (identifiers : List
 
   unit-as : (k : Class) (o : Option UnitParts) (e : MayIn class.Parameter k item_unit o) (place : ℕ) → IfSome o IsUnit →
       Stands (look k o e place) o parameter_units →
-      items_of class.Identifier (of-parameter k o e) ≡ each_items item_ident identifiers [] → Reads o place
+      items_of class.Identifier (of-parameter k o e) ≡ map item_ident identifiers ++ [] → Reads o place
   unit-as k o e place q h same =
       let at = look k o e place in (unit-found at laws o q parameter_units h, identifiers-back at identifiers same s)
 

@@ -14,7 +14,7 @@ use Rattle.crs_normal.specs.TextLaws.{TextLaws}
 use Rattle.crs_normal.proofs.members.ExtentLemmas.{IsWrittenExtent, box-fit, box-read, extent-fit, extent-kept, extent-read}
 use Rattle.crs_normal.proofs.members.IdentLemmas.{fit-source, idents-agree, writable}
 use Rattle.crs_normal.proofs.texts.ItemLemmas.{AreFit, fit-deeper, fit-end, fit-node, fit-opt, from-arguments, told}
-use Rattle.crs_normal.proofs.texts.SegmentLemmas.{Segment, may-be, opt-field, seen, text-field, some-imp, some-mapped}
+use Rattle.crs_normal.proofs.texts.SegmentLemmas.{may-be, opt-field, seen, text-field, some-imp, some-mapped}
 use Rattle.crs_normal.proofs.same.UsageLemmas.{usage-agrees}
 use Rattle.crs_normal.proofs.members.SetLemmas.{set-agrees}
 use Rattle.crs_normal.proofs.read.NameLemmas.{keyword-names}
@@ -34,18 +34,14 @@ usage_items u =
     opt (text_node (codes "SCOPE")) u.scope (opt (text_node (codes "AREA")) u.area
     (opt item_box u.bbox (opt item_extent u.extent End)))
 
-abbrev of-usage : UsageParts → List (Segment class.Usage)
-of-usage u =
-    may-be class.Scope (text_node (codes "SCOPE")) u.scope (λ x. keyword-names _ _) ∷
-    may-be class.Area (text_node (codes "AREA")) u.area (λ x. keyword-names _ _) ∷
-    may-be class.BoundingBox item_box u.bbox (λ x. keyword-names _ _) ∷
-    may-be class.VerticalExtent item_extent u.extent (λ x. keyword-names _ _) ∷ []
-
 pub usage-read : TextLaws → (u : UsageParts) → IsWrittenUsage u → (place : ℕ) →
     ReadsUsage class.Usage (at_place place (item_usage u)) u
 usage-read laws u s place =
-    let look = seen class.Usage (of-usage u) (at_place place (item_usage u)) (place + 5)
-    (from-arguments (codes "USAGE") (usage_items u) place) in record {
+    let look = seen class.Usage (may-be class.Scope (text_node (codes "SCOPE")) u.scope (λ x. keyword-names _ _) ∷
+    may-be class.Area (text_node (codes "AREA")) u.area (λ x. keyword-names _ _) ∷
+    may-be class.BoundingBox item_box u.bbox (λ x. keyword-names _ _) ∷
+    may-be class.VerticalExtent item_extent u.extent (λ x. keyword-names _ _) ∷ [])
+    (at_place place (item_usage u)) (place + 5) (from-arguments (codes "USAGE") (usage_items u) place) in record {
       scope = text-field look class.Scope (codes "SCOPE") u.scope refl;
       area = text-field look class.Area (codes "AREA") u.area refl;
       bbox = opt-field look class.BoundingBox item_box _ _ refl (some-imp _ _ (box-read laws) u.bbox s.bbox);

@@ -3,7 +3,6 @@ use Rattle.std.proofs.Common.{◌≡◌, ◌⊎◌, ℕ, ◌+◌, List, [], ◌�
 use Rattle.crs_text.specs.Prelude.{Item, arguments, at_place}
 use Rattle.crs_shape.specs.declared.class.Class.{Class}
 use Rattle.crs_shape.specs.declared.class.Class.TheVariants as class
-use Rattle.crs_shape.specs.declared.system_type.SystemType.{SystemType}
 use Rattle.crs_shape.specs.declared.system_type.SystemType.TheVariants as types
 use Rattle.crs_shape.specs.Prelude.{class_named}
 use Rattle.crs_value.specs.Prelude.{CompoundParts, GeodeticParts, those, ReadsElse, ReadsFirst, ReadsAsHorizontal, ReadsCompound, ReadsCrs, IsCompound, IsHorizontal, IsCrs}
@@ -16,16 +15,13 @@ use Rattle.crs_normal.specs.LowerLaws.{LowerLaws}
 use Rattle.crs_normal.specs.CrsClass.{crs_class, geodetic_class}
 use Rattle.crs_normal.specs.SpelledCrs.{geodetic_keyword, item_compound, item_crs, item_geodetic, item_horizontal, item_projected, item_vertical, norm_compound, norm_crs, norm_geodetic, norm_horizontal, norm_projected, norm_vertical}
 use Rattle.crs_normal.specs.TextLaws.{TextLaws}
-use Rattle.crs_normal.proofs.read.CrsLemmas.{GeodeticNames, geodetic-read, projected-read, vertical-read}
+use Rattle.crs_normal.proofs.read.CrsLemmas.{geodetic-read, projected-read, vertical-read}
 use Rattle.crs_normal.proofs.made.TailLemmas.{compound-names}
 use Rattle.crs_normal.proofs.read.EndLemmas.{of-tail, tail-read}
 use Rattle.crs_normal.proofs.texts.SegmentLemmas.{IsIn, ReadsBack, Seen, Segment, a-text, either-item, if_left, if_right, items_of, lacks, one-field, one-item, placed-at, seen}
 use Rattle.crs_normal.proofs.read.NameLemmas.{keyword-names}
 use Rattle.crs_normal.proofs.texts.RootLemmas.{is-geodetic}
-
-names-of : (t : SystemType) → GeodeticNames (geodetic_class t)
-names-of types.Ellipsoidal = search keyword-names
-names-of other = search keyword-names
+use Rattle.crs_normal.proofs.made.GeodeticLemmas.{names-of}
 
 abbrev compound : Class
 compound = class.CompoundCrs
@@ -69,24 +65,21 @@ module _ (laws : TextLaws) (lower : LowerLaws) (level : Level) where
       (placed-at look class.ProjectedCrs (λ zs. ReadsFirst (ReadsAsHorizontal class.ProjectedCrs) zs value)
       (item_projected (norm_projected level r)) right (λ p. (refl, projected-read laws lower level r s.0 p)))
 
-  module _ (k : CompoundParts) (s : IsCompound k) where
-    abbrev of-compound : List (Segment compound)
-    of-compound =
-        a-text k.name ∷
-        either-item class.GeographicCrs class.ProjectedCrs refl (item_horizontal (norm_horizontal level k.horizontal))
-        (side level k.horizontal s.horizontal) ∷
-        one-item class.VerticalCrs (item_vertical (norm_vertical level k.vertical)) (keyword-names _ _) ∷
-        of-tail laws compound compound-names level k.tail s.tail
-
-    pub compound-read : ReadsBack item_compound (ReadsCompound class.CompoundCrs) (norm_compound level k)
-    compound-read place =
-        let look = seen compound of-compound (at_place place (item_compound (norm_compound level k))) (place + 11) refl in record {
-          name = refl;
-          horizontal = horizontal-field look k.horizontal s.horizontal refl refl refl;
-          vertical = one-field look class.VerticalCrs item_vertical _ _ refl
-              (vertical-read laws lower level k.vertical s.vertical);
-          tail = tail-read laws compound compound-names level k.tail s.tail look refl refl refl refl refl refl refl;
-        }
+  compound-read : (k : CompoundParts) → IsCompound k →
+      ReadsBack item_compound (ReadsCompound class.CompoundCrs) (norm_compound level k)
+  compound-read k s place =
+      let look = seen compound (a-text k.name ∷
+      either-item class.GeographicCrs class.ProjectedCrs refl (item_horizontal (norm_horizontal level k.horizontal))
+      (side level k.horizontal s.horizontal) ∷
+      one-item class.VerticalCrs (item_vertical (norm_vertical level k.vertical)) (keyword-names _ _) ∷
+      of-tail compound-names level k.tail s.tail)
+      (at_place place (item_compound (norm_compound level k))) (place + 11) refl in record {
+        name = refl;
+        horizontal = horizontal-field look k.horizontal s.horizontal refl refl refl;
+        vertical = one-field look class.VerticalCrs item_vertical _ _ refl
+            (vertical-read laws lower level k.vertical s.vertical);
+        tail = tail-read laws look level k.tail s.tail refl refl refl refl refl refl refl;
+      }
 
 -- ---- all CRSs
 

@@ -1,5 +1,5 @@
 -- Ellipsoids, prime meridians, reference frames and ensembles in their one form are read back from their items.
-use Rattle.std.proofs.Common.{◌≡◌, ℕ, ◌+◌, codes, IfSome, Option, Some, None, List, [], ◌∷◌, length, refl, if◌then◌else◌, Bool, true, false}
+use Rattle.std.proofs.Common.{◌≡◌, ℕ, ◌+◌, codes, IfSome, Option, Some, None, List, [], ◌∷◌, length, refl, if◌then◌else◌, Bool, true, false, map, ◌++◌}
 use Rattle.std.specs.Option.{option_map}
 use Rattle.crs_text.specs.Prelude.{Item, at_place, item_text}
 use Rattle.crs_shape.specs.declared.class.Class.{Class}
@@ -17,7 +17,7 @@ use Rattle.crs_normal.specs.TextLaws.{TextLaws}
 use Rattle.crs_normal.proofs.members.ExtentLemmas.{length-kept}
 use Rattle.crs_normal.proofs.members.MemberLemmas.{named-kept, named-read}
 use Rattle.crs_normal.proofs.members.MemberUnitLemmas.{NamesId, identifiers-back, identifiers-of, number-read, unit-in, unit-kept, unit-read}
-use Rattle.crs_normal.proofs.texts.SegmentLemmas.{MayIn, ReadsBack, Seen, Segment, a-number, a-text, all-of, each-field, each_items, if-any, items_of, may-be, one-field, one-item, opt-field, seen, text-field, set-kept, some-imp, some-mapped}
+use Rattle.crs_normal.proofs.texts.SegmentLemmas.{MayIn, ReadsBack, Seen, Segment, a-number, a-text, all-of, each-field, if-any, items_of, may-be, one-field, one-item, opt-field, seen, text-field, set-kept, some-imp, some-mapped}
 use Rattle.crs_normal.proofs.read.NameLemmas.{keyword-names}
 use Rattle.crs_normal.proofs.same.UnitLemmas.{suits-kind}
 use Rattle.crs_normal.proofs.made.IdentLemmas.{idents-sound}
@@ -28,7 +28,7 @@ abbrev pub identifiers : {c : Class} → NamesId c → Level → List IdentParts
 identifiers e level xs = identifiers-of e (set_idents level xs)
 
 pub identifiers-field : {c : Class} {ss : List (Segment c)} {item : Item} → Seen c ss item → (level : Level)
-    (xs : List IdentParts) → items_of class.Identifier ss ≡ each_items item_ident (set_idents level xs) [] →
+    (xs : List IdentParts) → items_of class.Identifier ss ≡ map item_ident (set_idents level xs) ++ [] →
     Each IsIdent xs → ReadsIds c item (set_idents level xs)
 identifiers-field look level xs same s = identifiers-back look (set_idents level xs) same (idents-sound level xs s)
 
@@ -48,26 +48,22 @@ angles-kept level (Some u) s = angle-kept level u s
 
 -- ---- ellipsoids
 
-module _ (laws : TextLaws) (level : Level) (e : EllipsoidParts) (s : IsEllipsoid e) where
-  abbrev of-ellipsoid : List (Segment class.Ellipsoid)
-  of-ellipsoid =
-      a-text e.name ∷ a-number e.semi_major_axis ∷ a-number e.inverse_flattening ∷
-      if-any class.LengthUnit item_unit (Some (norm_length level e.unit))
-      (unit-in class.Ellipsoid class.LengthUnit kinds.Length (keyword-names _ _)
-      (norm_length level e.unit) (length-kept level e.unit s.unit).1) ∷
-      identifiers (keyword-names _ _) level e.identifiers ∷ []
-
-  pub ellipsoid-read : ReadsBack item_ellipsoid (ReadsEllipsoid class.Ellipsoid) (norm_ellipsoid level e)
-  ellipsoid-read place =
-      let look = seen class.Ellipsoid of-ellipsoid (at_place place (item_ellipsoid (norm_ellipsoid level e))) (place + 9) refl in record {
-        name = refl;
-        semi_major_axis = number-read laws e.semi_major_axis s.semi_major_axis 0;
-        inverse_flattening = number-read laws e.inverse_flattening s.inverse_flattening 0;
-        unit = opt-field look class.LengthUnit item_unit _ _ refl
-            (unit-read laws class.LengthUnit (keyword-names _ _) (norm_length level e.unit)
-            (length-kept level e.unit s.unit).0);
-        identifiers = identifiers-field look level e.identifiers refl s.identifiers;
-      }
+pub ellipsoid-read : TextLaws → (level : Level) (e : EllipsoidParts) → IsEllipsoid e →
+    ReadsBack item_ellipsoid (ReadsEllipsoid class.Ellipsoid) (norm_ellipsoid level e)
+ellipsoid-read laws level e s place =
+    let unit = length-kept level e.unit s.unit in
+    let look = seen class.Ellipsoid (a-text e.name ∷ a-number e.semi_major_axis ∷ a-number e.inverse_flattening ∷
+    one-item class.LengthUnit (item_unit (norm_length level e.unit)) (unit-in class.Ellipsoid class.LengthUnit
+    kinds.Length (keyword-names _ _) (norm_length level e.unit) unit.1) ∷
+    identifiers (keyword-names _ _) level e.identifiers ∷ [])
+    (at_place place (item_ellipsoid (norm_ellipsoid level e))) (place + 9) refl in record {
+      name = refl;
+      semi_major_axis = number-read laws e.semi_major_axis s.semi_major_axis 0;
+      inverse_flattening = number-read laws e.inverse_flattening s.inverse_flattening 0;
+      unit = opt-field look class.LengthUnit item_unit _ _ refl
+          (unit-read laws class.LengthUnit (keyword-names _ _) (norm_length level e.unit) unit.0);
+      identifiers = identifiers-field look level e.identifiers refl s.identifiers;
+    }
 
 -- ---- prime meridians
 
@@ -85,28 +81,21 @@ unless-kept : (b : Bool) (o : Option UnitParts) → IfSome o IsAngle → IfSome 
 unless-kept true o s = tt
 unless-kept false o s = s
 
-module _ (laws : TextLaws) (level : Level) (m : MeridianParts) (s : IsMeridian m) where
-  abbrev meridian-unit : Option UnitParts
-  meridian-unit = if is_zero m.longitude then None else norm_units level kinds.Angle m.unit
-
-  meridian-angle : IfSome meridian-unit IsAngle
-  meridian-angle =
-      unless-kept (is_zero m.longitude) (norm_units level kinds.Angle m.unit) (angles-kept level m.unit s.unit)
-
-  abbrev of-meridian : List (Segment class.PrimeMeridian)
-  of-meridian =
-      a-text m.name ∷ a-number m.longitude ∷
-      if-any class.AngleUnit item_unit meridian-unit (angles-in class.PrimeMeridian (keyword-names _ _) _ meridian-angle) ∷
-      identifiers (keyword-names _ _) level m.identifiers ∷ []
-
-  pub given-read : ReadsBack item_meridian (ReadsMeridian class.PrimeMeridian) (norm_given level m)
-  given-read place =
-      let look = seen class.PrimeMeridian of-meridian (at_place place (item_meridian (norm_given level m))) (place + 6) refl in record {
-        name = refl;
-        longitude = number-read laws m.longitude s.longitude 0;
-        unit = opt-field look class.AngleUnit item_unit _ _ refl (angles-back laws meridian-unit meridian-angle);
-        identifiers = identifiers-field look level m.identifiers refl s.identifiers;
-      }
+pub given-read : TextLaws → (level : Level) (m : MeridianParts) → IsMeridian m →
+    ReadsBack item_meridian (ReadsMeridian class.PrimeMeridian) (norm_given level m)
+given-read laws level m s place =
+    let unit : Option UnitParts = if is_zero m.longitude then None else norm_units level kinds.Angle m.unit in
+    let angle : IfSome unit IsAngle =
+    unless-kept (is_zero m.longitude) (norm_units level kinds.Angle m.unit) (angles-kept level m.unit s.unit) in
+    let look = seen class.PrimeMeridian (a-text m.name ∷ a-number m.longitude ∷
+    if-any class.AngleUnit item_unit unit (angles-in class.PrimeMeridian (keyword-names _ _) _ angle) ∷
+    identifiers (keyword-names _ _) level m.identifiers ∷ [])
+    (at_place place (item_meridian (norm_given level m))) (place + 6) refl in record {
+      name = refl;
+      longitude = number-read laws m.longitude s.longitude 0;
+      unit = opt-field look class.AngleUnit item_unit _ _ refl (angles-back laws unit angle);
+      identifiers = identifiers-field look level m.identifiers refl s.identifiers;
+    }
 
 pub greenwich-read : TextLaws → ReadsBack item_meridian (ReadsMeridian class.PrimeMeridian) greenwich
 greenwich-read laws place = record {
@@ -149,39 +138,38 @@ pub record EnsembleNames (c : Class) : Type 0 where
   pub accuracies : class_named c (codes "ENSEMBLEACCURACY") ≡ Some class.EnsembleAccuracy
 
 -- in a class of reference frames, where the ellipsoid is, if there is one
-module _ (laws : TextLaws) (c : Class) (keyword : List ℕ) (names : DatumNames c) (level : Level) (d : DatumParts) (s : IsDatum d) (on : MayIn c class.Ellipsoid item_ellipsoid (option_map (norm_ellipsoid level) d.ellipsoid)) where
-  abbrev of-datum : List (Segment c)
-  of-datum =
-      a-text d.name ∷ if-any class.Ellipsoid item_ellipsoid (option_map (norm_ellipsoid level) d.ellipsoid) on ∷
-      may-be class.Anchor (text_node (codes "ANCHOR")) d.anchor (λ x. names.anchors) ∷
-      may-be class.AnchorEpoch (number_node (codes "ANCHOREPOCH")) d.anchor_epoch (λ v. names.epochs) ∷
-      identifiers names.identifiers level d.identifiers ∷ []
+pub datum-read : TextLaws → (c : Class) (keyword : List ℕ) → DatumNames c → (level : Level) (d : DatumParts) → IsDatum d →
+    MayIn c class.Ellipsoid item_ellipsoid (option_map (norm_ellipsoid level) d.ellipsoid) →
+    ReadsBack (item_datum keyword) (ReadsDatum c) (norm_datum level d)
+datum-read laws c keyword names level d s on place =
+    let look = seen c (a-text d.name ∷
+    if-any class.Ellipsoid item_ellipsoid (option_map (norm_ellipsoid level) d.ellipsoid) on ∷
+    may-be class.Anchor (text_node (codes "ANCHOR")) d.anchor (λ x. names.anchors) ∷
+    may-be class.AnchorEpoch (number_node (codes "ANCHOREPOCH")) d.anchor_epoch (λ v. names.epochs) ∷
+    identifiers names.identifiers level d.identifiers ∷ [])
+    (at_place place (item_datum keyword (norm_datum level d))) (place + length keyword) refl in record {
+      name = refl;
+      ellipsoid = opt-field look class.Ellipsoid item_ellipsoid _ _ refl (ellipsoids-back laws level d.ellipsoid s.ellipsoid);
+      anchor = text-field look class.Anchor (codes "ANCHOR") d.anchor refl;
+      anchor_epoch = opt-field look class.AnchorEpoch (number_node (codes "ANCHOREPOCH")) _ _ refl
+          (some-imp _ _ (λ v h p. number-read laws v h 0) d.anchor_epoch s.anchor_epoch);
+      identifiers = identifiers-field look level d.identifiers refl s.identifiers;
+    }
 
-  pub datum-read : ReadsBack (item_datum keyword) (ReadsDatum c) (norm_datum level d)
-  datum-read place =
-      let look = seen c of-datum (at_place place (item_datum keyword (norm_datum level d))) (place + length keyword) refl in record {
-        name = refl;
-        ellipsoid = opt-field look class.Ellipsoid item_ellipsoid _ _ refl (ellipsoids-back laws level d.ellipsoid s.ellipsoid);
-        anchor = text-field look class.Anchor (codes "ANCHOR") d.anchor refl;
-        anchor_epoch = opt-field look class.AnchorEpoch (number_node (codes "ANCHOREPOCH")) _ _ refl
-            (some-imp _ _ (λ v h p. number-read laws v h 0) d.anchor_epoch s.anchor_epoch);
-        identifiers = identifiers-field look level d.identifiers refl s.identifiers;
-      }
-
-module _ (laws : TextLaws) (c : Class) (names : EnsembleNames c) (level : Level) (e : EnsembleParts) (s : IsEnsemble e) (on : MayIn c class.Ellipsoid item_ellipsoid (option_map (norm_ellipsoid level) e.ellipsoid)) where
-  abbrev of-ensemble : List (Segment c)
-  of-ensemble =
-      a-text e.name ∷ all-of class.Member item_member (set_members level e.members) (λ m. names.members) ∷
-      if-any class.Ellipsoid item_ellipsoid (option_map (norm_ellipsoid level) e.ellipsoid) on ∷
-      one-item class.EnsembleAccuracy (number_node (codes "ENSEMBLEACCURACY") e.accuracy) names.accuracies ∷
-      identifiers names.identifiers level e.identifiers ∷ []
-
-  pub ensemble-read : ReadsBack item_ensemble (ReadsEnsemble c) (norm_ensemble level e)
-  ensemble-read place =
-      let look = seen c of-ensemble (at_place place (item_ensemble (norm_ensemble level e))) (place + 8) refl in record {
-        name = refl;
-        members = each-field look class.Member item_member _ _ refl (members-back level e.members s.members);
-        ellipsoid = opt-field look class.Ellipsoid item_ellipsoid _ _ refl (ellipsoids-back laws level e.ellipsoid s.ellipsoid);
-        accuracy = one-field look class.EnsembleAccuracy (number_node (codes "ENSEMBLEACCURACY")) _ _ refl (λ p. number-read laws e.accuracy s.accuracy 0);
-        identifiers = identifiers-field look level e.identifiers refl s.identifiers;
-      }
+pub ensemble-read : TextLaws → (c : Class) → EnsembleNames c → (level : Level) (e : EnsembleParts) → IsEnsemble e →
+    MayIn c class.Ellipsoid item_ellipsoid (option_map (norm_ellipsoid level) e.ellipsoid) →
+    ReadsBack item_ensemble (ReadsEnsemble c) (norm_ensemble level e)
+ensemble-read laws c names level e s on place =
+    let look = seen c (a-text e.name ∷
+    all-of class.Member item_member (set_members level e.members) (λ m. names.members) ∷
+    if-any class.Ellipsoid item_ellipsoid (option_map (norm_ellipsoid level) e.ellipsoid) on ∷
+    one-item class.EnsembleAccuracy (number_node (codes "ENSEMBLEACCURACY") e.accuracy) names.accuracies ∷
+    identifiers names.identifiers level e.identifiers ∷ [])
+    (at_place place (item_ensemble (norm_ensemble level e))) (place + 8) refl in record {
+      name = refl;
+      members = each-field look class.Member item_member _ _ refl (members-back level e.members s.members);
+      ellipsoid = opt-field look class.Ellipsoid item_ellipsoid _ _ refl (ellipsoids-back laws level e.ellipsoid s.ellipsoid);
+      accuracy = one-field look class.EnsembleAccuracy (number_node (codes "ENSEMBLEACCURACY")) _ _ refl
+          (λ p. number-read laws e.accuracy s.accuracy 0);
+      identifiers = identifiers-field look level e.identifiers refl s.identifiers;
+    }

@@ -1,5 +1,5 @@
 -- Axes in their one form are read back from their items, and so are the nodes of coordinate systems.
-use Rattle.std.proofs.Common.{◌≡◌, ◌≢◌, ℕ, suc, zero, ◌+◌, codes, IfSome, Option, Some, None, List, [], ◌∷◌, refl, if◌then◌else◌, Bool, true, false}
+use Rattle.std.proofs.Common.{◌≡◌, ◌≢◌, ℕ, suc, zero, ◌+◌, codes, IfSome, Option, Some, None, List, [], ◌∷◌, refl, ◌≤◌, arith}
 use Rattle.crs_decimal.specs.Prelude.{IsNormal}
 use Rattle.crs_text.specs.Prelude.{at_place}
 use Rattle.crs_shape.specs.declared.class.Class.TheVariants as class
@@ -16,35 +16,31 @@ use Rattle.crs_value.specs.Sound.{Each}
 use Rattle.crs_matching.specs.Prelude.{own_or, kind_as}
 use Rattle.crs_normal.specs.PartTexts.{norm_axis_alone}
 use Rattle.crs_normal.specs.SpelledItems.{number_node}
-use Rattle.crs_normal.specs.SpelledSystems.{axes_from, axis_at, is_at, item_axis, item_axis_meridian, item_head, norm_axis, norm_axis_meridian, norm_axis_meridians, norm_system, with_axis}
+use Rattle.crs_normal.specs.SpelledSystems.{axes_from, axis_at, item_axis, item_axis_meridian, item_head, norm_axis, norm_axis_meridian, norm_axis_meridians, norm_system, with_axis}
 use Rattle.crs_normal.specs.SpelledUnits.{item_unit, norm_unit, norm_units, whole_value}
 use Rattle.crs_normal.specs.TextLaws.{TextLaws}
 use Rattle.crs_normal.proofs.members.MemberUnitLemmas.{identifiers-back, identifiers-of, number-read, unit-in, unit-kept, unit-read}
 use Rattle.crs_normal.proofs.read.FrameLemmas.{angle-kept, identifiers, identifiers-field}
-use Rattle.crs_normal.proofs.texts.SegmentLemmas.{IsIn, ReadsBack, Segment, a-number, a-text, a-word, if-any, may-be, one-field, one-item, opt-field, seen, some-imp}
+use Rattle.crs_normal.proofs.texts.SegmentLemmas.{IsIn, ReadsBack, a-number, a-text, a-word, if-any, may-be, one-field, one-item, opt-field, seen, some-imp}
 use Rattle.crs_normal.proofs.read.NameLemmas.{keyword-names}
 use Rattle.crs_normal.proofs.made.IdentLemmas.{idents-sound}
+use Rattle.crs_normal.proofs.made.AxisLemmas.{whole-normal}
+use Rattle.crs_normal.proofs.made.SystemLemmas.{at-all}
 
 -- ---- the meridian of an axis
 
-module _ (laws : TextLaws) (level : Level) (m : AxisMeridianParts) (s : IsAxisMeridian m) where
-  abbrev unit-along : UnitParts
-  unit-along = norm_unit level kinds.Angle m.unit
-
-  abbrev of-meridian : List (Segment class.AxisMeridian)
-  of-meridian =
-      a-number m.longitude ∷ one-item class.AngleUnit (item_unit unit-along)
-      (unit-in class.AxisMeridian class.AngleUnit kinds.Angle (keyword-names _ _) unit-along
-      (angle-kept level m.unit s.unit).1) ∷ []
-
-  pub axis-meridian-read : ReadsBack item_axis_meridian (ReadsAxisMeridian class.AxisMeridian) (norm_axis_meridian level m)
-  axis-meridian-read place =
-      let look = seen class.AxisMeridian of-meridian (at_place place (item_axis_meridian (norm_axis_meridian level m)))
-      (place + 8) refl in record {
-        longitude = number-read laws m.longitude s.longitude 0;
-        unit = one-field look class.AngleUnit item_unit _ _ refl
-            (unit-read laws class.AngleUnit (keyword-names _ _) unit-along (angle-kept level m.unit s.unit).0);
-      }
+pub axis-meridian-read : TextLaws → (level : Level) (m : AxisMeridianParts) → IsAxisMeridian m →
+    ReadsBack item_axis_meridian (ReadsAxisMeridian class.AxisMeridian) (norm_axis_meridian level m)
+axis-meridian-read laws level m s place =
+    let along = norm_unit level kinds.Angle m.unit in
+    let angle = angle-kept level m.unit s.unit in
+    let look = seen class.AxisMeridian (a-number m.longitude ∷ one-item class.AngleUnit (item_unit along)
+    (unit-in class.AxisMeridian class.AngleUnit kinds.Angle (keyword-names _ _) along angle.1) ∷ [])
+    (at_place place (item_axis_meridian (norm_axis_meridian level m))) (place + 8) refl in record {
+      longitude = number-read laws m.longitude s.longitude 0;
+      unit = one-field look class.AngleUnit item_unit _ _ refl
+          (unit-read laws class.AngleUnit (keyword-names _ _) along angle.0);
+    }
 
 axis-meridians-read : TextLaws → (level : Level) (o : Option AxisMeridianParts) → IfSome o IsAxisMeridian →
     IfSome (norm_axis_meridians level o) (ReadsBack item_axis_meridian (ReadsAxisMeridian class.AxisMeridian))
@@ -92,28 +88,24 @@ plain-units-kept level (Some u) s =
 -- ---- axes
 
 -- an axis whose parts are in their one form
-module _ (laws : TextLaws) (x : AxisParts) (unit : IfSome x.unit IsAxisUnit) where
-  abbrev of-axis : List (Segment class.Axis)
-  of-axis =
-      a-text x.name ∷ a-word (direction_word x.direction) ∷
-      may-be class.AxisMeridian item_axis_meridian x.meridian (λ m. keyword-names _ _) ∷
-      may-be class.Order (number_node (codes "ORDER")) x.order (λ v. keyword-names _ _) ∷
-      if-any class.AxisUnit item_unit x.unit (some-imp _ _ axis-unit-in x.unit unit) ∷
-      identifiers-of (keyword-names _ _) x.identifiers ∷ []
-
-  form-read : IfSome x.meridian (ReadsBack item_axis_meridian (ReadsAxisMeridian class.AxisMeridian)) →
-      IfSome x.order IsNormal → Each IsIdent x.identifiers → ReadsBack item_axis (ReadsAxis class.Axis) x
-  form-read meridian order ids place =
-      let look = seen class.Axis of-axis (at_place place (item_axis x)) (place + 4) refl in record {
-        name = refl;
-        direction = refl;
-        meridian = opt-field look class.AxisMeridian item_axis_meridian _ _ refl meridian;
-        order = opt-field look class.Order (number_node (codes "ORDER")) _ _ refl
-            (some-imp _ _ (λ v n p. number-read laws v n 0) x.order order);
-        unit = opt-field look class.AxisUnit item_unit _ _ refl
-            (some-imp _ _ (λ u q. unit-read laws class.AxisUnit (keyword-names _ _) u q.0) x.unit unit);
-        identifiers = identifiers-back look x.identifiers refl ids;
-      }
+form-read : TextLaws → (x : AxisParts) → IfSome x.unit IsAxisUnit →
+    IfSome x.meridian (ReadsBack item_axis_meridian (ReadsAxisMeridian class.AxisMeridian)) → IfSome x.order IsNormal →
+    Each IsIdent x.identifiers → ReadsBack item_axis (ReadsAxis class.Axis) x
+form-read laws x unit meridian order ids place =
+    let look = seen class.Axis (a-text x.name ∷ a-word (direction_word x.direction) ∷
+    may-be class.AxisMeridian item_axis_meridian x.meridian (λ m. keyword-names _ _) ∷
+    may-be class.Order (number_node (codes "ORDER")) x.order (λ v. keyword-names _ _) ∷
+    if-any class.AxisUnit item_unit x.unit (some-imp _ _ axis-unit-in x.unit unit) ∷
+    identifiers-of (keyword-names _ _) x.identifiers ∷ []) (at_place place (item_axis x)) (place + 4) refl in record {
+      name = refl;
+      direction = refl;
+      meridian = opt-field look class.AxisMeridian item_axis_meridian _ _ refl meridian;
+      order = opt-field look class.Order (number_node (codes "ORDER")) _ _ refl
+          (some-imp _ _ (λ v n p. number-read laws v n 0) x.order order);
+      unit = opt-field look class.AxisUnit item_unit _ _ refl
+          (some-imp _ _ (λ u q. unit-read laws class.AxisUnit (keyword-names _ _) u q.0) x.unit unit);
+      identifiers = identifiers-back look x.identifiers refl ids;
+    }
 
 axis-read : TextLaws → (level : Level) (system : SystemParts) → IfSome system.unit IsAxisUnit → (k : ℕ) →
     IsNormal (whole_value k) → (x : AxisParts) → IsAxis x →
@@ -133,22 +125,6 @@ axis-alone-read laws level x s =
 
 -- ---- the axes of a system
 
--- these positions are written as numbers in their normal form
-abbrev pub AreWhole : ℕ → ℕ → Type 0
-AreWhole k zero = Unit {0}
-AreWhole k (suc n) = IsNormal (whole_value k) × AreWhole (k + 1) n
-
-either-sound : (b : Bool) (x : AxisParts) (o : Option AxisParts) → IsAxis x → IfSome o IsAxis →
-    IfSome (if b then Some x else o) IsAxis
-either-sound true x o s t = s
-either-sound false x o s t = t
-
-at-sound : (position place : ℕ) (axes : List AxisParts) → Each IsAxis axes → IfSome (axis_at position place axes) IsAxis
-at-sound position place [] s = tt
-at-sound position place (x ∷ axes) s =
-    either-sound (is_at position place x.order) x (axis_at position (place + 1) axes) s.0
-    (at-sound position (place + 1) axes s.1)
-
 with-read : TextLaws → (level : Level) (system : SystemParts) → IfSome system.unit IsAxisUnit → (k : ℕ) →
     IsNormal (whole_value k) → (o : Option AxisParts) → IfSome o IsAxis → (rest : List AxisParts) →
     Each (ReadsBack item_axis (ReadsAxis class.Axis)) rest →
@@ -156,12 +132,13 @@ with-read : TextLaws → (level : Level) (system : SystemParts) → IfSome syste
 with-read laws level system shared k whole None s rest r = r
 with-read laws level system shared k whole (Some x) s rest r = (axis-read laws level system shared k whole x s, r)
 
-pub axes-read : TextLaws → (level : Level) (system : SystemParts) → IsSystem system → (k n : ℕ) → AreWhole k n →
+pub axes-read : TextLaws → (level : Level) (system : SystemParts) → IsSystem system → (k n : ℕ) → 1 ≤ k → k + n ≤ 4 →
     Each (ReadsBack item_axis (ReadsAxis class.Axis)) (axes_from level system k n)
-axes-read laws level system s k zero w = tt
-axes-read laws level system s k (suc n) w =
-    with-read laws level system s.unit k w.0 (axis_at k 1 system.axes) (at-sound k 1 system.axes s.axes)
-    (axes_from level system (k + 1) n) (axes-read laws level system s (k + 1) n w.1)
+axes-read laws level system s k zero low high = tt
+axes-read laws level system s k (suc n) low high =
+    with-read laws level system s.unit k (whole-normal k low (omega arith)) (axis_at k 1 system.axes)
+    (at-all IsAxis k 1 system.axes s.axes) (axes_from level system (k + 1) n)
+    (axes-read laws level system s (k + 1) n (omega arith) (omega arith))
 
 -- ---- the node of a system
 

@@ -1,5 +1,5 @@
 -- The arguments of a node as segments: what it has of each class, wherever it is, is read off them.
-use Rattle.std.proofs.Common.{◌≡◌, ◌⊎◌, ℕ, Bool, true, false, if◌then◌else◌, IfSome, Option, Some, None, List, [], ◌∷◌, map, inl, inr, refl, sym, ◌∙◌, ap, subst, rules}
+use Rattle.std.proofs.Common.{◌≡◌, ◌⊎◌, ℕ, Bool, true, false, if◌then◌else◌, IfSome, Option, Some, None, List, [], ◌∷◌, ◌++◌, map, inl, inr, refl, sym, ◌∙◌, ap, subst, rules}
 use Rattle.std.specs.Option.{option_map}
 use denote.Enum.Bare.{same_true}
 use Rattle.crs_decimal.specs.Prelude.{Value}
@@ -14,6 +14,7 @@ use Rattle.crs_normal.specs.Ordered.{in_order}
 use Rattle.crs_normal.specs.SpelledItems.{each, number_item, opt, text_item, text_node, word_item}
 use Rattle.crs_normal.proofs.made.PlaceLemmas.{ArePlaced, those-placed}
 use Rattle.crs_normal.proofs.members.SetLemmas.{each-in_order}
+use Rattle.crs_normal.proofs.read.ViewLemmas.{each-so, onto as line}
 
 -- the item is of class k in a node of class c
 abbrev pub IsIn : Class → Class → Item → Type 0
@@ -48,26 +49,44 @@ pub some-mapped : {V W : Type 0} (norm : V → W) (P : V → Type 0) (Q : W → 
 some-mapped norm P Q f None p = tt
 some-mapped norm P Q f (Some x) p = f x p
 
-each-mapped : {V W : Type 0} (norm : V → W) (P : V → Type 0) (Q : W → Type 0) → ((x : V) → P x → Q (norm x)) →
-    (xs : List V) → Each P xs → Each Q (map norm xs)
-each-mapped norm P Q f [] p = tt
-each-mapped norm P Q f (x ∷ xs) p = (f x p.0, each-mapped norm P Q f xs p.1)
+pub each-map : {V W : Type 0} (f : V → W) (Q : W → Type 0) (xs : List V) → Each (λ x. Q (f x)) xs → Each Q (map f xs)
+each-map f Q [] h = tt
+each-map f Q (x ∷ xs) h = (h.0, each-map f Q xs h.1)
 
 -- the one forms of a set
 pub set-kept : {V W : Type 0} (norm : V → W) (bytes : W → List ℕ) (P : V → Type 0) (Q : W → Type 0) →
     ((x : V) → P x → Q (norm x)) → (xs : List V) → Each P xs → Each Q (in_order bytes (map norm xs))
-set-kept norm bytes P Q f xs p = each-in_order bytes Q (map norm xs) (each-mapped norm P Q f xs p)
+set-kept norm bytes P Q f xs p = each-in_order bytes Q (map norm xs) (each-map norm Q xs (each-so _ _ f xs p))
 
 -- ---- segments
 
--- the items of some values, before others
-abbrev pub opt_items : {V : Type 0} → (V → Item) → Option V → List Item → List Item
-opt_items spell None rest = rest
-opt_items spell (Some x) rest = spell x ∷ rest
+-- the item of a value that may be missing
+abbrev pub given : {V : Type 0} → (V → Item) → Option V → List Item
+given spell None = []
+given spell (Some x) = spell x ∷ []
 
-abbrev pub each_items : {V : Type 0} → (V → Item) → List V → List Item → List Item
-each_items spell [] rest = rest
-each_items spell (x ∷ xs) rest = spell x ∷ each_items spell xs rest
+pub given-each : {V : Type 0} (Q : Item → Type 0) (spell : V → Item) (o : Option V) → IfSome o (λ x. Q (spell x)) →
+    Each Q (given spell o)
+given-each Q spell None h = tt
+given-each Q spell (Some x) h = (h, tt)
+
+pub opt-line : {V : Type 0} (spell : V → Item) (o : Option V) (rest : Siblings) →
+    opt spell o rest ≡ line (given spell o) rest
+opt-line spell None rest = refl
+opt-line spell (Some x) rest = refl
+
+pub each-line : {V : Type 0} (spell : V → Item) (xs : List V) (rest : Siblings) →
+    each spell xs rest ≡ line (map spell xs) rest
+each-line spell [] rest = refl
+each-line spell (x ∷ xs) rest = ap (More (spell x)) (each-line spell xs rest)
+
+-- those of a class among items of one class and others
+pub those-line : (c d k : Class) (b : Bool) → is_class d (Some k) ≡ b → (js : List Item) (rest : Siblings) →
+    Each (IsIn c k) js → those c d (line js rest) ≡ (if b then js ++ those c d rest else those c d rest)
+those-line c d k true e [] rest h = refl
+those-line c d k true e (j ∷ js) rest h = rw (h.0, e) (ap (λ l. j ∷ l) (those-line c d k true e js rest h.1))
+those-line c d k false e [] rest h = refl
+those-line c d k false e (j ∷ js) rest h = rw (h.0, e) (those-line c d k false e js rest h.1)
 
 -- arguments of a node of class c before others, and those of each class among them
 pub record Segment (c : Class) : Type 0 where
@@ -79,11 +98,6 @@ same-if : (b : Bool) (js : List Item) → js ≡ (if b then js else js)
 same-if true js = refl
 same-if false js = refl
 
-next-if : (b : Bool) (j : Item) (js rest all : List Item) → all ≡ (if b then js else rest) →
-    (if b then j ∷ all else all) ≡ (if b then j ∷ js else rest)
-next-if true j js rest all e = ap (λ l. j ∷ l) e
-next-if false j js rest all e = e
-
 -- an item, before others, where it is of the one sort or of the other
 abbrev pub if_left : {A B : Type 0} → Item → A ⊎ B → List Item → List Item
 if_left item (inl a) rest = item ∷ rest
@@ -94,23 +108,9 @@ if_right item (inl a) rest = rest
 if_right item (inr b) rest = item ∷ rest
 
 module _ (c : Class) where
-  pub named : (d k : Class) (item : Item) (rest : Siblings) → IsIn c k item →
+  named : (d k : Class) (item : Item) (rest : Siblings) → IsIn c k item →
       those c d (More item rest) ≡ (if is_class d (Some k) then item ∷ those c d rest else those c d rest)
   named d k item rest e = ap (λ o. if is_class d o then item ∷ those c d rest else those c d rest) e
-
-  module _ {V : Type 0} (k : Class) (spell : V → Item) where
-    pub opt-holds : (o : Option V) → MayIn c k spell o → (d : Class) (rest : Siblings) →
-        those c d (opt spell o rest) ≡ (if is_class d (Some k) then opt_items spell o (those c d rest) else those c d rest)
-    opt-holds None e d rest = same-if (is_class d (Some k)) (those c d rest)
-    opt-holds (Some x) e d rest = named d k (spell x) rest e
-
-    pub each-holds : (xs : List V) → AreIn c k spell xs → (d : Class) (rest : Siblings) →
-        those c d (each spell xs rest) ≡ (if is_class d (Some k) then each_items spell xs (those c d rest) else those c d rest)
-    each-holds [] e d rest = same-if (is_class d (Some k)) (those c d rest)
-    each-holds (x ∷ xs) e d rest =
-        named d k (spell x) (each spell xs rest) e.0
-        ∙ next-if (is_class d (Some k)) (spell x) (each_items spell xs (those c d rest)) (those c d rest)
-        (those c d (each spell xs rest)) (each-holds xs e.1 d rest)
 
   module _ (k l : Class) (apart : is_class k (Some l) ≡ false) (item : Item) where
     not-both : (d : Class) (b : Bool) → is_class d (Some k) ≡ b → (js : List Item) →
@@ -136,13 +136,17 @@ module _ (c : Class) where
         named d l item rest e ∙ not-both d (is_class d (Some k)) refl (those c d rest)
 
 module _ {c : Class} where
-  -- one item
-  abbrev pub one-item : (k : Class) (item : Item) → IsIn c k item → Segment c
-  one-item k item e = record {
-    onto = More item;
-    among = λ d rest. if is_class d (Some k) then item ∷ rest else rest;
-    holds = λ d rest. named c d k item rest e;
+  -- items of one class
+  abbrev run : (k : Class) (items : List Item) (before : Siblings → Siblings) →
+      ((rest : Siblings) → before rest ≡ line items rest) → Each (IsIn c k) items → Segment c
+  run k items before lined e = record {
+    onto = before;
+    among = λ d rest. if is_class d (Some k) then items ++ rest else rest;
+    holds = λ d rest. ap (those c d) (lined rest) ∙ those-line c d k (is_class d (Some k)) refl items rest e;
   }
+
+  abbrev pub one-item : (k : Class) (item : Item) → IsIn c k item → Segment c
+  one-item k item e = run k (item ∷ []) (More item) (λ rest. refl) (e, tt)
 
   abbrev pub a-text : List ℕ → Segment c
   a-text raw = one-item class.Text (text_item raw) refl
@@ -156,22 +160,14 @@ module _ {c : Class} where
   module _ {V : Type 0} (k : Class) (spell : V → Item) where
     -- an item that may be missing
     abbrev pub if-any : (o : Option V) → MayIn c k spell o → Segment c
-    if-any o e = record {
-      onto = opt spell o;
-      among = λ d rest. if is_class d (Some k) then opt_items spell o rest else rest;
-      holds = opt-holds c k spell o e;
-    }
+    if-any o e = run k (given spell o) (opt spell o) (opt-line spell o) (given-each (IsIn c k) spell o e)
 
     abbrev pub may-be : (o : Option V) → ((x : V) → IsIn c k (spell x)) → Segment c
     may-be o e = if-any o (some-all (λ x. IsIn c k (spell x)) e o)
 
     -- an item for each of these
     abbrev pub for-each : (xs : List V) → AreIn c k spell xs → Segment c
-    for-each xs e = record {
-      onto = each spell xs;
-      among = λ d rest. if is_class d (Some k) then each_items spell xs rest else rest;
-      holds = each-holds c k spell xs e;
-    }
+    for-each xs e = run k (map spell xs) (each spell xs) (each-line spell xs) (each-map spell (IsIn c k) xs e)
 
     abbrev pub all-of : (xs : List V) → ((x : V) → IsIn c k (spell x)) → Segment c
     all-of xs e = for-each xs (each-all (λ x. IsIn c k (spell x)) e xs)
@@ -219,14 +215,14 @@ placed-none [] h = refl
 placed-none (item ∷ items) h = absurd h
 
 placed-opt : {V : Type 0} (spell : V → Item) (R : Item → V → Type 0) (o : Option V) (items : List Item) →
-    ArePlaced items (opt_items spell o []) → IfSome o (ReadsBack spell R) → ReadsOptional R items o
+    ArePlaced items (given spell o ++ []) → IfSome o (ReadsBack spell R) → ReadsOptional R items o
 placed-opt spell R None [] p r = tt
 placed-opt spell R None (item ∷ items) p r = absurd p
 placed-opt spell R (Some x) [] p r = absurd p
 placed-opt spell R (Some x) (item ∷ items) p r = subst (λ i. R i x) (sym p.0.1) (r p.0.0)
 
 placed-each : {V : Type 0} (spell : V → Item) (R : Item → V → Type 0) (xs : List V) (items : List Item) →
-    ArePlaced items (each_items spell xs []) → Each (ReadsBack spell R) xs → ReadsEach R items xs
+    ArePlaced items (map spell xs ++ []) → Each (ReadsBack spell R) xs → ReadsEach R items xs
 placed-each spell R [] [] p r = tt
 placed-each spell R [] (item ∷ items) p r = absurd p
 placed-each spell R (x ∷ xs) [] p r = absurd p
@@ -257,15 +253,15 @@ module _ {c : Class} {ss : List (Segment c)} {item : Item} (look : Seen c ss ite
     pub one-field : (x : V) → Shows (spell x ∷ []) → ReadsBack spell Reads x → ReadsFirst Reads (those c d (arguments item)) x
     one-field x same r = placed-at (λ l. ReadsFirst Reads l x) (spell x) same r
 
-    pub opt-field : (o : Option V) → Shows (opt_items spell o []) → IfSome o (ReadsBack spell Reads) →
+    pub opt-field : (o : Option V) → Shows (given spell o ++ []) → IfSome o (ReadsBack spell Reads) →
         ReadsOptional Reads (those c d (arguments item)) o
-    opt-field o same r = placed-opt spell Reads o (those c d (arguments item)) (shown (opt_items spell o []) same) r
+    opt-field o same r = placed-opt spell Reads o (those c d (arguments item)) (shown (given spell o ++ []) same) r
 
-    pub each-field : (xs : List V) → Shows (each_items spell xs []) → Each (ReadsBack spell Reads) xs →
+    pub each-field : (xs : List V) → Shows (map spell xs ++ []) → Each (ReadsBack spell Reads) xs →
         ReadsEach Reads (those c d (arguments item)) xs
-    each-field xs same r = placed-each spell Reads xs (those c d (arguments item)) (shown (each_items spell xs []) same) r
+    each-field xs same r = placed-each spell Reads xs (those c d (arguments item)) (shown (map spell xs ++ []) same) r
 
   -- a node of one text, if there is one
-  pub text-field : (keyword : List ℕ) (o : Option (List ℕ)) → Shows (opt_items (text_node keyword) o []) →
+  pub text-field : (keyword : List ℕ) (o : Option (List ℕ)) → Shows (given (text_node keyword) o ++ []) →
       ReadsIfAny ReadsTextOf d c item o
   text-field keyword o same = opt-field (text_node keyword) (ReadsTextOf d) o same (some-all _ (λ x p. refl) o)
