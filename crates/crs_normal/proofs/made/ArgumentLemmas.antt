@@ -89,9 +89,9 @@ module _ {N : Class → Class → Item → Type 0} {most : ℕ} {parent : Class}
 
 module _ {level : Level} {most : ℕ} {parent : Class} where
   -- a node that is made as an argument
-  abbrev pub node-of : {n : ℕ} (of : Class) (j : Item) → n ≤ most → class_in parent j ≡ Some of →
+  abbrev pub node-of : {n : ℕ} {of : Class} (j : Item) → n ≤ most → class_in parent j ≡ Some of →
       ((p : ℕ) → IsAcceptedNormal level of n (at_place p j)) → Argument level most parent
-  node-of of j deep named made = one-of {j = j} (as-argument deep named made)
+  node-of j deep named made = one-of {j = j} (as-argument deep named made)
 
   -- nodes that may be missing, and the members of a set, in normal form
   module _ {n : ℕ} {V A : Type 0} {P : V → Type 0} (of : Class) (norm : V → A) (spell : A → Item) where

@@ -86,7 +86,7 @@ three-of most deep = omega arith
 abbrev pub behind_arguments : DecimalLaws → (level : Level) (most : ℕ) (c : Class) (s : SystemParts)
     (rest : List (Argument level most c)) → 5 ≤ most → NamesSystem c → IsFew s → List (Argument level most c)
 behind_arguments l level most c s rest deep n h =
-    node-of class.CoordinateSystem (item_head (norm_system level s)) (three-of most deep) n.head
+    node-of (item_head (norm_system level s)) (three-of most deep) n.head
     (head-made l level s h.system) ∷
     some-of class.Axis item_axis (axes_from level s 1 (length s.axes)) (axes-some l level s h)
     (axes-argument l level most c s deep n h) ∷ rest

@@ -128,7 +128,7 @@ side-made l each_at level b j name v t s n h g =
     let seen = λ (item : Item) (q : Sees class.CompoundCrs runs item). tail-seen level class.CompoundCrs item t
     (side-shows level b j name v t item (views class.CompoundCrs runs item tail_classes q)) in
     made-of level 7 class.CompoundCrs (codes "COMPOUNDCRS") _ _ (text-of name n ∷ one-of s.made ∷
-    node-of class.VerticalCrs (item_vertical (norm_vertical level v)) (omega arith) refl
+    node-of (item_vertical (norm_vertical level v)) (omega arith) refl
     (vertical-made l each_at level v h) ∷
     tail_arguments l level 7 class.CompoundCrs t (omega arith) compound-names g) refl (refl, refl) refl refl
     (rw (side-fits b).0 (refl {a = true}))

@@ -63,7 +63,7 @@ pub conversion-made : DecimalLaws → (level : Level) (m : ConversionParts) → 
 unfolding BreaksOwn class_named is_keyword set_parameters
 conversion-made l level m h =
     made-of level 4 class.Conversion (codes "CONVERSION") _ _ (text-of m.name h.name ∷
-    node-of class.Method (item_method (norm_method level m.method)) (omega arith) refl
+    node-of (item_method (norm_method level m.method)) (omega arith) refl
     (method-made l level m.method h.method) ∷
     set-of class.Parameter (norm_parameter level) item_parameter m.parameters None (omega arith) (λ q. refl) h.parameters
     (parameter-made l level) ∷

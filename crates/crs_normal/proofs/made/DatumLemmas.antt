@@ -53,7 +53,7 @@ unfolding BreaksOwn class_named is_keyword
 geodetic-datum-made l level None d some e h = absurd (cc some)
 geodetic-datum-made l level (Some x) d some e h =
     made-of level 4 class.GeodeticFrame (codes "DATUM") _ _ (text-of d.name h.name ∷
-    node-of class.Ellipsoid (item_ellipsoid (norm_ellipsoid level x)) (omega arith) refl (ellipsoid-made l level x e) ∷
+    node-of (item_ellipsoid (norm_ellipsoid level x)) (omega arith) refl (ellipsoid-made l level x e) ∷
     may-text class.Anchor (codes "ANCHOR") (refl, refl) refl refl (λ item. tt) (λ item fault b. b) refl (omega arith)
     refl d.anchor h.anchor ∷ may-number class.AnchorEpoch (codes "ANCHOREPOCH") (refl, refl) refl refl (λ item. tt)
     (λ item fault b. b) refl (omega arith) l refl d.anchor_epoch h.anchor_epoch ∷

@@ -39,7 +39,7 @@ geodetic-ensemble-made l level (Some x) e some f h =
     made-of level 4 class.GeodeticEnsemble (codes "ENSEMBLE") _ _ (text-of e.name h.name ∷
     set-of class.Member (norm_member level) item_member e.members (Some h.some) (omega arith) (λ m. refl) h.members
     (member-made l level) ∷
-    node-of class.Ellipsoid (item_ellipsoid (norm_ellipsoid level x)) (omega arith) refl (ellipsoid-made l level x f) ∷
+    node-of (item_ellipsoid (norm_ellipsoid level x)) (omega arith) refl (ellipsoid-made l level x f) ∷
     one-number class.EnsembleAccuracy (codes "ENSEMBLEACCURACY") (refl, refl) refl refl (λ item. tt)
     (λ item fault b. b) refl (omega arith) l refl e.accuracy h.accuracy ∷
     ids-of l e.identifiers (omega arith) refl h.identifiers ∷ []) refl (refl, refl) refl refl refl

@@ -123,7 +123,7 @@ geodetic_runs level g =
 abbrev geodetic_arguments : DecimalLaws → (level : Level) (c : Class) (g : GeodeticParts) → GeodeticNames c → IsFew g.system → IsGeodetic g → List (Argument level 5 c)
 geodetic_arguments l level c g n few h =
     text-of g.name h.name ∷ dynamic-of l g.dynamic g.frame (omega arith) n.dynamics h.dynamic ∷
-    node-of (geodetic_frame_class g.frame) (frame_item level g) (omega arith) (frame-named level c g.frame n.frames)
+    node-of (frame_item level g) (omega arith) (frame-named level c g.frame n.frames)
     (geodetic-frame-made l level g.frame h.frame) ∷
     meridian-of l g.meridian (omega arith) n.meridians h.meridian ∷
     behind_arguments l level 5 c g.system (tail_arguments l level 5 c g.tail (omega arith) n.tails h.tail) (omega arith)

@@ -1,7 +1,7 @@
 -- Single items that are made: texts, numbers, words and codes.
 use Rattle.std.proofs.Common.{◌≡◌, ℕ, ◌≤◌, ◌<◌, ◌&&◌, Bool, true, false, IsTrue, List, length, if◌then◌else◌, refl, sym, ◌∙◌, arith, nat_le}
 use Rattle.std.specs.List.{list_all}
-use Rattle.std.proofs.lemmas.Bool.{le-leb, leb-true}
+use Rattle.std.proofs.lemmas.Bool.{le-leb, leb-true, and_parts}
 use Rattle.crs_decimal.specs.Prelude.{Denotes, IsInBounds, IsPlain, plain, is_digit, Value, IsNormal, exact}
 use Rattle.crs_text.specs.Prelude.{leaf, Kind, number, text, word, IsSingle, IsWord}
 use Rattle.crs_shape.specs.declared.class.Class.{Class}
@@ -57,15 +57,11 @@ IsCodeKind word raw = ⊥
 pub short-true : (raw : List ℕ) → IsShort raw → is_short raw ≡ true
 short-true raw h = rw h.digits (rw (le-leb 1 (length raw) h.some) (rw (le-leb (length raw) 18 h.few) refl))
 
-split : (a b c : Bool) → (a && b && c) ≡ true → (a ≡ true) × ((b ≡ true) × (c ≡ true))
-split true true c h = (refl, (refl, h))
-split true false c h = cc
-split false b c h = cc
-
 pub true-short : (raw : List ℕ) → is_short raw ≡ true → IsShort raw
 true-short raw h =
-    let s = split (list_all is_digit raw) (nat_le 1 (length raw)) (nat_le (length raw) 18) h in
-    record { digits = s.0; some = leb-true 1 (length raw) s.1.0; few = leb-true (length raw) 18 s.1.1 }
+    let s = and_parts (list_all is_digit raw && nat_le 1 (length raw)) (nat_le (length raw) 18) h in
+    let t = and_parts (list_all is_digit raw) (nat_le 1 (length raw)) s.0 in
+    record { digits = t.0; some = leb-true 1 (length raw) t.1; few = leb-true (length raw) 18 s.1 }
 
 -- the kind that a code or version is written as
 abbrev pub code_kind : List ℕ → Kind
@@ -88,7 +84,5 @@ code-single l word raw h = absurd h
 
 pub code-made : DecimalLaws → (level : Level) (most : ℕ) (kind : Kind) (raw : List ℕ) → IsCodeKind kind raw →
     Made level most class.Identifier (class_of_kind kind) (leaf kind 0 raw)
-code-made l level most number raw h = leaf-made level most class.Identifier number raw (code-single l number raw h)
-    tt refl
-code-made l level most text raw h = leaf-made level most class.Identifier text raw (code-single l text raw h) tt refl
 code-made l level most word raw h = absurd h
+code-made l level most kind raw h = leaf-made level most class.Identifier kind raw (code-single l kind raw h) tt refl

@@ -29,6 +29,22 @@ mutual
       let o = texts-at (p + 1 + length (item_text j)) js in
       λ i. 44 ∷ (f i ++ o i)
 
+-- a text's item is at the text's places
+mutual
+  pub placed-twice : (p q : ℕ) (j : Item) → at_place p (at_place q j) ≡ at_place p j
+  placed-twice p q (leaf kind place raw) = refl
+  placed-twice p q (node place keyword square first others close) =
+      let s : ℕ = q + length keyword + 1 in
+      let t : ℕ = s + length (item_text first) in
+      rw (text-at s first) (rw (texts-at t others) (rw (placed-twice (p + length keyword + 1) s first)
+      (rw (placed-all (p + length keyword + 1 + length (item_text first)) t others) refl)))
+
+  placed-all : (p q : ℕ) (js : Siblings) → at_places p (at_places q js) ≡ at_places p js
+  placed-all p q End = refl
+  placed-all p q (More j js) =
+      rw (text-at (q + 1) j) (rw (placed-twice (p + 1) (q + 1) j)
+      (rw (placed-all (p + 1 + length (item_text j)) (q + 1 + length (item_text j)) js) refl))
+
 -- these items are those, each at some place
 abbrev pub ArePlaced : List Item → List Item → Type 0
 ArePlaced [] [] = Unit {0}

@@ -59,7 +59,7 @@ unfolding BreaksOwn class_named is_keyword
 base-made l level b h =
     made-of level 5 class.BaseCrs (codes "BASEGEOGCRS") _ _ (text-of b.name h.name ∷
     dynamic-of l b.dynamic b.frame (omega arith) refl h.dynamic ∷
-    node-of (geodetic_frame_class b.frame) (base_frame level b) (omega arith)
+    node-of (base_frame level b) (omega arith)
     (frame-named level class.BaseCrs b.frame (record { datum = refl; ensemble = refl }))
     (geodetic-frame-made l level b.frame h.frame) ∷
     meridian-of l b.meridian (omega arith) refl h.meridian ∷
@@ -85,9 +85,9 @@ projected-few l each_at g h = few-system l each_at (dimensions_of class.Projecte
 abbrev projected_arguments : DecimalLaws → (level : Level) (g : ProjectedParts) → IsFew g.system → IsProjected g →
     List (Argument level 6 class.ProjectedCrs)
 projected_arguments l level g few h =
-    text-of g.name h.name ∷ node-of class.BaseCrs (item_base (norm_base level g.base)) (omega arith)
+    text-of g.name h.name ∷ node-of (item_base (norm_base level g.base)) (omega arith)
     (keyword-names class.ProjectedCrs (codes "BASEGEOGCRS")) (base-made l level g.base h.base) ∷
-    node-of class.Conversion (item_conversion (norm_conversion level g.conversion)) (omega arith)
+    node-of (item_conversion (norm_conversion level g.conversion)) (omega arith)
     (keyword-names class.ProjectedCrs (codes "CONVERSION")) (conversion-made l level g.conversion h.conversion) ∷
     behind_arguments l level 6 class.ProjectedCrs g.system
     (tail_arguments l level 6 class.ProjectedCrs g.tail (omega arith) projected-names.tails h.tail) (omega arith)

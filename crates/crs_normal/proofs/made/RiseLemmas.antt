@@ -10,17 +10,6 @@ use Rattle.crs_normal.proofs.made.NodeLemmas.{MadeBy, Run, RunsMadeBy, Sees, at-
 use Rattle.crs_normal.proofs.made.PlaceLemmas.{class-at}
 use Rattle.crs_normal.proofs.made.FitLemmas.{both}
 
--- the ranks of the runs never fall, from this one on
-abbrev RunsRise : ℕ → List Run → Type 0
-RunsRise least [] = Unit {0}
-RunsRise least (run ∷ runs) = (least ≤ rank run.of) × RunsRise (rank run.of) runs
-
-runs-rise : (least : ℕ) (runs : List Run) → rises least runs ≡ true → RunsRise least runs
-runs-rise least [] e = tt
-runs-rise least (run ∷ runs) e =
-    let p = both (nat_le least (rank run.of)) (rises (rank run.of) runs) e in
-    (leb-true least (rank run.of) p.0, runs-rise (rank run.of) runs p.1)
-
 rise-lower : (c : Class) (m n : ℕ) (items : Siblings) → m ≤ n → Rise c n items → Rise c m items
 rise-lower c m n End h r = tt
 rise-lower c m n (More item items) h r = by (class_in c item) r
@@ -44,17 +33,16 @@ rise-line N most c d (j ∷ js) rest least s h low more =
           h.1 (omega arith) more,
     )
 
-rise-lines : (N : Class → Class → Item → Type 0) (most : ℕ) (c : Class) (runs : List Run) (least s : ℕ) → RunsMadeBy N
-    most c runs →
-    RunsRise least runs →
-    Rise c least (at_places s (lines runs))
-rise-lines N most c [] least s h r = tt
-rise-lines N most c (run ∷ runs) least s h r =
-    rise-line N most c run.of run.items (lines runs) least s h.0 r.0 (λ q. rise-lines N most c runs
-    (rank run.of) q h.1 r.1)
+rise-lines : (N : Class → Class → Item → Type 0) (most : ℕ) (c : Class) (runs : List Run) (least s : ℕ) →
+    RunsMadeBy N most c runs → rises least runs ≡ true → Rise c least (at_places s (lines runs))
+rise-lines N most c [] least s h e = tt
+rise-lines N most c (run ∷ runs) least s h e =
+    let r = both (nat_le least (rank run.of)) (rises (rank run.of) runs) e in
+    rise-line N most c run.of run.items (lines runs) least s h.0 (leb-true least (rank run.of) r.0)
+    (λ q. rise-lines N most c runs (rank run.of) q h.1 r.1)
 
 pub has-rise : (N : Class → Class → Item → Type 0) (most : ℕ) (c : Class) (runs : List Run) (item : Item) → Sees c
     runs item →
     RunsMadeBy N most c runs → rises 0 runs ≡ true → Rise c 0 (arguments item)
 has-rise N most c runs item s m r =
-    subst (Rise c 0) (sym s.are) (rise-lines N most c runs 0 s.start m (runs-rise 0 runs r))
+    subst (Rise c 0) (sym s.are) (rise-lines N most c runs 0 s.start m r)

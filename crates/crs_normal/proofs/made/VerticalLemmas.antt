@@ -62,7 +62,7 @@ abbrev vertical_arguments : DecimalLaws → (level : Level) (g : VerticalParts) 
     List (Argument level 5 class.VerticalCrs)
 vertical_arguments l level g few h =
     text-of g.name h.name ∷ dynamic-of l g.dynamic g.frame (omega arith) (keyword-names class.VerticalCrs (codes "DYNAMIC")) h.dynamic ∷
-    node-of (vertical_frame_class g.frame) (frame_item level g) (omega arith) (vertical-named level g.frame)
+    node-of (frame_item level g) (omega arith) (vertical-named level g.frame)
     (vertical-frame-made l level g.frame h.frame) ∷
     behind_arguments l level 5 class.VerticalCrs g.system
     (set-of class.GeoidModel (norm_geoid_model level) item_geoid_model g.geoid_models None (omega arith)

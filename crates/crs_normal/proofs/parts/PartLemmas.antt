@@ -18,8 +18,7 @@ use Rattle.crs_normal.specs.TextLaws.{TextLaws}
 use Rattle.crs_normal.proofs.texts.ClosedLemmas.{node-closed, same-some}
 use Rattle.crs_normal.proofs.normal.FormLemmas.{without_places-text}
 use Rattle.crs_normal.proofs.texts.ItemLemmas.{IsWritable, one-by-text}
-use Rattle.crs_normal.proofs.made.CrsLemmas.{placed-twice}
-use Rattle.crs_normal.proofs.made.PlaceLemmas.{text-at}
+use Rattle.crs_normal.proofs.made.PlaceLemmas.{text-at, placed-twice}
 use Rattle.crs_normal.proofs.texts.WrittenFormLemmas.{written-form}
 
 -- items are formed where a text spells them

@@ -9,8 +9,7 @@ use Rattle.crs_value.specs.Prelude.{ReadsCrs, SpellsCrs, Spells}
 use Rattle.crs_normal.specs.CrsClass.{crs_class}
 use Rattle.crs_normal.specs.AcceptedNormal.{IsAcceptedNormal}
 use Rattle.crs_normal.specs.SpelledCrs.{item_crs, norm_crs}
-use Rattle.crs_normal.proofs.made.CrsLemmas.{placed-twice}
-use Rattle.crs_normal.proofs.made.PlaceLemmas.{text-at}
+use Rattle.crs_normal.proofs.made.PlaceLemmas.{text-at, placed-twice}
 use Rattle.crs_normal.proofs.texts.RootLemmas.{crs-rooted}
 
 abbrev pub NoFaultIsShape : Type 0
@@ -36,7 +35,7 @@ made-spells law level c most item value root made reads = record {
 }
 
 -- the written text of a made item spells it, at the text's places
-made-stands : WrittenSpells → (level : Level) (c : Class) (item : Item) → IsAcceptedNormal level c 8 (at_place 0 item) →
+pub made-stands : WrittenSpells → (level : Level) (c : Class) (item : Item) → IsAcceptedNormal level c 8 (at_place 0 item) →
     SpellsNode (item_text item) (at_place 0 item)
 made-stands written level c item made =
     let w : depth (at_place 0 item) ≤ 8 = made.within in
