@@ -1,7 +1,7 @@
 -- An axis by itself is accepted, and normal but for a unit that is `UNIT`.
-use Rattle.std.proofs.Common.{◌≢◌, ℕ, ◌≤◌, Option, Some, None, List, [], ◌∷◌, codes, IfSome, inl, inr, refl, arith}
+use Rattle.std.proofs.Common.{◌≢◌, ℕ, Option, Some, None, List, [], ◌∷◌, codes, IfSome, inl, inr, refl, arith}
 use Rattle.crs_decimal.specs.Prelude.{IsNormal}
-use Rattle.crs_text.specs.Prelude.{Item, Siblings, End, More, arguments, depth, at_place}
+use Rattle.crs_text.specs.Prelude.{Item, Siblings, End, More, arguments, at_place}
 use Rattle.crs_shape.specs.declared.class.Class.{Class}
 use Rattle.crs_shape.specs.declared.class.Class.TheVariants as class
 use Rattle.crs_shape.specs.declared.unit_kind.UnitKind.{UnitKind}
@@ -22,7 +22,7 @@ use Rattle.crs_normal.specs.SpelledUnits.{item_unit, norm_units}
 use Rattle.crs_normal.proofs.made.AxisLemmas.{axis-meridians-made, known-direction, order-argument, axis-names}
 use Rattle.crs_normal.proofs.made.IdentLemmas.{ids-orderly, ids-of}
 use Rattle.crs_normal.proofs.made.LeafLemmas.{word-made}
-use Rattle.crs_normal.proofs.made.NodeLemmas.{Stands, node-stands, Made, MadeBy, as-argument, AreNormalBy}
+use Rattle.crs_normal.proofs.made.NodeLemmas.{Stands, node-stands, Made, MadeBy, as-argument, AreNormalBy, fine-as}
 use Rattle.crs_normal.proofs.made.UnitLemmas.{unit-arguments, unit-made, unit-unbroken, unit_as}
 use Rattle.crs_normal.proofs.made.WordLemmas.{direction-letters}
 use Rattle.crs_normal.proofs.parts.PartLemmas.{IsStanding}
@@ -38,16 +38,7 @@ AsArgument level parent d item = IsNormalArgument level d item
 
 made-alone : (level : Level) (most : ℕ) (d : Class) (j : Item) → Made level most class.Axis d j →
     MadeBy (AsArgument level) most class.Axis d j
-made-alone level most d j m = record {
-  named = m.named;
-  fine = λ p. let f = m.fine p in record {
-    formed = f.formed;
-    within = f.within;
-    shaped = f.shaped;
-    unbroken = f.unbroken;
-    normal = inl f.normal;
-  };
-}
+made-alone level most d j m = record { named = m.named; fine = λ p. fine-as (omega arith) (λ n. inl n) (m.fine p) }
 
 abbrev as-alone : {level : Level} {most : ℕ} → Argument level most class.Axis →
     ArgumentBy (AsArgument level) most class.Axis
@@ -70,7 +61,7 @@ all-normal-alone level (More item items) h = (h.0, all-normal-alone level items 
 
 module _ (l : DecimalLaws) (level : Level) (u : UnitParts) (h : IsUnit u) where
   -- `UNIT` is accepted as a unit of an axis
-  plain-stands : (p : ℕ) → Stands (IsNormalIn level) class.AxisUnit 3
+  plain-stands : (p : ℕ) → Stands (λ i. AreNormalBy (IsNormalIn level) class.AxisUnit (arguments i)) class.AxisUnit 3
       (at_place p (item_unit (unit_as level kinds.Plain u)))
   unfolding is_keyword
   plain-stands p =
@@ -82,16 +73,8 @@ module _ (l : DecimalLaws) (level : Level) (u : UnitParts) (h : IsUnit u) where
   plain-alone : MadeBy (AsArgument level) 4 class.Axis class.AxisUnit (item_unit (unit_as level kinds.Plain u))
   plain-alone = record {
     named = keyword-names class.Axis (codes "UNIT");
-    fine = λ p.
-        let s = plain-stands p in
-        let w : depth (at_place p (item_unit (unit_as level kinds.Plain u))) ≤ 3 = s.within in
-        record {
-          formed = s.formed;
-          within = omega arith;
-          shaped = s.shaped;
-          unbroken = s.unbroken;
-          normal = inr (refl, (unit-made l level class.PlainUnit kinds.Plain u refl h p).normal class.Axis);
-        };
+    fine = λ p. fine-as (omega arith)
+        (λ n. inr (refl, (unit-made l level class.PlainUnit kinds.Plain u refl h p).normal class.Axis)) (plain-stands p).1;
   }
 
   suited : (kind : UnitKind) → IsKindIn class.AxisUnit kind →
@@ -134,12 +117,4 @@ module _ (l : DecimalLaws) (level : Level) (x : AxisParts) (h : IsAxis x) where
       (λ item fault s. known-direction x.direction (those class.Axis class.Word (arguments item)) fault
       (s.view class.Word))
       (AreNormalArguments level) (all-normal-alone level) 0 in
-      let w : depth (at_place 0 (item_axis (norm_axis_alone level x))) ≤ 5 = m.0.within in
-      record {
-        is_node = m.0.is_node;
-        formed = m.0.formed;
-        within = omega arith;
-        shaped = m.0.shaped;
-        unbroken = m.0.unbroken;
-        normal = m.1;
-      }
+      (m.0.0, fine-as (omega arith) (λ n. m.1) m.0.1)

@@ -194,7 +194,7 @@ module _ {N : Class → Class → Item → Type 0} (level : Level) (most : ℕ) 
       ((item : Item) → Sees c (as_runs all) item → Rise c 0 (arguments item) → HasOwnForm c item) →
       ((item : Item) (fault : RefusedAt) → Sees c (as_runs all) item → ¬ (BreaksOwn c item fault)) →
       (AreNormal : Siblings → Type 0) → ((items : Siblings) → AreNormalBy N c items → AreNormal items) → (p : ℕ) →
-      Stands N c (suc most) (at_place p (node_of keyword first others)) × IsNormalNode level c keyword
+      Stands (λ i. AreNormalBy N c (arguments i)) c (suc most) (at_place p (node_of keyword first others)) × IsNormalNode level c keyword
       (at_place p (node_of keyword first others)) (AreNormal (arguments (at_place p (node_of keyword first others))))
   node-made letters known written fitting orderly own unbroken AreNormal normal p =
       let i : Item = at_place p (node_of keyword first others) in
@@ -209,7 +209,7 @@ module _ {N : Class → Class → Item → Type 0} (level : Level) (most : ℕ) 
           own_form = own i look (has-rise N most c runs i look (runs-made all) orderly.1.1);
           ascending_sets = each-so (λ d. Ascend (items_in d runs)) (λ d. Ascend (those c d (arguments i)))
               (λ d. placed-ascend (those c d (arguments i)) (items_in d runs) (look.view d)) set_classes orderly.0;
-          normal_arguments = normal (arguments i) s.normal;
+          normal_arguments = normal (arguments i) s.1.normal;
         },
       )
 
@@ -229,11 +229,11 @@ made-of level most c keyword first others all same letters known written fitting
     let m = node-made level most c keyword first others all same letters known written fitting orderly own unbroken
     (AreNormalIn level c) (all-normal level c) p in
     record {
-      is_node = m.0.is_node;
-      formed = m.0.formed;
-      within = m.0.within;
-      shaped = m.0.shaped;
-      unbroken = m.0.unbroken;
+      is_node = m.0.0;
+      formed = m.0.1.formed;
+      within = m.0.1.within;
+      shaped = m.0.1.shaped;
+      unbroken = m.0.1.unbroken;
       normal = λ parent. m.1;
     }
 

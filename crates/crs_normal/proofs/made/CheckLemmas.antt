@@ -201,8 +201,7 @@ pub no-bad-systems : DecimalLaws →
     IsNormal d → IsOneOf d (dimensions t) → IsSystemSeen t d systems axes units →
     ¬ (BadSystems dimensions systems axes units fault)
 no-bad-systems l dimensions t d systems axes units fault n one s b =
-    by (subst (λ us. BadSystems dimensions (s.head ∷ []) axes us fault) s.none_shared
-    (subst (λ cs. BadSystems dimensions cs axes units fault) s.systems_are b))
+    by (rw (s.none_shared, s.systems_are) at b)
   where
     by : ¬ (BadSystems dimensions (s.head ∷ []) axes [] fault)
     by (inl (inl q)) = no-bad-head l dimensions t d axes s.head fault n s.is_head one s.count q
@@ -226,11 +225,8 @@ ordered t k (x ∷ axes) h = (numbers-of k (orders_in x) h.0.orders, ordered t (
 own-units : (t : SystemType) (k : ℕ) (axes : List Item) → AreAxisItems t k axes →
     Each (Has class.Axis class.AxisUnit) axes
 own-units t k [] h = tt
-own-units t k (x ∷ axes) h = (
-  placed-some (units_in x) [] (item_unit h.0.unit_in) h.0.units,
-  own-units t
-      (k + 1) axes h.1,
-)
+own-units t k (x ∷ axes) h =
+    (placed-some (units_in x) [] (item_unit h.0.unit_in) h.0.units, own-units t (k + 1) axes h.1)
 
 pub has-axes : (c : Class) (item : Item) (s : SystemParts) → IsSystemIn s c item → HasAxes c item
 has-axes c item s seen = record {

@@ -1,20 +1,20 @@
 -- All CRSs are made, and their texts are normal.
-use Rattle.std.proofs.Common.{◌≡◌, ℕ, ◌+◌, ◌≤◌, length, refl, sym, subst, arith}
-use Rattle.crs_text.specs.Prelude.{Item, leaf, node, Siblings, End, More, depth, WrittenSpells, at_place, at_places, item_text, SpellsNode}
+use Rattle.std.proofs.Common.{ℕ, ◌≤◌, sym, arith}
+use Rattle.crs_text.specs.Prelude.{Item, depth, WrittenSpells, at_place, item_text}
 use Rattle.crs_shape.specs.declared.class.Class.{Class}
 use Rattle.crs_value.specs.declared.values.crs.Crs.{Crs}
 use Rattle.crs_value.specs.declared.values.crs.Crs.TheVariants as crs
 use Rattle.crs_value.specs.declared.values.level.Level.{Level}
 use Rattle.crs_value.specs.Prelude.{IsCrs}
 use Rattle.crs_normal.specs.DecimalLaws.{DecimalLaws}
-use Rattle.crs_normal.specs.CrsClass.{crs_class, geodetic_class}
+use Rattle.crs_normal.specs.CrsClass.{crs_class}
 use Rattle.crs_normal.specs.AcceptedNormal.{IsAcceptedNormal}
 use Rattle.crs_normal.specs.Normal.{IsNormalText}
 use Rattle.crs_normal.specs.SpelledCrs.{item_crs, norm_crs}
 use Rattle.crs_normal.proofs.made.BehindLemmas.{AxisEach}
 use Rattle.crs_normal.proofs.made.CompoundLemmas.{compound-made}
 use Rattle.crs_normal.proofs.made.GeodeticLemmas.{geodetic-made}
-use Rattle.crs_normal.proofs.made.PlaceLemmas.{text-at, texts-at}
+use Rattle.crs_normal.proofs.made.PlaceLemmas.{text-at}
 use Rattle.crs_normal.proofs.made.ProjectedLemmas.{projected-made}
 use Rattle.crs_normal.proofs.made.VerticalLemmas.{vertical-made}
 use Rattle.crs_normal.proofs.texts.RootLemmas.{crs-rooted}
@@ -50,7 +50,7 @@ crs-text-normal l each_at written level c h =
     record {
       item = at_place 0 i;
       class_read = crs_class c;
-      spells = made-stands written level (crs_class c) i m;
+      spells = made-stands written i m;
       root = crs-rooted level c 0;
       written = sym (text-at 0 i);
       normal = m.normal (crs_class c);

@@ -47,18 +47,33 @@ items_in e (run ∷ runs) = if is_same e run.of then run.items ++ items_in e run
 
 -- ---- arguments
 
--- an argument at a place, normal in this sense within its parent
-pub record IsFineBy (N : Class → Class → Item → Type 0) (most : ℕ) (parent c : Class) (item : Item) : Type 0 where
+-- an item is accepted as one of this class, is nested no deeper, and this holds of it
+pub record IsFine (N : Item → Type 0) (most : ℕ) (c : Class) (item : Item) : Type 0 where
   pub formed : AreFormed item
   pub within : depth item ≤ most
   pub shaped : Shaped c item
   pub unbroken : (fault : RefusedAt) → ¬ (Breaks c item fault)
-  pub normal : N parent c item
+  pub normal : N item
+
+pub fine-as : {M N : Item → Type 0} {m n : ℕ} {c : Class} {item : Item} → m ≤ n → (M item → N item) →
+    IsFine M m c item → IsFine N n c item
+fine-as {m = m} {item = item} h f x =
+    let w : depth item ≤ m = x.within in
+    record { formed = x.formed; within = omega arith; shaped = x.shaped; unbroken = x.unbroken; normal = f x.normal }
+
+-- such a node
+abbrev pub Stands : (Item → Type 0) → Class → ℕ → Item → Type 0
+Stands N c most item = IsNode item × IsFine N most c item
+
+pub stands-of : {level : Level} {c : Class} {n : ℕ} {item : Item} → IsAcceptedNormal level c n item →
+    Stands (λ i. (parent : Class) → IsNormalIn level parent c i) c n item
+stands-of m =
+    (m.is_node, record { formed = m.formed; within = m.within; shaped = m.shaped; unbroken = m.unbroken; normal = m.normal })
 
 -- an argument at any place
 pub record MadeBy (N : Class → Class → Item → Type 0) (most : ℕ) (parent c : Class) (item : Item) : Type 0 where
   pub named : class_in parent item ≡ Some c
-  pub fine : (p : ℕ) → IsFineBy N most parent c (at_place p item)
+  pub fine : (p : ℕ) → IsFine (N parent c) most c (at_place p item)
 
 abbrev pub Made : Level → ℕ → Class → Class → Item → Type 0
 Made level = MadeBy (IsNormalIn level)
@@ -176,36 +191,29 @@ sees-by N most c keyword first others runs p same made = record {
       (More first others));
 }
 
--- the item is accepted as one of its class, and its arguments are normal in this sense
-pub record Stands (N : Class → Class → Item → Type 0) (c : Class) (most : ℕ) (item : Item) : Type 0 where
-  pub is_node : IsNode item
-  pub formed : AreFormed item
-  pub within : depth item ≤ most
-  pub shaped : Shaped c item
-  pub unbroken : (fault : RefusedAt) → ¬ (Breaks c item fault)
-  pub normal : AreNormalBy N c (arguments item)
-
 module _ (N : Class → Class → Item → Type 0) (most : ℕ) (c : Class) (keyword : List ℕ) (first : Item) (others : Siblings) (runs : List Run) (same : More first others ≡ lines runs) (letters : IsWord keyword) (known : IsTrue (is_keyword c keyword)) (made : RunsMadeBy N most c runs) (allowed : Allowed (slots_of c) (classes runs)) (unbroken : (item : Item) (fault : RefusedAt) → Sees c runs item → ¬ (BreaksOwn c item fault)) where
   stands-at : (ds : List Class) (p : ℕ) → ds ≡ classes runs →
       AreStanding N most c ds (at_places (p + length keyword) (More first others)) →
-      Stands N c (suc most) (at_place p (node_of keyword first others))
+      Stands (λ i. AreNormalBy N c (arguments i)) c (suc most) (at_place p (node_of keyword first others))
   stands-at [] p q a = absurd a.shaped
   stands-at (d ∷ ds) p q a =
       let deep : depths (at_places (p + length keyword) (More first others)) ≤ most = a.within in
-      let look = sees-by N most c keyword first others runs p same made in
-      record {
-        is_node = tt;
-        formed = (letters, a.formed.0, a.formed.1);
-        within = omega arith;
-        shaped = (
-          known,
-          (d, (ds, (a.shaped.0, (a.shaped.1.0, (a.shaped.1.1, subst (Allowed (slots_of c)) (sym q) allowed))))),
-        );
-        unbroken = λ fault. ⊎_elim (unbroken (at_place p (node_of keyword first others)) fault look) (a.unbroken fault);
-        normal = a.normal;
-      }
+      let look = sees-by N most c keyword first others runs p same made in (
+        tt,
+        record {
+          formed = (letters, a.formed.0, a.formed.1);
+          within = omega arith;
+          shaped = (
+            known,
+            (d, (ds, (a.shaped.0, (a.shaped.1.0, (a.shaped.1.1, subst (Allowed (slots_of c)) (sym q) allowed))))),
+          );
+          unbroken = λ fault. ⊎_elim (unbroken (at_place p (node_of keyword first others)) fault look) (a.unbroken fault);
+          normal = a.normal;
+        },
+      )
 
-  pub node-stands : (p : ℕ) → Stands N c (suc most) (at_place p (node_of keyword first others))
+  pub node-stands : (p : ℕ) →
+      Stands (λ i. AreNormalBy N c (arguments i)) c (suc most) (at_place p (node_of keyword first others))
   node-stands p =
       stands-at (classes runs) p refl
       (subst (λ js. AreStanding N most c (classes runs) (at_places (p + length keyword) js)) (sym same)
@@ -214,18 +222,8 @@ module _ (N : Class → Class → Item → Type 0) (most : ℕ) (c : Class) (key
 -- a made node as an argument of another
 pub as-argument : {level : Level} {n most : ℕ} {parent c : Class} {j : Item} → n ≤ most → class_in parent j ≡ Some c →
     ((p : ℕ) → IsAcceptedNormal level c n (at_place p j)) → Made level most parent c j
-as-argument {n = n} {parent = parent} {j = j} h named made = record {
-  named = named;
-  fine = λ p. let m = made p in
-      let w : depth (at_place p j) ≤ n = m.within in
-      record {
-        formed = m.formed;
-        within = omega arith;
-        shaped = m.shaped;
-        unbroken = m.unbroken;
-        normal = m.normal parent;
-      };
-}
+as-argument {parent = parent} h named made =
+    record { named = named; fine = λ p. fine-as h (λ n. n parent) (stands-of (made p)).1 }
 
 -- what is in a node of these classes
 pub views : (c : Class) (runs : List Run) (item : Item) (es : List Class) → Sees c runs item →

@@ -1,10 +1,9 @@
 -- Values of one kind: from the laws of their one form and its item, what their spellings have in
 -- common.
 use Rattle.std.proofs.Common.{◌≡◌, ◌↔◌, ◌≤◌, ◌∙◌, ℕ, Some, List, sym, ap, subst, arith}
-use Rattle.crs_text.specs.Prelude.{Item, IsNode, depth, RefusedAt, SpellsNode, AreFormed, at_place, item_text}
+use Rattle.crs_text.specs.Prelude.{Item, depth, SpellsNode, AreFormed, at_place, item_text}
 use Rattle.crs_shape.specs.declared.class.Class.{Class}
-use Rattle.crs_shape.specs.Prelude.{Shaped}
-use Rattle.crs_value.specs.Prelude.{Breaks, IsSound, IsReadAs, IsReadOnce}
+use Rattle.crs_value.specs.Prelude.{IsSound, IsReadAs, IsReadOnce}
 use Rattle.crs_value.specs.declared.values.level.Level.{Level}
 use Rattle.crs_normal.specs.WrittenForm.{IsWrittenForm}
 use Rattle.crs_normal.specs.Closed.{IsClosed}
@@ -20,36 +19,24 @@ use Rattle.crs_normal.proofs.normal.FormLemmas.{without_places-text}
 use Rattle.crs_normal.proofs.texts.ItemLemmas.{IsWritable, one-by-text}
 use Rattle.crs_normal.proofs.made.PlaceLemmas.{text-at, placed-twice}
 use Rattle.crs_normal.proofs.texts.WrittenFormLemmas.{written-form}
+use Rattle.crs_normal.proofs.made.NodeLemmas.{Stands, fine-as, stands-of}
+use Rattle.crs_normal.proofs.texts.AcceptedLemmas.{written-at}
 
 -- items are formed where a text spells them
 abbrev pub SpelledFormed : Type 0
 SpelledFormed = (bytes : List ℕ) (item : Item) → SpellsNode bytes item → AreFormed item
 
 -- an item that is accepted as one of its class, and normal in this sense
-pub record IsStanding (c : Class) (N : Item → Type 0) (item : Item) : Type 0 where
-  pub is_node : IsNode item
-  pub formed : AreFormed item
-  pub within : depth item ≤ 8
-  pub shaped : Shaped c item
-  pub unbroken : (fault : RefusedAt) → ¬ (Breaks c item fault)
-  pub normal : N item
+abbrev pub IsStanding : Class → (Item → Type 0) → Item → Type 0
+IsStanding c N item = Stands N c 8 item
 
 -- it is sound
 sound-of : {c : Class} {N : Item → Type 0} {item : Item} → IsStanding c N item → IsSound c item
-sound-of m = record { formed = m.formed; shaped = m.shaped; unbroken = m.unbroken }
+sound-of m = record { formed = m.1.formed; shaped = m.1.shaped; unbroken = m.1.unbroken }
 
 pub made-stands : {level : Level} {c : Class} {n : ℕ} {item : Item} → n ≤ 8 → IsAcceptedNormal level c n item →
     IsStanding c (IsNormalIn level c c) item
-made-stands {c = c} {n = n} {item = item} l made =
-    let w : depth item ≤ n = made.within in
-    record {
-      is_node = made.is_node;
-      formed = made.formed;
-      within = omega arith;
-      shaped = made.shaped;
-      unbroken = made.unbroken;
-      normal = made.normal c;
-    }
+made-stands {c = c} l made = let s = stands-of made in (s.0, fine-as l (λ n. n c) s.1)
 
 -- a normal item that is sound is what is written for the value that is read from it
 abbrev pub IsItsFormSound : {V : Type 0} → Level → Class → (Class → Item → V → Type 0) → (V → Item) → Type 0
@@ -68,8 +55,8 @@ pub record IsKnownBy {V : Type 0} (c : V → Class) (N : V → Item → Type 0) 
 -- the text of an item, which doesn't depend on the place
 writable-at : (c : Class) (N : Item → Type 0) (i : Item) → IsStanding c N (at_place 0 i) → IsWritable (at_place 0 i)
 writable-at c N i m =
-    let w : depth (at_place 0 i) ≤ 8 = m.within in
-    record { formed = m.formed; is_node = m.is_node; within = omega arith }
+    let w : depth (at_place 0 i) ≤ 8 = m.1.within in
+    record { formed = m.1.formed; is_node = m.0; within = omega arith }
 
 -- equal texts are of equal values, where all are read as items of one class
 pub told-by : {V : Type 0} → TextLaws → (c : V → Class) (N : V → Item → Type 0) (d : Class) (Reads : Class → Item → V → Type 0) (Is : V → Type 0) (form : V → V) (item : V → Item) →
@@ -99,7 +86,7 @@ module _ {V : Type 0} (laws : TextLaws) (formed : SpelledFormed) {c : V → Clas
   form-twice x s =
       let m = known.made x s in
       let f : without_places (at-start x) ≡ item (form (form x)) =
-      known.own x s (at-start x) (form x) (sound-of m) m.normal (known.reads x s) in
+      known.own x s (at-start x) (form x) (sound-of m) m.1.normal (known.reads x s) in
       known.told x (form x) s (form-kept x s)
       (sym (text-at 0 (item (form x))) ∙ sym (without_places-text (at-start x)) ∙ ap item_text f)
 
@@ -108,9 +95,7 @@ module _ {V : Type 0} (laws : TextLaws) (formed : SpelledFormed) {c : V → Clas
 
   stands : (x : V) → Is x → SpellsNode (item_text (item (form x))) (at-start x)
   stands x s =
-      let w = writable-at (c x) (N x) (item (form x)) (known.made x s) in
-      rw (text-at 0 (item (form x)), placed-twice 0 0 (item (form x))) at
-      (laws.spells (at-start x) w.formed w.is_node w.within)
+      written-at laws.spells (item (form x)) (writable-at (c x) (N x) (item (form x)) (known.made x s))
 
   form-spelled : (x : V) → Is x → IsSpelledBy (c x) (N x) Reads Same x (item_text (item (form x)))
   form-spelled x s =
@@ -119,9 +104,9 @@ module _ {V : Type 0} (laws : TextLaws) (formed : SpelledFormed) {c : V → Clas
         item = at-start x;
         spells = stands x s;
         written = sym (text-at 0 (item (form x)));
-        shaped = m.shaped;
-        unbroken = m.unbroken;
-        normal = m.normal;
+        shaped = m.1.shaped;
+        unbroken = m.1.unbroken;
+        normal = m.1.normal;
         read = form x;
         reads = known.reads x s;
         same = form-same x s;
@@ -149,7 +134,7 @@ module _ {V : Type 0} (laws : TextLaws) (formed : SpelledFormed) {c : V → Clas
         );
         closed = λ x s.
             let m = known.made x s in
-            subst IsClosed (text-at 0 (item (form x))) (node-closed (at-start x) m.formed m.is_node);
+            subst IsClosed (text-at 0 (item (form x))) (node-closed (at-start x) m.1.formed m.0);
       })
 
 -- ---- values of which all items are of one class

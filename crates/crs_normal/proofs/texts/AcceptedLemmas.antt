@@ -11,6 +11,7 @@ use Rattle.crs_normal.specs.AcceptedNormal.{IsAcceptedNormal}
 use Rattle.crs_normal.specs.SpelledCrs.{item_crs, norm_crs}
 use Rattle.crs_normal.proofs.made.PlaceLemmas.{text-at, placed-twice}
 use Rattle.crs_normal.proofs.texts.RootLemmas.{crs-rooted}
+use Rattle.crs_normal.proofs.texts.ItemLemmas.{IsWritable}
 
 abbrev pub NoFaultIsShape : Type 0
 NoFaultIsShape = (c : Class) (item : Item) → IsFree (Inside c item) ↔ Shaped c item
@@ -34,13 +35,16 @@ made-spells law level c most item value root made reads = record {
   reads = reads;
 }
 
--- the written text of a made item spells it, at the text's places
-pub made-stands : WrittenSpells → (level : Level) (c : Class) (item : Item) → IsAcceptedNormal level c 8 (at_place 0 item) →
-    SpellsNode (item_text item) (at_place 0 item)
-made-stands written level c item made =
+-- the text of an item spells it, at the text's places
+pub written-at : WrittenSpells → (item : Item) → IsWritable (at_place 0 item) → SpellsNode (item_text item) (at_place 0 item)
+written-at written item w =
+    rw (text-at 0 item, placed-twice 0 0 item) at (written (at_place 0 item) w.formed w.is_node w.within)
+
+pub made-stands : WrittenSpells → {level : Level} {c : Class} (item : Item) →
+    IsAcceptedNormal level c 8 (at_place 0 item) → SpellsNode (item_text item) (at_place 0 item)
+made-stands written item made =
     let w : depth (at_place 0 item) ≤ 8 = made.within in
-    let few : depth (at_place 0 item) ≤ 12 = omega arith in
-    rw (text-at 0 item, placed-twice 0 0 item) at (written (at_place 0 item) made.formed made.is_node few)
+    written-at written item (record { formed = made.formed; is_node = made.is_node; within = omega arith })
 
 pub form-spells : NoFaultIsShape → WrittenSpells → (level : Level) (c : Crs) →
     IsAcceptedNormal level (crs_class c) 8 (at_place 0 (item_crs (norm_crs level c))) →
@@ -50,7 +54,7 @@ form-spells law written level c made reads =
     let i : Item = item_crs (norm_crs level c) in (
       at_place 0 i,
       (
-        made-stands written level (crs_class c) i made,
+        made-stands written i made,
         made-spells law level (crs_class c) 8 (at_place 0 i) (norm_crs level c) (crs-rooted level c 0) made reads,
       ),
     )
