@@ -152,36 +152,30 @@ module _ {N : Class → Class → Item → Type 0} {most : ℕ} {parent : Class}
       Allowed ss (classes (as_runs all))
   fits [] [] e = ([], (tt, refl))
   fits [] (a ∷ rest) e = absurd (true≢false (sym e))
-  fits (s ∷ ss) [] e = by s.required refl e (fits ss [])
+  fits (s ∷ ss) [] e = by (fits ss []) s.required refl
     where
-      by : (r : Bool) → s.required ≡ r → (if r then false else fit ss []) ≡ true → (fit ss [] ≡ true → Allowed ss []) →
-          Allowed (s ∷ ss) []
-      by true q e skip = absurd (true≢false (sym e))
-      by false q e skip = none-fit s ss [] q (skip e)
+      by : (fit ss [] ≡ true → Allowed ss []) → (r : Bool) → s.required ≡ r → Allowed (s ∷ ss) []
+      by skip true q = absurd (true≢false (sym (rw q at e)))
+      by skip false q = none-fit s ss [] q (skip (rw q at e))
   fits (s ∷ ss) (a ∷ rest) e =
-      by (takes s a.of) s.required s.many refl refl refl e (fits ss rest) (fits (s ∷ ss) rest) (fits ss (a ∷ rest))
+      by (fits ss rest) (fits (s ∷ ss) rest) (fits ss (a ∷ rest)) (takes s a.of) s.required s.many refl refl refl
     where
-      by : (t r m : Bool) → takes s a.of ≡ t → s.required ≡ r → s.many ≡ m →
-          (if t
-          then (if r
-          then (if is_some a.some then (if (if m then true else is_some a.few) then fit ss rest else false) else false)
-          else (if m then fit (s ∷ ss) rest else if is_some a.few then fit ss rest else false))
-          else (if r then false else fit ss (a ∷ rest))) ≡ true →
-          (fit ss rest ≡ true → Allowed ss (classes (as_runs rest))) →
+      by : (fit ss rest ≡ true → Allowed ss (classes (as_runs rest))) →
           (fit (s ∷ ss) rest ≡ true → Allowed (s ∷ ss) (classes (as_runs rest))) →
           (fit ss (a ∷ rest) ≡ true → Allowed ss (classes (as_runs (a ∷ rest)))) →
+          (t r m : Bool) → takes s a.of ≡ t → s.required ≡ r → s.many ≡ m →
           Allowed (s ∷ ss) (classes (as_runs (a ∷ rest)))
-      by true true m p q n e next again skip =
-          let x = both (is_some a.some) _ e in
-          let y = both (if m then true else is_some a.few) _ x.1 in
+      by next again skip true true m p q n =
+          let x = both (is_some a.some) _ (rw (p, q) at e) in
+          let y = both (if s.many then true else is_some a.few) _ x.1 in
           slot-fits s ss a.of a.items _ p (λ h. held a.some x.0)
-          (λ h. held a.few (subst (λ b. (if b then true else is_some a.few) ≡ true) (sym n ∙ h) y.0)) (next y.1)
-      by true false true p q n e next again skip = more-fit s ss a.of a.items _ p q n (again e)
-      by true false false p q n e next again skip =
-          let x = both (is_some a.few) _ e in
+          (λ h. held a.few (subst (λ b. (if b then true else is_some a.few) ≡ true) h y.0)) (next y.1)
+      by next again skip true false true p q n = more-fit s ss a.of a.items _ p q n (again (rw (p, q, n) at e))
+      by next again skip true false false p q n =
+          let x = both (is_some a.few) _ (rw (p, q, n) at e) in
           slot-fits s ss a.of a.items _ p (λ h. absurd (true≢false (sym h ∙ q))) (λ h. held a.few x.0) (next x.1)
-      by false true m p q n e next again skip = absurd (true≢false (sym e))
-      by false false m p q n e next again skip = none-fit s ss _ q (skip e)
+      by next again skip false true m p q n = absurd (true≢false (sym (rw (p, q) at e)))
+      by next again skip false false m p q n = none-fit s ss _ q (skip (rw (p, q) at e))
 
 module _ {N : Class → Class → Item → Type 0} (level : Level) (most : ℕ) (c : Class) (keyword : List ℕ) (first : Item) (others : Siblings) (all : List (ArgumentBy N most c)) (same : More first others ≡ lay all) where
   -- what the item of such a node has of each class

@@ -43,16 +43,12 @@ module _ {c : Class} {ss : List (Segment c)} {item : Item} (look : Seen c ss ite
   Stands (Some u) (d ∷ ds) =
       NamesId d × (items_of d ss ≡ item_unit u ∷ []) ⊎ (items_of d ss ≡ []) × Stands (Some u) ds
 
-  past : (d : Class) (ds : List Class) (o : Option UnitParts) → items_of d ss ≡ [] → ReadsUnitOf ds c item o →
-      ReadsUnitOf (d ∷ ds) c item o
-  past d ds o none h = rw (lacks look d none) h
-
   unit-found : TextLaws → (o : Option UnitParts) → IfSome o IsUnit → (ds : List Class) → Stands o ds →
       ReadsUnitOf ds c item o
   unit-found laws None s [] h = tt
   unit-found laws (Some u) s [] h = absurd h
-  unit-found laws None s (d ∷ ds) h = past d ds None h.0 (unit-found laws None s ds h.1)
-  unit-found laws (Some u) s (d ∷ ds) (inr h) = past d ds (Some u) h.0 (unit-found laws (Some u) s ds h.1)
+  unit-found laws None s (d ∷ ds) h = rw (lacks look d h.0) (unit-found laws None s ds h.1)
+  unit-found laws (Some u) s (d ∷ ds) (inr h) = rw (lacks look d h.0) (unit-found laws (Some u) s ds h.1)
   unit-found laws (Some u) s (d ∷ ds) (inl h) =
       placed-at look d (λ l. ReadsElse (ReadsAsUnit d) l (ReadsUnitOf ds c item) (Some u)) (item_unit u) h.1
       (unit-read laws d h.0 u s)

@@ -1,6 +1,5 @@
 -- A shaped node slot by slot: the arguments in each slot, and how those of a class are found among them.
 use Rattle.std.proofs.Common.{◌≡◌, ℕ, zero, suc, ◌≤◌, ◌||◌, length, Bool, true, false, true≢false, IsTrue, IsFalse, Some, List, [], ◌∷◌, ◌++◌, if◌then◌else◌, refl, sym, ◌∙◌, ap, subst, arith, rules}
-use Rattle.std.specs.List.{list_any}
 use Rattle.std.proofs.lemmas.List.{append-nil}
 use denote.Enum.Bare.{sameb, same_true}
 use Rattle.crs_text.specs.Prelude.{Item, Siblings, End, More}
@@ -205,22 +204,13 @@ those-at c d P All each (e ∷ es) (More item items) shaped all =
       | false ↦ λ is. rest
     ] refl
 
-named-as : (c d : Class) (item : Item) (at : Class) → class_in c item ≡ Some at → is_a c d item ≡ sameb the_type at d
-named-as c d item at e = ap (is_class d) e
-
-taken-as : (slot : SlotParts) (at d : Class) → at ≡ d → takes slot at ≡ true → takes slot d ≡ true
-taken-as slot at d e h = subst (λ (x : Class). takes slot x ≡ true) e h
-
 not-of : (c d : Class) (slot : SlotParts) → takes slot d ≡ false → (item : Item) → InSlot c slot item →
     is_a c d item ≡ false
-not-of c d slot none item s =
-    elim (sameb the_type s.at d) as (λ b. sameb the_type s.at d ≡ b → is_a c d item ≡ b → is_a c d item ≡ false) [
-      | true ↦ λ e f. absurd (clash (taken-as slot s.at d (same_class s.at d e) s.taken))
-      | false ↦ λ e f. f
-    ] refl (named-as c d item s.at s.named)
+not-of c d slot none item s = rw s.named (by (sameb the_type s.at d) refl)
   where
-    clash : takes slot d ≡ true → ⊥
-    clash h = let k : true ≡ false = sym h ∙ none in cc
+    by : (b : Bool) → sameb the_type s.at d ≡ b → b ≡ false
+    by true e = sym (subst (λ (x : Class). takes slot x ≡ true) (same_class s.at d e) s.taken) ∙ none
+    by false e = refl
 
 pub or-false : (b : Bool) → (b || false) ≡ true → b ≡ true
 or-false true h = refl
@@ -229,10 +219,8 @@ or-false false h = h
 pub of-one : (c d e : Class) (slot : SlotParts) → slot.classes ≡ e ∷ [] → takes slot d ≡ true → (item : Item) →
     InSlot c slot item → is_a c d item ≡ true
 of-one c d e slot one h item s =
-    let listed = λ (x : Class). ap (λ (es : List Class). list_any (λ y. sameb the_type y x) es) one in
-    let f = or-false (sameb the_type e d) (sym (listed d) ∙ h) in
-    let g = same_class e s.at (or-false (sameb the_type e s.at) (sym (listed s.at) ∙ s.taken)) in
-    named-as c d item s.at s.named ∙ ap (λ (x : Class). sameb the_type x d) (sym g) ∙ f
+    let f = or-false (sameb the_type e d) (rw one at h) in
+    let g = same_class e s.at (or-false (sameb the_type e s.at) (rw one at s.taken)) in rw (s.named, ← g) f
 
 those-chosen : (c d : Class) (slot : SlotParts) (classes : List Class) (front : List Item) → slot.classes ≡ classes →
     takes slot d ≡ true → Front c slot front →
