@@ -1,7 +1,7 @@
 -- The test that a number is a whole one of at most 64 bits.
 use Rattle.std.proofs.Common.{◌≡◌, ◌≢◌, ◌↔◌, ◌⊎◌, ◌∙◌, ℕ, suc, zero, ◌<◌, ◌≤◌, ◌*◌, ◌^◌, ◌+◌, ◌-◌, ◌%◌, ◌++◌, ◌&&◌, ◌||◌, ◌==◌, not, Bool, true, false, nat_lt, fold, inl, inr, List, [], ◌∷◌, None, decimal, get_or, refl, sym, ap, subst, arith, rules, pos, negsuc, ℤ}
 use Rattle.std.proofs.lemmas.Fmt.{decimal_digit, decimal_nonempty, digits_decimal, digits_value-decimal, first_decimal, length-decimal-le}
-use Rattle.std.proofs.Math.Nat.{pow-suc, mul-le-mul_left, mul_assoc, one-le-pow}
+use Rattle.std.proofs.Math.Nat.{pow-suc, mul-le-mul_left, mul_assoc, one-le-pow, add-zero, zero-add}
 use Rattle.std.proofs.lemmas.Bool.{and_parts, cases_lt, eqb-false, eqb-true, leb-true, ltb-true}
 use Rattle.std.proofs.lemmas.List.{append-nil}
 use Rattle.std.proofs.lemmas.Slice.Eq.{bytes_eq-Decides}
@@ -74,11 +74,6 @@ all-of true true false w e = (refl, (refl, inl refl))
 all-of true true true true e = (refl, (refl, inr refl))
 all-of x y z w e = absurd cc
 
-measured-up : (d k n : ℕ) → d < 10 ^ 38 → k ≤ 40 → d % 10 ≢ 0 → d * 10 ^ (k + 0) ≡ n * 10 ^ (0 + 0) → IsMeasured (whole_number n)
-measured-up d k n short near last e =
-    let same : n ≡ d * 10 ^ k = sym (ap (λ j. d * 10 ^ j) (let z : k ≡ k + 0 = omega arith in z) ∙ e ∙ (let o : n * 1 ≡ n = omega arith in o)) in
-    (d, k, (same, last), short, omega arith, omega arith)
-
 last-zero : (n k : ℕ) → (n * 10 ^ suc k) % 10 ≡ 0
 last-zero n k =
     let e : n * 10 ^ suc k ≡ n * 10 ^ k * 10 = ap (λ p. n * p) (pow-suc 10 k) ∙ sym (mul_assoc n (10 ^ k) 10) in
@@ -91,14 +86,15 @@ none-of (suc m) k e =
 
 sized : (d n : ℕ) (power : ℤ) → d < 10 ^ 38 → is_power power ≡ true → (d % 10 ≢ 0) ⊎ (d ≡ 0) →
     d * 10 ^ (up_of power + 0) ≡ n * 10 ^ (0 + down_of power) → (n ≡ 0) ⊎ IsMeasured (whole_number n)
-sized d n (pos k) short near (inl last) e = inr (measured-up d k n short (leb-true k 40 near) last e)
-sized d n (pos k) short near (inr none) e =
-    let z : 0 * 10 ^ (k + 0) ≡ n * 1 = subst (λ x. x * 10 ^ (k + 0) ≡ n * 1) none e in inl (omega (arith, z))
+sized d n (pos k) short near (inl last) e =
+    let same : n ≡ d * 10 ^ k = omega (arith, rw add-zero at e) in
+    let high : k ≤ 40 = leb-true k 40 near in
+    inr (d, k, (same, last), short, omega arith, omega arith)
+sized d n (pos k) short near (inr none) e = inl (omega (arith, subst (λ x. x * 10 ^ (k + 0) ≡ n * 1) none e))
 sized d n (negsuc k) short near (inl last) e =
-    let z : d * 1 ≡ n * 10 ^ suc k = e ∙ ap (λ j. n * 10 ^ j) (let y : 0 + suc k ≡ suc k = omega arith in y) in
-    absurd (last (ap (λ x. x % 10) (let y : d ≡ n * 10 ^ suc k = omega (arith, z) in y) ∙ last-zero n k))
-sized d n (negsuc k) short near (inr none) e =
-    let z : d * 1 ≡ n * 10 ^ suc k = e ∙ ap (λ j. n * 10 ^ j) (let y : 0 + suc k ≡ suc k = omega arith in y) in inl (none-of n (suc k) (let y : 0 ≡ n * 10 ^ suc k = omega (arith, z, none) in y))
+    let same : d ≡ n * 10 ^ suc k = omega (arith, rw zero-add at e) in
+    absurd (last (ap (λ x. x % 10) same ∙ last-zero n k))
+sized d n (negsuc k) short near (inr none) e = inl (none-of n (suc k) (omega (arith, rw zero-add at e, none)))
 
 closing : (v : Value) → ((v.digits % 10 == 0) ≡ false) ⊎ ((v.digits == 0 && not v.negative && is_zero_power v.power) ≡ true) →
     (v.digits % 10 ≢ 0) ⊎ (v.digits ≡ 0)
