@@ -126,7 +126,7 @@ unfolding BreaksOwn class_named is_keyword
 side-made l each_at level b j name v t s n h g =
     let runs : List Run = compound_runs level b j name v t in
     let seen = λ (item : Item) (q : Sees class.CompoundCrs runs item). tail-seen level class.CompoundCrs item t
-    (side-shows level b j name v t item (views class.CompoundCrs runs item tail_classes q)) in
+    (side-shows level b j name v t item (views tail_classes q)) in
     made-of level 7 class.CompoundCrs (codes "COMPOUNDCRS") _ _ (text-of name n ∷ one-of s.made ∷
     node-of (item_vertical (norm_vertical level v)) (omega arith) refl
     (vertical-made l each_at level v h) ∷
@@ -135,7 +135,7 @@ side-made l each_at level b j name v t s n h g =
     ((side-fits b).1 level (j ∷ []) (drop 2 runs) (tail-orderly level t))
     (λ item q r. has-tail class.CompoundCrs item r (seen item q))
     (λ item fault q. compound-breaks level b j name v t item fault s
-    (views class.CompoundCrs runs item horizontal_classes q) (seen item q))
+    (views horizontal_classes q) (seen item q))
 
 pub compound-made : DecimalLaws → AxisEach → (level : Level) (c : CompoundParts) → IsCompound c → (p : ℕ) →
     IsAcceptedNormal level class.CompoundCrs 8 (at_place p (item_compound (norm_compound level c)))

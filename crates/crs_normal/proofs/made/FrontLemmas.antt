@@ -89,14 +89,14 @@ module _ (level : Level) (c : Class) (item n : Item) where
   frame-steady false None (frame.Datum d) j rest h none v = steady rest none (inl v.0)
   frame-steady b None f j rest h none v = steady rest none (inl v.0)
 
-  -- what is in it, and that no dynamic part is beside an ensemble, where none of these come after the frame
-  pub frame-seen : (b : Bool) (x : Option DynamicParts) (f : Frame) (j : Item) (rest : List Run) → IsDynamicOf x f →
-      Each (λ e. items_in e rest ≡ []) dynamic_classes → Sees c (framed_runs b level n x f j rest) item →
-      Each (Shows c item rest) geodetic_classes × IsSteady c item
-  frame-seen b x f j rest h none s = (
-    frame-shows b x f j rest (views c (framed_runs b level n x f j rest) item geodetic_classes s),
-    frame-steady b x f j rest h none (views c (framed_runs b level n x f j rest) item dynamic_classes s),
-  )
+-- what is in it, and that no dynamic part is beside an ensemble, where none of these come after the frame
+pub frame-seen : (level : Level) {c : Class} {item n : Item} (b : Bool) (x : Option DynamicParts) (f : Frame) {j : Item}
+    {rest : List Run} → IsDynamicOf x f → Each (λ e. items_in e rest ≡ []) dynamic_classes →
+    Sees c (framed_runs b level n x f j rest) item → Each (Shows c item rest) geodetic_classes × IsSteady c item
+frame-seen level {c = c} {item = item} {n = n} b x f {j = j} {rest = rest} h none s = (
+  frame-shows level c item n b x f j rest (views geodetic_classes s),
+  frame-steady level c item n b x f j rest h none (views dynamic_classes s),
+)
 
 pub meridian-there : (level : Level) (m : Option MeridianParts) (items : List Item) →
     ArePlaced items (given item_meridian (norm_meridian level m) ++ []) → items ≢ []

@@ -1,5 +1,5 @@
 -- Geodetic and geographic CRSs are made.
-use Rattle.std.proofs.Common.{◌≡◌, ◌≢◌, ℕ, IsTrue, Some, List, [], ◌∷◌, codes, refl, sym, subst, ◌∙◌, arith, true}
+use Rattle.std.proofs.Common.{◌≡◌, ◌≢◌, ℕ, IsTrue, Some, List, [], ◌∷◌, codes, refl, sym, subst, ◌∙◌, arith, true, drop}
 use Rattle.crs_decimal.specs.Prelude.{Value}
 use Rattle.crs_text.specs.Prelude.{Item, arguments, raw_of, RefusedAt, IsWord, at_place}
 use Rattle.crs_shape.specs.declared.class.Class.{Class}
@@ -17,21 +17,21 @@ use Rattle.crs_normal.specs.AcceptedNormal.{IsAcceptedNormal}
 use Rattle.crs_normal.specs.Normal.{IsFirstKeyword}
 use Rattle.crs_normal.specs.NormalOwn.{Has, HasAxes, HasTail, HasOwnForm, words_in}
 use Rattle.crs_normal.specs.SpelledCrs.{geodetic_keyword, item_geodetic, norm_geodetic}
-use Rattle.crs_normal.specs.SpelledFrames.{item_frame, item_meridian, norm_frame, norm_meridian}
-use Rattle.crs_normal.specs.SpelledItems.{text_item, word_item}
+use Rattle.crs_normal.specs.SpelledFrames.{item_frame, norm_frame}
+use Rattle.crs_normal.specs.SpelledItems.{word_item}
 use Rattle.crs_normal.proofs.made.SystemLemmas.{IsFew}
-use Rattle.crs_normal.proofs.made.BehindLemmas.{AxisEach, NamesSystem, Shows, behind, few-system, system-seen, behind_arguments}
+use Rattle.crs_normal.proofs.made.BehindLemmas.{AxisEach, NamesSystem, few-system, system-seen, behind_arguments}
 use Rattle.crs_normal.proofs.read.ViewLemmas.{each-so}
 use Rattle.crs_normal.proofs.made.CheckLemmas.{IsSystemSeen, IsSystemIn}
-use Rattle.crs_normal.proofs.made.DynamicLemmas.{IsSteady, dynamic-of}
+use Rattle.crs_normal.proofs.made.DynamicLemmas.{dynamic-of}
 use Rattle.crs_normal.proofs.made.FrameLemmas.{geodetic-frame-made}
-use Rattle.crs_normal.proofs.made.FrontLemmas.{NamesFrame, framed_runs, geodetic_classes, meridian-there, crs-node-made, frame-named, frame-fits, frame-seen}
-use Rattle.crs_normal.proofs.made.NodeLemmas.{Run, Sees, given}
+use Rattle.crs_normal.proofs.made.FrontLemmas.{NamesFrame, meridian-there, crs-node-made, frame-named, frame-fits, frame-seen}
+use Rattle.crs_normal.proofs.made.NodeLemmas.{Sees}
 use Rattle.crs_normal.proofs.made.PlaceLemmas.{same-of}
 use Rattle.crs_normal.proofs.made.MeridianLemmas.{meridian-of}
 use Rattle.crs_normal.proofs.made.TailLemmas.{NamesTail, tail_arguments, tail-orderly}
 use Rattle.crs_normal.proofs.normal.DimensionLemmas.{small-geodetic}
-use Rattle.crs_normal.proofs.made.ArgumentLemmas.{Argument, arguments-seen, text-of, node-of}
+use Rattle.crs_normal.proofs.made.ArgumentLemmas.{Argument, arguments-seen, text-of, node-of, as_runs}
 use Rattle.crs_normal.proofs.read.NameLemmas.{keyword-names}
 
 -- ---- the class of a CRS by the type of its system
@@ -106,65 +106,42 @@ is-root types.Vertical = geodetic-root types.Vertical (λ e. cc)
 
 -- ---- the CRSs
 
-abbrev meridian_run : Level → GeodeticParts → Run
-meridian_run level g = record { of = class.PrimeMeridian; items = given item_meridian (norm_meridian level g.meridian) }
-
--- what a geodetic CRS has after its frame
-abbrev geodetic_rest : Level → GeodeticParts → List Run
-geodetic_rest level g = meridian_run level g ∷ behind level g.system g.tail
-
-abbrev frame_item : Level → GeodeticParts → Item
-frame_item level g = item_frame (codes "DATUM") (norm_frame level g.frame)
-
-abbrev geodetic_runs : Level → GeodeticParts → List Run
-geodetic_runs level g =
-    framed_runs true level (text_item g.name) g.dynamic g.frame (frame_item level g) (geodetic_rest level g)
-
-abbrev geodetic_arguments : DecimalLaws → (level : Level) (c : Class) (g : GeodeticParts) → GeodeticNames c → IsFew g.system → IsGeodetic g → List (Argument level 5 c)
+abbrev geodetic_arguments : DecimalLaws → (level : Level) (c : Class) (g : GeodeticParts) → GeodeticNames c →
+    IsFew g.system → IsGeodetic g → List (Argument level 5 c)
 geodetic_arguments l level c g n few h =
     text-of g.name h.name ∷ dynamic-of l g.dynamic g.frame (omega arith) n.dynamics h.dynamic ∷
-    node-of (frame_item level g) (omega arith) (frame-named level c g.frame n.frames)
-    (geodetic-frame-made l level g.frame h.frame) ∷
+    node-of (item_frame (codes "DATUM") (norm_frame level g.frame)) (omega arith)
+    (frame-named level c g.frame n.frames) (geodetic-frame-made l level g.frame h.frame) ∷
     meridian-of l g.meridian (omega arith) n.meridians h.meridian ∷
     behind_arguments l level 5 c g.system (tail_arguments l level 5 c g.tail (omega arith) n.tails h.tail) (omega arith)
     n.systems few
 
 -- the word of each node `CS`
-system-words : (t : SystemType) (d : Value) (systems axes units : List Item) → IsSystemSeen t d systems axes units →
+system-words : {t : SystemType} {d : Value} {systems axes units : List Item} → IsSystemSeen t d systems axes units →
     Each (λ cs. words_in class.CoordinateSystem cs ≡ system_word t ∷ []) systems
-system-words t d systems axes units s =
+system-words {t = t} s =
     subst (λ cs. Each (λ i. words_in class.CoordinateSystem i ≡ system_word t ∷ []) cs) (sym s.systems_are) (
       same-of raw_of (those class.CoordinateSystem class.Word (arguments s.head)) (word_item (system_word t) ∷ [])
           s.is_head.words (λ p. refl, tt),
       tt,
     )
 
-geodetic-shown : (level : Level) (c : Class) (g : GeodeticParts) (item : Item) → IsGeodetic g →
-    Sees c (geodetic_runs level g) item → Each (Shows c item (geodetic_rest level g)) geodetic_classes × IsSteady c item
-geodetic-shown level c g item h =
-    frame-seen level c item (text_item g.name) true g.dynamic g.frame (frame_item level g) (geodetic_rest level g)
-    h.dynamic
-    (refl, (refl, (refl, tt)))
-
 pub geodetic-made : DecimalLaws → AxisEach → (level : Level) (g : GeodeticParts) → IsGeodetic g → (p : ℕ) →
     IsAcceptedNormal level (geodetic_class g.system.system_type) 6 (at_place p (item_geodetic (norm_geodetic level g)))
 geodetic-made l each_at level g h =
     let c : Class = geodetic_class g.system.system_type in
-    let keyword : List ℕ = geodetic_keyword g.system.system_type in
     let few = few-system l each_at (dimensions_of class.GeodeticCrs) small-geodetic g.system h.system h.dimension in
+    let all = geodetic_arguments l level c g (names-of g.system.system_type) few h in
     let r = is-root g.system.system_type in
-    crs-node-made l level 5 c keyword _ _ (geodetic_arguments l level c g (names-of g.system.system_type) few h) refl r.letters r.known
-    r.written
+    let shown = λ (item : Item) (s : Sees c (as_runs all) item).
+    frame-seen level true g.dynamic g.frame h.dynamic (refl, (refl, (refl, tt))) s in
+    crs-node-made l level 5 c (geodetic_keyword g.system.system_type) _ _ all refl r.letters r.known r.written
     (rw r.slots (rw (frame-fits true g.frame).0 (refl {a = true})))
-    ((frame-fits true g.frame).1 level (frame_item level g ∷ []) (geodetic_rest level g) (tail-orderly level g.tail))
-    g.system g.tail few
-    (r.allows g.system.dimension h.dimension) r.breaks
-    (λ item s. let v = geodetic-shown level c g item h s in (v.0.1, v.1))
-    (λ item s seen. r.own item
-    (system-words g.system.system_type g.system.dimension (those c class.CoordinateSystem (arguments item))
-    (those c class.Axis (arguments item)) (those c class.AxisUnit (arguments item)) seen)
-    (meridian-there level g.meridian (those c class.PrimeMeridian (arguments item))
-    (geodetic-shown level c g item h s).0.0))
+    ((frame-fits true g.frame).1 level (item_frame (codes "DATUM") (norm_frame level g.frame) ∷ [])
+    (drop 3 (as_runs all)) (tail-orderly level g.tail))
+    g.system g.tail few (r.allows g.system.dimension h.dimension) r.breaks
+    (λ item s. ((shown item s).0.1, (shown item s).1))
+    (λ item s seen. r.own item (system-words seen) (meridian-there level g.meridian _ (shown item s).0.0))
 
 -- the system of a CRS, as the checks of a compound see it
 pub geodetic-seen : DecimalLaws → AxisEach → (level : Level) (g : GeodeticParts) → IsGeodetic g → (p : ℕ) →
@@ -172,8 +149,9 @@ pub geodetic-seen : DecimalLaws → AxisEach → (level : Level) (g : GeodeticPa
 geodetic-seen l each_at level g h p =
     let c : Class = geodetic_class g.system.system_type in
     let item : Item = at_place p (item_geodetic (norm_geodetic level g)) in
-    let few : IsFew g.system = few-system l each_at (dimensions_of class.GeodeticCrs) small-geodetic g.system h.system h.dimension in
-    let s : Sees c (geodetic_runs level g) item =
-    arguments-seen level 5 c (geodetic_keyword g.system.system_type) _ _
+    let few : IsFew g.system =
+    few-system l each_at (dimensions_of class.GeodeticCrs) small-geodetic g.system h.system h.dimension in
+    let s = arguments-seen level 5 c (geodetic_keyword g.system.system_type) _ _
     (geodetic_arguments l level c g (names-of g.system.system_type) few h) refl p in
-    system-seen l level c item g.system g.tail few (geodetic-shown level c g item h s).0.1
+    system-seen l level c item g.system g.tail few
+    (frame-seen level true g.dynamic g.frame h.dynamic (refl, (refl, (refl, tt))) s).0.1

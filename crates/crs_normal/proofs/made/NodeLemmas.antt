@@ -226,7 +226,7 @@ as-argument {parent = parent} h named made =
     record { named = named; fine = λ p. fine-as h (λ n. n parent) (stands-of (made p)).1 }
 
 -- what is in a node of these classes
-pub views : (c : Class) (runs : List Run) (item : Item) (es : List Class) → Sees c runs item →
+pub views : {c : Class} {runs : List Run} {item : Item} (es : List Class) → Sees c runs item →
     Each (λ e. ArePlaced (those c e (arguments item)) (items_in e runs)) es
-views c runs item [] s = tt
-views c runs item (e ∷ es) s = (s.view e, views c runs item es s)
+views [] s = tt
+views (e ∷ es) s = (s.view e, views es s)

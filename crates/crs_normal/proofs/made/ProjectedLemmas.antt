@@ -1,5 +1,5 @@
 -- Base CRSs and projected CRSs are made.
-use Rattle.std.proofs.Common.{ℕ, List, [], ◌∷◌, codes, inl, refl, arith, true}
+use Rattle.std.proofs.Common.{ℕ, List, [], ◌∷◌, codes, inl, refl, arith, true, drop}
 use Rattle.crs_text.specs.Prelude.{Item, arguments, at_place}
 use Rattle.crs_shape.specs.declared.class.Class.TheVariants as class
 use Rattle.crs_shape.specs.declared.unit_kind.UnitKind.TheVariants as kinds
@@ -7,77 +7,53 @@ use Rattle.crs_shape.specs.Prelude.{is_keyword, class_named, dimensions_of}
 use Rattle.crs_value.specs.Checks.{Own as BreaksOwn}
 use Rattle.crs_value.specs.Prelude.{BaseParts, ProjectedParts, those, IsBase, IsProjected}
 use Rattle.crs_value.specs.declared.values.level.Level.{Level}
-use Rattle.crs_value.specs.Sound.{Each}
 use Rattle.crs_normal.specs.DecimalLaws.{DecimalLaws}
 use Rattle.crs_normal.specs.AcceptedNormal.{IsAcceptedNormal}
 use Rattle.crs_normal.specs.SpelledConversions.{item_conversion, norm_conversion}
 use Rattle.crs_normal.specs.SpelledCrs.{item_base, item_projected, norm_base, norm_projected}
-use Rattle.crs_normal.specs.SpelledFrames.{item_frame, item_meridian, norm_frame, norm_meridian}
-use Rattle.crs_normal.specs.SpelledItems.{text_item}
+use Rattle.crs_normal.specs.SpelledFrames.{item_frame, norm_frame}
 use Rattle.crs_normal.specs.SpelledUnits.{item_unit, norm_units}
 use Rattle.crs_normal.proofs.made.SystemLemmas.{IsFew}
-use Rattle.crs_normal.proofs.made.BehindLemmas.{AxisEach, behind, crs_classes, system-seen, few-system, behind_arguments, projected-names, Shows}
+use Rattle.crs_normal.proofs.made.BehindLemmas.{AxisEach, crs_classes, system-seen, few-system, behind_arguments, projected-names}
 use Rattle.crs_normal.proofs.made.CheckLemmas.{IsSystemIn}
 use Rattle.crs_normal.proofs.made.ConversionLemmas.{conversion-made}
-use Rattle.crs_normal.proofs.made.DynamicLemmas.{IsSteady, no-bad-dynamic, dynamic-of}
+use Rattle.crs_normal.proofs.made.DynamicLemmas.{no-bad-dynamic, dynamic-of}
 use Rattle.crs_normal.proofs.made.EllipsoidLemmas.{given-unit}
 use Rattle.crs_normal.proofs.made.FrameLemmas.{geodetic-frame-made}
-use Rattle.crs_normal.proofs.made.FrontLemmas.{framed_runs, geodetic_classes, meridian-there, crs-node-made, frame-named, frame-fits, frame-seen}
-use Rattle.crs_normal.proofs.made.IdentLemmas.{ids_run, ids-of, ids-orderly}
-use Rattle.crs_normal.proofs.made.NodeLemmas.{Run, Sees, alone, given, views, none-shown}
+use Rattle.crs_normal.proofs.made.FrontLemmas.{meridian-there, crs-node-made, frame-named, frame-fits, frame-seen}
+use Rattle.crs_normal.proofs.made.IdentLemmas.{ids-of, ids-orderly}
+use Rattle.crs_normal.proofs.made.NodeLemmas.{Sees, views, none-shown}
 use Rattle.crs_normal.proofs.made.MeridianLemmas.{meridian-of}
 use Rattle.crs_normal.proofs.made.TailLemmas.{tail_arguments, tail-orderly}
 use Rattle.crs_normal.proofs.normal.DimensionLemmas.{small-projected}
 use Rattle.crs_normal.proofs.read.NameLemmas.{keyword-names}
-use Rattle.crs_normal.proofs.made.ArgumentLemmas.{Argument, arguments-seen, made-of, may-of, text-of, node-of}
+use Rattle.crs_normal.proofs.made.ArgumentLemmas.{Argument, arguments-seen, made-of, may-of, text-of, node-of, as_runs}
 
 -- ---- base CRSs
-
--- what a base has after its frame
-abbrev base_rest : Level → BaseParts → List Run
-base_rest level b =
-    record { of = class.PrimeMeridian; items = given item_meridian (norm_meridian level b.meridian) } ∷
-    record { of = class.AngleUnit; items = given item_unit (norm_units level kinds.Angle b.unit) } ∷
-    ids_run level b.identifiers ∷ []
-
-abbrev base_frame : Level → BaseParts → Item
-base_frame level b = item_frame (codes "DATUM") (norm_frame level b.frame)
-
-abbrev base_runs : Level → BaseParts → List Run
-base_runs level b = framed_runs true level (text_item b.name) b.dynamic b.frame (base_frame level b) (base_rest level b)
-
-base-seen : (level : Level) (b : BaseParts) (item : Item) → IsBase b → Sees class.BaseCrs (base_runs level b) item →
-    Each (Shows class.BaseCrs item (base_rest level b)) geodetic_classes × IsSteady class.BaseCrs item
-base-seen level b item h =
-    frame-seen level class.BaseCrs item (text_item b.name) true b.dynamic b.frame (base_frame level b)
-    (base_rest level b)
-    h.dynamic (refl, (refl, (refl, tt)))
 
 pub base-made : DecimalLaws → (level : Level) (b : BaseParts) → IsBase b → (p : ℕ) →
     IsAcceptedNormal level class.BaseCrs 6 (at_place p (item_base (norm_base level b)))
 unfolding BreaksOwn class_named is_keyword
 base-made l level b h =
-    made-of level 5 class.BaseCrs (codes "BASEGEOGCRS") _ _ (text-of b.name h.name ∷
-    dynamic-of l b.dynamic b.frame (omega arith) refl h.dynamic ∷
-    node-of (base_frame level b) (omega arith)
+    let all : List (Argument level 5 class.BaseCrs) =
+    text-of b.name h.name ∷ dynamic-of l b.dynamic b.frame (omega arith) refl h.dynamic ∷
+    node-of (item_frame (codes "DATUM") (norm_frame level b.frame)) (omega arith)
     (frame-named level class.BaseCrs b.frame (record { datum = refl; ensemble = refl }))
     (geodetic-frame-made l level b.frame h.frame) ∷
     meridian-of l b.meridian (omega arith) refl h.meridian ∷
     may-of class.AngleUnit item_unit (norm_units level kinds.Angle b.unit)
     (given-unit l level class.BaseCrs kinds.Angle b.unit (omega arith) refl refl h.unit) ∷
-    ids-of l b.identifiers (omega arith) refl h.identifiers ∷ []) refl (refl, refl) refl refl
-    (rw (frame-fits true b.frame).0 refl)
-    ((frame-fits true b.frame).1 level (base_frame level b ∷ []) (base_rest level b) (ids-orderly level b.identifiers))
-    (λ item s r. meridian-there level b.meridian (those class.BaseCrs class.PrimeMeridian (arguments item))
-    (base-seen level b item h s).0.0)
-    (λ item fault s q. no-bad-dynamic class.BaseCrs item fault (base-seen level b item h s).1 q)
+    ids-of l b.identifiers (omega arith) refl h.identifiers ∷ [] in
+    let shown = λ (item : Item) (s : Sees class.BaseCrs (as_runs all) item).
+    frame-seen level true b.dynamic b.frame h.dynamic (refl, (refl, (refl, tt))) s in
+    made-of level 5 class.BaseCrs (codes "BASEGEOGCRS") _ _ all refl (refl, refl) refl refl
+    (rw (frame-fits true b.frame).0 (refl {a = true}))
+    ((frame-fits true b.frame).1 level (item_frame (codes "DATUM") (norm_frame level b.frame) ∷ [])
+    (drop 3 (as_runs all)) (ids-orderly level b.identifiers))
+    (λ item s r. meridian-there level b.meridian _ (shown item s).0.0)
+    (λ item fault s. no-bad-dynamic class.BaseCrs item fault (shown item s).1)
 
 -- ---- projected CRSs
-
-abbrev projected_runs : Level → ProjectedParts → List Run
-projected_runs level g =
-    alone class.Text (text_item g.name) ∷ alone class.BaseCrs (item_base (norm_base level g.base)) ∷
-    alone class.Conversion (item_conversion (norm_conversion level g.conversion)) ∷ behind level g.system g.tail
 
 projected-few : DecimalLaws → AxisEach → (g : ProjectedParts) → IsProjected g → IsFew g.system
 projected-few l each_at g h = few-system l each_at (dimensions_of class.ProjectedCrs) small-projected g.system h.system h.dimension
@@ -103,7 +79,7 @@ projected-made l each_at level g h =
     refl refl refl (tail-orderly level g.tail) g.system g.tail few h.dimension
     (λ item fault b. b)
     (λ item s. (
-      views class.ProjectedCrs (projected_runs level g) item crs_classes s,
+      views crs_classes s,
       inl (none-shown (those class.ProjectedCrs class.Dynamic (arguments item)) [] refl (s.view class.Dynamic)),
     )) (λ item s seen axes end. (axes, end))
 
@@ -114,5 +90,4 @@ projected-seen l each_at level g h p =
     let few : IsFew g.system = projected-few l each_at g h in
     let item : Item = at_place p (item_projected (norm_projected level g)) in
     system-seen l level class.ProjectedCrs item g.system g.tail few
-    (views class.ProjectedCrs (projected_runs level g) item crs_classes
-    (arguments-seen level 6 class.ProjectedCrs (codes "PROJCRS") _ _ (projected_arguments l level g few h) refl p))
+    (views crs_classes (arguments-seen level 6 class.ProjectedCrs (codes "PROJCRS") _ _ (projected_arguments l level g few h) refl p))

@@ -1,8 +1,8 @@
 -- Vertical CRSs are made.
-use Rattle.std.proofs.Common.{◌≡◌, ℕ, true, Some, List, [], ◌∷◌, map, codes, refl, arith, false, None}
-use Rattle.crs_text.specs.Prelude.{Item, at_place}
+use Rattle.std.proofs.Common.{◌≡◌, ℕ, true, Some, List, [], ◌∷◌, map, codes, refl, arith, false, None, drop}
+use Rattle.crs_text.specs.Prelude.{at_place}
 use Rattle.crs_shape.specs.declared.class.Class.TheVariants as class
-use Rattle.crs_shape.specs.Prelude.{is_keyword, class_in, class_named, dimensions_of}
+use Rattle.crs_shape.specs.Prelude.{is_keyword, class_in, dimensions_of}
 use Rattle.crs_value.specs.Checks.{Own as BreaksOwn}
 use Rattle.crs_value.specs.Prelude.{VerticalParts, IsVertical}
 use Rattle.crs_value.specs.declared.values.frame.Frame.{Frame}
@@ -13,56 +13,33 @@ use Rattle.crs_normal.specs.AcceptedNormal.{IsAcceptedNormal, vertical_frame_cla
 use Rattle.crs_normal.specs.SpelledConversions.{item_geoid_model, norm_geoid_model, set_geoid_models}
 use Rattle.crs_normal.specs.SpelledCrs.{item_vertical, norm_vertical}
 use Rattle.crs_normal.specs.SpelledFrames.{item_frame, norm_frame}
-use Rattle.crs_normal.specs.SpelledItems.{text_item}
-use Rattle.crs_normal.specs.SpelledSystems.{item_head, norm_system}
 use Rattle.crs_normal.proofs.made.AscendLemmas.{set-ascends}
 use Rattle.crs_normal.proofs.made.SystemLemmas.{IsFew}
-use Rattle.crs_normal.proofs.made.BehindLemmas.{AxisEach, axes_run, few-system, behind_arguments, vertical-names}
+use Rattle.crs_normal.proofs.made.BehindLemmas.{AxisEach, few-system, behind_arguments, vertical-names}
 use Rattle.crs_normal.proofs.made.DynamicLemmas.{dynamic-of}
 use Rattle.crs_normal.proofs.made.FrameLemmas.{vertical-frame-made}
-use Rattle.crs_normal.proofs.made.NodeLemmas.{Run, alone, IsOrderly}
 use Rattle.crs_normal.proofs.made.NamedLemmas.{geoid-model-made}
-use Rattle.crs_normal.proofs.made.TailLemmas.{tail_runs, tail_arguments, tail-orderly}
+use Rattle.crs_normal.proofs.made.TailLemmas.{tail_arguments, tail-orderly}
 use Rattle.crs_normal.proofs.normal.DimensionLemmas.{small-vertical}
 use Rattle.crs_normal.proofs.read.NameLemmas.{keyword-names}
-use Rattle.crs_normal.proofs.made.ArgumentLemmas.{Argument, text-of, node-of, set-of}
-use Rattle.crs_normal.proofs.made.FrontLemmas.{framed_runs, crs-node-made, frame-fits, frame-seen}
+use Rattle.crs_normal.proofs.made.ArgumentLemmas.{Argument, text-of, node-of, set-of, as_runs}
+use Rattle.crs_normal.proofs.made.FrontLemmas.{crs-node-made, frame-fits, frame-seen}
 
 -- ---- the frame, of one class or the other
 
 vertical-named : (level : Level) (f : Frame) →
     class_in class.VerticalCrs (item_frame (codes "VDATUM") (norm_frame level f)) ≡ Some (vertical_frame_class f)
-unfolding class_named is_keyword
-vertical-named level (frame.Datum d) = refl
-vertical-named level (frame.Ensemble e) = refl
+vertical-named level (frame.Datum d) = keyword-names class.VerticalCrs (codes "VDATUM")
+vertical-named level (frame.Ensemble e) = keyword-names class.VerticalCrs (codes "ENSEMBLE")
 
 -- ---- vertical CRSs
-
-abbrev models_run : Level → VerticalParts → Run
-models_run level g = record {
-  of = class.GeoidModel;
-  items = map item_geoid_model
-      (set_geoid_models level g.geoid_models);
-}
-
--- what a vertical CRS has after its frame
-abbrev vertical_rest : Level → VerticalParts → List Run
-vertical_rest level g =
-    alone class.CoordinateSystem (item_head (norm_system level g.system)) ∷ axes_run level g.system ∷
-    models_run level g ∷ tail_runs level g.tail
-
-abbrev frame_item : Level → VerticalParts → Item
-frame_item level g = item_frame (codes "VDATUM") (norm_frame level g.frame)
-
-abbrev vertical_runs : Level → VerticalParts → List Run
-vertical_runs level g =
-    framed_runs false level (text_item g.name) g.dynamic g.frame (frame_item level g) (vertical_rest level g)
 
 abbrev vertical_arguments : DecimalLaws → (level : Level) (g : VerticalParts) → IsFew g.system → IsVertical g →
     List (Argument level 5 class.VerticalCrs)
 vertical_arguments l level g few h =
-    text-of g.name h.name ∷ dynamic-of l g.dynamic g.frame (omega arith) (keyword-names class.VerticalCrs (codes "DYNAMIC")) h.dynamic ∷
-    node-of (frame_item level g) (omega arith) (vertical-named level g.frame)
+    text-of g.name h.name ∷
+    dynamic-of l g.dynamic g.frame (omega arith) (keyword-names class.VerticalCrs (codes "DYNAMIC")) h.dynamic ∷
+    node-of (item_frame (codes "VDATUM") (norm_frame level g.frame)) (omega arith) (vertical-named level g.frame)
     (vertical-frame-made l level g.frame h.frame) ∷
     behind_arguments l level 5 class.VerticalCrs g.system
     (set-of class.GeoidModel (norm_geoid_model level) item_geoid_model g.geoid_models None (omega arith)
@@ -70,24 +47,19 @@ vertical_arguments l level g few h =
     tail_arguments l level 5 class.VerticalCrs g.tail (omega arith) vertical-names.tails h.tail) (omega arith)
     vertical-names.systems few
 
-vertical-orderly : (level : Level) (g : VerticalParts) → IsOrderly level (vertical_runs level g)
-unfolding set_geoid_models
-vertical-orderly level g =
-    let end = tail-orderly level g.tail in
-    let models = set-ascends item_geoid_model (map (norm_geoid_model level) g.geoid_models) in
-    (frame-fits false g.frame).1 level (frame_item level g ∷ []) (vertical_rest level g)
-    ((end.0.0, (end.0.1.0, (tt, (tt, (models, tt))))), end.1)
-
 pub vertical-made : DecimalLaws → AxisEach → (level : Level) (g : VerticalParts) → IsVertical g → (p : ℕ) →
     IsAcceptedNormal level class.VerticalCrs 6 (at_place p (item_vertical (norm_vertical level g)))
 unfolding BreaksOwn is_keyword set_geoid_models
 vertical-made l each_at level g h =
     let few = few-system l each_at (dimensions_of class.VerticalCrs) small-vertical g.system h.system h.dimension in
-    crs-node-made l level 5 class.VerticalCrs (codes "VERTCRS") _ _ (vertical_arguments l level g few h) refl
-    (refl, refl)
-    refl refl (rw (frame-fits false g.frame).0 (refl {a = true})) (vertical-orderly level g) g.system g.tail few
-    h.dimension (λ item fault b. b)
+    let all = vertical_arguments l level g few h in
+    let end = tail-orderly level g.tail in
+    let models = set-ascends item_geoid_model (map (norm_geoid_model level) g.geoid_models) in
+    crs-node-made l level 5 class.VerticalCrs (codes "VERTCRS") _ _ all refl (refl, refl) refl refl
+    (rw (frame-fits false g.frame).0 (refl {a = true}))
+    ((frame-fits false g.frame).1 level (item_frame (codes "VDATUM") (norm_frame level g.frame) ∷ [])
+    (drop 3 (as_runs all)) ((end.0.0, (end.0.1.0, (tt, (tt, (models, tt))))), end.1))
+    g.system g.tail few h.dimension (λ item fault b. b)
     (λ item s.
-    let v = frame-seen level class.VerticalCrs item (text_item g.name) false g.dynamic g.frame (frame_item level g)
-    (vertical_rest level g) h.dynamic (refl, (refl, (refl, tt))) s in
-    (v.0.1, v.1)) (λ item s seen axes end. (axes, end))
+    let v = frame-seen level false g.dynamic g.frame h.dynamic (refl, (refl, (refl, tt))) s in (v.0.1, v.1))
+    (λ item s seen axes end. (axes, end))
