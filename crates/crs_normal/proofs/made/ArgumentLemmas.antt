@@ -6,16 +6,14 @@ use Rattle.crs_text.specs.Prelude.{Item, Siblings, End, More, arguments, Refused
 use Rattle.crs_shape.specs.declared.class.Class.{Class}
 use Rattle.crs_shape.specs.declared.class.Class.TheVariants as class
 use Rattle.crs_shape.specs.Prelude.{is_keyword, Allowed, SlotParts, class_in, class_named, one, slots_of, takes}
-use Rattle.crs_value.specs.Checks.{Own as BreaksOwn}
 use Rattle.crs_value.specs.declared.values.level.Level.{Level}
-use Rattle.crs_value.specs.Prelude.{IsText, those}
+use Rattle.crs_value.specs.Prelude.{IsText, those, Own as BreaksOwn}
 use Rattle.crs_value.specs.Sound.{Each}
 use Rattle.crs_normal.specs.AcceptedNormal.{IsAcceptedNormal}
 use Rattle.crs_normal.specs.DecimalLaws.{DecimalLaws}
 use Rattle.crs_normal.specs.Normal.{IsFirstKeyword, IsNormalIn, AreNormalIn, IsNormalNode}
 use Rattle.crs_normal.specs.NormalOwn.{HasOwnForm, Rise, set_classes, Ascend}
-use Rattle.crs_normal.specs.SpelledItems.{each, node_of, number_item, number_node, opt, text_item, text_node}
-use Rattle.crs_normal.specs.Ordered.{in_order}
+use Rattle.crs_normal.specs.Prelude.{each, node_of, number_item, number_node, opt, text_item, text_node, in_order}
 use Rattle.crs_normal.proofs.made.AscendLemmas.{set-each, set-some}
 use Rattle.crs_normal.proofs.made.FitLemmas.{both, given-few, held, more-fit, none-fit, slot-fits}
 use Rattle.crs_normal.proofs.read.ViewLemmas.{each-so}

@@ -5,9 +5,8 @@ use Rattle.std.specs.Cmp.Lexicographic.{slice_cmp}
 use Rattle.std.specs.Ordering.{nat_cmp}
 use Rattle.crs_text.specs.Prelude.{Item, item_text}
 use Rattle.crs_value.specs.Sound.{Each}
-use Rattle.crs_normal.specs.Ascending.{Ascends, Below}
+use Rattle.crs_normal.specs.Prelude.{Ascends, Below, put, put_all, in_order}
 use Rattle.crs_normal.specs.NormalOwn.{Ascend}
-use Rattle.crs_normal.specs.Ordered.{put, put_all, in_order}
 use Rattle.crs_normal.proofs.members.SetLemmas.{by-order, in_order-ascends}
 use Rattle.crs_normal.proofs.texts.SegmentLemmas.{each-map, set-kept}
 

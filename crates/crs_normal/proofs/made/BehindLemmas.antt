@@ -11,12 +11,11 @@ use Rattle.crs_value.specs.Prelude.{kept_one, those, IsSystem, SystemParts, Tail
 use Rattle.crs_value.specs.declared.values.level.Level.{Level}
 use Rattle.crs_value.specs.Sound.{Each}
 use Rattle.crs_normal.specs.DecimalLaws.{DecimalLaws}
-use Rattle.crs_normal.specs.SpelledSystems.{axes_from, item_axis, item_head, norm_system}
+use Rattle.crs_normal.specs.Prelude.{axes_from, item_axis, item_head, norm_system, text_node}
 use Rattle.crs_normal.specs.NormalOwn.{Lacks, bare_classes}
 use Rattle.crs_normal.proofs.read.ViewLemmas.{each-so}
 use Rattle.crs_normal.proofs.made.CheckLemmas.{IsSystemIn, IsSystemSeen}
 use Rattle.crs_normal.proofs.made.DatumLemmas.{given-once}
-use Rattle.crs_normal.specs.SpelledItems.{text_node}
 use Rattle.crs_normal.proofs.made.NodeLemmas.{Made, Run, alone, items_in}
 use Rattle.crs_normal.proofs.made.PlaceLemmas.{ArePlaced}
 use Rattle.crs_normal.proofs.made.SystemLemmas.{HasEach, IsHeadItem, all-axes, axes-made, axes-seen, head-made, head-seen, IsFew}

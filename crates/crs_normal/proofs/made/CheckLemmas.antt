@@ -13,8 +13,7 @@ use Rattle.crs_value.specs.Prelude.{BadOrder, BadOrders, IsBadOrder, IsPosition,
 use Rattle.crs_value.specs.Sound.{Each}
 use Rattle.crs_normal.specs.DecimalLaws.{DecimalLaws}
 use Rattle.crs_normal.specs.NormalOwn.{AreOrdered, Has, HasAxes, numbers_in}
-use Rattle.crs_normal.specs.SpelledItems.{number_item, number_node, word_item}
-use Rattle.crs_normal.specs.SpelledUnits.{item_unit, whole_value}
+use Rattle.crs_normal.specs.Prelude.{number_item, number_node, word_item, item_unit, whole_value}
 use Rattle.crs_normal.proofs.read.ViewLemmas.{each-so}
 use Rattle.crs_normal.proofs.made.AxisLemmas.{IsAxisItem, whole-normal}
 use Rattle.crs_normal.proofs.made.EllipsoidLemmas.{placed-some}

@@ -8,8 +8,7 @@ use Rattle.crs_shape.specs.declared.class.Class.TheVariants as class
 use Rattle.crs_shape.specs.declared.system_type.SystemType.{SystemType}
 use Rattle.crs_shape.specs.declared.system_type.SystemType.TheVariants as types
 use Rattle.crs_shape.specs.Prelude.{is_keyword, class_named, one_of, takes}
-use Rattle.crs_value.specs.Prelude.{BadComponent, IsNotEllipsoidal, IsNotHorizontal, IsNotPlane, FirstIs, OfCompound, horizontal_classes, CompoundParts, GeodeticParts, ProjectedParts, VerticalParts, those, IsText, IsCompound, IsHorizontal, IsPlane, IsGeodetic, IsProjected, IsVertical, IsTail, TailParts}
-use Rattle.crs_value.specs.Checks.{Own as BreaksOwn}
+use Rattle.crs_value.specs.Prelude.{BadComponent, IsNotEllipsoidal, IsNotHorizontal, IsNotPlane, FirstIs, OfCompound, horizontal_classes, CompoundParts, GeodeticParts, ProjectedParts, VerticalParts, those, IsText, IsCompound, IsHorizontal, IsPlane, IsGeodetic, IsProjected, IsVertical, IsTail, TailParts, Own as BreaksOwn}
 use Rattle.crs_value.specs.declared.values.compound.Horizontal.{Horizontal}
 use Rattle.crs_value.specs.declared.values.compound.Horizontal.TheVariants as horizontal
 use Rattle.crs_value.specs.declared.values.level.Level.{Level}
@@ -18,8 +17,7 @@ use Rattle.crs_normal.specs.DecimalLaws.{DecimalLaws}
 use Rattle.crs_normal.specs.CrsClass.{geodetic_class}
 use Rattle.crs_normal.specs.AcceptedNormal.{IsAcceptedNormal}
 use Rattle.crs_normal.specs.SpelledCrs.{geodetic_keyword, item_compound, item_geodetic, item_projected, item_vertical, norm_compound, norm_geodetic, norm_projected, norm_vertical}
-use Rattle.crs_normal.specs.SpelledItems.{node_of, text_item}
-use Rattle.crs_normal.specs.SpelledUsages.{norm_tail, tail_items}
+use Rattle.crs_normal.specs.Prelude.{node_of, text_item, norm_tail, tail_items}
 use Rattle.crs_normal.proofs.made.BehindLemmas.{AxisEach, Shows, tail-seen, tail_classes}
 use Rattle.crs_normal.proofs.made.CheckLemmas.{first-number, word-type}
 use Rattle.crs_normal.proofs.made.GeodeticLemmas.{geodetic-made, geodetic-seen}

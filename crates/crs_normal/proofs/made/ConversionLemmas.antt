@@ -6,15 +6,12 @@ use Rattle.crs_shape.specs.declared.class.Class.TheVariants as class
 use Rattle.crs_shape.specs.declared.unit_kind.UnitKind.{UnitKind}
 use Rattle.crs_shape.specs.declared.unit_kind.UnitKind.TheVariants as kinds
 use Rattle.crs_shape.specs.Prelude.{is_keyword, class_named, optional_of, takes}
-use Rattle.crs_value.specs.Checks.{Own as BreaksOwn}
-use Rattle.crs_value.specs.Prelude.{ConversionParts, ParameterParts, IsUnit, IsConversion, IsParameter, UnitParts}
+use Rattle.crs_value.specs.Prelude.{ConversionParts, ParameterParts, IsUnit, IsConversion, IsParameter, UnitParts, Own as BreaksOwn}
 use Rattle.crs_value.specs.declared.values.level.Level.{Level}
 use Rattle.crs_matching.specs.Prelude.{kind_as}
-use Rattle.crs_normal.specs.PartSpellings.{unit_class}
+use Rattle.crs_normal.specs.Prelude.{unit_class, item_conversion, item_method, item_parameter, norm_conversion, norm_method, norm_parameter, set_parameters, item_unit, norm_units}
 use Rattle.crs_normal.specs.DecimalLaws.{DecimalLaws}
 use Rattle.crs_normal.specs.AcceptedNormal.{IsKindIn, IsAcceptedNormal}
-use Rattle.crs_normal.specs.SpelledConversions.{item_conversion, item_method, item_parameter, norm_conversion, norm_method, norm_parameter, set_parameters}
-use Rattle.crs_normal.specs.SpelledUnits.{item_unit, norm_units}
 use Rattle.crs_normal.proofs.made.AscendLemmas.{set-ascends}
 use Rattle.crs_normal.proofs.made.IdentLemmas.{ids-of, ids-orderly, ids_run}
 use Rattle.crs_normal.proofs.made.NodeLemmas.{Made, as-argument, given, IsFree}

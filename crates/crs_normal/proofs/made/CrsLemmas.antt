@@ -9,8 +9,7 @@ use Rattle.crs_value.specs.Prelude.{IsCrs}
 use Rattle.crs_normal.specs.DecimalLaws.{DecimalLaws}
 use Rattle.crs_normal.specs.CrsClass.{crs_class}
 use Rattle.crs_normal.specs.AcceptedNormal.{IsAcceptedNormal}
-use Rattle.crs_normal.specs.Normal.{IsNormalText}
-use Rattle.crs_normal.specs.SpelledCrs.{item_crs, norm_crs}
+use Rattle.crs_normal.specs.Prelude.{IsNormalText, item_crs, norm_crs}
 use Rattle.crs_normal.proofs.made.BehindLemmas.{AxisEach}
 use Rattle.crs_normal.proofs.made.CompoundLemmas.{compound-made}
 use Rattle.crs_normal.proofs.made.GeodeticLemmas.{geodetic-made}

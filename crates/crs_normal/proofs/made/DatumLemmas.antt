@@ -4,14 +4,12 @@ use Rattle.crs_text.specs.Prelude.{Item, Siblings, arguments, RefusedAt, at_plac
 use Rattle.crs_shape.specs.declared.class.Class.{Class}
 use Rattle.crs_shape.specs.declared.class.Class.TheVariants as class
 use Rattle.crs_shape.specs.Prelude.{is_keyword, class_named}
-use Rattle.crs_value.specs.Prelude.{AnyOf, anchors, those, IsRepeated, RepeatsAny, IsDatum, IsEllipsoid, DatumParts, EllipsoidParts}
+use Rattle.crs_value.specs.Prelude.{AnyOf, anchors, those, IsRepeated, RepeatsAny, IsDatum, IsEllipsoid, DatumParts, EllipsoidParts, Own as BreaksOwn}
 use Rattle.crs_value.specs.Sound.{Each}
-use Rattle.crs_value.specs.Checks.{Own as BreaksOwn}
 use Rattle.crs_value.specs.declared.values.level.Level.{Level}
 use Rattle.crs_normal.specs.DecimalLaws.{DecimalLaws}
 use Rattle.crs_normal.specs.AcceptedNormal.{IsAcceptedNormal}
-use Rattle.crs_normal.specs.SpelledFrames.{item_datum, item_ellipsoid, norm_datum, norm_ellipsoid}
-use Rattle.crs_normal.specs.SpelledItems.{number_node, text_node}
+use Rattle.crs_normal.specs.Prelude.{item_datum, item_ellipsoid, norm_datum, norm_ellipsoid, number_node, text_node}
 use Rattle.crs_normal.proofs.made.EllipsoidLemmas.{ellipsoid-made}
 use Rattle.crs_normal.proofs.made.IdentLemmas.{ids-of, ids-orderly}
 use Rattle.crs_normal.proofs.made.NodeLemmas.{given}

@@ -8,13 +8,12 @@ use Rattle.crs_shape.specs.Prelude.{class_in, class_named, dimensions_of, is_key
 use Rattle.crs_value.specs.declared.values.frame.Frame.{Frame}
 use Rattle.crs_value.specs.declared.values.frame.Frame.TheVariants as frame
 use Rattle.crs_value.specs.declared.values.level.Level.{Level}
-use Rattle.crs_value.specs.Prelude.{DynamicParts, IsDynamicOf, MeridianParts, SystemParts, TailParts, OfCrs}
+use Rattle.crs_value.specs.Prelude.{DynamicParts, IsDynamicOf, MeridianParts, SystemParts, TailParts, OfCrs, Own as BreaksOwn}
 use Rattle.crs_value.specs.Sound.{Each}
 use Rattle.crs_normal.specs.DecimalLaws.{DecimalLaws}
 use Rattle.crs_normal.specs.AcceptedNormal.{IsAcceptedNormal, geodetic_frame_class, vertical_frame_class}
 use Rattle.crs_normal.specs.NormalOwn.{HasAxes, HasOwnForm, HasTail}
 use Rattle.crs_normal.specs.Normal.{IsFirstKeyword}
-use Rattle.crs_value.specs.Checks.{Own as BreaksOwn}
 use Rattle.crs_normal.specs.SpelledFrames.{greenwich, item_frame, item_meridian, norm_frame, norm_given, norm_meridian}
 use Rattle.crs_normal.specs.SpelledItems.{node_of}
 use Rattle.crs_normal.proofs.made.SystemLemmas.{IsFew}

@@ -5,17 +5,14 @@ use Rattle.crs_text.specs.Prelude.{Item, leaf, End, More, skip, Kind, number, te
 use Rattle.crs_shape.specs.declared.class.Class.{Class}
 use Rattle.crs_shape.specs.declared.class.Class.TheVariants as class
 use Rattle.crs_shape.specs.Prelude.{is_keyword, class_of_kind, class_named, one_of, optional_of, takes}
-use Rattle.crs_value.specs.Checks.{Own as BreaksOwn}
-use Rattle.crs_value.specs.Prelude.{kept, kept-each, kept-made, single_of, IsIdent, IsText}
+use Rattle.crs_value.specs.Prelude.{kept, kept-each, kept-made, single_of, IsIdent, IsText, Own as BreaksOwn}
 use Rattle.crs_value.specs.declared.values.level.Level.{Level}
 use Rattle.crs_value.specs.Sound.{Each}
 use Rattle.crs_value.specs.Values.{IdentParts}
 use Rattle.crs_normal.specs.DecimalLaws.{DecimalLaws}
 use Rattle.crs_normal.specs.AcceptedNormal.{IsAcceptedNormal}
 use Rattle.crs_normal.specs.NormalOwn.{Ascend, IsCode}
-use Rattle.crs_normal.specs.Ordered.{in_order}
-use Rattle.crs_normal.specs.SpelledItems.{code_item, text_item, text_node}
-use Rattle.crs_normal.specs.SpelledUnits.{item_ident, set_idents}
+use Rattle.crs_normal.specs.Prelude.{in_order, code_item, text_item, text_node, item_ident, set_idents}
 use Rattle.crs_normal.proofs.made.AscendLemmas.{set-ascends}
 use Rattle.crs_normal.proofs.read.ViewLemmas.{each-so}
 use Rattle.crs_normal.proofs.members.SetLemmas.{each-in_order}

@@ -7,16 +7,14 @@ use Rattle.crs_shape.specs.declared.class.Class.{Class}
 use Rattle.crs_shape.specs.declared.class.Class.TheVariants as class
 use Rattle.crs_shape.specs.declared.unit_kind.UnitKind.TheVariants as kinds
 use Rattle.crs_shape.specs.Prelude.{is_keyword, class_named}
-use Rattle.crs_value.specs.Checks.{Own as BreaksOwn}
-use Rattle.crs_value.specs.Prelude.{kept-none, those, IsMeridian, IsUnitOf, MeridianParts, UnitParts}
+use Rattle.crs_value.specs.Prelude.{kept-none, those, IsMeridian, IsUnitOf, MeridianParts, UnitParts, Own as BreaksOwn}
 use Rattle.crs_value.specs.declared.values.level.Level.{Level}
 use Rattle.crs_value.specs.Values.{IdentParts}
 use Rattle.crs_normal.specs.DecimalLaws.{DecimalLaws}
 use Rattle.crs_normal.specs.AcceptedNormal.{IsAcceptedNormal}
 use Rattle.crs_normal.specs.NormalOwn.{HasNoUnitAtZero}
 use Rattle.crs_normal.specs.SpelledFrames.{greenwich, is_zero, item_meridian, norm_given, norm_meridian}
-use Rattle.crs_normal.specs.SpelledItems.{number_item}
-use Rattle.crs_normal.specs.SpelledUnits.{item_unit, norm_units, whole_value}
+use Rattle.crs_normal.specs.Prelude.{number_item, item_unit, norm_units, whole_value}
 use Rattle.crs_normal.proofs.made.EllipsoidLemmas.{given-unit}
 use Rattle.crs_normal.proofs.members.IdentLemmas.{none-form}
 use Rattle.crs_normal.proofs.made.IdentLemmas.{ids-of, ids-orderly}

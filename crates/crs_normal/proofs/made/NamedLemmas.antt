@@ -4,16 +4,14 @@ use Rattle.crs_text.specs.Prelude.{Item, RefusedAt, IsWord, at_place}
 use Rattle.crs_shape.specs.declared.class.Class.{Class}
 use Rattle.crs_shape.specs.declared.class.Class.TheVariants as class
 use Rattle.crs_shape.specs.Prelude.{is_keyword, class_named, named_slots, slots_of}
-use Rattle.crs_value.specs.Checks.{Own as BreaksOwn}
-use Rattle.crs_value.specs.Prelude.{GeoidModelParts, MethodParts, DeformationModelParts, IsNamed, IsGeoidModel, IsMethod, IsDeformationModel, IsMember, MemberParts, NamedParts}
+use Rattle.crs_value.specs.Prelude.{GeoidModelParts, MethodParts, DeformationModelParts, IsNamed, IsGeoidModel, IsMethod, IsDeformationModel, IsMember, MemberParts, NamedParts, Own as BreaksOwn}
 use Rattle.crs_value.specs.declared.values.level.Level.{Level}
 use Rattle.crs_normal.specs.DecimalLaws.{DecimalLaws}
 use Rattle.crs_normal.specs.AcceptedNormal.{IsAcceptedNormal}
 use Rattle.crs_normal.specs.Normal.{IsFirstKeyword}
 use Rattle.crs_normal.specs.NormalOwn.{HasOwnForm}
-use Rattle.crs_normal.specs.SpelledConversions.{item_geoid_model, item_method, norm_geoid_model, norm_method}
+use Rattle.crs_normal.specs.Prelude.{item_geoid_model, item_method, norm_geoid_model, norm_method, item_member, norm_member}
 use Rattle.crs_normal.specs.SpelledDynamic.{item_deformation_model, norm_deformation_model}
-use Rattle.crs_normal.specs.SpelledFrames.{item_member, norm_member}
 use Rattle.crs_normal.proofs.made.IdentLemmas.{ids-of, ids-orderly}
 use Rattle.crs_normal.proofs.made.ArgumentLemmas.{made-of, text-of}
 use Rattle.crs_normal.proofs.members.MemberLemmas.{item_named}

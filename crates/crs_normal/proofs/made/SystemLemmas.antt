@@ -10,16 +10,13 @@ use Rattle.crs_shape.specs.declared.class.Class.{Class}
 use Rattle.crs_shape.specs.declared.class.Class.TheVariants as class
 use Rattle.crs_shape.specs.declared.system_type.SystemType.{SystemType}
 use Rattle.crs_shape.specs.Prelude.{is_keyword, class_named, asked_kind, system_word}
-use Rattle.crs_value.specs.Prelude.{UnknownType, AnyOf, those, IsAxis, IsAxisUnit, Suits, HasUnits, IsSystem, SuitsAxis, AxisParts, SystemParts, UnitParts}
-use Rattle.crs_value.specs.Checks.{Own as BreaksOwn}
+use Rattle.crs_value.specs.Prelude.{UnknownType, AnyOf, those, IsAxis, IsAxisUnit, Suits, HasUnits, IsSystem, SuitsAxis, AxisParts, SystemParts, UnitParts, Own as BreaksOwn}
 use Rattle.crs_value.specs.declared.values.level.Level.{Level}
 use Rattle.crs_value.specs.Sound.{Each}
 use Rattle.crs_matching.specs.Prelude.{HasAt, IsPositionOf, own_or}
 use Rattle.crs_normal.specs.DecimalLaws.{DecimalLaws}
 use Rattle.crs_normal.specs.AcceptedNormal.{IsAcceptedNormal}
-use Rattle.crs_normal.specs.SpelledItems.{number_item, word_item}
-use Rattle.crs_normal.specs.SpelledSystems.{axes_from, axis_at, is_at, item_axis, item_head, norm_axis, norm_system}
-use Rattle.crs_normal.specs.SpelledUnits.{whole_value}
+use Rattle.crs_normal.specs.Prelude.{number_item, word_item, axes_from, axis_at, is_at, item_axis, item_head, norm_axis, norm_system, whole_value}
 use Rattle.crs_normal.proofs.made.AxisLemmas.{Fits, IsAxisItem, axis-made, axis-seen, whole-normal}
 use Rattle.crs_normal.proofs.made.ArgumentLemmas.{Argument, arguments-seen, made-of, number-of, one-of}
 use Rattle.crs_normal.proofs.made.IdentLemmas.{ids-of, ids-orderly}

@@ -4,17 +4,14 @@ use Rattle.crs_text.specs.Prelude.{Item, arguments, RefusedAt, item_text}
 use Rattle.crs_shape.specs.declared.class.Class.{Class}
 use Rattle.crs_shape.specs.declared.class.Class.TheVariants as class
 use Rattle.crs_shape.specs.Prelude.{is_keyword, class_named}
-use Rattle.crs_value.specs.Prelude.{once, kept, kept_one, kept-each, kept-if_some, kept-made, kept-made_one, those, RepeatsAny, IsText, IsTail, IsUsage, TailParts, UsageParts}
-use Rattle.crs_value.specs.Checks.{Own as BreaksOwn}
+use Rattle.crs_value.specs.Prelude.{once, kept, kept_one, kept-each, kept-if_some, kept-made, kept-made_one, those, RepeatsAny, IsText, IsTail, IsUsage, TailParts, UsageParts, Own as BreaksOwn}
 use Rattle.crs_value.specs.declared.values.level.Level.{Level}
 use Rattle.crs_value.specs.declared.values.level.Level.TheVariants as levels
 use Rattle.crs_value.specs.Sound.{Each}
 use Rattle.crs_matching.specs.Prelude.{usages_of, with_bare}
 use Rattle.crs_normal.specs.DecimalLaws.{DecimalLaws}
 use Rattle.crs_normal.specs.NormalOwn.{Ascend, HasTail, Rise, Lacks, bare_classes}
-use Rattle.crs_normal.specs.Ordered.{in_order}
-use Rattle.crs_normal.specs.SpelledItems.{text_node}
-use Rattle.crs_normal.specs.SpelledUsages.{item_usage, norm_usage, set_usages}
+use Rattle.crs_normal.specs.Prelude.{in_order, text_node, item_usage, norm_usage, set_usages}
 use Rattle.crs_normal.proofs.made.AscendLemmas.{set-ascends, set-each}
 use Rattle.crs_normal.proofs.made.DatumLemmas.{none-repeats}
 use Rattle.crs_normal.proofs.made.IdentLemmas.{identifiers-ascend, identifiers-left, ids-of, ids_run}

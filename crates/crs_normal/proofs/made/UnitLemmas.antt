@@ -7,15 +7,13 @@ use Rattle.crs_shape.specs.declared.class.Class.TheVariants as class
 use Rattle.crs_shape.specs.declared.unit_kind.UnitKind.{UnitKind}
 use Rattle.crs_shape.specs.declared.unit_kind.UnitKind.TheVariants as kinds
 use Rattle.crs_shape.specs.Prelude.{is_keyword, class_named, slots_of, unit_slots, unit_word}
-use Rattle.crs_value.specs.Prelude.{IsAboveZero, NotAbove, AnyOf, OfUnit, those, ReadsNumber, IsUnit, UnitParts}
-use Rattle.crs_value.specs.Checks.{Own as BreaksOwn}
+use Rattle.crs_value.specs.Prelude.{IsAboveZero, NotAbove, AnyOf, OfUnit, those, ReadsNumber, IsUnit, UnitParts, Own as BreaksOwn}
 use Rattle.crs_value.specs.declared.values.level.Level.{Level}
 use Rattle.crs_normal.specs.DecimalLaws.{DecimalLaws}
 use Rattle.crs_normal.specs.AcceptedNormal.{IsKindIn, IsAcceptedNormal}
 use Rattle.crs_normal.specs.Normal.{IsFirstKeyword}
 use Rattle.crs_normal.specs.NormalOwn.{HasOwnForm}
-use Rattle.crs_normal.specs.SpelledItems.{number_item}
-use Rattle.crs_normal.specs.SpelledUnits.{item_unit, set_idents}
+use Rattle.crs_normal.specs.Prelude.{number_item, item_unit, set_idents}
 use Rattle.crs_normal.proofs.made.IdentLemmas.{ids-of, ids-orderly}
 use Rattle.crs_normal.proofs.made.PlaceLemmas.{ArePlaced, none-of}
 use Rattle.crs_normal.proofs.read.NameLemmas.{keyword-names}

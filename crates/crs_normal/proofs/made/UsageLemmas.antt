@@ -4,15 +4,12 @@ use Rattle.crs_text.specs.Prelude.{Item, Siblings, End, More, arguments, IsNode,
 use Rattle.crs_shape.specs.declared.class.Class.{Class}
 use Rattle.crs_shape.specs.declared.class.Class.TheVariants as class
 use Rattle.crs_shape.specs.Prelude.{is_keyword, class_in, class_named, slots_of}
-use Rattle.crs_value.specs.Checks.{Own as BreaksOwn}
 use Rattle.crs_value.specs.declared.values.level.Level.{Level}
 use Rattle.crs_value.specs.declared.values.level.Level.TheVariants as levels
-use Rattle.crs_value.specs.Prelude.{those, IsBox, IsExtent, IsUsage, BoxParts, ExtentParts, SaysSome, UsageParts}
+use Rattle.crs_value.specs.Prelude.{those, IsBox, IsExtent, IsUsage, BoxParts, ExtentParts, SaysSome, UsageParts, Own as BreaksOwn}
 use Rattle.crs_normal.specs.DecimalLaws.{DecimalLaws}
 use Rattle.crs_normal.specs.AcceptedNormal.{IsAcceptedNormal}
-use Rattle.crs_normal.specs.SpelledItems.{node_from}
-use Rattle.crs_normal.specs.SpelledUnits.{item_unit, norm_length}
-use Rattle.crs_normal.specs.SpelledUsages.{item_box, item_extent, item_usage, norm_extent, norm_usage}
+use Rattle.crs_normal.specs.Prelude.{node_from, item_unit, norm_length, item_box, item_extent, item_usage, norm_extent, norm_usage}
 use Rattle.crs_normal.proofs.made.EllipsoidLemmas.{length-argument, placed-some}
 use Rattle.crs_normal.proofs.made.NodeLemmas.{IsOrderly, as-argument, none-orderly}
 use Rattle.crs_normal.proofs.made.ArgumentLemmas.{Argument, as_runs, fit, lay, made-of, may-of, may-text, number-of, one-of, may-node}

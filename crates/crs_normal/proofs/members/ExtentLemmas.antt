@@ -8,9 +8,7 @@ use Rattle.crs_shape.specs.declared.unit_kind.UnitKind.TheVariants as kinds
 use Rattle.crs_value.specs.declared.values.level.Level.{Level}
 use Rattle.crs_value.specs.Prelude.{ReadsBox, ReadsExtent, IsUnit, IsUnitOf, IsBox, IsExtent, BoxParts, ExtentParts, UnitParts}
 use Rattle.crs_normal.specs.FormedWithin.{IsFormedWithin}
-use Rattle.crs_normal.specs.SpelledItems.{number_item}
-use Rattle.crs_normal.specs.SpelledUnits.{item_unit, norm_length}
-use Rattle.crs_normal.specs.SpelledUsages.{item_box, item_extent, norm_extent}
+use Rattle.crs_normal.specs.Prelude.{number_item, item_unit, norm_length, item_box, item_extent, norm_extent}
 use Rattle.crs_normal.specs.TextLaws.{TextLaws}
 use Rattle.crs_normal.proofs.texts.ItemLemmas.{fit-end, fit-node, fit-number, fit-opt, value-fit}
 use Rattle.crs_normal.proofs.texts.SegmentLemmas.{a-number, if-any, opt-field, seen, some-imp}

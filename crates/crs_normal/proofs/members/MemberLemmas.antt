@@ -9,10 +9,7 @@ use Rattle.crs_value.specs.declared.values.level.Level.{Level}
 use Rattle.crs_value.specs.Sound.{Each}
 use Rattle.crs_matching.specs.Prelude.{SameNamed, SameSet}
 use Rattle.crs_normal.specs.FormedWithin.{IsFormedWithin}
-use Rattle.crs_normal.specs.SpelledConversions.{item_geoid_model, set_geoid_models}
-use Rattle.crs_normal.specs.SpelledFrames.{item_member, norm_member, set_members}
-use Rattle.crs_normal.specs.SpelledItems.{each, node_of, text_item}
-use Rattle.crs_normal.specs.SpelledUnits.{item_ident}
+use Rattle.crs_normal.specs.Prelude.{item_geoid_model, set_geoid_models, item_member, norm_member, set_members, each, node_of, text_item, item_ident}
 use Rattle.crs_normal.specs.TextLaws.{TextLaws}
 use Rattle.crs_normal.proofs.members.IdentLemmas.{idents-agree, text-fit, writable}
 use Rattle.crs_normal.proofs.texts.ItemLemmas.{fit-node, told}

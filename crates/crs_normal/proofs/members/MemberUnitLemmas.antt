@@ -12,8 +12,7 @@ use Rattle.crs_value.specs.Prelude.{ReadsIds, ReadsNumber, ReadsUnit, IsIdent, I
 use Rattle.crs_value.specs.Sound.{Each}
 use Rattle.crs_value.specs.Values.{IdentParts}
 use Rattle.crs_normal.specs.FormedWithin.{IsFormedWithin}
-use Rattle.crs_normal.specs.SpelledItems.{each, number_item, text_item}
-use Rattle.crs_normal.specs.SpelledUnits.{item_ident, item_unit, norm_unit}
+use Rattle.crs_normal.specs.Prelude.{each, number_item, text_item, item_ident, item_unit, norm_unit}
 use Rattle.crs_normal.specs.TextLaws.{TextLaws}
 use Rattle.crs_normal.proofs.members.IdentLemmas.{ident-fit, ident-read, text-fit, writable}
 use Rattle.crs_normal.proofs.texts.ItemLemmas.{AreFit, fit-deeper, fit-each, fit-end, fit-node, fit-number, told}

@@ -10,8 +10,7 @@ use Rattle.crs_shape.specs.declared.unit_kind.UnitKind.TheVariants as kinds
 use Rattle.crs_value.specs.Prelude.{those, ReadsFirst, ReadsOptional, ReadsNumber, UnitParts}
 use Rattle.crs_value.specs.declared.values.level.Level.{Level}
 use Rattle.crs_value.specs.Sound.{Each}
-use Rattle.crs_normal.specs.SpelledItems.{number_item, opt}
-use Rattle.crs_normal.specs.SpelledUnits.{item_unit, norm_length, norm_unit, norm_units}
+use Rattle.crs_normal.specs.Prelude.{number_item, opt, item_unit, norm_length, norm_unit, norm_units}
 use Rattle.crs_normal.proofs.normal.FormLemmas.{IsGood, Looked, Opened, found-in, good-in}
 use Rattle.crs_normal.proofs.normal.LeafLemmas.{ArePlain, PlainIsOne, number-form}
 use Rattle.crs_normal.proofs.read.ViewLemmas.{and_then, without_places_onto}

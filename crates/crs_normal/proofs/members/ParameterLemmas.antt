@@ -13,11 +13,8 @@ use Rattle.crs_value.specs.declared.values.level.Level.{Level}
 use Rattle.crs_value.specs.Sound.{Each}
 use Rattle.crs_value.specs.Values.{IdentParts}
 use Rattle.crs_matching.specs.Prelude.{SameParameter, SameSet}
-use Rattle.crs_normal.specs.PartSpellings.{unit_class}
+use Rattle.crs_normal.specs.Prelude.{unit_class, item_parameter, norm_parameter, set_parameters, each, node_of, number_item, opt, text_item, item_ident, item_unit, norm_units}
 use Rattle.crs_normal.specs.FormedWithin.{IsFormedWithin}
-use Rattle.crs_normal.specs.SpelledConversions.{item_parameter, norm_parameter, set_parameters}
-use Rattle.crs_normal.specs.SpelledItems.{each, node_of, number_item, opt, text_item}
-use Rattle.crs_normal.specs.SpelledUnits.{item_ident, item_unit, norm_units}
 use Rattle.crs_normal.specs.TextLaws.{TextLaws}
 use Rattle.crs_normal.proofs.members.IdentLemmas.{idents-agree, text-fit, writable}
 use Rattle.crs_normal.proofs.texts.ItemLemmas.{fit-node, fit-number, fit-opt, told}

@@ -8,8 +8,7 @@ use Rattle.std.proofs.lemmas.Cmp.{nat_list_cmp_total}
 use Rattle.std.proofs.lemmas.Map.Lookups.{exact_bytes}
 use Rattle.crs_value.specs.Sound.{Each}
 use Rattle.crs_matching.specs.Prelude.{HasSame, AllHaveSame, SameSet}
-use Rattle.crs_normal.specs.Ascending.{Ascends, Below, IsIn}
-use Rattle.crs_normal.specs.Ordered.{put, put_all, in_order}
+use Rattle.crs_normal.specs.Prelude.{Ascends, Below, IsIn, put, put_all, in_order}
 use Rattle.crs_normal.proofs.read.ViewLemmas.{each-so}
 
 -- ---- the order of bytes

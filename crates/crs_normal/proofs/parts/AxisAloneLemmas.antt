@@ -11,9 +11,7 @@ use Rattle.crs_normal.specs.AxisAlone.{AreNormalArguments, IsNormalArgument, IsN
 use Rattle.crs_normal.specs.WithoutPlaces.{without_places}
 use Rattle.crs_normal.specs.Normal.{IsNormalIn}
 use Rattle.crs_value.specs.Sound.{Each}
-use Rattle.crs_normal.specs.PartTexts.{norm_axis_alone}
-use Rattle.crs_normal.specs.SpelledSystems.{item_axis}
-use Rattle.crs_normal.specs.SpelledUnits.{item_unit, norm_unit}
+use Rattle.crs_normal.specs.Prelude.{norm_axis_alone, item_axis, item_unit, norm_unit}
 use Rattle.crs_normal.proofs.normal.AxisLemmas.{axis_meridian-form, direction-form, opt-meridians}
 use Rattle.crs_normal.proofs.normal.FormLemmas.{IsGood, node-spelled, one-spelled, optional-spelled, optional-by}
 use Rattle.crs_normal.proofs.normal.LeafLemmas.{PlainIsOne, number-node-form, text-form}

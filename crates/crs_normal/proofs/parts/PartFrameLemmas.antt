@@ -8,12 +8,11 @@ use Rattle.crs_value.specs.declared.values.frame.Frame.{Frame}
 use Rattle.crs_value.specs.declared.values.frame.Frame.TheVariants as frame
 use Rattle.crs_value.specs.declared.values.level.Level.{Level}
 use Rattle.crs_same.specs.Prelude.{AreSame, parts_of_datum, parts_of_ensemble, parts_of_frame}
-use Rattle.crs_normal.specs.WrittenForm.{IsWrittenForm}
+use Rattle.crs_normal.specs.Prelude.{IsWrittenForm, item_datum, item_ensemble, item_frame, norm_datum, norm_ellipsoid, norm_ensemble, norm_frame}
 use Rattle.crs_normal.specs.AcceptedNormal.{IsAcceptedNormal, geodetic_frame_class, vertical_frame_class}
 use Rattle.crs_normal.specs.OneForm.{IsItsForm, IsItsFormUnbroken}
 use Rattle.crs_normal.specs.PartSpellings.{IsFrame, IsSpelledDatum, IsSpelledEnsemble, IsSpelledFrame, datum_class, ensemble_class}
 use Rattle.crs_normal.specs.PartTexts.{datum_keyword, datum_text, ensemble_text, frame_text, item_own_datum}
-use Rattle.crs_normal.specs.SpelledFrames.{item_datum, item_ensemble, item_frame, norm_datum, norm_ellipsoid, norm_ensemble, norm_frame}
 use Rattle.crs_normal.specs.TextLaws.{TextLaws}
 use Rattle.crs_normal.proofs.parts.PartLemmas.{IsItsFormSound}
 use Rattle.crs_normal.proofs.read.DatumLemmas.{ellipsoid-in, geodetic-back, vertical-back}

@@ -5,8 +5,7 @@ use Rattle.crs_text.specs.Prelude.{Item, depth, SpellsNode, AreFormed, at_place,
 use Rattle.crs_shape.specs.declared.class.Class.{Class}
 use Rattle.crs_value.specs.Prelude.{IsSound, IsReadAs, IsReadOnce}
 use Rattle.crs_value.specs.declared.values.level.Level.{Level}
-use Rattle.crs_normal.specs.WrittenForm.{IsWrittenForm}
-use Rattle.crs_normal.specs.Closed.{IsClosed}
+use Rattle.crs_normal.specs.Prelude.{IsWrittenForm, IsClosed}
 use Rattle.crs_normal.specs.Decides.{FormDecides}
 use Rattle.crs_normal.specs.WithoutPlaces.{without_places}
 use Rattle.crs_normal.specs.AcceptedNormal.{IsAcceptedNormal}

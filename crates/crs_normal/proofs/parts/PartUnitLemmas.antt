@@ -10,8 +10,7 @@ use Rattle.crs_value.specs.declared.values.level.Level.{Level}
 use Rattle.crs_matching.specs.Prelude.{kind_as}
 use Rattle.crs_normal.specs.AcceptedNormal.{IsKindIn}
 use Rattle.crs_normal.specs.OneForm.{IsItsForm}
-use Rattle.crs_normal.specs.PartSpellings.{unit_class}
-use Rattle.crs_normal.specs.SpelledUnits.{item_unit, norm_unit}
+use Rattle.crs_normal.specs.Prelude.{unit_class, item_unit, norm_unit}
 
 pub kind-in : (kind : UnitKind) → IsKindIn (unit_class kind) (kind_as kinds.Plain kind)
 kind-in kinds.Length = refl

@@ -7,11 +7,7 @@ use Rattle.crs_value.specs.Prelude.{ConversionParts, GeoidModelParts, MethodPart
 use Rattle.crs_value.specs.declared.values.level.Level.{Level}
 use Rattle.crs_value.specs.Sound.{Each}
 use Rattle.crs_matching.specs.Prelude.{usages_of}
-use Rattle.crs_normal.specs.SpelledConversions.{item_conversion, item_geoid_model, item_method, item_parameter, norm_conversion, norm_geoid_model, norm_method, norm_parameter, set_geoid_models, set_parameters}
-use Rattle.crs_normal.specs.SpelledItems.{text_node}
-use Rattle.crs_normal.specs.SpelledSystems.{axes_from, item_axis, item_head, norm_system}
-use Rattle.crs_normal.specs.SpelledUnits.{item_ident, item_unit, set_idents}
-use Rattle.crs_normal.specs.SpelledUsages.{item_usage, norm_tail, set_usages}
+use Rattle.crs_normal.specs.Prelude.{item_conversion, item_geoid_model, item_method, item_parameter, norm_conversion, norm_geoid_model, norm_method, norm_parameter, set_geoid_models, set_parameters, text_node, axes_from, item_axis, item_head, norm_system, item_ident, item_unit, set_idents, item_usage, norm_tail, set_usages}
 use Rattle.crs_normal.specs.TextLaws.{TextLaws}
 use Rattle.crs_normal.proofs.made.BehindLemmas.{NamesSystem}
 use Rattle.crs_normal.proofs.made.TailLemmas.{NamesTail, usages-sound}

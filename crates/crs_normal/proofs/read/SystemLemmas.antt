@@ -14,10 +14,8 @@ use Rattle.crs_value.specs.declared.values.level.Level.{Level}
 use Rattle.crs_value.specs.Prelude.{ReadsAxis, ReadsAxisMeridian, ReadsHead, IsAxis, IsAxisMeridian, IsAxisUnit, IsIdent, IsSystem, AxisMeridianParts, AxisParts, SystemParts, UnitParts}
 use Rattle.crs_value.specs.Sound.{Each}
 use Rattle.crs_matching.specs.Prelude.{own_or, kind_as}
-use Rattle.crs_normal.specs.PartTexts.{norm_axis_alone}
-use Rattle.crs_normal.specs.SpelledItems.{number_node}
+use Rattle.crs_normal.specs.Prelude.{norm_axis_alone, number_node, item_unit, norm_unit, norm_units, whole_value}
 use Rattle.crs_normal.specs.SpelledSystems.{axes_from, axis_at, item_axis, item_axis_meridian, item_head, norm_axis, norm_axis_meridian, norm_axis_meridians, norm_system, with_axis}
-use Rattle.crs_normal.specs.SpelledUnits.{item_unit, norm_unit, norm_units, whole_value}
 use Rattle.crs_normal.specs.TextLaws.{TextLaws}
 use Rattle.crs_normal.proofs.members.MemberUnitLemmas.{identifiers-back, identifiers-of, number-read, unit-in, unit-kept, unit-read}
 use Rattle.crs_normal.proofs.read.FrameLemmas.{angle-kept, identifiers, identifiers-field}

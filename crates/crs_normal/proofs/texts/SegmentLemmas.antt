@@ -10,8 +10,7 @@ use Rattle.crs_shape.specs.declared.class.Class.TheVariants as class
 use Rattle.crs_shape.specs.Prelude.{class_in, is_class}
 use Rattle.crs_value.specs.Prelude.{those, ReadsEach, ReadsFirst, ReadsIfAny, ReadsOptional, ReadsTextOf}
 use Rattle.crs_value.specs.Reading.{Each}
-use Rattle.crs_normal.specs.Ordered.{in_order}
-use Rattle.crs_normal.specs.SpelledItems.{each, number_item, opt, text_item, text_node, word_item}
+use Rattle.crs_normal.specs.Prelude.{in_order, each, number_item, opt, text_item, text_node, word_item}
 use Rattle.crs_normal.proofs.made.PlaceLemmas.{ArePlaced, those-placed}
 use Rattle.crs_normal.proofs.members.SetLemmas.{each-in_order}
 use Rattle.crs_normal.proofs.read.ViewLemmas.{each-so, onto as line}
