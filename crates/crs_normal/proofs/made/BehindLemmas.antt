@@ -71,7 +71,6 @@ pub axes-argument : DecimalLaws → (level : Level) (most : ℕ) (c : Class) (s 
 axes-argument l level most c s deep n h =
     let all = all-axes l level s h in
     let e : length (axes_from level s 1 (length s.axes)) ≡ length s.axes = all.1 in
-    let f : length s.axes ≤ 3 = h.few in
     axes-made l level s most c 1 (axes_from level s 1 (length s.axes)) deep n.axis all.0 (omega arith) (omega arith)
 
 pub axes-some : DecimalLaws → (level : Level) (s : SystemParts) → IsFew s → axis_items level s ≢ []
@@ -128,7 +127,6 @@ system-of l level s (x ∷ []) axes units h p q none =
     let e : length (axes_from level s 1 (length s.axes)) ≡ length s.axes = all.1 in
     let n : length axes ≡ length s.axes =
     placed-length axes (axis_items level s) q ∙ length-map (axes_from level s 1 (length s.axes)) item_axis ∙ e in
-    let f : length s.axes ≤ 3 = h.few in
     record {
       head = x;
       is_head = subst (IsHeadItem s.system_type s.dimension) (sym p.0.1) (head-seen l level s h.system p.0.0);

@@ -128,20 +128,12 @@ no-bad-orders : DecimalLaws → (t : SystemType) (n k : ℕ) (before axes : List
     1 ≤ k → k + length axes ≤ n + 1 → n ≤ 3 → ¬ (BadOrders n before axes fault)
 no-bad-orders l t n k before [] fault h g low high few b = b
 no-bad-orders l t n k before (x ∷ axes) fault h g low high few (inl b) =
-    let top : k ≤ n = omega arith in
-    no-wrong-order l n k before (orders_in x) fault low top few g h.0.orders b
+    no-wrong-order l n k before (orders_in x) fault low (omega arith) few g h.0.orders b
 no-bad-orders l t n k before (x ∷ axes) fault h g low high few (inr b) =
-    let low_next : 1 ≤ k + 1 = omega arith in
-    let high_next : (k + 1) + length axes ≤ n + 1 = omega arith in
-    let this : k < k + 1 = omega arith in
     no-bad-orders l t n (k + 1) (before ++ x ∷ []) axes fault h.1
-    (and-this (IsBefore (k + 1)) before x (all-before k before g) (record {
-      order = k;
-      low = low;
-      below = this;
-      orders = h.0.orders;
-    }))
-    low_next high_next few b
+    (and-this (IsBefore (k + 1)) before x (all-before k before g)
+    (record { order = k; low = low; below = omega arith; orders = h.0.orders }))
+    (omega arith) (omega arith) few b
 
 no-bad-order : DecimalLaws → (t : SystemType) (axes : List Item) (fault : RefusedAt) → AreAxisItems t 1 axes →
     length axes ≤ 3 → ¬ (BadOrder axes fault)

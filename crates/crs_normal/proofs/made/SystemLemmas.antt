@@ -111,9 +111,7 @@ module _ (l : DecimalLaws) (level : Level) (s : SystemParts) (h : IsFew s) where
   axes-are zero k low high = (tt, refl)
   axes-are (suc m) k low high =
       let f = axis-found k low (omega arith) in
-      let low_next : 1 ≤ k + 1 = omega arith in
-      let high_next : (k + 1) + m ≤ length s.axes + 1 = omega arith in
-      let rest = axes-are m (k + 1) low_next high_next in
+      let rest = axes-are m (k + 1) (omega arith) (omega arith) in
       rw f.1.1 (((f.0, (f.1.0, refl)), rest.0), ap suc rest.1)
 
   -- all of them, as many as there are positions
@@ -127,14 +125,11 @@ pub axes-made : DecimalLaws → (level : Level) (s : SystemParts) (most : ℕ) (
     Each (Made level most parent class.Axis) (map item_axis rest)
 unfolding norm_axis
 axes-made l level s most parent k [] deep named h low high = tt
-axes-made l level s most parent k (a ∷ rest) deep named h low high =
-    let low_next : 1 ≤ k + 1 = omega arith in
-    let high_next : (k + 1) + length rest ≤ 4 = omega arith in
-    let small : k ≤ 3 = omega arith in (
-      subst (λ b. Made level most parent class.Axis (item_axis b)) (sym h.0.1.1)
-          (as-argument deep named (axis-made l level s k h.0.0 h.0.1.0 low small)),
-      axes-made l level s most parent (k + 1) rest deep named h.1 low_next high_next,
-    )
+axes-made l level s most parent k (a ∷ rest) deep named h low high = (
+  subst (λ b. Made level most parent class.Axis (item_axis b)) (sym h.0.1.1)
+      (as-argument deep named (axis-made l level s k h.0.0 h.0.1.0 low (omega arith))),
+  axes-made l level s most parent (k + 1) rest deep named h.1 (omega arith) (omega arith),
+)
 
 -- these items are axes with the orders from k on
 abbrev pub AreAxisItems : SystemType → ℕ → List Item → Type 0
@@ -147,14 +142,11 @@ pub axes-seen : DecimalLaws → (level : Level) (s : SystemParts) (k : ℕ) (ite
 axes-seen l level s k [] [] p h low high = tt
 axes-seen l level s k [] (a ∷ rest) p h low high = tt
 axes-seen l level s k (item ∷ items) [] p h low high = absurd p
-axes-seen l level s k (item ∷ items) (a ∷ rest) p h low high =
-    let low_next : 1 ≤ k + 1 = omega arith in
-    let high_next : (k + 1) + length rest ≤ 4 = omega arith in
-    let small : k ≤ 3 = omega arith in (
-      subst (IsAxisItem s.system_type k) (sym (p.0.1 ∙ ap (λ b. at_place p.0.0 (item_axis b)) h.0.1.1))
-          (axis-seen l level s k h.0.0 h.0.1.0 low small p.0.0),
-      axes-seen l level s (k + 1) items rest p.1 h.1 low_next high_next,
-    )
+axes-seen l level s k (item ∷ items) (a ∷ rest) p h low high = (
+  subst (IsAxisItem s.system_type k) (sym (p.0.1 ∙ ap (λ b. at_place p.0.0 (item_axis b)) h.0.1.1))
+      (axis-seen l level s k h.0.0 h.0.1.0 low (omega arith) p.0.0),
+  axes-seen l level s (k + 1) items rest p.1 h.1 (omega arith) (omega arith),
+)
 
 -- ---- the node `CS`
 
