@@ -70,7 +70,6 @@ pub axes-argument : DecimalLaws → (level : Level) (most : ℕ) (c : Class) (s 
     Each (Made level most c class.Axis) (axis_items level s)
 axes-argument l level most c s deep n h =
     let all = all-axes l level s h in
-    let e : length (axes_from level s 1 (length s.axes)) ≡ length s.axes = all.1 in
     axes-made l level s most c 1 (axes_from level s 1 (length s.axes)) deep n.axis all.0 (omega arith) (omega arith)
 
 pub axes-some : DecimalLaws → (level : Level) (s : SystemParts) → IsFew s → axis_items level s ≢ []

@@ -88,7 +88,6 @@ record IsBefore (k : ℕ) (item : Item) : Type 0 where
 all-before : (k : ℕ) (items : List Item) → Each (IsBefore k) items → Each (IsBefore (k + 1)) items
 all-before k =
     each-so (IsBefore k) (IsBefore (k + 1)) (λ x b.
-    let below : b.order < k = b.below in
     record { order = b.order; low = b.low; below = omega arith; orders = b.orders })
 
 and-this : (P : Item → Type 0) (items : List Item) (x : Item) → Each P items → P x → Each P (items ++ x ∷ [])
@@ -99,11 +98,8 @@ none-has : DecimalLaws → (k : ℕ) (before : List Item) → k ≤ 3 → Each (
     ¬ (OneHas (whole_value k) before)
 none-has l k [] high h b = b
 none-has l k (x ∷ before) high h (inl b) =
-    let low : 1 ≤ h.0.order = h.0.low in
-    let below : h.0.order < k = h.0.below in
-    let small : h.0.order ≤ 3 = omega arith in
     let e : whole_value k ≡ whole_value h.0.order =
-    first-order l (whole_value h.0.order) (whole_value k) (orders_in x) (whole-normal h.0.order low small) h.0.orders
+    first-order l (whole_value h.0.order) (whole_value k) (orders_in x) (whole-normal h.0.order h.0.low (omega arith)) h.0.orders
     b in
     let f : k ≡ h.0.order = ap (λ v. v.digits) e in
     absurd (omega arith)

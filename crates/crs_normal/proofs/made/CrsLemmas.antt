@@ -21,8 +21,7 @@ use Rattle.crs_normal.proofs.texts.AcceptedLemmas.{made-stands}
 
 deeper : {level : Level} {c : Class} {n : ℕ} {item : Item} → n ≤ 8 → IsAcceptedNormal level c n item →
     IsAcceptedNormal level c 8 item
-deeper {n = n} {item = item} h m =
-    let w : depth item ≤ n = m.within in
+deeper h m =
     record {
       is_node = m.is_node;
       formed = m.formed;

@@ -56,8 +56,7 @@ pub record IsFine (N : Item → Type 0) (most : ℕ) (c : Class) (item : Item) :
 
 pub fine-as : {M N : Item → Type 0} {m n : ℕ} {c : Class} {item : Item} → m ≤ n → (M item → N item) →
     IsFine M m c item → IsFine N n c item
-fine-as {m = m} {item = item} h f x =
-    let w : depth item ≤ m = x.within in
+fine-as h f x =
     record { formed = x.formed; within = omega arith; shaped = x.shaped; unbroken = x.unbroken; normal = f x.normal }
 
 -- such a node
@@ -118,8 +117,6 @@ standing-line N most c d (j ∷ js) ds rest s h more =
     let f = h.0.fine (s + 1) in
     let n : class_in c i ≡ Some d = class-at c (s + 1) j ∙ h.0.named in
     let others = standing-line N most c d js ds rest (s + 1 + length (item_text j)) h.1 more in
-    let high : depth i ≤ most = f.within in
-    let deep : depths (at_places (s + 1 + length (item_text j)) (line js rest)) ≤ most = others.within in
     record {
       formed = (f.formed, others.formed);
       within = omega arith;
@@ -196,7 +193,6 @@ module _ (N : Class → Class → Item → Type 0) (most : ℕ) (c : Class) (key
       Stands (λ i. AreNormalBy N c (arguments i)) c (suc most) (at_place p (node_of keyword first others))
   stands-at [] p q a = absurd a.shaped
   stands-at (d ∷ ds) p q a =
-      let deep : depths (at_places (p + length keyword) (More first others)) ≤ most = a.within in
       let look = sees-by N most c keyword first others runs p same made in (
         tt,
         record {

@@ -17,7 +17,7 @@ rise-lower c m n (More item items) h r = by (class_in c item) r
     by : (o : Option Class) → AtClass o (λ d. (n ≤ rank d) × Rise c (rank d) items) →
         AtClass o (λ d. (m ≤ rank d) × Rise c (rank d) items)
     by None q = q
-    by (Some d) q = let k : n ≤ rank d = q.0 in (omega arith, q.1)
+    by (Some d) q = (omega arith, q.1)
 
 rise-line : (N : Class → Class → Item → Type 0) (most : ℕ) (c d : Class) (js : List Item) (rest : Siblings)
     (least s : ℕ) →

@@ -100,7 +100,6 @@ module _ (l : DecimalLaws) (level : Level) (s : SystemParts) (h : IsFew s) where
   axis-found : (k : ℕ) → 1 ≤ k → k ≤ length s.axes →
       (x : AxisParts) × (Fits s.system_type s.unit x × (axis_at k 1 s.axes ≡ Some x))
   axis-found k low high =
-      let few : length s.axes ≤ 3 = h.few in
       let all = fits s.system_type s.axes s.unit h.system.axes h.system.unit h.system.units in
       let f = found l k 1 s.axes (whole-normal k low (omega arith)) h.system.axes (h.each_at k low high) in
       let fit = subst (λ o. IfSome o (Fits s.system_type s.unit)) f.1 (at-all (Fits s.system_type s.unit) k 1 s.axes all) in

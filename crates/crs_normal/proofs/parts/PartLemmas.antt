@@ -54,7 +54,6 @@ pub record IsKnownBy {V : Type 0} (c : V → Class) (N : V → Item → Type 0) 
 -- the text of an item, which doesn't depend on the place
 writable-at : (c : Class) (N : Item → Type 0) (i : Item) → IsStanding c N (at_place 0 i) → IsWritable (at_place 0 i)
 writable-at c N i m =
-    let w : depth (at_place 0 i) ≤ 8 = m.1.within in
     record { formed = m.1.formed; is_node = m.0; within = omega arith }
 
 -- equal texts are of equal values, where all are read as items of one class

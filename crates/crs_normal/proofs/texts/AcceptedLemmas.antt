@@ -43,7 +43,6 @@ written-at written item w =
 pub made-stands : WrittenSpells → {level : Level} {c : Class} (item : Item) →
     IsAcceptedNormal level c 8 (at_place 0 item) → SpellsNode (item_text item) (at_place 0 item)
 made-stands written item made =
-    let w : depth (at_place 0 item) ≤ 8 = made.within in
     written-at written item (record { formed = made.formed; is_node = made.is_node; within = omega arith })
 
 pub form-spells : NoFaultIsShape → WrittenSpells → (level : Level) (c : Crs) →
