@@ -78,13 +78,6 @@ module _ {N : Class → Class → Item → Type 0} {most : ℕ} {parent : Class}
       few = None;
     }
 
-    abbrev pub any-of : (xs : List A) → Each (MadeBy N most parent of) (map spell xs) → ArgumentBy N most parent
-    any-of xs = each-of xs None
-
-    abbrev pub some-of : (xs : List A) → map spell xs ≢ [] → Each (MadeBy N most parent of) (map spell xs) →
-        ArgumentBy N most parent
-    some-of xs some = each-of xs (Some some)
-
 module _ {level : Level} {most : ℕ} {parent : Class} where
   -- a node that is made as an argument
   abbrev pub node-of : {n : ℕ} {of : Class} (j : Item) → n ≤ most → class_in parent j ≡ Some of →

@@ -59,7 +59,7 @@ vertical-in direction.Up = inl refl
 vertical-in direction.Down = inl refl
 vertical-in other = inr refl
 
-asked-in : (t : SystemType) (d : Direction) → IsKindIn class.AxisUnit (asked_kind t d)
+pub asked-in : (t : SystemType) (d : Direction) → IsKindIn class.AxisUnit (asked_kind t d)
 asked-in types.Cartesian d = inl refl
 asked-in types.Ellipsoidal d = vertical-in d
 asked-in types.Spherical d = vertical-in d

@@ -20,7 +20,7 @@ use Rattle.crs_normal.proofs.made.NodeLemmas.{Made, Run, alone, items_in}
 use Rattle.crs_normal.proofs.made.PlaceLemmas.{ArePlaced}
 use Rattle.crs_normal.proofs.made.SystemLemmas.{HasEach, IsHeadItem, all-axes, axes-made, axes-seen, head-made, head-seen, IsFew}
 use Rattle.crs_normal.proofs.made.TailLemmas.{NamesTail, IsTailSeen, tail_runs}
-use Rattle.crs_normal.proofs.made.ArgumentLemmas.{Argument, some-of, node-of}
+use Rattle.crs_normal.proofs.made.ArgumentLemmas.{each-of, Argument, node-of}
 use Rattle.crs_normal.proofs.texts.SegmentLemmas.{placed-none}
 use Rattle.crs_normal.proofs.normal.DimensionLemmas.{few-axes}
 use Rattle.crs_normal.proofs.read.NameLemmas.{keyword-names}
@@ -85,7 +85,7 @@ abbrev pub behind_arguments : DecimalLaws → (level : Level) (most : ℕ) (c : 
 behind_arguments l level most c s rest deep n h =
     node-of (item_head (norm_system level s)) (three-of most deep) n.head
     (head-made l level s h.system) ∷
-    some-of class.Axis item_axis (axes_from level s 1 (length s.axes)) (axes-some l level s h)
+    each-of class.Axis item_axis (axes_from level s 1 (length s.axes)) (Some (axes-some l level s h))
     (axes-argument l level most c s deep n h) ∷ rest
 
 -- ---- what the checks see

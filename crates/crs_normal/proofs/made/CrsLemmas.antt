@@ -1,6 +1,6 @@
 -- All CRSs are made, and their texts are normal.
 use Rattle.std.proofs.Common.{ℕ, ◌≤◌, sym, arith}
-use Rattle.crs_text.specs.Prelude.{Item, depth, WrittenSpells, at_place, item_text}
+use Rattle.crs_text.specs.Prelude.{Item, WrittenSpells, at_place, item_text}
 use Rattle.crs_shape.specs.declared.class.Class.{Class}
 use Rattle.crs_value.specs.declared.values.crs.Crs.{Crs}
 use Rattle.crs_value.specs.declared.values.crs.Crs.TheVariants as crs

@@ -16,7 +16,7 @@ use Rattle.crs_normal.specs.Prelude.{in_order, code_item, text_item, text_node, 
 use Rattle.crs_normal.proofs.made.AscendLemmas.{set-ascends}
 use Rattle.crs_normal.proofs.read.ViewLemmas.{each-so}
 use Rattle.crs_normal.proofs.members.SetLemmas.{each-in_order}
-use Rattle.crs_normal.proofs.made.ArgumentLemmas.{Argument, any-of, made-of, may-of, may-text, one-of, text-of}
+use Rattle.crs_normal.proofs.made.ArgumentLemmas.{each-of, Argument, made-of, may-of, may-text, one-of, text-of}
 use Rattle.crs_normal.proofs.made.LeafLemmas.{IsCodeKind, code-kind, code-made, code_kind}
 use Rattle.crs_normal.proofs.made.NodeLemmas.{IsOrderly, Made, Run, alone, as-argument, given, line, none-orderly, IsFree}
 use Rattle.crs_normal.proofs.texts.SegmentLemmas.{each-map}
@@ -116,7 +116,7 @@ abbrev pub ids-of : {level : Level} {most : ℕ} {parent : Class} → DecimalLaw
     2 ≤ most → class_named parent (codes "ID") ≡ Some class.Identifier → Each IsIdent identifiers →
     Argument level most parent
 ids-of {level = level} {most = most} {parent = parent} l identifiers deep named h =
-    any-of class.Identifier item_ident (set_idents level identifiers)
+    each-of class.Identifier item_ident (set_idents level identifiers) None
     (identifiers-made l level most parent identifiers deep named h)
 
 -- nothing after them is one

@@ -1,5 +1,5 @@
 -- Single items that are made: texts, numbers, words and codes.
-use Rattle.std.proofs.Common.{◌≡◌, ℕ, ◌≤◌, ◌<◌, ◌&&◌, Bool, true, false, IsTrue, List, length, if◌then◌else◌, refl, sym, ◌∙◌, arith, nat_le}
+use Rattle.std.proofs.Common.{◌≡◌, ℕ, ◌&&◌, Bool, true, false, IsTrue, List, length, if◌then◌else◌, refl, sym, ◌∙◌, arith, nat_le}
 use Rattle.std.specs.List.{list_all}
 use Rattle.std.proofs.lemmas.Bool.{le-leb, leb-true, and_parts}
 use Rattle.crs_decimal.specs.Prelude.{Denotes, IsInBounds, IsPlain, plain, is_digit, Value, IsNormal, exact}
@@ -76,8 +76,7 @@ code-kind raw h = by (is_short raw) refl
 
 code-single : DecimalLaws → (kind : Kind) (raw : List ℕ) → IsCodeKind kind raw → IsSingle kind raw
 code-single l number raw h =
-    let s : 0 < length raw = let k : 1 ≤ length raw = h.some in omega arith in
-    let b : IsInBounds raw = l.digits_alone raw h.digits s h.few in
+    let b : IsInBounds raw = l.digits_alone raw h.digits h.some h.few in
     run-single raw (l.as_run raw (b.0, b.1)) b
 code-single l text raw h = h.1
 code-single l word raw h = absurd h

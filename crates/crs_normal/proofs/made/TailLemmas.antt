@@ -18,7 +18,7 @@ use Rattle.crs_normal.proofs.made.IdentLemmas.{identifiers-ascend, identifiers-l
 use Rattle.crs_normal.proofs.made.NodeLemmas.{IsOrderly, Made, Run, as-argument, given}
 use Rattle.crs_normal.proofs.made.UsageLemmas.{usage-made, usage-named}
 use Rattle.crs_normal.proofs.read.ViewLemmas.{each-so}
-use Rattle.crs_normal.proofs.made.ArgumentLemmas.{Argument, any-of, may-of, a-text}
+use Rattle.crs_normal.proofs.made.ArgumentLemmas.{each-of, Argument, may-of, a-text}
 use Rattle.crs_normal.proofs.texts.SegmentLemmas.{some-imp}
 use Rattle.crs_normal.proofs.read.NameLemmas.{keyword-names}
 
@@ -85,7 +85,7 @@ remarks-made level most c t deep n h =
 abbrev pub tail_arguments : DecimalLaws → (level : Level) (most : ℕ) (c : Class) (t : TailParts) → 5 ≤ most →
     NamesTail c → IsTail t → List (Argument level most c)
 tail_arguments l level most c t deep n h =
-    any-of class.Usage item_usage (set_usages level (usages_of t))
+    each-of class.Usage item_usage (set_usages level (usages_of t)) None
     (usages-made l level most c (usages_of t) deep n.usage (usages-sound t h)) ∷
     ids-of l t.identifiers (two-of most deep) n.ident h.identifiers ∷
     may-of class.Remark (text_node (codes "REMARK")) (kept_one level t.remark) (remarks-made level most c t deep n h) ∷ []

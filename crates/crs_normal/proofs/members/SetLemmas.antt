@@ -81,7 +81,7 @@ module _ {A : Type 0} (bytes : A → List ℕ) where
   all-ascend sorted [] h = h
   all-ascend sorted (x ∷ xs) h = all-ascend (put bytes x sorted) xs (put-ascends x sorted h)
 
-  all-old : (z : A) (sorted xs : List A) → IsIn z sorted → IsIn z (put_all bytes sorted xs)
+  pub all-old : (z : A) (sorted xs : List A) → IsIn z sorted → IsIn z (put_all bytes sorted xs)
   all-old z sorted [] h = h
   all-old z sorted (x ∷ xs) h = all-old z (put bytes x sorted) xs (has-old x z sorted h)
 

@@ -54,8 +54,7 @@ from-fit : (n : ℕ) (keyword : List ℕ) (items : Siblings) → IsWord keyword 
     IsFormedWithin (suc n) (node_from keyword items)
 from-fit n keyword End w g = (w, omega arith)
 from-fit n keyword (More first others) w g =
-    let l = g.within in
-    fit-node keyword first w (g.formed.0, omega (arith, l)) (record { formed = g.formed.1; within = omega (arith, l) })
+    fit-node keyword first w (g.formed.0, omega arith) (record { formed = g.formed.1; within = omega arith })
 
 pub usage-fit : TextLaws → (u : UsageParts) → IsWrittenUsage u → IsFormedWithin 5 (item_usage u)
 usage-fit laws u s =

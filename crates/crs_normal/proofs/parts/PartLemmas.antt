@@ -1,7 +1,7 @@
 -- Values of one kind: from the laws of their one form and its item, what their spellings have in
 -- common.
 use Rattle.std.proofs.Common.{◌≡◌, ◌↔◌, ◌≤◌, ◌∙◌, ℕ, Some, List, sym, ap, subst, arith}
-use Rattle.crs_text.specs.Prelude.{Item, depth, SpellsNode, AreFormed, at_place, item_text}
+use Rattle.crs_text.specs.Prelude.{Item, SpellsNode, AreFormed, at_place, item_text}
 use Rattle.crs_shape.specs.declared.class.Class.{Class}
 use Rattle.crs_value.specs.Prelude.{IsSound, IsReadAs, IsReadOnce}
 use Rattle.crs_value.specs.declared.values.level.Level.{Level}

@@ -1,13 +1,11 @@
 -- Axes in their one form are read back from their items, and so are the nodes of coordinate systems.
-use Rattle.std.proofs.Common.{◌≡◌, ◌≢◌, ℕ, suc, zero, ◌+◌, codes, IfSome, Option, Some, None, List, [], ◌∷◌, refl, ◌≤◌, arith}
+use Rattle.std.proofs.Common.{◌≡◌, ◌≢◌, ℕ, suc, zero, ◌+◌, codes, IfSome, Option, Some, None, List, [], ◌∷◌, refl, ◌≤◌, arith, inl, inr}
 use Rattle.crs_decimal.specs.Prelude.{IsNormal}
 use Rattle.crs_text.specs.Prelude.{at_place}
 use Rattle.crs_shape.specs.declared.class.Class.TheVariants as class
-use Rattle.crs_shape.specs.Prelude.{asked_kind, kind_by_direction, direction_word, system_word}
+use Rattle.crs_shape.specs.Prelude.{asked_kind, direction_word, system_word}
 use Rattle.crs_shape.specs.declared.direction.Direction.{Direction}
-use Rattle.crs_shape.specs.declared.direction.Direction.TheVariants as direction
 use Rattle.crs_shape.specs.declared.system_type.SystemType.{SystemType}
-use Rattle.crs_shape.specs.declared.system_type.SystemType.TheVariants as types
 use Rattle.crs_shape.specs.declared.unit_kind.UnitKind.{UnitKind}
 use Rattle.crs_shape.specs.declared.unit_kind.UnitKind.TheVariants as kinds
 use Rattle.crs_value.specs.declared.values.level.Level.{Level}
@@ -22,8 +20,9 @@ use Rattle.crs_normal.proofs.read.FrameLemmas.{angle-kept, identifiers, identifi
 use Rattle.crs_normal.proofs.texts.SegmentLemmas.{IsIn, ReadsBack, a-number, a-text, a-word, if-any, may-be, one-field, one-item, opt-field, seen, some-imp}
 use Rattle.crs_normal.proofs.read.NameLemmas.{keyword-names}
 use Rattle.crs_normal.proofs.made.IdentLemmas.{idents-sound}
-use Rattle.crs_normal.proofs.made.AxisLemmas.{whole-normal}
+use Rattle.crs_normal.proofs.made.AxisLemmas.{whole-normal, asked-in}
 use Rattle.crs_normal.proofs.made.SystemLemmas.{at-all}
+use Rattle.crs_normal.specs.AcceptedNormal.{IsKindIn}
 
 -- ---- the meridian of an axis
 
@@ -47,15 +46,12 @@ axis-meridians-read laws level (Some m) s = axis-meridian-read laws level m s
 
 -- ---- the unit of an axis
 
-vertical-no-scale : (d : Direction) → kind_by_direction d ≢ kinds.Scale
-vertical-no-scale direction.North e = cc
-vertical-no-scale other e = cc
-
 asked-no-scale : (t : SystemType) (d : Direction) → asked_kind t d ≢ kinds.Scale
-asked-no-scale types.Cartesian d e = cc
-asked-no-scale types.Vertical d e = cc
-asked-no-scale types.Ellipsoidal d e = vertical-no-scale d e
-asked-no-scale types.Spherical d e = vertical-no-scale d e
+asked-no-scale t d e = by (asked-in t d)
+  where
+    by : IsKindIn class.AxisUnit (asked_kind t d) → ⊥
+    by (inl p) = cc
+    by (inr p) = cc
 
 as-no-scale : (asked k : UnitKind) → asked ≢ kinds.Scale → k ≢ kinds.Scale → kind_as asked k ≢ kinds.Scale
 as-no-scale asked kinds.Plain a n e = a e

@@ -85,8 +85,8 @@ view-of c (slot ∷ slots) (run ∷ runs) items fit shaped =
     front : (fills : Fills slot run) (r : Run c slot run (joined runs) items) → Front c slot r.front
     front fills r = record {
       inside = r.inside;
-      enough = λ e. let h = fills.enough e in let m = r.many in omega arith;
-      not_more = λ e. let h = fills.not_more e in let m = r.many in omega arith;
+      enough = λ e. let h = fills.enough e in omega arith;
+      not_more = λ e. let h = fills.not_more e in omega arith;
     }
 
 pub view : (c : Class) (classes : List Class) (items : Siblings) → Allowed (slots_of c) classes →

@@ -1,6 +1,6 @@
 -- The written form of a CRS is an accepted text, which spells the CRS's one form.
-use Rattle.std.proofs.Common.{◌≡◌, ◌↔◌, ◌≤◌, ◌∙◌, ℕ, Some, None, sym, subst, arith, inl, inr}
-use Rattle.crs_text.specs.Prelude.{Item, depth, RefusedAt, SpellsNode, WrittenSpells, at_place, item_text}
+use Rattle.std.proofs.Common.{◌≡◌, ◌↔◌, ◌∙◌, ℕ, Some, None, sym, subst, arith, inl, inr}
+use Rattle.crs_text.specs.Prelude.{Item, RefusedAt, SpellsNode, WrittenSpells, at_place, item_text}
 use Rattle.crs_shape.specs.declared.class.Class.{Class}
 use Rattle.crs_shape.specs.Prelude.{AtRoot, Inside, IsFree, class_of_root, Shaped}
 use Rattle.crs_value.specs.declared.values.crs.Crs.{Crs}

@@ -19,14 +19,14 @@ pub fit-end : {n : ℕ} → AreFit n End
 fit-end = record { formed = tt; within = omega arith }
 
 pub fit-more : {n : ℕ} {items : Siblings} (item : Item) → IsFormedWithin n item → AreFit n items → AreFit n (More item items)
-fit-more item f g = let l = g.within in record { formed = (f.0, g.formed); within = omega (arith, f.1, l) }
+fit-more item f g = record { formed = (f.0, g.formed); within = omega (arith, f.1) }
 
 pub fit-leaf : (n : ℕ) (kind : Kind) (place : ℕ) (raw : List ℕ) → IsSingle kind raw → IsFormedWithin n (leaf kind place raw)
 fit-leaf n kind place raw f = (f, omega arith)
 
 pub fit-node : {n : ℕ} {others : Siblings} (keyword : List ℕ) (first : Item) → IsWord keyword → IsFormedWithin n first →
     AreFit n others → IsFormedWithin (suc n) (node_of keyword first others)
-fit-node keyword first w f g = let l = g.within in ((w, f.0, g.formed), omega (arith, f.1, l))
+fit-node keyword first w f g = ((w, f.0, g.formed), omega (arith, f.1))
 
 pub fit-deeper : (m n : ℕ) (item : Item) → m ≤ n → IsFormedWithin m item → IsFormedWithin n item
 fit-deeper m n item l f = (f.0, omega (arith, l, f.1))
