@@ -179,7 +179,8 @@ module _ {N : Class → Class → Item → Type 0} (level : Level) (most : ℕ) 
       ((item : Item) → Sees c (as_runs all) item → Rise c 0 (arguments item) → HasOwnForm c item) →
       ((item : Item) (fault : RefusedAt) → Sees c (as_runs all) item → ¬ (BreaksOwn c item fault)) →
       (AreNormal : Siblings → Type 0) → ((items : Siblings) → AreNormalBy N c items → AreNormal items) → (p : ℕ) →
-      Stands (λ i. AreNormalBy N c (arguments i)) c (suc most) (at_place p (node_of keyword first others)) × IsNormalNode level c keyword
+      Stands (λ i. AreNormalBy N c (arguments i)) c (suc most) (at_place p (node_of keyword first others))
+      × IsNormalNode level c keyword
       (at_place p (node_of keyword first others)) (AreNormal (arguments (at_place p (node_of keyword first others))))
   node-made letters known written fitting orderly own unbroken AreNormal normal p =
       let i : Item = at_place p (node_of keyword first others) in

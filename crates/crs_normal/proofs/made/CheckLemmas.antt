@@ -99,8 +99,8 @@ none-has : DecimalLaws → (k : ℕ) (before : List Item) → k ≤ 3 → Each (
 none-has l k [] high h b = b
 none-has l k (x ∷ before) high h (inl b) =
     let e : whole_value k ≡ whole_value h.0.order =
-    first-order l (whole_value h.0.order) (whole_value k) (orders_in x) (whole-normal h.0.order h.0.low (omega arith)) h.0.orders
-    b in
+    first-order l (whole_value h.0.order) (whole_value k) (orders_in x)
+    (whole-normal h.0.order h.0.low (omega arith)) h.0.orders b in
     let f : k ≡ h.0.order = ap (λ v. v.digits) e in
     absurd (omega arith)
 none-has l k (x ∷ before) high h (inr b) = none-has l k before high h.1 b

@@ -65,5 +65,6 @@ module _ (slot : SlotParts) (slots : List SlotParts) where
   -- a slot that nothing fills
   pub none-fit : (rest : List Class) → slot.required ≡ false → Allowed slots rest → Allowed (slot ∷ slots) rest
   none-fit rest none a =
-      let fills : Fills slot [] = record { taken = tt; enough = λ h. absurd (true≢false (sym h ∙ none)); not_more = λ h. omega arith } in
+      let fills : Fills slot [] =
+      record { taken = tt; enough = λ h. absurd (true≢false (sym h ∙ none)); not_more = λ h. omega arith } in
       ([] ∷ a.0, ((fills, a.1.0), a.1.1))

@@ -1,6 +1,6 @@
 -- Parameters: the item of one reads as it wherever it is, with a unit of the class that its keyword
 -- names, and as sets they have one form.
-use Rattle.std.proofs.Common.{◌≡◌, ◌↔◌, ◌⊎◌, inl, inr, ℕ, ◌+◌, codes, IfSome, Option, Some, None, List, [], ◌∷◌, refl, arith, map, ◌++◌}
+use Rattle.std.proofs.Common.{rules, ◌≡◌, ◌↔◌, ◌⊎◌, inl, inr, ℕ, ◌+◌, codes, IfSome, Option, Some, None, List, [], ◌∷◌, refl, arith, map, ◌++◌}
 use Rattle.crs_decimal.specs.Prelude.{Value}
 use Rattle.crs_text.specs.Prelude.{Item, End, More, at_place, item_text}
 use Rattle.crs_shape.specs.declared.class.Class.{Class}
@@ -79,13 +79,8 @@ module _ (laws : TextLaws) (name : List ℕ) (value : Value) (identifiers : List
 
   some-read : (u : UnitParts) → IsUnit u → (place : ℕ) (k : UnitKind) →
       IsIn class.Parameter (unit_class k) (item_unit u) → Reads (Some u) place
-  some-read u q place kinds.Plain e = unit-as class.PlainUnit (Some u) e place q (inl (keyword-names _ _, refl)) refl
-  some-read u q place kinds.Length e =
-      unit-as class.LengthUnit (Some u) e place q (inr (refl, inl (keyword-names _ _, refl))) refl
-  some-read u q place kinds.Angle e =
-      unit-as class.AngleUnit (Some u) e place q (inr (refl, inr (refl, inl (keyword-names _ _, refl)))) refl
-  some-read u q place kinds.Scale e =
-      unit-as class.ScaleUnit (Some u) e place q (inr (refl, inr (refl, inr (refl, inl (keyword-names _ _, refl))))) refl
+  some-read u q place kinds.Plain e = unit-as class.PlainUnit (Some u) e place q (search (rules, keyword-names)) refl
+  some-read u q place other e = unit-as (unit_class other) (Some u) e place q (search (rules, keyword-names)) refl
 
   both-read : (o : Option UnitParts) → IfSome o IsUnit → (place : ℕ) → Reads o place
   both-read None q place = unit-as class.PlainUnit None tt place q (refl, (refl, (refl, (refl, tt)))) refl
