@@ -7,7 +7,6 @@ pub mod CheckLemmas
 pub mod CompoundLemmas
 pub mod ConversionLemmas
 pub mod CrsLemmas
-pub mod DatumLemmas
 pub mod DynamicLemmas
 pub mod EllipsoidLemmas
 pub mod FitLemmas
@@ -21,10 +20,8 @@ pub mod NamedLemmas
 pub mod NodeLemmas
 pub mod PlaceLemmas
 pub mod ProjectedLemmas
-pub mod RiseLemmas
 pub mod SystemLemmas
 pub mod TailLemmas
 pub mod UnitLemmas
 pub mod UsageLemmas
 pub mod VerticalLemmas
-pub mod WordLemmas

@@ -1,5 +1,5 @@
 -- A node is made of arguments that say how many they are: whether they fit its slots is computed.
-use Rattle.std.proofs.Common.{◌≡◌, ◌≢◌, ◌∙◌, ℕ, suc, ◌≤◌, Bool, true, false, true≢false, IsTrue, IfSome, Option, Some, None, List, [], ◌∷◌, map, length, if◌then◌else◌, refl, sym, ap, subst, arith}
+use Rattle.std.proofs.Common.{◌≡◌, ◌≢◌, ◌∙◌, ℕ, suc, ◌≤◌, Bool, true, false, true≢false, IsTrue, IfSome, Option, Some, None, List, [], ◌∷◌, map, length, if◌then◌else◌, refl, sym, ap, subst, arith, ◌&&◌}
 use Rattle.std.specs.Option.{is_some, option_map}
 use Rattle.crs_decimal.specs.Prelude.{Value, IsNormal}
 use Rattle.crs_text.specs.Prelude.{Item, Siblings, End, More, arguments, RefusedAt, IsWord, at_place, item_text}
@@ -15,13 +15,13 @@ use Rattle.crs_normal.specs.Normal.{IsFirstKeyword, IsNormalIn, AreNormalIn, IsN
 use Rattle.crs_normal.specs.NormalOwn.{HasOwnForm, Rise, set_classes, Ascend}
 use Rattle.crs_normal.specs.Prelude.{each, node_of, number_item, number_node, opt, text_item, text_node, in_order}
 use Rattle.crs_normal.proofs.made.AscendLemmas.{set-each, set-some}
-use Rattle.crs_normal.proofs.made.FitLemmas.{both, given-few, held, more-fit, none-fit, slot-fits}
+use Rattle.crs_normal.proofs.made.FitLemmas.{given-few, held, more-fit, none-fit, slot-fits}
 use Rattle.crs_normal.proofs.read.ViewLemmas.{each-so}
 use Rattle.crs_normal.proofs.made.PlaceLemmas.{placed-ascend}
-use Rattle.crs_normal.proofs.made.RiseLemmas.{has-rise}
 use Rattle.crs_normal.proofs.made.LeafLemmas.{number-made, text-made}
-use Rattle.crs_normal.proofs.made.NodeLemmas.{IsOrderly, Made, MadeBy, Run, RunsMadeBy, Sees, as-argument, at-level, classes, each-line, given, line, lines, node-stands, none-orderly, opt-line, AreNormalBy, Stands, sees-by, IsFree, items_in}
+use Rattle.crs_normal.proofs.made.NodeLemmas.{IsOrderly, Made, MadeBy, Run, RunsMadeBy, Sees, as-argument, at-level, classes, each-line, given, line, lines, node-stands, none-orderly, opt-line, AreNormalBy, Stands, sees-by, IsFree, items_in, has-rise}
 use Rattle.crs_normal.proofs.texts.SegmentLemmas.{given-each, some-imp, some-mapped}
+use Rattle.std.proofs.lemmas.Bool.{and_parts}
 
 -- arguments of one class, before others: that there is one at least, and that there is one at most, where that is known
 pub record ArgumentBy (N : Class → Class → Item → Type 0) (most : ℕ) (parent : Class) : Type 0 where
@@ -135,8 +135,8 @@ module _ {N : Class → Class → Item → Type 0} {most : ℕ} {parent : Class}
   fit (s ∷ ss) (a ∷ rest) =
       if takes s a.of
       then (if s.required
-      then (if is_some a.some then (if (if s.many then true else is_some a.few) then fit ss rest else false) else false)
-      else (if s.many then fit (s ∷ ss) rest else if is_some a.few then fit ss rest else false))
+      then is_some a.some && ((if s.many then true else is_some a.few) && fit ss rest)
+      else (if s.many then fit (s ∷ ss) rest else is_some a.few && fit ss rest))
       else (if s.required then false else fit ss (a ∷ rest))
 
   pub fits : (ss : List SlotParts) (all : List (ArgumentBy N most parent)) → fit ss all ≡ true →
@@ -157,13 +157,13 @@ module _ {N : Class → Class → Item → Type 0} {most : ℕ} {parent : Class}
           (t r m : Bool) → takes s a.of ≡ t → s.required ≡ r → s.many ≡ m →
           Allowed (s ∷ ss) (classes (as_runs (a ∷ rest)))
       by next again skip true true m p q n =
-          let x = both (is_some a.some) _ (rw (p, q) at e) in
-          let y = both (if s.many then true else is_some a.few) _ x.1 in
+          let x = and_parts (is_some a.some) _ (rw (p, q) at e) in
+          let y = and_parts (if s.many then true else is_some a.few) _ x.1 in
           slot-fits s ss a.of a.items _ p (λ h. held a.some x.0)
           (λ h. held a.few (subst (λ b. (if b then true else is_some a.few) ≡ true) h y.0)) (next y.1)
       by next again skip true false true p q n = more-fit s ss a.of a.items _ p q n (again (rw (p, q, n) at e))
       by next again skip true false false p q n =
-          let x = both (is_some a.few) _ (rw (p, q, n) at e) in
+          let x = and_parts (is_some a.few) _ (rw (p, q, n) at e) in
           slot-fits s ss a.of a.items _ p (λ h. absurd (true≢false (sym h ∙ q))) (λ h. held a.few x.0) (next x.1)
       by next again skip false true m p q n = absurd (true≢false (sym (rw (p, q) at e)))
       by next again skip false false m p q n = none-fit s ss _ q (skip (rw (p, q) at e))

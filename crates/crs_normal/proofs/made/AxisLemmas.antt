@@ -1,7 +1,7 @@
 -- Axes at their positions are made.
 use Rattle.std.proofs.Common.{◌≡◌, ℕ, zero, suc, ◌≤◌, Option, Some, None, List, [], ◌∷◌, codes, IfSome, inl, inr, refl, sym, subst, arith, ap}
 use Rattle.crs_decimal.specs.Prelude.{Value, IsNormal}
-use Rattle.crs_text.specs.Prelude.{Item, arguments, RefusedAt, at_place, Siblings, More, End}
+use Rattle.crs_text.specs.Prelude.{Item, arguments, RefusedAt, at_place, Siblings, More, End, IsWord}
 use Rattle.crs_shape.specs.declared.class.Class.TheVariants as class
 use Rattle.crs_shape.specs.declared.direction.Direction.{Direction}
 use Rattle.crs_shape.specs.declared.direction.Direction.TheVariants as direction
@@ -22,7 +22,6 @@ use Rattle.crs_normal.proofs.made.IdentLemmas.{ids-of, ids-orderly}
 use Rattle.crs_normal.proofs.made.LeafLemmas.{word-made}
 use Rattle.crs_normal.proofs.made.NodeLemmas.{Made, as-argument, none-orderly}
 use Rattle.crs_normal.proofs.made.PlaceLemmas.{ArePlaced, none-of}
-use Rattle.crs_normal.proofs.made.WordLemmas.{direction-letters}
 use Rattle.crs_normal.proofs.made.ArgumentLemmas.{made-of, number-of, one-of, Argument, arguments-seen, may-of, text-of, a-number, lay}
 use Rattle.crs_normal.proofs.read.NameLemmas.{keyword-names}
 use Rattle.crs_normal.proofs.same.UnitLemmas.{suits-kind}
@@ -72,6 +71,10 @@ axis-names kind (inl e) = subst (λ k. class_named class.Axis (unit_word k) ≡ 
 axis-names kind (inr e) = subst (λ k. class_named class.Axis (unit_word k) ≡ Some class.AxisUnit) (sym e) refl
 
 -- ---- axes
+
+pub direction-letters : (d : Direction) → IsWord (direction_word d)
+direction-letters direction.North = (refl, refl)
+direction-letters other = (refl, refl)
 
 -- an axis has a unit of the asked kind, its own or this shared one
 pub record Fits (system_type : SystemType) (shared : Option UnitParts) (x : AxisParts) : Type 0 where

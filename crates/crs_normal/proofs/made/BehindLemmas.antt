@@ -15,7 +15,7 @@ use Rattle.crs_normal.specs.Prelude.{axes_from, item_axis, item_head, norm_syste
 use Rattle.crs_normal.specs.NormalOwn.{Lacks, bare_classes}
 use Rattle.crs_normal.proofs.read.ViewLemmas.{each-so}
 use Rattle.crs_normal.proofs.made.CheckLemmas.{IsSystemIn, IsSystemSeen}
-use Rattle.crs_normal.proofs.made.DatumLemmas.{given-once}
+use Rattle.crs_normal.proofs.made.FrameLemmas.{given-once}
 use Rattle.crs_normal.proofs.made.NodeLemmas.{Made, Run, alone, items_in}
 use Rattle.crs_normal.proofs.made.PlaceLemmas.{ArePlaced}
 use Rattle.crs_normal.proofs.made.SystemLemmas.{HasEach, IsHeadItem, all-axes, axes-made, axes-seen, head-made, head-seen, IsFew}

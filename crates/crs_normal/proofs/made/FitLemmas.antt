@@ -1,14 +1,10 @@
 -- Arguments of one class, before others, fill the slots of a class.
-use Rattle.std.proofs.Common.{◌≡◌, ◌≤◌, ◌≢◌, Bool, true, false, true≢false, IsTrue, IsFalse, Option, Some, None, List, [], ◌∷◌, ◌++◌, length, if◌then◌else◌, refl, sym, ap, ◌∙◌, arith}
+use Rattle.std.proofs.Common.{◌≡◌, ◌≤◌, ◌≢◌, true, false, true≢false, IsTrue, IsFalse, Option, Some, None, List, [], ◌∷◌, ◌++◌, length, refl, sym, ap, ◌∙◌, arith}
 use Rattle.std.specs.Option.{is_some}
 use Rattle.crs_text.specs.Prelude.{Item}
 use Rattle.crs_shape.specs.declared.class.Class.{Class}
 use Rattle.crs_shape.specs.Prelude.{Fills, AllTaken, Allowed, SlotParts, takes}
 use Rattle.crs_normal.proofs.made.NodeLemmas.{given, repeated}
-
-pub both : (b c : Bool) → (if b then c else false) ≡ true → (b ≡ true) × (c ≡ true)
-both true c e = (refl, e)
-both false c e = absurd (true≢false (sym e))
 
 pub held : {A : Type 0} (o : Option A) → is_some o ≡ true → A
 held None e = absurd (true≢false (sym e))

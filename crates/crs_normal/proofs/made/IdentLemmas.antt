@@ -16,7 +16,7 @@ use Rattle.crs_normal.specs.Prelude.{in_order, code_item, text_item, text_node, 
 use Rattle.crs_normal.proofs.made.AscendLemmas.{set-ascends}
 use Rattle.crs_normal.proofs.read.ViewLemmas.{each-so}
 use Rattle.crs_normal.proofs.members.SetLemmas.{each-in_order}
-use Rattle.crs_normal.proofs.made.ArgumentLemmas.{each-of, Argument, made-of, may-of, may-text, one-of, text-of}
+use Rattle.crs_normal.proofs.made.ArgumentLemmas.{each-of, Argument, made-of, may-of, may-text, one-of, text-of, as_runs}
 use Rattle.crs_normal.proofs.made.LeafLemmas.{IsCodeKind, code-kind, code-made, code_kind}
 use Rattle.crs_normal.proofs.made.NodeLemmas.{IsOrderly, Made, Run, alone, as-argument, given, line, none-orderly, IsFree}
 use Rattle.crs_normal.proofs.texts.SegmentLemmas.{each-map}
@@ -77,19 +77,19 @@ pub ident-made : DecimalLaws → (level : Level) (i : IdentParts) → IsIdent i 
     IsAcceptedNormal level class.Identifier 2 (at_place p (item_ident i))
 unfolding is_keyword BreaksOwn class_named
 ident-made l level i h =
-    made-of level 1 class.Identifier (codes "ID") _ _ (text-of i.authority h.authority ∷
-    one-of (code-made l level 1 (code_kind i.code) i.code (code-kind i.code h.code)) ∷
+    let kind = code-kind i.code h.code in
+    let all : List (Argument level 1 class.Identifier) =
+    text-of i.authority h.authority ∷ one-of (code-made l level 1 (code_kind i.code) i.code kind) ∷
     may-of (class_of_kind (version_kind i.version)) code_item i.version (version-made l level i.version h.version) ∷
     may-text class.Citation (codes "CITATION") (refl, refl) refl refl (λ item. tt) (λ item fault b. b) refl (omega arith)
     refl i.citation h.citation ∷ may-text class.Uri (codes "URI") (refl, refl) refl refl (λ item. tt)
-    (λ item fault b. b) refl (omega arith) refl i.uri h.uri ∷ []) refl (refl, refl) refl refl
-    (rw (code-taken (code_kind i.code) i.code (code-kind i.code h.code))
-    (rw (version-taken i.version h.version) (refl {a = true})))
-    (kind-free (code_kind i.code) level (code_item i.code ∷ []) (drop 2 (ident_runs i))
-    (kind-free (version_kind i.version) level (given code_item i.version) (drop 3 (ident_runs i)) (none-orderly level)))
+    (λ item fault b. b) refl (omega arith) refl i.uri h.uri ∷ [] in
+    made-of level 1 class.Identifier (codes "ID") _ _ all refl (refl, refl) refl refl
+    (rw (code-taken (code_kind i.code) i.code kind) (rw (version-taken i.version h.version) (refl {a = true})))
+    (kind-free (code_kind i.code) level (code_item i.code ∷ []) (drop 2 (as_runs all)) (kind-free (version_kind i.version)
+    level (given code_item i.version) (drop 3 (as_runs all)) (none-orderly level)))
     (λ item s r. subst (λ js. Each IsCode (single_of (skip 1 js) ++ single_of (skip 2 js))) (sym s.are)
-    (code-is (code_kind i.code) i.code _ _ (code-kind i.code h.code)
-    (version-is i.version i.citation i.uri _ h.version)))
+    (code-is (code_kind i.code) i.code _ _ kind (version-is i.version i.citation i.uri _ h.version)))
     (λ item fault s b. b)
 
 -- ---- lists of identifiers, in order

@@ -1,6 +1,6 @@
 -- A node of arguments that are accepted and normal is accepted and normal itself: what it asks of
 -- its arguments is said of them as runs of one class each, with all places left out.
-use Rattle.std.proofs.Common.{◌≡◌, ℕ, suc, ◌+◌, ◌≤◌, Bool, true, false, IsTrue, Option, Some, List, [], ◌∷◌, ◌++◌, length, if◌then◌else◌, refl, sym, ap, subst, ◌∙◌, arith, nat_le}
+use Rattle.std.proofs.Common.{◌≡◌, ℕ, suc, ◌+◌, ◌≤◌, Bool, true, IsTrue, Option, Some, List, [], ◌∷◌, ◌++◌, length, if◌then◌else◌, refl, sym, ap, subst, ◌∙◌, arith, nat_le, None, leb-true, ◌&&◌}
 use Rattle.std.proofs.Math.Logic.{⊎_elim}
 use Rattle.crs_text.specs.Prelude.{Item, IsNode, Siblings, End, More, arguments, depth, depths, RefusedAt, IsWord, AreFormed, AreAllFormed, at_place, at_places, item_text}
 use Rattle.crs_shape.specs.declared.class.Class.{Class}
@@ -9,7 +9,7 @@ use Rattle.crs_value.specs.Prelude.{AtClass, Breaks, BreaksAmong, kept, kept-non
 use Rattle.crs_value.specs.declared.values.level.Level.{Level}
 use Rattle.crs_normal.specs.AcceptedNormal.{IsAcceptedNormal}
 use Rattle.crs_normal.specs.Normal.{AtLevel, IsNormalIn, left_out}
-use Rattle.crs_normal.specs.NormalOwn.{Ascend, rank, set_classes}
+use Rattle.crs_normal.specs.NormalOwn.{Ascend, rank, set_classes, Rise}
 use Rattle.crs_value.specs.Sound.{Each}
 use Rattle.crs_normal.specs.SpelledItems.{node_of}
 use Rattle.crs_normal.proofs.texts.SegmentLemmas.{placed-none, those-line}
@@ -17,6 +17,7 @@ use Rattle.crs_normal.proofs.read.ViewLemmas.{each-so}
 pub use Rattle.crs_normal.proofs.read.ViewLemmas.{onto as line}
 pub use Rattle.crs_normal.proofs.texts.SegmentLemmas.{each-line, given, opt-line}
 use Rattle.crs_normal.proofs.made.PlaceLemmas.{ArePlaced, class-at, those-placed}
+use Rattle.std.proofs.lemmas.Bool.{and_parts}
 
 -- ---- runs: arguments of one class, in order
 
@@ -144,7 +145,7 @@ pub record Sees (c : Class) (runs : List Run) (item : Item) : Type 0 where
 -- whether the ranks of the runs never fall, from this one on
 abbrev pub rises : ℕ → List Run → Bool
 rises least [] = true
-rises least (run ∷ runs) = if nat_le least (rank run.of) then rises (rank run.of) runs else false
+rises least (run ∷ runs) = nat_le least (rank run.of) && rises (rank run.of) runs
 
 -- the level keeps all of these runs
 abbrev KeepsRuns : Level → List Run → Type 0
@@ -225,3 +226,42 @@ pub views : {c : Class} {runs : List Run} {item : Item} (es : List Class) → Se
     Each (λ e. ArePlaced (those c e (arguments item)) (items_in e runs)) es
 views [] s = tt
 views (e ∷ es) s = (s.view e, views es s)
+
+-- ---- ranks
+
+rise-lower : (c : Class) (m n : ℕ) (items : Siblings) → m ≤ n → Rise c n items → Rise c m items
+rise-lower c m n End h r = tt
+rise-lower c m n (More item items) h r = by (class_in c item) r
+  where
+    by : (o : Option Class) → AtClass o (λ d. (n ≤ rank d) × Rise c (rank d) items) →
+        AtClass o (λ d. (m ≤ rank d) × Rise c (rank d) items)
+    by None q = q
+    by (Some d) q = (omega arith, q.1)
+
+rise-line : (N : Class → Class → Item → Type 0) (most : ℕ) (c d : Class) (js : List Item) (rest : Siblings)
+    (least s : ℕ) →
+    Each (MadeBy N most c d) js → least ≤ rank d →
+    ((s : ℕ) → Rise c (rank d) (at_places s rest)) → Rise c least (at_places s (line js rest))
+rise-line N most c d [] rest least s h low more = rise-lower c least (rank d) (at_places s rest) low (more s)
+rise-line N most c d (j ∷ js) rest least s h low more =
+    at-class (λ e. (least ≤ rank e) × Rise c (rank e) (at_places (s + 1 + length (item_text j)) (line js rest)))
+    (class_in c (at_place (s + 1) j)) d
+    (class-at c (s + 1) j ∙ h.0.named) (
+      low,
+      rise-line N most c d js rest (rank d) (s + 1 + length (item_text j))
+          h.1 (omega arith) more,
+    )
+
+rise-lines : (N : Class → Class → Item → Type 0) (most : ℕ) (c : Class) (runs : List Run) (least s : ℕ) →
+    RunsMadeBy N most c runs → rises least runs ≡ true → Rise c least (at_places s (lines runs))
+rise-lines N most c [] least s h e = tt
+rise-lines N most c (run ∷ runs) least s h e =
+    let r = and_parts (nat_le least (rank run.of)) (rises (rank run.of) runs) e in
+    rise-line N most c run.of run.items (lines runs) least s h.0 (leb-true least (rank run.of) r.0)
+    (λ q. rise-lines N most c runs (rank run.of) q h.1 r.1)
+
+pub has-rise : (N : Class → Class → Item → Type 0) (most : ℕ) (c : Class) (runs : List Run) (item : Item) → Sees c
+    runs item →
+    RunsMadeBy N most c runs → rises 0 runs ≡ true → Rise c 0 (arguments item)
+has-rise N most c runs item s m r =
+    subst (Rise c 0) (sym s.are) (rise-lines N most c runs 0 s.start m r)

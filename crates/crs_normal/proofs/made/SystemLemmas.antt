@@ -5,10 +5,11 @@ use Rattle.std.proofs.lemmas.Bool.Decides.{Decides-eqb}
 use Rattle.std.proofs.lemmas.List.{append-nil}
 use Rattle.std.proofs.lemmas.Slice.Eq.{bytes_eq-Decides}
 use Rattle.crs_decimal.specs.Prelude.{plain, Value, IsNormal}
-use Rattle.crs_text.specs.Prelude.{Item, arguments, RefusedAt, at_place}
+use Rattle.crs_text.specs.Prelude.{Item, arguments, RefusedAt, at_place, IsWord}
 use Rattle.crs_shape.specs.declared.class.Class.{Class}
 use Rattle.crs_shape.specs.declared.class.Class.TheVariants as class
 use Rattle.crs_shape.specs.declared.system_type.SystemType.{SystemType}
+use Rattle.crs_shape.specs.declared.system_type.SystemType.TheVariants as types
 use Rattle.crs_shape.specs.Prelude.{is_keyword, class_named, asked_kind, system_word}
 use Rattle.crs_value.specs.Prelude.{UnknownType, AnyOf, those, IsAxis, IsAxisUnit, Suits, HasUnits, IsSystem, SuitsAxis, AxisParts, SystemParts, UnitParts, Own as BreaksOwn}
 use Rattle.crs_value.specs.declared.values.level.Level.{Level}
@@ -23,7 +24,6 @@ use Rattle.crs_normal.proofs.made.IdentLemmas.{ids-of, ids-orderly}
 use Rattle.crs_normal.proofs.made.LeafLemmas.{word-made}
 use Rattle.crs_normal.proofs.made.NodeLemmas.{Made, as-argument}
 use Rattle.crs_normal.proofs.made.PlaceLemmas.{ArePlaced, none-of}
-use Rattle.crs_normal.proofs.made.WordLemmas.{system-letters}
 use Rattle.crs_normal.proofs.read.ViewLemmas.{both}
 use Rattle.crs_normal.proofs.read.NameLemmas.{keyword-names}
 
@@ -148,6 +148,10 @@ axes-seen l level s k (item ∷ items) (a ∷ rest) p h low high = (
 )
 
 -- ---- the node `CS`
+
+system-letters : (t : SystemType) → IsWord (system_word t)
+system-letters types.Cartesian = (refl, refl)
+system-letters other = (refl, refl)
 
 abbrev head_arguments : DecimalLaws → (level : Level) (s : SystemParts) → IsSystem s →
     List (Argument level 2 class.CoordinateSystem)

@@ -13,7 +13,7 @@ use Rattle.crs_normal.specs.DecimalLaws.{DecimalLaws}
 use Rattle.crs_normal.specs.NormalOwn.{Ascend, HasTail, Rise, Lacks, bare_classes}
 use Rattle.crs_normal.specs.Prelude.{in_order, text_node, item_usage, norm_usage, set_usages}
 use Rattle.crs_normal.proofs.made.AscendLemmas.{set-ascends, set-each}
-use Rattle.crs_normal.proofs.made.DatumLemmas.{none-repeats}
+use Rattle.crs_normal.proofs.made.FrameLemmas.{none-repeats}
 use Rattle.crs_normal.proofs.made.IdentLemmas.{identifiers-ascend, identifiers-left, ids-of, ids_run}
 use Rattle.crs_normal.proofs.made.NodeLemmas.{IsOrderly, Made, Run, as-argument, given}
 use Rattle.crs_normal.proofs.made.UsageLemmas.{usage-made, usage-named}
