@@ -16,7 +16,6 @@ pub mod LevelLemmas
 pub mod NamedLemmas
 pub mod ProjectedLemmas
 pub mod RankLemmas
-pub mod SortLemmas
 pub mod SystemLemmas
 pub mod TailLemmas
 pub mod TextLemmas

@@ -1,6 +1,6 @@
 -- Normal compound CRSs, and normal CRSs of any kind, are the one form of their values.
-use Rattle.std.proofs.Common.{◌≡◌, ℕ, inl, inr, List, refl, ◌∙◌, ap, subst}
-use Rattle.crs_text.specs.Prelude.{Item, leaf, node, End, More, RefusedAt, arguments}
+use Rattle.std.proofs.Common.{◌≡◌, ℕ, inl, List, refl, ◌∙◌, ap, ap₂, subst}
+use Rattle.crs_text.specs.Prelude.{Item, End, More, RefusedAt, arguments}
 use Rattle.crs_shape.specs.declared.class.Class.{Class}
 use Rattle.crs_shape.specs.declared.class.Class.TheVariants as class
 use Rattle.crs_shape.specs.Prelude.{SlotParts}
@@ -12,15 +12,15 @@ use Rattle.crs_value.specs.declared.values.crs.Crs.TheVariants as crs
 use Rattle.crs_value.specs.declared.values.level.Level.{Level}
 use Rattle.crs_normal.specs.WithoutPlaces.{without_places}
 use Rattle.crs_normal.specs.SpelledCrs.{item_compound, item_crs, item_horizontal, norm_compound, norm_crs, norm_horizontal}
-use Rattle.crs_normal.proofs.normal.CheckedLemmas.{Checked, IsUnbroken, by-class, first-checked, first-or-none, unbroken-in}
-use Rattle.crs_normal.proofs.normal.FormLemmas.{Form, IsGood, Looked, Opened, found-in, front-in, front_in, good-in, one-in, opened, spelled-by}
+use Rattle.crs_normal.proofs.normal.CheckedLemmas.{Checked, IsUnbroken, by-class, first-checked, first-or-none, unbroken-by-slots, unbroken-in}
+use Rattle.crs_normal.proofs.normal.FormLemmas.{Form, IsGood, Looked, Opened, front_in, good-in, one-in, only-in, spelled-by}
 use Rattle.crs_normal.proofs.normal.GeodeticLemmas.{geodetic-form, geographic-form}
 use Rattle.crs_normal.proofs.normal.HeadLemmas.{Laws}
 use Rattle.crs_normal.proofs.normal.LeafLemmas.{text-form}
 use Rattle.crs_normal.proofs.members.PairLemmas.{Alone}
 use Rattle.crs_normal.proofs.normal.ProjectedLemmas.{projected-form, vertical-form}
 use Rattle.crs_normal.proofs.normal.TailLemmas.{plain_tail-in}
-use Rattle.crs_normal.proofs.read.ViewLemmas.{alone, onto, without_places_onto}
+use Rattle.crs_normal.proofs.read.ViewLemmas.{onto, without_places_onto}
 
 -- ---- the horizontal part
 
@@ -72,9 +72,9 @@ horizontal-in laws {level = level} {c = c} {item = item} o front p geodetic geog
         (otherwise value → without_places p.0 ≡ item_horizontal (norm_horizontal level value)) →
         without_places p.0 ≡ item_horizontal (norm_horizontal level value)
     one-of d otherwise same read other =
-        by-class (ReadsAsHorizontal d) otherwise c d p.0 (found-in o d same ∙ ap (λ xs. those c d (onto xs End)) p.1) read
+        by-class o (ReadsAsHorizontal d) otherwise d p same read
         (λ has. horizontal-form laws level c d p.0 value (has (IsGood level c d) (good-in o d))
-        (has (IsUnbroken d) (unbroken-in o d free))) other
+        (has (IsUnbroken d) (unbroken-in o d free))) (λ not. other)
 
 -- ---- compound CRSs
 
@@ -82,24 +82,20 @@ pub compound-form : Laws → (level : Level) (c : Class) →
     Form level c class.CompoundCrs (Checked class.CompoundCrs (ReadsCompound class.CompoundCrs))
     (λ p. item_compound (norm_compound level p))
 unfolding Own
-compound-form laws level c (leaf kind place raw) x good checked = absurd checked.1.name
-compound-form laws level c (node place keyword square first others close) x good checked =
+compound-form laws level c =
     let d = class.CompoundCrs in
-    let reads = checked.1 in
-    let o = opened refl good in
-    let free : (fault : RefusedAt) → ¬ (BreaksAmong d (More first others) fault) = λ fault b. checked.0 fault (inr b) in
-    let p = alone (front_in o 1) (front-in o 1) refl refl in
+    unbroken-by-slots refl (λ item keyword x o own inner reads.
+    let p = only-in o 1 refl refl in
     let behind = without_places_onto (front_in o 2) (without_places_onto (front_in o 3) End) in
     spelled-by o o.written
     (one-in o 0 (text-form level d) refl refl x.name reads.name
     (ap (λ xs. without_places_onto xs behind) p.1
-    ∙ ap (λ i. More i behind) (horizontal-in laws o (front_in o 1) p refl refl refl free x.horizontal reads.horizontal)
-    ∙ ap (More (item_horizontal (norm_horizontal level x.horizontal)))
+    ∙ ap₂ More (horizontal-in laws o (front_in o 1) p refl refl refl inner x.horizontal reads.horizontal)
     (one-in o 2 (vertical-form laws level d) refl refl x.vertical
-    (first-checked class.VerticalCrs (ReadsVertical class.VerticalCrs) _ x.vertical (unbroken-in o class.VerticalCrs free)
+    (first-checked class.VerticalCrs (ReadsVertical class.VerticalCrs) _ x.vertical (unbroken-in o class.VerticalCrs inner)
     reads.vertical)
-    (plain_tail-in laws.plain_one o o.own (λ fault b. checked.0 fault (inl (inl b))) (front-in o 3) refl
-    (refl, (refl, (refl, (refl, (refl, (refl, (refl, tt))))))) x.tail reads.tail))))
+    (plain_tail-in o 3 laws.plain_one o.own (λ fault b. own fault (inl b)) refl refl
+    (refl, (refl, (refl, (refl, (refl, (refl, (refl, tt))))))) x.tail reads.tail)))))
 
 -- ---- CRSs of any kind
 

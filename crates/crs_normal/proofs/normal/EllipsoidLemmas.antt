@@ -1,39 +1,33 @@
 -- Normal ellipsoids and prime meridians are the one form of their values.
-use Rattle.std.proofs.Common.{◌≡◌, ℕ, ◌&&◌, map, Bool, true, false, Option, Some, None, List, [], ◌∷◌, if◌then◌else◌, codes, refl, ◌∙◌, ap, subst, ℤ, pos, negsuc}
+use Rattle.std.proofs.Common.{◌≡◌, ℕ, ◌&&◌, Bool, true, false, Option, Some, None, List, [], ◌∷◌, if◌then◌else◌, codes, refl, ◌∙◌, ap, subst, ℤ, pos, negsuc}
 use Rattle.std.proofs.lemmas.Bool.{and_parts, eqb-true}
 use Rattle.crs_decimal.specs.Prelude.{plain, Value, IsNormal, is_normal, is_power, zero}
-use Rattle.crs_text.specs.Prelude.{Item, leaf, node, Siblings, More, raw_of}
+use Rattle.crs_text.specs.Prelude.{Item, Siblings, arguments}
 use Rattle.crs_shape.specs.declared.class.Class.{Class}
 use Rattle.crs_shape.specs.declared.class.Class.TheVariants as class
 use Rattle.crs_shape.specs.declared.unit_kind.UnitKind.TheVariants as kinds
-use Rattle.crs_shape.specs.Prelude.{slots_of}
 use Rattle.crs_value.specs.Prelude.{those, ReadsFirst, ReadsOptional, ReadsEllipsoid, ReadsMeridian, ReadsNumber, ReadsUnit, UnitParts}
 use Rattle.crs_value.specs.declared.values.level.Level.{Level}
-use Rattle.crs_value.specs.Sound.{Each}
 use Rattle.crs_normal.specs.SpelledFrames.{is_zero, item_ellipsoid, item_meridian, norm_ellipsoid, norm_given}
 use Rattle.crs_normal.specs.SpelledItems.{opt}
 use Rattle.crs_normal.specs.SpelledUnits.{item_unit, norm_unit, norm_units}
-use Rattle.crs_normal.proofs.normal.FormLemmas.{Form, IsGood, front_in, kept-good, one-in, only-in, opened, optional-in, spelled-by}
-use Rattle.crs_normal.proofs.normal.LeafLemmas.{PlainIsOne, number-form, number-normal, text-form}
-use Rattle.crs_normal.proofs.members.PairLemmas.{Alone, opt-length, opt-units, two-in}
+use Rattle.crs_normal.proofs.normal.FormLemmas.{Form, by-slots, front_in, one-in, only-in, optional-in, raws-in, spelled-by}
+use Rattle.crs_normal.proofs.normal.LeafLemmas.{PlainIsOne, number-form, text-form}
+use Rattle.crs_normal.proofs.members.PairLemmas.{opt-length, opt-units, two-in}
 use Rattle.crs_normal.proofs.normal.UnitLemmas.{in-angle, in-length, unit-form, idents-in}
-use Rattle.crs_normal.proofs.read.ViewLemmas.{those-looked}
 
 pub ellipsoid-form : PlainIsOne → (level : Level) (c : Class) →
     Form level c class.Ellipsoid (ReadsEllipsoid class.Ellipsoid) (λ e. item_ellipsoid (norm_ellipsoid level e))
-ellipsoid-form law level c (leaf kind place raw) x good reads = absurd reads.name
-ellipsoid-form law level c (node place keyword square first others close) x good reads =
+ellipsoid-form law level c =
     let d = class.Ellipsoid in
-    let o = opened refl good in
-    let items = More first others in
-    spelled-by o o.written
+    by-slots refl (λ item keyword x o reads. spelled-by o o.written
     (one-in o 0 (text-form level d) refl refl x.name reads.name
     (two-in law o (λ raw h. h) (front_in o 1) (front_in o 2) refl (only-in o 1 refl refl) (only-in o 2 refl refl)
     x.semi_major_axis x.inverse_flattening reads.semi_major_axis reads.inverse_flattening
     (optional-in o 3 (unit-form law level d class.LengthUnit kinds.Length refl (in-length kinds.Length) (λ raw h. h))
     refl refl x.unit reads.unit
     (idents-in o 4 refl x.identifiers reads.identifiers refl)
-    ∙ opt-length (ReadsUnit class.LengthUnit) level (those d class.LengthUnit items) x.unit o.own reads.unit _)))
+    ∙ opt-length (ReadsUnit class.LengthUnit) level (those d class.LengthUnit (arguments item)) x.unit o.own reads.unit _))))
 
 -- ---- prime meridians
 
@@ -52,22 +46,12 @@ zero-is v normal e =
     ap (λ (m : ℕ). record { negative = v.negative; digits = m; power = v.power }) d in
     same ∙ no-digits v.negative v.power (subst (λ (w : Value). is_normal w ≡ true) same normal)
 
+normal-read : (found : List Item) (v : Value) → ReadsFirst ReadsNumber found v → IsNormal v
+normal-read [] v reads = absurd reads
+normal-read (item ∷ items) v reads = reads.0
+
 abbrev pub ZeroPlain : Type 0
 ZeroPlain = plain zero ≡ codes "0"
-
--- the bytes of a meridian's longitude 0
-zero-written : PlainIsOne → ZeroPlain → (level : Level) (found front : List Item) →
-    Each (IsGood level class.PrimeMeridian class.Number) found →
-    found ≡ front → Alone front → (v : Value) → ReadsFirst ReadsNumber found v → is_zero v ≡ true →
-    map raw_of found ≡ codes "0" ∷ []
-zero-written law zero_plain level found front good e p v reads is =
-    let are = e ∙ p.1 in
-    let g = (subst (Each (IsGood level class.PrimeMeridian class.Number)) are good).0 in
-    let r = subst (λ (xs : List Item). ReadsFirst ReadsNumber xs v) are reads in
-    ap (map raw_of) are
-    ∙ ap (λ (bytes : List ℕ). bytes ∷ [])
-    (law v (raw_of p.0) r.0 (number-normal level class.PrimeMeridian p.0 g.shaped g.normal) r.1
-    ∙ ap plain (zero-is v r.0 is) ∙ zero_plain)
 
 -- a unit that isn't there at longitude 0
 opt-angle : (level : Level) (is_at_zero : Bool) (found : List Item) (unit : Option UnitParts) →
@@ -82,20 +66,16 @@ opt-angle level true found (Some u) none reads rest =
 
 pub meridian-form : PlainIsOne → ZeroPlain → (level : Level) (c : Class) →
     Form level c class.PrimeMeridian (ReadsMeridian class.PrimeMeridian) (λ m. item_meridian (norm_given level m))
-meridian-form law zero_plain level c (leaf kind place raw) x good reads = absurd reads.name
-meridian-form law zero_plain level c (node place keyword square first others close) x good reads =
+meridian-form law zero_plain level c =
     let d = class.PrimeMeridian in
-    let o = opened refl good in
-    let items = More first others in
-    let v = o.slots in
-    spelled-by o o.written
+    let longitude-form = number-form law level d (λ raw h. h) in
+    by-slots refl (λ item keyword x o reads. spelled-by o o.written
     (one-in o 0 (text-form level d) refl refl x.name reads.name
-    (one-in o 1 (number-form law level d (λ raw h. h)) refl refl x.longitude reads.longitude
+    (one-in o 1 longitude-form refl refl x.longitude reads.longitude
     (optional-in o 2 (unit-form law level d class.AngleUnit kinds.Angle refl (in-angle kinds.Angle) (λ raw h. h)) refl
     refl x.unit reads.unit
     (idents-in o 3 refl x.identifiers reads.identifiers refl)
-    ∙ opt-angle level (is_zero x.longitude) (those d class.AngleUnit items) x.unit
-    (λ e. o.own (zero-written law zero_plain level (those d class.Number items) (front_in o 1)
-    (kept-good level d class.Number items o.kept)
-    (those-looked d class.Number (slots_of d) items v) (only-in o 1 refl refl) x.longitude reads.longitude e))
-    reads.unit _)))
+    ∙ opt-angle level (is_zero x.longitude) (those d class.AngleUnit (arguments item)) x.unit
+    (λ e. o.own (raws-in o 1 longitude-form refl refl refl x.longitude reads.longitude
+    ∙ ap (λ (bytes : List ℕ). bytes ∷ []) (ap plain (zero-is x.longitude (normal-read _ x.longitude reads.longitude) e) ∙ zero_plain)))
+    reads.unit _))))

@@ -1,11 +1,11 @@
 -- Normal ensembles, frames of either sort, and base CRSs are the one form of their values.
-use Rattle.std.proofs.Common.{◌≡◌, ◌≢◌, ℕ, inr, Option, Some, None, List, [], ◌∷◌, codes, refl, ◌∙◌, ap}
-use Rattle.crs_text.specs.Prelude.{Item, leaf, node, Siblings, End, More, RefusedAt, arguments}
+use Rattle.std.proofs.Common.{◌≡◌, ℕ, List, codes, refl, ◌∙◌, ap, ap₂}
+use Rattle.crs_text.specs.Prelude.{Item, Siblings, End, More, RefusedAt, arguments}
 use Rattle.crs_shape.specs.declared.class.Class.{Class}
 use Rattle.crs_shape.specs.declared.class.Class.TheVariants as class
 use Rattle.crs_shape.specs.declared.unit_kind.UnitKind.TheVariants as kinds
 use Rattle.crs_shape.specs.Prelude.{SlotParts}
-use Rattle.crs_value.specs.Prelude.{BreaksAmong, those, ReadsElse, ReadsFirst, ReadsOptional, ReadsDatum, ReadsEnsemble, ReadsMeridian, ReadsAsDatum, ReadsAsEnsemble, ReadsBase, MeridianParts}
+use Rattle.crs_value.specs.Prelude.{BreaksAmong, those, ReadsElse, ReadsFirst, ReadsDatum, ReadsEnsemble, ReadsAsDatum, ReadsAsEnsemble, ReadsBase}
 use Rattle.crs_value.specs.declared.values.frame.Frame.{Frame}
 use Rattle.crs_value.specs.declared.values.frame.Frame.TheVariants as frame
 use Rattle.crs_value.specs.declared.values.level.Level.{Level}
@@ -13,11 +13,10 @@ use Rattle.crs_normal.specs.WithoutPlaces.{without_places}
 use Rattle.crs_normal.specs.SpelledCrs.{item_base, norm_base}
 use Rattle.crs_normal.specs.SpelledDynamic.{item_dynamic, norm_dynamic}
 use Rattle.crs_normal.specs.SpelledFrames.{item_datum, item_ellipsoid, item_ensemble, item_frame, item_member, item_meridian, norm_datum, norm_ellipsoid, norm_ensemble, norm_frame, norm_given, norm_member, norm_meridian, set_members}
-use Rattle.crs_normal.specs.SpelledItems.{opt}
-use Rattle.crs_normal.proofs.normal.CheckedLemmas.{Checked, IsUnbroken, by-class, first-or-none, unbroken-in}
+use Rattle.crs_normal.proofs.normal.CheckedLemmas.{Checked, IsUnbroken, by-class, first-or-none, unbroken-by-slots, unbroken-in}
 use Rattle.crs_normal.proofs.normal.DynamicLemmas.{dynamic-form}
 use Rattle.crs_normal.proofs.normal.EllipsoidLemmas.{ZeroPlain, ellipsoid-form, meridian-form}
-use Rattle.crs_normal.proofs.normal.FormLemmas.{Form, IsGood, Looked, Opened, found-in, front_in, good-in, mapped-in, missing-in, one-in, only-in, opened, optional-in, set-in, spelled-by}
+use Rattle.crs_normal.proofs.normal.FormLemmas.{Form, IsGood, Looked, Opened, by-slots, front_in, good-in, mapped-in, missing-in, one-in, only-in, optional-in, set-in, spelled-by, there-in}
 use Rattle.crs_normal.proofs.normal.FrameLemmas.{geodetic_datum-form, vertical_datum-form}
 use Rattle.crs_normal.proofs.normal.LeafLemmas.{PlainIsOne, number-node-form, text-form}
 use Rattle.crs_normal.proofs.normal.NamedLemmas.{member-form}
@@ -29,34 +28,30 @@ pub geodetic_ensemble-form : PlainIsOne → (level : Level) (c : Class) →
     Form level c class.GeodeticEnsemble (ReadsEnsemble class.GeodeticEnsemble)
     (λ e. item_ensemble (norm_ensemble level e))
 unfolding set_members
-geodetic_ensemble-form law level c (leaf kind place raw) x good reads = absurd reads.name
-geodetic_ensemble-form law level c (node place keyword square first others close) x good reads =
+geodetic_ensemble-form law level c =
     let d = class.GeodeticEnsemble in
-    let o = opened refl good in
-    spelled-by o o.written
+    by-slots refl (λ item keyword x o reads. spelled-by o o.written
     (one-in o 0 (text-form level d) refl refl x.name reads.name
     (set-in o item_member (norm_member level) (member-form level d) 1 refl o.sets.1.1.0 x.members reads.members
     (mapped-in o item_ellipsoid (norm_ellipsoid level) (ellipsoid-form law level d) 2 refl refl x.ellipsoid
     reads.ellipsoid
     (one-in o 3 (number-node-form law level d class.EnsembleAccuracy (codes "ENSEMBLEACCURACY") refl (λ bytes h. h)
     (λ raw h. h)) refl refl x.accuracy reads.accuracy
-    (idents-in o 4 refl x.identifiers reads.identifiers refl)))))
+    (idents-in o 4 refl x.identifiers reads.identifiers refl))))))
 
 pub vertical_ensemble-form : PlainIsOne → (level : Level) (c : Class) →
     Form level c class.VerticalEnsemble (ReadsEnsemble class.VerticalEnsemble)
     (λ e. item_ensemble (norm_ensemble level e))
 unfolding set_members
-vertical_ensemble-form law level c (leaf kind place raw) x good reads = absurd reads.name
-vertical_ensemble-form law level c (node place keyword square first others close) x good reads =
+vertical_ensemble-form law level c =
     let d = class.VerticalEnsemble in
-    let o = opened refl good in
-    spelled-by o o.written
+    by-slots refl (λ item keyword x o reads. spelled-by o o.written
     (one-in o 0 (text-form level d) refl refl x.name reads.name
     (set-in o item_member (norm_member level) (member-form level d) 1 refl o.sets.1.1.0 x.members reads.members
     (missing-in o item_ellipsoid (norm_ellipsoid level) (ellipsoid-form law level d) refl x.ellipsoid reads.ellipsoid
     (one-in o 2 (number-node-form law level d class.EnsembleAccuracy (codes "ENSEMBLEACCURACY") refl (λ bytes h. h)
     (λ raw h. h)) refl refl x.accuracy reads.accuracy
-    (idents-in o 3 refl x.identifiers reads.identifiers refl)))))
+    (idents-in o 3 refl x.identifiers reads.identifiers refl))))))
 
 -- ---- frames of either sort
 
@@ -79,17 +74,12 @@ frame-in : {level : Level} {c : Class} {slots : List SlotParts} {item : Item} {n
 frame-in {level = level} {c = c} {item = item} o d e keyword datum ensemble front p same same_ensemble free value reads
     rest after f =
     ap (λ xs. without_places_onto xs rest) p.1
-    ∙ ap (λ i. More i rest)
-    (by-class (ReadsAsDatum d) (ReadsFirst (ReadsAsEnsemble e) (those c e (arguments item))) c d p.0 (alone-in d same)
-    reads (λ has. as_datum value (has (IsGood level c d) (good-in o d)) (has (IsUnbroken d) (unbroken-in o d free)))
-    (λ r. by-class (ReadsAsEnsemble e) (λ v. ⊥) c e p.0 (alone-in e same_ensemble) (first-or-none (ReadsAsEnsemble e) (those c e (arguments item)) value r)
-    (λ has. as_ensemble value (has (IsGood level c e) (good-in o e))) (λ none. absurd none)))
-    ∙ ap (More (item_frame keyword (norm_frame level value))) f
+    ∙ ap₂ More
+    (by-class o (ReadsAsDatum d) (ReadsFirst (ReadsAsEnsemble e) (those c e (arguments item))) d p same reads
+    (λ has. as_datum value (has (IsGood level c d) (good-in o d)) (has (IsUnbroken d) (unbroken-in o d free)))
+    (λ not r. by-class o (ReadsAsEnsemble e) (λ v. ⊥) e p same_ensemble (first-or-none (ReadsAsEnsemble e) _ value r)
+    (λ has. as_ensemble value (has (IsGood level c e) (good-in o e))) (λ not none. absurd none))) f
   where
-    alone-in : (x : Class) → Looked o x (those c x (onto front End)) →
-        those c x (arguments item) ≡ those c x (More p.0 End)
-    alone-in x same = found-in o x same ∙ ap (λ xs. those c x (onto xs End)) p.1
-
     as_datum : (v : Frame) → IsGood level c d p.0 → IsUnbroken d p.0 → ReadsAsDatum d p.0 v →
         without_places p.0 ≡ item_frame keyword (norm_frame level v)
     as_datum (frame.Datum x) good free reads = datum p.0 x good (free, reads)
@@ -116,32 +106,17 @@ vertical_frame-in law o =
 
 -- ---- base CRSs
 
--- a prime meridian that is there
-pub opt-meridian : (R : Item → MeridianParts → Type 0) (level : Level) (found : List Item) (m : Option MeridianParts) →
-    found ≢ [] → ReadsOptional R found m → (rest : Siblings) →
-    opt (λ x. item_meridian (norm_given level x)) m rest ≡ opt item_meridian (norm_meridian level m) rest
-opt-meridian R level [] None some reads rest = absurd (some refl)
-opt-meridian R level [] (Some m) some reads rest = absurd reads
-opt-meridian R level (item ∷ items) None some reads rest = absurd reads
-opt-meridian R level (item ∷ items) (Some m) some reads rest = refl
-
 pub base-form : PlainIsOne → ZeroPlain → (level : Level) (c : Class) →
     Form level c class.BaseCrs (Checked class.BaseCrs (ReadsBase class.BaseCrs)) (λ b. item_base (norm_base level b))
-base-form law zero_plain level c (leaf kind place raw) x good checked = absurd checked.1.name
-base-form law zero_plain level c (node place keyword square first others close) x good checked =
+base-form law zero_plain level c =
     let d = class.BaseCrs in
-    let reads = checked.1 in
-    let o = opened refl good in
-    let items = More first others in
-    spelled-by o o.written
+    unbroken-by-slots refl (λ item keyword x o free inner reads. spelled-by o o.written
     (one-in o 0 (text-form level d) refl refl x.name reads.name
     (mapped-in o item_dynamic (norm_dynamic level) (dynamic-form law level d) 1 refl refl x.dynamic reads.dynamic
-    (geodetic_frame-in law o (front_in o 2) (only-in o 2 refl refl) refl refl (λ fault b. checked.0 fault (inr b))
-    x.frame reads.frame _ _
-    (optional-in o 3 (meridian-form law zero_plain level d) refl refl x.meridian reads.meridian
+    (geodetic_frame-in law o (front_in o 2) (only-in o 2 refl refl) refl refl inner x.frame reads.frame _ _
+    (there-in o item_meridian (norm_given level) (meridian-form law zero_plain level d) (norm_meridian level) (λ m. refl) 3
+    refl refl o.own x.meridian reads.meridian
     (optional-in o 4 (unit-form law level d class.AngleUnit kinds.Angle refl (in-angle kinds.Angle) (λ raw h. h)) refl
     refl x.unit reads.unit
     (idents-in o 5 refl x.identifiers reads.identifiers refl)
-    ∙ opt-units level kinds.Angle x.unit _)
-    ∙ opt-meridian (ReadsMeridian class.PrimeMeridian) level (those d class.PrimeMeridian items) x.meridian o.own
-    reads.meridian _))))
+    ∙ opt-units level kinds.Angle x.unit _))))))

@@ -1,44 +1,40 @@
 -- From the arguments of a normal node to what is written for what is read from them.
-use Rattle.std.proofs.Common.{IsTrue, IsFalse, ◌≡◌, ℕ, ◌≤◌, length, map, Bool, Option, Some, None, List, [], ◌∷◌, ◌++◌, refl, sym, ◌∙◌, ap, subst, arith}
-use Rattle.std.specs.Cmp.Lexicographic.{slice_cmp}
+use Rattle.std.proofs.Common.{IsTrue, IsFalse, ◌≡◌, ◌≢◌, ◌⊎◌, ℕ, ◌≤◌, length, map, Bool, true, Option, Some, None, List, [], ◌∷◌, ◌++◌, refl, sym, ◌∙◌, ap, ap₂, subst, arith}
 use Rattle.std.specs.Option.{option_map}
-use Rattle.std.specs.Ordering.{nat_cmp}
-use Rattle.crs_text.specs.Prelude.{Item, leaf, node, Siblings, End, More, arguments, item_text, others_text}
+use denote.Enum.Bare.{sameb}
+use Rattle.crs_text.specs.Prelude.{Item, leaf, node, Siblings, End, More, Kind, number, RefusedAt, arguments, item_text, others_text, raw_of}
+use Rattle.crs_shape.specs.contracts.class.Class.{the_type}
 use Rattle.crs_shape.specs.declared.class.Class.{Class}
-use Rattle.crs_shape.specs.Prelude.{Shaped, AreShaped, SlotParts, slots_of}
-use Rattle.crs_value.specs.Prelude.{AtClass, those, ReadsFirst, ReadsOptional, ReadsEach, kept, kept-where_none}
+use Rattle.crs_shape.specs.Prelude.{Shaped, AreShaped, SlotParts, class_of_kind, slots_of}
+use Rattle.crs_value.specs.Prelude.{AtClass, Breaks, BreaksAmong, Own, those, ReadsFirst, ReadsOptional, ReadsEach, kept, kept-where_none}
 use Rattle.crs_value.specs.declared.values.level.Level.{Level}
 use Rattle.crs_normal.specs.WithoutPlaces.{without_places, all_without_places}
 use Rattle.crs_normal.specs.Normal.{IsNormalIn, AreNormalIn, IsFirstKeyword, KeepsAll}
 use Rattle.crs_normal.specs.NormalOwn.{Ascend, HasSets, HasOwnForm}
 use Rattle.crs_value.specs.Sound.{Each}
-use Rattle.crs_normal.specs.Ascending.{Ascends}
+use Rattle.crs_normal.specs.Ascending.{Ascends, Below}
 use Rattle.crs_normal.specs.Ordered.{in_order}
 use Rattle.crs_normal.specs.SpelledItems.{each, node_from, opt}
-use Rattle.crs_normal.proofs.members.SetLemmas.{IsBelow, in_order-of}
-use Rattle.crs_normal.proofs.read.ViewLemmas.{View, looked, spread, those-at, those-looked, view, without_places_onto, without_places-spread, Front, alone, front-at, front_at, slot_at}
+use Rattle.crs_normal.proofs.members.SetLemmas.{in_order-of}
+use Rattle.crs_normal.proofs.read.ViewLemmas.{View, looked, spread, those-at, those-looked, view, without_places_onto, without_places-spread, Front, alone, front-at, front_at, same_class, slot_at}
 
 -- ---- the text of an item doesn't depend on places
-
-node-text : (keyword a b c d : List ℕ) → a ≡ c → b ≡ d →
-    keyword ++ 91 ∷ (a ++ (b ++ 93 ∷ [])) ≡ keyword ++ 91 ∷ (c ++ (d ++ 93 ∷ []))
-node-text keyword a b c d e f = cc
-
-more-text : (a b c d : List ℕ) → a ≡ c → b ≡ d → 44 ∷ (a ++ b) ≡ 44 ∷ (c ++ d)
-more-text a b c d e f = cc
 
 mutual
   pub without_places-text : (item : Item) → item_text (without_places item) ≡ item_text item
   without_places-text (leaf kind place raw) = refl
   without_places-text (node place keyword square first others close) =
-      node-text keyword (item_text (without_places first)) (others_text (all_without_places others)) (item_text first) (others_text others)
-      (without_places-text first) (all-without_places-text others)
+      ap₂ (λ a b. keyword ++ 91 ∷ (a ++ (b ++ 93 ∷ []))) (without_places-text first) (all-without_places-text others)
 
   all-without_places-text : (items : Siblings) → others_text (all_without_places items) ≡ others_text items
   all-without_places-text End = refl
   all-without_places-text (More item items) =
-      more-text (item_text (without_places item)) (others_text (all_without_places items)) (item_text item) (others_text items)
-      (without_places-text item) (all-without_places-text items)
+      ap₂ (λ a b. 44 ∷ (a ++ b)) (without_places-text item) (all-without_places-text items)
+
+-- nor do the bytes of a single item
+raw-kept : (item : Item) → raw_of (without_places item) ≡ raw_of item
+raw-kept (leaf kind place raw) = refl
+raw-kept (node place keyword square first others close) = refl
 
 -- ---- the items of a class in a normal node are of its shape and normal
 
@@ -71,44 +67,50 @@ pub record Opened (level : Level) (c : Class) (shape : List SlotParts) (item : I
   pub sets : HasSets c item
   pub kept : Kept level c (arguments item)
   pub slots : View c shape (arguments item)
+  pub raw : raw_of item ≡ keyword
+  pub without : without_places item ≡ node_from keyword (all_without_places (arguments item))
+  pub breaks : (fault : RefusedAt) → Own c item fault ⊎ BreaksAmong c (arguments item) fault → Breaks c item fault
 
-pub opened : {level : Level} {parent c : Class} {slots : List SlotParts} {place : ℕ} {keyword : List ℕ} {square : Bool}
-    {first : Item} {others : Siblings} {close : ℕ} → slots_of c ≡ slots →
-    IsGood level parent c (node place keyword square first others close) →
-    Opened level c slots (node place keyword square first others close) keyword
-opened {c = c} {first = first} {others = others} are_slots good =
+-- a class with slots is none of a single item
+pub no-leaf : (c : Class) {slot : SlotParts} {slots : List SlotParts} → slots_of c ≡ slot ∷ slots → (kind : Kind) →
+    sameb the_type (class_of_kind kind) c ≡ true → ⊥
+no-leaf c {slot = slot} {slots = slots} are kind same =
+    none kind (ap slots_of (same_class (class_of_kind kind) c same) ∙ are)
+  where
+    none : (kind : Kind) → slots_of (class_of_kind kind) ≡ slot ∷ slots → ⊥
+    none number e = cc
+    none other e = cc
+
+pub opened : {level : Level} {parent c : Class} {slot : SlotParts} {slots : List SlotParts} (item : Item) →
+    slots_of c ≡ slot ∷ slots → IsGood level parent c item → (keyword : List ℕ) × Opened level c (slot ∷ slots) item keyword
+opened {c = c} (leaf kind place raw) are_slots good = absurd (no-leaf c are_slots kind good.shaped)
+opened {c = c} (node place keyword square first others close) are_slots good =
     let s = good.shaped.1 in
     let normal = good.normal in
-    let are : AreShaped c (s.0 ∷ s.1.0) (More first others) = (s.1.1.0, (s.1.1.1.0, s.1.1.1.1.0)) in
-    record {
-      written = normal.first_keyword;
-      own = normal.own_form;
-      sets = normal.ascending_sets;
-      kept = record {
-        classes = s.0 ∷ s.1.0;
-        shaped = are;
-        normal = normal.normal_arguments;
-        left = normal.at_level;
-      };
-      slots = subst (λ (ss : List SlotParts). View c ss (More first others)) are_slots
-          (view c (s.0 ∷ s.1.0) (More first others) s.1.1.1.1.1 are);
-    }
+    let are : AreShaped c (s.0 ∷ s.1.0) (More first others) = (s.1.1.0, (s.1.1.1.0, s.1.1.1.1.0)) in (
+      keyword,
+      record {
+        written = normal.first_keyword;
+        own = normal.own_form;
+        sets = normal.ascending_sets;
+        kept = record {
+          classes = s.0 ∷ s.1.0;
+          shaped = are;
+          normal = normal.normal_arguments;
+          left = normal.at_level;
+        };
+        slots = subst (λ (ss : List SlotParts). View c ss (More first others)) are_slots
+            (view c (s.0 ∷ s.1.0) (More first others) s.1.1.1.1.1 are);
+        raw = refl;
+        without = refl;
+        breaks = λ fault b. b;
+      },
+    )
 
 pub node-spelled : (place : ℕ) (keyword word : List ℕ) (square : Bool) (first : Item) (others : Siblings) (close : ℕ)
     (items : Siblings) → keyword ≡ word →
     all_without_places (More first others) ≡ items → without_places (node place keyword square first others close) ≡ node_from word items
-node-spelled place keyword word square first others close items e f =
-    ap (λ w. node_from w (all_without_places (More first others))) e ∙ ap (node_from word) f
-
--- a node is what is written for its slots, one after another
-pub spelled-by : {level : Level} {c : Class} {slots : List SlotParts} {place : ℕ} {keyword word : List ℕ} {square : Bool}
-    {first : Item} {others items : Siblings} {close : ℕ}
-    (o : Opened level c slots (node place keyword square first others close) keyword) → keyword ≡ word →
-    spread c slots (More first others) o.slots ≡ items →
-    without_places (node place keyword square first others close) ≡ node_from word items
-spelled-by {c = c} {slots = slots} {place = place} {square = square} {first = first} {others = others} {close = close} o
-    e f =
-    node-spelled place _ _ square first others close _ e (without_places-spread c slots (More first others) o.slots ∙ f)
+node-spelled place keyword word square first others close items e f = ap₂ node_from e f
 
 -- ---- what is written for the values
 
@@ -117,21 +119,19 @@ abbrev pub Form : {V : Type 0} → Level → Class → Class → (Item → V →
 Form {V = V} level c d R spell = (item : Item) (value : V) → IsGood level c d item → R item value →
     without_places item ≡ spell value
 
-pub one-spelled : {V : Type 0} {level : Level} {c d : Class} {R : Item → V → Type 0} {spell : V → Item} →
-    Form level c d R spell →
-    (found front : List Item) → Each (IsGood level c d) found → found ≡ front → length front ≤ 1 → (value : V) →
-    ReadsFirst R found value →
-    {rest after : Siblings} → rest ≡ after → without_places_onto front rest ≡ More (spell value) after
-one-spelled {V = V} {level = level} {c = c} {d = d} {R = R} {spell = spell} form found front good e few value reads
-    {rest = rest} f =
-    alone front few (subst (Each (IsGood level c d)) e good) (subst (λ (xs : List Item). ReadsFirst R xs value) e reads)
-    ∙ ap (More (spell value)) f
-  where
-    alone : (front : List Item) → length front ≤ 1 → Each (IsGood level c d) front → ReadsFirst R front value →
-        without_places_onto front rest ≡ More (spell value) rest
-    alone [] few good reads = absurd reads
-    alone (item ∷ []) few good reads = ap (λ i. More i rest) (form item value good.0 reads)
-    alone (item ∷ other ∷ others) few good reads = absurd (omega arith)
+-- a node is what is written for its slots, one after another
+pub spelled-by : {level : Level} {c : Class} {slots : List SlotParts} {item : Item} {keyword word : List ℕ}
+    {items : Siblings} (o : Opened level c slots item keyword) → keyword ≡ word →
+    spread c slots (arguments item) o.slots ≡ items → without_places item ≡ node_from word items
+spelled-by {c = c} {slots = slots} {item = item} o e f =
+    o.without ∙ ap₂ node_from e (without_places-spread c slots (arguments item) o.slots ∙ f)
+
+-- it is enough to show of an opened node that it is what is written for the value
+pub by-slots : {V : Type 0} {level : Level} {parent c : Class} {slot : SlotParts} {slots : List SlotParts}
+    {R : Item → V → Type 0} {spell : V → Item} → slots_of c ≡ slot ∷ slots →
+    ((item : Item) (keyword : List ℕ) (x : V) → Opened level c (slot ∷ slots) item keyword → R item x →
+    without_places item ≡ spell x) → Form level parent c R spell
+by-slots are_slots by item x good reads = let q = opened item are_slots good in by item q.0 x q.1 reads
 
 -- an optional part, where a good item is what is written for its value
 pub optional-by : {V : Type 0} (Good : Item → Type 0) {R : Item → V → Type 0} {spell : V → Item} →
@@ -158,61 +158,32 @@ pub optional-spelled : {V : Type 0} {level : Level} {c d : Class} {R : Item → 
     {rest after : Siblings} → rest ≡ after → without_places_onto front rest ≡ opt spell value after
 optional-spelled {level = level} {c = c} {d = d} form = optional-by (IsGood level c d) form
 
+as-optional : {V : Type 0} (R : Item → V → Type 0) (found : List Item) (value : V) → ReadsFirst R found value →
+    ReadsOptional R found (Some value)
+as-optional R [] value reads = reads
+as-optional R (item ∷ items) value reads = reads
+
+pub one-spelled : {V : Type 0} {level : Level} {c d : Class} {R : Item → V → Type 0} {spell : V → Item} →
+    Form level c d R spell →
+    (found front : List Item) → Each (IsGood level c d) found → found ≡ front → length front ≤ 1 → (value : V) →
+    ReadsFirst R found value →
+    {rest after : Siblings} → rest ≡ after → without_places_onto front rest ≡ More (spell value) after
+one-spelled {R = R} form found front good e few value reads f =
+    optional-spelled form found front good e few (Some value) (as-optional R found value reads) f
+
 pub opt-mapped : {V W : Type 0} (spell : W → Item) (norm : V → W) (value : Option V) (rest : Siblings) →
     opt (λ v. spell (norm v)) value rest ≡ opt spell (option_map norm value) rest
 opt-mapped spell norm None rest = refl
 opt-mapped spell norm (Some v) rest = refl
 
--- the items are what is written for the values
-abbrev pub AreWritten : {V : Type 0} → (V → Item) → List Item → List V → Type 0
-AreWritten spell items values = ReadsEach (λ item value. without_places item ≡ spell value) items values
-
-pub each-written : {V W : Type 0} (level : Level) (c d : Class) (R : Item → V → Type 0) (spell : W → Item) (norm : V →
-    W) → Form level c d R (λ v. spell (norm v)) →
-    (items : List Item) → Each (IsGood level c d) items → (values : List V) → ReadsEach R items values →
-    AreWritten spell items (map norm values)
-each-written level c d R spell norm form [] good [] reads = tt
-each-written level c d R spell norm form [] good (v ∷ vs) reads = absurd reads
-each-written level c d R spell norm form (item ∷ items) good [] reads = absurd reads
-each-written level c d R spell norm form (item ∷ items) good (v ∷ vs) reads =
-    (form item v good.0 reads.0, each-written level c d R spell norm form items good.1 vs reads.1)
-
-pub written-onto : {W : Type 0} (spell : W → Item) (items : List Item) (values : List W) →
-    AreWritten spell items values → (rest after : Siblings) → rest ≡ after →
-    without_places_onto items rest ≡ each spell values after
-written-onto spell [] [] h rest after e = e
-written-onto spell [] (v ∷ vs) h rest after e = absurd h
-written-onto spell (item ∷ items) [] h rest after e = absurd h
-written-onto spell (item ∷ items) (v ∷ vs) h rest after e =
-    ap (λ i. More i (without_places_onto items rest)) h.0 ∙ ap (More (spell v)) (written-onto spell items vs h.1 rest after e)
-
-text-as : {W : Type 0} (spell : W → Item) (item : Item) (value : W) → without_places item ≡ spell value →
-    item_text item ≡ item_text (spell value)
-text-as spell item value e = sym (without_places-text item) ∙ ap item_text e
-
-below-as : {W : Type 0} (spell : W → Item) (i j : Item) (v w : W) → without_places i ≡ spell v → without_places j ≡ spell w → IsBelow item_text i j →
-    IsBelow (λ x. item_text (spell x)) v w
-below-as spell i j v w e f below =
-    ap (λ (bytes : List ℕ). slice_cmp nat_cmp bytes (item_text (spell w))) (sym (text-as spell i v e))
-    ∙ ap (slice_cmp nat_cmp (item_text i)) (sym (text-as spell j w f)) ∙ below
-
--- ascending items are written for ascending values
-below-written : {W : Type 0} (spell : W → Item) (item : Item) (value : W) → without_places item ≡ spell value →
-    (items : List Item) (values : List W) → AreWritten spell items values →
-    Each (IsBelow item_text item) items → Each (IsBelow (λ w. item_text (spell w)) value) values
-below-written spell item value e [] [] h below = tt
-below-written spell item value e [] (v ∷ vs) h below = absurd h
-below-written spell item value e (i ∷ is) [] h below = tt
-below-written spell item value e (i ∷ is) (v ∷ vs) h below =
-    (below-as spell item i value v e h.0 below.0, below-written spell item value e is vs h.1 below.1)
-
-written-ascend : {W : Type 0} (spell : W → Item) (items : List Item) (values : List W) → AreWritten spell items values →
-    Ascend items → Ascends (λ w. item_text (spell w)) values
-written-ascend spell [] [] h up = tt
-written-ascend spell [] (v ∷ vs) h up = absurd h
-written-ascend spell (i ∷ is) [] h up = absurd h
-written-ascend spell (i ∷ is) (v ∷ vs) h up =
-    (below-written spell i v h.0 is vs h.1 up.0, written-ascend spell is vs h.1 up.1)
+-- one that is there
+opt-there : {V W : Type 0} (R : Item → V → Type 0) (spell : W → Item) (norm : V → W) (all : Option V → Option W) →
+    ((v : V) → all (Some v) ≡ Some (norm v)) → (found : List Item) (value : Option V) → found ≢ [] →
+    ReadsOptional R found value → (rest : Siblings) →
+    opt (λ v. spell (norm v)) value rest ≡ opt spell (all value) rest
+opt-there R spell norm all are [] value some reads rest = absurd (some refl)
+opt-there R spell norm all are (item ∷ items) None some reads rest = absurd reads
+opt-there R spell norm all are (item ∷ items) (Some v) some reads rest = rw (are v)
 
 -- from no items nothing is read
 reads-none : {V : Type 0} (R : Item → V → Type 0) (items : List Item) (values : List V) → ReadsEach R items values →
@@ -228,20 +199,49 @@ pub reads-kept : {V : Type 0} (level : Level) (R : Item → V → Type 0) (items
 reads-kept level R items values reads =
     kept-where_none level items values (reads-none R items values reads)
 
--- a set, in order
-pub set-spelled : {V W : Type 0} (level : Level) (c d : Class) (R : Item → V → Type 0) (spell : W → Item) (norm : V →
-    W) → Form level c d R (λ v. spell (norm v)) →
-    (found front : List Item) → Each (IsGood level c d) found → found ≡ front → Ascend found → (values : List V) →
-    ReadsEach R found values →
-    (rest after : Siblings) → rest ≡ after →
-    without_places_onto front rest ≡ each spell (in_order (λ w. item_text (spell w)) (map norm values)) after
-set-spelled level c d R spell norm form found front good e up values reads rest after f =
-    let written = each-written level c d R spell norm form found good values reads in
-    ap (λ xs. without_places_onto xs rest) (sym e)
-    ∙ written-onto spell found (map norm values) written rest after f
-    ∙ ap (λ ws. each spell ws after)
-    (sym (in_order-of (λ w. item_text (spell w)) (map norm values)
-    (written-ascend spell found (map norm values) written up)))
+-- ---- sets
+
+module _ {V W : Type 0} {level : Level} {c d : Class} {R : Item → V → Type 0} (spell : W → Item) (norm : V → W) (form : Form level c d R (λ v. spell (norm v))) where
+  each-onto : (items : List Item) → Each (IsGood level c d) items → (values : List V) → ReadsEach R items values →
+      {rest after : Siblings} → rest ≡ after → without_places_onto items rest ≡ each spell (map norm values) after
+  each-onto [] good [] reads e = e
+  each-onto [] good (v ∷ vs) reads e = absurd reads
+  each-onto (item ∷ items) good [] reads e = absurd reads
+  each-onto (item ∷ items) good (v ∷ vs) reads e =
+      ap₂ More (form item v good.0 reads.0) (each-onto items good.1 vs reads.1 e)
+
+  text-as : (item : Item) (v : V) → IsGood level c d item → R item v → item_text item ≡ item_text (spell (norm v))
+  text-as item v good reads = sym (without_places-text item) ∙ ap item_text (form item v good reads)
+
+  -- what is below ascending items is below the values, which ascend too
+  each-below : (bytes : List ℕ) (items : List Item) → Each (IsGood level c d) items → (values : List V) →
+      ReadsEach R items values → Each (λ i. Below bytes (item_text i)) items →
+      Each (λ w. Below bytes (item_text (spell w))) (map norm values)
+  each-below bytes items good [] reads below = tt
+  each-below bytes [] good (v ∷ vs) reads below = absurd reads
+  each-below bytes (item ∷ items) good (v ∷ vs) reads below = (
+    subst (Below bytes) (text-as item v good.0 reads.0) below.0,
+    each-below bytes items good.1 vs reads.1 below.1,
+  )
+
+  each-ascend : (items : List Item) → Each (IsGood level c d) items → (values : List V) → ReadsEach R items values →
+      Ascend items → Ascends (λ w. item_text (spell w)) (map norm values)
+  each-ascend items good [] reads up = tt
+  each-ascend [] good (v ∷ vs) reads up = absurd reads
+  each-ascend (item ∷ items) good (v ∷ vs) reads up = (
+    subst (λ bytes. Each (λ w. Below bytes (item_text (spell w))) (map norm vs)) (text-as item v good.0 reads.0)
+        (each-below (item_text item) items good.1 vs reads.1 up.0),
+    each-ascend items good.1 vs reads.1 up.1,
+  )
+
+  -- a set, in order
+  pub set-spelled : (found front : List Item) → Each (IsGood level c d) found → found ≡ front → Ascend found →
+      (values : List V) → ReadsEach R found values → {rest after : Siblings} → rest ≡ after →
+      without_places_onto front rest ≡ each spell (in_order (λ w. item_text (spell w)) (map norm values)) after
+  set-spelled found front good e up values reads {rest = rest} {after = after} f =
+      ap (λ xs. without_places_onto xs rest) (sym e) ∙ each-onto found good values reads f
+      ∙ ap (λ ws. each spell ws after)
+      (sym (in_order-of (λ w. item_text (spell w)) (map norm values) (each-ascend found good values reads up)))
 
 -- ---- the arguments in a slot, which those of a class are
 
@@ -275,12 +275,30 @@ module _ {level : Level} {c : Class} {slots : List SlotParts} {item : Item} {key
         {rest after : Siblings} → rest ≡ after → without_places_onto (front_in k) rest ≡ opt spell value after
     optional-in = optional-spelled form _ (front_in k) (good-in d) (found-in d same) ((front-in k).not_more single)
 
+    -- the bytes of the one item of the class
+    pub raws-in : IsTrue (slot_at slots k).required → (value : V) → ReadsFirst R (those c d (arguments item)) value →
+        map raw_of (those c d (arguments item)) ≡ raw_of (spell value) ∷ []
+    raws-in required value reads =
+        let p = only-in k required single in
+        let are = found-in d same ∙ p.1 in
+        let good = (subst (Each (IsGood level c d)) are (good-in d)).0 in
+        ap (map raw_of) are ∙ ap (λ raw. raw ∷ [])
+        (sym (raw-kept p.0) ∙ ap raw_of (form p.0 value good (subst (λ (xs : List Item). ReadsFirst R xs value) are reads)))
+
   -- an optional part in its normal form
   module _ {d : Class} {V W : Type 0} {R : Item → V → Type 0} (spell : W → Item) (norm : V → W) (form : Form level c d R (λ v. spell (norm v))) where
     pub mapped-in : (k : ℕ) → Looked d (front_in k) → IsFalse (slot_at slots k).many → (value : Option V) →
         ReadsOptional R (those c d (arguments item)) value → {rest after : Siblings} → rest ≡ after →
         without_places_onto (front_in k) rest ≡ opt spell (option_map norm value) after
     mapped-in k same single value reads f = optional-in k form same single value reads f ∙ opt-mapped spell norm value _
+
+    -- one that is there, as a part that may be missing is written
+    pub there-in : (all : Option V → Option W) → ((v : V) → all (Some v) ≡ Some (norm v)) → (k : ℕ) →
+        Looked d (front_in k) → IsFalse (slot_at slots k).many → those c d (arguments item) ≢ [] → (value : Option V) →
+        ReadsOptional R (those c d (arguments item)) value → {rest after : Siblings} → rest ≡ after →
+        without_places_onto (front_in k) rest ≡ opt spell (all value) after
+    there-in all are k same single some value reads f =
+        optional-in k form same single value reads f ∙ opt-there R spell norm all are _ value some reads _
 
     -- where no slot takes it
     pub missing-in : Looked d [] → (value : Option V) → ReadsOptional R (those c d (arguments item)) value →
@@ -293,5 +311,5 @@ module _ {level : Level} {c : Class} {slots : List SlotParts} {item : Item} {key
       Ascend (those c d (arguments item)) → (values : List V) → ReadsEach R (those c d (arguments item)) values →
       {rest after : Siblings} → rest ≡ after →
       without_places_onto (front_in k) rest ≡ each spell (in_order (λ w. item_text (spell w)) (map norm values)) after
-  set-in {d = d} {R = R} spell norm form k same up values reads f =
-      set-spelled level c d R spell norm form _ (front_in k) (good-in d) (found-in d same) up values reads _ _ f
+  set-in {d = d} spell norm form k same =
+      set-spelled spell norm form _ (front_in k) (good-in d) (found-in d same)

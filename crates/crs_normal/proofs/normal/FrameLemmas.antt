@@ -1,15 +1,15 @@
--- Normal reference frames and ensembles are the one form of their values.
-use Rattle.std.proofs.Common.{◌≡◌, inl, Option, Some, None, List, [], codes, refl, subst}
-use Rattle.crs_text.specs.Prelude.{Item, leaf, node}
+-- Normal reference frames are the one form of their values.
+use Rattle.std.proofs.Common.{◌≡◌, Option, Some, None, List, [], codes, refl, subst}
+use Rattle.crs_text.specs.Prelude.{Item}
 use Rattle.crs_shape.specs.declared.class.Class.{Class}
 use Rattle.crs_shape.specs.declared.class.Class.TheVariants as class
 use Rattle.crs_value.specs.Prelude.{Own, ReadsOptional, ReadsDatum}
 use Rattle.crs_value.specs.declared.values.level.Level.{Level}
 use Rattle.crs_normal.specs.SpelledFrames.{item_datum, item_ellipsoid, norm_datum, norm_ellipsoid}
 use Rattle.crs_normal.proofs.normal.AnchorLemmas.{anchors-in}
-use Rattle.crs_normal.proofs.normal.CheckedLemmas.{Checked}
+use Rattle.crs_normal.proofs.normal.CheckedLemmas.{Checked, unbroken-by-slots}
 use Rattle.crs_normal.proofs.normal.EllipsoidLemmas.{ellipsoid-form}
-use Rattle.crs_normal.proofs.normal.FormLemmas.{front-in, Form, mapped-in, missing-in, one-in, opened, spelled-by}
+use Rattle.crs_normal.proofs.normal.FormLemmas.{front-in, Form, mapped-in, missing-in, one-in, spelled-by}
 use Rattle.crs_normal.proofs.normal.LeafLemmas.{PlainIsOne, text-form}
 use Rattle.crs_normal.proofs.normal.UnitLemmas.{idents-in}
 
@@ -24,31 +24,23 @@ pub geodetic_datum-form : PlainIsOne → (level : Level) (c : Class) →
     Form level c class.GeodeticFrame (Checked class.GeodeticFrame (ReadsDatum class.GeodeticFrame))
     (λ d. item_datum (codes "DATUM") (norm_datum level d))
 unfolding Own
-geodetic_datum-form law level c (leaf kind place raw) x good checked = absurd checked.1.name
-geodetic_datum-form law level c (node place keyword square first others close) x good checked =
+geodetic_datum-form law level c =
     let d = class.GeodeticFrame in
-    let reads = checked.1 in
-    let o = opened refl good in
-    spelled-by o o.written
+    unbroken-by-slots refl (λ item keyword x o own inner reads. spelled-by o o.written
     (one-in o 0 (text-form level d) refl refl x.name reads.name
     (mapped-in o item_ellipsoid (norm_ellipsoid level) (ellipsoid-form law level d) 1 refl refl x.ellipsoid
     reads.ellipsoid
-    (anchors-in law o o.own 2 (front-in o 2).inside refl refl (λ fault b. checked.0 fault (inl b)) x.anchor
-    x.anchor_epoch reads.anchor reads.anchor_epoch
-    (idents-in o 3 refl x.identifiers reads.identifiers refl))))
+    (anchors-in law o o.own 2 (front-in o 2).inside refl refl own x.anchor x.anchor_epoch reads.anchor reads.anchor_epoch
+    (idents-in o 3 refl x.identifiers reads.identifiers refl)))))
 
 pub vertical_datum-form : PlainIsOne → (level : Level) (c : Class) →
     Form level c class.VerticalFrame (Checked class.VerticalFrame (ReadsDatum class.VerticalFrame))
     (λ d. item_datum (codes "VDATUM") (norm_datum level d))
 unfolding Own
-vertical_datum-form law level c (leaf kind place raw) x good checked = absurd checked.1.name
-vertical_datum-form law level c (node place keyword square first others close) x good checked =
+vertical_datum-form law level c =
     let d = class.VerticalFrame in
-    let reads = checked.1 in
-    let o = opened refl good in
-    spelled-by o o.written
+    unbroken-by-slots refl (λ item keyword x o own inner reads. spelled-by o o.written
     (one-in o 0 (text-form level d) refl refl x.name reads.name
     (missing-in o item_ellipsoid (norm_ellipsoid level) (ellipsoid-form law level d) refl x.ellipsoid reads.ellipsoid
-    (anchors-in law o o.own 1 (front-in o 1).inside refl refl (λ fault b. checked.0 fault (inl b)) x.anchor
-    x.anchor_epoch reads.anchor reads.anchor_epoch
-    (idents-in o 2 refl x.identifiers reads.identifiers refl))))
+    (anchors-in law o o.own 1 (front-in o 1).inside refl refl own x.anchor x.anchor_epoch reads.anchor reads.anchor_epoch
+    (idents-in o 2 refl x.identifiers reads.identifiers refl)))))

@@ -1,9 +1,11 @@
 -- A normal coordinate system is the one form of its value: its axes are in order of position.
-use Rattle.std.proofs.Common.{IsFalse, ◌≡◌, ℕ, suc, ◌+◌, ◌^◌, ◌<◌, length, true, false, Some, List, [], ◌∷◌, ◌++◌, if◌then◌else◌, decimal, refl, sym, ◌∙◌, ap, subst, arith, append_assoc, length-append}
+use Rattle.std.proofs.Common.{IsFalse, ◌≡◌, ℕ, suc, ◌+◌, ◌^◌, ◌≤◌, ◌<◌, ⊎_elim, length, true, false, Option, Some, List, [], ◌∷◌, if◌then◌else◌, decimal, refl, sym, ◌∙◌, ap, arith}
 use Rattle.std.specs.Str.{bytes_eq}
+use Rattle.std.proofs.lemmas.Bool.{cases_Bool}
 use Rattle.std.proofs.lemmas.Fmt.{decimal_injective}
 use Rattle.std.proofs.lemmas.Slice.Eq.{bytes_eq-Decides}
-use Rattle.crs_text.specs.Prelude.{Item, leaf, node, Siblings, More, arguments}
+use Rattle.crs_decimal.specs.Prelude.{Value}
+use Rattle.crs_text.specs.Prelude.{Item, Siblings, More, arguments}
 use Rattle.crs_shape.specs.declared.class.Class.{Class}
 use Rattle.crs_shape.specs.declared.class.Class.TheVariants as class
 use Rattle.crs_shape.specs.declared.system_type.SystemType.{SystemType}
@@ -15,7 +17,7 @@ use Rattle.crs_value.specs.Sound.{Each}
 use Rattle.crs_normal.specs.SpelledItems.{each}
 use Rattle.crs_normal.specs.SpelledSystems.{axes_from, axis_at, is_at, item_axis, item_head, norm_axis, norm_system, system_items, with_axis}
 use Rattle.crs_normal.proofs.normal.AxisLemmas.{IsNumbered, axis-form, type-form}
-use Rattle.crs_normal.proofs.normal.FormLemmas.{Form, IsGood, Looked, Opened, found-in, front_in, good-in, one-in, opened, spelled-by}
+use Rattle.crs_normal.proofs.normal.FormLemmas.{Form, IsGood, Looked, Opened, by-slots, found-in, front_in, good-in, one-in, spelled-by}
 use Rattle.crs_normal.proofs.normal.DimensionLemmas.{AreSmall}
 use Rattle.crs_normal.proofs.normal.HeadLemmas.{AreFree, Laws, each-length, few-axes}
 use Rattle.crs_normal.proofs.normal.LeafLemmas.{PlainIsOne, number-form}
@@ -30,7 +32,7 @@ numbered level system k (axis ∷ axes) = norm_axis level system k axis ∷ numb
 
 abbrev AllNumbered : ℕ → List AxisParts → Type 0
 AllNumbered k [] = Unit {0}
-AllNumbered k (axis ∷ axes) = IsNumbered k axis × AllNumbered (k + 1) axes
+AllNumbered k (axis ∷ axes) = IsNumbered k axis.order × AllNumbered (k + 1) axes
 
 record AreAxes (level : Level) (system : SystemParts) (k : ℕ) (axes : List AxisParts) (items : List Item)
     (rest : Siblings) : Type 0 where
@@ -57,98 +59,64 @@ axes-read law level c system k (i ∷ is) (x ∷ xs) good ordered own reads rest
 abbrev limit : ℕ
 limit = 2 ^ 64
 
-same-bytes : (xs : List ℕ) → bytes_eq xs xs ≡ true
-same-bytes xs = (bytes_eq-Decides xs xs).1 refl
+at-order : (k j place : ℕ) (order : Option Value) → IsNumbered j order →
+    is_at k place order ≡ bytes_eq (decimal j) (decimal k)
+at-order k j place order n = ap (is_at k place) n.is ∙ ap (λ bytes. bytes_eq bytes (decimal k)) n.spelled
 
-equal-bytes : (xs ys : List ℕ) → bytes_eq xs ys ≡ true → xs ≡ ys
-equal-bytes xs ys e = (bytes_eq-Decides xs ys).0 e
+at-here : (k place : ℕ) (order : Option Value) → IsNumbered k order → is_at k place order ≡ true
+at-here k place order n = at-order k k place order n ∙ (bytes_eq-Decides (decimal k) (decimal k)).1 refl
 
-at-order : (k j place : ℕ) (axis : AxisParts) → IsNumbered j axis →
-    is_at k place axis.order ≡ bytes_eq (decimal j) (decimal k)
-at-order k j place axis n = ap (is_at k place) n.order ∙ ap (λ bytes. bytes_eq bytes (decimal k)) n.spelled
-
-at-here : (k place : ℕ) (axis : AxisParts) → IsNumbered k axis → is_at k place axis.order ≡ true
-at-here k place axis n = at-order k k place axis n ∙ same-bytes (decimal k)
-
-not-here : (k j place : ℕ) (axis : AxisParts) → IsNumbered j axis → j < k → k < limit → is_at k place axis.order ≡ false
-not-here k j place axis n less within =
-    at-order k j place axis n
-    ∙ (elim (bytes_eq (decimal j) (decimal k)) as (λ b. bytes_eq (decimal j) (decimal k) ≡ b → b ≡ false) [
-      | true ↦ λ e. absurd (apart
-          (decimal_injective j k (below less within) within (equal-bytes (decimal j) (decimal k) e)))
-      | false ↦ λ e. refl
-    ] refl)
+not-here : (k j place : ℕ) (order : Option Value) → IsNumbered j order → j < k → k < limit →
+    is_at k place order ≡ false
+not-here k j place order n less within =
+    at-order k j place order n
+    ∙ ⊎_elim (λ e. absurd (apart ((bytes_eq-Decides (decimal j) (decimal k)).0 e))) (λ e. e)
+    (cases_Bool (bytes_eq (decimal j) (decimal k)))
   where
-    below : {m : ℕ} → j < k → k < m → j < m
-    below p q = omega arith
+    apart : decimal j ≡ decimal k → ⊥
+    apart e =
+        let same : j ≡ k = decimal_injective j k (omega (arith, less, within)) within e in
+        omega (arith, less, same)
 
-    apart : j ≡ k → ⊥
-    apart e = omega arith
+-- an axis of this position or a later one is found among these, which come after the others
+abbrev IsAmong : ℕ → List AxisParts → List AxisParts → Type 0
+IsAmong k axes all = (j : ℕ) → k ≤ j → j < limit → (place : ℕ) × (axis_at j 1 all ≡ axis_at j place axes)
 
--- the axis after those of the lower orders
-axis-behind : (k j place : ℕ) (before : List AxisParts) (axis : AxisParts) (behind : List AxisParts) →
-    AllNumbered j before → j + length before ≡ k → k < limit →
-    IsNumbered k axis → axis_at k place (before ++ axis ∷ behind) ≡ Some axis
-axis-behind k j place [] axis behind numbered_so e within n =
-    ap (λ b. if b then Some axis else axis_at k (place + 1) behind) (at-here k place axis n)
-axis-behind k j place (b ∷ bs) axis behind numbered_so e within n =
-    ap (λ t. if t then Some b else axis_at k (place + 1) (bs ++ axis ∷ behind))
-    (not-here k j place b numbered_so.0 less within)
-    ∙ axis-behind k (j + 1) (place + 1) bs axis behind numbered_so.1 step within n
-  where
-    less : j < k
-    less = let h : length (b ∷ bs) ≡ suc (length bs) = refl in omega arith
-
-    step : (j + 1) + length bs ≡ k
-    step = let h : length (b ∷ bs) ≡ suc (length bs) = refl in omega arith
-
-numbered-more : (j k : ℕ) (before : List AxisParts) (axis : AxisParts) → AllNumbered j before → j + length before ≡ k →
-    IsNumbered k axis → AllNumbered j (before ++ axis ∷ [])
-numbered-more j k [] axis numbered_so e n = (subst (λ m. IsNumbered m axis) (sym (here e)) n, tt)
-  where
-    here : j + 0 ≡ k → j ≡ k
-    here h = omega arith
-numbered-more j k (b ∷ bs) axis numbered_so e n = (numbered_so.0, numbered-more (j + 1) k bs axis numbered_so.1 step n)
-  where
-    step : (j + 1) + length bs ≡ k
-    step = let h : length (b ∷ bs) ≡ suc (length bs) = refl in omega arith
-
-from-numbered : (level : Level) (system : SystemParts) (k : ℕ) (before axes : List AxisParts) →
-    system.axes ≡ before ++ axes → AllNumbered 1 before → AllNumbered k axes →
-    1 + length before ≡ k → k + length axes < limit →
+from-numbered : (level : Level) (system : SystemParts) (k : ℕ) (axes : List AxisParts) → IsAmong k axes system.axes →
+    AllNumbered k axes → k + length axes < limit →
     axes_from level system k (length axes) ≡ numbered level system k axes
-from-numbered level system k before [] are lower numbered_so e within = refl
-from-numbered level system k before (axis ∷ axes) are lower numbered_so e within =
+from-numbered level system k [] among numbered_so within = refl
+from-numbered level system k (axis ∷ axes) among numbered_so within =
     ap (λ found. with_axis level system k found (axes_from level system (k + 1) (length axes)))
-    (ap (axis_at k 1) are ∙ axis-behind k 1 1 before axis axes lower e within_k numbered_so.0)
+    (here.1 ∙ ap (λ b. if b then Some axis else axis_at k (here.0 + 1) axes)
+    (at-here k here.0 axis.order numbered_so.0))
     ∙ ap (λ xs. norm_axis level system k axis ∷ xs)
-    (from-numbered level system (k + 1) (before ++ axis ∷ []) axes (are ∙ sym (append_assoc before (axis ∷ []) axes))
-    (numbered-more 1 k before axis lower e numbered_so.0) numbered_so.1 longer within_more)
+    (from-numbered level system (k + 1) axes later numbered_so.1 within_more)
   where
-    suc-length : length (axis ∷ axes) ≡ suc (length axes)
-    suc-length = refl
+    here : (place : ℕ) × (axis_at k 1 system.axes ≡ axis_at k place (axis ∷ axes))
+    here = among k (omega arith) (omega (arith, within))
 
-    within_k : k < limit
-    within_k = let h = suc-length in omega arith
+    later : IsAmong (k + 1) axes system.axes
+    later j least less =
+        let a = among j (omega (arith, least)) less in (
+          a.0 + 1,
+          a.1 ∙ ap (λ b. if b then Some axis else axis_at j (a.0 + 1) axes)
+              (not-here j k a.0 axis.order numbered_so.0 (omega (arith, least)) less),
+        )
 
     within_more : (k + 1) + length axes < limit
-    within_more = let h = suc-length in omega arith
-
-    longer : 1 + length (before ++ axis ∷ []) ≡ k + 1
-    longer = let h = length-append before (axis ∷ []) in let o : length (axis ∷ []) ≡ 1 = refl in omega arith
+    within_more = let h : length (axis ∷ axes) ≡ suc (length axes) = refl in omega (arith, within)
 
 -- ---- systems
 
 head-form : PlainIsOne → (level : Level) (c : Class) →
     Form level c class.CoordinateSystem ReadsHead (λ s. item_head (norm_system level s))
-head-form law level c (leaf kind place raw) x good reads = absurd reads.dimension
-head-form law level c (node place keyword square first others close) x good reads =
+head-form law level c =
     let d = class.CoordinateSystem in
-    let o = opened refl good in
-    spelled-by o o.written
+    by-slots refl (λ item keyword x o reads. spelled-by o o.written
     (one-in o 0 (type-form level) refl refl x.system_type reads.system_type
     (one-in o 1 (number-form law level d (λ raw h. h)) refl refl x.dimension reads.dimension
-    (idents-in o 2 refl x.identifiers reads.identifiers refl)))
+    (idents-in o 2 refl x.identifiers reads.identifiers refl))))
 
 -- the node `CS`, the axes and no shared unit
 pub system-in : Laws → {level : Level} {c : Class} {slots : List SlotParts} {item : Item} {keyword : List ℕ}
@@ -175,7 +143,7 @@ system-in laws {level = level} {c = c} {item = item} o has dimensions small free
     (sym (found-in o class.Axis f))
     ∙ read.spelled
     ∙ ap (λ xs. each item_axis xs after)
-    (sym (from-numbered level x 1 [] x.axes refl tt read.numbered_so refl (more (length x.axes) within))))
+    (sym (from-numbered level x 1 x.axes (λ j least less. (1, refl)) read.numbered_so (more (length x.axes) within))))
   where
     more : (n : ℕ) → n + 1 < 2 ^ 64 → 1 + n < 2 ^ 64
     more n h = omega arith

@@ -1,6 +1,6 @@
 -- Normal units and lists of identifiers are the one form of their values.
-use Rattle.std.proofs.Common.{◌≡◌, ℕ, map, inl, inr, List, [], ◌∷◌, refl, sym, ◌∙◌, ap, subst}
-use Rattle.crs_text.specs.Prelude.{Item, leaf, node, Siblings, arguments, item_text}
+use Rattle.std.proofs.Common.{◌≡◌, ℕ, inl, inr, List, refl, sym, ◌∙◌, ap, subst, map-id}
+use Rattle.crs_text.specs.Prelude.{Item, Siblings, arguments, item_text, raw_of}
 use Rattle.crs_shape.specs.declared.class.Class.{Class}
 use Rattle.crs_shape.specs.declared.class.Class.TheVariants as class
 use Rattle.crs_shape.specs.declared.unit_kind.UnitKind.{UnitKind}
@@ -16,15 +16,11 @@ use Rattle.crs_value.specs.Sound.{Each}
 use Rattle.crs_normal.specs.Ordered.{in_order}
 use Rattle.crs_normal.specs.SpelledItems.{each}
 use Rattle.crs_normal.specs.SpelledUnits.{item_ident, item_unit, norm_unit, set_idents}
-use Rattle.crs_normal.proofs.normal.FormLemmas.{Form, IsGood, Kept, Looked, Opened, found-in, front_in, kept-good, one-in, opened, reads-kept, set-spelled, spelled-by}
+use Rattle.crs_normal.proofs.normal.FormLemmas.{Form, IsGood, Kept, Looked, Opened, by-slots, found-in, front_in, kept-good, one-in, reads-kept, set-spelled, spelled-by}
 use Rattle.crs_normal.proofs.normal.IdentLemmas.{ident-form}
 use Rattle.crs_normal.proofs.normal.LeafLemmas.{ArePlain, PlainIsOne, number-form, text-form}
 use Rattle.crs_normal.proofs.read.ViewLemmas.{without_places_onto}
 use Rattle.crs_normal.proofs.texts.WordFormLemmas.{kind-one}
-
-map-same : {A : Type 0} (xs : List A) → map (λ x. x) xs ≡ xs
-map-same [] = refl
-map-same (x ∷ xs) = ap (λ ys. x ∷ ys) (map-same xs)
 
 -- the identifiers in a slot
 pub idents-found-spelled : (level : Level) (c : Class) (items : Siblings) (front : List Item) →
@@ -36,9 +32,9 @@ pub idents-found-spelled : (level : Level) (c : Class) (items : Siblings) (front
     (rest after : Siblings) → rest ≡ after → without_places_onto front rest ≡ each item_ident (set_idents level identifiers) after
 unfolding set_idents
 idents-found-spelled level c items front good e up left identifiers reads rest after f =
-    set-spelled level c class.Identifier (ReadsIdent class.Identifier) item_ident (λ x. x)
-    (ident-form level c) (those c class.Identifier items) front good e up identifiers reads rest after f
-    ∙ ap (λ xs. each item_ident (in_order (λ i. item_text (item_ident i)) xs) after) (map-same identifiers
+    set-spelled item_ident (λ x. x) (ident-form level c) (those c class.Identifier items) front good e up identifiers
+    reads f
+    ∙ ap (λ xs. each item_ident (in_order (λ i. item_text (item_ident i)) xs) after) (map-id identifiers
     ∙ sym (reads-kept level (ReadsIdent class.Identifier) (those c class.Identifier items) identifiers reads left))
 
 pub idents-spelled : (level : Level) (c : Class) (items : Siblings) (front : List Item) → Kept level c items →
@@ -83,21 +79,19 @@ pub in-axis : (asked : UnitKind) → KindIn asked class.AxisUnit
 in-axis asked keyword (inl e) = (kinds.Length, (e, refl))
 in-axis asked keyword (inr e) = (kinds.Angle, (e, refl))
 
-keyword-of : (asked : UnitKind) (keyword : List ℕ) (k kind : UnitKind) → keyword ≡ unit_word k → kind_as asked k ≡ k →
-    SpellsWord keyword (unit_word kind) →
+keyword-of : (asked kind : UnitKind) (raw keyword : List ℕ) → raw ≡ keyword →
+    (k : UnitKind) × ((keyword ≡ unit_word k) × (kind_as asked k ≡ k)) → SpellsWord raw (unit_word kind) →
     keyword ≡ unit_word (kind_as asked kind)
-keyword-of asked keyword k kind e same spells =
-    let one = kind-one k kind (subst (λ (w : List ℕ). SpellsWord w (unit_word kind)) e spells) in
-    e ∙ ap unit_word (sym same ∙ ap (kind_as asked) one)
+keyword-of asked kind raw keyword same (k, (e, itself)) spells =
+    let one = kind-one k kind (subst (λ (w : List ℕ). SpellsWord w (unit_word kind)) (same ∙ e) spells) in
+    e ∙ ap unit_word (sym itself ∙ ap (kind_as asked) one)
 
 pub unit-form : PlainIsOne → (level : Level) (c d : Class) (asked : UnitKind) → slots_of d ≡ unit_slots →
     KindIn asked d → ArePlain d →
     Form level c d (ReadsUnit d) (λ u. item_unit (norm_unit level asked u))
-unit-form law level c d asked slots kind_in plains (leaf kind place raw) x good reads = absurd reads.name
-unit-form law level c d asked slots kind_in plains (node place keyword square first others close) x good reads =
-    let o = opened slots good in
-    let k = kind_in keyword o.written in
-    spelled-by o (keyword-of asked keyword k.0 x.kind k.1.0 k.1.1 reads.kind)
+unit-form law level c d asked slots kind_in plains =
+    by-slots slots (λ item keyword x o reads. spelled-by o
+    (keyword-of asked x.kind (raw_of item) keyword o.raw (kind_in keyword o.written) reads.kind)
     (one-in o 0 (text-form level d) refl refl x.name reads.name
     (one-in o 1 (number-form law level d plains) refl refl x.factor reads.factor
-    (idents-in o 2 refl x.identifiers reads.identifiers refl)))
+    (idents-in o 2 refl x.identifiers reads.identifiers refl))))
