@@ -7,7 +7,6 @@ use Rattle.crs_shape.specs.Prelude.{SlotParts}
 use Rattle.crs_value.specs.Prelude.{BreaksAmong, Own, those, ReadsElse, ReadsFirst, ReadsAsHorizontal, ReadsCompound, ReadsCrs, ReadsProjected, ReadsVertical}
 use Rattle.crs_value.specs.declared.values.compound.Horizontal.{Horizontal}
 use Rattle.crs_value.specs.declared.values.compound.Horizontal.TheVariants as horizontal
-use Rattle.crs_value.specs.declared.values.crs.Crs.{Crs}
 use Rattle.crs_value.specs.declared.values.crs.Crs.TheVariants as crs
 use Rattle.crs_value.specs.declared.values.level.Level.{Level}
 use Rattle.crs_normal.specs.WithoutPlaces.{without_places}
@@ -25,25 +24,22 @@ use Rattle.crs_normal.proofs.read.ViewLemmas.{onto, without_places_onto}
 -- ---- the horizontal part
 
 -- an item of a class, where it is of this one
-as-one : {V : Type 0} (level : Level) (parent c d : Class) (R : Class → Item → V → Type 0) {spell : V → Item} →
-    Form level parent d (Checked d (R d)) spell → (item : Item) (value : V) → IsGood level parent c item →
-    IsUnbroken c item → (c ≡ d) × R c item value → without_places item ≡ spell value
-as-one level parent c d R form item value good free reads =
-    form item value (subst (λ (x : Class). IsGood level parent x item) reads.0 good) (
-      subst (λ (x : Class). IsUnbroken x item) reads.0 free,
-      subst (λ (x : Class). R x item value) reads.0 reads.1,
-    )
+as-one : {V : Type 0} {level : Level} {parent : Class} (c d : Class) (R : Class → Item → V → Type 0)
+    {spell : V → Item} → Form level parent d (Checked d (R d)) spell → (item : Item) (value : V) →
+    IsGood level parent c item → Checked c (λ i v. (c ≡ d) × R c i v) item value → without_places item ≡ spell value
+as-one {level = level} {parent = parent} c d R form item value good (free, (same, reads)) =
+    form item value (subst (λ (x : Class). IsGood level parent x item) same good)
+    (subst (λ (x : Class). Checked x (R x) item value) same (free, reads))
 
-horizontal-form : Laws → (level : Level) (parent c : Class) (item : Item) (value : Horizontal) →
-    IsGood level parent c item → IsUnbroken c item → ReadsAsHorizontal c item value →
-    without_places item ≡ item_horizontal (norm_horizontal level value)
-horizontal-form laws level parent class.GeodeticCrs item (horizontal.Geodetic g) good free reads =
-    geodetic-form laws level parent item g good (free, reads.1)
-horizontal-form laws level parent class.GeographicCrs item (horizontal.Geodetic g) good free reads =
-    geographic-form laws level parent item g good (free, reads.1)
-horizontal-form laws level parent other item (horizontal.Geodetic g) good free reads = absurd reads.0
-horizontal-form laws level parent c item (horizontal.Projected p) good free reads =
-    as-one level parent c class.ProjectedCrs ReadsProjected (projected-form laws level parent) item p good free reads
+horizontal-form : Laws → (level : Level) (parent c : Class) →
+    Form level parent c (Checked c (ReadsAsHorizontal c)) (λ x. item_horizontal (norm_horizontal level x))
+horizontal-form laws level parent class.GeodeticCrs item (horizontal.Geodetic g) good reads =
+    geodetic-form laws level parent item g good (reads.0, reads.1.1)
+horizontal-form laws level parent class.GeographicCrs item (horizontal.Geodetic g) good reads =
+    geographic-form laws level parent item g good (reads.0, reads.1.1)
+horizontal-form laws level parent other item (horizontal.Geodetic g) good reads = absurd reads.1.0
+horizontal-form laws level parent c item (horizontal.Projected p) good reads =
+    as-one c class.ProjectedCrs ReadsProjected (projected-form laws level parent) item p good reads
 
 -- the one of three classes
 horizontal-in : Laws → {level : Level} {c : Class} {slots : List SlotParts} {item : Item} {keyword : List ℕ}
@@ -73,8 +69,8 @@ horizontal-in laws {level = level} {c = c} {item = item} o front p geodetic geog
         without_places p.0 ≡ item_horizontal (norm_horizontal level value)
     one-of d otherwise same read other =
         by-class o (ReadsAsHorizontal d) otherwise d p same read
-        (λ has. horizontal-form laws level c d p.0 value (has (IsGood level c d) (good-in o d))
-        (has (IsUnbroken d) (unbroken-in o d free))) (λ not. other)
+        (λ has read. horizontal-form laws level c d p.0 value (has (IsGood level c d) (good-in o d))
+        (has (IsUnbroken d) (unbroken-in o d free), read)) (λ not. other)
 
 -- ---- compound CRSs
 
@@ -99,14 +95,13 @@ compound-form laws level c =
 
 -- ---- CRSs of any kind
 
-pub crs-form : Laws → (level : Level) (parent c : Class) (item : Item) (value : Crs) → IsGood level parent c item →
-    IsUnbroken c item → ReadsCrs c item value →
-    without_places item ≡ item_crs (norm_crs level value)
-crs-form laws level parent c item (crs.Geodetic x) good free reads =
-    horizontal-form laws level parent c item (horizontal.Geodetic x) good free reads
-crs-form laws level parent c item (crs.Projected x) good free reads =
-    as-one level parent c class.ProjectedCrs ReadsProjected (projected-form laws level parent) item x good free reads
-crs-form laws level parent c item (crs.Vertical x) good free reads =
-    as-one level parent c class.VerticalCrs ReadsVertical (vertical-form laws level parent) item x good free reads
-crs-form laws level parent c item (crs.Compound x) good free reads =
-    as-one level parent c class.CompoundCrs ReadsCompound (compound-form laws level parent) item x good free reads
+pub crs-form : Laws → (c : Class) (level : Level) (parent : Class) →
+    Form level parent c (Checked c (ReadsCrs c)) (λ x. item_crs (norm_crs level x))
+crs-form laws c level parent item (crs.Geodetic x) good reads =
+    horizontal-form laws level parent c item (horizontal.Geodetic x) good reads
+crs-form laws c level parent item (crs.Projected x) good reads =
+    as-one c class.ProjectedCrs ReadsProjected (projected-form laws level parent) item x good reads
+crs-form laws c level parent item (crs.Vertical x) good reads =
+    as-one c class.VerticalCrs ReadsVertical (vertical-form laws level parent) item x good reads
+crs-form laws c level parent item (crs.Compound x) good reads =
+    as-one c class.CompoundCrs ReadsCompound (compound-form laws level parent) item x good reads

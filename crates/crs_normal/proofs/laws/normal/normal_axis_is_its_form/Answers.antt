@@ -1,11 +1,10 @@
 use Rattle.crs_normal.proofs.parts.AxisAloneLemmas.{axis-alone-form}
 use Rattle.crs_normal.proofs.normal.AxisLemmas.{axis-form, axis_meridian-form}
+use Rattle.crs_normal.proofs.normal.FormLemmas.{its}
 use Rattle.crs_normal.proofs.laws.normal.normal_axis_is_its_form.Goals as goal
 
 pub returns-clause-meridian : goal.returns-clause-meridian
-returns-clause-meridian c = λ level parent item value shaped normal reads.
-    axis_meridian-form c.plain_is_the_one.ensures.only level parent item value
-    (record { shaped = shaped; normal = normal }) reads
+returns-clause-meridian c = its (axis_meridian-form c.plain_is_the_one.ensures.only)
 
 pub returns-clause-axis : goal.returns-clause-axis
 returns-clause-axis c = λ level system parent position item value shaped normal ordered own reads.

@@ -1,6 +1,6 @@
+use Rattle.crs_normal.proofs.normal.FormLemmas.{its}
 use Rattle.crs_normal.proofs.normal.NamedLemmas.{conversion-form}
 use Rattle.crs_normal.proofs.laws.normal.normal_conversion_is_its_form.Goals as goal
 
 pub returns : goal.returns
-returns c = λ level parent item value shaped normal reads. conversion-form c.plain_is_the_one.ensures.only level parent
-    item value (record { shaped = shaped; normal = normal }) reads
+returns c = its (conversion-form c.plain_is_the_one.ensures.only)

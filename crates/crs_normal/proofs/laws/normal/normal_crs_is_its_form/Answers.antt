@@ -1,17 +1,18 @@
 use Rattle.std.proofs.Common.{refl}
 use Rattle.crs_shape.specs.declared.class.Class.TheVariants as class
 use Rattle.crs_value.specs.declared.values.crs.Crs.TheVariants as crs
+use Rattle.crs_normal.proofs.normal.CheckedLemmas.{its-unbroken}
 use Rattle.crs_normal.proofs.normal.CompoundLemmas.{crs-form}
 use Rattle.crs_normal.proofs.laws.normal.normal_crs_is_its_form.Goals as goal
 
 pub returns-clause-any : goal.returns-clause-any
-returns-clause-any c = λ level of parent item value shaped normal free reads.
-    crs-form (record {
+returns-clause-any c level of =
+    its-unbroken (crs-form (record {
       plain_one = c.plain_is_the_one.ensures.only;
       zero_plain = c.worked_examples.ensures.plain.3;
       symmetric = c.same_number_is_equivalence.ensures.symmetric;
       transitive = c.same_number_is_equivalence.ensures.transitive;
-    }) level parent of item value (record { shaped = shaped; normal = normal }) free reads
+    }) of) level
 
 pub returns-clause-geodetic : goal.returns-clause-geodetic
 returns-clause-geodetic c = λ level parent item value shaped normal free reads.

@@ -1,6 +1,6 @@
+use Rattle.crs_normal.proofs.normal.FormLemmas.{its}
 use Rattle.crs_normal.proofs.normal.DynamicLemmas.{dynamic-form}
 use Rattle.crs_normal.proofs.laws.normal.normal_dynamic_is_its_form.Goals as goal
 
 pub returns : goal.returns
-returns c = λ level parent item value shaped normal reads. dynamic-form c.plain_is_the_one.ensures.only level parent
-    item value (record { shaped = shaped; normal = normal }) reads
+returns c = its (dynamic-form c.plain_is_the_one.ensures.only)
