@@ -1,6 +1,6 @@
 -- Axes have one form exactly where they are the same, and the axis that is found at a position is
 -- the axis of that position.
-use Rattle.std.proofs.Common.{◌≡◌, ◌↔◌, ◌∙◌, ℕ, ◌+◌, ◌<◌, ◌^◌, inl, inr, Bool, true, false, List, [], ◌∷◌, Option, Some, None, refl, sym, subst, arith}
+use Rattle.std.proofs.Common.{◌≡◌, ◌↔◌, ◌∙◌, ℕ, ◌+◌, ◌<◌, ◌^◌, inl, inr, true, false, List, [], ◌∷◌, Option, Some, None, refl, sym, subst, arith}
 use Rattle.std.proofs.lemmas.Bool.{false≢true}
 use Rattle.std.proofs.lemmas.Bool.Decides.{Decides-eqb}
 use Rattle.crs_decimal.specs.Prelude.{Value, IsNormal}
@@ -15,7 +15,6 @@ use Rattle.crs_normal.specs.Decides.{FormDecides, Maybe, SetsDecide}
 use Rattle.crs_normal.specs.LowerLaws.{LowerLaws}
 use Rattle.crs_normal.specs.PartTexts.{norm_axis_alone}
 use Rattle.crs_normal.specs.SpelledSystems.{axis_at, is_at, norm_axis, norm_axis_meridian, norm_axis_meridians}
-use Rattle.crs_normal.specs.SpelledUnits.{norm_units}
 use Rattle.crs_normal.proofs.same.PartLemmas.{numbers-agree, options-agree, values-agree}
 use Rattle.crs_normal.proofs.same.UnitLemmas.{unit-agrees, units-agree}
 
@@ -34,11 +33,8 @@ plain-unit (Some u) s = s.0
 module _ (laws : LowerLaws) (sets : SetsDecide) (level : Level) where
   pub axis-meridian-agrees : FormDecides IsAxisMeridian (norm_axis_meridian level) (SameAxisMeridian level)
   axis-meridian-agrees a b in-a in-b =
-      let longitude = values-agree laws.normal_is_one a.longitude b.longitude in-a.longitude in-b.longitude in
-      let unit = unit-agrees laws.normal_is_one sets.idents level kinds.Angle a.unit b.unit in-a.unit.0 in-b.unit.0 in (
-        λ e. record { longitude = longitude.0 (λ i. (e i).longitude); unit = unit.0 (λ i. (e i).unit) },
-        λ s. rw (longitude.1 s.longitude, unit.1 s.unit),
-      )
+      let unit = unit-agrees laws.normal_is_one sets.idents level kinds.Angle a.unit b.unit in-a.unit.0 in-b.unit.0 in
+      grind (arith, values-agree laws.normal_is_one, unit)
 
   pub axis-meridians-agree : FormDecides (Maybe IsAxisMeridian) (norm_axis_meridians level)
       (BothOrNeither (SameAxisMeridian level))
@@ -47,22 +43,9 @@ module _ (laws : LowerLaws) (sets : SetsDecide) (level : Level) where
   -- two axes by themselves
   pub axis-alone-agrees : FormDecides IsAxis (norm_axis_alone level) (SameAxisAlone level)
   axis-alone-agrees x y in-x in-y =
-      let meridian = axis-meridians-agree x.meridian y.meridian in-x.meridian in-y.meridian in
-      let order = numbers-agree laws.normal_is_one x.order y.order in-x.order in-y.order in
       let unit = units-agree laws.normal_is_one sets.idents level kinds.Plain x.unit y.unit (plain-unit x.unit in-x.unit)
       (plain-unit y.unit in-y.unit) in
-      let identifiers = sets.idents level x.identifiers y.identifiers in-x.identifiers in-y.identifiers in (
-        λ e. record {
-          name = λ i. (e i).name;
-          direction = λ i. (e i).direction;
-          meridian = meridian.0 (λ i. (e i).meridian);
-          order = order.0 (λ i. (e i).order);
-          unit = unit.0 (λ i. (e i).unit);
-          identifiers = identifiers.0 (λ i. (e i).identifiers);
-        },
-        λ s. rw (s.name, s.direction, meridian.1 s.meridian)
-            (rw (order.1 s.order, unit.1 s.unit, identifiers.1 s.identifiers)),
-      )
+      grind (arith, axis-meridians-agree, numbers-agree laws.normal_is_one, unit, sets.idents level)
 
   -- at the same position of two systems of one type
   pub axis-agrees : (a b : SystemParts) (k : ℕ) (x y : AxisParts) → a.system_type ≡ b.system_type →
@@ -70,25 +53,10 @@ module _ (laws : LowerLaws) (sets : SetsDecide) (level : Level) where
       (norm_axis level a k x ≡ norm_axis level b k y) ↔ AgreeAxis level a b x y
   unfolding norm_axis AgreeAxis
   axis-agrees a b k x y type unit-a unit-b in-x in-y =
-      let asked = asked_kind a.system_type x.direction in
-      let second = own_or y.unit b.unit in
-      let meridian = axis-meridians-agree x.meridian y.meridian in-x.meridian in-y.meridian in
-      let units = units-agree laws.normal_is_one sets.idents level asked (own_or x.unit a.unit) second
+      let unit = units-agree laws.normal_is_one sets.idents level (asked_kind a.system_type x.direction)
+      (own_or x.unit a.unit) (own_or y.unit b.unit)
       (own-sound x.unit a.unit in-x.unit unit-a) (own-sound y.unit b.unit in-y.unit unit-b) in
-      let moved : x.direction ≡ y.direction →
-      norm_units level asked second ≡ norm_units level (asked_kind b.system_type y.direction) second =
-      λ e. λ i. norm_units level (asked_kind (type i) (e i)) second in
-      let identifiers = sets.idents level x.identifiers y.identifiers in-x.identifiers in-y.identifiers in (
-        λ e. record {
-          name = λ i. (e i).name;
-          direction = λ i. (e i).direction;
-          meridian = meridian.0 (λ i. (e i).meridian);
-          unit = units.0 ((λ i. (e i).unit) ∙ sym (moved (λ i. (e i).direction)));
-          identifiers = identifiers.0 (λ i. (e i).identifiers);
-        },
-        λ s. rw (units.1 s.unit ∙ moved s.direction, s.name, s.direction)
-            (rw (meridian.1 s.meridian, identifiers.1 s.identifiers)),
-      )
+      grind (arith, axis-meridians-agree, unit, sets.idents level)
 
 -- ---- the axes at a position
 
@@ -146,23 +114,18 @@ place-tested : LowerLaws → (position place : ℕ) (order : Option Value) → p
 place-tested laws position place None less normal = Decides-eqb place position
 place-tested laws position place (Some order) less normal = laws.tested order position normal (omega (arith, less))
 
-found-here-or-behind : (P : AxisParts → Type 0) (position place : ℕ) (axis : AxisParts) (axes : List AxisParts) →
-    (is_at position place axis.order ≡ true) ↔ IsPositionOf position place axis.order →
-    (HasAt position P (place + 1) axes → Found position (place + 1) axes) →
-    HasAt position P place (axis ∷ axes) → Found position place (axis ∷ axes)
-found-here-or-behind P position place axis axes tested behind h = by (is_at position place axis.order) refl
-  where
-    by : (t : Bool) → is_at position place axis.order ≡ t → Found position place (axis ∷ axes)
-    by true e = record { axis = axis; is = rw e; at = inl (tested.0 e, refl) }
-    by false e = elim h [
-      | inl g ↦ absurd (false≢true (sym e ∙ tested.1 g.0))
-      | inr g ↦ let r = behind g in record { axis = r.axis; is = rw e r.is; at = inr r.at }
-    ]
-
 pub found : LowerLaws → (P : AxisParts → Type 0) (position place : ℕ) (axes : List AxisParts) → position < 10 ^ 18 →
     Each IsAxis axes →
     HasAt position P place axes → Found position place axes
 found laws P position place [] less sound h = absurd h
 found laws P position place (axis ∷ axes) less sound h =
-    found-here-or-behind P position place axis axes (place-tested laws position place axis.order less sound.0.order)
-    (found laws P position (place + 1) axes less sound.1) h
+    let tested = place-tested laws position place axis.order less sound.0.order in
+    elim (is_at position place axis.order) as (λ t. is_at position place axis.order ≡ t →
+    Found position place (axis ∷ axes)) [
+      | true ↦ λ e. record { axis = axis; is = rw e; at = inl (tested.0 e, refl) }
+      | false ↦ λ e. elim h [
+        | inl g ↦ absurd (false≢true (sym e ∙ tested.1 g.0))
+        | inr g ↦ let r = found laws P position (place + 1) axes less sound.1 g in
+            record { axis = r.axis; is = rw e r.is; at = inr r.at }
+      ]
+    ] refl

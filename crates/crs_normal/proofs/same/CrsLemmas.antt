@@ -1,15 +1,15 @@
 -- Coordinate reference systems have one form exactly where they agree.
-use Rattle.std.proofs.Common.{◌≤◌, ℕ, ◌<◌, ◌^◌, List, length, refl, ap, arith}
+use Rattle.std.proofs.Common.{ℕ, List, length, refl, arith}
 use Rattle.crs_shape.specs.declared.class.Class.TheVariants as class
 use Rattle.crs_shape.specs.declared.unit_kind.UnitKind.TheVariants as kinds
 use Rattle.crs_shape.specs.declared.system_type.SystemType.{SystemType}
 use Rattle.crs_shape.specs.Prelude.{IsOneOf, dimensions_of}
-use Rattle.crs_value.specs.Prelude.{kind_by, IsCompound, IsHorizontal, IsCrs, IsBase, IsGeodetic, IsProjected, IsVertical, IsSystem, SystemParts}
+use Rattle.crs_value.specs.Prelude.{IsCompound, IsHorizontal, IsCrs, IsBase, IsGeodetic, IsProjected, IsVertical, IsSystem, SystemParts}
 use Rattle.crs_value.specs.declared.values.compound.Horizontal.{Horizontal}
 use Rattle.crs_value.specs.declared.values.compound.Horizontal.TheVariants as horizontal
 use Rattle.crs_value.specs.declared.values.crs.Crs.TheVariants as crs
 use Rattle.crs_value.specs.declared.values.level.Level.{Level}
-use Rattle.crs_same.specs.Prelude.{AgreeBase, AgreeCompound, AgreeCrs, AgreeGeodetic, AgreeHorizontal, AgreeProjected, AgreeVertical, AgreeSystem, IsHorizontalPart}
+use Rattle.crs_same.specs.Prelude.{AgreeBase, AgreeCompound, AgreeCrs, AgreeGeodetic, AgreeHorizontal, AgreeProjected, AgreeVertical, IsHorizontalPart}
 use Rattle.crs_normal.specs.Decides.{FormDecides, IsNumbered, SetsDecide}
 use Rattle.crs_normal.specs.LowerLaws.{LowerLaws}
 use Rattle.crs_normal.specs.SpelledCrs.{norm_base, norm_compound, norm_crs, norm_geodetic, norm_horizontal, norm_projected, norm_vertical}
@@ -24,17 +24,16 @@ use Rattle.crs_normal.proofs.same.UnitLemmas.{units-of-agree}
 
 -- ---- the number of axes is small
 
-small-numbered : (n : ℕ) → n ≤ 3 → n < 10 ^ 18
-small-numbered n l = omega arith
-
 numbered : LowerLaws → (dimensions : SystemType → List ℕ) → ((t : SystemType) → AreSmall (dimensions t)) →
     (system : SystemParts) → IsSystem system → IsOneOf system.dimension (dimensions system.system_type) →
     IsNumbered system
 numbered laws dimensions small system sound one = (
   sound,
-  small-numbered (length system.axes)
-      (few-axes laws.symmetric laws.transitive system.dimension (length system.axes) (dimensions system.system_type)
-      (small system.system_type) one sound.count),
+  omega (
+    arith,
+    few-axes laws.symmetric laws.transitive system.dimension (length system.axes)
+        (dimensions system.system_type) (small system.system_type) one sound.count,
+  ),
 )
 
 module _ (laws : LowerLaws) (sets : SetsDecide) (level : Level) where
@@ -44,23 +43,16 @@ module _ (laws : LowerLaws) (sets : SetsDecide) (level : Level) where
   geodetic-agrees a b in-a in-b =
       let dynamic = dynamics-agree laws sets level a.dynamic b.dynamic (dynamics-sound a.dynamic a.frame in-a.dynamic)
       (dynamics-sound b.dynamic b.frame in-b.dynamic) in
-      let frame = geodetic-frame-agrees laws sets level a.frame b.frame in-a.frame in-b.frame in
-      let meridian = meridian-agrees laws sets level a.meridian b.meridian in-a.meridian in-b.meridian in
       let in-dimensions = numbered laws (dimensions_of class.GeodeticCrs) small-geodetic in
       let system = system-agrees laws sets level a.system b.system (in-dimensions a.system in-a.system in-a.dimension)
       (in-dimensions b.system in-b.system in-b.dimension) in
-      let tail = tail-agrees sets level a.tail b.tail in-a.tail in-b.tail in (
-        λ e. let alike : AgreeSystem level a.system b.system = system.0 (λ i. (e i).system) in
-            record {
-              kind = ap kind_by alike.system_type;
-              name = λ i. (e i).name;
-              dynamic = dynamic.0 (λ i. (e i).dynamic);
-              frame = frame.0 (λ i. (e i).frame);
-              meridian = meridian.0 (λ i. (e i).meridian);
-              system = alike;
-              tail = tail.0 (λ i. (e i).tail);
-            },
-        λ s. rw (s.name, dynamic.1 s.dynamic, frame.1 s.frame, meridian.1 s.meridian, system.1 s.system, tail.1 s.tail),
+      grind (
+        arith,
+        dynamic,
+        geodetic-frame-agrees laws sets level,
+        meridian-agrees laws sets level,
+        system,
+        tail-agrees sets level,
       )
 
   -- ---- projected CRSs
@@ -69,39 +61,24 @@ module _ (laws : LowerLaws) (sets : SetsDecide) (level : Level) where
   base-agrees a b in-a in-b =
       let dynamic = dynamics-agree laws sets level a.dynamic b.dynamic (dynamics-sound a.dynamic a.frame in-a.dynamic)
       (dynamics-sound b.dynamic b.frame in-b.dynamic) in
-      let frame = geodetic-frame-agrees laws sets level a.frame b.frame in-a.frame in-b.frame in
-      let meridian = meridian-agrees laws sets level a.meridian b.meridian in-a.meridian in-b.meridian in
-      let unit = units-of-agree laws.normal_is_one sets.idents level kinds.Angle kinds.Angle a.unit b.unit in-a.unit in-b.unit in
-      let identifiers = sets.idents level a.identifiers b.identifiers in-a.identifiers in-b.identifiers in (
-        λ e. record {
-          name = λ i. (e i).name;
-          dynamic = dynamic.0 (λ i. (e i).dynamic);
-          frame = frame.0 (λ i. (e i).frame);
-          meridian = meridian.0 (λ i. (e i).meridian);
-          unit = unit.0 (λ i. (e i).unit);
-          identifiers = identifiers.0 (λ i. (e i).identifiers);
-        },
-        λ s. rw (s.name, dynamic.1 s.dynamic, frame.1 s.frame)
-            (rw (meridian.1 s.meridian, unit.1 s.unit, identifiers.1 s.identifiers)),
+      grind (
+        arith,
+        dynamic,
+        geodetic-frame-agrees laws sets level,
+        meridian-agrees laws sets level,
+        units-of-agree laws.normal_is_one sets.idents level kinds.Angle kinds.Angle,
+        sets.idents level,
       )
 
   pub projected-agrees : FormDecides IsProjected (norm_projected level) (AgreeProjected level)
   projected-agrees a b in-a in-b =
-      let base = base-agrees a.base b.base in-a.base in-b.base in
-      let conversion = conversion-agrees laws sets level a.conversion b.conversion in-a.conversion in-b.conversion in
       let in-dimensions = numbered laws (dimensions_of class.ProjectedCrs) small-projected in
       let system = system-agrees laws sets level a.system b.system (in-dimensions a.system in-a.system in-a.dimension)
       (in-dimensions b.system in-b.system in-b.dimension) in
-      let tail = tail-agrees sets level a.tail b.tail in-a.tail in-b.tail in (
-        λ e. record {
-          name = λ i. (e i).name;
-          base = base.0 (λ i. (e i).base);
-          conversion = conversion.0 (λ i. (e i).conversion);
-          system = system.0 (λ i. (e i).system);
-          tail = tail.0 (λ i. (e i).tail);
-        },
-        λ s. rw (s.name, base.1 s.base, conversion.1 s.conversion, system.1 s.system, tail.1 s.tail),
-      )
+      let base = base-agrees a.base b.base in-a.base in-b.base in
+      let conversion = conversion-agrees laws sets level a.conversion b.conversion in-a.conversion in-b.conversion in
+      let tail = tail-agrees sets level a.tail b.tail in-a.tail in-b.tail in
+      grind (arith, base, conversion, system, tail)
 
   -- ---- vertical CRSs
 
@@ -109,23 +86,10 @@ module _ (laws : LowerLaws) (sets : SetsDecide) (level : Level) where
   vertical-agrees a b in-a in-b =
       let dynamic = dynamics-agree laws sets level a.dynamic b.dynamic (dynamics-sound a.dynamic a.frame in-a.dynamic)
       (dynamics-sound b.dynamic b.frame in-b.dynamic) in
-      let frame = vertical-frame-agrees laws sets level a.frame b.frame in-a.frame in-b.frame in
       let in-dimensions = numbered laws (dimensions_of class.VerticalCrs) small-vertical in
       let system = system-agrees laws sets level a.system b.system (in-dimensions a.system in-a.system in-a.dimension)
       (in-dimensions b.system in-b.system in-b.dimension) in
-      let models = sets.geoid_models level a.geoid_models b.geoid_models in-a.geoid_models in-b.geoid_models in
-      let tail = tail-agrees sets level a.tail b.tail in-a.tail in-b.tail in (
-        λ e. record {
-          name = λ i. (e i).name;
-          dynamic = dynamic.0 (λ i. (e i).dynamic);
-          frame = frame.0 (λ i. (e i).frame);
-          system = system.0 (λ i. (e i).system);
-          geoid_models = models.0 (λ i. (e i).geoid_models);
-          tail = tail.0 (λ i. (e i).tail);
-        },
-        λ s. rw (s.name, dynamic.1 s.dynamic, frame.1 s.frame)
-            (rw (system.1 s.system, models.1 s.geoid_models, tail.1 s.tail)),
-      )
+      grind (arith, dynamic, vertical-frame-agrees laws sets level, system, sets.geoid_models level, tail-agrees sets level)
 
   -- ---- compound CRSs
 
@@ -134,22 +98,14 @@ module _ (laws : LowerLaws) (sets : SetsDecide) (level : Level) where
       under (λ x. horizontal.Geodetic x) (λ e. cc) (geodetic-agrees a b in-a.0 in-b.0)
   horizontal-agrees (horizontal.Projected a) (horizontal.Projected b) in-a in-b =
       under (λ x. horizontal.Projected x) (λ e. cc) (projected-agrees a b in-a.0 in-b.0)
-  horizontal-agrees (horizontal.Geodetic a) (horizontal.Projected b) in-a in-b = (λ e. cc, λ s. absurd s)
-  horizontal-agrees (horizontal.Projected a) (horizontal.Geodetic b) in-a in-b = (λ e. cc, λ s. absurd s)
+  horizontal-agrees a b in-a in-b = (λ e. cc, λ s. absurd s)
 
   pub compound-agrees : FormDecides IsCompound (norm_compound level) (AgreeCompound level)
   compound-agrees a b in-a in-b =
       let plane = horizontal-agrees a.horizontal b.horizontal in-a.horizontal in-b.horizontal in
       let height = vertical-agrees a.vertical b.vertical in-a.vertical in-b.vertical in
-      let tail = tail-agrees sets level a.tail b.tail in-a.tail in-b.tail in (
-        λ e. record {
-          name = λ i. (e i).name;
-          horizontal = plane.0 (λ i. (e i).horizontal);
-          vertical = height.0 (λ i. (e i).vertical);
-          tail = tail.0 (λ i. (e i).tail);
-        },
-        λ s. rw (s.name, plane.1 s.horizontal, height.1 s.vertical, tail.1 s.tail),
-      )
+      let tail = tail-agrees sets level a.tail b.tail in-a.tail in-b.tail in
+      grind (arith, plane, height, tail)
 
   -- ---- all
 

@@ -1,5 +1,5 @@
 -- Deformation models and dynamic parts have one form exactly where they are the same.
-use Rattle.std.proofs.Common.{IfSome, Option, Some, None, refl}
+use Rattle.std.proofs.Common.{IfSome, Option, Some, None, refl, arith}
 use Rattle.std.specs.Option.{option_map}
 use Rattle.crs_value.specs.Prelude.{DynamicParts, IsDeformationModel, IsDynamic, IsDynamicOf}
 use Rattle.crs_value.specs.declared.values.frame.Frame.{Frame}
@@ -25,12 +25,7 @@ module _ (laws : LowerLaws) (sets : SetsDecide) (level : Level) where
   models-agree = options-agree _ _ _ (named-agrees sets.idents level) _ refl (λ x. refl)
 
   pub dynamic-agrees : FormDecides IsDynamic (norm_dynamic level) (AgreeDynamic level)
-  dynamic-agrees a b in-a in-b =
-      let epoch = values-agree laws.normal_is_one a.epoch b.epoch in-a.epoch in-b.epoch in
-      let model = models-agree a.model b.model in-a.model in-b.model in (
-        λ e. record { epoch = epoch.0 (λ i. (e i).epoch); model = model.0 (λ i. (e i).model) },
-        λ s. rw (epoch.1 s.epoch, model.1 s.model),
-      )
+  dynamic-agrees a b in-a in-b = grind (arith, values-agree laws.normal_is_one, models-agree)
 
   pub dynamics-agree : FormDecides (Maybe IsDynamic) (option_map (norm_dynamic level))
       (BothOrNeither (AgreeDynamic level))

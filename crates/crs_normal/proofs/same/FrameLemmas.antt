@@ -1,5 +1,5 @@
 -- Ellipsoids, prime meridians, reference frames and ensembles have one form exactly where they are the same.
-use Rattle.std.proofs.Common.{◌≡◌, ◌↔◌, ◌∙◌, ◌⊎◌, ◌*◌, ℕ, inl, inr, Bool, true, false, Option, Some, None, codes, refl, sym, ap, arith, if◌then◌else◌}
+use Rattle.std.proofs.Common.{◌≡◌, ◌↔◌, ◌⊎◌, ◌*◌, ℕ, inl, inr, Bool, true, false, Option, Some, None, codes, refl, sym, ap, arith, if◌then◌else◌}
 use Rattle.std.specs.Option.{option_map}
 use Rattle.std.proofs.lemmas.Bool.{eqb-true, false≢true}
 use Rattle.crs_decimal.specs.Prelude.{Value, IsNormal}
@@ -9,14 +9,13 @@ use Rattle.crs_value.specs.declared.values.frame.Frame.{Frame}
 use Rattle.crs_value.specs.declared.values.frame.Frame.TheVariants as frame
 use Rattle.crs_value.specs.declared.values.level.Level.{Level}
 use Rattle.crs_same.specs.Prelude.{AgreeDatum, AgreeEllipsoid, AgreeEnsemble, AgreeFrame, AgreeGiven, AgreeMeridian, or_greenwich}
-use Rattle.crs_matching.specs.Prelude.{IsZero, SameIdents, SameUnit, SameValue, BothOrNeither}
+use Rattle.crs_matching.specs.Prelude.{IsZero, BothOrNeither}
 use Rattle.crs_normal.specs.Decides.{FormDecides, Maybe, SetsDecide}
 use Rattle.crs_normal.specs.LowerLaws.{LowerLaws}
 use Rattle.crs_normal.specs.SpelledFrames.{greenwich, is_zero, norm_datum, norm_ellipsoid, norm_ensemble, norm_frame, norm_given, norm_meridian}
-use Rattle.crs_normal.specs.SpelledUnits.{norm_length, norm_units, set_idents, whole_value}
+use Rattle.crs_normal.specs.SpelledUnits.{norm_units, whole_value}
 use Rattle.crs_normal.proofs.same.PartLemmas.{numbers-agree, options-agree, under, values-agree}
 use Rattle.crs_normal.proofs.same.UnitLemmas.{length-agrees, none-formed, units-of-agree, whole-agrees}
-use Rattle.crs_normal.proofs.texts.ClosedLemmas.{same-some}
 
 -- ---- a missing prime meridian
 
@@ -56,21 +55,7 @@ counted false false x y e zero same =
 module _ (laws : LowerLaws) (sets : SetsDecide) (level : Level) where
   pub ellipsoid-agrees : FormDecides IsEllipsoid (norm_ellipsoid level) (AgreeEllipsoid level)
   ellipsoid-agrees a b in-a in-b =
-      let axis = values-agree laws.normal_is_one a.semi_major_axis b.semi_major_axis in-a.semi_major_axis in-b.semi_major_axis in
-      let flattening =
-      values-agree laws.normal_is_one a.inverse_flattening b.inverse_flattening in-a.inverse_flattening in-b.inverse_flattening in
-      let unit = length-agrees laws.normal_is_one sets.idents level a.unit b.unit in-a.unit in-b.unit in
-      let identifiers = sets.idents level a.identifiers b.identifiers in-a.identifiers in-b.identifiers in (
-        λ e. record {
-          name = λ i. (e i).name;
-          semi_major_axis = axis.0 (λ i. (e i).semi_major_axis);
-          inverse_flattening = flattening.0 (λ i. (e i).inverse_flattening);
-          unit = unit.0 (same-some (norm_length level a.unit) (norm_length level b.unit) (λ i. (e i).unit));
-          identifiers = identifiers.0 (λ i. (e i).identifiers);
-        },
-        λ s. rw (s.name, axis.1 s.semi_major_axis, flattening.1 s.inverse_flattening)
-            (rw (unit.1 s.unit, identifiers.1 s.identifiers)),
-      )
+      grind (arith, values-agree laws.normal_is_one, length-agrees laws.normal_is_one sets.idents level, sets.idents level)
 
   pub ellipsoids-agree : FormDecides (Maybe IsEllipsoid) (option_map (norm_ellipsoid level))
       (BothOrNeither (AgreeEllipsoid level))
@@ -83,34 +68,14 @@ module _ (laws : LowerLaws) (sets : SetsDecide) (level : Level) where
   unit_in m = if is_zero m.longitude then None else norm_units level kinds.Angle m.unit
 
   pub given-agrees : FormDecides IsMeridian (norm_given level) (AgreeGiven level)
-  given-agrees a b in-a in-b = (
-    λ e. let at : a.longitude ≡ b.longitude = λ i. (e i).longitude in
-        record {
-          name = λ i. (e i).name;
-          longitude = longitude.0 at;
-          unit = (unit at).0 (λ i. (e i).unit);
-          identifiers = identifiers.0 (λ i. (e i).identifiers);
-        },
-    λ s. rw ((unit (longitude.1 s.longitude)).1 s.unit, s.name, longitude.1 s.longitude, identifiers.1 s.identifiers),
-  )
-    where
-      longitude : (a.longitude ≡ b.longitude) ↔ SameValue a.longitude b.longitude
-      longitude = values-agree laws.normal_is_one a.longitude b.longitude in-a.longitude in-b.longitude
-
-      zero-a : (is_zero a.longitude ≡ true) ↔ IsZero a.longitude
-      zero-a = zero-agrees laws a.longitude in-a.longitude
-
-      angles : (norm_units level kinds.Angle a.unit ≡ norm_units level kinds.Angle b.unit)
-          ↔ BothOrNeither (SameUnit kinds.Angle level) a.unit b.unit
-      angles = units-of-agree laws.normal_is_one sets.idents level kinds.Angle kinds.Angle a.unit b.unit in-a.unit in-b.unit
-
-      unit : a.longitude ≡ b.longitude → (unit_in a ≡ unit_in b)
-          ↔ (IsZero a.longitude ⊎ BothOrNeither (SameUnit kinds.Angle level) a.unit b.unit)
-      unit at = counted (is_zero a.longitude) (is_zero b.longitude) (norm_units level kinds.Angle a.unit)
-          (norm_units level kinds.Angle b.unit) (ap is_zero at) zero-a angles
-
-      identifiers : (set_idents level a.identifiers ≡ set_idents level b.identifiers) ↔ SameIdents level a.identifiers b.identifiers
-      identifiers = sets.idents level a.identifiers b.identifiers in-a.identifiers in-b.identifiers
+  given-agrees a b in-a in-b =
+      let longitude = values-agree laws.normal_is_one a.longitude b.longitude in-a.longitude in-b.longitude in
+      let zero = zero-agrees laws a.longitude in-a.longitude in
+      let units =
+      units-of-agree laws.normal_is_one sets.idents level kinds.Angle kinds.Angle a.unit b.unit in-a.unit in-b.unit in
+      let unit = λ (at : a.longitude ≡ b.longitude). counted (is_zero a.longitude) (is_zero b.longitude)
+      (norm_units level kinds.Angle a.unit) (norm_units level kinds.Angle b.unit) (ap is_zero at) zero units in
+      grind (arith, longitude, unit, sets.idents level)
 
   -- a missing one has the form of its default
   given-formed : (m : Option MeridianParts) → norm_meridian level m ≡ Some (norm_given level (or_greenwich m))
@@ -124,44 +89,18 @@ module _ (laws : LowerLaws) (sets : SetsDecide) (level : Level) where
 
   pub meridian-agrees : FormDecides (Maybe IsMeridian) (norm_meridian level) (AgreeMeridian level)
   meridian-agrees a b in-a in-b =
-      let same = given-agrees (or_greenwich a) (or_greenwich b) (given-is a in-a) (given-is b in-b) in (
-        λ e. same.0 (same-some (norm_given level (or_greenwich a)) (norm_given level (or_greenwich b)) (sym (given-formed a) ∙ e ∙ given-formed b)),
-        λ s. given-formed a ∙ ap (λ m. Some m) (same.1 s) ∙ sym (given-formed b),
-      )
+      rw (given-formed a, given-formed b) (under (λ m. Some m) (λ e. cc)
+      (given-agrees (or_greenwich a) (or_greenwich b) (given-is a in-a) (given-is b in-b)))
 
   -- ---- frames
 
   pub datum-agrees : FormDecides IsDatum (norm_datum level) (AgreeDatum level)
   datum-agrees a b in-a in-b =
-      let ellipsoid = ellipsoids-agree a.ellipsoid b.ellipsoid in-a.ellipsoid in-b.ellipsoid in
-      let epoch = numbers-agree laws.normal_is_one a.anchor_epoch b.anchor_epoch in-a.anchor_epoch in-b.anchor_epoch in
-      let identifiers = sets.idents level a.identifiers b.identifiers in-a.identifiers in-b.identifiers in (
-        λ e. record {
-          name = λ i. (e i).name;
-          ellipsoid = ellipsoid.0 (λ i. (e i).ellipsoid);
-          anchor = λ i. (e i).anchor;
-          anchor_epoch = epoch.0 (λ i. (e i).anchor_epoch);
-          identifiers = identifiers.0 (λ i. (e i).identifiers);
-        },
-        λ s. rw (s.name, ellipsoid.1 s.ellipsoid, s.anchor, epoch.1 s.anchor_epoch, identifiers.1 s.identifiers),
-      )
+      grind (arith, ellipsoids-agree, numbers-agree laws.normal_is_one, sets.idents level)
 
   pub ensemble-agrees : FormDecides IsEnsemble (norm_ensemble level) (AgreeEnsemble level)
   ensemble-agrees a b in-a in-b =
-      let members = sets.members level a.members b.members in-a.members in-b.members in
-      let ellipsoid = ellipsoids-agree a.ellipsoid b.ellipsoid in-a.ellipsoid in-b.ellipsoid in
-      let accuracy = values-agree laws.normal_is_one a.accuracy b.accuracy in-a.accuracy in-b.accuracy in
-      let identifiers = sets.idents level a.identifiers b.identifiers in-a.identifiers in-b.identifiers in (
-        λ e. record {
-          name = λ i. (e i).name;
-          members = members.0 (λ i. (e i).members);
-          ellipsoid = ellipsoid.0 (λ i. (e i).ellipsoid);
-          accuracy = accuracy.0 (λ i. (e i).accuracy);
-          identifiers = identifiers.0 (λ i. (e i).identifiers);
-        },
-        λ s. rw (s.name, members.1 s.members, ellipsoid.1 s.ellipsoid)
-            (rw (accuracy.1 s.accuracy, identifiers.1 s.identifiers)),
-      )
+      grind (arith, sets.members level, ellipsoids-agree, values-agree laws.normal_is_one, sets.idents level)
 
   -- either sort of frame
   abbrev IsFrame : Frame → Type 0
@@ -172,8 +111,7 @@ module _ (laws : LowerLaws) (sets : SetsDecide) (level : Level) where
   frame-agrees (frame.Datum a) (frame.Datum b) in-a in-b = under (λ d. frame.Datum d) (λ e. cc) (datum-agrees a b in-a in-b)
   frame-agrees (frame.Ensemble a) (frame.Ensemble b) in-a in-b =
       under (λ d. frame.Ensemble d) (λ e. cc) (ensemble-agrees a b in-a in-b)
-  frame-agrees (frame.Datum a) (frame.Ensemble b) in-a in-b = (λ e. cc, λ s. absurd s)
-  frame-agrees (frame.Ensemble a) (frame.Datum b) in-a in-b = (λ e. cc, λ s. absurd s)
+  frame-agrees a b in-a in-b = (λ e. cc, λ s. absurd s)
 
   geodetic-is : (f : Frame) → IsGeodeticFrame f → IsFrame f
   geodetic-is (frame.Datum d) sound = sound.0

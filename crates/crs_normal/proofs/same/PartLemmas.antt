@@ -1,5 +1,5 @@
 -- Numbers, and parts that may be missing, have one form exactly where they are the same.
-use Rattle.std.proofs.Common.{◌≡◌, ◌↔◌, ◌∙◌, Option, Some, None, refl, sym, ap}
+use Rattle.std.proofs.Common.{◌≡◌, ◌↔◌, Option, Some, None, refl, ap}
 use Rattle.crs_decimal.specs.Prelude.{SameNumber, Value, IsNormal, exact}
 use Rattle.crs_matching.specs.Prelude.{SameValue, BothOrNeither}
 use Rattle.crs_normal.specs.Decides.{FormDecides, Maybe}
@@ -12,27 +12,23 @@ pub values-agree : NumbersDecide → FormDecides IsNormal (λ value. value) Same
 unfolding SameValue
 values-agree numbers a b in-a in-b = ((numbers a b in-a in-b).1, (numbers a b in-a in-b).0)
 
+-- what is under a constructor decides
+pub under : {A B R : Type 0} {x y : A} (c : A → B) → (c x ≡ c y → x ≡ y) → (x ≡ y) ↔ R → (c x ≡ c y) ↔ R
+under c one same = (λ e. same.0 (one e), λ r. ap c (same.1 r))
+
 -- a part that may be missing, where the form of one that is there decides
 pub options-agree : {A : Type 0} (Is : A → Type 0) (form : A → A) (Same : A → A → Type 0) → FormDecides Is form Same →
     (all : Option A → Option A) → all None ≡ None → ((x : A) → all (Some x) ≡ Some (form x)) →
     FormDecides (Maybe Is) all (BothOrNeither Same)
 options-agree Is form Same agree all none some None None in-a in-b = (λ e. tt, λ s. refl)
-options-agree Is form Same agree all none some None (Some b) in-a in-b =
-    (λ e. let u : None ≡ Some (form b) = sym none ∙ e ∙ some b in cc, λ s. absurd s)
-options-agree Is form Same agree all none some (Some a) None in-a in-b =
-    (λ e. let u : Some (form a) ≡ None = sym (some a) ∙ e ∙ none in cc, λ s. absurd s)
-options-agree Is form Same agree all none some (Some a) (Some b) in-a in-b = (
-  λ e. let u : Some (form a) ≡ Some (form b) = sym (some a) ∙ e ∙ some b in (agree a b in-a in-b).0 cc,
-  λ s. some a ∙ ap (λ x. Some x) ((agree a b in-a in-b).1 s) ∙ sym (some b),
-)
+options-agree Is form Same agree all none some None (Some b) in-a in-b = rw (none, some b) (λ e. cc, λ s. absurd s)
+options-agree Is form Same agree all none some (Some a) None in-a in-b = rw (none, some a) (λ e. cc, λ s. absurd s)
+options-agree Is form Same agree all none some (Some a) (Some b) in-a in-b =
+    rw (some a, some b) (under (λ x. Some x) (λ e. cc) (agree a b in-a in-b))
 
 -- a number that may be missing
 pub numbers-agree : NumbersDecide → FormDecides (Maybe IsNormal) (λ value. value) (BothOrNeither SameValue)
 numbers-agree numbers = options-agree _ _ _ (values-agree numbers) _ refl (λ x. refl)
-
--- what is under a constructor decides
-pub under : {A B R : Type 0} {x y : A} (c : A → B) → (c x ≡ c y → x ≡ y) → (x ≡ y) ↔ R → (c x ≡ c y) ↔ R
-under c one same = (λ e. same.0 (one e), λ r. ap c (same.1 r))
 
 -- where all parts are the same exactly where the values agree: a form that decides the latter decides the former
 pub decides-parts : {A B : Type 0} {Is : A → Type 0} {form : A → B} {S R : A → A → Type 0} →

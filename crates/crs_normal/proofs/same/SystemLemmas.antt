@@ -4,12 +4,11 @@ use Rattle.std.specs.Prelude.{⊤}
 use Rattle.std.proofs.lemmas.Bool.{cases_lt}
 use Rattle.crs_value.specs.Prelude.{AxisParts, SystemParts}
 use Rattle.crs_value.specs.declared.values.level.Level.{Level}
-use Rattle.crs_matching.specs.Prelude.{SameIdents, SameValue}
+use Rattle.crs_matching.specs.Prelude.{SameValue}
 use Rattle.crs_same.specs.Prelude.{AgreeAt, AgreeAxes, AgreeAxis, AgreeSystem}
 use Rattle.crs_normal.specs.Decides.{FormDecides, IsNumbered, SetsDecide}
 use Rattle.crs_normal.specs.LowerLaws.{LowerLaws}
 use Rattle.crs_normal.specs.SpelledSystems.{axes_from, norm_axis, norm_system}
-use Rattle.crs_normal.specs.SpelledUnits.{set_idents}
 use Rattle.crs_normal.proofs.same.AxisLemmas.{Found, axis-agrees, both-agree, found, sound-at}
 use Rattle.crs_normal.proofs.same.PartLemmas.{values-agree}
 
@@ -76,25 +75,9 @@ module _ (laws : LowerLaws) (sets : SetsDecide) (level : Level) where
       )
 
   pub system-agrees : FormDecides IsNumbered (norm_system level) (AgreeSystem level)
-  system-agrees a b in-a in-b = (
-    λ e. let type : a.system_type ≡ b.system_type = λ i. (e i).system_type in
-        let size : SameValue a.dimension b.dimension = dimension.0 (λ i. (e i).dimension) in
-        record {
-          system_type = type;
-          dimension = size;
-          identifiers = identifiers.0 (λ i. (e i).identifiers);
-          axes = (axes type size).0 (λ i. (e i).axes);
-        },
-    λ s. rw ((axes s.system_type s.dimension).1 s.axes, s.system_type)
-        (rw (dimension.1 s.dimension, identifiers.1 s.identifiers)),
-  )
-    where
-      dimension : (a.dimension ≡ b.dimension) ↔ SameValue a.dimension b.dimension
-      dimension = values-agree laws.normal_is_one a.dimension b.dimension in-a.0.dimension in-b.0.dimension
-
-      identifiers : (set_idents level a.identifiers ≡ set_idents level b.identifiers) ↔ SameIdents level a.identifiers b.identifiers
-      identifiers = sets.idents level a.identifiers b.identifiers in-a.0.identifiers in-b.0.identifiers
-
-      axes : a.system_type ≡ b.system_type → SameValue a.dimension b.dimension →
-          (axes_from level a 1 (length a.axes) ≡ axes_from level b 1 (length b.axes)) ↔ AgreeAxes level a b
-      axes type size = all-agree a b in-a in-b type (laws.as_many a b in-a.0 in-b.0 size)
+  system-agrees a b in-a in-b =
+      let dimension = values-agree laws.normal_is_one a.dimension b.dimension in-a.0.dimension in-b.0.dimension in
+      let identifiers = sets.idents level a.identifiers b.identifiers in-a.0.identifiers in-b.0.identifiers in
+      let axes = λ (type : a.system_type ≡ b.system_type) (size : SameValue a.dimension b.dimension).
+      all-agree a b in-a in-b type (laws.as_many a b in-a.0 in-b.0 size) in
+      grind (arith, dimension, identifiers, axes)

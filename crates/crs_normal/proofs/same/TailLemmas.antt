@@ -1,4 +1,5 @@
 -- The ends of CRSs have one form exactly where they are the same.
+use Rattle.std.proofs.Common.{arith}
 use Rattle.crs_value.specs.Prelude.{IsTail}
 use Rattle.crs_value.specs.declared.values.level.Level.{Level}
 use Rattle.crs_same.specs.Prelude.{AgreeTail}
@@ -11,11 +12,4 @@ module _ (sets : SetsDecide) where
   pub tail-agrees : (level : Level) → FormDecides IsTail (norm_tail level) (AgreeTail level)
   tail-agrees level a b in-a in-b =
       let usages = sets.usages level (usages_of a) (usages_of b) (usages-sound a in-a) (usages-sound b in-b) in
-      let identifiers = sets.idents level a.identifiers b.identifiers in-a.identifiers in-b.identifiers in (
-        λ e. record {
-          usages = usages.0 (λ i. (e i).usages);
-          identifiers = identifiers.0 (λ i. (e i).identifiers);
-          remark = λ i. (e i).remark;
-        },
-        λ s. rw (usages.1 s.usages, identifiers.1 s.identifiers, s.remark),
-      )
+      grind (arith, usages, sets.idents level)

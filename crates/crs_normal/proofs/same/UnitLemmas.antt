@@ -65,17 +65,7 @@ IdentsDecide = (level : Level) → FormDecides (Each IsIdent) (set_idents level)
 
 module _ (numbers : NumbersDecide) (idents : IdentsDecide) (level : Level) where
   pub unit-agrees : (asked : UnitKind) → FormDecides IsUnit (norm_unit level asked) (SameUnit asked level)
-  unit-agrees asked a b in-a in-b =
-      let factor = values-agree numbers a.factor b.factor in-a.factor in-b.factor in
-      let identifiers = idents level a.identifiers b.identifiers in-a.identifiers in-b.identifiers in (
-        λ e. record {
-          kind = λ i. (e i).kind;
-          name = λ i. (e i).name;
-          factor = factor.0 (λ i. (e i).factor);
-          identifiers = identifiers.0 (λ i. (e i).identifiers);
-        },
-        λ s. rw (s.kind, s.name, factor.1 s.factor, identifiers.1 s.identifiers),
-      )
+  unit-agrees asked a b in-a in-b = grind (arith, values-agree numbers, idents level)
 
   pub units-agree : (asked : UnitKind) →
       FormDecides (Maybe IsUnit) (norm_units level asked) (BothOrNeither (SameUnit asked level))
@@ -89,14 +79,10 @@ module _ (numbers : NumbersDecide) (idents : IdentsDecide) (level : Level) where
 
   pub length-agrees : FormDecides (Maybe (IsUnitOf kinds.Length)) (norm_length level) (SameLength level)
   length-agrees a b in-a in-b =
-      let same = unit-agrees kinds.Length (or_metre a) (or_metre b) (given-length a in-a) (given-length b in-b) in
-      (λ e. same.0 (sym (length-formed level a) ∙ e ∙ length-formed level b), λ s. length-formed level a ∙ same.1 s ∙ sym (length-formed level b))
+      rw (length-formed level a, length-formed level b)
+      (unit-agrees kinds.Length (or_metre a) (or_metre b) (given-length a in-a) (given-length b in-b))
 
 -- ---- nodes of a name and identifiers
 
 pub named-agrees : IdentsDecide → (level : Level) → FormDecides IsNamed (norm_member level) (SameNamed level)
-named-agrees idents level a b in-a in-b =
-    let identifiers = idents level a.identifiers b.identifiers in-a.identifiers in-b.identifiers in (
-      λ e. record { name = λ i. (e i).name; identifiers = identifiers.0 (λ i. (e i).identifiers) },
-      λ s. rw (s.name, identifiers.1 s.identifiers),
-    )
+named-agrees idents level a b in-a in-b = grind (arith, idents level)
