@@ -16,7 +16,7 @@ use Rattle.crs_value.specs.declared.values.level.Level.TheVariants as levels
 use Rattle.crs_normal.specs.Ascending.{Below}
 use Rattle.crs_normal.specs.Normal.{AreNormalIn, AtLevel, IsFirst, IsNormalIn, IsFirstKeyword, left_out}
 use Rattle.crs_normal.specs.NormalOwn.{Ascend, AreOrdered, HasAxes, HasCodes, Has, HasSets, HasTail, IsCode, LacksEllipsoidal, Lacks, HasOwnForm, Rise, bare_classes, numbers_in, rank, set_classes, words_in}
-use Rattle.crs_normal.proofs.verdicts.Verdicts.{Verdict, at_most, both, each, empty-full, equal, implied, negated, none, one_of, some, via}
+use Rattle.crs_normal.proofs.verdicts.Verdicts.{Verdict, at_most, both, each, equal, equal_by, implied, negated, none, one_of, some, via}
 use Rattle.crs_normal.proofs.verdicts.SingleVerdict.{NumberLaws, is_code, is_single, is_word, single_in}
 
 -- ---- the arguments of a class
@@ -80,31 +80,8 @@ has_sets c item =
 
 -- ---- axes
 
--- a list of one member isn't empty, or of two and more
-pub one-more : {A : Type 0} (x y z : A) (zs : List A) → x ∷ y ∷ zs ≡ z ∷ [] → ⊥
-one-more x y z zs e = cc
-
-pub not-alone : {A : Type 0} (z : A) → [] ∷ [] ≡ (z ∷ []) ∷ [] → ⊥
-not-alone z e = cc
-
-pub more-alone : {A : Type 0} (x y z : A) (zs : List A) → (x ∷ y ∷ zs) ∷ [] ≡ (z ∷ []) ∷ [] → ⊥
-more-alone x y z zs e = cc
-
-abbrev first_in : List (List (List ℕ)) → List ℕ
-first_in [] = []
-first_in ([] ∷ xs) = []
-first_in ((x ∷ xs) ∷ ys) = x
-
-abbrev alone : (numbers : List (List ℕ)) (digits : List ℕ) → Verdict (numbers ∷ [] ≡ (digits ∷ []) ∷ [])
-alone [] digits = Some (inr (not-alone digits))
-alone (n ∷ []) digits = via (λ e. ap (λ x. (x ∷ []) ∷ []) e) (λ e. ap first_in e) (equal n digits)
-alone (n ∷ m ∷ ns) digits = Some (inr (more-alone n m digits ns))
-
 abbrev order_is : (k : ℕ) (orders : List Item) → Verdict (map (numbers_in class.Order) orders ≡ (decimal k ∷ []) ∷ [])
-order_is k [] = Some (inr (empty-full (decimal k ∷ []) []))
-order_is k (x ∷ []) = alone (numbers_in class.Order x) (decimal k)
-order_is k (x ∷ y ∷ zs) =
-    Some (inr (one-more (numbers_in class.Order x) (numbers_in class.Order y) (decimal k ∷ []) (map (numbers_in class.Order) zs)))
+order_is k orders = equal_by (equal_by equal) (map (numbers_in class.Order) orders) ((decimal k ∷ []) ∷ [])
 
 abbrev ordered : (k : ℕ) (axes : List Item) → Verdict (AreOrdered k axes)
 ordered k [] = Some (inl tt)
@@ -138,14 +115,8 @@ has_tail c item =
 abbrev has_codes : (item : Item) → Verdict (HasCodes item)
 has_codes item = each IsCode is_code (single_of (skip 1 (arguments item)) ++ single_of (skip 2 (arguments item)))
 
-abbrev first_or_none : List (List ℕ) → List ℕ
-first_or_none [] = []
-first_or_none (x ∷ xs) = x
-
 abbrev is_one : (xs : List (List ℕ)) (w : List ℕ) → Verdict (xs ≡ w ∷ [])
-is_one [] w = Some (inr (empty-full w []))
-is_one (x ∷ []) w = via (λ e. ap (λ y. y ∷ []) e) (λ e. ap first_or_none e) (equal x w)
-is_one (x ∷ y ∷ zs) w = Some (inr (one-more x y w zs))
+is_one xs w = equal_by equal xs (w ∷ [])
 
 abbrev not_ellipsoidal : (c : Class) (item : Item) → Verdict (LacksEllipsoidal c item)
 not_ellipsoidal c item =
@@ -186,14 +157,10 @@ written c keyword = first_is keyword (keywords_of c)
 
 -- ---- items
 
-abbrev no_more : {A : Type 0} (xs : List A) → Verdict ([] ≡ xs)
-no_more [] = Some (inl refl)
-no_more (x ∷ xs) = Some (inr (empty-full x xs))
-
 abbrev at_level : (level : Level) (c : Class) (item : Item) → Verdict (AtLevel level c item)
 at_level levels.Full c item = Some (inl (refl, (refl, (refl, tt))))
 at_level levels.Definition c item =
-    each (λ d. [] ≡ those c d (arguments item)) (λ d. over (λ xs. [] ≡ xs) no_more c d (arguments item)) left_out
+    each (λ d. [] ≡ those c d (arguments item)) (λ d. over (λ xs. [] ≡ xs) (λ xs. via (λ e. sym e) (λ e. sym e) (none xs)) c d (arguments item)) left_out
 
 abbrev mutual
   pub formed : NumberLaws → (item : Item) → Verdict (AreFormed item)

@@ -2,10 +2,9 @@
 use Rattle.std.proofs.Common.{◌≡◌, ℕ, zero, suc, ◌+◌, ◌-◌, ◌==◌, Bool, true, false, List, [], ◌∷◌, ◌++◌, length, take, fold, ℤ, pos, negsuc, Option, Some, None, codes, if◌then◌else◌, inl, inr, refl, sym, ap, subst, ◌∙◌, arith, encode_utf8_all}
 use Rattle.std.specs.List.{list_all}
 use Rattle.std.specs.Str.{all_scalars, str_to_ascii_lowercase}
-use Rattle.std.proofs.lemmas.Bool.{true≢false}
 use Rattle.crs_decimal.specs.Prelude.{IsInBounds, digits_value, Denotes, IsFractionNeeded, IsPlain, plain, Parts, SpellsNumber, unsigned, Value, IsNormal, exact, is_normal}
 use Rattle.crs_decimal.specs.Value.{zero as zero_value}
-use Rattle.crs_text.specs.Prelude.{Item, leaf, node, doubled, Kind, number, text, word, IsSingle, IsWord, is_letter, is_word_byte}
+use Rattle.crs_text.specs.Prelude.{Item, leaf, doubled, Kind, number, text, word, IsSingle, IsWord, is_letter, is_word_byte}
 use Rattle.crs_text.specs.declared.items.ItemKind.TheVariants as kinds
 use Rattle.crs_shape.specs.declared.class.Class.{Class}
 use Rattle.crs_shape.specs.declared.class.Class.TheVariants as class
@@ -17,13 +16,13 @@ use Rattle.crs_normal.specs.NormalOwn.{IsCode, IsShort}
 use Rattle.crs_normal.specs.SpelledItems.{is_short}
 use Rattle.crs_normal.proofs.made.LeafLemmas.{short-true, true-short}
 use Rattle.crs_normal.proofs.texts.WordFormLemmas.{direction-known, direction_of, type-known, type_of}
-use Rattle.crs_normal.proofs.verdicts.Verdicts.{Verdict, both, equal, or_else, refuted_by, shown_by, tested, via}
+use Rattle.crs_normal.proofs.verdicts.Verdicts.{Verdict, both, equal, negated, or_else, refuted_by, shown_by, tested, via}
 use Rattle.crs_normal.proofs.texts.ItemLemmas.{run-single}
 
 -- ---- codes
 
-pub is-long : (raw : List ℕ) → is_short raw ≡ false → ¬ (IsShort raw)
-is-long raw e s = let k : true ≡ false = sym (short-true raw s) ∙ e in cc
+abbrev short : (raw : List ℕ) → Verdict (IsShort raw)
+short raw = tested (is_short raw) (true-short raw) (short-true raw)
 
 pub number-code : (raw : List ℕ) → IsCode (leaf number 0 raw) → IsShort raw
 number-code raw (inl h) = h.0
@@ -33,24 +32,10 @@ pub text-code : (raw : List ℕ) → IsCode (leaf text 0 raw) → ¬ (IsShort ra
 text-code raw (inl h) = let k : kinds.Text ≡ kinds.Number = h.1 in cc
 text-code raw (inr h) = h.0
 
-pub short-or-long : (raw : List ℕ) → ¬ (IsShort raw) → is_short raw ≡ false
-short-or-long raw long = by (is_short raw) refl
-  where
-    by : (b : Bool) → is_short raw ≡ b → b ≡ false
-    by true e = absurd (long (true-short raw e))
-    by false e = refl
-
-abbrev is_false : (b : Bool) → Verdict (b ≡ false)
-is_false false = Some (inl refl)
-is_false true = Some (inr true≢false)
-
 abbrev pub is_code : (item : Item) → Verdict (IsCode item)
-is_code (leaf number place raw) =
-    tested (is_short raw) (λ e. inl (true-short raw e, refl)) (λ h. short-true raw (number-code raw h))
-is_code (leaf text place raw) =
-    via (λ e. inr (is-long raw e, refl)) (λ h. short-or-long raw (text-code raw h)) (is_false (is_short raw))
-is_code (leaf word place raw) = None
-is_code (node place keyword square first others close) = None
+is_code (leaf number place raw) = via (λ s. inl (s, refl)) (number-code raw) (short raw)
+is_code (leaf text place raw) = via (λ n. inr (n, refl)) (text-code raw) (negated (short raw))
+is_code other = None
 
 -- ---- words
 
