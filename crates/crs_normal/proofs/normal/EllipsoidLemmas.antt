@@ -1,5 +1,5 @@
 -- Normal ellipsoids and prime meridians are the one form of their values.
-use Rattle.std.proofs.Common.{◌≡◌, ℕ, ◌&&◌, Bool, true, false, Option, Some, None, List, [], ◌∷◌, if◌then◌else◌, codes, refl, ◌∙◌, ap, subst, ℤ, pos, negsuc}
+use Rattle.std.proofs.Common.{◌≡◌, ℕ, ◌&&◌, Bool, true, false, Option, Some, None, List, [], ◌∷◌, if◌then◌else◌, codes, refl, ◌∙◌, ap, subst, ℤ, pos, negsuc, arith}
 use Rattle.std.proofs.lemmas.Bool.{and_parts, eqb-true}
 use Rattle.crs_decimal.specs.Prelude.{plain, Value, IsNormal, is_normal, is_power, zero}
 use Rattle.crs_text.specs.Prelude.{Item, Siblings, arguments}
@@ -32,19 +32,8 @@ ellipsoid-form law level c =
 -- ---- prime meridians
 
 -- zero has one normal value
-no-digits : (n : Bool) (p : ℤ) → is_normal (record { negative = n; digits = 0; power = p }) ≡ true →
-    ◌≡◌ {A = Value} (record { negative = n; digits = 0; power = p }) zero
-no-digits true p h = let k : false ≡ true = (and_parts (true && is_power p) false h).1 in absurd (cc)
-no-digits false (pos n) h =
-    ap (λ (m : ℕ). record { negative = false; digits = 0; power = pos m }) (eqb-true n 0 (and_parts _ _ h).1)
-no-digits false (negsuc n) h = let k : false ≡ true = (and_parts (true && is_power (negsuc n)) false h).1 in absurd (cc)
-
 zero-is : (v : Value) → IsNormal v → is_zero v ≡ true → v ≡ zero
-zero-is v normal e =
-    let d = eqb-true v.digits 0 e in
-    let same : v ≡ record { negative = v.negative; digits = 0; power = v.power } =
-    ap (λ (m : ℕ). record { negative = v.negative; digits = m; power = v.power }) d in
-    same ∙ no-digits v.negative v.power (subst (λ (w : Value). is_normal w ≡ true) same normal)
+zero-is v normal e = grind (arith, normal, e)
 
 normal-read : (found : List Item) (v : Value) → ReadsFirst ReadsNumber found v → IsNormal v
 normal-read [] v reads = absurd reads

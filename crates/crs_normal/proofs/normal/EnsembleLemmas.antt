@@ -56,23 +56,17 @@ vertical_ensemble-form law level c =
 -- ---- frames of either sort
 
 -- the frame in a slot for one of two classes
-abbrev pub FrameForm : {level : Level} {c : Class} {slots : List SlotParts} {item : Item} {name : List ℕ}
-    (o : Opened level c slots item name) → Class → Class → List ℕ → Type 0
-FrameForm {level = level} {c = c} {item = item} o d e keyword =
-    (front : List Item) → Alone front →
+pub frame-in : {level : Level} {c : Class} {slots : List SlotParts} {item : Item} {name : List ℕ}
+    (o : Opened level c slots item name) (d e : Class) (keyword : List ℕ) →
+    Form level c d (Checked d (ReadsDatum d)) (λ x. item_datum keyword (norm_datum level x)) →
+    Form level c e (ReadsEnsemble e) (λ x. item_ensemble (norm_ensemble level x)) → (front : List Item) → Alone front →
     Looked o d (those c d (onto front End)) → Looked o e (those c e (onto front End)) →
     ((fault : RefusedAt) → ¬ (BreaksAmong c (arguments item) fault)) → (value : Frame) →
     ReadsElse (ReadsAsDatum d) (those c d (arguments item))
-    (ReadsFirst (ReadsAsEnsemble e) (those c e (arguments item))) value → (rest after : Siblings) → rest ≡ after →
+    (ReadsFirst (ReadsAsEnsemble e) (those c e (arguments item))) value → {rest after : Siblings} → rest ≡ after →
     without_places_onto front rest ≡ More (item_frame keyword (norm_frame level value)) after
-
-frame-in : {level : Level} {c : Class} {slots : List SlotParts} {item : Item} {name : List ℕ}
-    (o : Opened level c slots item name) (d e : Class) (keyword : List ℕ) →
-    Form level c d (Checked d (ReadsDatum d)) (λ x. item_datum keyword (norm_datum level x)) →
-    Form level c e (ReadsEnsemble e) (λ x. item_ensemble (norm_ensemble level x)) →
-    FrameForm o d e keyword
 frame-in {level = level} {c = c} {item = item} o d e keyword datum ensemble front p same same_ensemble free value reads
-    rest after f =
+    {rest = rest} f =
     ap (λ xs. without_places_onto xs rest) p.1
     ∙ ap₂ More
     (by-class o (ReadsAsDatum d) (ReadsFirst (ReadsAsEnsemble e) (those c e (arguments item))) d p same reads
@@ -90,20 +84,6 @@ frame-in {level = level} {c = c} {item = item} o d e keyword datum ensemble fron
     as_ensemble (frame.Datum x) good reads = absurd reads
     as_ensemble (frame.Ensemble x) good reads = ensemble p.0 x good reads
 
-pub geodetic_frame-in : PlainIsOne → {level : Level} {c : Class} {slots : List SlotParts} {item : Item} {name : List ℕ}
-    (o : Opened level c slots item name) →
-    FrameForm o class.GeodeticFrame class.GeodeticEnsemble (codes "DATUM")
-geodetic_frame-in law o =
-    frame-in o class.GeodeticFrame class.GeodeticEnsemble (codes "DATUM") (geodetic_datum-form law _ _)
-    (geodetic_ensemble-form law _ _)
-
-pub vertical_frame-in : PlainIsOne → {level : Level} {c : Class} {slots : List SlotParts} {item : Item} {name : List ℕ}
-    (o : Opened level c slots item name) →
-    FrameForm o class.VerticalFrame class.VerticalEnsemble (codes "VDATUM")
-vertical_frame-in law o =
-    frame-in o class.VerticalFrame class.VerticalEnsemble (codes "VDATUM") (vertical_datum-form law _ _)
-    (vertical_ensemble-form law _ _)
-
 -- ---- base CRSs
 
 pub base-form : PlainIsOne → ZeroPlain → (level : Level) (c : Class) →
@@ -113,7 +93,8 @@ base-form law zero_plain level c =
     unbroken-by-slots refl (λ item keyword x o free inner reads. spelled-by o o.written
     (one-in o 0 (text-form level d) refl refl x.name reads.name
     (mapped-in o item_dynamic (norm_dynamic level) (dynamic-form law level d) 1 refl refl x.dynamic reads.dynamic
-    (geodetic_frame-in law o (front_in o 2) (only-in o 2 refl refl) refl refl inner x.frame reads.frame _ _
+    (frame-in o class.GeodeticFrame class.GeodeticEnsemble (codes "DATUM") (geodetic_datum-form law level d)
+    (geodetic_ensemble-form law level d) (front_in o 2) (only-in o 2 refl refl) refl refl inner x.frame reads.frame
     (there-in o item_meridian (norm_given level) (meridian-form law zero_plain level d) (norm_meridian level) (λ m. refl) 3
     refl refl o.own x.meridian reads.meridian
     (optional-in o 4 (unit-form law level d class.AngleUnit kinds.Angle refl (in-angle kinds.Angle) (λ raw h. h)) refl

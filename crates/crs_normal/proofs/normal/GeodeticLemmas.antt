@@ -17,7 +17,8 @@ use Rattle.crs_normal.proofs.normal.CheckedLemmas.{Checked, unbroken-by-slots}
 use Rattle.crs_normal.proofs.normal.DimensionLemmas.{AreSmall, small-geodetic, small-geographic}
 use Rattle.crs_normal.proofs.normal.DynamicLemmas.{dynamic-form}
 use Rattle.crs_normal.proofs.normal.EllipsoidLemmas.{meridian-form}
-use Rattle.crs_normal.proofs.normal.EnsembleLemmas.{geodetic_frame-in}
+use Rattle.crs_normal.proofs.normal.EnsembleLemmas.{frame-in, geodetic_ensemble-form}
+use Rattle.crs_normal.proofs.normal.FrameLemmas.{geodetic_datum-form}
 use Rattle.crs_normal.proofs.normal.FormLemmas.{Form, front_in, Opened, good-in, mapped-in, one-in, only-in, spelled-by, there-in}
 use Rattle.crs_normal.proofs.normal.HeadLemmas.{Laws, geographic-type, not-ellipsoidal}
 use Rattle.crs_normal.proofs.normal.LeafLemmas.{text-form}
@@ -34,7 +35,8 @@ geodetic-node laws {level = level} {c = c} o has_meridian has_axes has_tail smal
     spelled-by o named
     (one-in o 0 (text-form level c) refl refl x.name reads.name
     (mapped-in o item_dynamic (norm_dynamic level) (dynamic-form law level c) 1 refl refl x.dynamic reads.dynamic
-    (geodetic_frame-in law o (front_in o 2) (only-in o 2 refl refl) refl refl inner x.frame reads.frame _ _
+    (frame-in o class.GeodeticFrame class.GeodeticEnsemble (codes "DATUM") (geodetic_datum-form law level c)
+    (geodetic_ensemble-form law level c) (front_in o 2) (only-in o 2 refl refl) refl refl inner x.frame reads.frame
     (there-in o item_meridian (norm_given level) (meridian-form law laws.zero_plain level c) (norm_meridian level) (λ m. refl)
     3 refl refl has_meridian x.meridian reads.meridian
     (system-in laws o has_axes (dimensions_of c) small (λ fault b. own fault (inr (inl b))) 4 refl refl refl refl x.system

@@ -1,5 +1,5 @@
 -- Normal projected and vertical CRSs are the one form of their values.
-use Rattle.std.proofs.Common.{inl, inr, refl}
+use Rattle.std.proofs.Common.{codes, inl, inr, refl}
 use Rattle.crs_shape.specs.declared.class.Class.{Class}
 use Rattle.crs_shape.specs.declared.class.Class.TheVariants as class
 use Rattle.crs_shape.specs.Prelude.{dimensions_of}
@@ -9,8 +9,9 @@ use Rattle.crs_normal.specs.SpelledDynamic.{item_dynamic, norm_dynamic}
 use Rattle.crs_normal.specs.SpelledCrs.{item_projected, item_vertical, norm_projected, norm_vertical}
 use Rattle.crs_normal.proofs.normal.CheckedLemmas.{Checked, first-checked, unbroken-by-slots, unbroken-in}
 use Rattle.crs_normal.proofs.normal.DynamicLemmas.{dynamic-form}
-use Rattle.crs_normal.proofs.normal.EnsembleLemmas.{base-form, vertical_frame-in}
+use Rattle.crs_normal.proofs.normal.EnsembleLemmas.{base-form, frame-in, vertical_ensemble-form}
 use Rattle.crs_normal.proofs.normal.FormLemmas.{Form, front_in, mapped-in, one-in, only-in, spelled-by}
+use Rattle.crs_normal.proofs.normal.FrameLemmas.{vertical_datum-form}
 use Rattle.crs_normal.proofs.normal.DimensionLemmas.{small-projected, small-vertical}
 use Rattle.crs_normal.proofs.normal.HeadLemmas.{Laws}
 use Rattle.crs_normal.proofs.normal.LeafLemmas.{text-form}
@@ -46,7 +47,8 @@ vertical-form laws level c =
     unbroken-by-slots refl (λ item keyword x o own inner reads. spelled-by o o.written
     (one-in o 0 (text-form level d) refl refl x.name reads.name
     (mapped-in o item_dynamic (norm_dynamic level) (dynamic-form law level d) 1 refl refl x.dynamic reads.dynamic
-    (vertical_frame-in law o (front_in o 2) (only-in o 2 refl refl) refl refl inner x.frame reads.frame _ _
+    (frame-in o class.VerticalFrame class.VerticalEnsemble (codes "VDATUM") (vertical_datum-form law level d)
+    (vertical_ensemble-form law level d) (front_in o 2) (only-in o 2 refl refl) refl refl inner x.frame reads.frame
     (system-in laws o o.own.0 (dimensions_of d) small-vertical (λ fault b. own fault (inr (inl b))) 3 refl refl refl refl
     x.system reads.system
     (tail-in o 6 law o.own.1 (λ fault b. own fault (inl b)) (vertical_end-as d) refl

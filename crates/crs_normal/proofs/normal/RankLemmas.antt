@@ -20,13 +20,12 @@ use Rattle.crs_normal.proofs.read.ViewLemmas.{InSlot, View, each-so, front_at, o
 rise-behind : (c : Class) (least : ℕ) (front : List Item) (rest : Siblings) → Rise c least (onto front rest) →
     (m : ℕ) × Rise c m rest
 rise-behind c least [] rest rise = (least, rise)
-rise-behind c least (item ∷ items) rest rise = by (class_in c item) (λ k h. rise-behind c k items rest h) rise
-  where
-    by : (o : Option Class) → ((k : ℕ) → Rise c k (onto items rest) → (m : ℕ) × Rise c m rest) →
-        AtClass o (λ d. (least ≤ rank d) × Rise c (rank d) (onto items rest)) →
-        (m : ℕ) × Rise c m rest
-    by None more h = absurd h
-    by (Some d) more h = more (rank d) h.1
+rise-behind c least (item ∷ items) rest rise =
+    elim (class_in c item) as (λ o. AtClass o (λ d. (least ≤ rank d) × Rise c (rank d) (onto items rest)) →
+    (m : ℕ) × Rise c m rest) [
+      | None ↦ λ h. absurd h
+      | Some d ↦ λ h. rise-behind c (rank d) items rest h.1
+    ] rise
 
 rise-as : (c : Class) (m : ℕ) (item : Item) (rest : Siblings) (d : Class) → class_in c item ≡ Some d →
     Rise c m (More item rest) → (m ≤ rank d) × Rise c (rank d) rest
@@ -144,14 +143,9 @@ by-rank c ds up m [] others rise ones rest = sym (none ds)
     none [] = refl
     none (d ∷ ds) = none ds
 by-rank c ds up m (item ∷ items) others rise ones rest =
-    let a = class-of (λ e. Unit {0}) c ds item ones.0 (every ds) in
-    ap (More (without_places item))
-    (by-rank c ds up (rank a.0) items others (rise-as c m item (onto items others) a.0 a.1.0 rise).1 ones.1 rest)
+    let behind = rise-behind c m (item ∷ []) (onto items others) rise in
+    ap (More (without_places item)) (by-rank c ds up behind.0 items others behind.1 ones.1 rest)
     ∙ sym (one-more c ds up m item items others rest ones.0 rise)
-  where
-    every : (ds : List Class) → Each (λ d. Unit {0}) ds
-    every [] = tt
-    every (d ∷ ds) = (tt, every ds)
 
 -- ---- the classes at the end
 

@@ -1,5 +1,5 @@
 -- A normal coordinate system is the one form of its value: its axes are in order of position.
-use Rattle.std.proofs.Common.{IsFalse, ◌≡◌, ℕ, suc, ◌+◌, ◌^◌, ◌≤◌, ◌<◌, ⊎_elim, length, true, false, Option, Some, List, [], ◌∷◌, if◌then◌else◌, decimal, refl, sym, ◌∙◌, ap, arith}
+use Rattle.std.proofs.Common.{IsFalse, ◌≡◌, ℕ, suc, ◌+◌, ◌^◌, ◌≤◌, ◌<◌, ⊎_elim, length, true, false, Option, Some, List, [], ◌∷◌, if◌then◌else◌, decimal, refl, sym, ◌∙◌, ap, ap₂, arith}
 use Rattle.std.specs.Str.{bytes_eq}
 use Rattle.std.proofs.lemmas.Bool.{cases_Bool}
 use Rattle.std.proofs.lemmas.Fmt.{decimal_injective}
@@ -25,36 +25,6 @@ use Rattle.crs_normal.proofs.normal.UnitLemmas.{idents-in}
 use Rattle.crs_normal.proofs.read.ViewLemmas.{without_places_onto, slot_at}
 
 -- ---- the axes at their positions
-
-abbrev numbered : Level → SystemParts → ℕ → List AxisParts → List AxisParts
-numbered level system k [] = []
-numbered level system k (axis ∷ axes) = norm_axis level system k axis ∷ numbered level system (k + 1) axes
-
-abbrev AllNumbered : ℕ → List AxisParts → Type 0
-AllNumbered k [] = Unit {0}
-AllNumbered k (axis ∷ axes) = IsNumbered k axis.order × AllNumbered (k + 1) axes
-
-record AreAxes (level : Level) (system : SystemParts) (k : ℕ) (axes : List AxisParts) (items : List Item)
-    (rest : Siblings) : Type 0 where
-  spelled : without_places_onto items rest ≡ each item_axis (numbered level system k axes) rest
-  numbered_so : AllNumbered k axes
-
-axes-read : PlainIsOne →
-    (level : Level) (c : Class) (system : SystemParts) (k : ℕ) (items : List Item) (axes : List AxisParts) →
-    Each (IsGood level c class.Axis) items →
-    AreOrdered k items → Each (Has class.Axis class.AxisUnit) items → ReadsEach (ReadsAxis class.Axis) items axes →
-    (rest : Siblings) → AreAxes level system k axes items rest
-axes-read law level c system k [] [] good ordered own reads rest = record { spelled = refl; numbered_so = tt }
-axes-read law level c system k [] (x ∷ xs) good ordered own reads rest = absurd reads
-axes-read law level c system k (i ∷ is) [] good ordered own reads rest = absurd reads
-axes-read law level c system k (i ∷ is) (x ∷ xs) good ordered own reads rest =
-    let this = axis-form law level c system k i x good.0 ordered.0 own.0 reads.0 in
-    let more = axes-read law level c system (k + 1) is xs good.1 ordered.1 own.1 reads.1 rest in
-    record {
-      spelled = ap (λ j. More j (without_places_onto is rest)) this.0
-          ∙ ap (More (item_axis (norm_axis level system k x))) more.spelled;
-      numbered_so = (this.1, more.numbered_so);
-    }
 
 abbrev limit : ℕ
 limit = 2 ^ 64
@@ -82,30 +52,32 @@ not-here k j place order n less within =
 abbrev IsAmong : ℕ → List AxisParts → List AxisParts → Type 0
 IsAmong k axes all = (j : ℕ) → k ≤ j → j < limit → (place : ℕ) × (axis_at j 1 all ≡ axis_at j place axes)
 
-from-numbered : (level : Level) (system : SystemParts) (k : ℕ) (axes : List AxisParts) → IsAmong k axes system.axes →
-    AllNumbered k axes → k + length axes < limit →
-    axes_from level system k (length axes) ≡ numbered level system k axes
-from-numbered level system k [] among numbered_so within = refl
-from-numbered level system k (axis ∷ axes) among numbered_so within =
-    ap (λ found. with_axis level system k found (axes_from level system (k + 1) (length axes)))
-    (here.1 ∙ ap (λ b. if b then Some axis else axis_at k (here.0 + 1) axes)
-    (at-here k here.0 axis.order numbered_so.0))
-    ∙ ap (λ xs. norm_axis level system k axis ∷ xs)
-    (from-numbered level system (k + 1) axes later numbered_so.1 within_more)
+axes-in : PlainIsOne → (level : Level) (c : Class) (system : SystemParts) (k : ℕ) (items : List Item)
+    (axes : List AxisParts) → Each (IsGood level c class.Axis) items → AreOrdered k items →
+    Each (Has class.Axis class.AxisUnit) items → ReadsEach (ReadsAxis class.Axis) items axes →
+    IsAmong k axes system.axes → k + length axes < limit → (rest : Siblings) →
+    without_places_onto items rest ≡ each item_axis (axes_from level system k (length axes)) rest
+axes-in law level c system k [] [] good ordered own reads among within rest = refl
+axes-in law level c system k [] (x ∷ xs) good ordered own reads among within rest = absurd reads
+axes-in law level c system k (i ∷ is) [] good ordered own reads among within rest = absurd reads
+axes-in law level c system k (i ∷ is) (x ∷ xs) good ordered own reads among within rest =
+    let this = axis-form law level c system k i x good.0 ordered.0 own.0 reads.0 in
+    let here = among k (omega arith) (omega (arith, within)) in
+    ap₂ More this.0
+    (axes-in law level c system (k + 1) is xs good.1 ordered.1 own.1 reads.1 (later this.1) within_more rest)
+    ∙ ap (λ found. each item_axis (with_axis level system k found (axes_from level system (k + 1) (length xs))) rest)
+    (sym (here.1 ∙ ap (λ b. if b then Some x else axis_at k (here.0 + 1) xs) (at-here k here.0 x.order this.1)))
   where
-    here : (place : ℕ) × (axis_at k 1 system.axes ≡ axis_at k place (axis ∷ axes))
-    here = among k (omega arith) (omega (arith, within))
-
-    later : IsAmong (k + 1) axes system.axes
-    later j least less =
+    later : IsNumbered k x.order → IsAmong (k + 1) xs system.axes
+    later numbered_so j least less =
         let a = among j (omega (arith, least)) less in (
           a.0 + 1,
-          a.1 ∙ ap (λ b. if b then Some axis else axis_at j (a.0 + 1) axes)
-              (not-here j k a.0 axis.order numbered_so.0 (omega (arith, least)) less),
+          a.1 ∙ ap (λ b. if b then Some x else axis_at j (a.0 + 1) xs)
+              (not-here j k a.0 x.order numbered_so (omega (arith, least)) less),
         )
 
-    within_more : (k + 1) + length axes < limit
-    within_more = let h : length (axis ∷ axes) ≡ suc (length axes) = refl in omega (arith, within)
+    within_more : (k + 1) + length xs < limit
+    within_more = let h : length (x ∷ xs) ≡ suc (length xs) = refl in omega (arith, within)
 
 -- ---- systems
 
@@ -131,8 +103,6 @@ pub system-in : Laws → {level : Level} {c : Class} {slots : List SlotParts} {i
 system-in laws {level = level} {c = c} {item = item} o has dimensions small free k e single f g x reads
     {rest = rest} {after = after} same =
     let found = those c class.Axis (arguments item) in
-    let read = axes-read laws.plain_one level c x 1 found x.axes (good-in o class.Axis) has.ordered has.own_units reads.axes
-    after in
     let within = few-axes laws dimensions small _ _ _ free x reads.head
     (each-length (ReadsAxis class.Axis) found x.axes reads.axes) in
     one-in o k (head-form laws.plain_one level c) e single x reads.head
@@ -141,9 +111,5 @@ system-in laws {level = level} {c = c} {item = item} o has dimensions small free
     ∙ has.none_shared)
     ∙ ap (without_places_onto (front_in o (suc k))) same ∙ ap (λ xs. without_places_onto xs after)
     (sym (found-in o class.Axis f))
-    ∙ read.spelled
-    ∙ ap (λ xs. each item_axis xs after)
-    (sym (from-numbered level x 1 x.axes (λ j least less. (1, refl)) read.numbered_so (more (length x.axes) within))))
-  where
-    more : (n : ℕ) → n + 1 < 2 ^ 64 → 1 + n < 2 ^ 64
-    more n h = omega arith
+    ∙ axes-in laws.plain_one level c x 1 found x.axes (good-in o class.Axis) has.ordered has.own_units reads.axes
+    (λ j least less. (1, refl)) (omega (arith, within)) after)
