@@ -3,7 +3,6 @@ use Rattle.std.proofs.Common.{◌≡◌, ℕ, ◌≤◌, ◌*◌, List, [], ◌�
 use Rattle.crs_decimal.specs.Prelude.{Number, SameNumber, whole_number, Value, exact}
 use Rattle.crs_shape.specs.declared.class.Class.TheVariants as class
 use Rattle.crs_shape.specs.declared.system_type.SystemType.{SystemType}
-use Rattle.crs_shape.specs.declared.system_type.SystemType.TheVariants as types
 use Rattle.crs_shape.specs.Prelude.{IsOneOf, dimensions_of}
 use Rattle.crs_value.specs.Sound.{Each}
 
@@ -11,22 +10,16 @@ abbrev pub AreSmall : List ℕ → Type 0
 AreSmall ns = Each (λ n. n ≤ 3) ns
 
 pub small-geodetic : (t : SystemType) → AreSmall (dimensions_of class.GeodeticCrs t)
-small-geodetic types.Cartesian = (omega arith, tt)
-small-geodetic types.Ellipsoidal = (omega arith, (omega arith, tt))
-small-geodetic types.Spherical = (omega arith, (omega arith, tt))
-small-geodetic types.Vertical = tt
+small-geodetic t = grind arith
 
 pub small-geographic : (t : SystemType) → AreSmall (dimensions_of class.GeographicCrs t)
-small-geographic types.Ellipsoidal = (omega arith, (omega arith, tt))
-small-geographic other = tt
+small-geographic t = grind arith
 
 pub small-projected : (t : SystemType) → AreSmall (dimensions_of class.ProjectedCrs t)
-small-projected types.Cartesian = (omega arith, (omega arith, tt))
-small-projected other = tt
+small-projected t = grind arith
 
 pub small-vertical : (t : SystemType) → AreSmall (dimensions_of class.VerticalCrs t)
-small-vertical types.Vertical = (omega arith, tt)
-small-vertical other = tt
+small-vertical t = grind arith
 
 -- a number that is one of a few small ones and is this whole number too is small
 pub few-axes : ((a b : Number) → SameNumber a b → SameNumber b a) →

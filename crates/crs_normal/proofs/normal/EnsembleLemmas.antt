@@ -17,7 +17,7 @@ use Rattle.crs_normal.proofs.normal.CheckedLemmas.{Checked, IsUnbroken, by-class
 use Rattle.crs_normal.proofs.normal.DynamicLemmas.{dynamic-form}
 use Rattle.crs_normal.proofs.normal.EllipsoidLemmas.{ZeroPlain, ellipsoid-form, meridian-form}
 use Rattle.crs_normal.proofs.normal.FormLemmas.{Form, IsGood, Looked, Opened, by-slots, front_in, good-in, mapped-in, missing-in, one-in, only-in, optional-in, set-in, spelled-by, there-in}
-use Rattle.crs_normal.proofs.normal.FrameLemmas.{geodetic_datum-form, vertical_datum-form}
+use Rattle.crs_normal.proofs.normal.FrameLemmas.{geodetic_datum-form}
 use Rattle.crs_normal.proofs.normal.LeafLemmas.{PlainIsOne, number-node-form, text-form}
 use Rattle.crs_normal.proofs.normal.NamedLemmas.{member-form}
 use Rattle.crs_normal.proofs.members.PairLemmas.{Alone, opt-units}

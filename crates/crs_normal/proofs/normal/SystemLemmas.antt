@@ -1,7 +1,6 @@
 -- A normal coordinate system is the one form of its value: its axes are in order of position.
-use Rattle.std.proofs.Common.{IsFalse, ◌≡◌, ℕ, suc, ◌+◌, ◌^◌, ◌≤◌, ◌<◌, ⊎_elim, length, true, false, Option, Some, List, [], ◌∷◌, if◌then◌else◌, decimal, refl, sym, ◌∙◌, ap, ap₂, arith}
+use Rattle.std.proofs.Common.{IsFalse, ◌≡◌, ℕ, suc, ◌+◌, ◌^◌, ◌≤◌, ◌<◌, length, true, false, Option, Some, List, [], ◌∷◌, if◌then◌else◌, decimal, refl, sym, ◌∙◌, ap, ap₂, arith}
 use Rattle.std.specs.Str.{bytes_eq}
-use Rattle.std.proofs.lemmas.Bool.{cases_Bool}
 use Rattle.std.proofs.lemmas.Fmt.{decimal_injective}
 use Rattle.std.proofs.lemmas.Slice.Eq.{bytes_eq-Decides}
 use Rattle.crs_decimal.specs.Prelude.{Value}
@@ -15,7 +14,7 @@ use Rattle.crs_value.specs.declared.values.level.Level.{Level}
 use Rattle.crs_normal.specs.NormalOwn.{AreOrdered, Has, HasAxes}
 use Rattle.crs_value.specs.Sound.{Each}
 use Rattle.crs_normal.specs.SpelledItems.{each}
-use Rattle.crs_normal.specs.SpelledSystems.{axes_from, axis_at, is_at, item_axis, item_head, norm_axis, norm_system, system_items, with_axis}
+use Rattle.crs_normal.specs.SpelledSystems.{axes_from, axis_at, is_at, item_axis, item_head, norm_system, system_items, with_axis}
 use Rattle.crs_normal.proofs.normal.AxisLemmas.{IsNumbered, axis-form, type-form}
 use Rattle.crs_normal.proofs.normal.FormLemmas.{Form, IsGood, Looked, Opened, by-slots, found-in, front_in, good-in, one-in, spelled-by}
 use Rattle.crs_normal.proofs.normal.DimensionLemmas.{AreSmall}
@@ -39,14 +38,9 @@ at-here k place order n = at-order k k place order n ∙ (bytes_eq-Decides (deci
 not-here : (k j place : ℕ) (order : Option Value) → IsNumbered j order → j < k → k < limit →
     is_at k place order ≡ false
 not-here k j place order n less within =
-    at-order k j place order n
-    ∙ ⊎_elim (λ e. absurd (apart ((bytes_eq-Decides (decimal j) (decimal k)).0 e))) (λ e. e)
-    (cases_Bool (bytes_eq (decimal j) (decimal k)))
-  where
-    apart : decimal j ≡ decimal k → ⊥
-    apart e =
-        let same : j ≡ k = decimal_injective j k (omega (arith, less, within)) within e in
-        omega (arith, less, same)
+    let apart : bytes_eq (decimal j) (decimal k) ≡ false =
+    grind (arith, bytes_eq-Decides (decimal j) (decimal k), decimal_injective j k, less, within) in
+    at-order k j place order n ∙ apart
 
 -- an axis of this position or a later one is found among these, which come after the others
 abbrev IsAmong : ℕ → List AxisParts → List AxisParts → Type 0

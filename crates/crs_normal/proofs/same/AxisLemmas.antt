@@ -6,11 +6,11 @@ use Rattle.std.proofs.lemmas.Bool.Decides.{Decides-eqb}
 use Rattle.crs_decimal.specs.Prelude.{Value, IsNormal}
 use Rattle.crs_shape.specs.declared.unit_kind.UnitKind.TheVariants as kinds
 use Rattle.crs_shape.specs.Prelude.{asked_kind}
-use Rattle.crs_value.specs.Prelude.{IsAxis, IsAxisMeridian, IsAxisUnit, IsUnit, AxisParts, SystemParts, UnitParts}
+use Rattle.crs_value.specs.Prelude.{IsAxis, IsAxisMeridian, IsAxisUnit, AxisParts, SystemParts}
 use Rattle.crs_value.specs.Sound.{Each}
 use Rattle.crs_value.specs.declared.values.level.Level.{Level}
 use Rattle.crs_same.specs.Prelude.{AgreeAxis}
-use Rattle.crs_matching.specs.Prelude.{HasAt, IsPositionOf, SameAxisAlone, SameAxisMeridian, own_or, BothOrNeither}
+use Rattle.crs_matching.specs.Prelude.{HasAt, IsPositionOf, SameAxisAlone, SameAxisMeridian, BothOrNeither}
 use Rattle.crs_normal.specs.Decides.{FormDecides, Maybe, SetsDecide}
 use Rattle.crs_normal.specs.LowerLaws.{LowerLaws}
 use Rattle.crs_normal.specs.PartTexts.{norm_axis_alone}
@@ -20,21 +20,10 @@ use Rattle.crs_normal.proofs.same.UnitLemmas.{unit-agrees, units-agree}
 
 -- ---- two axes
 
-own-sound : (own shared : Option UnitParts) → Maybe IsAxisUnit own → Maybe IsAxisUnit shared →
-    Maybe IsUnit (own_or own shared)
-own-sound (Some own) shared in-own in-shared = in-own.0
-own-sound None (Some shared) in-own in-shared = in-shared.0
-own-sound None None in-own in-shared = tt
-
-plain-unit : (own : Option UnitParts) → Maybe IsAxisUnit own → Maybe IsUnit own
-plain-unit None s = tt
-plain-unit (Some u) s = s.0
-
 module _ (laws : LowerLaws) (sets : SetsDecide) (level : Level) where
   pub axis-meridian-agrees : FormDecides IsAxisMeridian (norm_axis_meridian level) (SameAxisMeridian level)
   axis-meridian-agrees a b in-a in-b =
-      let unit = unit-agrees laws.normal_is_one sets.idents level kinds.Angle a.unit b.unit in-a.unit.0 in-b.unit.0 in
-      grind (arith, values-agree laws.normal_is_one, unit)
+      grind (arith, values-agree laws.normal_is_one, unit-agrees laws.normal_is_one sets.idents level kinds.Angle)
 
   pub axis-meridians-agree : FormDecides (Maybe IsAxisMeridian) (norm_axis_meridians level)
       (BothOrNeither (SameAxisMeridian level))
@@ -43,9 +32,13 @@ module _ (laws : LowerLaws) (sets : SetsDecide) (level : Level) where
   -- two axes by themselves
   pub axis-alone-agrees : FormDecides IsAxis (norm_axis_alone level) (SameAxisAlone level)
   axis-alone-agrees x y in-x in-y =
-      let unit = units-agree laws.normal_is_one sets.idents level kinds.Plain x.unit y.unit (plain-unit x.unit in-x.unit)
-      (plain-unit y.unit in-y.unit) in
-      grind (arith, axis-meridians-agree, numbers-agree laws.normal_is_one, unit, sets.idents level)
+      grind (
+        arith,
+        axis-meridians-agree,
+        numbers-agree laws.normal_is_one,
+        units-agree laws.normal_is_one sets.idents level kinds.Plain,
+        sets.idents level,
+      )
 
   -- at the same position of two systems of one type
   pub axis-agrees : (a b : SystemParts) (k : ℕ) (x y : AxisParts) → a.system_type ≡ b.system_type →
@@ -53,10 +46,12 @@ module _ (laws : LowerLaws) (sets : SetsDecide) (level : Level) where
       (norm_axis level a k x ≡ norm_axis level b k y) ↔ AgreeAxis level a b x y
   unfolding norm_axis AgreeAxis
   axis-agrees a b k x y type unit-a unit-b in-x in-y =
-      let unit = units-agree laws.normal_is_one sets.idents level (asked_kind a.system_type x.direction)
-      (own_or x.unit a.unit) (own_or y.unit b.unit)
-      (own-sound x.unit a.unit in-x.unit unit-a) (own-sound y.unit b.unit in-y.unit unit-b) in
-      grind (arith, axis-meridians-agree, unit, sets.idents level)
+      grind (
+        arith,
+        axis-meridians-agree,
+        units-agree laws.normal_is_one sets.idents level (asked_kind a.system_type x.direction),
+        sets.idents level,
+      )
 
 -- ---- the axes at a position
 
@@ -90,10 +85,11 @@ pub both-agree : (R : AxisParts → AxisParts → Type 0) (position : ℕ) (xs y
     HasAt position (λ axis. axis ≡ x) 1 xs → HasAt position (λ axis. axis ≡ y) 1 ys → R x y
     ↔ HasAt position (λ a. HasAt position (λ b. R a b) 1 ys) 1 xs
 both-agree R position xs ys x y one-x one-y at-x at-y =
-    let inner : R x y ↔ HasAt position (λ b. R x b) 1 ys = at-agrees (λ b. R x b) position ys y one-y at-y in
-    let outer : HasAt position (λ b. R x b) 1 ys ↔ HasAt position (λ a. HasAt position (λ b. R a b) 1 ys) 1 xs =
-    at-agrees (λ a. HasAt position (λ b. R a b) 1 ys) position xs x one-x at-x in
-    (λ r. outer.0 (inner.0 r), λ h. inner.1 (outer.1 h))
+    grind (
+      arith,
+      at-agrees (λ b. R x b) position ys y one-y at-y,
+      at-agrees (λ a. HasAt position (λ b. R a b) 1 ys) position xs x one-x at-x,
+    )
 
 pub sound-at : (position place : ℕ) (axes : List AxisParts) (axis : AxisParts) → Each IsAxis axes →
     HasAt position (λ x. x ≡ axis) place axes → IsAxis axis

@@ -1,5 +1,5 @@
 -- Coordinate reference systems have one form exactly where they agree.
-use Rattle.std.proofs.Common.{ℕ, List, length, refl, arith}
+use Rattle.std.proofs.Common.{ℕ, List, length, arith}
 use Rattle.crs_shape.specs.declared.class.Class.TheVariants as class
 use Rattle.crs_shape.specs.declared.unit_kind.UnitKind.TheVariants as kinds
 use Rattle.crs_shape.specs.declared.system_type.SystemType.{SystemType}
@@ -17,7 +17,6 @@ use Rattle.crs_normal.proofs.same.ConversionLemmas.{conversion-agrees}
 use Rattle.crs_normal.proofs.normal.DimensionLemmas.{small-geodetic, small-projected, small-vertical, AreSmall, few-axes}
 use Rattle.crs_normal.proofs.same.DynamicLemmas.{dynamics-agree, dynamics-sound}
 use Rattle.crs_normal.proofs.same.FrameLemmas.{geodetic-frame-agrees, meridian-agrees, vertical-frame-agrees}
-use Rattle.crs_normal.proofs.same.PartLemmas.{under}
 use Rattle.crs_normal.proofs.same.SystemLemmas.{system-agrees}
 use Rattle.crs_normal.proofs.same.TailLemmas.{tail-agrees}
 use Rattle.crs_normal.proofs.same.UnitLemmas.{units-of-agree}
@@ -27,14 +26,10 @@ use Rattle.crs_normal.proofs.same.UnitLemmas.{units-of-agree}
 numbered : LowerLaws → (dimensions : SystemType → List ℕ) → ((t : SystemType) → AreSmall (dimensions t)) →
     (system : SystemParts) → IsSystem system → IsOneOf system.dimension (dimensions system.system_type) →
     IsNumbered system
-numbered laws dimensions small system sound one = (
-  sound,
-  omega (
-    arith,
-    few-axes laws.symmetric laws.transitive system.dimension (length system.axes)
-        (dimensions system.system_type) (small system.system_type) one sound.count,
-  ),
-)
+numbered laws dimensions small system sound one =
+    let few = few-axes laws.symmetric laws.transitive system.dimension (length system.axes)
+    (dimensions system.system_type) (small system.system_type) one sound.count in
+    (sound, omega (arith, few))
 
 module _ (laws : LowerLaws) (sets : SetsDecide) (level : Level) where
   -- ---- geodetic and geographic CRSs
@@ -46,14 +41,9 @@ module _ (laws : LowerLaws) (sets : SetsDecide) (level : Level) where
       let in-dimensions = numbered laws (dimensions_of class.GeodeticCrs) small-geodetic in
       let system = system-agrees laws sets level a.system b.system (in-dimensions a.system in-a.system in-a.dimension)
       (in-dimensions b.system in-b.system in-b.dimension) in
-      grind (
-        arith,
-        dynamic,
-        geodetic-frame-agrees laws sets level,
-        meridian-agrees laws sets level,
-        system,
-        tail-agrees sets level,
-      )
+      let frame = geodetic-frame-agrees laws sets level in
+      let meridian = meridian-agrees laws sets level in
+      grind (arith, dynamic, frame, meridian, system, tail-agrees sets level)
 
   -- ---- projected CRSs
 
@@ -61,14 +51,10 @@ module _ (laws : LowerLaws) (sets : SetsDecide) (level : Level) where
   base-agrees a b in-a in-b =
       let dynamic = dynamics-agree laws sets level a.dynamic b.dynamic (dynamics-sound a.dynamic a.frame in-a.dynamic)
       (dynamics-sound b.dynamic b.frame in-b.dynamic) in
-      grind (
-        arith,
-        dynamic,
-        geodetic-frame-agrees laws sets level,
-        meridian-agrees laws sets level,
-        units-of-agree laws.normal_is_one sets.idents level kinds.Angle kinds.Angle,
-        sets.idents level,
-      )
+      let frame = geodetic-frame-agrees laws sets level in
+      let meridian = meridian-agrees laws sets level in
+      let unit = units-of-agree laws.normal_is_one sets.idents level kinds.Angle kinds.Angle in
+      grind (arith, dynamic, frame, meridian, unit, sets.idents level)
 
   pub projected-agrees : FormDecides IsProjected (norm_projected level) (AgreeProjected level)
   projected-agrees a b in-a in-b =
@@ -95,9 +81,9 @@ module _ (laws : LowerLaws) (sets : SetsDecide) (level : Level) where
 
   pub horizontal-agrees : FormDecides IsHorizontal (norm_horizontal level) (AgreeHorizontal level)
   horizontal-agrees (horizontal.Geodetic a) (horizontal.Geodetic b) in-a in-b =
-      under (λ x. horizontal.Geodetic x) (λ e. cc) (geodetic-agrees a b in-a.0 in-b.0)
+      grind (arith, geodetic-agrees a b in-a.0 in-b.0)
   horizontal-agrees (horizontal.Projected a) (horizontal.Projected b) in-a in-b =
-      under (λ x. horizontal.Projected x) (λ e. cc) (projected-agrees a b in-a.0 in-b.0)
+      grind (arith, projected-agrees a b in-a.0 in-b.0)
   horizontal-agrees a b in-a in-b = (λ e. cc, λ s. absurd s)
 
   pub compound-agrees : FormDecides IsCompound (norm_compound level) (AgreeCompound level)
@@ -110,18 +96,10 @@ module _ (laws : LowerLaws) (sets : SetsDecide) (level : Level) where
   -- ---- all
 
   pub crs-agrees : FormDecides IsCrs (norm_crs level) (AgreeCrs level)
-  crs-agrees (crs.Geodetic a) (crs.Geodetic b) in-a in-b =
-      let it = under (λ x. crs.Geodetic x) (λ e. cc) (geodetic-agrees a b in-a in-b) in
-      (λ e. record { kind = (it.0 e).kind; parts = it.0 e }, λ s. it.1 s.parts)
-  crs-agrees (crs.Projected a) (crs.Projected b) in-a in-b =
-      let it = under (λ x. crs.Projected x) (λ e. cc) (projected-agrees a b in-a in-b) in
-      (λ e. record { kind = refl; parts = it.0 e }, λ s. it.1 s.parts)
-  crs-agrees (crs.Vertical a) (crs.Vertical b) in-a in-b =
-      let it = under (λ x. crs.Vertical x) (λ e. cc) (vertical-agrees a b in-a in-b) in
-      (λ e. record { kind = refl; parts = it.0 e }, λ s. it.1 s.parts)
-  crs-agrees (crs.Compound a) (crs.Compound b) in-a in-b =
-      let it = under (λ x. crs.Compound x) (λ e. cc) (compound-agrees a b in-a in-b) in
-      (λ e. record { kind = refl; parts = it.0 e }, λ s. it.1 s.parts)
+  crs-agrees (crs.Geodetic a) (crs.Geodetic b) in-a in-b = grind (arith, geodetic-agrees a b in-a in-b)
+  crs-agrees (crs.Projected a) (crs.Projected b) in-a in-b = grind (arith, projected-agrees a b in-a in-b)
+  crs-agrees (crs.Vertical a) (crs.Vertical b) in-a in-b = grind (arith, vertical-agrees a b in-a in-b)
+  crs-agrees (crs.Compound a) (crs.Compound b) in-a in-b = grind (arith, compound-agrees a b in-a in-b)
   crs-agrees a b in-a in-b = (λ e. cc, λ s. absurd s.parts)
 
 -- the horizontal part of a compound CRS is one by itself

@@ -1,9 +1,8 @@
 -- Deformation models and dynamic parts have one form exactly where they are the same.
-use Rattle.std.proofs.Common.{IfSome, Option, Some, None, refl, arith}
+use Rattle.std.proofs.Common.{IfSome, Option, refl, arith}
 use Rattle.std.specs.Option.{option_map}
 use Rattle.crs_value.specs.Prelude.{DynamicParts, IsDeformationModel, IsDynamic, IsDynamicOf}
 use Rattle.crs_value.specs.declared.values.frame.Frame.{Frame}
-use Rattle.crs_value.specs.declared.values.frame.Frame.TheVariants as frame
 use Rattle.crs_value.specs.declared.values.level.Level.{Level}
 use Rattle.crs_same.specs.Prelude.{AgreeDynamic}
 use Rattle.crs_matching.specs.Prelude.{SameDeformationModel, BothOrNeither}
@@ -15,9 +14,7 @@ use Rattle.crs_normal.proofs.same.UnitLemmas.{named-agrees}
 
 -- whatever the frame beside it is
 pub dynamics-sound : (o : Option DynamicParts) (f : Frame) → IsDynamicOf o f → IfSome o IsDynamic
-dynamics-sound None f s = tt
-dynamics-sound (Some d) (frame.Datum datum) s = s
-dynamics-sound (Some d) (frame.Ensemble ensemble) s = absurd s
+dynamics-sound o f s = grind (arith, s)
 
 module _ (laws : LowerLaws) (sets : SetsDecide) (level : Level) where
   models-agree : FormDecides (Maybe IsDeformationModel) (option_map (norm_deformation_model level))

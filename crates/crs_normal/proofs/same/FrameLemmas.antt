@@ -1,10 +1,9 @@
 -- Ellipsoids, prime meridians, reference frames and ensembles have one form exactly where they are the same.
-use Rattle.std.proofs.Common.{◌≡◌, ◌↔◌, ◌⊎◌, ◌*◌, ℕ, inl, inr, Bool, true, false, Option, Some, None, codes, refl, sym, ap, arith, if◌then◌else◌}
+use Rattle.std.proofs.Common.{◌≡◌, ◌↔◌, true, Option, Some, None, codes, refl, sym, arith}
 use Rattle.std.specs.Option.{option_map}
-use Rattle.std.proofs.lemmas.Bool.{eqb-true, false≢true}
 use Rattle.crs_decimal.specs.Prelude.{Value, IsNormal}
 use Rattle.crs_shape.specs.declared.unit_kind.UnitKind.TheVariants as kinds
-use Rattle.crs_value.specs.Prelude.{IsDatum, IsEllipsoid, IsEnsemble, IsMeridian, IsGeodeticFrame, IsVerticalFrame, MeridianParts, UnitParts}
+use Rattle.crs_value.specs.Prelude.{IsDatum, IsEllipsoid, IsEnsemble, IsMeridian, IsGeodeticFrame, IsVerticalFrame, MeridianParts}
 use Rattle.crs_value.specs.declared.values.frame.Frame.{Frame}
 use Rattle.crs_value.specs.declared.values.frame.Frame.TheVariants as frame
 use Rattle.crs_value.specs.declared.values.level.Level.{Level}
@@ -13,7 +12,7 @@ use Rattle.crs_matching.specs.Prelude.{IsZero, BothOrNeither}
 use Rattle.crs_normal.specs.Decides.{FormDecides, Maybe, SetsDecide}
 use Rattle.crs_normal.specs.LowerLaws.{LowerLaws}
 use Rattle.crs_normal.specs.SpelledFrames.{greenwich, is_zero, norm_datum, norm_ellipsoid, norm_ensemble, norm_frame, norm_given, norm_meridian}
-use Rattle.crs_normal.specs.SpelledUnits.{norm_units, whole_value}
+use Rattle.crs_normal.specs.SpelledUnits.{whole_value}
 use Rattle.crs_normal.proofs.same.PartLemmas.{numbers-agree, options-agree, under, values-agree}
 use Rattle.crs_normal.proofs.same.UnitLemmas.{length-agrees, none-formed, units-of-agree, whole-agrees}
 
@@ -34,23 +33,8 @@ given-is (Some m) is = is
 
 -- ---- longitude 0
 
-scaled : (d x y : ℕ) → d ≡ 0 → d * x ≡ 0 * y
-scaled d x y e = let f : d * x ≡ 0 * x = ap (λ n. n * x) e in omega (arith, f)
-
 zero-agrees : LowerLaws → (v : Value) → IsNormal v → (is_zero v ≡ true) ↔ IsZero v
-zero-agrees laws v in-v = (
-  λ e. let none : v.digits ≡ 0 = eqb-true v.digits 0 e in (scaled v.digits _ _ none, inr (none, refl)),
-  λ s. ap is_zero ((whole-agrees laws 0 refl v in-v).1 s),
-)
-
--- parts that count where the test fails, which is the same on both sides
-counted : {A Z R : Type 0} (p q : Bool) (x y : Option A) → p ≡ q → (p ≡ true) ↔ Z → (x ≡ y) ↔ R →
-    ((if p then None else x) ≡ (if q then None else y)) ↔ (Z ⊎ R)
-counted true true x y e zero same = (λ f. inl (zero.0 refl), λ s. refl)
-counted true false x y e zero same = absurd (false≢true (sym e))
-counted false true x y e zero same = absurd (false≢true e)
-counted false false x y e zero same =
-    (λ f. inr (same.0 f), λ s. elim s [ inl z ↦ absurd (false≢true (zero.1 z)) | inr r ↦ same.1 r ])
+zero-agrees laws v in-v = grind (arith, whole-agrees laws 0 refl v in-v)
 
 module _ (laws : LowerLaws) (sets : SetsDecide) (level : Level) where
   pub ellipsoid-agrees : FormDecides IsEllipsoid (norm_ellipsoid level) (AgreeEllipsoid level)
@@ -63,19 +47,15 @@ module _ (laws : LowerLaws) (sets : SetsDecide) (level : Level) where
 
   -- ---- prime meridians
 
-  -- the unit as it is in the form
-  abbrev unit_in : MeridianParts → Option UnitParts
-  unit_in m = if is_zero m.longitude then None else norm_units level kinds.Angle m.unit
-
   pub given-agrees : FormDecides IsMeridian (norm_given level) (AgreeGiven level)
   given-agrees a b in-a in-b =
-      let longitude = values-agree laws.normal_is_one a.longitude b.longitude in-a.longitude in-b.longitude in
-      let zero = zero-agrees laws a.longitude in-a.longitude in
-      let units =
-      units-of-agree laws.normal_is_one sets.idents level kinds.Angle kinds.Angle a.unit b.unit in-a.unit in-b.unit in
-      let unit = λ (at : a.longitude ≡ b.longitude). counted (is_zero a.longitude) (is_zero b.longitude)
-      (norm_units level kinds.Angle a.unit) (norm_units level kinds.Angle b.unit) (ap is_zero at) zero units in
-      grind (arith, longitude, unit, sets.idents level)
+      grind (
+        arith,
+        values-agree laws.normal_is_one,
+        zero-agrees laws,
+        units-of-agree laws.normal_is_one sets.idents level kinds.Angle kinds.Angle,
+        sets.idents level,
+      )
 
   -- a missing one has the form of its default
   given-formed : (m : Option MeridianParts) → norm_meridian level m ≡ Some (norm_given level (or_greenwich m))
@@ -108,9 +88,8 @@ module _ (laws : LowerLaws) (sets : SetsDecide) (level : Level) where
   IsFrame (frame.Ensemble e) = IsEnsemble e
 
   frame-agrees : FormDecides IsFrame (norm_frame level) (AgreeFrame level)
-  frame-agrees (frame.Datum a) (frame.Datum b) in-a in-b = under (λ d. frame.Datum d) (λ e. cc) (datum-agrees a b in-a in-b)
-  frame-agrees (frame.Ensemble a) (frame.Ensemble b) in-a in-b =
-      under (λ d. frame.Ensemble d) (λ e. cc) (ensemble-agrees a b in-a in-b)
+  frame-agrees (frame.Datum a) (frame.Datum b) in-a in-b = grind (arith, datum-agrees a b in-a in-b)
+  frame-agrees (frame.Ensemble a) (frame.Ensemble b) in-a in-b = grind (arith, ensemble-agrees a b in-a in-b)
   frame-agrees a b in-a in-b = (λ e. cc, λ s. absurd s)
 
   geodetic-is : (f : Frame) → IsGeodeticFrame f → IsFrame f

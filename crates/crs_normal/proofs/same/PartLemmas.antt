@@ -1,5 +1,5 @@
 -- Numbers, and parts that may be missing, have one form exactly where they are the same.
-use Rattle.std.proofs.Common.{◌≡◌, ◌↔◌, Option, Some, None, refl, ap}
+use Rattle.std.proofs.Common.{◌≡◌, ◌↔◌, Option, Some, None, refl, ap, arith}
 use Rattle.crs_decimal.specs.Prelude.{SameNumber, Value, IsNormal, exact}
 use Rattle.crs_matching.specs.Prelude.{SameValue, BothOrNeither}
 use Rattle.crs_normal.specs.Decides.{FormDecides, Maybe}
@@ -33,7 +33,4 @@ numbers-agree numbers = options-agree _ _ _ (values-agree numbers) _ refl (λ x.
 -- where all parts are the same exactly where the values agree: a form that decides the latter decides the former
 pub decides-parts : {A B : Type 0} {Is : A → Type 0} {form : A → B} {S R : A → A → Type 0} →
     ((a b : A) → Is a → Is b → S a b ↔ R a b) → FormDecides Is form R → FormDecides Is form S
-decides-parts is decides a b in-a in-b =
-    let said = is a b in-a in-b in
-    let it = decides a b in-a in-b in
-    (λ e. said.1 (it.0 e), λ s. it.1 (said.0 s))
+decides-parts is decides a b in-a in-b = grind (arith, is a b in-a in-b, decides a b in-a in-b)

@@ -1,8 +1,7 @@
 -- Coordinate systems have one form exactly where they are the same.
-use Rattle.std.proofs.Common.{◌≡◌, ◌↔◌, ℕ, zero, suc, ◌+◌, ◌<◌, ◌≤◌, ◌⊎◌, inl, inr, List, ◌∷◌, length, refl, subst, arith}
+use Rattle.std.proofs.Common.{◌≡◌, ◌↔◌, ℕ, zero, suc, ◌+◌, ◌<◌, ◌≤◌, length, refl, arith}
 use Rattle.std.specs.Prelude.{⊤}
-use Rattle.std.proofs.lemmas.Bool.{cases_lt}
-use Rattle.crs_value.specs.Prelude.{AxisParts, SystemParts}
+use Rattle.crs_value.specs.Prelude.{SystemParts}
 use Rattle.crs_value.specs.declared.values.level.Level.{Level}
 use Rattle.crs_matching.specs.Prelude.{SameValue}
 use Rattle.crs_same.specs.Prelude.{AgreeAt, AgreeAxes, AgreeAxis, AgreeSystem}
@@ -11,11 +10,6 @@ use Rattle.crs_normal.specs.LowerLaws.{LowerLaws}
 use Rattle.crs_normal.specs.SpelledSystems.{axes_from, norm_axis, norm_system}
 use Rattle.crs_normal.proofs.same.AxisLemmas.{Found, axis-agrees, both-agree, found, sound-at}
 use Rattle.crs_normal.proofs.same.PartLemmas.{values-agree}
-
--- lists with a first member
-heads-agree : {P Q : Type 0} (x y : AxisParts) (xs ys : List AxisParts) → (x ≡ y) ↔ P → (xs ≡ ys) ↔ Q →
-    ((x ∷ xs) ≡ (y ∷ ys)) ↔ (P × Q)
-heads-agree x y xs ys head tail = (λ e. (head.0 cc, tail.0 cc), λ s. λ i. head.1 s.0 i ∷ tail.1 s.1 i)
 
 module _ (laws : LowerLaws) (sets : SetsDecide) (level : Level) where
   found-at : (system : SystemParts) → IsNumbered system → (k : ℕ) → 1 ≤ k → k ≤ length system.axes →
@@ -28,28 +22,20 @@ module _ (laws : LowerLaws) (sets : SetsDecide) (level : Level) where
       (x : Found k 1 a.axes) (y : Found k 1 b.axes) →
       (norm_axis level a k x.axis ≡ norm_axis level b k y.axis) ↔ AgreeAt level a b k
   position-agrees a b k in-a in-b type x y =
-      let axes : (norm_axis level a k x.axis ≡ norm_axis level b k y.axis) ↔ AgreeAxis level a b x.axis y.axis =
-      axis-agrees laws sets level a b k x.axis y.axis type in-a.0.unit in-b.0.unit
-      (sound-at k 1 a.axes x.axis in-a.0.axes x.at) (sound-at k 1 b.axes y.axis in-b.0.axes y.at) in
-      let both : AgreeAxis level a b x.axis y.axis ↔ AgreeAt level a b k =
-      both-agree (λ p q. AgreeAxis level a b p q) k a.axes b.axes x.axis y.axis (laws.one_axis a in-a.0 k)
-      (laws.one_axis b in-b.0 k) x.at y.at in
-      (λ e. both.0 (axes.0 e), λ s. axes.1 (both.1 s))
+      grind (
+        arith,
+        axis-agrees laws sets level a b k x.axis y.axis type in-a.0.unit in-b.0.unit
+            (sound-at k 1 a.axes x.axis in-a.0.axes x.at) (sound-at k 1 b.axes y.axis in-b.0.axes y.at),
+        both-agree (λ p q. AgreeAxis level a b p q) k a.axes b.axes x.axis y.axis (laws.one_axis a in-a.0 k)
+            (laws.one_axis b in-b.0 k) x.at y.at,
+      )
 
   -- the axes at `n` positions from k on
   abbrev SameFrom : SystemParts → SystemParts → ℕ → ℕ → Type 0
   SameFrom a b k n = (p : ℕ) → k ≤ p → p < k + n → AgreeAt level a b p
 
   from-agrees : (a b : SystemParts) (k n : ℕ) → AgreeAt level a b k × SameFrom a b (k + 1) n ↔ SameFrom a b k (suc n)
-  from-agrees a b k n = (
-    λ s p least most. by s p least most (cases_lt k p),
-    λ s. (s k (omega arith) (omega arith), λ p least most. s p (omega (arith, least)) (omega (arith, most))),
-  )
-    where
-      by : AgreeAt level a b k × SameFrom a b (k + 1) n → (p : ℕ) → k ≤ p → p < k + suc n → (k < p) ⊎ (p ≤ k) →
-          AgreeAt level a b p
-      by s p least most (inl more) = s.1 p (omega (arith, more)) (omega (arith, most))
-      by s p least most (inr less) = let e : k ≡ p = omega (arith, least, less) in subst (λ q. AgreeAt level a b q) e s.0
+  from-agrees a b k n = grind arith
 
   axes-agree : (a b : SystemParts) → IsNumbered a → IsNumbered b → a.system_type ≡ b.system_type →
       length a.axes ≡ length b.axes →
@@ -61,18 +47,14 @@ module _ (laws : LowerLaws) (sets : SetsDecide) (level : Level) where
       let x = found-at a in-a k first (omega (arith, last)) in
       let y = found-at b in-b k first (omega (arith, last, long)) in
       let rest = axes-agree a b in-a in-b type long (k + 1) n (omega arith) (omega (arith, last)) in
-      let lists = heads-agree _ _ _ _ (position-agrees a b k in-a in-b type x y) rest in
-      rw (x.is, y.is) (λ e. (from-agrees a b k n).0 (lists.0 e), λ s. lists.1 ((from-agrees a b k n).1 s))
+      rw (x.is, y.is) (grind (arith, position-agrees a b k in-a in-b type x y, rest, from-agrees a b k n))
 
   all-agree : (a b : SystemParts) → IsNumbered a → IsNumbered b → a.system_type ≡ b.system_type →
       length a.axes ≡ length b.axes →
       (axes_from level a 1 (length a.axes) ≡ axes_from level b 1 (length b.axes)) ↔ AgreeAxes level a b
   all-agree a b in-a in-b type long =
       let each = axes-agree a b in-a in-b type long 1 (length a.axes) (omega arith) (omega arith) in
-      rw (← long) (
-        λ e p least most. each.0 e p least (omega (arith, most)),
-        λ s. each.1 (λ p least most. s p least (omega (arith, most))),
-      )
+      rw (← long) (grind (arith, each))
 
   pub system-agrees : FormDecides IsNumbered (norm_system level) (AgreeSystem level)
   system-agrees a b in-a in-b =

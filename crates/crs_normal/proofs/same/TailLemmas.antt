@@ -3,13 +3,10 @@ use Rattle.std.proofs.Common.{arith}
 use Rattle.crs_value.specs.Prelude.{IsTail}
 use Rattle.crs_value.specs.declared.values.level.Level.{Level}
 use Rattle.crs_same.specs.Prelude.{AgreeTail}
-use Rattle.crs_matching.specs.Prelude.{usages_of}
 use Rattle.crs_normal.specs.Decides.{FormDecides, SetsDecide}
 use Rattle.crs_normal.specs.SpelledUsages.{norm_tail}
 use Rattle.crs_normal.proofs.made.TailLemmas.{usages-sound}
 
 module _ (sets : SetsDecide) where
   pub tail-agrees : (level : Level) → FormDecides IsTail (norm_tail level) (AgreeTail level)
-  tail-agrees level a b in-a in-b =
-      let usages = sets.usages level (usages_of a) (usages_of b) (usages-sound a in-a) (usages-sound b in-b) in
-      grind (arith, usages, sets.idents level)
+  tail-agrees level a b in-a in-b = grind (arith, usages-sound, sets.usages level, sets.idents level)

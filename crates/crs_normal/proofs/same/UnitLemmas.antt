@@ -1,5 +1,5 @@
 -- Units have one form exactly where they are the same: alone, as an asked kind, and where a missing one is the metre.
-use Rattle.std.proofs.Common.{◌≡◌, ◌↔◌, ◌∙◌, ℕ, [], Option, Some, None, codes, refl, sym, ap, arith, inl, inr}
+use Rattle.std.proofs.Common.{◌≡◌, ◌↔◌, ℕ, [], Option, Some, None, codes, refl, sym, arith}
 use Rattle.crs_decimal.specs.Prelude.{SameNumber, whole_number, Value, IsNormal, exact}
 use Rattle.crs_shape.specs.declared.unit_kind.UnitKind.{UnitKind}
 use Rattle.crs_shape.specs.declared.unit_kind.UnitKind.TheVariants as kinds
@@ -44,12 +44,7 @@ given-length (Some unit) is = is.0
 
 -- a unit that suits the asked kind is of that kind in its one form
 pub suits-kind : (asked kind : UnitKind) → Suits asked kind → kind_as asked kind ≡ asked
-suits-kind asked kind (inr e) = ap (kind_as asked) e
-suits-kind asked kind (inl e) = ap (kind_as asked) e ∙ itself asked
-  where
-    itself : (k : UnitKind) → kind_as k k ≡ k
-    itself kinds.Length = refl
-    itself other = refl
+suits-kind asked kind suits = grind (arith, suits)
 
 -- ---- whole numbers
 
