@@ -200,9 +200,7 @@ opt-there R spell norm all are (item ∷ items) (Some v) some reads rest = rw (a
 -- from no items nothing is read
 reads-none : {V : Type 0} (R : Item → V → Type 0) (items : List Item) (values : List V) → ReadsEach R items values →
     items ≡ [] → values ≡ []
-reads-none R [] [] reads none = refl
-reads-none R [] (v ∷ vs) reads none = absurd reads
-reads-none R (item ∷ items) values reads none = absurd (cc)
+reads-none R items values reads none = grind (arith, reads, none)
 
 -- what is read from items that the level keeps, it keeps
 pub reads-kept : {V : Type 0} (level : Level) (R : Item → V → Type 0) (items : List Item) (values : List V) →

@@ -21,7 +21,7 @@ use Rattle.crs_normal.proofs.read.ViewLemmas.{InSlot, items-rebuilt, without_pla
 
 -- ---- codes
 
-pub short-false : (raw : List ℕ) → ¬ (IsShort raw) → is_short raw ≡ false
+short-false : (raw : List ℕ) → ¬ (IsShort raw) → is_short raw ≡ false
 short-false raw h = ⊎_elim (λ e. absurd (h (true-short raw e))) (λ e. e) (cases_Bool (is_short raw))
 
 code-form : (item : Item) → IsCode item → without_places item ≡ code_item (raw_of item)

@@ -20,7 +20,7 @@ use Rattle.crs_normal.proofs.normal.FrameLemmas.{none-read}
 use Rattle.crs_normal.proofs.normal.LeafLemmas.{PlainIsOne, text-node-form}
 use Rattle.crs_normal.proofs.normal.NamedLemmas.{geoid_model-form}
 use Rattle.crs_normal.proofs.normal.RankLemmas.{IsOneOf, by-rank, end-as, end_classes, in-slot, none-of, rise-at}
-use Rattle.crs_normal.proofs.normal.UnitLemmas.{idents-spelled}
+use Rattle.crs_normal.proofs.normal.UnitLemmas.{idents-found-spelled}
 use Rattle.crs_normal.proofs.normal.UsageLemmas.{usage-form}
 use Rattle.crs_normal.proofs.read.ViewLemmas.{Front, both, slot-lacks, slot_at, without_places_onto, onto}
 
@@ -29,15 +29,13 @@ use Rattle.crs_normal.proofs.read.ViewLemmas.{Front, both, slot-lacks, slot_at, 
 usages-bare : (c : Class) (item : Item) → HasTail c item → (t : TailParts) → ReadsTail c item t → usages_of t ≡ t.usages
 usages-bare c item has t reads = by t.bare_parts reads.bare_parts
   where
-    lacks : {V : Type 0} (R : Item → V → Type 0) (found : List Item) → found ≡ [] → (value : Option V) →
-        ReadsOptional R found value → ¬ (IsSome value)
-    lacks R found e value read some = let none = none-read R found e value read in cc
-
     none : (u : UsageParts) → ReadsUsage c item u → ¬ (SaysSome u)
-    none u read (inl h) = lacks _ _ has.none_bare.0 u.scope read.scope h
-    none u read (inr (inl h)) = lacks _ _ has.none_bare.1.0 u.area read.area h
-    none u read (inr (inr (inl h))) = lacks _ _ has.none_bare.1.1.0 u.bbox read.bbox h
-    none u read (inr (inr (inr h))) = lacks _ _ has.none_bare.1.1.1.0 u.extent read.extent h
+    none u read some =
+        let scope = none-read _ _ has.none_bare.0 u.scope read.scope in
+        let area = none-read _ _ has.none_bare.1.0 u.area read.area in
+        let bbox = none-read _ _ has.none_bare.1.1.0 u.bbox read.bbox in
+        let extent = none-read _ _ has.none_bare.1.1.1.0 u.extent read.extent in
+        grind (arith, scope, area, bbox, extent, some)
 
     by : (bare : Option UsageParts) → ReadsBare c item bare → with_bare bare t.usages ≡ t.usages
     by None read = refl
@@ -77,8 +75,8 @@ module _ {level : Level} {c : Class} {slots : List SlotParts} {item : Item} {key
       (found-in o class.GeoidModel at_models) o.sets.1.1.1.1.0 models read_models
       (set-spelled item_usage norm_usage (usage-form law level c) _ _ (good-in o class.Usage) (found-in o class.Usage at.0)
       o.sets.1.0 t.usages reads.usages
-      (idents-spelled level c (arguments item) _ o.kept (found-in o class.Identifier at.1.1.1.1.1.0) o.sets.0 t.identifiers
-      reads.identifiers _ _
+      (idents-found-spelled level c (arguments item) _ (good-in o class.Identifier)
+      (found-in o class.Identifier at.1.1.1.1.1.0) o.sets.0 o.kept.left.0 t.identifiers reads.identifiers _ _
       (optional-spelled (text-node-form level c class.Remark (codes "REMARK") refl (λ bytes h. h)) _ _
       (good-in o class.Remark) remarks (once-only _ remarks (λ fault b. free fault (inr (inr (inr (inr (inl b))))))) t.remark
       reads.remark refl))

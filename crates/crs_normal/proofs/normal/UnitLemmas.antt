@@ -16,7 +16,7 @@ use Rattle.crs_value.specs.Sound.{Each}
 use Rattle.crs_normal.specs.Ordered.{in_order}
 use Rattle.crs_normal.specs.SpelledItems.{each}
 use Rattle.crs_normal.specs.SpelledUnits.{item_ident, item_unit, norm_unit, set_idents}
-use Rattle.crs_normal.proofs.normal.FormLemmas.{Form, IsGood, Kept, Looked, Opened, by-slots, found-in, front_in, kept-good, one-in, reads-kept, set-spelled, spelled-by}
+use Rattle.crs_normal.proofs.normal.FormLemmas.{Form, IsGood, Looked, Opened, by-slots, found-in, front_in, good-in, one-in, reads-kept, set-spelled, spelled-by}
 use Rattle.crs_normal.proofs.normal.IdentLemmas.{ident-form}
 use Rattle.crs_normal.proofs.normal.LeafLemmas.{ArePlain, PlainIsOne, number-form, text-form}
 use Rattle.crs_normal.proofs.read.ViewLemmas.{without_places_onto}
@@ -37,14 +37,6 @@ idents-found-spelled level c items front good e up left identifiers reads rest a
     ∙ ap (λ xs. each item_ident (in_order (λ i. item_text (item_ident i)) xs) after) (map-id identifiers
     ∙ sym (reads-kept level (ReadsIdent class.Identifier) (those c class.Identifier items) identifiers reads left))
 
-pub idents-spelled : (level : Level) (c : Class) (items : Siblings) (front : List Item) → Kept level c items →
-    those c class.Identifier items ≡ front →
-    Ascend (those c class.Identifier items) → (identifiers : List IdentParts) →
-    ReadsEach (ReadsIdent class.Identifier) (those c class.Identifier items) identifiers →
-    (rest after : Siblings) → rest ≡ after → without_places_onto front rest ≡ each item_ident (set_idents level identifiers) after
-idents-spelled level c items front k e up =
-    idents-found-spelled level c items front (kept-good level c class.Identifier items k) e up k.left.0
-
 pub idents-in : {level : Level} {c : Class} {slots : List SlotParts} {item : Item} {keyword : List ℕ}
     (o : Opened level c slots item keyword) (k : ℕ) → Looked o class.Identifier (front_in o k) →
     (identifiers : List IdentParts) →
@@ -52,9 +44,8 @@ pub idents-in : {level : Level} {c : Class} {slots : List SlotParts} {item : Ite
     {rest after : Siblings} → rest ≡ after →
     without_places_onto (front_in o k) rest ≡ each item_ident (set_idents level identifiers) after
 idents-in {level = level} {c = c} {item = item} o k same identifiers reads f =
-    idents-spelled level c (arguments item) (front_in o k) o.kept (found-in o class.Identifier same) o.sets.0
-    identifiers
-    reads _ _ f
+    idents-found-spelled level c (arguments item) (front_in o k) (good-in o class.Identifier)
+    (found-in o class.Identifier same) o.sets.0 o.kept.left.0 identifiers reads _ _ f
 
 -- ---- units
 

@@ -13,7 +13,7 @@ use Rattle.crs_normal.specs.Decides.{FormDecides, Maybe, SetsDecide}
 use Rattle.crs_normal.specs.LowerLaws.{LowerLaws}
 use Rattle.crs_normal.specs.SpelledFrames.{greenwich, is_zero, norm_datum, norm_ellipsoid, norm_ensemble, norm_frame, norm_given, norm_meridian}
 use Rattle.crs_normal.specs.SpelledUnits.{whole_value}
-use Rattle.crs_normal.proofs.same.PartLemmas.{numbers-agree, options-agree, under, values-agree}
+use Rattle.crs_normal.proofs.same.PartLemmas.{numbers-agree, options-agree, values-agree}
 use Rattle.crs_normal.proofs.same.UnitLemmas.{length-agrees, none-formed, units-of-agree, whole-agrees}
 
 -- ---- a missing prime meridian
@@ -69,8 +69,8 @@ module _ (laws : LowerLaws) (sets : SetsDecide) (level : Level) where
 
   pub meridian-agrees : FormDecides (Maybe IsMeridian) (norm_meridian level) (AgreeMeridian level)
   meridian-agrees a b in-a in-b =
-      rw (given-formed a, given-formed b) (under (λ m. Some m) (λ e. cc)
-      (given-agrees (or_greenwich a) (or_greenwich b) (given-is a in-a) (given-is b in-b)))
+      let same = given-agrees (or_greenwich a) (or_greenwich b) (given-is a in-a) (given-is b in-b) in
+      rw (given-formed a, given-formed b) (grind (arith, same))
 
   -- ---- frames
 

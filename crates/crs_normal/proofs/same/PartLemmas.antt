@@ -12,19 +12,11 @@ pub values-agree : NumbersDecide → FormDecides IsNormal (λ value. value) Same
 unfolding SameValue
 values-agree numbers a b in-a in-b = ((numbers a b in-a in-b).1, (numbers a b in-a in-b).0)
 
--- what is under a constructor decides
-pub under : {A B R : Type 0} {x y : A} (c : A → B) → (c x ≡ c y → x ≡ y) → (x ≡ y) ↔ R → (c x ≡ c y) ↔ R
-under c one same = (λ e. same.0 (one e), λ r. ap c (same.1 r))
-
 -- a part that may be missing, where the form of one that is there decides
 pub options-agree : {A : Type 0} (Is : A → Type 0) (form : A → A) (Same : A → A → Type 0) → FormDecides Is form Same →
     (all : Option A → Option A) → all None ≡ None → ((x : A) → all (Some x) ≡ Some (form x)) →
     FormDecides (Maybe Is) all (BothOrNeither Same)
-options-agree Is form Same agree all none some None None in-a in-b = (λ e. tt, λ s. refl)
-options-agree Is form Same agree all none some None (Some b) in-a in-b = rw (none, some b) (λ e. cc, λ s. absurd s)
-options-agree Is form Same agree all none some (Some a) None in-a in-b = rw (none, some a) (λ e. cc, λ s. absurd s)
-options-agree Is form Same agree all none some (Some a) (Some b) in-a in-b =
-    rw (some a, some b) (under (λ x. Some x) (λ e. cc) (agree a b in-a in-b))
+options-agree Is form Same agree all none some a b in-a in-b = grind (arith, agree, none, some, in-a, in-b)
 
 -- a number that may be missing
 pub numbers-agree : NumbersDecide → FormDecides (Maybe IsNormal) (λ value. value) (BothOrNeither SameValue)
