@@ -1,5 +1,5 @@
 -- A normal axis is the one form of its value at its position.
-use Rattle.std.proofs.Common.{◌≡◌, ℕ, map, true, Option, Some, None, List, [], ◌∷◌, append-nil, codes, decimal, refl, sym, ◌∙◌, ap, subst}
+use Rattle.std.proofs.Common.{◌≡◌, ℕ, map, true, Option, Some, None, List, [], ◌∷◌, append-nil, codes, decimal, refl, sym, ◌∙◌, ap, subst, arith}
 use Rattle.crs_decimal.specs.Prelude.{plain, Value}
 use Rattle.crs_text.specs.Prelude.{Item, leaf, node, Siblings, End, More, number, word}
 use Rattle.crs_shape.specs.declared.class.Class.{Class}
@@ -49,8 +49,7 @@ axis_meridian-form law level c =
 pub opt-meridians : (level : Level) (m : Option AxisMeridianParts) (rest : Siblings) →
     opt (λ x. item_axis_meridian (norm_axis_meridian level x)) m rest ≡ opt item_axis_meridian
     (norm_axis_meridians level m) rest
-opt-meridians level None rest = refl
-opt-meridians level (Some m) rest = refl
+opt-meridians level m rest = grind arith
 
 -- ---- orders
 

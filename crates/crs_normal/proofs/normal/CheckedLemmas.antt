@@ -22,8 +22,7 @@ Checked c R item value = IsUnbroken c item × R item value
 pub first-checked : {V : Type 0} (d : Class) (R : Item → V → Type 0) (items : List Item) (value : V) →
     Each (IsUnbroken d) items → ReadsFirst R items value →
     ReadsFirst (Checked d R) items value
-first-checked d R [] value free reads = absurd reads
-first-checked d R (item ∷ items) value free reads = (free.0, reads)
+first-checked d R items value free reads = grind (arith, free, reads)
 
 -- a node that breaks no check breaks none by itself and none in its arguments
 pub unbroken-by-slots : {V : Type 0} {level : Level} {parent c : Class} {slot : SlotParts} {slots : List SlotParts}
@@ -87,5 +86,4 @@ by-class {P = P} {c = c} o R otherwise d p {value = value} same reads this other
 
 pub first-or-none : {V : Type 0} (R : Item → V → Type 0) (found : List Item) (value : V) → ReadsFirst R found value →
     ReadsElse R found (λ v. ⊥) value
-first-or-none R [] value reads = reads
-first-or-none R (item ∷ items) value reads = reads
+first-or-none R found value reads = grind (arith, reads)

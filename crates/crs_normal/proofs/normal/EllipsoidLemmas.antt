@@ -1,5 +1,5 @@
 -- Normal ellipsoids and prime meridians are the one form of their values.
-use Rattle.std.proofs.Common.{◌≡◌, ℕ, Bool, true, false, Option, Some, None, List, [], ◌∷◌, if◌then◌else◌, codes, refl, ◌∙◌, ap, subst, arith}
+use Rattle.std.proofs.Common.{◌≡◌, ℕ, Bool, true, Option, None, List, [], ◌∷◌, if◌then◌else◌, codes, refl, ◌∙◌, ap, arith}
 use Rattle.crs_decimal.specs.Prelude.{plain, Value, IsNormal, zero}
 use Rattle.crs_text.specs.Prelude.{Item, Siblings, arguments}
 use Rattle.crs_shape.specs.declared.class.Class.{Class}
@@ -12,7 +12,7 @@ use Rattle.crs_normal.specs.SpelledItems.{opt}
 use Rattle.crs_normal.specs.SpelledUnits.{item_unit, norm_unit, norm_units}
 use Rattle.crs_normal.proofs.normal.FormLemmas.{Form, by-slots, front_in, one-in, only-in, optional-in, raws-in, spelled-by}
 use Rattle.crs_normal.proofs.normal.LeafLemmas.{PlainIsOne, number-form, text-form}
-use Rattle.crs_normal.proofs.members.PairLemmas.{opt-length, opt-units, two-in}
+use Rattle.crs_normal.proofs.members.PairLemmas.{opt-length, two-in}
 use Rattle.crs_normal.proofs.normal.UnitLemmas.{in-angle, in-length, unit-form, idents-in}
 
 pub ellipsoid-form : PlainIsOne → (level : Level) (c : Class) →
@@ -35,8 +35,7 @@ zero-is : (v : Value) → IsNormal v → is_zero v ≡ true → v ≡ zero
 zero-is v normal e = grind (arith, normal, e)
 
 normal-read : (found : List Item) (v : Value) → ReadsFirst ReadsNumber found v → IsNormal v
-normal-read [] v reads = absurd reads
-normal-read (item ∷ items) v reads = reads.0
+normal-read found v reads = grind (arith, reads)
 
 abbrev pub ZeroPlain : Type 0
 ZeroPlain = plain zero ≡ codes "0"
@@ -47,10 +46,7 @@ opt-angle : (level : Level) (is_at_zero : Bool) (found : List Item) (unit : Opti
     ReadsOptional (ReadsUnit class.AngleUnit) found unit → (rest : Siblings) →
     opt (λ u. item_unit (norm_unit level kinds.Angle u)) unit rest ≡ opt item_unit
     (if is_at_zero then None else norm_units level kinds.Angle unit) rest
-opt-angle level false found unit none reads rest = opt-units level kinds.Angle unit rest
-opt-angle level true found None none reads rest = refl
-opt-angle level true found (Some u) none reads rest =
-    absurd (subst (λ (xs : List Item). ReadsOptional (ReadsUnit class.AngleUnit) xs (Some u)) (none refl) reads)
+opt-angle level is_at_zero found unit none reads rest = grind (arith, none, reads)
 
 pub meridian-form : PlainIsOne → ZeroPlain → (level : Level) (c : Class) →
     Form level c class.PrimeMeridian (ReadsMeridian class.PrimeMeridian) (λ m. item_meridian (norm_given level m))

@@ -172,8 +172,7 @@ optional-spelled {level = level} {c = c} {d = d} form = optional-by (IsGood leve
 
 as-optional : {V : Type 0} (R : Item → V → Type 0) (found : List Item) (value : V) → ReadsFirst R found value →
     ReadsOptional R found (Some value)
-as-optional R [] value reads = reads
-as-optional R (item ∷ items) value reads = reads
+as-optional R found value reads = grind (arith, reads)
 
 pub one-spelled : {V : Type 0} {level : Level} {c d : Class} {R : Item → V → Type 0} {spell : V → Item} →
     Form level c d R spell →
@@ -185,17 +184,14 @@ one-spelled {R = R} form found front good e few value reads f =
 
 pub opt-mapped : {V W : Type 0} (spell : W → Item) (norm : V → W) (value : Option V) (rest : Siblings) →
     opt (λ v. spell (norm v)) value rest ≡ opt spell (option_map norm value) rest
-opt-mapped spell norm None rest = refl
-opt-mapped spell norm (Some v) rest = refl
+opt-mapped spell norm value rest = grind arith
 
 -- one that is there
 opt-there : {V W : Type 0} (R : Item → V → Type 0) (spell : W → Item) (norm : V → W) (all : Option V → Option W) →
     ((v : V) → all (Some v) ≡ Some (norm v)) → (found : List Item) (value : Option V) → found ≢ [] →
     ReadsOptional R found value → (rest : Siblings) →
     opt (λ v. spell (norm v)) value rest ≡ opt spell (all value) rest
-opt-there R spell norm all are [] value some reads rest = absurd (some refl)
-opt-there R spell norm all are (item ∷ items) None some reads rest = absurd reads
-opt-there R spell norm all are (item ∷ items) (Some v) some reads rest = rw (are v)
+opt-there R spell norm all are found value some reads rest = grind (arith, are, some, reads)
 
 -- from no items nothing is read
 reads-none : {V : Type 0} (R : Item → V → Type 0) (items : List Item) (values : List V) → ReadsEach R items values →

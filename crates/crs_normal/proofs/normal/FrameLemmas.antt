@@ -1,5 +1,5 @@
 -- Normal reference frames are the one form of their values.
-use Rattle.std.proofs.Common.{◌≡◌, Option, Some, None, List, [], codes, refl, subst}
+use Rattle.std.proofs.Common.{◌≡◌, Option, None, List, [], codes, refl, arith}
 use Rattle.crs_text.specs.Prelude.{Item}
 use Rattle.crs_shape.specs.declared.class.Class.{Class}
 use Rattle.crs_shape.specs.declared.class.Class.TheVariants as class
@@ -15,8 +15,7 @@ use Rattle.crs_normal.proofs.normal.UnitLemmas.{idents-in}
 
 pub none-read : {V : Type 0} (R : Item → V → Type 0) (found : List Item) → found ≡ [] → (value : Option V) →
     ReadsOptional R found value → value ≡ None
-none-read R found e None reads = refl
-none-read R found e (Some v) reads = absurd (subst (λ (xs : List Item). ReadsOptional R xs (Some v)) e reads)
+none-read R found e value reads = grind (arith, e, reads)
 
 -- ---- reference frames
 

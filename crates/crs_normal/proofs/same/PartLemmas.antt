@@ -1,5 +1,5 @@
 -- Numbers, and parts that may be missing, have one form exactly where they are the same.
-use Rattle.std.proofs.Common.{◌≡◌, ◌↔◌, Option, Some, None, refl, ap, arith}
+use Rattle.std.proofs.Common.{◌≡◌, ◌↔◌, Option, Some, None, refl, arith}
 use Rattle.crs_decimal.specs.Prelude.{SameNumber, Value, IsNormal, exact}
 use Rattle.crs_matching.specs.Prelude.{SameValue, BothOrNeither}
 use Rattle.crs_normal.specs.Decides.{FormDecides, Maybe}
