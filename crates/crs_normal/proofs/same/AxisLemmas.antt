@@ -15,8 +15,8 @@ use Rattle.crs_normal.specs.Decides.{FormDecides, Maybe, SetsDecide}
 use Rattle.crs_normal.specs.LowerLaws.{LowerLaws}
 use Rattle.crs_normal.specs.PartTexts.{norm_axis_alone}
 use Rattle.crs_normal.specs.SpelledSystems.{axis_at, is_at, norm_axis, norm_axis_meridian, norm_axis_meridians}
-use Rattle.crs_normal.proofs.same.PartLemmas.{numbers-agree, options-agree, values-agree}
-use Rattle.crs_normal.proofs.same.UnitLemmas.{unit-agrees, units-agree}
+use Rattle.crs_normal.proofs.same.PartLemmas.{options-agree, values-agree}
+use Rattle.crs_normal.proofs.same.UnitLemmas.{unit-agrees}
 
 -- ---- two axes
 
@@ -35,8 +35,8 @@ module _ (laws : LowerLaws) (sets : SetsDecide) (level : Level) where
       grind (
         arith,
         axis-meridians-agree,
-        numbers-agree laws.normal_is_one,
-        units-agree laws.normal_is_one sets.idents level kinds.Plain,
+        values-agree laws.normal_is_one,
+        unit-agrees laws.normal_is_one sets.idents level kinds.Plain,
         sets.idents level,
       )
 
@@ -49,7 +49,7 @@ module _ (laws : LowerLaws) (sets : SetsDecide) (level : Level) where
       grind (
         arith,
         axis-meridians-agree,
-        units-agree laws.normal_is_one sets.idents level (asked_kind a.system_type x.direction),
+        unit-agrees laws.normal_is_one sets.idents level (asked_kind a.system_type x.direction),
         sets.idents level,
       )
 

@@ -9,11 +9,11 @@ use Rattle.crs_normal.specs.Decides.{FormDecides, SetsDecide}
 use Rattle.crs_normal.specs.LowerLaws.{LowerLaws}
 use Rattle.crs_normal.specs.SpelledConversions.{norm_conversion, norm_method, norm_parameter}
 use Rattle.crs_normal.proofs.same.PartLemmas.{NumbersDecide, values-agree}
-use Rattle.crs_normal.proofs.same.UnitLemmas.{IdentsDecide, units-agree}
+use Rattle.crs_normal.proofs.same.UnitLemmas.{IdentsDecide, unit-agrees}
 
 pub parameter-agrees : NumbersDecide → IdentsDecide → (level : Level) → FormDecides IsParameter (norm_parameter level) (SameParameter level)
 parameter-agrees numbers idents level a b in-a in-b =
-    grind (arith, values-agree numbers, units-agree numbers idents level kinds.Plain, idents level)
+    grind (arith, values-agree numbers, unit-agrees numbers idents level kinds.Plain, idents level)
 
 module _ (laws : LowerLaws) (sets : SetsDecide) (level : Level) where
   pub method-agrees : FormDecides IsMethod (norm_method level) (AgreeMethod level)

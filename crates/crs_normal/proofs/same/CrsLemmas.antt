@@ -7,7 +7,6 @@ use Rattle.crs_shape.specs.Prelude.{IsOneOf, dimensions_of}
 use Rattle.crs_value.specs.Prelude.{IsCompound, IsHorizontal, IsCrs, IsBase, IsGeodetic, IsProjected, IsVertical, IsSystem, SystemParts}
 use Rattle.crs_value.specs.declared.values.compound.Horizontal.{Horizontal}
 use Rattle.crs_value.specs.declared.values.compound.Horizontal.TheVariants as horizontal
-use Rattle.crs_value.specs.declared.values.crs.Crs.TheVariants as crs
 use Rattle.crs_value.specs.declared.values.level.Level.{Level}
 use Rattle.crs_same.specs.Prelude.{AgreeBase, AgreeCompound, AgreeCrs, AgreeGeodetic, AgreeHorizontal, AgreeProjected, AgreeVertical, IsHorizontalPart}
 use Rattle.crs_normal.specs.Decides.{FormDecides, IsNumbered, SetsDecide}
@@ -15,11 +14,11 @@ use Rattle.crs_normal.specs.LowerLaws.{LowerLaws}
 use Rattle.crs_normal.specs.SpelledCrs.{norm_base, norm_compound, norm_crs, norm_geodetic, norm_horizontal, norm_projected, norm_vertical}
 use Rattle.crs_normal.proofs.same.ConversionLemmas.{conversion-agrees}
 use Rattle.crs_normal.proofs.normal.DimensionLemmas.{small-geodetic, small-projected, small-vertical, AreSmall, few-axes}
-use Rattle.crs_normal.proofs.same.DynamicLemmas.{dynamics-agree, dynamics-sound}
+use Rattle.crs_normal.proofs.same.DynamicLemmas.{dynamic-agrees}
 use Rattle.crs_normal.proofs.same.FrameLemmas.{geodetic-frame-agrees, meridian-agrees, vertical-frame-agrees}
 use Rattle.crs_normal.proofs.same.SystemLemmas.{system-agrees}
 use Rattle.crs_normal.proofs.same.TailLemmas.{tail-agrees}
-use Rattle.crs_normal.proofs.same.UnitLemmas.{units-of-agree}
+use Rattle.crs_normal.proofs.same.UnitLemmas.{unit-agrees}
 
 -- ---- the number of axes is small
 
@@ -36,8 +35,7 @@ module _ (laws : LowerLaws) (sets : SetsDecide) (level : Level) where
 
   pub geodetic-agrees : FormDecides IsGeodetic (norm_geodetic level) (AgreeGeodetic level)
   geodetic-agrees a b in-a in-b =
-      let dynamic = dynamics-agree laws sets level a.dynamic b.dynamic (dynamics-sound a.dynamic a.frame in-a.dynamic)
-      (dynamics-sound b.dynamic b.frame in-b.dynamic) in
+      let dynamic = dynamic-agrees laws sets level in
       let in-dimensions = numbered laws (dimensions_of class.GeodeticCrs) small-geodetic in
       let system = system-agrees laws sets level a.system b.system (in-dimensions a.system in-a.system in-a.dimension)
       (in-dimensions b.system in-b.system in-b.dimension) in
@@ -49,11 +47,10 @@ module _ (laws : LowerLaws) (sets : SetsDecide) (level : Level) where
 
   pub base-agrees : FormDecides IsBase (norm_base level) (AgreeBase level)
   base-agrees a b in-a in-b =
-      let dynamic = dynamics-agree laws sets level a.dynamic b.dynamic (dynamics-sound a.dynamic a.frame in-a.dynamic)
-      (dynamics-sound b.dynamic b.frame in-b.dynamic) in
+      let dynamic = dynamic-agrees laws sets level in
       let frame = geodetic-frame-agrees laws sets level in
       let meridian = meridian-agrees laws sets level in
-      let unit = units-of-agree laws.normal_is_one sets.idents level kinds.Angle kinds.Angle in
+      let unit = unit-agrees laws.normal_is_one sets.idents level kinds.Angle in
       grind (arith, dynamic, frame, meridian, unit, sets.idents level)
 
   pub projected-agrees : FormDecides IsProjected (norm_projected level) (AgreeProjected level)
@@ -70,8 +67,7 @@ module _ (laws : LowerLaws) (sets : SetsDecide) (level : Level) where
 
   pub vertical-agrees : FormDecides IsVertical (norm_vertical level) (AgreeVertical level)
   vertical-agrees a b in-a in-b =
-      let dynamic = dynamics-agree laws sets level a.dynamic b.dynamic (dynamics-sound a.dynamic a.frame in-a.dynamic)
-      (dynamics-sound b.dynamic b.frame in-b.dynamic) in
+      let dynamic = dynamic-agrees laws sets level in
       let in-dimensions = numbered laws (dimensions_of class.VerticalCrs) small-vertical in
       let system = system-agrees laws sets level a.system b.system (in-dimensions a.system in-a.system in-a.dimension)
       (in-dimensions b.system in-b.system in-b.dimension) in
@@ -80,11 +76,7 @@ module _ (laws : LowerLaws) (sets : SetsDecide) (level : Level) where
   -- ---- compound CRSs
 
   pub horizontal-agrees : FormDecides IsHorizontal (norm_horizontal level) (AgreeHorizontal level)
-  horizontal-agrees (horizontal.Geodetic a) (horizontal.Geodetic b) in-a in-b =
-      grind (arith, geodetic-agrees a b in-a.0 in-b.0)
-  horizontal-agrees (horizontal.Projected a) (horizontal.Projected b) in-a in-b =
-      grind (arith, projected-agrees a b in-a.0 in-b.0)
-  horizontal-agrees a b in-a in-b = (λ e. cc, λ s. absurd s)
+  horizontal-agrees a b in-a in-b = grind (arith, geodetic-agrees, projected-agrees)
 
   pub compound-agrees : FormDecides IsCompound (norm_compound level) (AgreeCompound level)
   compound-agrees a b in-a in-b =
@@ -96,11 +88,7 @@ module _ (laws : LowerLaws) (sets : SetsDecide) (level : Level) where
   -- ---- all
 
   pub crs-agrees : FormDecides IsCrs (norm_crs level) (AgreeCrs level)
-  crs-agrees (crs.Geodetic a) (crs.Geodetic b) in-a in-b = grind (arith, geodetic-agrees a b in-a in-b)
-  crs-agrees (crs.Projected a) (crs.Projected b) in-a in-b = grind (arith, projected-agrees a b in-a in-b)
-  crs-agrees (crs.Vertical a) (crs.Vertical b) in-a in-b = grind (arith, vertical-agrees a b in-a in-b)
-  crs-agrees (crs.Compound a) (crs.Compound b) in-a in-b = grind (arith, compound-agrees a b in-a in-b)
-  crs-agrees a b in-a in-b = (λ e. cc, λ s. absurd s.parts)
+  crs-agrees a b in-a in-b = grind (arith, geodetic-agrees, projected-agrees, vertical-agrees, compound-agrees)
 
 -- the horizontal part of a compound CRS is one by itself
 pub by-itself : (a : Horizontal) → IsHorizontal a → IsHorizontalPart a

@@ -1,20 +1,17 @@
 -- Ellipsoids, prime meridians, reference frames and ensembles have one form exactly where they are the same.
 use Rattle.std.proofs.Common.{◌≡◌, ◌↔◌, true, Option, Some, None, codes, refl, sym, arith}
-use Rattle.std.specs.Option.{option_map}
 use Rattle.crs_decimal.specs.Prelude.{Value, IsNormal}
 use Rattle.crs_shape.specs.declared.unit_kind.UnitKind.TheVariants as kinds
 use Rattle.crs_value.specs.Prelude.{IsDatum, IsEllipsoid, IsEnsemble, IsMeridian, IsGeodeticFrame, IsVerticalFrame, MeridianParts}
-use Rattle.crs_value.specs.declared.values.frame.Frame.{Frame}
-use Rattle.crs_value.specs.declared.values.frame.Frame.TheVariants as frame
 use Rattle.crs_value.specs.declared.values.level.Level.{Level}
 use Rattle.crs_same.specs.Prelude.{AgreeDatum, AgreeEllipsoid, AgreeEnsemble, AgreeFrame, AgreeGiven, AgreeMeridian, or_greenwich}
-use Rattle.crs_matching.specs.Prelude.{IsZero, BothOrNeither}
+use Rattle.crs_matching.specs.Prelude.{IsZero}
 use Rattle.crs_normal.specs.Decides.{FormDecides, Maybe, SetsDecide}
 use Rattle.crs_normal.specs.LowerLaws.{LowerLaws}
 use Rattle.crs_normal.specs.SpelledFrames.{greenwich, is_zero, norm_datum, norm_ellipsoid, norm_ensemble, norm_frame, norm_given, norm_meridian}
 use Rattle.crs_normal.specs.SpelledUnits.{whole_value}
-use Rattle.crs_normal.proofs.same.PartLemmas.{numbers-agree, options-agree, values-agree}
-use Rattle.crs_normal.proofs.same.UnitLemmas.{length-agrees, none-formed, units-of-agree, whole-agrees}
+use Rattle.crs_normal.proofs.same.PartLemmas.{values-agree}
+use Rattle.crs_normal.proofs.same.UnitLemmas.{length-agrees, none-formed, unit-agrees, whole-agrees}
 
 -- ---- a missing prime meridian
 
@@ -41,10 +38,6 @@ module _ (laws : LowerLaws) (sets : SetsDecide) (level : Level) where
   ellipsoid-agrees a b in-a in-b =
       grind (arith, values-agree laws.normal_is_one, length-agrees laws.normal_is_one sets.idents level, sets.idents level)
 
-  pub ellipsoids-agree : FormDecides (Maybe IsEllipsoid) (option_map (norm_ellipsoid level))
-      (BothOrNeither (AgreeEllipsoid level))
-  ellipsoids-agree = options-agree _ _ _ ellipsoid-agrees _ refl (λ x. refl)
-
   -- ---- prime meridians
 
   pub given-agrees : FormDecides IsMeridian (norm_given level) (AgreeGiven level)
@@ -53,7 +46,7 @@ module _ (laws : LowerLaws) (sets : SetsDecide) (level : Level) where
         arith,
         values-agree laws.normal_is_one,
         zero-agrees laws,
-        units-of-agree laws.normal_is_one sets.idents level kinds.Angle kinds.Angle,
+        unit-agrees laws.normal_is_one sets.idents level kinds.Angle,
         sets.idents level,
       )
 
@@ -76,32 +69,14 @@ module _ (laws : LowerLaws) (sets : SetsDecide) (level : Level) where
 
   pub datum-agrees : FormDecides IsDatum (norm_datum level) (AgreeDatum level)
   datum-agrees a b in-a in-b =
-      grind (arith, ellipsoids-agree, numbers-agree laws.normal_is_one, sets.idents level)
+      grind (arith, ellipsoid-agrees, values-agree laws.normal_is_one, sets.idents level)
 
   pub ensemble-agrees : FormDecides IsEnsemble (norm_ensemble level) (AgreeEnsemble level)
   ensemble-agrees a b in-a in-b =
-      grind (arith, sets.members level, ellipsoids-agree, values-agree laws.normal_is_one, sets.idents level)
-
-  -- either sort of frame
-  abbrev IsFrame : Frame → Type 0
-  IsFrame (frame.Datum d) = IsDatum d
-  IsFrame (frame.Ensemble e) = IsEnsemble e
-
-  frame-agrees : FormDecides IsFrame (norm_frame level) (AgreeFrame level)
-  frame-agrees (frame.Datum a) (frame.Datum b) in-a in-b = grind (arith, datum-agrees a b in-a in-b)
-  frame-agrees (frame.Ensemble a) (frame.Ensemble b) in-a in-b = grind (arith, ensemble-agrees a b in-a in-b)
-  frame-agrees a b in-a in-b = (λ e. cc, λ s. absurd s)
-
-  geodetic-is : (f : Frame) → IsGeodeticFrame f → IsFrame f
-  geodetic-is (frame.Datum d) sound = sound.0
-  geodetic-is (frame.Ensemble e) sound = sound.0
-
-  vertical-is : (f : Frame) → IsVerticalFrame f → IsFrame f
-  vertical-is (frame.Datum d) sound = sound.0
-  vertical-is (frame.Ensemble e) sound = sound.0
+      grind (arith, sets.members level, ellipsoid-agrees, values-agree laws.normal_is_one, sets.idents level)
 
   pub geodetic-frame-agrees : FormDecides IsGeodeticFrame (norm_frame level) (AgreeFrame level)
-  geodetic-frame-agrees a b in-a in-b = frame-agrees a b (geodetic-is a in-a) (geodetic-is b in-b)
+  geodetic-frame-agrees a b in-a in-b = grind (arith, datum-agrees, ensemble-agrees)
 
   pub vertical-frame-agrees : FormDecides IsVerticalFrame (norm_frame level) (AgreeFrame level)
-  vertical-frame-agrees a b in-a in-b = frame-agrees a b (vertical-is a in-a) (vertical-is b in-b)
+  vertical-frame-agrees a b in-a in-b = grind (arith, datum-agrees, ensemble-agrees)

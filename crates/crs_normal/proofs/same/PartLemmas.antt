@@ -1,5 +1,5 @@
 -- Numbers, and parts that may be missing, have one form exactly where they are the same.
-use Rattle.std.proofs.Common.{◌≡◌, ◌↔◌, Option, Some, None, refl, arith}
+use Rattle.std.proofs.Common.{◌≡◌, ◌↔◌, Option, Some, None, arith}
 use Rattle.crs_decimal.specs.Prelude.{SameNumber, Value, IsNormal, exact}
 use Rattle.crs_matching.specs.Prelude.{SameValue, BothOrNeither}
 use Rattle.crs_normal.specs.Decides.{FormDecides, Maybe}
@@ -17,10 +17,6 @@ pub options-agree : {A : Type 0} (Is : A → Type 0) (form : A → A) (Same : A 
     (all : Option A → Option A) → all None ≡ None → ((x : A) → all (Some x) ≡ Some (form x)) →
     FormDecides (Maybe Is) all (BothOrNeither Same)
 options-agree Is form Same agree all none some a b in-a in-b = grind (arith, agree, none, some, in-a, in-b)
-
--- a number that may be missing
-pub numbers-agree : NumbersDecide → FormDecides (Maybe IsNormal) (λ value. value) (BothOrNeither SameValue)
-numbers-agree numbers = options-agree _ _ _ (values-agree numbers) _ refl (λ x. refl)
 
 -- where all parts are the same exactly where the values agree: a form that decides the latter decides the former
 pub decides-parts : {A B : Type 0} {Is : A → Type 0} {form : A → B} {S R : A → A → Type 0} →

@@ -66,12 +66,6 @@ module _ (numbers : NumbersDecide) (idents : IdentsDecide) (level : Level) where
       FormDecides (Maybe IsUnit) (norm_units level asked) (BothOrNeither (SameUnit asked level))
   units-agree asked = options-agree _ _ _ (unit-agrees asked) _ refl (λ u. refl)
 
-  -- where a kind is asked as well
-  pub units-of-agree : (kind asked : UnitKind) →
-      FormDecides (Maybe (IsUnitOf kind)) (norm_units level asked) (BothOrNeither (SameUnit asked level))
-  units-of-agree kind asked =
-      options-agree _ _ _ (λ a b in-a in-b. unit-agrees asked a b in-a.0 in-b.0) _ refl (λ u. refl)
-
   pub length-agrees : FormDecides (Maybe (IsUnitOf kinds.Length)) (norm_length level) (SameLength level)
   length-agrees a b in-a in-b =
       rw (length-formed level a, length-formed level b)

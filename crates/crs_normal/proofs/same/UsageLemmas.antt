@@ -1,13 +1,12 @@
 -- Boxes, extents and usages have one form exactly where they are the same.
-use Rattle.std.proofs.Common.{refl, arith}
-use Rattle.std.specs.Option.{option_map}
+use Rattle.std.proofs.Common.{arith}
 use Rattle.crs_value.specs.Prelude.{IsBox, IsExtent, IsUsage}
 use Rattle.crs_value.specs.declared.values.level.Level.{Level}
 use Rattle.crs_value.specs.declared.values.level.Level.TheVariants as levels
 use Rattle.crs_matching.specs.Prelude.{SameBox, SameExtent, SameUsage}
 use Rattle.crs_normal.specs.Decides.{FormDecides}
 use Rattle.crs_normal.specs.SpelledUsages.{norm_extent, norm_usage}
-use Rattle.crs_normal.proofs.same.PartLemmas.{NumbersDecide, options-agree, values-agree}
+use Rattle.crs_normal.proofs.same.PartLemmas.{NumbersDecide, values-agree}
 use Rattle.crs_normal.proofs.same.UnitLemmas.{IdentsDecide, length-agrees}
 
 module _ (numbers : NumbersDecide) where
@@ -19,8 +18,4 @@ module _ (numbers : NumbersDecide) (idents : IdentsDecide) where
   extent-agrees level a b in-a in-b = grind (arith, values-agree numbers, length-agrees numbers idents level)
 
   pub usage-agrees : FormDecides IsUsage norm_usage SameUsage
-  usage-agrees a b in-a in-b =
-      let bbox = options-agree _ _ _ (box-agrees numbers) (λ x. x) refl (λ x. refl) a.bbox b.bbox in-a.bbox in-b.bbox in
-      let extent = options-agree _ _ _ (extent-agrees levels.Full) (option_map (norm_extent levels.Full)) refl (λ x. refl)
-      a.extent b.extent in-a.extent in-b.extent in
-      grind (arith, bbox, extent)
+  usage-agrees a b in-a in-b = grind (arith, box-agrees numbers, extent-agrees levels.Full)
