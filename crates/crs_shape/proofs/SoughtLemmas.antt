@@ -1,8 +1,8 @@
 -- What isn't of the kind of a class, or has none of its keywords, isn't of the class.
 use Rattle.std.proofs.Common.{◌≡◌, ◌≢◌, ℕ, true, false, ◌==◌, List, map, Option, Some, refl, sym, ◌∙◌, ap, rules}
 use Rattle.std.specs.List.{find}
-use Rattle.std.proofs.lemmas.Bool.{true≢false}
-use denote.Enum.Bare.{sameb, same_true, true_same}
+use Rattle.std.proofs.lemmas.Bool.{false_from_ne_true}
+use denote.Enum.Bare.{sameb, same_true, same_false, true_same}
 use Rattle.crs_text.specs.contracts.items.ItemKind as kinds
 use Rattle.crs_text.specs.declared.items.ItemKind.{ItemKind}
 use Rattle.crs_text.specs.declared.items.ItemKind.TheVariants as kind
@@ -25,41 +25,18 @@ use Rattle.crs_shape.proofs.ListLemmas.{list_any-map}
 
 -- ---- the kind
 
-same : (c d : Class) → sameb the_type c d ≡ true → c ≡ d
-same c d e = same_true the_type (search rules) c d e
-
 -- a class that nodes aren't of has no keyword
 no-keyword : (c : Class) (spelled : List ℕ) → kind_for c ≢ kind.Node → is_keyword c spelled ≡ false
 unfolding is_keyword
-no-keyword c spelled other =
-    elim (sameb the_type c class.Number) as (λ b. sameb the_type c class.Number ≡ b → is_keyword c spelled ≡ false) [
-      | true ↦ λ e. ap (λ x. is_keyword x spelled) (same c class.Number e)
-      | false ↦ λ e.
-          elim (sameb the_type c class.Text) as (λ b. sameb the_type c class.Text ≡ b → is_keyword c spelled ≡ false) [
-            | true ↦ λ f. ap (λ x. is_keyword x spelled) (same c class.Text f)
-            | false ↦ λ f.
-                elim (sameb the_type c class.Word) as (λ b. sameb the_type c class.Word ≡ b → is_keyword c spelled ≡ false) [
-                  | true ↦ λ g. ap (λ x. is_keyword x spelled) (same c class.Word g)
-                  | false ↦ λ g. absurd (other (rw (e, f, g) refl))
-                ] refl
-          ] refl
-    ] refl
+no-keyword class.Number spelled other = refl
+no-keyword class.Text spelled other = refl
+no-keyword class.Word spelled other = refl
+no-keyword c spelled other = absurd (other refl)
 
 leaf-other : (c d : Class) (k : ItemKind) → k ≡ kind_for c → sameb kinds.the_type (kind_for d) k ≡ false → false ≡ sameb the_type d c
 leaf-other c d k right other =
-    elim (sameb the_type d c) as (λ b. sameb the_type d c ≡ b → false ≡ b) [
-      | true ↦ λ e. sym other ∙ ap (sameb kinds.the_type (kind_for d)) (right ∙ ap kind_for (sym (same d c e))) ∙ sameb-refl (kind_for d)
-      | false ↦ λ e. refl
-    ] refl
-  where
-    sameb-refl : (k : ItemKind) → sameb kinds.the_type k k ≡ true
-    sameb-refl kind.Number = refl
-    sameb-refl kind.Text = refl
-    sameb-refl kind.Word = refl
-    sameb-refl kind.Node = refl
-
-node-other : (c : Class) (k : ItemKind) → k ≡ kind_for c → sameb kinds.the_type kind.Node k ≡ false → kind_for c ≢ kind.Node
-node-other c k right other e = true≢false (ap (sameb kinds.the_type kind.Node) (sym (right ∙ e)) ∙ other)
+    sym (false_from_ne_true (sameb the_type d c) (λ e.
+    same_false kinds.the_type (kind_for d) k other (ap kind_for (same_true the_type (search rules) d c e) ∙ sym right)))
 
 pub other_kind : AreSpelled → (parent c : Class) (k : ItemKind) (item : Item) → k ≡ kind_for c → sameb kinds.the_type (kind_of_item item) k ≡ false →
     false ≡ is_class c (class_in parent item)
@@ -68,7 +45,7 @@ other_kind law parent c k (leaf text place raw) right other = leaf-other c class
 other_kind law parent c k (leaf word place raw) right other = leaf-other c class.Word k right other
 other_kind law parent c k (node place spelled square first others close) right other =
     sym (not-among c (is_part parent) (classes_by (keyword_of spelled))
-    (is_keyword-table law c spelled ∙ no-keyword c spelled (node-other c k right other)))
+    (is_keyword-table law c spelled ∙ no-keyword c spelled (λ e. same_false kinds.the_type kind.Node k other (sym (right ∙ e)))))
     ∙ ap (is_class c) (class_named-table law parent spelled)
 
 -- ---- a node's keyword

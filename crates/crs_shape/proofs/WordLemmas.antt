@@ -1,69 +1,45 @@
 -- No two directions and no two types have one word, letter case aside.
-use Rattle.std.proofs.Common.{◌≡◌, ℕ, List, [], ◌∷◌, Option, Some, find, get_or, ◌<◌, lit<, refl, sym, ap, ◌∙◌}
+use Rattle.std.proofs.Common.{◌≡◌, ℕ, List, [], ◌∷◌, Option, Some, find, get_or, ◌<◌, refl, sym, ap, ◌∙◌}
 use Rattle.std.specs.Str.{bytes_eq, str_to_ascii_lowercase}
 use Rattle.std.proofs.lemmas.Slice.Eq.{bytes_eq-Decides}
+use denote.Enum.Declared.{rowss, tag_of}
+use denote.Enum.Enum.{tag_below}
 use Rattle.crs_text.specs.declared.keyword.Keyword.{Keyword}
 use Rattle.crs_text.specs.Prelude.{spelling_of, keyword_of, AreSpelled}
 use Rattle.crs_shape.specs.Words.{SpellsWord, direction_word, every_direction, every_type, system_word, unit_word}
+use Rattle.crs_shape.specs.contracts.direction.Direction as directions
+use Rattle.crs_shape.specs.contracts.system_type.SystemType as types
+use Rattle.crs_shape.specs.contracts.unit_kind.UnitKind as unit_kinds
 use Rattle.crs_shape.specs.declared.unit_kind.UnitKind.{UnitKind}
 use Rattle.crs_shape.specs.declared.unit_kind.UnitKind.TheVariants as kinds
 use Rattle.crs_shape.specs.declared.direction.Direction.{Direction}
-use Rattle.crs_shape.specs.declared.direction.Direction.TheVariants.{North, NorthNorthEast, NorthEast, EastNorthEast, East, EastSouthEast, SouthEast, SouthSouthEast, South, SouthSouthWest, SouthWest, WestSouthWest, West, WestNorthWest, NorthWest, NorthNorthWest, GeocentricX, GeocentricY, GeocentricZ, Up, Down, Unspecified}
+use Rattle.crs_shape.specs.declared.direction.Direction.TheVariants.{North}
 use Rattle.crs_shape.specs.declared.system_type.SystemType.{SystemType}
-use Rattle.crs_shape.specs.declared.system_type.SystemType.TheVariants.{Cartesian, Ellipsoidal, Spherical, Vertical}
+use Rattle.crs_shape.specs.declared.system_type.SystemType.TheVariants.{Cartesian}
 
--- the direction whose word these small letters spell
-abbrev pub direction_of : List ℕ → Option Direction
-direction_of small = find (λ d. bytes_eq (str_to_ascii_lowercase (direction_word d)) small) every_direction
+-- what has these small letters as its word, among some
+abbrev spelled : {V : Type 0} → (V → List ℕ) → List V → List ℕ → Option V
+spelled word vs small = find (λ v. bytes_eq (str_to_ascii_lowercase (word v)) small) vs
 
-abbrev pub type_of : List ℕ → Option SystemType
-type_of small = find (λ t. bytes_eq (str_to_ascii_lowercase (system_word t)) small) every_type
+-- where each is what its own word spells, no two have one word
+one-spelled : {V : Type 0} (word : V → List ℕ) (vs : List V) → ((v : V) → spelled word vs (str_to_ascii_lowercase (word v)) ≡ Some v) →
+    (raw : List ℕ) (v w : V) → SpellsWord raw (word v) → SpellsWord raw (word w) → v ≡ w
+one-spelled word vs known raw v w p q =
+    let h : Some v ≡ Some w = sym (known v) ∙ ap (spelled word vs) (sym p ∙ q) ∙ known w in
+    cc
 
-pub direction_known : (d : Direction) → direction_of (str_to_ascii_lowercase (direction_word d)) ≡ Some d
-unfolding every_direction
-direction_known North = refl
-direction_known other = refl
-
-pub type_known : (t : SystemType) → type_of (str_to_ascii_lowercase (system_word t)) ≡ Some t
-unfolding every_type
-type_known Cartesian = refl
-type_known other = refl
+-- ---- directions
 
 pub direction_one : (raw : List ℕ) (d e : Direction) → SpellsWord raw (direction_word d) → SpellsWord raw (direction_word e) → d ≡ e
-direction_one raw d e p q =
-    let h : Some d ≡ Some e = sym (direction_known d) ∙ ap direction_of (sym p ∙ q) ∙ direction_known e in
-    cc
-
-pub type_one : (raw : List ℕ) (t u : SystemType) → SpellsWord raw (system_word t) → SpellsWord raw (system_word u) → t ≡ u
-type_one raw t u p q =
-    let h : Some t ≡ Some u = sym (type_known t) ∙ ap type_of (sym p ∙ q) ∙ type_known u in
-    cc
-
--- ---- every direction and every type has its place
+unfolding every_direction
+direction_one = one-spelled direction_word every_direction known
+  where
+    known : (d : Direction) → spelled direction_word every_direction (str_to_ascii_lowercase (direction_word d)) ≡ Some d
+    known North = refl
+    known other = refl
 
 abbrev pub direction_place : Direction → ℕ
-direction_place North = 0
-direction_place NorthNorthEast = 1
-direction_place NorthEast = 2
-direction_place EastNorthEast = 3
-direction_place East = 4
-direction_place EastSouthEast = 5
-direction_place SouthEast = 6
-direction_place SouthSouthEast = 7
-direction_place South = 8
-direction_place SouthSouthWest = 9
-direction_place SouthWest = 10
-direction_place WestSouthWest = 11
-direction_place West = 12
-direction_place WestNorthWest = 13
-direction_place NorthWest = 14
-direction_place NorthNorthWest = 15
-direction_place GeocentricX = 16
-direction_place GeocentricY = 17
-direction_place GeocentricZ = 18
-direction_place Up = 19
-direction_place Down = 20
-direction_place Unspecified = 21
+direction_place d = tag_of directions.the_type d
 
 pub direction_placed : (d : Direction) → get_or every_direction (direction_place d) d ≡ d
 unfolding every_direction
@@ -71,14 +47,20 @@ direction_placed North = refl
 direction_placed other = refl
 
 pub direction_within : (d : Direction) → direction_place d < 22
-direction_within North = lit< tt
-direction_within other = lit< tt
+direction_within d = tag_below (rowss directions.the_type.parts) (directions.the_type.to d)
+
+-- ---- types of coordinate systems
+
+pub type_one : (raw : List ℕ) (t u : SystemType) → SpellsWord raw (system_word t) → SpellsWord raw (system_word u) → t ≡ u
+unfolding every_type
+type_one = one-spelled system_word every_type known
+  where
+    known : (t : SystemType) → spelled system_word every_type (str_to_ascii_lowercase (system_word t)) ≡ Some t
+    known Cartesian = refl
+    known other = refl
 
 abbrev pub type_place : SystemType → ℕ
-type_place Cartesian = 0
-type_place Ellipsoidal = 1
-type_place Spherical = 2
-type_place Vertical = 3
+type_place t = tag_of types.the_type t
 
 pub type_placed : (t : SystemType) → get_or every_type (type_place t) t ≡ t
 unfolding every_type
@@ -86,37 +68,29 @@ type_placed Cartesian = refl
 type_placed other = refl
 
 pub type_within : (t : SystemType) → type_place t < 4
-type_within Cartesian = lit< tt
-type_within other = lit< tt
+type_within t = tag_below (rowss types.the_type.parts) (types.the_type.to t)
 
-abbrev pub kind_place : UnitKind → ℕ
-kind_place kinds.Length = 0
-kind_place kinds.Angle = 1
-kind_place kinds.Scale = 2
-kind_place kinds.Plain = 3
+-- ---- kinds of units
 
 abbrev pub kinds_list : List UnitKind
 kinds_list = kinds.Length ∷ kinds.Angle ∷ kinds.Scale ∷ kinds.Plain ∷ []
 
-abbrev pub kind_of_word : List ℕ → Option UnitKind
-kind_of_word small = find (λ k. bytes_eq (str_to_ascii_lowercase (unit_word k)) small) kinds_list
-
-pub kind_known : (k : UnitKind) → kind_of_word (str_to_ascii_lowercase (unit_word k)) ≡ Some k
-kind_known kinds.Length = refl
-kind_known other = refl
-
 pub kind_one : (raw : List ℕ) (k j : UnitKind) → SpellsWord raw (unit_word k) → SpellsWord raw (unit_word j) → k ≡ j
-kind_one raw k j p q =
-    let h : Some k ≡ Some j = sym (kind_known k) ∙ ap kind_of_word (sym p ∙ q) ∙ kind_known j in
-    cc
+kind_one = one-spelled unit_word kinds_list known
+  where
+    known : (k : UnitKind) → spelled unit_word kinds_list (str_to_ascii_lowercase (unit_word k)) ≡ Some k
+    known kinds.Length = refl
+    known other = refl
+
+abbrev pub kind_place : UnitKind → ℕ
+kind_place k = tag_of unit_kinds.the_type k
 
 pub kind_placed : (k : UnitKind) → get_or kinds_list (kind_place k) k ≡ k
 kind_placed kinds.Length = refl
 kind_placed other = refl
 
 pub kind_within : (k : UnitKind) → kind_place k < 4
-kind_within kinds.Length = lit< tt
-kind_within other = lit< tt
+kind_within k = tag_below (rowss unit_kinds.the_type.parts) (unit_kinds.the_type.to k)
 
 -- ---- words that are keywords
 
