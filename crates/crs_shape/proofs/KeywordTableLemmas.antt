@@ -1,6 +1,8 @@
 -- What the table of keywords says, row by row, by computation.
 use Rattle.std.proofs.Common.{◌≡◌, ℕ, Bool, true, false, not, List, length, Option, Some, None, ◌==◌, ◌&&◌, ◌||◌, [], ◌∷◌, if◌then◌else◌, inl, inr, ap, subst, sym, ◌∙◌, refl, rules}
 use Rattle.std.specs.List.{list_all, list_any, find}
+use Rattle.std.proofs.Math.Bool.{beq}
+use Rattle.std.specs.Cmp.{booleans_Decides}
 use Rattle.std.proofs.lemmas.Bool.{agree_below_at, and_parts, cases_Bool}
 use denote.Enum.Bare.{sameb, same_true}
 use denote.Enum.Declared.{rowss, tag_of}
@@ -10,8 +12,9 @@ use Rattle.crs_text.specs.declared.keyword.Keyword.{Keyword}
 use Rattle.crs_text.specs.Prelude.{spelling_of, every_keyword}
 use Rattle.crs_shape.specs.contracts.class.Class as classes
 use Rattle.crs_shape.specs.declared.class.Class.{Class}
-use Rattle.crs_shape.specs.Keywords.{every_class, has_keyword, is_keyword, root_named}
-use Rattle.crs_shape.specs.KeywordTable.{classes_of, is_among, is_part, is_root, rivals_of, IsClear}
+use Rattle.crs_shape.specs.Keywords.{every_class, has_keyword, is_keyword, is_known, root_named}
+use Rattle.crs_shape.specs.KeywordTable.{classes_of, classes_by, is_among, is_part, is_root, rivals_of, IsClear}
+use Rattle.crs_shape.specs.Shape.{has_class}
 use Rattle.crs_shape.specs.Slots.{class_named}
 use Rattle.crs_shape.proofs.ListLemmas.{passes-all, passes-none}
 
@@ -50,34 +53,41 @@ same_class-true None (Some b) e = cc
 same_class-true (Some a) None e = cc
 same_class-true (Some a) (Some b) e = ap Some (same_true classes.the_type (search rules) a b e)
 
--- these classes name what this word names in a parent
-abbrev is_named : List Class → List ℕ → Class → Bool
-is_named cs word parent = same_class (find (is_part parent) cs) (class_named parent word)
+-- the spelling of a keyword; no letters, which are no keyword, where there is none
+abbrev pub spelling_by : Option Keyword → List ℕ
+spelling_by None = []
+spelling_by (Some k) = spelling_of k
 
--- the classes of a keyword name what its spelling names
-abbrev is_named_everywhere : Keyword → Bool
-is_named_everywhere k = list_all (is_named (classes_of k) (spelling_of k)) every_class
+-- what passes without a keyword and with each
+every-option : (test : Option Keyword → Bool) → (test None && list_all (λ k. test (Some k)) every_keyword) ≡ true → (o : Option Keyword) → test o ≡ true
+every-option test all None = (and_parts _ _ all).0
+every-option test all (Some k) = every-keyword (λ j. test (Some j)) (and_parts _ _ all).1 k
 
-all_named : list_all is_named_everywhere every_keyword ≡ true
+-- a keyword's classes name in a parent what its spelling names
+abbrev is_named : Option Keyword → Class → Bool
+is_named o parent = same_class (find (is_part parent) (classes_by o)) (class_named parent (spelling_by o))
+
+pub named : (parent : Class) (o : Option Keyword) → find (is_part parent) (classes_by o) ≡ class_named parent (spelling_by o)
 unfolding is_keyword class_named
-all_named = refl
-
-pub named : (parent : Class) (k : Keyword) → find (is_part parent) (classes_of k) ≡ class_named parent (spelling_of k)
-named parent k =
-    same_class-true (find (is_part parent) (classes_of k)) (class_named parent (spelling_of k))
-    (every-class (is_named (classes_of k) (spelling_of k)) (every-keyword is_named_everywhere all_named k) parent)
+named parent o = same_class-true _ _ (every-class (is_named o) (every-option (λ p. list_all (is_named p) every_class) refl o) parent)
 
 -- and what it names at the root of a text
-abbrev is_named_root : Keyword → Bool
-is_named_root k = same_class (find is_root (classes_of k)) (root_named (spelling_of k))
-
-all_named_root : list_all is_named_root every_keyword ≡ true
+pub named_root : (o : Option Keyword) → find is_root (classes_by o) ≡ root_named (spelling_by o)
 unfolding is_keyword root_named
-all_named_root = refl
+named_root o = same_class-true _ _ (every-option (λ p. same_class (find is_root (classes_by p)) (root_named (spelling_by p))) refl o)
 
-pub named_root : (k : Keyword) → find is_root (classes_of k) ≡ root_named (spelling_of k)
-named_root k =
-    same_class-true (find is_root (classes_of k)) (root_named (spelling_of k)) (every-keyword is_named_root all_named_root k)
+-- and its spelling is known where it has a class
+pub known : (o : Option Keyword) → has_class (classes_by o) ≡ is_known (spelling_by o)
+unfolding is_keyword is_known
+known o = (booleans_Decides _ _).0 (every-option (λ p. beq (has_class (classes_by p)) (is_known (spelling_by p))) refl o)
+
+-- and a class is among its classes where its spelling is a keyword of the class
+abbrev is_own : Class → Option Keyword → Bool
+is_own c o = beq (is_among c (classes_by o)) (is_keyword c (spelling_by o))
+
+pub among-keyword : (c : Class) (o : Option Keyword) → is_among c (classes_by o) ≡ is_keyword c (spelling_by o)
+unfolding is_keyword
+among-keyword c o = (booleans_Decides _ _).0 (every-class (λ d. is_own d o) (every-option (λ p. list_all (λ d. is_own d p) every_class) refl o) c)
 
 -- whether all that go before a class among some are its rivals
 abbrev is_settled : Class → List Class → Bool
@@ -88,13 +98,10 @@ is_settled c (d ∷ ds) = sameb classes.the_type d c || (is_among d (rivals_of c
 abbrev is_settled_by : Keyword → Class → Bool
 is_settled_by k c = not (has_keyword c k) || is_settled c (classes_of k)
 
-all_settled : list_all (λ k. list_all (is_settled_by k) every_class) every_keyword ≡ true
-all_settled = refl
-
 settled : (c : Class) (k : Keyword) → has_keyword c k ≡ true → is_settled c (classes_of k) ≡ true
 settled c k has =
     unless (has_keyword c k) (is_settled c (classes_of k)) has
-    (every-class (is_settled_by k) (every-keyword (λ j. list_all (is_settled_by j) every_class) all_settled k) c)
+    (every-class (is_settled_by k) (every-keyword (λ j. list_all (is_settled_by j) every_class) refl k) c)
   where
     unless : (a b : Bool) → a ≡ true → (not a || b) ≡ true → b ≡ true
     unless true b e f = f
