@@ -36,10 +36,9 @@ slot-least p s run f =
 
 fit-least : (p : Class → Bool) (ss : List SlotParts) (runs : List (List Class)) → AllFilled ss runs → least p ss ≤ how_many p (joined runs)
 fit-least p [] [] fit = omega arith
-fit-least p [] (run ∷ runs) fit = absurd fit
-fit-least p (s ∷ ss) [] fit = absurd fit
 fit-least p (s ∷ ss) (run ∷ runs) fit =
     omega (arith, how_many-append p run (joined runs), slot-least p s run fit.0, fit-least p ss runs fit.1)
+fit-least p ss runs fit = absurd fit
 
 pub allowed-least : (p : Class → Bool) (ss : List SlotParts) (cs : List Class) → Allowed ss cs → least p ss ≤ how_many p cs
 allowed-least p ss cs (runs, (fit, e)) = omega (arith, ap (how_many p) e, fit-least p ss runs fit)
@@ -70,10 +69,9 @@ slot-most p s run f bounded =
 
 fit-most : (p : Class → Bool) (ss : List SlotParts) (runs : List (List Class)) → AllFilled ss runs → is_bounded p ss ≡ true → how_many p (joined runs) ≤ most p ss
 fit-most p [] [] fit bounded = omega arith
-fit-most p [] (run ∷ runs) fit bounded = absurd fit
-fit-most p (s ∷ ss) [] fit bounded = absurd fit
 fit-most p (s ∷ ss) (run ∷ runs) fit bounded =
     omega (arith, how_many-append p run (joined runs), slot-most p s run fit.0 (and_parts _ _ bounded).0, fit-most p ss runs fit.1 (and_parts _ _ bounded).1)
+fit-most p ss runs fit bounded = absurd fit
 
 pub allowed-most : (p : Class → Bool) (ss : List SlotParts) (cs : List Class) → is_bounded p ss ≡ true → Allowed ss cs → how_many p cs ≤ most p ss
 allowed-most p ss cs bounded (runs, (fit, e)) = omega (arith, ap (how_many p) e, fit-most p ss runs fit bounded)

@@ -50,8 +50,8 @@ reached-more row before slots next c r e = record {
 pub reached-begins : (row : List SlotParts) (before : List Class) (slots next : List SlotParts) (c : Class) → Reached row before slots → after slots c ≡ Some next →
     Begins row (before ++ c ∷ [])
 reached-begins row before slots next c r e =
-    let some : (runs : List (List Class)) × AllFilled next runs = allows-some next (after-apart slots c next r.apart e) in
-    (joined some.0, (reached-more row before slots next c r e).back (joined some.0) (some.0, (some.1, refl)))
+    let (more, allowed) = allows-some next (after-apart slots c next r.apart e) in
+    (more, (reached-more row before slots next c r e).back more allowed)
 
 pub reached-not : (row : List SlotParts) (before : List Class) (slots : List SlotParts) (c : Class) → Reached row before slots → after slots c ≡ None →
     Begins row (before ++ c ∷ []) → ⊥
