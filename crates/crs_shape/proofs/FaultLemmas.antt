@@ -1,7 +1,8 @@
 -- The fault that the walk finds first is the one that the definition names, and there is no other.
-use Rattle.std.proofs.Common.{◌≡◌, ℕ, Bool, true, false, IsTrue, IsFalse, ◌⊎◌, inl, inr, Option, Some, None, List, [], ◌∷◌, ◌++◌, if◌then◌else◌, refl, sym, ◌∙◌, subst, append_assoc}
+use Rattle.std.proofs.Common.{◌≡◌, ℕ, Bool, true, false, IsTrue, IsFalse, ◌⊎◌, ◌↔◌, ⊎_elim, inl, inr, Option, Some, None, List, [], ◌∷◌, ◌++◌, if◌then◌else◌, refl, sym, ◌∙◌, subst, append_assoc}
 use Rattle.std.proofs.lemmas.Bool.{true≢false, false≢true}
 use Rattle.std.proofs.lemmas.List.{append-nil}
+use Rattle.std.proofs.lemmas.Option.{none-some, same_Some}
 use Rattle.crs_text.specs.Prelude.{Item, leaf, node, Siblings, End, More, RefusedAt}
 use Rattle.crs_shape.specs.declared.class.Class.{Class}
 use Rattle.crs_shape.specs.Keywords.{is_keyword}
@@ -11,6 +12,7 @@ use Rattle.crs_shape.specs.Walk.{after, may_end}
 use Rattle.crs_shape.specs.ShapeFault.{class_in, is_of, misplaced, missing, IsFree, IsOnly, Stands, Inside, Among, class_of_root, AtRoot}
 use Rattle.crs_shape.specs.FirstFault.{ArgumentFault, or_later, step_to, step_as, fault_by, fault_from, first_inside, first_in_arguments}
 use Rattle.crs_shape.proofs.SlotLemmas.{Goes, after-apart, goes-along, goes-back, allows-some, end-allowed, allowed-end}
+use Rattle.crs_shape.proofs.TableLemmas.{apart_tables}
 
 -- the fault, if there is one, is the only one
 abbrev pub IsExact : (RefusedAt → Type 0) → Option RefusedAt → Type 0
@@ -34,7 +36,7 @@ pub one-less : (row : List SlotParts) (before : List Class) (c : Class) (cs : Li
 one-less row before c cs = subst (Allowed row) (append_assoc before (c ∷ []) cs)
 
 goes : (slots : List SlotParts) → is_apart slots ≡ true → (c : Class) (cs : List Class) → Allowed slots (c ∷ cs) → Goes slots c cs
-goes slots apart c cs h = goes-along slots apart h.0 h.1.0 c cs (sym h.1.1)
+goes slots apart c cs (runs, (fit, e)) = goes-along slots apart runs fit c cs (sym e)
 
 pub reached-more : (row : List SlotParts) (before : List Class) (slots next : List SlotParts) (c : Class) → Reached row before slots → after slots c ≡ Some next →
     Reached row (before ++ c ∷ []) next
@@ -42,8 +44,7 @@ reached-more row before slots next c r e = record {
   apart = after-apart slots c next r.apart e;
   there = λ cs h.
       let g : Goes slots c cs = goes slots r.apart c cs (r.there (c ∷ cs) (one-less row before c cs h)) in
-      let same : g.0 ≡ next = let s : Some g.0 ≡ Some next = sym g.1.0 ∙ e in cc in
-      subst (λ n. Allowed n cs) same g.1.1;
+      subst (λ n. Allowed n cs) (same_Some g.0 next (sym g.1.0 ∙ e)) g.1.1;
   back = λ cs h. one-more row before c cs (r.back (c ∷ cs) (goes-back slots c next cs e h));
 }
 
@@ -57,8 +58,19 @@ pub reached-not : (row : List SlotParts) (before : List Class) (slots : List Slo
     Begins row (before ++ c ∷ []) → ⊥
 reached-not row before slots c r e (more, h) =
     let g : Goes slots c more = goes slots r.apart c more (r.there (c ∷ more) (one-less row before c more h)) in
-    let s : None ≡ Some g.0 = sym e ∙ g.1.0 in
-    cc
+    none-some g.0 (sym e ∙ g.1.0)
+
+-- faults of kinds that have the same faults are found alike, and of two kinds where one is free
+
+exact-as : (P Q : RefusedAt → Type 0) → ((fault : RefusedAt) → P fault ↔ Q fault) → (found : Option RefusedAt) → IsExact P found → IsExact Q found
+exact-as P Q same None free = λ fault x. free fault ((same fault).1 x)
+exact-as P Q same (Some g) only = ((same g).0 only.0, λ other x. only.1 other ((same other).1 x))
+
+exact-left : (P Q : RefusedAt → Type 0) → IsFree Q → (found : Option RefusedAt) → IsExact P found → IsExact (λ fault. P fault ⊎ Q fault) found
+exact-left P Q free = exact-as P (λ fault. P fault ⊎ Q fault) (λ fault. (inl, ⊎_elim (λ x. x) (λ y. absurd (free fault y))))
+
+exact-right : (P Q : RefusedAt → Type 0) → IsFree P → (found : Option RefusedAt) → IsExact Q found → IsExact (λ fault. P fault ⊎ Q fault) found
+exact-right P Q free = exact-as Q (λ fault. P fault ⊎ Q fault) (λ fault. (inr, ⊎_elim (λ x. absurd (free fault x)) (λ y. y)))
 
 -- the fault of an argument and those after it
 
@@ -67,15 +79,11 @@ abbrev OrLater : (Class → RefusedAt → Type 0) → (List Class → RefusedAt 
 OrLater Within Later before fault c = Within c fault ⊎ (IsFree (Within c) × Later (before ++ c ∷ []) fault)
 
 pub same_class : (parent : Class) (before : List Class) (item : Item) (c d : Class) → class_in parent item ≡ Some c → Stands parent before item d → d ≡ c
-same_class parent before item c d e stands = let both : Some d ≡ Some c = sym stands.named ∙ e in cc
+same_class parent before item c d e stands = same_Some d c (sym stands.named ∙ e)
 
 module _ (parent : Class) (before : List Class) (item : Item) (Within : Class → RefusedAt → Type 0) (Later : List Class → RefusedAt → Type 0) where
   exact-none : ((c : Class) → Stands parent before item c → ⊥) → IsOnly (ArgumentFault parent before item Within Later) (misplaced item)
-  exact-none none = (inl (none, refl), only)
-    where
-      only : (other : RefusedAt) → ArgumentFault parent before item Within Later other → other ≡ misplaced item
-      only other (inl (n, e)) = e
-      only other (inr (c, (stands, rest))) = absurd (none c stands)
+  exact-none none = exact-left _ _ (λ fault x. none x.0 x.1.0) (Some (misplaced item)) ((none, refl), λ other h. h.1)
 
   -- an argument that stands there as a class has its faults as that
   stands-as : (c : Class) → Stands parent before item c → (fault : RefusedAt) → ArgumentFault parent before item Within Later fault → OrLater Within Later before fault c
@@ -84,21 +92,12 @@ module _ (parent : Class) (before : List Class) (item : Item) (Within : Class �
 
   exact-or_later : (c : Class) → Stands parent before item c → (w l : Option RefusedAt) → IsExact (Within c) w → IsExact (Later (before ++ c ∷ [])) l →
       IsExact (ArgumentFault parent before item Within Later) (or_later w l)
-  exact-or_later c stands (Some g) l w later = (inr (c, (stands, inl w.0)), λ other h. only other (stands-as c stands other h))
+  exact-or_later c stands w l within later =
+      exact-as (λ fault. OrLater Within Later before fault c) _ (λ fault. ((λ x. inr (c, (stands, x))), stands-as c stands fault)) (or_later w l) (by w within)
     where
-      only : (other : RefusedAt) → OrLater Within Later before other c → other ≡ g
-      only other (inl x) = w.1 other x
-      only other (inr (free, x)) = absurd (free g w.0)
-  exact-or_later c stands None (Some g) w later = (inr (c, (stands, inr (w, later.0))), λ other h. only other (stands-as c stands other h))
-    where
-      only : (other : RefusedAt) → OrLater Within Later before other c → other ≡ g
-      only other (inl x) = absurd (w other x)
-      only other (inr (free, x)) = later.1 other x
-  exact-or_later c stands None None w later = λ other h. no (stands-as c stands other h)
-    where
-      no : {other : RefusedAt} → OrLater Within Later before other c → ⊥
-      no {other} (inl x) = w other x
-      no {other} (inr (free, x)) = later other x
+      by : (w : Option RefusedAt) → IsExact (Within c) w → IsExact (λ fault. OrLater Within Later before fault c) (or_later w l)
+      by (Some g) only = exact-left _ _ (λ fault x. x.0 g only.0) (Some g) only
+      by None free = exact-right _ _ free l (exact-as _ _ (λ fault. ((λ x. (free, x)), λ x. x.1)) l later)
 
   pub exact-free : (c : Class) → Stands parent before item c → IsFree (Within c) → IsFree (Later (before ++ c ∷ [])) → IsFree (ArgumentFault parent before item Within Later)
   exact-free c stands = exact-or_later c stands None None
@@ -110,7 +109,7 @@ exact-argument : (parent : Class) (before : List Class) (slots : List SlotParts)
     IsExact (ArgumentFault parent before item Within Later) (fault_from parent slots item within later)
 exact-argument parent before slots item Within Later within later r hw hl =
     elim (class_in parent item) as (λ o. class_in parent item ≡ o → IsExact (ArgumentFault parent before item Within Later) (fault_by item within later (step_as slots o))) [
-      | None ↦ λ e. exact-none parent before item Within Later (λ d stands. let both : None ≡ Some d = sym e ∙ stands.named in cc)
+      | None ↦ λ e. exact-none parent before item Within Later (λ d stands. none-some d (sym e ∙ stands.named))
       | Some c ↦ λ e.
           elim (after slots c) as (λ o. after slots c ≡ o → IsExact (ArgumentFault parent before item Within Later) (fault_by item within later (step_to c o))) [
             | None ↦ λ f. exact-none parent before item Within Later
@@ -144,84 +143,55 @@ exact-end parent close before slots r =
       | false ↦ λ e. ((end-not parent before slots r e, refl), λ other h. h.1)
     ] refl
 
-exact-leaf : (c : Class) (item : Item) → IsExact (λ fault. IsFalse (is_of c item) × (fault ≡ misplaced item)) (if is_of c item then None else Some (misplaced item))
-exact-leaf c item =
-    elim (is_of c item) as (λ b. IsExact (λ fault. IsFalse b × (fault ≡ misplaced item)) (if b then None else Some (misplaced item))) [
-      | true ↦ λ fault h. absurd (true≢false h.0)
-      | false ↦ ((refl, refl), λ other h. h.1)
-    ]
+-- the fault of an item itself, where it isn't of the class
+exact-own : (is : Bool) (item : Item) → IsExact (λ fault. IsFalse is × (fault ≡ misplaced item)) (if is then None else Some (misplaced item))
+exact-own true item = λ fault h. true≢false h.0
+exact-own false item = ((refl, refl), λ other h. h.1)
 
 -- the fault of an item by its keyword, where `Arguments` are the faults of its arguments
-abbrev ByKeyword : Bool → Item → (RefusedAt → Type 0) → RefusedAt → Type 0
-ByKeyword b item Arguments fault = (IsFalse b × (fault ≡ misplaced item)) ⊎ (IsTrue b × Arguments fault)
-
-by-keyword : (b : Bool) (item : Item) (Arguments : RefusedAt → Type 0) (found : Option RefusedAt) → IsExact Arguments found →
-    IsExact (ByKeyword b item Arguments) (if b then found else Some (misplaced item))
-by-keyword false item Arguments found h = (inl (refl, refl), only)
-  where
-    only : (other : RefusedAt) → ByKeyword false item Arguments other → other ≡ misplaced item
-    only other (inl x) = x.1
-    only other (inr x) = absurd (false≢true x.0)
-by-keyword true item Arguments None h = free
-  where
-    free : (fault : RefusedAt) → ByKeyword true item Arguments fault → ⊥
-    free fault (inl x) = true≢false x.0
-    free fault (inr x) = h fault x.1
-by-keyword true item Arguments (Some g) h = (inr (refl, h.0), only)
-  where
-    only : (other : RefusedAt) → ByKeyword true item Arguments other → other ≡ g
-    only other (inl x) = absurd (true≢false x.0)
-    only other (inr x) = h.1 other x.1
+by-keyword : (is : Bool) (item : Item) (Arguments : RefusedAt → Type 0) (found : Option RefusedAt) → IsExact Arguments found →
+    IsExact (λ fault. (IsFalse is × (fault ≡ misplaced item)) ⊎ (IsTrue is × Arguments fault)) (if is then found else Some (misplaced item))
+by-keyword false item Arguments found h = exact-left _ _ (λ fault x. false≢true x.0) (Some (misplaced item)) (exact-own false item)
+by-keyword true item Arguments found h = exact-right _ _ (exact-own true item) found (exact-as _ _ (λ fault. ((λ x. (refl, x)), λ x. x.1)) found h)
 
 mutual
   unfolding first_inside first_in_arguments
 
-  pub exact_inside : ((c : Class) → is_apart (slots_of c) ≡ true) → (c : Class) (item : Item) → IsExact (Inside c item) (first_inside c item)
-  exact_inside apart c (leaf kind place raw) = exact-leaf c (leaf kind place raw)
-  exact_inside apart c (node place keyword square first others close) =
-      by-keyword (is_keyword c keyword) (node place keyword square first others close)
-      (λ fault. ArgumentFault c [] first (λ d f. Inside d first f) (λ before f. Among c close before others f) fault)
-      (fault_from c (slots_of c) first (λ d. first_inside d first) (λ next. first_in_arguments c close next others))
-      (exact-argument c [] (slots_of c) first (λ d f. Inside d first f) (λ before f. Among c close before others f)
-      (λ d. first_inside d first) (λ next. first_in_arguments c close next others) (reached-start (slots_of c) (apart c))
-      (λ d. exact_inside apart d first) (λ b next r. exact_among apart c close b next others r))
+  pub exact_inside : (c : Class) (item : Item) → IsExact (Inside c item) (first_inside c item)
+  exact_inside c (leaf kind place raw) = exact-own (is_of c (leaf kind place raw)) (leaf kind place raw)
+  exact_inside c (node place keyword square first others close) =
+      by-keyword (is_keyword c keyword) (node place keyword square first others close) _ _
+      (exact-argument c [] (slots_of c) first _ _ _ _ (reached-start (slots_of c) (apart_tables c))
+      (λ d. exact_inside d first) (λ b next r. exact_among c close b next others r))
 
-  pub exact_among : ((c : Class) → is_apart (slots_of c) ≡ true) → (c : Class) (close : ℕ) (before : List Class) (slots : List SlotParts) (items : Siblings) →
+  exact_among : (c : Class) (close : ℕ) (before : List Class) (slots : List SlotParts) (items : Siblings) →
       Reached (slots_of c) before slots → IsExact (Among c close before items) (first_in_arguments c close slots items)
-  exact_among apart c close before slots End r = exact-end c close before slots r
-  exact_among apart c close before slots (More item items) r =
-      exact-argument c before slots item (λ d f. Inside d item f) (λ b f. Among c close b items f)
-      (λ d. first_inside d item) (λ next. first_in_arguments c close next items) r
-      (λ d. exact_inside apart d item) (λ b next q. exact_among apart c close b next items q)
+  exact_among c close before slots End r = exact-end c close before slots r
+  exact_among c close before slots (More item items) r =
+      exact-argument c before slots item _ _ _ _ r (λ d. exact_inside d item) (λ b next q. exact_among c close b next items q)
 
-pub exact-ok : ((c : Class) → is_apart (slots_of c) ≡ true) → (c : Class) (item : Item) → None ≡ first_inside c item → IsFree (Inside c item)
-exact-ok apart c item e = subst (IsExact (Inside c item)) (sym e) (exact_inside apart c item)
-
-pub exact-err : ((c : Class) → is_apart (slots_of c) ≡ true) → (c : Class) (item : Item) (fault : RefusedAt) → Some fault ≡ first_inside c item → IsOnly (Inside c item) fault
-exact-err apart c item fault e = subst (IsExact (Inside c item)) (sym e) (exact_inside apart c item)
+pub exact : (c : Class) (item : Item) (found : Option RefusedAt) → found ≡ first_inside c item → IsExact (Inside c item) found
+exact c item found e = subst (IsExact (Inside c item)) (sym e) (exact_inside c item)
 
 -- at the root
 
-pub root-not : (item : Item) → class_of_root item ≡ None → IsOnly (AtRoot item) (misplaced item)
-root-not item e = (inl (e, refl), only)
-  where
-    only : (other : RefusedAt) → AtRoot item other → other ≡ misplaced item
-    only other (inl h) = h.1
-    only other (inr (c, h)) = let both : None ≡ Some c = sym e ∙ h.0 in cc
+pub exact_at_root : (item : Item) → (found : Option RefusedAt) × IsExact (AtRoot item) found
+exact_at_root item =
+    elim (class_of_root item) as (λ o. class_of_root item ≡ o → (found : Option RefusedAt) × IsExact (AtRoot item) found) [
+      | None ↦ λ e. (Some (misplaced item), exact-left _ _ (λ fault x. none-some x.0 (sym e ∙ x.1.0)) (Some (misplaced item)) ((e, refl), λ other h. h.1))
+      | Some c ↦ λ e. (
+        first_inside c item,
+        exact-right _ _ (λ fault x. none-some c (sym x.0 ∙ e)) (first_inside c item)
+            (exact-as (Inside c item) _
+            (λ fault. ((λ x. (c, (e, x))), λ x. subst (λ d. Inside d item fault) (same_Some x.0 c (sym x.1.0 ∙ e)) x.1.1))
+            (first_inside c item) (exact_inside c item)),
+      )
+    ] refl
 
-root-same : (item : Item) (c d : Class) → class_of_root item ≡ Some c → class_of_root item ≡ Some d → d ≡ c
-root-same item c d e f = let both : Some d ≡ Some c = sym f ∙ e in cc
+pub one-of : (Fault : RefusedAt → Type 0) (found : Option RefusedAt) → IsExact Fault found → (a b : RefusedAt) → Fault a → Fault b → a ≡ b
+one-of Fault None free a b x y = absurd (free a x)
+one-of Fault (Some fault) only a b x y = only.1 a x ∙ sym (only.1 b y)
 
-pub root-err : (item : Item) (c : Class) (g : RefusedAt) → class_of_root item ≡ Some c → IsOnly (Inside c item) g → IsOnly (AtRoot item) g
-root-err item c g e h = (inr (c, (e, h.0)), only)
-  where
-    only : (other : RefusedAt) → AtRoot item other → other ≡ g
-    only other (inl x) = let both : Some c ≡ None = sym e ∙ x.0 in cc
-    only other (inr (d, x)) = h.1 other (subst (λ y. Inside y item other) (root-same item c d e x.0) x.1)
-
-pub root-ok : (item : Item) (c : Class) → class_of_root item ≡ Some c → IsFree (Inside c item) → IsFree (AtRoot item)
-root-ok item c e h = free
-  where
-    free : (other : RefusedAt) → AtRoot item other → ⊥
-    free other (inl x) = let both : Some c ≡ None = sym e ∙ x.0 in cc
-    free other (inr (d, x)) = h other (subst (λ y. Inside y item other) (root-same item c d e x.0) x.1)
+pub none-or-one : (Fault : RefusedAt → Type 0) (found : Option RefusedAt) → IsExact Fault found → IsFree Fault ⊎ ((fault : RefusedAt) × Fault fault)
+none-or-one Fault None free = inl free
+none-or-one Fault (Some fault) only = inr (fault, only.0)

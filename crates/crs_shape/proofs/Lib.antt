@@ -12,7 +12,6 @@ pub mod KeywordLemmas
 pub mod ListLemmas
 pub mod ShapedLemmas
 pub mod RefusedLemmas
-pub mod RootLemmas
 pub mod SlotLemmas
 pub mod SoughtLemmas
 pub mod TableLemmas

@@ -19,14 +19,6 @@ use Rattle.crs_shape.proofs.FaultLemmas.{IsExact, Reached, reached-start, reache
 abbrev Left : Class → List Class → Siblings → Type 0
 Left c before items = (ds : List Class) × (AreShaped c ds items × Allowed (slots_of c) (before ++ ds))
 
-left-end : (c : Class) (close : ℕ) (before : List Class) (slots : List SlotParts) → Reached (slots_of c) before slots →
-    (if may_end slots then None else Some (missing close)) ≡ None → Left c before End
-left-end c close before slots r e =
-    elim (may_end slots) as (λ b. may_end slots ≡ b → (if b then None else Some (missing close)) ≡ None → Left c before End) [
-      | true ↦ λ f h. ([], (tt, r.back [] (end-allowed slots f)))
-      | false ↦ λ f h. cc
-    ] refl e
-
 -- from the fault by a step, if there is none
 by-step : (item : Item) (Goal : Type 0) (within : Class → Option RefusedAt) (later : List SlotParts → Option RefusedAt) (slots : List SlotParts) (o : Option Class) →
     ((d : Class) (next : List SlotParts) → o ≡ Some d → after slots d ≡ Some next → within d ≡ None → later next ≡ None → Goal) →
@@ -42,18 +34,17 @@ by-step item Goal within later slots (Some d) go e =
     both None g next f h = go d next refl f g h
     both (Some fault) g next f h = cc
 
-by-test : (b : Bool) (item : Item) (found : Option RefusedAt) → (if b then found else Some (misplaced item)) ≡ None → (b ≡ true) × (found ≡ None)
-by-test true item found e = (refl, e)
-by-test false item found e = cc
+by-test : (b : Bool) (own : RefusedAt) (found : Option RefusedAt) → (if b then found else Some own) ≡ None → (b ≡ true) × (found ≡ None)
+by-test true own found e = (refl, e)
+by-test false own found e = cc
 
 mutual
   unfolding first_inside first_in_arguments
 
   shaped-none : (c : Class) (item : Item) → first_inside c item ≡ None → Shaped c item
-  shaped-none c (leaf kind place raw) e = (by-test (is_of c (leaf kind place raw)) (leaf kind place raw) None e).0
+  shaped-none c (leaf kind place raw) e = (by-test _ _ None e).0
   shaped-none c (node place keyword square first others close) e =
-      let h = by-test (is_keyword c keyword) (node place keyword square first others close)
-      (fault_from c (slots_of c) first (λ d. first_inside d first) (λ next. first_in_arguments c close next others)) e in (
+      let h = by-test (is_keyword c keyword) _ (fault_from c (slots_of c) first (λ d. first_inside d first) (λ next. first_in_arguments c close next others)) e in (
         h.0,
         by-step first _ (λ d. first_inside d first) (λ next. first_in_arguments c close next others) (slots_of c) (class_in c first)
             (λ d next named f w l.
@@ -65,7 +56,7 @@ mutual
 
   left-none : (c : Class) (close : ℕ) (before : List Class) (slots : List SlotParts) (items : Siblings) → Reached (slots_of c) before slots →
       first_in_arguments c close slots items ≡ None → Left c before items
-  left-none c close before slots End r e = left-end c close before slots r e
+  left-none c close before slots End r e = ([], (tt, r.back [] (end-allowed slots (by-test (may_end slots) (missing close) None e).0)))
   left-none c close before slots (More item items) r e =
       by-step item _ (λ d. first_inside d item) (λ next. first_in_arguments c close next items) slots (class_in c item)
       (λ d next named f w l.
@@ -75,7 +66,7 @@ mutual
       e
 
 shaped-inside : (c : Class) (item : Item) → IsFree (Inside c item) → first_inside c item ≡ None
-shaped-inside c item free = by (first_inside c item) (exact_inside apart_tables c item)
+shaped-inside c item free = by (first_inside c item) (exact_inside c item)
   where
     by : (o : Option RefusedAt) → IsExact (Inside c item) o → o ≡ None
     by None h = refl
