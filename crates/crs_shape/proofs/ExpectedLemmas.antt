@@ -1,8 +1,10 @@
 -- What could come at a fault of shape, as the loop over an item's arguments finds it.
-use Rattle.std.proofs.Common.{◌≡◌, ℕ, ◌<◌, inl, inr, Bool, true, false, ◌&&◌, Option, Some, None, List, [], ◌∷◌, ◌++◌, drop, filter, map, refl, sym, ◌∙◌, ap, subst, arith, rules}
+use Rattle.std.proofs.Common.{◌≡◌, ℕ, ◌<◌, ◌↔◌, ⊎_elim, inl, inr, Bool, true, false, ◌&&◌, Option, Some, None, List, [], ◌∷◌, ◌++◌, drop, filter, map, refl, sym, ◌∙◌, ap, subst, arith, rules}
 use Rattle.std.specs.List.{list_any}
 use Rattle.std.proofs.Math.Bool.{and-true}
+use Rattle.std.proofs.lemmas.Bool.{true≢false, true_from_ne_false}
 use Rattle.std.proofs.lemmas.List.{append-nil}
+use Rattle.std.proofs.lemmas.Option.{none-some}
 use Rattle.std.proofs.lemmas.Map.Views.{any-filter_same}
 use denote.Enum.Bare.{sameb, same_true}
 use Rattle.crs_text.specs.Prelude.{Item, leaf, node, Siblings, More, arguments, first_of, rest_of, close_of, place_of, size_of, sizes, here, IsAt}
@@ -32,41 +34,26 @@ among-passing p c =
     any-filter_same (λ d. sameb the_type d c) p (p c) (λ d e. ap p (same_true the_type (search rules) d c e)) every_class
     ∙ ap (λ b. p c && b) (class-among c) ∙ and-true (p c)
 
--- a class may go where an allowed list goes on with it
-may_go-begins : (row : List SlotParts) (before : List Class) (slots : List SlotParts) (c : Class) → Reached row before slots → may_go slots c ≡ true → Begins row (before ++ c ∷ [])
-may_go-begins row before slots c r e =
-    elim (after slots c) as (λ o. after slots c ≡ o → has_some o ≡ true → Begins row (before ++ c ∷ [])) [
-      | None ↦ λ f g. cc
-      | Some next ↦ λ f g. reached-begins row before slots next c r f
-    ] refl e
-
-begins-may_go : (row : List SlotParts) (before : List Class) (slots : List SlotParts) (c : Class) → Reached row before slots → Begins row (before ++ c ∷ []) → may_go slots c ≡ true
-begins-may_go row before slots c r b =
-    elim (after slots c) as (λ o. after slots c ≡ o → has_some o ≡ true) [
-      | None ↦ λ f. absurd (reached-not row before slots c r f b)
-      | Some next ↦ λ f. refl
+-- a class may go exactly where an allowed list goes on with it
+may_go-begins : (row : List SlotParts) (before : List Class) (slots : List SlotParts) (c : Class) → Reached row before slots → (may_go slots c ≡ true) ↔ Begins row (before ++ c ∷ [])
+may_go-begins row before slots c r =
+    elim (after slots c) as (λ o. after slots c ≡ o → (has_some o ≡ true) ↔ Begins row (before ++ c ∷ [])) [
+      | None ↦ λ f. ((λ g. cc), λ b. absurd (reached-not row before slots c r f b))
+      | Some next ↦ λ f. ((λ g. reached-begins row before slots next c r f), λ b. refl)
     ] refl
 
 -- what is answered for a walk that has come so far
 pub follows : (parent : Class) (place : ℕ) (before : List Class) (slots : List SlotParts) → Reached (slots_of parent) before slots → (e : ExpectedParts) →
     e ≡ record { parent = Some parent; place = place; classes = filter (may_go slots) every_class; may_end = may_end slots } → Follows parent place before e
-follows parent place before slots r e is = record {
-  is_parent = ap (λ x. x.parent) is;
-  is_place = ap (λ x. x.place) is;
-  classes = λ c.
-      let same : list_any (λ d. sameb the_type d c) e.classes ≡ may_go slots c = ap (λ (x : ExpectedParts). list_any (λ d. sameb the_type d c) x.classes) is ∙ among-passing (may_go slots) c in (
-        (λ has. may_go-begins (slots_of parent) before slots c r (sym same ∙ has)),
-        (λ begins. same ∙ begins-may_go (slots_of parent) before slots c r begins),
-      );
+follows parent place before slots r e is = subst (Follows parent place before) (sym is) (record {
+  is_parent = refl;
+  is_place = refl;
+  classes = λ c. rw (among-passing (may_go slots) c) (may_go-begins (slots_of parent) before slots c r);
   may_end = (
-    (λ ends. subst (Allowed (slots_of parent)) (append-nil before) (r.back [] (end-allowed slots (sym (ap (λ x. x.may_end) is) ∙ ends)))),
-    (λ allowed. ap (λ x. x.may_end) is ∙ by_end (may_end slots) refl allowed),
+    (λ ends. subst (Allowed (slots_of parent)) (append-nil before) (r.back [] (end-allowed slots ends))),
+    (λ allowed. true_from_ne_false (may_end slots) (λ f. end-not parent before slots r f allowed)),
   );
-}
-  where
-    by_end : (b : Bool) → may_end slots ≡ b → Allowed (slots_of parent) before → b ≡ true
-    by_end true f allowed = refl
-    by_end false f allowed = absurd (end-not parent before slots r f allowed)
+})
 
 -- ---- the loop
 
@@ -81,11 +68,6 @@ pub record Going (tree : Item) (class : Class) (item : Item) (slots : List SlotP
   pub has : HasNext tree next
   pub less : sizes (from tree next) < size_of item
 
-first_free : (c : Class) (place : ℕ) (keyword : List ℕ) (square : Bool) (first : Item) (others : Siblings) (close : ℕ) → is_of c (node place keyword square first others close) ≡ true →
-    IsFree (Among c close [] (More first others)) → IsFree (Inside c (node place keyword square first others close))
-first_free c place keyword square first others close e free fault (inl h) = let never : true ≡ false = sym e ∙ h.0 in cc
-first_free c place keyword square first others close e free fault (inr h) = free fault h.1
-
 pub going_first : (tree : Item) (c : Class) (item : Item) (close : ℕ) (next : Option ℕ) → is_of c item ≡ true → close_of item ≡ Some close →
     IsAt tree (arguments item) next → Going tree c item (slots_of c) next
 going_first tree c (leaf kind place raw) close next e f at = cc
@@ -96,14 +78,11 @@ going_first tree c (node place keyword square first others end) close next e f a
       close = end;
       before = [];
       reached = reached-start (slots_of c) (apart_tables c);
-      free = λ free. first_free c place keyword square first others end e (subst (λ z. IsFree (Among c end [] z)) same free);
+      free = λ free fault. ⊎_elim (λ x. true≢false (sym e ∙ x.0)) (λ x. subst (λ z. IsFree (Among c end [] z)) same free fault x.1);
       found = λ e h. subst (λ z. ExpectedAmong c place [] z e) same h;
       has = has_at tree (More first others) next at;
       less = let n : sizes (from tree next) ≡ sizes (More first others) = ap sizes same in omega (arith, n, arguments-less item);
     }
-
-pub going_at : (tree : Item) (c : Class) (item : Item) (slots : List SlotParts) (next other : Option ℕ) → Going tree c item slots next → next ≡ other → Going tree c item slots other
-going_at tree c item slots next other going e = subst (Going tree c item slots) e going
 
 -- what an argument's step says
 
@@ -116,8 +95,7 @@ none_stands parent before slots item r e d stands = by (after slots d) refl
     by None f = reached-not (slots_of parent) before slots d r f stands.begins
     by (Some next) f =
         let s : step_of parent slots item ≡ Some (d, next) = ap (step_as slots) stands.named ∙ ap (step_to d) f in
-        let never : ◌≡◌ {A = Option (Class × List SlotParts)} None (Some (d, next)) = e ∙ s in
-        absurd cc
+        none-some (d, next) (e ∙ s)
 
 step_stands : (parent c : Class) (before : List Class) (slots later : List SlotParts) (item : Item) → Reached (slots_of parent) before slots → Some (c, later) ≡ step_of parent slots item →
     Stands parent before item c

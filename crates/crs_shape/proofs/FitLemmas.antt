@@ -1,5 +1,6 @@
 -- The fault of an item, as the loop over its arguments finds it.
 use Rattle.std.proofs.Common.{◌≡◌, ◌≢◌, ℕ, ◌+◌, ◌<◌, Bool, true, false, Option, Some, None, List, [], ◌∷◌, if◌then◌else◌, option_map, refl, sym, ◌∙◌, ap, subst, arith}
+use Rattle.std.proofs.lemmas.Option.{none-some, same_Some, some_pair_parts}
 use Rattle.crs_text.specs.Prelude.{Item, leaf, node, Siblings, End, More, arguments, first_of, rest_of, close_of, size_of, sizes, here, HasId, IsAt, RefusedAt}
 use Rattle.crs_shape.specs.declared.class.Class.{Class}
 use denote.Enum.Bare.{true_same}
@@ -87,18 +88,11 @@ rest-less tree id next has at =
     let same : sizes (from tree next) ≡ sizes (rest_of (here tree id)) = ap sizes (from_at tree (rest_of (here tree id)) next at) in
     omega (arith, sizes-first (here tree id) has, size-above (first_of (here tree id)))
 
--- an argument that isn't allowed there
-pub going_wrong : (tree : Item) (c : Class) (item : Item) (close : ℕ) (slots : List SlotParts) (id : ℕ) → Going tree c item close slots (Some id) →
-    None ≡ step_of c slots (first_of (here tree id)) → Some (misplaced (first_of (here tree id))) ≡ first_inside c item
-going_wrong tree c item close slots id going e =
-    ap (fault_by (first_of (here tree id)) (λ d. first_inside d (first_of (here tree id))) (λ next. first_in_arguments c close next (rest_of (here tree id)))) e
-    ∙ sym (by_items c close slots (here tree id) going.has) ∙ going.same
-
--- an argument with a fault inside, or with none
-pub going_by : (tree : Item) (c : Class) (item : Item) (close : ℕ) (slots left : List SlotParts) (named : Class) (id : ℕ) → Going tree c item close slots (Some id) →
-    Some (named, left) ≡ step_of c slots (first_of (here tree id)) →
-    or_later (first_inside named (first_of (here tree id))) (first_in_arguments c close left (rest_of (here tree id))) ≡ first_inside c item
-going_by tree c item close slots left named id going e =
+-- an argument and those after it, by its step
+pub going_by : (tree : Item) (c : Class) (item : Item) (close : ℕ) (slots : List SlotParts) (id : ℕ) (step : Option (Class × List SlotParts)) →
+    Going tree c item close slots (Some id) → step ≡ step_of c slots (first_of (here tree id)) →
+    fault_by (first_of (here tree id)) (λ d. first_inside d (first_of (here tree id))) (λ next. first_in_arguments c close next (rest_of (here tree id))) step ≡ first_inside c item
+going_by tree c item close slots id step going e =
     ap (fault_by (first_of (here tree id)) (λ d. first_inside d (first_of (here tree id))) (λ next. first_in_arguments c close next (rest_of (here tree id)))) e
     ∙ sym (by_items c close slots (here tree id) going.has) ∙ going.same
 
@@ -106,7 +100,7 @@ pub going_inside : (tree : Item) (c : Class) (item : Item) (close : ℕ) (slots 
     Going tree c item close slots (Some id) → Some (named, left) ≡ step_of c slots (first_of (here tree id)) →
     Some g ≡ first_inside named (first_of (here tree id)) → Some g ≡ first_inside c item
 going_inside tree c item close slots left named id g going e is =
-    ap (λ o. or_later o (first_in_arguments c close left (rest_of (here tree id)))) is ∙ going_by tree c item close slots left named id going e
+    ap (λ o. or_later o (first_in_arguments c close left (rest_of (here tree id)))) is ∙ going_by tree c item close slots id (Some (named, left)) going e
 
 pub going_on : (tree : Item) (c : Class) (item : Item) (close : ℕ) (slots left : List SlotParts) (named : Class) (id : ℕ) (next : Option ℕ) →
     Going tree c item close slots (Some id) → Some (named, left) ≡ step_of c slots (first_of (here tree id)) →
@@ -114,24 +108,15 @@ pub going_on : (tree : Item) (c : Class) (item : Item) (close : ℕ) (slots left
 going_on tree c item close slots left named id next going e is at = record {
   same =
       ap (first_in_arguments c close left) (from_at tree (rest_of (here tree id)) next at)
-      ∙ ap (λ o. or_later o (first_in_arguments c close left (rest_of (here tree id)))) is ∙ going_by tree c item close slots left named id going e;
+      ∙ ap (λ o. or_later o (first_in_arguments c close left (rest_of (here tree id)))) is ∙ going_by tree c item close slots id (Some (named, left)) going e;
   has = has_at tree (rest_of (here tree id)) next at;
   less = omega (arith, rest-less tree id next going.has at, going.less);
 }
 
-pub going_end : (tree : Item) (c : Class) (item : Item) (close : ℕ) (slots : List SlotParts) (b : Bool) → Going tree c item close slots None → b ≡ may_end slots → b ≡ true →
-    None ≡ first_inside c item
+pub going_end : (tree : Item) (c : Class) (item : Item) (close : ℕ) (slots : List SlotParts) (b : Bool) → Going tree c item close slots None → b ≡ may_end slots →
+    (if b then None else Some (missing close)) ≡ first_inside c item
 unfolding first_in_arguments
-going_end tree c item close slots b going e t = rw (sym e ∙ t) at going.same
-
-pub going_short : (tree : Item) (c : Class) (item : Item) (close : ℕ) (slots : List SlotParts) (b : Bool) → Going tree c item close slots None → b ≡ may_end slots → b ≡ false →
-    Some (missing close) ≡ first_inside c item
-unfolding first_in_arguments
-going_short tree c item close slots b going e t = rw (sym e ∙ t) at going.same
-
-pub going_at : (tree : Item) (c : Class) (item : Item) (close : ℕ) (slots : List SlotParts) (next other : Option ℕ) → Going tree c item close slots next → next ≡ other →
-    Going tree c item close slots other
-going_at tree c item close slots next other going e = subst (Going tree c item close slots) e going
+going_end tree c item close slots b going e = rw (← e) at going.same
 
 -- an argument is of the class that it has in its parent
 
@@ -139,12 +124,9 @@ pub first-has : (cs : List Class) (word : List ℕ) (c : Class) → first_named 
 first-has [] word c e = cc
 first-has (d ∷ ds) word c e =
     elim (is_keyword d word) as (λ b. is_keyword d word ≡ b → (if b then Some d else first_named ds word) ≡ Some c → is_keyword c word ≡ true) [
-      | true ↦ λ has same. subst (λ x. is_keyword x word ≡ true) (Some-one same) has
+      | true ↦ λ has same. subst (λ x. is_keyword x word ≡ true) (same_Some d c same) has
       | false ↦ λ has later. first-has ds word c later
     ] refl e
-  where
-    Some-one : {a b : Class} → Some a ≡ Some b → a ≡ b
-    Some-one same = cc
 
 named-has : (slots : List SlotParts) (word : List ℕ) (c : Class) → named_in slots word ≡ Some c → is_keyword c word ≡ true
 named-has [] word c e = cc
@@ -164,27 +146,16 @@ unfolding root_named
 root-is_of c (leaf kind place raw) e = cc
 root-is_of c (node place keyword square first others close) e = first-has root_classes keyword c e
 
-to_class : (c d : Class) (later : List SlotParts) (o : Option (List SlotParts)) → Some (c, later) ≡ step_to d o → (d ≡ c) × (o ≡ Some later)
-to_class c d later None e = absurd cc
-to_class c d later (Some next) e =
-    let p : Some c ≡ Some d = ap (option_map (λ s. s.0)) e in
-    let q : Some later ≡ Some next = ap (option_map (λ s. s.1)) e in
-    let one : c ≡ d = cc in
-    let two : later ≡ next = cc in
-    (sym one, ap Some (sym two))
-
 pub step_class : (parent c : Class) (slots later : List SlotParts) (item : Item) → Some (c, later) ≡ step_of parent slots item → (class_in parent item ≡ Some c) × (after slots c ≡ Some later)
-step_class parent c slots later item e = by (class_in parent item) refl
+step_class parent c slots later item e = by (class_in parent item) refl e
   where
-    by : (o : Option Class) → class_in parent item ≡ o → (class_in parent item ≡ Some c) × (after slots c ≡ Some later)
-    by None f = absurd (let never : ◌≡◌ {A = Option (Class × List SlotParts)} (Some (c, later)) None = e ∙ ap (step_as slots) f in cc)
-    by (Some d) f =
-        let t = to_class c d later (after slots d) (e ∙ ap (step_as slots) f) in
-        (f ∙ ap Some t.0, ap (after slots) (sym t.0) ∙ t.1)
+    to : (d : Class) (o : Option (List SlotParts)) → after slots d ≡ o → Some (c, later) ≡ step_to d o → (d ≡ c) × (after slots d ≡ Some later)
+    to d None f e = absurd (none-some (c, later) (sym e))
+    to d (Some next) f e = let (same, rest) = some_pair_parts c d later next e in (sym same, f ∙ ap Some (sym rest))
+
+    by : (o : Option Class) → class_in parent item ≡ o → Some (c, later) ≡ step_as slots o → (class_in parent item ≡ Some c) × (after slots c ≡ Some later)
+    by None f e = absurd (none-some (c, later) (sym e))
+    by (Some d) f e = let (same, goes) = to d (after slots d) refl e in (f ∙ ap Some same, ap (after slots) (sym same) ∙ goes)
 
 pub step-is_of : (parent c : Class) (slots left : List SlotParts) (item : Item) → Some (c, left) ≡ step_of parent slots item → is_of c item ≡ true
 step-is_of parent c slots left item e = class-is_of parent c item (step_class parent c slots left item e).0
-
-pub going_class : (tree : Item) (c : Class) (item : Item) (close : ℕ) (slots left : List SlotParts) (named : Class) (id : ℕ) → Going tree c item close slots (Some id) →
-    Some (named, left) ≡ step_of c slots (first_of (here tree id)) → is_of named (first_of (here tree id)) ≡ true
-going_class tree c item close slots left named id going e = step-is_of c named slots left (first_of (here tree id)) e

@@ -1,15 +1,16 @@
-use Rattle.std.proofs.Common.{◌≡◌, sym, ◌∙◌, ap, Some, subst, List, rules}
+use Rattle.std.proofs.Common.{◌≡◌, sym, ◌∙◌, ap, Some, None, subst, List, rules}
 use Rattle.crs_text.specs.Prelude.{first_of, here}
 use Rattle.crs_shape.specs.Slots.{SlotParts}
-use Rattle.crs_shape.proofs.FitLemmas.{Going, going_first, going_wrong, going_inside, going_on, going_end, going_short, going_at, no_arguments, going_class}
+use Rattle.crs_shape.specs.Walk.{left_of}
+use Rattle.crs_shape.proofs.FitLemmas.{Going, going_first, going_by, going_inside, going_on, going_end, no_arguments, step-is_of}
 use Rattle.crs_shape.specs.FirstFault.{first_inside}
 use Rattle.crs_shape.proofs.fitting.+fault_within.Goals.{in-None, in-Some-close}
 use Rattle.crs_shape.proofs.fitting.+fault_within.Goals as goal
 
 pub fault_within-within-requires : goal.fault_within-within-requires
 fault_within-within-requires t c =
-    let going = going_at _ _ _ _ _ _ _ c.loop-next.invariant c.in-Some.is in
-    (search rules, (going.has, (going_class _ _ _ _ _ _ _ _ going c.in-Some-step.ensures, sym c.in-Some-close.ensures)))
+    let going = rw c.in-Some.is at c.loop-next.invariant in
+    (search rules, (going.has, (step-is_of _ _ (left_of c.row-row.result.now c.loop-next.walk) _ _ c.in-Some-step.ensures, sym c.in-Some-close.ensures)))
 
 pub loop-next-init : goal.loop-next-init
 loop-next-init t c =
@@ -20,31 +21,31 @@ loop-next-init t c =
 pub returns-in_default-step : goal.returns-in_default-step
 returns-in_default-step t c =
     ap Some c.misplaced.ensures
-    ∙ going_wrong _ _ _ _ _ _ (going_at _ _ _ _ _ _ _ c.loop-next.invariant c.in-Some.is) c.in_default-step.ensures
+    ∙ going_by _ _ _ _ _ _ None (rw c.in-Some.is at c.loop-next.invariant) c.in_default-step.ensures
 
 pub returns-in-Some-within : goal.returns-in-Some-within
 returns-in-Some-within t c =
     let fault : c.match-close.within ≡ first_inside c.in-Some-step.named (first_of (here c.args.items.now c.in-Some.argument)) =
     elim c.match-close.branch [
-      | in-None w ↦ w.within-is ∙ no_arguments _ _ (going_class _ _ _ _ _ _ _ _ (going_at _ _ _ _ _ _ _ c.loop-next.invariant c.in-Some.is) c.in-Some-step.ensures) (sym w.in-None.ensures)
+      | in-None w ↦ w.within-is ∙ no_arguments _ _ (step-is_of _ _ (left_of c.row-row.result.now c.loop-next.walk) _ _ c.in-Some-step.ensures) (sym w.in-None.ensures)
       | in-Some-close w ↦ w.within-is ∙ w.fault_within-within.ensures
     ] in
-    going_inside _ _ _ _ _ _ _ _ _ (going_at _ _ _ _ _ _ _ c.loop-next.invariant c.in-Some.is) c.in-Some-step.ensures (sym c.in-Some-within.is ∙ fault)
+    going_inside _ _ _ _ _ _ _ _ _ (rw c.in-Some.is at c.loop-next.invariant) c.in-Some-step.ensures (sym c.in-Some-within.is ∙ fault)
 
 pub loop-next-preserved : goal.loop-next-preserved
 loop-next-preserved t c =
     let fault : c.match-close.within ≡ first_inside c.in-Some-step.named (first_of (here c.args.items.now c.in-Some.argument)) =
     elim c.match-close.branch [
-      | in-None w ↦ w.within-is ∙ no_arguments _ _ (going_class _ _ _ _ _ _ _ _ (going_at _ _ _ _ _ _ _ c.loop-next.invariant c.in-Some.is) c.in-Some-step.ensures) (sym w.in-None.ensures)
+      | in-None w ↦ w.within-is ∙ no_arguments _ _ (step-is_of _ _ (left_of c.row-row.result.now c.loop-next.walk) _ _ c.in-Some-step.ensures) (sym w.in-None.ensures)
       | in-Some-close w ↦ w.within-is ∙ w.fault_within-within.ensures
     ] in
-    going_on _ _ _ _ _ _ _ _ _ (going_at _ _ _ _ _ _ _ c.loop-next.invariant c.in-Some.is) c.in-Some-step.ensures (sym c.in_default-within.is ∙ fault) c.next-next.ensures
+    going_on _ _ _ _ _ _ _ _ _ (rw c.in-Some.is at c.loop-next.invariant) c.in-Some-step.ensures (sym c.in_default-within.is ∙ fault) c.next-next.ensures
 
 pub returns-then-may_end : goal.returns-then-may_end
 returns-then-may_end t c =
-    going_end _ _ _ _ _ _ (going_at _ _ _ _ _ _ _ c.loop-next.invariant c.in_default.is) c.may_end.ensures c.if-may_end.true
+    rw c.if-may_end.true at (going_end _ _ _ _ _ _ (rw c.in_default.is at c.loop-next.invariant) c.may_end.ensures)
 
 pub returns-else-may_end : goal.returns-else-may_end
 returns-else-may_end t c =
     ap Some c.refusal.ensures
-    ∙ going_short _ _ _ _ _ _ (going_at _ _ _ _ _ _ _ c.loop-next.invariant c.in_default.is) c.may_end.ensures c.if-may_end.false
+    ∙ (rw c.if-may_end.false at (going_end _ _ _ _ _ _ (rw c.in_default.is at c.loop-next.invariant) c.may_end.ensures))
