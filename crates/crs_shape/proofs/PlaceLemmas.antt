@@ -1,11 +1,12 @@
 -- Faults of shape have their numbers, and are at places of the item; those are bytes of the text.
-use Rattle.std.proofs.Common.{◌≡◌, ◌≢◌, ℕ, zero, suc, ◌+◌, ◌<◌, ◌≤◌, length, slice_index_or, Bool, true, false, if◌then◌else◌, inl, inr, List, [], ◌∷◌, ◌++◌, refl, sym, ap, subst, arith}
+use Rattle.std.proofs.Common.{◌≡◌, ℕ, zero, suc, ◌+◌, ◌<◌, ◌≤◌, length, slice_index_or, Bool, true, false, if◌then◌else◌, inl, inr, ⊎_elim, List, [], ◌∷◌, ◌++◌, refl, sym, ap, subst, arith}
 use Rattle.crs_text.specs.Prelude.{Kind, number, text, word, Token, single, comma, opening, closing, IsSingle, single_spelling, Forms, Fronts, Item, leaf, node, Siblings, End, More, HasId, first_of, here, inside, inside_items, tokens, others_tokens, RefusedAt, SpellsNode}
 use Rattle.crs_shape.specs.declared.class.Class.{Class}
 use Rattle.crs_shape.specs.FaultPlace.{IsShapeNumber, IsPlaceIn, IsPlaceAmong}
 use Rattle.crs_shape.specs.Keywords.{is_known}
 use Rattle.crs_shape.specs.FirstFault.{ArgumentFault}
 use Rattle.crs_shape.specs.ShapeFault.{misplaced, missing, Inside, Among, AtRoot}
+use Rattle.crs_shape.proofs.FitLemmas.{by_more}
 
 -- ---- numbers and places
 
@@ -14,9 +15,6 @@ abbrev pub IsAmong : (ℕ → Type 0) → RefusedAt → Type 0
 IsAmong P fault = IsShapeNumber fault.number × P fault.place
 
 module _ (P : ℕ → Type 0) where
-  as-other : (fault other : RefusedAt) → fault ≡ other → IsAmong P other → IsAmong P fault
-  as-other fault other e h = subst (IsAmong P) (sym e) h
-
   -- the places of an item are among these
   abbrev Covers : Item → Type 0
   Covers item = (p : ℕ) → IsPlaceIn item p → P p
@@ -37,17 +35,16 @@ module _ (P : ℕ → Type 0) where
       ((d : Class) → W d fault → IsAmong P fault) → ((classes : List Class) → L classes fault → IsAmong P fault) →
       ArgumentFault parent before item W L fault → IsAmong P fault
   argument-among parent before item W L fault h inner after (inl x) =
-      as-other fault (misplaced item) x.1 (misplaced-among item h)
+      subst (IsAmong P) (sym x.1) (misplaced-among item h)
   argument-among parent before item W L fault h inner after (inr (c, (stands, inl x))) = inner c x
   argument-among parent before item W L fault h inner after (inr (c, (stands, inr x))) = after (before ++ c ∷ []) x.1
 
   mutual
     inside-among : (c : Class) (item : Item) (fault : RefusedAt) → Covers item → Inside c item fault → IsAmong P fault
     inside-among c (leaf kind place raw) fault h x =
-        as-other fault (misplaced (leaf kind place raw)) x.1 (misplaced-among (leaf kind place raw) h)
+        subst (IsAmong P) (sym x.1) (misplaced-among (leaf kind place raw) h)
     inside-among c (node place keyword square first others close) fault h (inl x) =
-        as-other fault (misplaced (node place keyword square first others close)) x.1
-        (misplaced-among (node place keyword square first others close) h)
+        subst (IsAmong P) (sym x.1) (misplaced-among (node place keyword square first others close) h)
     inside-among c (node place keyword square first others close) fault h (inr x) =
         argument-among c [] first (λ d f. Inside d first f) (λ before f. Among c close before others f) fault
         (λ p q. h p (inr (inr (inl q))))
@@ -57,8 +54,7 @@ module _ (P : ℕ → Type 0) where
 
     among-among : (c : Class) (close : ℕ) (before : List Class) (items : Siblings) (fault : RefusedAt) → P close →
         CoversAll items → Among c close before items fault → IsAmong P fault
-    among-among c close before End fault shut h x =
-        as-other fault (missing close) x.1 (inr (inr refl), shut)
+    among-among c close before End fault shut h x = subst (IsAmong P) (sym x.1) (inr (inr refl), shut)
     among-among c close before (More item items) fault shut h x =
         argument-among c before item (λ d f. Inside d item f) (λ b f. Among c close b items f) fault
         (λ p q. h p (inl q)) (λ d y. inside-among d item fault (λ p q. h p (inl q)) y)
@@ -69,7 +65,7 @@ inside-placed c item fault x = inside-among (IsPlaceIn item) c item fault (λ p 
 
 pub root-placed : (item : Item) (fault : RefusedAt) → AtRoot item fault → IsAmong (IsPlaceIn item) fault
 root-placed item fault (inl x) =
-    as-other (IsPlaceIn item) fault (misplaced item) x.1 (misplaced-among (IsPlaceIn item) item (λ p q. q))
+    subst (IsAmong (IsPlaceIn item)) (sym x.1) (misplaced-among (IsPlaceIn item) item (λ p q. q))
 root-placed item fault (inr x) = inside-placed x.0 item fault x.1.1
 
 -- ---- items of a tree
@@ -101,23 +97,18 @@ module _ (P : ℕ → Type 0) where
           (all-covered items (λ p q. h p (inr q))),
     )
 
-  entry-covered : (list : List Siblings) → Covered list → (id : ℕ) → slice_index_or list id End ≢ End → (p : ℕ) →
-      IsPlaceIn (first_of (slice_index_or list id End)) p → P p
-  entry-covered [] h id some p q = absurd (some refl)
-  entry-covered (End ∷ more) h zero some p q = absurd (some refl)
-  entry-covered (More item items ∷ more) h zero some p q = h.0 p (inl q)
-  entry-covered (x ∷ more) h (suc id) some p q = entry-covered more h.1 id some p q
+  entry-covered : (list : List Siblings) → Covered list → (id : ℕ) (p : ℕ) → IsPlaceAmong (slice_index_or list id End) p → P p
+  entry-covered [] h id p q = absurd q
+  entry-covered (items ∷ more) h zero p q = h.0 p q
+  entry-covered (items ∷ more) h (suc id) p q = entry-covered more h.1 id p q
 
 pub held-placed : (tree : Item) (id place : ℕ) → HasId tree id → IsPlaceIn (first_of (here tree id)) place →
     IsPlaceIn tree place
 unfolding here
 held-placed tree id place has q =
     entry-covered (IsPlaceIn tree) (More tree End ∷ inside tree)
-    (by, inside-covered (IsPlaceIn tree) tree (λ p q. q)) id has place q
-  where
-    by : (p : ℕ) → IsPlaceAmong (More tree End) p → IsPlaceIn tree p
-    by p (inl q) = q
-    by p (inr q) = absurd q
+    (λ p. ⊎_elim (λ x. x) absurd, inside-covered (IsPlaceIn tree) tree (λ p q. q)) id place
+    (subst (λ items. IsPlaceAmong items place) (by_more (here tree id) has) (inl q))
 
 -- ---- places of a text
 
@@ -161,16 +152,13 @@ split-below : (total : ℕ) (ts us : List Token) → TokensBelow total (ts ++ us
 split-below total [] us h = (tt, h)
 split-below total (t ∷ ts) us h = let s = split-below total ts us h.1 in ((h.0, s.0), s.1)
 
-at-place : (p place total : ℕ) → p ≡ place → place < total → p < total
-at-place p place total e h = omega (arith, e, h)
-
 mutual
   item-below : (total : ℕ) (item : Item) → TokensBelow total (tokens item) → (p : ℕ) → IsPlaceIn item p → p < total
-  item-below total (leaf kind place raw) h p q = at-place p place total q h.0
-  item-below total (node place keyword square first others close) h p (inl q) = at-place p place total q h.0
+  item-below total (leaf kind place raw) h p q = rw q h.0
+  item-below total (node place keyword square first others close) h p (inl q) = rw q h.0
   item-below total (node place keyword square first others close) h p (inr (inl q)) =
       let s = split-below total (tokens first ++ others_tokens others) (closing close square ∷ []) h.1.1 in
-      at-place p close total q s.1.0
+      rw q s.1.0
   item-below total (node place keyword square first others close) h p (inr (inr (inl q))) =
       let s = split-below total (tokens first ++ others_tokens others) (closing close square ∷ []) h.1.1 in
       item-below total first (split-below total (tokens first) (others_tokens others) s.0).0 p q

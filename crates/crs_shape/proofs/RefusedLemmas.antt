@@ -1,7 +1,8 @@
 -- A refusal of shape and what could come there.
 use Rattle.std.proofs.Common.{◌≡◌, ℕ, true, false, inl, inr, ◌⊎◌, Some, None, List, [], ◌∷◌, ◌++◌, refl, sym, ◌∙◌, ap, subst}
 use Rattle.std.specs.Cmp.{both_ways}
-use Rattle.std.proofs.lemmas.Bool.{false_from_ne_true}
+use Rattle.std.proofs.lemmas.Bool.{false_from_ne_true, true≢false}
+use Rattle.std.proofs.lemmas.Option.{none-some, same_Some}
 use Rattle.crs_text.specs.Prelude.{Item, leaf, node, Siblings, End, More, RefusedAt}
 use Rattle.crs_shape.specs.declared.class.Class.{Class}
 use Rattle.crs_shape.specs.ShapeFault.{class_in, is_of, misplaced, missing, IsFree, Stands, Inside, Among, class_of_root, AtRoot}
@@ -83,16 +84,21 @@ mutual
       (λ d stands within free. not_free c d before item a stands free within) (λ d. not_free c d before item b)
       (λ d stands. alike_among c place (before ++ d ∷ []) items a b) x y
 
+-- Where two things are said of a text, both say that its head has no class, or both are about what is in a node of one class.
+root_both : (item : Item) {Own Other : Type 0} {Within Inner : Class → Type 0} (Goal : Type 0) → (class_of_root item ≡ None → Own → Other → Goal) →
+    ((c : Class) → class_of_root item ≡ Some c → Within c → Inner c → Goal) →
+    ((class_of_root item ≡ None) × Own) ⊎ ((c : Class) × ((class_of_root item ≡ Some c) × Within c)) →
+    ((class_of_root item ≡ None) × Other) ⊎ ((c : Class) × ((class_of_root item ≡ Some c) × Inner c)) → Goal
+root_both item Goal own within (inl (none, x)) (inl (neither, y)) = own none x y
+root_both item Goal own within (inl (none, x)) (inr (d, (some, y))) = absurd (none-some d (sym none ∙ some))
+root_both item Goal own within (inr (c, (some, x))) (inl (none, y)) = absurd (none-some c (sym none ∙ some))
+root_both item {Inner = Inner} Goal own within (inr (c, (some, x))) (inr (d, (other, y))) =
+    within c some x (subst Inner (same_Some d c (sym other ∙ some)) y)
+
 pub alike_at_root : (item : Item) (a b : ExpectedParts) → ExpectedAtRoot item a → ExpectedAtRoot item b → AreAlike a b
-alike_at_root item a b (inl (none, x)) (inl (neither, y)) =
-    let same : a ≡ b = x ∙ sym y in
-    record { parent = ap (λ z. z.parent) same; place = ap (λ z. z.place) same; classes = λ c. ap (λ z. may_come z c) same; may_end = ap (λ z. z.may_end) same }
-alike_at_root item a b (inl (none, x)) (inr (d, (some, y))) = absurd (let both : Some d ≡ None = sym some ∙ none in cc)
-alike_at_root item a b (inr (d, (some, x))) (inl (none, y)) = absurd (let both : Some d ≡ None = sym some ∙ none in cc)
-alike_at_root item a b (inr (d, (some, x))) (inr (k, (other, y))) =
-    let both : Some k ≡ Some d = sym other ∙ some in
-    let same : k ≡ d = cc in
-    alike_inside d item a b x (subst (λ z. ExpectedIn z item b) same y)
+alike_at_root item a b =
+    root_both item (AreAlike a b) (λ none x y. subst (AreAlike a) (x ∙ sym y) (record { parent = refl; place = refl; classes = λ c. refl; may_end = refl }))
+    (λ c some. alike_inside c item a b)
 
 -- ---- the refused item
 
@@ -122,8 +128,7 @@ itself (node place keyword square first others close) = inl refl
 mutual
   refused_inside : (c : Class) (item : Item) (fault : RefusedAt) (e : ExpectedParts) → is_of c item ≡ true → Inside c item fault → ExpectedIn c item e → IsRefusedThere item fault e
   refused_inside c (leaf kind place raw) fault e is x y = absurd y
-  refused_inside c (node place keyword square first others close) fault e is (inl (other, x)) y =
-      absurd (let both : true ≡ false = sym is ∙ other in cc)
+  refused_inside c (node place keyword square first others close) fault e is (inl (other, x)) y = absurd (true≢false (sym is ∙ other))
   refused_inside c (node place keyword square first others close) fault e is (inr (same, x)) y =
       let item = node place keyword square first others close in
       at_both c [] first (IsRefusedThere item fault e) (λ none x y. inl (first, (inr (inl (itself first)), x, refused_here c place [] first e none y)))
@@ -144,20 +149,7 @@ mutual
       x y
 
 pub refused_at_root : (item : Item) (fault : RefusedAt) (e : ExpectedParts) → AtRoot item fault → ExpectedAtRoot item e → IsRefusedThere item fault e
-refused_at_root item fault e (inl (none, x)) (inl (neither, y)) =
-    inl (
-      item,
-      (
-        itself item,
-        x,
-        λ c named.
-            let at : class_of_root item ≡ Some c = ap (λ z. class_at z.parent item) (sym y) ∙ named in
-            absurd (let both : None ≡ Some c = sym none ∙ at in cc),
-      ),
-    )
-refused_at_root item fault e (inl (none, x)) (inr (d, (some, y))) = absurd (let both : Some d ≡ None = sym some ∙ none in cc)
-refused_at_root item fault e (inr (d, (some, x))) (inl (none, y)) = absurd (let both : Some d ≡ None = sym some ∙ none in cc)
-refused_at_root item fault e (inr (d, (some, x))) (inr (k, (other, y))) =
-    let both : Some k ≡ Some d = sym other ∙ some in
-    let same : k ≡ d = cc in
-    refused_inside d item fault e (root-is_of d item some) x (subst (λ z. ExpectedIn z item e) same y)
+refused_at_root item fault e =
+    root_both item (IsRefusedThere item fault e)
+    (λ none x y. inl (item, (itself item, x, λ c named. absurd (none-some c (sym none ∙ ap (λ z. class_at z.parent item) (sym y) ∙ named)))))
+    (λ c some. refused_inside c item fault e (root-is_of c item some))

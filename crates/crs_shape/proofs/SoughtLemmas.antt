@@ -67,12 +67,8 @@ has_bit-keyword_set c k =
 
 pub other_keyword : AreSpelled → (parent c : Class) (item : Item) (k : Keyword) → kind.Node ≡ kind_of_item item → Some k ≡ keyword_in item →
     has_bit (keyword_set c) (keyword_bit k) ≡ false → false ≡ is_class c (class_in parent item)
-other_keyword law parent c (leaf number place raw) k is e none = cc
-other_keyword law parent c (leaf text place raw) k is e none = cc
-other_keyword law parent c (leaf word place raw) k is e none = cc
-other_keyword law parent c (node place spelled square first others close) k is e none =
-    sym (not-among c (is_part parent) (classes_of k) (sym (has_bit-keyword_set c k) ∙ none))
-    ∙ node_named law parent c (node place spelled square first others close) (Some k) is e
+other_keyword law parent c item k is e none =
+    sym (not-among c (is_part parent) (classes_of k) (sym (has_bit-keyword_set c k) ∙ none)) ∙ node_named law parent c item (Some k) is e
 
 -- a keyword of a class that is clear in the parent
 pub own_keyword : AreSpelled → (parent c : Class) (item : Item) (k : Keyword) → kind.Node ≡ kind_of_item item → Some k ≡ keyword_in item → has_bit (keyword_set c) (keyword_bit k) ≡ true →

@@ -52,26 +52,18 @@ stands_here row at d f taken c w h e t many few = elim (cases_Bool (get_or row a
   | inr m ↦ ap (λ x. Some (left_of row x)) (few m) ∙ sym (step_at row at d f c h ∙ rw (sym e ∙ t, m) refl)
 ]
 
-pub stops_here : (row : List Slot) (at : ℕ) (d : Slot) (f taken waits : Bool) (c : Class) → at < length row →
-    taken ≡ takes (shown (get_or row at d)) c → taken ≡ false → waits ≡ ((get_or row at d).required && not f) → waits ≡ true →
-    None ≡ after (left f (drop at (map shown row))) c
-stops_here row at d f taken waits c h e t g w = sym (step_at row at d f c h ∙ rw (sym e ∙ t, sym g ∙ w) refl)
-
-pub goes_on : (row : List Slot) (at : ℕ) (d : Slot) (f taken waits : Bool) (c : Class) → at < length row →
-    taken ≡ takes (shown (get_or row at d)) c → taken ≡ false → waits ≡ ((get_or row at d).required && not f) → waits ≡ false →
-    after (drop (at + 1) (map shown row)) c ≡ after (left f (drop at (map shown row))) c
-goes_on row at d f taken waits c h e t g w = sym (step_at row at d f c h ∙ rw (sym e ∙ t, sym g ∙ w) refl)
+-- past a slot that doesn't take it, unless that one waits
+pub passes_by : (row : List Slot) (at : ℕ) (d : Slot) (f taken waits : Bool) (c : Class) → at < length row →
+    taken ≡ takes (shown (get_or row at d)) c → taken ≡ false → waits ≡ ((get_or row at d).required && not f) →
+    (if waits then None else after (drop (at + 1) (map shown row)) c) ≡ after (left f (drop at (map shown row))) c
+passes_by row at d f taken waits c h e t g = sym (step_at row at d f c h ∙ rw (sym e ∙ t, sym g) refl)
 
 pub goes_nowhere : (row : List Slot) (at : ℕ) (f : Bool) (c : Class) → length row ≤ at → None ≡ after (left f (drop at (map shown row))) c
 goes_nowhere row at f c h = sym (ap (λ x. after (left f x) c) (row_end row at h) ∙ ap (λ x. after x c) (left-none f))
 
-pub waits_here : (row : List Slot) (at : ℕ) (d : Slot) (f waits : Bool) → at < length row → waits ≡ ((get_or row at d).required && not f) → waits ≡ true →
-    false ≡ may_end (left f (drop at (map shown row)))
-waits_here row at d f waits h g w = sym (end_at row at d f h ∙ rw (sym g ∙ w) refl)
-
-pub ends_later : (row : List Slot) (at : ℕ) (d : Slot) (f waits : Bool) → at < length row → waits ≡ ((get_or row at d).required && not f) → waits ≡ false →
-    may_end (drop (at + 1) (map shown row)) ≡ may_end (left f (drop at (map shown row)))
-ends_later row at d f waits h g w = sym (end_at row at d f h ∙ rw (sym g ∙ w) refl)
+pub ends_by : (row : List Slot) (at : ℕ) (d : Slot) (f waits : Bool) → at < length row → waits ≡ ((get_or row at d).required && not f) →
+    (not waits && may_end (drop (at + 1) (map shown row))) ≡ may_end (left f (drop at (map shown row)))
+ends_by row at d f waits h g = sym (end_at row at d f h ∙ rw (sym g) refl)
 
 pub ends_here : (row : List Slot) (at : ℕ) (f : Bool) → length row ≤ at → true ≡ may_end (left f (drop at (map shown row)))
 ends_here row at f h = sym (ap (λ x. may_end (left f x)) (row_end row at h) ∙ ap may_end (left-none f))
