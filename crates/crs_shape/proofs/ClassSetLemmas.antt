@@ -4,6 +4,7 @@ use Rattle.std.specs.Int.{bit_at}
 use Rattle.std.specs.List.{list_any, flat_map}
 use Rattle.std.proofs.lemmas.List.Folds.{list_any-append}
 use Rattle.std.proofs.lemmas.Bool.{eqb-true, eqb-false}
+use Rattle.std.proofs.lemmas.Bool.Decides.{nat_tests}
 use Rattle.std.proofs.lemmas.Nat.Bits.{bit_at_or, bit_at-lt, bit_at-zero, bit_at-pow_same, bit_at-pow_other}
 use denote.Enum.Bare.{sameb}
 use Rattle.crs_shape.specs.contracts.class.Class.{the_type}
@@ -18,13 +19,7 @@ is_one n = n == 1
 
 -- one of two bits is set where their greater is
 either : (a b : ℕ) → a < 2 → b < 2 → is_one (max a b) ≡ (is_one a || is_one b)
-either zero zero p q = refl
-either zero (suc zero) p q = refl
-either (suc zero) zero p q = refl
-either (suc zero) (suc zero) p q = refl
-either zero (suc (suc b)) p q = absurd (omega (arith, q))
-either (suc zero) (suc (suc b)) p q = absurd (omega (arith, q))
-either (suc (suc a)) b p q = absurd (omega (arith, p))
+either a b p q = grind (arith, nat_tests)
 
 -- a power of two has one bit
 power : (k i : ℕ) → has_bit (2 ^ k) i ≡ (k == i)

@@ -23,7 +23,7 @@ use Rattle.crs_shape.specs.Expected.{ExpectedParts, Follows, ExpectedIn, Expecte
 use Rattle.crs_shape.proofs.KeywordTableLemmas.{class-among}
 use Rattle.crs_shape.proofs.TableLemmas.{apart_tables}
 use Rattle.crs_shape.proofs.SlotLemmas.{end-allowed}
-use Rattle.crs_shape.proofs.FaultLemmas.{Reached, reached-start, reached-more, reached-begins, reached-not, exact-free, end-free, end-not}
+use Rattle.crs_shape.proofs.FaultLemmas.{Reached, reached-start, reached-more, reached-begins, reached-not, none_stands, step_stands, exact-free, end-free, end-not}
 use Rattle.crs_shape.proofs.FitLemmas.{from, HasNext, from_at, has_at, arguments-less, rest-less, step_class, step-is_of, by_more}
 
 -- ---- the classes
@@ -83,25 +83,6 @@ going_first tree c (node place keyword square first others end) close next e f a
       has = has_at tree (More first others) next at;
       less = let n : sizes (from tree next) ≡ sizes (More first others) = ap sizes same in omega (arith, n, arguments-less item);
     }
-
--- what an argument's step says
-
--- no class is there where there is no step
-none_stands : (parent : Class) (before : List Class) (slots : List SlotParts) (item : Item) → Reached (slots_of parent) before slots → None ≡ step_of parent slots item →
-    (d : Class) → Stands parent before item d → ⊥
-none_stands parent before slots item r e d stands = by (after slots d) refl
-  where
-    by : (o : Option (List SlotParts)) → after slots d ≡ o → ⊥
-    by None f = reached-not (slots_of parent) before slots d r f stands.begins
-    by (Some next) f =
-        let s : step_of parent slots item ≡ Some (d, next) = ap (step_as slots) stands.named ∙ ap (step_to d) f in
-        none-some (d, next) (e ∙ s)
-
-step_stands : (parent c : Class) (before : List Class) (slots later : List SlotParts) (item : Item) → Reached (slots_of parent) before slots → Some (c, later) ≡ step_of parent slots item →
-    Stands parent before item c
-step_stands parent c before slots later item r e =
-    let s = step_class parent c slots later item e in
-    record { named = s.0; begins = reached-begins (slots_of parent) before slots later c r s.1 }
 
 -- an argument and those after it
 

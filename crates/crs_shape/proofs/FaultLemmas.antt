@@ -1,5 +1,5 @@
 -- The fault that the walk finds first is the one that the definition names, and there is no other.
-use Rattle.std.proofs.Common.{◌≡◌, ℕ, Bool, true, false, IsTrue, IsFalse, ◌⊎◌, ◌↔◌, ⊎_elim, inl, inr, Option, Some, None, List, [], ◌∷◌, ◌++◌, if◌then◌else◌, refl, sym, ◌∙◌, subst, append_assoc}
+use Rattle.std.proofs.Common.{◌≡◌, ℕ, Bool, true, false, IsTrue, IsFalse, ◌⊎◌, ◌↔◌, ⊎_elim, inl, inr, Option, Some, None, List, [], ◌∷◌, ◌++◌, if◌then◌else◌, refl, sym, ap, ◌∙◌, subst, append_assoc}
 use Rattle.std.proofs.lemmas.Bool.{true≢false, false≢true}
 use Rattle.std.proofs.lemmas.List.{append-nil}
 use Rattle.std.proofs.lemmas.Option.{none-some, same_Some}
@@ -10,7 +10,8 @@ use Rattle.crs_shape.specs.Slots.{SlotParts, slots_of}
 use Rattle.crs_shape.specs.Shape.{AllFilled, joined, Allowed, Begins, is_apart}
 use Rattle.crs_shape.specs.Walk.{after, may_end}
 use Rattle.crs_shape.specs.ShapeFault.{class_in, is_of, misplaced, missing, IsFree, IsOnly, Stands, Inside, Among, class_of_root, AtRoot}
-use Rattle.crs_shape.specs.FirstFault.{ArgumentFault, or_later, step_to, step_as, fault_by, fault_from, first_inside, first_in_arguments}
+use Rattle.crs_shape.specs.FirstFault.{ArgumentFault, or_later, step_to, step_as, step_of, fault_by, fault_from, first_inside, first_in_arguments}
+use Rattle.crs_shape.proofs.FitLemmas.{step_class}
 use Rattle.crs_shape.proofs.SlotLemmas.{Goes, after-apart, goes-along, goes-back, allows-some, end-allowed, allowed-end}
 use Rattle.crs_shape.proofs.TableLemmas.{apart_tables}
 
@@ -60,6 +61,25 @@ reached-not row before slots c r e (more, h) =
     let g : Goes slots c more = goes slots r.apart c more (r.there (c ∷ more) (one-less row before c more h)) in
     none-some g.0 (sym e ∙ g.1.0)
 
+-- what an argument's step says
+
+-- no class is there where there is no step
+pub none_stands : (parent : Class) (before : List Class) (slots : List SlotParts) (item : Item) → Reached (slots_of parent) before slots → None ≡ step_of parent slots item →
+    (d : Class) → Stands parent before item d → ⊥
+none_stands parent before slots item r e d stands = by (after slots d) refl
+  where
+    by : (o : Option (List SlotParts)) → after slots d ≡ o → ⊥
+    by None f = reached-not (slots_of parent) before slots d r f stands.begins
+    by (Some next) f =
+        let s : step_of parent slots item ≡ Some (d, next) = ap (step_as slots) stands.named ∙ ap (step_to d) f in
+        none-some (d, next) (e ∙ s)
+
+pub step_stands : (parent c : Class) (before : List Class) (slots later : List SlotParts) (item : Item) → Reached (slots_of parent) before slots → Some (c, later) ≡ step_of parent slots item →
+    Stands parent before item c
+step_stands parent c before slots later item r e =
+    let s = step_class parent c slots later item e in
+    record { named = s.0; begins = reached-begins (slots_of parent) before slots later c r s.1 }
+
 -- faults of kinds that have the same faults are found alike, and of two kinds where one is free
 
 exact-as : (P Q : RefusedAt → Type 0) → ((fault : RefusedAt) → P fault ↔ Q fault) → (found : Option RefusedAt) → IsExact P found → IsExact Q found
@@ -107,21 +127,13 @@ exact-argument : (parent : Class) (before : List Class) (slots : List SlotParts)
     Reached (slots_of parent) before slots → ((c : Class) → IsExact (Within c) (within c)) →
     ((b : List Class) (next : List SlotParts) → Reached (slots_of parent) b next → IsExact (Later b) (later next)) →
     IsExact (ArgumentFault parent before item Within Later) (fault_from parent slots item within later)
-exact-argument parent before slots item Within Later within later r hw hl =
-    elim (class_in parent item) as (λ o. class_in parent item ≡ o → IsExact (ArgumentFault parent before item Within Later) (fault_by item within later (step_as slots o))) [
-      | None ↦ λ e. exact-none parent before item Within Later (λ d stands. none-some d (sym e ∙ stands.named))
-      | Some c ↦ λ e.
-          elim (after slots c) as (λ o. after slots c ≡ o → IsExact (ArgumentFault parent before item Within Later) (fault_by item within later (step_to c o))) [
-            | None ↦ λ f. exact-none parent before item Within Later
-                (λ d stands.
-                reached-not (slots_of parent) before slots c r f
-                (subst (λ x. Begins (slots_of parent) (before ++ x ∷ [])) (same_class parent before item c d e stands) stands.begins))
-            | Some next ↦ λ f.
-                exact-or_later parent before item Within Later c
-                (record { named = e; begins = reached-begins (slots_of parent) before slots next c r f })
-                (within c) (later next) (hw c) (hl (before ++ c ∷ []) next (reached-more (slots_of parent) before slots next c r f))
-          ] refl
-    ] refl
+exact-argument parent before slots item Within Later within later r hw hl = by (step_of parent slots item) refl
+  where
+    by : (step : Option (Class × List SlotParts)) → step ≡ step_of parent slots item → IsExact (ArgumentFault parent before item Within Later) (fault_by item within later step)
+    by None e = exact-none parent before item Within Later (none_stands parent before slots item r e)
+    by (Some (c, next)) e =
+        exact-or_later parent before item Within Later c (step_stands parent c before slots next item r e) (within c) (later next) (hw c)
+        (hl (before ++ c ∷ []) next (reached-more (slots_of parent) before slots next c r (step_class parent c slots next item e).1))
 
 pub end-free : (parent : Class) (close : ℕ) (before : List Class) (slots : List SlotParts) → Reached (slots_of parent) before slots → may_end slots ≡ true →
     IsFree (Among parent close before End)

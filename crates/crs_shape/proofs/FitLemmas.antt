@@ -1,5 +1,6 @@
 -- The fault of an item, as the loop over its arguments finds it.
-use Rattle.std.proofs.Common.{◌≡◌, ◌≢◌, ℕ, ◌+◌, ◌<◌, Bool, true, false, Option, Some, None, List, [], ◌∷◌, if◌then◌else◌, option_map, refl, sym, ◌∙◌, ap, subst, arith}
+use Rattle.std.proofs.Common.{◌≡◌, ◌≢◌, ℕ, ◌+◌, ◌<◌, Bool, true, false, inl, inr, Option, Some, None, List, [], ◌∷◌, if◌then◌else◌, option_map, refl, sym, ◌∙◌, ap, subst, arith}
+use Rattle.std.proofs.lemmas.Bool.{cases_Bool}
 use Rattle.std.proofs.lemmas.Option.{none-some, same_Some, some_pair_parts}
 use Rattle.crs_text.specs.Prelude.{Item, leaf, node, Siblings, End, More, arguments, first_of, rest_of, close_of, size_of, sizes, here, HasId, IsAt, RefusedAt}
 use Rattle.crs_shape.specs.declared.class.Class.{Class}
@@ -33,10 +34,6 @@ from_at tree items (Some id) h = h.0
 pub has_at : (tree : Item) (items : Siblings) (next : Option ℕ) → IsAt tree items next → HasNext tree next
 has_at tree items None e = tt
 has_at tree items (Some id) h = h.1
-
-size-above : (item : Item) → 0 < size_of item
-size-above (leaf kind place raw) = omega arith
-size-above (node place keyword square first others close) = omega arith
 
 pub arguments-less : (item : Item) → sizes (arguments item) < size_of item
 arguments-less (leaf kind place raw) = omega arith
@@ -86,7 +83,7 @@ argument-less tree id n has less = omega (arith, sizes-first (here tree id) has)
 pub rest-less : (tree : Item) (id : ℕ) (next : Option ℕ) → HasId tree id → IsAt tree (rest_of (here tree id)) next → sizes (from tree next) < sizes (here tree id)
 rest-less tree id next has at =
     let same : sizes (from tree next) ≡ sizes (rest_of (here tree id)) = ap sizes (from_at tree (rest_of (here tree id)) next at) in
-    omega (arith, sizes-first (here tree id) has, size-above (first_of (here tree id)))
+    omega (arith, sizes-first (here tree id) has, arguments-less (first_of (here tree id)))
 
 -- an argument and those after it, by its step
 pub going_by : (tree : Item) (c : Class) (item : Item) (close : ℕ) (slots : List SlotParts) (id : ℕ) (step : Option (Class × List SlotParts)) →
@@ -96,19 +93,13 @@ going_by tree c item close slots id step going e =
     ap (fault_by (first_of (here tree id)) (λ d. first_inside d (first_of (here tree id))) (λ next. first_in_arguments c close next (rest_of (here tree id)))) e
     ∙ sym (by_items c close slots (here tree id) going.has) ∙ going.same
 
-pub going_inside : (tree : Item) (c : Class) (item : Item) (close : ℕ) (slots left : List SlotParts) (named : Class) (id : ℕ) (g : RefusedAt) →
-    Going tree c item close slots (Some id) → Some (named, left) ≡ step_of c slots (first_of (here tree id)) →
-    Some g ≡ first_inside named (first_of (here tree id)) → Some g ≡ first_inside c item
-going_inside tree c item close slots left named id g going e is =
-    ap (λ o. or_later o (first_in_arguments c close left (rest_of (here tree id)))) is ∙ going_by tree c item close slots id (Some (named, left)) going e
-
 pub going_on : (tree : Item) (c : Class) (item : Item) (close : ℕ) (slots left : List SlotParts) (named : Class) (id : ℕ) (next : Option ℕ) →
     Going tree c item close slots (Some id) → Some (named, left) ≡ step_of c slots (first_of (here tree id)) →
     None ≡ first_inside named (first_of (here tree id)) → IsAt tree (rest_of (here tree id)) next → Going tree c item close left next
 going_on tree c item close slots left named id next going e is at = record {
   same =
       ap (first_in_arguments c close left) (from_at tree (rest_of (here tree id)) next at)
-      ∙ ap (λ o. or_later o (first_in_arguments c close left (rest_of (here tree id)))) is ∙ going_by tree c item close slots id (Some (named, left)) going e;
+      ∙ (rw (← is) at (going_by tree c item close slots id (Some (named, left)) going e));
   has = has_at tree (rest_of (here tree id)) next at;
   less = omega (arith, rest-less tree id next going.has at, going.less);
 }
@@ -123,10 +114,10 @@ going_end tree c item close slots b going e = rw (← e) at going.same
 pub first-has : (cs : List Class) (word : List ℕ) (c : Class) → first_named cs word ≡ Some c → is_keyword c word ≡ true
 first-has [] word c e = cc
 first-has (d ∷ ds) word c e =
-    elim (is_keyword d word) as (λ b. is_keyword d word ≡ b → (if b then Some d else first_named ds word) ≡ Some c → is_keyword c word ≡ true) [
-      | true ↦ λ has same. subst (λ x. is_keyword x word ≡ true) (same_Some d c same) has
-      | false ↦ λ has later. first-has ds word c later
-    ] refl e
+    elim (cases_Bool (is_keyword d word)) [
+      | inl has ↦ subst (λ x. is_keyword x word ≡ true) (same_Some d c (rw has at e)) has
+      | inr other ↦ first-has ds word c (rw other at e)
+    ]
 
 named-has : (slots : List SlotParts) (word : List ℕ) (c : Class) → named_in slots word ≡ Some c → is_keyword c word ≡ true
 named-has [] word c e = cc

@@ -2,7 +2,7 @@ use Rattle.std.proofs.Common.{◌≡◌, sym, ◌∙◌, ap, Some, None, subst, 
 use Rattle.crs_text.specs.Prelude.{first_of, here}
 use Rattle.crs_shape.specs.Slots.{SlotParts}
 use Rattle.crs_shape.specs.Walk.{left_of}
-use Rattle.crs_shape.proofs.FitLemmas.{Going, going_first, going_by, going_inside, going_on, going_end, no_arguments, step-is_of}
+use Rattle.crs_shape.proofs.FitLemmas.{Going, going_first, going_by, going_on, going_end, no_arguments, step-is_of}
 use Rattle.crs_shape.specs.FirstFault.{first_inside}
 use Rattle.crs_shape.proofs.fitting.+fault_within.Goals.{in-None, in-Some-close}
 use Rattle.crs_shape.proofs.fitting.+fault_within.Goals as goal
@@ -30,7 +30,7 @@ returns-in-Some-within t c =
       | in-None w ↦ w.within-is ∙ no_arguments _ _ (step-is_of _ _ (left_of c.row-row.result.now c.loop-next.walk) _ _ c.in-Some-step.ensures) (sym w.in-None.ensures)
       | in-Some-close w ↦ w.within-is ∙ w.fault_within-within.ensures
     ] in
-    going_inside _ _ _ _ _ _ _ _ _ (rw c.in-Some.is at c.loop-next.invariant) c.in-Some-step.ensures (sym c.in-Some-within.is ∙ fault)
+    rw (sym fault ∙ c.in-Some-within.is) at (going_by _ _ _ _ _ _ (Some _) (rw c.in-Some.is at c.loop-next.invariant) c.in-Some-step.ensures)
 
 pub loop-next-preserved : goal.loop-next-preserved
 loop-next-preserved t c =
