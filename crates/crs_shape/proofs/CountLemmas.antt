@@ -1,8 +1,9 @@
 -- How many arguments of some classes an allowed list has: at least the slots that are required for them, and
 -- at most the slots that take them.
-use Rattle.std.proofs.Common.{◌≡◌, ◌+◌, ◌≤◌, Bool, true, false, not, ◌&&◌, ◌||◌, List, [], ◌∷◌, ◌++◌, length, refl, ap, arith, rules}
+use Rattle.std.proofs.Common.{◌≡◌, ◌+◌, ◌≤◌, Bool, true, false, inl, inr, not, ◌&&◌, ◌||◌, List, [], ◌∷◌, ◌++◌, length, refl, ap, arith, rules}
 use Rattle.std.specs.List.{list_any, list_all}
-use Rattle.std.proofs.lemmas.Bool.{and_parts}
+use Rattle.std.proofs.Math.Bool.{or-false}
+use Rattle.std.proofs.lemmas.Bool.{and_parts, cases_Bool, not-true}
 use denote.Enum.Bare.{sameb, same_true}
 use Rattle.crs_shape.specs.contracts.class.Class.{the_type}
 use Rattle.crs_shape.specs.declared.class.Class.{Class}
@@ -58,14 +59,10 @@ run-few p (c ∷ d ∷ run) few = absurd (omega arith)
 slot-most : (p : Class → Bool) (s : SlotParts) (run : List Class) → Fills s run → (not s.many || not (list_any p s.classes)) ≡ true →
     how_many p run ≤ one_if (list_any p s.classes)
 slot-most p s run f bounded =
-    elim (list_any p s.classes) as (λ b. list_any p s.classes ≡ b → (not s.many || not b) ≡ true → how_many p run ≤ one_if b) [
-      | true ↦ λ e h. run-few p run (f.not_more (single s.many h))
-      | false ↦ λ e h. omega (arith, run-none p s run f.taken e)
-    ] refl bounded
-  where
-    single : (m : Bool) → (not m || not true) ≡ true → m ≡ false
-    single true h = cc
-    single false h = refl
+    elim (cases_Bool (list_any p s.classes)) [
+      | inl some ↦ rw some (run-few p run (f.not_more (not-true _ (rw (some, or-false (not s.many)) at bounded))))
+      | inr none ↦ omega (arith, run-none p s run f.taken none)
+    ]
 
 fit-most : (p : Class → Bool) (ss : List SlotParts) (runs : List (List Class)) → AllFilled ss runs → is_bounded p ss ≡ true → how_many p (joined runs) ≤ most p ss
 fit-most p [] [] fit bounded = omega arith

@@ -2,28 +2,25 @@
 use Rattle.std.proofs.Common.{◌≡◌, ℕ, ◌<◌, ◌↔◌, ⊎_elim, inl, inr, Bool, true, false, ◌&&◌, Option, Some, None, List, [], ◌∷◌, ◌++◌, drop, filter, map, refl, sym, ◌∙◌, ap, subst, arith, rules}
 use Rattle.std.specs.List.{list_any}
 use Rattle.std.proofs.Math.Bool.{and-true}
-use Rattle.std.proofs.lemmas.Bool.{true≢false, true_from_ne_false}
-use Rattle.std.proofs.lemmas.List.{append-nil}
-use Rattle.std.proofs.lemmas.Option.{none-some}
+use Rattle.std.proofs.lemmas.Bool.{both_ways, true≢false}
 use Rattle.std.proofs.lemmas.Map.Views.{any-filter_same}
 use denote.Enum.Bare.{sameb, same_true}
-use Rattle.crs_text.specs.Prelude.{Item, leaf, node, Siblings, More, arguments, first_of, rest_of, close_of, place_of, size_of, sizes, here, IsAt}
+use Rattle.crs_text.specs.Prelude.{Item, leaf, node, More, arguments, first_of, rest_of, close_of, place_of, size_of, sizes, here, IsAt}
 use Rattle.crs_shape.specs.contracts.class.Class.{the_type}
 use Rattle.crs_shape.specs.declared.class.Class.{Class}
 use Rattle.crs_shape.specs.declared.fitting.Walk.{Walk}
 use Rattle.crs_shape.specs.declared.slot.Slot.{Slot}
 use Rattle.crs_shape.specs.Keywords.{every_class}
 use Rattle.crs_shape.specs.Slots.{SlotParts, shown, slots_of}
-use Rattle.crs_shape.specs.Shape.{Allowed, Begins}
+use Rattle.crs_shape.specs.Shape.{Begins}
 use Rattle.crs_shape.specs.Walk.{left, left_of, after, may_end}
 use Rattle.crs_shape.specs.ShapeFault.{is_of, IsFree, Stands, Inside, Among}
-use Rattle.crs_shape.specs.FirstFault.{step_to, step_as, step_of}
+use Rattle.crs_shape.specs.FirstFault.{step_of}
 use Rattle.crs_shape.specs.Left.{has_some, may_go, slots_left, classes_left, end_left}
 use Rattle.crs_shape.specs.Expected.{ExpectedParts, Follows, ExpectedIn, ExpectedAmong}
 use Rattle.crs_shape.proofs.KeywordTableLemmas.{class-among}
 use Rattle.crs_shape.proofs.TableLemmas.{apart_tables}
-use Rattle.crs_shape.proofs.SlotLemmas.{end-allowed}
-use Rattle.crs_shape.proofs.FaultLemmas.{Reached, reached-start, reached-more, reached-begins, reached-not, none_stands, step_stands, exact-free, end-free, end-not}
+use Rattle.crs_shape.proofs.FaultLemmas.{Reached, reached-start, reached-more, reached-begins, reached-not, none_stands, step_stands, exact-free, end-allows}
 use Rattle.crs_shape.proofs.FitLemmas.{from, HasNext, from_at, has_at, arguments-less, rest-less, step_class, step-is_of, by_more}
 
 -- ---- the classes
@@ -49,10 +46,7 @@ follows parent place before slots r e is = subst (Follows parent place before) (
   is_parent = refl;
   is_place = refl;
   classes = λ c. rw (among-passing (may_go slots) c) (may_go-begins (slots_of parent) before slots c r);
-  may_end = (
-    (λ ends. subst (Allowed (slots_of parent)) (append-nil before) (r.back [] (end-allowed slots ends))),
-    (λ allowed. true_from_ne_false (may_end slots) (λ f. end-not parent before slots r f allowed)),
-  );
+  may_end = end-allows (slots_of parent) before slots r;
 })
 
 -- ---- the loop
@@ -131,12 +125,12 @@ module _ (tree : Item) (c : Class) (item : Item) (slots : List SlotParts) (id : 
 -- all arguments are allowed
 
 pub going_end : (tree : Item) (c : Class) (item : Item) (slots : List SlotParts) (b : Bool) → Going tree c item slots None → b ≡ may_end slots → b ≡ true → IsFree (Inside c item)
-going_end tree c item slots b going e t = going.free (end-free c going.close going.before slots going.reached (sym e ∙ t))
+going_end tree c item slots b going e t = going.free (λ fault h. h.0 ((end-allows (slots_of c) going.before slots going.reached).0 (sym e ∙ t)))
 
 pub going_short : (tree : Item) (c : Class) (item : Item) (slots : List SlotParts) (b : Bool) (e : ExpectedParts) → Going tree c item slots None → b ≡ may_end slots → b ≡ false →
     e ≡ record { parent = Some c; place = place_of item; classes = filter (may_go slots) every_class; may_end = may_end slots } → ExpectedIn c item e
 going_short tree c item slots b e going k f is =
-    going.found e (end-not c going.before slots going.reached (sym k ∙ f), follows c (place_of item) going.before slots going.reached e is)
+    going.found e ((λ h. both_ways _ (sym k ∙ f) ((end-allows (slots_of c) going.before slots going.reached).1 h)), follows c (place_of item) going.before slots going.reached e is)
 
 -- what is answered, by the slots that are left in the row
 pub answered : (c : Class) (row : List Slot) (walk : Walk) (place other : ℕ) (e : ExpectedParts) → map shown row ≡ slots_of c → other ≡ place →

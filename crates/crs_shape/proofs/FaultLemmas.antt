@@ -7,7 +7,7 @@ use Rattle.crs_text.specs.Prelude.{Item, leaf, node, Siblings, End, More, Refuse
 use Rattle.crs_shape.specs.declared.class.Class.{Class}
 use Rattle.crs_shape.specs.Keywords.{is_keyword}
 use Rattle.crs_shape.specs.Slots.{SlotParts, slots_of}
-use Rattle.crs_shape.specs.Shape.{AllFilled, joined, Allowed, Begins, is_apart}
+use Rattle.crs_shape.specs.Shape.{Allowed, Begins, is_apart}
 use Rattle.crs_shape.specs.Walk.{after, may_end}
 use Rattle.crs_shape.specs.ShapeFault.{class_in, is_of, misplaced, missing, IsFree, IsOnly, Stands, Inside, Among, class_of_root, AtRoot}
 use Rattle.crs_shape.specs.FirstFault.{ArgumentFault, or_later, step_to, step_as, step_of, fault_by, fault_from, first_inside, first_in_arguments}
@@ -135,25 +135,20 @@ exact-argument parent before slots item Within Later within later r hw hl = by (
         exact-or_later parent before item Within Later c (step_stands parent c before slots next item r e) (within c) (later next) (hw c)
         (hl (before ++ c ∷ []) next (reached-more (slots_of parent) before slots next c r (step_class parent c slots next item e).1))
 
-pub end-free : (parent : Class) (close : ℕ) (before : List Class) (slots : List SlotParts) → Reached (slots_of parent) before slots → may_end slots ≡ true →
-    IsFree (Among parent close before End)
-end-free parent close before slots r e fault (refused, same) =
-    refused (subst (Allowed (slots_of parent)) (append-nil before) (r.back [] (end-allowed slots e)))
-
-pub end-not : (parent : Class) (before : List Class) (slots : List SlotParts) → Reached (slots_of parent) before slots → may_end slots ≡ false →
-    Allowed (slots_of parent) before → ⊥
-end-not parent before slots r e h =
-    let a : Allowed slots [] = r.there [] (subst (Allowed (slots_of parent)) (sym (append-nil before)) h) in
-    let t : may_end slots ≡ true = allowed-end slots a.0 a.1.0 a.1.1 in
-    cc
+-- the arguments may end exactly where they are an allowed list
+pub end-allows : (row : List SlotParts) (before : List Class) (slots : List SlotParts) → Reached row before slots → (may_end slots ≡ true) ↔ Allowed row before
+end-allows row before slots r = (
+  (λ e. subst (Allowed row) (append-nil before) (r.back [] (end-allowed slots e))),
+  (λ h. let a : Allowed slots [] = r.there [] (subst (Allowed row) (sym (append-nil before)) h) in allowed-end slots a.0 a.1.0 a.1.1),
+)
 
 exact-end : (parent : Class) (close : ℕ) (before : List Class) (slots : List SlotParts) → Reached (slots_of parent) before slots →
     IsExact (Among parent close before End) (if may_end slots then None else Some (missing close))
 exact-end parent close before slots r =
-    elim (may_end slots) as (λ b. may_end slots ≡ b → IsExact (Among parent close before End) (if b then None else Some (missing close))) [
-      | true ↦ λ e. end-free parent close before slots r e
-      | false ↦ λ e. ((end-not parent before slots r e, refl), λ other h. h.1)
-    ] refl
+    elim (may_end slots) as (λ b. (b ≡ true) ↔ Allowed (slots_of parent) before → IsExact (Among parent close before End) (if b then None else Some (missing close))) [
+      | true ↦ λ ends fault h. h.0 (ends.0 refl)
+      | false ↦ λ ends. ((λ h. false≢true (ends.1 h), refl), λ other h. h.1)
+    ] (end-allows (slots_of parent) before slots r)
 
 -- the fault of an item itself, where it isn't of the class
 exact-own : (is : Bool) (item : Item) → IsExact (λ fault. IsFalse is × (fault ≡ misplaced item)) (if is then None else Some (misplaced item))

@@ -1,8 +1,8 @@
 -- The fault of an item, as the loop over its arguments finds it.
-use Rattle.std.proofs.Common.{◌≡◌, ◌≢◌, ℕ, ◌+◌, ◌<◌, Bool, true, false, inl, inr, Option, Some, None, List, [], ◌∷◌, if◌then◌else◌, option_map, refl, sym, ◌∙◌, ap, subst, arith}
+use Rattle.std.proofs.Common.{◌≡◌, ◌≢◌, ℕ, ◌+◌, ◌<◌, Bool, true, false, inl, inr, Option, Some, None, List, [], ◌∷◌, if◌then◌else◌, refl, sym, ◌∙◌, ap, subst, arith}
 use Rattle.std.proofs.lemmas.Bool.{cases_Bool}
 use Rattle.std.proofs.lemmas.Option.{none-some, same_Some, some_pair_parts}
-use Rattle.crs_text.specs.Prelude.{Item, leaf, node, Siblings, End, More, arguments, first_of, rest_of, close_of, size_of, sizes, here, HasId, IsAt, RefusedAt}
+use Rattle.crs_text.specs.Prelude.{Item, leaf, node, Siblings, End, More, arguments, first_of, rest_of, close_of, size_of, sizes, here, HasId, IsAt}
 use Rattle.crs_shape.specs.declared.class.Class.{Class}
 use denote.Enum.Bare.{true_same}
 use Rattle.crs_shape.specs.contracts.class.Class.{the_type}
@@ -10,7 +10,7 @@ use Rattle.crs_shape.specs.Keywords.{is_keyword, first_named, root_classes, root
 use Rattle.crs_shape.specs.Slots.{SlotParts, slots_of, named_in, class_named}
 use Rattle.crs_shape.specs.Walk.{after, may_end}
 use Rattle.crs_shape.specs.ShapeFault.{class_of_kind, class_in, class_of_root, is_of, misplaced, missing}
-use Rattle.crs_shape.specs.FirstFault.{or_later, step_to, step_as, step_of, fault_by, fault_from, first_inside, first_in_arguments}
+use Rattle.crs_shape.specs.FirstFault.{step_to, step_as, step_of, fault_by, fault_from, first_inside, first_in_arguments}
 
 -- the items from one on, where there is one
 abbrev pub from : Item → Option ℕ → Siblings

@@ -99,13 +99,7 @@ abbrev is_settled_by : Keyword → Class → Bool
 is_settled_by k c = not (has_keyword c k) || is_settled c (classes_of k)
 
 settled : (c : Class) (k : Keyword) → has_keyword c k ≡ true → is_settled c (classes_of k) ≡ true
-settled c k has =
-    unless (has_keyword c k) (is_settled c (classes_of k)) has
-    (every-class (is_settled_by k) (every-keyword (λ j. list_all (is_settled_by j) every_class) refl k) c)
-  where
-    unless : (a b : Bool) → a ≡ true → (not a || b) ≡ true → b ≡ true
-    unless true b e f = f
-    unless false b e f = cc
+settled c k has = rw has at (every-class (is_settled_by k) (every-keyword (λ j. list_all (is_settled_by j) every_class) refl k) c)
 
 -- none is found where none passes
 find-none : (test : Class → Bool) (cs : List Class) → find test cs ≡ None → list_any test cs ≡ false

@@ -5,7 +5,7 @@ use Rattle.crs_shape.specs.declared.class.Class.{Class}
 use Rattle.crs_shape.specs.FaultPlace.{IsShapeNumber, IsPlaceIn, IsPlaceAmong}
 use Rattle.crs_shape.specs.Keywords.{is_known}
 use Rattle.crs_shape.specs.FirstFault.{ArgumentFault}
-use Rattle.crs_shape.specs.ShapeFault.{misplaced, missing, Inside, Among, AtRoot}
+use Rattle.crs_shape.specs.ShapeFault.{misplaced, Inside, Among, AtRoot}
 use Rattle.crs_shape.proofs.FitLemmas.{by_more}
 
 -- ---- numbers and places

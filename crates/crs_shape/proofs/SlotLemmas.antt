@@ -1,5 +1,5 @@
 -- Slots that are apart: the walk is exact, and an allowed list fits them in one way.
-use Rattle.std.proofs.Common.{◌≡◌, ◌≤◌, Bool, true, false, not, ◌&&◌, ◌||◌, Some, None, List, [], ◌∷◌, ◌++◌, length, if◌then◌else◌, refl, sym, ◌∙◌, ap, subst, subst₂, arith, rules}
+use Rattle.std.proofs.Common.{◌≡◌, ◌≤◌, Bool, true, false, not, ◌&&◌, Some, None, List, [], ◌∷◌, ◌++◌, length, if◌then◌else◌, refl, sym, ◌∙◌, ap, subst, subst₂, arith, rules}
 use Rattle.std.specs.List.{list_any}
 use Rattle.std.proofs.Math.Bool.{and-false}
 use Rattle.std.proofs.lemmas.List.{append_cancel_left}
@@ -20,14 +20,10 @@ apart-tail s ss e = (and_parts _ _ e).1
 apart-class : (s : SlotParts) (ss : List SlotParts) → is_apart (s ∷ ss) ≡ true → has_class s.classes ≡ true
 apart-class s ss e = (and_parts _ _ (and_parts _ _ e).0).0
 
-or-other : (a b : Bool) → (a || b) ≡ true → a ≡ false → b ≡ true
-or-other true b e f = cc
-or-other false b e f = e
-
 loose-apart : (s : SlotParts) (ss : List SlotParts) → is_apart (s ∷ ss) ≡ true → (s.required && not s.many) ≡ false →
     (c : Class) → takes s c ≡ true → reaches ss c ≡ false
 loose-apart s ss e loose c taken =
-    passes-none (reaches ss) (λ d. sameb the_type d c) c (λ d. same_true the_type (search rules) d c) s.classes taken (not-true _ (or-other _ _ (and_parts _ _ (and_parts _ _ e).0).1 loose))
+    passes-none (reaches ss) (λ d. sameb the_type d c) c (λ d. same_true the_type (search rules) d c) s.classes taken (not-true _ (and_parts _ _ (and_parts _ _ (rw loose at e)).0).1)
 
 -- a slot that is required has a class, so a slot with none isn't required
 free-none : (s : SlotParts) → Fills s [] → s.required ≡ false
