@@ -1,5 +1,5 @@
 -- All parts of two values are the same exactly where the values agree, field by field.
-use Rattle.std.proofs.Common.{◌≡◌, ◌⊎◌, ◌↔◌, ◌≤◌, ◌==◌, inl, inr, Bool, true, false, if◌then◌else◌, ℕ, zero, suc, max, Option, Some, None, List, [], length, refl, sym, subst, arith}
+use Rattle.std.proofs.Common.{◌≡◌, ◌⊎◌, ◌↔◌, ◌≤◌, ◌==◌, ⊎_elim, inl, inr, Bool, true, false, if◌then◌else◌, ℕ, zero, suc, max, Option, Some, None, List, [], length, refl, sym, subst, arith}
 use Rattle.std.specs.Prelude.{⊤}
 use Rattle.std.proofs.lemmas.Bool.{false≢true}
 use Rattle.crs_shape.specs.declared.unit_kind.UnitKind.{UnitKind}
@@ -41,15 +41,12 @@ module _ (level : Level) where
   dynamic at None None = (λ s. tt, λ s. (tt, tt))
   dynamic at None (Some b) = (λ s. absurd s.0, λ s. absurd s)
   dynamic at (Some a) None = (λ s. absurd s.0, λ s. absurd s)
-  dynamic at (Some a) (Some b) = (λ s. record { epoch = s.0; model = s.1 }, λ s. (s.epoch, s.model))
+  dynamic at (Some a) (Some b) = assumption
 
   -- ---- frames
 
   pub ellipsoid : (at : List Step) (a b : EllipsoidParts) → AllSame (parts_of_ellipsoid at level a b) ↔ AgreeEllipsoid level a b
-  ellipsoid at a b = (
-    λ s. record { name = s.0; semi_major_axis = s.1.0; inverse_flattening = s.1.1.0; unit = s.1.1.1.0; identifiers = s.1.1.1.1 },
-    λ s. (s.name, (s.semi_major_axis, (s.inverse_flattening, (s.unit, s.identifiers)))),
-  )
+  ellipsoid at a b = assumption
 
   ellipsoids : (at : List Step) (a b : Option EllipsoidParts) → AllSame (parts_of_ellipsoids at level a b) ↔ BothOrNeither (AgreeEllipsoid level) a b
   ellipsoids at None None = same
@@ -58,18 +55,10 @@ module _ (level : Level) where
   ellipsoids at (Some a) (Some b) = ellipsoid at a b
 
   pub datum : (at : List Step) (a b : DatumParts) → AllSame (parts_of_datum at level a b) ↔ AgreeDatum level a b
-  datum at a b =
-      let e = ellipsoids (at ▸ step.Ellipsoid) a.ellipsoid b.ellipsoid in (
-        λ s. record { name = s.0; ellipsoid = e.0 s.1.0; anchor = s.1.1.0; anchor_epoch = s.1.1.1.0; identifiers = s.1.1.1.1 },
-        λ s. (s.name, (e.1 s.ellipsoid, (s.anchor, (s.anchor_epoch, s.identifiers)))),
-      )
+  datum at a b = simp (ellipsoids (at ▸ step.Ellipsoid) a.ellipsoid b.ellipsoid) assumption
 
   pub ensemble : (at : List Step) (a b : EnsembleParts) → AllSame (parts_of_ensemble at level a b) ↔ AgreeEnsemble level a b
-  ensemble at a b =
-      let e = ellipsoids (at ▸ step.Ellipsoid) a.ellipsoid b.ellipsoid in (
-        λ s. record { name = s.0; members = s.1.0; ellipsoid = e.0 s.1.1.0; accuracy = s.1.1.1.0; identifiers = s.1.1.1.1 },
-        λ s. (s.name, (s.members, (e.1 s.ellipsoid, (s.accuracy, s.identifiers)))),
-      )
+  ensemble at a b = simp ellipsoids assumption
 
   pub frame-of : (at : List Step) (a b : Frame) → AllSame (parts_of_frame at level a b) ↔ AgreeFrame level a b
   unfolding parts_of_frame
@@ -82,19 +71,15 @@ module _ (level : Level) where
 
   pub method : (at : List Step) (a b : MethodParts) → AllSame (parts_of_method at level a b) ↔ AgreeMethod level a b
   unfolding parts_of_method
-  method at a b = (λ s. record { name = s.0; identifiers = s.1 }, λ s. (s.name, s.identifiers))
+  method at a b = assumption
 
   pub conversion : (at : List Step) (a b : ConversionParts) → AllSame (parts_of_conversion at level a b) ↔ AgreeConversion level a b
   unfolding parts_of_conversion
-  conversion at a b =
-      let m = method (at ▸ step.Method) a.method b.method in (
-        λ s. record { name = s.0; method = m.0 s.1.0; parameters = s.1.1.0; identifiers = s.1.1.1 },
-        λ s. (s.name, (m.1 s.method, (s.parameters, s.identifiers))),
-      )
+  conversion at a b = simp method assumption
 
   tail : (at : List Step) (a b : TailParts) → AllSame (parts_of_tail at level a b) ↔ AgreeTail level a b
   unfolding parts_of_tail
-  tail at a b = (λ s. record { usages = s.0; identifiers = s.1.0; remark = s.1.1 }, λ s. (s.usages, (s.identifiers, s.remark)))
+  tail at a b = assumption
 
   -- ---- coordinate systems
 
@@ -102,18 +87,8 @@ module _ (level : Level) where
   axis : (at : List Step) (a b : SystemParts) (x y : AxisParts) → a.system_type ≡ b.system_type →
       AllSame (parts_of_axis at level a b x y) ↔ AgreeAxis level a b x y
   unfolding parts_of_axis AgreeAxis
-  axis at a b x y type = (
-    λ s. record {
-      name = s.0;
-      direction = s.1.0;
-      meridian = s.1.1.0;
-      unit = of_kind (asked_kind b.system_type y.direction) (asked_kind a.system_type x.direction) (sym (one-asked a b x y type s.1.0)) s.1.1.1.0;
-      identifiers = s.1.1.1.1;
-    },
-    λ s.
-        let unit = of_kind (asked_kind a.system_type x.direction) (asked_kind b.system_type y.direction) (one-asked a b x y type s.direction) s.unit in
-        (s.name, (s.direction, (s.meridian, (unit, s.identifiers)))),
-  )
+  axis at a b x y type =
+      (λ s. assumption (of_kind _ _ (sym (one-asked a b x y type s.1.0)) s.1.1.1.0), λ s. assumption (of_kind _ _ (one-asked a b x y type s.direction) s.unit))
     where
       of_kind : (other wanted : UnitKind) → other ≡ wanted →
           BothOrNeither (SameUnitAsked (asked_kind a.system_type x.direction) other level) (own_or x.unit a.unit) (own_or y.unit b.unit) →
@@ -122,40 +97,20 @@ module _ (level : Level) where
           subst (λ k. BothOrNeither (SameUnitAsked (asked_kind a.system_type x.direction) k level) (own_or x.unit a.unit) (own_or y.unit b.unit)) is
 
   -- at longitude 0 the unit doesn't count
-  counted : {V : Type 0} (Same : V → V → Type 0) (p q : Bool) (x y : Option V) → p ≡ q →
-      BothOrNeither Same (if p then None else x) (if q then None else y) ↔ ((p ≡ true) ⊎ BothOrNeither Same x y)
-  counted Same true true x y e = (λ s. inl refl, λ s. tt)
-  counted Same true false x y e = absurd (false≢true (sym e))
-  counted Same false true x y e = absurd (false≢true e)
-  counted Same false false x y e = (
-    λ s. inr s,
-    λ s. elim s [
-      | inl f ↦ absurd (false≢true f)
-      | inr u ↦ u
-    ],
-  )
+  counted : {V : Type 0} (Same : V → V → Type 0) (Zero : Type 0) (p q : Bool) (x y : Option V) → ((p ≡ true) ↔ Zero) → p ≡ q →
+      BothOrNeither Same (if p then None else x) (if q then None else y) ↔ (Zero ⊎ BothOrNeither Same x y)
+  counted Same Zero true true x y is e = (λ s. inl (is.0 refl), λ s. tt)
+  counted Same Zero false false x y is e = (inr, ⊎_elim (λ zero. absurd (false≢true (is.1 zero))) (λ s. s))
+  counted Same Zero p q x y is e = absurd (cc)
 
   pub given : (at : List Step) (a b : MeridianParts) → AllSame (parts_of_given at level a b) ↔ AgreeGiven level a b
-  given at a b = (
-    λ s. record { name = s.0; longitude = s.1.0; unit = (unit s.1.0).0 s.1.1.0; identifiers = s.1.1.1 },
-    λ s. (s.name, (s.longitude, ((unit s.longitude).1 s.unit, s.identifiers))),
-  )
+  given at a b = (λ s. assumption ((unit s.1.0).0 s.1.1.0), λ s. assumption ((unit s.longitude).1 s.unit))
     where
       unit : SameValue a.longitude b.longitude → BothOrNeither (SameUnit kinds.Angle level) (unit_of a) (unit_of b)
           ↔ (IsZero a.longitude ⊎ BothOrNeither (SameUnit kinds.Angle level) a.unit b.unit)
       unit same_value =
-          let zero_a = zero-is a.longitude in
-          let c = counted (SameUnit kinds.Angle level) (a.longitude.digits == 0) (b.longitude.digits == 0) a.unit b.unit
-          (zero-in-both a.longitude b.longitude same_value) in (
-            λ s. elim (c.0 s) [
-              | inl z ↦ inl (zero_a.0 z)
-              | inr u ↦ inr u
-            ],
-            λ s. elim s [
-              | inl z ↦ c.1 (inl (zero_a.1 z))
-              | inr u ↦ c.1 (inr u)
-            ],
-          )
+          counted (SameUnit kinds.Angle level) (IsZero a.longitude) (a.longitude.digits == 0) (b.longitude.digits == 0) a.unit b.unit
+          (zero-is a.longitude) (zero-in-both a.longitude b.longitude same_value)
 
   meridian : (at : List Step) (a b : Option MeridianParts) → AllSame (parts_of_meridian at level a b) ↔ AgreeMeridian level a b
   unfolding parts_of_meridian
@@ -163,20 +118,7 @@ module _ (level : Level) where
 
   pub base : (at : List Step) (a b : BaseParts) → AllSame (parts_of_base at level a b) ↔ AgreeBase level a b
   unfolding parts_of_base
-  base at a b =
-      let d = dynamic (at ▸ step.Dynamic) a.dynamic b.dynamic in
-      let f = frame-of (at ▸ step.Datum) a.frame b.frame in
-      let m = meridian (at ▸ step.Meridian) a.meridian b.meridian in (
-        λ s. record {
-          name = s.0;
-          dynamic = d.0 s.1.0;
-          frame = f.0 s.1.1.0;
-          meridian = m.0 s.1.1.1.0;
-          unit = s.1.1.1.1.0;
-          identifiers = s.1.1.1.1.1;
-        },
-        λ s. (s.name, (d.1 s.dynamic, (f.1 s.frame, (m.1 s.meridian, (s.unit, s.identifiers))))),
-      )
+  base at a b = simp (dynamic, frame-of, meridian) assumption
 
   -- systems of one dimension have as many axes, and each position of a system has one
   module _
@@ -218,24 +160,12 @@ module _ (level : Level) where
     pub system : (at : List Step) (a b : SystemParts) → IsSystem a → IsSystem b → AllSame (parts_of_system at level a b) ↔ AgreeSystem level a b
     unfolding parts_of_system
     system at a b sound-a sound-b = (
-      λ s. record {
-        system_type = s.0;
-        dimension = s.1.0;
-        identifiers = s.1.1.0;
-        axes = λ position low high.
-            of-axes at a b s.0 sound-a (max (length a.axes) (length b.axes)) s.1.1.1 position low (omega (arith, high)) high;
-      },
       λ s.
-          let many = as_many a b sound-a sound-b s.dimension in (
-            s.system_type,
-            (
-              s.dimension,
-              (
-                s.identifiers,
-                to-axes at a b s.system_type s.axes (max (length a.axes) (length b.axes)) (omega (arith, many)),
-              ),
-            ),
-          ),
+          let axes : AgreeAxes level a b = λ position low high. of-axes at a b s.0 sound-a (max (length a.axes) (length b.axes)) s.1.1.1 position low (omega (arith, high)) high in
+          assumption axes,
+      λ s.
+          let many = as_many a b sound-a sound-b s.dimension in
+          assumption (to-axes at a b s.system_type s.axes (max (length a.axes) (length b.axes)) (omega (arith, many))),
     )
 
     -- ---- CRSs
@@ -243,51 +173,17 @@ module _ (level : Level) where
     pub geodetic : (at : List Step) (a b : GeodeticParts) → IsGeodetic a → IsGeodetic b → AllSame (parts_of_geodetic at level a b) ↔ AgreeGeodetic level a b
     unfolding parts_of_geodetic
     geodetic at a b sound-a sound-b =
-        let d = dynamic (at ▸ step.Dynamic) a.dynamic b.dynamic in
-        let f = frame-of (at ▸ step.Datum) a.frame b.frame in
-        let m = meridian (at ▸ step.Meridian) a.meridian b.meridian in
-        let y = system (at ▸ step.System) a.system b.system sound-a.system sound-b.system in
-        let t = tail at a.tail b.tail in (
-          λ s. record {
-            kind = s.0;
-            name = s.1.0;
-            dynamic = d.0 s.1.1.0;
-            frame = f.0 s.1.1.1.0;
-            meridian = m.0 s.1.1.1.1.0;
-            system = y.0 s.1.1.1.1.1.0;
-            tail = t.0 s.1.1.1.1.1.1;
-          },
-          λ s. (s.kind, (s.name, (d.1 s.dynamic, (f.1 s.frame, (m.1 s.meridian, (y.1 s.system, t.1 s.tail)))))),
-        )
+        simp (dynamic, frame-of, meridian, system (at ▸ step.System) a.system b.system sound-a.system sound-b.system, tail) assumption
 
     pub projected : (at : List Step) (a b : ProjectedParts) → IsProjected a → IsProjected b → AllSame (parts_of_projected at level a b) ↔ AgreeProjected level a b
     unfolding parts_of_projected
     projected at a b sound-a sound-b =
-        let d = base (at ▸ step.Base) a.base b.base in
-        let f = conversion (at ▸ step.Conversion) a.conversion b.conversion in
-        let y = system (at ▸ step.System) a.system b.system sound-a.system sound-b.system in
-        let t = tail at a.tail b.tail in (
-          λ s. record { name = s.0; base = d.0 s.1.0; conversion = f.0 s.1.1.0; system = y.0 s.1.1.1.0; tail = t.0 s.1.1.1.1 },
-          λ s. (s.name, (d.1 s.base, (f.1 s.conversion, (y.1 s.system, t.1 s.tail)))),
-        )
+        simp (base, conversion, system (at ▸ step.System) a.system b.system sound-a.system sound-b.system, tail) assumption
 
     pub vertical : (at : List Step) (a b : VerticalParts) → IsVertical a → IsVertical b → AllSame (parts_of_vertical at level a b) ↔ AgreeVertical level a b
     unfolding parts_of_vertical
     vertical at a b sound-a sound-b =
-        let d = dynamic (at ▸ step.Dynamic) a.dynamic b.dynamic in
-        let f = frame-of (at ▸ step.Datum) a.frame b.frame in
-        let y = system (at ▸ step.System) a.system b.system sound-a.system sound-b.system in
-        let t = tail at a.tail b.tail in (
-          λ s. record {
-            name = s.0;
-            dynamic = d.0 s.1.0;
-            frame = f.0 s.1.1.0;
-            system = y.0 s.1.1.1.0;
-            geoid_models = s.1.1.1.1.0;
-            tail = t.0 s.1.1.1.1.1;
-          },
-          λ s. (s.name, (d.1 s.dynamic, (f.1 s.frame, (y.1 s.system, (s.geoid_models, t.1 s.tail))))),
-        )
+        simp (dynamic, frame-of, system (at ▸ step.System) a.system b.system sound-a.system sound-b.system, tail) assumption
 
     pub horizontal-of : (at : List Step) (a b : Horizontal) → IsHorizontalPart a → IsHorizontalPart b →
         AllSame (parts_of_horizontal at level a b) ↔ AgreeHorizontal level a b
@@ -306,25 +202,13 @@ module _ (level : Level) where
     compound at a b sound-a sound-b =
         let h =
         horizontal-of (at ▸ step.Horizontal) a.horizontal b.horizontal (by-itself a.horizontal sound-a.horizontal) (by-itself b.horizontal sound-b.horizontal) in
-        let v = vertical (at ▸ step.Vertical) a.vertical b.vertical sound-a.vertical sound-b.vertical in
-        let t = tail at a.tail b.tail in (
-          λ s. record { name = s.0; horizontal = h.0 s.1.0; vertical = v.0 s.1.1.0; tail = t.0 s.1.1.1 },
-          λ s. (s.name, (h.1 s.horizontal, (v.1 s.vertical, t.1 s.tail))),
-        )
+        simp (h, vertical (at ▸ step.Vertical) a.vertical b.vertical sound-a.vertical sound-b.vertical, tail) assumption
 
     pub crs-of : (a b : Crs) → IsCrs a → IsCrs b → AllSame (parts_of_crs level a b) ↔ AgreeCrs level a b
-    crs-of (crs.Geodetic a) (crs.Geodetic b) sound-a sound-b =
-        let g = geodetic [] a b sound-a sound-b in
-        (λ s. record { kind = (g.0 s).kind; parts = g.0 s }, λ s. g.1 s.parts)
-    crs-of (crs.Projected a) (crs.Projected b) sound-a sound-b =
-        let p = projected [] a b sound-a sound-b in
-        (λ s. record { kind = refl; parts = p.0 s }, λ s. p.1 s.parts)
-    crs-of (crs.Vertical a) (crs.Vertical b) sound-a sound-b =
-        let v = vertical [] a b sound-a sound-b in
-        (λ s. record { kind = refl; parts = v.0 s }, λ s. v.1 s.parts)
-    crs-of (crs.Compound a) (crs.Compound b) sound-a sound-b =
-        let p = compound [] a b sound-a sound-b in
-        (λ s. record { kind = refl; parts = p.0 s }, λ s. p.1 s.parts)
+    crs-of (crs.Geodetic a) (crs.Geodetic b) sound-a sound-b = simp (geodetic [] a b sound-a sound-b) assumption
+    crs-of (crs.Projected a) (crs.Projected b) sound-a sound-b = simp (projected [] a b sound-a sound-b) assumption
+    crs-of (crs.Vertical a) (crs.Vertical b) sound-a sound-b = simp (vertical [] a b sound-a sound-b) assumption
+    crs-of (crs.Compound a) (crs.Compound b) sound-a sound-b = simp (compound [] a b sound-a sound-b) assumption
     crs-of a b sound-a sound-b = (λ s. absurd s, λ s. absurd s.parts)
 
     -- ---- of each kind
