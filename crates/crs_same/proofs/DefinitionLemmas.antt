@@ -53,20 +53,23 @@ units : (asked other : UnitKind) (a b : Option UnitParts) → BothOrNeither (Sam
 units asked other =
     optional (SameUnitAsked asked other levels.Full) (SameUnitAsked asked other levels.Definition) (unit asked other)
 
-parameter : (a b : ParameterParts) → SameParameter levels.Full a b → SameParameter levels.Definition a b
-parameter a b s = record { name = s.name; value = s.value; unit = units kinds.Plain kinds.Plain a.unit b.unit s.unit; identifiers = (tt, tt) }
+parameters : (a b : List ParameterParts) → SameSet (SameParameter levels.Full) a b → SameSet (SameParameter levels.Definition) a b
+parameters = set (SameParameter levels.Full) (SameParameter levels.Definition)
+    (λ a b s. record { name = s.name; value = s.value; unit = units kinds.Plain kinds.Plain a.unit b.unit s.unit; identifiers = (tt, tt) })
 
-geoid_model : (a b : GeoidModelParts) → SameGeoidModel levels.Full a b → SameGeoidModel levels.Definition a b
-geoid_model a b s = record { name = s.name; identifiers = (tt, tt) }
+geoid_models : (a b : List GeoidModelParts) → SameSet (SameGeoidModel levels.Full) a b → SameSet (SameGeoidModel levels.Definition) a b
+geoid_models = set (SameGeoidModel levels.Full) (SameGeoidModel levels.Definition) (λ a b s. record { name = s.name; identifiers = (tt, tt) })
 
-model : (a b : DeformationModelParts) → SameDeformationModel levels.Full a b → SameDeformationModel levels.Definition a b
-model a b s = record { name = s.name; identifiers = (tt, tt) }
+members : (a b : List MemberParts) → SameSet (SameMember levels.Full) a b → SameSet (SameMember levels.Definition) a b
+members = set (SameMember levels.Full) (SameMember levels.Definition) (λ a b s. record { name = s.name; identifiers = (tt, tt) })
 
-member : (a b : MemberParts) → SameMember levels.Full a b → SameMember levels.Definition a b
-member a b s = record { name = s.name; identifiers = (tt, tt) }
+models : (a b : Option DeformationModelParts) → BothOrNeither (SameDeformationModel levels.Full) a b → BothOrNeither (SameDeformationModel levels.Definition) a b
+models = optional (SameDeformationModel levels.Full) (SameDeformationModel levels.Definition) (λ a b s. record { name = s.name; identifiers = (tt, tt) })
 
-axis_meridian : (a b : AxisMeridianParts) → SameAxisMeridian levels.Full a b → SameAxisMeridian levels.Definition a b
-axis_meridian a b s = record { longitude = s.longitude; unit = unit kinds.Angle kinds.Angle a.unit b.unit s.unit }
+axis_meridians : (a b : Option AxisMeridianParts) → BothOrNeither (SameAxisMeridian levels.Full) a b → BothOrNeither (SameAxisMeridian levels.Definition) a b
+axis_meridians =
+    optional (SameAxisMeridian levels.Full) (SameAxisMeridian levels.Definition)
+    (λ a b s. record { longitude = s.longitude; unit = unit kinds.Angle kinds.Angle a.unit b.unit s.unit })
 
 -- ---- the parts of two values: where all are the same with everything, all are by definition
 
@@ -82,56 +85,40 @@ either at name_of P Q narrow (Some a) (Some b) s = narrow a b s
 
 method : Narrows parts_of_method
 unfolding parts_of_method
-method at a b s = (s.0, (tt, tt))
+method at a b = assumption
 
 conversion : Narrows parts_of_conversion
 unfolding parts_of_conversion
-conversion at a b s = (
-  s.0,
-  (
-    method (at ▸ step.Method) a.method b.method s.1.0,
-    (set (SameParameter levels.Full) (SameParameter levels.Definition) parameter a.parameters b.parameters s.1.1.0, (tt, tt)),
-  ),
-)
+conversion at a b s = assumption (method (at ▸ step.Method) a.method b.method s.1.0, parameters a.parameters b.parameters s.1.1.0)
 
 dynamic : Narrows parts_of_dynamic
 unfolding parts_of_dynamic
-dynamic at a b s = (
-  s.0,
-  optional (SameDeformationModel levels.Full) (SameDeformationModel levels.Definition) model (option_and_then (λ d. d.model) a)
-      (option_and_then (λ d. d.model) b) s.1,
-)
+dynamic at a b s = assumption (models _ _ s.1)
 
 tail : Narrows parts_of_tail
 unfolding parts_of_tail
-tail at a b s = ((tt, tt), ((tt, tt), refl))
+tail at a b = assumption
 
 -- ---- frames
 
 ellipsoid : Narrows parts_of_ellipsoid
-ellipsoid at a b s = (s.0, (s.1.0, (s.1.1.0, (metres a.unit b.unit s.1.1.1.0, (tt, tt)))))
+ellipsoid at a b s = assumption (metres a.unit b.unit s.1.1.1.0)
 
 ellipsoids : Narrows parts_of_ellipsoids
 ellipsoids at = either at (λ e. e.name) (parts_of_ellipsoid at levels.Full) (parts_of_ellipsoid at levels.Definition) (ellipsoid at)
 
 given : Narrows parts_of_given
-given at a b s = (s.0, (s.1.0, (units kinds.Angle kinds.Angle (unit_of a) (unit_of b) s.1.1.0, (tt, tt))))
+given at a b s = search (s.0, s.1.0, units)
 
 meridian : Narrows parts_of_meridian
 unfolding parts_of_meridian
 meridian at a b s = given at (or_greenwich a) (or_greenwich b) s
 
 datum : Narrows parts_of_datum
-datum at a b s = (s.0, (ellipsoids (at ▸ step.Ellipsoid) a.ellipsoid b.ellipsoid s.1.0, (s.1.1.0, (s.1.1.1.0, (tt, tt)))))
+datum at a b s = assumption (ellipsoids (at ▸ step.Ellipsoid) a.ellipsoid b.ellipsoid s.1.0)
 
 ensemble : Narrows parts_of_ensemble
-ensemble at a b s = (
-  s.0,
-  (
-    set (SameMember levels.Full) (SameMember levels.Definition) member a.members b.members s.1.0,
-    (ellipsoids (at ▸ step.Ellipsoid) a.ellipsoid b.ellipsoid s.1.1.0, (s.1.1.1.0, (tt, tt))),
-  ),
-)
+ensemble at a b s = assumption (members a.members b.members s.1.0, ellipsoids (at ▸ step.Ellipsoid) a.ellipsoid b.ellipsoid s.1.1.0)
 
 frame-of : Narrows parts_of_frame
 unfolding parts_of_frame
@@ -145,20 +132,7 @@ frame-of at (frame.Ensemble a) (frame.Datum b) s = absurd s.0
 axis : (at : List Step) (a b : SystemParts) (x y : AxisParts) → AllSame (parts_of_axis at levels.Full a b x y) →
     AllSame (parts_of_axis at levels.Definition a b x y)
 unfolding parts_of_axis
-axis at a b x y s = (
-  s.0,
-  (
-    s.1.0,
-    (
-      optional (SameAxisMeridian levels.Full) (SameAxisMeridian levels.Definition) axis_meridian x.meridian y.meridian s.1.1.0,
-      (
-        units (asked_kind a.system_type x.direction) (asked_kind b.system_type y.direction) (own_or x.unit a.unit)
-            (own_or y.unit b.unit) s.1.1.1.0,
-        (tt, tt),
-      ),
-    ),
-  ),
-)
+axis at a b x y s = assumption (axis_meridians x.meridian y.meridian s.1.1.0, units _ _ _ _ s.1.1.1.0)
 
 axes-at : (at : List Step) (a b : SystemParts) (position : ℕ) → AllSame (parts_at at levels.Full a b position) →
     AllSame (parts_at at levels.Definition a b position)
@@ -172,43 +146,25 @@ axes at a b (suc count) s = (axes at a b count s.0, axes-at (at ▸ step.Axis (s
 
 system : Narrows parts_of_system
 unfolding parts_of_system
-system at a b s = (s.0, (s.1.0, ((tt, tt), axes at a b (max (length a.axes) (length b.axes)) s.1.1.1)))
+system at a b s = assumption (axes at a b _ s.1.1.1)
 
 -- ---- CRSs
 
 geodetic : Narrows parts_of_geodetic
 unfolding parts_of_geodetic
-geodetic at a b s =
-    let d = dynamic (at ▸ step.Dynamic) a.dynamic b.dynamic s.1.1.0 in
-    let f = frame-of (at ▸ step.Datum) a.frame b.frame s.1.1.1.0 in
-    let m = meridian (at ▸ step.Meridian) a.meridian b.meridian s.1.1.1.1.0 in
-    let y = system (at ▸ step.System) a.system b.system s.1.1.1.1.1.0 in
-    (s.0, (s.1.0, (d, (f, (m, (y, tail at a.tail b.tail s.1.1.1.1.1.1))))))
+geodetic at a b s = assumption (dynamic _ _ _ s.1.1.0, frame-of _ _ _ s.1.1.1.0, meridian _ _ _ s.1.1.1.1.0, system _ _ _ s.1.1.1.1.1.0, tail _ _ _ s.1.1.1.1.1.1)
 
 base : Narrows parts_of_base
 unfolding parts_of_base
-base at a b s =
-    let d = dynamic (at ▸ step.Dynamic) a.dynamic b.dynamic s.1.0 in
-    let f = frame-of (at ▸ step.Datum) a.frame b.frame s.1.1.0 in
-    let m = meridian (at ▸ step.Meridian) a.meridian b.meridian s.1.1.1.0 in
-    (s.0, (d, (f, (m, (units kinds.Angle kinds.Angle a.unit b.unit s.1.1.1.1.0, (tt, tt))))))
+base at a b s = assumption (dynamic _ _ _ s.1.0, frame-of _ _ _ s.1.1.0, meridian _ _ _ s.1.1.1.0, units _ _ a.unit b.unit s.1.1.1.1.0)
 
 projected : Narrows parts_of_projected
 unfolding parts_of_projected
-projected at a b s =
-    let d = base (at ▸ step.Base) a.base b.base s.1.0 in
-    let f = conversion (at ▸ step.Conversion) a.conversion b.conversion s.1.1.0 in
-    let y = system (at ▸ step.System) a.system b.system s.1.1.1.0 in
-    (s.0, (d, (f, (y, tail at a.tail b.tail s.1.1.1.1))))
+projected at a b s = assumption (base _ _ _ s.1.0, conversion _ _ _ s.1.1.0, system _ _ _ s.1.1.1.0, tail _ _ _ s.1.1.1.1)
 
 vertical : Narrows parts_of_vertical
 unfolding parts_of_vertical
-vertical at a b s =
-    let d = dynamic (at ▸ step.Dynamic) a.dynamic b.dynamic s.1.0 in
-    let f = frame-of (at ▸ step.Datum) a.frame b.frame s.1.1.0 in
-    let y = system (at ▸ step.System) a.system b.system s.1.1.1.0 in
-    let g = set (SameGeoidModel levels.Full) (SameGeoidModel levels.Definition) geoid_model a.geoid_models b.geoid_models s.1.1.1.1.0 in
-    (s.0, (d, (f, (y, (g, tail at a.tail b.tail s.1.1.1.1.1)))))
+vertical at a b s = assumption (dynamic _ _ _ s.1.0, frame-of _ _ _ s.1.1.0, system _ _ _ s.1.1.1.0, geoid_models _ _ s.1.1.1.1.0, tail _ _ _ s.1.1.1.1.1)
 
 horizontal-of : Narrows parts_of_horizontal
 unfolding parts_of_horizontal
@@ -219,10 +175,7 @@ horizontal-of at (horizontal.Projected a) (horizontal.Geodetic b) s = s
 
 compound : Narrows parts_of_compound
 unfolding parts_of_compound
-compound at a b s =
-    let h = horizontal-of (at ▸ step.Horizontal) a.horizontal b.horizontal s.1.0 in
-    let v = vertical (at ▸ step.Vertical) a.vertical b.vertical s.1.1.0 in
-    (s.0, (h, (v, tail at a.tail b.tail s.1.1.1)))
+compound at a b s = assumption (horizontal-of _ _ _ s.1.0, vertical _ _ _ s.1.1.0, tail _ _ _ s.1.1.1)
 
 pub same-by-definition : (a b : Crs) → SameCrs levels.Full a b → SameCrs levels.Definition a b
 unfolding SameCrs
