@@ -16,16 +16,7 @@ pub base : (level : Level) → IsSameness (AgreeDynamic level) → IsSameness (A
 base level dynamics frames meridians angle identifiers =
     in-words
     (equal-by (λ a. a.name) ⊗ by (λ a. a.dynamic) (optional dynamics) ⊗ by (λ a. a.frame) frames ⊗ by (λ a. a.meridian) meridians
-    ⊗ by (λ a. a.unit) (optional angle) ⊗ by (λ a. a.identifiers) identifiers)
-    (λ a b s. (s.name, (s.dynamic, (s.frame, (s.meridian, (s.unit, s.identifiers))))))
-    (λ a b p. record {
-      name = p.0;
-      dynamic = p.1.0;
-      frame = p.1.1.0;
-      meridian = p.1.1.1.0;
-      unit = p.1.1.1.1.0;
-      identifiers = p.1.1.1.1.1;
-    })
+    ⊗ by (λ a. a.unit) (optional angle) ⊗ by (λ a. a.identifiers) identifiers) (assumption) (assumption)
 
 module _ (level : Level) (systems : IsSamenessOf IsSystem (AgreeSystem level)) (ends : IsSameness (AgreeTail level)) where
   pub geodetic : IsSameness (AgreeDynamic level) → IsSameness (AgreeFrame level) → IsSameness (AgreeMeridian level) →
@@ -34,42 +25,21 @@ module _ (level : Level) (systems : IsSamenessOf IsSystem (AgreeSystem level)) (
       over (in-words
       (equal-by (λ x. kind_by x.0.system.system_type) ⊗ equal-by (λ x. x.0.name)
       ⊗ by (λ x. x.0.dynamic) (optional dynamics) ⊗ by (λ x. x.0.frame) frames
-      ⊗ by (λ x. x.0.meridian) meridians ⊗ by (λ x. (x.0.system, x.1.system)) (of systems) ⊗ by (λ x. x.0.tail) ends)
-      (λ x y s. (s.kind, (s.name, (s.dynamic, (s.frame, (s.meridian, (s.system, s.tail)))))))
-      (λ x y p. record {
-        kind = p.0;
-        name = p.1.0;
-        dynamic = p.1.1.0;
-        frame = p.1.1.1.0;
-        meridian = p.1.1.1.1.0;
-        system = p.1.1.1.1.1.0;
-        tail = p.1.1.1.1.1.1;
-      }))
+      ⊗ by (λ x. x.0.meridian) meridians ⊗ by (λ x. (x.0.system, x.1.system)) (of systems) ⊗ by (λ x. x.0.tail) ends) (assumption) (assumption))
 
   pub projected : IsSameness (AgreeBase level) → IsSameness (AgreeConversion level) →
       IsSamenessOf IsProjected (AgreeProjected level)
   projected bases conversions =
       over (in-words
       (equal-by (λ x. x.0.name) ⊗ by (λ x. x.0.base) bases ⊗ by (λ x. x.0.conversion) conversions
-      ⊗ by (λ x. (x.0.system, x.1.system)) (of systems) ⊗ by (λ x. x.0.tail) ends)
-      (λ x y s. (s.name, (s.base, (s.conversion, (s.system, s.tail)))))
-      (λ x y p. record { name = p.0; base = p.1.0; conversion = p.1.1.0; system = p.1.1.1.0; tail = p.1.1.1.1 }))
+      ⊗ by (λ x. (x.0.system, x.1.system)) (of systems) ⊗ by (λ x. x.0.tail) ends) (assumption) (assumption))
 
   pub vertical : IsSameness (AgreeDynamic level) → IsSameness (AgreeFrame level) → IsSameness (SameGeoidModel level) →
       IsSamenessOf IsVertical (AgreeVertical level)
   vertical dynamics frames models =
       over (in-words
       (equal-by (λ x. x.0.name) ⊗ by (λ x. x.0.dynamic) (optional dynamics) ⊗ by (λ x. x.0.frame) frames ⊗ by (λ x. (x.0.system, x.1.system)) (of systems)
-      ⊗ by (λ x. x.0.geoid_models) (set models) ⊗ by (λ x. x.0.tail) ends)
-      (λ x y s. (s.name, (s.dynamic, (s.frame, (s.system, (s.geoid_models, s.tail))))))
-      (λ x y p. record {
-        name = p.0;
-        dynamic = p.1.0;
-        frame = p.1.1.0;
-        system = p.1.1.1.0;
-        geoid_models = p.1.1.1.1.0;
-        tail = p.1.1.1.1.1;
-      }))
+      ⊗ by (λ x. x.0.geoid_models) (set models) ⊗ by (λ x. x.0.tail) ends) (assumption) (assumption))
 
 -- ---- compounds
 
@@ -94,9 +64,7 @@ horizontal-of level g p = record { reflexive = itself; symmetric = swapped; tran
         g.transitive a b c x y z s t
     joined (horizontal.Projected a) (horizontal.Projected b) (horizontal.Projected c) x y z s t =
         p.transitive a b c x y z s t
-    joined (horizontal.Geodetic a) (horizontal.Geodetic b) c x y z s t = absurd t
-    joined (horizontal.Projected a) (horizontal.Projected b) c x y z s t = absurd t
-    joined a b c x y z s t = absurd s
+    joined a b c x y z s t = absurd assumption
 
 horizontal-part : (a : Horizontal) → IsHorizontal a → IsHorizontalPart a
 horizontal-part (horizontal.Geodetic a) is = is.0
@@ -109,9 +77,7 @@ compound level horizontals verticals ends =
     over (in-words
     (equal-by (λ x. x.0.name)
     ⊗ by (λ x. (x.0.horizontal, horizontal-part x.0.horizontal x.1.horizontal)) (of horizontals)
-    ⊗ by (λ x. (x.0.vertical, x.1.vertical)) (of verticals) ⊗ by (λ x. x.0.tail) ends)
-    (λ x y s. (s.name, (s.horizontal, (s.vertical, s.tail))))
-    (λ x y p. record { name = p.0; horizontal = p.1.0; vertical = p.1.1.0; tail = p.1.1.1 }))
+    ⊗ by (λ x. (x.0.vertical, x.1.vertical)) (of verticals) ⊗ by (λ x. x.0.tail) ends) (assumption) (assumption))
 
 -- ---- of each kind
 
@@ -140,14 +106,8 @@ module _ (level : Level)
       joined (crs.Projected a) (crs.Projected b) (crs.Projected d) x y z s t = p.transitive a b d x y z s t
       joined (crs.Vertical a) (crs.Vertical b) (crs.Vertical d) x y z s t = v.transitive a b d x y z s t
       joined (crs.Compound a) (crs.Compound b) (crs.Compound d) x y z s t = c.transitive a b d x y z s t
-      joined (crs.Geodetic a) (crs.Geodetic b) d x y z s t = absurd t
-      joined (crs.Projected a) (crs.Projected b) d x y z s t = absurd t
-      joined (crs.Vertical a) (crs.Vertical b) d x y z s t = absurd t
-      joined (crs.Compound a) (crs.Compound b) d x y z s t = absurd t
-      joined a b d x y z s t = absurd s
+      joined a b d x y z s t = absurd assumption
 
   pub crs-of : IsSamenessOf IsCrs (AgreeCrs level)
   crs-of =
-      over (in-words (equal-by (λ x. kind_of x.0) ⊗ of parts)
-      (λ x y s. (s.kind, s.parts))
-      (λ x y p. record { kind = p.0; parts = p.1 }))
+      over (in-words (equal-by (λ x. kind_of x.0) ⊗ of parts) (assumption) (assumption))

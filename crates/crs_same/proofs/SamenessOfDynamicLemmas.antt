@@ -5,6 +5,4 @@ use Rattle.crs_same.specs.Agreement.{AgreeDynamic}
 
 pub dynamic : (level : Level) → IsSameness SameValue → IsSameness (SameDeformationModel level) → IsSameness (AgreeDynamic level)
 dynamic level number model =
-    in-words (by (λ a. a.epoch) number ⊗ by (λ a. a.model) (optional model))
-    (λ a b s. (s.epoch, s.model))
-    (λ a b p. record { epoch = p.0; model = p.1 })
+    in-words (by (λ a. a.epoch) number ⊗ by (λ a. a.model) (optional model)) (assumption) (assumption)

@@ -15,15 +15,7 @@ pub ellipsoid : (level : Level) → IsSameness SameValue → IsSameness (SameLen
 ellipsoid level number long identifiers =
     in-words
     (equal-by (λ a. a.name) ⊗ by (λ a. a.semi_major_axis) number ⊗ by (λ a. a.inverse_flattening) number
-    ⊗ by (λ a. a.unit) long ⊗ by (λ a. a.identifiers) identifiers)
-    (λ a b s. (s.name, (s.semi_major_axis, (s.inverse_flattening, (s.unit, s.identifiers)))))
-    (λ a b p. record {
-      name = p.0;
-      semi_major_axis = p.1.0;
-      inverse_flattening = p.1.1.0;
-      unit = p.1.1.1.0;
-      identifiers = p.1.1.1.1;
-    })
+    ⊗ by (λ a. a.unit) long ⊗ by (λ a. a.identifiers) identifiers) (assumption) (assumption)
 
 -- ---- prime meridians
 
@@ -66,9 +58,7 @@ module _ (level : Level) (number : IsSameness SameValue) (angle : IsSameness (Sa
 
   pub given : IsSameness (SameIdents level) → IsSameness (AgreeGiven level)
   given identifiers =
-      in-words (equal-by (λ a. a.name) ⊗ same-angle ⊗ by (λ a. a.identifiers) identifiers)
-      (λ a b s. (s.name, ((s.longitude, s.unit), s.identifiers)))
-      (λ a b p. record { name = p.0; longitude = p.1.0.0; unit = p.1.0.1; identifiers = p.1.1 })
+      in-words (equal-by (λ a. a.name) ⊗ same-angle ⊗ by (λ a. a.identifiers) identifiers) (assumption) (assumption)
 
   pub meridian : IsSameness (SameIdents level) → IsSameness (AgreeMeridian level)
   meridian identifiers = by or_greenwich (given identifiers)
@@ -80,9 +70,7 @@ pub datum : (level : Level) → IsSameness SameValue → IsSameness (AgreeEllips
 datum level number round identifiers =
     in-words
     (equal-by (λ a. a.name) ⊗ by (λ a. a.ellipsoid) (optional round) ⊗ equal-by (λ a. a.anchor)
-    ⊗ by (λ a. a.anchor_epoch) (optional number) ⊗ by (λ a. a.identifiers) identifiers)
-    (λ a b s. (s.name, (s.ellipsoid, (s.anchor, (s.anchor_epoch, s.identifiers)))))
-    (λ a b p. record { name = p.0; ellipsoid = p.1.0; anchor = p.1.1.0; anchor_epoch = p.1.1.1.0; identifiers = p.1.1.1.1 })
+    ⊗ by (λ a. a.anchor_epoch) (optional number) ⊗ by (λ a. a.identifiers) identifiers) (assumption) (assumption)
 
 pub ensemble : (level : Level) → IsSameness SameValue → IsSameness (SameMember level) →
     IsSameness (AgreeEllipsoid level) →
@@ -90,9 +78,7 @@ pub ensemble : (level : Level) → IsSameness SameValue → IsSameness (SameMemb
 ensemble level number one round identifiers =
     in-words
     (equal-by (λ a. a.name) ⊗ by (λ a. a.members) (set one) ⊗ by (λ a. a.ellipsoid) (optional round)
-    ⊗ by (λ a. a.accuracy) number ⊗ by (λ a. a.identifiers) identifiers)
-    (λ a b s. (s.name, (s.members, (s.ellipsoid, (s.accuracy, s.identifiers)))))
-    (λ a b p. record { name = p.0; members = p.1.0; ellipsoid = p.1.1.0; accuracy = p.1.1.1.0; identifiers = p.1.1.1.1 })
+    ⊗ by (λ a. a.accuracy) number ⊗ by (λ a. a.identifiers) identifiers) (assumption) (assumption)
 
 pub frame-of : (level : Level) → IsSameness (AgreeDatum level) → IsSameness (AgreeEnsemble level) →
     IsSameness (AgreeFrame level)
@@ -110,6 +96,4 @@ frame-of level d e = record { reflexive = itself; symmetric = swapped; transitiv
     joined : (a b c : Frame) → AgreeFrame level a b → AgreeFrame level b c → AgreeFrame level a c
     joined (frame.Datum a) (frame.Datum b) (frame.Datum c) s t = d.transitive a b c s t
     joined (frame.Ensemble a) (frame.Ensemble b) (frame.Ensemble c) s t = e.transitive a b c s t
-    joined (frame.Datum a) (frame.Datum b) c s t = absurd t
-    joined (frame.Ensemble a) (frame.Ensemble b) c s t = absurd t
-    joined a b c s t = absurd s
+    joined a b c s t = absurd assumption

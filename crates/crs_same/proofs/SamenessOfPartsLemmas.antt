@@ -14,17 +14,13 @@ whole n = record { negative = false; digits = n; power = pos 0 }
 
 pub method : (level : Level) → IsSameness (SameIdents level) → IsSameness (AgreeMethod level)
 method level identifiers =
-    in-words (equal-by (λ a. a.name) ⊗ by (λ a. a.identifiers) identifiers)
-    (λ a b s. (s.name, s.identifiers))
-    (λ a b p. record { name = p.0; identifiers = p.1 })
+    in-words (equal-by (λ a. a.name) ⊗ by (λ a. a.identifiers) identifiers) (assumption) (assumption)
 
 pub conversion : (level : Level) → IsSameness (AgreeMethod level) → IsSameness (SameParameter level) →
     IsSameness (SameIdents level) →
     IsSameness (AgreeConversion level)
 conversion level how one identifiers =
-    in-words (equal-by (λ a. a.name) ⊗ by (λ a. a.method) how ⊗ by (λ a. a.parameters) (set one) ⊗ by (λ a. a.identifiers) identifiers)
-    (λ a b s. (s.name, (s.method, (s.parameters, s.identifiers))))
-    (λ a b p. record { name = p.0; method = p.1.0; parameters = p.1.1.0; identifiers = p.1.1.1 })
+    in-words (equal-by (λ a. a.name) ⊗ by (λ a. a.method) how ⊗ by (λ a. a.parameters) (set one) ⊗ by (λ a. a.identifiers) identifiers) (assumption) (assumption)
 
 -- ---- the ends of CRSs
 
@@ -36,6 +32,4 @@ remark level = equal-by (λ a. kept_one level a.remark)
 
 pub tail : (level : Level) → IsSameness SameUsage → IsSameness (SameIdents level) → IsSameness (AgreeTail level)
 tail level one identifiers =
-    in-words (usages level one ⊗ by (λ a. a.identifiers) identifiers ⊗ remark level)
-    (λ a b s. (s.usages, (s.identifiers, s.remark)))
-    (λ a b p. record { usages = p.0; identifiers = p.1.0; remark = p.1.1 })
+    in-words (usages level one ⊗ by (λ a. a.identifiers) identifiers ⊗ remark level) (assumption) (assumption)

@@ -18,9 +18,7 @@ module _ (level : Level) (along : IsSameness (SameAxisMeridian level)) (identifi
   axis-in asked unit =
       in-words
       (equal-by (λ x. x.0.name) ⊗ equal-by (λ x. x.0.direction) ⊗ by (λ x. x.0.meridian) (optional along)
-      ⊗ by (λ x. x.1) (optional unit) ⊗ by (λ x. x.0.identifiers) identifiers)
-      (λ x y s. (s.name, (s.direction, (s.meridian, (s.unit, s.identifiers)))))
-      (λ x y p. record { name = p.0; direction = p.1.0; meridian = p.1.1.0; unit = p.1.1.1.0; identifiers = p.1.1.1.1 })
+      ⊗ by (λ x. x.1) (optional unit) ⊗ by (λ x. x.0.identifiers) identifiers) (assumption) (assumption)
 
 module _ (level : Level) (along : IsSameness (SameAxisMeridian level)) (identifiers : IsSameness (SameIdents level))
     (units : (asked : UnitKind) → IsSameness (SameUnit asked level)) where
