@@ -74,55 +74,41 @@ module _ {level : Level} {Holds : Parts → Type 0} {Is : List Step → Type 0} 
 
   dynamic : (at : List Step) (a b : Option DynamicParts) → Is at → Holds (parts_of_dynamic at level a b)
   unfolding parts_of_dynamic
-  dynamic at a b is = one at step.Epoch tt is ⨟ one at step.Model tt is
+  dynamic at a b is = search (◌⨟◌, one)
 
   -- ---- frames
 
   pub ellipsoid : (at : List Step) (a b : EllipsoidParts) → Is at → Holds (parts_of_ellipsoid at level a b)
-  ellipsoid at a b is =
-      one at step.Name tt is ⨟ one at step.SemiMajor tt is ⨟ one at step.Flattening tt is ⨟ one at step.Unit tt is
-      ⨟ idents at a.identifiers b.identifiers is
+  ellipsoid at a b is = search (◌⨟◌, one, idents) depth 7
 
   ellipsoids : (at : List Step) (a b : Option EllipsoidParts) → Is at → Holds (parts_of_ellipsoids at level a b)
   ellipsoids at a b is = either at (λ e. e.name) (parts_of_ellipsoid at level) (λ x y. ellipsoid at x y is) a b is
 
   pub given : (at : List Step) (a b : MeridianParts) → Is at → Holds (parts_of_given at level a b)
-  given at a b is =
-      one at step.Name tt is ⨟ one at step.Longitude tt is ⨟ one at step.Unit tt is ⨟ idents at a.identifiers b.identifiers is
+  given at a b is = search (◌⨟◌, one, idents) depth 7
 
   meridian : (at : List Step) (a b : Option MeridianParts) → Is at → Holds (parts_of_meridian at level a b)
   unfolding parts_of_meridian
   meridian at a b is = given at (or_greenwich a) (or_greenwich b) is
 
   pub datum : (at : List Step) (a b : DatumParts) → Is at → Holds (parts_of_datum at level a b)
-  datum at a b is =
-      one at step.Name tt is ⨟ ellipsoids (at ▸ step.Ellipsoid) a.ellipsoid b.ellipsoid (rules.on at step.Ellipsoid tt is)
-      ⨟ one at step.Anchor tt is ⨟ one at step.AnchorEpoch tt is ⨟ idents at a.identifiers b.identifiers is
+  datum at a b is = search (◌⨟◌, one, idents, rules.on, ellipsoids) depth 7
 
   pub ensemble : (at : List Step) (a b : EnsembleParts) → Is at → Holds (parts_of_ensemble at level a b)
-  ensemble at a b is =
-      one at step.Name tt is ⨟ one at step.Members tt is
-      ⨟ ellipsoids (at ▸ step.Ellipsoid) a.ellipsoid b.ellipsoid (rules.on at step.Ellipsoid tt is)
-      ⨟ one at step.Accuracy tt is ⨟ idents at a.identifiers b.identifiers is
+  ensemble at a b is = search (◌⨟◌, one, idents, rules.on, ellipsoids) depth 7
 
   pub frame-of : (at : List Step) (a b : Frame) → Is at → Holds (parts_of_frame at level a b)
   unfolding parts_of_frame
   frame-of at (frame.Datum a) (frame.Datum b) is = datum at a b is
   frame-of at (frame.Ensemble a) (frame.Ensemble b) is = ensemble at a b is
-  frame-of at (frame.Datum a) (frame.Ensemble b) is =
-      one at step.Kind tt is ⨟ one at step.Name tt is
-      ⨟ ellipsoids (at ▸ step.Ellipsoid) a.ellipsoid b.ellipsoid (rules.on at step.Ellipsoid tt is) ⨟ idents at a.identifiers b.identifiers is
-  frame-of at (frame.Ensemble a) (frame.Datum b) is =
-      one at step.Kind tt is ⨟ one at step.Name tt is
-      ⨟ ellipsoids (at ▸ step.Ellipsoid) a.ellipsoid b.ellipsoid (rules.on at step.Ellipsoid tt is) ⨟ idents at a.identifiers b.identifiers is
+  frame-of at (frame.Datum a) (frame.Ensemble b) is = search (◌⨟◌, one, idents, rules.on, ellipsoids) depth 7
+  frame-of at (frame.Ensemble a) (frame.Datum b) is = search (◌⨟◌, one, idents, rules.on, ellipsoids) depth 7
 
   -- ---- coordinate systems
 
   axis : (at : List Step) (a b : SystemParts) (x y : AxisParts) → Is at → Holds (parts_of_axis at level a b x y)
   unfolding parts_of_axis
-  axis at a b x y is =
-      one at step.Name tt is ⨟ one at step.Direction tt is ⨟ one at step.Meridian tt is ⨟ one at step.Unit tt is
-      ⨟ idents at x.identifiers y.identifiers is
+  axis at a b x y is = search (◌⨟◌, one, idents) depth 7
 
   axes-at : (at : List Step) (a b : SystemParts) (position : ℕ) → Sound a → Sound b → Is at → Holds (parts_at at level a b position)
   axes-at at a b position sound-a sound-b is =
@@ -137,21 +123,17 @@ module _ {level : Level} {Holds : Parts → Type 0} {Is : List Step → Type 0} 
 
   system : (at : List Step) (a b : SystemParts) → Sound a → Sound b → Is at → Holds (parts_of_system at level a b)
   unfolding parts_of_system
-  system at a b sound-a sound-b is =
-      one at step.SystemType tt is ⨟ one at step.Dimension tt is ⨟ idents at a.identifiers b.identifiers is
-      ⨟ axes at a b (max (length a.axes) (length b.axes)) sound-a sound-b is
+  system at a b sound-a sound-b is = search (◌⨟◌, one, idents, axes) depth 7
 
   -- ---- conversions
 
   pub method : (at : List Step) (a b : MethodParts) → Is at → Holds (parts_of_method at level a b)
   unfolding parts_of_method
-  method at a b is = one at step.Name tt is ⨟ idents at a.identifiers b.identifiers is
+  method at a b is = search (◌⨟◌, one, idents) depth 7
 
   pub conversion : (at : List Step) (a b : ConversionParts) → Is at → Holds (parts_of_conversion at level a b)
   unfolding parts_of_conversion
-  conversion at a b is =
-      one at step.Name tt is ⨟ method (at ▸ step.Method) a.method b.method (rules.on at step.Method tt is)
-      ⨟ one at step.Parameters tt is ⨟ idents at a.identifiers b.identifiers is
+  conversion at a b is = search (◌⨟◌, one, idents, rules.on, method) depth 7
 
   -- ---- CRSs
 
@@ -166,35 +148,19 @@ module _ {level : Level} {Holds : Parts → Type 0} {Is : List Step → Type 0} 
 
   pub geodetic : (at : List Step) (a b : GeodeticParts) → Sound a.system → Sound b.system → Is at → Holds (parts_of_geodetic at level a b)
   unfolding parts_of_geodetic
-  geodetic at a b sound-a sound-b is =
-      one at step.Kind tt is ⨟ one at step.Name tt is
-      ⨟ dynamic (at ▸ step.Dynamic) a.dynamic b.dynamic (rules.on at step.Dynamic tt is)
-      ⨟ frame-of (at ▸ step.Datum) a.frame b.frame (rules.on at step.Datum tt is)
-      ⨟ meridian (at ▸ step.Meridian) a.meridian b.meridian (rules.on at step.Meridian tt is)
-      ⨟ system (at ▸ step.System) a.system b.system sound-a sound-b (rules.on at step.System tt is) ⨟ tail at a.tail b.tail is
+  geodetic at a b sound-a sound-b is = search (◌⨟◌, one, rules.on, dynamic, frame-of, meridian, system, tail) depth 9
 
   pub base : (at : List Step) (a b : BaseParts) → Is at → Holds (parts_of_base at level a b)
   unfolding parts_of_base
-  base at a b is =
-      one at step.Name tt is ⨟ dynamic (at ▸ step.Dynamic) a.dynamic b.dynamic (rules.on at step.Dynamic tt is)
-      ⨟ frame-of (at ▸ step.Datum) a.frame b.frame (rules.on at step.Datum tt is)
-      ⨟ meridian (at ▸ step.Meridian) a.meridian b.meridian (rules.on at step.Meridian tt is)
-      ⨟ one at step.Unit tt is ⨟ idents at a.identifiers b.identifiers is
+  base at a b is = search (◌⨟◌, one, idents, rules.on, dynamic, frame-of, meridian) depth 8
 
   pub projected : (at : List Step) (a b : ProjectedParts) → Sound a.system → Sound b.system → Is at → Holds (parts_of_projected at level a b)
   unfolding parts_of_projected
-  projected at a b sound-a sound-b is =
-      one at step.Name tt is ⨟ base (at ▸ step.Base) a.base b.base (rules.on at step.Base tt is)
-      ⨟ conversion (at ▸ step.Conversion) a.conversion b.conversion (rules.on at step.Conversion tt is)
-      ⨟ system (at ▸ step.System) a.system b.system sound-a sound-b (rules.on at step.System tt is) ⨟ tail at a.tail b.tail is
+  projected at a b sound-a sound-b is = search (◌⨟◌, one, rules.on, base, conversion, system, tail) depth 8
 
   pub vertical : (at : List Step) (a b : VerticalParts) → Sound a.system → Sound b.system → Is at → Holds (parts_of_vertical at level a b)
   unfolding parts_of_vertical
-  vertical at a b sound-a sound-b is =
-      one at step.Name tt is ⨟ dynamic (at ▸ step.Dynamic) a.dynamic b.dynamic (rules.on at step.Dynamic tt is)
-      ⨟ frame-of (at ▸ step.Datum) a.frame b.frame (rules.on at step.Datum tt is)
-      ⨟ system (at ▸ step.System) a.system b.system sound-a sound-b (rules.on at step.System tt is)
-      ⨟ one at step.Geoid tt is ⨟ tail at a.tail b.tail is
+  vertical at a b sound-a sound-b is = search (◌⨟◌, one, rules.on, dynamic, frame-of, system, tail) depth 8
 
   horizontal-of : (at : List Step) (a b : Horizontal) → Sound (system_in a) → Sound (system_in b) → Is at → Holds (parts_of_horizontal at level a b)
   unfolding parts_of_horizontal
@@ -204,9 +170,7 @@ module _ {level : Level} {Holds : Parts → Type 0} {Is : List Step → Type 0} 
 
   pub compound : (at : List Step) (a b : CompoundParts) → AreSound Sound a → AreSound Sound b → Is at → Holds (parts_of_compound at level a b)
   unfolding parts_of_compound
-  compound at a b sound-a sound-b is =
-      one at step.Name tt is ⨟ horizontal-of (at ▸ step.Horizontal) a.horizontal b.horizontal sound-a.0 sound-b.0 (rules.on at step.Horizontal tt is)
-      ⨟ vertical (at ▸ step.Vertical) a.vertical b.vertical sound-a.1 sound-b.1 (rules.on at step.Vertical tt is) ⨟ tail at a.tail b.tail is
+  compound at a b sound-a sound-b is = search (◌⨟◌, one, rules.on, horizontal-of, vertical, tail, sound-a.0, sound-a.1, sound-b.0, sound-b.1) depth 8
 
   pub crs-of : (a b : Crs) → SoundIn Sound a → SoundIn Sound b → Is [] → Holds (parts_of_crs level a b)
   crs-of (crs.Geodetic a) (crs.Geodetic b) sound-a sound-b is = geodetic [] a b sound-a sound-b is

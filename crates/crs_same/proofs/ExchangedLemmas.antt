@@ -122,53 +122,36 @@ module _ (level : Level) (same-turned : (a b : Value) → SameValue a b → Same
   -- ---- frames
 
   ellipsoid : (at : List Step) (a b : EllipsoidParts) → Turns (parts_of_ellipsoid at level a b) (parts_of_ellipsoid at level b a)
-  ellipsoid at a b =
-      equal ⨟ number (at ▸ step.SemiMajor) a.semi_major_axis b.semi_major_axis
-      ⨟ number (at ▸ step.Flattening) a.inverse_flattening b.inverse_flattening
-      ⨟ one (unit kinds.Length kinds.Length (or_metre a.unit) (or_metre b.unit))
-      (unit kinds.Length kinds.Length (or_metre b.unit) (or_metre a.unit))
-      ⨟ set
+  ellipsoid at a b = search (◌⨟◌, equal, number, one, unit, set) depth 8
 
   ellipsoids : (at : List Step) (a b : Option EllipsoidParts) → Turns (parts_of_ellipsoids at level a b) (parts_of_ellipsoids at level b a)
   ellipsoids at a b = either at (λ e. e.name) (parts_of_ellipsoid at level) (parts_of_ellipsoid at level) (ellipsoid at) a b
 
   given : (at : List Step) (a b : MeridianParts) → Turns (parts_of_given at level a b) (parts_of_given at level b a)
-  given at a b =
-      equal ⨟ number (at ▸ step.Longitude) a.longitude b.longitude
-      ⨟ units-if-any (at ▸ step.Unit) kinds.Angle kinds.Angle (unit_of a) (unit_of b) ⨟ set
+  given at a b = search (◌⨟◌, equal, number, units-if-any, set) depth 7
 
   meridian : (at : List Step) (a b : Option MeridianParts) → Turns (parts_of_meridian at level a b) (parts_of_meridian at level b a)
   unfolding parts_of_meridian
   meridian at a b = given at (or_greenwich a) (or_greenwich b)
 
   datum : (at : List Step) (a b : DatumParts) → Turns (parts_of_datum at level a b) (parts_of_datum at level b a)
-  datum at a b =
-      equal ⨟ ellipsoids (at ▸ step.Ellipsoid) a.ellipsoid b.ellipsoid
-      ⨟ equal ⨟ numbers-if-any (at ▸ step.AnchorEpoch) a.anchor_epoch b.anchor_epoch ⨟ set
+  datum at a b = search (◌⨟◌, equal, ellipsoids, numbers-if-any, set) depth 7
 
   ensemble : (at : List Step) (a b : EnsembleParts) → Turns (parts_of_ensemble at level a b) (parts_of_ensemble at level b a)
-  ensemble at a b =
-      equal ⨟ set
-      ⨟ ellipsoids (at ▸ step.Ellipsoid) a.ellipsoid b.ellipsoid ⨟ number (at ▸ step.Accuracy) a.accuracy b.accuracy
-      ⨟ set
+  ensemble at a b = search (◌⨟◌, equal, set, ellipsoids, number) depth 7
 
   frame-of : (at : List Step) (a b : Frame) → Turns (parts_of_frame at level a b) (parts_of_frame at level b a)
   unfolding parts_of_frame
   frame-of at (frame.Datum a) (frame.Datum b) = datum at a b
   frame-of at (frame.Ensemble a) (frame.Ensemble b) = ensemble at a b
-  frame-of at (frame.Datum a) (frame.Ensemble b) = never ⨟ equal ⨟ ellipsoids (at ▸ step.Ellipsoid) a.ellipsoid b.ellipsoid ⨟ set
-  frame-of at (frame.Ensemble a) (frame.Datum b) = never ⨟ equal ⨟ ellipsoids (at ▸ step.Ellipsoid) a.ellipsoid b.ellipsoid ⨟ set
+  frame-of at (frame.Datum a) (frame.Ensemble b) = search (◌⨟◌, never, equal, ellipsoids, set) depth 7
+  frame-of at (frame.Ensemble a) (frame.Datum b) = search (◌⨟◌, never, equal, ellipsoids, set) depth 7
 
   -- ---- coordinate systems
 
   axis : (at : List Step) (a b : SystemParts) (x y : AxisParts) → Turns (parts_of_axis at level a b x y) (parts_of_axis at level b a y x)
   unfolding parts_of_axis
-  axis at a b x y =
-      equal ⨟ equal
-      ⨟ if-any (at ▸ step.Meridian) (SameAxisMeridian level) content.Meridian axis-meridian x.meridian y.meridian
-      ⨟ units-if-any (at ▸ step.Unit) (asked_kind a.system_type x.direction) (asked_kind b.system_type y.direction)
-      (own_or x.unit a.unit) (own_or y.unit b.unit)
-      ⨟ set
+  axis at a b x y = search (◌⨟◌, equal, if-any, axis-meridian, units-if-any, set) depth 8
 
   axes-at : (at : List Step) (a b : SystemParts) (position : ℕ) → Turns (parts_at at level a b position) (parts_at at level b a position)
   axes-at at a b position = record { turned = turn }
@@ -204,7 +187,7 @@ module _ (level : Level) (same-turned : (a b : Value) → SameValue a b → Same
 
   conversion : (at : List Step) (a b : ConversionParts) → Turns (parts_of_conversion at level a b) (parts_of_conversion at level b a)
   unfolding parts_of_conversion
-  conversion at a b = equal ⨟ method (at ▸ step.Method) a.method b.method ⨟ set ⨟ set
+  conversion at a b = search (◌⨟◌, equal, method, set) depth 7
 
   -- ---- CRSs
 
@@ -214,31 +197,19 @@ module _ (level : Level) (same-turned : (a b : Value) → SameValue a b → Same
 
   geodetic : (at : List Step) (a b : GeodeticParts) → Turns (parts_of_geodetic at level a b) (parts_of_geodetic at level b a)
   unfolding parts_of_geodetic
-  geodetic at a b =
-      equal ⨟ equal ⨟ dynamic (at ▸ step.Dynamic) a.dynamic b.dynamic
-      ⨟ frame-of (at ▸ step.Datum) a.frame b.frame ⨟ meridian (at ▸ step.Meridian) a.meridian b.meridian
-      ⨟ system (at ▸ step.System) a.system b.system ⨟ tail at a.tail b.tail
+  geodetic at a b = search (◌⨟◌, equal, dynamic, frame-of, meridian, system, tail) depth 9
 
   base : (at : List Step) (a b : BaseParts) → Turns (parts_of_base at level a b) (parts_of_base at level b a)
   unfolding parts_of_base
-  base at a b =
-      equal ⨟ dynamic (at ▸ step.Dynamic) a.dynamic b.dynamic
-      ⨟ frame-of (at ▸ step.Datum) a.frame b.frame ⨟ meridian (at ▸ step.Meridian) a.meridian b.meridian
-      ⨟ units-if-any (at ▸ step.Unit) kinds.Angle kinds.Angle a.unit b.unit ⨟ set
+  base at a b = search (◌⨟◌, equal, dynamic, frame-of, meridian, units-if-any, set) depth 8
 
   projected : (at : List Step) (a b : ProjectedParts) → Turns (parts_of_projected at level a b) (parts_of_projected at level b a)
   unfolding parts_of_projected
-  projected at a b =
-      equal ⨟ base (at ▸ step.Base) a.base b.base
-      ⨟ conversion (at ▸ step.Conversion) a.conversion b.conversion ⨟ system (at ▸ step.System) a.system b.system
-      ⨟ tail at a.tail b.tail
+  projected at a b = search (◌⨟◌, equal, base, conversion, system, tail) depth 8
 
   vertical : (at : List Step) (a b : VerticalParts) → Turns (parts_of_vertical at level a b) (parts_of_vertical at level b a)
   unfolding parts_of_vertical
-  vertical at a b =
-      equal ⨟ dynamic (at ▸ step.Dynamic) a.dynamic b.dynamic
-      ⨟ frame-of (at ▸ step.Datum) a.frame b.frame ⨟ system (at ▸ step.System) a.system b.system ⨟ set
-      ⨟ tail at a.tail b.tail
+  vertical at a b = search (◌⨟◌, equal, dynamic, frame-of, system, set, tail) depth 8
 
   horizontal-of : (at : List Step) (a b : Horizontal) → Turns (parts_of_horizontal at level a b) (parts_of_horizontal at level b a)
   unfolding parts_of_horizontal
@@ -249,9 +220,7 @@ module _ (level : Level) (same-turned : (a b : Value) → SameValue a b → Same
 
   compound : (at : List Step) (a b : CompoundParts) → Turns (parts_of_compound at level a b) (parts_of_compound at level b a)
   unfolding parts_of_compound
-  compound at a b =
-      equal ⨟ horizontal-of (at ▸ step.Horizontal) a.horizontal b.horizontal
-      ⨟ vertical (at ▸ step.Vertical) a.vertical b.vertical ⨟ tail at a.tail b.tail
+  compound at a b = search (◌⨟◌, equal, horizontal-of, vertical, tail) depth 8
 
   pub crs-of : (a b : Crs) → Turns (parts_of_crs level a b) (parts_of_crs level b a)
   crs-of (crs.Geodetic a) (crs.Geodetic b) = geodetic [] a b
