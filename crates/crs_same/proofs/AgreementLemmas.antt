@@ -48,7 +48,7 @@ module _ (level : Level) where
   pub ellipsoid : (at : List Step) (a b : EllipsoidParts) → AllSame (parts_of_ellipsoid at level a b) ↔ AgreeEllipsoid level a b
   ellipsoid at a b = assumption
 
-  ellipsoids : (at : List Step) (a b : Option EllipsoidParts) → AllSame (parts_of_ellipsoids at level a b) ↔ BothOrNeither (AgreeEllipsoid level) a b
+  pub ellipsoids : (at : List Step) (a b : Option EllipsoidParts) → AllSame (parts_of_ellipsoids at level a b) ↔ BothOrNeither (AgreeEllipsoid level) a b
   ellipsoids at None None = same
   ellipsoids at None (Some b) = same
   ellipsoids at (Some a) None = same

@@ -12,9 +12,7 @@ mod KeptLemmas
 mod NumberLemmas
 mod PositionLemmas
 mod SamenessOfCrsLemmas
-mod SamenessOfDynamicLemmas
 mod SamenessOfFramesLemmas
-mod SamenessOfPartsLemmas
 mod SamenessOfSystemsLemmas
 mod SettledLemmas
 mod WalkedLemmas

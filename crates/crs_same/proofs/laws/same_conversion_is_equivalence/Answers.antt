@@ -1,9 +1,10 @@
-use Rattle.crs_matching.specs.Prelude.{agree-as, same-as}
-use Rattle.crs_same.proofs.SamenessOfPartsLemmas.{conversion}
+use Rattle.crs_matching.specs.Prelude.{equal-by, by, ◌⊗◌, set}
+use Rattle.crs_same.specs.Parts.{AreSame}
+use Rattle.crs_same.specs.PartsOfCrs.{parts_of_conversion, parts_of_method}
 use Rattle.crs_same.proofs.laws.same_conversion_is_equivalence.Goals as goal
 
 pub returns : goal.returns
+unfolding AreSame parts_of_conversion parts_of_method
 returns c level =
-    let is = c.parts_agree_where_same.ensures level in
-    same-as is.conversion
-    (conversion level (agree-as is.method (c.same_method_is_equivalence.ensures level)) (c.same_parameter_is_equivalence.ensures level) (c.same_idents_is_equivalence.ensures level))
+    equal-by (λ a. a.name) ⊗ by (λ a. a.method) (c.same_method_is_equivalence.ensures level)
+    ⊗ by (λ a. a.parameters) (set (c.same_parameter_is_equivalence.ensures level)) ⊗ by (λ a. a.identifiers) (c.same_idents_is_equivalence.ensures level)

@@ -1,10 +1,14 @@
-use Rattle.crs_matching.specs.Prelude.{agree-as, same-as}
-use Rattle.crs_same.proofs.SamenessOfFramesLemmas.{ensemble}
+use Rattle.std.specs.Prelude.{[], ◌∷◌}
+use Rattle.crs_matching.specs.Prelude.{agree-as, same-as, equal-by, by, ◌⊗◌, optional, set}
+use Rattle.crs_same.specs.declared.step.Step.TheVariants as step
+use Rattle.crs_same.specs.Parts.{AreSame}
+use Rattle.crs_same.proofs.AgreementLemmas.{ellipsoids}
 use Rattle.crs_same.proofs.laws.same_ensemble_is_equivalence.Goals as goal
 
 pub returns : goal.returns
+unfolding AreSame
 returns c level =
     let is = c.parts_agree_where_same.ensures level in
-    same-as is.ensemble
-    (ensemble level c.same_value_is_equivalence.ensures (c.same_member_is_equivalence.ensures level)
-    (agree-as is.ellipsoid (c.same_ellipsoid_is_equivalence.ensures level)) (c.same_idents_is_equivalence.ensures level))
+    let rounds = same-as (ellipsoids level (step.Ellipsoid ∷ [])) (optional (agree-as is.ellipsoid (c.same_ellipsoid_is_equivalence.ensures level))) in
+    equal-by (λ a. a.name) ⊗ by (λ a. a.members) (set (c.same_member_is_equivalence.ensures level)) ⊗ by (λ a. a.ellipsoid) rounds
+    ⊗ by (λ a. a.accuracy) c.same_value_is_equivalence.ensures ⊗ by (λ a. a.identifiers) (c.same_idents_is_equivalence.ensures level)

@@ -1,16 +1,23 @@
+use Rattle.std.specs.Prelude.{[]}
 use Rattle.crs_shape.specs.declared.unit_kind.UnitKind.TheVariants as kinds
-use Rattle.crs_matching.specs.Prelude.{same-as}
-use Rattle.crs_same.proofs.SamenessOfFramesLemmas.{given, meridian}
+use Rattle.crs_value.specs.declared.values.level.Level.{Level}
+use Rattle.crs_value.specs.Prelude.{MeridianParts}
+use Rattle.crs_matching.specs.Prelude.{IsSameness, SameIdents, SameUnit, SameValue, equal-by, by, ◌⊗◌, optional}
+use Rattle.crs_same.specs.Parts.{AllSame, AreSame}
+use Rattle.crs_same.specs.PartsOfFrames.{unit_of, or_greenwich, parts_of_given, parts_of_meridian}
 use Rattle.crs_same.proofs.laws.same_meridian_is_equivalence.Goals as goal
 
+given : (level : Level) → IsSameness SameValue → IsSameness (SameUnit kinds.Angle level) → IsSameness (SameIdents level) →
+    IsSameness (λ (a b : MeridianParts). AllSame (parts_of_given [] level a b))
+given level number angle identifiers =
+    equal-by (λ a. a.name) ⊗ by (λ a. a.longitude) number ⊗ by unit_of (optional angle) ⊗ by (λ a. a.identifiers) identifiers
+
 pub returns-clause-given : goal.returns-clause-given
-returns-clause-given c level =
-    let is = c.parts_agree_where_same.ensures level in
-    same-as is.given
-    (given level c.same_value_is_equivalence.ensures (c.same_unit_is_equivalence.ensures kinds.Angle level) (c.same_idents_is_equivalence.ensures level))
+unfolding AreSame
+returns-clause-given c level = given level c.same_value_is_equivalence.ensures (c.same_unit_is_equivalence.ensures kinds.Angle level) (c.same_idents_is_equivalence.ensures level)
 
 pub returns-clause-optional : goal.returns-clause-optional
+unfolding AreSame parts_of_meridian
 returns-clause-optional c level =
-    let is = c.parts_agree_where_same.ensures level in
-    same-as is.meridian
-    (meridian level c.same_value_is_equivalence.ensures (c.same_unit_is_equivalence.ensures kinds.Angle level) (c.same_idents_is_equivalence.ensures level))
+    by or_greenwich
+    (given level c.same_value_is_equivalence.ensures (c.same_unit_is_equivalence.ensures kinds.Angle level) (c.same_idents_is_equivalence.ensures level))
