@@ -1,6 +1,8 @@
 -- Numbers from 1 to n, each at most once: if there are n of them, each is among them.
-use Rattle.std.proofs.Common.{◌≡◌, ◌≢◌, ℕ, zero, suc, ◌≤◌, length, List, [], ◌∷◌, ◌⊎◌, inl, inr, sym, subst, arith}
-use Rattle.std.proofs.lemmas.Bool.{cases_eq}
+use Rattle.std.proofs.Common.{◌≡◌, ◌≢◌, ℕ, suc, ◌==◌, ◌<◌, ◌≤◌, true, false, length, List, [], ◌∷◌, ◌⊎◌, inl, inr, arith}
+use Rattle.std.specs.List.{list_any, AllByRecursion, IsDistinct}
+use Rattle.std.proofs.lemmas.Bool.{cases_eq, eqb-true, ne_eqb, or_cases}
+use Rattle.std.proofs.lemmas.Map.Steps.{length-le_from_distinct_below}
 
 -- from 1 to this number
 abbrev pub Within : ℕ → List ℕ → Type 0
@@ -34,51 +36,36 @@ among-or-lacks k [] a l = a
 among-or-lacks k (j ∷ js) (inl e) l = l.0 e
 among-or-lacks k (j ∷ js) (inr a) l = among-or-lacks k js a l.1
 
-shrink : (n : ℕ) (ks : List ℕ) → Within (suc n) ks → Lacks (suc n) ks → Within n ks
-shrink n [] w l = tt
-shrink n (k ∷ ks) w l = (w.0, less, shrink n ks w.2 l.1)
-  where
-    not : k ≡ suc n → ⊥
-    not e = l.0 (sym e)
-
-    less : k ≤ n
-    less = omega (arith, w.1, not)
-
--- the numbers without the greatest
-record Cut (n : ℕ) (ks : List ℕ) : Type 0 where
-  rest : List ℕ
-  within : Within n rest
-  apart : Apart rest
-  long : length ks ≤ suc (length rest)
-  lacks : (j : ℕ) → Lacks j ks → Lacks j rest
-
-cut : (n : ℕ) (ks : List ℕ) → Within (suc n) ks → Apart ks → Cut n ks
-cut n [] w a = record { rest = []; within = tt; apart = tt; long = omega arith; lacks = λ j l. tt }
-cut n (k ∷ ks) w a = elim (cases_eq k (suc n)) [
-  | inl e ↦ record {
-    rest = ks;
-    within = shrink n ks w.2 (subst (λ m. Lacks m ks) e a.0);
-    apart = a.1;
-    long = omega arith;
-    lacks = λ j l. l.1;
-  }
-  | inr other ↦
-      let c = cut n ks w.2 a.1 in record {
-        rest = k ∷ c.rest;
-        within = (w.0, less other, c.within);
-        apart = (c.lacks k a.0, c.apart);
-        long = omega (arith, c.long);
-        lacks = λ j l. (l.0, c.lacks j l.1);
-      }
+each-below : (n : ℕ) (ks : List ℕ) → Within n ks → (q : ℕ) → list_any (λ k. q == k) ks ≡ true → (1 ≤ q) × (q ≤ n)
+each-below n [] w q is = cc
+each-below n (k ∷ ks) w q is = elim (or_cases (q == k) _ is) [
+  | inl e ↦ let same = eqb-true q k e in (omega (arith, w.0, same), omega (arith, w.1, same))
+  | inr later ↦ each-below n ks w.2 q later
 ]
-  where
-    less : k ≢ suc n → k ≤ n
-    less other = omega (arith, w.1, other)
+
+lacked : (j : ℕ) (ks : List ℕ) → Lacks j ks → AllByRecursion (λ k. (j == k) ≡ false) ks
+lacked j [] l = tt
+lacked j (k ∷ ks) l = (ne_eqb j k l.0, lacked j ks l.1)
+
+distinct : (ks : List ℕ) → Apart ks → IsDistinct ◌==◌ ks
+unfolding IsDistinct
+distinct [] a = tt
+distinct (k ∷ ks) a = (lacked k ks a.0, distinct ks a.1)
+
+positive : (n : ℕ) (ks : List ℕ) → Within n ks → Lacks 0 ks
+positive n [] w = tt
+positive n (k ∷ ks) w = (λ e. omega (arith, w.0, e), positive n ks w.2)
 
 bound : (n : ℕ) (ks : List ℕ) → Within n ks → Apart ks → length ks ≤ n
-bound zero [] w a = omega arith
-bound zero (k ∷ ks) w a = absurd (omega (arith, w.0, w.1))
-bound (suc n) ks w a = let c = cut n ks w a in omega (arith, c.long, bound n c.rest c.within c.apart)
+bound n ks w a =
+    let all : length (0 ∷ ks) ≤ suc n = length-le_from_distinct_below (0 ∷ ks) (suc n) (distinct (0 ∷ ks) (positive n ks w, a)) below in
+    omega (arith, all)
+  where
+    below : (q : ℕ) → list_any (λ k. q == k) (0 ∷ ks) ≡ true → q < suc n
+    below q is = elim (or_cases (q == 0) _ is) [
+      | inl e ↦ omega (arith, eqb-true q 0 e)
+      | inr later ↦ omega (arith, (each-below n ks w q later).1)
+    ]
 
 pub each-stands : (n : ℕ) (ks : List ℕ) (k : ℕ) → Within n ks → Apart ks → length ks ≡ n → 1 ≤ k → k ≤ n → Among k ks
 each-stands n ks k w a long first last = elim (seek k ks) [

@@ -1,5 +1,5 @@
 -- The sameness of axes with their units and of coordinate systems, position by position.
-use Rattle.std.proofs.Common.{◌≡◌, ◌∙◌, refl, sym, ap, subst, ℕ, ◌≤◌, length, Option}
+use Rattle.std.proofs.Common.{◌≡◌, ◌∙◌, sym, ap, subst, ℕ, ◌≤◌, length, Option}
 use Rattle.std.specs.Prelude.{⊤}
 use Rattle.crs_shape.specs.declared.unit_kind.UnitKind.{UnitKind}
 use Rattle.crs_shape.specs.Prelude.{asked_kind}
@@ -11,20 +11,15 @@ use Rattle.crs_same.proofs.AxisLemmas.{which, at-both, which-both}
 
 -- ---- axes
 
-module _ (level : Level) (along : IsSameness (SameAxisMeridian level)) (identifiers : IsSameness (SameIdents level)) where
-  -- the sameness of axes with their units
-  axis-in : (asked : UnitKind) → IsSameness (SameUnit asked level) →
-      IsSameness (λ (x y : AxisParts × Option UnitParts). AgreeAxisIn asked level x.0 y.0 x.1 y.1)
-  axis-in asked unit =
-      in-words
-      (equal-by (λ x. x.0.name) ⊗ equal-by (λ x. x.0.direction) ⊗ by (λ x. x.0.meridian) (optional along)
-      ⊗ by (λ x. x.1) (optional unit) ⊗ by (λ x. x.0.identifiers) identifiers) (assumption) (assumption)
-
 module _ (level : Level) (along : IsSameness (SameAxisMeridian level)) (identifiers : IsSameness (SameIdents level))
     (units : (asked : UnitKind) → IsSameness (SameUnit asked level)) where
+  -- the sameness of axes with their units
   axes-in : (asked : UnitKind) →
       IsSameness (λ (x y : AxisParts × Option UnitParts). AgreeAxisIn asked level x.0 y.0 x.1 y.1)
-  axes-in asked = axis-in level along identifiers asked (units asked)
+  axes-in asked =
+      in-words
+      (equal-by (λ x. x.0.name) ⊗ equal-by (λ x. x.0.direction) ⊗ by (λ x. x.0.meridian) (optional along)
+      ⊗ by (λ x. x.1) (optional (units asked)) ⊗ by (λ x. x.0.identifiers) identifiers) (assumption) (assumption)
 
   axis-itself : (a : SystemParts) (x : AxisParts) → AgreeAxis level a a x x
   unfolding AgreeAxis
@@ -80,24 +75,13 @@ module _ (level : Level) (along : IsSameness (SameAxisMeridian level)) (identifi
         at-both (λ x z. AgreeAxis level a c x z) position a.axes c.axes v.0 w.1 v.3 w.4
         (axis-joined a b c v.0 w.0 w.1 s.system_type same w.2)
 
+    fields : IsSameness (λ (a b : SystemParts). (a.system_type ≡ b.system_type) × (SameValue a.dimension b.dimension × SameIdents level a.identifiers b.identifiers))
+    fields = equal-by (λ a. a.system_type) ⊗ by (λ a. a.dimension) number ⊗ by (λ a. a.identifiers) identifiers
+
     pub system : IsSamenessOf IsSystem (AgreeSystem level)
     system = record {
-      reflexive = λ a is. record {
-        system_type = refl;
-        dimension = number.reflexive a.dimension;
-        identifiers = identifiers.reflexive a.identifiers;
-        axes = axes-themselves a is;
-      };
-      symmetric = λ a b is-a is-b s. record {
-        system_type = sym s.system_type;
-        dimension = number.symmetric a.dimension b.dimension s.dimension;
-        identifiers = identifiers.symmetric a.identifiers b.identifiers s.identifiers;
-        axes = axes-swapped a b is-a is-b s;
-      };
-      transitive = λ a b c is-a is-b is-c s t. record {
-        system_type = s.system_type ∙ t.system_type;
-        dimension = number.transitive a.dimension b.dimension c.dimension s.dimension t.dimension;
-        identifiers = identifiers.transitive a.identifiers b.identifiers c.identifiers s.identifiers t.identifiers;
-        axes = axes-joined a b c is-a is-b s t;
-      };
+      reflexive = λ a is. assumption (fields.reflexive a, axes-themselves a is);
+      symmetric = λ a b is-a is-b s. assumption (fields.symmetric a b (s.system_type, (s.dimension, s.identifiers)), axes-swapped a b is-a is-b s);
+      transitive = λ a b c is-a is-b is-c s t.
+          assumption (fields.transitive a b c (s.system_type, (s.dimension, s.identifiers)) (t.system_type, (t.dimension, t.identifiers)), axes-joined a b c is-a is-b s t);
     }
