@@ -8,32 +8,31 @@ use Rattle.crs_same.specs.declared.found.Found.{Found}
 use Rattle.crs_same.specs.declared.found.Found.TheVariants as found
 use Rattle.crs_same.specs.declared.step.Step.{Step}
 use Rattle.crs_same.specs.declared.step.Step.TheVariants as step
-use Rattle.crs_same.specs.Parts.{◌▸◌, Parts, none, part, ◌⨾◌, within, First}
+use Rattle.crs_same.specs.Parts.{◌▸◌, Parts, none, part, ◌⨾◌, within, First, Differences}
 use Rattle.crs_same.specs.PartsOfFrames.{parts_of_given, or_greenwich}
 use Rattle.crs_same.specs.PartsOfSystems.{parts_at, parts_of_axes}
 use Rattle.crs_matching.specs.Prelude.{SameIdents, SameValue}
 use Rattle.crs_same.specs.Walked.{IsDone, IsRefused, Walks, TellsOf, Told, Walked}
 
--- over no part
-walks-none : (old : Found) → Walks none old old
-walks-none (found.First None) = (None, refl, refl)
-walks-none (found.First (Some path)) = refl
-walks-none (found.All paths) = inr ([], ap found.All (sym (append-nil paths)), refl)
-walks-none (found.Refused error) = refl
+-- over parts of which none differs
+unchanged : {parts : Parts} {old : Found} → First parts None → Differences parts [] → Walked parts old old
+unchanged {old = found.First None} first all = record { walks = (None, refl, first) }
+unchanged {old = found.First (Some path)} first all = record { walks = refl }
+unchanged {old = found.All before} first all = record { walks = inr ([], ap found.All (sym (append-nil before)), all) }
+unchanged {old = found.Refused error} first all = record { walks = refl }
+
+pub nothing : {old : Found} → Walked none old old
+nothing = unchanged refl refl
+
+pub same : {path : List Step} {Same : Type 0} {first second : Content} {old : Found} → Same → Walked (part path Same first second) old old
+same is = unchanged is is
 
 -- where nothing more is looked for
-walks-done : (parts : Parts) (old : Found) → IsDone old → Walks parts old old
-walks-done parts (found.First None) done = absurd done
-walks-done parts (found.First (Some path)) done = refl
-walks-done parts (found.All paths) done = absurd done
-walks-done parts (found.Refused error) done = refl
-
--- over one part that is the same in both
-walks-same : (path : List Step) (Same : Type 0) (first second : Content) (old : Found) → Same → Walks (part path Same first second) old old
-walks-same path Same first second (found.First None) same = (None, refl, same)
-walks-same path Same first second (found.First (Some before)) same = refl
-walks-same path Same first second (found.All before) same = inr ([], ap found.All (sym (append-nil before)), same)
-walks-same path Same first second (found.Refused error) same = refl
+pub done : {parts : Parts} {old : Found} → IsDone old → Walked parts old old
+done {old = found.First None} is = absurd is
+done {old = found.First (Some path)} is = record { walks = refl }
+done {old = found.All before} is = absurd is
+done {old = found.Refused error} is = record { walks = refl }
 
 -- over one part that differs
 walks-told : (path : List Step) (Same : Type 0) (first second : Content) (old new : Found) → ¬ Same → ¬ IsDone old →
@@ -44,6 +43,10 @@ walks-told path Same first second (found.All before) new differs more (inl refus
 walks-told path Same first second (found.All before) new differs more (inr told) =
     inr (record { path = path; first = first; second = second } ∷ [], told, (differs, refl, refl))
 walks-told path Same first second (found.Refused error) new differs more told = absurd told
+
+pub told : {path : List Step} {Same : Type 0} {first second : Content} {old new : Found} → ¬ Same → Told path first second old new →
+    Walked (part path Same first second) old new
+told differs it = record { walks = walks-told _ _ _ _ _ _ differs it.more it.tells }
 
 -- over one part that differs, from what is found over one that is never the same
 walks-differing : (path : List Step) (Same : Type 0) (first second : Content) (old new : Found) → ¬ Same →
@@ -56,6 +59,10 @@ walks-differing path Same first second (found.All before) new differs (inr ([], 
 walks-differing path Same first second (found.All before) new differs (inr (one ∷ further, was, (never, is, last))) =
     inr (one ∷ further, was, (differs, is, last))
 walks-differing path Same first second (found.Refused error) new differs walked = walked
+
+pub differing : {path : List Step} {Same : Type 0} {first second : Content} {old new : Found} → ¬ Same →
+    Walked (part path ⊥ first second) old new → Walked (part path Same first second) old new
+differing differs walked = record { walks = walks-differing _ _ _ _ _ _ differs walked.walks }
 
 -- over these parts and others
 walks-both : (these others : Parts) (old between new : Found) → Walks these old between → Walks others between new →
@@ -83,15 +90,6 @@ walks-both these others (found.All paths) between new (inr (front, is, first)) s
         inr (front ++ back, was ∙ ap found.All (append_assoc paths front back), (front, back, refl, first, rest))
 walks-both these others (found.Refused error) between new first second = subst (λ f. Walks others f new) first second
 
--- over the parts that are within the one
-walks-within : {X : Type 0} (Is : X → Type 0) (parts : X → Parts) (x : X) (old new : Found) → Is x → Walks (parts x) old new →
-    Walks (within Is parts) old new
-walks-within Is parts x (found.First None) new is (path, was, first) = (path, was, (x, is, first))
-walks-within Is parts x (found.First (Some path)) new is walked = walked
-walks-within Is parts x (found.All paths) new is (inl refused) = inl refused
-walks-within Is parts x (found.All paths) new is (inr (further, was, rest)) = inr (further, was, (x, is, rest))
-walks-within Is parts x (found.Refused error) new is walked = walked
-
 -- ---- for what a function walks over in turn
 
 infixr 10 ◌⟫◌
@@ -102,24 +100,14 @@ pub ◌⟫◌ : {these others : Parts} {old between new : Found} → Walked thes
 pub via : {these others : Parts} {old new : Found} (between : Found) → Walked these old between → Walked others between new → Walked (these ⨾ others) old new
 via between first second = first ⟫ second
 
-pub same : {path : List Step} {Same : Type 0} {first second : Content} {old : Found} → Same → Walked (part path Same first second) old old
-same {path} {Same} {first} {second} {old} is = record { walks = walks-same path Same first second old is }
-
-pub told : {path : List Step} {Same : Type 0} {first second : Content} {old new : Found} → ¬ Same → Told path first second old new →
-    Walked (part path Same first second) old new
-told {path} {Same} {first} {second} {old} {new} differs it =
-    record { walks = walks-told path Same first second old new differs it.more it.tells }
-
-pub differing : {path : List Step} {Same : Type 0} {first second : Content} {old new : Found} → ¬ Same →
-    Walked (part path ⊥ first second) old new → Walked (part path Same first second) old new
-differing {path} {Same} {first} {second} {old} {new} differs walked =
-    record { walks = walks-differing path Same first second old new differs walked.walks }
-
-pub nothing : {old : Found} → Walked none old old
-nothing {old} = record { walks = walks-none old }
-
-pub done : {parts : Parts} {old : Found} → IsDone old → Walked parts old old
-done {parts} {old} is = record { walks = walks-done parts old is }
+-- over the parts that are within the one
+walks-within : {X : Type 0} (Is : X → Type 0) (parts : X → Parts) (x : X) (old new : Found) → Is x → Walks (parts x) old new →
+    Walks (within Is parts) old new
+walks-within Is parts x (found.First None) new is (path, was, first) = (path, was, (x, is, first))
+walks-within Is parts x (found.First (Some path)) new is walked = walked
+walks-within Is parts x (found.All paths) new is (inl refused) = inl refused
+walks-within Is parts x (found.All paths) new is (inr (further, was, rest)) = inr (further, was, (x, is, rest))
+walks-within Is parts x (found.Refused error) new is walked = walked
 
 pub inside : {X : Type 0} {Is : X → Type 0} {parts : X → Parts} {old new : Found} (x : X) → Is x → Walked (parts x) old new →
     Walked (within Is parts) old new
