@@ -30,6 +30,11 @@ pub one-asked : (a b : SystemParts) (x y : AxisParts) → a.system_type ≡ b.sy
     asked_kind a.system_type x.direction ≡ asked_kind b.system_type y.direction
 one-asked a b x y type direction = λ i. asked_kind (type i) (direction i)
 
+-- what is asked of the horizontal part of a compound CRS is asked of it by itself
+pub horizontal-part : (a : Horizontal) → IsHorizontal a → IsHorizontalPart a
+horizontal-part (horizontal.Geodetic a) sound = sound.0
+horizontal-part (horizontal.Projected a) sound = sound.0
+
 module _ (level : Level) where
   same : {Same : Type 0} → Same ↔ Same
   same = (λ s. s, λ s. s)
@@ -39,9 +44,8 @@ module _ (level : Level) where
   pub dynamic : (at : List Step) (a b : Option DynamicParts) → AllSame (parts_of_dynamic at level a b) ↔ BothOrNeither (AgreeDynamic level) a b
   unfolding parts_of_dynamic
   dynamic at None None = (λ s. tt, λ s. (tt, tt))
-  dynamic at None (Some b) = (λ s. absurd s.0, λ s. absurd s)
-  dynamic at (Some a) None = (λ s. absurd s.0, λ s. absurd s)
   dynamic at (Some a) (Some b) = assumption
+  dynamic at a b = (λ s. absurd s.0, λ s. absurd s)
 
   -- ---- frames
 
@@ -50,9 +54,8 @@ module _ (level : Level) where
 
   pub ellipsoids : (at : List Step) (a b : Option EllipsoidParts) → AllSame (parts_of_ellipsoids at level a b) ↔ BothOrNeither (AgreeEllipsoid level) a b
   ellipsoids at None None = same
-  ellipsoids at None (Some b) = same
-  ellipsoids at (Some a) None = same
   ellipsoids at (Some a) (Some b) = ellipsoid at a b
+  ellipsoids at a b = same
 
   pub datum : (at : List Step) (a b : DatumParts) → AllSame (parts_of_datum at level a b) ↔ AgreeDatum level a b
   datum at a b = simp (ellipsoids (at ▸ step.Ellipsoid) a.ellipsoid b.ellipsoid) assumption
@@ -64,8 +67,7 @@ module _ (level : Level) where
   unfolding parts_of_frame
   frame-of at (frame.Datum a) (frame.Datum b) = datum at a b
   frame-of at (frame.Ensemble a) (frame.Ensemble b) = ensemble at a b
-  frame-of at (frame.Datum a) (frame.Ensemble b) = (λ s. absurd s.0, λ s. absurd s)
-  frame-of at (frame.Ensemble a) (frame.Datum b) = (λ s. absurd s.0, λ s. absurd s)
+  frame-of at a b = (λ s. absurd s.0, λ s. absurd s)
 
   -- ---- conversions
 
@@ -190,18 +192,13 @@ module _ (level : Level) where
     unfolding parts_of_horizontal
     horizontal-of at (horizontal.Geodetic a) (horizontal.Geodetic b) sound-a sound-b = geodetic at a b sound-a sound-b
     horizontal-of at (horizontal.Projected a) (horizontal.Projected b) sound-a sound-b = projected at a b sound-a sound-b
-    horizontal-of at (horizontal.Geodetic a) (horizontal.Projected b) sound-a sound-b = same
-    horizontal-of at (horizontal.Projected a) (horizontal.Geodetic b) sound-a sound-b = same
-
-    by-itself : (a : Horizontal) → IsHorizontal a → IsHorizontalPart a
-    by-itself (horizontal.Geodetic a) sound = sound.0
-    by-itself (horizontal.Projected a) sound = sound.0
+    horizontal-of at a b sound-a sound-b = same
 
     pub compound : (at : List Step) (a b : CompoundParts) → IsCompound a → IsCompound b → AllSame (parts_of_compound at level a b) ↔ AgreeCompound level a b
     unfolding parts_of_compound
     compound at a b sound-a sound-b =
         let h =
-        horizontal-of (at ▸ step.Horizontal) a.horizontal b.horizontal (by-itself a.horizontal sound-a.horizontal) (by-itself b.horizontal sound-b.horizontal) in
+        horizontal-of (at ▸ step.Horizontal) a.horizontal b.horizontal (horizontal-part a.horizontal sound-a.horizontal) (horizontal-part b.horizontal sound-b.horizontal) in
         simp (h, vertical (at ▸ step.Vertical) a.vertical b.vertical sound-a.vertical sound-b.vertical, tail) assumption
 
     pub crs-of : (a b : Crs) → IsCrs a → IsCrs b → AllSame (parts_of_crs level a b) ↔ AgreeCrs level a b

@@ -78,10 +78,8 @@ Narrows {V} parts = (at : List Step) (a b : V) → AllSame (parts at levels.Full
 
 either : {V : Type 0} (at : List Step) (name_of : V → List ℕ) (P Q : V → V → Parts) → ((a b : V) → AllSame (P a b) → AllSame (Q a b)) →
     (a b : Option V) → AllSame (nodes at name_of P a b) → AllSame (nodes at name_of Q a b)
-either at name_of P Q narrow None None s = s
-either at name_of P Q narrow None (Some b) s = s
-either at name_of P Q narrow (Some a) None s = s
 either at name_of P Q narrow (Some a) (Some b) s = narrow a b s
+either at name_of P Q narrow a b s = s
 
 method : Narrows parts_of_method
 unfolding parts_of_method
@@ -124,8 +122,7 @@ frame-of : Narrows parts_of_frame
 unfolding parts_of_frame
 frame-of at (frame.Datum a) (frame.Datum b) s = datum at a b s
 frame-of at (frame.Ensemble a) (frame.Ensemble b) s = ensemble at a b s
-frame-of at (frame.Datum a) (frame.Ensemble b) s = absurd s.0
-frame-of at (frame.Ensemble a) (frame.Datum b) s = absurd s.0
+frame-of at a b s = absurd s.0
 
 -- ---- coordinate systems
 
@@ -170,8 +167,7 @@ horizontal-of : Narrows parts_of_horizontal
 unfolding parts_of_horizontal
 horizontal-of at (horizontal.Geodetic a) (horizontal.Geodetic b) s = geodetic at a b s
 horizontal-of at (horizontal.Projected a) (horizontal.Projected b) s = projected at a b s
-horizontal-of at (horizontal.Geodetic a) (horizontal.Projected b) s = s
-horizontal-of at (horizontal.Projected a) (horizontal.Geodetic b) s = s
+horizontal-of at a b s = s
 
 compound : Narrows parts_of_compound
 unfolding parts_of_compound

@@ -66,9 +66,8 @@ module _ {level : Level} {Holds : Parts → Type 0} {Is : List Step → Type 0} 
   either : {V : Type 0} (at : List Step) (name_of : V → List ℕ) (parts : V → V → Parts) → ((a b : V) → Holds (parts a b)) →
       (a b : Option V) → Is at → Holds (nodes at name_of parts a b)
   either at name_of parts each-of None None is = rules.nothing
-  either at name_of parts each-of None (Some b) is = one at step.Name tt is
-  either at name_of parts each-of (Some a) None is = one at step.Name tt is
   either at name_of parts each-of (Some a) (Some b) is = each-of a b
+  either at name_of parts each-of a b is = one at step.Name tt is
 
   -- ---- dynamic parts
 
@@ -101,8 +100,7 @@ module _ {level : Level} {Holds : Parts → Type 0} {Is : List Step → Type 0} 
   unfolding parts_of_frame
   frame-of at (frame.Datum a) (frame.Datum b) is = datum at a b is
   frame-of at (frame.Ensemble a) (frame.Ensemble b) is = ensemble at a b is
-  frame-of at (frame.Datum a) (frame.Ensemble b) is = search (◌⨟◌, one, idents, rules.on, ellipsoids) depth 7
-  frame-of at (frame.Ensemble a) (frame.Datum b) is = search (◌⨟◌, one, idents, rules.on, ellipsoids) depth 7
+  frame-of at a b is = search (◌⨟◌, one, idents, rules.on, ellipsoids) depth 7
 
   -- ---- coordinate systems
 

@@ -35,11 +35,11 @@ nothing = record { turned = λ found is. ap (map exchanged) is }
 
 infixr 10 ◌⨟◌
 ◌⨟◌ : {these those others more : Parts} → Turns these those → Turns others more → Turns (these ⨾ others) (those ⨾ more)
-◌⨟◌ {these} {those} {others} {more} f g = record { turned = both }
-  where
-    both : (found : List DifferenceParts) → Differences (these ⨾ others) found → Differences (those ⨾ more) (map exchanged found)
-    both found (front, back, is, here, there) =
-        (map exchanged front, map exchanged back, ap (map exchanged) is ∙ map-append exchanged front back, f.turned front here, g.turned back there)
+f ⨟ g = record {
+  turned = λ found h.
+      let (front, back, is, here, there) = h in
+      (map exchanged front, map exchanged back, ap (map exchanged) is ∙ map-append exchanged front back, f.turned front here, g.turned back there);
+}
 
 -- ---- single parts
 
@@ -66,8 +66,7 @@ both : {V : Type 0} (Same Other : V → V → Type 0) → ((x y : V) → Same x 
     BothOrNeither Other b a
 both Same Other turn None None s = tt
 both Same Other turn (Some x) (Some y) s = turn x y s
-both Same Other turn None (Some y) s = absurd s
-both Same Other turn (Some x) None s = absurd s
+both Same Other turn a b s = absurd s
 
 if-any : {V : Type 0} (path : List Step) (Same : V → V → Type 0) (what : V → Content) → ((x y : V) → Same x y → Same y x) →
     (a b : Option V) → Turns (optional path Same what a b) (optional path Same what b a)
@@ -79,9 +78,8 @@ named level a b s = record { name = sym s.name; identifiers = (s.identifiers.1, 
 either : {V : Type 0} (at : List Step) (name_of : V → List ℕ) (P Q : V → V → Parts) → ((x y : V) → Turns (P x y) (Q y x)) →
     (a b : Option V) → Turns (nodes at name_of P a b) (nodes at name_of Q b a)
 either at name_of P Q turn None None = nothing
-either at name_of P Q turn None (Some b) = never
-either at name_of P Q turn (Some a) None = never
 either at name_of P Q turn (Some a) (Some b) = turn a b
+either at name_of P Q turn a b = never
 
 module _ (level : Level) (same-turned : (a b : Value) → SameValue a b → SameValue b a) where
   number : (path : List Step) (a b : Value) → Turns (numbers path a b) (numbers path b a)
@@ -144,8 +142,7 @@ module _ (level : Level) (same-turned : (a b : Value) → SameValue a b → Same
   unfolding parts_of_frame
   frame-of at (frame.Datum a) (frame.Datum b) = datum at a b
   frame-of at (frame.Ensemble a) (frame.Ensemble b) = ensemble at a b
-  frame-of at (frame.Datum a) (frame.Ensemble b) = search (◌⨟◌, never, equal, ellipsoids, set) depth 7
-  frame-of at (frame.Ensemble a) (frame.Datum b) = search (◌⨟◌, never, equal, ellipsoids, set) depth 7
+  frame-of at a b = search (◌⨟◌, never, equal, ellipsoids, set) depth 7
 
   -- ---- coordinate systems
 
@@ -154,19 +151,11 @@ module _ (level : Level) (same-turned : (a b : Value) → SameValue a b → Same
   axis at a b x y = search (◌⨟◌, equal, if-any, axis-meridian, units-if-any, set) depth 8
 
   axes-at : (at : List Step) (a b : SystemParts) (position : ℕ) → Turns (parts_at at level a b position) (parts_at at level b a position)
-  axes-at at a b position = record { turned = turn }
-    where
-      turn : (found : List DifferenceParts) → Differences (parts_at at level a b position) found →
-          Differences (parts_at at level b a position) (map exchanged found)
-      turn found (x, here, (y, there, is)) = (
-        y,
-        there,
-        (
-          x,
-          here,
-          (either at (λ axis. axis.name) (parts_of_axis at level a b) (parts_of_axis at level b a) (axis at a b) x y).turned found is,
-        ),
-      )
+  axes-at at a b position = record {
+    turned = λ found h.
+        let (x, here, (y, there, is)) = h in
+        (y, there, (x, here, (either at (λ axis. axis.name) (parts_of_axis at level a b) (parts_of_axis at level b a) (axis at a b) x y).turned found is));
+  }
 
   axes : (at : List Step) (a b : SystemParts) (count : ℕ) → Turns (parts_of_axes at level a b count) (parts_of_axes at level b a count)
   axes at a b zero = nothing
@@ -215,8 +204,7 @@ module _ (level : Level) (same-turned : (a b : Value) → SameValue a b → Same
   unfolding parts_of_horizontal
   horizontal-of at (horizontal.Geodetic a) (horizontal.Geodetic b) = geodetic at a b
   horizontal-of at (horizontal.Projected a) (horizontal.Projected b) = projected at a b
-  horizontal-of at (horizontal.Geodetic a) (horizontal.Projected b) = never
-  horizontal-of at (horizontal.Projected a) (horizontal.Geodetic b) = never
+  horizontal-of at a b = never
 
   compound : (at : List Step) (a b : CompoundParts) → Turns (parts_of_compound at level a b) (parts_of_compound at level b a)
   unfolding parts_of_compound

@@ -45,9 +45,7 @@ first-in-crs level Is P on each a b is = (crs-of rules a b (sound a) (sound b) i
 
     sound : (a : Crs) → SoundIn (λ system. Unit {0}) a
     sound (crs.Compound a) = (tt, tt)
-    sound (crs.Geodetic a) = tt
-    sound (crs.Projected a) = tt
-    sound (crs.Vertical a) = tt
+    sound a = tt
 
 -- ---- a path has a step
 

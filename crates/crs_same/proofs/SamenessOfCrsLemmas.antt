@@ -5,10 +5,11 @@ use Rattle.crs_value.specs.declared.values.compound.Horizontal.TheVariants as ho
 use Rattle.crs_value.specs.declared.values.crs.Crs.{Crs}
 use Rattle.crs_value.specs.declared.values.crs.Crs.TheVariants as crs
 use Rattle.crs_value.specs.declared.values.level.Level.{Level}
-use Rattle.crs_value.specs.Prelude.{kind_by, kind_of, IsHorizontal, IsCompound, IsCrs, IsGeodetic, IsProjected, IsVertical, IsSystem}
+use Rattle.crs_value.specs.Prelude.{kind_by, kind_of, IsCompound, IsCrs, IsGeodetic, IsProjected, IsVertical, IsSystem}
 use Rattle.crs_matching.specs.Prelude.{IsSameness, IsSamenessOf, SameGeoidModel, SameIdents, SameUnit, equal-by, by, ◌⊗◌, in-words, over, of, optional, set}
 use Rattle.crs_same.specs.Agreement.{AgreeConversion, AgreeGeodetic, AgreeBase, AgreeProjected, AgreeVertical, AgreeHorizontal, AgreeCompound, AgreeParts, AgreeCrs, AgreeDynamic, AgreeMeridian, AgreeFrame, AgreeSystem, AgreeTail}
 use Rattle.crs_same.specs.SameCrs.{IsHorizontalPart}
+use Rattle.crs_same.proofs.AgreementLemmas.{horizontal-part}
 
 pub base : (level : Level) → IsSameness (AgreeDynamic level) → IsSameness (AgreeFrame level) → IsSameness (AgreeMeridian level) →
     IsSameness (SameUnit kinds.Angle level) →
@@ -65,10 +66,6 @@ horizontal-of level g p = record { reflexive = itself; symmetric = swapped; tran
     joined (horizontal.Projected a) (horizontal.Projected b) (horizontal.Projected c) x y z s t =
         p.transitive a b c x y z s t
     joined a b c x y z s t = absurd assumption
-
-horizontal-part : (a : Horizontal) → IsHorizontal a → IsHorizontalPart a
-horizontal-part (horizontal.Geodetic a) is = is.0
-horizontal-part (horizontal.Projected a) is = is.0
 
 pub compound : (level : Level) → IsSamenessOf IsHorizontalPart (AgreeHorizontal level) →
     IsSamenessOf IsVertical (AgreeVertical level) →
