@@ -1,5 +1,5 @@
 -- What holds of the parts of two values, since it holds of each part, of parts in turn and of those at a position.
-use Rattle.std.proofs.Common.{◌≡◌, ℕ, zero, suc, max, ◌⊎◌, inl, inr, Option, Some, None, List, [], length, refl, sym, subst}
+use Rattle.std.proofs.Common.{◌≡◌, ℕ, zero, suc, ◌⊎◌, inl, inr, Option, Some, None, List, [], refl, sym, subst}
 use Rattle.crs_value.specs.declared.values.compound.Horizontal.{Horizontal}
 use Rattle.crs_value.specs.declared.values.compound.Horizontal.TheVariants as horizontal
 use Rattle.crs_value.specs.declared.values.crs.Crs.{Crs}
