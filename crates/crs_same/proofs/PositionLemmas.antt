@@ -46,17 +46,13 @@ module _ (symmetric : (a b : Number) → SameNumber a b → SameNumber b a)
   at-order : (o : Value) (k place j : ℕ) → SameNumber (exact o) (whole_number k) → IsPositionOf j place (Some o) ↔ (k ≡ j)
   at-order o k place j s = (
     λ t. wholes-same k j (transitive (whole_number k) (exact o) (whole_number j) (symmetric (exact o) (whole_number k) s) t),
-    λ e. let P : ℕ → Type 0 = λ n. SameNumber (exact o) (whole_number n) in subst P e s,
+    λ e. rw e at s,
   )
 
   other-position : (v o : Value) (j k : ℕ) → IsNormal v → IsNormal o → SameNumber (exact v) (whole_number j) → SameNumber (exact o) (whole_number k) → v ≢ o → j ≢ k
-  other-position v o j k nv mo sv so differ e = differ ((normal-is-one v o nv mo).0 same)
-    where
-      P : ℕ → Type 0
-      P n = SameNumber (exact v) (whole_number n)
-
-      same : SameNumber (exact v) (exact o)
-      same = transitive (exact v) (whole_number k) (exact o) (subst P e sv) (symmetric (exact o) (whole_number k) so)
+  other-position v o j k nv mo sv so differ e =
+      differ ((normal-is-one v o nv mo).0
+      (transitive (exact v) (whole_number k) (exact o) (rw e at sv) (symmetric (exact o) (whole_number k) so)))
 
   -- no axis has a position whose number isn't among the orders
   abbrev Free : List Value → List ℕ → Type 0
@@ -116,24 +112,22 @@ module _ (symmetric : (a b : Number) → SameNumber a b → SameNumber b a)
   one-alone system sound P Q k p q = let s = positions system sound in alone 1 system.axes s.ks s.stand s.apart p q
     where
       among : (R : AxisParts → Type 0) (place : ℕ) (axes : List AxisParts) (ks : List ℕ) → Stand place axes ks → HasAt k R place axes → Among k ks
-      among R place [] ks stand h = absurd h
-      among R place (axis ∷ axes) [] stand h = absurd stand
       among R place (axis ∷ axes) (j ∷ js) stand (inl h) = inl (sym ((stand.0 k).0 h.0))
       among R place (axis ∷ axes) (j ∷ js) stand (inr h) = inr (among R (place + 1) axes js stand.1 h)
+      among R place axes ks stand h = absurd assumption
 
       no-other : (R : AxisParts → Type 0) (place j : ℕ) (axes : List AxisParts) (js : List ℕ) → k ≡ j → Lacks j js → Stand place axes js → HasAt k R place axes → ⊥
       no-other R place j axes js e lacks stand h = among-or-lacks k js (among R place axes js stand h) (subst (λ n. Lacks n js) (sym e) lacks)
 
       alone : (place : ℕ) (axes : List AxisParts) (ks : List ℕ) → Stand place axes ks → Apart ks → HasAt k P place axes → HasAt k Q place axes →
           (axis : AxisParts) × P axis × Q axis
-      alone place [] ks stand apart p q = absurd p
-      alone place (axis ∷ axes) [] stand apart p q = absurd stand
       alone place (axis ∷ axes) (j ∷ js) stand apart (inl p) (inl q) = (axis, p.1, q.1)
       alone place (axis ∷ axes) (j ∷ js) stand apart (inl p) (inr q) =
           absurd (no-other Q (place + 1) j axes js (sym ((stand.0 k).0 p.0)) apart.0 stand.1 q)
       alone place (axis ∷ axes) (j ∷ js) stand apart (inr p) (inl q) =
           absurd (no-other P (place + 1) j axes js (sym ((stand.0 k).0 q.0)) apart.0 stand.1 p)
       alone place (axis ∷ axes) (j ∷ js) stand apart (inr p) (inr q) = alone (place + 1) axes js stand.1 apart.1 p q
+      alone place axes ks stand apart p q = absurd assumption
 
 pub as-many : ((a b : Number) → SameNumber a b → SameNumber b a) → ((a b c : Number) → SameNumber a b → SameNumber b c → SameNumber a c) →
     (a b : SystemParts) → IsSystem a → IsSystem b → SameValue a.dimension b.dimension → length a.axes ≡ length b.axes
