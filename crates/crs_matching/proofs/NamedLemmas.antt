@@ -6,6 +6,4 @@ use Rattle.crs_matching.specs.SamenessLaws.{equal-by, by, ◌⊗◌, in-words}
 
 pub named : (level : Level) → IsSameness (SameIdents level) → IsSameness (SameNamed level)
 named level identifiers =
-    in-words (equal-by (λ a. a.name) ⊗ by (λ a. a.identifiers) identifiers)
-    (λ a b s. (s.name, s.identifiers))
-    (λ a b p. record { name = p.0; identifiers = p.1 })
+    in-words (equal-by (λ a. a.name) ⊗ by (λ a. a.identifiers) identifiers) (assumption) (assumption)

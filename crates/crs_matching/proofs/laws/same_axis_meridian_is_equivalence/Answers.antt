@@ -5,6 +5,4 @@ use Rattle.crs_matching.proofs.laws.same_axis_meridian_is_equivalence.Goals as g
 pub returns : goal.returns
 returns c level =
     in-words
-    (by (λ a. a.longitude) c.same_value_is_equivalence.ensures ⊗ by (λ a. a.unit) (c.same_unit_is_equivalence.ensures kinds.Angle level))
-    (λ a b s. (s.longitude, s.unit))
-    (λ a b p. record { longitude = p.0; unit = p.1 })
+    (by (λ a. a.longitude) c.same_value_is_equivalence.ensures ⊗ by (λ a. a.unit) (c.same_unit_is_equivalence.ensures kinds.Angle level)) (assumption) (assumption)

@@ -4,6 +4,4 @@ use Rattle.crs_matching.proofs.laws.same_extent_is_equivalence.Goals as goal
 pub returns : goal.returns
 returns c level =
     let number = c.same_value_is_equivalence.ensures in
-    in-words (by (λ a. a.minimum) number ⊗ by (λ a. a.maximum) number ⊗ by (λ a. a.unit) (c.same_length_is_equivalence.ensures level))
-    (λ a b s. (s.minimum, (s.maximum, s.unit)))
-    (λ a b p. record { minimum = p.0; maximum = p.1.0; unit = p.1.1 })
+    in-words (by (λ a. a.minimum) number ⊗ by (λ a. a.maximum) number ⊗ by (λ a. a.unit) (c.same_length_is_equivalence.ensures level)) (assumption) (assumption)

@@ -7,6 +7,4 @@ returns c level =
     in-words
     (equal-by (λ a. a.name) ⊗ by (λ a. a.value) c.same_value_is_equivalence.ensures
     ⊗ by (λ a. a.unit) (optional (c.same_unit_is_equivalence.ensures kinds.Plain level))
-    ⊗ by (λ a. a.identifiers) (c.same_idents_is_equivalence.ensures level))
-    (λ a b s. (s.name, (s.value, (s.unit, s.identifiers))))
-    (λ a b p. record { name = p.0; value = p.1.0; unit = p.1.1.0; identifiers = p.1.1.1 })
+    ⊗ by (λ a. a.identifiers) (c.same_idents_is_equivalence.ensures level)) (assumption) (assumption)

@@ -6,6 +6,4 @@ pub returns : goal.returns
 returns c asked level =
     in-words
     (equal-by (λ a. kind_as asked a.kind) ⊗ equal-by (λ a. a.name) ⊗ by (λ a. a.factor) c.same_value_is_equivalence.ensures
-    ⊗ by (λ a. a.identifiers) (c.same_idents_is_equivalence.ensures level))
-    (λ a b s. (s.kind, (s.name, (s.factor, s.identifiers))))
-    (λ a b p. record { kind = p.0; name = p.1.0; factor = p.1.1.0; identifiers = p.1.1.1 })
+    ⊗ by (λ a. a.identifiers) (c.same_idents_is_equivalence.ensures level)) (assumption) (assumption)

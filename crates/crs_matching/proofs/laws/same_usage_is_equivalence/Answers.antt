@@ -6,6 +6,4 @@ pub returns : goal.returns
 returns c =
     in-words
     (equal-by (λ a. a.scope) ⊗ equal-by (λ a. a.area) ⊗ by (λ a. a.bbox) (optional c.same_box_is_equivalence.ensures)
-    ⊗ by (λ a. a.extent) (optional (c.same_extent_is_equivalence.ensures levels.Full)))
-    (λ a b s. (s.scope, (s.area, (s.bbox, s.extent))))
-    (λ a b p. record { scope = p.0; area = p.1.0; bbox = p.1.1.0; extent = p.1.1.1 })
+    ⊗ by (λ a. a.extent) (optional (c.same_extent_is_equivalence.ensures levels.Full))) (assumption) (assumption)
