@@ -275,10 +275,11 @@ with_files (name ∷ names) last =
 abbrev at_files : List Text → Text → Walk
 at_files names last = before (with_files names last) positional 1
 
--- a command goes on to a next file, and at the end its task is asked for over the files
+-- a command goes to a first file and on to a next, and at the end its task is asked for over the files
 abbrev pub ReadsFiles : CommandName → Request → Task → Type 0
 ReadsFiles n alone wanted = (names : List Text) (last word : Text)
-    → (is_plain_word word ≡ true → Goes (built_at n) (at_files names last) word (at_files (names ++ last ∷ []) word))
+    → (is_plain_word word ≡ true → Goes (built_at n) (walk_from nothing_held) word (at_files [] word))
+    × (is_plain_word word ≡ true → Goes (built_at n) (at_files names last) word (at_files (names ++ last ∷ []) word))
     × (request_of (name_of n, finished (built_at n).rules (with_files names last)) ≡ Some (over alone wanted (names ++ last ∷ [])))
     × (ends (built_at n) (at_files names last) ≡ true)
 
@@ -294,7 +295,7 @@ files_run n alone wanted reads names last (word ∷ words) usual =
       rest.1,
       sym (append_assoc names (last ∷ []) (word ∷ words)) ∙ rest.2,
       goes_on (built_at n) (at_files names last) (at_files (names ++ last ∷ []) word) (at_files rest.0 rest.1) word words
-          ((reads names last word).0 each.0) rest.3,
+          ((reads names last word).1 each.0) rest.3,
     )
 
 -- files are asked for where there are some
@@ -304,12 +305,11 @@ over-some alone wanted [] last = refl
 over-some alone wanted (name ∷ names) last = grind arith
 
 pub files_asked : (n : CommandName) (alone : Request) (wanted : Task) → ReadsFiles n alone wanted → (program name : Text) (names : List Text)
-    → (is_plain_word name ≡ true → Goes (built_at n) (walk_from nothing_held) name (at_files [] name)) → list_all is_plain_word (name ∷ names) ≡ true
-    → asked (program ∷ name_of n ∷ name ∷ names) ≡ Some (Files wanted (name ∷ names))
-files_asked n alone wanted reads program name names first usual =
+    → list_all is_plain_word (name ∷ names) ≡ true → asked (program ∷ name_of n ∷ name ∷ names) ≡ Some (Files wanted (name ∷ names))
+files_asked n alone wanted reads program name names usual =
     let each = both (is_plain_word name) _ usual in
     let run = files_run n alone wanted reads [] name names each.1 in
     let to = at_files run.0 run.1 in
     let end = reads run.0 run.1 name in
-    line_asked n program (name ∷ names) to (goes_on (built_at n) (walk_from nothing_held) (at_files [] name) to name names (first each.0) run.3) end.2
-    ∙ end.1 ∙ ap Some (over-some alone wanted run.0 run.1) ∙ sym (ap (λ l. Some (Files wanted l)) run.2)
+    line_asked n program (name ∷ names) to (goes_on (built_at n) (walk_from nothing_held) (at_files [] name) to name names (end.0 each.0) run.3) end.3
+    ∙ end.2 ∙ ap Some (over-some alone wanted run.0 run.1) ∙ sym (ap (λ l. Some (Files wanted l)) run.2)

@@ -3,12 +3,9 @@ use Rattle.clap.proofs.OnLiterals.{clap_on_literals}
 use Rattle.crs_command_line.proofs.LineLemmas.{canon, group, literal, plainly_given, words_asked}
 use Rattle.crs_command_line.proofs.laws.canon_and_group_have_a_level.Goals as goal
 
-pub returns-clause-canon : goal.returns-clause-canon
+pub returns : goal.returns
 unfolding clap_on_literals
-returns-clause-canon c program level usual =
-    words_asked canon program (literal (codes "--level") ∷ plainly_given level usual ∷ []) refl
-
-pub returns-clause-group : goal.returns-clause-group
-unfolding clap_on_literals
-returns-clause-group c program level usual =
-    words_asked group program (literal (codes "--level") ∷ plainly_given level usual ∷ []) refl
+returns c = record {
+  canon = λ program level usual. words_asked canon program (literal (codes "--level") ∷ plainly_given level usual ∷ []) refl;
+  group = λ program level usual. words_asked group program (literal (codes "--level") ∷ plainly_given level usual ∷ []) refl;
+}

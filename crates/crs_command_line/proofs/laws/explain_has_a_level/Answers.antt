@@ -3,17 +3,12 @@ use Rattle.clap.proofs.OnLiterals.{clap_on_literals}
 use Rattle.crs_command_line.proofs.LineLemmas.{explain, literal, plainly_given, words_asked}
 use Rattle.crs_command_line.proofs.laws.explain_has_a_level.Goals as goal
 
-pub returns-clause-alone : goal.returns-clause-alone
+pub returns : goal.returns
 unfolding clap_on_literals
-returns-clause-alone c program level usual =
-    words_asked explain program (literal (codes "--level") ∷ plainly_given level usual ∷ []) refl
-
-pub returns-clause-before : goal.returns-clause-before
-unfolding clap_on_literals
-returns-clause-before c program level first second usual one other =
-    words_asked explain program (literal (codes "--level") ∷ plainly_given level usual ∷ plainly_given first one ∷ plainly_given second other ∷ []) refl
-
-pub returns-clause-after : goal.returns-clause-after
-unfolding clap_on_literals
-returns-clause-after c program level first second usual one other =
-    words_asked explain program (plainly_given first one ∷ plainly_given second other ∷ literal (codes "--level") ∷ plainly_given level usual ∷ []) refl
+returns c = record {
+  alone = λ program level usual. words_asked explain program (literal (codes "--level") ∷ plainly_given level usual ∷ []) refl;
+  before = λ program level first second usual one other.
+      words_asked explain program (literal (codes "--level") ∷ plainly_given level usual ∷ plainly_given first one ∷ plainly_given second other ∷ []) refl;
+  after = λ program level first second usual one other.
+      words_asked explain program (plainly_given first one ∷ plainly_given second other ∷ literal (codes "--level") ∷ plainly_given level usual ∷ []) refl;
+}

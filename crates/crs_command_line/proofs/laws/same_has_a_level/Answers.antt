@@ -3,12 +3,11 @@ use Rattle.clap.proofs.OnLiterals.{clap_on_literals}
 use Rattle.crs_command_line.proofs.LineLemmas.{literal, plainly_given, same, words_asked}
 use Rattle.crs_command_line.proofs.laws.same_has_a_level.Goals as goal
 
-pub returns-clause-before : goal.returns-clause-before
+pub returns : goal.returns
 unfolding clap_on_literals
-returns-clause-before c program level first second usual one other =
-    words_asked same program (literal (codes "--level") ∷ plainly_given level usual ∷ plainly_given first one ∷ plainly_given second other ∷ []) refl
-
-pub returns-clause-after : goal.returns-clause-after
-unfolding clap_on_literals
-returns-clause-after c program level first second usual one other =
-    words_asked same program (plainly_given first one ∷ plainly_given second other ∷ literal (codes "--level") ∷ plainly_given level usual ∷ []) refl
+returns c = record {
+  before = λ program level first second usual one other.
+      words_asked same program (literal (codes "--level") ∷ plainly_given level usual ∷ plainly_given first one ∷ plainly_given second other ∷ []) refl;
+  after = λ program level first second usual one other.
+      words_asked same program (plainly_given first one ∷ plainly_given second other ∷ literal (codes "--level") ∷ plainly_given level usual ∷ []) refl;
+}

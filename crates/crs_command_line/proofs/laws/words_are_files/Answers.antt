@@ -7,28 +7,24 @@ use Rattle.crs_command_line.proofs.LineLemmas.{ReadsFiles, built_at, canon, chec
 use Rattle.crs_command_line.proofs.laws.words_are_files.Goals as goal
 
 canon_reads : ReadsFiles canon (Canon (codes "full")) (task.Canon (codes "full"))
-canon_reads [] last word = (plain_turn (built_at canon) (with_files [] last) positional 1 word, refl, refl)
-canon_reads (name ∷ names) last word = (plain_turn (built_at canon) (with_files (name ∷ names) last) positional 1 word, refl, refl)
-
-pub returns-clause-canon : goal.returns-clause-canon
-unfolding clap_on_literals
-returns-clause-canon c program name names =
-    files_asked canon (Canon (codes "full")) (task.Canon (codes "full")) canon_reads program name names (plain_turn (built_at canon) nothing_held idle 1 name)
+canon_reads [] last word = (plain_turn (built_at canon) nothing_held idle 1 word, plain_turn (built_at canon) (with_files [] last) positional 1 word, refl, refl)
+canon_reads (name ∷ names) last word =
+    (plain_turn (built_at canon) nothing_held idle 1 word, plain_turn (built_at canon) (with_files (name ∷ names) last) positional 1 word, refl, refl)
 
 check_reads : ReadsFiles check Check task.Check
-check_reads [] last word = (plain_turn (built_at check) (with_files [] last) positional 1 word, refl, refl)
-check_reads (name ∷ names) last word = (plain_turn (built_at check) (with_files (name ∷ names) last) positional 1 word, refl, refl)
-
-pub returns-clause-check : goal.returns-clause-check
-unfolding clap_on_literals
-returns-clause-check c program name names =
-    files_asked check Check task.Check check_reads program name names (plain_turn (built_at check) nothing_held idle 1 name)
+check_reads [] last word = (plain_turn (built_at check) nothing_held idle 1 word, plain_turn (built_at check) (with_files [] last) positional 1 word, refl, refl)
+check_reads (name ∷ names) last word =
+    (plain_turn (built_at check) nothing_held idle 1 word, plain_turn (built_at check) (with_files (name ∷ names) last) positional 1 word, refl, refl)
 
 group_reads : ReadsFiles group (Group (codes "full")) (task.Group (codes "full"))
-group_reads [] last word = (plain_turn (built_at group) (with_files [] last) positional 1 word, refl, refl)
-group_reads (name ∷ names) last word = (plain_turn (built_at group) (with_files (name ∷ names) last) positional 1 word, refl, refl)
+group_reads [] last word = (plain_turn (built_at group) nothing_held idle 1 word, plain_turn (built_at group) (with_files [] last) positional 1 word, refl, refl)
+group_reads (name ∷ names) last word =
+    (plain_turn (built_at group) nothing_held idle 1 word, plain_turn (built_at group) (with_files (name ∷ names) last) positional 1 word, refl, refl)
 
-pub returns-clause-group : goal.returns-clause-group
+pub returns : goal.returns
 unfolding clap_on_literals
-returns-clause-group c program name names =
-    files_asked group (Group (codes "full")) (task.Group (codes "full")) group_reads program name names (plain_turn (built_at group) nothing_held idle 1 name)
+returns c = record {
+  canon = files_asked canon (Canon (codes "full")) (task.Canon (codes "full")) canon_reads;
+  check = files_asked check Check task.Check check_reads;
+  group = files_asked group (Group (codes "full")) (task.Group (codes "full")) group_reads;
+}
