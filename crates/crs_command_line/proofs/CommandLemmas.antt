@@ -1,7 +1,8 @@
 -- A line that the command takes asks for something.
-use Rattle.std.proofs.Common.{◌≡◌, ◌≢◌, List, [], ◌∷◌, Option, Some, None, IsSome, Bool, true, false, inl, inr, cond, ap, ◌∙◌, refl, subst, sym, is_some, option_and_then, option_map, find}
+use Rattle.std.proofs.Common.{arith, ◌≡◌, ◌≢◌, List, [], ◌∷◌, Option, Some, None, IsSome, Bool, true, false, inl, inr, cond, ap, ◌∙◌, refl, subst, sym, is_some, option_and_then, option_map, find}
 use Rattle.std.specs.Option.{option_map_or}
 use Rattle.std.proofs.Math.Bool.{or-false}
+use Rattle.std.proofs.lemmas.Bool.{false_from_ne_true}
 use Rattle.clap.specs.Words.{App, HasKind, HasMatchesOf, IsAmong, Row, Shape, Text, app_of, built, fault_of, is_simple, is_simple_and_free, kind_of, subcommand_of, subcommand_rows_of, takes}
 use Rattle.clap.specs.Simple.{argument_words, entered, label_of, names_of, rows_at}
 use Rattle.clap.specs.Takes.{entered_passes, level_passes, settle_passes, walk_passes}
@@ -32,22 +33,12 @@ entered_at words found = option_map (λ s. rows_at s words) found
 passes_at : List Text → Option Shape → Bool
 passes_at words found = option_map_or (λ s. level_passes s [] nothing_held words false) found true
 
-known_here : (words : List Text) (here : Bool) (s : Shape) (others : Option Shape)
-    → (here ≡ true → level_passes s [] nothing_held words false ≡ true → IsSome (request_of (rows_at s words)))
-    → (passes_at words others ≡ true → IsSome (entered_at words others) → IsSome (option_and_then request_of (entered_at words others)))
-    → passes_at words (cond here (Some s) others) ≡ true → IsSome (entered_at words (cond here (Some s) others))
-    → IsSome (option_and_then request_of (entered_at words (cond here (Some s) others)))
-unfolding entered_at passes_at
-known_here words true s others known rest passes some = known refl passes
-known_here words false s others known rest passes some = rest passes some
-
 known_among : (words : List Text) (answers : Shape → Bool) (shapes : List Shape) → AreKnown answers words shapes
     → passes_at words (find answers shapes) ≡ true → IsSome (entered_at words (find answers shapes))
     → IsSome (option_and_then request_of (entered_at words (find answers shapes)))
 unfolding IsKnown AreKnown entered_at passes_at
 known_among words answers [] known passes some = cc
-known_among words answers (s ∷ shapes) known passes some =
-    known_here words (answers s) s (find answers shapes) known.0 (known_among words answers shapes known.1) passes some
+known_among words answers (s ∷ shapes) known passes some = grind (arith, known.0, known_among words answers shapes known.1)
 
 stop_asks : (stop : Option (Text × List Text)) → IsFree stop → entered_passes (built desk) stop ≡ true → IsSome (entered (built desk) stop)
     → IsSome (option_and_then request_of (entered (built desk) stop))
@@ -97,21 +88,12 @@ pub no_fault : (command : Command) (words : List Text) → app_of command ≡ de
     → (is_simple_and_free (app_of command) ≡ true → fault_of (app_of command) words ≡ []) → fault_of desk words ≡ []
 no_fault command words shape kinds = ap (λ (a : App). fault_of a words) (sym shape) ∙ kinds (ap is_simple_and_free shape)
 
-pub false_unless : (b : Bool) → b ≢ true → b ≡ false
-false_unless true h = absurd (h refl)
-false_unless false h = refl
-
-among : (words : List Text) (error : Error) → kind_of error ≢ kind.OutOfMemory → HasKind (fault_of desk words) error → IsAmong (kind_of error) (fault_of desk words)
-among words error other fails = elim fails [
-  | inl memory ↦ absurd (other memory)
-  | inr given ↦ given
-]
-
 pub is_refusal : (words : List Text) (error : Error) (fault : RequestFault)
     → (takes desk words ≡ true → kind_of error ≡ kind.OutOfMemory) → HasKind (fault_of desk words) error
     → HandsOn error fault → IsRefusal words fault
-is_refusal words error (Line shown) passes fails handed =
-    let P : Error → Type 0 = λ e. (kind_of e ≢ kind.OutOfMemory) × (takes desk words ≡ false) × IsAmong (kind_of e) (fault_of desk words) in
-    subst P (sym handed.0)
-    (handed.1, false_unless (takes desk words) (λ taken. handed.1 (passes taken)), among words error handed.1 fails)
+is_refusal words error (Line shown) passes fails handed = (
+  rw handed.0 handed.1,
+  false_from_ne_true (takes desk words) (λ taken. handed.1 (passes taken)),
+  rw handed.0 (elim fails [ inl memory ↦ absurd (handed.1 memory) | inr given ↦ given ]),
+)
 is_refusal words error (Memory want) passes fails handed = tt

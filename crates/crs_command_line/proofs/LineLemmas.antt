@@ -5,6 +5,7 @@ use Rattle.std.specs.Str.{bytes_eq}
 use Rattle.clap.specs.Lexer.{long_of, long_of_rest, short_of, short_of_rest, strip_byte}
 use Rattle.clap.specs.Words.{Row, Rule, Shape, Text, subcommand_of, takes, built}
 use Rattle.std.specs.List.{fold, list_all}
+use Rattle.std.proofs.lemmas.Bool.{false_from_ne_true}
 use Rattle.std.proofs.lemmas.Slice.Eq.{bytes_eq-Decides}
 use Rattle.clap.specs.Simple.{entered, filled, filled_from, help_rule, names_of, new_shape, with_index}
 use Rattle.clap.specs.Walk.{Held, Names, Step, Waiting, Walk, idle, option, positional, trailing, reading_by, after_step, finished, long_or_other, nothing_held, plain_word, rows_after, short_or_plain, subcommand_met, subcommand_or_other, walk_from, walked, word_met}
@@ -18,7 +19,6 @@ use Rattle.crs_requests.specs.declared.requests.Request.{Request}
 use Rattle.crs_requests.specs.declared.requests.Request.TheVariants.{Files}
 use Rattle.crs_requests.specs.declared.requests.Task.{Task}
 use Rattle.crs_command_line.proofs.OperandLemmas.{built_same}
-use Rattle.crs_command_line.proofs.CommandLemmas.{false_unless}
 
 -- ---- words, of which some are written out
 
@@ -38,7 +38,7 @@ plain_is (b ∷ []) usual = lone_is_no_flag (b == 45)
 plain_is (b ∷ c ∷ rest) usual = no_flag (c ∷ rest) (b == 45) usual
 
 not_dashes : (word : Text) → is_plain_word word ≡ true → bytes_eq word (45 ∷ 45 ∷ []) ≡ false
-not_dashes word usual = false_unless _ (λ dashes. true≢false (sym usual ∙ ap is_plain_word ((bytes_eq-Decides word (45 ∷ 45 ∷ [])).0 dashes)))
+not_dashes word usual = false_from_ne_true _ (λ dashes. true≢false (sym usual ∙ ap is_plain_word ((bytes_eq-Decides word (45 ∷ 45 ∷ [])).0 dashes)))
 
 -- no subcommand is named where a command has none
 pub none_met : (waiting : Waiting) (word : Text) → subcommand_met [] waiting word ≡ None

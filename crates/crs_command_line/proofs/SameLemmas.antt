@@ -2,7 +2,7 @@
 use Rattle.std.proofs.Common.{◌≡◌, ◌≢◌, ◌<◌, ap₂, nat_lt, subst, ℕ, List, [], ◌∷◌, length, Option, Some, None, Bool, true, false, ◌||◌, arith, cond, refl, codes, zero, suc, drop, ap, ◌∙◌, sym, true≢false, option_and_then, ◌==◌, encode_utf8, slice_get}
 use Rattle.std.specs.Option.{option_map, option_map_or}
 use Rattle.std.specs.Str.{bytes_eq, chars, chars_after, continuation_len, lead_bits}
-use Rattle.std.proofs.lemmas.Bool.{eqb-true, lt-ltb}
+use Rattle.std.proofs.lemmas.Bool.{false_from_ne_true, eqb-true, lt-ltb}
 use Rattle.clap.specs.Lexer.{long_of, long_of_rest, name_and_value, short_of}
 use Rattle.clap.specs.Words.{Row, Rule, Text, takes}
 use Rattle.std.proofs.lemmas.Slice.Eq.{bytes_eq-Decides}
@@ -13,7 +13,6 @@ use Rattle.clap.proofs.OnLiterals.{clap_on_literals}
 use Rattle.clap.proofs.WalkLemmas.{both}
 use Rattle.crs_command_line.specs.CommandLine.{desk, files_flag, level_option, rules_option}
 use Rattle.crs_command_line.proofs.OperandLemmas.{built_same, second_given}
-use Rattle.crs_command_line.proofs.CommandLemmas.{false_unless}
 use Rattle.crs_command_line.proofs.LineLemmas.{none_met}
 
 abbrev rules : List Rule
@@ -157,7 +156,7 @@ one_word_fails word passes =
 
 pub one_text : (program word : Text) → takes desk (program ∷ codes "same" ∷ word ∷ []) ≡ false
 unfolding clap_on_literals
-one_text program word = false_unless (takes desk (program ∷ codes "same" ∷ word ∷ []))
+one_text program word = false_from_ne_true (takes desk (program ∷ codes "same" ∷ word ∷ []))
     (λ taken. one_word_fails word (both (level_passes built_same [] nothing_held (word ∷ []) false) _ taken).0)
 
 -- ---- a flag, which `same` doesn't have
@@ -228,7 +227,7 @@ flag_level_fails : (byte : ℕ) (rest second : Text) → byte < 128 → 45 ∷ b
 unfolding walk_passes walked
 flag_level_fails byte rest second low flag passes =
     let word : Text = 45 ∷ byte ∷ rest in
-    let dashes = false_unless (bytes_eq word (45 ∷ 45 ∷ [])) (λ same. flag ((bytes_eq-Decides word (45 ∷ 45 ∷ [])).0 same)) in
+    let dashes = false_from_ne_true (bytes_eq word (45 ∷ 45 ∷ [])) (λ same. flag ((bytes_eq-Decides word (45 ∷ 45 ∷ [])).0 same)) in
     let turns = both (turn_passes built_same [] (walk_at no_flag_met) word) _ (both (walk_passes built_same [] (walk_at no_flag_met) (word ∷ second ∷ [])) _ passes).0 in
     let here = both (word_passes built_same [] false idle word nothing_held) _ turns.0 in
     let stands = first_stands byte rest low dashes here.0 in
@@ -242,5 +241,5 @@ flag_level_fails byte rest second low flag passes =
 pub flag_refused : (program rest second : Text) (byte : ℕ) → byte < 128 → 45 ∷ byte ∷ rest ≢ codes "--"
     → takes desk (program ∷ codes "same" ∷ (45 ∷ byte ∷ rest) ∷ second ∷ []) ≡ false
 unfolding clap_on_literals
-flag_refused program rest second byte low flag = false_unless (takes desk (program ∷ codes "same" ∷ (45 ∷ byte ∷ rest) ∷ second ∷ []))
+flag_refused program rest second byte low flag = false_from_ne_true (takes desk (program ∷ codes "same" ∷ (45 ∷ byte ∷ rest) ∷ second ∷ []))
     (λ taken. flag_level_fails byte rest second low flag (both (level_passes built_same [] nothing_held ((45 ∷ byte ∷ rest) ∷ second ∷ []) false) _ taken).0)
