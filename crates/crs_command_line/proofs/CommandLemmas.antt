@@ -1,9 +1,9 @@
 -- A line that the command takes asks for something.
-use Rattle.std.proofs.Common.{arith, ◌≡◌, ◌≢◌, List, [], ◌∷◌, Option, Some, None, IsSome, Bool, true, false, inl, inr, cond, ap, ◌∙◌, refl, subst, sym, is_some, option_and_then, option_map, find}
+use Rattle.std.proofs.Common.{arith, ◌≡◌, List, [], ◌∷◌, Option, Some, None, IsSome, Bool, true, false, inl, inr, cond, ap, ◌∙◌, refl, subst, sym, is_some, option_and_then, option_map, find}
 use Rattle.std.specs.Option.{option_map_or}
 use Rattle.std.proofs.Math.Bool.{or-false}
 use Rattle.std.proofs.lemmas.Bool.{false_from_ne_true}
-use Rattle.clap.specs.Words.{App, HasKind, HasMatchesOf, IsAmong, Row, Shape, Text, app_of, built, fault_of, is_simple, is_simple_and_free, kind_of, subcommand_of, subcommand_rows_of, takes}
+use Rattle.clap.specs.Words.{App, HasKind, HasMatchesOf, Row, Shape, Text, app_of, built, fault_of, is_simple, is_simple_and_free, kind_of, subcommand_of, subcommand_rows_of, takes}
 use Rattle.clap.specs.Simple.{argument_words, entered, label_of, names_of, rows_at}
 use Rattle.clap.specs.Takes.{entered_passes, level_passes, settle_passes, walk_passes}
 use Rattle.clap.specs.Walk.{answers_to, nothing_held, stop_after, walk, walk_from}

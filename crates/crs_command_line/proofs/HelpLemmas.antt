@@ -1,15 +1,14 @@
 -- A line that the command takes enters no `help`: `clap` answers that word by an error.
-use Rattle.std.proofs.Common.{arith, ◌≡◌, ℕ, List, [], ◌∷◌, Option, Some, None, Bool, true, false, not, ◌||◌, cond, refl, codes, sym}
+use Rattle.std.proofs.Common.{arith, ◌≡◌, ℕ, List, Option, Some, None, Bool, true, false, refl, codes, sym}
 use Rattle.std.specs.Str.{bytes_eq}
-use Rattle.std.specs.List.{fold}
 use Rattle.std.proofs.lemmas.Slice.Eq.{bytes_eq-Decides}
 use Rattle.clap.specs.Words.{Shape, Text, Rule, built}
 use Rattle.clap.specs.Simple.{names_of}
 use Rattle.crs_command_line.specs.CommandLine.{desk}
-use Rattle.clap.specs.Walk.{Held, Names, Walk, Waiting, Step, Outcome, after_step, next, plain, trailing, subcommand, value, subcommand_met, subcommand_or_other, long_or_other, short_or_plain, after_flag, plain_word, walked, word_met, to_positional, arg_by_index, bundle, long_met, arg_by_long, walk_from, nothing_held, stop_after}
+use Rattle.clap.specs.Walk.{Held, Names, Walk, Waiting, Step, Outcome, after_step, plain, subcommand, long_or_other, short_or_plain, after_flag, walked, word_met, bundle, long_met, arg_by_long, walk_from, nothing_held, stop_after}
 use Rattle.clap.specs.Lexer.{long_of, short_of}
-use Rattle.clap.specs.Takes.{other_passes, word_passes, turn_passes, walk_passes}
-use Rattle.clap.proofs.WalkLemmas.{both}
+use Rattle.clap.specs.Takes.{word_passes, turn_passes, walk_passes}
+use Rattle.crs_command_line.proofs.OperandLemmas.{walk_keeps}
 
 abbrev pub is_help : Text → Bool
 is_help name = bytes_eq name (codes "help")
@@ -57,20 +56,14 @@ turn_is_free s names w word enabled free passes =
     let met = word_met s.rules names w.is_trailing w.waiting w.position word w.held in
     grind (arith, met_is_usual s names w.is_trailing w.waiting w.position word w.held enabled, step_is_free s.rules word w met.0 met.1)
 
-walk_is_free : (s : Shape) (names : Names) (w : Walk) (words : List Text) → s.disable_help_subcommand ≡ false
-    → IsFree w.stopped → walk_passes s names w words ≡ true → IsFree (fold (walked s.rules names) w words).stopped
-unfolding walk_passes
-walk_is_free s names w [] enabled free passes = free
-walk_is_free s names w (word ∷ words) enabled free passes =
-    let each = both (turn_passes s names w word) _ passes in
-    walk_is_free s names (walked s.rules names w word) words enabled
-    (turn_is_free s names w word enabled free each.0) each.1
-
 -- where the command's own level takes the words, its walk stops at no `help`
 pub stops_at_no_help : (words : List Text) → walk_passes (built desk).top (names_of (built desk)) (walk_from nothing_held) words ≡ true
     → IsFree (stop_after (built desk).top.rules (names_of (built desk)) words)
 unfolding IsFree
-stops_at_no_help words passes = walk_is_free (built desk).top (names_of (built desk)) (walk_from nothing_held) words refl tt passes
+stops_at_no_help words passes =
+    let s : Shape = (built desk).top in
+    walk_keeps (λ w. IsFree w.stopped) s (names_of (built desk)) (walk_from nothing_held) words
+    (λ w word turn free. turn_is_free s (names_of (built desk)) w word refl free turn) passes tt
 
 -- a word that means `help` is `help`
 pub answers_help : (word : Text) → is_help word ≡ false → bytes_eq (codes "help") word ≡ true → ⊥

@@ -1,14 +1,14 @@
 -- What a line asks for, by the words behind its command.
-use Rattle.std.proofs.Common.{map, ◌≡◌, ap₂, ℕ, List, [], ◌∷◌, ◌++◌, Option, Some, None, Bool, true, false, not, ◌&&◌, ◌||◌, arith, cond, refl, codes, ap, ◌∙◌, append-nil, append_assoc, is_some, sym, true≢false, option_and_then, ◌==◌}
+use Rattle.std.proofs.Common.{map, ◌≡◌, ap₂, ℕ, List, [], ◌∷◌, ◌++◌, Option, Some, None, Bool, true, false, not, ◌&&◌, ◌||◌, arith, cond, refl, codes, ap, ◌∙◌, append-nil, append_assoc, is_some, sym, true≢false, option_and_then}
 use Rattle.std.specs.Option.{option_map_or}
 use Rattle.std.specs.Str.{bytes_eq}
-use Rattle.clap.specs.Lexer.{long_of, long_of_rest, short_of, short_of_rest, strip_byte}
+use Rattle.clap.specs.Lexer.{long_of, short_of}
 use Rattle.clap.specs.Words.{Row, Rule, Shape, Text, subcommand_of, takes, built}
 use Rattle.std.specs.List.{fold, list_all}
 use Rattle.std.proofs.lemmas.Bool.{false_from_ne_true}
 use Rattle.std.proofs.lemmas.Slice.Eq.{bytes_eq-Decides}
 use Rattle.clap.specs.Simple.{entered, filled, filled_from, help_rule, names_of, new_shape, with_index}
-use Rattle.clap.specs.Walk.{Held, Names, Step, Waiting, Walk, idle, option, positional, trailing, reading_by, after_step, finished, long_or_other, nothing_held, plain_word, rows_after, short_or_plain, subcommand_met, subcommand_or_other, walk_from, walked, word_met}
+use Rattle.clap.specs.Walk.{Held, Names, Step, Waiting, Walk, idle, positional, trailing, reading_by, after_step, finished, long_or_other, nothing_held, plain_word, rows_after, short_or_plain, subcommand_met, subcommand_or_other, walk_from, walked, word_met}
 use Rattle.clap.specs.Takes.{bundle_passes, default_passes, entered_passes, flag_word_passes, is_valid, level_passes, other_passes, settle_passes, step_passes, turn_passes, walk_passes, word_passes}
 use Rattle.clap.specs.declared.parser.matches.ValueSource.TheVariants.{CommandLine}
 use Rattle.clap.proofs.OnLiterals.{clap_on_literals}
@@ -22,29 +22,17 @@ use Rattle.crs_command_line.proofs.OperandLemmas.{built_same}
 
 -- ---- words, of which some are written out
 
-no_flag : (rest : Text) (is : Bool) → not is ≡ true
-    → (option_and_then long_of_rest (option_and_then (strip_byte 45) (cond is (Some rest) None)) ≡ None) × (option_and_then short_of_rest (cond is (Some rest) None) ≡ None)
-no_flag rest true usual = cc
-no_flag rest false usual = (refl, refl)
-
-lone_is_no_flag : (is : Bool) → (option_and_then long_of_rest (option_and_then (strip_byte 45) (cond is (Some []) None)) ≡ None)
-    × (option_and_then short_of_rest (cond is (Some []) None) ≡ None)
-lone_is_no_flag true = (refl, refl)
-lone_is_no_flag false = (refl, refl)
-
 plain_is : (word : Text) → is_plain_word word ≡ true → (long_of word ≡ None) × (short_of word ≡ None)
 plain_is [] usual = (refl, refl)
-plain_is (b ∷ []) usual = lone_is_no_flag (b == 45)
-plain_is (b ∷ c ∷ rest) usual = no_flag (c ∷ rest) (b == 45) usual
+plain_is (b ∷ []) usual = grind arith
+plain_is (b ∷ c ∷ rest) usual = grind arith
 
 not_dashes : (word : Text) → is_plain_word word ≡ true → bytes_eq word (45 ∷ 45 ∷ []) ≡ false
 not_dashes word usual = false_from_ne_true _ (λ dashes. true≢false (sym usual ∙ ap is_plain_word ((bytes_eq-Decides word (45 ∷ 45 ∷ [])).0 dashes)))
 
 -- no subcommand is named where a command has none
 pub none_met : (waiting : Waiting) (word : Text) → subcommand_met [] waiting word ≡ None
-none_met idle word = refl
-none_met (option id) word = refl
-none_met positional word = refl
+none_met waiting word = grind arith
 
 -- what a plain word is, where no subcommand can be named
 plain_met : (s : Shape) (waiting : Waiting) (position : ℕ) (word : Text) (h : Held) → is_plain_word word ≡ true

@@ -1,17 +1,16 @@
 -- Both texts of `same` are there where the command takes the line: no row of its matches is without a value.
-use Rattle.std.proofs.Common.{arith, ◌≡◌, ℕ, List, [], ◌∷◌, ◌++◌, length, Option, Some, None, IsSome, Bool, true, false, not, ◌&&◌, ◌||◌, cond, refl, codes, zero, suc, drop, is_some, option_and_then, option_map, find, encode_utf8, slice_get}
+use Rattle.std.proofs.Common.{arith, ◌≡◌, ℕ, List, [], ◌∷◌, ◌++◌, length, Option, Some, None, IsSome, Bool, true, false, refl, codes, zero, suc, drop, option_map, find, encode_utf8, slice_get}
 use Rattle.std.specs.List.{fold, list_all}
 use Rattle.std.specs.Option.{option_map_or}
-use Rattle.std.specs.Str.{bytes_eq, chars}
+use Rattle.std.specs.Str.{chars}
 use Rattle.clap.specs.declared.parser.matches.ValueSource.{ValueSource}
 use Rattle.clap.specs.declared.parser.matches.ValueSource.TheVariants.{DefaultValue, CommandLine}
 use Rattle.clap.specs.declared.builder.value_parser.Reading.{Reading}
-use Rattle.clap.specs.Facts.{explicit_source}
 use Rattle.clap.specs.Lexer.{long_of, short_of}
 use Rattle.clap.specs.Words.{Row, Rule, Shape, Text, first_of}
 use Rattle.clap.specs.Simple.{filled, filled_from, help_rule, new_shape, rows_at, with_index}
-use Rattle.clap.specs.Walk.{Held, Names, Outcome, Step, Waiting, Walk, done, plain, next, trailing, subcommand, value, after_flag, after_step, arg_by_id, arg_by_index, arg_by_long, arg_by_short, at_row, attached_value, bundle, bundle_met, bundle_step, default_rows, flag_met, has_row, is_pending, long_met, long_or_other, more_values, nothing_held, option_met, option_word, plain_word, reacted, reading_by, rows_after, settled, settled_rows, short_met, short_or_plain, subcommand_met, subcommand_or_other, takes_several, takes_values, to_positional, used, used_by_id, walk, walk_from, walked, with_default, with_values, without, word_met}
-use Rattle.clap.specs.Takes.{bundle_passes, bundle_step_passes, flag_word_passes, flags_pass, is_given, is_valid, default_passes, level_passes, long_passes, option_passes, other_passes, positional_passes, react_passes, settle_passes, short_passes, step_passes, turn_passes, use_passes, walk_passes, word_passes}
+use Rattle.clap.specs.Walk.{Held, Names, Outcome, Step, Waiting, Walk, done, plain, after_flag, after_step, arg_by_id, arg_by_long, arg_by_short, at_row, attached_value, bundle, bundle_met, bundle_step, default_rows, long_met, long_or_other, more_values, nothing_held, option_met, reacted, reading_by, rows_after, settled, settled_rows, short_met, short_or_plain, used, used_by_id, walk, walk_from, walked, with_default, with_values, without, word_met}
+use Rattle.clap.specs.Takes.{bundle_passes, bundle_step_passes, flag_word_passes, flags_pass, is_given, is_valid, default_passes, level_passes, long_passes, option_passes, react_passes, settle_passes, short_passes, step_passes, turn_passes, use_passes, walk_passes, word_passes}
 use Rattle.clap.proofs.WalkLemmas.{both}
 use Rattle.crs_command_line.specs.CommandLine.{files_flag, level_option, operand, rules_option}
 use Rattle.crs_requests.specs.Requests.{has_flag, level_of, rules_of, same_of, same_operands, under}
@@ -34,20 +33,21 @@ joined : (xs ys : List Row) → HaveValues xs → HaveValues ys → HaveValues (
 joined [] ys left right = right
 joined (r ∷ rows) ys left right = (left.0, joined rows ys left.1 right)
 
-either_rows : (b : Bool) (xs ys : List Row) → HaveValues xs → HaveValues ys → HaveValues (cond b xs ys)
-either_rows b xs ys left right = grind arith
-
 at_row_keeps : (id : Text) (change : Row → List Row) (missing rows : List Row) → ((r : Row) → HasValues r.values → HaveValues (change r))
     → HaveValues missing → HaveValues rows → HaveValues (at_row id change missing rows)
 at_row_keeps id change missing [] changes fresh have = fresh
 at_row_keeps id change missing (r ∷ rows) changes fresh have =
-    either_rows (bytes_eq r.id id) _ _ (joined (change r) rows (changes r have.0) have.1)
-    (have.0, at_row_keeps id change missing rows changes fresh have.1)
+    grind (arith, joined (change r) rows (changes r have.0) have.1, at_row_keeps id change missing rows changes fresh have.1)
 
 with_values_keeps : (id : Text) (how : Reading) (s : ValueSource) (v : Text) (vs : List Text) (rows : List Row)
     → HaveValues rows → HaveValues (with_values id how s (v ∷ vs) rows)
 with_values_keeps id how s v vs rows have =
     at_row_keeps id (more_values s (v ∷ vs)) _ rows (λ r own. (more_have_values r.values (v ∷ vs) own, tt)) (tt, tt) have
+
+afresh_keeps : (id : Text) (how : Reading) (v : Text) (vs : List Text) (rows : List Row)
+    → HaveValues rows → HaveValues (with_values id how CommandLine (v ∷ vs) (without id rows))
+afresh_keeps id how v vs rows have =
+    with_values_keeps id how CommandLine v vs (without id rows) (at_row_keeps id (λ _. []) [] rows (λ r own. tt) tt have)
 
 -- ---- arguments whose use leaves no row without a value
 
@@ -64,33 +64,23 @@ AreKept (a ∷ rules) = Keeps a × AreKept rules
 
 operand_keeps : (id : Text) (position : ℕ) → Keeps (with_index position (filled (operand id)))
 operand_keeps id position again [] rows passes have = cc
-operand_keeps id position again (v ∷ vs) rows passes have =
-    with_values_keeps id _ CommandLine v vs (without id rows) (at_row_keeps id (λ _. []) [] rows (λ r own. tt) tt have)
+operand_keeps id position again (v ∷ vs) rows passes have = afresh_keeps id _ v vs rows have
 
 level_keeps : (position : ℕ) → Keeps (with_index position (filled level_option))
 level_keeps position again [] rows passes have = cc
-level_keeps position again (v ∷ vs) rows passes have =
-    with_values_keeps (codes "level") _ CommandLine v vs (without (codes "level") rows)
-    (at_row_keeps (codes "level") (λ _. []) [] rows (λ r own. tt) tt have)
+level_keeps position again (v ∷ vs) rows passes have = afresh_keeps (codes "level") _ v vs rows have
 
 rules_keep : (position : ℕ) → Keeps (with_index position (filled rules_option))
 rules_keep position again [] rows passes have = cc
 rules_keep position again (v ∷ vs) rows passes have = with_values_keeps (codes "rules") _ CommandLine v vs rows have
 
 files_keep : (position : ℕ) → Keeps (with_index position (filled files_flag))
-files_keep position again [] rows passes have =
-    with_values_keeps (codes "files") _ CommandLine (codes "true") [] (without (codes "files") rows)
-    (at_row_keeps (codes "files") (λ _. []) [] rows (λ r own. tt) tt have)
-files_keep position again (v ∷ vs) rows passes have =
-    with_values_keeps (codes "files") _ CommandLine v vs (without (codes "files") rows)
-    (at_row_keeps (codes "files") (λ _. []) [] rows (λ r own. tt) tt have)
-
-kept_either : (here : Bool) (a : Rule) (others : Option Rule) → Keeps a → IsKept others → IsKept (cond here (Some a) others)
-kept_either here a others keeps kept = grind arith
+files_keep position again [] rows passes have = afresh_keeps (codes "files") _ (codes "true") [] rows have
+files_keep position again (v ∷ vs) rows passes have = afresh_keeps (codes "files") _ v vs rows have
 
 kept_found : (p : Rule → Bool) (rules : List Rule) → AreKept rules → IsKept (find p rules)
 kept_found p [] kept = tt
-kept_found p (a ∷ rules) kept = kept_either (p a) a (find p rules) kept.0 (kept_found p rules kept.1)
+kept_found p (a ∷ rules) kept = grind (arith, kept.0, kept_found p rules kept.1)
 
 used_keeps : (found : Option Rule) (again : Bool) (values : List Text) (rows : List Row) → IsKept found
     → option_map_or (λ a. use_passes again a values rows) found true ≡ true → HaveValues rows → HaveValues (used_by_id found values rows)
@@ -117,31 +107,18 @@ option_keeps : (c : List Rule) (again : Bool) (a : Rule) (v : Option Text) (h : 
 option_keeps c again a (Some v) h kept keeps passes have = reacted_keeps c again a (v ∷ []) h kept keeps passes have
 option_keeps c again a None h kept keeps passes have = settled_keeps c again h.pending h.rows kept passes have
 
-flag_keeps : (c : List Rule) (again : Bool) (a : Rule) (v : Option Text) (h : Held) → AreKept c → Keeps a
-    → (not (is_some v) && react_passes c again a [] h) ≡ true → HaveValues h.rows → HaveValues (flag_met c a v h).0.rows
-flag_keeps c again a (Some v) h kept keeps passes have = have
-flag_keeps c again a None h kept keeps passes have = reacted_keeps c again a [] h kept keeps passes have
-
-either_met : (b : Bool) (x y : Held × Outcome) (p q : Bool) → (p ≡ true → HaveValues x.0.rows) → (q ≡ true → HaveValues y.0.rows)
-    → cond b p q ≡ true → HaveValues (cond b x y).0.rows
-either_met b x y p q left right passes = grind arith
-
 long_keeps : (c : List Rule) (again : Bool) (found : Option Rule) (v : Option Text) (h : Held) → AreKept c → IsKept found
     → long_passes c again found v h ≡ true → HaveValues h.rows → HaveValues (long_met c found v h).0.rows
 long_keeps c again None v h kept keeps passes have = have
 long_keeps c again (Some a) v h kept keeps passes have =
-    either_met (takes_values a) (option_met c a v h) (flag_met c a v h) _ _
-    (λ p. option_keeps c again a v h kept keeps p have) (λ p. flag_keeps c again a v h kept keeps p have) passes
+    grind (arith, option_keeps c again a v h kept keeps, reacted_keeps c again a [] h kept keeps)
 
 short_keeps : (c : List Rule) (again : Bool) (found : Option Rule) (rest : Text) (h : Held) (after : Held → Held × Outcome) (test : Held → Bool)
     → AreKept c → IsKept found → ((h : Held) → test h ≡ true → HaveValues h.rows → HaveValues (after h).0.rows)
     → short_passes c again found rest h test ≡ true → HaveValues h.rows → HaveValues (short_met c found rest h after).0.rows
 short_keeps c again None rest h after test kept keeps goes_on passes have = have
 short_keeps c again (Some a) rest h after test kept keeps goes_on passes have =
-    either_met (takes_values a) (option_met c a (attached_value rest) h) (after (reacted c a [] h)) _ _
-    (λ p. option_keeps c again a (attached_value rest) h kept keeps p have)
-    (λ p. let each = both (react_passes c again a [] h) _ p in
-    goes_on (reacted c a [] h) each.1 (reacted_keeps c again a [] h kept keeps each.0 have)) passes
+    grind (arith, option_keeps c again a (attached_value rest) h kept keeps, reacted_keeps c again a [] h kept keeps, goes_on (reacted c a [] h))
 
 bundle_step_keeps : (c : List Rule) (again : Bool) (x : Option ℕ) (flags : Text) (skip : ℕ) (so_far : Outcome) (h : Held)
     (after : Text → ℕ → Outcome → Held → Held × Outcome) (test : Text → ℕ → Held → Bool) → AreKept c
@@ -162,22 +139,16 @@ bundle_keeps c again (suc k) flags skip so_far h kept passes have =
     bundle_step_keeps c again (slice_get (chars flags) 0) flags skip so_far h (bundle_met c k) (flags_pass c again k) kept
     (λ rest less before held. bundle_keeps c again k rest less before held kept) passes have
 
-option_word_keeps : (found : Option Rule) (id word : Text) (h : Held) → HaveValues h.rows → HaveValues (option_word found id word h).0.rows
-option_word_keeps found id word h have = grind arith
-
-plain_keeps : (c : List Rule) (waiting : Waiting) (word : Text) (h : Held) → HaveValues h.rows → HaveValues (plain_word c waiting word h).0.rows
-plain_keeps c waiting word h have = grind (arith, option_word_keeps)
-
 after_flag_keeps : (c : List Rule) (waiting : Waiting) (word : Text) (h : Held) (outcome : Outcome) → HaveValues h.rows
     → HaveValues (after_flag c waiting word h outcome).0.rows
-after_flag_keeps c waiting word h outcome have = grind (arith, plain_keeps c waiting word h have)
+after_flag_keeps c waiting word h outcome have = grind arith
 
 short_word_keeps : (c : List Rule) (again : Bool) (waiting : Waiting) (word : Text) (flags : Option Text) (h : Held) → AreKept c
     → option_map_or (λ f. bundle_passes c again f h) flags true ≡ true → HaveValues h.rows → HaveValues (short_or_plain c waiting word flags h).0.rows
 short_word_keeps c again waiting word (Some flags) h kept passes have =
     after_flag_keeps c waiting word (bundle c flags h).0 (bundle c flags h).1
     (bundle_keeps c again (length flags) flags h.skip plain (record h { skip = 0 }) kept passes have)
-short_word_keeps c again waiting word None h kept passes have = plain_keeps c waiting word h have
+short_word_keeps c again waiting word None h kept passes have = after_flag_keeps c waiting word h plain have
 
 flag_word_keeps : (c : List Rule) (again : Bool) (waiting : Waiting) (word : Text) (name : Option (Text × Option Text)) (h : Held) → AreKept c
     → flag_word_passes c again name word h ≡ true → HaveValues h.rows → HaveValues (long_or_other c waiting word name h).0.rows
@@ -186,65 +157,34 @@ flag_word_keeps c again waiting word (Some p) h kept passes have =
     after_flag_keeps c waiting word met.0 met.1 (long_keeps c again (arg_by_long c p.0) p.1 h kept (kept_found _ c kept) passes have)
 flag_word_keeps c again waiting word None h kept passes have = short_word_keeps c again waiting word (short_of word) h kept passes have
 
-either_step : (b : Bool) (x y : Held × Step) (q : Bool) → HaveValues x.0.rows → (q ≡ true → HaveValues y.0.rows)
-    → (b || q) ≡ true → HaveValues (cond b x y).0.rows
-either_step b x y q left right passes = grind arith
-
-other_keeps : (s : Shape) (met : Option Text) (waiting : Waiting) (position : ℕ) (word : Text) (h : Held) → AreKept s.rules
-    → other_passes s met word h ≡ true → HaveValues h.rows → HaveValues (subcommand_or_other s.rules met waiting position word h).0.rows
-other_keeps s (Some name) waiting position word h kept passes have = have
-other_keeps s None waiting position word h kept passes have =
-    either_step (bytes_eq word (45 ∷ 45 ∷ [])) (h, trailing position) (long_or_other s.rules waiting word (long_of word) h) _ have
-    (λ p. flag_word_keeps s.rules s.args_override_self waiting word (long_of word) h kept p have) passes
-
 word_keeps : (s : Shape) (names : Names) (is_trailing : Bool) (waiting : Waiting) (position : ℕ) (word : Text) (h : Held) → AreKept s.rules
     → word_passes s names is_trailing waiting word h ≡ true → HaveValues h.rows
     → HaveValues (word_met s.rules names is_trailing waiting position word h).0.rows
-word_keeps s names true waiting position word h kept passes have = have
-word_keeps s names false waiting position word h kept passes have =
-    other_keeps s (subcommand_met names waiting word) waiting position word h kept passes have
-
-either_held : (b : Bool) (x y : Held) (q : Bool) → HaveValues x.rows → (q ≡ true → HaveValues y.rows) → (b || q) ≡ true → HaveValues (cond b x y).rows
-either_held true x y q left right passes = left
-either_held false x y q left right passes = right passes
-
-value_keeps : (s : Shape) (found : Option Rule) (word : Text) (w : Walk) (h : Held) → AreKept s.rules
-    → option_map_or (λ a. positional_passes s.rules s.args_override_self a h) found false ≡ true
-    → HaveValues h.rows → HaveValues (to_positional s.rules found word w h).held.rows
-value_keeps s None word w h kept passes have = have
-value_keeps s (Some a) word w h kept passes have =
-    either_held (is_pending a h.pending && takes_several a) h (settled s.rules h) _ have
-    (λ p. settled_keeps s.rules s.args_override_self h.pending h.rows kept p have) passes
+word_keeps s names is_trailing waiting position word h kept passes have =
+    grind (arith, flag_word_keeps s.rules s.args_override_self waiting word (long_of word) h kept)
 
 step_keeps : (s : Shape) (word : Text) (w : Walk) (h : Held) (step : Step) → AreKept s.rules
     → step_passes s w.position h step ≡ true → HaveValues h.rows → HaveValues (after_step s.rules word w h step).held.rows
-step_keeps s word w h (next waiting) kept passes have = have
-step_keeps s word w h (trailing position) kept passes have = have
-step_keeps s word w h (subcommand name) kept passes have = have
-step_keeps s word w h value kept passes have = value_keeps s (arg_by_index s.rules w.position) word w h kept passes have
+step_keeps s word w h step kept passes have = grind (arith, settled_keeps s.rules s.args_override_self h.pending h.rows kept)
 
 -- ---- all words
 
-turn_keeps : (s : Shape) (names : Names) (held : Held) (waiting : Waiting) (position : ℕ) (is_trailing : Bool)
-    (stopped : Option (Text × List Text)) (word : Text) → AreKept s.rules
-    → let w : Walk = record { held = held; waiting = waiting; position = position; is_trailing = is_trailing; stopped = stopped } in
-    turn_passes s names w word ≡ true → HaveValues held.rows → HaveValues (walked s.rules names w word).held.rows
+turn_keeps : (s : Shape) (names : Names) (w : Walk) (word : Text) → AreKept s.rules → turn_passes s names w word ≡ true
+    → HaveValues w.held.rows → HaveValues (walked s.rules names w word).held.rows
 unfolding walked
-turn_keeps s names held waiting position is_trailing None word kept passes have =
-    let w : Walk = record { held = held; waiting = waiting; position = position; is_trailing = is_trailing; stopped = None } in
-    let met = word_met s.rules names is_trailing waiting position word held in
-    let each = both (word_passes s names is_trailing waiting word held) _ passes in
-    step_keeps s word w met.0 met.1 kept each.1 (word_keeps s names is_trailing waiting position word held kept each.0 have)
-turn_keeps s names held waiting position is_trailing (Some stop) word kept passes have = have
+turn_keeps s names w word kept passes have =
+    let met = word_met s.rules names w.is_trailing w.waiting w.position word w.held in
+    grind (arith, word_keeps s names w.is_trailing w.waiting w.position word w.held kept, step_keeps s word w met.0 met.1 kept)
 
-walk_keeps : (s : Shape) (names : Names) (w : Walk) (words : List Text) → AreKept s.rules
-    → walk_passes s names w words ≡ true → HaveValues w.held.rows → HaveValues (fold (walked s.rules names) w words).held.rows
+-- what each turn that passes keeps, a walk that passes keeps
+pub walk_keeps : (P : Walk → Type 0) (s : Shape) (names : Names) (w : Walk) (words : List Text)
+    → ((w : Walk) (word : Text) → turn_passes s names w word ≡ true → P w → P (walked s.rules names w word))
+    → walk_passes s names w words ≡ true → P w → P (fold (walked s.rules names) w words)
 unfolding walk_passes
-walk_keeps s names w [] kept passes have = have
-walk_keeps s names w (word ∷ words) kept passes have =
+walk_keeps P s names w [] keeps passes has = has
+walk_keeps P s names w (word ∷ words) keeps passes has =
     let each = both (turn_passes s names w word) _ passes in
-    walk_keeps s names (walked s.rules names w word) words kept each.1
-    (turn_keeps s names w.held w.waiting w.position w.is_trailing w.stopped word kept each.0 have)
+    walk_keeps P s names (walked s.rules names w word) words keeps each.1 (keeps w word each.0 has)
 
 default_keeps : (id : Text) (how : Reading) (values : List Text) (rows : List Row) → HaveValues rows → HaveValues (default_rows id how values rows)
 default_keeps id how [] rows have = have
@@ -253,8 +193,7 @@ default_keeps id how (v ∷ vs) rows have = with_values_keeps id how DefaultValu
 defaults_keep : (rules : List Rule) (rows : List Row) → HaveValues rows → HaveValues (fold with_default rows rules)
 defaults_keep [] rows have = have
 defaults_keep (a ∷ rules) rows have =
-    defaults_keep rules (with_default rows a)
-    (either_rows (has_row a.id rows) rows _ have (default_keeps a.id (reading_by a) a.defaults rows have))
+    defaults_keep rules (with_default rows a) (grind (arith, default_keeps a.id (reading_by a) a.defaults rows))
 
 -- the rows at the end, and that the last checks passed
 level_rows : (s : Shape) (words : List Text) → AreKept s.rules → level_passes s [] nothing_held words false ≡ true
@@ -266,7 +205,7 @@ level_rows s words kept passes =
     let checks = both (list_all default_passes s.rules) _ settles.1 in (
       defaults_keep s.rules (settled s.rules end).rows
           (settled_keeps s.rules s.args_override_self end.pending end.rows kept settles.0
-          (walk_keeps s [] (walk_from nothing_held) words kept walked_all.0 tt)),
+          (walk_keeps (λ w. HaveValues w.held.rows) s [] (walk_from nothing_held) words (λ w word. turn_keeps s [] w word kept) walked_all.0 tt)),
       checks.1,
     )
 
@@ -276,21 +215,15 @@ first_there : (values : List Text) → HasValues values → IsSome (slice_get va
 first_there [] have = absurd have
 first_there (v ∷ vs) have = refl
 
-given_either : (here : Bool) (r : Row) (others : Option Row) → IsSome (slice_get r.values 0)
-    → (option_map_or (λ r. explicit_source r.source) others false ≡ true → IsSome (option_and_then (λ r. slice_get r.values 0) others))
-    → option_map_or (λ r. explicit_source r.source) (cond here (Some r) others) false ≡ true
-    → IsSome (option_and_then (λ r. slice_get r.values 0) (cond here (Some r) others))
-given_either here r others first rest given = grind arith
-
 -- what was given has a first value
 given_there : (id : Text) (rows : List Row) → HaveValues rows → is_given id rows ≡ true → IsSome (first_of id rows)
 given_there id [] have given = cc
 given_there id (r ∷ rows) have given =
-    given_either (bytes_eq r.id id) r (find (λ r. bytes_eq r.id id) rows) (first_there r.values have.0) (given_there id rows have.1) given
+    grind (arith, first_there r.values have.0, given_there id rows have.1)
 
-both_there : (are_files : Bool) (level : Text) (first second : Option Text) → IsSome first → IsSome second
-    → IsSome (same_operands are_files level first second)
-both_there are_files level first second one other = grind arith
+asks : (rules : List Text) (are_files : Bool) (level : Text) (first second : Option Text) → IsSome first → IsSome second
+    → IsSome (option_map (under rules) (same_operands are_files level first second))
+asks rules are_files level first second one other = grind arith
 
 -- `same`, as `clap` builds it
 abbrev pub built_same : Shape
@@ -315,18 +248,11 @@ pub second_given : (words : List Text) → level_passes built_same [] nothing_he
     → is_given (codes "second") (rows_after built_same.rules [] words) ≡ true
 second_given words passes = (given_texts words passes).1.1
 
-pub texts_there : (words : List Text) → level_passes built_same [] nothing_held words false ≡ true → IsSome (same_of (rows_at built_same words).1)
-texts_there words passes =
-    let rows = rows_after built_same.rules [] words in
-    let given = given_texts words passes in
-    both_there (has_flag (codes "files") rows) (level_of rows) (first_of (codes "first") rows) (first_of (codes "second") rows)
-    (given_there (codes "first") rows given.0 given.1.0) (given_there (codes "second") rows given.0 given.1.1)
-
-mapped_there : {A B : Type 0} (f : A → B) (found : Option A) → IsSome found → IsSome (option_map f found)
-mapped_there f found some = grind arith
-
 -- with rules or without, `same` asks for something
 pub same_asks : (words : List Text) → level_passes built_same [] nothing_held words false ≡ true
     → IsSome (option_map (under (rules_of (rows_at built_same words).1)) (same_of (rows_at built_same words).1))
 same_asks words passes =
-    mapped_there (under (rules_of (rows_at built_same words).1)) (same_of (rows_at built_same words).1) (texts_there words passes)
+    let rows = rows_after built_same.rules [] words in
+    let given = given_texts words passes in
+    asks (rules_of rows) (has_flag (codes "files") rows) (level_of rows) (first_of (codes "first") rows) (first_of (codes "second") rows)
+    (given_there (codes "first") rows given.0 given.1.0) (given_there (codes "second") rows given.0 given.1.1)

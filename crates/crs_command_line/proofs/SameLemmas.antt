@@ -7,7 +7,7 @@ use Rattle.clap.specs.Lexer.{long_of, long_of_rest, name_and_value, short_of}
 use Rattle.clap.specs.Words.{Row, Rule, Text, takes}
 use Rattle.std.proofs.lemmas.Slice.Eq.{bytes_eq-Decides}
 use Rattle.clap.specs.Simple.{filled, help_rule, with_index}
-use Rattle.clap.specs.Walk.{Held, Outcome, Step, Waiting, Walk, plain, idle, option, trailing, after_flag, after_step, bundle_met, bundle_step, finished, long_met, long_or_other, nothing_held, plain_word, short_or_plain, subcommand_or_other, used, walked, word_met}
+use Rattle.clap.specs.Walk.{Held, Outcome, Step, Waiting, Walk, plain, idle, option, trailing, after_flag, after_step, bundle_met, bundle_step, finished, long_met, long_or_other, nothing_held, short_or_plain, subcommand_or_other, used, walked, word_met}
 use Rattle.clap.specs.Takes.{bundle_passes, bundle_step_passes, flag_word_passes, flags_pass, is_given, level_passes, long_passes, other_passes, short_passes, turn_passes, walk_passes, word_passes}
 use Rattle.clap.proofs.OnLiterals.{clap_on_literals}
 use Rattle.clap.proofs.WalkLemmas.{both}
@@ -65,12 +65,6 @@ walk_at at = record { held = held_at at; waiting = waiting_at at; position = 1; 
 abbrev Lacks : Met → Text → Held × Step → Type 0
 Lacks at word met = is_given (codes "second") (finished rules (after_step rules word (walk_at at) met.0 met.1).held) ≡ false
 
-stays_lacks : (at : Met) (word : Text) (step : Step) → Lacks at word (held_at at, step)
-stays_lacks at word step = grind arith
-
-plain_lacks : (at : Met) (word : Text) → Lacks at word (plain_word rules (waiting_at at) word (held_at at))
-plain_lacks at word = grind arith
-
 flag_lacks : (at : Met) (word : Text) (outcome : Outcome) → Lacks at word (after_flag rules (waiting_at at) word (held_at at) outcome)
 flag_lacks at word outcome = grind arith
 
@@ -104,17 +98,13 @@ unfolding bundle_met flags_pass
 bundle_stays at zero flags passes = refl
 bundle_stays at (suc k) flags passes = first_flag_stays at (slice_get (chars flags) 0) flags (bundle_met rules k) (flags_pass rules false k) passes
 
-bundle_lacks : (at : Met) (word flags : Text) → flags_pass rules false (length flags) flags 0 (held_at at) ≡ true
-    → let met = bundle_met rules (length flags) flags 0 plain (held_at at) in Lacks at word (after_flag rules (waiting_at at) word met.0 met.1)
-bundle_lacks at word flags passes =
+short_lacks : (at : Met) (word : Text) (flags : Option Text) → option_map_or (λ f. bundle_passes rules false f (held_at at)) flags true ≡ true
+    → Lacks at word (short_or_plain rules (waiting_at at) word flags (held_at at))
+short_lacks at word None passes = flag_lacks at word plain
+short_lacks at word (Some flags) passes =
     let met = bundle_met rules (length flags) flags 0 plain (held_at at) in
     subst (λ (h : Held). Lacks at word (after_flag rules (waiting_at at) word h met.1)) (sym (bundle_stays at (length flags) flags passes))
     (flag_lacks at word met.1)
-
-short_lacks : (at : Met) (word : Text) (flags : Option Text) → option_map_or (λ f. bundle_passes rules false f (held_at at)) flags true ≡ true
-    → Lacks at word (short_or_plain rules (waiting_at at) word flags (held_at at))
-short_lacks at word None passes = plain_lacks at word
-short_lacks at word (Some flags) passes = bundle_lacks at word flags passes
 
 named_lacks : (at : Met) (word : Text) (name : Option (Text × Option Text)) → flag_word_passes rules false name word (held_at at) ≡ true
     → Lacks at word (long_or_other rules (waiting_at at) word name (held_at at))
@@ -128,18 +118,13 @@ either_lacks : (at : Met) (word : Text) (b : Bool) (x : Held × Step) (q : Bool)
 either_lacks at word b x q lacks passes = grind arith
 
 -- whatever the word is, it is no second text
-other_lacks : (at : Met) (word : Text) → (bytes_eq word (45 ∷ 45 ∷ []) || flag_word_passes rules false (long_of word) word (held_at at)) ≡ true
-    → Lacks at word (cond (bytes_eq word (45 ∷ 45 ∷ [])) (held_at at, trailing 1) (long_or_other rules (waiting_at at) word (long_of word) (held_at at)))
-other_lacks at word passes =
-    either_lacks at word (bytes_eq word (45 ∷ 45 ∷ [])) (long_or_other rules (waiting_at at) word (long_of word) (held_at at)) _
-    (named_lacks at word (long_of word)) passes
-
 word_lacks : (at : Met) (word : Text) → word_passes built_same [] false (waiting_at at) word (held_at at) ≡ true
     → Lacks at word (word_met rules [] false (waiting_at at) 1 word (held_at at))
 word_lacks at word passes =
     let none = none_met (waiting_at at) word in
     subst (λ name. Lacks at word (subcommand_or_other rules name (waiting_at at) 1 word (held_at at))) (sym none)
-    (other_lacks at word (subst (λ name. other_passes built_same name word (held_at at) ≡ true) none passes))
+    (either_lacks at word (bytes_eq word (45 ∷ 45 ∷ [])) (long_or_other rules (waiting_at at) word (long_of word) (held_at at)) _
+    (named_lacks at word (long_of word)) (subst (λ name. other_passes built_same name word (held_at at) ≡ true) none passes))
 
 no_second : (at : Met) (word : Text) → turn_passes built_same [] (walk_at at) word ≡ true
     → is_given (codes "second") (finished rules (walked rules [] (walk_at at) word).held) ≡ false
