@@ -13,7 +13,7 @@ use Rattle.clap.specs.Walk.{Held, Names, Outcome, Step, Waiting, Walk, done, pla
 use Rattle.clap.specs.Takes.{bundle_passes, bundle_step_passes, flag_word_passes, flags_pass, is_given, is_valid, default_passes, level_passes, long_passes, option_passes, react_passes, settle_passes, short_passes, step_passes, turn_passes, use_passes, walk_passes, word_passes}
 use Rattle.clap.proofs.WalkLemmas.{both}
 use Rattle.crs_command_line.specs.CommandLine.{files_flag, level_option, operand, rules_option}
-use Rattle.crs_requests.specs.Requests.{has_flag, level_of, rules_of, same_of, same_operands, under}
+use Rattle.crs_requests.specs.Requests.{rules_of, same_of, under}
 
 -- ---- rows with values
 
@@ -221,10 +221,6 @@ given_there id [] have given = cc
 given_there id (r ∷ rows) have given =
     grind (arith, first_there r.values have.0, given_there id rows have.1)
 
-asks : (rules : List Text) (are_files : Bool) (level : Text) (first second : Option Text) → IsSome first → IsSome second
-    → IsSome (option_map (under rules) (same_operands are_files level first second))
-asks rules are_files level first second one other = grind arith
-
 -- `same`, as `clap` builds it
 abbrev pub built_same : Shape
 built_same = record (new_shape (codes "same")) {
@@ -254,5 +250,4 @@ pub same_asks : (words : List Text) → level_passes built_same [] nothing_held 
 same_asks words passes =
     let rows = rows_after built_same.rules [] words in
     let given = given_texts words passes in
-    asks (rules_of rows) (has_flag (codes "files") rows) (level_of rows) (first_of (codes "first") rows) (first_of (codes "second") rows)
-    (given_there (codes "first") rows given.0 given.1.0) (given_there (codes "second") rows given.0 given.1.1)
+    grind (arith, given_there (codes "first") rows given.0 given.1.0, given_there (codes "second") rows given.0 given.1.1)

@@ -7,7 +7,7 @@ use Rattle.clap.specs.Lexer.{long_of, long_of_rest, name_and_value, short_of}
 use Rattle.clap.specs.Words.{Row, Rule, Text, takes}
 use Rattle.std.proofs.lemmas.Slice.Eq.{bytes_eq-Decides}
 use Rattle.clap.specs.Simple.{filled, help_rule, with_index}
-use Rattle.clap.specs.Walk.{Held, Outcome, Step, Waiting, Walk, plain, idle, option, trailing, after_flag, after_step, bundle_met, bundle_step, finished, long_met, long_or_other, nothing_held, short_or_plain, subcommand_or_other, used, walked, word_met}
+use Rattle.clap.specs.Walk.{Held, Outcome, Step, Waiting, Walk, plain, idle, option, trailing, after_flag, after_step, bundle_met, finished, long_met, long_or_other, nothing_held, short_or_plain, subcommand_or_other, used, walked, word_met}
 use Rattle.clap.specs.Takes.{bundle_passes, bundle_step_passes, flag_word_passes, flags_pass, is_given, level_passes, long_passes, other_passes, short_passes, turn_passes, walk_passes, word_passes}
 use Rattle.clap.proofs.OnLiterals.{clap_on_literals}
 use Rattle.clap.proofs.WalkLemmas.{both}
@@ -86,17 +86,11 @@ short_help_fails : (at : Met) (is_help : Bool) (rest : Text) (test : Held → Bo
     → short_passes rules false (cond is_help (Some help) None) rest (held_at at) test ≡ true → ⊥
 short_help_fails at is_help rest test passes = grind arith
 
-first_flag_stays : (at : Met) (x : Option ℕ) (flags : Text) (after : Text → ℕ → Outcome → Held → Held × Outcome) (test : Text → ℕ → Held → Bool)
-    → bundle_step_passes rules false x flags 0 (held_at at) test ≡ true → (bundle_step rules x flags 0 plain (held_at at) after).0 ≡ held_at at
-first_flag_stays at None flags after test passes = refl
-first_flag_stays at (Some x) flags after test passes =
-    absurd (short_help_fails at (104 == x || false) (drop (length (encode_utf8 x)) flags) (test (drop (length (encode_utf8 x)) flags) 0) passes)
-
 bundle_stays : (at : Met) (k : ℕ) (flags : Text) → flags_pass rules false k flags 0 (held_at at) ≡ true
     → (bundle_met rules k flags 0 plain (held_at at)).0 ≡ held_at at
 unfolding bundle_met flags_pass
 bundle_stays at zero flags passes = refl
-bundle_stays at (suc k) flags passes = first_flag_stays at (slice_get (chars flags) 0) flags (bundle_met rules k) (flags_pass rules false k) passes
+bundle_stays at (suc k) flags passes = grind arith
 
 short_lacks : (at : Met) (word : Text) (flags : Option Text) → option_map_or (λ f. bundle_passes rules false f (held_at at)) flags true ≡ true
     → Lacks at word (short_or_plain rules (waiting_at at) word flags (held_at at))
