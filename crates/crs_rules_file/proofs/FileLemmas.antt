@@ -6,8 +6,8 @@ use Rattle.crs_rules_file.specs.declared.fault.RulesFault.{RulesFault}
 use Rattle.crs_rules_file.specs.declared.fault.RulesFault.TheVariants as faults
 use Rattle.crs_rules_file.specs.declared.fault.RulesRefusal.{RulesRefusal}
 use Rattle.crs_rules_file.specs.RulesFile.{FaultOfLine, Reads, ReadsFile, RefusesFile, next}
-use Rattle.crs_rules_file.specs.Members.{MemberParts}
-use Rattle.crs_rules_file.specs.Statements.{Adds, AddsSet, Drops, FaultOver, IsRefusedBy, Joins, Over, Reading, listed}
+use Rattle.crs_rules_file.specs.Statements.{AddsSet, Drops, FaultOver, IsRefusedBy, Joins, Over, Reading, listed}
+use Rattle.crs_rules_file.proofs.WalkLemmas.{over-keeps}
 
 -- the lines of some bytes lead from one reading to another
 abbrev pub ReadsFrom : Reading → List ℕ → Reading → Type 0
@@ -26,20 +26,19 @@ pub record LeadsFile (first : Reading) (bytes left : List ℕ) (r : Reading) : T
 abbrev pub IsFirst : List ℕ → List ℕ → List ℕ → Type 0
 IsFirst left line rest = (lines : List (List ℕ)) → AreLines rest lines → AreLines left (line ∷ lines)
 
-pub file-on : (first : Reading) (bytes left line rest : List ℕ) (r s : Reading) → LeadsFile first bytes left r
+pub file-on : {first r s : Reading} {bytes left rest : List ℕ} (line : List ℕ) → LeadsFile first bytes left r
     → IsFirst left line rest → Reads r line s → LeadsFile first bytes rest s
-file-on first bytes left line rest r s leads next reads = record {
+file-on {s = s} line leads next reads = record {
   reads = λ t h. leads.reads t (line ∷ h.0, next h.0 h.1, (s, reads, h.2));
   refuses = λ f h. leads.refuses f (line ∷ h.0, next h.0 h.1, inr (s, reads, h.2));
 }
 
 -- the fault of the next line
-pub file-fault : (first : Reading) (bytes left line rest : List ℕ) (r : Reading) (lines : List (List ℕ)) → AreLines rest lines
+pub file-fault : {first r : Reading} {bytes left : List ℕ} (line rest : List ℕ) (lines : List (List ℕ)) → AreLines rest lines
     → LeadsFile first bytes left r → IsFirst left line rest → (fault : RulesFault) → IsRefusedBy (FaultOfLine r line) fault
     → IsRefusedBy (RefusesFile first bytes) fault
-file-fault first bytes left line rest r lines are leads next (faults.Memory e) h = tt
-file-fault first bytes left line rest r lines are leads next (faults.Refused f) h =
-    leads.refuses f (line ∷ lines, next lines are, inl h)
+file-fault line rest lines are leads next (faults.Memory e) h = tt
+file-fault line rest lines are leads next (faults.Refused f) h = leads.refuses f (line ∷ lines, next lines are, inl h)
 
 nil-cons : (line rest : List ℕ) → [] ≡ line ++ 10 ∷ rest → ⊥
 nil-cons [] rest e = cc
@@ -58,25 +57,17 @@ last-line bytes lines some plain h = inr (some, plain, refl, no-lines lines h)
 
 -- ---- each line is the next
 
-over-line : {A : Type 0} (Step : Reading → A → Reading → Type 0)
-    → ((r s : Reading) (x : A) → Step r x s → s.line ≡ r.line) → (r s : Reading) (xs : List A) → Over Step r xs s → s.line ≡ r.line
-over-line Step kept r s [] h = sym (ap (λ q. q.line) h)
-over-line Step kept r s (x ∷ xs) (q, step, more) = over-line Step kept q s xs more ∙ kept r q x step
-
-adds-line : (first : Option MemberParts) (m : MemberParts) (r s : Reading) (item : Item) → Adds first m r item s → s.line ≡ r.line
-adds-line first m r s item h = ap (λ q. q.line) h.adds
-
-states-line : (r s : Reading) (item : Item) (items : Siblings) → AddsSet r items s → s.line ≡ r.line
-states-line r s item End h = absurd h
-states-line r s item (More x xs) (first, q, adds, over) =
-    over-line (Joins first) (λ r s x j. adds-line (Some first) j.0 r s x j.1) q s (listed xs) over
-    ∙ adds-line None first r q x adds
+set-line : (r s : Reading) (items : Siblings) → AddsSet r items s → s.line ≡ r.line
+set-line r s End h = absurd h
+set-line r s (More x xs) (first, q, adds, over) =
+    over-keeps (Joins first) (λ t. t.line ≡ r.line) (λ o t item e joins. ap (λ p. p.line) joins.1.adds ∙ e) q s (listed xs)
+    (ap (λ p. p.line) adds.adds) over
 
 pub reads-line : (r s : Reading) (line : List ℕ) → Reads r line s → s.line ≡ r.line + 1
 reads-line r s line (inl (idle, e)) = ap (λ q. q.line) e
-reads-line r s line (inr (busy, item, spells, inl (is, h))) = states-line (next r) s item (arguments item) h
+reads-line r s line (inr (busy, item, spells, inl (is, h))) = set-line (next r) s (arguments item) h
 reads-line r s line (inr (busy, item, spells, inr (is, h))) =
-    over-line Drops (λ r s x d. ap (λ q. q.line) d.2) (next r) s (listed (arguments item)) h
+    over-keeps Drops (λ t. t.line ≡ r.line + 1) (λ o t word e drops. ap (λ p. p.line) drops.2 ∙ e) (next r) s (listed (arguments item)) refl h
 
 -- a line more, and fewer bytes
 pub few-still : (line next left rest all : ℕ) → line + left ≤ all → rest < left → next ≡ line + 1 → next + rest ≤ all

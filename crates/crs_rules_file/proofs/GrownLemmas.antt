@@ -12,19 +12,20 @@ use Rattle.crs_rules_file.specs.Seen.{IsAdded}
 use Rattle.crs_rules_file.specs.Statements.{Reading, with_alias}
 use Rattle.crs_rules_file.specs.declared.reader.Mark.{Mark}
 
-extends-self : {A : Type 0} (xs : List A) → Extends xs xs
-extends-self xs = ([], sym (append-nil xs))
-
 extends-on : {A : Type 0} (xs ys zs : List A) → Extends xs ys → Extends ys zs → Extends xs zs
 extends-on xs ys zs (more, e) (others, f) =
     (more ++ others, f ∙ (ap (λ l. l ++ others) e ∙ append_assoc xs more others))
 
-pub grown_self : (r : Reading) → HasGrown r r
-grown_self r = record {
-  seen = extends-self r.seen;
-  names = extends-self r.rules.names;
-  units = extends-self r.rules.units;
+-- only the line differs, or what doesn't count
+grown_same : (r s : Reading) → s.seen ≡ r.seen → s.rules.names ≡ r.rules.names → s.rules.units ≡ r.rules.units → HasGrown r s
+grown_same r s seen names units = record {
+  seen = ([], seen ∙ sym (append-nil r.seen));
+  names = ([], names ∙ sym (append-nil r.rules.names));
+  units = ([], units ∙ sym (append-nil r.rules.units));
 }
+
+pub grown_self : (r : Reading) → HasGrown r r
+grown_self r = grown_same r r refl refl refl
 
 pub grown_by : (r s : Reading) → s ≡ r → HasGrown r s
 grown_by r s e = subst (HasGrown r) (sym e) (grown_self r)
@@ -39,61 +40,26 @@ grown_on r s t g h = record {
 -- one more node of a set, or one that stood there
 pub grown_seen : (r q : Reading) (m : MemberParts) (new : Bool) (seen : List MemberParts) → q ≡ r → IsAdded q.seen m new seen
     → HasGrown r (record q { seen = seen })
-grown_seen r q m true seen e h = subst (λ p. HasGrown p (record q { seen = seen })) e (record {
-  seen = (m ∷ [], h.1);
-  names = extends-self q.rules.names;
-  units = extends-self q.rules.units;
-})
-grown_seen r q m false seen e h = subst (λ p. HasGrown p (record q { seen = seen })) e (record {
-  seen = ([], h.1 ∙ sym (append-nil q.seen));
-  names = extends-self q.rules.names;
-  units = extends-self q.rules.units;
-})
+grown_seen r q m true seen e h = rw (← e) (record { seen = (m ∷ [], h.1); names = (grown_self q).names; units = (grown_self q).units })
+grown_seen r q m false seen e h = rw (← e) (grown_same q (record q { seen = seen }) h.1 refl refl)
 
 -- one more name or unit
 grown_alias : (r : Reading) (k : Option UnitKind) (first m : MemberParts)
     → HasGrown r (record r { rules = with_alias k first m r.rules })
-grown_alias r None first m = record {
-  seen = extends-self r.seen;
-  names = (record { class = m.class; alias = m.name; name = first.name } ∷ [], refl);
-  units = extends-self r.rules.units;
-}
-grown_alias r (Some k) first m = record {
-  seen = extends-self r.seen;
-  names = extends-self r.rules.names;
-  units = (
-    record {
-      kind = k;
-      alias = m.name;
-      alias_factor = m.factor;
-      name = first.name;
-      factor = first.factor;
-    } ∷ [],
-    refl,
-  );
-}
+grown_alias r None first m = record { seen = (grown_self r).seen; names = (_, refl); units = (grown_self r).units }
+grown_alias r (Some k) first m = record { seen = (grown_self r).seen; names = (grown_self r).names; units = (_, refl) }
 
 pub grown_joined : (r q : Reading) (k : Option UnitKind) (first m : MemberParts) (rules : RulesParts) → q ≡ r
     → rules ≡ with_alias k first m q.rules → HasGrown r (record q { rules = rules })
-grown_joined r q k first m rules e is =
-    subst (λ p. HasGrown p (record q { rules = rules })) e
-    (subst (λ rs. HasGrown q (record q { rules = rs })) (sym is) (grown_alias q k first m))
+grown_joined r q k first m rules e is = rw (← e, is) (grown_alias q k first m)
 
 -- another thing doesn't count
 pub grown_dropped : (r : Reading) (u : Uncounted) → HasGrown r (record r { rules = record r.rules { uncounted = u } })
-grown_dropped r u = record {
-  seen = extends-self r.seen;
-  names = extends-self r.rules.names;
-  units = extends-self r.rules.units;
-}
+grown_dropped r u = grown_same r (record r { rules = record r.rules { uncounted = u } }) refl refl refl
 
 -- at another line
 pub grown_line : (r : Reading) (n : ℕ) → HasGrown r (record r { line = n })
-grown_line r n = record {
-  seen = extends-self r.seen;
-  names = extends-self r.rules.names;
-  units = extends-self r.rules.units;
-}
+grown_line r n = grown_same r (record r { line = n }) refl refl refl
 
 taken : {A : Type 0} (n : ℕ) (xs ys : List A) → n ≡ length xs → Extends xs ys → take n ys ≡ xs
 taken n xs ys e (more, f) = ap (λ k. take k ys) e ∙ (ap (take (length xs)) f ∙ take-append_seam xs more)

@@ -1,5 +1,5 @@
 -- What nodes say: there is nothing else, and a name is a text.
-use Rattle.std.proofs.Common.{◌≡◌, ◌≢◌, ◌⊎◌, inl, inr, Option, Some, None, IsTrue, false, subst, ◌∙◌}
+use Rattle.std.proofs.Common.{arith, ◌≡◌, ◌≢◌, ◌⊎◌, inl, inr, Option, Some, None, IsTrue, false, subst, ◌∙◌}
 use Rattle.crs_decimal.specs.Prelude.{Value}
 use Rattle.crs_text.specs.Prelude.{Item, leaf, node, Siblings, End, More, IsNumberOf, first_of, kind_of_item, raw_of, rest_of, number, text, word, AreFormed}
 use Rattle.crs_text.specs.declared.items.ItemKind.{ItemKind}
@@ -32,12 +32,7 @@ no-text End k e other m s = s
 no-text (More item items) k e other m s = other (e ∙ s.0)
 
 pub not-text : (k : ItemKind) → ((k ≡ kinds.Number) ⊎ ((k ≡ kinds.Word) ⊎ (k ≡ kinds.Node))) → k ≢ kinds.Text
-not-text kinds.Number h e = cc
-not-text kinds.Text (inl h) e = cc
-not-text kinds.Text (inr (inl h)) e = cc
-not-text kinds.Text (inr (inr h)) e = cc
-not-text kinds.Word h e = cc
-not-text kinds.Node h e = cc
+not-text k h e = grind arith
 
 -- what is said after a name is a factor, in a unit
 pub is-factor : (o : Option UnitKind) (items : Siblings) (f : Value) → SaysFactor o items f → IsFactor o f
@@ -50,7 +45,4 @@ false-true h = cc
 
 -- a well-formed text is a text
 pub is-text : (item : Item) → AreFormed item → kind_of_item item ≡ kinds.Text → IsText (raw_of item)
-is-text (leaf number place raw) formed e = cc
-is-text (leaf text place raw) formed e = formed
-is-text (leaf word place raw) formed e = cc
-is-text (node place keyword square first others close) formed e = cc
+is-text item formed e = grind arith

@@ -18,32 +18,32 @@ DenotesOne = (bytes : List ℕ) (a b : Value) → IsNormal a → IsNormal b →
     Denotes bytes (exact a) → Denotes bytes (exact b) → a ≡ b
 
 -- steps and faults of which there is one at most, at a reading and what is read there
-record Sharp {A : Type 0} (Step : Reading → A → Reading → Type 0) (Fault : Reading → A → RulesRefusal → Type 0) : Type 0 where
-  one : (r s t : Reading) (x : A) → Step r x s → Step r x t → s ≡ t
-  fault : (r : Reading) (x : A) (f g : RulesRefusal) → Fault r x f → Fault r x g → f ≡ g
-  apart : (r s : Reading) (x : A) (f : RulesRefusal) → Step r x s → ¬ (Fault r x f)
+pub record Sharp {A : Type 0} (Step : Reading → A → Reading → Type 0) (Fault : Reading → A → RulesRefusal → Type 0) : Type 0 where
+  pub one : (r s t : Reading) (x : A) → Step r x s → Step r x t → s ≡ t
+  pub fault : (r : Reading) (x : A) (f g : RulesRefusal) → Fault r x f → Fault r x g → f ≡ g
+  pub apart : (r s : Reading) (x : A) (f : RulesRefusal) → Step r x s → ¬ (Fault r x f)
 
-over-one : {A : Type 0} (Step : Reading → A → Reading → Type 0) (Fault : Reading → A → RulesRefusal → Type 0) → Sharp Step Fault →
+pub over-one : {A : Type 0} {Step : Reading → A → Reading → Type 0} {Fault : Reading → A → RulesRefusal → Type 0} → Sharp Step Fault →
     (r s t : Reading) (xs : List A) → Over Step r xs s → Over Step r xs t → s ≡ t
-over-one Step Fault h r s t [] a b = sym a ∙ b
-over-one Step Fault h r s t (x ∷ xs) (q, step, more) (p, other, rest) =
-    over-one Step Fault h p s t xs (subst (λ o. Over Step o xs s) (h.one r q p x step other) more) rest
+over-one h r s t [] a b = sym a ∙ b
+over-one {Step = Step} h r s t (x ∷ xs) (q, step, more) (p, other, rest) =
+    over-one h p s t xs (subst (λ o. Over Step o xs s) (h.one r q p x step other) more) rest
 
-over-fault : {A : Type 0} (Step : Reading → A → Reading → Type 0) (Fault : Reading → A → RulesRefusal → Type 0) → Sharp Step Fault →
+over-fault : {A : Type 0} {Step : Reading → A → Reading → Type 0} {Fault : Reading → A → RulesRefusal → Type 0} → Sharp Step Fault →
     (r : Reading) (xs : List A) (f g : RulesRefusal) → FaultOver Step Fault r xs f → FaultOver Step Fault r xs g → f ≡ g
-over-fault Step Fault h r [] f g a b = absurd a
-over-fault Step Fault h r (x ∷ xs) f g (inl a) (inl b) = h.fault r x f g a b
-over-fault Step Fault h r (x ∷ xs) f g (inl a) (inr (p, other, rest)) = absurd (h.apart r p x f other a)
-over-fault Step Fault h r (x ∷ xs) f g (inr (q, step, more)) (inl b) = absurd (h.apart r q x g step b)
-over-fault Step Fault h r (x ∷ xs) f g (inr (q, step, more)) (inr (p, other, rest)) =
-    over-fault Step Fault h p xs f g (subst (λ o. FaultOver Step Fault o xs f) (h.one r q p x step other) more) rest
+over-fault h r [] f g a b = absurd a
+over-fault h r (x ∷ xs) f g (inl a) (inl b) = h.fault r x f g a b
+over-fault h r (x ∷ xs) f g (inl a) (inr (p, other, rest)) = absurd (h.apart r p x f other a)
+over-fault h r (x ∷ xs) f g (inr (q, step, more)) (inl b) = absurd (h.apart r q x g step b)
+over-fault {Step = Step} {Fault = Fault} h r (x ∷ xs) f g (inr (q, step, more)) (inr (p, other, rest)) =
+    over-fault h p xs f g (subst (λ o. FaultOver Step Fault o xs f) (h.one r q p x step other) more) rest
 
-over-apart : {A : Type 0} (Step : Reading → A → Reading → Type 0) (Fault : Reading → A → RulesRefusal → Type 0) → Sharp Step Fault →
+over-apart : {A : Type 0} {Step : Reading → A → Reading → Type 0} {Fault : Reading → A → RulesRefusal → Type 0} → Sharp Step Fault →
     (r s : Reading) (xs : List A) (f : RulesRefusal) → Over Step r xs s → ¬ (FaultOver Step Fault r xs f)
-over-apart Step Fault h r s [] f a b = b
-over-apart Step Fault h r s (x ∷ xs) f (q, step, more) (inl b) = h.apart r q x f step b
-over-apart Step Fault h r s (x ∷ xs) f (q, step, more) (inr (p, other, rest)) =
-    over-apart Step Fault h p s xs f (subst (λ o. Over Step o xs s) (h.one r q p x step other) more) rest
+over-apart h r s [] f a b = b
+over-apart h r s (x ∷ xs) f (q, step, more) (inl b) = h.apart r q x f step b
+over-apart {Step = Step} h r s (x ∷ xs) f (q, step, more) (inr (p, other, rest)) =
+    over-apart h p s xs f (subst (λ o. Over Step o xs s) (h.one r q p x step other) more) rest
 
 -- ---- nodes
 
@@ -77,19 +77,12 @@ node-fault : DenotesOne → (first : Option MemberParts) (r : Reading) (item : I
 node-fault law first r item f g (inl a) (inl b) = a.0 ∙ sym b.0
 node-fault law first r item f g (inl a) (inr (n, says, b)) = absurd (a.1 n says)
 node-fault law first r item f g (inr (m, says, a)) (inl b) = absurd (b.1 m says)
-node-fault law first r item f g (inr (m, says, inl a)) (inr (n, other, inl b)) = a.0 ∙ sym b.0
-node-fault law first r item f g (inr (m, says, inr a)) (inr (n, other, inr b)) = a.0 ∙ sym b.0
-node-fault law first r item f g (inr (m, says, inl a)) (inr (n, other, inr b)) =
-    absurd (a.1 (subst (IsOfSet first) (says-one law item n m other says) b.1))
-node-fault law first r item f g (inr (m, says, inr a)) (inr (n, other, inl b)) =
-    absurd (b.1 (subst (IsOfSet first) (says-one law item m n says other) a.1))
+node-fault law first r item f g (inr (m, says, a)) (inr (n, other, b)) = grind (arith, rw (says-one law item n m other says) at b)
 
 node-apart : DenotesOne → (first : Option MemberParts) (m : MemberParts) (r s : Reading) (item : Item) (f : RulesRefusal) →
     Adds first m r item s → ¬ (FaultOfNode first r item f)
 node-apart law first m r s item f p (inl a) = a.1 m p.says
-node-apart law first m r s item f p (inr (n, says, inl a)) = a.1 (subst (IsOfSet first) (says-one law item m n p.says says) p.class)
-node-apart law first m r s item f p (inr (n, says, inr a)) =
-    p.new (subst (λ x. OneIs (λ k. x ≡ k) r.seen) (says-one law item n m says p.says) a.2)
+node-apart law first m r s item f p (inr (n, says, a)) = grind (arith, p.class, p.new, rw (says-one law item n m says p.says) at a)
 
 joins-sharp : DenotesOne → (first : MemberParts) → Sharp (Joins first) (FaultOfNode (Some first))
 joins-sharp law first = record {
@@ -98,31 +91,34 @@ joins-sharp law first = record {
   apart = λ r s x f p. node-apart law (Some first) p.0 r s x f p.1;
 }
 
-set-one : DenotesOne → (r s t : Reading) (items : Siblings) → AddsSet r items s → AddsSet r items t → s ≡ t
-set-one law r s t End a b = absurd a
-set-one law r s t (More x xs) (m, q, adds, over) (n, p, other, rest) =
-    let e = adds-one law None m n r q p x adds other in
-    over-one (Joins n) (FaultOfNode (Some n)) (joins-sharp law n) p s t (listed xs)
-    (subst (λ o. Over (Joins o) p (listed xs) s) e.0 (subst (λ o. Over (Joins m) o (listed xs) s) e.1 over)) rest
+-- the same after a node and what it leads to
+as-other : {m n : MemberParts} {q p : Reading} (P : MemberParts → Reading → Type 0) → (m ≡ n) × (q ≡ p) → P m q → P n p
+as-other {m = m} {p = p} P e h = subst (λ o. P o p) e.0 (subst (P m) e.1 h)
 
-set-fault : DenotesOne → (r : Reading) (items : Siblings) (f g : RulesRefusal) → FaultOfSet r items f → FaultOfSet r items g → f ≡ g
-set-fault law r End f g a b = absurd a
-set-fault law r (More x xs) f g (inl a) (inl b) = node-fault law None r x f g a b
-set-fault law r (More x xs) f g (inl a) (inr (n, p, other, rest)) = absurd (node-apart law None n r p x f other a)
-set-fault law r (More x xs) f g (inr (m, q, adds, over)) (inl b) = absurd (node-apart law None m r q x g adds b)
-set-fault law r (More x xs) f g (inr (m, q, adds, over)) (inr (n, p, other, rest)) =
-    let e = adds-one law None m n r q p x adds other in
-    over-fault (Joins n) (FaultOfNode (Some n)) (joins-sharp law n) p (listed xs) f g
-    (subst (λ o. FaultOver (Joins o) (FaultOfNode (Some o)) p (listed xs) f) e.0
-    (subst (λ o. FaultOver (Joins m) (FaultOfNode (Some m)) o (listed xs) f) e.1 over)) rest
+set-sharp : DenotesOne → Sharp AddsSet FaultOfSet
+set-sharp law = record { one = one; fault = fault; apart = apart }
+  where
+    one : (r s t : Reading) (items : Siblings) → AddsSet r items s → AddsSet r items t → s ≡ t
+    one r s t End a b = absurd a
+    one r s t (More x xs) (m, q, adds, over) (n, p, other, rest) =
+        over-one (joins-sharp law n) p s t (listed xs)
+        (as-other (λ o k. Over (Joins o) k (listed xs) s) (adds-one law None m n r q p x adds other) over) rest
 
-set-apart : DenotesOne → (r s : Reading) (items : Siblings) (f : RulesRefusal) → AddsSet r items s → ¬ (FaultOfSet r items f)
-set-apart law r s End f a b = b
-set-apart law r s (More x xs) f (m, q, adds, over) (inl b) = node-apart law None m r q x f adds b
-set-apart law r s (More x xs) f (m, q, adds, over) (inr (n, p, other, rest)) =
-    let e = adds-one law None m n r q p x adds other in
-    over-apart (Joins n) (FaultOfNode (Some n)) (joins-sharp law n) p s (listed xs) f
-    (subst (λ o. Over (Joins o) p (listed xs) s) e.0 (subst (λ o. Over (Joins m) o (listed xs) s) e.1 over)) rest
+    fault : (r : Reading) (items : Siblings) (f g : RulesRefusal) → FaultOfSet r items f → FaultOfSet r items g → f ≡ g
+    fault r End f g a b = absurd a
+    fault r (More x xs) f g (inl a) (inl b) = node-fault law None r x f g a b
+    fault r (More x xs) f g (inl a) (inr (n, p, other, rest)) = absurd (node-apart law None n r p x f other a)
+    fault r (More x xs) f g (inr (m, q, adds, over)) (inl b) = absurd (node-apart law None m r q x g adds b)
+    fault r (More x xs) f g (inr (m, q, adds, over)) (inr (n, p, other, rest)) =
+        over-fault (joins-sharp law n) p (listed xs) f g
+        (as-other (λ o k. FaultOver (Joins o) (FaultOfNode (Some o)) k (listed xs) f) (adds-one law None m n r q p x adds other) over) rest
+
+    apart : (r s : Reading) (items : Siblings) (f : RulesRefusal) → AddsSet r items s → ¬ (FaultOfSet r items f)
+    apart r s End f a b = b
+    apart r s (More x xs) f (m, q, adds, over) (inl b) = node-apart law None m r q x f adds b
+    apart r s (More x xs) f (m, q, adds, over) (inr (n, p, other, rest)) =
+        over-apart (joins-sharp law n) p s (listed xs) f
+        (as-other (λ o k. Over (Joins o) k (listed xs) s) (adds-one law None m n r q p x adds other) over) rest
 
 -- ---- words
 
@@ -152,33 +148,11 @@ true-false : (b : Bool) → IsTrue b → IsFalse b → ⊥
 true-false b p q = cc
 
 statements-sharp : DenotesOne → Sharp States FaultOfStatement
-statements-sharp law = record { one = one; fault = fault; apart = apart }
-  where
-    one : (r s t : Reading) (x : Item) → States r x s → States r x t → s ≡ t
-    one r s t x (inl a) (inl b) = set-one law r s t (arguments x) a.1 b.1
-    one r s t x (inl a) (inr b) = absurd (apart-words (raw_of x) a.0 b.0)
-    one r s t x (inr a) (inl b) = absurd (apart-words (raw_of x) b.0 a.0)
-    one r s t x (inr a) (inr b) = over-one Drops FaultOfWord drops-sharp r s t (listed (arguments x)) a.1 b.1
-
-    fault : (r : Reading) (x : Item) (f g : RulesRefusal) → FaultOfStatement r x f → FaultOfStatement r x g → f ≡ g
-    fault r x f g (inl a) (inl b) = set-fault law r (arguments x) f g a.1 b.1
-    fault r x f g (inl a) (inr (inl b)) = absurd (apart-words (raw_of x) a.0 b.0)
-    fault r x f g (inl a) (inr (inr b)) = absurd (true-false _ a.0 b.1)
-    fault r x f g (inr (inl a)) (inl b) = absurd (apart-words (raw_of x) b.0 a.0)
-    fault r x f g (inr (inl a)) (inr (inl b)) =
-        over-fault Drops FaultOfWord drops-sharp r (listed (arguments x)) f g a.1 b.1
-    fault r x f g (inr (inl a)) (inr (inr b)) = absurd (true-false _ a.0 b.2)
-    fault r x f g (inr (inr a)) (inl b) = absurd (true-false _ b.0 a.1)
-    fault r x f g (inr (inr a)) (inr (inl b)) = absurd (true-false _ b.0 a.2)
-    fault r x f g (inr (inr a)) (inr (inr b)) = a.0 ∙ sym b.0
-
-    apart : (r s : Reading) (x : Item) (f : RulesRefusal) → States r x s → ¬ (FaultOfStatement r x f)
-    apart r s x f (inl a) (inl b) = set-apart law r s (arguments x) f a.1 b.1
-    apart r s x f (inl a) (inr (inl b)) = apart-words (raw_of x) a.0 b.0
-    apart r s x f (inl a) (inr (inr b)) = true-false _ a.0 b.1
-    apart r s x f (inr a) (inl b) = apart-words (raw_of x) b.0 a.0
-    apart r s x f (inr a) (inr (inl b)) = over-apart Drops FaultOfWord drops-sharp r s (listed (arguments x)) f a.1 b.1
-    apart r s x f (inr a) (inr (inr b)) = true-false _ a.0 b.2
+statements-sharp law = record {
+  one = λ r s t x a b. grind (arith, apart-words (raw_of x), (set-sharp law).one r s t (arguments x), over-one drops-sharp r s t (listed (arguments x)));
+  fault = λ r x f g a b. grind (arith, apart-words (raw_of x), (set-sharp law).fault r (arguments x) f g, over-fault drops-sharp r (listed (arguments x)) f g);
+  apart = λ r s x f a b. grind (arith, apart-words (raw_of x), (set-sharp law).apart r s (arguments x) f, over-apart drops-sharp r s (listed (arguments x)) f);
+}
 
 -- ---- lines
 
@@ -224,27 +198,13 @@ lines-sharp law node refusal text = record { one = one; fault = fault; apart = a
 abbrev pub LinesOne : Type 0
 LinesOne = (bytes : List ℕ) (a b : List (List ℕ)) → AreLines bytes a → AreLines bytes b → a ≡ b
 
-pub reads-one : DenotesOne → NodeOne → RefusalOne → TextApart → LinesOne → (r s t : Reading) (bytes : List ℕ) →
-    ReadsFile r bytes s → ReadsFile r bytes t → s ≡ t
-reads-one law node refusal text lines r s t bytes (xs, p, over) (ys, q, other) =
-    over-one Reads FaultOfLine (lines-sharp law node refusal text) (record r { line = 0 }) s t ys
-    (subst (λ o. Over Reads (record r { line = 0 }) o s) (lines bytes xs ys p q) over) other
-
-pub refuses-one : DenotesOne → NodeOne → RefusalOne → TextApart → LinesOne → (r : Reading) (bytes : List ℕ) (f g : RulesRefusal) →
-    RefusesFile r bytes f → RefusesFile r bytes g → f ≡ g
-refuses-one law node refusal text lines r bytes f g (xs, p, a) (ys, q, b) =
-    over-fault Reads FaultOfLine (lines-sharp law node refusal text) (record r { line = 0 }) ys f g
-    (subst (λ o. FaultOver Reads FaultOfLine (record r { line = 0 }) o f) (lines bytes xs ys p q) a) b
-
-pub never-both : DenotesOne → NodeOne → RefusalOne → TextApart → LinesOne → (r s : Reading) (bytes : List ℕ) (f : RulesRefusal) →
-    ReadsFile r bytes s → ¬ (RefusesFile r bytes f)
-never-both law node refusal text lines r s bytes f (xs, p, over) (ys, q, b) =
-    over-apart Reads FaultOfLine (lines-sharp law node refusal text) (record r { line = 0 }) s ys f
-    (subst (λ o. Over Reads (record r { line = 0 }) o s) (lines bytes xs ys p q) over) b
-
--- files are read to one thing
-pub files-one : ((r s t : Reading) (bytes : List ℕ) → ReadsFile r bytes s → ReadsFile r bytes t → s ≡ t)
-    → (r s t : Reading) (files : List (List ℕ)) → Over ReadsFile r files s → Over ReadsFile r files t → s ≡ t
-files-one one r s t [] d e = sym d ∙ e
-files-one one r s t (file ∷ files) (q, read, rest) (p, other, more) =
-    files-one one p s t files (subst (λ o. Over ReadsFile o files s) (one r q p file read other) rest) more
+pub files-sharp : DenotesOne → NodeOne → RefusalOne → TextApart → LinesOne → Sharp ReadsFile RefusesFile
+files-sharp law node refusal text lines =
+    let h = lines-sharp law node refusal text in record {
+      one = λ r s t bytes a b. over-one h (record r { line = 0 }) s t b.0
+          (subst (λ o. Over Reads (record r { line = 0 }) o s) (lines bytes a.0 b.0 a.1 b.1) a.2) b.2;
+      fault = λ r bytes f g a b. over-fault h (record r { line = 0 }) b.0 f g
+          (subst (λ o. FaultOver Reads FaultOfLine (record r { line = 0 }) o f) (lines bytes a.0 b.0 a.1 b.1) a.2) b.2;
+      apart = λ r s bytes f a b. over-apart h (record r { line = 0 }) s b.0 f
+          (subst (λ o. Over Reads (record r { line = 0 }) o s) (lines bytes a.0 b.0 a.1 b.1) a.2) b.2;
+    }

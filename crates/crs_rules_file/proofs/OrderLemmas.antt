@@ -1,11 +1,12 @@
 -- Lines in another order: what each of them adds depends on nothing that other lines add.
-use Rattle.std.proofs.Common.{◌≡◌, ◌⊎◌, ◌||◌, ◌++◌, ◌∷◌, [], ℕ, List, Bool, true, false, Option, None, Some, ap, append-nil, append_assoc, inl, inr, refl, sym, subst, ◌∙◌, codes, if◌then◌else◌}
+use Rattle.std.proofs.Common.{arith, ◌≡◌, ◌⊎◌, ◌||◌, ◌++◌, ◌∷◌, [], ℕ, List, Bool, true, false, Option, None, Some, ap, append-nil, append_assoc, inl, inr, refl, sym, subst, ◌∙◌, codes, if◌then◌else◌}
 use Rattle.std.specs.Str.{str_eq_ignore_ascii_case}
+use Rattle.std.proofs.Math.Bool.{or_assoc}
 use Rattle.crs_text.specs.Prelude.{Item, leaf, node, Siblings, End, More, arguments, number, text, word}
 use Rattle.crs_shape.specs.declared.unit_kind.UnitKind.{UnitKind}
 use Rattle.crs_value.specs.Prelude.{OneIs, IsIn}
 use Rattle.crs_value.specs.Sound.{Each}
-use Rattle.crs_rules.specs.NoRules.{nothing}
+use Rattle.crs_rules.specs.NoRules.{no_rules, nothing}
 use Rattle.crs_rules.specs.OrderOfRules.{DifferInOrder, HaveSameMembers}
 use Rattle.crs_rules.specs.ReorderedAxes.{IsReordered}
 use Rattle.crs_rules.specs.Rules.{NameAliasParts, UnitAliasParts}
@@ -21,14 +22,14 @@ use Rattle.crs_rules_file.proofs.OneLemmas.{LinesOne, some-one}
 abbrev pub Stands : {A : Type 0} → List A → A → Type 0
 Stands xs x = OneIs (λ y. x ≡ y) xs
 
-stands-later : {A : Type 0} (y : A) (xs ys : List A) (x : A) → Stands xs x ⊎ Stands ys x → Stands (y ∷ xs) x ⊎ Stands ys x
-stands-later y xs ys x (inl h) = inl (inr h)
-stands-later y xs ys x (inr h) = inr h
-
 stands-either : {A : Type 0} (xs ys : List A) (x : A) → Stands (xs ++ ys) x → Stands xs x ⊎ Stands ys x
 stands-either [] ys x h = inr h
 stands-either (y ∷ xs) ys x (inl e) = inl (inl e)
-stands-either (y ∷ xs) ys x (inr h) = stands-later y xs ys x (stands-either xs ys x h)
+stands-either (y ∷ xs) ys x (inr h) = grind (arith, stands-either xs ys x h)
+
+-- one of them, or the one more
+pub stands-last : {A : Type 0} (xs : List A) (x y : A) → Stands (xs ++ x ∷ []) y → Stands xs y ⊎ (y ≡ x)
+stands-last xs x y h = grind (arith, stands-either xs (x ∷ []) y h)
 
 pub stands-front : {A : Type 0} (xs ys : List A) (x : A) → Stands xs x → Stands (xs ++ ys) x
 stands-front [] ys x h = absurd h
@@ -44,29 +45,26 @@ abbrev Holds : {A : Type 0} → List A → List A → Type 0
 Holds {A = A} xs ys = (x : A) → Stands ys x → Stands xs x
 
 holds-more : {A : Type 0} (xs ys more : List A) → Holds xs ys → Holds (xs ++ more) (ys ++ more)
-holds-more xs ys more holds x h = by_case (stands-either ys more x h)
-  where
-    by_case : Stands ys x ⊎ Stands more x → Stands (xs ++ more) x
-    by_case (inl k) = stands-front xs more x (holds x k)
-    by_case (inr k) = stands-back xs more x k
+holds-more xs ys more holds x h = grind (arith, stands-either ys more x h, holds x, stands-front xs more x, stands-back xs more x)
 
 holds-exchanged : {A : Type 0} (xs a b : List A) → Holds ((xs ++ a) ++ b) ((xs ++ b) ++ a)
-holds-exchanged xs a b x h = by_case (stands-either (xs ++ b) a x h)
-  where
-    front_case : Stands xs x ⊎ Stands b x → Stands ((xs ++ a) ++ b) x
-    front_case (inl k) = stands-front (xs ++ a) b x (stands-front xs a x k)
-    front_case (inr k) = stands-back (xs ++ a) b x k
-
-    by_case : Stands (xs ++ b) x ⊎ Stands a x → Stands ((xs ++ a) ++ b) x
-    by_case (inl k) = front_case (stands-either xs b x k)
-    by_case (inr k) = stands-front (xs ++ a) b x (stands-back xs a x k)
+holds-exchanged xs a b x h =
+    grind (
+      arith,
+      stands-either (xs ++ b) a x h,
+      stands-either xs b x,
+      stands-front (xs ++ a) b x,
+      stands-back (xs ++ a) b x,
+      stands-front xs a x,
+      stands-back xs a x,
+    )
 
 is-in : {A : Type 0} (xs : List A) (x : A) → Stands xs x → IsIn x xs
 is-in [] x h = h
 is-in (y ∷ xs) x (inl e) = inl e
 is-in (y ∷ xs) x (inr h) = inr (is-in xs x h)
 
-each-of : {A : Type 0} (P : A → Type 0) (xs : List A) → ((x : A) → Stands xs x → P x) → Each P xs
+pub each-of : {A : Type 0} (P : A → Type 0) (xs : List A) → ((x : A) → Stands xs x → P x) → Each P xs
 each-of P [] f = tt
 each-of P (x ∷ xs) f = (f x (inl refl), each-of P xs (λ y h. f y (inr h)))
 
@@ -96,17 +94,11 @@ each_word test a b c = record {
 abbrev either : Uncounted → Uncounted → Uncounted
 either w u = each_word (λ a b c. a || b) w u u
 
-or-assoc : (a b c : Bool) → (a || (b || c)) ≡ ((a || b) || c)
-or-assoc true b c = refl
-or-assoc false b c = refl
-
 or-swap : (a b c : Bool) → (a || (b || c)) ≡ (b || (a || c))
-or-swap true true c = refl
-or-swap true false c = refl
-or-swap false b c = refl
+or-swap a b c = grind arith
 
 either-assoc : (a b c : Uncounted) → either a (either b c) ≡ either (either a b) c
-either-assoc a b c = λ i. each_word (λ x y z. or-assoc x y z i) a b c
+either-assoc a b c = λ i. each_word (λ x y z. sym (or_assoc x y z) i) a b c
 
 either-swap : (a b c : Uncounted) → either a (either b c) ≡ either b (either a c)
 either-swap a b c = λ i. each_word (λ x y z. or-swap x y z i) a b c
@@ -171,16 +163,16 @@ record HasAlso (added : Addition) (r s : Reading) : Type 0 where
   units : s.rules.units ≡ r.rules.units ++ added.units
   words : s.rules.uncounted ≡ either added.words r.rules.uncounted
 
-also-none : (r s : Reading) → s.seen ≡ r.seen → s.rules ≡ r.rules → HasAlso no_addition r s
-also-none r s seen rules = record {
+also-none : {r s : Reading} → s.seen ≡ r.seen → s.rules ≡ r.rules → HasAlso no_addition r s
+also-none {r = r} seen rules = record {
   seen = seen ∙ sym (append-nil r.seen);
   names = ap (λ k. k.names) rules ∙ sym (append-nil r.rules.names);
   units = ap (λ k. k.units) rules ∙ sym (append-nil r.rules.units);
   words = ap (λ k. k.uncounted) rules;
 }
 
-also-both : (a b : Addition) (r q s : Reading) → HasAlso a r q → HasAlso b q s → HasAlso (both a b) r s
-also-both a b r q s h k = record {
+also-both : {a b : Addition} {r q s : Reading} → HasAlso a r q → HasAlso b q s → HasAlso (both a b) r s
+also-both {a = a} {b = b} {r = r} h k = record {
   seen = k.seen ∙ (ap (λ l. l ++ b.nodes) h.seen ∙ append_assoc r.seen a.nodes b.nodes);
   names = k.names ∙ (ap (λ l. l ++ b.names) h.names ∙ append_assoc r.rules.names a.names b.names);
   units = k.units ∙ (ap (λ l. l ++ b.units) h.units ∙ append_assoc r.rules.units a.units b.units);
@@ -198,8 +190,8 @@ record Adding (P : Reading → Reading → Type 0) (r s : Reading) : Type 0 wher
   also : HasAlso added r s
   again : (q : Reading) → Apart q.seen added.nodes → (t : Reading) × P q t × HasAlso added q t
 
-adding-as : (P Q : Reading → Reading → Type 0) (r s : Reading) → ((q t : Reading) → P q t → Q q t) → Adding P r s → Adding Q r s
-adding-as P Q r s f h = record {
+adding-as : {P Q : Reading → Reading → Type 0} {r s : Reading} → ((q t : Reading) → P q t → Q q t) → Adding P r s → Adding Q r s
+adding-as f h = record {
   added = h.added;
   apart = h.apart;
   also = h.also;
@@ -211,88 +203,62 @@ Then P Q r s = (q : Reading) × P r q × Q q s
 
 -- nodes that are apart from what stood before and from the first of them
 apart-both : (seen now a b : List MemberParts) → now ≡ seen ++ a → Apart seen a → Apart now b → Apart seen (a ++ b)
-apart-both seen now a b e f g m h there = by_case (stands-either a b m h)
-  where
-    by_case : Stands a m ⊎ Stands b m → ⊥
-    by_case (inl k) = f m k there
-    by_case (inr k) = g m k (subst (λ l. Stands l m) (sym e) (stands-front seen a m there))
+apart-both seen now a b e f g m h there =
+    grind (arith, stands-either a b m h, f m, g m, subst (λ l. Stands l m) (sym e) (stands-front seen a m there))
 
 apart-first : (seen a b : List MemberParts) → Apart seen (a ++ b) → Apart seen a
 apart-first seen a b f m h = f m (stands-front a b m h)
 
 apart-second : (seen now other late a b : List MemberParts) → now ≡ seen ++ a → late ≡ other ++ a → Apart now b
     → Apart other (a ++ b) → Apart late b
-apart-second seen now other late a b e d f g m h there = by_case (stands-either other a m (subst (λ l. Stands l m) d there))
-  where
-    by_case : Stands other m ⊎ Stands a m → ⊥
-    by_case (inl k) = g m (stands-back a b m h) k
-    by_case (inr k) = f m h (subst (λ l. Stands l m) (sym e) (stands-back seen a m k))
+apart-second seen now other late a b e d f g m h there =
+    grind (
+      arith,
+      stands-either other a m (subst (λ l. Stands l m) d there),
+      g m (stands-back a b m h),
+      f m h,
+      λ (k : Stands a m). subst (λ l. Stands l m) (sym e) (stands-back seen a m k),
+    )
 
-adding-then : (P Q : Reading → Reading → Type 0) (r q s : Reading) → Adding P r q → Adding Q q s → Adding (Then P Q) r s
-adding-then P Q r q s h k = record {
+adding-then : {P Q : Reading → Reading → Type 0} {r q s : Reading} → Adding P r q → Adding Q q s → Adding (Then P Q) r s
+adding-then {r = r} {q = q} h k = record {
   added = both h.added k.added;
   apart = apart-both r.seen q.seen h.added.nodes k.added.nodes h.also.seen h.apart k.apart;
-  also = also-both h.added k.added r q s h.also k.also;
+  also = also-both h.also k.also;
   again = λ p apart.
       let one = h.again p (apart-first p.seen h.added.nodes k.added.nodes apart) in
       let two = k.again one.0 (apart-second r.seen q.seen p.seen one.0.seen h.added.nodes k.added.nodes h.also.seen one.2.seen k.apart apart) in
-      (two.0, (one.0, one.1, two.1), also-both h.added k.added p one.0 two.0 one.2 two.2);
-}
-
-adding-none : {A : Type 0} (Step : Reading → A → Reading → Type 0) (r s : Reading) → r ≡ s → Adding (λ q t. Over Step q [] t) r s
-adding-none Step r s e = record {
-  added = no_addition;
-  apart = λ m h. absurd h;
-  also = also-none r s (ap (λ q. q.seen) (sym e)) (ap (λ q. q.rules) (sym e));
-  again = λ q apart. (q, refl, also-none q q refl refl);
+      (two.0, (one.0, one.1, two.1), also-both one.2 two.2);
 }
 
 adding-over : {A : Type 0} (Step : Reading → A → Reading → Type 0)
     → ((r s : Reading) (x : A) → Step r x s → Adding (λ q t. Step q x t) r s)
     → (r s : Reading) (xs : List A) → Over Step r xs s → Adding (λ q t. Over Step q xs t) r s
-adding-over Step f r s [] e = adding-none Step r s e
-adding-over Step f r s (x ∷ xs) (q, step, over) =
-    adding-then (λ p t. Step p x t) (λ p t. Over Step p xs t) r q s (f r q x step) (adding-over Step f q s xs over)
+adding-over Step f r s [] e = record {
+  added = no_addition;
+  apart = λ m h. absurd h;
+  also = also-none (ap (λ q. q.seen) (sym e)) (ap (λ q. q.rules) (sym e));
+  again = λ q apart. (q, refl, also-none refl refl);
+}
+adding-over Step f r s (x ∷ xs) (q, step, over) = adding-then (f r q x step) (adding-over Step f q s xs over)
 
 -- ---- nodes of sets
 
-abbrev aliased : Option UnitKind → MemberParts → MemberParts → Addition
-aliased None first m = record {
-  nodes = m ∷ [];
-  names = record { class = m.class; alias = m.name; name = first.name } ∷ [];
-  units = [];
-  words = nothing;
-}
-aliased (Some k) first m = record {
-  nodes = m ∷ [];
-  names = [];
-  units = record {
-    kind = k;
-    alias = m.name;
-    alias_factor = m.factor;
-    name = first.name;
-    factor = first.factor;
-  } ∷ [];
-  words = nothing;
-}
-
+-- a node, and what it adds to no rules
 abbrev addition : Option MemberParts → MemberParts → Addition
-addition None m = record no_addition { nodes = m ∷ [] }
-addition (Some first) m = aliased (kind_of first.class) first m
+addition first m = record {
+  nodes = m ∷ [];
+  names = (joined first m no_rules).names;
+  units = (joined first m no_rules).units;
+  words = nothing;
+}
 
 abbrev with_node : Option MemberParts → MemberParts → Reading → Reading
 with_node first m q = record q { seen = q.seen ++ m ∷ []; rules = joined first m q.rules }
 
-its-nodes : (first : Option MemberParts) (m : MemberParts) → (addition first m).nodes ≡ m ∷ []
-its-nodes None m = refl
-its-nodes (Some first) m = by_case (kind_of first.class)
-  where
-    by_case : (k : Option UnitKind) → (aliased k first m).nodes ≡ m ∷ []
-    by_case None = refl
-    by_case (Some k) = refl
-
-also-aliased : (k : Option UnitKind) (first m : MemberParts) (q : Reading)
-    → HasAlso (aliased k first m) q (record q { seen = q.seen ++ m ∷ []; rules = with_alias k first m q.rules })
+also-aliased : (k : Option UnitKind) (first m : MemberParts) (q : Reading) → let alone = with_alias k first m no_rules in
+    HasAlso (record { nodes = m ∷ []; names = alone.names; units = alone.units; words = nothing }) q
+    (record q { seen = q.seen ++ m ∷ []; rules = with_alias k first m q.rules })
 also-aliased None first m q = record { seen = refl; names = refl; units = sym (append-nil q.rules.units); words = refl }
 also-aliased (Some k) first m q = record { seen = refl; names = sym (append-nil q.rules.names); units = refl; words = refl }
 
@@ -309,68 +275,53 @@ node-adds : (first : Option MemberParts) (m : MemberParts) (r s : Reading) (item
     → Adding (λ q t. Adds first m q item t) r s
 node-adds first m r s item h = record {
   added = addition first m;
-  apart = λ n there. apart-node n (subst (λ l. Stands l n) (its-nodes first m) there);
+  apart = apart;
   also = subst (HasAlso (addition first m) r) (sym h.adds) (also-node first m r);
-  again = λ q apart. (
-    with_node first m q,
-    record {
-      says = h.says;
-      class = h.class;
-      new = apart m (subst (λ l. Stands l m) (sym (its-nodes first m)) (inl refl));
-      adds = refl;
-    },
-    also-node first m q,
-  );
+  again = λ q apart.
+      (with_node first m q, record { says = h.says; class = h.class; new = apart m (inl refl); adds = refl }, also-node first m q);
 }
   where
-    apart-node : (n : MemberParts) → Stands (m ∷ []) n → ¬ (Stands r.seen n)
-    apart-node n (inl e) = subst (λ k. ¬ (Stands r.seen k)) (sym e) h.new
-    apart-node n (inr k) = absurd k
+    apart : (n : MemberParts) → Stands (m ∷ []) n → ¬ (Stands r.seen n)
+    apart n (inl e) = subst (λ k. ¬ (Stands r.seen k)) (sym e) h.new
+    apart n (inr k) = absurd k
 
 joins-adds : (first : MemberParts) (r s : Reading) (item : Item) → Joins first r item s → Adding (λ q t. Joins first q item t) r s
-joins-adds first r s item (m, adds) =
-    adding-as (λ q t. Adds (Some first) m q item t) (λ q t. Joins first q item t) r s (λ q t h. (m, h))
-    (node-adds (Some first) m r s item adds)
+joins-adds first r s item (m, adds) = adding-as (λ q t h. (m, h)) (node-adds (Some first) m r s item adds)
 
 set-adds : (r s : Reading) (items : Siblings) → AddsSet r items s → Adding (λ q t. AddsSet q items t) r s
 set-adds r s End h = absurd h
 set-adds r s (More item items) (first, q, adds, over) =
-    adding-as (Then (λ p t. Adds None first p item t) (λ p t. Over (Joins first) p (listed items) t))
-    (λ p t. AddsSet p (More item items) t) r s (λ p t h. (first, h.0, h.1, h.2))
-    (adding-then (λ p t. Adds None first p item t) (λ p t. Over (Joins first) p (listed items) t) r q s
-    (node-adds None first r q item adds) (adding-over (Joins first) (joins-adds first) q s (listed items) over))
+    adding-as (λ p t h. (first, h.0, h.1, h.2))
+    (adding-then (node-adds None first r q item adds) (adding-over (Joins first) (joins-adds first) q s (listed items) over))
 
 -- ---- words
 
-also-words : (w u : Uncounted) (q s : Reading) → u ≡ either w q.rules.uncounted
-    → s ≡ record q { rules = record q.rules { uncounted = u } } → HasAlso (record no_addition { words = w }) q s
-also-words w u q s d e = record {
-  seen = ap (λ r. r.seen) e ∙ sym (append-nil q.seen);
-  names = ap (λ r. r.rules.names) e ∙ sym (append-nil q.rules.names);
-  units = ap (λ r. r.rules.units) e ∙ sym (append-nil q.rules.units);
-  words = ap (λ r. r.rules.uncounted) e ∙ d;
+also-words : (w : Uncounted) (q : Reading)
+    → HasAlso (record no_addition { words = w }) q (record q { rules = record q.rules { uncounted = either w q.rules.uncounted } })
+also-words w q = record {
+  seen = sym (append-nil q.seen);
+  names = sym (append-nil q.rules.names);
+  units = sym (append-nil q.rules.units);
+  words = refl;
 }
 
 drops-adds : (r s : Reading) (item : Item) → Drops r item s → Adding (λ q t. Drops q item t) r s
 drops-adds r s item (u, names, is) =
-    let w = names-item item r.rules.uncounted u names in record {
+    let w = names-item item r.rules.uncounted u names in
+    let same : u ≡ either w.0 r.rules.uncounted = some-one (with_item item r.rules.uncounted) u _ names (w.1 r.rules.uncounted) in record {
       added = record no_addition { words = w.0 };
       apart = λ m h. absurd h;
-      also = also-words w.0 u r s (some-one (with_item item r.rules.uncounted) u (either w.0 r.rules.uncounted) names (w.1 r.rules.uncounted)) is;
-      again = λ q apart.
-          let v : Uncounted = either w.0 q.rules.uncounted in
-          (record q { rules = record q.rules { uncounted = v } }, (v, w.1 q.rules.uncounted, refl), also-words w.0 v q _ refl refl);
+      also = subst (HasAlso (record no_addition { words = w.0 }) r)
+          (sym (is ∙ ap (λ v. record r { rules = record r.rules { uncounted = v } }) same)) (also-words w.0 r);
+      again = λ q apart. (_, (either w.0 q.rules.uncounted, w.1 q.rules.uncounted, refl), also-words w.0 q);
     }
 
 -- ---- statements, lines
 
 statement-adds : (r s : Reading) (item : Item) → States r item s → Adding (λ q t. States q item t) r s
-statement-adds r s item (inl (says, h)) =
-    adding-as (λ q t. AddsSet q (arguments item) t) (λ q t. States q item t) r s (λ q t k. inl (says, k))
-    (set-adds r s (arguments item) h)
+statement-adds r s item (inl (says, h)) = adding-as (λ q t k. inl (says, k)) (set-adds r s (arguments item) h)
 statement-adds r s item (inr (says, h)) =
-    adding-as (λ q t. Over Drops q (listed (arguments item)) t) (λ q t. States q item t) r s (λ q t k. inr (says, k))
-    (adding-over Drops drops-adds r s (listed (arguments item)) h)
+    adding-as (λ q t k. inr (says, k)) (adding-over Drops drops-adds r s (listed (arguments item)) h)
 
 -- the line that a reading is at says nothing
 also-next : (added : Addition) (r s : Reading) → HasAlso added (next r) s → HasAlso added r s
@@ -380,8 +331,8 @@ line-adds : (r s : Reading) (line : List ℕ) → Reads r line s → Adding (λ 
 line-adds r s line (inl (idle, e)) = record {
   added = no_addition;
   apart = λ m h. absurd h;
-  also = also-none r s (ap (λ q. q.seen) e) (ap (λ q. q.rules) e);
-  again = λ q apart. (next q, inl (idle, refl), also-none q (next q) refl refl);
+  also = also-none (ap (λ q. q.seen) e) (ap (λ q. q.rules) e);
+  again = λ q apart. (next q, inl (idle, refl), also-none refl refl);
 }
 line-adds r s line (inr (busy, item, spells, states)) =
     let h = statement-adds (next r) s item states in record {
@@ -398,61 +349,45 @@ lines-add = adding-over Reads line-adds
 
 -- ---- readings that differ in order alone
 
+-- each list has the members of the other
+abbrev HoldBoth : {A : Type 0} → List A → List A → Type 0
+HoldBoth xs ys = Holds xs ys × Holds ys xs
+
 record IsAlike (r s : Reading) : Type 0 where
   seen : Holds r.seen s.seen
-  names : Holds r.rules.names s.rules.names × Holds s.rules.names r.rules.names
-  units : Holds r.rules.units s.rules.units × Holds s.rules.units r.rules.units
+  names : HoldBoth r.rules.names s.rules.names
+  units : HoldBoth r.rules.units s.rules.units
   uncounted : r.rules.uncounted ≡ s.rules.uncounted
 
-alike-self : (r s : Reading) → r.seen ≡ s.seen → r.rules ≡ s.rules → IsAlike r s
-alike-self r s seen rules = record {
-  seen = λ m h. subst (λ l. Stands l m) (sym seen) h;
-  names = (λ a h. subst (λ k. Stands k.names a) (sym rules) h, λ a h. subst (λ k. Stands k.names a) rules h);
-  units = (λ a h. subst (λ k. Stands k.units a) (sym rules) h, λ a h. subst (λ k. Stands k.units a) rules h);
-  uncounted = ap (λ k. k.uncounted) rules;
-}
+alike-self : (r : Reading) → IsAlike r r
+alike-self r = record { seen = λ m h. h; names = (λ a h. h, λ a h. h); units = (λ a h. h, λ a h. h); uncounted = refl }
 
-alike-on : (r s t : Reading) → IsAlike r s → IsAlike s t → IsAlike r t
-alike-on r s t h k = record {
+alike-on : {r s t : Reading} → IsAlike r s → IsAlike s t → IsAlike r t
+alike-on h k = record {
   seen = λ m there. h.seen m (k.seen m there);
   names = (λ a there. h.names.0 a (k.names.0 a there), λ a there. k.names.1 a (h.names.1 a there));
   units = (λ a there. h.units.0 a (k.units.0 a there), λ a there. k.units.1 a (h.units.1 a there));
   uncounted = h.uncounted ∙ k.uncounted;
 }
 
-holds-as : {A : Type 0} (xs ys left right : List A) → xs ≡ left → ys ≡ right → Holds left right → Holds xs ys
-holds-as xs ys left right d e h x there = subst (λ l. Stands l x) (sym d) (h x (subst (λ l. Stands l x) e there))
-
--- each list has the members of the other
-abbrev HoldBoth : {A : Type 0} → List A → List A → Type 0
-HoldBoth xs ys = Holds xs ys × Holds ys xs
-
 both-more : {A : Type 0} (xs ys left right more : List A) → xs ≡ left ++ more → ys ≡ right ++ more → HoldBoth left right → HoldBoth xs ys
-both-more xs ys left right more d e h = (
-  holds-as xs ys (left ++ more) (right ++ more) d e (holds-more left right more h.0),
-  holds-as ys xs (right ++ more) (left ++ more) e d (holds-more right left more h.1),
-)
+both-more xs ys left right more d e h = rw (d, e) (holds-more left right more h.0, holds-more right left more h.1)
 
 both-exchanged : {A : Type 0} (xs ys old a b : List A) → xs ≡ (old ++ a) ++ b → ys ≡ (old ++ b) ++ a → HoldBoth xs ys
-both-exchanged xs ys old a b d e = (
-  holds-as xs ys ((old ++ a) ++ b) ((old ++ b) ++ a) d e (holds-exchanged old a b),
-  holds-as ys xs ((old ++ b) ++ a) ((old ++ a) ++ b) e d (holds-exchanged old b a),
-)
+both-exchanged xs ys old a b d e = rw (d, e) (holds-exchanged old a b, holds-exchanged old b a)
 
 -- the same added to both
 alike-more : (added : Addition) (p q s t : Reading) → IsAlike p q → HasAlso added p s → HasAlso added q t → IsAlike s t
 alike-more added p q s t h j k = record {
-  seen = holds-as s.seen t.seen (p.seen ++ added.nodes) (q.seen ++ added.nodes) j.seen k.seen
-      (holds-more p.seen q.seen added.nodes h.seen);
+  seen = rw (j.seen, k.seen) (holds-more p.seen q.seen added.nodes h.seen);
   names = both-more s.rules.names t.rules.names p.rules.names q.rules.names added.names j.names k.names h.names;
   units = both-more s.rules.units t.rules.units p.rules.units q.rules.units added.units j.units k.units h.units;
   uncounted = j.words ∙ (ap (either added.words) h.uncounted ∙ sym k.words);
 }
 
 -- a step from a reading that differs in order
-steps-alike : (P : Reading → Reading → Type 0) (p q s : Reading) → Adding P p s → IsAlike p q
-    → (t : Reading) × P q t × IsAlike s t
-steps-alike P p q s h alike =
+steps-alike : {P : Reading → Reading → Type 0} {p q s : Reading} → Adding P p s → IsAlike p q → (t : Reading) × P q t × IsAlike s t
+steps-alike {p = p} {q = q} {s = s} h alike =
     let k = h.again q (λ m there stood. h.apart m there (alike.seen m stood)) in
     (k.0, k.1, alike-more h.added p q s k.0 alike h.also k.2)
 
@@ -470,18 +405,17 @@ alike-exchanged a b r q p o s h k l m = record {
 }
 
 -- two steps the other way round
-exchanged : (P Q : Reading → Reading → Type 0) (r q p : Reading) → Adding P r q → Adding Q q p
+exchanged : {P Q : Reading → Reading → Type 0} {r q p : Reading} → Adding P r q → Adding Q q p
     → (o : Reading) × (s : Reading) × Q r o × P o s × IsAlike p s
-exchanged P Q r q p h k =
-    let one = k.again r (λ m there stood.
-    k.apart m there (subst (λ l. Stands l m) (sym h.also.seen) (stands-front r.seen h.added.nodes m stood))) in
-    let two = h.again one.0 (λ m there stood.
-    by_case m there (stands-either r.seen k.added.nodes m (subst (λ l. Stands l m) one.2.seen stood))) in
+exchanged {r = r} {q = q} {p = p} h k =
+    let before : (m : MemberParts) → Stands r.seen m ⊎ Stands h.added.nodes m → Stands q.seen m =
+    λ m stood. subst (λ l. Stands l m) (sym h.also.seen) (elim stood [ inl old ↦ stands-front r.seen h.added.nodes m old | inr new ↦ stands-back r.seen h.added.nodes m new ]) in
+    let one = k.again r (λ m there stood. k.apart m there (before m (inl stood))) in
+    let two = h.again one.0 (λ m there stood. elim (stands-either r.seen k.added.nodes m (subst (λ l. Stands l m) one.2.seen stood)) [
+      | inl old ↦ h.apart m there old
+      | inr new ↦ k.apart m new (before m (inr there))
+    ]) in
     (one.0, two.0, one.1, two.1, alike-exchanged h.added k.added r q p one.0 two.0 h.also k.also one.2 two.2)
-  where
-    by_case : (m : MemberParts) → Stands h.added.nodes m → Stands r.seen m ⊎ Stands k.added.nodes m → ⊥
-    by_case m there (inl stood) = h.apart m there stood
-    by_case m there (inr stood) = k.apart m stood (subst (λ l. Stands l m) (sym h.also.seen) (stands-back r.seen h.added.nodes m there))
 
 -- ---- lines in another order
 
@@ -499,28 +433,23 @@ over-join Step r q t (x ∷ xs) ys (p, step, more) over = (p, step, over-join St
 reordered : (r s : Reading) (lines theirs : List (List ℕ)) → IsReordered lines theirs → Over Reads r lines s
     → (t : Reading) × Over Reads r theirs t × IsAlike s t
 reordered r s [] theirs none over =
-    (s, subst (λ l. Over Reads r l s) (sym none) over, alike-self s s refl refl)
+    (s, subst (λ l. Over Reads r l s) (sym none) over, alike-self s)
 reordered r s (line ∷ lines) theirs (front, back, are, others) (q, step, over) =
     let below = reordered q s lines (front ++ back) others over in
     let parts = over-split Reads q below.0 front back below.1 in
-    let moved = exchanged (λ p t. Reads p line t) (λ p t. Over Reads p front t) r q parts.0
-    (line-adds r q line step) (lines-add q parts.0 front parts.1) in
-    let ended = steps-alike (λ p t. Over Reads p back t) parts.0 moved.1 below.0
-    (lines-add parts.0 below.0 back parts.2) moved.4 in (
+    let moved = exchanged (line-adds r q line step) (lines-add q parts.0 front parts.1) in
+    let ended = steps-alike (lines-add parts.0 below.0 back parts.2) moved.4 in (
       ended.0,
       subst (λ l. Over Reads r l ended.0) (sym are)
           (over-join Reads r moved.0 ended.0 front (line ∷ back) moved.2 (moved.1, moved.3, ended.1)),
-      alike-on s below.0 ended.0 below.2 ended.2,
+      alike-on below.2 ended.2,
     )
 
 -- ---- files
 
 -- the line that a reading is at says nothing
-alike-begun : (r s : Reading) → IsAlike r s → IsAlike (record r { line = 0 }) s
-alike-begun r s h = record { seen = h.seen; names = h.names; units = h.units; uncounted = h.uncounted }
-
-alike-beginning : (r s : Reading) → IsAlike r s → IsAlike r (record s { line = 0 })
-alike-beginning r s h = record { seen = h.seen; names = h.names; units = h.units; uncounted = h.uncounted }
+alike-at : {r s : Reading} (line other : ℕ) → IsAlike r s → IsAlike (record r { line = line }) (record s { line = other })
+alike-at line other h = record { seen = h.seen; names = h.names; units = h.units; uncounted = h.uncounted }
 
 lines-of-files : LinesOne → (files lines : List (List ℕ)) (r q s : Reading) → IsAlike r q → AreLinesOf files lines
     → Over ReadsFile r files s → (t : Reading) × Over Reads q lines t × IsAlike s t
@@ -528,8 +457,7 @@ lines-of-files one [] lines r q s alike none e =
     (q, subst (λ l. Over Reads q l q) (sym none) refl, subst (λ p. IsAlike p q) e alike)
 lines-of-files one (file ∷ files) lines r q s alike (front, back, are, of, is) (p, (own, same, over), rest) =
     let read : Over Reads (record r { line = 0 }) front p = subst (λ l. Over Reads (record r { line = 0 }) l p) (one file own front same are) over in
-    let first = steps-alike (λ o t. Over Reads o front t) (record r { line = 0 }) q p
-    (lines-add (record r { line = 0 }) p front read) (alike-begun r q alike) in
+    let first = steps-alike (lines-add (record r { line = 0 }) p front read) (alike-at 0 q.line alike) in
     let others = lines-of-files one files back p first.0 s first.2 of rest in (
       others.0,
       subst (λ l. Over Reads q l others.0) (sym is) (over-join Reads q first.0 others.0 front back first.1 others.1),
@@ -543,8 +471,7 @@ files-of-lines [] lines r q s alike none over =
     (q, refl, subst (λ p. IsAlike p q) e alike)
 files-of-lines (file ∷ files) lines r q s alike (front, back, are, of, is) over =
     let parts = over-split Reads r s front back (subst (λ l. Over Reads r l s) is over) in
-    let first = steps-alike (λ o t. Over Reads o front t) r (record q { line = 0 }) parts.0
-    (lines-add r parts.0 front parts.1) (alike-beginning r q alike) in
+    let first = steps-alike (lines-add r parts.0 front parts.1) (alike-at r.line 0 alike) in
     let others = files-of-lines files back parts.0 first.0 s first.2 of parts.2 in
     (others.0, (first.0, (front, are, first.1), others.1), others.2)
 
@@ -558,7 +485,7 @@ differ r s h = record {
 pub order-of-lines : LinesOne → (files others : List (List ℕ)) (s : Reading) → AreReordered files others
     → Over ReadsFile start files s → (t : Reading) × Over ReadsFile start others t × DifferInOrder s.rules t.rules
 order-of-lines one files others s (lines, theirs, are, of, in-order) over =
-    let first = lines-of-files one files lines start start s (alike-self start start refl refl) are over in
+    let first = lines-of-files one files lines start start s (alike-self start) are over in
     let second = reordered start first.0 lines theirs in-order first.1 in
-    let third = files-of-lines others theirs start start second.0 (alike-self start start refl refl) of second.1 in
-    (third.0, third.1, differ s third.0 (alike-on s first.0 third.0 first.2 (alike-on first.0 second.0 third.0 second.2 third.2)))
+    let third = files-of-lines others theirs start start second.0 (alike-self start) of second.1 in
+    (third.0, third.1, differ s third.0 (alike-on first.2 (alike-on second.2 third.2)))

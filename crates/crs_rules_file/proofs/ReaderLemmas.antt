@@ -1,5 +1,5 @@
 -- Items as statements have them.
-use Rattle.std.proofs.Common.{◌≡◌, ℕ, List, MatchResult, Result, Ok, Err, false, inr, refl, subst}
+use Rattle.std.proofs.Common.{arith, ◌≡◌, ℕ, List, MatchResult, Result, Ok, Err, false, inr, refl, subst}
 use Rattle.crs_text.specs.Prelude.{Item, leaf, node, kind_of_item, raw_of, SpellsNode, number, text, word}
 use Rattle.crs_text.specs.declared.items.ItemKind.TheVariants as kinds
 use Rattle.crs_rules.specs.declared.uncounted.Uncounted.{Uncounted}
@@ -9,10 +9,7 @@ use Rattle.crs_rules_file.specs.declared.fault.RulesFault.TheVariants as faults
 use Rattle.crs_rules_file.specs.Statements.{FaultOfStatement, IsRefusedBy, Reading, States, with_item, with_word}
 
 pub word-item : (item : Item) (u : Uncounted) → kind_of_item item ≡ kinds.Word → with_word (raw_of item) u ≡ with_item item u
-word-item (leaf number place raw) u e = cc
-word-item (leaf text place raw) u e = cc
-word-item (leaf word place raw) u e = refl
-word-item (node place keyword square first others close) u e = cc
+word-item item u e = grind arith
 
 -- what a statement answers, its line answers
 pub statement-line : {A : Type 0} (r : Reading) (line : List ℕ) (item : Item) (q s : Reading) (result : Result A RulesFault)

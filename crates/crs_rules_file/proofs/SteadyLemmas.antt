@@ -1,12 +1,11 @@
 -- Rules that are read are steady: nothing chains, since no node stands in two sets.
-use Rattle.std.proofs.Common.{◌≡◌, ◌≢◌, ℕ, ◌++◌, ◌∷◌, [], List, Bool, true, false, Option, None, Some, inl, inr, refl, sym, subst, ap, ◌∙◌}
+use Rattle.std.proofs.Common.{◌⊎◌, ◌≡◌, ◌≢◌, ℕ, ◌++◌, ◌∷◌, [], List, Bool, true, false, Option, None, Some, inl, inr, refl, sym, subst, ap, ◌∙◌}
 use Rattle.crs_decimal.specs.Prelude.{Denotes, plain, IsNormal, Value, exact, zero}
 use Rattle.crs_text.specs.Prelude.{Item, Siblings, End, More, arguments}
 use Rattle.crs_shape.specs.declared.class.Class.{Class}
 use Rattle.crs_shape.specs.declared.class.Class.TheVariants as class
 use Rattle.crs_shape.specs.declared.unit_kind.UnitKind.{UnitKind}
 use Rattle.crs_shape.specs.declared.unit_kind.UnitKind.TheVariants as kind
-use Rattle.crs_value.specs.Sound.{Each}
 use Rattle.crs_rules.specs.Rules.{NameAliasParts, RulesParts, UnitAliasParts, is_name_alias, is_unit_alias}
 use Rattle.crs_rules.specs.SteadyRules.{AreSteady, NamesAgree, UnitsAgree, unit_written}
 use Rattle.crs_rules.proofs.FactorLemmas.{one-plain}
@@ -14,27 +13,10 @@ use Rattle.crs_rules.proofs.MatchLemmas.{of-name, of-unit}
 use Rattle.crs_rules_file.specs.Members.{MemberParts, Says, SaysFactor, SaysName, kind_of}
 use Rattle.crs_rules_file.specs.RulesFile.{Reads, ReadsFile, SpellsRules, next, start}
 use Rattle.crs_rules_file.specs.Statements.{Adds, AddsSet, Drops, Joins, Over, Reading, listed, with_alias}
-use Rattle.crs_rules_file.proofs.OneLemmas.{DenotesOne}
-use Rattle.crs_rules_file.proofs.OrderLemmas.{Stands, stands-back, stands-front}
-
--- ---- lists
-
-each-to : {A : Type 0} (P Q : A → Type 0) (xs : List A) → ((x : A) → P x → Q x) → Each P xs → Each Q xs
-each-to P Q [] f h = tt
-each-to P Q (x ∷ xs) f h = (f x h.0, each-to P Q xs f h.1)
-
-each-both : {A : Type 0} (P Q R : A → Type 0) (xs : List A) → ((x : A) → P x → Q x → R x) → Each P xs → Each Q xs → Each R xs
-each-both P Q R [] f h k = tt
-each-both P Q R (x ∷ xs) f h k = (f x h.0 k.0, each-both P Q R xs f h.1 k.1)
-
-each-on : {A : Type 0} (P : A → Type 0) (xs : List A) (x : A) → Each P xs → P x → Each P (xs ++ x ∷ [])
-each-on P [] x h k = (k, tt)
-each-on P (y ∷ ys) x h k = (h.0, each-on P ys x h.1 k)
-
-each-stands : (P : MemberParts → Type 0) (seen : List MemberParts) (m : MemberParts) → Each P seen → Stands seen m → P m
-each-stands P [] m h k = absurd k
-each-stands P (x ∷ xs) m h (inl e) = subst P (sym e) h.0
-each-stands P (x ∷ xs) m h (inr k) = each-stands P xs m h.1 k
+use Rattle.crs_rules_file.proofs.OneLemmas.{DenotesOne, some-one}
+use Rattle.crs_rules_file.proofs.OrderLemmas.{Stands, each-of, stands-back, stands-front, stands-last}
+use Rattle.crs_rules_file.proofs.WalkLemmas.{over-keeps}
+use Rattle.std.proofs.lemmas.Bool.{false_from_ne_true}
 
 -- ---- aliases of nodes `m x` that count as nodes `f x`
 
@@ -42,34 +24,59 @@ abbrev Agree : {X : Type 0} → (X → MemberParts) → (X → MemberParts) → 
 Agree m f x y = (f x ≢ m y) × (m x ≡ m y → f x ≡ f y)
 
 record Firm {X : Type 0} (m f : X → MemberParts) (seen : List MemberParts) (xs : List X) : Type 0 where
-  stand : Each (λ x. Stands seen (m x) × Stands seen (f x)) xs
-  agree : Each (λ x. Each (Agree m f x) xs) xs
+  stand : (x : X) → Stands xs x → Stands seen (m x) × Stands seen (f x)
+  agree : (x y : X) → Stands xs x → Stands xs y → Agree m f x y
 
-firm-none : {X : Type 0} (m f : X → MemberParts) (seen : List MemberParts) → Firm m f seen []
-firm-none m f seen = record { stand = tt; agree = tt }
+-- and of which none counts as this node, which begins a set
+record Begins {X : Type 0} (m f : X → MemberParts) (first : MemberParts) (seen : List MemberParts) (xs : List X) : Type 0 where
+  firm : Firm m f seen xs
+  free : (x : X) → Stands xs x → first ≢ m x
 
-firm-seen : {X : Type 0} (m f : X → MemberParts) (seen : List MemberParts) (xs : List X) (n : MemberParts) →
+firm-none : {X : Type 0} (m f : X → MemberParts) → Firm m f [] []
+firm-none m f = record { stand = λ x h. absurd h; agree = λ x y h. absurd h }
+
+-- where one more node stands
+firm-seen : {X : Type 0} {m f : X → MemberParts} {seen : List MemberParts} {xs : List X} (n : MemberParts) →
     Firm m f seen xs → Firm m f (seen ++ n ∷ []) xs
-firm-seen m f seen xs n h = record {
-  stand = each-to (λ x. Stands seen (m x) × Stands seen (f x)) (λ x. Stands (seen ++ n ∷ []) (m x) × Stands (seen ++ n ∷ []) (f x)) xs
-      (λ x k. (stands-front seen (n ∷ []) (m x) k.0, stands-front seen (n ∷ []) (f x) k.1)) h.stand;
+firm-seen n h = record {
+  stand = λ x k. (stands-front _ (n ∷ []) _ (h.stand x k).0, stands-front _ (n ∷ []) _ (h.stand x k).1);
   agree = h.agree;
 }
 
-firm-on : {X : Type 0} (m f : X → MemberParts) (seen : List MemberParts) (xs : List X) (x : X) → Firm m f seen xs →
-    Stands seen (f x) → ¬ (Stands seen (m x)) → Each (λ y. f x ≢ m y) xs → Firm m f (seen ++ m x ∷ []) (xs ++ x ∷ [])
-firm-on m f seen xs x h first new free = record {
-  stand = each-on (λ y. Stands (seen ++ m x ∷ []) (m y) × Stands (seen ++ m x ∷ []) (f y)) xs x
-      (firm-seen m f seen xs (m x) h).stand (stands-back seen (m x ∷ []) (m x) (inl refl), stands-front seen (m x ∷ []) (f x) first);
-  agree = each-on (λ y. Each (Agree m f y) (xs ++ x ∷ [])) xs x
-      (each-both (λ y. Each (Agree m f y) xs) (λ y. Stands seen (m y) × Stands seen (f y)) (λ y. Each (Agree m f y) (xs ++ x ∷ [])) xs
-      (λ y a s. each-on (Agree m f y) xs x a
-      (λ e. new (subst (Stands seen) e s.1), λ e. absurd (new (subst (Stands seen) e s.0)))) h.agree h.stand)
-      (each-on (Agree m f x) xs x
-      (each-both (λ y. f x ≢ m y) (λ y. Stands seen (m y) × Stands seen (f y)) (Agree m f x) xs
-      (λ y a s. (a, λ e. absurd (new (subst (Stands seen) (sym e) s.0)))) free h.stand)
-      (λ e. new (subst (Stands seen) e first), λ e. refl));
+begins-first : {X : Type 0} {m f : X → MemberParts} {seen : List MemberParts} {xs : List X} (first : MemberParts) →
+    Firm m f seen xs → ¬ (Stands seen first) → Begins m f first (seen ++ first ∷ []) xs
+begins-first {seen = seen} first h new = record {
+  firm = firm-seen first h;
+  free = λ x k e. new (subst (Stands seen) (sym e) (h.stand x k).0);
 }
+
+begins-seen : {X : Type 0} {m f : X → MemberParts} {first : MemberParts} {seen : List MemberParts} {xs : List X} (n : MemberParts) →
+    Begins m f first seen xs → Begins m f first (seen ++ n ∷ []) xs
+begins-seen n h = record { firm = firm-seen n h.firm; free = h.free }
+
+begins-on : {X : Type 0} {m f : X → MemberParts} {first : MemberParts} {seen : List MemberParts} {xs : List X} (x : X) (n : MemberParts) →
+    m x ≡ n → f x ≡ first → Begins m f first seen xs → Stands seen first → ¬ (Stands seen n) → Begins m f first (seen ++ n ∷ []) (xs ++ x ∷ [])
+begins-on {X = X} {m = m} {f = f} {first = first} {seen = seen} {xs = xs} x n is counts h stands new = record {
+  firm = record {
+    stand = λ y k. stand y (stands-last xs x y k);
+    agree = λ y z k l. agree y z (stands-last xs x y k) (stands-last xs x z l);
+  };
+  free = λ y k. free y (stands-last xs x y k);
+}
+  where
+    stand : (y : X) → Stands xs y ⊎ (y ≡ x) → Stands (seen ++ n ∷ []) (m y) × Stands (seen ++ n ∷ []) (f y)
+    stand y (inl k) = (firm-seen n h.firm).stand y k
+    stand y (inr e) = rw (e, is, counts) (stands-back seen (n ∷ []) n (inl refl), stands-front seen (n ∷ []) first stands)
+
+    agree : (y z : X) → Stands xs y ⊎ (y ≡ x) → Stands xs z ⊎ (z ≡ x) → Agree m f y z
+    agree y z (inl k) (inl l) = h.firm.agree y z k l
+    agree y z (inl k) (inr e) = rw (e, is) (λ d. new (subst (Stands seen) d (h.firm.stand y k).1), λ d. absurd (new (subst (Stands seen) d (h.firm.stand y k).0)))
+    agree y z (inr e) (inl l) = rw (e, is, counts) (h.free z l, λ d. absurd (new (subst (Stands seen) (sym d) (h.firm.stand z l).0)))
+    agree y z (inr e) (inr d) = rw (e, d, is, counts) (λ k. new (subst (Stands seen) k stands), λ k. refl)
+
+    free : (y : X) → Stands xs y ⊎ (y ≡ x) → first ≢ m y
+    free y (inl k) = h.free y k
+    free y (inr e) = rw (e, is) (λ d. new (subst (Stands seen) d stands))
 
 -- ---- names and units
 
@@ -91,17 +98,29 @@ unit_m a = record { class = class_of a.kind; name = a.alias; factor = a.alias_fa
 abbrev unit_f : UnitAliasParts → MemberParts
 unit_f a = record { class = class_of a.kind; name = a.name; factor = a.factor }
 
-record Kept (r : Reading) : Type 0 where
-  names : Firm name_m name_f r.seen r.rules.names
-  units : Firm unit_m unit_f r.seen r.rules.units
-  normal : Each (λ n. IsNormal n.factor) r.seen
+abbrev AreNormal : List MemberParts → Type 0
+AreNormal seen = (n : MemberParts) → Stands seen n → IsNormal n.factor
+
+normal-on : (seen : List MemberParts) (n : MemberParts) → AreNormal seen → IsNormal n.factor → AreNormal (seen ++ n ∷ [])
+normal-on seen n normal one k stands = elim (stands-last seen n k stands) [
+  | inl old ↦ normal k old
+  | inr e ↦ subst (λ o. IsNormal o.factor) (sym e) one
+]
+
+record Kept (seen : List MemberParts) (names : List NameAliasParts) (units : List UnitAliasParts) : Type 0 where
+  names_firm : Firm name_m name_f seen names
+  units_firm : Firm unit_m unit_f seen units
+  normal : AreNormal seen
+
+abbrev IsKept : Reading → Type 0
+IsKept r = Kept r.seen r.rules.names r.rules.units
 
 -- a node that begins a set stands, and counts as no other
 record Begun (first : MemberParts) (r : Reading) : Type 0 where
-  kept : Kept r
   stands : Stands r.seen first
-  names : Each (λ a. first ≢ name_m a) r.rules.names
-  units : Each (λ a. first ≢ unit_m a) r.rules.units
+  names : Begins name_m name_f first r.seen r.rules.names
+  units : Begins unit_m unit_f first r.seen r.rules.units
+  normal : AreNormal r.seen
 
 -- ---- what a node says has a normal factor
 
@@ -127,82 +146,44 @@ fits-normal (Some k) v h = h
 
 -- ---- the class of a kind
 
-some-is : (x k : UnitKind) → Some x ≡ Some k → x ≡ k
-some-is x k e = cc
-
-none-is : (k : UnitKind) → None ≡ Some k → ⊥
-none-is k e = cc
-
 class-kind : (c : Class) (k : UnitKind) → kind_of c ≡ Some k → class_of k ≡ c
-class-kind class.PlainUnit k e = sym (ap class_of (some-is kind.Plain k e))
-class-kind class.LengthUnit k e = sym (ap class_of (some-is kind.Length k e))
-class-kind class.AngleUnit k e = sym (ap class_of (some-is kind.Angle k e))
-class-kind class.ScaleUnit k e = sym (ap class_of (some-is kind.Scale k e))
-class-kind c k e = absurd (none-is k e)
+class-kind class.PlainUnit k e = sym (ap class_of (some-one _ kind.Plain k refl e))
+class-kind class.LengthUnit k e = sym (ap class_of (some-one _ kind.Length k refl e))
+class-kind class.AngleUnit k e = sym (ap class_of (some-one _ kind.Angle k refl e))
+class-kind class.ScaleUnit k e = sym (ap class_of (some-one _ kind.Scale k refl e))
+class-kind c k e = cc
 
 -- ---- each step keeps it
 
-begun : (first : MemberParts) (r s : Reading) (item : Item) → Kept r → Adds None first r item s → Begun first s
+begun : (first : MemberParts) (r s : Reading) (item : Item) → IsKept r → Adds None first r item s → Begun first s
 begun first r s item h adds = subst (Begun first) (sym adds.adds) (record {
-  kept = record {
-    names = firm-seen name_m name_f r.seen r.rules.names first h.names;
-    units = firm-seen unit_m unit_f r.seen r.rules.units first h.units;
-    normal = each-on (λ n. IsNormal n.factor) r.seen first h.normal (fits-normal (kind_of first.class) first.factor (fits item first adds.says));
-  };
   stands = stands-back r.seen (first ∷ []) first (inl refl);
-  names = each-to (λ a. Stands r.seen (name_m a) × Stands r.seen (name_f a)) (λ a. first ≢ name_m a) r.rules.names
-      (λ a k e. adds.new (subst (Stands r.seen) (sym e) k.0)) h.names.stand;
-  units = each-to (λ a. Stands r.seen (unit_m a) × Stands r.seen (unit_f a)) (λ a. first ≢ unit_m a) r.rules.units
-      (λ a k e. adds.new (subst (Stands r.seen) (sym e) k.0)) h.units.stand;
+  names = begins-first first h.names_firm adds.new;
+  units = begins-first first h.units_firm adds.new;
+  normal = normal-on r.seen first h.normal (fits-normal (kind_of first.class) first.factor (fits item first adds.says));
 })
-
-with-name : (first m : MemberParts) (r : Reading) → Begun first r → ¬ (Stands r.seen m) → m.class ≡ first.class → IsNormal m.factor →
-    m.factor ≡ zero → first.factor ≡ zero → Begun first (record r { seen = r.seen ++ m ∷ []; rules = with_alias None first m r.rules })
-with-name first m r h new same normal mz fz =
-    let a : NameAliasParts = record { class = m.class; alias = m.name; name = first.name } in
-    let em : name_m a ≡ m = λ i. record { class = m.class; name = m.name; factor = sym mz i } in
-    let ef : name_f a ≡ first = λ i. record { class = same i; name = first.name; factor = sym fz i } in
-    record {
-      kept = record {
-        names = subst (λ n. Firm name_m name_f (r.seen ++ n ∷ []) (r.rules.names ++ a ∷ [])) em
-            (firm-on name_m name_f r.seen r.rules.names a h.kept.names (subst (Stands r.seen) (sym ef) h.stands)
-            (λ k. new (subst (Stands r.seen) em k))
-            (each-to (λ y. first ≢ name_m y) (λ y. name_f a ≢ name_m y) r.rules.names (λ y n q. n (sym ef ∙ q)) h.names));
-        units = firm-seen unit_m unit_f r.seen r.rules.units m h.kept.units;
-        normal = each-on (λ n. IsNormal n.factor) r.seen m h.kept.normal normal;
-      };
-      stands = stands-front r.seen (m ∷ []) first h.stands;
-      names = each-on (λ y. first ≢ name_m y) r.rules.names a h.names (λ e. new (subst (Stands r.seen) (e ∙ em) h.stands));
-      units = h.units;
-    }
-
-with-unit : (first m : MemberParts) (k : UnitKind) (r : Reading) → Begun first r → ¬ (Stands r.seen m) → IsNormal m.factor →
-    class_of k ≡ m.class → class_of k ≡ first.class →
-    Begun first (record r { seen = r.seen ++ m ∷ []; rules = with_alias (Some k) first m r.rules })
-with-unit first m k r h new normal mk fk =
-    let a : UnitAliasParts = record { kind = k; alias = m.name; alias_factor = m.factor; name = first.name; factor = first.factor } in
-    let em : unit_m a ≡ m = λ i. record { class = mk i; name = m.name; factor = m.factor } in
-    let ef : unit_f a ≡ first = λ i. record { class = fk i; name = first.name; factor = first.factor } in
-    record {
-      kept = record {
-        names = firm-seen name_m name_f r.seen r.rules.names m h.kept.names;
-        units = subst (λ n. Firm unit_m unit_f (r.seen ++ n ∷ []) (r.rules.units ++ a ∷ [])) em
-            (firm-on unit_m unit_f r.seen r.rules.units a h.kept.units (subst (Stands r.seen) (sym ef) h.stands)
-            (λ j. new (subst (Stands r.seen) em j))
-            (each-to (λ y. first ≢ unit_m y) (λ y. unit_f a ≢ unit_m y) r.rules.units (λ y n q. n (sym ef ∙ q)) h.units));
-        normal = each-on (λ n. IsNormal n.factor) r.seen m h.kept.normal normal;
-      };
-      stands = stands-front r.seen (m ∷ []) first h.stands;
-      names = h.names;
-      units = each-on (λ y. first ≢ unit_m y) r.rules.units a h.units (λ e. new (subst (Stands r.seen) (e ∙ em) h.stands));
-    }
 
 with-kind : (o : Option UnitKind) (first m : MemberParts) (r : Reading) → kind_of first.class ≡ o → kind_of m.class ≡ o → Begun first r →
     ¬ (Stands r.seen m) → m.class ≡ first.class → Fits o m.factor → Fits o first.factor →
     Begun first (record r { seen = r.seen ++ m ∷ []; rules = with_alias o first m r.rules })
-with-kind None first m r fo mo h new same mf ff = with-name first m r h new same (fits-normal None m.factor mf) mf ff
+with-kind None first m r fo mo h new same mf ff = record {
+  stands = stands-front r.seen (m ∷ []) first h.stands;
+  names = begins-on (record { class = m.class; alias = m.name; name = first.name }) m
+      (λ i. record { class = m.class; name = m.name; factor = sym mf i })
+      (λ i. record { class = same i; name = first.name; factor = sym ff i }) h.names h.stands new;
+  units = begins-seen m h.units;
+  normal = normal-on r.seen m h.normal (fits-normal None m.factor mf);
+}
 with-kind (Some k) first m r fo mo h new same mf ff =
-    with-unit first m k r h new mf (class-kind m.class k mo) (class-kind first.class k fo)
+    let mk = class-kind m.class k mo in
+    let fk = class-kind first.class k fo in record {
+      stands = stands-front r.seen (m ∷ []) first h.stands;
+      names = begins-seen m h.names;
+      units = begins-on (record { kind = k; alias = m.name; alias_factor = m.factor; name = first.name; factor = first.factor }) m
+          (λ i. record { class = mk i; name = m.name; factor = m.factor })
+          (λ i. record { class = fk i; name = first.name; factor = first.factor }) h.units h.stands new;
+      normal = normal-on r.seen m h.normal mf;
+    }
 
 joins : (first : MemberParts) → Fits (kind_of first.class) first.factor → (r s : Reading) (item : Item) → Begun first r →
     Joins first r item s → Begun first s
@@ -212,40 +193,27 @@ joins first ff r s item h (m, adds) =
     (with-kind (kind_of first.class) first m r refl same h adds.new adds.class
     (subst (λ o. Fits o m.factor) same (fits item m adds.says)) ff)
 
-over-keeps : {A : Type 0} (Step : Reading → A → Reading → Type 0) (P : Reading → Type 0) →
-    ((r s : Reading) (x : A) → P r → Step r x s → P s) → (r s : Reading) (xs : List A) → P r → Over Step r xs s → P s
-over-keeps Step P f r s [] h e = subst P e h
-over-keeps Step P f r s (x ∷ xs) h (q, step, more) = over-keeps Step P f q s xs (f r q x h step) more
-
-kept-set : (r s : Reading) (items : Siblings) → Kept r → AddsSet r items s → Kept s
+kept-set : (r s : Reading) (items : Siblings) → IsKept r → AddsSet r items s → IsKept s
 kept-set r s End h adds = absurd adds
 kept-set r s (More x xs) h (first, q, adds, over) =
-    (over-keeps (Joins first) (Begun first) (joins first (fits x first adds.says)) q s (listed xs)
-    (begun first r q x h adds) over).kept
+    let k = over-keeps (Joins first) (Begun first) (joins first (fits x first adds.says)) q s (listed xs) (begun first r q x h adds) over in
+    record { names_firm = k.names.firm; units_firm = k.units.firm; normal = k.normal }
 
-kept-drop : (r s : Reading) (item : Item) → Kept r → Drops r item s → Kept s
-kept-drop r s item h (u, is, e) = subst Kept (sym e) (record { names = h.names; units = h.units; normal = h.normal })
+kept-drop : (r s : Reading) (item : Item) → IsKept r → Drops r item s → IsKept s
+kept-drop r s item h (u, is, e) = subst IsKept (sym e) h
 
-kept-line : (r s : Reading) (line : List ℕ) → Kept r → Reads r line s → Kept s
-kept-line r s line h (inl (idle, e)) = subst Kept (sym e) (record { names = h.names; units = h.units; normal = h.normal })
-kept-line r s line h (inr (busy, item, spells, inl (is, adds))) =
-    kept-set (next r) s (arguments item) (record { names = h.names; units = h.units; normal = h.normal }) adds
-kept-line r s line h (inr (busy, item, spells, inr (is, drops))) =
-    over-keeps Drops Kept kept-drop (next r) s (listed (arguments item))
-    (record { names = h.names; units = h.units; normal = h.normal }) drops
+kept-line : (r s : Reading) (line : List ℕ) → IsKept r → Reads r line s → IsKept s
+kept-line r s line h (inl (idle, e)) = subst IsKept (sym e) h
+kept-line r s line h (inr (busy, item, spells, inl (is, adds))) = kept-set (next r) s (arguments item) h adds
+kept-line r s line h (inr (busy, item, spells, inr (is, drops))) = over-keeps Drops IsKept kept-drop (next r) s (listed (arguments item)) h drops
 
-kept-file : (r s : Reading) (bytes : List ℕ) → Kept r → ReadsFile r bytes s → Kept s
-kept-file r s bytes h (lines, are, over) =
-    over-keeps Reads Kept kept-line (record r { line = 0 }) s lines (record { names = h.names; units = h.units; normal = h.normal }) over
+kept-file : (r s : Reading) (bytes : List ℕ) → IsKept r → ReadsFile r bytes s → IsKept s
+kept-file r s bytes h (lines, are, over) = over-keeps Reads IsKept kept-line (record r { line = 0 }) s lines h over
 
-kept-start : Kept start
-kept-start = record { names = firm-none name_m name_f []; units = firm-none unit_m unit_f []; normal = tt }
+kept-start : IsKept start
+kept-start = record { names_firm = firm-none name_m name_f; units_firm = firm-none unit_m unit_f; normal = λ n h. absurd h }
 
 -- ---- what is kept is steady
-
-not-true : (t : Bool) → (t ≡ true → ⊥) → t ≡ false
-not-true true f = absurd (f refl)
-not-true false f = refl
 
 alias-is : (c : Class) (name : List ℕ) (b : NameAliasParts) → is_name_alias c name b ≡ true →
     ◌≡◌ {A = MemberParts} (record { class = c; name = name; factor = zero }) (name_m b)
@@ -253,7 +221,7 @@ alias-is c name b t = let k = of-name c name b t in λ i. record { class = k.cla
 
 names-agree : (a b : NameAliasParts) → Agree name_m name_f a b → NamesAgree a b
 names-agree a b g = record {
-  steady = not-true (is_name_alias a.class a.name b) (λ t. g.0 (alias-is a.class a.name b t));
+  steady = false_from_ne_true (is_name_alias a.class a.name b) (λ t. g.0 (alias-is a.class a.name b t));
   clear = λ t. ap (λ m. m.name) (g.1 (alias-is a.class a.alias b t));
 }
 
@@ -273,28 +241,22 @@ Normal a = IsNormal a.alias_factor × IsNormal a.factor
 
 units-agree : DenotesOne → PlainDenotes → (a b : UnitAliasParts) → Normal a → Normal b → Agree unit_m unit_f a b → UnitsAgree a b
 units-agree one law a b na nb g = record {
-  steady = not-true (is_unit_alias (unit_written a) b) (λ t. g.0 (unit-is one law a.kind a.name a.factor b na.1 nb.0 t));
+  steady = false_from_ne_true (is_unit_alias (unit_written a) b) (λ t. g.0 (unit-is one law a.kind a.name a.factor b na.1 nb.0 t));
   clear = λ t. let e = g.1 (unit-is one law a.kind a.alias a.alias_factor b na.0 nb.0 t) in (ap (λ m. m.name) e, ap (λ m. m.factor) e);
 }
 
-steady-of : DenotesOne → PlainDenotes → (r : Reading) → Kept r → AreSteady r.rules
+steady-of : DenotesOne → PlainDenotes → (r : Reading) → IsKept r → AreSteady r.rules
 steady-of one law r h =
-    let normal : Each Normal r.rules.units =
-    each-to (λ a. Stands r.seen (unit_m a) × Stands r.seen (unit_f a)) Normal r.rules.units
-    (λ a k. (
-      each-stands (λ n. IsNormal n.factor) r.seen (unit_m a) h.normal k.0,
-      each-stands (λ n. IsNormal n.factor) r.seen (unit_f a) h.normal k.1,
-    )) h.units.stand in
+    let normal : (a : UnitAliasParts) → Stands r.rules.units a → Normal a =
+    λ a k. (h.normal (unit_m a) (h.units_firm.stand a k).0, h.normal (unit_f a) (h.units_firm.stand a k).1) in
     record {
-      names = each-to (λ a. Each (Agree name_m name_f a) r.rules.names) (λ a. Each (NamesAgree a) r.rules.names) r.rules.names
-          (λ a. each-to (Agree name_m name_f a) (NamesAgree a) r.rules.names (names-agree a)) h.names.agree;
-      units = each-both (λ a. Each (Agree unit_m unit_f a) r.rules.units) Normal (λ a. Each (UnitsAgree a) r.rules.units) r.rules.units
-          (λ a g na. each-both (Agree unit_m unit_f a) Normal (UnitsAgree a) r.rules.units
-          (λ b k nb. units-agree one law a b na nb k) g normal) h.units.agree normal;
+      names = each-of _ r.rules.names (λ a k. each-of _ r.rules.names (λ b l. names-agree a b (h.names_firm.agree a b k l)));
+      units = each-of _ r.rules.units
+          (λ a k. each-of _ r.rules.units (λ b l. units-agree one law a b (normal a k) (normal b l) (h.units_firm.agree a b k l)));
     }
 
 pub steady : DenotesOne → PlainDenotes → (files : List (List ℕ)) (s : Reading) → Over ReadsFile start files s → AreSteady s.rules
-steady one law files s over = steady-of one law s (over-keeps ReadsFile Kept kept-file start s files kept-start over)
+steady one law files s over = steady-of one law s (over-keeps ReadsFile IsKept kept-file start s files kept-start over)
 
 pub steady-alone : DenotesOne → PlainDenotes → (bytes : List ℕ) (rules : RulesParts) → SpellsRules bytes rules → AreSteady rules
 steady-alone one law bytes rules (s, reads, e) =

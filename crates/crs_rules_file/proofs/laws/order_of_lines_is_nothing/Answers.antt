@@ -1,8 +1,8 @@
 use Rattle.std.proofs.Common.{subst}
 use Rattle.crs_rules.specs.Under.{IsForm}
-use Rattle.crs_rules_file.proofs.OneLemmas.{files-one}
+use Rattle.crs_rules_file.proofs.OneLemmas.{Sharp, over-one}
 use Rattle.crs_rules_file.proofs.OrderLemmas.{order-of-lines}
-use Rattle.crs_rules_file.specs.RulesFile.{start}
+use Rattle.crs_rules_file.specs.RulesFile.{ReadsFile, RefusesFile, start}
 use Rattle.crs_rules_file.proofs.laws.order_of_lines_is_nothing.Goals as goal
 
 pub returns-clause-rules : goal.returns-clause-rules
@@ -10,8 +10,8 @@ returns-clause-rules c = order-of-lines c.lines_are_one.ensures.one
 
 pub returns-clause-forms : goal.returns-clause-forms
 returns-clause-forms c = λ files others s t level text bytes reordered read theirs form.
+    let sharp : Sharp ReadsFile RefusesFile = record { one = c.one_answer.ensures.read; fault = c.one_answer.ensures.refused; apart = c.one_answer.ensures.apart } in
     let found = order-of-lines c.lines_are_one.ensures.one files others s reordered read in
-    let same = files-one c.one_answer.ensures.read start found.0 t others found.1 theirs in
-    subst (λ r. IsForm r.rules level text bytes) same
+    subst (λ r. IsForm r.rules level text bytes) (over-one sharp start found.0 t others found.1 theirs)
     (c.order_of_rules_is_nothing.ensures s.rules found.0.rules found.2
     (c.read_rules_are_steady.ensures.files files s read) level text bytes form)

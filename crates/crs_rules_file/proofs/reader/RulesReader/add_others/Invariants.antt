@@ -1,17 +1,12 @@
 use Rattle.std.proofs.Common.{Some}
 use Rattle.crs_text.specs.Prelude.{count}
-use Rattle.crs_value.specs.Prelude.{Holds, ahead}
-use Rattle.crs_rules_file.specs.Grown.{HasGrown}
+use Rattle.crs_value.specs.Prelude.{ahead}
 use Rattle.crs_rules_file.specs.Statements.{FaultOfNode, Joins, listed}
-use Rattle.crs_rules_file.proofs.WalkLemmas.{Leads}
+use Rattle.crs_rules_file.proofs.WalkLemmas.{Walks}
 use Rattle.crs_rules_file.proofs.reader.RulesReader.add_others.Given as goal
 
 abbrev pub invariant-loop-at : goal.invariant-loop-at
-invariant-loop-at l = record {
-  holds : Holds l.items l.at;
-  leads : Leads (Joins l.first) (FaultOfNode (Some l.first)) l.fn.self (listed (ahead l.items l.fn.from)) l.self (listed (ahead l.items l.at));
-  grown : HasGrown l.fn.self l.self;
-}
+invariant-loop-at l = Walks (Joins l.first) (FaultOfNode (Some l.first)) l.fn.self (listed (ahead l.items l.fn.from)) l.self l.items l.at
 
 abbrev pub decreases-loop-at : goal.decreases-loop-at
 decreases-loop-at l = count (ahead l.items l.at)
