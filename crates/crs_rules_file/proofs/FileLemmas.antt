@@ -1,6 +1,6 @@
 -- The lines of a file, as far as they were read.
-use Rattle.std.proofs.Common.{◌≡◌, ◌≢◌, ◌<◌, ◌≤◌, arith, ◌+◌, ◌++◌, ◌∷◌, [], ℕ, List, Option, None, Some, inl, inr, refl, sym, ap, ◌∙◌}
-use Rattle.crs_text.specs.Prelude.{Item, Siblings, End, More, arguments}
+use Rattle.std.proofs.Common.{◌≡◌, ◌≢◌, ◌<◌, ◌≤◌, arith, ◌+◌, ◌++◌, ◌∷◌, [], ℕ, List, inl, inr, refl, ap, ◌∙◌}
+use Rattle.crs_text.specs.Prelude.{Siblings, End, More, arguments}
 use Rattle.crs_streams.specs.Prelude.{AreLines, HasNoFeed}
 use Rattle.crs_rules_file.specs.declared.fault.RulesFault.{RulesFault}
 use Rattle.crs_rules_file.specs.declared.fault.RulesFault.TheVariants as faults

@@ -1,7 +1,7 @@
 -- What nodes say: there is nothing else, and a name is a text.
-use Rattle.std.proofs.Common.{arith, ◌≡◌, ◌≢◌, ◌⊎◌, inl, inr, Option, Some, None, IsTrue, false, subst, ◌∙◌}
+use Rattle.std.proofs.Common.{arith, ◌≡◌, ◌≢◌, ◌⊎◌, Option, Some, None, IsTrue, false, subst, ◌∙◌}
 use Rattle.crs_decimal.specs.Prelude.{Value}
-use Rattle.crs_text.specs.Prelude.{Item, leaf, node, Siblings, End, More, IsNumberOf, first_of, kind_of_item, raw_of, rest_of, number, text, word, AreFormed}
+use Rattle.crs_text.specs.Prelude.{Item, Siblings, End, More, IsNumberOf, first_of, kind_of_item, raw_of, rest_of, AreFormed}
 use Rattle.crs_text.specs.declared.items.ItemKind.{ItemKind}
 use Rattle.crs_text.specs.declared.items.ItemKind.TheVariants as kinds
 use Rattle.crs_shape.specs.declared.class.Class.{Class}

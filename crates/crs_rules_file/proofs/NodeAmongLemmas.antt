@@ -1,7 +1,6 @@
 -- Whether a node is among those that stand in sets.
-use Rattle.std.proofs.Common.{arith, ◌↔◌, ◌≡◌, ◌⊎◌, ◌++◌, ◌∷◌, [], Bool, List, true, false, inl, inr, refl, sym, ap, ◌∙◌, subst, not, if◌then◌else◌, ◌||◌}
+use Rattle.std.proofs.Common.{arith, ◌↔◌, ◌≡◌, ◌∷◌, [], Bool, List, true, subst, not}
 use Rattle.std.specs.List.{list_any}
-use Rattle.std.proofs.lemmas.Bool.{cases_Bool}
 use Rattle.indexmap.specs.IndexSet.{insert_key}
 use Rattle.crs_value.specs.Prelude.{OneIs}
 use Rattle.crs_rules_file.specs.Equality.{members_equal}

@@ -6,12 +6,11 @@ use Rattle.crs_decimal.specs.Prelude.{Denotes, IsNormal, Value, exact}
 use Rattle.crs_text.specs.Prelude.{Item, Siblings, End, More, arguments, raw_of, RefusesText, SpellsNode}
 use Rattle.crs_shape.specs.declared.unit_kind.UnitKind.{UnitKind}
 use Rattle.crs_streams.specs.Prelude.{AreLines}
-use Rattle.crs_value.specs.Prelude.{OneIs}
 use Rattle.crs_rules.specs.declared.uncounted.Uncounted.{Uncounted}
 use Rattle.crs_rules_file.specs.declared.fault.RulesRefusal.{RulesRefusal}
 use Rattle.crs_rules_file.specs.Members.{MemberParts, Says, SaysFactor, SaysName, kind_of}
 use Rattle.crs_rules_file.specs.RulesFile.{FaultOfLine, Reads, ReadsFile, RefusesFile, is_idle, next}
-use Rattle.crs_rules_file.specs.Statements.{Adds, AddsSet, Drops, FaultOfNode, FaultOfSet, FaultOfStatement, FaultOfWord, FaultOver, IsOfSet, Joins, Over, Reading, States, joined, listed, with_item}
+use Rattle.crs_rules_file.specs.Statements.{Adds, AddsSet, Drops, FaultOfNode, FaultOfSet, FaultOfStatement, FaultOfWord, FaultOver, Joins, Over, Reading, States, joined, listed, with_item}
 
 abbrev pub DenotesOne : Type 0
 DenotesOne = (bytes : List ℕ) (a b : Value) → IsNormal a → IsNormal b →

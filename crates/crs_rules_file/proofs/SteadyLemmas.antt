@@ -1,5 +1,5 @@
 -- Rules that are read are steady: nothing chains, since no node stands in two sets.
-use Rattle.std.proofs.Common.{◌⊎◌, ◌≡◌, ◌≢◌, ℕ, ◌++◌, ◌∷◌, [], List, Bool, true, false, Option, None, Some, inl, inr, refl, sym, subst, ap, ◌∙◌}
+use Rattle.std.proofs.Common.{◌⊎◌, ◌≡◌, ◌≢◌, ℕ, ◌++◌, ◌∷◌, [], List, true, Option, None, Some, inl, inr, refl, sym, subst, ap}
 use Rattle.crs_decimal.specs.Prelude.{Denotes, plain, IsNormal, Value, exact, zero}
 use Rattle.crs_text.specs.Prelude.{Item, Siblings, End, More, arguments}
 use Rattle.crs_shape.specs.declared.class.Class.{Class}
