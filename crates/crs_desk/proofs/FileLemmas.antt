@@ -12,7 +12,7 @@ use Rattle.crs_desk.specs.FileAnswers.{Ends, IsAnswerSent, IsFileFault, IsFileSe
 use Rattle.crs_desk.specs.FilesRun.{AreFileOutputs, AreFilesAnswered, IsFileFront, IsFileOutput, IsTaskFront, name_prefix}
 use Rattle.crs_desk.specs.declared.file_task.FileTask.{FileTask}
 use Rattle.crs_desk.specs.LineCutting.{IsHealthy}
-use Rattle.crs_desk.specs.LinesRun.{HasSentAll, IsFrontOutput, IsLinesAnswered, IsLinesFault, IsLinesOutput, Outputs}
+use Rattle.crs_desk.specs.LinesRun.{HasBegun, HasSentAll, IsFrontOutput, IsLinesAnswered, IsLinesFault, IsLinesOutput, Outputs}
 use Rattle.crs_runs.specs.Whole.{IsReadFault}
 use Rattle.crs_desk.specs.Prefixed.{PrefixParts}
 use Rattle.crs_desk.proofs.LineOutputLemmas.{appends-none, front-none, whole-front}
@@ -21,12 +21,13 @@ use Rattle.crs_desk.proofs.PrefixedLemmas.{PrefixedOutputs, lines-plain}
 -- ---- a task over the whole text
 
 -- nothing of a file was answered
-no-front : (prefix : PrefixParts) (known : Option (List ℕ)) → IsFileFront NoFront prefix known []
-no-front prefix None = ([], [], tt, [], refl, refl)
-no-front prefix (Some all) = ([], all, refl, [], refl, refl)
+empty-front : (Front : List ℕ → List ℕ → Type 0) (prefix : PrefixParts) (known : Option (List ℕ)) → Front [] []
+    → IsFileFront Front prefix known []
+empty-front Front prefix None nothing = ([], [], tt, [], nothing, refl)
+empty-front Front prefix (Some all) nothing = ([], all, refl, [], nothing, refl)
 
 pub none-sent : (prefix : PrefixParts) (known : Option (List ℕ)) (sink : SinkState) → IsHealthy sink → IsFrontSent NoFront prefix known sink sink
-none-sent prefix known sink healthy = ([], no-front prefix known, appends-none sink.contents, healthy)
+none-sent prefix known sink healthy = ([], empty-front NoFront prefix known refl, appends-none sink.contents, healthy)
 
 -- nothing was written before the fault
 pub unread-file : (prefix : PrefixParts) (known : Option (List ℕ)) (sink : SinkState) (fault : RunFault)
@@ -38,11 +39,11 @@ read-no-write source fault is = grind arith
 
 -- ---- a task over lines
 
-pub lines-sent : (Output : Outputs) → Ends Output → (prefix : PrefixParts) (known : Option (List ℕ)) (old new : SourceState)
-    (before after : SinkState) (status : ℕ) → old ≡ fresh_source known
+pub lines-sent : {old new : SourceState} {before after : SinkState} {status : ℕ} (Output : Outputs) → Ends Output
+    → (prefix : PrefixParts) (known : Option (List ℕ)) → old ≡ fresh_source known
     → IsLinesAnswered (PrefixedOutputs prefix Output) old new before after status → after.past_failure ≡ false
     → IsAnswerSent (IsLinesOutput Output) prefix known before after status
-lines-sent Output ends prefix known old new before after status fresh answered first = (
+lines-sent {status = status} Output ends prefix known fresh answered first = (
   answered.written,
   (
     answered.bytes,
@@ -70,33 +71,28 @@ front-sent : (Output : Outputs) → Ends Output → (prefix : PrefixParts) (know
     → IsFrontSent (FrontOf Output) prefix known before after
 front-sent Output ends prefix known left lines more before after given begins sent healthy =
     let front = given-front known left lines more given in
-    let plain = lines-plain Output ends prefix lines sent.written sent.status sent.is_output in (
-      sent.written,
-      (
-        lines,
-        front.0,
-        front.1,
-        plain.0,
-        whole-front Output lines plain.0 sent.status false (grind (arith, begins)) plain.1,
-        plain.2,
-      ),
-      sent.is_sent,
-      healthy,
-    )
+    let plain = lines-plain Output ends prefix lines sent.written sent.status sent.is_output in
+    let whole = whole-front Output lines plain.0 sent.status false (grind (arith, begins)) plain.1 in
+    (sent.written, (lines, front.0, front.1, plain.0, whole, plain.2), sent.is_sent, healthy)
+
+begun-sent : (Output : Outputs) → Ends Output → (prefix : PrefixParts) (old new : SourceState) (before after : SinkState)
+    → HasBegun (PrefixedOutputs prefix Output) old new before after → IsHealthy after
+    → IsFrontSent (FrontOf Output) prefix old.remaining before after
+begun-sent Output ends prefix old new before after (bytes, lines, given, short, (last, split, begins, plain), sent) healthy =
+    front-sent Output ends prefix old.remaining new.remaining lines last before after
+    (subst (Consumes old.remaining new.remaining) split given.is_first) begins sent healthy
 
 lines-stopped : (Output : Outputs) → Ends Output → (prefix : PrefixParts) (old new : SourceState) (before after : SinkState) (fault : RunFault)
     → IsLinesFault (PrefixedOutputs prefix Output) old new before after fault → after.past_failure ≡ false
     → IsFileFault (FrontOf Output) prefix old.remaining before after fault
-lines-stopped Output ends prefix old new before after ReadFailed (failed, healthy, (bytes, lines, given, short, (last, split, begins, plain), sent)) first =
-    front-sent Output ends prefix old.remaining new.remaining lines last before after
-    (subst (Consumes old.remaining new.remaining) split given.is_first) begins sent (healthy, first)
+lines-stopped Output ends prefix old new before after ReadFailed (failed, healthy, begun) first =
+    begun-sent Output ends prefix old new before after begun (healthy, first)
 lines-stopped Output ends prefix old new before after WriteFailed (healthy, failed, more) first = (failed, first)
 lines-stopped Output ends prefix old new before after (TooLong number) (healthy, sound, (bytes, given, (long, sent))) first =
     front-sent Output ends prefix old.remaining new.remaining long.front (long.long ++ long.rest) before after
     (subst (Consumes old.remaining new.remaining) long.are_bytes given.is_first) long.begins sent (sound, first)
-lines-stopped Output ends prefix old new before after TooManyReads (healthy, sound, reads, unended, (bytes, lines, given, short, (last, split, begins, plain), sent)) first =
-    front-sent Output ends prefix old.remaining new.remaining lines last before after
-    (subst (Consumes old.remaining new.remaining) split given.is_first) begins sent (sound, first)
+lines-stopped Output ends prefix old new before after TooManyReads (healthy, sound, reads, unended, begun) first =
+    begun-sent Output ends prefix old new before after begun (sound, first)
 lines-stopped Output ends prefix old new before after Memory (healthy, sound, more) first = (sound, first)
 
 pub lines-failed : (Output : Outputs) → Ends Output → (prefix : PrefixParts) (known : Option (List ℕ)) (old new : SourceState)
@@ -124,11 +120,8 @@ file-more asked prefix known names rest left name one so-far own before now afte
   Appends-trans _ _ _ _ _ sent further,
   λ more others outputs.
       let greatest : max so-far (max own others) ≡ max (max so-far own) others = omega arith in
-      let here : AreFileOutputs asked prefix known (name ∷ rest) (one ++ more) (max own others) =
-      (one, more, own, others, output, outputs, refl, refl) in
-      let all = goes (one ++ more) (max own others) (subst (λ l. AreFileOutputs asked prefix known l (one ++ more) (max own others)) (sym is) here) in
-      subst (λ l. AreFileOutputs asked prefix known names l (max (max so-far own) others)) (sym (append_assoc written one more))
-      (subst (λ n. AreFileOutputs asked prefix known names (written ++ (one ++ more)) n) greatest all),
+      rw (append_assoc written one more, ← greatest)
+      (goes (one ++ more) (max own others) (rw is (one, more, own, others, output, outputs, refl, refl))),
 )
 
 -- all files were answered
@@ -138,28 +131,18 @@ pub files-done : (asked : FileTask) (known : List ℕ → Option (List ℕ)) (na
     → AreFileOutputs asked (name_prefix asked names) known names (written ++ more) (max status others))
     → AreFilesAnswered asked known names before after status
 files-done asked known names left status before after written none sent healthy goes =
-    let all = goes [] 0 (subst (λ l. AreFileOutputs asked (name_prefix asked names) known l [] 0) (sym none) (refl, refl)) in (
-      written,
-      subst (λ n. AreFileOutputs asked (name_prefix asked names) known names written n) (max-zero status)
-          (subst (λ l. AreFileOutputs asked (name_prefix asked names) known names l (max status 0)) (append-nil written) all),
-      sent,
-      healthy.0,
-    )
+    (written, simp (append-nil, max-zero) at (goes [] 0 (rw none (refl, refl))), sent, healthy.0)
 
 -- ---- one file
 
 nothing-fronts : (asked : FileTask) → IsTaskFront asked [] []
 nothing-fronts asked = grind (arith, front-none)
 
-unopened-front : (asked : FileTask) (prefix : PrefixParts) (known : Option (List ℕ)) → IsFileFront (IsTaskFront asked) prefix known []
-unopened-front asked prefix None = ([], [], tt, [], nothing-fronts asked, refl)
-unopened-front asked prefix (Some all) = ([], all, refl, [], nothing-fronts asked, refl)
-
 -- a file that can't be opened
 pub unopened : (asked : FileTask) (prefix : PrefixParts) (known : Option (List ℕ)) (sink : SinkState) → IsHealthy sink
     → IsFileSent asked prefix known sink sink 2
 unopened asked prefix known sink healthy =
-    ([], inr (unopened-front asked prefix known, refl), appends-none sink.contents, healthy)
+    ([], inr (empty-front (IsTaskFront asked) prefix known (nothing-fronts asked), refl), appends-none sink.contents, healthy)
 
 -- what was sent of a file that failed
 pub failed-file : (asked : FileTask) (prefix : PrefixParts) (known : Option (List ℕ)) (before after : SinkState)

@@ -10,17 +10,12 @@ pub appends-none : (contents : Option (List ℕ)) → Appends contents contents 
 appends-none None = tt
 appends-none (Some held) = sym (append-nil held)
 
-max-assoc : (a b c : ℕ) → max a (max b c) ≡ max (max a b) c
-max-assoc a b c = omega arith
-
 max-none : (n : ℕ) → n ≡ max 0 n
 max-none n = omega arith
 
 pub outputs-append : (Output : Outputs) (xs ys : List (List ℕ)) (a b : List ℕ) (m n : ℕ) → AreOutputs Output xs a m
     → AreOutputs Output ys b n → AreOutputs Output (xs ++ ys) (a ++ b) (max m n)
-outputs-append Output [] ys a b m n (none, zero-is) more =
-    subst (λ l. AreOutputs Output ys (l ++ b) (max m n)) (sym none)
-    (subst (λ k. AreOutputs Output ys b (max k n)) (sym zero-is) (subst (AreOutputs Output ys b) (max-none n) more))
+outputs-append Output [] ys a b m n (none, zero-is) more = rw (none, zero-is, ← max-none n) more
 outputs-append Output (x ∷ xs) ys a b m n (line, rest, first, others, one, further, is, greatest) more = (
   line,
   rest ++ b,
@@ -29,7 +24,7 @@ outputs-append Output (x ∷ xs) ys a b m n (line, rest, first, others, one, fur
   one,
   outputs-append Output xs ys rest b others n further more,
   ap (λ l. l ++ b) is ∙ append_assoc line rest b,
-  ap (λ k. max k n) greatest ∙ sym (max-assoc first others n),
+  omega (arith, greatest),
 )
 
 -- after a feed, bytes that end in one end in one

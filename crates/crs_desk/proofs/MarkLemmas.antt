@@ -33,35 +33,26 @@ split-lines bytes line rest (is, none) = ap lines_in is ∙ line-ends [] line re
 
 -- ---- whether a line has a path
 
-path-first : (how : Manner) (line : List ℕ) (lines : List (List ℕ)) (path : List ℕ) (b : Bool) → bytes_eq (path_in how line) path ≡ b
-    → has_path how (line ∷ lines) path ≡ (b || has_path how lines path)
-path-first how line lines path b is = ap (λ t. t || has_path how lines path) is
-
 pub path_here : (how : Manner) (bytes line rest path : List ℕ) → IsSplit bytes line rest → bytes_eq (path_in how line) path ≡ true
     → has_path how (lines_in bytes) path ≡ true
-path_here how bytes line rest path split is =
-    ap (λ ls. has_path how ls path) (split-lines bytes line rest split) ∙ path-first how line (lines_in rest) path true is
+path_here how bytes line rest path split is = rw (split-lines bytes line rest split, is) refl
 
 pub path_further : (how : Manner) (bytes line rest path : List ℕ) → IsSplit bytes line rest → bytes_eq (path_in how line) path ≡ false
     → has_path how (lines_in bytes) path ≡ has_path how (lines_in rest) path
-path_further how bytes line rest path split is =
-    ap (λ ls. has_path how ls path) (split-lines bytes line rest split) ∙ path-first how line (lines_in rest) path false is
+path_further how bytes line rest path split is = rw (split-lines bytes line rest split, is) refl
 
 pub path_nowhere : (how : Manner) (bytes path : List ℕ) → HasNoFeed bytes → has_path how (lines_in bytes) path ≡ false
-path_nowhere how bytes path none = ap (λ ls. has_path how ls path) (no-line [] bytes none)
+path_nowhere how bytes path none = rw (no-line [] bytes none) refl
 
 -- ---- what is appended
 
 pub marked_on : (how : Manner) (new now : List ℕ) (others : List (List ℕ)) (bytes line rest : List ℕ) → new ≡ now ++ marked_line how others line
     → IsSplit bytes line rest → new ++ marked how others (lines_in rest) ≡ now ++ marked how others (lines_in bytes)
-marked_on how new now others bytes line rest is split =
-    ap (λ l. l ++ marked how others (lines_in rest)) is
-    ∙ (append_assoc now (marked_line how others line) (marked how others (lines_in rest))
-    ∙ ap (λ ls. now ++ marked how others ls) (sym (split-lines bytes line rest split)))
+marked_on how new now others bytes line rest is split = rw (is, split-lines bytes line rest split) (append_assoc now (marked_line how others line) _)
 
 pub marked_all : (how : Manner) (out : List ℕ) (others : List (List ℕ)) (bytes : List ℕ) → HasNoFeed bytes
     → out ++ marked how others (lines_in bytes) ≡ out
-marked_all how out others bytes none = ap (λ ls. out ++ marked how others ls) (no-line [] bytes none) ∙ append-nil out
+marked_all how out others bytes none = rw (no-line [] bytes none) (append-nil out)
 
 abbrev marked_unless : Manner → List ℕ → Bool → List ℕ
 marked_unless how line test = if test then [] else with_mark how line

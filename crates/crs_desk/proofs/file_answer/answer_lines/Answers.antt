@@ -8,9 +8,8 @@ pub returns-clause-answered : goal.returns-clause-answered
 returns-clause-answered g c =
     let Output = g.C.TextCommand.Output c.args.command in
     IfOk-weaker c.run_lines.result _ _
-    (λ status answered. lines-sent (IsLineOutput Output) (line-ends Output c.requires.ends)
-    c.args.prefix.now (g.R.Read.remaining c.args.reader) c.new.result c.run_lines.new.source c.args.sink.now c.run_lines.new.sink
-    status c.new.ensures answered c.run_lines.ensures.past_failure)
+    (λ status answered. lines-sent (IsLineOutput Output) (line-ends Output c.requires.ends) c.args.prefix.now
+    (g.R.Read.remaining c.args.reader) c.new.ensures answered c.run_lines.ensures.past_failure)
     c.run_lines.ensures.answered
 
 pub returns-clause-fault : goal.returns-clause-fault

@@ -17,25 +17,22 @@ loop-turn-init g c = record {
   cut = (
     [],
     given-none c.args.source.now c.requires.source,
-    cut-none (g.C.TextCommand.Output c.args.command.now) c.args.sink.now c.args.cutter.now
-        c.requires.sink c.requires.cutter,
+    cut-none c.args.cutter.now c.requires.sink c.requires.cutter,
   );
   sent = search rules;
 }
 
 pub returns-in_err-count-clause-err : goal.returns-in_err-count-clause-err
 returns-in_err-count-clause-err g c =
-    let Output = g.C.TextCommand.Output c.args.command.now in
     let cut = c.loop-turn.invariant.cut in
     handed-on c.from_residual.result ReadFailed _ (search rules)
-    (failed-read Output c.args.source.now c.loop-turn.source c.read.new.self c.args.sink.now c.loop-turn.sink cut.0
-    c.read.new.room c.loop-turn.cutter c.read.result cut.1 cut.2 c.loop-turn.invariant.sent c.read.ensures.bytes c.read.ensures.counted (search rules))
+    (failed-read c.read.new.self c.read.new.room c.read.result cut.1 cut.2 c.loop-turn.invariant.sent c.read.ensures.bytes
+    c.read.ensures.counted (search rules))
 
 pub take-requires-clause-fits : goal.take-requires-clause-fits
 take-requires-clause-fits g c =
     let cut = c.loop-turn.invariant.cut in
-    lines-fit (g.C.TextCommand.Output c.args.command.now) c.args.sink.now c.loop-turn.sink cut.0 c.loop-turn.cutter
-    c.args.source.now c.loop-turn.source (length (take c.in_ok-count.count c.read.new.room)) cut.2 cut.1
+    lines-fit (length (take c.in_ok-count.count c.read.new.room)) cut.2 cut.1
     (omega (arith, c.loop-turn.invariant.few, c.loop-turn-test.true))
     (omega (arith, length-take c.in_ok-count.count c.read.new.room, c.read.auto.room, c.loop-turn.invariant.room))
 
@@ -45,7 +42,6 @@ take-requires-clause-small g c =
 
 pub returns-in_err-take-clause-err : goal.returns-in_err-take-clause-err
 returns-in_err-take-clause-err g c =
-    let Output = g.C.TextCommand.Output c.args.command.now in
     let cut = c.loop-turn.invariant.cut in
     let got : c.read.result ≡ Ok c.in_ok-count.count = search rules in
     let healthy : c.read.new.self.failed ≡ false = search rules in
@@ -53,8 +49,7 @@ returns-in_err-take-clause-err g c =
     c.read.new.room c.read.result c.in_ok-count.count cut.1 c.read.ensures.bytes c.read.ensures.counted
     c.read.ensures.bound got refl in
     handed-on c.from_residual-in_err-take.result c.in_err-take.field-0.0 _ (search rules)
-    (stopped-fault Output c.args.source.now c.read.new.self c.args.sink.now c.take.new.sink
-    (cut.0 ++ take c.in_ok-count.count c.read.new.room) c.in_err-take.field-0.0 given healthy
+    (stopped-fault (g.C.TextCommand.Output c.args.command.now) c.args.sink.now c.take.new.sink c.in_err-take.field-0.0 given healthy
     (c.in_err-take.ensures.fault c.args.sink.now cut.0 cut.2))
 
 pub returns-in_err-take-clause-past_failure : goal.returns-in_err-take-clause-past_failure
@@ -95,7 +90,5 @@ loop-turn-preserved g c =
 pub returns-clause-err : goal.returns-clause-err
 returns-clause-err g c =
     let cut = c.loop-turn.invariant.cut in
-    many-reads (g.C.TextCommand.Output c.args.command.now) c.args.source.now c.loop-turn.source c.args.sink.now
-    c.loop-turn.sink cut.0 c.loop-turn.cutter cut.1 cut.2 c.loop-turn.invariant.sent c.loop-turn.invariant.healthy
-    c.loop-turn.invariant.unended
+    many-reads cut.1 cut.2 c.loop-turn.invariant.sent c.loop-turn.invariant.healthy c.loop-turn.invariant.unended
     (omega (arith, c.loop-turn.invariant.reads, c.loop-turn-test.false, c.loop-turn.auto.turn-end))

@@ -12,22 +12,12 @@ returns-in_err-room-clause-fault g c =
 
 pub returns-clause-answered : goal.returns-clause-answered
 returns-clause-answered g c =
-    IfOk-weaker c.finish.result _ _
-    (λ status. lines-answered (g.C.TextCommand.Output c.args.command.now) c.args.source.now c.read_through.new.source
-    c.args.sink.now c.read_through.new.sink c.finish.new.sink c.read_through.new.cutter status
-    c.in_ok-read_through.ensures.ok)
-    c.finish.ensures.written
+    IfOk-weaker c.finish.result _ _ (λ status. lines-answered c.in_ok-read_through.ensures.ok) c.finish.ensures.written
 
 pub returns-clause-fault : goal.returns-clause-fault
 returns-clause-fault g c =
-    IfErr-weaker c.finish.result _ _
-    (λ fault. lines-fault (g.C.TextCommand.Output c.args.command.now) c.args.source.now c.read_through.new.source
-    c.args.sink.now c.read_through.new.sink c.finish.new.sink c.read_through.new.cutter fault
-    c.in_ok-read_through.ensures.ok)
-    c.finish.ensures.fault
+    IfErr-weaker c.finish.result _ _ (λ fault. lines-fault c.finish.new.sink fault c.in_ok-read_through.ensures.ok) c.finish.ensures.fault
 
 pub returns-clause-past_failure : goal.returns-clause-past_failure
 returns-clause-past_failure g c =
-    end-first (g.C.TextCommand.Output c.args.command.now) c.args.source.now c.read_through.new.source c.args.sink.now
-    c.read_through.new.sink c.finish.new.sink c.read_through.new.cutter c.finish.result c.in_ok-read_through.ensures.ok
-    c.finish.ensures.written c.finish.ensures.fault
+    end-first c.finish.new.sink c.finish.result c.in_ok-read_through.ensures.ok c.finish.ensures.written c.finish.ensures.fault

@@ -7,7 +7,5 @@ pub returns-clause-put : goal.returns-clause-put
 returns-clause-put g c =
     let long : length c.self.inside.partial.items ≡ vec_len c.self.inside.partial = search rules in
     IfOk-weaker c.put.result _ _
-    (λ _ put. last-put (g.C.TextCommand.Output c.args.command.now) c.args.self.now c.self.inside.writer c.put.new.self
-    c.self.inside.partial.items c.deref.result.now c.self.inside.lines c.self.view_is
-    (c.if-is_empty.ensures ∙ ap (λ n. n == 0) (sym long)) c.deref.ensures.value put)
-    c.put.ensures.put
+    (λ _ put before after bytes. last-put c.put.new.self c.self.view_is (c.if-is_empty.ensures ∙ ap (λ n. n == 0) (sym long))
+    c.deref.ensures.value put) c.put.ensures.put

@@ -5,31 +5,23 @@ use Rattle.crs_desk.proofs.LineCutLemmas.{line-ended, line-starved, line-unsent,
 use Rattle.crs_desk.proofs.line_cutter.LineCutter.end_line.Goals as goal
 
 pub returns-then-is_over-clause-fault : goal.returns-then-is_over-clause-fault
-returns-then-is_over-clause-fault g c before bytes rest small cut =
-    over-end (g.C.TextCommand.Output c.args.command.now) c.args.line.now c.args.self.now c.over.new.self c.args.sink.now
-    c.over.new.sink c.over.result c.requires.one (c.is_over.ensures.over c.if-is_over.true) c.over.ensures before bytes
-    (10 ∷ rest) small cut
+returns-then-is_over-clause-fault g c before bytes rest =
+    over-end c.args.line.now (10 ∷ rest) c.over.new.self c.over.result c.requires.one (c.is_over.ensures.over c.if-is_over.true) c.over.ensures
 
 pub returns-in_err-put_line-clause-fault : goal.returns-in_err-put_line-clause-fault
 returns-in_err-put_line-clause-fault g c =
     handed-on c.from_residual.result c.in_err-put_line.field-0.0 _ (search rules)
-    (λ before bytes rest small cut. line-starved (g.C.TextCommand.Output c.args.command.now) before c.args.sink.now bytes
-    (c.args.line.now ++ 10 ∷ rest) c.args.self.now c.in_err-put_line.field-0.0 c.in_err-put_line.ensures.fault cut)
+    (λ before bytes rest small. line-starved (c.args.line.now ++ 10 ∷ rest) c.in_err-put_line.ensures.fault)
 
 pub returns-clause-cut : goal.returns-clause-cut
 returns-clause-cut g c =
     IfOk-weaker c.send_block.result _ _
-    (λ _ flushed. line-ended (g.C.TextCommand.Output c.args.command.now) c.args.line.now c.self.inside.partial.items
-    c.args.self.now c.put_line.new.self c.self.inside.writer c.send_block.new.self c.self.inside.lines
-    c.args.sink.now c.send_block.new.sink c.in_ok-put_line.ensures.put c.self.view_is c.requires.one
+    (λ _ flushed before bytes. line-ended c.args.line.now c.in_ok-put_line.ensures.put c.self.view_is c.requires.one
     (c.is_over.ensures.fits c.if-is_over.false) flushed)
     c.send_block.ensures.sent
 
 pub returns-clause-fault : goal.returns-clause-fault
 returns-clause-fault g c =
     IfErr-weaker c.send_block.result _ _
-    (λ fault unsent before bytes rest small cut. line-unsent (g.C.TextCommand.Output c.args.command.now) c.args.line.now
-    c.self.inside.partial.items c.args.self.now c.put_line.new.self c.self.inside.writer c.self.inside.lines
-    c.args.sink.now c.send_block.new.sink fault c.in_ok-put_line.ensures.put c.self.view_is c.requires.one unsent
-    before bytes rest cut)
+    (λ fault unsent before bytes rest small. line-unsent c.args.line.now rest c.in_ok-put_line.ensures.put c.self.view_is c.requires.one unsent)
     c.send_block.ensures.cut

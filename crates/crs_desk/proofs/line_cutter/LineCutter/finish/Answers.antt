@@ -6,16 +6,13 @@ use Rattle.crs_desk.proofs.line_cutter.LineCutter.finish.Goals as goal
 
 pub returns-in_err-end_last-clause-fault : goal.returns-in_err-end_last-clause-fault
 returns-in_err-end_last-clause-fault g c =
-    handed-on c.from_residual.result c.in_err-end_last.field-0.0 _ (search rules)
-    (λ before bytes cut. end-starved (g.C.TextCommand.Output c.args.command.now) before c.args.sink.now bytes
-    c.args.self.now c.in_err-end_last.field-0.0 c.in_err-end_last.ensures.fault cut)
+    handed-on c.from_residual.result c.in_err-end_last.field-0.0 _ (search rules) (λ before bytes. end-starved c.in_err-end_last.ensures.fault)
 
 pub returns-in_err-send-clause-fault : goal.returns-in_err-send-clause-fault
 returns-in_err-send-clause-fault g c =
-    let Output = g.C.TextCommand.Output c.args.command.now in
     handed-on c.from_residual-in_err-send.result c.in_err-send.field-0.0 _ (search rules)
-    (λ before bytes cut. put-cut Output true before c.args.sink.now c.send.new.sink bytes c.self.inside.writer c.in_err-send.field-0.0
-    (subst (λ (w : WriterParts). IsPutOut Output true before bytes w c.args.sink.now)
+    (λ before bytes cut. put-cut
+    (subst (λ (w : WriterParts). IsPutOut (g.C.TextCommand.Output c.args.command.now) true before bytes w c.args.sink.now)
     (sym (ap (λ (k : CutterParts). k.writer) c.self.view_is)) (c.in_ok-end_last.ensures.put before c.args.sink.now bytes cut))
     c.in_err-send.ensures.cut)
 
@@ -23,7 +20,6 @@ pub returns-clause-written : goal.returns-clause-written
 returns-clause-written g c before bytes cut =
     let Output = g.C.TextCommand.Output c.args.command.now in
     subst (IsWrittenOut Output before bytes c.send.new.sink) (sym c.status.ensures)
-    (end-sent Output before c.args.sink.now c.send.new.sink bytes c.self.inside.writer c.send.new.self
-    (subst (λ (w : WriterParts). IsPutOut Output true before bytes w c.args.sink.now)
+    (end-sent (subst (λ (w : WriterParts). IsPutOut Output true before bytes w c.args.sink.now)
     (sym (ap (λ (k : CutterParts). k.writer) c.self.view_is)) (c.in_ok-end_last.ensures.put before c.args.sink.now bytes cut))
     c.in_ok-send.ensures.sent)

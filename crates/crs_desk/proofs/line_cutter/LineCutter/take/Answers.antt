@@ -1,9 +1,9 @@
-use Rattle.std.proofs.Common.{◌∙◌, ◌++◌, ◌∷◌, [], ap, append-nil, arith, length, length-append, refl, rules, subst, sym}
+use Rattle.std.proofs.Common.{◌∙◌, ◌++◌, ◌∷◌, [], ap, append-nil, append_assoc, arith, length, length-append, refl, rules, subst, sym, List, ℕ}
 use Rattle.std.proofs.lemmas.Result.{IfErr-weaker, IfOk-weaker}
-use Rattle.crs_streams.specs.Prelude.{HasNoFeed}
+use Rattle.crs_streams.specs.Prelude.{HasNoFeed, SinkState}
 use Rattle.crs_catalogue.proofs.FaultLemmas.{handed-on}
 use Rattle.crs_desk.specs.LineCutting.{CutterParts, IsLinesCut, WriterParts}
-use Rattle.crs_desk.proofs.LineCutLemmas.{cut-emptied, cutter_of, cut-unsendable, keep-stopped, piece-kept, piece-step, piece-stopped, rest-stopped, split-small}
+use Rattle.crs_desk.proofs.LineCutLemmas.{cut-emptied, cut-kept, cut-unsendable, cutter_of, keep-stopped, piece-step, split-small}
 use Rattle.crs_desk.proofs.line_cutter.LineCutter.take.Goals as goal
 
 pub loop-line-init : goal.loop-line-init
@@ -21,54 +21,34 @@ loop-line-init g c = record {
 
 pub returns-in_err-end_line-clause-fault : goal.returns-in_err-end_line-clause-fault
 returns-in_err-end_line-clause-fault g c =
-    let Output = g.C.TextCommand.Output c.args.command.now in
     let done = c.loop-line.invariant.done in
     handed-on c.from_residual.result c.in_err-end_line.field-0.0 _ (search rules)
-    (λ before bytes cut. piece-stopped Output before c.end_line.new.sink bytes done.0 c.in-Some.line.now c.in-Some.left.now c.loop-line.rest.now
-    c.args.piece.now c.in_err-end_line.field-0.0 done.1 c.in-Some.ensures
+    (λ before bytes cut. rw (done.1, c.in-Some.ensures.0, ← append_assoc bytes done.0 (c.in-Some.line.now ++ 10 ∷ c.in-Some.left.now))
     (c.in_err-end_line.ensures.fault before (bytes ++ done.0) c.in-Some.left.now
     (split-small done.0 c.in-Some.line.now c.in-Some.left.now c.loop-line.rest.now c.args.piece.now done.1
     c.in-Some.ensures c.requires.small) (done.2 before bytes cut)))
 
 pub loop-line-preserved : goal.loop-line-preserved
 loop-line-preserved g c =
-    let done = c.loop-line.invariant.done in record {
-      done = piece-step (g.C.TextCommand.Output c.args.command.now) done.0 c.in-Some.line.now c.in-Some.left.now
-          c.loop-line.rest.now c.args.piece.now c.args.self.now c.loop-line.self c.end_line.new.self c.args.sink.now
-          c.loop-line.sink c.end_line.new.sink done.1 c.in-Some.ensures done.2 c.in_ok-end_line.ensures.cut;
-      lines = omega (
-        arith,
-        ap length c.in-Some.ensures.0,
-        length-append c.in-Some.line.now (10 ∷ c.in-Some.left.now),
-        c.in_ok-end_line.ensures.lines,
-        c.loop-line.invariant.lines,
-      );
-      small = omega (
-        arith,
-        ap length c.in-Some.ensures.0,
-        length-append c.in-Some.line.now (10 ∷ c.in-Some.left.now),
-        c.loop-line.invariant.small,
-      );
+    let done = c.loop-line.invariant.done in
+    let long = length-append c.in-Some.line.now (10 ∷ c.in-Some.left.now) in record {
+      done = piece-step done.0 c.in-Some.line.now c.in-Some.left.now c.loop-line.rest.now c.args.piece.now done.1 c.in-Some.ensures done.2
+          c.in_ok-end_line.ensures.cut;
+      lines = omega (arith, ap length c.in-Some.ensures.0, long, c.in_ok-end_line.ensures.lines, c.loop-line.invariant.lines);
+      small = omega (arith, ap length c.in-Some.ensures.0, long, c.loop-line.invariant.small);
     }
 
 pub keep-requires : goal.keep-requires
 keep-requires g c =
-    omega (
-      arith,
-      ap (λ (k : CutterParts). k.lines) c.self.view_is,
-      c.loop-line.invariant.lines,
-      c.requires.fits,
-    )
+    omega (arith, ap (λ (k : CutterParts). k.lines) c.self.view_is, c.loop-line.invariant.lines, c.requires.fits)
 
 pub returns-in_err-send-clause-fault : goal.returns-in_err-send-clause-fault
 returns-in_err-send-clause-fault g c =
     let Output = g.C.TextCommand.Output c.args.command.now in
     let done = c.loop-line.invariant.done in
-    let now = cutter_of c.self.inside.writer c.self.inside.partial.items c.self.inside.lines in
     handed-on c.from_residual-in_err-send.result c.in_err-send.field-0.0 _ (search rules)
-    (λ before bytes cut. rest-stopped Output before c.send.new.sink bytes done.0 c.loop-line.rest.now c.args.piece.now
-    c.in_err-send.field-0.0 done.1
-    (cut-unsendable Output before c.loop-line.sink c.send.new.sink (bytes ++ done.0) c.loop-line.rest.now now c.in_err-send.field-0.0
+    (λ before bytes cut. rw (done.1, ← append_assoc bytes done.0 c.loop-line.rest.now)
+    (cut-unsendable c.loop-line.rest.now
     (subst (λ (k : CutterParts). IsLinesCut Output before (bytes ++ done.0) k c.loop-line.sink) (sym c.self.view_is)
     (done.2 before bytes cut)) c.in_err-send.ensures.cut))
 
@@ -76,30 +56,27 @@ pub returns-clause-cut : goal.returns-clause-cut
 returns-clause-cut g c =
     let Output = g.C.TextCommand.Output c.args.command.now in
     let done = c.loop-line.invariant.done in
-    let now = cutter_of c.self.inside.writer c.self.inside.partial.items c.self.inside.lines in
     let next = cutter_of c.send.new.self c.self.inside.partial.items c.self.inside.lines in
     let plain : HasNoFeed c.loop-line.rest.now = search rules in
     IfOk-weaker c.keep.result _ _
-    (λ _ kept before bytes cut. piece-kept Output before c.send.new.sink bytes done.0 c.loop-line.rest.now c.args.piece.now
-    next c.keep.new.self done.1 plain kept
-    (cut-emptied Output before c.loop-line.sink c.send.new.sink (bytes ++ done.0) now next
+    (λ _ kept before bytes cut. rw (done.1, ← append_assoc bytes done.0 c.loop-line.rest.now)
+    (cut-kept c.loop-line.rest.now c.keep.new.self
+    (cut-emptied next
     (subst (λ (k : CutterParts). IsLinesCut Output before (bytes ++ done.0) k c.loop-line.sink) (sym c.self.view_is)
-    (done.2 before bytes cut)) c.in_ok-send.ensures.sent refl refl))
+    (done.2 before bytes cut)) c.in_ok-send.ensures.sent refl refl) plain kept))
     c.keep.ensures.kept
 
 pub returns-clause-fault : goal.returns-clause-fault
 returns-clause-fault g c =
     let Output = g.C.TextCommand.Output c.args.command.now in
     let done = c.loop-line.invariant.done in
-    let now = cutter_of c.self.inside.writer c.self.inside.partial.items c.self.inside.lines in
     let next = cutter_of c.send.new.self c.self.inside.partial.items c.self.inside.lines in
     let plain : HasNoFeed c.loop-line.rest.now = search rules in
     IfErr-weaker c.keep.result _ _
-    (λ fault why before bytes cut. rest-stopped Output before c.send.new.sink bytes done.0 c.loop-line.rest.now
-    c.args.piece.now fault done.1
-    (keep-stopped Output before c.send.new.sink (bytes ++ done.0) c.loop-line.rest.now next fault c.in_ok-send.ensures.sent.is_empty plain
+    (λ fault why before bytes cut. rw (done.1, ← append_assoc bytes done.0 c.loop-line.rest.now)
+    (keep-stopped c.loop-line.rest.now fault c.in_ok-send.ensures.sent.is_empty plain
     (omega (arith, c.loop-line.invariant.small, c.requires.small)) why
-    (cut-emptied Output before c.loop-line.sink c.send.new.sink (bytes ++ done.0) now next
+    (cut-emptied next
     (subst (λ (k : CutterParts). IsLinesCut Output before (bytes ++ done.0) k c.loop-line.sink) (sym c.self.view_is)
     (done.2 before bytes cut)) c.in_ok-send.ensures.sent refl refl)))
     c.keep.ensures.fault

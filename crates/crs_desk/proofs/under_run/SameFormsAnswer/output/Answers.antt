@@ -7,12 +7,10 @@ use Rattle.crs_desk.proofs.under_run.SameFormsAnswer.output.Goals as goal
 
 pub returns-in-Ok : goal.returns-in-Ok
 returns-in-Ok c =
-    let self = c.args.self.now in
     let found : c.in_ok-a.field-0 ≡ Ok (c.in-Ok.a, c.in-Ok.b) = search rules in
     IfOk-weaker c.pair_output.result _ _
-    (λ output. pair-formed self.under.rules.now self.under.level WritesRefusalOf (IsSameOutput self.under.level) self.a.now self.b.now
-    c.in-Ok.a c.in-Ok.b c.bytes.result.now c.bytes-in-Ok.result.now output.0.items output.1 (MatchResult-at_ok _ _ (c.in-Ok.a, c.in-Ok.b) found c.in_ok-a.ensures) c.bytes.ensures
-    c.bytes-in-Ok.ensures)
+    (λ output. pair-formed _ _ _ _ _ _ c.in-Ok.a c.in-Ok.b _ _ _ _ (MatchResult-at_ok _ _ (c.in-Ok.a, c.in-Ok.b) found c.in_ok-a.ensures)
+    c.bytes.ensures c.bytes-in-Ok.ensures)
     c.pair_output.ensures
 
 pub returns-in-Err : goal.returns-in-Err
