@@ -1,7 +1,6 @@
 use Rattle.std.proofs.Common.{◌≡◌, Err, Ok, inl, rules}
 use Rattle.std.proofs.lemmas.Result.{IfOk-weaker, MatchResult-at_err, MatchResult-at_ok}
-use Rattle.crs_desk.specs.ExplainOutput.{TellsRefusalOf}
-use Rattle.crs_desk.specs.RulesOutput.{IsExplainedUnder, IsPairUnder}
+use Rattle.crs_desk.specs.RulesOutput.{IsPairUnder}
 use Rattle.crs_desk.proofs.FormsLemmas.{pair-formed}
 use Rattle.crs_desk.proofs.under_run.ExplainedFormsAnswer.output.Goals as goal
 
