@@ -1,19 +1,18 @@
-use Rattle.std.proofs.Common.{ap, drop, ◌∙◌}
-use Rattle.crs_rules.specs.Rules.{first_that, is_name_alias}
-use Rattle.crs_rules.proofs.LookUpLemmas.{name-from, no-name}
+use Rattle.std.proofs.Common.{ap, ◌∙◌}
+use Rattle.crs_rules.specs.Firsts.{place_of}
+use Rattle.crs_rules.specs.Rules.{is_name_alias}
+use Rattle.crs_rules.proofs.FirstsLemmas.{from-first, none-there}
+use Rattle.crs_rules.proofs.LookUpLemmas.{digest_of_name, names-have}
 use Rattle.crs_rules.proofs.aliases.name_alias_of_many.Goals as goal
 
 pub returns-in-None : goal.returns-in-None
 returns-in-None c =
-    no-name c.args.class c.args.name.now c.names.inside.firsts c.names.inside.aliases.items c.name_digest.result
-    c.names.invariant c.name_digest.ensures c.in-None.ensures
-    ∙ ap (first_that (is_name_alias c.args.class c.args.name.now)) c.names.view_is
+    rw (← c.names.view_is)
+    (none-there digest_of_name (is_name_alias c.args.class c.args.name.now) _ c.names.inside.firsts _
+    (names-have c.args.class c.args.name.now _) c.names.invariant (c.in-None.ensures ∙ ap (place_of c.names.inside.firsts) c.name_digest.ensures))
 
 pub returns-in-Some : goal.returns-in-Some
 returns-in-Some c =
-    c.name_alias_among.ensures
-    ∙ (ap (first_that (is_name_alias c.args.class c.args.name.now)) c.rest_of.ensures
-    ∙ (ap (λ xs. first_that (is_name_alias c.args.class c.args.name.now) (drop c.in-Some.first xs)) c.as_slice.ensures.value
-    ∙ (name-from c.args.class c.args.name.now c.names.inside.firsts c.names.inside.aliases.items c.name_digest.result
-    c.in-Some.first c.names.invariant c.name_digest.ensures c.in-Some.ensures
-    ∙ ap (first_that (is_name_alias c.args.class c.args.name.now)) c.names.view_is)))
+    simp (c.name_alias_among.ensures, c.rest_of.ensures, c.as_slice.ensures.value, ← c.names.view_is)
+    (from-first digest_of_name (is_name_alias c.args.class c.args.name.now) _ c.names.inside.firsts _ _
+    (names-have c.args.class c.args.name.now _) c.names.invariant (c.in-Some.ensures ∙ ap (place_of c.names.inside.firsts) c.name_digest.ensures))

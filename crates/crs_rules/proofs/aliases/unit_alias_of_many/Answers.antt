@@ -1,32 +1,26 @@
-use Rattle.std.proofs.Common.{ap, drop, subst, sym, ◌∙◌}
+use Rattle.std.proofs.Common.{ap, subst, ◌∙◌}
 use Rattle.crs_decimal.specs.Prelude.{IsNormal}
-use Rattle.crs_value.specs.Sound.{Each}
 use Rattle.crs_value.specs.Prelude.{UnitParts}
-use Rattle.crs_rules.specs.Firsts.{unit_digest}
-use Rattle.crs_rules.specs.Rules.{first_that, is_unit_alias}
-use Rattle.crs_rules.specs.SoundRules.{IsUnitAlias}
-use Rattle.crs_rules.proofs.LookUpLemmas.{no-unit, unit-from}
+use Rattle.crs_rules.specs.Firsts.{place_of, unit_digest}
+use Rattle.crs_rules.specs.Rules.{is_unit_alias}
+use Rattle.crs_rules.proofs.FirstsLemmas.{from-first, none-there}
+use Rattle.crs_rules.proofs.LookUpLemmas.{digest_of_unit, units-have}
 use Rattle.crs_rules.proofs.aliases.unit_alias_of_many.Goals as goal
 
 pub returns-in-None : goal.returns-in-None
 returns-in-None c =
-    no-unit c.denotes_one.ensures c.plain_is_the_one.ensures.denotes c.args.unit.now
-    (subst (λ (u : UnitParts). IsNormal u.factor) c.unit.view_is c.unit.invariant.factor)
-    c.units.inside.firsts c.units.inside.aliases.items c.unit_digest.result
-    (subst (Each IsUnitAlias) (sym c.units.view_is) c.requires) c.units.invariant
-    (c.unit_digest.ensures ∙ (ap (unit_digest c.unit.inside.name.now) c.digits.ensures.value
-    ∙ ap (λ (u : UnitParts). unit_digest u.name u.factor.digits) c.unit.view_is)) c.in-None.ensures
-    ∙ ap (first_that (is_unit_alias c.args.unit.now)) c.units.view_is
+    let digest = simp c.digits.ensures.value at c.unit_digest.ensures ∙ ap (λ (u : UnitParts). unit_digest u.name u.factor.digits) c.unit.view_is in
+    rw (← c.units.view_is)
+    (none-there digest_of_unit (is_unit_alias c.args.unit.now) _ c.units.inside.firsts _
+    (units-have c.denotes_one.ensures c.plain_is_the_one.ensures.denotes c.args.unit.now
+    (subst (λ (u : UnitParts). IsNormal u.factor) c.unit.view_is c.unit.invariant.factor) _ (rw (← c.units.view_is) at c.requires))
+    c.units.invariant (c.in-None.ensures ∙ ap (place_of c.units.inside.firsts) digest))
 
 pub returns-in-Some : goal.returns-in-Some
 returns-in-Some c =
-    c.unit_alias_among.ensures
-    ∙ (ap (first_that (is_unit_alias c.args.unit.now)) c.rest_of.ensures
-    ∙ (ap (λ xs. first_that (is_unit_alias c.args.unit.now) (drop c.in-Some.first xs)) c.as_slice.ensures.value
-    ∙ (unit-from c.denotes_one.ensures c.plain_is_the_one.ensures.denotes c.args.unit.now
-    (subst (λ (u : UnitParts). IsNormal u.factor) c.unit.view_is c.unit.invariant.factor)
-    c.units.inside.firsts c.units.inside.aliases.items c.unit_digest.result c.in-Some.first
-    (subst (Each IsUnitAlias) (sym c.units.view_is) c.requires) c.units.invariant
-    (c.unit_digest.ensures ∙ (ap (unit_digest c.unit.inside.name.now) c.digits.ensures.value
-    ∙ ap (λ (u : UnitParts). unit_digest u.name u.factor.digits) c.unit.view_is)) c.in-Some.ensures
-    ∙ ap (first_that (is_unit_alias c.args.unit.now)) c.units.view_is)))
+    let digest = simp c.digits.ensures.value at c.unit_digest.ensures ∙ ap (λ (u : UnitParts). unit_digest u.name u.factor.digits) c.unit.view_is in
+    simp (c.unit_alias_among.ensures, c.rest_of.ensures, c.as_slice.ensures.value, ← c.units.view_is)
+    (from-first digest_of_unit (is_unit_alias c.args.unit.now) _ c.units.inside.firsts _ _
+    (units-have c.denotes_one.ensures c.plain_is_the_one.ensures.denotes c.args.unit.now
+    (subst (λ (u : UnitParts). IsNormal u.factor) c.unit.view_is c.unit.invariant.factor) _ (rw (← c.units.view_is) at c.requires))
+    c.units.invariant (c.in-Some.ensures ∙ ap (place_of c.units.inside.firsts) digest))
