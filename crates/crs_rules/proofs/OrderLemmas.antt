@@ -1,5 +1,5 @@
 -- Rules that differ in their order alone do the same.
-use Rattle.std.proofs.Common.{◌≡◌, ◌⊎◌, ℕ, Bool, true, false, Option, Some, None, List, [], ◌∷◌, refl, sym, subst, ap, ◌∙◌, inl, inr, if◌then◌else◌, arith}
+use Rattle.std.proofs.Common.{◌≡◌, ◌⊎◌, ℕ, Bool, true, false, Option, Some, None, List, [], ◌∷◌, refl, subst, inl, inr}
 use Rattle.crs_normal.specs.Prelude.{IsIn}
 use Rattle.crs_shape.specs.declared.class.Class.{Class}
 use Rattle.crs_value.specs.Sound.{Each}
@@ -13,7 +13,7 @@ use Rattle.crs_rules.specs.Under.{IsForm}
 
 pub each-in : {A : Type 0} (P : A → Type 0) (x : A) (xs : List A) → Each P xs → IsIn x xs → P x
 each-in P x [] h k = absurd k
-each-in P x (y ∷ ys) h (inl e) = subst P (sym e) h.0
+each-in P x (y ∷ ys) h (inl e) = rw e h.0
 each-in P x (y ∷ ys) h (inr k) = each-in P x ys h.1 k
 
 -- the first that passes, or that none does
@@ -22,39 +22,26 @@ Sought {A = A} test xs =
     ((x : A) × IsIn x xs × (test x ≡ true) × (first_that test xs ≡ Some x))
     ⊎ (Each (λ x. test x ≡ false) xs × (first_that test xs ≡ None))
 
-further : {A : Type 0} (test : A → Bool) (x : A) (xs : List A) → test x ≡ false → Sought test xs → Sought test (x ∷ xs)
-further test x xs e (inl k) =
-    inl (k.0, inr k.1, k.2, subst (λ b. (if b then Some x else first_that test xs) ≡ Some k.0) (sym e) k.3)
-further test x xs e (inr k) =
-    inr ((e, k.0), subst (λ b. (if b then Some x else first_that test xs) ≡ None) (sym e) k.1)
-
 sought-by : {A : Type 0} (test : A → Bool) (x : A) (xs : List A) (b : Bool) → test x ≡ b → Sought test xs → Sought test (x ∷ xs)
-sought-by test x xs true e k =
-    inl (x, inl refl, e, subst (λ b. (if b then Some x else first_that test xs) ≡ Some x) (sym e) refl)
-sought-by test x xs false e k = further test x xs e k
+sought-by test x xs true e k = inl (x, inl refl, e, rw e)
+sought-by test x xs false e (inl k) = inl (k.0, inr k.1, k.2, rw e k.3)
+sought-by test x xs false e (inr k) = inr ((e, k.0), rw e k.1)
 
 pub sought : {A : Type 0} (test : A → Bool) (xs : List A) → Sought test xs
 sought test [] = inr (tt, refl)
 sought test (x ∷ xs) = sought-by test x xs (test x) refl (sought test xs)
-
-abbrev number : Bool → ℕ
-number true = 1
-number false = 0
-
-pub unlike : (b : Bool) → b ≡ true → b ≡ false → ⊥
-unlike b e f = let k : 1 ≡ 0 = ap number (sym e ∙ f) in absurd (omega (arith, k))
 
 -- what comes of the first that passes is the same in both lists
 same-found : {A B : Type 0} (test : A → Bool) (of : Option A → B) (xs ys : List A) → HaveSameMembers xs ys →
     ((x y : A) → IsIn x xs → IsIn y xs → test x ≡ true → test y ≡ true → of (Some x) ≡ of (Some y)) →
     Sought test xs → Sought test ys → of (first_that test xs) ≡ of (first_that test ys)
 same-found test of xs ys h clear (inl a) (inl b) =
-    ap of a.3 ∙ (clear a.0 b.0 a.1 (each-in (λ y. IsIn y xs) b.0 ys h.1 b.1) a.2 b.2 ∙ sym (ap of b.3))
+    rw (a.3, b.3) (clear _ _ a.1 (each-in (λ y. IsIn y xs) _ ys h.1 b.1) a.2 b.2)
 same-found test of xs ys h clear (inl a) (inr b) =
-    absurd (unlike (test a.0) a.2 (each-in (λ y. test y ≡ false) a.0 ys b.0 (each-in (λ x. IsIn x ys) a.0 xs h.0 a.1)))
+    cc (a.2, each-in (λ y. test y ≡ false) _ ys b.0 (each-in (λ x. IsIn x ys) _ xs h.0 a.1))
 same-found test of xs ys h clear (inr a) (inl b) =
-    absurd (unlike (test b.0) b.2 (each-in (λ x. test x ≡ false) b.0 xs a.0 (each-in (λ y. IsIn y xs) b.0 ys h.1 b.1)))
-same-found test of xs ys h clear (inr a) (inr b) = ap of a.1 ∙ sym (ap of b.1)
+    cc (b.2, each-in (λ x. test x ≡ false) _ xs a.0 (each-in (λ y. IsIn y xs) _ ys h.1 b.1))
+same-found test of xs ys h clear (inr a) (inr b) = rw (a.1, b.1)
 
 -- for each name one other name is written, and for each unit one name and factor
 pub record AreClear (r : RulesParts) : Type 0 where
@@ -67,7 +54,7 @@ same-meaning : (r s : RulesParts) → DifferInOrder r s → AreClear r → meani
 same-meaning r s d h =
     let name : (c : Class) (n : List ℕ) → first_name r.names c n ≡ first_name s.names c n = λ c n.
     same-found (is_name_alias c n) (name_for n) r.names s.names d.names
-    (λ a b i j p q. h.names c n a b i j p q) (sought (is_name_alias c n) r.names) (sought (is_name_alias c n) s.names) in
+    (h.names c n) (sought (is_name_alias c n) r.names) (sought (is_name_alias c n) s.names) in
     let unit : (u : UnitParts) → first_unit r.units u ≡ first_unit s.units u = λ u.
     same-found (is_unit_alias u) (unit_for u) r.units s.units d.units
     (λ a b i j p q. let k = h.units u a b i j p q in λ z. record u { name = k.0 z; factor = k.1 z })
