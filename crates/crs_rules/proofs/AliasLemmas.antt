@@ -1,9 +1,8 @@
 -- Names and units that are written by rules are accepted.
-use Rattle.std.proofs.Common.{◌≡◌, ◌≢◌, ℕ, Bool, true, false, Option, Some, None, List, [], ◌∷◌, IfSome, refl, sym, subst, if◌then◌else◌, arith}
+use Rattle.std.proofs.Common.{◌≡◌, ℕ, Bool, true, false, Option, Some, None, List, [], ◌∷◌, IfSome, refl, if◌then◌else◌, arith}
 use Rattle.crs_shape.specs.declared.class.Class.{Class}
 use Rattle.crs_shape.specs.declared.unit_kind.UnitKind.{UnitKind}
-use Rattle.crs_shape.specs.declared.unit_kind.UnitKind.TheVariants as kinds
-use Rattle.crs_value.specs.Prelude.{IsText, IsUnit, IsUnitOf, IsAxisUnit, Suits, UnitParts}
+use Rattle.crs_value.specs.Prelude.{IsText, IsUnit, IsUnitOf, IsAxisUnit, UnitParts}
 use Rattle.crs_value.specs.Sound.{Each}
 use Rattle.crs_rules.specs.Rewritten.{counted_name}
 use Rattle.crs_rules.specs.Rules.{Meaning, NameAliasParts, RulesParts, UnitAliasParts, first_that, is_name_alias, is_unit_alias, meaning, name_for, unit_for}
@@ -34,11 +33,8 @@ pub record Keeps (old new : UnitParts) : Type 0 where
   pub kind : new.kind ≡ old.kind
 
 unit-written : (u : UnitParts) (a : Option UnitAliasParts) → IfSome a IsUnitAlias → IsUnit u → Keeps u (unit_for u a)
-unit-written u None h k = record { unit = k; kind = refl }
-unit-written u (Some a) h k = record {
-  unit = record { name = h.name; factor = h.factor; above_zero = h.above_zero; identifiers = k.identifiers };
-  kind = refl;
-}
+unit-written u None h k = assumption
+unit-written u (Some a) h k = assumption
 
 -- what is written is sound, and a unit keeps its kind
 pub record IsSoundMeaning (m : Meaning) : Type 0 where
@@ -56,12 +52,10 @@ sound-meaning r h = record {
 }
 
 pub unit-of : (m : Meaning) (asked : UnitKind) → IsSoundMeaning m → (u : UnitParts) → IsUnitOf asked u → IsUnitOf asked (m.unit u)
-unit-of m asked h u k = let f : Keeps u (m.unit u) = h.unit u k.0 in
-    (f.unit, subst (λ kind. Suits asked kind) (sym f.kind) k.1)
+unit-of m asked h u k = ((h.unit u k.0).unit, rw (h.unit u k.0).kind k.1)
 
 pub unit-sound : (m : Meaning) → IsSoundMeaning m → (u : UnitParts) → IsUnit u → IsUnit (m.unit u)
 unit-sound m h u k = (h.unit u k).unit
 
 pub axis-unit : (m : Meaning) → IsSoundMeaning m → (u : UnitParts) → IsAxisUnit u → IsAxisUnit (m.unit u)
-axis-unit m h u k = let f : Keeps u (m.unit u) = h.unit u k.0 in
-    (f.unit, subst (λ kind. kind ≢ kinds.Scale) (sym f.kind) k.1)
+axis-unit m h u k = ((h.unit u k.0).unit, rw (h.unit u k.0).kind k.1)

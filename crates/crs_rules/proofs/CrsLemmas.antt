@@ -1,11 +1,11 @@
 -- A CRS that is rewritten by rules is sound.
-use Rattle.std.proofs.Common.{Err, Ok, OnErr, OnOk, Result, ◌≡◌, ◌≢◌, ℕ, suc, ◌&&◌, Bool, Option, Some, None, List, [], ◌∷◌, IfSome, IsSomeAnd, refl, sym, subst, ap, ◌∙◌, map, length, arith, inl, inr, true, false, if◌then◌else◌, Ordering, Less, Equal, Greater}
+use Rattle.std.proofs.Common.{Err, Ok, OnErr, OnOk, Result, ◌≡◌, ◌≢◌, ℕ, suc, ◌&&◌, Bool, Option, Some, None, List, [], ◌∷◌, IfSome, IsNone, IsSome, IsSomeAnd, refl, sym, subst, ap, ◌∙◌, map, length, arith, inl, inr, true, false, if◌then◌else◌, Ordering, Less, Equal, Greater}
 use Rattle.crs_decimal.specs.Prelude.{SameNumber, whole_number, exact}
 use Rattle.crs_shape.specs.declared.class.Class.TheVariants as class
 use Rattle.crs_shape.specs.declared.system_type.SystemType.{SystemType}
 use Rattle.crs_shape.specs.declared.unit_kind.UnitKind.TheVariants as kinds
 use Rattle.crs_shape.specs.Prelude.{asked_kind}
-use Rattle.crs_value.specs.Prelude.{IsPosition, BaseParts, GeodeticParts, ProjectedParts, VerticalParts, IsNamed, IsUnitOf, IsAxisUnit, IsAxisMeridian, IsAxis, Suits, IsCompound, IsHorizontal, IsCrs, IsMeridian, IsBase, IsGeodetic, IsProjected, IsVertical, HasOrders, HasUnits, IsSystem, SuitsAxis, AxisMeridianParts, AxisParts, SystemParts, UnitParts, CompoundParts}
+use Rattle.crs_value.specs.Prelude.{IsPosition, BaseParts, GeodeticParts, ProjectedParts, VerticalParts, NamedParts, IsNamed, IsUnitOf, IsAxisUnit, IsAxisMeridian, IsAxis, Suits, IsCompound, IsHorizontal, IsCrs, IsMeridian, IsBase, IsGeodetic, IsProjected, IsVertical, HasOrders, HasUnits, IsSystem, SuitsAxis, AxisMeridianParts, AxisParts, SystemParts, UnitParts, CompoundParts}
 use Rattle.crs_value.specs.Sound.{Each}
 use Rattle.crs_value.specs.declared.values.compound.Horizontal.{Horizontal}
 use Rattle.crs_value.specs.declared.values.compound.Horizontal.TheVariants as horizontals
@@ -13,56 +13,39 @@ use Rattle.crs_value.specs.declared.values.crs.Crs.{Crs}
 use Rattle.crs_value.specs.declared.values.crs.Crs.TheVariants as crs
 use Rattle.std.specs.Cmp.Lexicographic.{slice_cmp}
 use Rattle.std.specs.Ordering.{nat_cmp, match_ordering, ordering_index}
-use Rattle.std.proofs.lemmas.List.{length-map}
+use Rattle.std.proofs.lemmas.List.{length-map, nil_from_length}
 use Rattle.crs_rules.specs.Sinking.{IsOrderless, IsOrderlessAcross, IsOrderlessCrs}
-use Rattle.crs_rules.specs.Rewritten.{across, among, arranged, arranged_across, arranged_compound, arranged_crs, arranged_geodetic, arranged_projected, arranged_vertical, ascending, axis, axis_meridian, counted, renamed, base, compound, geodetic, is_idle, meridian, named, projected, rewritten, system, units, vertical}
+use Rattle.crs_rules.specs.Rewritten.{across, among, arranged, arranged_across, arranged_compound, arranged_crs, arranged_geodetic, arranged_projected, arranged_vertical, ascending, axis, axis_meridian, counted, renamed, base, compound, geodetic, geoid_models, is_idle, meridian, named, projected, rewritten, system, units, vertical}
 use Rattle.crs_rules.specs.Rules.{Meaning, RulesParts, meaning}
 use Rattle.crs_rules.specs.SoundRules.{AreRules}
 use Rattle.crs_rules.proofs.AliasLemmas.{IsSoundMeaning, axis-unit, choice, counted-name, sound-meaning, unit-of}
-use Rattle.crs_rules.proofs.PartLemmas.{conversion-sound, counted-sound, dynamics-sound, each-map, geodetic-frame-sound, meridian-sound, named-sound, some-map, tail-sound, vertical-frame-sound}
+use Rattle.crs_rules.proofs.PartLemmas.{conversion-sound, counted-sound, dynamics-sound, each-map, frame-sound, meridian-sound, named-sound, none-stays, some-map, some-stays, tail-sound}
 
 -- ---- systems
 
 pub along-sound : (r : Meaning) → IsSoundMeaning r → (m : AxisMeridianParts) → IsAxisMeridian m → IsAxisMeridian (axis_meridian r m)
-along-sound r h m k = record { longitude = k.longitude; unit = unit-of r kinds.Angle h m.unit k.unit }
+along-sound r h m k = search unit-of
 
 pub axis-sound : (r : Meaning) → IsSoundMeaning r → (a : AxisParts) → IsAxis a → IsAxis (axis r a)
-axis-sound r h a k = record {
-  name = counted-name r.uncounted.axis_names _ (h.name class.Axis a.name k.name);
-  meridian = some-map IsAxisMeridian (axis_meridian r) a.meridian (along-sound r h) k.meridian;
-  order = counted-sound _ r.uncounted.axis_order a.order k.order;
-  unit = some-map IsAxisUnit r.unit a.unit (axis-unit r h) k.unit;
-  identifiers = k.identifiers;
-}
+axis-sound r h a k = search (counted-name, h.name, some-map, along-sound, counted-sound, axis-unit)
 
 filled : (n m : List AxisParts) → length n ≡ length m → m ≢ [] → n ≢ []
-filled n [] e h k = h refl
-filled n (x ∷ m) e h k = let z : 0 ≡ suc (length m) = sym (ap length k) ∙ e in absurd (omega arith)
+filled n m e h k = h (nil_from_length m (sym e ∙ ap length k))
 
 pub none-ordered : (r : Meaning) → r.uncounted.axis_order ≡ true → (xs : List AxisParts) →
     Each (λ a. a.order ≡ None) (map (axis r) xs)
 none-ordered r e [] = tt
-none-ordered r e (x ∷ xs) =
-    (subst (λ b. counted b x.order ≡ None) (sym e) refl, none-ordered r e xs)
+none-ordered r e (x ∷ xs) = (rw e, none-ordered r e xs)
 
 same-orders : (r : Meaning) → r.uncounted.axis_order ≡ false → (xs : List AxisParts) →
     map (λ a. a.order) (map (axis r) xs) ≡ map (λ a. a.order) xs
 same-orders r e [] = refl
-same-orders r e (x ∷ xs) =
-    let h : counted r.uncounted.axis_order x.order ≡ x.order = ap (λ b. counted b x.order) e in
-    let t = same-orders r e xs in λ i. h i ∷ t i
+same-orders r e (x ∷ xs) = rw (same-orders r e xs, e)
 
 orders-by : (r : Meaning) (xs : List AxisParts) (b : Bool) → r.uncounted.axis_order ≡ b → HasOrders xs → HasOrders (map (axis r) xs)
 orders-by r xs true e h = inl (none-ordered r e xs)
-orders-by r xs false e (inl k) =
-    inl (each-map (λ a. a.order ≡ None) (λ a. a.order ≡ None) (axis r) xs (λ x q. ap (λ b. counted b x.order) e ∙ q) k)
-orders-by r xs false e (inr k) = inr (
-  k.0,
-  (
-    same-orders r e xs ∙ k.1.0,
-    (subst (λ n. Each (IsPosition n) k.0) (sym (length-map xs (axis r))) k.1.1.0, k.1.1.1),
-  ),
-)
+orders-by r xs false e (inl k) = inl (each-map (λ a. a.order ≡ None) (axis r) xs (λ x q. rw e q) k)
+orders-by r xs false e (inr k) = inr (k.0, (same-orders r e xs ∙ k.1.0, rw length-map k.1.1))
 
 orders-sound : (r : Meaning) (xs : List AxisParts) → HasOrders xs → HasOrders (map (axis r) xs)
 orders-sound r xs h = orders-by r xs r.uncounted.axis_order refl h
@@ -70,97 +53,53 @@ orders-sound r xs h = orders-by r xs r.uncounted.axis_order refl h
 suits-stays : (r : Meaning) (t : SystemType) (a : AxisParts) (u : Option UnitParts) → IsSoundMeaning r → IfSome u IsAxisUnit →
     IsSomeAnd u (SuitsAxis t a) → IsSomeAnd (units r u) (SuitsAxis t a)
 suits-stays r t a None h s k = k
-suits-stays r t a (Some u) h s k = subst (Suits (asked_kind t a.direction)) (sym (h.unit u s.0).kind) k
+suits-stays r t a (Some u) h s k = rw (h.unit u s.0).kind k
 
-pub both : {A : Type 0} (P Q : A → Type 0) (xs : List A) → Each P xs → Each Q xs → Each (λ a. P a × Q a) xs
-both P Q [] s k = tt
-both P Q (x ∷ xs) s k = ((s.0, k.0), both P Q xs s.1 k.1)
+pub each-both : {A : Type 0} (P Q R : A → Type 0) (f : A → A) (xs : List A) → ((x : A) → P x → Q x → R (f x)) →
+    Each P xs → Each Q xs → Each R (map f xs)
+each-both P Q R f [] h s k = tt
+each-both P Q R f (x ∷ xs) h s k = (h x s.0 k.0, each-both P Q R f xs h s.1 k.1)
 
 units-sound : (r : Meaning) (t : SystemType) (xs : List AxisParts) (u : Option UnitParts) → IsSoundMeaning r → Each IsAxis xs →
     IfSome u IsAxisUnit → HasUnits t xs u → HasUnits t (map (axis r) xs) (units r u)
 units-sound r t xs None h s w k =
-    each-map (λ a. IsAxis a × IsSomeAnd a.unit (SuitsAxis t a)) (λ a. IsSomeAnd a.unit (SuitsAxis t a)) (axis r) xs
-    (λ a p. suits-stays r t a a.unit h p.0.unit p.1) (both IsAxis (λ a. IsSomeAnd a.unit (SuitsAxis t a)) xs s k)
+    let P : AxisParts → Type 0 = λ a. IsSomeAnd a.unit (SuitsAxis t a) in
+    each-both IsAxis P P (axis r) xs (λ a i p. suits-stays r t a a.unit h i.unit p) s k
 units-sound r t xs (Some u) h s w k = (
-  each-map (λ a. a.unit ≡ None) (λ a. a.unit ≡ None) (axis r) xs (λ a p. ap (units r) p) k.0,
-  (
-    k.1.0,
-    (
-      each-map (λ a. asked_kind t a.direction ≡ k.1.0) (λ a. asked_kind t a.direction ≡ k.1.0) (axis r) xs (λ a p. p) k.1.1.0,
-      subst (Suits k.1.0) (sym (h.unit u w.0).kind) k.1.1.1,
-    ),
-  ),
+  each-map (λ a. a.unit ≡ None) (axis r) xs (λ a p. ap (units r) p) k.0,
+  (k.1.0, (each-map (λ a. asked_kind t a.direction ≡ k.1.0) (axis r) xs (λ a p. p) k.1.1.0, rw (h.unit u w.0).kind k.1.1.1)),
 )
 
 pub system-sound : (r : Meaning) → IsSoundMeaning r → (s : SystemParts) → IsSystem s → IsSystem (system r s)
-system-sound r h s k = record {
-  dimension = k.dimension;
-  identifiers = k.identifiers;
-  some = filled (map (axis r) s.axes) s.axes (length-map s.axes (axis r)) k.some;
-  axes = each-map IsAxis IsAxis (axis r) s.axes (axis-sound r h) k.axes;
-  count = subst (λ n. SameNumber (exact s.dimension) (whole_number n)) (sym (length-map s.axes (axis r))) k.count;
-  orders = orders-sound r s.axes k.orders;
-  unit = some-map IsAxisUnit r.unit s.unit (axis-unit r h) k.unit;
-  units = units-sound r s.system_type s.axes s.unit h k.axes k.unit k.units;
-}
+system-sound r h s k = search (filled, length-map, each-map, axis-sound, orders-sound, some-map, axis-unit, units-sound)
 
 -- ---- CRSs
 
 pub geodetic-sound : (r : Meaning) → IsSoundMeaning r → (g : GeodeticParts) → IsGeodetic g → IsGeodetic (geodetic r g)
-geodetic-sound r h g k = record {
-  name = counted-name r.uncounted.crs_names g.name k.name;
-  dynamic = dynamics-sound r class.GeodeticFrame class.GeodeticEnsemble h g.dynamic g.frame k.dynamic;
-  frame = geodetic-frame-sound r class.GeodeticFrame class.GeodeticEnsemble h g.frame k.frame;
-  meridian = some-map IsMeridian (meridian r) g.meridian (meridian-sound r h) k.meridian;
-  system = system-sound r h g.system k.system;
-  dimension = k.dimension;
-  tail = tail-sound r h g.tail k.tail;
-}
+geodetic-sound r h g k =
+    search (counted-name, dynamics-sound, frame-sound IsSome some-stays, some-map, meridian-sound, system-sound, tail-sound)
 
 pub base-sound : (r : Meaning) (idle : Bool) → IsSoundMeaning r → (b : BaseParts) → IsBase b → IsBase (base r idle b)
-base-sound r idle h b k = record {
-  name = counted-name r.uncounted.base_names b.name k.name;
-  dynamic = dynamics-sound r class.GeodeticFrame class.GeodeticEnsemble h b.dynamic b.frame k.dynamic;
-  frame = geodetic-frame-sound r class.GeodeticFrame class.GeodeticEnsemble h b.frame k.frame;
-  meridian = some-map IsMeridian (meridian r) b.meridian (meridian-sound r h) k.meridian;
-  unit = counted-sound (IsUnitOf kinds.Angle) (r.uncounted.base_units && idle) (units r b.unit)
-      (some-map (IsUnitOf kinds.Angle) r.unit b.unit (unit-of r kinds.Angle h) k.unit);
-  identifiers = k.identifiers;
-}
+base-sound r idle h b k =
+    search (counted-name, dynamics-sound, frame-sound IsSome some-stays, some-map, meridian-sound, counted-sound, unit-of)
 
 pub projected-sound : (r : Meaning) → IsSoundMeaning r → (p : ProjectedParts) → IsProjected p → IsProjected (projected r p)
-projected-sound r h p k = record {
-  name = counted-name r.uncounted.crs_names p.name k.name;
-  base = base-sound r (is_idle p.base.meridian p.conversion.parameters) h p.base k.base;
-  conversion = conversion-sound r h p.conversion k.conversion;
-  system = system-sound r h p.system k.system;
-  dimension = k.dimension;
-  tail = tail-sound r h p.tail k.tail;
-}
+projected-sound r h p k = search (counted-name, base-sound, conversion-sound, system-sound, tail-sound)
+
+models-sound : (r : Meaning) → IsSoundMeaning r → (models : List NamedParts) → Each IsNamed models → Each IsNamed (geoid_models r models)
+models-sound r h models k =
+    choice (Each IsNamed) r.uncounted.geoid_models [] _ tt (each-map IsNamed _ models (named-sound r class.GeoidModel h) k)
 
 pub vertical-sound : (r : Meaning) → IsSoundMeaning r → (v : VerticalParts) → IsVertical v → IsVertical (vertical r v)
-vertical-sound r h v k = record {
-  name = counted-name r.uncounted.crs_names v.name k.name;
-  dynamic = dynamics-sound r class.VerticalFrame class.VerticalEnsemble h v.dynamic v.frame k.dynamic;
-  frame = vertical-frame-sound r class.VerticalFrame class.VerticalEnsemble h v.frame k.frame;
-  system = system-sound r h v.system k.system;
-  dimension = k.dimension;
-  geoid_models = choice (Each IsNamed) r.uncounted.geoid_models [] (map (named r class.GeoidModel) v.geoid_models) tt
-      (each-map IsNamed IsNamed (named r class.GeoidModel) v.geoid_models (named-sound r class.GeoidModel h) k.geoid_models);
-  tail = tail-sound r h v.tail k.tail;
-}
+vertical-sound r h v k =
+    search (counted-name, dynamics-sound, frame-sound IsNone none-stays, system-sound, models-sound, tail-sound)
 
 pub across-sound : (r : Meaning) → IsSoundMeaning r → (x : Horizontal) → IsHorizontal x → IsHorizontal (across r x)
 across-sound r h (horizontals.Geodetic g) k = (geodetic-sound r h g k.0, k.1, k.2)
 across-sound r h (horizontals.Projected p) k = (projected-sound r h p k.0, k.1)
 
 pub compound-sound : (r : Meaning) → IsSoundMeaning r → (c : CompoundParts) → IsCompound c → IsCompound (compound r c)
-compound-sound r h c k = record {
-  name = counted-name r.uncounted.crs_names c.name k.name;
-  horizontal = across-sound r h c.horizontal k.horizontal;
-  vertical = vertical-sound r h c.vertical k.vertical;
-  tail = tail-sound r h c.tail k.tail;
-}
+compound-sound r h c k = search (counted-name, across-sound, vertical-sound, tail-sound)
 
 pub renamed-sound : (r : Meaning) → IsSoundMeaning r → (x : Crs) → IsCrs x → IsCrs (renamed r x)
 renamed-sound r h (crs.Geodetic g) k = geodetic-sound r h g k
@@ -171,11 +110,11 @@ renamed-sound r h (crs.Compound c) k = compound-sound r h c k
 -- ---- axes in order of their texts
 
 -- what a comparison decides, where less and equal decide alike
-pub by-order : {X : Type 0} (P : X → Type 0) (a b : X) (o : Ordering) → (o ≢ Greater → P a) → (o ≡ Greater → P b) →
+by-order : {X : Type 0} (P : X → Type 0) (a b : X) (o : Ordering) → (o ≢ Greater → P a) → (o ≡ Greater → P b) →
     P (match_ordering o a a b)
 by-order P a b Greater f g = g refl
-by-order P a b Less f g = f (λ e. let k : ◌≡◌ {A = ℕ} 0 2 = ap ordering_index e in absurd (omega arith))
-by-order P a b Equal f g = f (λ e. let k : ◌≡◌ {A = ℕ} 1 2 = ap ordering_index e in absurd (omega arith))
+by-order P a b Less f g = f (λ e. cc)
+by-order P a b Equal f g = f (λ e. cc)
 
 -- what a call that changes something, or out of memory leaves it, has of both
 pub either-way : {A E X : Type 0} (r : Result A E) (P : X → Type 0) (old new other : X) →
@@ -184,11 +123,16 @@ either-way (Ok x) P old new other a b p q = subst P (sym a) q
 either-way (Err x) P old new other a b p q = subst P (sym b) p
 
 module _ (text : AxisParts → List ℕ) where
+  -- one more axis stands before the first or behind it
+  pub among-cases : (P : List AxisParts → Type 0) (x y : AxisParts) (ys : List AxisParts) →
+      (slice_cmp nat_cmp (text x) (text y) ≢ Greater → P (x ∷ y ∷ ys)) →
+      (slice_cmp nat_cmp (text x) (text y) ≡ Greater → P (y ∷ among text x ys)) → P (among text x (y ∷ ys))
+  among-cases P x y ys = by-order P (x ∷ y ∷ ys) (y ∷ among text x ys) (slice_cmp nat_cmp (text x) (text y))
+
   each-among : (P : AxisParts → Type 0) (x : AxisParts) (xs : List AxisParts) → P x → Each P xs → Each P (among text x xs)
   each-among P x [] h k = (h, tt)
   each-among P x (y ∷ ys) h k =
-      by-order (Each P) (x ∷ y ∷ ys) (y ∷ among text x ys) (slice_cmp nat_cmp (text x) (text y)) (λ n. (h, k))
-      (λ g. (k.0, each-among P x ys h k.1))
+      among-cases (Each P) x y ys (λ n. (h, k)) (λ g. (k.0, each-among P x ys h k.1))
 
   pub each-ascending : (P : AxisParts → Type 0) (xs : List AxisParts) → Each P xs → Each P (ascending text xs)
   each-ascending P [] k = tt
@@ -197,8 +141,7 @@ module _ (text : AxisParts → List ℕ) where
   among-length : (x : AxisParts) (xs : List AxisParts) → length (among text x xs) ≡ suc (length xs)
   among-length x [] = refl
   among-length x (y ∷ ys) =
-      by-order (λ zs. length zs ≡ suc (suc (length ys))) (x ∷ y ∷ ys) (y ∷ among text x ys) (slice_cmp nat_cmp (text x) (text y))
-      (λ n. refl) (λ g. ap suc (among-length x ys))
+      among-cases (λ zs. length zs ≡ suc (suc (length ys))) x y ys (λ n. refl) (λ g. ap suc (among-length x ys))
 
   pub ascending-length : (xs : List AxisParts) → length (ascending text xs) ≡ length xs
   ascending-length [] = refl
@@ -213,48 +156,18 @@ module _ (text : AxisParts → List ℕ) where
   )
 
   pub arranged-sound : (s : SystemParts) → IsOrderless s → IsSystem s → IsSystem (arranged text s)
-  arranged-sound s n k = record {
-    dimension = k.dimension;
-    identifiers = k.identifiers;
-    some = filled (ascending text s.axes) s.axes (ascending-length s.axes) k.some;
-    axes = each-ascending IsAxis s.axes k.axes;
-    count = subst (λ n. SameNumber (exact s.dimension) (whole_number n)) (sym (ascending-length s.axes)) k.count;
-    orders = inl (each-ascending (λ a. a.order ≡ None) s.axes n);
-    unit = k.unit;
-    units = units-arranged s.system_type s.axes s.unit k.units;
-  }
+  arranged-sound s n k =
+      let orders : HasOrders (ascending text s.axes) = inl (each-ascending (λ a. a.order ≡ None) s.axes n) in
+      search (filled, ascending-length, each-ascending, orders, units-arranged)
 
   pub geodetic-arranged : (g : GeodeticParts) → IsOrderless g.system → IsGeodetic g → IsGeodetic (arranged_geodetic text g)
-  geodetic-arranged g n k = record {
-    name = k.name;
-    dynamic = k.dynamic;
-    frame = k.frame;
-    meridian = k.meridian;
-    system = arranged-sound g.system n k.system;
-    dimension = k.dimension;
-    tail = k.tail;
-  }
+  geodetic-arranged g n k = assumption (arranged-sound g.system n k.system)
 
   pub projected-arranged : (p : ProjectedParts) → IsOrderless p.system → IsProjected p → IsProjected (arranged_projected text p)
-  projected-arranged p n k = record {
-    name = k.name;
-    base = k.base;
-    conversion = k.conversion;
-    system = arranged-sound p.system n k.system;
-    dimension = k.dimension;
-    tail = k.tail;
-  }
+  projected-arranged p n k = assumption (arranged-sound p.system n k.system)
 
   pub vertical-arranged : (v : VerticalParts) → IsOrderless v.system → IsVertical v → IsVertical (arranged_vertical text v)
-  vertical-arranged v n k = record {
-    name = k.name;
-    dynamic = k.dynamic;
-    frame = k.frame;
-    system = arranged-sound v.system n k.system;
-    dimension = k.dimension;
-    geoid_models = k.geoid_models;
-    tail = k.tail;
-  }
+  vertical-arranged v n k = assumption (arranged-sound v.system n k.system)
 
   pub across-arranged : (x : Horizontal) → IsOrderlessAcross x → IsHorizontal x → IsHorizontal (arranged_across text x)
   across-arranged (horizontals.Geodetic g) n k = (geodetic-arranged g n k.0, k.1, k.2)
@@ -262,12 +175,7 @@ module _ (text : AxisParts → List ℕ) where
 
   pub compound-arranged : (c : CompoundParts) → IsOrderlessAcross c.horizontal → IsOrderless c.vertical.system → IsCompound c →
       IsCompound (arranged_compound text c)
-  compound-arranged c n o k = record {
-    name = k.name;
-    horizontal = across-arranged c.horizontal n k.horizontal;
-    vertical = vertical-arranged c.vertical o k.vertical;
-    tail = k.tail;
-  }
+  compound-arranged c n o k = assumption (across-arranged c.horizontal n k.horizontal, vertical-arranged c.vertical o k.vertical)
 
   crs-arranged : (x : Crs) → IsOrderlessCrs x → IsCrs x → IsCrs (arranged_crs text x)
   crs-arranged (crs.Geodetic g) n k = geodetic-arranged g n k
@@ -290,9 +198,7 @@ either-sound : (text : AxisParts → List ℕ) (r : Meaning) (x : Crs) (b : Bool
 either-sound text r x true e k = crs-arranged text (renamed r x) (renamed-orderless r e x) k
 either-sound text r x false e k = k
 
-meant-sound : (text : AxisParts → List ℕ) (r : Meaning) → IsSoundMeaning r → (x : Crs) → IsCrs x → IsCrs (rewritten text r x)
-meant-sound text r h x k = either-sound text r x r.uncounted.axis_order refl (renamed-sound r h x k)
-
 pub crs-sound : (text : AxisParts → List ℕ) (r : RulesParts) → AreRules r → (x : Crs) → IsCrs x →
     IsCrs (rewritten text (meaning r) x)
-crs-sound text r h x k = meant-sound text (meaning r) (sound-meaning r h) x k
+crs-sound text r h x k =
+    either-sound text (meaning r) x r.uncounted.axis_order refl (renamed-sound (meaning r) (sound-meaning r h) x k)

@@ -1,22 +1,15 @@
 -- What an alias and what it is of have in common.
-use Rattle.std.proofs.Common.{◌≡◌, ℕ, ◌&&◌, Bool, true, false, List, refl, sym, rules}
+use Rattle.std.proofs.Common.{◌≡◌, ℕ, true, List, sym, rules}
 use Rattle.std.specs.Str.{bytes_eq}
+use Rattle.std.proofs.lemmas.Bool.{and_parts}
 use Rattle.std.proofs.lemmas.Slice.Eq.{bytes_eq-Decides}
 use denote.Enum.Bare.{sameb, same_true}
 use Rattle.crs_decimal.specs.Prelude.{plain}
 use Rattle.crs_shape.specs.declared.class.Class.{Class}
-use Rattle.crs_shape.specs.declared.unit_kind.UnitKind.{UnitKind}
 use Rattle.crs_shape.specs.contracts.unit_kind.UnitKind.{the_type}
 use Rattle.crs_value.proofs.found.ArgumentLemmas.{same_class}
 use Rattle.crs_value.specs.Prelude.{is_same, UnitParts}
 use Rattle.crs_rules.specs.Rules.{NameAliasParts, UnitAliasParts, is_name_alias, is_unit_alias}
-
-pub both : (a b : Bool) → (a && b) ≡ true → (a ≡ true) × (b ≡ true)
-both true b e = (refl, e)
-both false b e = absurd (cc)
-
-same-kind : (a b : UnitKind) → sameb the_type a b ≡ true → a ≡ b
-same-kind a b e = same_true the_type (search rules) a b e
 
 pub record OfName (c : Class) (name : List ℕ) (a : NameAliasParts) : Type 0 where
   pub class : c ≡ a.class
@@ -24,7 +17,7 @@ pub record OfName (c : Class) (name : List ℕ) (a : NameAliasParts) : Type 0 wh
 
 pub of-name : (c : Class) (name : List ℕ) (a : NameAliasParts) → is_name_alias c name a ≡ true → OfName c name a
 of-name c name a e =
-    let h = both (is_same c a.class) (bytes_eq name a.alias) e in
+    let h = and_parts (is_same c a.class) (bytes_eq name a.alias) e in
     record { class = sym (same_class a.class c h.0); alias = (bytes_eq-Decides name a.alias).0 h.1 }
 
 pub record OfUnit (u : UnitParts) (a : UnitAliasParts) : Type 0 where
@@ -34,11 +27,10 @@ pub record OfUnit (u : UnitParts) (a : UnitAliasParts) : Type 0 where
 
 pub of-unit : (u : UnitParts) (a : UnitAliasParts) → is_unit_alias u a ≡ true → OfUnit u a
 of-unit u a e =
-    let h = both (sameb the_type u.kind a.kind)
-    (bytes_eq u.name a.alias && bytes_eq (plain u.factor) (plain a.alias_factor)) e in
-    let k = both (bytes_eq u.name a.alias) (bytes_eq (plain u.factor) (plain a.alias_factor)) h.1 in
+    let h = and_parts (sameb the_type u.kind a.kind) _ e in
+    let k = and_parts (bytes_eq u.name a.alias) _ h.1 in
     record {
-      kind = same-kind u.kind a.kind h.0;
+      kind = same_true the_type (search rules) _ _ h.0;
       alias = (bytes_eq-Decides u.name a.alias).0 k.0;
-      factor = (bytes_eq-Decides (plain u.factor) (plain a.alias_factor)).0 k.1;
+      factor = (bytes_eq-Decides _ _).0 k.1;
     }

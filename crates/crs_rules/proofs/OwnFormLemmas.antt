@@ -1,26 +1,31 @@
 -- A form under steady rules is its own form.
-use Rattle.std.proofs.Common.{◌≡◌, ℕ, List, true, ap, sym, subst, ◌∙◌, if◌then◌else◌}
+use Rattle.std.proofs.Common.{◌≡◌, ℕ, Bool, List, true, false, sym, subst, ◌∙◌, if◌then◌else◌}
 use Rattle.crs_text.specs.Prelude.{item_text}
 use Rattle.crs_value.specs.Prelude.{IsCrs, Spells, AxisParts}
 use Rattle.crs_value.specs.declared.values.crs.Crs.{Crs}
 use Rattle.crs_value.specs.declared.values.level.Level.{Level}
+use Rattle.crs_value.specs.declared.values.level.Level.TheVariants as levels
 use Rattle.crs_same.specs.Prelude.{SameCrs}
-use Rattle.crs_normal.specs.Prelude.{IsNormalText, item_crs, norm_crs}
+use Rattle.crs_normal.specs.Prelude.{IsNormalText, axis_text, item_crs, norm_crs}
 use Rattle.crs_writer.specs.Prelude.{IsCanonicalOf, IsCanonicalText}
 use Rattle.crs_canon.specs.MainTheorem.{MainTheorem}
 use Rattle.crs_rules.specs.LowerLaws.{FormLaws, SetLaws}
 use Rattle.crs_rules.specs.ReorderedAxes.{IsCrsReordered}
-use Rattle.crs_rules.specs.Rewritten.{arranged_crs, renamed, rewritten}
+use Rattle.crs_rules.specs.Rewritten.{rewritten}
 use Rattle.crs_rules.specs.Rules.{Meaning, RulesParts, meaning}
 use Rattle.crs_rules.specs.SoundRules.{AreRules}
 use Rattle.crs_rules.specs.SteadyRules.{AreSteady}
 use Rattle.crs_rules.specs.Under.{AreTextsOfAxes, IsForm}
 use Rattle.crs_rules.proofs.AliasLemmas.{sound-meaning}
 use Rattle.crs_rules.proofs.CrsLemmas.{crs-sound}
-use Rattle.crs_rules.proofs.FormLemmas.{AxesAreWritten, one-text}
+use Rattle.crs_rules.proofs.FormLemmas.{AxesAreWritten, one-text, texts-of-axes}
 use Rattle.crs_rules.proofs.ReorderedLemmas.{crs-one}
 use Rattle.crs_rules.proofs.SteadyLemmas.{kinds-kept, steady}
 use Rattle.crs_rules.proofs.WholeLemmas.{rewritten-stays}
+
+where-true : {A : Type 0} (b : Bool) (x y u v : A) → b ≡ true → x ≡ u → (if b then x else y) ≡ (if b then u else v)
+where-true true x y u v e same = same
+where-true false x y u v e same = absurd cc
 
 module _ (level : Level) (b : FormLaws level) (o : SetLaws) where
   abbrev form_text : Crs → List ℕ
@@ -41,12 +46,7 @@ module _ (level : Level) (b : FormLaws level) (o : SetLaws) where
   -- a text that spells the one form is its canonical text
   own-text : (x : Crs) (bytes : List ℕ) → IsCrs x → IsNormalText level bytes → Spells bytes (norm_crs level x) →
       IsCanonicalText level (norm_crs level x) bytes
-  own-text x bytes k n s = record {
-    normal = n;
-    value = norm_crs level x;
-    spells = s;
-    same = b.same.reflexive (norm_crs level x) (norm-sound x k);
-  }
+  own-text x bytes k n s = let same = b.same.reflexive (norm_crs level x) (norm-sound x k) in search same
 
   twice : (x : Crs) → IsCrs x → norm_crs level (norm_crs level x) ≡ norm_crs level x
   twice x k =
@@ -62,26 +62,15 @@ module _ (level : Level) (b : FormLaws level) (o : SetLaws) where
       let e : f.value ≡ norm_crs level x = spelled-norm x f.value f.canonical k f.is_canonical.2 f.spells in
       let u : Crs = rewritten f.axis_text m (norm_crs level x) in
       let l : IsCrs u = crs-sound f.axis_text r h (norm_crs level x) (norm-sound x k) in
-      let g : IsCanonicalText level u bytes =
-      subst (λ y. IsCanonicalText level (rewritten f.axis_text m y) bytes) e f.form in
-      let s : Spells bytes (norm_crs level u) = subst (Spells bytes) (spelled-norm u g.value bytes l g g.spells) g.spells in
-      let z : Crs = rewritten f.axis_text m (norm_crs level u) in
-      let stays : norm_crs level z ≡ norm_crs level u =
-      rewritten-stays m (steady r t) level o (sound-meaning r h) o.identifiers f.axis_text x (norm-sound x k) (twice u l) in
-      record {
-        canonical = bytes;
-        is_canonical = (norm_crs level u, s, own-text u bytes l g.normal s);
-        value = norm_crs level u;
-        spells = s;
-        axis_text = f.axis_text;
-        are_axis_texts = f.are_axis_texts;
-        form = record {
-          normal = g.normal;
-          value = norm_crs level u;
-          spells = s;
-          same = subst (SameCrs level z) stays (b.one_form z (crs-sound f.axis_text r h (norm_crs level u) (norm-sound u l)));
-        };
-      }
+      let g : IsCanonicalText level u bytes = rw e at f.form in
+      let v : Crs = norm_crs level u in
+      let s : Spells bytes v = rw (spelled-norm u g.value bytes l g g.spells) at g.spells in
+      let z : Crs = rewritten f.axis_text m v in
+      let same : SameCrs level z v =
+      rw (rewritten-stays m (steady r t) o level (sound-meaning r h) f.axis_text x (norm-sound x k) (twice u l))
+      at (b.one_form z (crs-sound f.axis_text r h v (norm-sound u l))) in
+      let form : IsCanonicalText level z bytes = search (g.normal, s, same) in
+      search (own-text u bytes l g.normal s, s, f.are_axis_texts, form)
 
   -- ---- CRSs that differ in the order of their axes alone
 
@@ -89,35 +78,22 @@ module _ (level : Level) (b : FormLaws level) (o : SetLaws) where
       AxesAreWritten → (x y : Crs) → IsCrs x → IsCrs y → IsCrsReordered (norm_crs level x) (norm_crs level y) →
       rewritten text (meaning r) (norm_crs level x) ≡ rewritten text (meaning r) (norm_crs level y)
   reordered-one r h c text t w x y k l d =
-      let m : Meaning = meaning r in
-      let e = crs-one m (kinds-kept r) (sound-meaning r h) level o.identifiers c text
-      (λ p q a b z. o.axes_told p q a b (sym (one-text w text t p a) ∙ (z ∙ one-text w text t q b)))
-      x y (norm-sound x k) (norm-sound y l) d in
-      ap (λ z. if z then arranged_crs text (renamed m (norm_crs level x)) else renamed m (norm_crs level x)) c
-      ∙ (e ∙ sym (ap (λ z. if z then arranged_crs text (renamed m (norm_crs level y)) else renamed m (norm_crs level y)) c))
+      let is = one-text w (axis_text levels.Full) text (texts-of-axes w) t in
+      where-true r.uncounted.axis_order _ _ _ _ c
+      (crs-one (meaning r) (kinds-kept r) (sound-meaning r h) o level c text
+      (λ p q a b z. o.axes_told p q a b (is p a ∙ (z ∙ sym (is q b)))) x y (norm-sound x k) (norm-sound y l) d)
 
   pub reordered-form : (r : RulesParts) → AreRules r → r.uncounted.axis_order ≡ true → AxesAreWritten → MainTheorem level →
       (first second bytes : List ℕ) (x y : Crs) → IsCanonicalOf level first first → IsCanonicalOf level second second →
       Spells first x → Spells second y → IsCrsReordered x y → IsForm r level first bytes → IsForm r level second bytes
   reordered-form r h c w t first second bytes x y a z s u d f =
-      let m : Meaning = meaning r in
       let k : IsCrs a.0 = b.sound first a.0 a.1 in
       let l : IsCrs z.0 = b.sound second z.0 z.1 in
       let p : x ≡ norm_crs level a.0 = spelled-norm a.0 x first k a.2 s in
       let q : y ≡ norm_crs level z.0 = spelled-norm z.0 y second l z.2 u in
-      let n : f.canonical ≡ first = t.one first f.canonical first f.is_canonical a in
-      let v : f.value ≡ x = b.value first f.value x (subst (λ i. Spells i f.value) n f.spells) s in
-      let e : rewritten f.axis_text m (norm_crs level a.0) ≡ rewritten f.axis_text m (norm_crs level z.0) =
-      reordered-one r h c f.axis_text f.are_axis_texts w a.0 z.0 k l
-      (subst (λ i. IsCrsReordered i (norm_crs level z.0)) p (subst (λ i. IsCrsReordered x i) q d)) in
-      let all : rewritten f.axis_text m f.value ≡ rewritten f.axis_text m y =
-      ap (rewritten f.axis_text m) (v ∙ p) ∙ (e ∙ ap (rewritten f.axis_text m) (sym q)) in
-      record {
-        canonical = second;
-        is_canonical = z;
-        value = y;
-        spells = u;
-        axis_text = f.axis_text;
-        are_axis_texts = f.are_axis_texts;
-        form = subst (λ i. IsCanonicalText level i bytes) all f.form;
-      }
+      let v : f.value ≡ x =
+      b.value first f.value x (rw (t.one first f.canonical first f.is_canonical a) at f.spells) s in
+      let all : rewritten f.axis_text (meaning r) f.value ≡ rewritten f.axis_text (meaning r) y =
+      rw (v, p, q) (reordered-one r h c f.axis_text f.are_axis_texts w a.0 z.0 k l (rw (p, q) at d)) in
+      let form : IsCanonicalText level (rewritten f.axis_text (meaning r) y) bytes = rw all at f.form in
+      search (z, u, f.are_axis_texts, form)

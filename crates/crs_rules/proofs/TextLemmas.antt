@@ -16,37 +16,25 @@ use Rattle.crs_rules.proofs.CrsLemmas.{each-ascending, renamed-sound}
 module _ (t u : AxisParts → List ℕ) (e : (axis : AxisParts) → IsAxis axis → t axis ≡ u axis) where
   among-by : (x : AxisParts) (xs : List AxisParts) → IsAxis x → Each IsAxis xs → among t x xs ≡ among u x xs
   among-by x [] h k = refl
-  among-by x (y ∷ ys) h k =
-      let p = e x h in
-      let q = e y k.0 in
-      let w = among-by x ys h k.1 in
-      λ i. match_ordering (slice_cmp nat_cmp (p i) (q i)) (x ∷ y ∷ ys) (x ∷ y ∷ ys) (y ∷ w i)
+  among-by x (y ∷ ys) h k = rw (among-by x ys h k.1, e x h, e y k.0)
 
   ascending-by : (xs : List AxisParts) → Each IsAxis xs → ascending t xs ≡ ascending u xs
   ascending-by [] k = refl
-  ascending-by (x ∷ xs) k =
-      ap (among t x) (ascending-by xs k.1) ∙ among-by x (ascending u xs) k.0 (each-ascending u IsAxis xs k.1)
+  ascending-by (x ∷ xs) k = rw (ascending-by xs k.1) (among-by x (ascending u xs) k.0 (each-ascending u IsAxis xs k.1))
 
   arranged-by : (s : SystemParts) → IsSystem s → arranged t s ≡ arranged u s
-  arranged-by s k = let a = ascending-by s.axes k.axes in λ i. record s { axes = a i }
+  arranged-by s k = rw (ascending-by s.axes k.axes)
 
   across-by : (x : Horizontal) → IsHorizontal x → arranged_across t x ≡ arranged_across u x
-  across-by (horizontals.Geodetic g) k =
-      let s = arranged-by g.system k.0.system in λ i. horizontals.Geodetic (record g { system = s i })
-  across-by (horizontals.Projected p) k =
-      let s = arranged-by p.system k.0.system in λ i. horizontals.Projected (record p { system = s i })
+  across-by (horizontals.Geodetic g) k = rw (arranged-by g.system k.0.system)
+  across-by (horizontals.Projected p) k = rw (arranged-by p.system k.0.system)
 
   crs-by : (x : Crs) → IsCrs x → arranged_crs t x ≡ arranged_crs u x
-  crs-by (crs.Geodetic g) k = let s = arranged-by g.system k.system in λ i. crs.Geodetic (record g { system = s i })
-  crs-by (crs.Projected p) k = let s = arranged-by p.system k.system in λ i. crs.Projected (record p { system = s i })
-  crs-by (crs.Vertical v) k = let s = arranged-by v.system k.system in λ i. crs.Vertical (record v { system = s i })
-  crs-by (crs.Compound c) k =
-      let h = across-by c.horizontal k.horizontal in
-      let s = arranged-by c.vertical.system k.vertical.system in
-      λ i. crs.Compound (record c { horizontal = h i; vertical = record c.vertical { system = s i } })
+  crs-by (crs.Geodetic g) k = rw (arranged-by g.system k.system)
+  crs-by (crs.Projected p) k = rw (arranged-by p.system k.system)
+  crs-by (crs.Vertical v) k = rw (arranged-by v.system k.system)
+  crs-by (crs.Compound c) k = rw (across-by c.horizontal k.horizontal, arranged-by c.vertical.system k.vertical.system)
 
 pub rewritten-by : (t u : AxisParts → List ℕ) (r : Meaning) → IsSoundMeaning r → (x : Crs) → IsCrs x →
     ((axis : AxisParts) → IsAxis axis → t axis ≡ u axis) → rewritten t r x ≡ rewritten u r x
-rewritten-by t u r h x k e =
-    let y : Crs = renamed r x in
-    ap (λ z. if r.uncounted.axis_order then z else y) (crs-by t u e y (renamed-sound r h x k))
+rewritten-by t u r h x k e = rw (crs-by t u e (renamed r x) (renamed-sound r h x k))

@@ -1,6 +1,8 @@
 -- What rules write of a CRS they leave as it is, but for the orders of axes where these don't count.
-use Rattle.std.proofs.Common.{◌≡◌, ◌&&◌, ◌||◌, ℕ, Bool, true, false, Option, Some, None, List, [], ◌∷◌, refl, ap, ◌∙◌, map, if◌then◌else◌}
+use Rattle.std.proofs.Common.{◌≡◌, ◌&&◌, ◌||◌, ℕ, Bool, true, false, Option, Some, None, List, [], ◌∷◌, refl, ap, ◌∙◌, arith, map, if◌then◌else◌}
+use Rattle.std.proofs.lemmas.Bool.{and_parts}
 use Rattle.std.proofs.lemmas.Bool.Decides.{same_from_decides}
+use Rattle.std.proofs.lemmas.List.Folds.{list_all-map}
 use Rattle.std.specs.List.{list_all}
 use Rattle.std.specs.Option.{is_some, option_map}
 use Rattle.crs_shape.specs.declared.class.Class.TheVariants as class
@@ -22,8 +24,7 @@ use Rattle.crs_matching.specs.Prelude.{usages_of}
 use Rattle.crs_rules.specs.LowerLaws.{SetLaws}
 use Rattle.crs_rules.specs.Rewritten.{across, arranged, arranged_across, arranged_crs, base, compound, counted, extent, geodetic, has_own_unit, is_idle, meridian, named, parameter, projected, renamed, rewritten, system, tail, units, usage, vertical}
 use Rattle.crs_rules.specs.Rules.{Meaning}
-use Rattle.crs_rules.proofs.MatchLemmas.{both}
-use Rattle.crs_rules.proofs.AgainLemmas.{IsAgain, IsLeft, conversion-again, counted-name-again, dynamics-again, each-all, each-fixed, frame-again, length-kind, mapped, member-fixed, meridian-again, set-again, some-again, system-again, unit-again, units-again}
+use Rattle.crs_rules.proofs.AgainLemmas.{IsAgain, IsLeft, counted-name-twice, dynamics-again, each-all, each-fixed, frame-again, length-kind, mapped, member-fixed, meridian-again, parameters-again, set-again, some-again, system-again, unit-again, units-again}
 use Rattle.crs_rules.proofs.AliasLemmas.{IsSoundMeaning}
 use Rattle.crs_rules.proofs.ArrangedLemmas.{arranged-again}
 use Rattle.crs_rules.proofs.PartLemmas.{each-map, parameter-sound}
@@ -39,11 +40,11 @@ parameter-text p = item_text (item_parameter p)
 
 all-to : {A : Type 0} (test : A → Bool) (xs : List A) → list_all test xs ≡ true → Each (λ x. test x ≡ true) xs
 all-to test [] e = tt
-all-to test (x ∷ xs) e = let h = both (test x) (list_all test xs) e in (h.0, all-to test xs h.1)
+all-to test (x ∷ xs) e = let h = and_parts (test x) (list_all test xs) e in (h.0, all-to test xs h.1)
 
 all-from : {A : Type 0} (test : A → Bool) (xs : List A) → Each (λ x. test x ≡ true) xs → list_all test xs ≡ true
 all-from test [] h = refl
-all-from test (x ∷ xs) h = let t = all-from test xs h.1 in λ i. h.0 i && t i
+all-from test (x ∷ xs) h = rw (h.0, all-from test xs h.1)
 
 all-set : ((a b : ParameterParts) → IsParameter a → IsParameter b → parameter-text a ≡ parameter-text b → a ≡ b) →
     (test : ParameterParts → Bool) (xs : List ParameterParts) → Each IsParameter xs →
@@ -60,19 +61,14 @@ all-set told test xs h =
 abbrev pub Stays : {A : Type 0} → (A → A) → (A → A) → A → Type 0
 Stays norm form x = norm (norm (form x)) ≡ norm (form x) → norm (form (form x)) ≡ norm (form x)
 
-module _ (m : Meaning) (s : IsSteady m) (level : Level) (o : SetLaws) where
+module _ (m : Meaning) (s : IsSteady m) (o : SetLaws) (level : Level) where
   -- ---- usages
 
   extent-again : (e : ExtentParts) → IsAgain (extent m) (norm_extent levels.Full) e
-  extent-again e =
-      let b : ExtentParts = norm_extent levels.Full (extent m (norm_extent levels.Full e)) in
-      let u = unit-again m s levels.Full kinds.Length (norm_length levels.Full e.unit) (length-kind m s levels.Full e.unit) in
-      λ i. record b { unit = Some (u i) }
+  extent-again e = simp (unit-again m s o levels.Full kinds.Length (norm_length levels.Full e.unit) (length-kind m s o levels.Full e.unit))
 
   usage-again : (u : UsageParts) → IsAgain (usage m) norm_usage u
-  usage-again u =
-      let b : UsageParts = norm_usage (usage m (norm_usage u)) in
-      let e = some-again (extent m) (norm_extent levels.Full) extent-again u.extent in λ i. record b { extent = e i }
+  usage-again u = simp (some-again (extent m) (norm_extent levels.Full) extent-again)
 
   each-kept : (P : UsageParts → Type 0) (l : Level) (us : List UsageParts) → Each P us → Each P (kept l us)
   each-kept P levels.Full us h = h
@@ -81,21 +77,11 @@ module _ (m : Meaning) (s : IsSteady m) (level : Level) (o : SetLaws) where
   usages-again : (us : List UsageParts) → IsAgain (map (usage m)) (set_usages level) us
   unfolding set_usages
   usages-again us =
-      let old : List UsageParts = map norm_usage (kept level us) in
-      let xs : List UsageParts = map (usage m) (in_order usage-text old) in
-      let R : UsageParts → Type 0 = λ x. ◌≡◌ {A = UsageParts} (usage m (norm_usage x)) (norm_usage x) in
-      let written : Each R xs =
-      mapped (usage m) R (in_order usage-text old)
-      (each-in_order usage-text (λ x. R (usage m x)) old (mapped norm_usage (λ x. R (usage m x)) (kept level us) (each-all (λ x. R (usage m (norm_usage x))) usage-again (kept level us)))) in
-      let fixed : Each (λ x. usage m x ≡ x) (map norm_usage (kept level xs)) =
-      mapped norm_usage (λ x. usage m x ≡ x) (kept level xs) (each-kept R level xs written) in
-      each-fixed (usage m) (in_order usage-text (map norm_usage (kept level xs)))
-      (each-in_order usage-text (λ x. usage m x ≡ x) (map norm_usage (kept level xs)) fixed)
-
-  tail-again : (t : TailParts) → IsAgain (tail m) (norm_tail level) t
-  tail-again t =
-      let b : TailParts = norm_tail level (tail m (norm_tail level t)) in
-      let u = usages-again (usages_of t) in λ i. record b { usages = u i }
+      let P : UsageParts → Type 0 = λ x. usage m x ≡ x in
+      let xs : List UsageParts = map (usage m) (in_order usage-text (map norm_usage (kept level us))) in
+      let written : Each (λ x. P (norm_usage x)) xs = search (mapped, each-in_order, each-all, usage-again) in
+      let fixed : Each P (in_order usage-text (map norm_usage (kept level xs))) = search (each-in_order, mapped, each-kept, written) in
+      each-fixed (usage m) _ fixed
 
   -- ---- geoid models
 
@@ -105,7 +91,7 @@ module _ (m : Meaning) (s : IsSteady m) (level : Level) (o : SetLaws) where
   models-by true xs = refl
   models-by false xs =
       set-again (λ x. item_text (item_geoid_model x)) (named m class.GeoidModel) (norm_geoid_model level) o.geoid_models
-      (member-fixed m s level class.GeoidModel) xs
+      (member-fixed m s o level class.GeoidModel) xs
 
   -- ---- bases
 
@@ -122,77 +108,25 @@ module _ (m : Meaning) (s : IsSteady m) (level : Level) (o : SetLaws) where
   own-stays (Some x) = own-by (is_zero x.longitude) x.unit
 
   unit-there : (u : Option UnitParts) → is_some (norm_units level kinds.Plain (units m u)) ≡ is_some u
-  unit-there None = refl
-  unit-there (Some u) = refl
+  unit-there u = grind arith
 
   all-there : (ps : List ParameterParts) →
       list_all (λ p. is_some p.unit) (map (norm_parameter level) (map (parameter m) ps)) ≡ list_all (λ p. is_some p.unit) ps
-  all-there [] = refl
-  all-there (p ∷ ps) = let a = unit-there p.unit in let t = all-there ps in λ i. a i && t i
+  all-there ps = simp (list_all-map, unit-there)
 
   all-stay : (ps : List ParameterParts) → Each IsParameter (map (parameter m) ps) →
       list_all (λ p. is_some p.unit) (set_parameters level (map (parameter m) ps)) ≡ list_all (λ p. is_some p.unit) ps
   unfolding set_parameters
   all-stay ps h =
-      all-set o.told (λ p. is_some p.unit) (map (norm_parameter level) (map (parameter m) ps)) (each-map IsParameter IsParameter (norm_parameter level) (map (parameter m) ps) (parameter-kept level) h)
+      all-set o.told (λ p. is_some p.unit) (map (norm_parameter level) (map (parameter m) ps))
+      (each-map IsParameter (norm_parameter level) (map (parameter m) ps) (parameter-kept level) h)
       ∙ all-there ps
 
   counted-unit : (k : Bool) (u : Option UnitParts) → IsAgain (λ o. counted k (units m o)) (norm_units level kinds.Angle) u
   counted-unit true u = refl
-  counted-unit false u = units-again m s level kinds.Angle u
+  counted-unit false u = units-again m s o level kinds.Angle u
 
-  base-again : (idle : Bool) (b : BaseParts) → IsAgain (base m idle) (norm_base level) b
-  base-again idle b =
-      let c : BaseParts = norm_base level (base m idle (norm_base level b)) in
-      let n = counted-name-again m.uncounted.base_names (λ x. x) b.name refl in
-      let d = dynamics-again m s level m.uncounted.dynamics b.dynamic in
-      let f = frame-again m s level o.members class.GeodeticFrame class.GeodeticEnsemble m.uncounted.ensembles b.frame in
-      let p = meridian-again m s level b.meridian in
-      let u = counted-unit (m.uncounted.base_units && idle) b.unit in
-      λ i. record c { name = n i; dynamic = d i; frame = f i; meridian = p i; unit = u i }
-
-  -- ---- CRSs with this system
-
-  geodetic-by : (g : GeodeticParts) (p : SystemParts) →
-      ◌≡◌ {A = GeodeticParts} (record (geodetic m (norm_geodetic level (geodetic m (norm_geodetic level g)))) { system = p })
-      (record (norm_geodetic level (geodetic m (norm_geodetic level g))) { system = p })
-  geodetic-by g p =
-      let b : GeodeticParts = norm_geodetic level (geodetic m (norm_geodetic level g)) in
-      let n = counted-name-again m.uncounted.crs_names (λ x. x) g.name refl in
-      let d = dynamics-again m s level m.uncounted.dynamics g.dynamic in
-      let f = frame-again m s level o.members class.GeodeticFrame class.GeodeticEnsemble m.uncounted.ensembles g.frame in
-      let w = meridian-again m s level g.meridian in
-      let t = tail-again g.tail in
-      λ i. record b { name = n i; dynamic = d i; frame = f i; meridian = w i; system = p; tail = t i }
-
-  projected-by : (x : ProjectedParts) (p : SystemParts) → Each IsParameter (map (parameter m) (set_parameters level x.conversion.parameters)) →
-      ◌≡◌ {A = ProjectedParts} (record (projected m (norm_projected level (projected m (norm_projected level x)))) { system = p })
-      (record (norm_projected level (projected m (norm_projected level x))) { system = p })
-  projected-by x p h =
-      let b : ProjectedParts = norm_projected level (projected m (norm_projected level x)) in
-      let n = counted-name-again m.uncounted.crs_names (λ y. y) x.name refl in
-      let ps : List ParameterParts = set_parameters level x.conversion.parameters in
-      let idle : Bool = is_idle (norm_meridian level x.base.meridian) ps in
-      let own = own-stays x.base.meridian in
-      let all = all-stay ps h in
-      let same : is_idle b.base.meridian b.conversion.parameters ≡ idle = λ i. own i && all i in
-      let c : ◌≡◌ {A = BaseParts} (base m (is_idle b.base.meridian b.conversion.parameters) b.base) b.base =
-      ap (λ k. base m k b.base) same ∙ base-again idle x.base in
-      let v = conversion-again m s level o.parameters x.conversion in
-      let t = tail-again x.tail in
-      λ i. record b { name = n i; base = c i; conversion = v i; system = p; tail = t i }
-
-  vertical-by : (v : VerticalParts) (p : SystemParts) →
-      ◌≡◌ {A = VerticalParts} (record (vertical m (norm_vertical level (vertical m (norm_vertical level v)))) { system = p })
-      (record (norm_vertical level (vertical m (norm_vertical level v))) { system = p })
-  vertical-by v p =
-      let b : VerticalParts = norm_vertical level (vertical m (norm_vertical level v)) in
-      let n = counted-name-again m.uncounted.crs_names (λ x. x) v.name refl in
-      let d = dynamics-again m s level m.uncounted.dynamics v.dynamic in
-      let f = frame-again m s level o.members class.VerticalFrame class.VerticalEnsemble m.uncounted.ensembles v.frame in
-      let g = models-by m.uncounted.geoid_models (set_geoid_models level v.geoid_models) in
-      let t = tail-again v.tail in
-      λ i. record b { name = n i; dynamic = d i; frame = f i; system = p; geoid_models = g i; tail = t i }
+  ruleset parts_again = (counted-name-twice, dynamics-again, frame-again, meridian-again, counted-unit, models-by, usages-again)
 
   module _ (h : IsSoundMeaning m) where
     -- ---- CRSs whose systems are put so
@@ -218,27 +152,25 @@ module _ (m : Meaning) (s : IsSteady m) (level : Level) (o : SetLaws) where
         geodetic-stays : (g : GeodeticParts) → Stays (norm_geodetic level) geodetic_form g
         geodetic-stays g e =
             let t = stays g.system (ap (λ (z : GeodeticParts). z.system) e) in
-            ap (norm_geodetic level) (geodetic-by g (system_form (system_form g.system))) ∙ (λ i. record (e i) { system = t i })
+            simp parts_again (λ i. record (e i) { system = t i })
 
         projected-stays : (x : ProjectedParts) → IsProjected (norm_projected level x) → Stays (norm_projected level) projected_form x
         projected-stays x k e =
             let t = stays x.system (ap (λ (z : ProjectedParts). z.system) e) in
-            let written = each-map IsParameter IsParameter (parameter m) (set_parameters level x.conversion.parameters) (parameter-sound m h) k.conversion.parameters in
-            ap (norm_projected level) (projected-by x (system_form (system_form x.system)) written) ∙ (λ i. record (e i) { system = t i })
+            let written = each-map IsParameter (parameter m) (set_parameters level x.conversion.parameters) (parameter-sound m h) k.conversion.parameters in
+            simp (own-stays, all-stay _ written, parts_again, s.name, parameters-again) (λ i. record (e i) { system = t i })
 
         vertical-stays : (v : VerticalParts) → Stays (norm_vertical level) vertical_form v
         vertical-stays v e =
             let t = stays v.system (ap (λ (z : VerticalParts). z.system) e) in
-            ap (norm_vertical level) (vertical-by v (system_form (system_form v.system))) ∙ (λ i. record (e i) { system = t i })
+            simp parts_again (λ i. record (e i) { system = t i })
 
         compound-stays : (form : Horizontal → Horizontal) (d : CompoundParts) → Stays (norm_horizontal level) form d.horizontal →
             Stays (norm_compound level) (compound_form form) d
         compound-stays form d across e =
-            let n = counted-name-again m.uncounted.crs_names (λ x. x) d.name refl in
             let x = across (ap (λ (z : CompoundParts). z.horizontal) e) in
             let v = vertical-stays d.vertical (ap (λ (z : CompoundParts). z.vertical) e) in
-            let t = ap (norm_tail level) (tail-again d.tail) ∙ ap (λ (z : CompoundParts). z.tail) e in
-            λ i. record (norm_compound level (compound_form form d)) { name = n i; horizontal = x i; vertical = v i; tail = t i }
+            rw (x, v) (simp parts_again (λ i. record (norm_compound level (compound_form form d)) { tail = (e i).tail }))
 
     -- ---- where the order of axes counts
 
@@ -247,7 +179,7 @@ module _ (m : Meaning) (s : IsSteady m) (level : Level) (o : SetLaws) where
       as_is t = t
 
       kept-stays : (t : SystemParts) → Stays (norm_system level) (system_form as_is) t
-      kept-stays t e = ap (norm_system level) (system-again m s level c t) ∙ e
+      kept-stays t e = ap (norm_system level) (system-again m s o level c t) ∙ e
 
       across-renamed : (x : Horizontal) → IsHorizontal (norm_horizontal level x) →
           Stays (norm_horizontal level) (λ z. across m (norm_horizontal level z)) x
@@ -264,10 +196,9 @@ module _ (m : Meaning) (s : IsSteady m) (level : Level) (o : SetLaws) where
 
     -- ---- where it doesn't
 
-    module _ (c : m.uncounted.axis_order ≡ true) (ids : StaysInOrder (λ (i : IdentParts). item_text (item_ident i)))
-        (text : AxisParts → List ℕ) where
+    module _ (c : m.uncounted.axis_order ≡ true) (text : AxisParts → List ℕ) where
       system-stays : (t : SystemParts) → Stays (norm_system level) (system_form (arranged text)) t
-      system-stays t e = ap (norm_system level) (arranged-again m s level ids c text t)
+      system-stays t e = ap (norm_system level) (arranged-again m s o level c text t)
 
       across-arranged : (x : Horizontal) → IsHorizontal (norm_horizontal level x) →
           Stays (norm_horizontal level) (λ z. arranged_across text (across m (norm_horizontal level z))) x
@@ -290,13 +221,12 @@ module _ (m : Meaning) (s : IsSteady m) (level : Level) (o : SetLaws) where
     abbrev either : (AxisParts → List ℕ) → Bool → Crs → Crs
     either text b x = if b then arranged_crs text (renamed m x) else renamed m x
 
-    either-stays : StaysInOrder (λ (i : IdentParts). item_text (item_ident i)) → (text : AxisParts → List ℕ) (b : Bool) →
-        m.uncounted.axis_order ≡ b → (x : Crs) → IsCrs (norm_crs level x) →
+    either-stays : (text : AxisParts → List ℕ) (b : Bool) → m.uncounted.axis_order ≡ b → (x : Crs) → IsCrs (norm_crs level x) →
         Stays (norm_crs level) (λ z. either text b (norm_crs level z)) x
-    either-stays ids text true c x k e = arranged-stays c ids text x k e
-    either-stays ids text false c x k e = renamed-stays c x k e
+    either-stays text true c x k e = arranged-stays c text x k e
+    either-stays text false c x k e = renamed-stays c x k e
 
     -- the one form of a rewritten CRS is that of itself rewritten
-    pub rewritten-stays : StaysInOrder (λ (i : IdentParts). item_text (item_ident i)) → (text : AxisParts → List ℕ) (x : Crs) →
-        IsCrs (norm_crs level x) → Stays (norm_crs level) (λ z. rewritten text m (norm_crs level z)) x
-    rewritten-stays ids text x k e = either-stays ids text m.uncounted.axis_order refl x k e
+    pub rewritten-stays : (text : AxisParts → List ℕ) (x : Crs) → IsCrs (norm_crs level x) →
+        Stays (norm_crs level) (λ z. rewritten text m (norm_crs level z)) x
+    rewritten-stays text x k e = either-stays text m.uncounted.axis_order refl x k e
