@@ -1,5 +1,5 @@
 -- Where the order of axes doesn't count: axes in order of their texts stay when that is done again.
-use Rattle.std.proofs.Common.{◌≡◌, ◌≢◌, ◌++◌, ℕ, zero, suc, ◌+◌, true, Option, Some, None, List, [], ◌∷◌, Greater, refl, sym, ap, ◌∙◌, append_assoc, map, length, arith}
+use Rattle.std.proofs.Common.{◌≡◌, ◌≢◌, ◌++◌, ℕ, ◌+◌, true, Option, Some, None, List, [], ◌∷◌, Greater, refl, ap, ◌∙◌, append_assoc, map, length, arith}
 use Rattle.std.specs.Cmp.Lexicographic.{slice_cmp}
 use Rattle.std.specs.Option.{option_map}
 use Rattle.std.specs.Ordering.{nat_cmp}
@@ -9,13 +9,13 @@ use Rattle.std.proofs.lemmas.List.{length-append}
 use Rattle.crs_shape.specs.declared.class.Class.TheVariants as class
 use Rattle.crs_shape.specs.declared.unit_kind.UnitKind.{UnitKind}
 use Rattle.crs_shape.specs.declared.unit_kind.UnitKind.TheVariants as kinds
-use Rattle.crs_shape.specs.Prelude.{asked_kind, kind_as}
+use Rattle.crs_shape.specs.Prelude.{kind_as}
 use Rattle.crs_value.specs.NamedValues.{IdentParts}
 use Rattle.crs_value.specs.Sound.{Each}
 use Rattle.crs_value.specs.Prelude.{own_or, AxisMeridianParts, AxisParts, SystemParts, UnitParts}
 use Rattle.crs_value.specs.declared.values.level.Level.{Level}
 use Rattle.crs_value.specs.declared.values.level.Level.TheVariants as levels
-use Rattle.crs_normal.specs.Prelude.{axes_from, axis_at, norm_axis, norm_axis_meridians, norm_system, with_axis, norm_unit, norm_units, set_idents}
+use Rattle.crs_normal.specs.Prelude.{axes_from, axis_at, norm_axis, norm_axis_meridians, norm_system, norm_unit, norm_units, set_idents}
 use Rattle.crs_rules.specs.LowerLaws.{SetLaws}
 use Rattle.crs_rules.specs.Rewritten.{among, arranged, ascending, axis, axis_meridian, system, units}
 use Rattle.crs_rules.specs.Rules.{Meaning}

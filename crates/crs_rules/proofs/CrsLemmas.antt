@@ -1,21 +1,19 @@
 -- A CRS that is rewritten by rules is sound.
-use Rattle.std.proofs.Common.{Err, Ok, OnErr, OnOk, Result, ◌≡◌, ◌≢◌, ℕ, suc, ◌&&◌, Bool, Option, Some, None, List, [], ◌∷◌, IfSome, IsNone, IsSome, IsSomeAnd, refl, sym, subst, ap, ◌∙◌, map, length, arith, inl, inr, true, false, if◌then◌else◌, Ordering, Less, Equal, Greater}
-use Rattle.crs_decimal.specs.Prelude.{SameNumber, whole_number, exact}
+use Rattle.std.proofs.Common.{Err, Ok, OnErr, OnOk, Result, ◌≡◌, ◌≢◌, ℕ, suc, Bool, Option, Some, None, List, [], ◌∷◌, IfSome, IsNone, IsSome, IsSomeAnd, refl, sym, subst, ap, ◌∙◌, map, length, inl, inr, true, false, if◌then◌else◌, Ordering, Less, Equal, Greater}
 use Rattle.crs_shape.specs.declared.class.Class.TheVariants as class
 use Rattle.crs_shape.specs.declared.system_type.SystemType.{SystemType}
-use Rattle.crs_shape.specs.declared.unit_kind.UnitKind.TheVariants as kinds
 use Rattle.crs_shape.specs.Prelude.{asked_kind}
-use Rattle.crs_value.specs.Prelude.{IsPosition, BaseParts, GeodeticParts, ProjectedParts, VerticalParts, NamedParts, IsNamed, IsUnitOf, IsAxisUnit, IsAxisMeridian, IsAxis, Suits, IsCompound, IsHorizontal, IsCrs, IsMeridian, IsBase, IsGeodetic, IsProjected, IsVertical, HasOrders, HasUnits, IsSystem, SuitsAxis, AxisMeridianParts, AxisParts, SystemParts, UnitParts, CompoundParts}
+use Rattle.crs_value.specs.Prelude.{BaseParts, GeodeticParts, ProjectedParts, VerticalParts, NamedParts, IsNamed, IsAxisUnit, IsAxisMeridian, IsAxis, IsCompound, IsHorizontal, IsCrs, IsBase, IsGeodetic, IsProjected, IsVertical, HasOrders, HasUnits, IsSystem, SuitsAxis, AxisMeridianParts, AxisParts, SystemParts, UnitParts, CompoundParts}
 use Rattle.crs_value.specs.Sound.{Each}
 use Rattle.crs_value.specs.declared.values.compound.Horizontal.{Horizontal}
 use Rattle.crs_value.specs.declared.values.compound.Horizontal.TheVariants as horizontals
 use Rattle.crs_value.specs.declared.values.crs.Crs.{Crs}
 use Rattle.crs_value.specs.declared.values.crs.Crs.TheVariants as crs
 use Rattle.std.specs.Cmp.Lexicographic.{slice_cmp}
-use Rattle.std.specs.Ordering.{nat_cmp, match_ordering, ordering_index}
+use Rattle.std.specs.Ordering.{nat_cmp, match_ordering}
 use Rattle.std.proofs.lemmas.List.{length-map, nil_from_length}
 use Rattle.crs_rules.specs.Sinking.{IsOrderless, IsOrderlessAcross, IsOrderlessCrs}
-use Rattle.crs_rules.specs.Rewritten.{across, among, arranged, arranged_across, arranged_compound, arranged_crs, arranged_geodetic, arranged_projected, arranged_vertical, ascending, axis, axis_meridian, counted, renamed, base, compound, geodetic, geoid_models, is_idle, meridian, named, projected, rewritten, system, units, vertical}
+use Rattle.crs_rules.specs.Rewritten.{across, among, arranged, arranged_across, arranged_compound, arranged_crs, arranged_geodetic, arranged_projected, arranged_vertical, ascending, axis, axis_meridian, renamed, base, compound, geodetic, geoid_models, projected, rewritten, system, units, vertical}
 use Rattle.crs_rules.specs.Rules.{Meaning, RulesParts, meaning}
 use Rattle.crs_rules.specs.SoundRules.{AreRules}
 use Rattle.crs_rules.proofs.AliasLemmas.{IsSoundMeaning, axis-unit, choice, counted-name, sound-meaning, unit-of}

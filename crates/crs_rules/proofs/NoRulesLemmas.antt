@@ -1,5 +1,5 @@
 -- No rules change nothing, so forms are canonical texts.
-use Rattle.std.proofs.Common.{◌≡◌, ◌↔◌, ℕ, List, sym}
+use Rattle.std.proofs.Common.{◌≡◌, ◌↔◌, ℕ, List}
 use Rattle.std.proofs.lemmas.Iterator.Adapters.{option_map_id}
 use Rattle.std.proofs.lemmas.List.{map-id}
 use Rattle.crs_shape.specs.declared.class.Class.{Class}

@@ -1,5 +1,5 @@
 -- Where the order of axes doesn't count, CRSs that differ in it alone have one form.
-use Rattle.std.proofs.Common.{◌≡◌, ◌++◌, ℕ, true, Option, Some, None, List, [], ◌∷◌, Ordering, Less, Equal, Greater, refl, sym, subst, ap, ◌∙◌, map}
+use Rattle.std.proofs.Common.{◌≡◌, ◌++◌, ℕ, true, Option, Some, None, List, [], ◌∷◌, Ordering, Less, Equal, Greater, refl, sym, ap, ◌∙◌, map}
 use Rattle.std.specs.Cmp.Lexicographic.{slice_cmp}
 use Rattle.std.specs.Option.{option_map}
 use Rattle.std.specs.Ordering.{nat_cmp}
@@ -8,8 +8,8 @@ use Rattle.std.proofs.lemmas.List.{map-append}
 use Rattle.std.proofs.lemmas.Map.Lookups.{exact_bytes}
 use Rattle.crs_shape.specs.declared.unit_kind.UnitKind.{UnitKind}
 use Rattle.crs_shape.specs.declared.unit_kind.UnitKind.TheVariants as kinds
-use Rattle.crs_shape.specs.Prelude.{asked_kind, kind_as}
-use Rattle.crs_value.specs.Prelude.{VerticalParts, IsAxis, IsHorizontal, IsCrs, IsSystem, IsVertical, own_or, AxisMeridianParts, AxisParts, SystemParts, UnitParts}
+use Rattle.crs_shape.specs.Prelude.{kind_as}
+use Rattle.crs_value.specs.Prelude.{VerticalParts, IsAxis, IsHorizontal, IsCrs, IsSystem, IsVertical, AxisMeridianParts, AxisParts, SystemParts, UnitParts}
 use Rattle.crs_value.specs.Sound.{Each}
 use Rattle.crs_value.specs.declared.values.compound.Horizontal.{Horizontal}
 use Rattle.crs_value.specs.declared.values.compound.Horizontal.TheVariants as horizontals

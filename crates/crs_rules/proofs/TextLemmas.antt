@@ -1,7 +1,5 @@
 -- The texts of axes that are asked decide all: two functions that agree on axes as asked put axes in one order.
-use Rattle.std.proofs.Common.{◌≡◌, ℕ, List, [], ◌∷◌, refl, ap, ◌∙◌, if◌then◌else◌}
-use Rattle.std.specs.Cmp.Lexicographic.{slice_cmp}
-use Rattle.std.specs.Ordering.{nat_cmp, match_ordering}
+use Rattle.std.proofs.Common.{◌≡◌, ℕ, List, [], ◌∷◌, refl}
 use Rattle.crs_value.specs.Prelude.{IsAxis, IsHorizontal, IsCrs, IsSystem, AxisParts, SystemParts}
 use Rattle.crs_value.specs.Sound.{Each}
 use Rattle.crs_value.specs.declared.values.compound.Horizontal.{Horizontal}

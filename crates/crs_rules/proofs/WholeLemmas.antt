@@ -1,5 +1,5 @@
 -- What rules write of a CRS they leave as it is, but for the orders of axes where these don't count.
-use Rattle.std.proofs.Common.{◌≡◌, ◌&&◌, ◌||◌, ℕ, Bool, true, false, Option, Some, None, List, [], ◌∷◌, refl, ap, ◌∙◌, arith, map, if◌then◌else◌}
+use Rattle.std.proofs.Common.{◌≡◌, ◌||◌, ℕ, Bool, true, false, Option, Some, None, List, [], ◌∷◌, refl, ap, ◌∙◌, arith, map, if◌then◌else◌}
 use Rattle.std.proofs.lemmas.Bool.{and_parts}
 use Rattle.std.proofs.lemmas.Bool.Decides.{same_from_decides}
 use Rattle.std.proofs.lemmas.List.Folds.{list_all-map}
@@ -7,8 +7,7 @@ use Rattle.std.specs.List.{list_all}
 use Rattle.std.specs.Option.{is_some, option_map}
 use Rattle.crs_shape.specs.declared.class.Class.TheVariants as class
 use Rattle.crs_shape.specs.declared.unit_kind.UnitKind.TheVariants as kinds
-use Rattle.crs_value.specs.Prelude.{CompoundParts, ParameterParts, BaseParts, GeodeticParts, ProjectedParts, VerticalParts, kept, NamedParts, IsParameter, IsHorizontal, IsCrs, IsProjected, AxisParts, ExtentParts, MeridianParts, SystemParts, TailParts, UnitParts, UsageParts}
-use Rattle.crs_value.specs.NamedValues.{IdentParts}
+use Rattle.crs_value.specs.Prelude.{CompoundParts, ParameterParts, GeodeticParts, ProjectedParts, VerticalParts, kept, NamedParts, IsParameter, IsHorizontal, IsCrs, IsProjected, AxisParts, ExtentParts, MeridianParts, SystemParts, UnitParts, UsageParts}
 use Rattle.crs_value.specs.Sound.{Each}
 use Rattle.crs_value.specs.declared.values.compound.Horizontal.{Horizontal}
 use Rattle.crs_value.specs.declared.values.compound.Horizontal.TheVariants as horizontals
@@ -19,10 +18,9 @@ use Rattle.crs_value.specs.declared.values.level.Level.TheVariants as levels
 use Rattle.crs_text.specs.Prelude.{item_text}
 use Rattle.crs_normal.proofs.members.ParameterLemmas.{parameter-kept}
 use Rattle.crs_normal.proofs.members.SetLemmas.{each-has, each-in_order, each-of, in_order-has}
-use Rattle.crs_normal.specs.Prelude.{StaysInOrder, in_order, item_geoid_model, item_parameter, norm_geoid_model, norm_parameter, set_geoid_models, set_parameters, norm_base, norm_compound, norm_crs, norm_geodetic, norm_horizontal, norm_projected, norm_vertical, is_zero, norm_meridian, norm_system, item_ident, norm_length, norm_units, item_usage, norm_extent, norm_tail, norm_usage, set_usages}
-use Rattle.crs_matching.specs.Prelude.{usages_of}
+use Rattle.crs_normal.specs.Prelude.{in_order, item_geoid_model, item_parameter, norm_geoid_model, norm_parameter, set_geoid_models, set_parameters, norm_compound, norm_crs, norm_geodetic, norm_horizontal, norm_projected, norm_vertical, is_zero, norm_meridian, norm_system, norm_length, norm_units, item_usage, norm_extent, norm_usage, set_usages}
 use Rattle.crs_rules.specs.LowerLaws.{SetLaws}
-use Rattle.crs_rules.specs.Rewritten.{across, arranged, arranged_across, arranged_crs, base, compound, counted, extent, geodetic, has_own_unit, is_idle, meridian, named, parameter, projected, renamed, rewritten, system, tail, units, usage, vertical}
+use Rattle.crs_rules.specs.Rewritten.{across, arranged, arranged_across, arranged_crs, compound, counted, extent, geodetic, has_own_unit, meridian, named, parameter, projected, renamed, rewritten, system, units, usage, vertical}
 use Rattle.crs_rules.specs.Rules.{Meaning}
 use Rattle.crs_rules.proofs.AgainLemmas.{IsAgain, IsLeft, counted-name-twice, dynamics-again, each-all, each-fixed, frame-again, length-kind, mapped, member-fixed, meridian-again, parameters-again, set-again, some-again, system-again, unit-again, units-again}
 use Rattle.crs_rules.proofs.AliasLemmas.{IsSoundMeaning}
