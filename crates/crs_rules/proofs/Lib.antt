@@ -4,7 +4,6 @@ pub mod ArrangedLemmas
 pub mod CrsLemmas
 pub mod FactorLemmas
 pub mod FirstsLemmas
-pub mod FormLemmas
 pub mod LookUpLemmas
 pub mod MatchLemmas
 pub mod NoRulesLemmas

@@ -18,7 +18,7 @@ use Rattle.crs_rules.specs.SteadyRules.{AreSteady}
 use Rattle.crs_rules.specs.Under.{AreTextsOfAxes, IsForm}
 use Rattle.crs_rules.proofs.AliasLemmas.{sound-meaning}
 use Rattle.crs_rules.proofs.CrsLemmas.{crs-sound}
-use Rattle.crs_rules.proofs.FormLemmas.{AxesAreWritten, one-text, texts-of-axes}
+use Rattle.crs_rules.proofs.TextLemmas.{AxesAreWritten, one-text, texts-of-axes}
 use Rattle.crs_rules.proofs.ReorderedLemmas.{crs-one}
 use Rattle.crs_rules.proofs.SteadyLemmas.{kinds-kept, steady}
 use Rattle.crs_rules.proofs.WholeLemmas.{rewritten-stays}

@@ -1,4 +1,4 @@
--- The texts of axes that are asked decide all: two functions that agree on axes as asked put axes in one order.
+-- The texts of axes that are asked decide all: any two functions that give them agree, and put axes in one order.
 use Rattle.std.proofs.Common.{◌≡◌, ℕ, List, [], ◌∷◌, refl}
 use Rattle.crs_value.specs.Prelude.{IsAxis, IsHorizontal, IsCrs, IsSystem, AxisParts, SystemParts}
 use Rattle.crs_value.specs.Sound.{Each}
@@ -6,10 +6,27 @@ use Rattle.crs_value.specs.declared.values.compound.Horizontal.{Horizontal}
 use Rattle.crs_value.specs.declared.values.compound.Horizontal.TheVariants as horizontals
 use Rattle.crs_value.specs.declared.values.crs.Crs.{Crs}
 use Rattle.crs_value.specs.declared.values.crs.Crs.TheVariants as crs
+use Rattle.crs_value.specs.declared.values.level.Level.{Level}
+use Rattle.crs_value.specs.declared.values.level.Level.TheVariants as levels
+use Rattle.crs_matching.specs.Prelude.{SameAxisAlone}
+use Rattle.crs_normal.specs.Prelude.{IsSpelledAxis, axis_text, IsWrittenForm}
 use Rattle.crs_rules.specs.Rewritten.{among, arranged, arranged_across, arranged_crs, ascending, renamed, rewritten}
 use Rattle.crs_rules.specs.Rules.{Meaning}
+use Rattle.crs_rules.specs.Under.{AreTextsOfAxes}
 use Rattle.crs_rules.proofs.AliasLemmas.{IsSoundMeaning}
 use Rattle.crs_rules.proofs.CrsLemmas.{each-ascending, renamed-sound}
+
+-- what is known of axes by themselves
+abbrev pub AxesAreWritten : Type 0
+AxesAreWritten = (level : Level) → IsWrittenForm IsAxis (SameAxisAlone level) (IsSpelledAxis level) (axis_text level)
+
+-- the texts of axes that are computed
+pub texts-of-axes : AxesAreWritten → AreTextsOfAxes (axis_text levels.Full)
+texts-of-axes w = λ axis k. (w levels.Full).written axis (axis_text levels.Full axis) k refl
+
+pub one-text : AxesAreWritten → (t u : AxisParts → List ℕ) → AreTextsOfAxes t → AreTextsOfAxes u →
+    (axis : AxisParts) → IsAxis axis → t axis ≡ u axis
+one-text w t u a b axis k = (w levels.Full).form.one axis (t axis) (u axis) k (a axis k) (b axis k)
 
 module _ (t u : AxisParts → List ℕ) (e : (axis : AxisParts) → IsAxis axis → t axis ≡ u axis) where
   among-by : (x : AxisParts) (xs : List AxisParts) → IsAxis x → Each IsAxis xs → among t x xs ≡ among u x xs

@@ -1,6 +1,6 @@
 use Rattle.crs_value.specs.declared.values.level.Level.TheVariants as levels
 use Rattle.crs_normal.specs.Prelude.{axis_text}
-use Rattle.crs_rules.proofs.FormLemmas.{texts-of-axes}
+use Rattle.crs_rules.proofs.TextLemmas.{texts-of-axes}
 use Rattle.crs_rules.proofs.form.canon_under.Goals as goal
 
 pub form_of-requires : goal.form_of-requires

@@ -4,8 +4,7 @@ use Rattle.crs_normal.specs.Prelude.{axis_text}
 use Rattle.crs_rules.specs.Rewritten.{rewritten}
 use Rattle.crs_rules.specs.Rules.{meaning}
 use Rattle.crs_rules.proofs.AliasLemmas.{sound-meaning}
-use Rattle.crs_rules.proofs.FormLemmas.{one-text, texts-of-axes}
-use Rattle.crs_rules.proofs.TextLemmas.{rewritten-by}
+use Rattle.crs_rules.proofs.TextLemmas.{one-text, rewritten-by, texts-of-axes}
 use Rattle.crs_rules.proofs.laws.accepted_text_has_one_form.Goals as goal
 
 pub returns : goal.returns

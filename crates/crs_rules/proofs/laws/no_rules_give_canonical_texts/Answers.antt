@@ -1,4 +1,4 @@
-use Rattle.crs_rules.proofs.FormLemmas.{texts-of-axes}
+use Rattle.crs_rules.proofs.TextLemmas.{texts-of-axes}
 use Rattle.crs_rules.proofs.NoRulesLemmas.{forms-are-canonical}
 use Rattle.crs_rules.proofs.laws.no_rules_give_canonical_texts.Goals as goal
 
