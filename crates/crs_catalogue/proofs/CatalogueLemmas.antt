@@ -1,5 +1,5 @@
 -- What becomes of a catalogue when a further line is placed.
-use Rattle.std.proofs.Common.{◌≡◌, ◌⊎◌, ◌<◌, ◌≤◌, ◌++◌, Bool, false, ◌∷◌, [], ℕ, zero, suc, List, Some, length, slice_get, slice_set, inl, inr, ap, subst, sym, refl, ◌∙◌, arith, add-one, length-append, Result, Ok, Err, IfOk, OnOk}
+use Rattle.std.proofs.Common.{◌≡◌, ◌↔◌, ◌⊎◌, ◌<◌, ◌≤◌, ◌++◌, Bool, false, ◌∷◌, [], ℕ, zero, suc, List, Some, length, slice_get, slice_set, inl, inr, ap, sym, refl, ◌∙◌, arith, add-one, length-append, Result, Ok, Err, IfOk, OnOk}
 use Rattle.std.proofs.lemmas.Option.{slice_get-map, slice_get_within}
 use Rattle.std.specs.Option.{option_map}
 use Rattle.std.proofs.lemmas.List.{append-nil, length-set, map-append}
@@ -21,7 +21,7 @@ use Rattle.crs_value.specs.Sound.{Each}
 use Rattle.crs_placed.specs.Putting.{IsJoined, IsNew, IsPut, IsRefused, group_of, with_line}
 use Rattle.crs_placed.specs.declared.placed.Placed.{Placed}
 use Rattle.crs_placed.specs.declared.placed.Placed.TheVariants.{Blank, Refused, Group}
-use Rattle.crs_catalogue.proofs.ListLemmas.{each-append, each-by, get-last, if-equal, if-other, map-changed, none-is, nth-changed, nth-either, nth-front, some-is}
+use Rattle.crs_catalogue.proofs.ListLemmas.{each-append, each-by, get-last, if-equal, if-other, map-changed, nth-changed, nth-either, nth-front}
 use Rattle.crs_catalogue.proofs.PartitionLemmas.{lines-append, lines-none, numbered-append, refused-append}
 
 -- the place of a member is within the list
@@ -29,35 +29,34 @@ get-within : {A : Type 0} (xs : List A) (at : ℕ) (x : A) → slice_get xs at �
 get-within xs at x e = let h = slice_get_within xs at x e in omega arith
 
 past-end : {A : Type 0} (xs : List A) (n : ℕ) (x : A) → nth n xs ≡ Some x → suc (length xs) ≡ n → ⊥
-past-end xs zero x e h = none-is x e
+past-end xs zero x e h = cc
 past-end xs (suc at) x e h = let k : at < length xs = slice_get_within xs at x e in absurd (omega arith)
 
 -- no canonical text is there twice
 abbrev pub AreApart : List CanonicalText → Type 0
 AreApart texts = (m n : ℕ) (canon : CanonicalText) → nth m texts ≡ Some canon → nth n texts ≡ Some canon → m ≡ n
 
-one-text : (texts : List CanonicalText) (m n : ℕ) (a b : CanonicalText) → nth m texts ≡ Some a
-    → nth n texts ≡ Some b → m ≡ n
-    → a ≡ b
-one-text texts m n a b first second e = some-is a b (sym first ∙ (ap (λ k. nth k texts) e ∙ second))
-
-abbrev text_of : List ℕ → Level → CanonicalText
-text_of bytes level = record { bytes = bytes; level = level }
-
 same-parts : (a b : CanonicalText) → a.bytes ≡ b.bytes → a.level ≡ b.level → a ≡ b
-same-parts a b bytes level = ap (λ t. text_of t a.level) bytes ∙ ap (text_of b.bytes) level
+same-parts a b bytes level = λ i. record { bytes = bytes i; level = level i }
+
+-- groups whose texts have the same bytes are one
+one-group : (Form : Level → List ℕ → List ℕ → Type 0) (level : Level) (texts : List CanonicalText) → AreApart texts
+    → (a b : List ℕ) (m n : ℕ) (up : IsUnder Form level texts a (Group m)) (uq : IsUnder Form level texts b (Group n))
+    → (m ≡ n) ↔ (up.0.bytes ≡ uq.0.bytes)
+one-group Form level texts apart a b m n up uq = (
+  λ e. let same : up.0 ≡ uq.0 = cc in ap (λ (canon : CanonicalText). canon.bytes) same,
+  λ e. apart m n up.0 up.1 (rw (same-parts up.0 uq.0 e (up.2 ∙ sym uq.2)) uq.1),
+)
 
 -- two lines share a group as their canonical texts say
 under-share : (level : Level) (texts : List CanonicalText) → MainTheorem level → AreApart texts → (p q : PlacedLine)
     → IsUnder IsCanonicalOf level texts p.line.text p.place → IsUnder IsCanonicalOf level texts q.line.text q.place → ShareWhereSame level p q
 under-share level texts main apart p q hp hq m n a b pm qn sa sb =
-    let up : IsUnder IsCanonicalOf level texts p.line.text (Group m) = subst (IsUnder IsCanonicalOf level texts p.line.text) pm hp in
-    let uq : IsUnder IsCanonicalOf level texts q.line.text (Group n) = subst (IsUnder IsCanonicalOf level texts q.line.text) qn hq in
-    let equal = main.equal p.line.text q.line.text up.0.bytes uq.0.bytes a b sa sb up.3 uq.3 in (
-      λ e. equal.0 (ap (λ canon. canon.bytes) (one-text texts m n up.0 uq.0 up.1 uq.1 e)),
-      λ same. apart m n up.0 up.1
-          (uq.1 ∙ ap Some (sym (same-parts up.0 uq.0 (equal.1 same) (up.2 ∙ sym uq.2)))),
-    )
+    let up : IsUnder IsCanonicalOf level texts p.line.text (Group m) = rw pm at hp in
+    let uq : IsUnder IsCanonicalOf level texts q.line.text (Group n) = rw qn at hq in
+    let one = one-group IsCanonicalOf level texts apart p.line.text q.line.text m n up uq in
+    let equal = main.equal p.line.text q.line.text up.0.bytes uq.0.bytes a b sa sb up.3 uq.3 in
+    (λ e. equal.0 (one.0 e), λ same. one.1 (equal.1 same))
 
 -- what is asked of forms by which lines are grouped: a text that has one is accepted, and lines that are grouped by
 -- theirs share a group as `Share` says
@@ -81,18 +80,11 @@ forms-share : (rules : RulesParts) (level : Level)
     → IsUnder (IsForm rules) level texts p.line.text p.place → IsUnder (IsForm rules) level texts q.line.text q.place
     → ShareWhereSameUnder rules level p q
 forms-share rules level one texts apart p q hp hq m n pm qn =
-    let up : IsUnder (IsForm rules) level texts p.line.text (Group m) = subst (IsUnder (IsForm rules) level texts p.line.text) pm hp in
-    let uq : IsUnder (IsForm rules) level texts q.line.text (Group n) = subst (IsUnder (IsForm rules) level texts q.line.text) qn hq in (
-      λ e. (
-        up.0.bytes,
-        up.3,
-        subst (λ (canon : CanonicalText). IsForm rules level q.line.text canon.bytes)
-            (sym (one-text texts m n up.0 uq.0 up.1 uq.1 e)) uq.3,
-      ),
-      λ same. apart m n up.0 up.1
-          (uq.1 ∙ ap Some (sym (same-parts up.0 uq.0
-          (one p.line.text up.0.bytes same.0 up.3 same.1 ∙ one q.line.text same.0 uq.0.bytes same.2 uq.3)
-          (up.2 ∙ sym uq.2)))),
+    let up : IsUnder (IsForm rules) level texts p.line.text (Group m) = rw pm at hp in
+    let uq : IsUnder (IsForm rules) level texts q.line.text (Group n) = rw qn at hq in
+    let shared = one-group (IsForm rules) level texts apart p.line.text q.line.text m n up uq in (
+      λ e. (up.0.bytes, up.3, rw (shared.0 e) uq.3),
+      λ same. shared.1 (one p.line.text up.0.bytes same.0 up.3 same.1 ∙ one q.line.text same.0 uq.0.bytes same.2 uq.3),
     )
 
 -- forms under rules are such forms
@@ -106,7 +98,7 @@ rules-forms rules one level = record {
 
 next-is-new : (texts : List CanonicalText) (canon : CanonicalText) → ((at : ℕ) → ¬ (slice_get texts at ≡ Some canon))
     → (n : ℕ) → ¬ (nth n texts ≡ Some canon)
-next-is-new texts canon none zero e = none-is canon e
+next-is-new texts canon none zero e = cc
 next-is-new texts canon none (suc at) e = none at e
 
 apart-more : (texts : List CanonicalText) (canon : CanonicalText) → AreApart texts
@@ -122,14 +114,13 @@ abbrev pub parts_of : Level → List GroupParts → List (ℕ × RefusedAt) → 
 parts_of level groups refused = record { level = level; groups = groups; refused = refused }
 
 nth-none : {A : Type 0} (n : ℕ) (x : A) → nth n [] ≡ Some x → ⊥
-nth-none zero x e = none-is x e
-nth-none (suc n) x e = none-is x e
+nth-none zero x e = cc
+nth-none (suc n) x e = cc
 
 -- a line that is in no group
 no-line : (n number : ℕ) (place : Placed) (placed : List PlacedLine) (lines : List ℕ) → in_group n number place ≡ []
     → lines ≡ lines_in n placed → lines ≡ lines_in n placed ++ in_group n number place
-no-line n number place placed lines none is =
-    is ∙ (sym (append-nil (lines_in n placed)) ∙ ap (λ l. lines_in n placed ++ l) (sym none))
+no-line n number place placed lines none is = simp (none, append-nil) is
 
 pub is-black : (text : List ℕ) (white : Bool) → white ≡ false → white ≡ list_all is_white text → ¬ (IsWhite text)
 is-black text white other is blank = cc
@@ -154,9 +145,7 @@ module _ (Form : Level → List ℕ → List ℕ → Type 0) (Share : Level → 
       → c.level ≡ level → c.groups ≡ groups → c.refused ≡ refused → IsCatalogueBy Form Share placed (parts_of level groups refused)
       → IsCatalogueBy Form Share placed c
   by-parts placed level groups refused c l g r whole =
-      subst (λ x. IsCatalogueBy Form Share placed (parts_of x c.groups c.refused)) (sym l)
-      (subst (λ x. IsCatalogueBy Form Share placed (parts_of level x c.refused)) (sym g)
-      (subst (λ x. IsCatalogueBy Form Share placed (parts_of level groups x)) (sym r) whole))
+      let same : c ≡ parts_of level groups refused = λ i. record { level = l i; groups = g i; refused = r i } in rw same whole
 
 module _ (Form : Level → List ℕ → List ℕ → Type 0) (Share : Level → PlacedLine → PlacedLine → Type 0)
     (laws : (level : Level) → AreForms Form Share level) where
@@ -200,8 +189,7 @@ module _ (Form : Level → List ℕ → List ℕ → Type 0) (Share : Level → 
           numbered = numbered-append 0 placed (length c.groups) (placed_at number text place)
               (length groups) partition.numbered counts;
           lines = λ n group found. lines n group found ∙ sym (lines-append n placed (placed_at number text place));
-          refused = refusals ∙ (ap (λ l. l ++ if_refused number place) partition.refused
-              ∙ sym (refused-append placed (placed_at number text place)));
+          refused = rw (refusals, partition.refused, refused-append) refl;
         },
         record { texts = all; apart = apart },
       )
@@ -234,30 +222,20 @@ module _ (Form : Level → List ℕ → List ℕ → Type 0) (Share : Level → 
       let longer : List GroupParts = slice_set c.groups at (with_line number joined.group) in
       let same : canons longer ≡ canons c.groups =
       map-changed (λ g. g.canon) c.groups at joined.group (with_line number joined.group) joined.found refl in
-      subst (λ gs. IsCatalogueBy Form Share (then_line placed number text (Group (suc at))) (parts_of c.level gs c.refused))
-      (sym joined.changed)
+      rw joined.changed
       (then-catalogue c.level placed c refl whole number text (Group (suc at)) longer c.refused
       (black, (laws c.level).accepted text canon.bytes canonical)
-      (inl (
-        omega arith,
-        get-within c.groups at joined.group joined.found,
-        length-set c.groups at
-            (with_line number joined.group),
-      ))
+      (inl (omega arith, get-within c.groups at joined.group joined.found, length-set c.groups at (with_line number joined.group)))
       (λ n group found. lines n group (nth-changed c.groups at (with_line number joined.group) n group found))
       (sym (append-nil c.refused))
-      (subst (λ texts. Each (λ p. IsUnder Form c.level texts p.line.text p.place) placed) (sym same) whole.1.texts)
-      (canon, subst (λ texts. slice_get texts at ≡ Some canon) (sym same) has, level, canonical)
-      (subst AreApart (sym same) whole.1.apart))
+      (rw same whole.1.texts) (canon, rw same has, level, canonical) (rw same whole.1.apart))
     where
       lines : (n : ℕ) (group : GroupParts)
           → (((n ≡ suc at) × (group ≡ with_line number joined.group))
           ⊎ ((¬ (suc at ≡ n)) × (nth n c.groups ≡ Some group)))
           → group.lines ≡ lines_in n placed ++ in_group n number (Group (suc at))
       lines n group (inl (here, is)) =
-          ap (λ g. g.lines) is
-          ∙ (ap (λ l. l ++ number ∷ []) (whole.0.lines n joined.group (ap (λ k. nth k c.groups) here ∙ joined.found))
-          ∙ ap (λ l. lines_in n placed ++ l) (sym (if-equal (suc at) n (number ∷ []) [] (sym here))))
+          rw (is, if-equal (suc at) n (number ∷ []) [] (sym here), whole.0.lines n joined.group (rw here joined.found)) refl
       lines n group (inr (other, found)) =
           no-line n number (Group (suc at)) placed group.lines (if-other (suc at) n (number ∷ []) [] other)
           (whole.0.lines n group found)
@@ -279,12 +257,12 @@ module _ (Form : Level → List ℕ → List ℕ → Type 0) (Share : Level → 
       (inr (sym (add-one (length c.groups)), long))
       (λ n group found. lines n group (nth-either c.groups (group_of canon number) n group found))
       (sym (append-nil c.refused))
-      (subst (λ texts. Each (λ p. IsUnder Form c.level texts p.line.text p.place) placed) (sym same)
+      (rw same
       (each-by (λ p. IsUnder Form c.level (canons c.groups) p.line.text p.place)
       (λ p. IsUnder Form c.level (canons c.groups ++ canon ∷ []) p.line.text p.place)
       (λ p under. under-more c.level (canons c.groups) (canon ∷ []) p.line.text p.place under) placed whole.1.texts))
       (canon, last, level, canonical)
-      (subst AreApart (sym same) (apart-more (canons c.groups) canon whole.1.apart new))
+      (rw same (apart-more (canons c.groups) canon whole.1.apart new))
     where
       last : slice_get (canons (c.groups ++ group_of canon number ∷ [])) (length c.groups) ≡ Some canon
       last = slice_get-map (λ g. g.canon) (c.groups ++ group_of canon number ∷ []) (length c.groups)
@@ -298,9 +276,11 @@ module _ (Form : Level → List ℕ → List ℕ → Type 0) (Share : Level → 
           (if-other (suc (length c.groups)) n (number ∷ []) [] (past-end c.groups n group found))
           (whole.0.lines n group found)
       lines n group (inr (here, is)) =
-          ap (λ g. g.lines) is
-          ∙ (ap (λ l. l ++ number ∷ []) (sym (lines-none n 0 placed (length c.groups) whole.0.numbered (omega arith)))
-          ∙ ap (λ l. lines_in n placed ++ l) (sym (if-equal (suc (length c.groups)) n (number ∷ []) [] (sym here))))
+          rw (
+            is,
+            if-equal (suc (length c.groups)) n (number ∷ []) [] (sym here),
+            lines-none n 0 placed (length c.groups) whole.0.numbered (omega arith),
+          ) refl
 
   -- the line is put among the groups
   pub put-added : (placed : List PlacedLine) (c after : CatalogueParts) → IsCatalogueBy Form Share placed c
@@ -309,11 +289,11 @@ module _ (Form : Level → List ℕ → List ℕ → Type 0) (Share : Level → 
       → after.level ≡ c.level → after.refused ≡ c.refused → IsCatalogueBy Form Share (then_line placed number text place) after
   put-added placed c after whole number text canon place black canonical level
       (inl (at, is, has, joined)) same kept =
-      subst (λ p. IsCatalogueBy Form Share (then_line placed number text p) after) (sym (is ∙ ap Group (add-one at)))
+      rw (is, add-one)
       (by-parts Form Share (then_line placed number text (Group (suc at))) c.level after.groups c.refused after same refl kept
       (joined-added placed c whole number text canon at after.groups black canonical level has joined))
   put-added placed c after whole number text canon place black canonical level (inr (new, is, longer)) same kept =
-      subst (λ p. IsCatalogueBy Form Share (then_line placed number text p) after) (sym (is ∙ ap Group (add-one (length c.groups))))
+      rw (is, add-one)
       (by-parts Form Share (then_line placed number text (Group (suc (length c.groups)))) c.level
       (c.groups ++ group_of canon number ∷ []) c.refused after same longer kept
       (opened-added placed c whole number text canon black canonical level new))
@@ -324,10 +304,10 @@ module _ (Form : Level → List ℕ → List ℕ → Type 0) (Share : Level → 
       → IsRefused fault number c.refused after.refused place → after.level ≡ c.level → after.groups ≡ c.groups
       → IsCatalogueBy Form Share (then_line placed number text place) after
   refuse-added placed c after whole number text fault place black of (refusal, is, here, longer) same kept =
-      subst (λ p. IsCatalogueBy Form Share (then_line placed number text p) after) (sym here)
+      rw here
       (by-parts Form Share (then_line placed number text (Refused refusal)) c.level c.groups
       (c.refused ++ (number, refusal) ∷ []) after same kept longer
-      (refused-added placed c whole number text refusal black (subst (IsFaultOfText text) is of)))
+      (refused-added placed c whole number text refusal black (rw is at of)))
 
   pub put-result : (c after : CatalogueParts) → (level : Level) → level ≡ c.level → (number : ℕ)
       (text : List ℕ) (canon : CanonicalText) (r : Result Placed AllocError) → ¬ (IsWhite text)
@@ -336,8 +316,7 @@ module _ (Form : Level → List ℕ → List ℕ → Type 0) (Share : Level → 
       → IfOk r (λ place. (placed : List PlacedLine) → IsCatalogueBy Form Share placed c
       → IsCatalogueBy Form Share (then_line placed number text place) after)
   put-result c after level at number text canon (Ok place) black canonical is put same kept =
-      λ placed whole. put-added placed c after whole number text canon place black
-      (subst (λ l. Form l text canon.bytes) at canonical) (is ∙ at) put same kept
+      λ placed whole. put-added placed c after whole number text canon place black (rw at at canonical) (is ∙ at) put same kept
   put-result c after level at number text canon (Err error) black canonical is put same kept = tt
 
   pub refuse-result : (c after : CatalogueParts) → (number : ℕ) (text : List ℕ) (fault : Fault)
@@ -358,8 +337,7 @@ pub lines-added : (Form : Level → List ℕ → List ℕ → Type 0) (Share : L
     IsCatalogueOfBy Form Share (lines ++ line_of number text ∷ []) after
 lines-added Form Share c after number text place step lines old = record {
   placed = then_line old.placed number text place;
-  are_lines = map-append (λ p. p.line) old.placed (placed_at number text place ∷ [])
-      ∙ ap (λ l. l ++ line_of number text ∷ []) old.are_lines;
+  are_lines = rw (map-append, old.are_lines) refl;
   whole = step old.placed old.whole;
 }
 

@@ -1,5 +1,5 @@
 -- Groups are written one after the other.
-use Rattle.std.proofs.Common.{◌≡◌, ◌+◌, ◌<◌, ◌++◌, ◌∷◌, [], ℕ, zero, suc, List, Some, length, slice_get, drop, ap, sym, refl, ◌∙◌, add-one, append_assoc, arith}
+use Rattle.std.proofs.Common.{◌≡◌, ◌+◌, ◌<◌, ◌++◌, ◌∷◌, [], ℕ, zero, suc, List, Some, length, slice_get, drop, refl, add-one, append_assoc, arith}
 use Rattle.crs_placed.specs.Catalogue.{GroupParts, nth}
 use Rattle.crs_catalogue.specs.GroupOutput.{group_lines, listed_line}
 use Rattle.crs_catalogue.specs.declared.listing.Listing.{Listing}
@@ -19,9 +19,5 @@ pub group-step : (listing : Listing) (names : List (List ℕ)) (all now next : L
     → next ++ group_lines listing names (at + 1 + 1) (drop (at + 1) groups) ≡ all
 group-step listing names all now next groups at within written so-far =
     let (group, here, parts) = split-at groups at within in
-    ap (λ text. text ++ group_lines listing names (at + 1 + 1) (drop (at + 1) groups))
-    (written group (ap (λ n. nth n groups) (add-one at) ∙ here))
-    ∙ append_assoc now (listed_line listing names (at + 1) group) (group_lines listing names (at + 1 + 1) (drop (at + 1) groups))
-    ∙ ap (λ rest. now ++ group_lines listing names (at + 1) rest)
-    (ap (λ n. group ∷ drop n groups) (add-one at) ∙ sym parts)
-    ∙ so-far
+    let rest : drop at groups ≡ group ∷ drop (at + 1) groups = rw add-one parts in
+    rw (written group (rw add-one here), append_assoc) (rw rest at so-far)

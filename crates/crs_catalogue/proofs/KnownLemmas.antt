@@ -1,7 +1,6 @@
 -- What is remembered of texts stays known as groups grow, and what is known of a text is how it is put.
-use Rattle.std.proofs.Common.{◌≡◌, ◌<◌, ◌≤◌, ◌+◌, ◌-◌, ◌++◌, ◌∷◌, [], ℕ, zero, suc, List, Option, Some, None, Result, Ok, Err, length, get_or, slice_get, slice_set, inl, inr, ap, subst, sym, refl, ◌∙◌, arith, add-one, All, IfOk, IfSome}
+use Rattle.std.proofs.Common.{◌≡◌, ◌<◌, ◌≤◌, ◌+◌, ◌-◌, ◌++◌, ◌∷◌, [], ℕ, zero, suc, List, Option, Some, None, Result, Ok, Err, length, get_or, slice_get, slice_set, inl, inr, refl, arith, add-one, All, IfOk, IfSome}
 use Rattle.std.specs.List.{HoldsAt}
-use Rattle.std.specs.Option.{option_map}
 use Rattle.std.specs.declared.alloc.AllocError.{AllocError}
 use Rattle.std.proofs.lemmas.List.{length-map, map-append}
 use Rattle.std.proofs.lemmas.List.Elements.{All-nil, All-same, All-set}
@@ -14,7 +13,7 @@ use Rattle.crs_placed.specs.declared.placed.Placed.{Placed}
 use Rattle.crs_placed.specs.declared.placed.Placed.TheVariants.{Group}
 use Rattle.crs_catalogue.specs.GroupTexts.{IsUnder}
 use Rattle.crs_catalogue.specs.Known.{AreKnown, HasGroup, IsKnown, KnownText}
-use Rattle.crs_catalogue.proofs.ListLemmas.{get-front, get-last, map-changed, none-is}
+use Rattle.crs_catalogue.proofs.ListLemmas.{get-front, get-last, map-changed}
 
 -- nothing is known where nothing is remembered
 pub none-known : (level : Level) (texts : List CanonicalText) (recent : List KnownText) → recent ≡ []
@@ -25,7 +24,7 @@ none-known level texts recent is =
 if-none : (level : Level) (texts : List CanonicalText) (text : List ℕ) (group : Option ℕ) → group ≡ None
     → IfSome group (HasGroup level texts text)
 if-none level texts text None is = tt
-if-none level texts text (Some at) is = absurd (none-is at (sym is))
+if-none level texts text (Some at) is = absurd cc
 
 pub unfilled-known : (level : Level) (texts : List CanonicalText) (recent : List KnownText)
     → All (λ known. known.group ≡ None) recent → AreKnown level texts recent
@@ -36,12 +35,7 @@ unfilled-known level texts recent none k d within =
 group-kept : (level : Level) (texts more : List CanonicalText) (text : List ℕ) (group : Option ℕ)
     → IfSome group (HasGroup level texts text) → IfSome group (HasGroup level (texts ++ more) text)
 group-kept level texts more text None has = tt
-group-kept level texts more text (Some at) has = record {
-  canon = has.canon;
-  found = get-front texts more at has.canon has.found;
-  is_at_level = has.is_at_level;
-  is_canonical = has.is_canonical;
-}
+group-kept level texts more text (Some at) has = let found = get-front texts more at has.canon has.found in search found
 
 more-known : (level : Level) (texts more : List CanonicalText) (recent : List KnownText)
     → AreKnown level texts recent → AreKnown level (texts ++ more) recent
@@ -52,26 +46,18 @@ pub opened-known : (level : Level) (canon : CanonicalText) (line : ℕ) (before 
     (recent : List KnownText) → behind ≡ before ++ group_of canon line ∷ []
     → AreKnown level (canons before) recent → AreKnown level (canons behind) recent
 opened-known level canon line before behind recent longer known =
-    let grown : canons (before ++ group_of canon line ∷ []) ≡ canons before ++ canon ∷ [] =
-    map-append (λ g. g.canon) before (group_of canon line ∷ []) in
-    subst (λ (groups : List GroupParts). AreKnown level (canons groups) recent) (sym longer)
-    (subst (λ (texts : List CanonicalText). AreKnown level texts recent) (sym grown)
-    (more-known level (canons before) (canon ∷ []) recent known))
+    rw (longer, map-append) (more-known level (canons before) (canon ∷ []) recent known)
 
 -- a further line leaves the texts of the groups
 joined-canons : (at line : ℕ) (before behind : List GroupParts) → IsJoined at line before behind
     → canons behind ≡ canons before
 joined-canons at line before behind joined =
-    let same : canons (slice_set before at (with_line line joined.group)) ≡ canons before =
-    map-changed (λ g. g.canon) before at joined.group (with_line line joined.group) joined.found refl in
-    ap (λ (groups : List GroupParts). canons groups) joined.changed ∙ same
+    rw joined.changed (map-changed (λ g. g.canon) before at joined.group (with_line line joined.group) joined.found refl)
 
 pub joined-known : (level : Level) (at line : ℕ) (before behind : List GroupParts) (recent : List KnownText)
     → IsJoined at line before behind → AreKnown level (canons before) recent
     → AreKnown level (canons behind) recent
-joined-known level at line before behind recent joined known =
-    subst (λ (texts : List CanonicalText). AreKnown level texts recent)
-    (sym (joined-canons at line before behind joined)) known
+joined-known level at line before behind recent joined known = rw (joined-canons at line before behind joined) known
 
 -- a text that is put among the groups is remembered with its group
 pub put-under : (level : Level) (text : List ℕ) (canon : CanonicalText) (line : ℕ)
@@ -79,36 +65,23 @@ pub put-under : (level : Level) (text : List ℕ) (canon : CanonicalText) (line 
     → canon.level ≡ level → IsPut canon line before behind place
     → IsUnder IsCanonicalOf level (canons behind) text place
 put-under level text canon line before behind place canonical of (inl (at, is, found, joined)) =
-    subst (λ p. IsUnder IsCanonicalOf level (canons behind) text p) (sym (is ∙ ap Group (add-one at))) (
-      canon,
-      ap (λ (texts : List CanonicalText). slice_get texts at) (joined-canons at line before behind joined) ∙ found,
-      of,
-      canonical,
-    )
+    rw (is, add-one) (canon, rw (joined-canons at line before behind joined) found, of, canonical)
 put-under level text canon line before behind place canonical of (inr (new, is, longer)) =
-    subst (λ p. IsUnder IsCanonicalOf level (canons behind) text p)
-    (sym (is ∙ ap Group (add-one (length before)))) (canon, last, of, canonical)
+    rw (is, add-one) (canon, last, of, canonical)
   where
     last : slice_get (canons behind) (length before) ≡ Some canon
-    last = ap (λ (groups : List GroupParts). slice_get (canons groups) (length before)) longer
-        ∙ (slice_get-map (λ g. g.canon) (before ++ group_of canon line ∷ []) (length before)
-        ∙ ap (option_map (λ g. g.canon)) (get-last before (group_of canon line)))
+    last = rw (longer, slice_get-map, get-last) refl
 
 -- the place of a group that is counted from 1
 pub under-has : (level : Level) (texts : List CanonicalText) (text : List ℕ) (number : ℕ)
     → IsUnder IsCanonicalOf level texts text (Group number)
     → (1 ≤ number) × HasGroup level texts text (number - 1)
-under-has level texts text zero under = absurd (none-is under.0 under.1)
+under-has level texts text zero under = cc (under.1)
 under-has level texts text (suc at) under =
-    let one : suc at - 1 ≡ at = omega arith in (
-      omega arith,
-      subst (HasGroup level texts text) (sym one) (record {
-        canon = under.0;
-        found = under.1;
-        is_at_level = under.2;
-        is_canonical = under.3;
-      }),
-    )
+    let one : suc at - 1 ≡ at = omega arith in
+    let has : HasGroup level texts text at =
+    record { canon = under.0; found = under.1; is_at_level = under.2; is_canonical = under.3 } in
+    (omega arith, rw one has)
 
 -- the group that is found is one of the groups
 has-within : (level : Level) (groups : List GroupParts) (text : List ℕ) (at : ℕ)
@@ -137,18 +110,14 @@ pub found-at : (recent : List KnownText) (k : ℕ) (line : KnownText) (text : Li
     → HasGroup level texts text at)
 found-at recent k line text None within here is = tt
 found-at recent k line text (Some at) within here is = λ level texts known.
-    let this : IsKnown level texts line = subst (IsKnown level texts) (sym (here line)) (known k line within) in
-    let group : HasGroup level texts line.text at =
-    subst (λ g. IfSome g (HasGroup level texts line.text)) is.1 this in
-    subst (λ t. HasGroup level texts t at) is.0 group
+    let this : IsKnown level texts line = rw (here line) (known k line within) in rw is.0 at (rw is.1 at this)
 
 -- a line takes the place of another
 line-known : (level : Level) (texts : List CanonicalText) (text own : List ℕ) (group : ℕ) (found : Option ℕ)
     → IfSome found (λ at. (at ≡ group) × (own ≡ text)) → HasGroup level texts text group
     → IfSome found (HasGroup level texts own)
 line-known level texts text own group None is has = tt
-line-known level texts text own group (Some at) is has =
-    subst (λ a. HasGroup level texts own a) (sym is.0) (subst (λ t. HasGroup level texts t group) (sym is.1) has)
+line-known level texts text own group (Some at) is has = rw (is.0, is.1) has
 
 pub changed-known : (level : Level) (texts : List CanonicalText) (recent : List KnownText) (k : ℕ)
     (line : KnownText) (text : List ℕ) (group : ℕ) → IfSome line.group (λ at. (at ≡ group) × (line.text ≡ text))

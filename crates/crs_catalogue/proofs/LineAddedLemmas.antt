@@ -1,5 +1,5 @@
 -- A ledger gets one more line.
-use Rattle.std.proofs.Common.{◌≡◌, ◌+◌, ◌++◌, ◌∷◌, [], ℕ, List, Bool, true, false, length, ap, subst, sym, refl, ◌∙◌, arith, length-append, cond}
+use Rattle.std.proofs.Common.{◌≡◌, ◌+◌, ◌++◌, ◌∷◌, [], ℕ, List, Bool, true, false, length, ap, sym, refl, ◌∙◌, arith, length-append, cond}
 use Rattle.std.specs.List.{list_all}
 use Rattle.std.proofs.lemmas.List.{length-map, map-append}
 use Rattle.std.proofs.lemmas.List.Sums.{sum_by-append}
@@ -49,9 +49,7 @@ names-further number (first ∷ lines) line = grind (arith, names-further (numbe
 pub names-more : (named : Bool) (lines : List (List ℕ)) (line : List ℕ) (before after : List (List ℕ)) (number : ℕ)
     → number ≡ 1 + length lines → IsNamed named number line before after → before ≡ names_in named lines
     → after ≡ names_in named (lines ++ line ∷ [])
-names-more true lines line before after number place is so_far =
-    is ∙ (ap (λ n. before ++ name_of n line ∷ []) place
-    ∙ (ap (λ names. names ++ name_of (1 + length lines) line ∷ []) so_far ∙ sym (names-further 1 lines line)))
+names-more true lines line before after number place is so_far = rw (is, place, so_far, names-further) refl
 names-more false lines line before after number place is so_far = is ∙ so_far
 
 abbrev pub ledger_of : CatalogueParts → List (List ℕ) → ℕ → ℕ → LedgerParts
@@ -67,11 +65,8 @@ module _ (Form : Level → List ℕ → List ℕ → Type 0) (Share : Level → 
       let whole = step of_lines.placed of_lines.whole in
       let placed_as : IsPlacedAs text place = each-last (λ p. IsPlacedAs p.line.text p.place) of_lines.placed
       (record { line = line_of number text; place = place }) whole.0.each in
-      let whole_count : blank_in (texts ++ text ∷ []) ≡ blank_in texts + blank_in (text ∷ []) =
-      sum_by-append (λ t. cond (list_all is_white t) 1 0) texts (text ∷ []) in
-      let one : blank_in (text ∷ []) ≡ cond (list_all is_white text) 1 0 = omega arith in
-      whole_count ∙ ap (λ n. blank_in texts + n) one
-      ∙ (ap (λ n. blank_in texts + n) (one-blank text place placed_as))
+      sum_by-append (λ t. cond (list_all is_white t) 1 0) texts (text ∷ [])
+      ∙ ap (λ n. blank_in texts + n) (omega (arith, one-blank text place placed_as))
 
   -- the ledger of no lines
   pub none-ledger : (named : Bool) (level : Level) → IsLedgerOf Form Share named [] (no_lines level)
@@ -97,16 +92,13 @@ module _ (Form : Level → List ℕ → List ℕ → Type 0) (Share : Level → 
       let place_is : before.lines + 1 ≡ 1 + length texts = omega (arith, ledger.lines, texts-length named lines) in
       let whole : texts_in named (lines ++ line ∷ []) ≡ texts ++ text ∷ [] = texts-more named lines line in
       record {
-        of_lines = subst (λ l. IsCatalogueOfBy Form Share l after.catalogue)
-            (ap (λ n. numbered 1 texts ++ line_of n text ∷ []) place_is
-            ∙ (sym (numbered-more 1 texts text) ∙ ap (λ all. numbered 1 all) (sym whole)))
+        of_lines = rw (whole, numbered-more, ← place_is)
             (lines-added Form Share before.catalogue after.catalogue (before.lines + 1) text place step (numbered 1 texts)
             ledger.of_lines);
         names = names-more named lines line before.names after.names (before.lines + 1) count names ledger.names;
         lines = omega (arith, counted, ledger.lines, length-append lines (line ∷ []));
-        blank = blank ∙ (ap (λ n. n + blank_count place) ledger.blank
-            ∙ (sym (blank-more texts text before.catalogue after.catalogue (before.lines + 1) place ledger.of_lines step)
-            ∙ ap (λ all. blank_in all) (sym whole)));
+        blank = rw (blank, ledger.blank, whole)
+            (sym (blank-more texts text before.catalogue after.catalogue (before.lines + 1) place ledger.of_lines step));
       }
 
   -- as the code counts
@@ -121,7 +113,4 @@ module _ (Form : Level → List ℕ → List ℕ → Type 0) (Share : Level → 
   ledger-step named lines line text now before after names further number blank count place is own step kept counted ledger =
       ledger-more named lines line (ledger_of before names number blank)
       (ledger_of after further (number + 1) (blank + count)) place
-      (subst (IsLedgerOf Form Share named lines) (sym is) ledger)
-      (subst (λ t. (placed : List PlacedLine) → IsCatalogueBy Form Share placed before →
-      IsCatalogueBy Form Share (then_line placed (number + 1) t place) after) own step)
-      kept refl (ap (λ n. blank + n) counted)
+      (rw is ledger) (rw own at step) kept refl (ap (λ n. blank + n) counted)

@@ -1,6 +1,6 @@
 -- The catalogue of some lines is one: each of its lines has one place, and each of its groups one
 -- text.
-use Rattle.std.proofs.Common.{◌≡◌, ◌⊎◌, ◌<◌, ◌≤◌, ◌∷◌, [], ℕ, suc, List, Some, length, map, slice_get, inl, inr, ap, subst, sym, refl, ◌∙◌, arith}
+use Rattle.std.proofs.Common.{◌≡◌, ◌⊎◌, ◌<◌, ◌≤◌, ◌∷◌, [], ℕ, suc, List, Some, length, map, slice_get, inl, inr, ap, sym, refl, ◌∙◌, arith}
 use Rattle.std.proofs.lemmas.Bool.{cases_lt}
 use Rattle.std.proofs.lemmas.Option.{slice_get_within}
 use Rattle.crs_text.specs.Prelude.{RefusedAt}
@@ -15,7 +15,6 @@ use Rattle.crs_value.specs.Sound.{Each}
 use Rattle.crs_placed.specs.declared.placed.Placed.{Placed}
 use Rattle.crs_placed.specs.declared.placed.Placed.TheVariants.{Blank, Refused, Group}
 use Rattle.crs_catalogue.specs.Partition.{AreNumbered, Counts, IsPlacedAs, PlacedLine, ShareWhereSame}
-use Rattle.crs_catalogue.proofs.ListLemmas.{some-is}
 use Rattle.crs_catalogue.proofs.PlaceLemmas.{canon-at}
 
 -- no text both spells a value and is refused, and it has one refusal at most
@@ -32,7 +31,7 @@ In p (q ∷ qs) = (p ≡ q) ⊎ In p qs
 
 each-in : (P : PlacedLine → Type 0) (ps : List PlacedLine) → Each P ps → (p : PlacedLine) → In p ps → P p
 each-in P [] each p h = absurd h
-each-in P (q ∷ qs) each p (inl e) = subst P (sym e) each.0
+each-in P (q ∷ qs) each p (inl e) = rw e each.0
 each-in P (q ∷ qs) each p (inr h) = each-in P qs each.1 p h
 
 -- ---- how many groups there are
@@ -45,7 +44,7 @@ numbered-one : (before : ℕ) (ps : List PlacedLine) (x y : ℕ) → AreNumbered
 numbered-one before [] x y p q = omega arith
 numbered-one before (r ∷ rs) x y p q =
     let e : p.0 ≡ q.0 = counts-one before r.place p.0 q.0 p.1 q.1 in
-    numbered-one q.0 rs x y (subst (λ n. AreNumbered n rs x) e p.2) q.2
+    numbered-one q.0 rs x y (rw e at p.2) q.2
 
 -- ---- each group has a line
 
@@ -107,7 +106,7 @@ joins level Is before found placing p q shares too m n pm qn crs sp sq low high 
   where
     by : Found Is m → m ≡ n
     by (r, is, at) =
-        let here : IsPlacedAs r.line.text (Group m) = subst (IsPlacedAs r.line.text) at (placing r is) in
+        let here : IsPlacedAs r.line.text (Group m) = rw at at (placing r is) in
         let same = (shares r is m m here.1.0 crs at pm here.1.1 sp).0 refl in
         (too r is m n here.1.0 crs at qn here.1.1 sq).1 same
 
@@ -116,20 +115,17 @@ one-place : IsAnsweredOnce → (level : Level) (Is : PlacedLine → Type 0) (bef
     → (s t : Placed) → p.place ≡ s → q.place ≡ t
     → IsPlacedAs p.line.text s → IsPlacedAs q.line.text t
     → (x y : ℕ) → Counts before s x → Counts before t y → s ≡ t
-one-place law level Is before found placing p q e shares too Blank t ps qt hp hq x y cx cy = grind arith
-one-place law level Is before found placing p q e shares too (Refused a) Blank ps qt hp hq x y cx cy = grind arith
 one-place law level Is before found placing p q e shares too (Refused a) (Refused b) ps qt hp hq x y cx cy =
-    ap Refused (law.refusal q.line.text a b (subst (λ text. Refuses text a) e hp.1) hq.1)
+    ap Refused (law.refusal q.line.text a b (rw e at hp.1) hq.1)
 one-place law level Is before found placing p q e shares too (Refused a) (Group n) ps qt hp hq x y cx cy =
-    absurd (law.apart q.line.text hq.1.0 a hq.1.1 (subst (λ text. Refuses text a) e hp.1))
-one-place law level Is before found placing p q e shares too (Group m) Blank ps qt hp hq x y cx cy = grind arith
+    absurd (law.apart q.line.text hq.1.0 a hq.1.1 (rw e at hp.1))
 one-place law level Is before found placing p q e shares too (Group m) (Refused b) ps qt hp hq x y cx cy =
-    absurd (law.apart p.line.text hp.1.0 b hp.1.1 (subst (λ text. Refuses text b) (sym e) hq.1))
+    absurd (law.apart p.line.text hp.1.0 b hp.1.1 (rw e hq.1))
 one-place law level Is before found placing p q e shares too (Group m) (Group n) ps qt hp hq x y cx cy =
     ap Group (by cx cy)
   where
     spells : Spells q.line.text hp.1.0
-    spells = subst (λ text. Spells text hp.1.0) e hp.1.1
+    spells = rw e at hp.1.1
 
     by : Counts before (Group m) x → Counts before (Group n) y → m ≡ n
     by (inl (low, high, same)) cy =
@@ -137,6 +133,7 @@ one-place law level Is before found placing p q e shares too (Group m) (Group n)
     by (inr (next, last)) (inl (low, high, same)) =
         sym (joins level Is before found placing q p too shares n m qt ps hp.1.0 spells hp.1.1 low high)
     by (inr (next, last)) (inr (other, end)) = next ∙ sym other
+one-place law level Is before found placing p q e shares too s t ps qt hp hq x y cx cy = grind arith
 
 -- lines that are placed with others before them
 record ArePlaced (level : Level) (Is : PlacedLine → Type 0) (before : ℕ) (ps : List PlacedLine) (behind : ℕ) : Type 0 where
@@ -158,7 +155,7 @@ one-placing law level Is before found placing (p ∷ ps) (q ∷ qs) e x y a b =
     (found-next Is before a.numbered.0 p p.place refl a.numbered.1 found) placed ps qs
     (cc) x y
     (record { each = a.each.1; same = first; numbered = a.numbered.2 })
-    (record { each = b.each.1; same = second; numbered = subst (λ n. AreNumbered n qs y) next b.numbered.2 }) in
+    (record { each = b.each.1; same = second; numbered = rw next at b.numbered.2 }) in
     λ i. here i ∷ rest i
   where
     line : p.line ≡ q.line
@@ -173,20 +170,17 @@ one-placing law level Is before found placing (p ∷ ps) (q ∷ qs) e x y a b =
     here = same-line p q line place
 
     next : b.numbered.0 ≡ a.numbered.0
-    next = counts-one before p.place b.numbered.0 a.numbered.0
-        (subst (λ s. Counts before s b.numbered.0) (sym place) b.numbered.1) a.numbered.1
+    next = counts-one before p.place b.numbered.0 a.numbered.0 (rw place b.numbered.1) a.numbered.1
 
     first : (r s : PlacedLine) → (And Is p r ⊎ In r ps) → In s ps → ShareWhereSame level r s
     first r s is h = a.same r s (grind arith) (inr h)
 
     second : (r s : PlacedLine) → (And Is p r ⊎ In r qs) → In s qs → ShareWhereSame level r s
-    second r s (inl (inl is)) h = b.same r s (inl is) (inr h)
-    second r s (inl (inr is)) h = b.same r s (inr (inl (is ∙ here))) (inr h)
-    second r s (inr is) h = b.same r s (inr (inr is)) (inr h)
+    second r s is h = b.same r s (grind (arith, here)) (inr h)
 
     placed : Placing (And Is p)
     placed r (inl is) = placing r is
-    placed r (inr is) = subst (λ s. IsPlacedAs s.line.text s.place) (sym is) a.each.0
+    placed r (inr is) = rw is a.each.0
 
 -- ---- each group has one text
 
@@ -206,36 +200,25 @@ text-of : (level : Level) (groups : List GroupParts) (at : ℕ) (group : GroupPa
     → IsUnder IsCanonicalOf level (canons groups) p.line.text p.place
     → (group.canon.level ≡ level) × IsCanonicalOf level p.line.text group.canon.bytes
 text-of level groups at group p has place under =
-    let u : IsUnder IsCanonicalOf level (canons groups) p.line.text (Group (suc at)) =
-    subst (IsUnder IsCanonicalOf level (canons groups) p.line.text) place under in
-    let is : u.0 ≡ group.canon = some-is u.0 group.canon (sym u.1 ∙ canon-at groups at group has) in (
-      ap (λ c. c.level) (sym is) ∙ u.2,
-      subst (λ c. IsCanonicalOf level p.line.text c.bytes) is u.3,
-    )
+    let u : IsUnder IsCanonicalOf level (canons groups) p.line.text (Group (suc at)) = rw place at under in
+    let is : u.0 ≡ group.canon = cc (canon-at groups at group has) in (rw (← is) u.2, rw (← is) u.3)
 
 -- two catalogues of lines at these places
 one-whole : (level : Level) → MainTheorem level → (placed : List PlacedLine) (a b : CatalogueParts) → a.level ≡ level
     → b.level ≡ level → IsCatalogue placed a → IsCatalogue placed b → a ≡ b
-one-whole level main placed a b la lb wa wb = λ i. record {
-  level = levels i;
-  groups = groups i;
-  refused = refused i;
-}
+one-whole level main placed a b la lb wa wb =
+    let levels : a.level ≡ b.level = la ∙ sym lb in
+    let refused : a.refused ≡ b.refused = wa.0.refused ∙ sym wb.0.refused in
+    λ i. record { level = levels i; groups = groups i; refused = refused i }
   where
-    levels : a.level ≡ b.level
-    levels = la ∙ sym lb
-
-    refused : a.refused ≡ b.refused
-    refused = wa.0.refused ∙ sym wb.0.refused
-
     count : length a.groups ≡ length b.groups
     count = numbered-one 0 placed (length a.groups) (length b.groups) wa.0.numbered wb.0.numbered
 
     under-a : Each (λ p. IsUnder IsCanonicalOf level (canons a.groups) p.line.text p.place) placed
-    under-a = subst (λ l. Each (λ p. IsUnder IsCanonicalOf l (canons a.groups) p.line.text p.place) placed) la wa.1.texts
+    under-a = rw la at wa.1.texts
 
     under-b : Each (λ p. IsUnder IsCanonicalOf level (canons b.groups) p.line.text p.place) placed
-    under-b = subst (λ l. Each (λ p. IsUnder IsCanonicalOf l (canons b.groups) p.line.text p.place) placed) lb wb.1.texts
+    under-b = rw lb at wb.1.texts
 
     with-line : (at : ℕ) (x y : GroupParts) → slice_get a.groups at ≡ Some x → slice_get b.groups at ≡ Some y
         → Found (λ p. ⊥ ⊎ In p placed) (suc at) → x.canon ≡ y.canon
@@ -263,14 +246,10 @@ one-whole level main placed a b la lb wa wb = λ i. record {
 
 are-placed : (level : Level) (placed : List PlacedLine) (c : CatalogueParts) → c.level ≡ level → IsCatalogue placed c
     → ArePlaced level (λ p. ⊥) 0 placed (length c.groups)
-are-placed level placed c e whole = record {
-  each = whole.0.each;
-  same = same;
-  numbered = whole.0.numbered;
-}
+are-placed level placed c e whole = record { each = whole.0.each; same = same; numbered = whole.0.numbered }
   where
     all : Each (λ p. Each (ShareWhereSame level p) placed) placed
-    all = subst (λ l. Each (λ p. Each (ShareWhereSame l p) placed) placed) e whole.0.same
+    all = rw e at whole.0.same
 
     same : (q p : PlacedLine) → (⊥ ⊎ In q placed) → In p placed → ShareWhereSame level q p
     same q p (inl none) h = absurd none
@@ -284,4 +263,4 @@ one-catalogue law main lines a b p q e =
     one-placing law b.level (λ r. ⊥) 0 (λ n low high. absurd (omega arith)) (λ r none. absurd none) p.placed q.placed
     (p.are_lines ∙ sym q.are_lines) (length a.groups) (length b.groups) (are-placed b.level p.placed a e p.whole)
     (are-placed b.level q.placed b refl q.whole) in
-    one-whole b.level (main b.level) q.placed a b e refl (subst (λ placed. IsCatalogue placed a) same p.whole) q.whole
+    one-whole b.level (main b.level) q.placed a b e refl (rw same at p.whole) q.whole

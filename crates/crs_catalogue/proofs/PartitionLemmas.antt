@@ -1,5 +1,5 @@
 -- Lists of placed lines that grow.
-use Rattle.std.proofs.Common.{◌≡◌, ◌<◌, ◌≤◌, ◌++◌, ◌∷◌, [], ℕ, List, ap, subst, refl, ◌∙◌, arith}
+use Rattle.std.proofs.Common.{◌≡◌, ◌<◌, ◌≤◌, ◌++◌, ◌∷◌, [], ℕ, List, refl, arith}
 use Rattle.std.proofs.lemmas.Grind.{flat_map-append}
 use Rattle.std.proofs.lemmas.List.{append-nil}
 use Rattle.crs_placed.specs.declared.placed.Placed.{Placed}
@@ -8,21 +8,17 @@ use Rattle.crs_catalogue.specs.Partition.{AreNumbered, Counts, PlacedLine, if_re
 pub numbered-append : (before : ℕ) (placed : List PlacedLine) (next : ℕ) (p : PlacedLine) (behind : ℕ)
     → AreNumbered before placed next → Counts next p.place behind → AreNumbered before (placed ++ p ∷ []) behind
 numbered-append before [] next p behind numbered counts =
-    (behind, subst (λ n. Counts n p.place behind) numbered counts, refl)
+    (behind, rw numbered at counts, refl)
 numbered-append before (q ∷ qs) next p behind numbered counts =
     (numbered.0, numbered.1, numbered-append numbered.0 qs next p behind numbered.2 counts)
 
 pub lines-append : (n : ℕ) (placed : List PlacedLine) (p : PlacedLine)
     → lines_in n (placed ++ p ∷ []) ≡ lines_in n placed ++ in_group n p.line.number p.place
-lines-append n placed p =
-    flat_map-append (λ q. in_group n q.line.number q.place) placed (p ∷ [])
-    ∙ ap (λ l. lines_in n placed ++ l) (append-nil (in_group n p.line.number p.place))
+lines-append n placed p = simp (flat_map-append, append-nil)
 
 pub refused-append : (placed : List PlacedLine) (p : PlacedLine)
     → refused_in (placed ++ p ∷ []) ≡ refused_in placed ++ if_refused p.line.number p.place
-refused-append placed p =
-    flat_map-append (λ q. if_refused q.line.number q.place) placed (p ∷ [])
-    ∙ ap (λ l. refused_in placed ++ l) (append-nil (if_refused p.line.number p.place))
+refused-append placed p = simp (flat_map-append, append-nil)
 
 -- no group is lost, and the group of a line is counted
 counts-rise : (before : ℕ) (place : Placed) (behind : ℕ) → Counts before place behind → before ≤ behind

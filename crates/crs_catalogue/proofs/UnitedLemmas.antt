@@ -1,5 +1,5 @@
 -- What is one group at the full level is in one group by definition.
-use Rattle.std.proofs.Common.{◌≡◌, ◌∷◌, [], ℕ, zero, suc, List, Some, map, slice_get, ap, subst, sym, refl, ◌∙◌}
+use Rattle.std.proofs.Common.{◌≡◌, ◌∷◌, [], ℕ, zero, suc, List, Some, map, slice_get, ap, sym, refl, ◌∙◌}
 use Rattle.crs_text.specs.Prelude.{RefusedAt, IsWhite}
 use Rattle.crs_value.specs.Sound.{Each}
 use Rattle.crs_value.specs.Prelude.{Spells, Refuses}
@@ -15,7 +15,7 @@ use Rattle.crs_catalogue.specs.United.{AreUnited}
 
 each-at : (P : PlacedLine → Type 0) (ps : List PlacedLine) → Each P ps → (at : ℕ) (p : PlacedLine) → slice_get ps at ≡ Some p → P p
 each-at P [] each at p e = absurd (cc)
-each-at P (q ∷ qs) each zero p e = let same : q ≡ p = cc in subst P same each.0
+each-at P (q ∷ qs) each zero p e = let same : q ≡ p = cc in rw same at each.0
 each-at P (q ∷ qs) each (suc at) p e = each-at P qs each.1 at p e
 
 record Beside (ps : List PlacedLine) (at : ℕ) (line : Line) : Type 0 where
@@ -34,7 +34,7 @@ beside (p0 ∷ ps) (q ∷ qs) e zero p there =
 beside (p0 ∷ ps) (q ∷ qs) e (suc at) p there =
     let rest : map (λ (x : PlacedLine). x.line) ps ≡ map (λ (x : PlacedLine). x.line) qs = cc in
     let found = beside ps qs rest at p there in
-    record { placed = found.placed; there = found.there; same = found.same }
+    search (found.there, found.same)
 
 -- an accepted text that isn't blank is in a group
 stands : ((text : List ℕ) (value : Crs) (fault : RefusedAt) → Spells text value → ¬ (Refuses text fault)) →
@@ -51,24 +51,20 @@ module _ (apart : (text : List ℕ) (value : Crs) (fault : RefusedAt) → Spells
   united placed joined full definition f d lines at-full at-definition i j m (p, p-there, p-in) (q, q-there, q-in) =
       let r = beside placed joined lines i p p-there in
       let s = beside placed joined lines j q q-there in
-      let p-as = subst (λ place. IsPlacedAs p.line.text place) p-in (each-at (λ x. IsPlacedAs x.line.text x.place) placed f.each i p p-there) in
-      let q-as = subst (λ place. IsPlacedAs q.line.text place) q-in (each-at (λ x. IsPlacedAs x.line.text x.place) placed f.each j q q-there) in
-      let r-as = subst (λ (line : Line). IsPlacedAs line.text r.placed.place) (sym r.same)
-      (each-at (λ x. IsPlacedAs x.line.text x.place) joined d.each i r.placed r.there) in
-      let s-as = subst (λ (line : Line). IsPlacedAs line.text s.placed.place) (sym s.same)
-      (each-at (λ x. IsPlacedAs x.line.text x.place) joined d.each j s.placed s.there) in
+      let p-as = rw p-in at (each-at (λ x. IsPlacedAs x.line.text x.place) placed f.each i p p-there) in
+      let q-as = rw q-in at (each-at (λ x. IsPlacedAs x.line.text x.place) placed f.each j q q-there) in
+      let r-as = rw (← r.same) at (each-at (λ x. IsPlacedAs x.line.text x.place) joined d.each i r.placed r.there) in
+      let s-as = rw (← s.same) at (each-at (λ x. IsPlacedAs x.line.text x.place) joined d.each j s.placed s.there) in
       let k = stands apart p.line.text r.placed.place p-as.0 p-as.1 r-as in
       let l = stands apart q.line.text s.placed.place q-as.0 q-as.1 s-as in
       let a : Crs = p-as.1.0 in
       let b : Crs = q-as.1.0 in
       let share : ShareWhereSame full.level p q =
       each-at (ShareWhereSame full.level p) placed (each-at (λ x. Each (ShareWhereSame full.level x) placed) placed f.same i p p-there) j q q-there in
-      let same : SameCrs levels.Full a b =
-      subst (λ level. SameCrs level a b) at-full ((share m m a b p-in q-in p-as.1.1 q-as.1.1).0 refl) in
+      let same : SameCrs levels.Full a b = rw at-full at ((share m m a b p-in q-in p-as.1.1 q-as.1.1).0 refl) in
       let too : ShareWhereSame definition.level r.placed s.placed =
       each-at (ShareWhereSame definition.level r.placed) joined
       (each-at (λ x. Each (ShareWhereSame definition.level x) joined) joined d.same i r.placed r.there) j s.placed s.there in
       let one : k.0 ≡ l.0 =
-      (too k.0 l.0 a b k.1 l.1 (subst (λ (line : Line). Spells line.text a) r.same p-as.1.1) (subst (λ (line : Line). Spells line.text b) s.same q-as.1.1)).1
-      (subst (λ level. SameCrs level a b) (sym at-definition) (narrower a b same)) in
+      (too k.0 l.0 a b k.1 l.1 (simp r.same at p-as.1.1) (simp s.same at q-as.1.1)).1 (rw at-definition (narrower a b same)) in
       (k.0, (r.placed, r.there, k.1), (s.placed, s.there, l.1 ∙ ap Group (sym one)))
