@@ -1,6 +1,4 @@
-use Rattle.std.proofs.Common.{subst, Bool}
 use Rattle.std.proofs.lemmas.Result.{IfOk-weaker}
-use Rattle.crs_catalogue.specs.GroupReading.{IsLedgerWhole}
 use Rattle.crs_catalogue.proofs.GroupRunLemmas.{grouped}
 use Rattle.crs_catalogue.proofs.running.run_adding.Goals as goal
 
@@ -11,6 +9,5 @@ returns-clause-answered g c =
     IfOk-weaker c.write_listing.result _ _
     (λ summary writes. grouped Form Share c.args.listing c.args.level c.args.r.now c.read_ledger.new.source c.args.w.now
     c.write_listing.new.sink c.in_ok-ledger.ledger summary
-    (subst (λ (named : Bool). IsLedgerWhole Form Share named c.args.level c.args.r.now c.read_ledger.new.source c.in_ok-ledger.ledger)
-    c.requires.named c.in_ok-ledger.ensures.ok) writes)
+    (rw c.requires.named at c.in_ok-ledger.ensures.ok) writes)
     c.write_listing.ensures.ok

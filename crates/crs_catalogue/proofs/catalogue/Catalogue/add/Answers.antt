@@ -1,7 +1,5 @@
-use Rattle.std.proofs.Common.{◌≡◌, ap, refl, subst, sym, ◌∙◌, IfOk}
+use Rattle.std.proofs.Common.{refl, sym, ◌∙◌}
 use Rattle.crs_writer.specs.Prelude.{IsCanonicalOf}
-use Rattle.crs_placed.specs.Catalogue.{CatalogueParts}
-use Rattle.crs_placed.specs.Putting.{IsPut, IsRefused}
 use Rattle.crs_placed.specs.declared.placed.Placed.TheVariants.{Blank}
 use Rattle.crs_catalogue.proofs.CatalogueLemmas.{blank-added, canonical-forms, is-black, lines-added, lines-result, put-result, refuse-result}
 use Rattle.crs_catalogue.proofs.KnownLemmas.{joined-put}
@@ -27,27 +25,19 @@ returns-in-Some-clause-catalogue c =
 
 pub returns-in-Ok-clause-catalogue : goal.returns-in-Ok-clause-catalogue
 returns-in-Ok-clause-catalogue c =
-    let same : c.canon.new.self ≡ c.args.self.now = c.canon.ensures.unchanged in
+    let put = rw c.canon.ensures.unchanged at c.put_and_remember.ensures in
     put-result IsCanonicalOf ShareWhereSame (λ level. canonical-forms level (c.main_theorem.ensures level))
     c.args.self.now c.put_and_remember.new.self c.args.self.now.level refl c.args.line c.args.text.now c.in-Ok.canon c.put_and_remember.result
     (is-black c.args.text.now c.is_blank.result c.if-is_blank.false c.is_blank.ensures)
-    c.in-Ok.ensures.answer c.in-Ok.ensures.level
-    (subst (λ (s : CatalogueParts). IfOk c.put_and_remember.result (IsPut c.in-Ok.canon c.args.line s.groups c.put_and_remember.new.self.groups)) same
-    c.put_and_remember.ensures.groups)
-    (c.put_and_remember.ensures.level ∙ ap (λ (s : CatalogueParts). s.level) same)
-    (c.put_and_remember.ensures.refused ∙ ap (λ (s : CatalogueParts). s.refused) same)
+    c.in-Ok.ensures.answer c.in-Ok.ensures.level put.groups put.level put.refused
 
 pub returns-in-Err-clause-catalogue : goal.returns-in-Err-clause-catalogue
 returns-in-Err-clause-catalogue c =
-    let same : c.canon.new.self ≡ c.args.self.now = c.canon.ensures.unchanged in
+    let refused = rw c.canon.ensures.unchanged at c.refuse.ensures in
     refuse-result IsCanonicalOf ShareWhereSame (λ level. canonical-forms level (c.main_theorem.ensures level))
     c.args.self.now c.refuse.new.self c.args.line c.args.text.now c.in-Err.fault c.refuse.result
     (is-black c.args.text.now c.is_blank.result c.if-is_blank.false c.is_blank.ensures)
-    c.in-Err.ensures.answer
-    (subst (λ (s : CatalogueParts). IfOk c.refuse.result (IsRefused c.in-Err.fault c.args.line s.refused c.refuse.new.self.refused)) same
-    c.refuse.ensures.refused)
-    (c.refuse.ensures.level ∙ ap (λ (s : CatalogueParts). s.level) same)
-    (c.refuse.ensures.groups ∙ ap (λ (s : CatalogueParts). s.groups) same)
+    c.in-Err.ensures.answer refused.refused refused.level refused.groups
 
 pub returns-then-is_blank-clause-lines : goal.returns-then-is_blank-clause-lines
 returns-then-is_blank-clause-lines c =

@@ -1,13 +1,10 @@
-use Rattle.std.proofs.Common.{subst, IfSome}
-use Rattle.crs_placed.specs.Catalogue.{CatalogueParts, canons}
-use Rattle.crs_catalogue.specs.Known.{HasGroup}
+use Rattle.crs_placed.specs.Catalogue.{canons}
 use Rattle.crs_catalogue.proofs.KnownLemmas.{all-within, found-known}
 use Rattle.crs_catalogue.proofs.catalogue.Catalogue.known.Goals as goal
 
 pub returns-clause-group : goal.returns-clause-group
 returns-clause-group c =
-    subst (λ (s : CatalogueParts). IfSome c.group_of.result (HasGroup s.level (canons s.groups) c.args.text.now))
-    c.self.view_is
+    rw (← c.self.view_is)
     (found-known c.self.inside.level (canons c.self.inside.kept.groups) c.self.inside.recent c.args.text.now
     c.group_of.result c.group_of.ensures c.self.invariant)
 

@@ -1,4 +1,4 @@
-use Rattle.std.proofs.Common.{◌++◌, ◌∷◌, [], ℕ, List, ap, append-nil, arith, length, length-append, refl, rules, subst, sym}
+use Rattle.std.proofs.Common.{◌++◌, ◌∷◌, [], ℕ, List, ap, append-nil, arith, length, length-append, refl, rules}
 use Rattle.std.proofs.lemmas.Result.{IfErr-weaker, IfOk-weaker}
 use Rattle.crs_streams.specs.Prelude.{HasNoFeed}
 use Rattle.crs_catalogue.specs.GroupCutting.{IsCutFault, IsCutTo}
@@ -11,9 +11,7 @@ loop-line-init g c = record {
   done = (
     [],
     refl,
-    λ bytes cut. subst
-        (λ l. IsCutTo (g.A.Adding.Form c.args.adding.now) (g.A.Adding.Share c.args.adding.now) (g.A.Adding.named c.args.adding.now) l c.args.self.now)
-        (sym (append-nil bytes)) cut,
+    λ bytes cut. rw append-nil cut,
   );
   lines = omega arith;
   small = omega arith;
