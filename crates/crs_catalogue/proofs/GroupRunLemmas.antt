@@ -1,5 +1,5 @@
 -- What the source of a run has given, and what the two halves of the run say of the whole.
-use Rattle.std.proofs.Common.{◌≡◌, ◌∙◌, ◌+◌, ◌<◌, ◌≤◌, ◌*◌, ◌^◌, ℕ, Bool, List, false, ap, subst, sym, arith, is_ok, true≢false, Result, Ok, Err, IfOk, IsErr, MatchResult}
+use Rattle.std.proofs.Common.{◌≡◌, ◌∙◌, ◌+◌, ◌<◌, ◌≤◌, ◌*◌, ◌^◌, ℕ, Bool, List, false, ap, arith, is_ok, Result, Ok, Err, IfOk, IsErr, MatchResult}
 use Rattle.std.specs.Io.KnownBytes.{ReadConsumes}
 use Rattle.crs_catalogue.specs.GroupCutting.{CutterParts, IsCutFault, IsCutTo, IsLedgerFor, LedgerParts}
 use Rattle.crs_value.specs.declared.values.level.Level.{Level}
@@ -10,24 +10,22 @@ use Rattle.crs_catalogue.specs.GroupRun.{IsGroupedBy, IsReadingFault}
 use Rattle.crs_catalogue.specs.declared.listing.Listing.{Listing}
 use Rattle.crs_catalogue.specs.declared.summary.Summary.{Summary}
 use Rattle.crs_streams.specs.declared.fault.RunFault.{RunFault}
-use Rattle.crs_streams.specs.declared.fault.RunFault.TheVariants.{ReadFailed, WriteFailed, TooLong, TooManyReads, Memory}
+use Rattle.crs_streams.specs.declared.fault.RunFault.TheVariants.{ReadFailed, TooLong, Memory}
 use Rattle.crs_catalogue.proofs.GroupCutLemmas.{cut-fits, cut-short}
 use Rattle.crs_streams.proofs.GivenLemmas.{given-kept}
 use Rattle.crs_catalogue.specs.Partition.{PlacedLine}
 
 pub fault-in-piece : (old new : SourceState) (bytes : List ℕ) (fault : RunFault) → HasGiven old new bytes
     → new.failed ≡ false → IsCutFault bytes fault → IsReadingFault old new fault
-fault-in-piece old new bytes ReadFailed given healthy h = absurd h
-fault-in-piece old new bytes WriteFailed given healthy h = absurd h
 fault-in-piece old new bytes (TooLong number) given healthy h = (healthy, (bytes, given, h))
-fault-in-piece old new bytes TooManyReads given healthy h = absurd h
 fault-in-piece old new bytes Memory given healthy h = healthy
+fault-in-piece old new bytes fault given healthy h = absurd h
 
 -- what holds of an answer holds of it where its error alone is replaced
 pub kept : {A E F : Type 0} (P : A → Type 0) (Q : E → Type 0) (r : Result A E) (s : Result A F)
     → MatchResult r (λ x. s ≡ Ok x) Q → is_ok s ≡ is_ok r → IfOk r P → IfOk s P
-kept P Q (Ok x) s is same p = subst (λ t. IfOk t P) (sym is) p
-kept P Q (Err e) (Ok x) other same p = absurd (true≢false same)
+kept P Q (Ok x) s is same p = rw is p
+kept P Q (Err e) (Ok x) other same p = absurd cc
 kept P Q (Err e) (Err f) other same p = tt
 
 module _ (Form : Level → List ℕ → List ℕ → Type 0) (Share : Level → PlacedLine → PlacedLine → Type 0) (named : Bool) where

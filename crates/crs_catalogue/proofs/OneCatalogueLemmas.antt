@@ -13,7 +13,7 @@ use Rattle.crs_placed.specs.Catalogue.{CatalogueParts, GroupParts, Line, canons}
 use Rattle.crs_catalogue.specs.GroupTexts.{IsCatalogue, IsCatalogueOf, IsUnder}
 use Rattle.crs_value.specs.Sound.{Each}
 use Rattle.crs_placed.specs.declared.placed.Placed.{Placed}
-use Rattle.crs_placed.specs.declared.placed.Placed.TheVariants.{Blank, Refused, Group}
+use Rattle.crs_placed.specs.declared.placed.Placed.TheVariants.{Refused, Group}
 use Rattle.crs_catalogue.specs.Partition.{AreNumbered, Counts, IsPlacedAs, PlacedLine, ShareWhereSame}
 use Rattle.crs_catalogue.proofs.PlaceLemmas.{canon-at}
 
@@ -65,17 +65,15 @@ And Is p q = Is q ⊎ (q ≡ p)
 
 found-next : (Is : PlacedLine → Type 0) (before next : ℕ) (p : PlacedLine) (place : Placed) → p.place ≡ place
     → Counts before place next → AllFound Is before → AllFound (And Is p) next
-found-next Is before next p Blank at counts found n low high =
-    found-more Is (And Is p) n (λ q h. inl h) (found n low (omega arith))
-found-next Is before next p (Refused refusal) at counts found n low high =
-    found-more Is (And Is p) n (λ q h. inl h) (found n low (omega arith))
-found-next Is before next p (Group m) at (inl (lower, higher, same)) found n low high =
-    found-more Is (And Is p) n (λ q h. inl h) (found n low (omega arith))
 found-next Is before next p (Group m) at (inr (new, last)) found n low high = by (cases_lt before n)
   where
     by : ((before < n) ⊎ (n ≤ before)) → Found (And Is p) n
     by (inl above) = let e : m ≡ n = omega arith in (p, inr refl, at ∙ ap Group e)
     by (inr below) = found-more Is (And Is p) n (λ q h. inl h) (found n low below)
+found-next Is before next p (Group m) at (inl (lower, higher, same)) found n low high =
+    found-more Is (And Is p) n (λ q h. inl h) (found n low (omega arith))
+found-next Is before next p place at counts found n low high =
+    found-more Is (And Is p) n (λ q h. inl h) (found n low (omega arith))
 
 found-all : (Is : PlacedLine → Type 0) (before : ℕ) (ps : List PlacedLine) (behind : ℕ) → AreNumbered before ps behind
     → AllFound Is before → AllFound (λ p. Is p ⊎ In p ps) behind
