@@ -1,5 +1,5 @@
 -- Line feeds among bytes, and lines that aren't too long.
-use Rattle.std.proofs.Common.{◌≡◌, ◌⊎◌, ◌+◌, ◌≤◌, ◌++◌, ◌∷◌, [], ℕ, List, true, false, true≢false, length, inl, inr, ap, subst, sym, refl, ◌∙◌, arith, append_assoc, length-append, ◌==◌, cond}
+use Rattle.std.proofs.Common.{◌≡◌, ◌⊎◌, ◌+◌, ◌≤◌, ◌++◌, ◌∷◌, [], ℕ, List, true, false, true≢false, length, inl, inr, ap, sym, refl, ◌∙◌, arith, append_assoc, length-append, ◌==◌, cond}
 use Rattle.std.proofs.lemmas.Bool.{eqb-true, false≢true}
 use Rattle.std.proofs.lemmas.List.{nil_from_length}
 use Rattle.std.proofs.lemmas.List.Sums.{count_by-le-length, sum_by-append}
@@ -57,7 +57,7 @@ ended-lines bytes (text ∷ texts) (line, rest, e, plain, is, more) =
 pub ended-last : (bytes : List ℕ) (texts : List (List ℕ)) (last : List ℕ) → AreEnded bytes texts → HasNoFeed last
     → ¬ (last ≡ []) → AreLines (bytes ++ last) (texts ++ last ∷ [])
 ended-last bytes [] last none plain some =
-    subst (λ b. AreLines (b ++ last) (last ∷ [])) (sym none) (inr (some, plain, refl, refl))
+    rw none (inr (some, plain, refl, refl))
 ended-last bytes (text ∷ texts) last (line, rest, e, bare, is, more) plain some = inl (
   line,
   rest ++ last,
@@ -72,19 +72,18 @@ stretch-before : (line rest a b : List ℕ) → line ++ rest ≡ a ++ 10 ∷ b �
     → (m : List ℕ) × (a ≡ line ++ m)
 stretch-before [] rest a b e plain = (a, refl)
 stretch-before (x ∷ xs) rest [] b e plain =
-    absurd (false≢true (sym (feed-test x xs plain) ∙ ap (λ y. y == 10) (head-is x 10 (xs ++ rest) b e)))
+    absurd (false≢true (sym (feed-test x xs plain) ∙ ap (λ y. y == 10) (head-is e)))
 stretch-before (x ∷ xs) rest (y ∷ ys) b e plain =
-    let further = stretch-before xs rest ys b (tail-is x y (xs ++ rest) (ys ++ 10 ∷ b) e) (feed-rest x xs plain) in
-    (further.0, head-tail y x ys (xs ++ further.0) (sym (head-is x y (xs ++ rest) (ys ++ 10 ∷ b) e)) further.1)
+    let further = stretch-before xs rest ys b (tail-is e) (feed-rest x xs plain) in (further.0, head-tail (sym (head-is e)) further.1)
 
 -- what begins after some bytes begins before a feed, or after it
 begins-either : (front rest a b : List ℕ) → a ++ 10 ∷ b ≡ front ++ rest
     → ((m : List ℕ) × (a ≡ front ++ m) × (m ++ 10 ∷ b ≡ rest)) ⊎ ((m : List ℕ) × (b ≡ m ++ rest))
 begins-either [] rest a b e = inl (a, refl, e)
-begins-either (x ∷ xs) rest [] b e = inr (xs, tail-is 10 x b (xs ++ rest) e)
+begins-either (x ∷ xs) rest [] b e = inr (xs, tail-is e)
 begins-either (x ∷ xs) rest (y ∷ ys) b e =
-    elim (begins-either xs rest ys b (tail-is y x (ys ++ 10 ∷ b) (xs ++ rest) e)) [
-      | inl (m, is, more) ↦ inl (m, head-tail y x ys (xs ++ m) (head-is y x (ys ++ 10 ∷ b) (xs ++ rest) e) is, more)
+    elim (begins-either xs rest ys b (tail-is e)) [
+      | inl (m, is, more) ↦ inl (m, head-tail (head-is e) is, more)
       | inr found ↦ inr found
     ]
 
@@ -109,7 +108,7 @@ short-feed a b first second front line rest e plain = elim (begins-either front 
 
 pub short-more : (ended more : List ℕ) → (ended ≡ []) ⊎ EndsInFeed ended → HasShortLines ended → HasShortLines more
     → HasShortLines (ended ++ more)
-short-more ended more (inl none) before behind = subst (λ b. HasShortLines (b ++ more)) (sym none) behind
+short-more ended more (inl none) before behind = rw none behind
 short-more ended more (inr (front, is)) before behind =
     rw (is, append_assoc front (10 ∷ []) more)
     (short-feed front more (short-front front (10 ∷ []) (rw is at before)) behind)

@@ -1,5 +1,5 @@
 -- What a source has given after one more read.
-use Rattle.std.proofs.Common.{◌≡◌, ◌+◌, ◌≤◌, ◌++◌, ℕ, List, length, ap, subst, sym, ◌∙◌, arith, length-append, length-take, take, Result, Ok}
+use Rattle.std.proofs.Common.{◌≡◌, ◌+◌, ◌≤◌, ◌++◌, ℕ, List, length, ap, sym, ◌∙◌, arith, length-append, length-take, take, Result, Ok}
 use Rattle.std.specs.Io.{ReadsAtMost}
 use Rattle.std.specs.Io.KnownBytes.{Consumes, Keeps, ReadConsumes}
 use Rattle.std.proofs.KnownBytes.{Consumes-kept, Consumes-trans}
@@ -28,18 +28,13 @@ pub given-read : {E : Type 0} (old now new : SourceState) (bytes room slice : Li
     → CountsRead now new answer → ReadsAtMost answer room → answer ≡ Ok count → slice ≡ room
     → HasGiven old new (bytes ++ take count slice)
 given-read old now new bytes room slice answer count given consumed counted bound got same =
-    let gone = subst (λ r. ReadConsumes now.remaining new.remaining r room) got consumed in
-    let more = (subst (CountsRead now new) got counted).bytes in
-    let fits = subst (λ r. ReadsAtMost r room) got bound in
-    let within : count ≤ length room = fits.0 in
+    let gone = rw got at consumed in
+    let more = (rw got at counted).bytes in
+    let within : count ≤ length room = (rw got at bound).0 in
     let long : length (take count room) ≡ count = omega (arith, length-take count room) in
-    subst (λ l. HasGiven old new (bytes ++ take count l)) (sym same)
-    (given-more old now new bytes (take count room) given gone.0 (more.0 ∙ ap (λ n. now.taken + n) (sym long)))
+    rw same (given-more old now new bytes (take count room) given gone.0 (more.0 ∙ ap (λ n. now.taken + n) (sym long)))
 
 pub taken-read : {E : Type 0} (now new : SourceState) (room : List ℕ) (answer : Result ℕ E) (count : ℕ)
     → CountsRead now new answer → ReadsAtMost answer room → answer ≡ Ok count → new.taken ≤ now.taken + length room
 taken-read now new room answer count counted bound got =
-    let fits = subst (λ r. ReadsAtMost r room) got bound in
-    let more = (subst (CountsRead now new) got counted).bytes in
-    let within : count ≤ length room = fits.0 in
-    omega (arith, more.0)
+    omega (arith, (rw got at counted).bytes.0, (rw got at bound).0)

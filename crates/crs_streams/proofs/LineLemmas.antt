@@ -10,17 +10,14 @@ use Rattle.crs_streams.specs.Lines.{AreLines, HasNoFeed, IsTextOf}
 pub nil-cons : {A : Type 0} (x : A) (xs : List A) → [] ≡ x ∷ xs → ⊥
 nil-cons x xs h = cc
 
-pub head-is : (a b : ℕ) (xs ys : List ℕ) → a ∷ xs ≡ b ∷ ys → a ≡ b
-head-is a b xs ys h = cc
+pub head-is : {a b : ℕ} {xs ys : List ℕ} → a ∷ xs ≡ b ∷ ys → a ≡ b
+head-is h = cc
 
-pub tail-is : (a b : ℕ) (xs ys : List ℕ) → a ∷ xs ≡ b ∷ ys → xs ≡ ys
-tail-is a b xs ys h = cc
+pub tail-is : {a b : ℕ} {xs ys : List ℕ} → a ∷ xs ≡ b ∷ ys → xs ≡ ys
+tail-is h = cc
 
-pub head-tail : (a b : ℕ) (xs ys : List ℕ) → a ≡ b → xs ≡ ys → a ∷ xs ≡ b ∷ ys
-head-tail a b xs ys h t = cc
-
-lists-is : (a b : List ℕ) (xs ys : List (List ℕ)) → a ≡ b → xs ≡ ys → a ∷ xs ≡ b ∷ ys
-lists-is a b xs ys h t = cc
+pub head-tail : {A : Type 0} {a b : A} {xs ys : List A} → a ≡ b → xs ≡ ys → a ∷ xs ≡ b ∷ ys
+head-tail h t = λ i. h i ∷ t i
 
 nil-behind : (bs : List ℕ) (b : ℕ) (rest : List ℕ) → [] ≡ bs ++ b ∷ rest → ⊥
 nil-behind [] b rest e = nil-cons b rest e
@@ -46,13 +43,11 @@ not-feed b bs plain is = false≢true (sym (feed-test b bs plain) ∙ eq-eqb b 1
 -- bytes are cut at their first feed in one way
 cut-one : (line other rest left : List ℕ) → HasNoFeed line → HasNoFeed other → line ++ 10 ∷ rest ≡ other ++ 10 ∷ left
     → (line ≡ other) × (rest ≡ left)
-cut-one [] [] rest left p q e = (refl, tail-is 10 10 rest left e)
-cut-one [] (b ∷ bs) rest left p q e = absurd (not-feed b bs q (sym (head-is 10 b rest (bs ++ 10 ∷ left) e)))
-cut-one (a ∷ more) [] rest left p q e = absurd (not-feed a more p (head-is a 10 (more ++ 10 ∷ rest) left e))
+cut-one [] [] rest left p q e = (refl, tail-is e)
+cut-one [] (b ∷ bs) rest left p q e = absurd (not-feed b bs q (sym (head-is e)))
+cut-one (a ∷ more) [] rest left p q e = absurd (not-feed a more p (head-is e))
 cut-one (a ∷ more) (b ∷ bs) rest left p q e =
-    let h = cut-one more bs rest left (feed-rest a more p) (feed-rest b bs q)
-    (tail-is a b (more ++ 10 ∷ rest) (bs ++ 10 ∷ left) e) in
-    (head-tail a b more bs (head-is a b (more ++ 10 ∷ rest) (bs ++ 10 ∷ left) e) h.0, h.1)
+    let h = cut-one more bs rest left (feed-rest a more p) (feed-rest b bs q) (tail-is e) in (head-tail (head-is e) h.0, h.1)
 
 text-one : (line a b : List ℕ) → IsTextOf line a → IsTextOf line b → a ≡ b
 text-one line a b (inl p) (inl q) = append_cancel_right a b (13 ∷ []) (sym p ∙ q)
@@ -69,24 +64,22 @@ lines-one bytes (t ∷ ts) [] (inr (some, plain, is, end)) q = absurd (some q)
 lines-one bytes (t ∷ ts) (u ∷ us) (inl (line, rest, e, plain, text, more))
     (inl (other, left, f, bare, word, further)) =
     let h = cut-one line other rest left plain bare (sym e ∙ f) in
-    lists-is t u ts us (text-one other t u (subst (λ l. IsTextOf l t) h.0 text) word)
-    (lines-one left ts us (subst (λ l. AreLines l ts) h.1 more) further)
+    head-tail (text-one other t u (rw h.0 at text) word) (lines-one left ts us (rw h.1 at more) further)
 lines-one bytes (t ∷ ts) (u ∷ us) (inl (line, rest, e, plain, text, more)) (inr (some, bare, is, end)) =
-    absurd (feed-there line rest (subst HasNoFeed e bare))
+    absurd (feed-there line rest (rw e at bare))
 lines-one bytes (t ∷ ts) (u ∷ us) (inr (some, bare, is, end)) (inl (line, rest, e, plain, text, more)) =
-    absurd (feed-there line rest (subst HasNoFeed e bare))
+    absurd (feed-there line rest (rw e at bare))
 lines-one bytes (t ∷ ts) (u ∷ us) (inr (some, bare, is, end)) (inr (other, plain, too, last)) =
-    lists-is t u ts us (is ∙ sym too) (end ∙ sym last)
+    head-tail (is ∙ sym too) (end ∙ sym last)
 
 -- the bytes have a first feed, or none
 first-feed : (bytes : List ℕ) →
     ((line : List ℕ) × (rest : List ℕ) × (bytes ≡ line ++ 10 ∷ rest) × HasNoFeed line) ⊎ HasNoFeed bytes
 first-feed [] = inr refl
 first-feed (b ∷ bs) = elim (cases_Bool (b == 10)) [
-  | inl is ↦ inl ([], bs, head-tail b 10 bs bs (eqb-true b 10 is) refl, refl)
+  | inl is ↦ inl ([], bs, head-tail (eqb-true b 10 is) refl, refl)
   | inr other ↦ elim (first-feed bs) [
-    | inl (line, rest, e, plain) ↦
-        inl (b ∷ line, rest, head-tail b b bs (line ++ 10 ∷ rest) refl e, feed-more b line other plain)
+    | inl (line, rest, e, plain) ↦ inl (b ∷ line, rest, head-tail refl e, feed-more b line other plain)
     | inr plain ↦ inr (feed-more b bs other plain)
   ]
 ]
@@ -124,15 +117,15 @@ last-one a b x y e = sym (last-byte a x) ∙ (ap (λ l. slice_index l (length l 
 last-of : (bytes : List ℕ) → (bytes ≡ []) ⊎ ((front : List ℕ) × (b : ℕ) × (bytes ≡ front ++ b ∷ []))
 last-of [] = inl refl
 last-of (b ∷ bs) = elim (last-of bs) [
-  | inl none ↦ inr ([], b, head-tail b b bs [] refl none)
-  | inr (front, c, e) ↦ inr (b ∷ front, c, head-tail b b bs (front ++ c ∷ []) refl e)
+  | inl none ↦ inr ([], b, head-tail refl none)
+  | inr (front, c, e) ↦ inr (b ∷ front, c, head-tail refl e)
 ]
 
 -- a line without a return is as `no_cr` has it
 pub text-of : (line : List ℕ) → IsTextOf line (no_cr line)
 text-of line = elim (last-of line) [
   | inl none ↦ rw none (inr (refl, λ found. nil-behind found.0 13 [] found.1))
-  | inr (front, b, e) ↦ subst (λ l. IsTextOf l (no_cr l)) (sym e) (elim (cases_Bool (b == 13)) [
+  | inr (front, b, e) ↦ rw e (elim (cases_Bool (b == 13)) [
     | inl is ↦
         let cut : no_cr (front ++ b ∷ []) ≡ front = cond-true _ _ _ (ends-test front b 13 ∙ is) ∙ take-front front b in
         inl (ap (λ c. front ++ c ∷ []) (eqb-true b 13 is) ∙ ap (λ l. l ++ 13 ∷ []) (sym cut))
@@ -153,8 +146,7 @@ last-plain (x ∷ xs) b h = last-plain xs b (feed-rest x (xs ++ b ∷ []) h)
 last-text : (bytes : List ℕ) → HasNoFeed bytes → without_terminator bytes ≡ bytes
 last-text bytes plain = elim (last-of bytes) [
   | inl none ↦ rw none refl
-  | inr (front, b, e) ↦ subst (λ l. without_terminator l ≡ l) (sym e)
-      (cond-false _ _ _ (ends-test front b 10 ∙ last-plain front b (subst HasNoFeed e plain)))
+  | inr (front, b, e) ↦ rw e (cond-false _ _ _ (ends-test front b 10 ∙ last-plain front b (rw e at plain)))
 ]
 
 -- the lines as `bstr` has them
@@ -188,12 +180,9 @@ cut-within zero (b ∷ bs) fits = absurd (omega arith)
 cut-within (suc n) (b ∷ bs) fits = elim (first-feed (b ∷ bs)) [
   | inl (line, rest, e, plain) ↦
       let short : length rest ≤ n = omega (arith, fits, ap length e, length-append line (10 ∷ rest)) in
-      let whole : AreLines (b ∷ bs) (no_cr line ∷ cut_lines rest) =
-      inl (line, rest, e, plain, text-of line, cut-within n rest short) in
-      subst (AreLines (b ∷ bs)) (sym (ap cut_lines e ∙ cut-first line rest plain)) whole
-  | inr plain ↦
-      let whole : AreLines (b ∷ bs) ((b ∷ bs) ∷ []) = inr (λ h. nil-cons b bs (sym h), plain, refl, refl) in
-      subst (AreLines (b ∷ bs)) (sym (cut-last (b ∷ bs) (omega arith) plain)) whole
+      subst (AreLines (b ∷ bs)) (sym (ap cut_lines e ∙ cut-first line rest plain))
+      (inl (line, rest, e, plain, text-of line, cut-within n rest short))
+  | inr plain ↦ rw (cut-last (b ∷ bs) (omega arith) plain) (inr (λ h. nil-cons b bs (sym h), plain, refl, refl))
 ]
 
 pub lines-cut : (bytes : List ℕ) → AreLines bytes (cut_lines bytes)

@@ -20,10 +20,10 @@ split-at : (bytes : List ℕ) (at : ℕ) → at < length bytes → (slice_index 
     → ((k : ℕ) → k < at → ¬ ((slice_index bytes k == 10) ≡ true))
     → IsSplit bytes (take at bytes) (drop (suc at) bytes)
 split-at [] at within is before = absurd (omega arith)
-split-at (b ∷ bs) zero within is before = (head-tail b 10 bs bs (eqb-true b 10 is) refl, refl)
+split-at (b ∷ bs) zero within is before = (head-tail (eqb-true b 10 is) refl, refl)
 split-at (b ∷ bs) (suc at) within is before =
     let further = split-at bs at (omega arith) is (λ k l. before (suc k) (omega arith)) in (
-      head-tail b b bs _ refl further.0,
+      head-tail refl further.0,
       feed-more b (take at bs) (false_from_ne_true (b == 10) (before 0 (omega arith))) further.1,
     )
 
