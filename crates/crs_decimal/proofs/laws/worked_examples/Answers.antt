@@ -14,22 +14,6 @@ use Rattle.crs_decimal.proofs.laws.worked_examples.Goals as goal
 denoted : (bs : List ℕ) (v : Value) → IsCutWhole bs → IsBounded (parts_of bs) → SameNumber (number_of (parts_of bs)) (exact v) → Denotes bs (exact v)
 denoted bs v w b s = (parts_of bs, spells_parts bs w, b, s)
 
-pub returns-clause-spellings : goal.returns-clause-spellings
-returns-clause-spellings c = (
-  denoted (codes "-0012.3400") (value true 1234 (negsuc 1))
-      (record { all = refl; some = omega arith; exponent = tt })
-      (record { mantissa_digits = omega arith; exponent_digits = omega arith; measured = inr (1234, 2, (refl, λ e. omega (arith, e)), omega arith, omega arith, omega arith) })
-      (refl, inl refl),
-  denoted (codes "1.5e+3") (value false 15 (pos 2))
-      (record { all = refl; some = omega arith; exponent = omega arith })
-      (record { mantissa_digits = omega arith; exponent_digits = omega arith; measured = inr (15, 0, (refl, λ e. omega (arith, e)), omega arith, omega arith, omega arith) })
-      (refl, inl refl),
-  denoted (codes "-.0E999") zero
-      (record { all = refl; some = omega arith; exponent = omega arith })
-      (record { mantissa_digits = omega arith; exponent_digits = omega arith; measured = inl refl })
-      (refl, inr (refl, refl)),
-)
-
 large : IsCutWhole (codes "1E41")
 large = record { all = refl; some = omega arith; exponent = omega arith }
 
@@ -47,9 +31,23 @@ two_periods h = let w = form_whole (codes "1.5.2") h in absurd (omega (arith, ap
 no_digit : ¬ (HasForm (codes "."))
 no_digit h = let w = form_whole (codes ".") h in absurd (omega (arith, w.some))
 
-pub returns-clause-faults : goal.returns-clause-faults
-returns-clause-faults c = (((parts_of (codes "1E41"), spells_parts (codes "1E41") large), too_large), two_periods, no_digit)
-
-pub returns-clause-plain : goal.returns-clause-plain
+pub returns : goal.returns
 unfolding digits
-returns-clause-plain c = (refl, refl, refl, refl)
+returns c = record {
+  spellings = (
+    denoted (codes "-0012.3400") (value true 1234 (negsuc 1))
+        (record { all = refl; some = omega arith; exponent = tt })
+        (record { mantissa_digits = omega arith; exponent_digits = omega arith; measured = inr (1234, 2, (refl, λ e. omega (arith, e)), omega arith, omega arith, omega arith) })
+        (refl, inl refl),
+    denoted (codes "1.5e+3") (value false 15 (pos 2))
+        (record { all = refl; some = omega arith; exponent = omega arith })
+        (record { mantissa_digits = omega arith; exponent_digits = omega arith; measured = inr (15, 0, (refl, λ e. omega (arith, e)), omega arith, omega arith, omega arith) })
+        (refl, inl refl),
+    denoted (codes "-.0E999") zero
+        (record { all = refl; some = omega arith; exponent = omega arith })
+        (record { mantissa_digits = omega arith; exponent_digits = omega arith; measured = inl refl })
+        (refl, inr (refl, refl)),
+  );
+  faults = (((parts_of (codes "1E41"), spells_parts (codes "1E41") large), too_large), two_periods, no_digit);
+  plain = (refl, refl, refl, refl);
+}

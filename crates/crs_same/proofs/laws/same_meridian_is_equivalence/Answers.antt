@@ -12,12 +12,10 @@ given : (level : Level) → IsSameness SameValue → IsSameness (SameUnit kinds.
 given level number angle identifiers =
     equal-by (λ a. a.name) ⊗ by (λ a. a.longitude) number ⊗ by unit_of (optional angle) ⊗ by (λ a. a.identifiers) identifiers
 
-pub returns-clause-given : goal.returns-clause-given
-unfolding AreSame
-returns-clause-given c level = given level c.same_value_is_equivalence.ensures (c.same_unit_is_equivalence.ensures kinds.Angle level) (c.same_idents_is_equivalence.ensures level)
-
-pub returns-clause-optional : goal.returns-clause-optional
+pub returns : goal.returns
 unfolding AreSame parts_of_meridian
-returns-clause-optional c level =
-    by or_greenwich
-    (given level c.same_value_is_equivalence.ensures (c.same_unit_is_equivalence.ensures kinds.Angle level) (c.same_idents_is_equivalence.ensures level))
+returns c = record {
+  given = λ level. given level c.same_value_is_equivalence.ensures (c.same_unit_is_equivalence.ensures kinds.Angle level) (c.same_idents_is_equivalence.ensures level);
+  optional = λ level. by or_greenwich
+      (given level c.same_value_is_equivalence.ensures (c.same_unit_is_equivalence.ensures kinds.Angle level) (c.same_idents_is_equivalence.ensures level));
+}

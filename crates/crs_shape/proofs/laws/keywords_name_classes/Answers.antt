@@ -3,11 +3,9 @@ use Rattle.crs_shape.proofs.FitLemmas.{root-is_of}
 use Rattle.crs_shape.proofs.ItemLemmas.{class_in-node, is_of-node}
 use Rattle.crs_shape.proofs.laws.keywords_name_classes.Goals as goal
 
-pub returns-clause-named : goal.returns-clause-named
-returns-clause-named c = λ parent item node. sym (class_in-node c.keywords_are_spelled.ensures parent item (sym node))
-
-pub returns-clause-own : goal.returns-clause-own
-returns-clause-own c = λ class item node. sym (is_of-node c.keywords_are_spelled.ensures class item (sym node))
-
-pub returns-clause-root : goal.returns-clause-root
-returns-clause-root c = λ class item root. root-is_of class item root
+pub returns : goal.returns
+returns c = record {
+  named = λ parent item node. sym (class_in-node c.keywords_are_spelled.ensures parent item (sym node));
+  own = λ class item node. sym (is_of-node c.keywords_are_spelled.ensures class item (sym node));
+  root = λ class item root. root-is_of class item root;
+}

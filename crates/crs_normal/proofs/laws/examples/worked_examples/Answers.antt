@@ -13,85 +13,10 @@ use Rattle.crs_normal.proofs.verdicts.NormalVerdict.{normal_in}
 use Rattle.crs_normal.proofs.verdicts.Verdicts.{Fails, Holds}
 use Rattle.crs_normal.proofs.laws.examples.worked_examples.Goals as goal
 
-pub returns-clause-normal : goal.returns-clause-normal
-unfolding digits class_named is_keyword lib.Utf8.encode root_named
-returns-clause-normal c =
-    let l = text-laws c.decimal_laws.ensures c.one_form.ensures c.written_items.ensures.spells c.one_answer.ensures.node in (
-      is-normal l levels.Full class.VerticalCrs example.height (refl, refl, tt, tt, tt) tt,
-      is-normal l levels.Full class.GeographicCrs example.geographic (refl, refl, tt, tt, tt) tt,
-      is-normal l levels.Full class.GeographicCrs example.wgs_84 (refl, refl, tt, tt, tt) tt,
-      is-normal l levels.Full class.ProjectedCrs example.utm_zone (refl, refl, tt, tt, tt) tt,
-      is-normal l levels.Full class.CompoundCrs example.with_height (refl, refl, tt, tt, tt) tt,
-      is-normal l levels.Full class.VerticalCrs example.dynamic_height (refl, refl, tt, tt, tt) tt,
-      is-normal l levels.Full class.GeographicCrs example.dynamic_geographic (refl, refl, tt, tt, tt) tt,
-    )
-
-pub returns-clause-by_definition : goal.returns-clause-by_definition
-unfolding digits class_named is_keyword lib.Utf8.encode root_named
-returns-clause-by_definition c =
-    let l = text-laws c.decimal_laws.ensures c.one_form.ensures c.written_items.ensures.spells c.one_answer.ensures.node in (
-      is-normal l levels.Definition class.VerticalCrs example.height (refl, refl, tt, tt, tt) tt,
-      is-normal l levels.Definition class.GeographicCrs example.geographic (refl, refl, tt, tt, tt) tt,
-      is-normal l levels.Definition class.GeographicCrs example.wgs_84_alone (refl, refl, tt, tt, tt) tt,
-      is-normal l levels.Definition class.VerticalCrs example.dynamic_height (refl, refl, tt, tt, tt) tt,
-    )
-
 says-more : (l : TextLaws) (c : Class) (bytes : List ℕ) → IsRead l c bytes →
     Holds (normal_in l.numbers levels.Full c c (placed bytes)) →
     Fails (normal_in l.numbers levels.Definition c c (placed bytes)) → example.SaysMore bytes
 says-more l c bytes r h f = (is-normal l levels.Full c bytes r h, is-otherwise l levels.Definition c bytes r f)
-
-pub returns-clause-at_full_alone : goal.returns-clause-at_full_alone
-unfolding digits class_named is_keyword lib.Utf8.encode root_named
-returns-clause-at_full_alone c =
-    let l = text-laws c.decimal_laws.ensures c.one_form.ensures c.written_items.ensures.spells c.one_answer.ensures.node in (
-      says-more l class.VerticalCrs example.unit_with_identifier (refl, refl, tt, tt, tt) tt tt,
-      says-more l class.VerticalCrs example.with_identifier (refl, refl, tt, tt, tt) tt tt,
-      says-more l class.VerticalCrs example.with_usage (refl, refl, tt, tt, tt) tt tt,
-      says-more l class.VerticalCrs example.with_remark (refl, refl, tt, tt, tt) tt tt,
-      says-more l class.GeographicCrs example.dynamic_geographic (refl, refl, tt, tt, tt) tt tt,
-    )
-
-pub returns-clause-dynamics : goal.returns-clause-dynamics
-unfolding digits class_named is_keyword lib.Utf8.encode root_named
-returns-clause-dynamics c =
-    let l = text-laws c.decimal_laws.ensures c.one_form.ensures c.written_items.ensures.spells c.one_answer.ensures.node in (
-      is-otherwise l levels.Full class.VerticalCrs example.velocity_grid (refl, refl, tt, tt, tt) tt,
-      is-otherwise l levels.Full class.VerticalCrs example.frame_epoch_with_fraction (refl, refl, tt, tt, tt) tt,
-      is-otherwise l levels.Full class.VerticalCrs example.anchor_epoch_with_fraction (refl, refl, tt, tt, tt) tt,
-      is-otherwise l levels.Full class.VerticalCrs example.anchor_epoch_first (refl, refl, tt, tt, tt) tt,
-    )
-
-pub returns-clause-heights : goal.returns-clause-heights
-unfolding digits class_named is_keyword lib.Utf8.encode root_named
-returns-clause-heights c =
-    let l = text-laws c.decimal_laws.ensures c.one_form.ensures c.written_items.ensures.spells c.one_answer.ensures.node in (
-      is-otherwise l levels.Full class.VerticalCrs example.second_keyword (refl, refl, tt, tt, tt) tt,
-      is-otherwise l levels.Full class.VerticalCrs example.no_order (refl, refl, tt, tt, tt) tt,
-      is-otherwise l levels.Full class.VerticalCrs example.unit_of_no_kind (refl, refl, tt, tt, tt) tt,
-      is-otherwise l levels.Full class.VerticalCrs example.shared_unit (refl, refl, tt, tt, tt) tt,
-      is-otherwise l levels.Full class.VerticalCrs example.factor_with_zero (refl, refl, tt, tt, tt) tt,
-      is-otherwise l levels.Full class.VerticalCrs example.capital_direction (refl, refl, tt, tt, tt) tt,
-      is-otherwise l levels.Full class.VerticalCrs example.quoted_code (refl, refl, tt, tt, tt) tt,
-      is-otherwise l levels.Full class.VerticalCrs example.long_code (refl, refl, tt, tt, tt) tt,
-      is-otherwise l levels.Full class.VerticalCrs example.identifiers_fall (refl, refl, tt, tt, tt) tt,
-      is-otherwise l levels.Full class.VerticalCrs example.identifier_twice (refl, refl, tt, tt, tt) tt,
-      is-otherwise l levels.Full class.VerticalCrs example.bare_scope (refl, refl, tt, tt, tt) tt,
-      is-otherwise l levels.Full class.VerticalCrs example.usages_fall (refl, refl, tt, tt, tt) tt,
-      is-otherwise l levels.Full class.VerticalCrs example.usage_twice (refl, refl, tt, tt, tt) tt,
-      is-otherwise l levels.Full class.VerticalCrs example.remark_first (refl, refl, tt, tt, tt) tt,
-    )
-
-pub returns-clause-geographics : goal.returns-clause-geographics
-unfolding digits class_named is_keyword lib.Utf8.encode root_named
-returns-clause-geographics c =
-    let l = text-laws c.decimal_laws.ensures c.one_form.ensures c.written_items.ensures.spells c.one_answer.ensures.node in (
-      is-otherwise l levels.Full class.GeographicCrs example.meridian_with_unit (refl, refl, tt, tt, tt) tt,
-      is-otherwise l levels.Full class.GeographicCrs example.no_meridian (refl, refl, tt, tt, tt) tt,
-      is-otherwise l levels.Full class.GeodeticCrs example.geodetic_for_geographic (refl, refl, tt, tt, tt) tt,
-      is-otherwise l levels.Full class.GeographicCrs example.no_unit_of_ellipsoid (refl, refl, tt, tt, tt) tt,
-      is-otherwise l levels.Full class.GeographicCrs example.orders_fall (refl, refl, tt, tt, tt) tt,
-    )
 
 no-value : (value : Crs) → ReadsCrs class.VerticalCrs (placed example.name_alone) value → ⊥
 unfolding class_named is_keyword
@@ -100,10 +25,62 @@ no-value (crs.Projected p) h = let k : class.VerticalCrs ≡ class.ProjectedCrs 
 no-value (crs.Vertical v) h = h.1.system.head
 no-value (crs.Compound p) h = let k : class.VerticalCrs ≡ class.CompoundCrs = h.0 in cc
 
-pub returns-clause-beyond : goal.returns-clause-beyond
+pub returns : goal.returns
 unfolding digits class_named is_keyword lib.Utf8.encode root_named
-returns-clause-beyond c =
-    let l = text-laws c.decimal_laws.ensures c.one_form.ensures c.written_items.ensures.spells c.one_answer.ensures.node in (
-      is-normal l levels.Full class.VerticalCrs example.name_alone (refl, refl, tt, tt, tt) tt,
-      λ value s. no-value value (read-here l class.VerticalCrs example.name_alone (refl, refl, tt, tt, tt) value s),
-    )
+returns c = record {
+  normal = let l = text-laws c.decimal_laws.ensures c.one_form.ensures c.written_items.ensures.spells c.one_answer.ensures.node in (
+    is-normal l levels.Full class.VerticalCrs example.height (refl, refl, tt, tt, tt) tt,
+    is-normal l levels.Full class.GeographicCrs example.geographic (refl, refl, tt, tt, tt) tt,
+    is-normal l levels.Full class.GeographicCrs example.wgs_84 (refl, refl, tt, tt, tt) tt,
+    is-normal l levels.Full class.ProjectedCrs example.utm_zone (refl, refl, tt, tt, tt) tt,
+    is-normal l levels.Full class.CompoundCrs example.with_height (refl, refl, tt, tt, tt) tt,
+    is-normal l levels.Full class.VerticalCrs example.dynamic_height (refl, refl, tt, tt, tt) tt,
+    is-normal l levels.Full class.GeographicCrs example.dynamic_geographic (refl, refl, tt, tt, tt) tt,
+  );
+  by_definition = let l = text-laws c.decimal_laws.ensures c.one_form.ensures c.written_items.ensures.spells c.one_answer.ensures.node in (
+    is-normal l levels.Definition class.VerticalCrs example.height (refl, refl, tt, tt, tt) tt,
+    is-normal l levels.Definition class.GeographicCrs example.geographic (refl, refl, tt, tt, tt) tt,
+    is-normal l levels.Definition class.GeographicCrs example.wgs_84_alone (refl, refl, tt, tt, tt) tt,
+    is-normal l levels.Definition class.VerticalCrs example.dynamic_height (refl, refl, tt, tt, tt) tt,
+  );
+  at_full_alone = let l = text-laws c.decimal_laws.ensures c.one_form.ensures c.written_items.ensures.spells c.one_answer.ensures.node in (
+    says-more l class.VerticalCrs example.unit_with_identifier (refl, refl, tt, tt, tt) tt tt,
+    says-more l class.VerticalCrs example.with_identifier (refl, refl, tt, tt, tt) tt tt,
+    says-more l class.VerticalCrs example.with_usage (refl, refl, tt, tt, tt) tt tt,
+    says-more l class.VerticalCrs example.with_remark (refl, refl, tt, tt, tt) tt tt,
+    says-more l class.GeographicCrs example.dynamic_geographic (refl, refl, tt, tt, tt) tt tt,
+  );
+  dynamics = let l = text-laws c.decimal_laws.ensures c.one_form.ensures c.written_items.ensures.spells c.one_answer.ensures.node in (
+    is-otherwise l levels.Full class.VerticalCrs example.velocity_grid (refl, refl, tt, tt, tt) tt,
+    is-otherwise l levels.Full class.VerticalCrs example.frame_epoch_with_fraction (refl, refl, tt, tt, tt) tt,
+    is-otherwise l levels.Full class.VerticalCrs example.anchor_epoch_with_fraction (refl, refl, tt, tt, tt) tt,
+    is-otherwise l levels.Full class.VerticalCrs example.anchor_epoch_first (refl, refl, tt, tt, tt) tt,
+  );
+  heights = let l = text-laws c.decimal_laws.ensures c.one_form.ensures c.written_items.ensures.spells c.one_answer.ensures.node in (
+    is-otherwise l levels.Full class.VerticalCrs example.second_keyword (refl, refl, tt, tt, tt) tt,
+    is-otherwise l levels.Full class.VerticalCrs example.no_order (refl, refl, tt, tt, tt) tt,
+    is-otherwise l levels.Full class.VerticalCrs example.unit_of_no_kind (refl, refl, tt, tt, tt) tt,
+    is-otherwise l levels.Full class.VerticalCrs example.shared_unit (refl, refl, tt, tt, tt) tt,
+    is-otherwise l levels.Full class.VerticalCrs example.factor_with_zero (refl, refl, tt, tt, tt) tt,
+    is-otherwise l levels.Full class.VerticalCrs example.capital_direction (refl, refl, tt, tt, tt) tt,
+    is-otherwise l levels.Full class.VerticalCrs example.quoted_code (refl, refl, tt, tt, tt) tt,
+    is-otherwise l levels.Full class.VerticalCrs example.long_code (refl, refl, tt, tt, tt) tt,
+    is-otherwise l levels.Full class.VerticalCrs example.identifiers_fall (refl, refl, tt, tt, tt) tt,
+    is-otherwise l levels.Full class.VerticalCrs example.identifier_twice (refl, refl, tt, tt, tt) tt,
+    is-otherwise l levels.Full class.VerticalCrs example.bare_scope (refl, refl, tt, tt, tt) tt,
+    is-otherwise l levels.Full class.VerticalCrs example.usages_fall (refl, refl, tt, tt, tt) tt,
+    is-otherwise l levels.Full class.VerticalCrs example.usage_twice (refl, refl, tt, tt, tt) tt,
+    is-otherwise l levels.Full class.VerticalCrs example.remark_first (refl, refl, tt, tt, tt) tt,
+  );
+  geographics = let l = text-laws c.decimal_laws.ensures c.one_form.ensures c.written_items.ensures.spells c.one_answer.ensures.node in (
+    is-otherwise l levels.Full class.GeographicCrs example.meridian_with_unit (refl, refl, tt, tt, tt) tt,
+    is-otherwise l levels.Full class.GeographicCrs example.no_meridian (refl, refl, tt, tt, tt) tt,
+    is-otherwise l levels.Full class.GeodeticCrs example.geodetic_for_geographic (refl, refl, tt, tt, tt) tt,
+    is-otherwise l levels.Full class.GeographicCrs example.no_unit_of_ellipsoid (refl, refl, tt, tt, tt) tt,
+    is-otherwise l levels.Full class.GeographicCrs example.orders_fall (refl, refl, tt, tt, tt) tt,
+  );
+  beyond = let l = text-laws c.decimal_laws.ensures c.one_form.ensures c.written_items.ensures.spells c.one_answer.ensures.node in (
+    is-normal l levels.Full class.VerticalCrs example.name_alone (refl, refl, tt, tt, tt) tt,
+    λ value s. no-value value (read-here l class.VerticalCrs example.name_alone (refl, refl, tt, tt, tt) value s),
+  );
+}

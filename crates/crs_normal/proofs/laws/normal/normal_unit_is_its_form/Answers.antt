@@ -5,22 +5,16 @@ use Rattle.crs_normal.proofs.normal.FormLemmas.{its-in}
 use Rattle.crs_normal.proofs.normal.UnitLemmas.{in-angle, in-axis, in-length, in-plain, in-scale, unit-form}
 use Rattle.crs_normal.proofs.laws.normal.normal_unit_is_its_form.Goals as goal
 
-pub returns-clause-length : goal.returns-clause-length
-returns-clause-length c = λ level asked parent.
-    its-in (unit-form c.plain_is_the_one.ensures.only level parent class.LengthUnit asked refl (in-length asked) (λ raw h. h))
-
-pub returns-clause-angle : goal.returns-clause-angle
-returns-clause-angle c = λ level asked parent.
-    its-in (unit-form c.plain_is_the_one.ensures.only level parent class.AngleUnit asked refl (in-angle asked) (λ raw h. h))
-
-pub returns-clause-scale : goal.returns-clause-scale
-returns-clause-scale c = λ level asked parent.
-    its-in (unit-form c.plain_is_the_one.ensures.only level parent class.ScaleUnit asked refl (in-scale asked) (λ raw h. h))
-
-pub returns-clause-axis : goal.returns-clause-axis
-returns-clause-axis c = λ level asked parent.
-    its-in (unit-form c.plain_is_the_one.ensures.only level parent class.AxisUnit asked refl (in-axis asked) (λ raw h. h))
-
-pub returns-clause-plain : goal.returns-clause-plain
-returns-clause-plain c = λ level parent.
-    its-in (unit-form c.plain_is_the_one.ensures.only level parent class.PlainUnit kinds.Plain refl in-plain (λ raw h. h))
+pub returns : goal.returns
+returns c = record {
+  length = λ level asked parent.
+      its-in (unit-form c.plain_is_the_one.ensures.only level parent class.LengthUnit asked refl (in-length asked) (λ raw h. h));
+  angle = λ level asked parent.
+      its-in (unit-form c.plain_is_the_one.ensures.only level parent class.AngleUnit asked refl (in-angle asked) (λ raw h. h));
+  scale = λ level asked parent.
+      its-in (unit-form c.plain_is_the_one.ensures.only level parent class.ScaleUnit asked refl (in-scale asked) (λ raw h. h));
+  axis = λ level asked parent.
+      its-in (unit-form c.plain_is_the_one.ensures.only level parent class.AxisUnit asked refl (in-axis asked) (λ raw h. h));
+  plain = λ level parent.
+      its-in (unit-form c.plain_is_the_one.ensures.only level parent class.PlainUnit kinds.Plain refl in-plain (λ raw h. h));
+}

@@ -7,37 +7,35 @@ use Rattle.crs_normal.proofs.parts.PartFrameLemmas.{datum-back, datum-in-one, da
 use Rattle.crs_normal.proofs.parts.PartLemmas.{canonical-by, made-stands, told-by}
 use Rattle.crs_normal.proofs.laws.parts.datums_are_canonical.Goals as goal
 
-pub returns-clause-datum : goal.returns-clause-datum
-returns-clause-datum c level =
-    let geodetic = c.made_geodetic_frame_is_normal.ensures in
-    let vertical = c.made_vertical_frame_is_normal.ensures in
-    let laws = c.text_laws.ensures in
-    canonical-by laws c.written_items.ensures.formed item_own_datum (record {
-      decides = c.same_frames_have_one_form.ensures.datum level;
-      made = λ x s. made-stands (omega arith) (datum-made geodetic vertical level x s 0);
-      reads = λ x s. datum-back laws level x s 0;
-      told = told-by laws _ _ class.GeodeticFrame ReadsDatum _ _ item_own_datum
-          (λ a b i. c.parts_read_once.ensures.datum class.GeodeticFrame i a b)
-          (λ x s. made-stands (omega arith) (datum-made geodetic vertical level x s 0))
-          (λ x s. datum-in-one laws level x s 0);
-      sound = λ x s. datum-sound c.parts_are_sound.ensures.datum c.parts_are_sound.ensures.vertical_datum x;
-      own = λ x s. datum-own c.parts_are_sound.ensures.datum c.parts_are_sound.ensures.vertical_datum level
-          (c.normal_frame_is_its_form.ensures.datum level) (c.normal_frame_is_its_form.ensures.vertical_datum level) x;
-    })
-
-pub returns-clause-ensemble : goal.returns-clause-ensemble
-returns-clause-ensemble c level =
-    let geodetic = c.made_geodetic_frame_is_normal.ensures in
-    let vertical = c.made_vertical_frame_is_normal.ensures in
-    let laws = c.text_laws.ensures in
-    canonical-by laws c.written_items.ensures.formed item_ensemble (record {
-      decides = c.same_frames_have_one_form.ensures.ensemble level;
-      made = λ x s. made-stands (omega arith) (ensemble-made geodetic vertical level x s 0);
-      reads = λ x s. ensemble-back laws level x s 0;
-      told = told-by laws _ _ class.GeodeticEnsemble ReadsEnsemble _ _ item_ensemble
-          (λ a b i. c.parts_read_once.ensures.ensemble class.GeodeticEnsemble i a b)
-          (λ x s. made-stands (omega arith) (ensemble-made geodetic vertical level x s 0))
-          (λ x s. ensemble-in-one laws level x s 0);
-      sound = λ x s. ensemble-sound c.parts_are_sound.ensures.ensemble c.parts_are_sound.ensures.vertical_ensemble x;
-      own = λ x s. ensemble-own level (c.normal_frame_is_its_form.ensures.ensemble level) (c.normal_frame_is_its_form.ensures.vertical_ensemble level) x;
-    })
+pub returns : goal.returns
+returns c = record {
+  datum = λ level. let geodetic = c.made_geodetic_frame_is_normal.ensures in
+      let vertical = c.made_vertical_frame_is_normal.ensures in
+      let laws = c.text_laws.ensures in
+      canonical-by laws c.written_items.ensures.formed item_own_datum (record {
+        decides = c.same_frames_have_one_form.ensures.datum level;
+        made = λ x s. made-stands (omega arith) (datum-made geodetic vertical level x s 0);
+        reads = λ x s. datum-back laws level x s 0;
+        told = told-by laws _ _ class.GeodeticFrame ReadsDatum _ _ item_own_datum
+            (λ a b i. c.parts_read_once.ensures.datum class.GeodeticFrame i a b)
+            (λ x s. made-stands (omega arith) (datum-made geodetic vertical level x s 0))
+            (λ x s. datum-in-one laws level x s 0);
+        sound = λ x s. datum-sound c.parts_are_sound.ensures.datum c.parts_are_sound.ensures.vertical_datum x;
+        own = λ x s. datum-own c.parts_are_sound.ensures.datum c.parts_are_sound.ensures.vertical_datum level
+            (c.normal_frame_is_its_form.ensures.datum level) (c.normal_frame_is_its_form.ensures.vertical_datum level) x;
+      });
+  ensemble = λ level. let geodetic = c.made_geodetic_frame_is_normal.ensures in
+      let vertical = c.made_vertical_frame_is_normal.ensures in
+      let laws = c.text_laws.ensures in
+      canonical-by laws c.written_items.ensures.formed item_ensemble (record {
+        decides = c.same_frames_have_one_form.ensures.ensemble level;
+        made = λ x s. made-stands (omega arith) (ensemble-made geodetic vertical level x s 0);
+        reads = λ x s. ensemble-back laws level x s 0;
+        told = told-by laws _ _ class.GeodeticEnsemble ReadsEnsemble _ _ item_ensemble
+            (λ a b i. c.parts_read_once.ensures.ensemble class.GeodeticEnsemble i a b)
+            (λ x s. made-stands (omega arith) (ensemble-made geodetic vertical level x s 0))
+            (λ x s. ensemble-in-one laws level x s 0);
+        sound = λ x s. ensemble-sound c.parts_are_sound.ensures.ensemble c.parts_are_sound.ensures.vertical_ensemble x;
+        own = λ x s. ensemble-own level (c.normal_frame_is_its_form.ensures.ensemble level) (c.normal_frame_is_its_form.ensures.vertical_ensemble level) x;
+      });
+}

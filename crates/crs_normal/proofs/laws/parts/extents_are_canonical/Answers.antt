@@ -4,24 +4,22 @@ use Rattle.crs_normal.specs.SpelledUsages.{item_box, item_extent}
 use Rattle.crs_normal.proofs.parts.PartLemmas.{canonical-of}
 use Rattle.crs_normal.proofs.laws.parts.extents_are_canonical.Goals as goal
 
-pub returns-clause-bounding_box : goal.returns-clause-bounding_box
-returns-clause-bounding_box c level =
-    canonical-of c.text_laws.ensures c.written_items.ensures.formed item_box (record {
-      decides = c.same_tails_have_one_form.ensures.bounding_box;
-      made = c.made_box_is_normal.ensures level;
-      reads = c.members_are_read_back.ensures.bounding_box;
-      once = c.parts_read_once.ensures.bounding_box;
-      sound = c.parts_are_sound.ensures.bounding_box class.BoundingBox;
-      own = λ d i v shaped normal free. c.normal_usage_is_its_form.ensures.bbox level d i v shaped normal;
-    }) (omega arith)
-
-pub returns-clause-extent : goal.returns-clause-extent
-returns-clause-extent c level =
-    canonical-of c.text_laws.ensures c.written_items.ensures.formed item_extent (record {
-      decides = c.same_tails_have_one_form.ensures.extent level;
-      made = c.made_extent_is_normal.ensures level;
-      reads = c.members_are_read_back.ensures.extent level;
-      once = c.members_read_once.ensures.extent;
-      sound = c.parts_are_sound.ensures.extent class.VerticalExtent;
-      own = λ d i v shaped normal free. c.normal_usage_is_its_form.ensures.extent level d i v shaped normal;
-    }) (omega arith)
+pub returns : goal.returns
+returns c = record {
+  bounding_box = λ level. canonical-of c.text_laws.ensures c.written_items.ensures.formed item_box (record {
+    decides = c.same_tails_have_one_form.ensures.bounding_box;
+    made = c.made_box_is_normal.ensures level;
+    reads = c.members_are_read_back.ensures.bounding_box;
+    once = c.parts_read_once.ensures.bounding_box;
+    sound = c.parts_are_sound.ensures.bounding_box class.BoundingBox;
+    own = λ d i v shaped normal free. c.normal_usage_is_its_form.ensures.bbox level d i v shaped normal;
+  }) (omega arith);
+  extent = λ level. canonical-of c.text_laws.ensures c.written_items.ensures.formed item_extent (record {
+    decides = c.same_tails_have_one_form.ensures.extent level;
+    made = c.made_extent_is_normal.ensures level;
+    reads = c.members_are_read_back.ensures.extent level;
+    once = c.members_read_once.ensures.extent;
+    sound = c.parts_are_sound.ensures.extent class.VerticalExtent;
+    own = λ d i v shaped normal free. c.normal_usage_is_its_form.ensures.extent level d i v shaped normal;
+  }) (omega arith);
+}

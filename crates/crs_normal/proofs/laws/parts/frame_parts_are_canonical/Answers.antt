@@ -7,47 +7,39 @@ use Rattle.crs_normal.specs.SpelledSystems.{item_axis_meridian, norm_axis_meridi
 use Rattle.crs_normal.proofs.parts.PartLemmas.{canonical-of, some-decides}
 use Rattle.crs_normal.proofs.laws.parts.frame_parts_are_canonical.Goals as goal
 
-pub returns-clause-ellipsoid : goal.returns-clause-ellipsoid
-returns-clause-ellipsoid c level =
-    canonical-of c.text_laws.ensures c.written_items.ensures.formed item_ellipsoid (record {
-      decides = c.same_frames_have_one_form.ensures.ellipsoid level;
-      made = c.made_ellipsoid_is_normal.ensures level;
-      reads = c.frame_parts_are_read_back.ensures.ellipsoid level;
-      once = c.parts_read_once.ensures.ellipsoid;
-      sound = c.parts_are_sound.ensures.ellipsoid;
-      own = λ d i v shaped normal free. c.normal_ellipsoid_is_its_form.ensures level d i v shaped normal;
-    }) (omega arith)
-
-pub returns-clause-meridian : goal.returns-clause-meridian
-returns-clause-meridian c level =
-    canonical-of c.text_laws.ensures c.written_items.ensures.formed item_meridian (record {
-      decides = c.same_frames_have_one_form.ensures.given level;
-      made = c.made_meridian_is_normal.ensures level;
-      reads = c.frame_parts_are_read_back.ensures.given level;
-      once = c.parts_read_once.ensures.meridian;
-      sound = c.parts_are_sound.ensures.meridian class.PrimeMeridian;
-      own = λ d i v shaped normal free. c.normal_meridian_is_its_form.ensures level d i v shaped normal;
-    }) (omega arith)
-
-pub returns-clause-member : goal.returns-clause-member
-returns-clause-member c level =
-    canonical-of c.text_laws.ensures c.written_items.ensures.formed item_member (record {
-      decides = c.same_frames_have_one_form.ensures.member level;
-      made = c.made_member_is_normal.ensures level;
-      reads = c.members_are_read_back.ensures.member level;
-      once = c.members_read_once.ensures.member;
-      sound = c.parts_are_sound.ensures.member class.Member;
-      own = λ d i v shaped normal free. c.normal_member_is_its_form.ensures level d i v shaped normal;
-    }) (omega arith)
-
-pub returns-clause-along : goal.returns-clause-along
-returns-clause-along c level =
-    canonical-of c.text_laws.ensures c.written_items.ensures.formed item_axis_meridian (record {
-      decides = some-decides IsAxisMeridian (norm_axis_meridian level) (SameAxisMeridian level)
-          (λ a b p q. c.same_systems_have_one_form.ensures.meridian level (Some a) (Some b) p q);
-      made = c.made_axis_meridian_is_normal.ensures level;
-      reads = c.crs_parts_are_read_back.ensures.along level;
-      once = c.parts_read_once.ensures.along;
-      sound = c.parts_are_sound.ensures.along class.AxisMeridian;
-      own = λ d i v shaped normal free. c.normal_axis_is_its_form.ensures.meridian level d i v shaped normal;
-    }) (omega arith)
+pub returns : goal.returns
+returns c = record {
+  ellipsoid = λ level. canonical-of c.text_laws.ensures c.written_items.ensures.formed item_ellipsoid (record {
+    decides = c.same_frames_have_one_form.ensures.ellipsoid level;
+    made = c.made_ellipsoid_is_normal.ensures level;
+    reads = c.frame_parts_are_read_back.ensures.ellipsoid level;
+    once = c.parts_read_once.ensures.ellipsoid;
+    sound = c.parts_are_sound.ensures.ellipsoid;
+    own = λ d i v shaped normal free. c.normal_ellipsoid_is_its_form.ensures level d i v shaped normal;
+  }) (omega arith);
+  meridian = λ level. canonical-of c.text_laws.ensures c.written_items.ensures.formed item_meridian (record {
+    decides = c.same_frames_have_one_form.ensures.given level;
+    made = c.made_meridian_is_normal.ensures level;
+    reads = c.frame_parts_are_read_back.ensures.given level;
+    once = c.parts_read_once.ensures.meridian;
+    sound = c.parts_are_sound.ensures.meridian class.PrimeMeridian;
+    own = λ d i v shaped normal free. c.normal_meridian_is_its_form.ensures level d i v shaped normal;
+  }) (omega arith);
+  member = λ level. canonical-of c.text_laws.ensures c.written_items.ensures.formed item_member (record {
+    decides = c.same_frames_have_one_form.ensures.member level;
+    made = c.made_member_is_normal.ensures level;
+    reads = c.members_are_read_back.ensures.member level;
+    once = c.members_read_once.ensures.member;
+    sound = c.parts_are_sound.ensures.member class.Member;
+    own = λ d i v shaped normal free. c.normal_member_is_its_form.ensures level d i v shaped normal;
+  }) (omega arith);
+  along = λ level. canonical-of c.text_laws.ensures c.written_items.ensures.formed item_axis_meridian (record {
+    decides = some-decides IsAxisMeridian (norm_axis_meridian level) (SameAxisMeridian level)
+        (λ a b p q. c.same_systems_have_one_form.ensures.meridian level (Some a) (Some b) p q);
+    made = c.made_axis_meridian_is_normal.ensures level;
+    reads = c.crs_parts_are_read_back.ensures.along level;
+    once = c.parts_read_once.ensures.along;
+    sound = c.parts_are_sound.ensures.along class.AxisMeridian;
+    own = λ d i v shaped normal free. c.normal_axis_is_its_form.ensures.meridian level d i v shaped normal;
+  }) (omega arith);
+}

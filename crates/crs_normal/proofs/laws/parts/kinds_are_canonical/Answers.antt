@@ -7,61 +7,50 @@ use Rattle.crs_normal.proofs.parts.PartLemmas.{canonical-by, canonical-of, made-
 use Rattle.crs_normal.proofs.texts.RootLemmas.{is-geodetic}
 use Rattle.crs_normal.proofs.laws.parts.kinds_are_canonical.Goals as goal
 
-pub returns-clause-base : goal.returns-clause-base
-returns-clause-base c level =
-    canonical-of c.text_laws.ensures c.written_items.ensures.formed item_base (record {
-      decides = c.same_kinds_have_one_form.ensures.base level;
-      made = c.made_base_is_normal.ensures level;
-      reads = c.crs_parts_are_read_back.ensures.base level;
-      once = c.parts_read_once.ensures.base;
-      sound = c.parts_are_sound.ensures.base;
-      own = c.normal_base_is_its_form.ensures level;
-    }) (omega arith)
-
-pub returns-clause-geodetic : goal.returns-clause-geodetic
-returns-clause-geodetic c level =
-    let own = c.normal_crs_is_its_form.ensures in
-    canonical-by c.text_laws.ensures c.written_items.ensures.formed item_geodetic (record {
-      decides = c.same_kinds_have_one_form.ensures.geodetic level;
-      made = λ x s. made-stands (omega arith) (c.made_geodetic_is_normal.ensures level x 0 s);
-      reads = λ x s. (c.crs_is_read_back.ensures.reads level (crs.Geodetic x) 0 s).1;
-      told = geodetic-told level (c.written_forms_are_equal_where_same.ensures level)
-          (c.same_kinds_have_one_form.ensures.geodetic level);
-      sound = λ x s. c.kinds_are_sound.ensures.geodetic (geodetic_class x.system.system_type)
-          (is-geodetic x.system.system_type);
-      own = λ x s i v sound normal. own-geodetic level (own.geodetic level) (own.geographic level) x.system.system_type
-          (geodetic_class x.system.system_type) i v sound.shaped normal sound.unbroken;
-    })
-
-pub returns-clause-projected : goal.returns-clause-projected
-returns-clause-projected c level =
-    canonical-of c.text_laws.ensures c.written_items.ensures.formed item_projected (record {
-      decides = c.same_kinds_have_one_form.ensures.projected level;
-      made = c.made_projected_is_normal.ensures level;
-      reads = λ x place s. (c.crs_is_read_back.ensures.reads level (crs.Projected x) place s).1;
-      once = c.parts_read_once.ensures.projected;
-      sound = c.kinds_are_sound.ensures.projected;
-      own = c.normal_crs_is_its_form.ensures.projected level;
-    }) (omega arith)
-
-pub returns-clause-vertical : goal.returns-clause-vertical
-returns-clause-vertical c level =
-    canonical-of c.text_laws.ensures c.written_items.ensures.formed item_vertical (record {
-      decides = c.same_kinds_have_one_form.ensures.vertical level;
-      made = c.made_vertical_is_normal.ensures level;
-      reads = λ x place s. (c.crs_is_read_back.ensures.reads level (crs.Vertical x) place s).1;
-      once = c.parts_read_once.ensures.vertical;
-      sound = c.kinds_are_sound.ensures.vertical;
-      own = c.normal_crs_is_its_form.ensures.vertical level;
-    }) (omega arith)
-
-pub returns-clause-compound : goal.returns-clause-compound
-returns-clause-compound c level =
-    canonical-of c.text_laws.ensures c.written_items.ensures.formed item_compound (record {
-      decides = c.same_kinds_have_one_form.ensures.compound level;
-      made = c.made_compound_is_normal.ensures level;
-      reads = λ x place s. (c.crs_is_read_back.ensures.reads level (crs.Compound x) place s).1;
-      once = c.parts_read_once.ensures.compound;
-      sound = c.kinds_are_sound.ensures.compound;
-      own = c.normal_crs_is_its_form.ensures.compound level;
-    }) (omega arith)
+pub returns : goal.returns
+returns c = record {
+  base = λ level. canonical-of c.text_laws.ensures c.written_items.ensures.formed item_base (record {
+    decides = c.same_kinds_have_one_form.ensures.base level;
+    made = c.made_base_is_normal.ensures level;
+    reads = c.crs_parts_are_read_back.ensures.base level;
+    once = c.parts_read_once.ensures.base;
+    sound = c.parts_are_sound.ensures.base;
+    own = c.normal_base_is_its_form.ensures level;
+  }) (omega arith);
+  geodetic = λ level. let own = c.normal_crs_is_its_form.ensures in
+      canonical-by c.text_laws.ensures c.written_items.ensures.formed item_geodetic (record {
+        decides = c.same_kinds_have_one_form.ensures.geodetic level;
+        made = λ x s. made-stands (omega arith) (c.made_geodetic_is_normal.ensures level x 0 s);
+        reads = λ x s. (c.crs_is_read_back.ensures.reads level (crs.Geodetic x) 0 s).1;
+        told = geodetic-told level (c.written_forms_are_equal_where_same.ensures level)
+            (c.same_kinds_have_one_form.ensures.geodetic level);
+        sound = λ x s. c.kinds_are_sound.ensures.geodetic (geodetic_class x.system.system_type)
+            (is-geodetic x.system.system_type);
+        own = λ x s i v sound normal. own-geodetic level (own.geodetic level) (own.geographic level) x.system.system_type
+            (geodetic_class x.system.system_type) i v sound.shaped normal sound.unbroken;
+      });
+  projected = λ level. canonical-of c.text_laws.ensures c.written_items.ensures.formed item_projected (record {
+    decides = c.same_kinds_have_one_form.ensures.projected level;
+    made = c.made_projected_is_normal.ensures level;
+    reads = λ x place s. (c.crs_is_read_back.ensures.reads level (crs.Projected x) place s).1;
+    once = c.parts_read_once.ensures.projected;
+    sound = c.kinds_are_sound.ensures.projected;
+    own = c.normal_crs_is_its_form.ensures.projected level;
+  }) (omega arith);
+  vertical = λ level. canonical-of c.text_laws.ensures c.written_items.ensures.formed item_vertical (record {
+    decides = c.same_kinds_have_one_form.ensures.vertical level;
+    made = c.made_vertical_is_normal.ensures level;
+    reads = λ x place s. (c.crs_is_read_back.ensures.reads level (crs.Vertical x) place s).1;
+    once = c.parts_read_once.ensures.vertical;
+    sound = c.kinds_are_sound.ensures.vertical;
+    own = c.normal_crs_is_its_form.ensures.vertical level;
+  }) (omega arith);
+  compound = λ level. canonical-of c.text_laws.ensures c.written_items.ensures.formed item_compound (record {
+    decides = c.same_kinds_have_one_form.ensures.compound level;
+    made = c.made_compound_is_normal.ensures level;
+    reads = λ x place s. (c.crs_is_read_back.ensures.reads level (crs.Compound x) place s).1;
+    once = c.parts_read_once.ensures.compound;
+    sound = c.kinds_are_sound.ensures.compound;
+    own = c.normal_crs_is_its_form.ensures.compound level;
+  }) (omega arith);
+}
