@@ -71,7 +71,6 @@ pub fn parts_agree_where_same()
 pub fn same_method_is_equivalence()
     ensures { (level : Level) → IsSameness (AreSame parts_of_method level) }
 {
-    parts_agree_where_same();
     same_idents_is_equivalence();
 }
 
@@ -79,7 +78,6 @@ pub fn same_method_is_equivalence()
 pub fn same_conversion_is_equivalence()
     ensures { (level : Level) → IsSameness (AreSame parts_of_conversion level) }
 {
-    parts_agree_where_same();
     same_method_is_equivalence();
     same_parameter_is_equivalence();
     same_idents_is_equivalence();
@@ -89,7 +87,6 @@ pub fn same_conversion_is_equivalence()
 pub fn same_tail_is_equivalence()
     ensures { (level : Level) → IsSameness (AreSame parts_of_tail level) }
 {
-    parts_agree_where_same();
     same_usage_is_equivalence();
     same_idents_is_equivalence();
 }
@@ -98,7 +95,6 @@ pub fn same_tail_is_equivalence()
 pub fn same_ellipsoid_is_equivalence()
     ensures { (level : Level) → IsSameness (AreSame parts_of_ellipsoid level) }
 {
-    parts_agree_where_same();
     same_value_is_equivalence();
     same_length_is_equivalence();
     same_idents_is_equivalence();
@@ -109,7 +105,6 @@ pub fn same_meridian_is_equivalence()
     ensures given { (level : Level) → IsSameness (AreSame parts_of_given level) }
     ensures optional { (level : Level) → IsSameness (AreSame parts_of_meridian level) }
 {
-    parts_agree_where_same();
     same_value_is_equivalence();
     same_unit_is_equivalence();
     same_idents_is_equivalence();
@@ -149,7 +144,6 @@ pub fn same_frame_is_equivalence()
 pub fn same_dynamic_is_equivalence()
     ensures { (level : Level) → IsSameness (SameDynamic level) }
 {
-    parts_agree_where_same();
     same_value_is_equivalence();
     same_deformation_model_is_equivalence();
 }
