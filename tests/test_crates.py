@@ -1,0 +1,18 @@
+"""A crate uses the contracts of the crates below it, and none of their lemmas."""
+import re
+
+import pytest
+from support import ROOT
+
+CRATES = sorted(it.parent.name for it in (ROOT / "crates").glob("*/proofs"))
+CITED = re.compile(r"^(?:pub )?use Rattle\.(\w+)\.proofs\.([\w.\-]+?)(?:\.\{| as |$)", re.MULTILINE)
+# What the prover makes: that a function meets its contract, and that a type keeps its laws. Proofs of calls of C cite them.
+MADE = ("Met", "TheLaws")
+
+
+@pytest.mark.parametrize("crate", CRATES)
+def test_contracts_alone(crate: str) -> None:
+    for path in (ROOT / "crates" / crate / "proofs").rglob("*.antt"):
+        for owner, module in CITED.findall(path.read_text(encoding="utf-8")):
+            own = owner == crate or owner not in CRATES
+            assert own or module.rpartition(".")[2] in MADE, f"{path.relative_to(ROOT)} cites a lemma of {owner}: {module}"
