@@ -1,17 +1,18 @@
 -- The number that digits spell.
-use Rattle.std.proofs.Common.{◌≡◌, ℕ, zero, suc, ◌+◌, ◌-◌, ◌*◌, ◌^◌, ◌<◌, ◌≤◌, ◌⊎◌, inl, inr, Bool, true, false, nat_le, List, [], ◌∷◌, ◌++◌, length, replicate, fold, None, refl, sym, ap, ◌∙◌, arith, zero-add}
+use Rattle.std.proofs.Common.{◌≡◌, ℕ, zero, suc, ◌+◌, ◌-◌, ◌*◌, ◌^◌, ◌<◌, ◌≤◌, ◌⊎◌, inl, inr, Bool, true, false, nat_le, List, [], ◌∷◌, ◌++◌, length, replicate, fold, Option, None, refl, sym, ap, subst, ◌∙◌, arith, zero-add}
 use Rattle.std.specs.List.{list_all}
 use Rattle.std.proofs.lemmas.Bool.{and_parts, leb-true}
-use Rattle.std.proofs.lemmas.List.{append-nil}
+use Rattle.std.proofs.lemmas.List.{append-nil, length-append}
 use Rattle.std.proofs.lemmas.List.Sums.{fold-append}
 use Rattle.std.proofs.lemmas.Nat.{same_from_place}
 use Rattle.std.proofs.Math.Nat.{mul-le-mul_right}
-use Rattle.crs_decimal.specs.Spelling.{unsigned, Parts, is_digit, AreDigits}
-use Rattle.crs_decimal.specs.Bounds.{digits_value, Strips, number_of, IsMeasured, IsInBounds}
+use Rattle.crs_decimal.specs.Spelling.{unsigned, Parts, SpellsNumber, is_digit, AreDigits, fraction_digits, fraction_text, mantissa}
+use Rattle.crs_decimal.specs.Bounds.{digits_value, Strips, number_of, power_up, power_down, IsMeasured, IsInBounds}
 use Rattle.crs_decimal.specs.Number.{Number}
 use Rattle.crs_decimal.specs.Mantissa.{no_digits, with_digits}
 use Rattle.crs_decimal.proofs.MantissaLemmas.{shown, Shows, long_least, zero_scaled}
 use Rattle.crs_decimal.proofs.PowerLemmas.{power_next, power_grows}
+use Rattle.crs_decimal.proofs.SplitLemmas.{digits-append}
 
 -- the number of n's digits with these after them
 abbrev pub value_after : ℕ → List ℕ → ℕ
@@ -62,19 +63,19 @@ pub zeros_are_digits : (n : ℕ) → AreDigits (replicate n 48)
 zeros_are_digits zero = refl
 zeros_are_digits (suc n) = zeros_are_digits n
 
--- ---- a few digits alone are in bounds
+-- ---- a number without an exponent and with few digits is in bounds
 
 abbrev pub IsSmall : ℕ → Type 0
 IsSmall n = (n ≡ 0) ⊎ ((m k : ℕ) × Strips n m k × (m < 10 ^ 38) × (k ≤ 40))
 
-pub small_measured : (n : Number) → n.up ≡ 0 → n.down ≡ 0 → IsSmall n.digits → (n.digits ≡ 0) ⊎ IsMeasured n
+pub small_measured : (n : Number) → n.up ≡ 0 → n.down ≤ 40 → IsSmall n.digits → (n.digits ≡ 0) ⊎ IsMeasured n
 small_measured n up down (inl e) = inl e
 small_measured n up down (inr (m, k, t, u, v)) = inr (m, k, t, u, omega arith, omega arith)
 
-power_small : (d z n : ℕ) → n ≡ d * 10 ^ z → 0 < d → n < 10 ^ 18 → z ≤ 40
+power_small : (d z n : ℕ) → n ≡ d * 10 ^ z → 0 < d → n < 10 ^ 38 → z ≤ 40
 power_small d z n e some small = grind (arith, power_grows 40 z, mul-le-mul_right (10 ^ z) some)
 
-few_measured : (b : Bool) (n d z : ℕ) → Shows b n d z → n < 10 ^ 18 → IsSmall n
+few_measured : (b : Bool) (n d z : ℕ) → Shows b n d z → n < 10 ^ 38 → IsSmall n
 few_measured true n d z s small = let l = long_least n s.0 in absurd (omega arith)
 few_measured false n d z s small =
     elim s.2 [
@@ -82,20 +83,39 @@ few_measured false n d z s small =
       | inr e ↦ inl (s.0 ∙ zero_scaled d z e.0)
     ]
 
-pub digits_in_bounds : (ds : List ℕ) → AreDigits ds → 0 < length ds → length ds ≤ 18 → IsInBounds ds
-digits_in_bounds ds h some l =
+pub few_in_bounds : (bytes : List ℕ) (p : Parts) → SpellsNumber bytes p → p.exponent ≡ None → length (mantissa p) ≤ 38 → IsInBounds bytes
+few_in_bounds bytes p spells none few =
+    let ds = mantissa p in
     let m = with_digits no_digits ds in
-    let below = value-below ds h in
-    let most = power_grows (length ds) 18 l in
-    let small = few_measured m.is_long (digits_value ds) m.digits m.zeros (shown ds h) (omega arith) in (
-      parts,
-      (sym (append-nil ds) ∙ sym (append-nil (ds ++ [])), record { digits = rw append-nil h; some = rw append-nil some; exponent = tt }),
+    let below = value-below ds spells.1.digits in
+    let most = power_grows (length ds) 38 few in
+    let small = few_measured m.is_long (digits_value ds) m.digits m.zeros (shown ds spells.1.digits) (omega arith) in
+    let places = length-append p.whole (fraction_digits p.fraction) in (
+      p,
+      spells,
       record {
-        mantissa_digits = rw append-nil (omega arith);
-        exponent_digits = omega arith;
-        measured = small_measured (number_of parts) refl refl (rw append-nil small);
+        mantissa_digits = omega arith;
+        exponent_digits = rw none (omega arith);
+        measured = small_measured (number_of p) (ap power_up none) (omega (arith, ap power_down none)) small;
       },
     )
-  where
-    parts : Parts
-    parts = record { sign = unsigned; whole = ds; fraction = None; exponent = None }
+
+-- the parts of a spelling with neither sign nor exponent
+abbrev pub of_parts : List ℕ → Option (List ℕ) → Parts
+of_parts whole fraction = record { sign = unsigned; whole = whole; fraction = fraction; exponent = None }
+
+pub spelled : (whole : List ℕ) (fraction : Option (List ℕ)) → AreDigits whole → AreDigits (fraction_digits fraction) → 0 < length whole →
+    SpellsNumber (whole ++ fraction_text fraction) (of_parts whole fraction)
+spelled whole fraction dw df some = (
+  sym (append-nil (whole ++ fraction_text fraction)),
+  record {
+    digits = digits-append whole (fraction_digits fraction) dw df;
+    some = omega (arith, some, length-append whole (fraction_digits fraction));
+    exponent = tt;
+  },
+)
+
+pub digits_in_bounds : (ds : List ℕ) → AreDigits ds → 0 < length ds → length ds ≤ 18 → IsInBounds ds
+digits_in_bounds ds h some few =
+    let own : SpellsNumber ds (of_parts ds None) = subst (λ bytes. SpellsNumber bytes (of_parts ds None)) (append-nil ds) (spelled ds None h refl some) in
+    few_in_bounds ds (of_parts ds None) own refl (omega (arith, few, ap length (append-nil ds)))

@@ -4,6 +4,7 @@ pub mod DecimalLemmas
 pub mod DigitLemmas
 pub mod MantissaLemmas
 pub mod NumberLemmas
+pub mod PlainBytesLemmas
 pub mod PlainLemmas
 pub mod PowerLemmas
 pub mod RunLemmas

@@ -98,7 +98,7 @@ whole_written v n e l small last =
     let number = whole_value n v.digits ds h in
     rw append-nil at (written_by v w None n (rw append-nil (digits-append ds (replicate n 48) h.digits (zeros_are_digits n))) (whole_trimmed v n ds e h last) tt
     (λ s. inl (whole_above v n ds h last s)) number (omega (arith, ap up_of e, ap down_of e))
-    (small_measured (number_of (signed v.negative w None)) refl refl (whole_measured v n (digits_value (w ++ [])) number l small last))
+    (small_measured (number_of (signed v.negative w None)) refl (omega arith) (whole_measured v n (digits_value (w ++ [])) number l small last))
     (omega arith) (omega arith))
 
 -- ---- fractions

@@ -5,6 +5,7 @@ pub mod Fault
 pub mod Mantissa
 pub mod Number
 pub mod Plain
+pub mod PlainBytes
 pub mod Prelude
 pub mod Short
 pub mod Sign

@@ -154,7 +154,7 @@ fn cut_digits(bytes: &[u8]) -> (&[u8], &[u8])
     (front_of(bytes, count), rest_of(bytes, count))
 }
 
-fn digits_len(bytes: &[u8]) -> usize
+pub(crate) fn digits_len(bytes: &[u8]) -> usize
     ensures value { result ≡ prefix_len is_digit bytes.now }
     ensures bound { result ≤ length bytes.now }
 {
@@ -164,7 +164,7 @@ fn digits_len(bytes: &[u8]) -> usize
         .count()
 }
 
-fn front_of(bytes: &[u8], to: usize) -> &[u8]
+pub(crate) fn front_of(bytes: &[u8], to: usize) -> &[u8]
     requires { to ≤ length bytes.now }
     ensures { result.now ≡ take to bytes.now }
 {

@@ -1,12 +1,12 @@
 //! Laws of the definitions, as contracts of functions that do nothing.
 
-ghost use Rattle.std.specs.Prelude.{◌≡◌, ℕ, ◌<◌, ◌≤◌, ◌↔◌, ◌⊎◌, IsTrue, List, length};
+ghost use Rattle.std.specs.Prelude.{◌≡◌, ℕ, ◌<◌, ◌≤◌, ◌↔◌, ◌⊎◌, IsTrue, List, None, length};
 ghost use Rattle.std.specs.List.{list_all};
 ghost use Rattle.crs_decimal.specs.Bounds.{IsInBounds, Denotes};
 ghost use Rattle.crs_decimal.specs.Examples.{SpellingsDenote, SpellingsFail, ValuesArePlain};
 ghost use Rattle.crs_decimal.specs.Number.{Number, SameNumber};
 ghost use Rattle.crs_decimal.specs.Plain.{IsPlain, is_plain_byte, plain};
-ghost use Rattle.crs_decimal.specs.Spelling.{Parts, SpellsNumber, HasForm, IsRun, AreDigits};
+ghost use Rattle.crs_decimal.specs.Spelling.{Parts, SpellsNumber, HasForm, IsRun, AreDigits, mantissa};
 ghost use Rattle.crs_decimal.specs.Value.{Value, IsNormal, exact};
 
 /// Bytes spell the parts of a number in one way at most.
@@ -39,6 +39,12 @@ pub fn same_number_is_equivalence()
 #[tactic(auto, using(crate::proofs::RunLemmas::form_is_run))]
 pub fn spelled_as_a_run()
     ensures { (bytes : List ℕ) → HasForm bytes → IsRun bytes }
+{}
+
+/// A number without an exponent and with at most 38 digits is in bounds, whatever the digits are.
+pub fn few_digits()
+    ensures { (bytes : List ℕ) (p : Parts) → SpellsNumber bytes p → p.exponent ≡ None →
+        length (mantissa p) ≤ 38 → IsInBounds bytes }
 {}
 
 /// At most 18 digits alone are a number in bounds.

@@ -7,8 +7,7 @@ ghost use Rattle.crs_nodes.specs.Found.{IsNumber};
 ghost use Rattle.crs_leaves.specs.Direct.{Writes};
 
 use crate::texts::{append, write_decimal};
-use crs_decimal::Decimal;
-use crs_nodes::plain_of;
+use crs_decimal::{Decimal, plain_of};
 use itoa::Buffer;
 use std::alloc::AllocError;
 

@@ -3,5 +3,4 @@ pub mod CopiedDatumLemmas
 pub mod CopiedLemmas
 pub mod CopiedUsageLemmas
 pub mod DirectFlatLemmas
-pub mod DirectPlainLemmas
 pub mod PlainLemmas

@@ -21,7 +21,7 @@ ghost use Rattle.crs_nodes.specs.Cursor.{item};
 use crate::digits::is_short;
 use crate::level::keeps;
 use crate::node::Node;
-use crate::plain::is_plain;
+use crs_decimal::is_plain;
 use crs_shape::{Class, Direction};
 use crs_text::{ItemId, ItemKind, Items};
 use crs_value::Level;

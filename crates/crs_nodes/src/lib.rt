@@ -1,5 +1,5 @@
-//! Items of a text as nodes of a class: their arguments by class, one after another, and those nodes and numbers that are
-//! in their canonical form as they stand.
+//! Items of a text as nodes of a class: their arguments by class, one after another, and those nodes that are in their
+//! canonical form as they stand.
 #![tactic(auto)]
 
 mod chain;
@@ -8,10 +8,8 @@ mod digits;
 mod level;
 pub mod lookup;
 mod node;
-mod plain;
 
 pub use chain::Chain;
 pub use digits::is_short;
 pub use level::keeps;
 pub use node::Node;
-pub use plain::plain_of;

@@ -4,12 +4,17 @@ use Rattle.std.specs.List.{prefix_len, slice_get}
 use Rattle.std.proofs.lemmas.Bool.{eqb-false, eqb-true}
 use Rattle.std.proofs.lemmas.List.{append-nil, length-append, take-append-drop, take_more}
 use Rattle.std.proofs.lemmas.List.Sums.{fold-append}
-use Rattle.crs_decimal.specs.Prelude.{EndsTrim, IsFractionNeeded, IsPlain, IsTrim, digits_value, number_of, Denotes, IsBounded, IsMeasured, Number, SameNumber, SameSize, AreDigits, is_digit, Sign, unsigned, plus, minus, Exponent, Parts, SpellsNumber, exponent_text, fraction_digits, fraction_text}
+use Rattle.crs_decimal.specs.Bounds.{digits_value, number_of, Denotes, IsBounded, IsMeasured}
+use Rattle.crs_decimal.specs.Number.{Number, SameNumber, SameSize}
+use Rattle.crs_decimal.specs.Plain.{EndsTrim, IsFractionNeeded, IsPlain, IsTrim}
+use Rattle.crs_decimal.specs.PlainBytes.{IsPlainRest, IsUnsigned}
+use Rattle.crs_decimal.specs.Spelling.{AreDigits, is_digit, Sign, unsigned, plus, minus, Exponent, Parts, SpellsNumber, exponent_text, fraction_digits, fraction_text}
+use Rattle.crs_decimal.proofs.BoundLemmas.{same_scaled}
+use Rattle.crs_decimal.proofs.DecimalLemmas.{above_some}
+use Rattle.crs_decimal.proofs.DigitLemmas.{of_parts, spelled}
+use Rattle.crs_decimal.proofs.NumberLemmas.{transitive}
 use Rattle.crs_decimal.proofs.PowerLemmas.{power_next}
 use Rattle.crs_decimal.proofs.SplitLemmas.{digits-append, digits_parts, front_digits, parts_one}
-use Rattle.crs_decimal.proofs.BoundLemmas.{same_scaled}
-use Rattle.crs_decimal.proofs.NumberLemmas.{transitive}
-use Rattle.crs_nodes.specs.PlainBytes.{IsPlainRest, IsUnsigned}
 
 pub ends-by : (ds : List ℕ) (d : ℕ) → slice_get ds (length ds - 1) ≡ Some d → d ≢ 48 → EndsTrim ds
 ends-by [] d e n = let h : ⊥ = cc in absurd h
@@ -18,29 +23,12 @@ ends-by (x ∷ y ∷ ds) d e n =
     let k : length (x ∷ y ∷ ds) - 1 ≡ suc (length (y ∷ ds) - 1) = omega arith in
     ends-by (y ∷ ds) d (subst (λ i. slice_get (x ∷ y ∷ ds) i ≡ Some d) k e) n
 
-abbrev of_parts : List ℕ → Option (List ℕ) → Parts
-of_parts whole fraction = record { sign = unsigned; whole = whole; fraction = fraction; exponent = None }
-
-spelled : (whole : List ℕ) (fraction : Option (List ℕ)) → AreDigits whole → AreDigits (fraction_digits fraction) → 0 < length whole →
-    SpellsNumber (whole ++ fraction_text fraction) (of_parts whole fraction)
-spelled whole fraction dw df some = (
-  sym (append-nil (whole ++ fraction_text fraction)),
-  record {
-    digits = digits-append whole (fraction_digits fraction) dw df;
-    some = omega (arith, some, length-append whole (fraction_digits fraction));
-    exponent = tt;
-  },
-)
-
-some-whole : (whole : List ℕ) → IsTrim whole → 0 < length whole
-some-whole whole trim = grind arith
-
 unsigned-by : (raw whole : List ℕ) (fraction : Option (List ℕ)) → raw ≡ whole ++ fraction_text fraction → AreDigits whole → AreDigits (fraction_digits fraction) →
     IsTrim whole → IsFractionNeeded fraction → IsUnsigned raw
 unsigned-by raw whole fraction e dw df trim ends = rw e (record {
   plain = record {
     parts = of_parts whole fraction;
-    spells = spelled whole fraction dw df (some-whole whole trim);
+    spells = spelled whole fraction dw df (above_some whole trim);
     sign = inl refl;
     whole = trim;
     fraction = ends;
@@ -177,7 +165,7 @@ pub trim-off : (raw fr : List ℕ) (count kept : ℕ) (n : Number) → count ≡
 trim-off raw fr count kept n is trim behind df zeros h =
     let whole = take count raw in
     let dw : AreDigits whole = rw is (front_digits raw) in
-    let long = some-whole whole trim in
+    let long = above_some whole trim in
     let digits = (digits_parts (take kept fr) (replicate (length fr - kept) 48) (rw zeros at df)).0 in
     let d : Denotes (whole ++ 46 ∷ take kept fr) n =
     zeros-off (length fr - kept) whole (take kept fr) n dw digits long (rw (← take-append-drop count raw, behind, zeros) at h) in

@@ -1,37 +1,21 @@
-//! Numbers that are written as they are, or as a part of what is there.
+//! Spellings that are plain, or of which a part is.
 ghost use Rattle.std.specs.Prelude.{◌≡◌, ◌≢◌, ◌<◌, ◌≤◌, ◌∷◌, ◌+◌, ◌-◌, ◌==◌, ◌++◌, if◌then◌else◌, IfSome, IsTrue};
-ghost use Rattle.std.specs.Prelude.{length, take, drop, replicate, slice_index_or};
-ghost use Rattle.std.specs.List.{prefix_len};
+ghost use Rattle.std.specs.Prelude.{length, take, replicate, slice_index_or};
+ghost use Rattle.std.specs.List.{list_all};
 ghost use Rattle.crs_decimal.specs.Bounds.{Denotes};
 ghost use Rattle.crs_decimal.specs.Number.{Number};
 ghost use Rattle.crs_decimal.specs.Plain.{EndsTrim, IsPlain, IsTrim};
 ghost use Rattle.crs_decimal.specs.Spelling.{AreDigits, is_digit};
-ghost use Rattle.crs_nodes.specs.PlainBytes.{IsPlainRest, IsUnsigned};
+ghost use Rattle.crs_decimal.specs.PlainBytes.{IsPlainRest, IsUnsigned};
 
-use crate::digits::are_digits;
+use crate::cutting::{digits_len, front_of, rest_of};
 
-fn digits_len(bytes: &[u8]) -> usize
-    ensures value { result ≡ prefix_len is_digit bytes.now }
-    ensures bound { result ≤ length bytes.now }
+/// Whether bytes are digits alone.
+#[inline]
+pub fn are_digits(raw: &[u8]) -> bool
+    ensures { result ≡ list_all is_digit raw.now }
 {
-    bytes
-        .iter()
-        .take_while(|byte| byte.is_ascii_digit())
-        .count()
-}
-
-fn front_of(bytes: &[u8], to: usize) -> &[u8]
-    requires { to ≤ length bytes.now }
-    ensures { result.now ≡ take to bytes.now }
-{
-    &bytes[..to]
-}
-
-fn rest_of(bytes: &[u8], from: usize) -> &[u8]
-    requires { from ≤ length bytes.now }
-    ensures { result.now ≡ drop from bytes.now }
-{
-    &bytes[from..]
+    raw.iter().all(|byte| byte.is_ascii_digit())
 }
 
 // Whether digits begin with no zero, or are one zero alone.
@@ -82,19 +66,14 @@ fn is_below_zero(rest: &[u8]) -> bool
     rest.len() > 1 && is_unsigned(rest)
 }
 
-// Whether these bytes are a plain spelling, as is told at a glance of most that are.
-pub(crate) fn is_plain(raw: &[u8]) -> bool
+/// Whether these bytes are a plain spelling, as is told at a glance of most that are. Profile.
+#[inline]
+pub fn is_plain(raw: &[u8]) -> bool
     ensures { IsTrue result → IsPlain raw.now }
 {
-    match raw.split_first() {
-        None => false,
-        Some((sign, rest)) => {
-            if *sign == b'-' {
-                is_below_zero(rest)
-            } else {
-                is_unsigned(raw)
-            }
-        }
+    match raw {
+        [b'-', rest @ ..] => is_below_zero(rest),
+        _ => is_unsigned(raw),
     }
 }
 
@@ -133,15 +112,16 @@ fn unsigned_plain(raw: &[u8]) -> Option<&[u8]>
     if !begins_trim(front_of(raw, count)) {
         return None;
     }
-    match rest_of(raw, count).split_first() {
-        None => Some(raw),
-        Some((period, fraction)) => {
-            if *period == b'.' && are_digits(fraction) {
+    match rest_of(raw, count) {
+        [] => Some(raw),
+        [b'.', fraction @ ..] => {
+            if are_digits(fraction) {
                 Some(front_with(raw, count, kept_len(fraction)))
             } else {
                 None
             }
         }
+        _ => None,
     }
 }
 
@@ -150,16 +130,9 @@ pub fn plain_of(raw: &[u8]) -> Option<&[u8]>
     ensures plain { IfSome result (λ part. IsPlain part.now) }
     ensures same { IfSome result (λ part. (number : Number) → Denotes raw.now number → Denotes part.now number) }
 {
-    match raw.split_first() {
-        None => None,
-        Some((sign, rest)) => {
-            if *sign == b'+' {
-                unsigned_plain(rest)
-            } else if *sign == b'-' {
-                if is_below_zero(rest) { Some(raw) } else { None }
-            } else {
-                unsigned_plain(raw)
-            }
-        }
+    match raw {
+        [b'+', rest @ ..] => unsigned_plain(rest),
+        [b'-', rest @ ..] => { if is_below_zero(rest) { Some(raw) } else { None } }
+        _ => unsigned_plain(raw),
     }
 }

@@ -1,5 +1,5 @@
 use Rattle.std.proofs.Common.{◌≡◌, ◌≤◌, ◌-◌, ◌++◌, length, replicate, take}
-use Rattle.crs_nodes.proofs.plain.kept_len.Given as goal
+use Rattle.crs_decimal.proofs.plain.kept_len.Given as goal
 
 abbrev pub invariant-loop-end : goal.invariant-loop-end
 invariant-loop-end l =

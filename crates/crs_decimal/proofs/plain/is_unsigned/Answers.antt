@@ -1,5 +1,5 @@
-use Rattle.crs_nodes.proofs.DirectPlainLemmas.{plain-by}
-use Rattle.crs_nodes.proofs.plain.is_unsigned.Goals as goal
+use Rattle.crs_decimal.proofs.PlainBytesLemmas.{plain-by}
+use Rattle.crs_decimal.proofs.plain.is_unsigned.Goals as goal
 
 pub returns-then-begins_trim : goal.returns-then-begins_trim
 returns-then-begins_trim c = λ h.
