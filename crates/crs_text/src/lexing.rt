@@ -172,45 +172,16 @@ fn run(left: &[u8]) -> Lexed
 // The most bytes of a number that is told by its form alone: with so many digits it is in bounds.
 const PLAIN_LIMIT: usize = 38;
 
-fn begins_with_minus(bytes: &[u8]) -> bool
-    ensures { IsTrue result → bytes.now ≡ 45 ∷ drop 1 bytes.now }
-{
-    match bytes {
-        [b'-', ..] => true,
-        _ => false,
-    }
-}
-
-fn begins_with_plus(bytes: &[u8]) -> bool
-    ensures { IsTrue result → bytes.now ≡ 43 ∷ drop 1 bytes.now }
-{
-    match bytes {
-        [b'+', ..] => true,
-        _ => false,
-    }
-}
-
-fn begins_with_point(bytes: &[u8]) -> bool
-    ensures { IsTrue result → bytes.now ≡ 46 ∷ drop 1 bytes.now }
-{
-    match bytes {
-        [b'.', ..] => true,
-        _ => false,
-    }
-}
-
 #[inline(always)]
 fn sign_length(left: &[u8]) -> usize
     ensures signed { IsSigned left.now result }
     ensures within { result ≤ length left.now }
 {
-    if begins_with_minus(left) {
-        return 1;
+    match left {
+        [b'-', ..] => 1,
+        [b'+', ..] => 1,
+        _ => 0,
     }
-    if begins_with_plus(left) {
-        return 1;
-    }
-    0
 }
 
 #[inline(always)]
@@ -218,10 +189,10 @@ fn fraction_length(left: &[u8]) -> usize
     ensures fraction { IsFractional left.now result }
     ensures within { result ≤ length left.now }
 {
-    if begins_with_point(left) {
-        return 1 + digit_length(rest_of(left, 1));
+    match left {
+        [b'.', ..] => 1 + digit_length(rest_of(left, 1)),
+        _ => 0,
     }
-    0
 }
 
 // Whether one digit comes first, and then a byte that is behind most such numbers.
@@ -241,6 +212,8 @@ fn is_one_digit(left: &[u8]) -> bool
 pub(crate) fn plain_number_length(left: &[u8]) -> Option<usize>
     ensures { IfSome result (λ n. IsLexed left.now (Lexed.Number n)) }
 {
+    crs_decimal::laws::few_digits();
+    crs_decimal::laws::spelled_as_a_run();
     if is_one_digit(left) {
         return Some(1);
     }

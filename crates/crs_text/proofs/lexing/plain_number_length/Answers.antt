@@ -10,9 +10,9 @@ returns-then-ends_run c =
     let w = c.digit_length-whole.result in
     let f = c.fraction_length-fraction.result in
     let behind = c.rest_of-behind.ensures ∙ ap (drop w) c.rest_of-unsigned.ensures in
-    plain_lexed c.args.left.now s w f c.sign_length-start.ensures.signed (c.digit_length-whole.ensures.value ∙ ap (prefix_len is_digit) c.rest_of-unsigned.ensures) (omega (arith, c.if-whole-eq0.false))
+    plain_lexed c.few_digits.ensures c.spelled_as_a_run.ensures c.args.left.now s w f c.sign_length-start.ensures.signed (c.digit_length-whole.ensures.value ∙ ap (prefix_len is_digit) c.rest_of-unsigned.ensures) (omega (arith, c.if-whole-eq0.false))
     (rw behind at c.fraction_length-fraction.ensures.fraction) (omega (arith, c.if-whole-fraction-gt-PLAIN_LIMIT.false))
     (rw (c.rest_of.ensures ∙ ap (drop f) behind) at (c.ends_run.ensures c.if-ends_run.true))
 
 pub returns-then-is_one_digit : goal.returns-then-is_one_digit
-returns-then-is_one_digit c = one_digit_lexed c.args.left.now (c.is_one_digit.ensures c.if-is_one_digit.true)
+returns-then-is_one_digit c = one_digit_lexed c.few_digits.ensures c.spelled_as_a_run.ensures c.args.left.now (c.is_one_digit.ensures c.if-is_one_digit.true)
