@@ -1,5 +1,5 @@
 -- A bridge: how far the scan has come.
-use Rattle.std.specs.Prelude.{◌≡◌, ℕ, ◌+◌, ◌≤◌, List, [], length, drop, Some}
+use Rattle.std.specs.Prelude.{◌≡◌, ℕ, ◌+◌, ◌<◌, ◌≤◌, List, [], length, drop, Some}
 use Rattle.std.specs.List.{prefix_len}
 use Rattle.crs_text.specs.Tokens.{Kind, Token, single, Forms, Fronts, is_white}
 use Rattle.crs_text.specs.TextFault.{reason_number, IsStop, SpellsNode}
@@ -19,6 +19,10 @@ pub record IsReached (text : List ℕ) (table : Flat) (at : ℕ) : Type 0 where
   pub shows : Shows tokens table
   pub fronts : Fronts (length text) text tokens (drop at text)
   pub within : at ≤ length text
+
+-- the table shows the tokens before this place, which is further on than the one that it was at
+abbrev pub IsFurther : List ℕ → ℕ → Flat → ℕ → Type 0
+IsFurther text from table at = IsReached text table at × (from < at)
 
 -- the table shows the tokens before this place, at which white space may come
 abbrev pub IsPassed : List ℕ → Flat → ℕ → Type 0

@@ -8,8 +8,9 @@ ghost use Rattle.crs_text.specs.Feeding.{IsSettledTo, IsRefusalOf};
 use crate::fault::Fault;
 use crate::feeding::{Held, Pending, read_on};
 use crate::items::Items;
+use crate::reading::items_in;
 use crate::refusal::Refusal;
-use crate::scanning::{after_white, scan_from};
+use crate::scanning::after_white;
 use crate::table::Table;
 use std::alloc::Global;
 use std::marker::Model;
@@ -132,18 +133,7 @@ fn finished<'a>(alloc: Global, text: &'a [u8], table: &Table, at: usize) -> Resu
     ensures { MatchResult result (SpellsNode text.now) (IsTextFault text.now) }
 {
     match table.copied(alloc) {
-        Ok(copy) => whole(text, copy, at),
+        Ok(copy) => items_in(copy, text, at),
         Err(refused) => Err(Fault::Memory(refused)),
-    }
-}
-
-fn whole<'a>(text: &'a [u8], table: Table, at: usize) -> Result<Items<'a>, Fault>
-    requires { IsReached text.now table at }
-    ensures { MatchResult result (SpellsNode text.now) (IsTextFault text.now) }
-{
-    let mut table = table;
-    match scan_from(&mut table, text, at) {
-        Ok(()) => Ok(Items::from_table(text, table)),
-        Err(fault) => Err(fault),
     }
 }

@@ -253,148 +253,93 @@ struct Suspect {
     keyword: Option<Keyword>,
 }
 
-// rows of words, each with the keyword that it is, its length and its letters
-macro_rules! by_fingerprint {
-    ($($keyword:expr => $length:literal $letters:literal),* $(,)?) => {
-        &[$(Suspect { letters: $letters, length: $length, keyword: $keyword }),*]
+// a word with the keyword that it is, its length and its letters; `_` is `ID`
+macro_rules! suspect {
+    (_) => {
+        Suspect { letters: b"ID              ", length: 2, keyword: Some(Keyword::Id) }
+    };
+    (($keyword:expr => $length:literal $letters:literal)) => {
+        Suspect { letters: $letters, length: $length, keyword: $keyword }
     };
 }
 
-// For each fingerprint the keyword that has it, or a word that is none and comes often; `ID` where there is neither.
+// rows of such words
+macro_rules! by_fingerprint {
+    ($($row:tt)*) => {
+        &[$(suspect!($row)),*]
+    };
+}
+
+// For each fingerprint, from 0 on, the keyword that has it, or a word that is none and comes often; `_` is `ID`, also
+// where there is neither.
 #[inline(always)]
 fn suspects() -> &'static [Suspect]
     ensures rows { AreSuspects result.now }
     ensures count { length result.now ≡ 128 }
 {
     by_fingerprint! {
-        Some(Keyword::Id) => 2 b"ID              ",
-        Some(Keyword::Id) => 2 b"ID              ",
-        Some(Keyword::Id) => 2 b"ID              ",
-        Some(Keyword::Id) => 2 b"ID              ",
-        Some(Keyword::LengthUnit) => 10 b"LENGTHUNIT      ",
-        Some(Keyword::Id) => 2 b"ID              ",
-        Some(Keyword::Id) => 2 b"ID              ",
-        Some(Keyword::BaseGeogCrs) => 11 b"BASEGEOGCRS     ",
-        Some(Keyword::Id) => 2 b"ID              ",
-        Some(Keyword::ProjectedCrs) => 12 b"PROJECTEDCRS    ",
-        None => 11 b"GEOCENTRICX     ",
-        Some(Keyword::Id) => 2 b"ID              ",
-        Some(Keyword::Id) => 2 b"ID              ",
-        Some(Keyword::Id) => 2 b"ID              ",
-        Some(Keyword::Id) => 2 b"ID              ",
-        Some(Keyword::Id) => 2 b"ID              ",
-        None => 8 b"VERTICAL        ",
-        Some(Keyword::Id) => 2 b"ID              ",
-        Some(Keyword::BaseGeodCrs) => 11 b"BASEGEODCRS     ",
-        Some(Keyword::Id) => 2 b"ID              ",
-        Some(Keyword::AnchorEpoch) => 11 b"ANCHOREPOCH     ",
-        Some(Keyword::BBox) => 4 b"BBOX            ",
-        Some(Keyword::GeodCrs) => 7 b"GEODCRS         ",
-        Some(Keyword::VerticalCrs) => 11 b"VERTICALCRS     ",
-        Some(Keyword::VelocityGrid) => 12 b"VELOCITYGRID    ",
-        Some(Keyword::Id) => 2 b"ID              ",
-        Some(Keyword::Id) => 2 b"ID              ",
-        Some(Keyword::Id) => 2 b"ID              ",
-        Some(Keyword::CompoundCrs) => 11 b"COMPOUNDCRS     ",
-        None => 4 b"WEST            ",
-        Some(Keyword::Id) => 2 b"ID              ",
-        Some(Keyword::VerticalExtent) => 14 b"VERTICALEXTENT  ",
-        Some(Keyword::Projection) => 10 b"PROJECTION      ",
-        Some(Keyword::GeogCrs) => 7 b"GEOGCRS         ",
-        Some(Keyword::Id) => 2 b"ID              ",
-        Some(Keyword::Trf) => 3 b"TRF             ",
-        Some(Keyword::Id) => 2 b"ID              ",
-        None => 11 b"ELLIPSOIDAL     ",
-        Some(Keyword::Id) => 2 b"ID              ",
-        Some(Keyword::Method) => 6 b"METHOD          ",
-        Some(Keyword::Id) => 2 b"ID              ",
-        Some(Keyword::Id) => 2 b"ID              ",
-        Some(Keyword::Id) => 2 b"ID              ",
-        Some(Keyword::Id) => 2 b"ID              ",
-        None => 9 b"SPHERICAL       ",
-        Some(Keyword::Parameter) => 9 b"PARAMETER       ",
-        Some(Keyword::Usage) => 5 b"USAGE           ",
-        Some(Keyword::Id) => 2 b"ID              ",
-        Some(Keyword::GeodeticCrs) => 11 b"GEODETICCRS     ",
-        Some(Keyword::Id) => 2 b"ID              ",
-        Some(Keyword::GeographicCrs) => 13 b"GEOGRAPHICCRS   ",
-        Some(Keyword::FrameEpoch) => 10 b"FRAMEEPOCH      ",
-        Some(Keyword::Id) => 2 b"ID              ",
-        Some(Keyword::Id) => 2 b"ID              ",
-        Some(Keyword::Ensemble) => 8 b"ENSEMBLE        ",
-        Some(Keyword::Id) => 2 b"ID              ",
-        Some(Keyword::Member) => 6 b"MEMBER          ",
-        Some(Keyword::Id) => 2 b"ID              ",
-        Some(Keyword::Id) => 2 b"ID              ",
-        Some(Keyword::Id) => 2 b"ID              ",
-        Some(Keyword::Datum) => 5 b"DATUM           ",
-        None => 2 b"UP              ",
-        Some(Keyword::Id) => 2 b"ID              ",
-        Some(Keyword::Id) => 2 b"ID              ",
-        Some(Keyword::Id) => 2 b"ID              ",
-        None => 9 b"CARTESIAN       ",
-        Some(Keyword::ScaleUnit) => 9 b"SCALEUNIT       ",
-        Some(Keyword::VDatum) => 6 b"VDATUM          ",
-        Some(Keyword::Scope) => 5 b"SCOPE           ",
-        Some(Keyword::Spheroid) => 8 b"SPHEROID        ",
-        Some(Keyword::Id) => 2 b"ID              ",
-        Some(Keyword::VerticalDatum) => 13 b"VERTICALDATUM   ",
-        Some(Keyword::Id) => 2 b"ID              ",
-        Some(Keyword::Conversion) => 10 b"CONVERSION      ",
-        Some(Keyword::PrimeMeridian) => 13 b"PRIMEMERIDIAN   ",
-        Some(Keyword::ProjCrs) => 7 b"PROJCRS         ",
-        Some(Keyword::Axis) => 4 b"AXIS            ",
-        Some(Keyword::Citation) => 8 b"CITATION        ",
-        None => 4 b"DOWN            ",
-        Some(Keyword::Id) => 2 b"ID              ",
-        Some(Keyword::PrimeM) => 6 b"PRIMEM          ",
-        None => 5 b"NORTH           ",
-        Some(Keyword::Vrf) => 3 b"VRF             ",
-        Some(Keyword::Id) => 2 b"ID              ",
-        Some(Keyword::Id) => 2 b"ID              ",
-        Some(Keyword::Id) => 2 b"ID              ",
-        Some(Keyword::Area) => 4 b"AREA            ",
-        Some(Keyword::Id) => 2 b"ID              ",
-        Some(Keyword::Id) => 2 b"ID              ",
-        Some(Keyword::Id) => 2 b"ID              ",
-        None => 4 b"EAST            ",
-        Some(Keyword::Id) => 2 b"ID              ",
-        Some(Keyword::Id) => 2 b"ID              ",
-        Some(Keyword::Id) => 2 b"ID              ",
-        Some(Keyword::Id) => 2 b"ID              ",
-        Some(Keyword::Id) => 2 b"ID              ",
-        Some(Keyword::GeodeticDatum) => 13 b"GEODETICDATUM   ",
-        Some(Keyword::Id) => 2 b"ID              ",
-        Some(Keyword::Cs) => 2 b"CS              ",
-        Some(Keyword::VertCrs) => 7 b"VERTCRS         ",
-        Some(Keyword::Id) => 2 b"ID              ",
-        Some(Keyword::Id) => 2 b"ID              ",
-        Some(Keyword::Id) => 2 b"ID              ",
-        Some(Keyword::Id) => 2 b"ID              ",
-        Some(Keyword::Uri) => 3 b"URI             ",
-        Some(Keyword::Id) => 2 b"ID              ",
-        Some(Keyword::Id) => 2 b"ID              ",
-        Some(Keyword::Dynamic) => 7 b"DYNAMIC         ",
-        Some(Keyword::Id) => 2 b"ID              ",
-        Some(Keyword::Anchor) => 6 b"ANCHOR          ",
-        Some(Keyword::Id) => 2 b"ID              ",
-        Some(Keyword::AngleUnit) => 9 b"ANGLEUNIT       ",
-        Some(Keyword::Id) => 2 b"ID              ",
-        Some(Keyword::Id) => 2 b"ID              ",
-        Some(Keyword::Model) => 5 b"MODEL           ",
-        Some(Keyword::PlainUnit) => 4 b"UNIT            ",
-        Some(Keyword::EnsembleAccuracy) => 16 b"ENSEMBLEACCURACY",
-        None => 5 b"SOUTH           ",
-        Some(Keyword::Ellipsoid) => 9 b"ELLIPSOID       ",
-        Some(Keyword::Remark) => 6 b"REMARK          ",
-        Some(Keyword::Meridian) => 8 b"MERIDIAN        ",
-        Some(Keyword::Id) => 2 b"ID              ",
-        Some(Keyword::Order) => 5 b"ORDER           ",
-        Some(Keyword::Id) => 2 b"ID              ",
-        Some(Keyword::Id) => 2 b"ID              ",
-        Some(Keyword::Id) => 2 b"ID              ",
-        Some(Keyword::Id) => 2 b"ID              ",
-        Some(Keyword::GeoidModel) => 10 b"GEOIDMODEL      ",
+        _ _ _ _ (Some(Keyword::LengthUnit) => 10 b"LENGTHUNIT      ")
+        _ _ (Some(Keyword::BaseGeogCrs) => 11 b"BASEGEOGCRS     ")
+        _ (Some(Keyword::ProjectedCrs) => 12 b"PROJECTEDCRS    ")
+        (None => 11 b"GEOCENTRICX     ")
+        _ _ _ _ _ (None => 8 b"VERTICAL        ")
+        _ (Some(Keyword::BaseGeodCrs) => 11 b"BASEGEODCRS     ")
+        _ (Some(Keyword::AnchorEpoch) => 11 b"ANCHOREPOCH     ")
+        (Some(Keyword::BBox) => 4 b"BBOX            ")
+        (Some(Keyword::GeodCrs) => 7 b"GEODCRS         ")
+        (Some(Keyword::VerticalCrs) => 11 b"VERTICALCRS     ")
+        (Some(Keyword::VelocityGrid) => 12 b"VELOCITYGRID    ")
+        _ _ _ (Some(Keyword::CompoundCrs) => 11 b"COMPOUNDCRS     ")
+        (None => 4 b"WEST            ")
+        _ (Some(Keyword::VerticalExtent) => 14 b"VERTICALEXTENT  ")
+        (Some(Keyword::Projection) => 10 b"PROJECTION      ")
+        (Some(Keyword::GeogCrs) => 7 b"GEOGCRS         ")
+        _ (Some(Keyword::Trf) => 3 b"TRF             ")
+        _ (None => 11 b"ELLIPSOIDAL     ")
+        _ (Some(Keyword::Method) => 6 b"METHOD          ")
+        _ _ _ _ (None => 9 b"SPHERICAL       ")
+        (Some(Keyword::Parameter) => 9 b"PARAMETER       ")
+        (Some(Keyword::Usage) => 5 b"USAGE           ")
+        _ (Some(Keyword::GeodeticCrs) => 11 b"GEODETICCRS     ")
+        _ (Some(Keyword::GeographicCrs) => 13 b"GEOGRAPHICCRS   ")
+        (Some(Keyword::FrameEpoch) => 10 b"FRAMEEPOCH      ")
+        _ _ (Some(Keyword::Ensemble) => 8 b"ENSEMBLE        ")
+        _ (Some(Keyword::Member) => 6 b"MEMBER          ")
+        _ _ _ (Some(Keyword::Datum) => 5 b"DATUM           ")
+        (None => 2 b"UP              ")
+        _ _ _ (None => 9 b"CARTESIAN       ")
+        (Some(Keyword::ScaleUnit) => 9 b"SCALEUNIT       ")
+        (Some(Keyword::VDatum) => 6 b"VDATUM          ")
+        (Some(Keyword::Scope) => 5 b"SCOPE           ")
+        (Some(Keyword::Spheroid) => 8 b"SPHEROID        ")
+        _ (Some(Keyword::VerticalDatum) => 13 b"VERTICALDATUM   ")
+        _ (Some(Keyword::Conversion) => 10 b"CONVERSION      ")
+        (Some(Keyword::PrimeMeridian) => 13 b"PRIMEMERIDIAN   ")
+        (Some(Keyword::ProjCrs) => 7 b"PROJCRS         ")
+        (Some(Keyword::Axis) => 4 b"AXIS            ")
+        (Some(Keyword::Citation) => 8 b"CITATION        ")
+        (None => 4 b"DOWN            ")
+        _ (Some(Keyword::PrimeM) => 6 b"PRIMEM          ")
+        (None => 5 b"NORTH           ")
+        (Some(Keyword::Vrf) => 3 b"VRF             ")
+        _ _ _ (Some(Keyword::Area) => 4 b"AREA            ")
+        _ _ _ (None => 4 b"EAST            ")
+        _ _ _ _ _ (Some(Keyword::GeodeticDatum) => 13 b"GEODETICDATUM   ")
+        _ (Some(Keyword::Cs) => 2 b"CS              ")
+        (Some(Keyword::VertCrs) => 7 b"VERTCRS         ")
+        _ _ _ _ (Some(Keyword::Uri) => 3 b"URI             ")
+        _ _ (Some(Keyword::Dynamic) => 7 b"DYNAMIC         ")
+        _ (Some(Keyword::Anchor) => 6 b"ANCHOR          ")
+        _ (Some(Keyword::AngleUnit) => 9 b"ANGLEUNIT       ")
+        _ _ (Some(Keyword::Model) => 5 b"MODEL           ")
+        (Some(Keyword::PlainUnit) => 4 b"UNIT            ")
+        (Some(Keyword::EnsembleAccuracy) => 16 b"ENSEMBLEACCURACY")
+        (None => 5 b"SOUTH           ")
+        (Some(Keyword::Ellipsoid) => 9 b"ELLIPSOID       ")
+        (Some(Keyword::Remark) => 6 b"REMARK          ")
+        (Some(Keyword::Meridian) => 8 b"MERIDIAN        ")
+        _ (Some(Keyword::Order) => 5 b"ORDER           ")
+        _ _ _ _ (Some(Keyword::GeoidModel) => 10 b"GEOIDMODEL      ")
     }
 }
 

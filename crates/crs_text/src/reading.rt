@@ -1,12 +1,12 @@
 //! From a text to its items.
 ghost use Rattle.std.specs.Prelude.{◌≡◌, MatchResult};
-ghost use Rattle.crs_text.specs.Rows.{flat};
-ghost use Rattle.crs_text.specs.State.{start};
+ghost use Rattle.crs_text.specs.Scan.{IsReached};
 ghost use Rattle.crs_text.specs.TextFault.{IsTextFault, SpellsNode};
 
 use crate::fault::Fault;
 use crate::items::Items;
-use crate::scanning::scan;
+use crate::runs::white_length;
+use crate::scanning::scan_from;
 use crate::table::Table;
 use std::alloc::Global;
 
@@ -22,18 +22,18 @@ pub fn read_items<'a>(alloc: Global, text: &'a [u8]) -> Result<Items<'a>, Fault>
     ensures { MatchResult result (SpellsNode text.now) (IsTextFault text.now) }
 {
     match Table::with_room(alloc, text.len() / BYTES_A_ROW) {
-        Ok(table) => items_in(table, text),
+        Ok(table) => items_in(table, text, white_length(text)),
         Err(refused) => Err(Fault::Memory(refused)),
     }
 }
 
-// The items of a text, by a table with no row.
+/// The items of a text, of which the table shows those before this place.
 #[inline(always)]
-fn items_in<'a>(mut table: Table, text: &'a [u8]) -> Result<Items<'a>, Fault>
-    requires { table ≡ flat start }
+pub(crate) fn items_in<'a>(mut table: Table, text: &'a [u8], at: usize) -> Result<Items<'a>, Fault>
+    requires { IsReached text.now table at }
     ensures { MatchResult result (SpellsNode text.now) (IsTextFault text.now) }
 {
-    match scan(&mut table, text) {
+    match scan_from(&mut table, text, at) {
         Ok(()) => Ok(Items::from_table(text, table)),
         Err(fault) => Err(fault),
     }

@@ -179,20 +179,27 @@ pub(crate) fn letters_length(left: &[u8]) -> Option<usize>
     }
 }
 
+// how many bytes come first that pass a test: among sixteen the one function says it, among fewer the other
+macro_rules! length_by {
+    ($left:ident, $lanes:ident, $last:ident) => {{
+        let mut at = 0;
+        while $left.len() - at >= LANES {
+            let count = $lanes(u8x16::from_slice(&$left[at..]));
+            if count < LANES {
+                return at + count;
+            }
+            at += LANES;
+        }
+        at + $last(rest_of($left, at))
+    }};
+}
+
 /// How many bytes of a word come first.
 #[inline(always)]
 pub(crate) fn word_length(left: &[u8]) -> usize
     ensures { result ≡ prefix_len tokens.is_word_byte left.now }
 {
-    let mut at = 0;
-    while left.len() - at >= LANES {
-        let count = word_lanes(u8x16::from_slice(&left[at..]));
-        if count < LANES {
-            return at + count;
-        }
-        at += LANES;
-    }
-    at + last_word_length(rest_of(left, at))
+    length_by!(left, word_lanes, last_word_length)
 }
 
 /// How many bytes of a number's run come first.
@@ -200,15 +207,7 @@ pub(crate) fn word_length(left: &[u8]) -> usize
 pub(crate) fn run_length(left: &[u8]) -> usize
     ensures { result ≡ prefix_len spelling.is_run_byte left.now }
 {
-    let mut at = 0;
-    while left.len() - at >= LANES {
-        let count = run_lanes(u8x16::from_slice(&left[at..]));
-        if count < LANES {
-            return at + count;
-        }
-        at += LANES;
-    }
-    at + last_run_length(rest_of(left, at))
+    length_by!(left, run_lanes, last_run_length)
 }
 
 /// How many digits come first.
@@ -217,15 +216,7 @@ pub(crate) fn digit_length(left: &[u8]) -> usize
     ensures value { result ≡ prefix_len spelling.is_digit left.now }
     ensures within { result ≤ length left.now }
 {
-    let mut at = 0;
-    while left.len() - at >= LANES {
-        let count = digit_lanes(u8x16::from_slice(&left[at..]));
-        if count < LANES {
-            return at + count;
-        }
-        at += LANES;
-    }
-    at + last_digit_length(rest_of(left, at))
+    length_by!(left, digit_lanes, last_digit_length)
 }
 
 /// Whether a number in front of these bytes ends there.
@@ -247,13 +238,5 @@ pub(crate) fn plain_ascii_length(left: &[u8]) -> usize
     ensures value { result ≡ prefix_len is_plain_ascii left.now }
     ensures within { result ≤ length left.now }
 {
-    let mut at = 0;
-    while left.len() - at >= LANES {
-        let count = plain_ascii_lanes(u8x16::from_slice(&left[at..]));
-        if count < LANES {
-            return at + count;
-        }
-        at += LANES;
-    }
-    at + last_plain_ascii_length(rest_of(left, at))
+    length_by!(left, plain_ascii_lanes, last_plain_ascii_length)
 }

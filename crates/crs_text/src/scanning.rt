@@ -4,11 +4,9 @@ ghost use Rattle.crs_text.specs.Tokens.{Forms, comma, opening, closing, is_lette
 ghost use Rattle.crs_text.specs.Quoted.{BeginsWith};
 ghost use Rattle.std.specs.List.{prefix_len};
 ghost use Rattle.crs_text.specs.TextFault.{reason_number, IsFlaw, IsTextFault};
-ghost use Rattle.crs_text.specs.Scan.{IsReached, IsPassed, IsTaken, IsStoppedBy, IsSingleAt, IsScanned};
+ghost use Rattle.crs_text.specs.Scan.{IsReached, IsFurther, IsPassed, IsTaken, IsStoppedBy, IsSingleAt, IsScanned};
 ghost use Rattle.crs_text.specs.Items.{keyword_at};
-ghost use Rattle.crs_text.specs.Table.{Flat, is_whole};
-ghost use Rattle.crs_text.specs.Rows.{flat};
-ghost use Rattle.crs_text.specs.State.{start};
+ghost use Rattle.crs_text.specs.Table.{Flat};
 ghost use Rattle.crs_text.specs.Lexing.{IsLexed};
 
 use crate::fault::Fault;
@@ -18,7 +16,7 @@ use crate::lexing::{
     Lexed, front_of, plain_number_length, plain_text_length, plain_word_length, rest_of, token_at,
 };
 use crate::refusal::Reason;
-use crate::runs::{is_digit, is_letter, is_white, white_length};
+use crate::runs::{is_digit, is_letter, is_white};
 use crate::table::{Opened, Table};
 
 fn unexpected(at: usize) -> Fault
@@ -265,9 +263,7 @@ fn pass(table: &mut Table, text: &[u8], at: &mut usize, lexed: Lexed) -> Result<
     requires more { at.old < length text.now }
     requires reached { IsReached text.now table.old at.old }
     requires lexed { IsLexed (drop at.old text.now) lexed }
-    ensures { MatchResult result
-        (λ _. IsReached text.now table.new at.new × (at.old < at.new))
-        (IsTextFault text.now) }
+    ensures { MatchResult result (λ _. IsFurther text.now at.old table.new at.new) (IsTextFault text.now) }
 {
     let mut taken = 0;
     match take_lexed(table, text, *at, lexed, &mut taken) {
@@ -284,9 +280,7 @@ fn pass(table: &mut Table, text: &[u8], at: &mut usize, lexed: Lexed) -> Result<
 fn pass_any(table: &mut Table, text: &[u8], at: &mut usize) -> Result<(), Fault>
     requires more { at.old < length text.now }
     requires reached { IsReached text.now table.old at.old }
-    ensures { MatchResult result
-        (λ _. IsReached text.now table.new at.new × (at.old < at.new))
-        (IsTextFault text.now) }
+    ensures { MatchResult result (λ _. IsFurther text.now at.old table.new at.new) (IsTextFault text.now) }
 {
     let lexed = token_at(rest_of(text, *at));
     pass(table, text, at, lexed)
@@ -297,9 +291,7 @@ fn pass_any(table: &mut Table, text: &[u8], at: &mut usize) -> Result<(), Fault>
 fn pass_else(table: &mut Table, text: &[u8], at: &mut usize) -> Result<(), Fault>
     requires more { at.old < length text.now }
     requires reached { IsReached text.now table.old at.old }
-    ensures { MatchResult result
-        (λ _. IsReached text.now table.new at.new × (at.old < at.new))
-        (IsTextFault text.now) }
+    ensures { MatchResult result (λ _. IsFurther text.now at.old table.new at.new) (IsTextFault text.now) }
 {
     let mut place = *at;
     match pass_any(table, text, &mut place) {
@@ -316,9 +308,7 @@ fn pass_quoted(table: &mut Table, text: &[u8], at: &mut usize) -> Result<(), Fau
     requires more { at.old < length text.now }
     requires reached { IsReached text.now table.old at.old }
     requires quote { drop at.old text.now ≡ 34 ∷ drop 1 (drop at.old text.now) }
-    ensures { MatchResult result
-        (λ _. IsReached text.now table.new at.new × (at.old < at.new))
-        (IsTextFault text.now) }
+    ensures { MatchResult result (λ _. IsFurther text.now at.old table.new at.new) (IsTextFault text.now) }
 {
     match plain_text_length(rest_of(text, *at)) {
         Some(length) => pass(table, text, at, Lexed::Text { length }),
@@ -330,9 +320,7 @@ fn pass_quoted(table: &mut Table, text: &[u8], at: &mut usize) -> Result<(), Fau
 fn pass_number(table: &mut Table, text: &[u8], at: &mut usize) -> Result<(), Fault>
     requires more { at.old < length text.now }
     requires reached { IsReached text.now table.old at.old }
-    ensures { MatchResult result
-        (λ _. IsReached text.now table.new at.new × (at.old < at.new))
-        (IsTextFault text.now) }
+    ensures { MatchResult result (λ _. IsFurther text.now at.old table.new at.new) (IsTextFault text.now) }
 {
     match plain_number_length(rest_of(text, *at)) {
         Some(length) => pass(table, text, at, Lexed::Number { length }),
@@ -361,9 +349,7 @@ fn pass_node(table: &mut Table, text: &[u8], at: &mut usize, count: usize) -> Re
     requires lexed { IsLexed (drop at.old text.now) (Lexed.Word count) }
     requires opening { Forms (length text.now) (opening true) (drop (at.old + count) text.now)
         (drop (at.old + count + 1) text.now) }
-    ensures { MatchResult result
-        (λ _. IsReached text.now table.new at.new × (at.old < at.new))
-        (IsTextFault text.now) }
+    ensures { MatchResult result (λ _. IsFurther text.now at.old table.new at.new) (IsTextFault text.now) }
 {
     let start = *at;
     let left = rest_of(text, start);
@@ -384,9 +370,7 @@ fn pass_letters(table: &mut Table, text: &[u8], at: &mut usize, count: usize) ->
     requires more { at.old < length text.now }
     requires reached { IsReached text.now table.old at.old }
     requires lexed { IsLexed (drop at.old text.now) (Lexed.Word count) }
-    ensures { MatchResult result
-        (λ _. IsReached text.now table.new at.new × (at.old < at.new))
-        (IsTextFault text.now) }
+    ensures { MatchResult result (λ _. IsFurther text.now at.old table.new at.new) (IsTextFault text.now) }
 {
     if is_opening(text, *at + count) {
         pass_node(table, text, at, count)
@@ -401,9 +385,7 @@ fn pass_word(table: &mut Table, text: &[u8], at: &mut usize) -> Result<(), Fault
     requires more { at.old < length text.now }
     requires reached { IsReached text.now table.old at.old }
     requires letter { BeginsWith is_letter (drop at.old text.now) }
-    ensures { MatchResult result
-        (λ _. IsReached text.now table.new at.new × (at.old < at.new))
-        (IsTextFault text.now) }
+    ensures { MatchResult result (λ _. IsFurther text.now at.old table.new at.new) (IsTextFault text.now) }
 {
     match plain_word_length(rest_of(text, *at)) {
         Some(length) => pass_letters(table, text, at, length),
@@ -417,9 +399,7 @@ fn pass_word(table: &mut Table, text: &[u8], at: &mut usize) -> Result<(), Fault
 fn advance(table: &mut Table, text: &[u8], at: &mut usize) -> Result<(), Fault>
     requires more { at.old < length text.now }
     requires reached { IsReached text.now table.old at.old }
-    ensures { MatchResult result
-        (λ _. IsReached text.now table.new at.new × (at.old < at.new))
-        (IsTextFault text.now) }
+    ensures { MatchResult result (λ _. IsFurther text.now at.old table.new at.new) (IsTextFault text.now) }
 {
     let first = text[*at];
     if first == b'"' {
@@ -454,9 +434,7 @@ fn advance(table: &mut Table, text: &[u8], at: &mut usize) -> Result<(), Fault>
 #[inline(never)]
 fn scan_last(table: &mut Table, text: &[u8], from: usize) -> Result<(), Fault>
     requires { IsReached text.now table.old from }
-    ensures { MatchResult result
-        (λ _. IsScanned text.now table.new)
-        (IsTextFault text.now) }
+    ensures { MatchResult result (λ _. IsScanned text.now table.new) (IsTextFault text.now) }
 {
     let mut at = from;
     while at < text.len() {
@@ -475,24 +453,11 @@ const ROOM: usize = 32;
 /// Reads the rest of the text, from this place on: Ok where all its tokens are one whole node.
 pub(crate) fn scan_from(table: &mut Table, text: &[u8], from: usize) -> Result<(), Fault>
     requires { IsReached text.now table.old from }
-    ensures { MatchResult result
-        (λ _. IsScanned text.now table.new)
-        (IsTextFault text.now) }
+    ensures { MatchResult result (λ _. IsScanned text.now table.new) (IsTextFault text.now) }
 {
     let mut at = from;
     while text.len() - at >= ROOM {
         advance(table, text, &mut at)?;
     }
     scan_last(table, text, at)
-}
-
-/// Reads the text into the table: Ok where its tokens are one whole node.
-pub(crate) fn scan(table: &mut Table, text: &[u8]) -> Result<(), Fault>
-    requires { table.old ≡ flat start }
-    ensures { MatchResult result
-        (λ _. IsScanned text.now table.new)
-        (IsTextFault text.now) }
-{
-    let from = white_length(text);
-    scan_from(table, text, from)
 }
