@@ -20,9 +20,9 @@ put_all bytes sorted (x ∷ xs) = put_all bytes (put bytes x sorted) xs
 abbrev pub in_order : {A : Type 0} → (A → List ℕ) → List A → List A
 in_order bytes xs = put_all bytes [] xs
 
--- what is put in order stays so when that is done again, and a function that leaves each member of
--- a list as it is leaves those of the list in order
+-- what is put in order stays so when that is done again, and functions that agree on each member of
+-- a list agree on those of the list in order
 pub record StaysInOrder {A : Type 0} (bytes : A → List ℕ) : Type 0 where
   pub twice : (xs : List A) → in_order bytes (in_order bytes xs) ≡ in_order bytes xs
-  pub fixed : (f : A → A) (xs : List A) → Each (λ x. f x ≡ x) xs →
-      Each (λ x. f x ≡ x) (in_order bytes xs)
+  pub alike : (f g : A → A) (xs : List A) → Each (λ x. f x ≡ g x) xs →
+      Each (λ x. f x ≡ g x) (in_order bytes xs)

@@ -1,7 +1,5 @@
 -- What rules write of a CRS they leave as it is, but for the orders of axes where these don't count.
 use Rattle.std.proofs.Common.{◌≡◌, ◌||◌, ℕ, Bool, true, false, Option, Some, None, List, [], ◌∷◌, refl, ap, ◌∙◌, arith, map, if◌then◌else◌}
-use Rattle.std.proofs.lemmas.Bool.{and_parts}
-use Rattle.std.proofs.lemmas.Bool.Decides.{same_from_decides}
 use Rattle.std.proofs.lemmas.List.Folds.{list_all-map}
 use Rattle.std.specs.List.{list_all}
 use Rattle.std.specs.Option.{is_some, option_map}
@@ -16,9 +14,7 @@ use Rattle.crs_value.specs.declared.values.crs.Crs.TheVariants as crs
 use Rattle.crs_value.specs.declared.values.level.Level.{Level}
 use Rattle.crs_value.specs.declared.values.level.Level.TheVariants as levels
 use Rattle.crs_text.specs.Prelude.{item_text}
-use Rattle.crs_normal.proofs.members.ParameterLemmas.{parameter-kept}
-use Rattle.crs_normal.proofs.members.SetLemmas.{each-has, each-in_order, each-of, in_order-has}
-use Rattle.crs_normal.specs.Prelude.{in_order, item_geoid_model, item_parameter, norm_geoid_model, norm_parameter, set_geoid_models, set_parameters, norm_compound, norm_crs, norm_geodetic, norm_horizontal, norm_projected, norm_vertical, is_zero, norm_meridian, norm_system, norm_length, norm_units, item_usage, norm_extent, norm_usage, set_usages}
+use Rattle.crs_normal.specs.Prelude.{in_order, item_geoid_model, norm_geoid_model, norm_parameter, set_geoid_models, set_parameters, norm_compound, norm_crs, norm_geodetic, norm_horizontal, norm_projected, norm_vertical, is_zero, norm_meridian, norm_system, norm_length, norm_units, item_usage, norm_extent, norm_usage, set_usages}
 use Rattle.crs_rules.specs.LowerLaws.{SetLaws}
 use Rattle.crs_rules.specs.Rewritten.{across, arranged, arranged_across, arranged_crs, compound, counted, extent, geodetic, has_own_unit, meridian, named, parameter, projected, renamed, rewritten, system, units, usage, vertical}
 use Rattle.crs_rules.specs.Rules.{Meaning}
@@ -30,30 +26,6 @@ use Rattle.crs_rules.proofs.SteadyLemmas.{IsSteady}
 
 abbrev usage-text : UsageParts → List ℕ
 usage-text u = item_text (item_usage u)
-
-abbrev parameter-text : ParameterParts → List ℕ
-parameter-text p = item_text (item_parameter p)
-
--- ---- whether each of a set passes a test
-
-all-to : {A : Type 0} (test : A → Bool) (xs : List A) → list_all test xs ≡ true → Each (λ x. test x ≡ true) xs
-all-to test [] e = tt
-all-to test (x ∷ xs) e = let h = and_parts (test x) (list_all test xs) e in (h.0, all-to test xs h.1)
-
-all-from : {A : Type 0} (test : A → Bool) (xs : List A) → Each (λ x. test x ≡ true) xs → list_all test xs ≡ true
-all-from test [] h = refl
-all-from test (x ∷ xs) h = rw (h.0, all-from test xs h.1)
-
-all-set : ((a b : ParameterParts) → IsParameter a → IsParameter b → parameter-text a ≡ parameter-text b → a ≡ b) →
-    (test : ParameterParts → Bool) (xs : List ParameterParts) → Each IsParameter xs →
-    list_all test (in_order parameter-text xs) ≡ list_all test xs
-all-set told test xs h =
-    let ys : List ParameterParts = in_order parameter-text xs in
-    same_from_decides {P = list_all test xs ≡ true} (list_all test ys) (list_all test xs) (
-      λ e. all-from test xs (each-of (λ x. test x ≡ true) xs (λ z q.
-          each-has (λ x. test x ≡ true) ys z (all-to test ys e) (in_order-has parameter-text IsParameter told z xs h q))),
-      λ e. all-from test ys (each-in_order parameter-text (λ x. test x ≡ true) xs (all-to test xs e)),
-    ) (λ e. e, λ e. e)
 
 -- the one form of a form stays, where it is put in its one form
 abbrev pub Stays : {A : Type 0} → (A → A) → (A → A) → A → Type 0
@@ -77,8 +49,11 @@ module _ (m : Meaning) (s : IsSteady m) (o : SetLaws) (level : Level) where
   usages-again us =
       let P : UsageParts → Type 0 = λ x. usage m x ≡ x in
       let xs : List UsageParts = map (usage m) (in_order usage-text (map norm_usage (kept level us))) in
-      let written : Each (λ x. P (norm_usage x)) xs = search (mapped, each-in_order, each-all, usage-again) in
-      let fixed : Each P (in_order usage-text (map norm_usage (kept level xs))) = search (each-in_order, mapped, each-kept, written) in
+      let again : Each (λ x. IsAgain (usage m) norm_usage x) (kept level us) = each-all _ usage-again (kept level us) in
+      let written : Each (λ x. P (norm_usage x)) xs =
+      mapped (usage m) _ _ (o.usages.alike (λ x. usage m (norm_usage (usage m x))) (λ x. norm_usage (usage m x)) _ (mapped norm_usage _ _ again)) in
+      let fixed : Each P (in_order usage-text (map norm_usage (kept level xs))) =
+      o.usages.alike (usage m) (λ x. x) _ (mapped norm_usage P _ (each-kept _ level xs written)) in
       each-fixed (usage m) _ fixed
 
   -- ---- geoid models
@@ -114,11 +89,7 @@ module _ (m : Meaning) (s : IsSteady m) (o : SetLaws) (level : Level) where
 
   all-stay : (ps : List ParameterParts) → Each IsParameter (map (parameter m) ps) →
       list_all (λ p. is_some p.unit) (set_parameters level (map (parameter m) ps)) ≡ list_all (λ p. is_some p.unit) ps
-  unfolding set_parameters
-  all-stay ps h =
-      all-set o.told (λ p. is_some p.unit) (map (norm_parameter level) (map (parameter m) ps))
-      (each-map IsParameter (norm_parameter level) (map (parameter m) ps) (parameter-kept level) h)
-      ∙ all-there ps
+  all-stay ps h = o.tested level (λ p. is_some p.unit) (map (parameter m) ps) h ∙ all-there ps
 
   counted-unit : (k : Bool) (u : Option UnitParts) → IsAgain (λ o. counted k (units m o)) (norm_units level kinds.Angle) u
   counted-unit true u = refl

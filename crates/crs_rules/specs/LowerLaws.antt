@@ -1,13 +1,14 @@
 -- A bridge: what is taken from the crates below for the laws of forms, as one fact.
-use Rattle.std.specs.Prelude.{◌≡◌, ◌↔◌, ℕ, List}
+use Rattle.std.specs.Prelude.{◌≡◌, ◌↔◌, ℕ, Bool, List, map}
+use Rattle.std.specs.List.{list_all}
 use Rattle.crs_text.specs.Written.{item_text}
 use Rattle.crs_value.specs.ConversionValues.{ParameterParts}
 use Rattle.crs_value.specs.NamedValues.{IdentParts, NamedParts}
-use Rattle.crs_value.specs.Sound.{IsAxis}
+use Rattle.crs_value.specs.Sound.{Each, IsAxis}
 use Rattle.crs_value.specs.SoundConversion.{IsParameter}
 use Rattle.crs_value.specs.SoundCrs.{IsCrs}
 use Rattle.crs_value.specs.SpellsText.{Spells}
-use Rattle.crs_value.specs.Values.{AxisParts}
+use Rattle.crs_value.specs.Values.{AxisParts, UsageParts}
 use Rattle.crs_value.specs.declared.values.crs.Crs.{Crs}
 use Rattle.crs_value.specs.declared.values.level.Level.{Level}
 use Rattle.crs_value.specs.declared.values.level.Level.TheVariants as levels
@@ -16,20 +17,24 @@ use Rattle.crs_matching.specs.Sameness.{IsSamenessOf}
 use Rattle.crs_normal.specs.Normal.{IsNormalText}
 use Rattle.crs_normal.specs.Ordered.{StaysInOrder}
 use Rattle.crs_normal.specs.PartTexts.{axis_text, norm_axis_alone}
-use Rattle.crs_normal.specs.SpelledConversions.{item_geoid_model, item_parameter}
+use Rattle.crs_normal.specs.SpelledConversions.{item_geoid_model, item_parameter, norm_parameter}
+use Rattle.crs_normal.specs.SpelledConversions.{set_parameters}
 use Rattle.crs_normal.specs.SpelledCrs.{item_crs, norm_crs}
 use Rattle.crs_normal.specs.SpelledFrames.{item_member}
 use Rattle.crs_normal.specs.SpelledUnits.{item_ident}
+use Rattle.crs_normal.specs.SpelledUsages.{item_usage}
 use Rattle.crs_writer.specs.Canonical.{IsCanonicalText}
 
--- what is known of sets, and of parameters and axes that have one text
+-- what is known of sets, and of axes that have one text
 pub record SetLaws : Type 0 where
   pub identifiers : StaysInOrder (λ (x : IdentParts). item_text (item_ident x))
   pub members : StaysInOrder (λ (x : NamedParts). item_text (item_member x))
   pub parameters : StaysInOrder (λ (x : ParameterParts). item_text (item_parameter x))
   pub geoid_models : StaysInOrder (λ (x : NamedParts). item_text (item_geoid_model x))
-  pub told : (a b : ParameterParts) → IsParameter a → IsParameter b →
-      item_text (item_parameter a) ≡ item_text (item_parameter b) → a ≡ b
+  pub usages : StaysInOrder (λ (x : UsageParts). item_text (item_usage x))
+  pub tested : (level : Level) (test : ParameterParts → Bool) (xs : List ParameterParts) →
+      Each IsParameter xs →
+      list_all test (set_parameters level xs) ≡ list_all test (map (norm_parameter level) xs)
   pub axes_told : (a b : AxisParts) → IsAxis a → IsAxis b →
       axis_text levels.Full a ≡ axis_text levels.Full b →
       norm_axis_alone levels.Full a ≡ norm_axis_alone levels.Full b

@@ -5,8 +5,6 @@ ghost use Rattle.crs_value.specs.SpellsText.{Spells};
 ghost use Rattle.crs_value.specs.Values.{AxisParts};
 ghost use Rattle.crs_value.specs.declared.values.crs.Crs.{Crs};
 ghost use Rattle.crs_value.specs.declared.values.level.Level.{Level};
-ghost use Rattle.crs_normal.specs.DecimalLaws.{DecimalLaws};
-ghost use Rattle.crs_normal.specs.TextLaws.{TextLaws};
 ghost use Rattle.crs_writer.specs.Canonical.{IsCanonicalOf};
 ghost use Rattle.crs_canon.specs.MainTheorem.{IsAccepted, SpellSame};
 ghost use Rattle.crs_rules.specs.LowerLaws.{FormLaws, SetLaws};
@@ -23,19 +21,13 @@ use crate::rules::Rules;
 use crs_canon::laws::{
     answers_are_equal_where_same, canonical_texts_are_equal_where_same, main_theorem,
 };
-use crs_decimal::laws::{
-    denotes_one, digits_alone, normal_is_one, plain_is_the_one, same_number_is_equivalence,
-    spelled_as_a_run,
-};
-use crs_normal::laws::parts::axes_are_canonical;
-use crs_normal::laws::sets::ordered_lists_stay;
+use crs_normal::laws::parts::{axes_are_canonical, axis_texts_tell_axes};
+use crs_normal::laws::sets::{ordered_lists_stay, sets_of_parameters_have_each};
 use crs_normal::laws::texts::{
     one_form_is_the_same, spelled_crs_is_sound, written_form_is_accepted, written_form_is_normal,
 };
 use crs_same::laws::same_crs_is_equivalence;
-use crs_text::laws::written_items;
-use crs_value::laws::parts::parts_read_once;
-use crs_value::laws::{members_read_once, one_answer};
+use crs_value::laws::one_answer;
 
 /// A CRS under rules meets all that is asked of a CRS, whatever the texts of axes. Profile.
 pub fn rewritten_crs_is_sound()
@@ -154,37 +146,11 @@ fn form_laws()
     one_form_is_the_same();
 }
 
-// What is known of sets, and of parameters and axes that have one text, as one fact.
+// What is known of sets, and of axes that have one text, as one fact.
 fn set_laws()
     ensures { SetLaws }
 {
     ordered_lists_stay();
-    text_laws();
-    decimal_laws();
-    members_read_once();
-    parts_read_once();
-}
-
-// The laws of decimals and texts, as one fact.
-fn text_laws()
-    ensures { TextLaws }
-{
-    written_items();
-    crs_text::laws::one_answer();
-    normal_is_one();
-    plain_is_the_one();
-    spelled_as_a_run();
-    digits_alone();
-}
-
-// The laws of decimals, as one fact.
-fn decimal_laws()
-    ensures { DecimalLaws }
-{
-    denotes_one();
-    digits_alone();
-    normal_is_one();
-    plain_is_the_one();
-    same_number_is_equivalence();
-    spelled_as_a_run();
+    sets_of_parameters_have_each();
+    axis_texts_tell_axes();
 }

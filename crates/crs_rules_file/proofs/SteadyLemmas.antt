@@ -1,22 +1,25 @@
 -- Rules that are read are steady: nothing chains, since no node stands in two sets.
-use Rattle.std.proofs.Common.{◌⊎◌, ◌≡◌, ◌≢◌, ℕ, ◌++◌, ◌∷◌, [], List, true, Option, None, Some, inl, inr, refl, sym, subst, ap}
+use Rattle.std.proofs.Common.{◌⊎◌, ◌≡◌, ◌≢◌, ℕ, ◌++◌, ◌∷◌, [], List, true, Option, None, Some, inl, inr, refl, sym, subst, ap, rules}
 use Rattle.crs_decimal.specs.Prelude.{Denotes, plain, IsNormal, Value, exact, zero}
 use Rattle.crs_text.specs.Prelude.{Item, Siblings, End, More, arguments}
 use Rattle.crs_shape.specs.declared.class.Class.{Class}
 use Rattle.crs_shape.specs.declared.class.Class.TheVariants as class
 use Rattle.crs_shape.specs.declared.unit_kind.UnitKind.{UnitKind}
 use Rattle.crs_shape.specs.declared.unit_kind.UnitKind.TheVariants as kind
+use Rattle.crs_shape.specs.contracts.unit_kind.UnitKind.{the_type}
+use Rattle.crs_value.specs.Prelude.{is_same}
 use Rattle.crs_rules.specs.Rules.{NameAliasParts, RulesParts, UnitAliasParts, is_name_alias, is_unit_alias}
 use Rattle.crs_rules.specs.SteadyRules.{AreSteady, NamesAgree, UnitsAgree, unit_written}
-use Rattle.crs_rules.proofs.FactorLemmas.{one-plain}
-use Rattle.crs_rules.proofs.MatchLemmas.{of-name, of-unit}
 use Rattle.crs_rules_file.specs.Members.{MemberParts, Says, SaysFactor, SaysName, kind_of}
 use Rattle.crs_rules_file.specs.RulesFile.{Reads, ReadsFile, SpellsRules, next, start}
 use Rattle.crs_rules_file.specs.Statements.{Adds, AddsSet, Drops, Joins, Over, Reading, listed, with_alias}
 use Rattle.crs_rules_file.proofs.OneLemmas.{DenotesOne, some-one}
 use Rattle.crs_rules_file.proofs.OrderLemmas.{Stands, each-of, stands-back, stands-front, stands-last}
 use Rattle.crs_rules_file.proofs.WalkLemmas.{over-keeps}
-use Rattle.std.proofs.lemmas.Bool.{false_from_ne_true}
+use Rattle.std.specs.Str.{bytes_eq}
+use Rattle.std.proofs.lemmas.Bool.{and_parts, false_from_ne_true}
+use Rattle.std.proofs.lemmas.Slice.Eq.{bytes_eq-Decides}
+use denote.Enum.Bare.{sameb, same_true}
 
 -- ---- aliases of nodes `m x` that count as nodes `f x`
 
@@ -217,7 +220,10 @@ kept-start = record { names_firm = firm-none name_m name_f; units_firm = firm-no
 
 alias-is : (c : Class) (name : List ℕ) (b : NameAliasParts) → is_name_alias c name b ≡ true →
     ◌≡◌ {A = MemberParts} (record { class = c; name = name; factor = zero }) (name_m b)
-alias-is c name b t = let k = of-name c name b t in λ i. record { class = k.class i; name = k.alias i; factor = zero }
+alias-is c name b t =
+    let h = and_parts (is_same c b.class) (bytes_eq name b.alias) t in
+    let class = same_true _ (search rules) b.class c h.0 in
+    let alias = (bytes_eq-Decides name b.alias).0 h.1 in λ i. record { class = sym class i; name = alias i; factor = zero }
 
 names-agree : (a b : NameAliasParts) → Agree name_m name_f a b → NamesAgree a b
 names-agree a b g = record {
@@ -232,9 +238,13 @@ unit-is : DenotesOne → PlainDenotes → (k : UnitKind) (name : List ℕ) (v : 
     is_unit_alias (record { kind = k; name = name; factor = v; identifiers = [] }) b ≡ true →
     ◌≡◌ {A = MemberParts} (record { class = class_of k; name = name; factor = v }) (unit_m b)
 unit-is one law k name v b nv nb t =
-    let h = of-unit (record { kind = k; name = name; factor = v; identifiers = [] }) b t in
-    let factor = one-plain one law v b.alias_factor nv nb h.factor in
-    λ i. record { class = class_of (h.kind i); name = h.alias i; factor = factor i }
+    let h = and_parts (sameb the_type k b.kind) _ t in
+    let g = and_parts (bytes_eq name b.alias) _ h.1 in
+    let kind = same_true the_type (search rules) k b.kind h.0 in
+    let alias = (bytes_eq-Decides name b.alias).0 g.0 in
+    let spelled = subst (λ s. Denotes s (exact v)) ((bytes_eq-Decides (plain v) (plain b.alias_factor)).0 g.1) (law v nv) in
+    let factor = one (plain b.alias_factor) v b.alias_factor nv nb spelled (law b.alias_factor nb) in
+    λ i. record { class = class_of (kind i); name = alias i; factor = factor i }
 
 abbrev Normal : UnitAliasParts → Type 0
 Normal a = IsNormal a.alias_factor × IsNormal a.factor

@@ -11,6 +11,7 @@ ghost use Rattle.crs_value.specs.SoundDynamic.{IsDeformationModel, IsDynamic};
 ghost use Rattle.crs_value.specs.SoundFrames.{IsDatum, IsEllipsoid, IsEnsemble, IsMember, IsMeridian};
 ghost use Rattle.crs_value.specs.SoundSingle.{IsBase, IsGeodetic, IsProjected, IsVertical};
 ghost use Rattle.crs_value.specs.SoundUsages.{IsBox, IsExtent, IsUsage};
+ghost use Rattle.crs_value.specs.Values.{AxisParts};
 ghost use Rattle.crs_value.specs.declared.values.level.Level.{Level};
 ghost use Rattle.crs_same.specs.Parts.{AreSame};
 ghost use Rattle.crs_same.specs.PartsOfCrs.{parts_of_method, parts_of_conversion, parts_of_base, parts_of_geodetic};
@@ -41,7 +42,7 @@ ghost use Rattle.crs_normal.specs.PartTexts.{conversion_text, datum_text, deform
 ghost use Rattle.crs_normal.specs.PartTexts.{ellipsoid_text, ensemble_text, extent_text, frame_text, geodetic_text};
 ghost use Rattle.crs_normal.specs.PartTexts.{geoid_model_text, horizontal_text, ident_text, member_text, meridian_text};
 ghost use Rattle.crs_normal.specs.PartTexts.{method_text, parameter_text, projected_text, unit_text, usage_text};
-ghost use Rattle.crs_normal.specs.PartTexts.{vertical_text};
+ghost use Rattle.crs_normal.specs.PartTexts.{norm_axis_alone, vertical_text};
 ghost use Rattle.crs_normal.specs.WrittenForm.{IsWrittenForm};
 
 use crate::laws::made::{
@@ -154,6 +155,15 @@ pub fn axes_are_canonical()
     parts_are_sound();
     text_laws();
     written_items();
+}
+
+/// Axes whose texts are equal have one form. Profile.
+pub fn axis_texts_tell_axes()
+    ensures { (level : Level) (a b : AxisParts) → IsAxis a → IsAxis b → axis_text level a ≡ axis_text level b →
+        norm_axis_alone level a ≡ norm_axis_alone level b }
+{
+    axes_are_canonical();
+    same_systems_have_one_form();
 }
 
 /// The spellings of conversions, their methods and parameters, and geoid models. Profile.

@@ -1,5 +1,6 @@
 //! Sets: put in order, the one forms of the members are one list exactly where the sets are the same.
-ghost use Rattle.std.specs.Prelude.{◌≡◌, ◌↔◌, ℕ, List, Some, codes};
+ghost use Rattle.std.specs.Prelude.{◌≡◌, ◌↔◌, ℕ, Bool, List, Some, codes, map};
+ghost use Rattle.std.specs.List.{list_all};
 ghost use Rattle.crs_text.specs.Written.{at_place, item_text};
 ghost use Rattle.crs_shape.specs.declared.class.Class.{Class};
 ghost use Rattle.crs_shape.specs.declared.class.Class.TheVariants as class;
@@ -153,7 +154,7 @@ pub fn texts_are_in_order()
 {}
 
 /// Identifiers, members of ensembles, parameters, geoid models and usages that are put in order stay so when that is
-/// done again, and a function that leaves each of a list as it is leaves those of the list in order. Profile.
+/// done again, and functions that agree on each of a list agree on those of the list in order. Profile.
 pub fn ordered_lists_stay()
     ensures identifiers { StaysInOrder (λ (ident : IdentParts). item_text (item_ident ident)) }
     ensures members { StaysInOrder (λ (member : MemberParts). item_text (item_member member)) }
@@ -161,3 +162,12 @@ pub fn ordered_lists_stay()
     ensures geoid_models { StaysInOrder (λ (model : GeoidModelParts). item_text (item_geoid_model model)) }
     ensures usages { StaysInOrder (λ (usage : UsageParts). item_text (item_usage usage)) }
 {}
+
+/// What each of some parameters in their one form passes, each of their set passes, and the other way round. Profile.
+pub fn sets_of_parameters_have_each()
+    ensures { (level : Level) (test : ParameterParts → Bool) (xs : List ParameterParts) → Each IsParameter xs →
+        list_all test (set_parameters level xs) ≡ list_all test (map (norm_parameter level) xs) }
+{
+    text_laws();
+    members_read_once();
+}

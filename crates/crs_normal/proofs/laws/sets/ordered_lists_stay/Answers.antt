@@ -11,7 +11,7 @@ use Rattle.crs_normal.proofs.laws.sets.ordered_lists_stay.Goals as goal
 stays : {A : Type 0} (bytes : A → List ℕ) → StaysInOrder bytes
 stays bytes = record {
   twice = λ xs. in_order-of bytes (in_order bytes xs) (in_order-ascends bytes xs);
-  fixed = λ f xs h. each-in_order bytes (λ x. f x ≡ x) xs h;
+  alike = λ f g xs h. each-in_order bytes (λ x. f x ≡ g x) xs h;
 }
 
 pub returns : goal.returns
