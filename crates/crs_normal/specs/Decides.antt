@@ -26,18 +26,21 @@ use Rattle.crs_normal.specs.SpelledUsages.{set_usages}
 abbrev pub FormDecides : {A B : Type 0} → (A → Type 0) → (A → B) → (A → A → Type 0) → Type 0
 FormDecides Is form Same = (a b : _) → Is a → Is b → (form a ≡ form b) ↔ Same a b
 
--- the forms of the sets decide which sets are the same
+-- they do so at each level
+abbrev pub FormsDecide : {A B : Type 0} → (A → Type 0) → (Level → A → B) →
+    (Level → A → A → Type 0) → Type 0
+FormsDecide Is form Same = (level : Level) → FormDecides Is (form level) (Same level)
+
+-- the forms of sets decide which sets are the same; of usages the level may leave some out
 pub record SetsDecide : Type 0 where
-  pub idents : (level : Level) → FormDecides (Each IsIdent) (set_idents level) (SameIdents level)
-  pub members : (level : Level) →
-      FormDecides (Each IsMember) (set_members level) (SameSet (SameMember level))
-  pub parameters : (level : Level) →
-      FormDecides (Each IsParameter) (set_parameters level) (SameSet (SameParameter level))
-  pub geoid_models : (level : Level) →
-      FormDecides (Each IsGeoidModel) (set_geoid_models level) (SameSet (SameGeoidModel level))
-  pub usages : (level : Level) →
-      FormDecides (Each IsUsage) (set_usages level)
-      (λ xs ys. SameSet SameUsage (kept level xs) (kept level ys))
+  pub idents : FormsDecide (Each IsIdent) set_idents SameIdents
+  pub members : FormsDecide (Each IsMember) set_members (λ level. SameSet (SameMember level))
+  pub parameters : FormsDecide (Each IsParameter) set_parameters
+      (λ level. SameSet (SameParameter level))
+  pub geoid_models : FormsDecide (Each IsGeoidModel) set_geoid_models
+      (λ level. SameSet (SameGeoidModel level))
+  pub usages : FormsDecide (Each IsUsage) set_usages
+      (λ level xs ys. SameSet SameUsage (kept level xs) (kept level ys))
 
 -- a part that may be missing, with what is asked of it where it is there
 abbrev pub Maybe : {A : Type 0} → (A → Type 0) → Option A → Type 0
@@ -49,4 +52,4 @@ IsNumbered system = IsSystem system × (length system.axes < 10 ^ 18)
 
 -- the one form of a CRS decides sameness, at each level
 abbrev pub DecidesSameness : Type 0
-DecidesSameness = (level : Level) → FormDecides IsCrs (norm_crs level) (SameCrs level)
+DecidesSameness = FormsDecide IsCrs norm_crs SameCrs

@@ -16,6 +16,7 @@ pub mod Ordered
 pub mod PartSpellings
 pub mod PartTexts
 pub mod Prelude
+pub mod ReadBack
 pub mod SpelledAs
 pub mod SpelledConversions
 pub mod SpelledCrs

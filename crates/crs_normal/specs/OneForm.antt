@@ -26,3 +26,15 @@ IsItsFormUnbroken {V = V} level c Reads form =
     (parent : Class) (item : Item) (value : V) → Shaped c item → IsNormalIn level parent c item →
     ((fault : RefusedAt) → ¬ (Breaks c item fault)) →
     Reads c item value → without_places item ≡ form value
+
+-- normal items of this class are those of the one forms of their values, at each level
+abbrev pub AreTheirForms : {V : Type 0} → Class → (Class → Item → V → Type 0) → (Level → V → V) →
+    (V → Item) → Type 0
+AreTheirForms c Reads norm item =
+    (level : Level) → IsItsForm level c Reads (λ value. item (norm level value))
+
+-- the same for items that break no check
+abbrev pub AreTheirFormsUnbroken : {V : Type 0} → Class → (Class → Item → V → Type 0) →
+    (Level → V → V) → (V → Item) → Type 0
+AreTheirFormsUnbroken c Reads norm item =
+    (level : Level) → IsItsFormUnbroken level c Reads (λ value. item (norm level value))

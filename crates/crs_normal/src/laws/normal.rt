@@ -22,7 +22,7 @@ ghost use Rattle.crs_normal.specs.AxisAlone.{IsNormalAxis};
 ghost use Rattle.crs_normal.specs.WithoutPlaces.{without_places};
 ghost use Rattle.crs_normal.specs.Normal.{IsNormalIn, IsNormalText};
 ghost use Rattle.crs_normal.specs.NormalOwn.{Has, HasOneOrder};
-ghost use Rattle.crs_normal.specs.OneForm.{IsItsForm, IsItsFormUnbroken};
+ghost use Rattle.crs_normal.specs.OneForm.{AreTheirForms, AreTheirFormsUnbroken, IsItsForm};
 ghost use Rattle.crs_normal.specs.PartTexts.{norm_axis_alone};
 ghost use Rattle.crs_normal.specs.SpelledCrs.{item_base, norm_base, item_geodetic, norm_geodetic, item_projected};
 ghost use Rattle.crs_normal.specs.SpelledCrs.{norm_projected, item_vertical, norm_vertical, item_compound};
@@ -31,8 +31,8 @@ ghost use Rattle.crs_normal.specs.SpelledSystems.{item_axis_meridian, norm_axis_
 ghost use Rattle.crs_normal.specs.SpelledConversions.{item_method, norm_method, item_parameter, norm_parameter};
 ghost use Rattle.crs_normal.specs.SpelledConversions.{item_conversion, norm_conversion, item_geoid_model};
 ghost use Rattle.crs_normal.specs.SpelledConversions.{norm_geoid_model};
-ghost use Rattle.crs_normal.specs.SpelledDynamic.{item_deformation_model, norm_deformation_model};
-ghost use Rattle.crs_normal.specs.SpelledDynamic.{item_dynamic, norm_dynamic};
+ghost use Rattle.crs_normal.specs.SpelledDynamic.{item_deformation_model, norm_deformation_model, item_dynamic};
+ghost use Rattle.crs_normal.specs.SpelledDynamic.{norm_dynamic};
 ghost use Rattle.crs_normal.specs.SpelledFrames.{item_ellipsoid, norm_ellipsoid, item_meridian, norm_given};
 ghost use Rattle.crs_normal.specs.SpelledFrames.{item_member, norm_member, item_datum, norm_datum, item_ensemble};
 ghost use Rattle.crs_normal.specs.SpelledFrames.{norm_ensemble};
@@ -43,10 +43,19 @@ use crs_decimal::laws::{plain_is_the_one, same_number_is_equivalence, worked_exa
 use crs_shape::laws::no_fault_is_shape;
 use crs_text::laws::one_answer;
 
-// A normal identifier is the one form of its value.
-pub(super) fn normal_identifier_is_its_form()
-    ensures { (level : Level) → IsItsForm level class.Identifier ReadsIdent item_ident }
-{}
+// Normal identifiers, members of ensembles, parameters, geoid models, boxes, extents and usages are the one forms of
+// their values.
+pub(super) fn normal_members_are_their_forms()
+    ensures identifier { AreTheirForms class.Identifier ReadsIdent (λ level ident. ident) item_ident }
+    ensures member { AreTheirForms class.Member ReadsMember norm_member item_member }
+    ensures parameter { AreTheirForms class.Parameter ReadsParameter norm_parameter item_parameter }
+    ensures geoid_model { AreTheirForms class.GeoidModel ReadsGeoidModel norm_geoid_model item_geoid_model }
+    ensures bounding_box { AreTheirForms class.BoundingBox ReadsBox (λ level bounds. bounds) item_box }
+    ensures extent { AreTheirForms class.VerticalExtent ReadsExtent norm_extent item_extent }
+    ensures usage { AreTheirForms class.Usage ReadsUsage (λ level usage. norm_usage usage) item_usage }
+{
+    plain_is_the_one();
+}
 
 // A normal unit is the one form of its value, whichever kind is asked, and a plain one where none is.
 pub(super) fn normal_unit_is_its_form()
@@ -64,93 +73,27 @@ pub(super) fn normal_unit_is_its_form()
     plain_is_the_one();
 }
 
-// A normal ellipsoid is the one form of its value.
-pub(super) fn normal_ellipsoid_is_its_form()
-    ensures { (level : Level) →
-        IsItsForm level class.Ellipsoid ReadsEllipsoid (λ e. item_ellipsoid (norm_ellipsoid level e)) }
-{
-    plain_is_the_one();
-}
-
-// A normal prime meridian is the one form of its value.
-pub(super) fn normal_meridian_is_its_form()
-    ensures { (level : Level) →
-        IsItsForm level class.PrimeMeridian ReadsMeridian (λ m. item_meridian (norm_given level m)) }
+// Normal ellipsoids, prime meridians, methods, conversions, deformation models and dynamic parts are the one forms of
+// their values.
+pub(super) fn normal_parts_are_their_forms()
+    ensures ellipsoid { AreTheirForms class.Ellipsoid ReadsEllipsoid norm_ellipsoid item_ellipsoid }
+    ensures meridian { AreTheirForms class.PrimeMeridian ReadsMeridian norm_given item_meridian }
+    ensures method { AreTheirForms class.Method ReadsMethod norm_method item_method }
+    ensures conversion { AreTheirForms class.Conversion ReadsConversion norm_conversion item_conversion }
+    ensures deformation_model { AreTheirForms class.DeformationModel ReadsDeformationModel norm_deformation_model
+        item_deformation_model }
+    ensures dynamic { AreTheirForms class.Dynamic ReadsDynamic norm_dynamic item_dynamic }
 {
     plain_is_the_one();
     worked_examples();
 }
 
-// A normal member of an ensemble is the one form of its value.
-pub(super) fn normal_member_is_its_form()
-    ensures { (level : Level) →
-        IsItsForm level class.Member ReadsMember (λ m. item_member (norm_member level m)) }
-{}
-
-// A normal method is the one form of its value.
-pub(super) fn normal_method_is_its_form()
-    ensures { (level : Level) →
-        IsItsForm level class.Method ReadsMethod (λ m. item_method (norm_method level m)) }
-{}
-
-// A normal geoid model is the one form of its value.
-pub(super) fn normal_geoid_model_is_its_form()
-    ensures { (level : Level) →
-        IsItsForm level class.GeoidModel ReadsGeoidModel (λ g. item_geoid_model (norm_geoid_model level g)) }
-{}
-
-// A normal deformation model is the one form of its value.
-pub(super) fn normal_deformation_model_is_its_form()
-    ensures { (level : Level) →
-        IsItsForm level class.DeformationModel ReadsDeformationModel
-        (λ m. item_deformation_model (norm_deformation_model level m)) }
-{}
-
-// A normal dynamic part is the one form of its value.
-pub(super) fn normal_dynamic_is_its_form()
-    ensures { (level : Level) →
-        IsItsForm level class.Dynamic ReadsDynamic (λ d. item_dynamic (norm_dynamic level d)) }
-{
-    plain_is_the_one();
-}
-
-// A normal parameter is the one form of its value.
-pub(super) fn normal_parameter_is_its_form()
-    ensures { (level : Level) →
-        IsItsForm level class.Parameter ReadsParameter (λ p. item_parameter (norm_parameter level p)) }
-{
-    plain_is_the_one();
-}
-
-// A normal conversion is the one form of its value.
-pub(super) fn normal_conversion_is_its_form()
-    ensures { (level : Level) →
-        IsItsForm level class.Conversion ReadsConversion (λ c. item_conversion (norm_conversion level c)) }
-{
-    plain_is_the_one();
-}
-
-// A normal box, a normal extent and a normal usage are the one form of their values.
-pub(super) fn normal_usage_is_its_form()
-    ensures bbox { (level : Level) → IsItsForm level class.BoundingBox ReadsBox item_box }
-    ensures extent { (level : Level) →
-        IsItsForm level class.VerticalExtent ReadsExtent (λ e. item_extent (norm_extent level e)) }
-    ensures usage { (level : Level) →
-        IsItsForm level class.Usage ReadsUsage (λ u. item_usage (norm_usage u)) }
-{
-    plain_is_the_one();
-}
-
 // A normal ensemble is the one form of its value, and so is a normal reference frame that breaks no check.
 pub(super) fn normal_frame_is_its_form()
-    ensures datum { (level : Level) →
-        IsItsFormUnbroken level class.GeodeticFrame ReadsDatum (λ d. item_datum (codes "DATUM") (norm_datum level d)) }
-    ensures vertical_datum { (level : Level) →
-        IsItsFormUnbroken level class.VerticalFrame ReadsDatum (λ d. item_datum (codes "VDATUM") (norm_datum level d)) }
-    ensures ensemble { (level : Level) →
-        IsItsForm level class.GeodeticEnsemble ReadsEnsemble (λ e. item_ensemble (norm_ensemble level e)) }
-    ensures vertical_ensemble { (level : Level) →
-        IsItsForm level class.VerticalEnsemble ReadsEnsemble (λ e. item_ensemble (norm_ensemble level e)) }
+    ensures datum { AreTheirFormsUnbroken class.GeodeticFrame ReadsDatum norm_datum (item_datum (codes "DATUM")) }
+    ensures vertical_datum { AreTheirFormsUnbroken class.VerticalFrame ReadsDatum norm_datum (item_datum (codes "VDATUM")) }
+    ensures ensemble { AreTheirForms class.GeodeticEnsemble ReadsEnsemble norm_ensemble item_ensemble }
+    ensures vertical_ensemble { AreTheirForms class.VerticalEnsemble ReadsEnsemble norm_ensemble item_ensemble }
 {
     plain_is_the_one();
 }
@@ -158,8 +101,7 @@ pub(super) fn normal_frame_is_its_form()
 // A normal axis with its own unit is the one form of its value at its position, in each system, and so is the normal
 // meridian of an axis.
 pub(super) fn normal_axis_is_its_form()
-    ensures meridian { (level : Level) →
-        IsItsForm level class.AxisMeridian ReadsAxisMeridian (λ m. item_axis_meridian (norm_axis_meridian level m)) }
+    ensures meridian { AreTheirForms class.AxisMeridian ReadsAxisMeridian norm_axis_meridian item_axis_meridian }
     ensures axis { (level : Level) (system : SystemParts) (parent : Class) (position : ℕ) (item : Item)
         (value : AxisParts) → Shaped class.Axis item → IsNormalIn level parent class.Axis item →
         HasOneOrder position item → Has class.Axis class.AxisUnit item → ReadsAxis class.Axis item value →
@@ -173,29 +115,15 @@ pub(super) fn normal_axis_is_its_form()
     plain_is_the_one();
 }
 
-// A normal base CRS that breaks no check is the one form of its value.
-pub(super) fn normal_base_is_its_form()
-    ensures { (level : Level) →
-        IsItsFormUnbroken level class.BaseCrs ReadsBase (λ b. item_base (norm_base level b)) }
-{
-    plain_is_the_one();
-    worked_examples();
-}
-
-// A normal CRS that breaks no check is the one form of its value.
+// A normal CRS or base CRS that breaks no check is the one form of its value.
 pub(super) fn normal_crs_is_its_form()
-    ensures geodetic { (level : Level) →
-        IsItsFormUnbroken level class.GeodeticCrs ReadsGeodetic (λ g. item_geodetic (norm_geodetic level g)) }
-    ensures geographic { (level : Level) →
-        IsItsFormUnbroken level class.GeographicCrs ReadsGeodetic (λ g. item_geodetic (norm_geodetic level g)) }
-    ensures projected { (level : Level) →
-        IsItsFormUnbroken level class.ProjectedCrs ReadsProjected (λ p. item_projected (norm_projected level p)) }
-    ensures vertical { (level : Level) →
-        IsItsFormUnbroken level class.VerticalCrs ReadsVertical (λ v. item_vertical (norm_vertical level v)) }
-    ensures compound { (level : Level) →
-        IsItsFormUnbroken level class.CompoundCrs ReadsCompound (λ c. item_compound (norm_compound level c)) }
-    ensures any { (level : Level) (c : Class) →
-        IsItsFormUnbroken level c ReadsCrs (λ crs. item_crs (norm_crs level crs)) }
+    ensures base { AreTheirFormsUnbroken class.BaseCrs ReadsBase norm_base item_base }
+    ensures geodetic { AreTheirFormsUnbroken class.GeodeticCrs ReadsGeodetic norm_geodetic item_geodetic }
+    ensures geographic { AreTheirFormsUnbroken class.GeographicCrs ReadsGeodetic norm_geodetic item_geodetic }
+    ensures projected { AreTheirFormsUnbroken class.ProjectedCrs ReadsProjected norm_projected item_projected }
+    ensures vertical { AreTheirFormsUnbroken class.VerticalCrs ReadsVertical norm_vertical item_vertical }
+    ensures compound { AreTheirFormsUnbroken class.CompoundCrs ReadsCompound norm_compound item_compound }
+    ensures any { (c : Class) → AreTheirFormsUnbroken c ReadsCrs norm_crs item_crs }
 {
     plain_is_the_one();
     worked_examples();

@@ -46,21 +46,11 @@ ghost use Rattle.crs_normal.specs.PartTexts.{norm_axis_alone, vertical_text};
 ghost use Rattle.crs_normal.specs.WrittenForm.{IsWrittenForm};
 
 use crate::laws::made::{
-    decimal_laws, made_axis_meridian_is_normal, made_base_is_normal, made_box_is_normal,
-    made_compound_is_normal, made_conversion_is_normal, made_deformation_model_is_normal,
-    made_dynamic_is_normal, made_ellipsoid_is_normal, made_extent_is_normal,
-    made_geodetic_frame_is_normal, made_geodetic_is_normal, made_geoid_model_is_normal,
-    made_identifier_is_normal, made_member_is_normal, made_meridian_is_normal,
-    made_method_is_normal, made_parameter_is_normal, made_projected_is_normal, made_unit_is_normal,
-    made_usage_is_normal, made_vertical_frame_is_normal, made_vertical_is_normal,
+    decimal_laws, made_crs_is_normal, made_members_are_normal, made_parts_are_normal,
 };
 use crate::laws::normal::{
-    normal_axis_is_its_form, normal_base_is_its_form, normal_conversion_is_its_form,
-    normal_crs_is_its_form, normal_deformation_model_is_its_form, normal_dynamic_is_its_form,
-    normal_ellipsoid_is_its_form, normal_frame_is_its_form, normal_geoid_model_is_its_form,
-    normal_identifier_is_its_form, normal_member_is_its_form, normal_meridian_is_its_form,
-    normal_method_is_its_form, normal_parameter_is_its_form, normal_unit_is_its_form,
-    normal_usage_is_its_form,
+    normal_axis_is_its_form, normal_crs_is_its_form, normal_frame_is_its_form,
+    normal_members_are_their_forms, normal_parts_are_their_forms, normal_unit_is_its_form,
 };
 use crate::laws::read::{crs_is_read_back, crs_parts_are_read_back, frame_parts_are_read_back};
 use crate::laws::sets::{member_texts_tell_members, members_are_read_back, text_laws};
@@ -84,8 +74,8 @@ pub fn closed_texts()
 pub fn identifiers_are_canonical()
     ensures { (level : Level) → IsWrittenForm IsIdent SameIdent (IsSpelledIdent level) (ident_text level) }
 {
-    made_identifier_is_normal();
-    normal_identifier_is_its_form();
+    made_members_are_normal();
+    normal_members_are_their_forms();
     members_are_read_back();
     member_texts_tell_members();
     text_laws();
@@ -98,7 +88,7 @@ pub fn units_are_canonical()
     ensures { (level : Level) → IsWrittenForm IsUnit (SameUnit kinds.Plain level) (IsSpelledUnit level)
         (unit_text level) }
 {
-    made_unit_is_normal();
+    made_members_are_normal();
     normal_unit_is_its_form();
     members_are_read_back();
     member_texts_tell_members();
@@ -122,16 +112,13 @@ pub fn frame_parts_are_canonical()
         IsWrittenForm IsAxisMeridian (SameAxisMeridian level) (IsSpelledAxisMeridian level)
         (axis_meridian_text level) }
 {
-    made_ellipsoid_is_normal();
-    made_meridian_is_normal();
-    made_member_is_normal();
-    made_axis_meridian_is_normal();
+    made_parts_are_normal();
+    made_members_are_normal();
     frame_parts_are_read_back();
     crs_parts_are_read_back();
     members_are_read_back();
-    normal_ellipsoid_is_its_form();
-    normal_meridian_is_its_form();
-    normal_member_is_its_form();
+    normal_parts_are_their_forms();
+    normal_members_are_their_forms();
     normal_axis_is_its_form();
     same_frames_have_one_form();
     same_systems_have_one_form();
@@ -179,16 +166,12 @@ pub fn conversions_are_canonical()
         IsWrittenForm IsGeoidModel (SameGeoidModel level)
         (IsSpelledGeoidModel level) (geoid_model_text level) }
 {
-    made_method_is_normal();
-    made_parameter_is_normal();
-    made_conversion_is_normal();
-    made_geoid_model_is_normal();
+    made_parts_are_normal();
+    made_members_are_normal();
     crs_parts_are_read_back();
     members_are_read_back();
-    normal_method_is_its_form();
-    normal_parameter_is_its_form();
-    normal_conversion_is_its_form();
-    normal_geoid_model_is_its_form();
+    normal_parts_are_their_forms();
+    normal_members_are_their_forms();
     same_conversions_have_one_form();
     members_read_once();
     parts_read_once();
@@ -205,11 +188,9 @@ pub fn dynamic_parts_are_canonical()
     ensures dynamic { (level : Level) →
         IsWrittenForm IsDynamic (SameDynamic level) (IsSpelledDynamic level) (dynamic_text level) }
 {
-    made_deformation_model_is_normal();
-    made_dynamic_is_normal();
+    made_parts_are_normal();
     crs_parts_are_read_back();
-    normal_deformation_model_is_its_form();
-    normal_dynamic_is_its_form();
+    normal_parts_are_their_forms();
     same_dynamic_parts_have_one_form();
     parts_read_once();
     parts_are_sound();
@@ -224,10 +205,9 @@ pub fn extents_are_canonical()
     ensures extent { (level : Level) →
         IsWrittenForm IsExtent (SameExtent level) (IsSpelledExtent level) (extent_text level) }
 {
-    made_box_is_normal();
-    made_extent_is_normal();
+    made_members_are_normal();
     members_are_read_back();
-    normal_usage_is_its_form();
+    normal_members_are_their_forms();
     same_tails_have_one_form();
     members_read_once();
     parts_read_once();
@@ -241,9 +221,9 @@ pub fn usages_are_canonical()
     ensures { (level : Level) →
         IsWrittenForm IsUsage SameUsage (IsSpelledUsage level) (usage_text level) }
 {
-    made_usage_is_normal();
+    made_members_are_normal();
     members_are_read_back();
-    normal_usage_is_its_form();
+    normal_members_are_their_forms();
     same_tails_have_one_form();
     members_read_once();
     parts_are_sound();
@@ -259,8 +239,7 @@ pub fn datums_are_canonical()
         IsWrittenForm IsEnsemble (AreSame parts_of_ensemble level)
         (IsSpelledEnsemble level) (ensemble_text level) }
 {
-    made_geodetic_frame_is_normal();
-    made_vertical_frame_is_normal();
+    made_parts_are_normal();
     normal_frame_is_its_form();
     same_frames_have_one_form();
     parts_read_once();
@@ -294,14 +273,10 @@ pub fn kinds_are_canonical()
         IsWrittenForm IsCompound (AreSame parts_of_compound level)
         (IsSpelledCompound level) (compound_text level) }
 {
-    made_base_is_normal();
-    made_geodetic_is_normal();
-    made_projected_is_normal();
-    made_vertical_is_normal();
-    made_compound_is_normal();
+    made_parts_are_normal();
+    made_crs_is_normal();
     crs_parts_are_read_back();
     crs_is_read_back();
-    normal_base_is_its_form();
     normal_crs_is_its_form();
     same_kinds_have_one_form();
     written_forms_are_equal_where_same();

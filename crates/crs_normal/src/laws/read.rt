@@ -3,9 +3,6 @@ ghost use Rattle.std.specs.Prelude.{◌≡◌, ℕ, Some};
 ghost use Rattle.crs_text.specs.Written.{at_place};
 ghost use Rattle.crs_shape.specs.declared.class.Class.TheVariants as class;
 ghost use Rattle.crs_shape.specs.ShapeFault.{class_of_root};
-ghost use Rattle.crs_value.specs.ConversionValues.{ConversionParts, MethodParts};
-ghost use Rattle.crs_value.specs.CrsValues.{BaseParts};
-ghost use Rattle.crs_value.specs.DynamicValues.{DeformationModelParts, DynamicParts};
 ghost use Rattle.crs_value.specs.declared.values.crs.Crs.{Crs};
 ghost use Rattle.crs_value.specs.declared.values.level.Level.{Level};
 ghost use Rattle.crs_value.specs.Reads.{ReadsAxis, ReadsAxisMeridian, ReadsEllipsoid, ReadsHead, ReadsMeridian};
@@ -19,13 +16,13 @@ ghost use Rattle.crs_value.specs.SoundDynamic.{IsDeformationModel, IsDynamic};
 ghost use Rattle.crs_value.specs.SoundFrames.{IsEllipsoid, IsMeridian};
 ghost use Rattle.crs_value.specs.SoundSingle.{IsBase};
 ghost use Rattle.crs_value.specs.SoundSystem.{IsSystem};
-ghost use Rattle.crs_value.specs.Values.{AxisMeridianParts, AxisParts, EllipsoidParts, MeridianParts, SystemParts};
 ghost use Rattle.crs_normal.specs.PartTexts.{norm_axis_alone};
 ghost use Rattle.crs_normal.specs.CrsClass.{crs_class};
+ghost use Rattle.crs_normal.specs.ReadBack.{AreReadBack};
 ghost use Rattle.crs_normal.specs.SpelledConversions.{item_conversion, item_method, norm_conversion, norm_method};
 ghost use Rattle.crs_normal.specs.SpelledCrs.{item_base, item_crs, norm_base, norm_crs};
-ghost use Rattle.crs_normal.specs.SpelledDynamic.{item_deformation_model, item_dynamic};
-ghost use Rattle.crs_normal.specs.SpelledDynamic.{norm_deformation_model, norm_dynamic};
+ghost use Rattle.crs_normal.specs.SpelledDynamic.{item_deformation_model, item_dynamic, norm_deformation_model};
+ghost use Rattle.crs_normal.specs.SpelledDynamic.{norm_dynamic};
 ghost use Rattle.crs_normal.specs.SpelledFrames.{greenwich, item_ellipsoid, item_meridian, norm_ellipsoid, norm_given};
 ghost use Rattle.crs_normal.specs.SpelledSystems.{item_axis, item_axis_meridian, item_head, norm_axis_meridian};
 ghost use Rattle.crs_normal.specs.SpelledSystems.{norm_system};
@@ -35,12 +32,8 @@ use crate::laws::values::lower_laws;
 
 // Ellipsoids and prime meridians are read back from their items; a missing prime meridian is Greenwich.
 pub(super) fn frame_parts_are_read_back()
-    ensures ellipsoid { (level : Level) (ellipsoid : EllipsoidParts) (place : ℕ) → IsEllipsoid ellipsoid →
-        ReadsEllipsoid class.Ellipsoid (at_place place (item_ellipsoid (norm_ellipsoid level ellipsoid)))
-        (norm_ellipsoid level ellipsoid) }
-    ensures given { (level : Level) (meridian : MeridianParts) (place : ℕ) → IsMeridian meridian →
-        ReadsMeridian class.PrimeMeridian (at_place place (item_meridian (norm_given level meridian)))
-        (norm_given level meridian) }
+    ensures ellipsoid { AreReadBack IsEllipsoid (ReadsEllipsoid class.Ellipsoid) norm_ellipsoid item_ellipsoid }
+    ensures given { AreReadBack IsMeridian (ReadsMeridian class.PrimeMeridian) norm_given item_meridian }
     ensures greenwich { (place : ℕ) →
         ReadsMeridian class.PrimeMeridian (at_place place (item_meridian greenwich)) greenwich }
 {
@@ -50,28 +43,15 @@ pub(super) fn frame_parts_are_read_back()
 // Axes and their meridians, the nodes of coordinate systems, conversions and their methods, deformation models, dynamic
 // parts and base CRSs are read back from their items.
 pub(super) fn crs_parts_are_read_back()
-    ensures along { (level : Level) (meridian : AxisMeridianParts) (place : ℕ) → IsAxisMeridian meridian →
-        ReadsAxisMeridian class.AxisMeridian (at_place place (item_axis_meridian (norm_axis_meridian level meridian)))
-        (norm_axis_meridian level meridian) }
-    ensures axis { (level : Level) (axis : AxisParts) (place : ℕ) → IsAxis axis →
-        ReadsAxis class.Axis (at_place place (item_axis (norm_axis_alone level axis))) (norm_axis_alone level axis) }
-    ensures head { (level : Level) (system : SystemParts) (place : ℕ) → IsSystem system →
-        ReadsHead (at_place place (item_head (norm_system level system))) (norm_system level system) }
-    ensures method { (level : Level) (method : MethodParts) (place : ℕ) → IsMethod method →
-        ReadsMethod class.Method (at_place place (item_method (norm_method level method))) (norm_method level method) }
-    ensures conversion { (level : Level) (conversion : ConversionParts) (place : ℕ) → IsConversion conversion →
-        ReadsConversion class.Conversion (at_place place (item_conversion (norm_conversion level conversion)))
-        (norm_conversion level conversion) }
-    ensures deformation_model { (level : Level) (model : DeformationModelParts) (place : ℕ) →
-        IsDeformationModel model →
-        ReadsDeformationModel class.DeformationModel
-        (at_place place (item_deformation_model (norm_deformation_model level model)))
-        (norm_deformation_model level model) }
-    ensures dynamic { (level : Level) (dynamic : DynamicParts) (place : ℕ) → IsDynamic dynamic →
-        ReadsDynamic class.Dynamic (at_place place (item_dynamic (norm_dynamic level dynamic)))
-        (norm_dynamic level dynamic) }
-    ensures base { (level : Level) (base : BaseParts) (place : ℕ) → IsBase base →
-        ReadsBase class.BaseCrs (at_place place (item_base (norm_base level base))) (norm_base level base) }
+    ensures along { AreReadBack IsAxisMeridian (ReadsAxisMeridian class.AxisMeridian) norm_axis_meridian item_axis_meridian }
+    ensures axis { AreReadBack IsAxis (ReadsAxis class.Axis) norm_axis_alone item_axis }
+    ensures head { AreReadBack IsSystem ReadsHead norm_system item_head }
+    ensures method { AreReadBack IsMethod (ReadsMethod class.Method) norm_method item_method }
+    ensures conversion { AreReadBack IsConversion (ReadsConversion class.Conversion) norm_conversion item_conversion }
+    ensures deformation_model { AreReadBack IsDeformationModel (ReadsDeformationModel class.DeformationModel)
+        norm_deformation_model item_deformation_model }
+    ensures dynamic { AreReadBack IsDynamic (ReadsDynamic class.Dynamic) norm_dynamic item_dynamic }
+    ensures base { AreReadBack IsBase (ReadsBase class.BaseCrs) norm_base item_base }
 {
     text_laws();
 }

@@ -28,7 +28,7 @@ ghost use Rattle.crs_matching.specs.SameSystems.{SameAxisAlone, SameAxisMeridian
 ghost use Rattle.crs_matching.specs.SameUnits.{SameLength, SameUnit};
 ghost use Rattle.crs_matching.specs.SameUsages.{SameBox, SameExtent, SameUsage};
 ghost use Rattle.crs_matching.specs.Sets.{BothOrNeither};
-ghost use Rattle.crs_normal.specs.Decides.{DecidesSameness, FormDecides, IsNumbered, Maybe, SetsDecide};
+ghost use Rattle.crs_normal.specs.Decides.{DecidesSameness, FormDecides, FormsDecide, IsNumbered, Maybe};
 ghost use Rattle.crs_normal.specs.LowerLaws.{LowerLaws};
 ghost use Rattle.crs_normal.specs.PartTexts.{norm_axis_alone};
 ghost use Rattle.crs_normal.specs.SpelledConversions.{norm_conversion, norm_geoid_model, norm_method, norm_parameter};
@@ -42,10 +42,7 @@ ghost use Rattle.crs_normal.specs.SpelledUnits.{norm_length, norm_unit, norm_uni
 ghost use Rattle.crs_normal.specs.SpelledUsages.{norm_extent, norm_tail, norm_usage};
 
 use crate::laws::numbers::whole_numbers_are_tested;
-use crate::laws::sets::{
-    same_geoid_models_have_one_form, same_identifiers_have_one_form, same_members_have_one_form,
-    same_parameters_have_one_form, same_usages_have_one_form,
-};
+use crate::laws::sets::sets_decide;
 use crs_decimal::laws::{normal_is_one, same_number_is_equivalence};
 use crs_same::laws::{as_many_axes, one_axis_each, parts_agree_where_same};
 
@@ -60,25 +57,13 @@ pub(super) fn lower_laws()
     one_axis_each();
 }
 
-// The forms of sets decide which sets are the same.
-fn sets_decide()
-    ensures { SetsDecide }
-{
-    same_identifiers_have_one_form();
-    same_members_have_one_form();
-    same_parameters_have_one_form();
-    same_geoid_models_have_one_form();
-    same_usages_have_one_form();
-}
-
 // Units have one form exactly where they are the same, whatever kind is asked; a missing unit of length is the metre.
 pub(super) fn same_units_have_one_form()
     ensures one { (level : Level) (asked : UnitKind) →
         FormDecides IsUnit (norm_unit level asked) (SameUnit asked level) }
     ensures optional { (level : Level) (asked : UnitKind) →
         FormDecides (Maybe IsUnit) (norm_units level asked) (BothOrNeither (SameUnit asked level)) }
-    ensures length { (level : Level) →
-        FormDecides (Maybe (IsUnitOf kinds.Length)) (norm_length level) (SameLength level) }
+    ensures length { FormsDecide (Maybe (IsUnitOf kinds.Length)) norm_length SameLength }
 {
     lower_laws();
     sets_decide();
@@ -87,22 +72,14 @@ pub(super) fn same_units_have_one_form()
 // Ellipsoids, prime meridians, members, reference frames and ensembles have one form exactly where they are the same; a
 // missing prime meridian is Greenwich.
 pub(super) fn same_frames_have_one_form()
-    ensures ellipsoid { (level : Level) →
-        FormDecides IsEllipsoid (norm_ellipsoid level) (AreSame parts_of_ellipsoid level) }
-    ensures given { (level : Level) →
-        FormDecides IsMeridian (norm_given level) (AreSame parts_of_given level) }
-    ensures meridian { (level : Level) →
-        FormDecides (Maybe IsMeridian) (norm_meridian level) (AreSame parts_of_meridian level) }
-    ensures member { (level : Level) →
-        FormDecides IsMember (norm_member level) (SameMember level) }
-    ensures datum { (level : Level) →
-        FormDecides IsDatum (norm_datum level) (AreSame parts_of_datum level) }
-    ensures ensemble { (level : Level) →
-        FormDecides IsEnsemble (norm_ensemble level) (AreSame parts_of_ensemble level) }
-    ensures geodetic { (level : Level) →
-        FormDecides IsGeodeticFrame (norm_frame level) (AreSame parts_of_frame level) }
-    ensures vertical { (level : Level) →
-        FormDecides IsVerticalFrame (norm_frame level) (AreSame parts_of_frame level) }
+    ensures ellipsoid { FormsDecide IsEllipsoid norm_ellipsoid (AreSame parts_of_ellipsoid) }
+    ensures given { FormsDecide IsMeridian norm_given (AreSame parts_of_given) }
+    ensures meridian { FormsDecide (Maybe IsMeridian) norm_meridian (AreSame parts_of_meridian) }
+    ensures member { FormsDecide IsMember norm_member SameMember }
+    ensures datum { FormsDecide IsDatum norm_datum (AreSame parts_of_datum) }
+    ensures ensemble { FormsDecide IsEnsemble norm_ensemble (AreSame parts_of_ensemble) }
+    ensures geodetic { FormsDecide IsGeodeticFrame norm_frame (AreSame parts_of_frame) }
+    ensures vertical { FormsDecide IsVerticalFrame norm_frame (AreSame parts_of_frame) }
 {
     parts_agree_where_same();
     lower_laws();
@@ -112,19 +89,16 @@ pub(super) fn same_frames_have_one_form()
 // Coordinate systems have one form exactly where they are the same, and the axes at one position of two exactly where
 // they agree. The number of axes has at most 18 digits.
 pub(super) fn same_systems_have_one_form()
-    ensures meridian { (level : Level) →
-        FormDecides (Maybe IsAxisMeridian) (norm_axis_meridians level)
-        (BothOrNeither (SameAxisMeridian level)) }
+    ensures meridian { FormsDecide (Maybe IsAxisMeridian) norm_axis_meridians
+        (λ level. BothOrNeither (SameAxisMeridian level)) }
     ensures axis { (level : Level) (a b : SystemParts) (position : ℕ) (x y : AxisParts) →
         a.system_type ≡ b.system_type → Maybe IsAxisUnit a.unit → Maybe IsAxisUnit b.unit →
         IsAxis x → IsAxis y →
         (norm_axis level a position x ≡ norm_axis level b position y) ↔ AgreeAxis level a b x y }
 
     // By themselves axes have their own orders and units.
-    ensures alone { (level : Level) →
-        FormDecides IsAxis (norm_axis_alone level) (SameAxisAlone level) }
-    ensures system { (level : Level) →
-        FormDecides IsNumbered (norm_system level) (AreSame parts_of_system level) }
+    ensures alone { FormsDecide IsAxis norm_axis_alone SameAxisAlone }
+    ensures system { FormsDecide IsNumbered norm_system (AreSame parts_of_system) }
 {
     parts_agree_where_same();
     lower_laws();
@@ -133,14 +107,10 @@ pub(super) fn same_systems_have_one_form()
 
 // Conversions, methods, parameters and geoid models have one form exactly where they are the same.
 pub(super) fn same_conversions_have_one_form()
-    ensures method { (level : Level) →
-        FormDecides IsMethod (norm_method level) (AreSame parts_of_method level) }
-    ensures parameter { (level : Level) →
-        FormDecides IsParameter (norm_parameter level) (SameParameter level) }
-    ensures conversion { (level : Level) →
-        FormDecides IsConversion (norm_conversion level) (AreSame parts_of_conversion level) }
-    ensures geoid_model { (level : Level) →
-        FormDecides IsGeoidModel (norm_geoid_model level) (SameGeoidModel level) }
+    ensures method { FormsDecide IsMethod norm_method (AreSame parts_of_method) }
+    ensures parameter { FormsDecide IsParameter norm_parameter SameParameter }
+    ensures conversion { FormsDecide IsConversion norm_conversion (AreSame parts_of_conversion) }
+    ensures geoid_model { FormsDecide IsGeoidModel norm_geoid_model SameGeoidModel }
 {
     parts_agree_where_same();
     lower_laws();
@@ -149,10 +119,8 @@ pub(super) fn same_conversions_have_one_form()
 
 // Deformation models and dynamic parts have one form exactly where they are the same.
 pub(super) fn same_dynamic_parts_have_one_form()
-    ensures deformation_model { (level : Level) →
-        FormDecides IsDeformationModel (norm_deformation_model level) (SameDeformationModel level) }
-    ensures dynamic { (level : Level) →
-        FormDecides IsDynamic (norm_dynamic level) (SameDynamic level) }
+    ensures deformation_model { FormsDecide IsDeformationModel norm_deformation_model SameDeformationModel }
+    ensures dynamic { FormsDecide IsDynamic norm_dynamic SameDynamic }
 {
     parts_agree_where_same();
     lower_laws();
@@ -163,11 +131,9 @@ pub(super) fn same_dynamic_parts_have_one_form()
 // is a usage.
 pub(super) fn same_tails_have_one_form()
     ensures bounding_box { FormDecides IsBox (λ bounds. bounds) SameBox }
-    ensures extent { (level : Level) →
-        FormDecides IsExtent (norm_extent level) (SameExtent level) }
+    ensures extent { FormsDecide IsExtent norm_extent SameExtent }
     ensures usage { FormDecides IsUsage norm_usage SameUsage }
-    ensures tail { (level : Level) →
-        FormDecides IsTail (norm_tail level) (AreSame parts_of_tail level) }
+    ensures tail { FormsDecide IsTail norm_tail (AreSame parts_of_tail) }
 {
     parts_agree_where_same();
     lower_laws();
@@ -176,18 +142,12 @@ pub(super) fn same_tails_have_one_form()
 
 // CRSs of each kind, base CRSs and the horizontal parts of compound CRSs have one form exactly where they are the same.
 pub(super) fn same_kinds_have_one_form()
-    ensures geodetic { (level : Level) →
-        FormDecides IsGeodetic (norm_geodetic level) (AreSame parts_of_geodetic level) }
-    ensures base { (level : Level) →
-        FormDecides IsBase (norm_base level) (AreSame parts_of_base level) }
-    ensures projected { (level : Level) →
-        FormDecides IsProjected (norm_projected level) (AreSame parts_of_projected level) }
-    ensures vertical { (level : Level) →
-        FormDecides IsVertical (norm_vertical level) (AreSame parts_of_vertical level) }
-    ensures horizontal { (level : Level) →
-        FormDecides IsHorizontal (norm_horizontal level) (AreSame parts_of_horizontal level) }
-    ensures compound { (level : Level) →
-        FormDecides IsCompound (norm_compound level) (AreSame parts_of_compound level) }
+    ensures geodetic { FormsDecide IsGeodetic norm_geodetic (AreSame parts_of_geodetic) }
+    ensures base { FormsDecide IsBase norm_base (AreSame parts_of_base) }
+    ensures projected { FormsDecide IsProjected norm_projected (AreSame parts_of_projected) }
+    ensures vertical { FormsDecide IsVertical norm_vertical (AreSame parts_of_vertical) }
+    ensures horizontal { FormsDecide IsHorizontal norm_horizontal (AreSame parts_of_horizontal) }
+    ensures compound { FormsDecide IsCompound norm_compound (AreSame parts_of_compound) }
 {
     parts_agree_where_same();
     lower_laws();

@@ -9,8 +9,8 @@ use Rattle.crs_normal.proofs.laws.parts.datums_are_canonical.Goals as goal
 
 pub returns : goal.returns
 returns c = record {
-  datum = λ level. let geodetic = c.made_geodetic_frame_is_normal.ensures in
-      let vertical = c.made_vertical_frame_is_normal.ensures in
+  datum = λ level. let geodetic = c.made_parts_are_normal.ensures.geodetic_frame in
+      let vertical = c.made_parts_are_normal.ensures.vertical_frame in
       let laws = c.text_laws.ensures in
       canonical-by laws c.written_items.ensures.formed item_own_datum (record {
         decides = c.same_frames_have_one_form.ensures.datum level;
@@ -24,8 +24,8 @@ returns c = record {
         own = λ x s. datum-own c.parts_are_sound.ensures.datum c.parts_are_sound.ensures.vertical_datum level
             (c.normal_frame_is_its_form.ensures.datum level) (c.normal_frame_is_its_form.ensures.vertical_datum level) x;
       });
-  ensemble = λ level. let geodetic = c.made_geodetic_frame_is_normal.ensures in
-      let vertical = c.made_vertical_frame_is_normal.ensures in
+  ensemble = λ level. let geodetic = c.made_parts_are_normal.ensures.geodetic_frame in
+      let vertical = c.made_parts_are_normal.ensures.vertical_frame in
       let laws = c.text_laws.ensures in
       canonical-by laws c.written_items.ensures.formed item_ensemble (record {
         decides = c.same_frames_have_one_form.ensures.ensemble level;

@@ -8,18 +8,18 @@ pub returns : goal.returns
 returns c = record {
   bounding_box = λ level. canonical-of c.text_laws.ensures c.written_items.ensures.formed item_box (record {
     decides = c.same_tails_have_one_form.ensures.bounding_box;
-    made = c.made_box_is_normal.ensures level;
-    reads = c.members_are_read_back.ensures.bounding_box;
+    made = c.made_members_are_normal.ensures.bounding_box level;
+    reads = c.members_are_read_back.ensures.bounding_box level;
     once = c.parts_read_once.ensures.bounding_box;
     sound = c.parts_are_sound.ensures.bounding_box class.BoundingBox;
-    own = λ d i v shaped normal free. c.normal_usage_is_its_form.ensures.bbox level d i v shaped normal;
+    own = λ d i v shaped normal free. c.normal_members_are_their_forms.ensures.bounding_box level d i v shaped normal;
   }) (omega arith);
   extent = λ level. canonical-of c.text_laws.ensures c.written_items.ensures.formed item_extent (record {
     decides = c.same_tails_have_one_form.ensures.extent level;
-    made = c.made_extent_is_normal.ensures level;
+    made = c.made_members_are_normal.ensures.extent level;
     reads = c.members_are_read_back.ensures.extent level;
     once = c.members_read_once.ensures.extent;
     sound = c.parts_are_sound.ensures.extent class.VerticalExtent;
-    own = λ d i v shaped normal free. c.normal_usage_is_its_form.ensures.extent level d i v shaped normal;
+    own = λ d i v shaped normal free. c.normal_members_are_their_forms.ensures.extent level d i v shaped normal;
   }) (omega arith);
 }

@@ -10,10 +10,10 @@ pub returns : goal.returns
 returns c level =
     canonical-by c.text_laws.ensures c.written_items.ensures.formed item_ident (record {
       decides = λ a b p q. ident-agrees a b;
-      made = λ x s. made-stands (omega arith) (c.made_identifier_is_normal.ensures levels.Full x 0 s);
-      reads = λ x s. c.members_are_read_back.ensures.identifier x 0 s;
+      made = λ x s. made-stands (omega arith) (c.made_members_are_normal.ensures.identifier levels.Full x 0 s);
+      reads = λ x s. c.members_are_read_back.ensures.identifier level x 0 s;
       told = c.member_texts_tell_members.ensures.identifier;
       sound = λ x s. c.parts_are_sound.ensures.ident class.Identifier;
       own = λ x s i v sound normal.
-          c.normal_identifier_is_its_form.ensures levels.Full class.Identifier i v sound.shaped normal;
+          c.normal_members_are_their_forms.ensures.identifier levels.Full class.Identifier i v sound.shaped normal;
     })

@@ -11,16 +11,16 @@ pub returns : goal.returns
 returns c = record {
   base = λ level. canonical-of c.text_laws.ensures c.written_items.ensures.formed item_base (record {
     decides = c.same_kinds_have_one_form.ensures.base level;
-    made = c.made_base_is_normal.ensures level;
+    made = c.made_parts_are_normal.ensures.base level;
     reads = c.crs_parts_are_read_back.ensures.base level;
     once = c.parts_read_once.ensures.base;
     sound = c.parts_are_sound.ensures.base;
-    own = c.normal_base_is_its_form.ensures level;
+    own = c.normal_crs_is_its_form.ensures.base level;
   }) (omega arith);
   geodetic = λ level. let own = c.normal_crs_is_its_form.ensures in
       canonical-by c.text_laws.ensures c.written_items.ensures.formed item_geodetic (record {
         decides = c.same_kinds_have_one_form.ensures.geodetic level;
-        made = λ x s. made-stands (omega arith) (c.made_geodetic_is_normal.ensures level x 0 s);
+        made = λ x s. made-stands (omega arith) (c.made_crs_is_normal.ensures.geodetic level x 0 s);
         reads = λ x s. (c.crs_is_read_back.ensures.reads level (crs.Geodetic x) 0 s).1;
         told = geodetic-told level (c.written_forms_are_equal_where_same.ensures level)
             (c.same_kinds_have_one_form.ensures.geodetic level);
@@ -31,7 +31,7 @@ returns c = record {
       });
   projected = λ level. canonical-of c.text_laws.ensures c.written_items.ensures.formed item_projected (record {
     decides = c.same_kinds_have_one_form.ensures.projected level;
-    made = c.made_projected_is_normal.ensures level;
+    made = c.made_crs_is_normal.ensures.projected level;
     reads = λ x place s. (c.crs_is_read_back.ensures.reads level (crs.Projected x) place s).1;
     once = c.parts_read_once.ensures.projected;
     sound = c.kinds_are_sound.ensures.projected;
@@ -39,7 +39,7 @@ returns c = record {
   }) (omega arith);
   vertical = λ level. canonical-of c.text_laws.ensures c.written_items.ensures.formed item_vertical (record {
     decides = c.same_kinds_have_one_form.ensures.vertical level;
-    made = c.made_vertical_is_normal.ensures level;
+    made = c.made_crs_is_normal.ensures.vertical level;
     reads = λ x place s. (c.crs_is_read_back.ensures.reads level (crs.Vertical x) place s).1;
     once = c.parts_read_once.ensures.vertical;
     sound = c.kinds_are_sound.ensures.vertical;
@@ -47,7 +47,7 @@ returns c = record {
   }) (omega arith);
   compound = λ level. canonical-of c.text_laws.ensures c.written_items.ensures.formed item_compound (record {
     decides = c.same_kinds_have_one_form.ensures.compound level;
-    made = c.made_compound_is_normal.ensures level;
+    made = c.made_crs_is_normal.ensures.compound level;
     reads = λ x place s. (c.crs_is_read_back.ensures.reads level (crs.Compound x) place s).1;
     once = c.parts_read_once.ensures.compound;
     sound = c.kinds_are_sound.ensures.compound;

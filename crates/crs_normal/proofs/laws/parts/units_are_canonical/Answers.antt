@@ -12,7 +12,7 @@ returns c level =
     canonical-by c.text_laws.ensures c.written_items.ensures.formed item_unit (record {
       decides = c.same_units_have_one_form.ensures.one level kinds.Plain;
       made = λ x s. made-stands (omega arith)
-          (c.made_unit_is_normal.ensures level (unit_class x.kind) kinds.Plain x 0 (kind-in x.kind) s);
+          (c.made_members_are_normal.ensures.unit level (unit_class x.kind) kinds.Plain x 0 (kind-in x.kind) s);
       reads = λ x s. c.members_are_read_back.ensures.unit level (unit_class x.kind) kinds.Plain x 0 (names-id x.kind) s;
       told = c.member_texts_tell_members.ensures.unit level kinds.Plain;
       sound = λ x s. c.parts_are_sound.ensures.unit (unit_class x.kind) (is-unit_class x.kind);

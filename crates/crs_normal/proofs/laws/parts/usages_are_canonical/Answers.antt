@@ -8,9 +8,9 @@ pub returns : goal.returns
 returns c level =
     canonical-of c.text_laws.ensures c.written_items.ensures.formed item_usage (record {
       decides = c.same_tails_have_one_form.ensures.usage;
-      made = λ x place s. c.made_usage_is_normal.ensures x place s;
-      reads = λ x place s. c.members_are_read_back.ensures.usage x place s;
+      made = c.made_members_are_normal.ensures.usage;
+      reads = c.members_are_read_back.ensures.usage level;
       once = c.members_read_once.ensures.usage;
       sound = c.parts_are_sound.ensures.usage;
-      own = λ d i v shaped normal free. c.normal_usage_is_its_form.ensures.usage levels.Full d i v shaped normal;
+      own = λ d i v shaped normal free. c.normal_members_are_their_forms.ensures.usage levels.Full d i v shaped normal;
     }) (omega arith)

@@ -15,7 +15,7 @@ use Rattle.crs_normal.proofs.laws.sets.members_are_read_back.Goals as goal
 
 pub returns : goal.returns
 returns c = record {
-  identifier = λ x place s. ident-read x s place;
+  identifier = λ level x place s. ident-read x s place;
   unit = λ level kind asked x place names s. unit-read c.text_laws.ensures kind names (norm_unit level asked x) (unit-kept level asked x s) place;
   member = λ level x place s. named-read class.Member (codes "MEMBER") (keyword-names class.Member (codes "ID")) (norm_member level x)
       (named-kept level x s) place;
@@ -23,6 +23,6 @@ returns c = record {
   geoid_model = λ level x place s. named-read class.GeoidModel (codes "GEOIDMODEL") (keyword-names class.GeoidModel (codes "ID"))
       (norm_geoid_model level x) (named-kept level x s) place;
   extent = λ level x place s. extent-read c.text_laws.ensures (norm_extent level x) (extent-kept level x s) place;
-  usage = λ x place s. usage-read c.text_laws.ensures (norm_usage x) (usage-kept x s) place;
-  bounding_box = λ x place s. box-read c.text_laws.ensures x s place;
+  usage = λ level x place s. usage-read c.text_laws.ensures (norm_usage x) (usage-kept x s) place;
+  bounding_box = λ level x place s. box-read c.text_laws.ensures x s place;
 }

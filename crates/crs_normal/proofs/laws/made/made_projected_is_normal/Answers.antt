@@ -1,5 +1,0 @@
-use Rattle.crs_normal.proofs.made.ProjectedLemmas.{projected-made}
-use Rattle.crs_normal.proofs.laws.made.made_projected_is_normal.Goals as goal
-
-pub returns : goal.returns
-returns c = λ level x place h. projected-made c.decimal_laws.ensures c.one_axis_each.ensures.some level x h place

@@ -1,6 +1,0 @@
-use Rattle.crs_normal.proofs.normal.FormLemmas.{its}
-use Rattle.crs_normal.proofs.normal.NamedLemmas.{conversion-form}
-use Rattle.crs_normal.proofs.laws.normal.normal_conversion_is_its_form.Goals as goal
-
-pub returns : goal.returns
-returns c = its (conversion-form c.plain_is_the_one.ensures.only)
