@@ -65,7 +65,8 @@ some-again f n h (Some x) = ap (λ y. Some y) (h x)
 pub set-again : {A : Type 0} (text : A → List ℕ) (f n : A → A) → StaysInOrder text → ((x : A) → IsLeft f n x) →
     (xs : List A) → IsLeft (map f) (λ ys. in_order text (map n ys)) xs
 set-again text f n l h xs =
-    let fixed : Each (λ x. f x ≡ x) (in_order text (map n (map f xs))) = l.alike f (λ x. x) _ (search (mapped, each-all, h)) in
+    let all : Each (λ x. f x ≡ x) (map n (map f xs)) = search (mapped, each-all, h) in
+    let fixed : Each (λ x. f x ≡ x) (in_order text (map n (map f xs))) = l.alike f (λ x. x) (map n (map f xs)) all in
     each-fixed f _ fixed
 
 -- what the axes of a system in its one form have, where it is shown of each that is written at a position

@@ -6,6 +6,7 @@ use Rattle.std.proofs.lemmas.Slice.Eq.{bytes_eq-Decides}
 use denote.Enum.Bare.{sameb, same_true}
 use Rattle.crs_decimal.specs.Prelude.{plain}
 use Rattle.crs_shape.specs.declared.class.Class.{Class}
+use Rattle.crs_shape.specs.contracts.class.Class as classes
 use Rattle.crs_shape.specs.contracts.unit_kind.UnitKind.{the_type}
 use Rattle.crs_value.specs.Prelude.{is_same, UnitParts}
 use Rattle.crs_rules.specs.Rules.{NameAliasParts, UnitAliasParts, is_name_alias, is_unit_alias}
@@ -17,7 +18,7 @@ pub record OfName (c : Class) (name : List ℕ) (a : NameAliasParts) : Type 0 wh
 pub of-name : (c : Class) (name : List ℕ) (a : NameAliasParts) → is_name_alias c name a ≡ true → OfName c name a
 of-name c name a e =
     let h = and_parts (is_same c a.class) (bytes_eq name a.alias) e in
-    record { class = sym (same_true _ (search rules) _ _ h.0); alias = (bytes_eq-Decides name a.alias).0 h.1 }
+    record { class = sym (same_true classes.the_type (search rules) a.class c h.0); alias = (bytes_eq-Decides name a.alias).0 h.1 }
 
 pub record OfUnit (u : UnitParts) (a : UnitAliasParts) : Type 0 where
   pub kind : u.kind ≡ a.kind

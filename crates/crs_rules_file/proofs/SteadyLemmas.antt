@@ -6,6 +6,7 @@ use Rattle.crs_shape.specs.declared.class.Class.{Class}
 use Rattle.crs_shape.specs.declared.class.Class.TheVariants as class
 use Rattle.crs_shape.specs.declared.unit_kind.UnitKind.{UnitKind}
 use Rattle.crs_shape.specs.declared.unit_kind.UnitKind.TheVariants as kind
+use Rattle.crs_shape.specs.contracts.class.Class as classes
 use Rattle.crs_shape.specs.contracts.unit_kind.UnitKind.{the_type}
 use Rattle.crs_value.specs.Prelude.{is_same}
 use Rattle.crs_rules.specs.Rules.{NameAliasParts, RulesParts, UnitAliasParts, is_name_alias, is_unit_alias}
@@ -222,7 +223,7 @@ alias-is : (c : Class) (name : List ℕ) (b : NameAliasParts) → is_name_alias 
     ◌≡◌ {A = MemberParts} (record { class = c; name = name; factor = zero }) (name_m b)
 alias-is c name b t =
     let h = and_parts (is_same c b.class) (bytes_eq name b.alias) t in
-    let class = same_true _ (search rules) b.class c h.0 in
+    let class = same_true classes.the_type (search rules) b.class c h.0 in
     let alias = (bytes_eq-Decides name b.alias).0 h.1 in λ i. record { class = sym class i; name = alias i; factor = zero }
 
 names-agree : (a b : NameAliasParts) → Agree name_m name_f a b → NamesAgree a b
