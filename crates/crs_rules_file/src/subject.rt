@@ -33,10 +33,7 @@ fn subject(keyword: Keyword) -> Option<Class>
 pub(crate) fn subject_of(keyword: Option<Keyword>) -> Option<Class>
     ensures { result ≡ subject_of keyword }
 {
-    match keyword {
-        None => None,
-        Some(keyword) => subject(keyword),
-    }
+    subject(keyword?)
 }
 
 // The kind of units of this class; `None` where its nodes are no units.
