@@ -10,6 +10,7 @@ ghost use Rattle.crs_rules.specs.Rules.{meaning};
 
 use crate::aliases::first_name;
 use crate::laws::rules_are_sound;
+use crate::rewriting::Rewriting;
 use crate::rewriting::frames::{dynamics, geodetic_frame, optional_meridian, vertical_frame};
 use crate::rewriting::order::arrange_crs;
 use crate::rewriting::parts::{conversion, counted_name, optional_unit};
@@ -105,19 +106,8 @@ fn projected<'a>(alloc: Global, value: &mut Projected<'a>, rules: &'a Rules)
     tail(&mut value.tail, rules);
 }
 
-fn geoid_model<'a>(value: &mut GeoidModel<'a>, rules: &'a Rules)
-    ensures { value.new ≡ named (meaning rules.now) Class.GeoidModel value.old }
-{
-    value.name = first_name(&rules.names, Class::GeoidModel, value.name);
-}
-
 // The geoid models of a vertical CRS under rules.
-#[derive(Drop)]
-struct GeoidModels<'a> {
-    rules: &'a Rules,
-}
-
-impl<'a> Change<GeoidModel<'a>> for GeoidModels<'a> {
+impl<'a> Change<GeoidModel<'a>> for Rewriting<'a> {
     ghost use Rattle.crs_shape.specs.declared.class.Class.TheVariants as classes;
     ghost use Rattle.crs_rules.specs.Rewritten.{named};
     ghost use Rattle.crs_rules.specs.Rules.{meaning};
@@ -125,7 +115,8 @@ impl<'a> Change<GeoidModel<'a>> for GeoidModels<'a> {
     ghost changed = { λ c m. named (meaning c.rules.now) classes.GeoidModel m };
 
     fn change(&self, value: &mut GeoidModel<'a>) {
-        geoid_model(value, self.rules);
+        let rules = self.rules;
+        value.name = first_name(&rules.names, Class::GeoidModel, value.name);
     }
 }
 
@@ -135,7 +126,7 @@ fn geoid_models<'a>(models: &mut List<GeoidModel<'a>>, rules: &'a Rules)
     if rules.uncounted.geoid_models {
         models.clear();
     } else {
-        models.change_each(&GeoidModels { rules });
+        models.change_each(&Rewriting { rules });
     }
 }
 

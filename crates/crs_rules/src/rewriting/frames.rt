@@ -8,6 +8,7 @@ ghost use Rattle.crs_rules.specs.Rules.{meaning, without_ensemble};
 
 use crate::aliases::first_name;
 use crate::laws::rules_are_sound;
+use crate::rewriting::Rewriting;
 use crate::rewriting::parts::optional_unit;
 use crate::rules::Rules;
 use crs_decimal::Decimal;
@@ -75,19 +76,8 @@ fn datum<'a>(value: &mut Datum<'a>, class: Class, rules: &'a Rules)
     value.anchor_epoch = counted_number(rules.uncounted.anchors, value.anchor_epoch);
 }
 
-fn member<'a>(value: &mut Member<'a>, rules: &'a Rules)
-    ensures { value.new ≡ named (meaning rules.now) Class.Member value.old }
-{
-    value.name = first_name(&rules.names, Class::Member, value.name);
-}
-
 // The members of an ensemble under rules.
-#[derive(Drop)]
-struct Members<'a> {
-    rules: &'a Rules,
-}
-
-impl<'a> Change<Member<'a>> for Members<'a> {
+impl<'a> Change<Member<'a>> for Rewriting<'a> {
     ghost use Rattle.crs_shape.specs.declared.class.Class.TheVariants as classes;
     ghost use Rattle.crs_rules.specs.Rewritten.{named};
     ghost use Rattle.crs_rules.specs.Rules.{meaning};
@@ -95,7 +85,8 @@ impl<'a> Change<Member<'a>> for Members<'a> {
     ghost changed = { λ c m. named (meaning c.rules.now) classes.Member m };
 
     fn change(&self, value: &mut Member<'a>) {
-        member(value, self.rules);
+        let rules = self.rules;
+        value.name = first_name(&rules.names, Class::Member, value.name);
     }
 }
 
@@ -104,7 +95,7 @@ fn ensemble<'a>(value: &mut Ensemble<'a>, class: Class, rules: &'a Rules)
 {
     rules_are_sound(rules);
     value.name = first_name(&rules.names, class, value.name);
-    value.members.change_each(&Members { rules });
+    value.members.change_each(&Rewriting { rules });
     optional_ellipsoid(&mut value.ellipsoid, rules);
 }
 
@@ -169,18 +160,12 @@ pub(super) fn vertical_frame<'a>(alloc: Global, frame: &mut Frame<'a>, rules: &'
     frame_or_ensemble(frame, Class::VerticalFrame, Class::VerticalEnsemble, rules);
 }
 
-fn model<'a>(value: &mut DeformationModel<'a>, rules: &'a Rules)
-    ensures { value.new ≡ named (meaning rules.now) Class.DeformationModel value.old }
-{
-    value.name = first_name(&rules.names, Class::DeformationModel, value.name);
-}
-
 // A deformation model that may be missing.
 fn optional_model<'a>(model_or_none: &mut Option<DeformationModel<'a>>, rules: &'a Rules)
     ensures { model_or_none.new ≡ option_map (named (meaning rules.now) Class.DeformationModel) model_or_none.old }
 {
     if let Some(found) = model_or_none {
-        model(found, rules);
+        found.name = first_name(&rules.names, Class::DeformationModel, found.name);
     }
 }
 

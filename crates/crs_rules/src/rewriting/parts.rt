@@ -6,6 +6,7 @@ ghost use Rattle.crs_rules.specs.Rules.{first_unit, meaning};
 
 use crate::aliases::{first_name, unit_alias};
 use crate::laws::rules_are_sound;
+use crate::rewriting::Rewriting;
 use crate::rules::Rules;
 use crs_shape::Class;
 use crs_value::{Change, Conversion, Method, Parameter, Unit};
@@ -44,12 +45,7 @@ fn parameter<'a>(value: &mut Parameter<'a>, rules: &'a Rules)
 }
 
 // The parameters of a conversion under rules.
-#[derive(Drop)]
-struct Parameters<'a> {
-    rules: &'a Rules,
-}
-
-impl<'a> Change<Parameter<'a>> for Parameters<'a> {
+impl<'a> Change<Parameter<'a>> for Rewriting<'a> {
     ghost use Rattle.crs_rules.specs.Rewritten.{parameter};
     ghost use Rattle.crs_rules.specs.Rules.{meaning};
 
@@ -75,5 +71,5 @@ pub(super) fn conversion<'a>(value: &mut Conversion<'a>, rules: &'a Rules)
     rules_are_sound(rules);
     value.name = counted_name(rules.uncounted.conversion_names, value.name);
     method(&mut value.method, rules);
-    value.parameters.change_each(&Parameters { rules });
+    value.parameters.change_each(&Rewriting { rules });
 }

@@ -6,6 +6,7 @@ ghost use Rattle.crs_rules.specs.Rules.{meaning};
 
 use crate::aliases::first_name;
 use crate::laws::rules_are_sound;
+use crate::rewriting::Rewriting;
 use crate::rewriting::frames::counted_number;
 use crate::rewriting::parts::{counted_name, optional_unit, unit};
 use crate::rules::Rules;
@@ -40,12 +41,7 @@ fn axis<'a>(value: &mut Axis<'a>, rules: &'a Rules)
 }
 
 // Axes under rules.
-#[derive(Drop)]
-struct Axes<'a> {
-    rules: &'a Rules,
-}
-
-impl<'a> Change<Axis<'a>> for Axes<'a> {
+impl<'a> Change<Axis<'a>> for Rewriting<'a> {
     ghost use Rattle.crs_rules.specs.Rewritten.{axis};
     ghost use Rattle.crs_rules.specs.Rules.{meaning};
 
@@ -60,6 +56,6 @@ pub(super) fn system<'a>(value: &mut System<'a>, rules: &'a Rules)
     ensures { value.new ≡ system (meaning rules.now) value.old }
 {
     rules_are_sound(rules);
-    value.axes.change_each(&Axes { rules });
+    value.axes.change_each(&Rewriting { rules });
     optional_unit(&mut value.unit, rules);
 }

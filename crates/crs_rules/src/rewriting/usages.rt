@@ -5,6 +5,7 @@ ghost use Rattle.crs_rules.specs.Rewritten.{extent, tail, usage};
 ghost use Rattle.crs_rules.specs.Rules.{meaning};
 
 use crate::laws::rules_are_sound;
+use crate::rewriting::Rewriting;
 use crate::rewriting::parts::optional_unit;
 use crate::rules::Rules;
 use crs_value::{Change, Extent, Tail, Usage};
@@ -33,12 +34,7 @@ fn usage<'a>(value: &mut Usage<'a>, rules: &'a Rules)
 }
 
 // Usages under rules.
-#[derive(Drop)]
-struct Usages<'a> {
-    rules: &'a Rules,
-}
-
-impl<'a> Change<Usage<'a>> for Usages<'a> {
+impl<'a> Change<Usage<'a>> for Rewriting<'a> {
     ghost use Rattle.crs_rules.specs.Rewritten.{usage};
     ghost use Rattle.crs_rules.specs.Rules.{meaning};
 
@@ -62,6 +58,6 @@ pub(super) fn tail<'a>(value: &mut Tail<'a>, rules: &'a Rules)
     ensures { value.new ≡ tail (meaning rules.now) value.old }
 {
     rules_are_sound(rules);
-    value.usages.change_each(&Usages { rules });
+    value.usages.change_each(&Rewriting { rules });
     optional_usage(&mut value.bare_parts, rules);
 }
