@@ -77,42 +77,60 @@ fn rest_of<T>(items: &[T], from: usize) -> &[T]
     rest
 }
 
-// ---- names
+// What counts as another, and is looked for by a digest.
+pub(crate) trait Alias: Sized + Drop {
+    ghost use Rattle.std.specs.Prelude.{ℕ};
 
-// Aliases of names, in the order in which they were added.
+    ghost digest: { Self → ℕ };
+
+    fn digest(&self) -> u64
+        ensures { result ≡ digest self.now };
+}
+
+impl Alias for NameAlias {
+    ghost use Rattle.crs_rules.specs.Firsts.{name_digest};
+
+    ghost digest = { λ a. name_digest a.class a.alias };
+
+    fn digest(&self) -> u64 {
+        name_digest(self.class, self.alias.as_slice())
+    }
+}
+
+impl Alias for UnitAlias {
+    ghost use Rattle.crs_rules.specs.Firsts.{unit_digest};
+
+    ghost digest = { λ a. unit_digest a.alias a.alias_factor.digits };
+
+    fn digest(&self) -> u64 {
+        unit_digest(self.alias.as_slice(), self.alias_factor.digits())
+    }
+}
+
+// Aliases, in the order in which they were added.
 #[derive(Drop)]
-pub(crate) struct Names {
-    aliases: Vec<NameAlias>,
+pub(crate) struct Aliases<A: Alias> {
+    aliases: Vec<A>,
     firsts: Firsts,
 }
 
-impl Model for Names {
-    ghost use Rattle.std.specs.Prelude.{List};
-    ghost use Rattle.crs_rules.specs.Firsts.{AreFound, name_digest};
-    ghost use Rattle.crs_rules.specs.Rules.{NameAliasParts};
+impl<A: Alias> Model for Aliases<A> {
+    ghost use Rattle.std.specs.Prelude as std;
+    ghost use Rattle.crs_rules.specs.Firsts.{AreFound};
 
-    ghost Value = { List NameAliasParts };
+    ghost Value = { std.List A };
 
-    ghost view = { λ names. names.aliases.items };
+    ghost view = { λ known. known.aliases.items };
 
-    ghost invariant = { λ names. AreFound (λ a. name_digest a.class a.alias) names.firsts 0 names.aliases.items };
+    ghost invariant = { λ known. AreFound A.digest known.firsts 0 known.aliases.items };
 }
 
-fn name_digest(class: Class, name: &[u8]) -> u64
-    ensures { result ≡ name_digest class name.now }
-{
-    let mut hasher = DefaultHasher::new();
-    hasher.write(name);
-    hasher.write_u64(class as u64);
-    hasher.finish()
-}
-
-impl Names {
+impl<A: Alias> Aliases<A> {
     // No aliases. They take no memory.
-    pub(crate) fn new(alloc: Global) -> Names
+    pub(crate) fn new(alloc: Global) -> Aliases<A>
         ensures { result ≡ [] }
     {
-        Names {
+        Aliases {
             aliases: Vec::new(alloc),
             firsts: Firsts::new(alloc),
         }
@@ -125,11 +143,11 @@ impl Names {
     }
 
     // A further alias. Out of memory, all is as before.
-    pub(crate) fn push(&mut self, alias: NameAlias) -> Result<(), AllocError>
+    pub(crate) fn push(&mut self, alias: A) -> Result<(), AllocError>
         ensures ok { OnOk result (self.new ≡ self.old ++ alias ∷ []) }
         ensures err { OnErr result (self.new ≡ self.old) }
     {
-        let digest = name_digest(alias.class, alias.alias.as_slice());
+        let digest = alias.digest();
         let at = self.len();
         self.firsts.note(digest, at)?;
         self.aliases.push(alias)?;
@@ -142,6 +160,17 @@ impl Names {
     {
         self.aliases.truncate(count);
     }
+}
+
+// ---- names
+
+fn name_digest(class: Class, name: &[u8]) -> u64
+    ensures { result ≡ name_digest class name.now }
+{
+    let mut hasher = DefaultHasher::new();
+    hasher.write(name);
+    hasher.write_u64(class as u64);
+    hasher.finish()
 }
 
 // The first of these aliases that a name of a node of this class is.
@@ -161,7 +190,11 @@ fn name_alias_among<'a>(
 }
 
 // The alias that a name of a node of this class is, of many.
-fn name_alias_of_many<'a>(names: &'a Names, class: Class, name: &[u8]) -> Option<&'a NameAlias>
+fn name_alias_of_many<'a>(
+    names: &'a Aliases<NameAlias>,
+    class: Class,
+    name: &[u8],
+) -> Option<&'a NameAlias>
     ensures { option_copied result ≡ first_that (is_name_alias class name.now) names.now }
 {
     match names.firsts.place(name_digest(class, name)) {
@@ -171,7 +204,7 @@ fn name_alias_of_many<'a>(names: &'a Names, class: Class, name: &[u8]) -> Option
 }
 
 // The alias that a name of a node of this class is.
-fn name_alias<'a>(names: &'a Names, class: Class, name: &[u8]) -> Option<&'a NameAlias>
+fn name_alias<'a>(names: &'a Aliases<NameAlias>, class: Class, name: &[u8]) -> Option<&'a NameAlias>
     ensures { option_copied result ≡ first_that (is_name_alias class name.now) names.now }
 {
     if names.aliases.len() > FEW {
@@ -182,7 +215,11 @@ fn name_alias<'a>(names: &'a Names, class: Class, name: &[u8]) -> Option<&'a Nam
 }
 
 // The name that is written for a name of a node of this class.
-pub(crate) fn first_name<'a>(names: &'a Names, class: Class, name: &'a [u8]) -> &'a [u8]
+pub(crate) fn first_name<'a>(
+    names: &'a Aliases<NameAlias>,
+    class: Class,
+    name: &'a [u8],
+) -> &'a [u8]
     requires { IsText name.now }
     ensures name { result.now ≡ first_name names.now class name.now }
     ensures text { IsText result.now }
@@ -195,26 +232,6 @@ pub(crate) fn first_name<'a>(names: &'a Names, class: Class, name: &'a [u8]) -> 
 
 // ---- units
 
-// Aliases of units, in the order in which they were added.
-#[derive(Drop)]
-pub(crate) struct Units {
-    aliases: Vec<UnitAlias>,
-    firsts: Firsts,
-}
-
-impl Model for Units {
-    ghost use Rattle.std.specs.Prelude.{List};
-    ghost use Rattle.crs_rules.specs.Firsts.{AreFound, unit_digest};
-    ghost use Rattle.crs_rules.specs.Rules.{UnitAliasParts};
-
-    ghost Value = { List UnitAliasParts };
-
-    ghost view = { λ units. units.aliases.items };
-
-    ghost invariant = { λ units.
-        AreFound (λ a. unit_digest a.alias a.alias_factor.digits) units.firsts 0 units.aliases.items };
-}
-
 fn unit_digest(name: &[u8], digits: u128) -> u64
     ensures { result ≡ unit_digest name.now digits }
 {
@@ -222,43 +239,6 @@ fn unit_digest(name: &[u8], digits: u128) -> u64
     hasher.write(name);
     hasher.write_u128(digits);
     hasher.finish()
-}
-
-impl Units {
-    // No aliases. They take no memory.
-    pub(crate) fn new(alloc: Global) -> Units
-        ensures { result ≡ [] }
-    {
-        Units {
-            aliases: Vec::new(alloc),
-            firsts: Firsts::new(alloc),
-        }
-    }
-
-    pub(crate) fn len(&self) -> usize
-        ensures { result ≡ length self.now }
-    {
-        self.aliases.len()
-    }
-
-    // A further alias. Out of memory, all is as before.
-    pub(crate) fn push(&mut self, alias: UnitAlias) -> Result<(), AllocError>
-        ensures ok { OnOk result (self.new ≡ self.old ++ alias ∷ []) }
-        ensures err { OnErr result (self.new ≡ self.old) }
-    {
-        let digest = unit_digest(alias.alias.as_slice(), alias.alias_factor.digits());
-        let at = self.len();
-        self.firsts.note(digest, at)?;
-        self.aliases.push(alias)?;
-        Ok(())
-    }
-
-    // Forgets all aliases but so many.
-    pub(crate) fn truncate(&mut self, count: usize)
-        ensures { self.new ≡ take count self.old }
-    {
-        self.aliases.truncate(count);
-    }
 }
 
 // Whether the factors of a unit and of an alias are equal.
@@ -290,7 +270,7 @@ fn unit_alias_among<'a>(aliases: &'a [UnitAlias], unit: &Unit<'_>) -> Option<&'a
 }
 
 // The alias that a unit is, of many.
-fn unit_alias_of_many<'a>(units: &'a Units, unit: &Unit<'_>) -> Option<&'a UnitAlias>
+fn unit_alias_of_many<'a>(units: &'a Aliases<UnitAlias>, unit: &Unit<'_>) -> Option<&'a UnitAlias>
     requires { Each IsUnitAlias units.now }
     ensures { option_copied result ≡ first_that (is_unit_alias unit.now) units.now }
 {
@@ -307,7 +287,10 @@ fn unit_alias_of_many<'a>(units: &'a Units, unit: &Unit<'_>) -> Option<&'a UnitA
 }
 
 // The alias that a unit is.
-pub(crate) fn unit_alias<'a>(units: &'a Units, unit: &Unit<'_>) -> Option<&'a UnitAlias>
+pub(crate) fn unit_alias<'a>(
+    units: &'a Aliases<UnitAlias>,
+    unit: &Unit<'_>,
+) -> Option<&'a UnitAlias>
     requires { Each IsUnitAlias units.now }
     ensures { option_copied result ≡ first_that (is_unit_alias unit.now) units.now }
 {

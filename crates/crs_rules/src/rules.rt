@@ -5,7 +5,7 @@ ghost use Rattle.crs_value.specs.Sound.{IsText};
 ghost use Rattle.crs_rules.specs.NoRules.{no_rules};
 ghost use Rattle.crs_rules.specs.SoundRules.{AreRules};
 
-use crate::aliases::{NameAlias, Names, UnitAlias, Units};
+use crate::aliases::{Aliases, NameAlias, UnitAlias};
 use crate::uncounted::Uncounted;
 use crs_decimal::Decimal;
 use crs_shape::Class;
@@ -16,8 +16,8 @@ use std::marker::Model;
 /// Rules: names and units that count as others, and what doesn't count. Profile.
 #[derive(Drop)]
 pub struct Rules {
-    pub(crate) names: Names,
-    pub(crate) units: Units,
+    pub(crate) names: Aliases<NameAlias>,
+    pub(crate) units: Aliases<UnitAlias>,
     pub(crate) uncounted: Uncounted,
 }
 
@@ -38,8 +38,8 @@ impl Rules {
         ensures { result ≡ no_rules }
     {
         Rules {
-            names: Names::new(alloc),
-            units: Units::new(alloc),
+            names: Aliases::new(alloc),
+            units: Aliases::new(alloc),
             uncounted: Uncounted::nothing(),
         }
     }
