@@ -12,14 +12,14 @@ use Rattle.crs_value.specs.Break.{IsLeast}
 use Rattle.crs_value.specs.Reading.{is_a, those, ReadsFirst}
 use Rattle.crs_value.specs.Reads.{HasType, HasDimension, ReadsNumber, ReadsType}
 use Rattle.crs_value.proofs.checked.CheckLemmas.{DenotesOne, number-one}
-use Rattle.crs_shape.proofs.WordLemmas.{type_one}
+use Rattle.crs_value.proofs.one.WordLemmas.{type-one}
 
 pub first-one : {V : Type 0} (R : Item → V → Type 0) → ((i : Item) (a b : V) → R i a → R i b → a ≡ b) → (items : List Item) (a b : V) → ReadsFirst R items a → ReadsFirst R items b → a ≡ b
 first-one R one [] a b p q = absurd p
 first-one R one (i ∷ items) a b p q = one i a b p q
 
 pub type-is-one : (cs : Item) (a b : SystemType) → HasType cs a → HasType cs b → a ≡ b
-type-is-one cs a b p q = first-one ReadsType (λ i x y. type_one (raw_of i) x y) (those class.CoordinateSystem class.Word (arguments cs)) a b p q
+type-is-one cs a b p q = first-one ReadsType (λ i x y. type-one (raw_of i) x y) (those class.CoordinateSystem class.Word (arguments cs)) a b p q
 
 pub dimension-is-one : DenotesOne → (cs : Item) (a b : Value) → HasDimension cs a → HasDimension cs b → a ≡ b
 dimension-is-one law cs a b p q = first-one ReadsNumber (number-one law) (those class.CoordinateSystem class.Number (arguments cs)) a b p q

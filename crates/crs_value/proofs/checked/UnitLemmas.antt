@@ -16,7 +16,7 @@ use Rattle.crs_value.specs.Reads.{ReadsDirection, ReadsKind}
 use Rattle.crs_value.proofs.found.ArgumentLemmas.{found-is, found-holds, found-shaped}
 use Rattle.crs_value.proofs.checked.LeastLemmas.{least-same, either-is}
 use Rattle.crs_value.proofs.checked.SystemLemmas.{first-one, type-is-one}
-use Rattle.crs_shape.proofs.WordLemmas.{direction_one}
+use Rattle.crs_value.proofs.one.WordLemmas.{direction-one}
 
 -- the keyword that a unit was read with is that of its bytes
 pub keyword-raw : (item : Item) (k : Keyword) → Some k ≡ keyword_in item → keyword_of (raw_of item) ≡ Some k
@@ -35,7 +35,7 @@ fits-none unit raw kind e none (inr h) = let P : List ℕ → Type 0 = λ r. Spe
 pub asks-one : (cs axis : Item) (a b : UnitKind) → Asks cs axis a → Asks cs axis b → a ≡ b
 asks-one cs axis a b p q =
     let t = type-is-one cs p.0 q.0 p.1.1.0 q.1.1.0 in
-    let d = first-one ReadsDirection (λ i x y. direction_one (raw_of i) x y) (those class.Axis class.Word (arguments axis)) p.1.0 q.1.0 p.1.1.1 q.1.1.1 in
+    let d = first-one ReadsDirection (λ i x y. direction-one (raw_of i) x y) (those class.Axis class.Word (arguments axis)) p.1.0 q.1.0 p.1.1.1 q.1.1.1 in
     p.1.1.2 ∙ ap (λ x. asked_kind x p.1.0) t ∙ ap (λ x. asked_kind q.0 x) d ∙ sym q.1.1.2
 
 pub misfit-none : (cs axis unit : Item) (kind : UnitKind) → Asks cs axis kind → Fits unit kind → IsLeast (Misfits cs axis unit) None

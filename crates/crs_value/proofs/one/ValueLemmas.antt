@@ -11,7 +11,7 @@ use Rattle.crs_value.specs.Values.{SystemParts, UsageParts, SaysSome}
 use Rattle.crs_value.proofs.checked.SystemLemmas.{first-one}
 use Rattle.crs_value.proofs.checked.CheckLemmas.{DenotesOne, number-one}
 use Rattle.crs_value.proofs.checked.LeastLemmas.{first-both}
-use Rattle.crs_shape.proofs.WordLemmas.{direction_one, type_one, kind_one}
+use Rattle.crs_value.proofs.one.WordLemmas.{direction-one, type-one, kind-one}
 
 -- each item reads as one value at most
 abbrev pub IsOne : {V : Type 0} → (Item → V → Type 0) → Type 0
@@ -62,7 +62,7 @@ identifiers-one c item a b p q = one-each (ReadsIdent class.Identifier) (ident-o
 
 pub unit-one : DenotesOne → (c : Class) → IsOne (ReadsUnit c)
 unit-one law c item a b p q = λ i. record {
-  kind = kind_one (raw_of item) a.kind b.kind p.kind q.kind i;
+  kind = kind-one (raw_of item) a.kind b.kind p.kind q.kind i;
   name = text-of-one c item a.name b.name p.name q.name i;
   factor = number-of-one law c item a.factor b.factor p.factor q.factor i;
   identifiers = identifiers-one c item a.identifiers b.identifiers p.identifiers q.identifiers i;
@@ -77,7 +77,7 @@ axis_meridian-one law c item a b p q = λ i. record {
 pub axis-one : DenotesOne → (c : Class) → IsOne (ReadsAxis c)
 axis-one law c item a b p q = λ i. record {
   name = text-of-one c item a.name b.name p.name q.name i;
-  direction = first-one ReadsDirection (λ i. direction_one (raw_of i)) (those c class.Word (arguments item)) a.direction b.direction p.direction q.direction i;
+  direction = first-one ReadsDirection (λ i. direction-one (raw_of i)) (those c class.Word (arguments item)) a.direction b.direction p.direction q.direction i;
   meridian = one-optional (ReadsAxisMeridian class.AxisMeridian) (axis_meridian-one law class.AxisMeridian) (those c class.AxisMeridian (arguments item)) a.meridian b.meridian p.meridian q.meridian i;
   order = one-optional (ReadsNumberOf class.Order) (number-of-one law class.Order) (those c class.Order (arguments item)) a.order b.order p.order q.order i;
   unit = one-optional (ReadsUnit class.AxisUnit) (unit-one law class.AxisUnit) (those c class.AxisUnit (arguments item)) a.unit b.unit p.unit q.unit i;
@@ -180,7 +180,7 @@ head-one : DenotesOne → (items : List Item) (a b : SystemParts) → ReadsFirst
     (a.system_type ≡ b.system_type) × ((a.dimension ≡ b.dimension) × (a.identifiers ≡ b.identifiers))
 head-one law [] a b p q = absurd p
 head-one law (i ∷ items) a b p q = (
-  first-one ReadsType (λ i. type_one (raw_of i)) (those class.CoordinateSystem class.Word (arguments i)) a.system_type b.system_type p.system_type q.system_type,
+  first-one ReadsType (λ i. type-one (raw_of i)) (those class.CoordinateSystem class.Word (arguments i)) a.system_type b.system_type p.system_type q.system_type,
   (
     number-of-one law class.CoordinateSystem i a.dimension b.dimension p.dimension q.dimension,
     identifiers-one class.CoordinateSystem i a.identifiers b.identifiers p.identifiers q.identifiers,

@@ -1,5 +1,5 @@
 -- Decisions: a fact or its refutation; a value that is read, or none.
-use Rattle.std.proofs.Common.{◌≡◌, ℕ, zero, suc, ◌+◌, ◌*◌, ◌^◌, ◌<◌, ◌⊎◌, inl, inr, Bool, true, false, List, [], ◌∷◌, length, get_or, refl, sym, ap, subst, arith, rules, Decides, ⊎_elim}
+use Rattle.std.proofs.Common.{◌≡◌, ℕ, zero, suc, ◌+◌, ◌*◌, ◌^◌, ◌⊎◌, inl, inr, Bool, true, false, if◌then◌else◌, Option, Some, None, List, [], ◌∷◌, find, refl, sym, ap, ◌∙◌, subst, arith, rules, Decides, ⊎_elim}
 use Rattle.std.specs.Str.{str_to_ascii_lowercase}
 use Rattle.std.proofs.lemmas.Bool.{cases_eq}
 use Rattle.std.proofs.lemmas.Slice.Eq.{bytes_eq-Decides}
@@ -18,7 +18,7 @@ use Rattle.crs_value.specs.BadValue.{IsAboveZero}
 use Rattle.crs_value.specs.BadOrder.{IsPosition}
 use Rattle.crs_value.specs.Reading.{OneIs}
 use Rattle.crs_value.specs.Sound.{Each, Suits}
-use Rattle.crs_shape.proofs.WordLemmas.{direction_place, direction_placed, direction_within, kind_place, kind_placed, kind_within, kinds_list, type_place, type_placed, type_within}
+use Rattle.crs_value.proofs.one.WordLemmas.{IsSpelled, direction-spelled, spelled, type-spelled}
 
 abbrev pub Decided : Type 0 → Type 0
 Decided C = C ⊎ (¬ C)
@@ -70,41 +70,38 @@ decided-this R value one (inl found) dec = decided-as (λ e. subst R e found.1) 
 pub decided-word : (raw name : List ℕ) → Decided (SpellsWord raw name)
 decided-word raw name = decided-by _ (bytes_eq-Decides (str_to_ascii_lowercase raw) (str_to_ascii_lowercase name))
 
--- a property of some of these, or of none of them
-abbrev Among : {V : Type 0} → (V → Type 0) → List V → Type 0
-Among {V = V} P vs = ((v : V) × P v) ⊎ ((k : ℕ) (v : V) → k < length vs → ¬ (P (get_or vs k v)))
-
-more-among : {V : Type 0} (P : V → Type 0) (v : V) (vs : List V) → Decided (P v) → Among P vs → Among P (v ∷ vs)
-more-among P v vs (inl h) rest = inl (v, h)
-more-among P v vs (inr fails) (inl found) = inl found
-more-among {V = V} P v vs (inr fails) (inr none) = inr at
+found-passes : {V : Type 0} (test : V → Bool) (vs : List V) (v : V) → find test vs ≡ Some v → test v ≡ true
+found-passes test [] v e = cc
+found-passes test (w ∷ vs) v e = by (test w) refl e (found-passes test vs v)
   where
-    at : (k : ℕ) (w : V) → k < length (v ∷ vs) → ¬ (P (get_or (v ∷ vs) k w))
-    at zero w within h = fails h
-    at (suc k) w within h = none k w (omega arith) h
+    by : (b : Bool) → test w ≡ b → (if b then Some w else find test vs) ≡ Some v → (find test vs ≡ Some v → test v ≡ true) → test v ≡ true
+    by true is e more = let h : Some w ≡ Some v = e in cc
+    by false is e more = more e
 
-among : {V : Type 0} (P : V → Type 0) → ((v : V) → Decided (P v)) → (vs : List V) → Among P vs
-among P dec [] = inr (λ k v within h. absurd (omega arith))
-among P dec (v ∷ vs) = more-among P v vs (dec v) (among P dec vs)
-
--- a property of some value or of none, where each value has its place in a list
-known-in : {V : Type 0} (P : V → Type 0) → ((v : V) → Decided (P v)) → (vs : List V) (place : V → ℕ) →
-    ((v : V) → place v < length vs) → ((v : V) → get_or vs (place v) v ≡ v) → Known P
-known-in P dec vs place within placed =
-    ⊎_elim (λ found. inl found) (λ none. inr (λ v h. none (place v) v (within v) (subst P (sym (placed v)) h))) (among P dec vs)
+-- what a word spells, among those of which each is what its own word spells
+word-known : {V : Type 0} (word : V → List ℕ) (vs : List V) → ((v : V) → IsSpelled word vs v) → (raw : List ℕ) → Known (λ v. SpellsWord raw (word v))
+word-known {V = V} word vs own raw = by (spelled word vs (str_to_ascii_lowercase raw)) refl
+  where
+    by : (o : Option V) → spelled word vs (str_to_ascii_lowercase raw) ≡ o → Known (λ v. SpellsWord raw (word v))
+    by None e = inr (λ v p. let h : Some v ≡ None = sym (own v) ∙ ap (spelled word vs) (sym p) ∙ e in cc)
+    by (Some v) e = inl (v, sym ((bytes_eq-Decides (str_to_ascii_lowercase (word v)) (str_to_ascii_lowercase raw)).0 (found-passes _ vs v e)))
 
 pub type-known : (raw : List ℕ) → Known (λ t. SpellsWord raw (system_word t))
-unfolding every_type
-type-known raw =
-    known-in (λ t. SpellsWord raw (system_word t)) (λ t. decided-word raw (system_word t)) every_type type_place type_within type_placed
+type-known = word-known system_word every_type type-spelled
 
 pub direction-known : (raw : List ℕ) → Known (λ d. SpellsWord raw (direction_word d))
-unfolding every_direction
-direction-known raw =
-    known-in (λ d. SpellsWord raw (direction_word d)) (λ d. decided-word raw (direction_word d)) every_direction direction_place direction_within direction_placed
+direction-known = word-known direction_word every_direction direction-spelled
 
 pub decided-kinds : (P : UnitKind → Type 0) → ((k : UnitKind) → Decided (P k)) → Decided ((k : UnitKind) × P k)
-decided-kinds P dec = ⊎_elim (λ found. inl found) (λ none. inr (λ h. none h.0 h.1)) (known-in P dec kinds_list kind_place kind_within kind_placed)
+decided-kinds P dec =
+    decided-as (⊎_elim (λ h. (kinds.Length, h)) (⊎_elim (λ h. (kinds.Angle, h)) (⊎_elim (λ h. (kinds.Scale, h)) (λ h. (kinds.Plain, h))))) (λ h. at h.0 h.1)
+    (decided-either (dec kinds.Length) (decided-either (dec kinds.Angle) (decided-either (dec kinds.Scale) (dec kinds.Plain))))
+  where
+    at : (k : UnitKind) → P k → P kinds.Length ⊎ (P kinds.Angle ⊎ (P kinds.Scale ⊎ P kinds.Plain))
+    at kinds.Length h = inl h
+    at kinds.Angle h = inr (inl h)
+    at kinds.Scale h = inr (inr (inl h))
+    at kinds.Plain h = inr (inr (inr h))
 
 pub decided-kind : (a b : UnitKind) → Decided (a ≡ b)
 decided-kind a b = decided-by (sameb the_type a b) (same_true the_type (search rules) a b, true_same the_type a b)

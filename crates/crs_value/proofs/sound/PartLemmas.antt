@@ -23,7 +23,7 @@ use Rattle.crs_value.specs.NamedValues.{IdentParts}
 use Rattle.crs_value.proofs.found.ArgumentLemmas.{arguments-sound}
 use Rattle.crs_value.proofs.some.DecisionLemmas.{decided-above, decided-suits, stable}
 use Rattle.crs_value.proofs.sound.KnownWordLemmas.{NoneOf, no-keyword, own-free}
-use Rattle.crs_shape.proofs.WordLemmas.{kind_one}
+use Rattle.crs_value.proofs.one.WordLemmas.{kind-one}
 
 -- ---- the bytes of numbers and words are texts too
 
@@ -225,7 +225,7 @@ unit-tells c is item value sound reads = record {
 }
 
 apart : (raw : List ℕ) (j k : UnitKind) → j ≢ k → SpellsWord raw (unit_word j) → ¬ (SpellsWord raw (unit_word k))
-apart raw j k other p q = other (kind_one raw j k p q)
+apart raw j k other p q = other (kind-one raw j k p q)
 
 -- a unit of a class with two keywords is of the kind of the first, or of any
 suits-kind : (c : Class) (asked kind : UnitKind) (item : Item) → IsUnitClass c → Shaped c item → ReadsKind item kind →

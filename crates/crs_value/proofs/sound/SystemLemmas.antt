@@ -26,7 +26,7 @@ use Rattle.crs_value.proofs.sound.AxisLemmas.{axis-tells}
 use Rattle.crs_value.proofs.sound.KnownWordLemmas.{own-free}
 use Rattle.crs_value.proofs.sound.PartLemmas.{Tells, read-none, read-there, each-free, each-as, each-of, first-tells, optional-tells, each-tells, number-of-tells, identifiers-tell, axis-unit-tells}
 use Rattle.crs_value.proofs.checked.UnitLemmas.{asks-one}
-use Rattle.crs_shape.proofs.WordLemmas.{kind_one}
+use Rattle.crs_value.proofs.one.WordLemmas.{kind-one}
 
 -- ---- axes
 
@@ -142,8 +142,8 @@ no-own-units axes values free reads =
 
 -- a unit whose kind doesn't suit doesn't fit
 suits-fits : (unit : Item) (asked kind : UnitKind) → ReadsKind unit kind → Fits unit asked → Suits asked kind
-suits-fits unit asked kind reads (inl plain) = inr (kind_one (raw_of unit) kind kinds.Plain reads plain)
-suits-fits unit asked kind reads (inr same) = inl (kind_one (raw_of unit) kind asked reads same)
+suits-fits unit asked kind reads (inl plain) = inr (kind-one (raw_of unit) kind kinds.Plain reads plain)
+suits-fits unit asked kind reads (inr same) = inl (kind-one (raw_of unit) kind asked reads same)
 
 module _ (cs : Item) (system_type : SystemType) (has : HasType cs system_type) where
   axis-asks : (axis : Item) (value : AxisParts) → ReadsAxis class.Axis axis value → Asks cs axis (asked_kind system_type value.direction)

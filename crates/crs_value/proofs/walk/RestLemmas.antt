@@ -1,7 +1,7 @@
 -- What is checked of a CRS as a whole: orders, units, dimensions and repeated parts.
 use Rattle.std.proofs.Common.{◌≡◌, ℕ, ◌+◌, ◌<◌, ◌≤◌, length, drop, Bool, true, false, inl, inr, ◌⊎◌, ⊎_elim, Option, Some, None, List, [], ◌∷◌, ◌++◌, refl, sym, ◌∙◌, ap, subst, arith}
 use denote.Enum.Bare.{true_same}
-use Rattle.crs_decimal.specs.Prelude.{SameNumber, whole_number, exact}
+use Rattle.crs_decimal.specs.Prelude.{SameNumber, whole_number, Value, exact}
 use Rattle.crs_text.specs.Prelude.{Item, Siblings, arguments, rest_of, here, HasId, IsAt, RefusedAt}
 use Rattle.crs_shape.specs.contracts.class.Class.{the_type}
 use Rattle.crs_shape.specs.declared.class.Class.{Class}
@@ -9,7 +9,7 @@ use Rattle.crs_shape.specs.declared.class.Class.TheVariants as class
 use Rattle.crs_shape.specs.declared.system_type.SystemType.{SystemType}
 use Rattle.crs_shape.specs.declared.unit_kind.UnitKind.{UnitKind}
 use Rattle.crs_shape.specs.declared.unit_kind.UnitKind.TheVariants as kinds
-use Rattle.crs_shape.specs.Prelude.{class_in, is_class}
+use Rattle.crs_shape.specs.Prelude.{IsOneOf, class_in, is_class}
 use Rattle.crs_value.specs.declared.judging.axes.Axes.{Axes}
 use Rattle.crs_value.specs.declared.judging.axes.Places.{Places}
 use Rattle.crs_value.specs.BadDynamic.{BadDynamic}
@@ -24,7 +24,6 @@ use Rattle.crs_value.specs.Reads.{HasType}
 use Rattle.crs_value.specs.RepeatedPart.{IsRepeated, RepeatsAny}
 use Rattle.crs_value.specs.Seen.{the_one, Marks, IsAmong, Differ, AllDiffer, AreAmong, AreWithin, AreOrdered, IsSeen, UnitsFit, IsQuiet, rank, Climbs}
 use Rattle.crs_value.specs.WholeNumbers.{IsWholeOf}
-use Rattle.crs_shape.proofs.DimensionLemmas.{as-whole}
 use Rattle.crs_value.proofs.checked.OwnLemmas.{crs-of-own, own-of-crs}
 use Rattle.crs_value.proofs.found.FirstArgumentsLemmas.{one-more}
 use Rattle.crs_value.proofs.found.ArgumentLemmas.{class-is, each-as, each-on}
@@ -35,6 +34,12 @@ use Rattle.crs_value.proofs.checked.PlacedLemmas.{Symmetric, Transitive, place-o
 use Rattle.crs_value.proofs.checked.SystemLemmas.{system-none, count-none}
 
 -- ---- the node `CS`
+
+-- a number is one of some where the whole one that it is is
+as-whole : (v : Value) (n : ℕ) → SameNumber (exact v) (whole_number n) → (ns : List ℕ) → OneIs (λ m. n ≡ m) ns → IsOneOf v ns
+as-whole v n same [] h = h
+as-whole v n same (m ∷ ns) (inl e) = let P : ℕ → Type 0 = λ k. SameNumber (exact v) (whole_number k) in inl (subst P e same)
+as-whole v n same (m ∷ ns) (inr h) = inr (as-whole v n same ns h)
 
 pub head-none : DenotesOne → (dims : SystemType → List ℕ) (cs : Item) (t : SystemType) (dimension : ℕ) (axes : List Item) (n : ℕ) → HasType cs t →
     IsWholeOf class.CoordinateSystem cs dimension → OneIs (λ m. dimension ≡ m) (dims t) → dimension ≡ n → length axes ≡ n → IsLeast (OfHead dims axes cs) None
