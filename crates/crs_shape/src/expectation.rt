@@ -1,7 +1,7 @@
 //! What could come at a fault of shape.
 ghost use Rattle.std.specs.Prelude.{◌≡◌, Some, None};
 ghost use Rattle.crs_shape.specs.Keywords.{every_class};
-ghost use Rattle.crs_shape.specs.Expected.{may_come};
+ghost use Rattle.crs_shape.specs.Expected.{may_come, ExpectedParts};
 ghost use Rattle.crs_shape.specs.Left.{may_go, slots_left, classes_left, end_left};
 
 use crate::class::Class;
@@ -20,9 +20,6 @@ pub struct Expected {
 }
 
 impl Model for Expected {
-    ghost use Rattle.crs_shape.specs.Expected.{ExpectedParts};
-    ghost use Rattle.crs_shape.specs.Left.{classes_left, end_left};
-
     ghost Value = { ExpectedParts };
 
     ghost view = { λ e. record {

@@ -4,7 +4,7 @@ ghost use Rattle.crs_text.specs.Items.{first_of, here, HasId};
 ghost use Rattle.crs_shape.specs.ClassSet.{has_bit, keyword_bit, keyword_set};
 ghost use Rattle.crs_shape.specs.ShapeFault.{class_in};
 ghost use Rattle.crs_shape.specs.Slots.{is_class};
-ghost use Rattle.crs_shape.specs.Sought.{kind_for};
+ghost use Rattle.crs_shape.specs.Sought.{kind_for, SoughtParts};
 
 use crate::class::Class;
 use crate::rows::{row, rows};
@@ -23,10 +23,6 @@ pub struct Sought {
 }
 
 impl Model for Sought {
-    ghost use Rattle.std.specs.Prelude.{◌≡◌};
-    ghost use Rattle.crs_shape.specs.ClassSet.{keyword_set};
-    ghost use Rattle.crs_shape.specs.Sought.{SoughtParts, kind_for};
-
     ghost Value = { SoughtParts };
 
     ghost view = { λ s. record { parent = s.parent; class = s.class } };

@@ -1,5 +1,5 @@
 //! The checks of a compound CRS.
-ghost use Rattle.std.specs.Prelude.{◌↔◌, IsTrue};
+ghost use Rattle.std.specs.Prelude.{◌↔◌, IsTrue, ◌≡◌};
 ghost use Rattle.crs_text.specs.Items.{HasId, arguments};
 ghost use Rattle.crs_shape.specs.Shaped.{Shaped};
 ghost use Rattle.crs_value.specs.BadComponent.{IsNotEllipsoidal, IsNotPlane, IsNotHorizontal, BadComponent};
@@ -7,6 +7,7 @@ ghost use Rattle.crs_value.specs.Break.{AnyOf, IsLeast, FirstIs};
 ghost use Rattle.crs_value.specs.Checks.{OfCompound, once};
 ghost use Rattle.crs_value.specs.RepeatedPart.{RepeatsAny};
 ghost use Rattle.crs_value.specs.Reading.{item_at, those, Requires, TakesOne};
+ghost use Rattle.crs_shape.specs.declared.class.Class.TheVariants as classes;
 
 use crate::checks::repeats::repeats_once;
 use crate::checks::system::type_of;
@@ -72,11 +73,6 @@ struct Component {
 }
 
 impl Check for Component {
-    ghost use Rattle.std.specs.Prelude.{◌≡◌};
-    ghost use Rattle.crs_shape.specs.declared.class.Class.TheVariants as classes;
-    ghost use Rattle.crs_value.specs.BadComponent.{BadComponent};
-    ghost use Rattle.crs_value.specs.Reading.{Requires};
-
     ghost Fits = { λ s tree class. (class ≡ s.class) × Requires class classes.CoordinateSystem 0 };
 
     ghost Broken = { λ s tree item f. BadComponent s.class item f };

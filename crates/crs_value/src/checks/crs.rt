@@ -10,7 +10,10 @@ ghost use Rattle.crs_value.specs.Break.{AnyOf, IsLeast};
 ghost use Rattle.crs_value.specs.Checks.{BreaksAmong, once, OfHead, OfAxes, OfCrs};
 ghost use Rattle.crs_value.specs.FirstArguments.{AreFirsts};
 ghost use Rattle.crs_value.specs.RepeatedPart.{RepeatsAny};
-ghost use Rattle.crs_value.specs.Reading.{item_at, those, TakesOne};
+ghost use Rattle.crs_value.specs.Reading.{item_at, those, TakesOne, IsFound};
+ghost use Rattle.crs_value.specs.AxisCount.{AxisCount};
+ghost use Rattle.crs_value.specs.BadSystem.{BadSystem};
+ghost use Rattle.crs_value.specs.BadUnit.{BadUnit};
 
 use crate::checks::dynamic::bad_dynamic;
 use crate::checks::order::bad_order;
@@ -35,11 +38,6 @@ struct HeadOf {
 }
 
 impl Check for HeadOf {
-    ghost use Rattle.std.specs.Prelude.{◌≡◌, ◌⊎◌};
-    ghost use Rattle.crs_shape.specs.Dimensions.{dimensions_of};
-    ghost use Rattle.crs_value.specs.AxisCount.{AxisCount};
-    ghost use Rattle.crs_value.specs.BadSystem.{BadSystem};
-
     ghost Fits = { λ s tree class. class ≡ classes.CoordinateSystem };
 
     ghost Broken = { λ s tree item f. BadSystem (dimensions_of s.class) item f ⊎ AxisCount s.axes item f };
@@ -63,12 +61,6 @@ struct UnitsOf {
 }
 
 impl Check for UnitsOf {
-    ghost use Rattle.std.specs.Prelude.{◌≡◌};
-    ghost use Rattle.crs_text.specs.Items.{HasId, arguments};
-    ghost use Rattle.crs_shape.specs.Shaped.{Shaped};
-    ghost use Rattle.crs_value.specs.BadUnit.{BadUnit};
-    ghost use Rattle.crs_value.specs.Reading.{item_at, those, IsFound};
-
     ghost Fits = { λ s tree class. HasId tree s.crs × Shaped s.class (item_at tree s.crs)
         × (class ≡ classes.CoordinateSystem)
         × IsFound tree s.class classes.Axis (those s.class classes.Axis (arguments (item_at tree s.crs))) s.axis

@@ -3,7 +3,7 @@ ghost use Rattle.std.specs.Prelude.{◌↔◌, ◌≢◌, [], IsTrue};
 ghost use Rattle.crs_text.specs.Items.{HasId, arguments};
 ghost use Rattle.crs_shape.specs.Shaped.{Shaped};
 ghost use Rattle.crs_value.specs.Cursor.{args, item};
-ghost use Rattle.crs_value.specs.BadDynamic.{BadDynamic, HasEnsemble};
+ghost use Rattle.crs_value.specs.BadDynamic.{BadDynamic, HasEnsemble, IsUnsteady};
 ghost use Rattle.crs_value.specs.Break.{IsLeast};
 ghost use Rattle.crs_value.specs.Reading.{item_at, those, IsFound};
 
@@ -17,8 +17,6 @@ use crs_text::{ItemId, Items, Refusal};
 struct Unsteady;
 
 impl Check for Unsteady {
-    ghost use Rattle.crs_value.specs.BadDynamic.{IsUnsteady};
-
     ghost Fits = { λ s tree class. Unit {0} };
 
     ghost Broken = { λ s tree item f. IsUnsteady item f };

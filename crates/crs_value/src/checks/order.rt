@@ -5,11 +5,11 @@ ghost use Rattle.crs_shape.specs.Shaped.{Shaped};
 ghost use Rattle.crs_shape.specs.declared.class.Class.TheVariants as classes;
 ghost use Rattle.crs_value.specs.Cursor.{args, item};
 ghost use Rattle.crs_value.specs.BadOrder.{IsPosition, HasThis, OneHas, LacksOrder, orders_in, SomeHasOrder, BadOrders};
-ghost use Rattle.crs_value.specs.BadOrder.{BadOrder};
+ghost use Rattle.crs_value.specs.BadOrder.{BadOrder, IsBadOrder};
 ghost use Rattle.crs_value.specs.Break.{AnyOf, IsLeast};
 ghost use Rattle.crs_value.specs.FoundArguments.{from_found, AllShaped, AreInOrder, HasPlace};
 ghost use Rattle.crs_value.specs.FirstArguments.{AreFirsts};
-ghost use Rattle.crs_value.specs.Reading.{item_at, Holds, those};
+ghost use Rattle.crs_value.specs.Reading.{item_at, Holds, those, IsFound};
 
 use crate::checks::{Check, any_from, lesser, only_of, refusal_at};
 use crate::reading::arguments::{first, later};
@@ -84,12 +84,6 @@ struct Position {
 }
 
 impl Check for Position {
-    ghost use Rattle.std.specs.Prelude.{◌≡◌, ◌≤◌, length, take};
-    ghost use Rattle.crs_text.specs.Items.{HasId, arguments};
-    ghost use Rattle.crs_shape.specs.Shaped.{Shaped};
-    ghost use Rattle.crs_value.specs.BadOrder.{IsBadOrder};
-    ghost use Rattle.crs_value.specs.Reading.{item_at, those, IsFound};
-
     ghost Fits = { λ s tree class. HasId tree s.crs × Shaped s.class (item_at tree s.crs) × (class ≡ classes.Order)
         × IsFound tree s.class classes.Axis (those s.class classes.Axis (arguments (item_at tree s.crs))) s.axis
         × (s.before ≤ length (those s.class classes.Axis (arguments (item_at tree s.crs)))) };
@@ -114,9 +108,6 @@ impl Check for Position {
 struct Orderless;
 
 impl Check for Orderless {
-    ghost use Rattle.std.specs.Prelude.{◌≡◌};
-    ghost use Rattle.crs_value.specs.BadOrder.{LacksOrder};
-
     ghost Fits = { λ s tree class. class ≡ classes.Axis };
 
     ghost Broken = { λ s tree item f. LacksOrder item f };

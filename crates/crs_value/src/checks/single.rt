@@ -7,6 +7,7 @@ ghost use Rattle.crs_value.specs.BadValue.{IsAboveZero, NotAbove, IsNegative};
 ghost use Rattle.crs_value.specs.Break.{IsLeast};
 ghost use Rattle.crs_value.specs.FirstByte.{first_byte, is_telling};
 ghost use Rattle.crs_value.specs.Reading.{item_at};
+ghost use Rattle.crs_value.specs.RepeatedPart.{IsRepeated};
 
 use crate::checks::{Check, refusal_at};
 use crate::reading::node::decimal_of;
@@ -119,8 +120,6 @@ impl Check for UnknownDirection {
 pub(crate) struct Repeated;
 
 impl Check for Repeated {
-    ghost use Rattle.crs_value.specs.RepeatedPart.{IsRepeated};
-
     ghost Fits = { λ s tree class. Unit {0} };
 
     ghost Broken = { λ s tree item f. IsRepeated item f };
@@ -134,9 +133,6 @@ impl Check for Repeated {
 pub(crate) struct AboveZero;
 
 impl Check for AboveZero {
-    ghost use Rattle.std.specs.Prelude.{◌≡◌};
-    ghost use Rattle.crs_value.specs.BadValue.{NotAbove};
-
     ghost Fits = { λ s tree class. class ≡ classes.Number };
 
     ghost Broken = { λ s tree item f. NotAbove item f };
@@ -160,9 +156,6 @@ impl Check for AboveZero {
 pub(crate) struct NotNegative;
 
 impl Check for NotNegative {
-    ghost use Rattle.std.specs.Prelude.{◌≡◌};
-    ghost use Rattle.crs_value.specs.BadValue.{IsNegative};
-
     ghost Fits = { λ s tree class. class ≡ classes.Number };
 
     ghost Broken = { λ s tree item f. IsNegative item f };

@@ -4,7 +4,8 @@ ghost use Rattle.crs_text.specs.Items.{HasId, arguments};
 ghost use Rattle.crs_shape.specs.Shaped.{Shaped};
 ghost use Rattle.crs_shape.specs.declared.class.Class.TheVariants as classes;
 ghost use Rattle.crs_value.specs.Cursor.{args, item};
-ghost use Rattle.crs_value.specs.BadUnit.{Asks, Fits, AllAsk, SharedFits, BadShared, BadUnit};
+ghost use Rattle.crs_value.specs.BadUnit.{Asks, Fits, AllAsk, SharedFits, BadShared, BadUnit, Misfits, BadOwnUnit};
+ghost use Rattle.crs_value.specs.BadUnit.{IsSuperfluous, HasOwnUnit};
 ghost use Rattle.crs_value.specs.Break.{IsLeast};
 ghost use Rattle.crs_value.specs.Reading.{item_at, those, IsFound, IsReading, ReadsFirst};
 ghost use Rattle.crs_value.specs.Reads.{HasType, ReadsDirection, ReadsKind};
@@ -78,12 +79,6 @@ pub(crate) struct Misfit {
 }
 
 impl Check for Misfit {
-    ghost use Rattle.crs_text.specs.Items.{HasId};
-    ghost use Rattle.crs_shape.specs.Shaped.{Shaped};
-    ghost use Rattle.crs_value.specs.BadUnit.{Misfits};
-    ghost use Rattle.crs_value.specs.Reading.{item_at, IsReading};
-    ghost use Rattle.crs_value.specs.Reads.{HasType};
-
     ghost Fits = { λ s tree class. HasId tree s.axis
         × IsReading (HasType (item_at tree s.cs)) s.system_type
         × Shaped classes.Axis (item_at tree s.axis) };
@@ -108,11 +103,6 @@ struct OwnUnit {
 }
 
 impl Check for OwnUnit {
-    ghost use Rattle.std.specs.Prelude.{◌≡◌};
-    ghost use Rattle.crs_value.specs.BadUnit.{BadOwnUnit};
-    ghost use Rattle.crs_value.specs.Reading.{item_at, IsReading};
-    ghost use Rattle.crs_value.specs.Reads.{HasType};
-
     ghost Fits = { λ s tree class. IsReading (HasType (item_at tree s.cs)) s.system_type
         × (class ≡ classes.Axis) };
 
@@ -141,8 +131,6 @@ impl Check for OwnUnit {
 struct Superfluous;
 
 impl Check for Superfluous {
-    ghost use Rattle.crs_value.specs.BadUnit.{IsSuperfluous};
-
     ghost Fits = { λ s tree class. Unit {0} };
 
     ghost Broken = { λ s tree item f. IsSuperfluous item f };
@@ -157,9 +145,6 @@ impl Check for Superfluous {
 struct NoUnit;
 
 impl Check for NoUnit {
-    ghost use Rattle.std.specs.Prelude.{◌≡◌};
-    ghost use Rattle.crs_value.specs.BadUnit.{HasOwnUnit};
-
     ghost Fits = { λ s tree class. class ≡ classes.Axis };
 
     ghost Broken = { λ s tree item f. HasOwnUnit item f };
@@ -207,8 +192,6 @@ struct Sharing<'i, 'a> {
 }
 
 impl Sharing<'_, '_> {
-    ghost use Rattle.crs_value.specs.Cursor.{args, item};
-
     // Whether all axes ask for this kind of unit.
     fn all_ask(&self, kind: UnitKind) -> bool
         requires system { IsReading (HasType (item_at self.now.crs.items.now self.now.cs)) self.now.system_type }

@@ -1,9 +1,9 @@
 //! A walk over the arguments of a node, slot by slot.
-ghost use Rattle.std.specs.Prelude.{◌≡◌, IfSome, List, Some};
+ghost use Rattle.std.specs.Prelude.{◌≡◌, IfSome, List, Some, ◌∷◌, [], ◌++◌};
 ghost use Rattle.crs_text.specs.Items.{HasId};
 ghost use Rattle.crs_shape.specs.declared.class.Class.{Class};
 ghost use Rattle.crs_shape.specs.ShapeFault.{misplaced, missing};
-ghost use Rattle.crs_shape.specs.Slots.{SlotParts};
+ghost use Rattle.crs_shape.specs.Slots.{SlotParts, one_of, optional_of, any_of, some_of};
 ghost use Rattle.crs_value.specs.Judged.{AllLeave, AllPassed, Answers, Leaves, Passed, Walked};
 ghost use Rattle.crs_value.specs.Reading.{item_at, Holds};
 
@@ -147,8 +147,6 @@ pub(crate) struct One<P> {
 }
 
 impl<P: Part> Slot for One<P> {
-    ghost use Rattle.crs_shape.specs.Slots.{one_of};
-
     ghost slot = { one_of P.classes };
 
     #[inline(always)]
@@ -180,8 +178,6 @@ pub(crate) struct Optional<P> {
 }
 
 impl<P: Part> Slot for Optional<P> {
-    ghost use Rattle.crs_shape.specs.Slots.{optional_of};
-
     ghost slot = { optional_of P.classes };
 
     #[inline(always)]
@@ -207,8 +203,6 @@ pub(crate) struct Any<P> {
 }
 
 impl<P: Part> Slot for Any<P> {
-    ghost use Rattle.crs_shape.specs.Slots.{any_of};
-
     ghost slot = { any_of P.classes };
 
     #[inline(always)]
@@ -237,8 +231,6 @@ pub(crate) struct OneOrMore<P> {
 }
 
 impl<P: Part> Slot for OneOrMore<P> {
-    ghost use Rattle.crs_shape.specs.Slots.{some_of};
-
     ghost slot = { some_of P.classes };
 
     #[inline(always)]
@@ -271,8 +263,6 @@ pub(crate) struct Then<A, S> {
 }
 
 impl<A: Slot, S: Slots> Slots for Then<A, S> {
-    ghost use Rattle.std.specs.Prelude.{◌∷◌};
-
     ghost slots = { A.slot ∷ S.slots };
 
     #[inline(always)]
@@ -291,8 +281,6 @@ impl<A: Slot, S: Slots> Slots for Then<A, S> {
 }
 
 impl<A: Slot, S: Front> Front for Then<A, S> {
-    ghost use Rattle.std.specs.Prelude.{◌∷◌};
-
     ghost front = { A.slot ∷ S.front };
 
     #[inline(always)]
@@ -314,8 +302,6 @@ impl<A: Slot, S: Front> Front for Then<A, S> {
 pub(crate) struct End;
 
 impl Front for End {
-    ghost use Rattle.std.specs.Prelude.{[]};
-
     ghost front = { [] };
 
     #[inline(always)]
@@ -331,8 +317,6 @@ impl Front for End {
 }
 
 impl Slots for End {
-    ghost use Rattle.std.specs.Prelude.{[]};
-
     ghost slots = { [] };
 
     #[inline(always)]
@@ -356,8 +340,6 @@ pub(crate) struct Either<A, B> {
 }
 
 impl<A: Part, B: Part> Part for Either<A, B> {
-    ghost use Rattle.std.specs.Prelude.{◌++◌};
-
     ghost classes = { A.classes ++ B.classes };
 
     #[inline(always)]
