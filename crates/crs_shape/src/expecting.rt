@@ -1,12 +1,12 @@
 //! Where the fault of a shape is, and what could come there.
-ghost use Rattle.std.specs.Prelude.{◌≡◌, false, IsTrue, MatchOption};
+ghost use Rattle.std.specs.Prelude.{IsTrue, MatchOption};
 ghost use Rattle.crs_text.specs.Items.{first_of, here, HasId};
 ghost use Rattle.crs_shape.specs.Expected.{ExpectedIn, ExpectedAtRoot};
 ghost use Rattle.crs_shape.specs.ShapeFault.{is_of, IsFree, Inside, AtRoot};
 
 use crate::class::Class;
 use crate::expectation::Expected;
-use crate::fitting::{Walk, class_at_root, step};
+use crate::fitting::{START, class_at_root, step};
 use crate::table::row;
 use crs_text::{ItemId, Items};
 
@@ -20,7 +20,7 @@ pub fn expected(items: &Items<'_>) -> Option<Expected>
 {
     let root = items.root();
     match class_at_root(items, root) {
-        None => Some(Expected::new(None, items.place(root), start())),
+        None => Some(Expected::new(None, items.place(root), START)),
         Some(class) => expected_within(items, root, class),
     }
 }
@@ -36,7 +36,7 @@ fn expected_within(items: &Items<'_>, id: ItemId, class: Class) -> Option<Expect
     // A leaf has no argument that could be at fault.
     items.close(id)?;
     let row = row(class);
-    let mut walk = start();
+    let mut walk = START;
     let mut next = items.arg(id, 0);
     while let Some(argument) = next {
         let Some((named, stepped)) = step(items, argument, class, row, walk) else {
@@ -52,15 +52,5 @@ fn expected_within(items: &Items<'_>, id: ItemId, class: Class) -> Option<Expect
         None
     } else {
         Some(Expected::new(Some(class), items.place(id), walk))
-    }
-}
-
-// A walk before the first argument.
-fn start() -> Walk
-    ensures { result ≡ record { at = 0; filled = false } }
-{
-    Walk {
-        at: 0,
-        filled: false,
     }
 }

@@ -85,10 +85,7 @@ fn fault_within(items: &Items<'_>, id: ItemId, class: Class, close: usize) -> Op
     ensures { result ≡ first_inside class (first_of (here items.now id)) }
 {
     let row = row(class);
-    let mut walk = Walk {
-        at: 0,
-        filled: false,
-    };
+    let mut walk = START;
     let mut next = items.arg(id, 0);
     while let Some(argument) = next {
         let Some((named, stepped)) = step(items, argument, class, row, walk) else {
@@ -192,6 +189,12 @@ pub(crate) struct Walk {
     pub(crate) at: usize,
     pub(crate) filled: bool,
 }
+
+// A walk before the first argument.
+pub(crate) const START: Walk = Walk {
+    at: 0,
+    filled: false,
+};
 
 impl Walk {
     // The walk after one more argument, of this class; None where it isn't allowed there.

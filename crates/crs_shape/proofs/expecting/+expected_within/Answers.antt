@@ -1,8 +1,6 @@
 use Rattle.std.proofs.Common.{◌<◌, sym, subst, List, rules}
 use Rattle.crs_text.specs.Prelude.{first_of, here, size_of}
 use Rattle.crs_shape.specs.Slots.{SlotParts}
-use Rattle.crs_shape.specs.Walk.{left_of}
-use Rattle.crs_shape.specs.declared.fitting.Walk.{Walk}
 use Rattle.crs_shape.proofs.FitLemmas.{argument-less}
 use Rattle.crs_shape.proofs.ExpectedLemmas.{Going, going_first, going_class, going_wrong, going_inside, going_on, going_end, going_short, answered}
 use Rattle.crs_shape.proofs.expecting.+expected_within.Goals as goal
@@ -10,10 +8,8 @@ use Rattle.crs_shape.proofs.expecting.+expected_within.Goals as goal
 pub loop-next-init : goal.loop-next-init
 loop-next-init t c =
     let P : List SlotParts → Type 0 = λ slots. Going c.args.items.now c.args.class (first_of (here c.args.items.now c.args.id)) slots c.arg-next.result in
-    let Q : Walk → Type 0 = λ walk. P (left_of c.row-row.result.now walk) in
-    subst Q (sym c.start-walk.ensures)
-    (subst P (sym c.row-row.ensures.slots)
-    (going_first c.args.items.now c.args.class (first_of (here c.args.items.now c.args.id)) _ c.arg-next.result c.requires.class (sym c.in_ok-close.ensures) c.arg-next.ensures))
+    subst P (sym c.row-row.ensures.slots)
+    (going_first c.args.items.now c.args.class (first_of (here c.args.items.now c.args.id)) _ c.arg-next.result c.requires.class (sym c.in_ok-close.ensures) c.arg-next.ensures)
 
 pub returns-in_default-step : goal.returns-in_default-step
 returns-in_default-step t c =
