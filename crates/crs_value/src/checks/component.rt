@@ -5,6 +5,7 @@ ghost use Rattle.crs_shape.specs.Shaped.{Shaped};
 ghost use Rattle.crs_value.specs.BadComponent.{IsNotEllipsoidal, IsNotPlane, IsNotHorizontal, BadComponent};
 ghost use Rattle.crs_value.specs.Break.{AnyOf, IsLeast, FirstIs};
 ghost use Rattle.crs_value.specs.Checks.{OfCompound, once};
+ghost use Rattle.crs_value.specs.Cursor.{args, item};
 ghost use Rattle.crs_value.specs.RepeatedPart.{RepeatsAny};
 ghost use Rattle.crs_value.specs.Reading.{item_at, those, Requires, TakesOne};
 ghost use Rattle.crs_shape.specs.declared.class.Class.TheVariants as classes;
@@ -86,39 +87,28 @@ impl Check for Component {
     }
 }
 
-// The first bad part of this class.
-fn bad_part(items: &Items<'_>, id: ItemId, class: Class) -> Option<Refusal>
-    requires has { HasId items.now id }
-    requires shaped { Shaped Class.CompoundCrs (item_at items.now id) }
+// The first bad part of this class. In line, the cursor needs no place in memory.
+#[inline(always)]
+fn bad_part(node: &Cursor<'_, '_>, class: Class) -> Option<Refusal>
+    requires shaped { Shaped node.now.class (item node.now) }
     requires there { Requires class Class.CoordinateSystem 0 }
-    requires once { TakesOne Class.CompoundCrs class }
-    ensures { IsLeast (AnyOf (BadComponent class) (those Class.CompoundCrs class (arguments
-        (item_at items.now id)))) result }
+    requires once { TakesOne node.now.class class }
+    ensures { IsLeast (AnyOf (BadComponent class) (args class node.now)) result }
 {
-    let node = Cursor {
-        items,
-        id,
-        class: Class::CompoundCrs,
-    };
-    only_of(&Component { class }, &node, class)
+    only_of(&Component { class }, node, class)
 }
 
 // What is repeated at the end of a compound CRS. Mostly it is seen at once that nothing is.
-fn repeated(items: &Items<'_>, id: ItemId) -> Option<Refusal>
-    requires has { HasId items.now id }
-    requires shaped { Shaped Class.CompoundCrs (item_at items.now id) }
-    ensures { IsLeast (RepeatsAny Class.CompoundCrs (arguments (item_at items.now id)) once) result }
+#[inline(always)]
+fn repeated(node: &Cursor<'_, '_>) -> Option<Refusal>
+    requires shaped { Shaped node.now.class (item node.now) }
+    ensures { IsLeast (RepeatsAny node.now.class (arguments (item node.now)) once) result }
 {
-    if is_ascending(items, items.arg(id, 0), Class::CompoundCrs) {
+    if is_ascending(node.items, node.items.arg(node.id, 0), node.class) {
         return None;
     }
-    let firsts = firsts_of(items, id, Class::CompoundCrs);
-    let node = Cursor {
-        items,
-        id,
-        class: Class::CompoundCrs,
-    };
-    repeats_once(&node, &firsts)
+    let firsts = firsts_of(node.items, node.id, node.class);
+    repeats_once(node, &firsts)
 }
 
 // The checks of a compound CRS: what may not be repeated, and its horizontal part.
@@ -127,8 +117,13 @@ pub(crate) fn compound(items: &Items<'_>, id: ItemId) -> Option<Refusal>
     requires shaped { Shaped Class.CompoundCrs (item_at items.now id) }
     ensures { IsLeast (OfCompound (arguments (item_at items.now id))) result }
 {
-    let projected = lesser(bad_part(items, id, Class::ProjectedCrs), None);
-    let geographic = lesser(bad_part(items, id, Class::GeographicCrs), projected);
-    let geodetic = lesser(bad_part(items, id, Class::GeodeticCrs), geographic);
-    lesser(repeated(items, id), geodetic)
+    let node = Cursor {
+        items,
+        id,
+        class: Class::CompoundCrs,
+    };
+    let projected = lesser(bad_part(&node, Class::ProjectedCrs), None);
+    let geographic = lesser(bad_part(&node, Class::GeographicCrs), projected);
+    let geodetic = lesser(bad_part(&node, Class::GeodeticCrs), geographic);
+    lesser(repeated(&node), geodetic)
 }

@@ -26,7 +26,8 @@ impl Check for Unsteady {
     }
 }
 
-fn has_some(items: &Items<'_>, id: ItemId, parent: Class, class: Class) -> bool
+// Whether a node has an argument of this class.
+pub(crate) fn has_some(items: &Items<'_>, id: ItemId, parent: Class, class: Class) -> bool
     requires { HasId items.now id }
     ensures { IsTrue result ↔ (those parent class (arguments (item_at items.now id)) ≢ []) }
 {

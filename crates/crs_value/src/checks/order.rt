@@ -1,16 +1,17 @@
 //! The checks of the orders of axes.
-ghost use Rattle.std.specs.Prelude.{◌≡◌, ◌≢◌, ◌↔◌, ◌≤◌, [], IsTrue, Some, length, take};
+ghost use Rattle.std.specs.Prelude.{◌≡◌, ◌↔◌, ◌≤◌, [], IsTrue, Some, length, take};
 ghost use Rattle.crs_text.specs.Items.{HasId, arguments};
 ghost use Rattle.crs_shape.specs.Shaped.{Shaped};
 ghost use Rattle.crs_shape.specs.declared.class.Class.TheVariants as classes;
 ghost use Rattle.crs_value.specs.Cursor.{args, item};
-ghost use Rattle.crs_value.specs.BadOrder.{IsPosition, HasThis, OneHas, LacksOrder, orders_in, SomeHasOrder, BadOrders};
+ghost use Rattle.crs_value.specs.BadOrder.{IsPosition, HasThis, OneHas, LacksOrder, SomeHasOrder, BadOrders};
 ghost use Rattle.crs_value.specs.BadOrder.{BadOrder, IsBadOrder};
 ghost use Rattle.crs_value.specs.Break.{AnyOf, IsLeast};
 ghost use Rattle.crs_value.specs.FoundArguments.{from_found, AllShaped, AreInOrder, HasPlace};
 ghost use Rattle.crs_value.specs.FirstArguments.{AreFirsts};
 ghost use Rattle.crs_value.specs.Reading.{item_at, Holds, those, IsFound};
 
+use crate::checks::dynamic::has_some;
 use crate::checks::{Check, any_from, lesser, only_of, refusal_at};
 use crate::reading::arguments::{first, later};
 use crate::reading::cursor::Cursor;
@@ -120,16 +121,6 @@ impl Check for Orderless {
     }
 }
 
-fn has_order(items: &Items<'_>, axis: ItemId) -> bool
-    requires { HasId items.now axis }
-    ensures { IsTrue result ↔ (orders_in (item_at items.now axis) ≢ []) }
-{
-    match first(items, axis, Class::Axis, Class::Order) {
-        None => false,
-        Some(_) => true,
-    }
-}
-
 // Whether some axis, from this one on, has an order.
 fn some_has_order(items: &Items<'_>, class: Class, axis: Option<ItemId>) -> bool
     requires { Holds items.now axis }
@@ -137,7 +128,7 @@ fn some_has_order(items: &Items<'_>, class: Class, axis: Option<ItemId>) -> bool
 {
     let mut at = axis;
     while let Some(axis) = at {
-        if has_order(items, axis) {
+        if has_some(items, axis, Class::Axis, Class::Order) {
             return true;
         }
         at = later(items, axis, class, Class::Axis);

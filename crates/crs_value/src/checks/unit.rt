@@ -159,7 +159,7 @@ impl Check for NoUnit {
     }
 }
 
-fn same_kind(a: UnitKind, b: UnitKind) -> bool
+pub(crate) fn same_kind(a: UnitKind, b: UnitKind) -> bool
     ensures { IsTrue result ↔ (a ≡ b) }
 {
     a == b

@@ -8,7 +8,7 @@ ghost use Rattle.crs_value.specs.Break.{IsLeast};
 ghost use Rattle.crs_value.specs.Reading.{item_at};
 ghost use Rattle.crs_value.specs.Seen.{the_one, ArePlaced, Has, IsBehindName, IsMarked, IsNoted, IsShaped};
 
-use crate::checks::unit::fits;
+use crate::checks::unit::{fits, same_kind};
 use crate::reading::arguments::later;
 use crate::reading::node::whole_of;
 use crs_shape::{Class, Direction, SystemType, UnitKind, stands_as};
@@ -71,12 +71,8 @@ pub(crate) fn seen_of(items: &Items<'_>, axis: ItemId) -> Option<Seen>
     ensures { IfSome result (λ seen. Has items.now (item_at items.now axis) seen) }
 {
     crs_shape::laws::slots_count();
-    let Some(word) = word_behind_name(items, axis) else {
-        return None;
-    };
-    let Some(direction) = Direction::read(items.raw(word)) else {
-        return None;
-    };
+    let word = word_behind_name(items, axis)?;
+    let direction = Direction::read(items.raw(word))?;
     Some(Seen {
         direction,
         order: later(items, word, Class::Axis, Class::Order),
@@ -89,15 +85,11 @@ fn word_behind_name(items: &Items<'_>, axis: ItemId) -> Option<ItemId>
     requires { HasId items.now axis }
     ensures { IfSome result (IsBehindName items.now (item_at items.now axis)) }
 {
-    let Some(name) = items.arg(axis, 0) else {
-        return None;
-    };
+    let name = items.arg(axis, 0)?;
     if !stands_as(items, name, Class::Axis, Class::Text) {
         return None;
     }
-    let Some(word) = items.next(name) else {
-        return None;
-    };
+    let word = items.next(name)?;
     if !stands_as(items, word, Class::Axis, Class::Word) {
         return None;
     }
@@ -126,22 +118,19 @@ fn with_place(places: Places, place: u64) -> Option<Places>
     if place == 1 && !places.first {
         return Some(Places {
             first: true,
-            second: places.second,
-            third: places.third,
+            ..places
         });
     }
     if place == 2 && !places.second {
         return Some(Places {
-            first: places.first,
             second: true,
-            third: places.third,
+            ..places
         });
     }
     if place == 3 && !places.third {
         return Some(Places {
-            first: places.first,
-            second: places.second,
             third: true,
+            ..places
         });
     }
     None
@@ -170,12 +159,6 @@ fn fits_own(items: &Items<'_>, unit: Option<ItemId>, kind: UnitKind) -> bool
         None => false,
         Some(unit) => fits(items, unit, kind),
     }
-}
-
-fn same_kind(a: UnitKind, b: UnitKind) -> bool
-    ensures { IsTrue result → a ≡ b }
-{
-    a == b
 }
 
 // One axis more.

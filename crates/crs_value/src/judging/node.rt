@@ -8,7 +8,7 @@ ghost use Rattle.crs_value.specs.Break.{IsLeast};
 ghost use Rattle.crs_value.specs.Checks.{BreaksAmong, HasSystem, Own};
 ghost use Rattle.crs_value.specs.Judged.{Answers, Judged};
 ghost use Rattle.crs_value.specs.Least.{lesser};
-ghost use Rattle.crs_value.specs.Reading.{item_at, ahead, those, Holds, IsFound};
+ghost use Rattle.crs_value.specs.Reading.{item_at, Holds};
 ghost use Rattle.crs_value.specs.Seen.{is_head, is_tail, rest_slots, IsHeld, IsLaid, Laid};
 
 use crate::checks::crs::whole_crs;
@@ -120,17 +120,6 @@ fn laid<H: Front, T: Part>(
     Some(layout)
 }
 
-// The first dynamic part of a CRS, which is before its coordinate system.
-#[inline(always)]
-fn first_dynamic(items: &Items<'_>, id: ItemId, class: Class, layout: &Layout) -> Option<ItemId>
-    requires has { HasId items.now id }
-    requires none { those class Class.Dynamic (ahead items.now layout.now.system) ≡ [] }
-    ensures { IsFound items.now class Class.Dynamic (those class Class.Dynamic (arguments
-        (item_at items.now id))) result }
-{
-    first_before(items, id, layout.system, class, Class::Dynamic)
-}
-
 // The least of what a CRS of the right shape breaks, within it and by itself. Mostly its own checks are seen at once to
 // hold.
 #[inline(always)]
@@ -150,7 +139,8 @@ fn whole(
     ensures { IsLeast (λ f. BreaksAmong class (arguments (item_at items.now id)) f
         ⊎ Own class (item_at items.now id) f) result }
 {
-    let dynamic = first_dynamic(items, id, class, &layout);
+    // A dynamic part is before the coordinate system.
+    let dynamic = first_before(items, id, layout.system, class, Class::Dynamic);
     if is_quiet(items, id, class, layout) {
         return lesser(inside, bad_dynamic(&Cursor { items, id, class }, dynamic));
     }

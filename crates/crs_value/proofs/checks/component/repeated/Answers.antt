@@ -1,6 +1,5 @@
 use Rattle.std.proofs.Common.{None, subst}
 use Rattle.crs_text.specs.Prelude.{Siblings}
-use Rattle.crs_shape.specs.declared.class.Class.TheVariants as class
 use Rattle.crs_value.specs.Break.{IsLeast}
 use Rattle.crs_value.specs.Checks.{once}
 use Rattle.crs_value.specs.RepeatedPart.{RepeatsAny}
@@ -12,4 +11,4 @@ is_ascending-requires c = holds_at _ _ _ c.arg.ensures
 
 pub returns-then-is_ascending : goal.returns-then-is_ascending
 returns-then-is_ascending c =
-    subst (λ (items : Siblings). IsLeast (RepeatsAny class.CompoundCrs items once) None) (ahead_at _ _ _ c.arg.ensures) (c.is_ascending.ensures c.if-is_ascending.true)
+    subst (λ (items : Siblings). IsLeast (RepeatsAny c.args.node.now.class items once) None) (ahead_at _ _ _ c.arg.ensures) (c.is_ascending.ensures c.if-is_ascending.true)
