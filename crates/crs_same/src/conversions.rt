@@ -12,7 +12,7 @@ use crate::found::Found;
 use crate::path::Path;
 use crate::step::Step;
 use crs_matching::{same_geoid_models, same_parameters};
-use crs_value::{Conversion, GeoidModel, Guesses, Level, Method, Parameter};
+use crs_value::{Conversion, GeoidModel, Level, List, Method, Parameter};
 
 #[tactic(auto, unfolding(crate::specs::PartsOfCrs::parts_of_method))]
 fn walk_method<'b, 'a>(
@@ -40,23 +40,20 @@ pub fn same_method<'a>(a: &Method<'a>, b: &Method<'a>, level: Level) -> bool
 fn walk_parameters<'b, 'a>(
     found: Found<'b, 'a>,
     at: Path,
-    a: &'b [Parameter<'a>],
-    b: &'b [Parameter<'a>],
-    guesses: Guesses<'_>,
+    a: &'b List<Parameter<'a>>,
+    b: &'b List<Parameter<'a>>,
     level: Level,
 ) -> Found<'b, 'a>
     ensures { Walked (sets at (SameParameter level) content.Parameters a.now b.now) found.entry result }
 {
-    if found.is_done() {
-        return found;
-    }
-    if same_parameters(a, b, guesses, level) {
+    let (these, others) = (a.as_slice(), b.as_slice());
+    if found.is_done() || same_parameters(these, others, a.guesses(b, level), level) {
         return found;
     }
     found.differing(
         at,
-        Content::Parameters(Members::new(a), Members::new(b)),
-        Content::Parameters(Members::new(b), Members::new(a)),
+        Content::Parameters(Members::new(these), Members::new(others)),
+        Content::Parameters(Members::new(others), Members::new(these)),
     )
 }
 
@@ -64,23 +61,20 @@ fn walk_parameters<'b, 'a>(
 pub(crate) fn walk_geoid_models<'b, 'a>(
     found: Found<'b, 'a>,
     at: Path,
-    a: &'b [GeoidModel<'a>],
-    b: &'b [GeoidModel<'a>],
-    guesses: Guesses<'_>,
+    a: &'b List<GeoidModel<'a>>,
+    b: &'b List<GeoidModel<'a>>,
     level: Level,
 ) -> Found<'b, 'a>
     ensures { Walked (sets at (SameGeoidModel level) content.GeoidModels a.now b.now) found.entry result }
 {
-    if found.is_done() {
-        return found;
-    }
-    if same_geoid_models(a, b, guesses, level) {
+    let (these, others) = (a.as_slice(), b.as_slice());
+    if found.is_done() || same_geoid_models(these, others, a.guesses(b, level), level) {
         return found;
     }
     found.differing(
         at,
-        Content::GeoidModels(Members::new(a), Members::new(b)),
-        Content::GeoidModels(Members::new(b), Members::new(a)),
+        Content::GeoidModels(Members::new(these), Members::new(others)),
+        Content::GeoidModels(Members::new(others), Members::new(these)),
     )
 }
 
@@ -101,14 +95,8 @@ pub(crate) fn walk_conversion<'b, 'a>(
     let found = found.text(&at, Step::Name, a.name, b.name);
     let method = at.then(Step::Method);
     let found = walk_method(found, method, &a.method, &b.method, level);
-    let found = walk_parameters(
-        found,
-        at.then(Step::Parameters),
-        a.parameters.as_slice(),
-        b.parameters.as_slice(),
-        a.parameters.guesses(&b.parameters, level),
-        level,
-    );
+    let parameters = at.then(Step::Parameters);
+    let found = walk_parameters(found, parameters, &a.parameters, &b.parameters, level);
     found.identifiers(&at, Step::Id, level, &a.identifiers, &b.identifiers)
 }
 

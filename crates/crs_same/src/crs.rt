@@ -190,14 +190,7 @@ fn walk_vertical<'b, 'a>(
     let system = at.then(Step::System);
     let found = walk_system(found, system, &a.system, &b.system, level);
     let geoid = at.then(Step::Geoid);
-    let found = walk_geoid_models(
-        found,
-        geoid,
-        a.geoid_models.as_slice(),
-        b.geoid_models.as_slice(),
-        a.geoid_models.guesses(&b.geoid_models, level),
-        level,
-    );
+    let found = walk_geoid_models(found, geoid, &a.geoid_models, &b.geoid_models, level);
     walk_tail(found, at, &a.tail, &b.tail, level)
 }
 

@@ -36,10 +36,7 @@ fn walk_models<'b, 'a>(
     ensures { Walked (optional at (SameDeformationModel level) content.Model
         (option_copied a.entry) (option_copied b.entry)) found.entry result }
 {
-    if found.is_done() {
-        return found;
-    }
-    if same_models(a, b, level) {
+    if found.is_done() || same_models(a, b, level) {
         return found;
     }
     found.with(at, Content::optional_model(a), Content::optional_model(b))

@@ -357,10 +357,7 @@ impl<'b, 'a> Found<'b, 'a> {
         ensures { Walked (units at level asked.0 asked.1 (option_copied a.entry) (option_copied b.entry))
             self.entry result }
     {
-        if self.is_done() {
-            return self;
-        }
-        if same_units_asked(asked, a, b, level) {
+        if self.is_done() || same_units_asked(asked, a, b, level) {
             return self;
         }
         self.with(
@@ -383,10 +380,7 @@ impl<'b, 'a> Found<'b, 'a> {
         requires { length at.now < 5 }
         ensures { Walked (identifiers (at.now ▸ step) level a.now b.now) self.entry result }
     {
-        if self.is_done() {
-            return self;
-        }
-        if same_idents(a, b, level) {
+        if self.is_done() || same_idents(a, b, level) {
             return self;
         }
         self.unlike_identifiers(at, step, level, a.as_slice(), b.as_slice())
@@ -405,10 +399,7 @@ impl<'b, 'a> Found<'b, 'a> {
         requires { length at.now < 5 }
         ensures { Walked (identifiers (at.now ▸ step) level a.now b.now) self.entry result }
     {
-        if self.is_done() {
-            return self;
-        }
-        if same_kept_idents(a, b, Guesses::none(), level) {
+        if self.is_done() || same_kept_idents(a, b, Guesses::none(), level) {
             return self;
         }
         self.unlike_identifiers(at, step, level, a, b)

@@ -19,7 +19,7 @@ use crate::step::Step;
 use crs_decimal::Decimal;
 use crs_matching::same_members;
 use crs_value::{
-    Datum, Ellipsoid, Ensemble, Frame, Guesses, Ident, Level, Member, Meridian, Unit, UnitKind,
+    Datum, Ellipsoid, Ensemble, Frame, Ident, Level, List, Member, Meridian, Unit, UnitKind,
 };
 
 fn walk_ellipsoid<'b, 'a>(
@@ -131,13 +131,8 @@ fn walk_before_greenwich<'b, 'a>(
     let found = found.number(&at, Step::Longitude, &meridian.longitude, &Decimal::zero());
     let unit = at.then(Step::Unit);
     let found = walk_meridian_units(found, unit, unit_of(meridian), None, level);
-    found.identifiers_of(
-        &at,
-        Step::Id,
-        level,
-        meridian.identifiers.as_slice(),
-        no_identifiers(),
-    )
+    let identifiers = meridian.identifiers.as_slice();
+    found.identifiers_of(&at, Step::Id, level, identifiers, no_identifiers())
 }
 
 // A missing prime meridian before a written one.
@@ -154,13 +149,8 @@ fn walk_behind_greenwich<'b, 'a>(
     let found = found.number(&at, Step::Longitude, &Decimal::zero(), &meridian.longitude);
     let unit = at.then(Step::Unit);
     let found = walk_meridian_units(found, unit, None, unit_of(meridian), level);
-    found.identifiers_of(
-        &at,
-        Step::Id,
-        level,
-        no_identifiers(),
-        meridian.identifiers.as_slice(),
-    )
+    let identifiers = meridian.identifiers.as_slice();
+    found.identifiers_of(&at, Step::Id, level, no_identifiers(), identifiers)
 }
 
 #[tactic(auto, unfolding(crate::specs::PartsOfFrames::parts_of_meridian))]
@@ -197,23 +187,20 @@ pub fn same_meridian<'a>(a: &Meridian<'a>, b: &Meridian<'a>, level: Level) -> bo
 fn walk_members<'b, 'a>(
     found: Found<'b, 'a>,
     at: Path,
-    a: &'b [Member<'a>],
-    b: &'b [Member<'a>],
-    guesses: Guesses<'_>,
+    a: &'b List<Member<'a>>,
+    b: &'b List<Member<'a>>,
     level: Level,
 ) -> Found<'b, 'a>
     ensures { Walked (sets at (SameMember level) content.Members a.now b.now) found.entry result }
 {
-    if found.is_done() {
-        return found;
-    }
-    if same_members(a, b, guesses, level) {
+    let (these, others) = (a.as_slice(), b.as_slice());
+    if found.is_done() || same_members(these, others, a.guesses(b, level), level) {
         return found;
     }
     found.differing(
         at,
-        Content::Members(Members::new(a), Members::new(b)),
-        Content::Members(Members::new(b), Members::new(a)),
+        Content::Members(Members::new(these), Members::new(others)),
+        Content::Members(Members::new(others), Members::new(these)),
     )
 }
 
@@ -246,14 +233,8 @@ fn walk_ensemble<'b, 'a>(
     ensures { Walked (parts_of_ensemble at level a.now b.now) found.entry result }
 {
     let found = found.text(&at, Step::Name, a.name, b.name);
-    let found = walk_members(
-        found,
-        at.then(Step::Members),
-        a.members.as_slice(),
-        b.members.as_slice(),
-        a.members.guesses(&b.members, level),
-        level,
-    );
+    let members = at.then(Step::Members);
+    let found = walk_members(found, members, &a.members, &b.members, level);
     let below = at.then(Step::Ellipsoid);
     let found = walk_ellipsoids(found, below, &a.ellipsoid, &b.ellipsoid, level);
     let found = found.number(&at, Step::Accuracy, &a.accuracy, &b.accuracy);

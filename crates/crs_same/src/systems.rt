@@ -36,12 +36,7 @@ fn walk_direction<'b, 'a>(
     if same_direction(a, b) {
         return found;
     }
-    found.alone(
-        at,
-        Step::Direction,
-        Content::word(a.word()),
-        Content::word(b.word()),
-    )
+    found.unlike(at, Step::Direction, a.word(), b.word())
 }
 
 #[tactic(auto, using(crate::proofs::WalkedLemmas::part_rules))]
@@ -52,12 +47,7 @@ fn walk_type<'b, 'a>(found: Found<'b, 'a>, at: &Path, a: SystemType, b: SystemTy
     if same_type(a, b) {
         return found;
     }
-    found.alone(
-        at,
-        Step::SystemType,
-        Content::word(a.word()),
-        Content::word(b.word()),
-    )
+    found.unlike(at, Step::SystemType, a.word(), b.word())
 }
 
 #[tactic(auto, using(crate::proofs::WalkedLemmas::walked_rules))]
@@ -71,10 +61,7 @@ fn walk_axis_meridians<'b, 'a>(
     ensures { Walked (optional at (SameAxisMeridian level) content.Meridian a.now b.now)
         found.entry result }
 {
-    if found.is_done() {
-        return found;
-    }
-    if same_axis_meridians(a, b, level) {
+    if found.is_done() || same_axis_meridians(a, b, level) {
         return found;
     }
     found.with(

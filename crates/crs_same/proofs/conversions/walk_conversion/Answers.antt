@@ -9,7 +9,7 @@ returns c =
     rw (← c.a.view_is, ← c.b.view_is) (
     via c.text-found.result c.text-found.ensures (
     via c.walk_method-found.result (rw (← c.then-method.ensures) c.walk_method-found.ensures) (
-    via c.walk_parameters-found.result (rw (← c.then.ensures, ← c.as_slice.ensures, ← c.as_slice-2.ensures) c.walk_parameters-found.ensures) (
+    via c.walk_parameters-found.result (rw (← c.then-parameters.ensures) c.walk_parameters-found.ensures) (
     c.identifiers.ensures))))
 
 pub returns-then-is_done : goal.returns-then-is_done

@@ -10,5 +10,5 @@ returns c =
     via c.walk_dynamic-found.result (rw (← c.then-dynamic.ensures) c.walk_dynamic-found.ensures) (
     via c.walk_frame-found.result (rw (← c.then-datum.ensures) c.walk_frame-found.ensures) (
     via c.walk_system-found.result (rw (← c.then-system.ensures) c.walk_system-found.ensures) (
-    via c.walk_geoid_models-found.result (rw (← c.then-geoid.ensures, ← c.as_slice.ensures, ← c.as_slice-2.ensures) c.walk_geoid_models-found.ensures) (
+    via c.walk_geoid_models-found.result (rw (← c.then-geoid.ensures) c.walk_geoid_models-found.ensures) (
     c.walk_tail.ensures))))))
